@@ -1,0 +1,5 @@
+pub mod Format
+pub mod Number
+pub mod Exact
+pub mod NumberExact
+pub mod Formats
