@@ -1,0 +1,10 @@
+pub mod Rows
+pub mod Typing
+pub mod Terms
+pub mod Reduce
+pub mod Run
+pub mod Tree
+pub mod Configuration
+pub mod Family
+pub mod Kept
+pub mod Position

@@ -1,0 +1,5 @@
+pub mod Code
+pub mod Tokens
+pub mod Expr
+pub mod ExprExact
+pub mod Module
