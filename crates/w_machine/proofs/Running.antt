@@ -12,7 +12,7 @@ use Rattle.w_machine.specs.declared.value.Value.{Value}
 use Rattle.w_machine.specs.Kept.{stepped_of, outcome_of}
 use Rattle.w_machine.specs.Reduce.{Reduced, Went, Ended, Stuck, reduce}
 use Rattle.w_machine.specs.Run.{Running, Values, NoRule, Ran, told, came_to, went_on, Run, HasEnded}
-use Rattle.w_machine.specs.Position.{Position, Steps, StepsFrom, Runs, RunsOn, RunsFrom}
+use Rattle.w_machine.specs.Position.{Position, Steps, StepsFrom, Stops, Runs, RunsOn, RunsFrom}
 
 -- ## What is told of a run that doesn't go on stays
 
@@ -56,10 +56,11 @@ same_run p i steps le h =
 
 stopped : (p new : Position) (i steps : ℕ) (x : Kept) → i ≤ steps → (Run p.program (p.taken + i)).taken ≡ p.taken + i
     → ((Run p.program (p.taken + i)).outcome ≡ Running → ⊥) → new ≡ record p { taken = p.taken + i; kept = Some x }
-    → new ≡ record p { taken = (Run p.program (p.taken + steps)).taken; kept = Some x }
+    → Stops p steps x new
 stopped p new i steps x le reached h e =
-    let taken : p.taken + i ≡ (Run p.program (p.taken + steps)).taken = sym reached ∙ ap (λ (r : Ran). r.taken) (sym (same_run p i steps le h)) in
-    e ∙ ap (λ (t : ℕ). let q : Position = record p { taken = t; kept = Some x } in q) taken
+    let same = same_run p i steps le h in
+    let taken : p.taken + i ≡ (Run p.program (p.taken + steps)).taken = sym reached ∙ ap (λ (r : Ran). r.taken) (sym same) in
+    (e ∙ ap (λ (t : ℕ). let q : Position = record p { taken = t; kept = Some x } in q) taken, ap (λ (q : Position). Run p.program q.taken) e ∙ sym same)
 
 ended_apart : (o : _) → HasEnded o → o ≡ Running → ⊥
 ended_apart o h e = let f = h.1 in absurd (cc)

@@ -59,14 +59,17 @@ Steps old result new = StepsFrom old.kept old result new
 
 -- ## A run of so many reductions at most
 
+-- the run asked for had been told before its last reduction: the machine stands for it, and keeps the outcome
+abbrev pub Stops : Position → ℕ → Kept → Position → Type 0
+Stops old steps k new = (new ≡ record old { taken = (Run old.program (old.taken + steps)).taken; kept = Some k })
+    × (Run old.program new.taken ≡ Run old.program (old.taken + steps))
+
 -- where no outcome is kept
 abbrev pub RunsOn : Position → ℕ → Outcome → Position → Type 0
 RunsOn old steps outcome.Running new =
     ((Run old.program (old.taken + steps)).outcome ≡ Running) × (new ≡ record old { taken = old.taken + steps })
-RunsOn old steps outcome.Ended new = HasEnded (Run old.program (old.taken + steps)).outcome
-    × (new ≡ record old { taken = (Run old.program (old.taken + steps)).taken; kept = Some kept.Ended })
-RunsOn old steps outcome.Stuck new = ((Run old.program (old.taken + steps)).outcome ≡ NoRule)
-    × (new ≡ record old { taken = (Run old.program (old.taken + steps)).taken; kept = Some kept.Stuck })
+RunsOn old steps outcome.Ended new = HasEnded (Run old.program (old.taken + steps)).outcome × Stops old steps kept.Ended new
+RunsOn old steps outcome.Stuck new = ((Run old.program (old.taken + steps)).outcome ≡ NoRule) × Stops old steps kept.Stuck new
 RunsOn old steps outcome.OutOfMemory new =
     (n : ℕ) × (n ≤ steps) × (new ≡ record old { taken = old.taken + n; kept = Some kept.OutOfMemory })
 

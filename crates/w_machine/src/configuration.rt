@@ -82,9 +82,7 @@ fn find_numeric(operands: &[Value], op: Numeric) -> Found
 fn find_instruction(operands: &[Value], op: Op) -> Found
     ensures { FindsInstruction operands.now op result }
 {
-    match op {
-        Op::Numeric(numeric) => find_numeric(operands, numeric),
-    }
+    find_numeric(operands, op.numeric())
 }
 
 // The instruction at a place.

@@ -14,17 +14,20 @@ expr = record { Spells = Expr; read = read_expr; exact = expr_exact }
 unfoldable pub exactly : ℕ → Format ℕ
 exactly n = such_that (λ k. nat_eq k n) (number 32)
 
--- an entry of the code section: no locals, and an expression, behind their size
-unfoldable pub func : Format Code
-func = sized (exactly 0 ⊗ expr ⇒ λ p. p.1)
+-- what an entry of the code section has behind its size: no locals, and an expression
+unfoldable pub entry : Format Code
+entry = exactly 0 ⊗ expr ⇒ λ p. p.1
+
+-- the contents of the code section: one entry
+unfoldable pub codes : Format Code
+codes = exactly 1 ⊗ sized entry ⇒ λ p. p.1
 
 -- a section: its id, a size, and contents that are wholly read
 abbrev pub section : {A : Type 0} → ℕ → Format A → Format A
 section id contents = table ((id, sized contents) ∷ [])
 
--- the code section, with one entry
 unfoldable pub code_section : Format Code
-code_section = section 0x0A (exactly 1 ⊗ func ⇒ λ p. p.1)
+code_section = section 0x0A codes
 
 -- the header
 abbrev pub header : List ℕ

@@ -17,6 +17,19 @@ pub enum Op {
     Numeric(Numeric),
 }
 
+impl Op {
+    ghost use Rattle.std.specs.Prelude.{◌≡◌};
+
+    /// The numeric instruction that it is: there is no other family yet.
+    pub fn numeric(self) -> Numeric
+        ensures { self ≡ Op.Numeric result }
+    {
+        match self {
+            Op::Numeric(numeric) => numeric,
+        }
+    }
+}
+
 /// What a reader of code takes at once: an instruction, or the mark that ends a sequence.
 #[derive(Clone, Copy, Debug, PartialEq, Eq)]
 pub enum Token {

@@ -1,0 +1,8 @@
+pub mod InputLemmas
+pub mod Cutting
+pub mod Bodies
+pub mod Modules
+pub mod HeightLemmas
+pub mod ReplyLemmas
+pub mod OpenLemmas
+pub mod ResultLemmas

@@ -1,0 +1,15 @@
+-- What decoding answers, and a piece of bytes by its places.
+use Rattle.std.specs.Prelude.{◌≡◌, ◌⊎◌, ◌≤◌, ℕ, List, length, drop, Option, Some, None, Result, Err, slice_range}
+use Rattle.w_leb.specs.Formats.{bytes}
+use Rattle.w_syntax.specs.declared.module.Module.{Module}
+use Rattle.drive.specs.declared.fault.DecodeFault.{DecodeFault}
+use Rattle.drive.specs.declared.fault.DecodeFault.TheVariants.{OutOfMemory}
+
+-- the bytes behind a size at a place, by where they begin and where they end
+abbrev pub CutAt : List ℕ → ℕ → Option (ℕ × ℕ) → Type 0
+CutAt b at None = bytes.read (drop at b) ≡ None
+CutAt b at (Some x) = (bytes.read (drop at b) ≡ Some (slice_range b x.0 x.1, drop x.1 b)) × (at ≤ x.0) × (x.0 ≤ x.1) × (x.1 ≤ length b)
+
+-- this answer, unless memory ran out
+abbrev pub IsAnswer : Result Module DecodeFault → Result Module DecodeFault → Type 0
+IsAnswer r result = (result ≡ r) ⊎ (result ≡ Err OutOfMemory)

@@ -1,0 +1,17 @@
+-- The line that a request is.
+use Rattle.std.specs.Prelude.{◌≡◌, ◌≤◌, Option, Some, None}
+use Rattle.w_machine.specs.Position.{most_reductions}
+use Rattle.drive.specs.declared.words.Request.{Request}
+use Rattle.drive.specs.Line.{Line, run, bad}
+
+abbrev pub asked_by : Request → Line
+asked_by request = run request.file.now request.steps
+
+-- the request is the line, and there is none where the line is bad
+abbrev pub Asks : Option Request → Line → Type 0
+Asks (Some request) line = line ≡ asked_by request
+Asks None line = line ≡ bad
+
+-- no more steps than a machine takes
+abbrev pub IsWithinSteps : Request → Type 0
+IsWithinSteps request = request.steps ≤ most_reductions

@@ -1,0 +1,16 @@
+-- The exit codes.
+use Rattle.std.specs.Prelude.{ℕ}
+use Rattle.drive.specs.declared.status.Status.{Status}
+use Rattle.drive.specs.declared.status.Status.TheVariants.{Done, Usage, Malformed, Invalid, ReadFault, WriteFault, OutOfMemory, Limit, Running, Stuck}
+
+abbrev pub code_of : Status → ℕ
+code_of Done = 0
+code_of Usage = 2
+code_of Malformed = 3
+code_of Invalid = 4
+code_of ReadFault = 6
+code_of WriteFault = 7
+code_of OutOfMemory = 8
+code_of Limit = 9
+code_of Running = 10
+code_of Stuck = 11

@@ -1,0 +1,127 @@
+//! The command `run`.
+ghost use Rattle.std.specs.Prelude.{◌≡◌, ◌⊎◌, ◌≤◌, ℕ, List, flat_map, OnOk, OnErr};
+ghost use Rattle.w_outside.specs.Outside.{Grew, GrewByFront, HasCause, Rose};
+ghost use Rattle.w_machine.specs.Run.{Run};
+ghost use Rattle.w_machine.specs.Position.{most_reductions};
+ghost use Rattle.drive.specs.Answer.{ModuleGives, OnFile, RunGives, result_line, run_reply};
+ghost use Rattle.drive.specs.Delivery.{MayFail, Replies};
+
+use crate::decoding::decode;
+use crate::fault::{DecodeFault, ValidFault};
+use crate::files::{open, refuse};
+use crate::opened::Opened;
+use crate::status::Status;
+use crate::text::{invalid_function_line, value_line};
+use crate::validation::validate;
+use std::alloc::Global;
+use w_machine::{Checked, Machine, Outcome, Value, instantiate};
+use w_outside::{Fault, Inputs, Sink, put};
+use w_syntax::Module;
+
+// Writes a line for each result, each line as one piece.
+fn write_results<O: Sink>(alloc: Global, values: &[Value], out: &mut O) -> Result<(), Fault>
+    ensures ok { OnOk result (Grew (O.held out.old) (O.held out.new) (flat_map result_line values.now)) }
+    ensures err { OnErr result (GrewByFront (O.held out.old) (O.held out.new) (flat_map result_line values.now)) }
+    ensures cause { HasCause (O.faults out.old) (O.faults out.new) result }
+{
+    for value in values {
+        let text = value_line(alloc, *value)?;
+        put(out, text.as_slice())?;
+    }
+    Ok(())
+}
+
+// Runs a valid module, and writes how the run ended.
+fn run_checked<O: Sink, E: Sink>(
+    alloc: Global,
+    checked: Checked,
+    steps: u64,
+    out: &mut O,
+    err: &mut E,
+) -> Result<Status, Fault>
+    requires { steps ≤ most_reductions }
+    ensures replies { Replies (λ reply. reply ≡ run_reply (Run checked steps).outcome) result
+        (Grew (O.held out.old) (O.held out.new)) (Grew (E.held err.old) (E.held err.new))
+        (Rose (O.faults out.old) (O.faults out.new) ⊎ Rose (E.faults err.old) (E.faults err.new)) }
+    ensures later { (O.faults out.old ≤ O.faults out.new) × (E.faults err.old ≤ E.faults err.new) }
+{
+    let store = instantiate(alloc, &checked)?;
+    let mut machine = Machine::new(alloc, checked, store);
+    match machine.run(steps) {
+        Outcome::Ended => {
+            write_results(alloc, machine.results(), out)?;
+            Ok(Status::Done)
+        }
+        Outcome::Running => refuse(b"running\n", Status::Running, err),
+        Outcome::Stuck => refuse(b"stuck\n", Status::Stuck, err),
+        Outcome::OutOfMemory => Err(Fault::OutOfMemory),
+    }
+}
+
+// Judges and runs a module.
+fn run_module<O: Sink, E: Sink>(
+    alloc: Global,
+    candidate: Module,
+    steps: u64,
+    out: &mut O,
+    err: &mut E,
+) -> Result<Status, Fault>
+    requires { steps ≤ most_reductions }
+    ensures replies { Replies (ModuleGives steps candidate) result
+        (Grew (O.held out.old) (O.held out.new)) (Grew (E.held err.old) (E.held err.new))
+        (Rose (O.faults out.old) (O.faults out.new) ⊎ Rose (E.faults err.old) (E.faults err.new)) }
+    ensures later { (O.faults out.old ≤ O.faults out.new) × (E.faults err.old ≤ E.faults err.new) }
+{
+    match validate(candidate) {
+        Ok(checked) => run_checked(alloc, checked, steps, out, err),
+        Err(ValidFault::Function(index)) => {
+            let text = invalid_function_line(alloc, index)?;
+            refuse(text.as_slice(), Status::Invalid, err)
+        }
+    }
+}
+
+// Runs the module that bytes spell.
+fn run_bytes<O: Sink, E: Sink>(
+    alloc: Global,
+    bytes: &[u8],
+    steps: u64,
+    out: &mut O,
+    err: &mut E,
+) -> Result<Status, Fault>
+    requires { steps ≤ most_reductions }
+    ensures replies { Replies (RunGives steps bytes.now) result
+        (Grew (O.held out.old) (O.held out.new)) (Grew (E.held err.old) (E.held err.new))
+        (Rose (O.faults out.old) (O.faults out.new) ⊎ Rose (E.faults err.old) (E.faults err.new)) }
+    ensures later { (O.faults out.old ≤ O.faults out.new) × (E.faults err.old ≤ E.faults err.new) }
+{
+    match decode(alloc, bytes) {
+        Ok(candidate) => run_module(alloc, candidate, steps, out, err),
+        Err(DecodeFault::Header) => refuse(b"malformed header\n", Status::Malformed, err),
+        Err(DecodeFault::OutOfMemory) => Err(Fault::OutOfMemory),
+    }
+}
+
+/// Runs a file.
+pub(crate) fn run_file<F: Inputs, O: Sink, E: Sink>(
+    alloc: Global,
+    name: &str,
+    steps: u64,
+    files: &mut F,
+    out: &mut O,
+    err: &mut E,
+) -> Result<Status, Fault>
+    requires { steps ≤ most_reductions }
+    ensures replies { Replies (MayFail (Rose (F.faults files.old) (F.faults files.new))
+        (OnFile (F.file files.old name.now) (RunGives steps))) result
+        (Grew (O.held out.old) (O.held out.new)) (Grew (E.held err.old) (E.held err.new))
+        (Rose (O.faults out.old) (O.faults out.new) ⊎ Rose (E.faults err.old) (E.faults err.new)) }
+    ensures later { (F.faults files.old ≤ F.faults files.new) × (O.faults out.old ≤ O.faults out.new)
+        × (E.faults err.old ≤ E.faults err.new) }
+    ensures names { (n : List ℕ) → F.file files.new n ≡ F.file files.old n }
+{
+    match open(alloc, files, name, err)? {
+        Opened::Bytes(bytes) => run_bytes(alloc, bytes.as_slice(), steps, out, err),
+        Opened::Refused(status) => Ok(status),
+    }
+}
