@@ -3,3 +3,5 @@ pub mod Number
 pub mod Exact
 pub mod NumberExact
 pub mod Formats
+pub mod Shortest
+pub mod ShortestSigned

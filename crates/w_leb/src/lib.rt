@@ -4,5 +4,7 @@
 mod reading;
 #[cfg(test)]
 mod tests;
+mod writing;
 
-pub use reading::{read_byte, read_s64, read_u32};
+pub use reading::{read_byte, read_s32, read_s33, read_s64, read_u32, read_u64};
+pub use writing::{put_s32, put_s33, put_s64, put_u32, put_u64};

@@ -49,6 +49,15 @@ pub fn read_u32(bytes: &[u8], at: usize) -> Option<(u32, usize)>
     Some((value as u32, next))
 }
 
+/// The unsigned number of 64 bits that is spelled at a place, in any spelling of at most ten bytes, and the place after it
+/// (Core, binary format, values). `None` exactly where no spelling begins.
+pub fn read_u64(bytes: &[u8], at: usize) -> Option<(u64, usize)>
+    ensures reads { ReadsAt (unsigned 64) bytes.now at result }
+    ensures begins { BeginsAt (Unsigned 64) bytes.now at result }
+{
+    unsigned_at(bytes, at, 64)
+}
+
 // A signed number of so many bits.
 fn signed_at(bytes: &[u8], at: usize, width: u32) -> Option<(i64, usize)>
     requires low { 0 < width }
@@ -79,6 +88,28 @@ fn signed_at(bytes: &[u8], at: usize, width: u32) -> Option<(i64, usize)>
         return None;
     };
     Some(((byte - 128) as i64 + 128 * high, next))
+}
+
+/// The signed number of 32 bits that is spelled at a place, in any spelling of at most five bytes, and the place after it
+/// (Core, binary format, values). `None` exactly where no spelling begins.
+pub fn read_s32(bytes: &[u8], at: usize) -> Option<(i32, usize)>
+    ensures reads { ReadsAt (signed 32) bytes.now at result }
+    ensures begins { BeginsAt (Signed 32) bytes.now at result }
+{
+    let Some((value, next)) = signed_at(bytes, at, 32) else {
+        return None;
+    };
+    Some((value as i32, next))
+}
+
+/// The signed number of 33 bits, from -2^32 to 2^32 - 1, that is spelled at a place, in any spelling of at most five bytes,
+/// and the place after it (Core, binary format, values). `None` exactly where no spelling begins.
+pub fn read_s33(bytes: &[u8], at: usize) -> Option<(i64, usize)>
+    ensures reads { ReadsAt (signed 33) bytes.now at result }
+    ensures begins { BeginsAt (Signed 33) bytes.now at result }
+    ensures fits { IfSome result (λ x. IsInBits 33 x.0) }
+{
+    signed_at(bytes, at, 33)
 }
 
 /// The signed number of 64 bits that is spelled at a place, in any spelling of at most ten bytes, and the place after it

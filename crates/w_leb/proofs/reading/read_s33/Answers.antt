@@ -1,0 +1,7 @@
+use Rattle.w_leb.specs.Number.{Signed, signed}
+use Rattle.w_leb.specs.NumberExact.{signed_exact}
+use Rattle.w_leb.proofs.Places.{begins}
+use Rattle.w_leb.proofs.reading.read_s33.Goals as goal
+
+pub returns-clause-begins : goal.returns-clause-begins
+returns-clause-begins c = begins (Signed 33) (signed 33) (signed_exact 33) _ _ _ c.signed_at.ensures.reads
