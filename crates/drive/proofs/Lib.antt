@@ -6,3 +6,4 @@ pub mod HeightLemmas
 pub mod ReplyLemmas
 pub mod OpenLemmas
 pub mod ResultLemmas
+pub mod SomeAnswer

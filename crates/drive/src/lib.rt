@@ -9,6 +9,8 @@ mod input;
 mod opened;
 mod running;
 mod status;
+#[cfg(test)]
+mod tests;
 mod text;
 mod top;
 mod validation;

@@ -41,7 +41,7 @@ pub run_ended : (m : Module) (s : Store) (st : Stage) (vs : List Value) (n : ℕ
 run_ended m s st vs n (Some x) p e none i f = absurd (none x refl)
 run_ended m s st vs n None p e none i f =
     let told_taken : ◌≡◌ {A = Position} (record { program = m; taken = n; kept = Some kept.Ended }) (record { program = m; taken = (Run m n).taken; kept = Some kept.Ended }) =
-        ap (λ (t : ℕ). let q : Position = record { program = m; taken = t; kept = Some kept.Ended } in q) (sym (taken_at m s st vs n i)) in
+    ap (λ (t : ℕ). let q : Position = record { program = m; taken = t; kept = Some kept.Ended } in q) (sym (taken_at m s st vs n i)) in
     rw (← e) (rw (add-zero n) (has_ended m s st vs n i f, (told_taken, refl)))
 
 -- the operands of a run that ended are its results

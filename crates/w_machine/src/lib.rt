@@ -10,6 +10,8 @@ mod machine;
 mod outcome;
 mod start;
 mod store;
+#[cfg(test)]
+mod tests;
 mod value;
 
 pub use checked::Checked;

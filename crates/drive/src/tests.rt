@@ -1,0 +1,271 @@
+//! The program over files and sinks in memory, one call a run.
+use crate::{DEFAULT_STEPS, DecodeFault, Status, ValidFault, command, decode, validate};
+use std::alloc::{AllocError, Global};
+use std::test::Fail;
+use w_outside::{MemInputs, MemSink, SureInputs, SureSink};
+use w_syntax::{Numeric, Op};
+
+// What stands before the code section.
+static FRONT: [u8; 29] = [
+    0x00, 0x61, 0x73, 0x6D, 0x01, 0x00, 0x00, 0x00, 0x01, 0x05, 0x01, 0x60, 0x00, 0x01, 0x7E, 0x03,
+    0x02, 0x01, 0x00, 0x07, 0x08, 0x01, 0x04, 0x6D, 0x61, 0x69, 0x6E, 0x00, 0x00,
+];
+
+// 6 times 7.
+static PRODUCT: [u8; 11] = [
+    0x0A, 0x09, 0x01, 0x07, 0x00, 0x42, 0x06, 0x42, 0x07, 0x7E, 0x0B,
+];
+
+// The same, with a longer spelling of each number.
+static LONG_SPELLINGS: [u8; 20] = [
+    0x0A, 0x90, 0x80, 0x00, 0x81, 0x80, 0x00, 0x8B, 0x00, 0x80, 0x00, 0x42, 0x86, 0x00, 0x42, 0x87,
+    0x80, 0x00, 0x7E, 0x0B,
+];
+
+// The number 5 alone.
+static FIVE: [u8; 8] = [0x0A, 0x06, 0x01, 0x04, 0x00, 0x42, 0x05, 0x0B];
+
+// A product of nothing.
+static NO_OPERANDS: [u8; 7] = [0x0A, 0x05, 0x01, 0x03, 0x00, 0x7E, 0x0B];
+
+// Two numbers, and no product.
+static TWO_NUMBERS: [u8; 10] = [0x0A, 0x08, 0x01, 0x06, 0x00, 0x42, 0x06, 0x42, 0x07, 0x0B];
+
+// The least number times 2.
+static LEAST_TWICE: [u8; 20] = [
+    0x0A, 0x12, 0x01, 0x10, 0x00, 0x42, 0x80, 0x80, 0x80, 0x80, 0x80, 0x80, 0x80, 0x80, 0x80, 0x7F,
+    0x42, 0x02, 0x7E, 0x0B,
+];
+
+// -1 times the least number.
+static LEAST_NEGATED: [u8; 20] = [
+    0x0A, 0x12, 0x01, 0x10, 0x00, 0x42, 0x7F, 0x42, 0x80, 0x80, 0x80, 0x80, 0x80, 0x80, 0x80, 0x80,
+    0x80, 0x7F, 0x7E, 0x0B,
+];
+
+// A body that fills less than its size.
+static ROOM_LEFT: [u8; 9] = [0x0A, 0x07, 0x01, 0x05, 0x00, 0x42, 0x05, 0x0B, 0x01];
+
+// A module with this code section.
+fn module(alloc: Global, code: &[u8]) -> Result<Vec<u8>, AllocError> {
+    let mut bytes = FRONT.to_vec(alloc)?;
+    bytes.extend_from_slice(code)?;
+    Ok(bytes)
+}
+
+fn files(alloc: Global) -> Result<Vec<(String, Vec<u8>)>, AllocError> {
+    let named: [(&str, &[u8]); 8] = [
+        ("product", &PRODUCT),
+        ("long", &LONG_SPELLINGS),
+        ("five", &FIVE),
+        ("missing", &NO_OPERANDS),
+        ("two", &TWO_NUMBERS),
+        ("twice", &LEAST_TWICE),
+        ("negated", &LEAST_NEGATED),
+        ("room", &ROOM_LEFT),
+    ];
+    let mut all = Vec::new(alloc);
+    all.push((String::from_str(alloc, "short")?, FRONT[..7].to_vec(alloc)?))?;
+    all.push((String::from_str(alloc, "empty")?, Vec::new(alloc)))?;
+    for (name, code) in named {
+        all.push((String::from_str(alloc, name)?, module(alloc, code)?))?;
+    }
+    Ok(all)
+}
+
+fn words(alloc: Global, line: &[&str]) -> Result<Vec<String>, AllocError> {
+    let mut all = Vec::new(alloc);
+    for word in line {
+        all.push(String::from_str(alloc, word)?)?;
+    }
+    Ok(all)
+}
+
+// What a call of the program comes to.
+#[derive(Drop)]
+struct Ending {
+    status: u8,
+    out: Vec<u8>,
+    err: Vec<u8>,
+}
+
+// The program's call, where these calls fail on the files, on out and on err.
+fn done(
+    alloc: Global,
+    line: &[&str],
+    input_fails: &[u64],
+    out_fails: &[u64],
+    err_fails: &[u64],
+) -> Result<Ending, AllocError> {
+    let mut inputs = MemInputs::new(alloc, files(alloc)?, input_fails.to_vec(alloc)?)?;
+    let mut out = MemSink::new(alloc, out_fails.to_vec(alloc)?)?;
+    let mut err = MemSink::new(alloc, err_fails.to_vec(alloc)?)?;
+    let words = words(alloc, line)?;
+    let status = command(alloc, words.as_slice(), &mut inputs, &mut out, &mut err);
+    Ok(Ending {
+        status: status.code(),
+        out: out.held().to_vec(alloc)?,
+        err: err.held().to_vec(alloc)?,
+    })
+}
+
+static USAGE: &[u8] =
+    b"usage: stackwasm check FILE | run FILE [--steps N] [--stats] | build FILE | gen N\n";
+
+#[test]
+fn lines_and_their_answers(rt: HostRuntime) -> Result<(), Fail> {
+    let alloc = rt.alloc();
+    let rows: [(&[&str], u8, &[u8], &[u8]); 19] = [
+        (&["stackwasm", "run", "product"], 0, b"= 42\n", b""),
+        (&["stackwasm", "run", "long"], 0, b"= 42\n", b""),
+        (&["stackwasm", "run", "five"], 0, b"= 5\n", b""),
+        (&["stackwasm", "run", "twice"], 0, b"= 0\n", b""),
+        (
+            &["stackwasm", "run", "negated"],
+            0,
+            b"= -9223372036854775808\n",
+            b"",
+        ),
+        (
+            &["stackwasm", "run", "missing"],
+            4,
+            b"",
+            b"invalid function 0\n",
+        ),
+        (
+            &["stackwasm", "run", "two"],
+            4,
+            b"",
+            b"invalid function 0\n",
+        ),
+        (
+            &["stackwasm", "run", "short"],
+            3,
+            b"",
+            b"malformed header\n",
+        ),
+        (
+            &["stackwasm", "run", "empty"],
+            3,
+            b"",
+            b"malformed header\n",
+        ),
+        (&["stackwasm", "run", "room"], 3, b"", b"malformed header\n"),
+        (&["stackwasm", "run", "nothing"], 6, b"", b"read fault\n"),
+        (&["stackwasm", "run", ""], 6, b"", b"read fault\n"),
+        (&["stackwasm", "run"], 2, b"", USAGE),
+        (&["stackwasm", "run", "-x"], 2, b"", USAGE),
+        (&["stackwasm", "run", "product", "product"], 2, b"", USAGE),
+        (&["stackwasm", "RUN", "product"], 2, b"", USAGE),
+        (&["stackwasm", "help"], 2, b"", USAGE),
+        (&["stackwasm"], 2, b"", USAGE),
+        (&[], 2, b"", USAGE),
+    ];
+    for (line, status, out, err) in rows {
+        let done = done(alloc, line, &[], &[], &[])?;
+        assert_eq!(rt; done.status, status, "{line:?}");
+        assert_eq!(rt; done.out.as_slice(), out, "{line:?}");
+        assert_eq!(rt; done.err.as_slice(), err, "{line:?}");
+    }
+    Ok(())
+}
+
+#[test]
+fn each_fault_ends_the_call(rt: HostRuntime) -> Result<(), Fail> {
+    let alloc = rt.alloc();
+    let run: &[&str] = &["stackwasm", "run", "product"];
+    let gone: &[&str] = &["stackwasm", "run", "nothing"];
+    let bad: &[&str] = &["stackwasm"];
+    // The calls that fail on the files, on out and on err; the status, out and err. A call after a fault would be seen: it
+    // would be taken.
+    let rows: [(&[&str], &[u64], &[u64], &[u64], u8, &[u8], &[u8]); 10] = [
+        (run, &[0], &[], &[], 6, b"", b"read fault\n"),
+        (run, &[1], &[], &[], 6, b"", b"read fault\n"),
+        (run, &[2], &[], &[], 6, b"", b"read fault\n"),
+        (run, &[3], &[], &[], 0, b"= 42\n", b""),
+        (run, &[], &[0], &[], 7, b"", b""),
+        (run, &[], &[1], &[0, 1], 0, b"= 42\n", b""),
+        (run, &[1], &[], &[0], 7, b"", b""),
+        (gone, &[], &[], &[0], 7, b"", b""),
+        (gone, &[], &[0], &[1], 6, b"", b"read fault\n"),
+        (bad, &[0], &[0], &[0], 7, b"", b""),
+    ];
+    for (line, inputs, outs, errs, status, out, err) in rows {
+        let done = done(alloc, line, inputs, outs, errs)?;
+        assert_eq!(rt;
+            done.status,
+            status,
+            "{line:?} {inputs:?} {outs:?} {errs:?}"
+        );
+        assert_eq!(rt;
+            done.out.as_slice(),
+            out,
+            "{line:?} {inputs:?} {outs:?} {errs:?}"
+        );
+        assert_eq!(rt;
+            done.err.as_slice(),
+            err,
+            "{line:?} {inputs:?} {outs:?} {errs:?}"
+        );
+    }
+    Ok(())
+}
+
+#[test]
+fn the_longest_file_and_one_byte_more(rt: HostRuntime) -> Result<(), Fail> {
+    let alloc = rt.alloc();
+    let rows: [(usize, u8, &[u8]); 2] = [(0, 3, b"malformed header\n"), (1, 9, b"limit input\n")];
+    for (more, code, line) in rows {
+        let mut files = Vec::new(alloc);
+        let bytes = vec![in alloc; 0u8; 16_777_216 + more]?;
+        files.push((String::from_str(alloc, "long")?, bytes))?;
+        let mut inputs = SureInputs::new(alloc, files)?;
+        let mut out = SureSink::new(alloc)?;
+        let mut err = SureSink::new(alloc)?;
+        let words = words(alloc, &["stackwasm", "run", "long"])?;
+        let status = command(alloc, words.as_slice(), &mut inputs, &mut out, &mut err);
+        assert_eq!(rt; status.code(), code);
+        assert_eq!(rt; out.held(), b"".as_slice());
+        assert_eq!(rt; err.held(), line);
+    }
+    Ok(())
+}
+
+#[test]
+fn a_module_is_decoded_and_judged(rt: HostRuntime) -> Result<(), Fail> {
+    let alloc = rt.alloc();
+    let bytes = module(alloc, &PRODUCT)?;
+    let decoded = decode(alloc, bytes.as_slice())?;
+    let ops = [
+        Op::Numeric(Numeric::I64Const(6)),
+        Op::Numeric(Numeric::I64Const(7)),
+        Op::Numeric(Numeric::I64Mul),
+    ];
+    assert_eq!(rt; decoded.main.ops(), ops.as_slice());
+    assert!(rt; validate(decoded).is_ok());
+    let bytes = module(alloc, &NO_OPERANDS)?;
+    let decoded = decode(alloc, bytes.as_slice())?;
+    assert_eq!(rt; validate(decoded).err(), Some(ValidFault::Function(0)));
+    assert_eq!(rt; decode(alloc, &FRONT).err(), Some(DecodeFault::Header));
+    Ok(())
+}
+
+#[test]
+fn statuses_have_their_codes(rt: HostRuntime) {
+    let rows = [
+        (Status::Done, 0),
+        (Status::Usage, 2),
+        (Status::Malformed, 3),
+        (Status::Invalid, 4),
+        (Status::ReadFault, 6),
+        (Status::WriteFault, 7),
+        (Status::OutOfMemory, 8),
+        (Status::Limit, 9),
+        (Status::Running, 10),
+        (Status::Stuck, 11),
+    ];
+    for (status, code) in rows {
+        assert_eq!(rt; status.code(), code);
+    }
+    assert_eq!(rt; DEFAULT_STEPS, 100_000_000);
+}
