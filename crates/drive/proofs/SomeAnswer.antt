@@ -1,9 +1,8 @@
 -- Each line has an answer, for whatever is told of the files: there can't be none.
-use Rattle.std.proofs.Common.{◌≡◌, ◌⊎◌, ◌≤◌, ◌<◌, inl, inr, refl, List, [], ℕ, length, arith}
+use Rattle.std.proofs.Common.{◌⊎◌, ◌≤◌, ◌<◌, inl, inr, refl, List, [], ℕ, length, arith}
 use Rattle.w_outside.specs.Outside.{Known, untold, missing, holds}
 use Rattle.w_syntax.specs.declared.module.Module.{Module}
 use Rattle.w_syntax.specs.Module.{Spells}
-use Rattle.w_machine.specs.Typing.{Valid}
 use Rattle.drive.specs.Line.{Line, run, bad}
 use Rattle.drive.specs.Answer.{Reply, Answer, IsMalformed, OnFile, OnBytes, ModuleGives, RunGives, input_limit}
 

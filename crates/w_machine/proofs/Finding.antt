@@ -2,7 +2,7 @@
 use Rattle.std.proofs.Common.{◌≡◌, ◌≢◌, ℕ, zero, suc, ◌+◌, ◌-◌, ◌*◌, ◌%◌, ◌^◌, ◌<◌, ◌≤◌, List, [], ◌∷◌, ◌++◌, length, take, drop, Option, Some, None, refl, sym, ap, ◌∙◌, arith, add-one, append_assoc, set, ℤ, pos, negsuc}
 use Rattle.std.specs.Int.{cast_unsigned, cast_signed, w64}
 use Rattle.std.proofs.lemmas.Int.{to_z-of_z}
-use Rattle.std.specs.Prelude.{FitsSigned, slice_get, nat_eq, true, false, if◌then◌else◌}
+use Rattle.std.specs.Prelude.{FitsSigned, slice_get, nat_eq, true, false}
 use Rattle.std.proofs.lemmas.List.{length-append, length-take-le, take_at, take-take}
 use Rattle.std.proofs.lemmas.Bool.Decides.{nat_tests}
 use Rattle.w_syntax.specs.Code.{Code, Done, Plain, tree_of, ops_of, tree_of-ops_of}
@@ -14,16 +14,14 @@ use Rattle.w_machine.specs.declared.value.Value.TheVariants.{I32, I64}
 use Rattle.w_machine.specs.declared.store.Function.{Function}
 use Rattle.w_machine.specs.declared.store.Function.TheVariants.{Defined}
 use Rattle.w_machine.specs.declared.store.Store.{Store}
-use Rattle.w_machine.specs.declared.configuration.Stage.{Stage}
-use Rattle.w_machine.specs.declared.configuration.Stage.TheVariants.{Start, Body, Frame as InFrame, Values as AtValues}
+use Rattle.w_machine.specs.declared.configuration.Stage.TheVariants.{Start, Body, Frame as InFrame}
 use Rattle.w_machine.specs.declared.configuration.Redex.{Redex}
 use Rattle.w_machine.specs.declared.configuration.Redex.TheVariants.{Invoke, Constant, Product, LabelExit, FrameExit}
 use Rattle.w_machine.specs.declared.configuration.Found.{Found}
 use Rattle.w_machine.specs.declared.configuration.Found.TheVariants as found
-use Rattle.w_machine.specs.Rows.{Row, ε, ◌▹◌, ◌⧺◌, size, row_of}
-use Rattle.w_machine.specs.Terms.{Context, rest_of}
-use Rattle.w_machine.specs.Reduce.{Reduced, Went, Ended, Stuck, goes, bits_of, take_i64, instruction, reduce}
-use Rattle.w_machine.specs.Configuration.{module_of, term_at, Fits, IsInBody, IsInstruction, operands_after, stage_after, TakesI64, FindsInstruction, FindsInvoke, Finds}
+use Rattle.w_machine.specs.Rows.{Row, ◌▹◌, size, row_of}
+use Rattle.w_machine.specs.Reduce.{Reduced, Stuck, bits_of, take_i64}
+use Rattle.w_machine.specs.Configuration.{Fits, IsInstruction, stage_after, FindsInstruction, FindsInvoke, Finds}
 use Rattle.w_machine.proofs.Rows.{row_of-more, size-row_of}
 use Rattle.w_machine.proofs.Rules.{unit_left}
 

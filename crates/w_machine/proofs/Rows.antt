@@ -1,6 +1,6 @@
 -- Rows of lists: a list with one more value at its end is a row with one more at its right.
-use Rattle.std.proofs.Common.{◌≡◌, ℕ, suc, ◌+◌, List, [], ◌∷◌, ◌++◌, length, refl, sym, ap, ◌∙◌, append_assoc, append-nil, arith}
-use Rattle.w_machine.specs.Rows.{Row, ε, ◌▹◌, ◌⧺◌, size, onto, row_of, listed}
+use Rattle.std.proofs.Common.{◌≡◌, ◌+◌, List, [], ◌∷◌, ◌++◌, length, refl, sym, ◌∙◌, append_assoc, append-nil, arith}
+use Rattle.w_machine.specs.Rows.{Row, ε, ◌▹◌, size, onto, row_of, listed}
 
 module _ {A : Type 0} where
   onto-more : (xs : Row A) (ys : List A) (y : A) → onto xs (ys ++ y ∷ []) ≡ onto xs ys ▹ y

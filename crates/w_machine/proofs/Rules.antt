@@ -1,12 +1,12 @@
 -- The rules of the standard derive what the definition of typing says.
-use Rattle.std.proofs.Common.{◌≡◌, refl, sym, ap, ◌∙◌, subst}
+use Rattle.std.proofs.Common.{◌≡◌, refl, sym, ap, subst}
 use Rattle.w_syntax.specs.Code.{Code, Done, Plain, after}
 use Rattle.w_syntax.specs.declared.types.ValType.{ValType}
 use Rattle.w_syntax.specs.declared.code.Op.{Op}
 use Rattle.w_syntax.specs.declared.code.Op.TheVariants.{Numeric}
 use Rattle.w_syntax.specs.declared.code.Numeric.TheVariants.{I64Const, I64Mul}
 use Rattle.w_machine.specs.Rows.{Row, ε, ◌▹◌, ◌⧺◌}
-use Rattle.w_machine.specs.Typing.{Matches, same, RowMatches, none, more, Line, fixed, line, Steps, Takes, Derives}
+use Rattle.w_machine.specs.Typing.{Matches, same, RowMatches, none, more, Line, fixed, line, Takes, Derives}
 use Rattle.w_machine.specs.Family.{Typed, empty, i64_const, i64_mul, composition, subsumption, OneTyping}
 
 -- ## Matching is a preorder, and operands beneath don't matter

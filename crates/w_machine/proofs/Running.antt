@@ -3,16 +3,12 @@ use Rattle.std.proofs.Common.{◌≡◌, ℕ, zero, suc, ◌+◌, ◌<◌, ◌�
 use Rattle.w_syntax.specs.declared.module.Module.{Module}
 use Rattle.w_machine.specs.declared.outcome.Kept.{Kept}
 use Rattle.w_machine.specs.declared.outcome.Kept.TheVariants as kept
-use Rattle.w_machine.specs.declared.outcome.Stepped.{Stepped}
 use Rattle.w_machine.specs.declared.outcome.Stepped.TheVariants as stepped
-use Rattle.w_machine.specs.declared.outcome.Outcome.{Outcome}
 use Rattle.w_machine.specs.declared.outcome.Outcome.TheVariants as outcome
-use Rattle.w_machine.specs.Rows.{Row}
-use Rattle.w_machine.specs.declared.value.Value.{Value}
 use Rattle.w_machine.specs.Kept.{stepped_of, outcome_of}
 use Rattle.w_machine.specs.Reduce.{Reduced, Went, Ended, Stuck, reduce}
-use Rattle.w_machine.specs.Run.{Running, Values, NoRule, Ran, told, came_to, went_on, Run, HasEnded}
-use Rattle.w_machine.specs.Position.{Position, Steps, StepsFrom, Stops, Runs, RunsOn, RunsFrom}
+use Rattle.w_machine.specs.Run.{Running, NoRule, Ran, told, went_on, Run, HasEnded}
+use Rattle.w_machine.specs.Position.{Position, Steps, StepsFrom, Stops, Runs, RunsFrom}
 
 -- ## What is told of a run that doesn't go on stays
 

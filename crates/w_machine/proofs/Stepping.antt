@@ -1,6 +1,5 @@
 -- What a step that takes no reduction says of the run.
 use Rattle.std.proofs.Common.{◌≡◌, ℕ, List, Option, Some, None, refl, sym, ap, ◌∙◌, add-zero}
-use Rattle.w_syntax.specs.Code.{Code}
 use Rattle.w_syntax.specs.declared.module.Module.{Module}
 use Rattle.w_machine.specs.Rows.{row_of}
 use Rattle.w_machine.specs.declared.value.Value.{Value}

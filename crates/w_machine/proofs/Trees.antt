@@ -4,7 +4,7 @@ use Rattle.w_syntax.specs.Code.{Code, Done, Plain}
 use Rattle.w_machine.specs.Rows.{Row, ε, ◌▹◌, ◌⧺◌}
 use Rattle.w_machine.specs.declared.value.Value.{Value}
 use Rattle.w_machine.specs.Terms.{Administrative, Rest, Label, Frame, Context, Term}
-use Rattle.w_machine.specs.Reduce.{Reduced, Went, reduce}
+use Rattle.w_machine.specs.Reduce.{Went, reduce}
 use Rattle.w_machine.specs.Tree.{Is, Asks, Does, InLabel, InFrame, Sequence, Nil, ◌∙∙◌, values_then, written_code, asked, written, filled, tree, Decomposes, Deterministic}
 use Rattle.w_machine.proofs.Rules.{unit_left}
 

@@ -15,7 +15,7 @@ use Rattle.w_machine.specs.declared.configuration.Redex.{Redex}
 use Rattle.w_machine.specs.declared.configuration.Redex.TheVariants.{Invoke, Constant, Product, LabelExit, FrameExit}
 use Rattle.w_machine.specs.declared.configuration.Found.{Found}
 use Rattle.w_machine.specs.declared.configuration.Found.TheVariants as found
-use Rattle.w_machine.specs.Terms.{Rest, rest_of, Layer, Label, Frame, Context, Term, start_term}
+use Rattle.w_machine.specs.Terms.{rest_of, Layer, Label, Frame, Context, Term, start_term}
 use Rattle.w_machine.specs.Reduce.{Reduced, Went, Ended, Stuck, goes, take_i64, instruction, reduce}
 
 -- main's frame, and its label

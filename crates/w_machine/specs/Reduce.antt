@@ -11,7 +11,7 @@ use Rattle.w_machine.specs.Typing.{main_results}
 use Rattle.w_machine.specs.declared.value.Value.{Value}
 use Rattle.w_machine.specs.declared.value.Value.TheVariants.{I32, I64}
 use Rattle.w_machine.specs.declared.store.Store.{Store}
-use Rattle.w_machine.specs.Terms.{Administrative, Invoke, Rest, rest_of, Layer, Label, Frame, Context, Term, code_of}
+use Rattle.w_machine.specs.Terms.{Administrative, Invoke, Rest, rest_of, Label, Frame, Context, Term, code_of}
 
 -- what one reduction comes to
 pub data Reduced : Type 0 where

@@ -1,5 +1,4 @@
 -- The typing rules (Core, validation).
-use Rattle.std.specs.Prelude.{List}
 use Rattle.w_syntax.specs.Code.{Code, Done, Plain}
 use Rattle.w_syntax.specs.declared.types.ValType.{ValType}
 use Rattle.w_syntax.specs.declared.types.ValType.TheVariants.{I64}

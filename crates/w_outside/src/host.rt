@@ -1,4 +1,5 @@
-//! Real files and streams. What they hold is not told.
+//! Real files and streams. What they hold is not told, so an `open` that finds every file would meet the contracts here,
+//! and so would a `read` that is always at the end: that they do what the system does is tested, and not proved.
 ghost use Rattle.std.specs.Prelude.{◌≡◌, [], Some, None};
 ghost use Rattle.w_outside.specs.Outside.{untold, told_where_closed};
 

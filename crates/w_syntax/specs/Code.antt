@@ -1,5 +1,5 @@
 -- The tree of a body (Core, syntax, instructions), and the one list that it is kept in.
-use Rattle.std.specs.Prelude.{◌≡◌, List, [], ◌∷◌, ◌++◌, refl}
+use Rattle.std.specs.Prelude.{◌≡◌, List, [], ◌∷◌, refl}
 use Rattle.std.specs.Coded.{Coded, code_by, coded_list}
 use Rattle.std.proofs.Common.{ap}
 use Rattle.w_syntax.specs.declared.code.Op.{Op}

@@ -1,5 +1,5 @@
 -- How a sequence of instructions is spelled, and its reading token by token (Core, binary format, expressions).
-use Rattle.std.specs.Prelude.{ℕ, zero, suc, List, [], ◌∷◌, ◌++◌, length, Option, Some, None}
+use Rattle.std.specs.Prelude.{ℕ, zero, suc, List, [], ◌∷◌, ◌++◌, length, Some, None}
 use Rattle.w_leb.specs.Format.{Grammar, Reading, Each, then}
 use Rattle.w_syntax.specs.declared.code.Token.{Token}
 use Rattle.w_syntax.specs.declared.code.Token.TheVariants as tok

@@ -1,7 +1,7 @@
 -- An expression is read exactly.
-use Rattle.std.proofs.Common.{◌≡◌, ℕ, zero, suc, ◌+◌, ◌-◌, ◌<◌, ◌≤◌, List, [], ◌∷◌, ◌++◌, length, Option, Some, None, refl, sym, ap, subst, ◌∙◌, append_assoc, arith}
+use Rattle.std.proofs.Common.{◌≡◌, ℕ, zero, suc, ◌-◌, ◌<◌, ◌≤◌, List, [], ◌∷◌, ◌++◌, length, Option, Some, None, refl, sym, ap, subst, ◌∙◌, append_assoc, arith}
 use Rattle.std.proofs.lemmas.List.{append-nil, length-append}
-use Rattle.w_leb.specs.Format.{Grammar, Reading, IsExact, Format, Each, then}
+use Rattle.w_leb.specs.Format.{Reading, IsExact, Each, then}
 use Rattle.w_leb.specs.Exact.{then_some, some_parts, each_nil, each_cons, joined}
 use Rattle.w_syntax.specs.declared.code.Op.{Op}
 use Rattle.w_syntax.specs.declared.code.Token.{Token}

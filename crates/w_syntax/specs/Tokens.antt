@@ -1,5 +1,5 @@
 -- How instructions are spelled (Core, binary format, instructions).
-use Rattle.std.specs.Prelude.{ℕ, List, [], ◌∷◌}
+use Rattle.std.specs.Prelude.{[], ◌∷◌}
 use Rattle.w_leb.specs.Format.{Format}
 use Rattle.w_leb.specs.Formats.{constant, ◌⇒◌, table, signed_number}
 use Rattle.w_syntax.specs.declared.code.Numeric.TheVariants as numeric

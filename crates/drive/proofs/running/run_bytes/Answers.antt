@@ -1,4 +1,4 @@
-use Rattle.std.proofs.Common.{inl, inr, refl, sym}
+use Rattle.std.proofs.Common.{inl, inr}
 use Rattle.drive.proofs.ReplyLemmas.{replies_as, out_stays}
 use Rattle.drive.proofs.running.run_bytes.Goals as goal
 

@@ -1,4 +1,4 @@
-use Rattle.std.proofs.Common.{sym, ap, ◌∙◌, ◌++◌, ◌∷◌, [], List}
+use Rattle.std.proofs.Common.{ap, ◌∙◌, ◌++◌, ◌∷◌, []}
 use Rattle.w_machine.specs.declared.value.Value.{Value}
 use Rattle.w_machine.proofs.Finding.{no_i64}
 use Rattle.w_machine.proofs.configuration.top_i64.Goals as goal

@@ -1,4 +1,3 @@
-use Rattle.std.proofs.Common.{◌≡◌}
 use Rattle.w_syntax.specs.declared.types.ValType.TheVariants.{I64}
 use Rattle.w_machine.specs.Rows.{ε, ◌▹◌}
 use Rattle.w_machine.specs.Typing.{same, none, more}

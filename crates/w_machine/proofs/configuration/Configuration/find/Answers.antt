@@ -1,8 +1,6 @@
-use Rattle.std.proofs.Common.{sym, ◌∙◌, ap, arith, rules, ◌≡◌, ◌<◌, ◌+◌, ◌^◌, length, None, Some, List}
-use Rattle.std.specs.Prelude.{slice_get, vec_len}
-use Rattle.w_syntax.specs.Code.{ops_of}
+use Rattle.std.proofs.Common.{sym, ◌∙◌, ap, arith, ◌≡◌, ◌<◌, ◌+◌, ◌^◌, Some, List}
+use Rattle.std.specs.Prelude.{slice_get}
 use Rattle.w_syntax.specs.declared.code.Op.{Op}
-use Rattle.w_machine.specs.Configuration.{Finds, FindsInstruction}
 use Rattle.w_machine.proofs.Finding.{invoke_found, instruction_found, label_left, frame_left, frame_stuck, within}
 use Rattle.w_machine.proofs.configuration.Configuration.find.Goals as goal
 

@@ -1,7 +1,6 @@
-use Rattle.std.proofs.Common.{◌≡◌, List, ap, subst, ◌∙◌}
+use Rattle.std.proofs.Common.{ap, subst, ◌∙◌}
 use Rattle.w_machine.specs.Run.{Run, results_of}
 use Rattle.w_machine.specs.declared.configuration.Stage.{Stage}
-use Rattle.w_machine.specs.declared.value.Value.{Value}
 use Rattle.w_machine.specs.Position.{Position, IsReached}
 use Rattle.w_machine.proofs.Stepping.{results_at}
 use Rattle.w_machine.proofs.machine.Machine.results.Goals as goal

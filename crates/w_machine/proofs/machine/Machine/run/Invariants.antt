@@ -1,5 +1,4 @@
 use Rattle.std.proofs.Common.{◌≡◌, ◌+◌, ◌<◌, None}
-use Rattle.w_machine.specs.Position.{Position}
 use Rattle.w_machine.proofs.machine.Machine.run.Given as goal
 
 -- each step so far took a reduction
