@@ -1,12 +1,12 @@
 -- Reading a body token by token.
-use Rattle.std.proofs.Common.{◌≡◌, ℕ, ◌<◌, ◌≤◌, List, [], ◌++◌, ◌∷◌, length, drop, Option, Some, None, refl, sym, ap, ◌∙◌, arith}
-use Rattle.std.proofs.lemmas.List.{length-drop, drop_all}
-use Rattle.w_syntax.specs.Code.{Code, Done, tree_of}
+use Rattle.std.proofs.Common.{◌≡◌, ℕ, ◌<◌, ◌≤◌, List, [], ◌++◌, ◌∷◌, length, drop, Some, None, refl, sym, ap, ◌∙◌, arith}
+use Rattle.std.proofs.lemmas.List.{length-drop}
+use Rattle.w_syntax.specs.Code.{Done, tree_of}
 use Rattle.w_syntax.specs.declared.code.Op.{Op}
 use Rattle.w_syntax.specs.declared.code.Token.{Token}
 use Rattle.w_syntax.specs.declared.code.Token.TheVariants as tok
 use Rattle.w_syntax.specs.Tokens.{token}
-use Rattle.w_syntax.specs.Expr.{read_code, read_expr, step}
+use Rattle.w_syntax.specs.Expr.{read_code, read_expr}
 use Rattle.w_syntax.specs.ExprExact.{tree_of-more, one_on, none_on, none_left, token_shorter}
 
 pub reads_start : (b : List ℕ) → read_code (length b) Done b ≡ read_expr b

@@ -1,16 +1,16 @@
 -- What instructions leave of so many operands i64.
-use Rattle.std.proofs.Common.{◌≡◌, ◌≢◌, ◌↔◌, ℕ, zero, suc, ◌+◌, ◌-◌, ◌<◌, ◌≤◌, refl, sym, ap, subst, ◌∙◌, arith, add-one, Option, Some, None, List, drop, length}
+use Rattle.std.proofs.Common.{◌≡◌, ◌≢◌, ◌↔◌, ℕ, zero, suc, ◌+◌, ◌-◌, ◌<◌, ◌≤◌, refl, sym, ap, subst, ◌∙◌, arith, add-one, Option, Some, None}
 use Rattle.std.proofs.Common.{eqb, true, false}
 use Rattle.std.specs.Option.{option_eq}
 use Rattle.std.proofs.lemmas.Bool.{eqb-true}
-use Rattle.w_syntax.specs.Code.{Code, Done, Plain, tree_of}
+use Rattle.w_syntax.specs.Code.{Code, Done, Plain}
 use Rattle.w_syntax.specs.declared.code.Op.{Op}
 use Rattle.w_syntax.specs.declared.code.Op.TheVariants.{Numeric}
 use Rattle.w_syntax.specs.declared.code.Numeric.TheVariants.{I64Const, I64Mul}
 use Rattle.w_syntax.specs.declared.types.ValType.{ValType}
 use Rattle.w_syntax.specs.declared.types.ValType.TheVariants.{I64}
-use Rattle.w_machine.specs.Rows.{Row, ε, ◌▹◌, ◌⧺◌, size}
-use Rattle.w_machine.specs.Typing.{Matches, same, RowMatches, none, more, line, Steps, Takes, Derives}
+use Rattle.w_machine.specs.Rows.{Row, ε, ◌▹◌}
+use Rattle.w_machine.specs.Typing.{Matches, same, RowMatches, none, more, Steps, Derives}
 use Rattle.drive.specs.Heights.{i64s, Leaves, HasHeight}
 
 -- ## Rows that match are equal

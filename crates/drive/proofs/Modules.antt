@@ -1,5 +1,5 @@
 -- From what the code section gives to what the bytes spell.
-use Rattle.std.proofs.Common.{◌≡◌, ◌⊎◌, inl, inr, ℕ, List, ◌++◌, Option, Some, None, Result, Ok, Err, refl, sym, ap, subst, ◌∙◌}
+use Rattle.std.proofs.Common.{◌≡◌, inl, ℕ, List, ◌++◌, Option, Some, None, Result, Ok, sym, ap, ◌∙◌}
 use Rattle.std.proofs.Common.{◌+◌, true, false, take, drop, length, Bor}
 use Rattle.std.specs.Prelude.{MatchOption, IfSome}
 use Rattle.std.specs.Str.{bytes_eq}
@@ -11,7 +11,6 @@ use Rattle.w_syntax.specs.Code.{Code}
 use Rattle.w_syntax.specs.declared.module.Module.{Module}
 use Rattle.w_syntax.specs.Module.{code_section, front, Spells}
 use Rattle.drive.specs.declared.fault.DecodeFault.{DecodeFault}
-use Rattle.drive.specs.declared.fault.DecodeFault.TheVariants.{Header, OutOfMemory}
 use Rattle.drive.specs.Answer.{IsMalformed}
 use Rattle.drive.specs.Decoding.{IsAnswer}
 

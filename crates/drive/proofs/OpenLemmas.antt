@@ -1,5 +1,5 @@
 -- From what was read to what is due of a file.
-use Rattle.std.proofs.Common.{◌∙◌, ◌≡◌, ◌⊎◌, ◌≤◌, ◌<◌, inl, inr, refl, sym, ap, subst, List, [], ◌∷◌, ℕ, ◌++◌, length, Result, Ok, Err, Option}
+use Rattle.std.proofs.Common.{◌≡◌, ◌⊎◌, ◌≤◌, ◌<◌, inl, inr, subst, List, [], ℕ, length, Result, Ok, Err, Option}
 use Rattle.std.specs.Prelude.{IsErrAnd}
 use Rattle.w_outside.specs.Outside.{Known, untold, missing, holds, Grew, Rose}
 use Rattle.w_outside.specs.declared.traits.Fault.{Fault}
@@ -9,7 +9,7 @@ use Rattle.drive.specs.declared.status.Status.{Status}
 use Rattle.drive.specs.Answer.{OnFile, OnBytes, Reply, input_limit, limit_input, read_fault}
 use Rattle.drive.specs.Delivery.{MayFail, Replies}
 use Rattle.drive.specs.Reading.{FileRefusal, ReadsOrRefuses, IsTooLong, MayHold}
-use Rattle.drive.proofs.ReplyLemmas.{replies_as, rose_later, out_stays}
+use Rattle.drive.proofs.ReplyLemmas.{replies_as, rose_later}
 
 pub on_file : (known : Known) (Gives : List ℕ → Reply → Type 0) (bytes : List ℕ) (r : Reply) → MayHold known bytes
     → length bytes ≤ input_limit → Gives bytes r → OnFile known Gives r

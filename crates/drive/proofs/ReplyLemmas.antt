@@ -1,10 +1,10 @@
 -- What a part of a call did, from what its own parts did.
-use Rattle.std.proofs.Common.{◌≡◌, ◌≤◌, inl, inr, ℕ, List, [], ◌++◌, Option, Some, None, Result, Ok, Err, refl, sym, ◌∙◌, ap, append_assoc, arith}
+use Rattle.std.proofs.Common.{◌≡◌, ◌≤◌, inl, inr, ℕ, List, [], ◌++◌, Option, Result, Ok, Err, refl, sym, ap, append_assoc, arith}
 use Rattle.std.specs.Prelude.{IsErrAnd}
 use Rattle.w_outside.specs.Outside.{Grew, GrewByFront, IsFront, Rose}
 use Rattle.w_outside.specs.declared.traits.Fault.{Fault}
 use Rattle.w_outside.specs.declared.traits.Fault.TheVariants.{Failed, OutOfMemory}
-use Rattle.w_outside.proofs.OutsideLemmas.{grew_nothing, grew_more}
+use Rattle.w_outside.proofs.OutsideLemmas.{grew_nothing}
 use Rattle.drive.specs.declared.status.Status.{Status}
 use Rattle.drive.specs.Answer.{Reply}
 use Rattle.drive.specs.Delivery.{WroteFront, WrotePart, Begins, BeginsAtMost, Replies}

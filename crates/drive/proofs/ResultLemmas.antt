@@ -1,12 +1,11 @@
 -- The lines of results, one by one, and what a run gives.
-use Rattle.std.proofs.Common.{◌≡◌, ◌+◌, ◌<◌, ℕ, List, [], ◌∷◌, ◌++◌, drop, length, get_or, flat_map, Option, Some, None, Result, Ok, Err, refl, sym, ap, subst, ◌∙◌, append_assoc, zero-add}
+use Rattle.std.proofs.Common.{◌≡◌, ◌+◌, ◌<◌, ℕ, List, [], ◌++◌, drop, length, get_or, flat_map, None, Result, Ok, Err, sym, ap, subst, ◌∙◌, append_assoc, zero-add}
 use Rattle.std.specs.Prelude.{OnErr}
 use Rattle.std.proofs.lemmas.List.{drop_more}
 use Rattle.w_outside.specs.Outside.{IsFront}
 use Rattle.w_syntax.specs.declared.module.Module.{Module}
 use Rattle.w_machine.specs.declared.value.Value.{Value}
 use Rattle.w_machine.specs.declared.outcome.Outcome.TheVariants as outcome
-use Rattle.w_machine.specs.Rows.{listed}
 use Rattle.w_machine.specs.Run.{Outcome, Running, NoRule, Ran, Run, HasEnded, results_of}
 use Rattle.w_machine.specs.Position.{Position, Runs}
 use Rattle.drive.specs.Answer.{Reply, result_line, run_reply}

@@ -1,6 +1,6 @@
 -- How many operands instructions leave, where each has its own.
 use Rattle.std.specs.Prelude.{◌≡◌, ◌↔◌, ℕ, zero, suc, Option, Some, None}
-use Rattle.w_syntax.specs.Code.{Code, Done, Plain}
+use Rattle.w_syntax.specs.Code.{Code}
 use Rattle.w_syntax.specs.declared.code.Op.{Op}
 use Rattle.w_syntax.specs.declared.types.ValType.{ValType}
 use Rattle.w_syntax.specs.declared.types.ValType.TheVariants.{I64}

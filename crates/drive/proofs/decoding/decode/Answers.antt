@@ -1,6 +1,4 @@
-use Rattle.std.proofs.Common.{◌≡◌, ◌++◌, sym, ap, ◌∙◌, Some, None}
-use Rattle.w_leb.specs.Format.{whole}
-use Rattle.w_syntax.specs.Module.{front, code_section}
+use Rattle.std.proofs.Common.{sym, ◌∙◌}
 use Rattle.drive.proofs.Modules.{spelled, no_front, no_code, only_module}
 use Rattle.drive.proofs.decoding.decode.Goals as goal
 

@@ -1,9 +1,7 @@
-use Rattle.std.proofs.Common.{◌≡◌, drop, length, sym, ap, ◌∙◌, arith, Some, List}
+use Rattle.std.proofs.Common.{drop, length, sym, ap, ◌∙◌, arith, Some, List}
 use Rattle.w_syntax.specs.Code.{Code, tree_of}
 use Rattle.w_syntax.specs.Expr.{read_code}
 use Rattle.w_syntax.specs.declared.code.Op.{Op}
-use Rattle.w_syntax.specs.declared.code.Token.TheVariants as tok
-use Rattle.w_syntax.specs.Tokens.{token}
 use Rattle.drive.proofs.Bodies.{reads_start, moves, one_more, at_end, no_token, past}
 use Rattle.drive.proofs.fields.body_at.Goals as goal
 

@@ -1,4 +1,4 @@
-use Rattle.std.proofs.Common.{◌≡◌, drop, length, arith, ◌+◌}
+use Rattle.std.proofs.Common.{drop, arith}
 use Rattle.std.proofs.lemmas.List.{length-drop}
 use Rattle.drive.proofs.Cutting.{no_size, too_short, cut_out}
 use Rattle.drive.proofs.fields.cut_at.Goals as goal

@@ -1,5 +1,4 @@
-use Rattle.std.proofs.Common.{◌++◌, ◌∙◌, subst, arith, List, ℕ}
-use Rattle.w_outside.specs.Outside.{Grew, IsFront}
+use Rattle.std.proofs.Common.{◌++◌, ◌∙◌, arith}
 use Rattle.w_outside.proofs.OutsideLemmas.{grew_more}
 use Rattle.drive.proofs.ResultLemmas.{line_more, line_front, on_err}
 use Rattle.drive.proofs.running.write_results.Goals as goal

@@ -1,4 +1,4 @@
-use Rattle.std.proofs.Common.{sym, ap, ◌∙◌, drop, subst, List}
+use Rattle.std.proofs.Common.{subst, List}
 use Rattle.std.proofs.lemmas.List.{drop_all}
 use Rattle.w_syntax.specs.Code.{tree_of}
 use Rattle.w_syntax.specs.declared.code.Op.{Op}

@@ -1,5 +1,5 @@
-use Rattle.std.proofs.Common.{sym, ap, subst, ◌∙◌, Some, Option, ℕ, List}
-use Rattle.w_syntax.specs.Code.{Code, tree_of, ops_of, tree_of-ops_of}
+use Rattle.std.proofs.Common.{sym, ap, subst, ◌∙◌, Option, ℕ}
+use Rattle.w_syntax.specs.Code.{Code, tree_of, tree_of-ops_of}
 use Rattle.drive.specs.Heights.{HasHeight}
 use Rattle.drive.proofs.HeightLemmas.{valid_at, invalid_at, is_one, is_not_one}
 use Rattle.drive.proofs.validation.validate.Goals as goal
