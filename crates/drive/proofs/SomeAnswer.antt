@@ -3,8 +3,8 @@ use Rattle.std.proofs.Common.{◌⊎◌, ◌≤◌, ◌<◌, inl, inr, refl, Lis
 use Rattle.w_outside.specs.Outside.{Known, untold, missing, holds}
 use Rattle.w_syntax.specs.declared.module.Module.{Module}
 use Rattle.w_syntax.specs.Module.{Spells}
-use Rattle.drive.specs.Line.{Line, run, bad}
-use Rattle.drive.specs.Answer.{Reply, Answer, IsMalformed, OnFile, OnBytes, ModuleGives, RunGives, input_limit}
+use Rattle.drive.specs.Line.{Line, check, run, bad}
+use Rattle.drive.specs.Answer.{Reply, Answer, IsMalformed, OnFile, OnBytes, BytesGive, CheckGives, RunGives, input_limit}
 
 -- there can't be no reply of which it holds
 abbrev IsTotal : (Reply → Type 0) → Type 0
@@ -25,16 +25,14 @@ on_file (holds bytes) Gives total none = on_bytes Gives bytes (total bytes) none
 spelled_or_not : (bytes : List ℕ) → (((m : Module) × Spells bytes m) ⊎ IsMalformed bytes → ⊥) → ⊥
 spelled_or_not bytes k = k (inr (λ m s. k (inl (m, s))))
 
--- a module is valid, or it isn't
-module_total : (steps : ℕ) (m : Module) → IsTotal (ModuleGives steps m)
-module_total steps m none = none _ (inr (λ valid. none _ (inl (valid, refl)), refl))
-
-run_total : (steps : ℕ) (bytes : List ℕ) → IsTotal (RunGives steps bytes)
-run_total steps bytes none = spelled_or_not bytes (λ e. elim e [
-  | inl h ↦ module_total steps h.0 (λ r g. none r (inl (h.0, h.1, g)))
-  | inr h ↦ none _ (inr (h, refl))
+-- and a module is valid, or it isn't
+bytes_total : (valid : Module → Reply) (bytes : List ℕ) → IsTotal (BytesGive valid bytes)
+bytes_total valid bytes none = spelled_or_not bytes (λ e. elim e [
+  | inl h ↦ none _ (inr (inl (h.0, h.1, ((λ v. none _ (inl (h.0, h.1, v, refl))), refl))))
+  | inr h ↦ none _ (inr (inr (h, refl)))
 ])
 
 pub some_answer : (l : Line) (files : List ℕ → Known) → IsTotal (Answer l files)
-some_answer (run name steps) files none = on_file (files name) (RunGives steps) (run_total steps) none
+some_answer (check name) files none = on_file (files name) CheckGives (bytes_total _) none
+some_answer (run name steps) files none = on_file (files name) (RunGives steps) (bytes_total _) none
 some_answer bad files none = none _ refl

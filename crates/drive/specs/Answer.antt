@@ -10,7 +10,7 @@ use Rattle.w_machine.specs.declared.value.Value.TheVariants.{I32, I64}
 use Rattle.w_machine.specs.Rows.{listed}
 use Rattle.w_machine.specs.Typing.{Valid}
 use Rattle.w_machine.specs.Run.{Outcome, Running, Values, NoRule, Run}
-use Rattle.drive.specs.Line.{Line, run, bad}
+use Rattle.drive.specs.Line.{Line, check, run, bad}
 
 -- what is written to out and to err, and the status
 pub record Reply : Type 0 where
@@ -55,6 +55,10 @@ input_limit = 16777216
 
 -- ## A module
 
+-- a module that is valid, judged
+abbrev pub ok_module : Reply
+ok_module = record { out = line (codes "ok module"); err = []; status = 0 }
+
 -- a value, signed
 abbrev pub value_text : Value → List ℕ
 value_text (I32 n) = signed_decimal (cast_signed w32 n)
@@ -69,17 +73,29 @@ run_reply (Values vs) = record { out = flat_map result_line (listed vs); err = [
 run_reply Running = running
 run_reply NoRule = stuck
 
--- what a module gives, run for so many steps
-abbrev pub ModuleGives : ℕ → Module → Reply → Type 0
-ModuleGives steps m reply = (Valid m × (reply ≡ run_reply (Run m steps).outcome)) ⊎ ((Valid m → ⊥) × (reply ≡ invalid_function 0))
-
 -- no module has this spelling
 abbrev pub IsMalformed : List ℕ → Type 0
 IsMalformed bytes = (m : Module) → Spells bytes m → ⊥
 
--- what bytes give
+-- why a module is refused
+abbrev pub ModuleRefusal : Module → Reply → Type 0
+ModuleRefusal m reply = (Valid m → ⊥) × (reply ≡ invalid_function 0)
+
+-- why bytes are refused
+abbrev pub BytesRefusal : List ℕ → Reply → Type 0
+BytesRefusal bytes reply = ((m : Module) × Spells bytes m × ModuleRefusal m reply) ⊎ (IsMalformed bytes × (reply ≡ malformed))
+
+-- what bytes give, where a valid module gives this
+abbrev pub BytesGive : (Module → Reply) → List ℕ → Reply → Type 0
+BytesGive valid bytes reply = ((m : Module) × Spells bytes m × Valid m × (reply ≡ valid m)) ⊎ BytesRefusal bytes reply
+
+-- what the bytes of a module give, judged
+abbrev pub CheckGives : List ℕ → Reply → Type 0
+CheckGives = BytesGive (λ m. ok_module)
+
+-- what they give, run for so many steps
 abbrev pub RunGives : ℕ → List ℕ → Reply → Type 0
-RunGives steps bytes reply = ((m : Module) × Spells bytes m × ModuleGives steps m reply) ⊎ (IsMalformed bytes × (reply ≡ malformed))
+RunGives steps = BytesGive (λ m. run_reply (Run m steps).outcome)
 
 -- ## Files
 
@@ -97,6 +113,7 @@ OnFile (holds bytes) Gives reply = OnBytes Gives bytes reply
 -- ## The answer
 
 abbrev pub Answer : Line → (List ℕ → Known) → Reply → Type 0
+Answer (check name) files = OnFile (files name) CheckGives
 Answer (run name steps) files = OnFile (files name) (RunGives steps)
 Answer bad files = λ reply. reply ≡ usage
 

@@ -5,5 +5,6 @@ pub mod Request
 pub mod Answer
 pub mod Delivery
 pub mod Reading
+pub mod Judging
 pub mod Decoding
 pub mod Heights

@@ -1,11 +1,14 @@
 //! The program, over any files and sinks: words, files, decoding, validation, runs and answers.
 #![tactic(auto)]
 
+mod checking;
 mod decoding;
 mod fault;
 mod fields;
 mod files;
 mod input;
+mod judged;
+mod judging;
 mod opened;
 mod running;
 mod status;
@@ -22,4 +25,4 @@ pub use input::{InputFault, read_input};
 pub use status::Status;
 pub use top::command;
 pub use validation::validate;
-pub use words::DEFAULT_STEPS;
+pub use words::{DEFAULT_STEPS, MOST_STEPS};

@@ -3,20 +3,18 @@ ghost use Rattle.std.specs.Prelude.{◌≡◌, ◌⊎◌, ◌≤◌, ℕ, List, 
 ghost use Rattle.w_outside.specs.Outside.{Grew, GrewByFront, HasCause, Rose};
 ghost use Rattle.w_machine.specs.Run.{Run};
 ghost use Rattle.w_machine.specs.Position.{most_reductions};
-ghost use Rattle.drive.specs.Answer.{ModuleGives, OnFile, RunGives, result_line, run_reply};
+ghost use Rattle.drive.specs.Answer.{OnFile, RunGives, result_line, run_reply};
 ghost use Rattle.drive.specs.Delivery.{MayFail, Replies};
 
-use crate::decoding::decode;
-use crate::fault::{DecodeFault, ValidFault};
 use crate::files::{open, refuse};
+use crate::judged::Judged;
+use crate::judging::judge;
 use crate::opened::Opened;
 use crate::status::Status;
-use crate::text::{invalid_function_line, value_line};
-use crate::validation::validate;
+use crate::text::value_line;
 use std::alloc::Global;
 use w_machine::{Checked, Machine, Outcome, Value, instantiate};
 use w_outside::{Fault, Inputs, Sink, put};
-use w_syntax::Module;
 
 // Writes a line for each result, each line as one piece.
 fn write_results<O: Sink>(alloc: Global, values: &[Value], out: &mut O) -> Result<(), Fault>
@@ -58,29 +56,6 @@ fn run_checked<O: Sink, E: Sink>(
     }
 }
 
-// Judges and runs a module.
-fn run_module<O: Sink, E: Sink>(
-    alloc: Global,
-    candidate: Module,
-    steps: u64,
-    out: &mut O,
-    err: &mut E,
-) -> Result<Status, Fault>
-    requires { steps ≤ most_reductions }
-    ensures replies { Replies (ModuleGives steps candidate) result
-        (Grew (O.held out.old) (O.held out.new)) (Grew (E.held err.old) (E.held err.new))
-        (Rose (O.faults out.old) (O.faults out.new) ⊎ Rose (E.faults err.old) (E.faults err.new)) }
-    ensures later { (O.faults out.old ≤ O.faults out.new) × (E.faults err.old ≤ E.faults err.new) }
-{
-    match validate(candidate) {
-        Ok(checked) => run_checked(alloc, checked, steps, out, err),
-        Err(ValidFault::Function(index)) => {
-            let text = invalid_function_line(alloc, index)?;
-            refuse(text.as_slice(), Status::Invalid, err)
-        }
-    }
-}
-
 // Runs the module that bytes spell.
 fn run_bytes<O: Sink, E: Sink>(
     alloc: Global,
@@ -95,10 +70,9 @@ fn run_bytes<O: Sink, E: Sink>(
         (Rose (O.faults out.old) (O.faults out.new) ⊎ Rose (E.faults err.old) (E.faults err.new)) }
     ensures later { (O.faults out.old ≤ O.faults out.new) × (E.faults err.old ≤ E.faults err.new) }
 {
-    match decode(alloc, bytes) {
-        Ok(candidate) => run_module(alloc, candidate, steps, out, err),
-        Err(DecodeFault::Header) => refuse(b"malformed header\n", Status::Malformed, err),
-        Err(DecodeFault::OutOfMemory) => Err(Fault::OutOfMemory),
+    match judge(alloc, bytes, err)? {
+        Judged::Accepted(checked) => run_checked(alloc, checked, steps, out, err),
+        Judged::Refused(status) => Ok(status),
     }
 }
 

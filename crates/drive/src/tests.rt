@@ -1,5 +1,7 @@
 //! The program over files and sinks in memory, one call a run.
-use crate::{DEFAULT_STEPS, DecodeFault, Status, ValidFault, command, decode, validate};
+use crate::{
+    DEFAULT_STEPS, DecodeFault, MOST_STEPS, Status, ValidFault, command, decode, validate,
+};
 use std::alloc::{AllocError, Global};
 use std::test::Fail;
 use w_outside::{MemInputs, MemSink, SureInputs, SureSink};
@@ -171,14 +173,105 @@ fn lines_and_their_answers(rt: HostRuntime) -> Result<(), Fail> {
 }
 
 #[test]
+fn modules_are_checked(rt: HostRuntime) -> Result<(), Fail> {
+    let alloc = rt.alloc();
+    let rows: [(&str, u8, &[u8], &[u8]); 8] = [
+        ("product", 0, b"ok module\n", b""),
+        ("long", 0, b"ok module\n", b""),
+        ("missing", 4, b"", b"invalid function 0\n"),
+        ("two", 4, b"", b"invalid function 0\n"),
+        ("short", 3, b"", b"malformed header\n"),
+        ("room", 3, b"", b"malformed header\n"),
+        ("nothing", 6, b"", b"read fault\n"),
+        ("", 6, b"", b"read fault\n"),
+    ];
+    for (name, status, out, err) in rows {
+        let done = done(alloc, &["stackwasm", "check", name], &[], &[], &[])?;
+        assert_eq!(rt; done.status, status, "{name}");
+        assert_eq!(rt; done.out.as_slice(), out, "{name}");
+        assert_eq!(rt; done.err.as_slice(), err, "{name}");
+    }
+    Ok(())
+}
+
+// The product takes six reductions: the call, two constants, the product, and the exits of the label and of the frame.
+#[test]
+fn runs_take_at_most_their_steps(rt: HostRuntime) -> Result<(), Fail> {
+    let alloc = rt.alloc();
+    let rows: [(&[&str], u8, &[u8], &[u8]); 10] = [
+        (&["product", "--steps", "0"], 10, b"", b"running\n"),
+        (&["product", "--steps", "5"], 10, b"", b"running\n"),
+        (&["product", "--steps", "6"], 0, b"= 42\n", b""),
+        (&["--steps", "6", "product"], 0, b"= 42\n", b""),
+        (&["product", "--steps=6"], 0, b"= 42\n", b""),
+        (&["--", "product"], 0, b"= 42\n", b""),
+        (&["product", "--steps", "1099511627776"], 0, b"= 42\n", b""),
+        (&["two", "--steps", "0"], 4, b"", b"invalid function 0\n"),
+        (&["short", "--steps", "0"], 3, b"", b"malformed header\n"),
+        (&["nothing", "--steps", "0"], 6, b"", b"read fault\n"),
+    ];
+    for (more, status, out, err) in rows {
+        let mut line = vec![in alloc; "stackwasm", "run"]?;
+        line.extend_from_slice(more)?;
+        let done = done(alloc, line.as_slice(), &[], &[], &[])?;
+        assert_eq!(rt; done.status, status, "{more:?}");
+        assert_eq!(rt; done.out.as_slice(), out, "{more:?}");
+        assert_eq!(rt; done.err.as_slice(), err, "{more:?}");
+    }
+    Ok(())
+}
+
+#[test]
+fn other_words_are_refused(rt: HostRuntime) -> Result<(), Fail> {
+    let alloc = rt.alloc();
+    let lines: [&[&str]; 17] = [
+        &["stackwasm", "--help"],
+        &["stackwasm", "-h"],
+        &["stackwasm", "--version"],
+        &["stackwasm", "check"],
+        &["stackwasm", "check", "--help"],
+        &["stackwasm", "check", "product", "product"],
+        &["stackwasm", "check", "product", "--steps", "5"],
+        &["stackwasm", "run", "--help"],
+        &["stackwasm", "run", "product", "--steps"],
+        &["stackwasm", "run", "product", "--steps", "1099511627777"],
+        &["stackwasm", "run", "product", "--steps", "05"],
+        &["stackwasm", "run", "product", "--steps", "+5"],
+        &["stackwasm", "run", "product", "--steps", "-5"],
+        &["stackwasm", "run", "product", "--steps", ""],
+        &[
+            "stackwasm",
+            "run",
+            "product",
+            "--steps",
+            "6",
+            "--steps",
+            "6",
+        ],
+        &["stackwasm", "--steps", "6", "run", "product"],
+        &["stackwasm", "build", "product"],
+    ];
+    for line in lines {
+        let done = done(alloc, line, &[], &[], &[])?;
+        assert_eq!(rt; done.status, 2, "{line:?}");
+        assert_eq!(rt; done.out.as_slice(), b"".as_slice(), "{line:?}");
+        assert_eq!(rt; done.err.as_slice(), USAGE, "{line:?}");
+    }
+    Ok(())
+}
+
+#[test]
 fn each_fault_ends_the_call(rt: HostRuntime) -> Result<(), Fail> {
     let alloc = rt.alloc();
     let run: &[&str] = &["stackwasm", "run", "product"];
     let gone: &[&str] = &["stackwasm", "run", "nothing"];
+    let check: &[&str] = &["stackwasm", "check", "product"];
+    let check_gone: &[&str] = &["stackwasm", "check", "nothing"];
+    let check_two: &[&str] = &["stackwasm", "check", "two"];
     let bad: &[&str] = &["stackwasm"];
     // The calls that fail on the files, on out and on err; the status, out and err. A call after a fault would be seen: it
     // would be taken.
-    let rows: [(&[&str], &[u64], &[u64], &[u64], u8, &[u8], &[u8]); 10] = [
+    let rows: [(&[&str], &[u64], &[u64], &[u64], u8, &[u8], &[u8]); 15] = [
         (run, &[0], &[], &[], 6, b"", b"read fault\n"),
         (run, &[1], &[], &[], 6, b"", b"read fault\n"),
         (run, &[2], &[], &[], 6, b"", b"read fault\n"),
@@ -188,6 +281,11 @@ fn each_fault_ends_the_call(rt: HostRuntime) -> Result<(), Fail> {
         (run, &[1], &[], &[0], 7, b"", b""),
         (gone, &[], &[], &[0], 7, b"", b""),
         (gone, &[], &[0], &[1], 6, b"", b"read fault\n"),
+        (check, &[1], &[], &[], 6, b"", b"read fault\n"),
+        (check, &[], &[0], &[], 7, b"", b""),
+        (check, &[], &[1], &[0], 0, b"ok module\n", b""),
+        (check_gone, &[], &[], &[0], 7, b"", b""),
+        (check_two, &[], &[0], &[0], 7, b"", b""),
         (bad, &[0], &[0], &[0], 7, b"", b""),
     ];
     for (line, inputs, outs, errs, status, out, err) in rows {
@@ -268,4 +366,5 @@ fn statuses_have_their_codes(rt: HostRuntime) {
         assert_eq!(rt; status.code(), code);
     }
     assert_eq!(rt; DEFAULT_STEPS, 100_000_000);
+    assert_eq!(rt; MOST_STEPS, 1_099_511_627_776);
 }

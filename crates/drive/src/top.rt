@@ -2,18 +2,43 @@
 ghost use Rattle.std.specs.Prelude.{◌≡◌, ◌≢◌, ◌⊎◌, ◌≤◌, ℕ, List, map, string_bytes};
 ghost use Rattle.w_outside.specs.Outside.{Grew, Rose};
 ghost use Rattle.drive.specs.Line.{line_of};
+ghost use Rattle.drive.specs.Request.{asked_by, IsWithinSteps};
 ghost use Rattle.drive.specs.Answer.{Answer, HasStatus};
 ghost use Rattle.drive.specs.Delivery.{Answers, MayFail, Replies, Answered, Stopped};
 
+use crate::checking::check_file;
 use crate::files::refuse;
 use crate::running::run_file;
 use crate::status::Status;
-use crate::words::asked;
+use crate::words::{Request, WordsFault, asked, fault_of_error, matches_of};
 use std::alloc::Global;
 use w_outside::{Fault, Inputs, Sink};
 
 static USAGE: &[u8] =
     b"usage: stackwasm check FILE | run FILE [--steps N] [--stats] | build FILE | gen N\n";
+
+// Answers a request.
+fn answer<F: Inputs, O: Sink, E: Sink>(
+    alloc: Global,
+    request: Request,
+    files: &mut F,
+    out: &mut O,
+    err: &mut E,
+) -> Result<Status, Fault>
+    requires { IsWithinSteps request }
+    ensures replies { Replies (MayFail (Rose (F.faults files.old) (F.faults files.new))
+        (Answer (asked_by request.entry) (F.file files.old))) result
+        (Grew (O.held out.old) (O.held out.new)) (Grew (E.held err.old) (E.held err.new))
+        (Rose (O.faults out.old) (O.faults out.new) ⊎ Rose (E.faults err.old) (E.faults err.new)) }
+    ensures later { (F.faults files.old ≤ F.faults files.new) × (O.faults out.old ≤ O.faults out.new)
+        × (E.faults err.old ≤ E.faults err.new) }
+    ensures names { (n : List ℕ) → F.file files.new n ≡ F.file files.old n }
+{
+    match request {
+        Request::Check { file } => check_file(alloc, file, files, out, err),
+        Request::Run { file, steps } => run_file(alloc, file, steps, files, out, err),
+    }
+}
 
 // Answers the words.
 fn reply<F: Inputs, O: Sink, E: Sink>(
@@ -30,9 +55,15 @@ fn reply<F: Inputs, O: Sink, E: Sink>(
         × (E.faults err.old ≤ E.faults err.new) }
     ensures names { (n : List ℕ) → F.file files.new n ≡ F.file files.old n }
 {
-    match asked(words) {
-        Some(request) => run_file(alloc, request.file, request.steps, files, out, err),
-        None => refuse(USAGE, Status::Usage, err),
+    match matches_of(alloc, words) {
+        Ok(matches) => match asked(&matches) {
+            Some(request) => answer(alloc, request, files, out, err),
+            None => refuse(USAGE, Status::Usage, err),
+        },
+        Err(error) => match fault_of_error(&error) {
+            WordsFault::Bad => refuse(USAGE, Status::Usage, err),
+            WordsFault::OutOfMemory => Err(Fault::OutOfMemory),
+        },
     }
 }
 

@@ -1,0 +1,9 @@
+use Rattle.drive.specs.Answer.{CheckGives}
+use Rattle.drive.proofs.OpenLemmas.{plain_reply, rose_either}
+use Rattle.drive.proofs.checking.check_file.Goals as goal
+
+pub returns-in-Bytes-clause-replies : goal.returns-in-Bytes-clause-replies
+returns-in-Bytes-clause-replies g c =
+    let read = rw c.in-Bytes.is at c.in_ok-bytes.ensures.reads in
+    plain_reply _ CheckGives _ c.in-Bytes.bytes.items _ _ _ _ _ _ _ c.check_bytes.result c.as_slice.ensures.value read.0 read.1 read.2
+    (rose_either _ _ _ _ c.in_ok-bytes.ensures.later.1) c.check_bytes.ensures.replies
