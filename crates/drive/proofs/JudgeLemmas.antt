@@ -6,7 +6,7 @@ use Rattle.w_outside.specs.declared.traits.Fault.TheVariants.{Failed, OutOfMemor
 use Rattle.w_syntax.specs.declared.module.Module.{Module}
 use Rattle.drive.specs.declared.judged.Judged.{Judged}
 use Rattle.drive.specs.declared.judged.Judged.TheVariants.{Accepted, Refused}
-use Rattle.drive.specs.Answer.{Reply, invalid_function}
+use Rattle.drive.specs.Answer.{Reply}
 use Rattle.drive.specs.Delivery.{Replies}
 use Rattle.drive.specs.Judging.{AcceptsOrRefuses}
 use Rattle.drive.proofs.ReplyLemmas.{replies_as}
@@ -26,8 +26,9 @@ refusal_failed Holds Due Due' ErrGrew rose (Err f) fault is h due =
     as_err OutOfMemory Failed i k = absurd (cc)
     as_err OutOfMemory OutOfMemory i k = k
 
--- the line of a function that isn't valid
-pub invalid_reply : (r : Reply) (written text : List ℕ) → r ≡ record { out = []; err = written; status = 4 } → written ≡ text
-    → text ≡ (invalid_function 0).err → r ≡ invalid_function 0
-invalid_reply r written text is same line_is =
-    is ∙ ap (λ (l : List ℕ). let reply : Reply = record { out = []; err = l; status = 4 } in reply) (same ∙ line_is)
+-- a line that was written for a text
+pub line_reply : (r : Reply) (written text : List ℕ) (status code : ℕ) → r ≡ record { out = []; err = written; status = status } → written ≡ text → status ≡ code
+    → r ≡ record { out = []; err = text; status = code }
+line_reply r written text status code is same code_is =
+    is ∙ ap (λ (l : List ℕ). let reply : Reply = record { out = []; err = l; status = status } in reply) same
+    ∙ ap (λ (n : ℕ). let reply : Reply = record { out = []; err = text; status = n } in reply) code_is

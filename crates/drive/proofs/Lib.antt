@@ -1,10 +1,6 @@
 pub mod LineLemmas
 mod LineRows
 pub mod InputLemmas
-pub mod Cutting
-pub mod Bodies
-pub mod Modules
-pub mod HeightLemmas
 pub mod ReplyLemmas
 pub mod JudgeLemmas
 pub mod OpenLemmas

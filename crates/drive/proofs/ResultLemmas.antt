@@ -1,14 +1,15 @@
 -- The lines of results, one by one, and what a run gives.
-use Rattle.std.proofs.Common.{◌≡◌, ◌+◌, ◌<◌, ℕ, List, [], ◌++◌, drop, length, get_or, flat_map, None, Result, Ok, Err, sym, ap, subst, ◌∙◌, append_assoc, zero-add}
+use Rattle.std.proofs.Common.{◌≡◌, ◌≢◌, Option, Some, refl, ◌+◌, ◌<◌, ℕ, List, [], ◌++◌, drop, length, get_or, flat_map, None, Result, Ok, Err, sym, ap, subst, ◌∙◌, append_assoc, zero-add}
 use Rattle.std.specs.Prelude.{OnErr}
 use Rattle.std.proofs.lemmas.List.{drop_more}
 use Rattle.w_outside.specs.Outside.{IsFront}
 use Rattle.w_syntax.specs.declared.module.Module.{Module}
-use Rattle.w_machine.specs.declared.value.Value.{Value}
+use Rattle.w_types.specs.declared.value.Value.{Value}
 use Rattle.w_machine.specs.declared.outcome.Outcome.TheVariants as outcome
-use Rattle.w_machine.specs.Run.{Outcome, Running, NoRule, Ran, Run, HasEnded, results_of}
+use Rattle.w_rules.specs.declared.limits.LimitName.{LimitName}
+use Rattle.w_reduce.specs.Run.{Outcome, Running, Limit, NoRule, Ran, Run, HasEnded, results_of}
 use Rattle.w_machine.specs.Position.{Position, Runs}
-use Rattle.drive.specs.Answer.{Reply, result_line, run_reply}
+use Rattle.drive.specs.Answer.{Reply, result_line, run_reply, from_entry}
 
 -- ## Lines
 
@@ -64,6 +65,11 @@ ran_stuck m steps p q fresh runs =
     let r = subst (λ (z : Position). Runs z steps outcome.Stuck q) fresh runs in
     subst (λ (k : ℕ). (Run m k).outcome ≡ NoRule) (zero-add steps) r.0
 
+pub ran_limited : (m : Module) (steps : ℕ) (name : LimitName) (p q : Position) → Fresh m p → Runs p steps (outcome.Limit name) q → (Run m steps).outcome ≡ Limit name
+ran_limited m steps name p q fresh runs =
+    let r = subst (λ (z : Position). Runs z steps (outcome.Limit name) q) fresh runs in
+    subst (λ (k : ℕ). (Run m k).outcome ≡ Limit name) (zero-add steps) r.0
+
 -- ## What a run that ended gives
 
 abbrev results_reply : List Value → Reply
@@ -75,3 +81,13 @@ ended_reply o h = ap run_reply h.1 ∙ ap (λ (x : Outcome). results_reply (resu
 pub results_are : (m : Module) (steps : ℕ) (vs : List Value) → HasEnded (Run m steps).outcome → vs ≡ results_of (Run m steps).outcome
     → results_reply vs ≡ run_reply (Run m steps).outcome
 results_are m steps vs h e = ap results_reply e ∙ sym (ended_reply (Run m steps).outcome h)
+
+-- the line of a limit
+pub limit_reply : (written text : List ℕ) → written ≡ text
+    → ◌≡◌ {A = Reply} (record { out = []; err = written; status = 9 }) (record { out = []; err = text; status = 9 })
+limit_reply written text e = ap (λ (l : List ℕ). let reply : Reply = record { out = []; err = l; status = 9 } in reply) e
+
+-- where there is an entry the run gives the reply
+pub with_entry : (o : Option ℕ) (r : Reply) → o ≢ None → from_entry o r ≡ r
+with_entry (Some a) r h = refl
+with_entry None r h = absurd (h refl)

@@ -1,15 +1,25 @@
 -- What the program answers to a line, given what is told of the files.
-use Rattle.std.specs.Prelude.{◌≡◌, ◌⊎◌, ◌<◌, ◌≤◌, ℕ, List, [], ◌∷◌, ◌++◌, codes, decimal, length, flat_map}
+use Rattle.std.specs.Prelude.{◌≡◌, ◌≢◌, ◌⊎◌, ◌<◌, ◌≤◌, ℕ, List, [], ◌∷◌, ◌++◌, codes, decimal, length, flat_map, Option, Some, None}
 use Rattle.std.specs.Int.{w32, w64, cast_signed}
 use Rattle.std.specs.Fmt.{signed_decimal}
 use Rattle.w_outside.specs.Outside.{Known, untold, missing, holds}
 use Rattle.w_syntax.specs.declared.module.Module.{Module}
-use Rattle.w_syntax.specs.Module.{Spells}
-use Rattle.w_machine.specs.declared.value.Value.{Value}
-use Rattle.w_machine.specs.declared.value.Value.TheVariants.{I32, I64}
-use Rattle.w_machine.specs.Rows.{listed}
-use Rattle.w_machine.specs.Typing.{Valid}
-use Rattle.w_machine.specs.Run.{Outcome, Running, Values, NoRule, Run}
+use Rattle.w_syntax.specs.Spells.{Spells}
+use Rattle.w_types.specs.Rows.{listed}
+use Rattle.w_types.specs.declared.value.Value.{Value}
+use Rattle.w_types.specs.declared.value.Value.TheVariants.{I32, I64}
+use Rattle.w_decode.specs.Faults.{HasFault}
+use Rattle.w_decode.specs.declared.fault.DecodeFault.{DecodeFault}
+use Rattle.w_decode.specs.declared.fault.DecodeFault.TheVariants as decode
+use Rattle.w_rules.specs.Limits.{Within}
+use Rattle.w_rules.specs.Valid.{Valid}
+use Rattle.w_rules.specs.declared.limits.LimitName.{LimitName}
+use Rattle.w_rules.specs.declared.limits.LimitName.TheVariants.{Types, Params, Locals, Frames}
+use Rattle.w_valid.specs.Faults.{IsFaultOf}
+use Rattle.w_valid.specs.declared.fault.ValidFault.{ValidFault}
+use Rattle.w_valid.specs.declared.fault.ValidFault.TheVariants as valid
+use Rattle.w_reduce.specs.Start.{entry}
+use Rattle.w_reduce.specs.Run.{Outcome, Running, Values, Limit, NoRule, Run}
 use Rattle.drive.specs.Line.{Line, check, run, bad}
 
 -- what is written to out and to err, and the status
@@ -31,11 +41,36 @@ refusal text status = record { out = []; err = line text; status = status }
 abbrev pub usage : Reply
 usage = refusal (codes "usage: stackwasm check FILE | run FILE [--steps N] [--stats] | build FILE | gen N") 2
 
-abbrev pub malformed : Reply
-malformed = refusal (codes "malformed header") 3
+-- what bytes with this fault give; want of memory is none of theirs
+abbrev pub malformed_text : DecodeFault → List ℕ
+malformed_text decode.Header = codes "malformed header"
+malformed_text (decode.Frame i) = codes "malformed frame " ++ decimal i
+malformed_text (decode.Content i) = codes "malformed content " ++ decimal i
+malformed_text decode.Counts = codes "malformed counts"
+malformed_text decode.OutOfMemory = []
 
-abbrev pub invalid_function : ℕ → Reply
-invalid_function i = refusal (codes "invalid function " ++ decimal i) 4
+abbrev pub malformed : DecodeFault → Reply
+malformed fault = refusal (malformed_text fault) 3
+
+-- a limit's name
+abbrev pub limit_text : LimitName → List ℕ
+limit_text Types = codes "limit types"
+limit_text Params = codes "limit params"
+limit_text Locals = codes "limit locals"
+limit_text Frames = codes "limit frames"
+
+abbrev pub limit : LimitName → Reply
+limit name = refusal (limit_text name) 9
+
+-- what a module with this fault gives; want of memory is none of its
+abbrev pub invalid : ValidFault → Reply
+invalid (valid.Limit name) = limit name
+invalid (valid.Export i) = refusal (codes "invalid export " ++ decimal i) 4
+invalid (valid.Function i) = refusal (codes "invalid function " ++ decimal i) 4
+invalid valid.OutOfMemory = refusal [] 4
+
+abbrev pub no_entry : Reply
+no_entry = refusal (codes "no entry") 4
 
 abbrev pub read_fault : Reply
 read_fault = refusal (codes "read fault") 6
@@ -71,23 +106,33 @@ result_line v = line (codes "= " ++ value_text v)
 abbrev pub run_reply : Outcome → Reply
 run_reply (Values vs) = record { out = flat_map result_line (listed vs); err = []; status = 0 }
 run_reply Running = running
+run_reply (Limit name) = limit name
 run_reply NoRule = stuck
 
--- no module has this spelling
-abbrev pub IsMalformed : List ℕ → Type 0
-IsMalformed bytes = (m : Module) → Spells bytes m → ⊥
+-- what a run gives, where there is an entry to begin with
+abbrev pub from_entry : Option ℕ → Reply → Reply
+from_entry (Some a) reply = reply
+from_entry None reply = no_entry
+
+abbrev pub run_gives : ℕ → Module → Reply
+run_gives steps m = from_entry (entry m) (run_reply (Run m steps).outcome)
+
+-- the module has this fault
+abbrev pub HasModuleFault : Module → ValidFault → Type 0
+HasModuleFault m fault = (fault ≢ valid.OutOfMemory) × IsFaultOf m fault
 
 -- why a module is refused
 abbrev pub ModuleRefusal : Module → Reply → Type 0
-ModuleRefusal m reply = (Valid m → ⊥) × (reply ≡ invalid_function 0)
+ModuleRefusal m reply = (fault : ValidFault) × HasModuleFault m fault × (reply ≡ invalid fault)
 
 -- why bytes are refused
 abbrev pub BytesRefusal : List ℕ → Reply → Type 0
-BytesRefusal bytes reply = ((m : Module) × Spells bytes m × ModuleRefusal m reply) ⊎ (IsMalformed bytes × (reply ≡ malformed))
+BytesRefusal bytes reply = ((m : Module) × Spells bytes m × ModuleRefusal m reply)
+    ⊎ ((fault : DecodeFault) × HasFault bytes fault × (reply ≡ malformed fault))
 
 -- what bytes give, where a valid module gives this
 abbrev pub BytesGive : (Module → Reply) → List ℕ → Reply → Type 0
-BytesGive valid bytes reply = ((m : Module) × Spells bytes m × Valid m × (reply ≡ valid m)) ⊎ BytesRefusal bytes reply
+BytesGive accepted bytes reply = ((m : Module) × Spells bytes m × Within m × Valid m × (reply ≡ accepted m)) ⊎ BytesRefusal bytes reply
 
 -- what the bytes of a module give, judged
 abbrev pub CheckGives : List ℕ → Reply → Type 0
@@ -95,7 +140,7 @@ CheckGives = BytesGive (λ m. ok_module)
 
 -- what they give, run for so many steps
 abbrev pub RunGives : ℕ → List ℕ → Reply → Type 0
-RunGives steps = BytesGive (λ m. run_reply (Run m steps).outcome)
+RunGives steps = BytesGive (run_gives steps)
 
 -- ## Files
 

@@ -2,8 +2,9 @@
 use Rattle.std.specs.Prelude.{◌≡◌, List, [], ℕ, Result, Ok, Err}
 use Rattle.w_outside.specs.declared.traits.Fault.{Fault}
 use Rattle.w_syntax.specs.declared.module.Module.{Module}
-use Rattle.w_syntax.specs.Module.{Spells}
-use Rattle.w_machine.specs.Typing.{Valid}
+use Rattle.w_syntax.specs.Spells.{Spells}
+use Rattle.w_rules.specs.Limits.{Within}
+use Rattle.w_rules.specs.Valid.{Valid}
 use Rattle.drive.specs.declared.judged.Judged.{Judged}
 use Rattle.drive.specs.declared.judged.Judged.TheVariants.{Accepted, Refused}
 use Rattle.drive.specs.Answer.{Reply, BytesRefusal, ModuleRefusal}
@@ -15,10 +16,10 @@ AcceptsOrRefuses Holds Due (Ok (Accepted m)) ErrGrew rose = Holds m × ErrGrew [
 AcceptsOrRefuses Holds Due (Ok (Refused status)) ErrGrew rose = Replies Due (Ok status) (λ text. text ≡ []) ErrGrew rose
 AcceptsOrRefuses Holds Due (Err fault) ErrGrew rose = Replies Due (Err fault) (λ text. text ≡ []) ErrGrew rose
 
--- the module itself, where it is valid
+-- the module itself, where it is valid and within its limits
 abbrev pub JudgesModule : Module → Result Judged Fault → (List ℕ → Type 0) → Type 0 → Type 0
-JudgesModule candidate = AcceptsOrRefuses (λ m. (m ≡ candidate) × Valid m) (ModuleRefusal candidate)
+JudgesModule candidate = AcceptsOrRefuses (λ m. (m ≡ candidate) × Within m × Valid m) (ModuleRefusal candidate)
 
--- the module that bytes spell, where it is valid
+-- the module that bytes spell, where it is valid and within its limits
 abbrev pub JudgesOrRefuses : List ℕ → Result Judged Fault → (List ℕ → Type 0) → Type 0 → Type 0
-JudgesOrRefuses bytes = AcceptsOrRefuses (λ m. Spells bytes m × Valid m) (BytesRefusal bytes)
+JudgesOrRefuses bytes = AcceptsOrRefuses (λ m. Spells bytes m × Within m × Valid m) (BytesRefusal bytes)

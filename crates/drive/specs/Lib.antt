@@ -6,5 +6,3 @@ pub mod Answer
 pub mod Delivery
 pub mod Reading
 pub mod Judging
-pub mod Decoding
-pub mod Heights

@@ -1,6 +1,6 @@
 //! What judging bytes comes to.
 use crate::status::Status;
-use w_machine::Checked;
+use w_rules::Checked;
 
 /// The valid module that bytes spell, or the status with which they were refused.
 #[derive(Drop)]

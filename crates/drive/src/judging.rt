@@ -1,36 +1,52 @@
 //! The judgement on the bytes of a file.
 ghost use Rattle.std.specs.Prelude.{◌≡◌, ◌≤◌, [], ℕ, List};
 ghost use Rattle.w_outside.specs.Outside.{Grew, Rose};
+ghost use Rattle.drive.specs.Answer.{invalid, malformed};
+ghost use Rattle.drive.specs.Delivery.{Ends};
 ghost use Rattle.drive.specs.Judging.{JudgesModule, JudgesOrRefuses};
+ghost use Rattle.drive.specs.Status.{code_of};
 
-use crate::decoding::decode;
-use crate::fault::{DecodeFault, ValidFault};
 use crate::files::refuse;
 use crate::judged::Judged;
 use crate::status::Status;
-use crate::text::invalid_function_line;
-use crate::validation::validate;
+use crate::text::{invalid_line, malformed_line};
 use std::alloc::Global;
+use w_decode::{DecodeFault, decode};
 use w_outside::{Fault, Sink};
 use w_syntax::Module;
+use w_valid::{ValidFault, validate};
 
-// Keeps a valid module, or writes that it is not valid.
+// The status of a module that is not accepted.
+fn invalid_status(fault: ValidFault) -> Status
+    ensures code { code_of result ≡ (invalid fault).status }
+    ensures ends { Ends result }
+{
+    match fault {
+        ValidFault::Limit(_) => Status::Limit,
+        ValidFault::Export(_) => Status::Invalid,
+        ValidFault::Function(_) => Status::Invalid,
+        ValidFault::OutOfMemory => Status::Invalid,
+    }
+}
+
+// Keeps a module that is accepted, or writes why it isn't.
 fn judge_module<E: Sink>(alloc: Global, candidate: Module, err: &mut E) -> Result<Judged, Fault>
     ensures judges { JudgesModule candidate result (Grew (E.held err.old) (E.held err.new))
         (Rose (E.faults err.old) (E.faults err.new)) }
     ensures later { E.faults err.old ≤ E.faults err.new }
 {
-    match validate(candidate) {
+    match validate(alloc, candidate) {
         Ok(checked) => Ok(Judged::Accepted(checked)),
-        Err(ValidFault::Function(index)) => {
-            let text = invalid_function_line(alloc, index)?;
-            let status = refuse(text.as_slice(), Status::Invalid, err)?;
+        Err(ValidFault::OutOfMemory) => Err(Fault::OutOfMemory),
+        Err(fault) => {
+            let text = invalid_line(alloc, fault)?;
+            let status = refuse(text.as_slice(), invalid_status(fault), err)?;
             Ok(Judged::Refused(status))
         }
     }
 }
 
-/// The valid module that bytes spell. Where there is none, writes why.
+/// The module that bytes spell, where it is accepted. Where there is none, writes why.
 pub(crate) fn judge<E: Sink>(alloc: Global, bytes: &[u8], err: &mut E) -> Result<Judged, Fault>
     ensures judges { JudgesOrRefuses bytes.now result (Grew (E.held err.old) (E.held err.new))
         (Rose (E.faults err.old) (E.faults err.new)) }
@@ -38,10 +54,11 @@ pub(crate) fn judge<E: Sink>(alloc: Global, bytes: &[u8], err: &mut E) -> Result
 {
     match decode(alloc, bytes) {
         Ok(candidate) => judge_module(alloc, candidate, err),
-        Err(DecodeFault::Header) => {
-            let status = refuse(b"malformed header\n", Status::Malformed, err)?;
+        Err(DecodeFault::OutOfMemory) => Err(Fault::OutOfMemory),
+        Err(fault) => {
+            let text = malformed_line(alloc, fault)?;
+            let status = refuse(text.as_slice(), Status::Malformed, err)?;
             Ok(Judged::Refused(status))
         }
-        Err(DecodeFault::OutOfMemory) => Err(Fault::OutOfMemory),
     }
 }

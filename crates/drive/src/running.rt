@@ -1,9 +1,10 @@
 //! The command `run`.
 ghost use Rattle.std.specs.Prelude.{◌≡◌, ◌⊎◌, ◌≤◌, ℕ, List, flat_map, OnOk, OnErr};
 ghost use Rattle.w_outside.specs.Outside.{Grew, GrewByFront, HasCause, Rose};
-ghost use Rattle.w_machine.specs.Run.{Run};
+ghost use Rattle.w_reduce.specs.Run.{Run};
+ghost use Rattle.w_reduce.specs.Store.{start_store};
 ghost use Rattle.w_machine.specs.Position.{most_reductions};
-ghost use Rattle.drive.specs.Answer.{OnFile, RunGives, result_line, run_reply};
+ghost use Rattle.drive.specs.Answer.{OnFile, RunGives, result_line, run_reply, run_gives};
 ghost use Rattle.drive.specs.Delivery.{MayFail, Replies};
 
 use crate::files::{open, refuse};
@@ -11,10 +12,12 @@ use crate::judged::Judged;
 use crate::judging::judge;
 use crate::opened::Opened;
 use crate::status::Status;
-use crate::text::value_line;
+use crate::text::{limit_line, value_line};
 use std::alloc::Global;
-use w_machine::{Checked, Machine, Outcome, Value, instantiate};
+use w_machine::{InstFault, Machine, Outcome, Store, instantiate};
 use w_outside::{Fault, Inputs, Sink, put};
+use w_rules::Checked;
+use w_types::Value;
 
 // Writes a line for each result, each line as one piece.
 fn write_results<O: Sink>(alloc: Global, values: &[Value], out: &mut O) -> Result<(), Fault>
@@ -29,21 +32,22 @@ fn write_results<O: Sink>(alloc: Global, values: &[Value], out: &mut O) -> Resul
     Ok(())
 }
 
-// Runs a valid module, and writes how the run ended.
-fn run_checked<O: Sink, E: Sink>(
+// Runs a module from its first store, and writes how the run ended.
+fn run_store<O: Sink, E: Sink>(
     alloc: Global,
     checked: Checked,
+    store: Store,
     steps: u64,
     out: &mut O,
     err: &mut E,
 ) -> Result<Status, Fault>
-    requires { steps ≤ most_reductions }
+    requires within { steps ≤ most_reductions }
+    requires first { store ≡ start_store checked }
     ensures replies { Replies (λ reply. reply ≡ run_reply (Run checked steps).outcome) result
         (Grew (O.held out.old) (O.held out.new)) (Grew (E.held err.old) (E.held err.new))
         (Rose (O.faults out.old) (O.faults out.new) ⊎ Rose (E.faults err.old) (E.faults err.new)) }
     ensures later { (O.faults out.old ≤ O.faults out.new) × (E.faults err.old ≤ E.faults err.new) }
 {
-    let store = instantiate(alloc, &checked)?;
     let mut machine = Machine::new(alloc, checked, store);
     match machine.run(steps) {
         Outcome::Ended => {
@@ -52,7 +56,29 @@ fn run_checked<O: Sink, E: Sink>(
         }
         Outcome::Running => refuse(b"running\n", Status::Running, err),
         Outcome::Stuck => refuse(b"stuck\n", Status::Stuck, err),
+        Outcome::Limit(name) => refuse(limit_line(name), Status::Limit, err),
         Outcome::OutOfMemory => Err(Fault::OutOfMemory),
+    }
+}
+
+// Runs an accepted module, where it has an entry.
+fn run_checked<O: Sink, E: Sink>(
+    alloc: Global,
+    checked: Checked,
+    steps: u64,
+    out: &mut O,
+    err: &mut E,
+) -> Result<Status, Fault>
+    requires { steps ≤ most_reductions }
+    ensures replies { Replies (λ reply. reply ≡ run_gives steps checked) result
+        (Grew (O.held out.old) (O.held out.new)) (Grew (E.held err.old) (E.held err.new))
+        (Rose (O.faults out.old) (O.faults out.new) ⊎ Rose (E.faults err.old) (E.faults err.new)) }
+    ensures later { (O.faults out.old ≤ O.faults out.new) × (E.faults err.old ≤ E.faults err.new) }
+{
+    match instantiate(alloc, &checked) {
+        Ok(store) => run_store(alloc, checked, store, steps, out, err),
+        Err(InstFault::NoEntry) => refuse(b"no entry\n", Status::Invalid, err),
+        Err(InstFault::OutOfMemory) => Err(Fault::OutOfMemory),
     }
 }
 

@@ -1,11 +1,8 @@
 //! The program over files and sinks in memory, one call a run.
-use crate::{
-    DEFAULT_STEPS, DecodeFault, MOST_STEPS, Status, ValidFault, command, decode, validate,
-};
+use crate::{DEFAULT_STEPS, MOST_STEPS, Status, command};
 use std::alloc::{AllocError, Global};
 use std::test::Fail;
 use w_outside::{MemInputs, MemSink, SureInputs, SureSink};
-use w_syntax::{Numeric, Op};
 
 // What stands before the code section.
 static FRONT: [u8; 29] = [
@@ -55,6 +52,34 @@ fn module(alloc: Global, code: &[u8]) -> Result<Vec<u8>, AllocError> {
     Ok(bytes)
 }
 
+// The header alone.
+static HEADER: [u8; 8] = [0x00, 0x61, 0x73, 0x6D, 0x01, 0x00, 0x00, 0x00];
+
+// A function of type [] to [], exported as main, with no code yet.
+static NOTHING: [u8; 28] = [
+    0x00, 0x61, 0x73, 0x6D, 0x01, 0x00, 0x00, 0x00, 0x01, 0x04, 0x01, 0x60, 0x00, 0x00, 0x03, 0x02,
+    0x01, 0x00, 0x07, 0x08, 0x01, 0x04, 0x6D, 0x61, 0x69, 0x6E, 0x00, 0x00,
+];
+
+// Nothing is done.
+static IDLE: [u8; 6] = [0x0A, 0x04, 0x01, 0x02, 0x00, 0x0B];
+
+// Main calls itself.
+static CALLS_ITSELF: [u8; 8] = [0x0A, 0x06, 0x01, 0x04, 0x00, 0x10, 0x00, 0x0B];
+
+// 50,000 locals, and one more.
+static LOCALS: [u8; 10] = [0x0A, 0x08, 0x01, 0x06, 0x01, 0xD0, 0x86, 0x03, 0x7F, 0x0B];
+
+static MORE_LOCALS: [u8; 10] = [0x0A, 0x08, 0x01, 0x06, 0x01, 0xD1, 0x86, 0x03, 0x7F, 0x0B];
+
+// Main gives 7 and 3 to a function that takes them and gives 9, and takes 4 from that.
+static CALL: [u8; 61] = [
+    0x00, 0x61, 0x73, 0x6D, 0x01, 0x00, 0x00, 0x00, 0x01, 0x0B, 0x02, 0x60, 0x00, 0x01, 0x7E, 0x60,
+    0x02, 0x7E, 0x7E, 0x01, 0x7E, 0x03, 0x03, 0x02, 0x00, 0x01, 0x07, 0x08, 0x01, 0x04, 0x6D, 0x61,
+    0x69, 0x6E, 0x00, 0x00, 0x0A, 0x17, 0x02, 0x0B, 0x00, 0x42, 0x07, 0x42, 0x03, 0x10, 0x01, 0x42,
+    0x04, 0x7D, 0x0B, 0x09, 0x01, 0x01, 0x7F, 0x42, 0x09, 0x42, 0x01, 0x1A, 0x0B,
+];
+
 fn files(alloc: Global) -> Result<Vec<(String, Vec<u8>)>, AllocError> {
     let named: [(&str, &[u8]); 8] = [
         ("product", &PRODUCT),
@@ -66,12 +91,25 @@ fn files(alloc: Global) -> Result<Vec<(String, Vec<u8>)>, AllocError> {
         ("negated", &LEAST_NEGATED),
         ("room", &ROOM_LEFT),
     ];
+    let idle: [(&str, &[u8]); 4] = [
+        ("idle", &IDLE),
+        ("itself", &CALLS_ITSELF),
+        ("locals", &LOCALS),
+        ("more", &MORE_LOCALS),
+    ];
     let mut all = Vec::new(alloc);
     all.push((String::from_str(alloc, "short")?, FRONT[..7].to_vec(alloc)?))?;
     all.push((String::from_str(alloc, "empty")?, Vec::new(alloc)))?;
     for (name, code) in named {
         all.push((String::from_str(alloc, name)?, module(alloc, code)?))?;
     }
+    for (name, code) in idle {
+        let mut bytes = NOTHING.to_vec(alloc)?;
+        bytes.extend_from_slice(code)?;
+        all.push((String::from_str(alloc, name)?, bytes))?;
+    }
+    all.push((String::from_str(alloc, "header")?, HEADER.to_vec(alloc)?))?;
+    all.push((String::from_str(alloc, "call")?, CALL.to_vec(alloc)?))?;
     Ok(all)
 }
 
@@ -152,7 +190,12 @@ fn lines_and_their_answers(rt: HostRuntime) -> Result<(), Fail> {
             b"",
             b"malformed header\n",
         ),
-        (&["stackwasm", "run", "room"], 3, b"", b"malformed header\n"),
+        (
+            &["stackwasm", "run", "room"],
+            3,
+            b"",
+            b"malformed content 3\n",
+        ),
         (&["stackwasm", "run", "nothing"], 6, b"", b"read fault\n"),
         (&["stackwasm", "run", ""], 6, b"", b"read fault\n"),
         (&["stackwasm", "run"], 2, b"", USAGE),
@@ -181,7 +224,7 @@ fn modules_are_checked(rt: HostRuntime) -> Result<(), Fail> {
         ("missing", 4, b"", b"invalid function 0\n"),
         ("two", 4, b"", b"invalid function 0\n"),
         ("short", 3, b"", b"malformed header\n"),
-        ("room", 3, b"", b"malformed header\n"),
+        ("room", 3, b"", b"malformed content 3\n"),
         ("nothing", 6, b"", b"read fault\n"),
         ("", 6, b"", b"read fault\n"),
     ];
@@ -190,6 +233,48 @@ fn modules_are_checked(rt: HostRuntime) -> Result<(), Fail> {
         assert_eq!(rt; done.status, status, "{name}");
         assert_eq!(rt; done.out.as_slice(), out, "{name}");
         assert_eq!(rt; done.err.as_slice(), err, "{name}");
+    }
+    Ok(())
+}
+
+#[test]
+fn wider_forms_are_checked_and_run(rt: HostRuntime) -> Result<(), Fail> {
+    let alloc = rt.alloc();
+    let rows: [(&[&str], u8, &[u8], &[u8]); 16] = [
+        (&["check", "header"], 0, b"ok module\n", b""),
+        (&["run", "header"], 4, b"", b"no entry\n"),
+        (&["run", "idle", "--steps", "0"], 10, b"", b"running\n"),
+        (&["run", "idle", "--steps", "2"], 10, b"", b"running\n"),
+        (&["run", "idle", "--steps", "3"], 0, b"", b""),
+        (&["run", "idle"], 0, b"", b""),
+        (&["check", "itself"], 0, b"ok module\n", b""),
+        (&["run", "itself"], 9, b"", b"limit frames\n"),
+        (
+            &["run", "itself", "--steps", "20000"],
+            10,
+            b"",
+            b"running\n",
+        ),
+        (
+            &["run", "itself", "--steps", "20001"],
+            9,
+            b"",
+            b"limit frames\n",
+        ),
+        (&["check", "more"], 9, b"", b"limit locals\n"),
+        (&["run", "more"], 9, b"", b"limit locals\n"),
+        (&["check", "locals"], 0, b"ok module\n", b""),
+        (&["run", "call"], 0, b"= 5\n", b""),
+        (&["run", "call", "--steps", "12"], 10, b"", b"running\n"),
+        (&["run", "call", "--steps", "13"], 0, b"= 5\n", b""),
+    ];
+    for (more, status, out, err) in rows {
+        let mut line = vec![in alloc; "stackwasm"]?;
+        line.extend_from_slice(more)?;
+        let done = done(alloc, line.as_slice(), &[], &[], &[])?;
+        assert_eq!(rt; done.status, status, "{more:?}");
+        assert_eq!(rt; done.out.as_slice(), out, "{more:?}");
+        assert_eq!(rt; done.err.as_slice(), err, "{more:?}");
     }
     Ok(())
 }
@@ -329,22 +414,38 @@ fn the_longest_file_and_one_byte_more(rt: HostRuntime) -> Result<(), Fail> {
     Ok(())
 }
 
+// 22 functions, each of which but the last calls the next one twice: 4,194,303 frames in all, of three reductions each.
+fn doubling(alloc: Global) -> Result<Vec<u8>, AllocError> {
+    let mut bytes = HEADER.to_vec(alloc)?;
+    bytes.extend_from_slice(&[0x01, 0x04, 0x01, 0x60, 0x00, 0x00, 0x03, 0x17, 0x16])?;
+    for _ in 0..22 {
+        bytes.push(0x00)?;
+    }
+    bytes.extend_from_slice(&[0x07, 0x08, 0x01, 0x04, 0x6D, 0x61, 0x69, 0x6E, 0x00, 0x00])?;
+    bytes.extend_from_slice(&[0x0A, 0x97, 0x01, 0x16])?;
+    for next in 1..22 {
+        bytes.extend_from_slice(&[0x06, 0x00, 0x10, next, 0x10, next, 0x0B])?;
+    }
+    bytes.extend_from_slice(&[0x02, 0x00, 0x0B])?;
+    Ok(bytes)
+}
+
 #[test]
-fn a_module_is_decoded_and_judged(rt: HostRuntime) -> Result<(), Fail> {
+fn ten_million_reductions_of_calls(rt: HostRuntime) -> Result<(), Fail> {
     let alloc = rt.alloc();
-    let bytes = module(alloc, &PRODUCT)?;
-    let decoded = decode(alloc, bytes.as_slice())?;
-    let ops = [
-        Op::Numeric(Numeric::I64Const(6)),
-        Op::Numeric(Numeric::I64Const(7)),
-        Op::Numeric(Numeric::I64Mul),
-    ];
-    assert_eq!(rt; decoded.main.ops(), ops.as_slice());
-    assert!(rt; validate(decoded).is_ok());
-    let bytes = module(alloc, &NO_OPERANDS)?;
-    let decoded = decode(alloc, bytes.as_slice())?;
-    assert_eq!(rt; validate(decoded).err(), Some(ValidFault::Function(0)));
-    assert_eq!(rt; decode(alloc, &FRONT).err(), Some(DecodeFault::Header));
+    let mut files = Vec::new(alloc);
+    files.push((String::from_str(alloc, "doubling")?, doubling(alloc)?))?;
+    let mut inputs = SureInputs::new(alloc, files)?;
+    let mut out = SureSink::new(alloc)?;
+    let mut err = SureSink::new(alloc)?;
+    let words = words(
+        alloc,
+        &["stackwasm", "run", "doubling", "--steps", "10000000"],
+    )?;
+    let status = command(alloc, words.as_slice(), &mut inputs, &mut out, &mut err);
+    assert_eq!(rt; status.code(), 10);
+    assert_eq!(rt; out.held(), b"".as_slice());
+    assert_eq!(rt; err.held(), b"running\n".as_slice());
     Ok(())
 }
 

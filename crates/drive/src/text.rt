@@ -1,11 +1,14 @@
 //! The lines that the program writes.
 ghost use Rattle.std.specs.Prelude.{◌≡◌, ◌++◌, IfOk, codes, decimal};
 ghost use Rattle.std.specs.Fmt.{signed_decimal};
-ghost use Rattle.drive.specs.Answer.{line, result_line, invalid_function};
+ghost use Rattle.drive.specs.Answer.{line, result_line, malformed, limit, invalid};
 
 use itoa::{Buffer, Integer};
 use std::alloc::{AllocError, Global};
-use w_machine::Value;
+use w_decode::DecodeFault;
+use w_rules::LimitName;
+use w_types::Value;
+use w_valid::ValidFault;
 
 // A text and a number, as a line.
 fn number_line<I: Integer>(alloc: Global, text: &[u8], number: I) -> Result<Vec<u8>, AllocError>
@@ -28,9 +31,39 @@ pub(crate) fn value_line(alloc: Global, value: Value) -> Result<Vec<u8>, AllocEr
     }
 }
 
-/// The line of a function that is not valid.
-pub(crate) fn invalid_function_line(alloc: Global, index: u32) -> Result<Vec<u8>, AllocError>
-    ensures { IfOk result (λ v. v.items ≡ (invalid_function index).err) }
+/// The line of bytes that spell no module.
+pub(crate) fn malformed_line(alloc: Global, fault: DecodeFault) -> Result<Vec<u8>, AllocError>
+    ensures { IfOk result (λ v. v.items ≡ (malformed fault).err) }
 {
-    number_line(alloc, b"invalid function ", index)
+    match fault {
+        DecodeFault::Header => Ok(Vec::from_slice(alloc, b"malformed header\n")?),
+        DecodeFault::Frame(index) => number_line(alloc, b"malformed frame ", index),
+        DecodeFault::Content(index) => number_line(alloc, b"malformed content ", index),
+        DecodeFault::Counts => Ok(Vec::from_slice(alloc, b"malformed counts\n")?),
+        DecodeFault::OutOfMemory => Ok(Vec::from_slice(alloc, b"\n")?),
+    }
+}
+
+/// The line of a limit that is passed.
+pub(crate) fn limit_line(name: LimitName) -> &'static [u8]
+    ensures { result.now ≡ (limit name).err }
+{
+    match name {
+        LimitName::Types => b"limit types\n",
+        LimitName::Params => b"limit params\n",
+        LimitName::Locals => b"limit locals\n",
+        LimitName::Frames => b"limit frames\n",
+    }
+}
+
+/// The line of a module that is not accepted.
+pub(crate) fn invalid_line(alloc: Global, fault: ValidFault) -> Result<Vec<u8>, AllocError>
+    ensures { IfOk result (λ v. v.items ≡ (invalid fault).err) }
+{
+    match fault {
+        ValidFault::Limit(name) => Ok(Vec::from_slice(alloc, limit_line(name))?),
+        ValidFault::Export(index) => number_line(alloc, b"invalid export ", index),
+        ValidFault::Function(index) => number_line(alloc, b"invalid function ", index),
+        ValidFault::OutOfMemory => Ok(Vec::from_slice(alloc, b"\n")?),
+    }
 }

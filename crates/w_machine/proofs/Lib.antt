@@ -1,6 +1,11 @@
-pub mod Rows
-pub mod Rules
-pub mod Trees
-pub mod Finding
+pub mod Lists
+pub mod Around
+pub mod Operands
+pub mod Places
+pub mod Calls
+pub mod Reductions
+pub mod Stores
+pub mod Runs
+pub mod Quiet
 pub mod Stepping
 pub mod Running

@@ -1,114 +1,180 @@
--- The machine's operands and its place, read as the term that they stand for; and what finding and taking a reduction do.
-use Rattle.std.specs.Prelude.{◌≡◌, ◌≢◌, ℕ, ◌+◌, ◌-◌, ◌^◌, ◌<◌, ◌≤◌, List, [], ◌∷◌, ◌++◌, length, take, drop, ⊤, Option, Some, None, slice_get}
-use Rattle.w_syntax.specs.Code.{Code, Done, tree_of, ops_of}
+-- The machine's parts, read as the term that they stand for; and what finding and taking a reduction do.
+use Rattle.std.specs.Prelude.{◌≡◌, ℕ, ◌+◌, ◌-◌, ◌^◌, ◌<◌, ◌≤◌, List, [], ◌∷◌, ◌++◌, length, take, drop, map, reverse, ⊤, Option, Some, None, slice_get, nat_le, if◌then◌else◌}
+use Rattle.w_types.specs.Rows.{Row, ε, row_of, size}
+use Rattle.w_types.specs.declared.value.Value.{Value}
+use Rattle.w_syntax.specs.Code.{Code, Done}
 use Rattle.w_syntax.specs.declared.code.Op.{Op}
 use Rattle.w_syntax.specs.declared.module.Module.{Module}
-use Rattle.w_machine.specs.Rows.{Row, ε, row_of, size}
-use Rattle.w_machine.specs.Typing.{main_results}
-use Rattle.w_machine.specs.declared.value.Value.{Value}
-use Rattle.w_machine.specs.declared.value.Value.TheVariants as value
-use Rattle.w_machine.specs.declared.store.Function.TheVariants.{Defined}
-use Rattle.w_machine.specs.declared.store.Store.{Store}
+use Rattle.w_rules.specs.declared.limits.LimitName.TheVariants as limit
+use Rattle.w_reduce.specs.Store.{Defined, Store}
+use Rattle.w_reduce.specs.Terms.{Invoke as InvokeOf, Rest, rest_of, Layer, Label, Frame, Context, Term, most_frames}
+use Rattle.w_reduce.specs.Reduce.{Went, Limited, Ended, Stuck, goes, instruction, enter, invoke, reduce}
+use Rattle.w_machine.specs.Functions.{arity, params_of, code_from, defaults_of}
 use Rattle.w_machine.specs.declared.configuration.Stage.{Stage}
 use Rattle.w_machine.specs.declared.configuration.Stage.TheVariants.{Start, Body, Frame as InFrame, Values as AtValues}
+use Rattle.w_machine.specs.declared.configuration.Caller.{Caller}
+use Rattle.w_machine.specs.declared.configuration.Configuration.{Configuration}
 use Rattle.w_machine.specs.declared.configuration.Redex.{Redex}
-use Rattle.w_machine.specs.declared.configuration.Redex.TheVariants.{Invoke, Constant, Product, LabelExit, FrameExit}
+use Rattle.w_machine.specs.declared.configuration.Redex.TheVariants.{Operands, Invoke, Call, LabelExit, FrameExit}
 use Rattle.w_machine.specs.declared.configuration.Found.{Found}
 use Rattle.w_machine.specs.declared.configuration.Found.TheVariants as found
-use Rattle.w_machine.specs.Terms.{rest_of, Layer, Label, Frame, Context, Term, start_term}
-use Rattle.w_machine.specs.Reduce.{Reduced, Went, Ended, Stuck, goes, take_i64, instruction, reduce}
 
--- main's frame, and its label
-abbrev pub main_frame : Layer
-main_frame = Frame ε (size main_results) [] (rest_of Done)
+-- ## The parts
 
-abbrev pub main_label : Layer
-main_label = Label ε (size main_results) Done (rest_of Done)
+-- Where the run stands, the running function, all operands and locals, and the frames that wait, innermost first.
+pub record Parts : Type 0 where
+  pub stage : Stage
+  pub function : ℕ
+  pub operands : List Value
+  pub locals : List Value
+  pub callers : List Caller
 
--- the term of a run of this code that stands at this place with these operands
-abbrev pub term_at : Code → Stage → Row Value → Term
-term_at c Start vs = start_term
-term_at c (Body place) vs = record { around = main_label ∷ main_frame ∷ []; operands = vs; rest = rest_of (tree_of (drop place (ops_of c))) }
-term_at c InFrame vs = record { around = main_frame ∷ []; operands = vs; rest = rest_of Done }
-term_at c AtValues vs = record { around = []; operands = vs; rest = rest_of Done }
+abbrev pub parts : Configuration → Parts
+parts c = record { stage = c.stage; function = c.function; operands = c.operands.items; locals = c.locals.items; callers = reverse c.callers.items }
 
--- before main's invoke there are no operands
-abbrev pub IsClean : Stage → List Value → Type 0
-IsClean Start vs = vs ≡ []
-IsClean _ vs = ⊤
+-- how many operands stand below those of the running function
+abbrev pub base : List Caller → ℕ
+base [] = 0
+base (c ∷ cs) = c.operands
 
--- the module whose function has this code
-abbrev pub module_of : Code → Module
-module_of c = record { main = c }
+-- the operands of the running function
+abbrev pub own : List Caller → List Value → List Value
+own cs operands = drop (base cs) operands
+
+-- ## The term
+
+abbrev pub label_of : Module → ℕ → Layer
+label_of m f = Label ε (arity m f) Done (rest_of Done)
+
+abbrev pub frame_of : Module → ℕ → List Value → List Value → Code → Layer
+frame_of m f below locals rest = Frame (row_of below) (arity m f) (map (λ (v : Value). Some v) locals) (rest_of rest)
+
+-- the frame of the function f with its callers around it, of these operands and locals
+abbrev pub around : Module → ℕ → List Caller → List Value → List Value → Context
+around m f [] operands locals = frame_of m f [] locals Done ∷ []
+around m f (c ∷ cs) operands locals =
+    frame_of m f (own cs (take c.operands operands)) (drop c.locals locals) (code_from m c.function c.place)
+    ∷ label_of m c.function
+    ∷ around m c.function cs (take c.operands operands) (take c.locals locals)
+
+abbrev pub term_in : Module → Stage → ℕ → List Value → List Value → List Caller → Term
+term_in m (Start a) f vs ls cs = record { around = []; operands = ε; rest = record { ahead = InvokeOf a ∷ []; code = Done } }
+term_in m (Body place) f vs ls cs =
+    record { around = label_of m f ∷ around m f cs vs ls; operands = row_of (own cs vs); rest = rest_of (code_from m f place) }
+term_in m InFrame f vs ls cs = record { around = around m f cs vs ls; operands = row_of (own cs vs); rest = rest_of Done }
+term_in m AtValues f vs ls cs = record { around = []; operands = row_of vs; rest = rest_of Done }
+
+-- the term that the parts stand for
+abbrev pub term_of : Module → Parts → Term
+term_of m p = term_in m p.stage p.function p.operands p.locals p.callers
+
+-- ## What holds of the parts
+
+-- each frame's operands and locals stand above those of its caller
+abbrev pub Ordered : List Caller → List Value → List Value → Type 0
+Ordered [] vs ls = ⊤
+Ordered (c ∷ cs) vs ls = (c.operands ≤ length vs) × (base cs ≤ c.operands) × (c.locals ≤ length ls)
+    × Ordered cs (take c.operands vs) (take c.locals ls)
+
+-- before the first invoke there is nothing, and no frame waits behind the last
+abbrev pub IsClean : Stage → List Value → List Value → List Caller → Type 0
+IsClean (Start a) vs ls cs = (vs ≡ []) × (ls ≡ []) × (cs ≡ [])
+IsClean (Body place) vs ls cs = ⊤
+IsClean InFrame vs ls cs = ⊤
+IsClean AtValues vs ls cs = cs ≡ []
+
+pub record IsSound (p : Parts) : Type 0 where
+  pub ordered : Ordered p.callers p.operands p.locals
+  pub clean : IsClean p.stage p.operands p.locals p.callers
+  pub few : length p.callers < most_frames
 
 -- ## What a reduction leaves
 
+abbrev pub listed_option : Option Value → List Value
+listed_option (Some v) = v ∷ []
+listed_option None = []
+
+-- the list without its last n values, and with another or none
+abbrev pub replaced : ℕ → Option Value → List Value → List Value
+replaced n v vs = take (length vs - n) vs ++ listed_option v
+
 abbrev pub stage_behind : Stage → Stage
-stage_behind Start = Start
 stage_behind (Body place) = Body (place + 1)
-stage_behind InFrame = InFrame
-stage_behind AtValues = AtValues
+stage_behind stage = stage
 
-abbrev pub stage_after : Redex → Stage → Stage
-stage_after Invoke stage = Body 0
-stage_after (Constant n) stage = stage_behind stage
-stage_after (Product n) stage = stage_behind stage
-stage_after LabelExit stage = InFrame
-stage_after FrameExit stage = AtValues
+abbrev pub place_behind : Stage → ℕ
+place_behind (Body place) = place + 1
+place_behind stage = 0
 
-abbrev pub operands_after : Redex → List Value → List Value
-operands_after Invoke vs = vs
-operands_after (Constant n) vs = vs ++ value.I64 n ∷ []
-operands_after (Product n) vs = take (length vs - 2) vs ++ value.I64 n ∷ []
-operands_after LabelExit vs = vs
-operands_after FrameExit vs = vs
+-- the frame of a function was left: its caller runs on, or none is left
+abbrev pub left : Parts → List Caller → Parts
+left p [] = record p { stage = AtValues }
+left p (c ∷ cs) = record { stage = Body c.place; function = c.function; operands = p.operands; locals = take c.locals p.locals; callers = cs }
+
+abbrev pub after : Module → Redex → Parts → Parts
+after m (Operands n v) p = record p { stage = stage_behind p.stage; operands = replaced n v p.operands }
+after m (Invoke f) p = record p { stage = Body 0; function = f; locals = p.locals ++ defaults_of m f }
+after m (Call f n) p = record {
+  stage = Body 0;
+  function = f;
+  operands = take (length p.operands - n) p.operands;
+  locals = p.locals ++ (drop (length p.operands - n) p.operands ++ defaults_of m f);
+  callers = record { function = p.function; place = place_behind p.stage; operands = length p.operands - n; locals = length p.locals } ∷ p.callers;
+}
+after m LabelExit p = record p { stage = InFrame }
+after m FrameExit p = left p p.callers
 
 -- an instruction's place, which another follows
 abbrev pub IsInBody : Stage → Type 0
-IsInBody Start = ⊥
 IsInBody (Body place) = place + 1 < 2 ^ 64
-IsInBody InFrame = ⊥
-IsInBody AtValues = ⊥
+IsInBody stage = ⊥
 
 -- what a redex needs to be taken
 abbrev pub Fits : Redex → Stage → List Value → Type 0
-Fits Invoke stage vs = ⊤
-Fits (Constant n) stage vs = IsInBody stage
-Fits (Product n) stage vs = IsInBody stage × (2 ≤ length vs)
+Fits (Operands n v) stage vs = IsInBody stage × (n ≤ length vs)
+Fits (Invoke f) stage vs = ⊤
+Fits (Call f n) stage vs = IsInBody stage × (n ≤ length vs)
 Fits LabelExit stage vs = ⊤
 Fits FrameExit stage vs = ⊤
 
 -- ## What is found
 
--- the topmost operand is an i64, with these beneath; or there is none
-abbrev pub TakesI64 : List Value → Option (ℕ × List Value) → Type 0
-TakesI64 vs (Some p) = vs ≡ p.1 ++ value.I64 p.0 ∷ []
-TakesI64 vs None = (go : Row Value × ℕ → Reduced) → take_i64 (row_of vs) go ≡ Stuck
+-- the redex of an instruction with the running function's operands
+abbrev pub FindsInstruction : Module → Store → List Value → Op → Found → Type 0
+FindsInstruction m s vs o (found.Redex (Operands n v)) = (n ≤ length vs)
+    × ((e : Context) (c : Code) → instruction m s e (row_of vs) o c ≡ goes s e (row_of (replaced n v vs)) (rest_of c))
+FindsInstruction m s vs o (found.Redex (Call f n)) = (params_of m f ≡ Some n) × (n ≤ length vs)
+    × ((e : Context) (c : Code) → instruction m s e (row_of vs) o c ≡ enter m s e (row_of vs) (Defined f) (rest_of c))
+FindsInstruction m s vs o (found.Redex r) = ⊥
+FindsInstruction m s vs o found.Limit = ⊥
+FindsInstruction m s vs o found.Values = ⊥
+FindsInstruction m s vs o found.NoRule = (e : Context) (c : Code) → instruction m s e (row_of vs) o c ≡ Stuck
 
--- the redex of an instruction with its operands
-abbrev pub IsInstruction : Redex → List Value → Type 0
-IsInstruction Invoke vs = ⊥
-IsInstruction (Constant n) vs = ⊤
-IsInstruction (Product n) vs = 2 ≤ length vs
-IsInstruction LabelExit vs = ⊥
-IsInstruction FrameExit vs = ⊥
+-- the function at the address, with so many operands
+abbrev pub FindsCall : Module → Store → ℕ → ℕ → Found → Type 0
+FindsCall m s k a (found.Redex (Call f n)) = (slice_get s.functions a ≡ Some (Defined f)) × (params_of m f ≡ Some n) × (n ≤ k)
+FindsCall m s k a (found.Redex r) = ⊥
+FindsCall m s k a found.Limit = ⊥
+FindsCall m s k a found.Values = ⊥
+FindsCall m s k a found.NoRule = (vs : Row Value) (e : Context) (rest : Rest) → size vs ≡ k → invoke m s e vs a rest ≡ Stuck
 
-abbrev pub FindsInstruction : List Value → Op → Found → Type 0
-FindsInstruction vs o (found.Redex r) = IsInstruction r vs
-    × ((s : Store) (e : Context) (c : Code) → instruction s e (row_of vs) o c ≡ goes s e (row_of (operands_after r vs)) (rest_of c))
-FindsInstruction vs o found.Values = ⊥
-FindsInstruction vs o found.NoRule = (s : Store) (e : Context) (c : Code) → instruction s e (row_of vs) o c ≡ Stuck
+-- the redex, or the limit on frames where its result passes that; k frames wait
+abbrev pub redex_within : ℕ → Redex → Found
+redex_within k (Call f n) = if nat_le most_frames (k + 1) then found.Limit else found.Redex (Call f n)
+redex_within k (Operands n v) = found.Redex (Operands n v)
+redex_within k (Invoke f) = found.Redex (Invoke f)
+redex_within k LabelExit = found.Redex LabelExit
+redex_within k FrameExit = found.Redex FrameExit
 
--- whether main is the function at address 0
-abbrev pub FindsInvoke : Store → Found → Type 0
-FindsInvoke s (found.Redex Invoke) = slice_get s.functions 0 ≡ Some (Defined 0)
-FindsInvoke s (found.Redex r) = ⊥
-FindsInvoke s found.Values = ⊥
-FindsInvoke s found.NoRule = slice_get s.functions 0 ≢ Some (Defined 0)
+abbrev pub found_within : ℕ → Found → Found
+found_within k (found.Redex r) = redex_within k r
+found_within k found.Limit = found.Limit
+found_within k found.Values = found.Values
+found_within k found.NoRule = found.NoRule
 
 -- the reduction of the term, or why there is none
-abbrev pub Finds : Code → Store → Stage → List Value → Found → Type 0
-Finds c s stage vs (found.Redex r) = Fits r stage vs
-    × (reduce (module_of c) s (term_at c stage (row_of vs)) ≡ Went s (term_at c (stage_after r stage) (row_of (operands_after r vs))))
-Finds c s stage vs found.Values = reduce (module_of c) s (term_at c stage (row_of vs)) ≡ Ended (row_of vs)
-Finds c s stage vs found.NoRule = reduce (module_of c) s (term_at c stage (row_of vs)) ≡ Stuck
+abbrev pub Finds : Module → Store → Parts → Found → Type 0
+Finds m s p (found.Redex r) = Fits r p.stage p.operands × IsSound (after m r p) × (reduce m s (term_of m p) ≡ Went s (term_of m (after m r p)))
+Finds m s p found.Limit = reduce m s (term_of m p) ≡ Limited limit.Frames
+Finds m s p found.Values = reduce m s (term_of m p) ≡ Ended (row_of p.operands)
+Finds m s p found.NoRule = reduce m s (term_of m p) ≡ Stuck

@@ -1,10 +1,6 @@
-pub mod Rows
-pub mod Typing
-pub mod Terms
-pub mod Reduce
-pub mod Run
-pub mod Tree
+pub mod StoreCode
+pub mod Functions
+pub mod Operands
 pub mod Configuration
-pub mod Family
 pub mod Kept
 pub mod Position

@@ -1,13 +1,10 @@
 -- The machine as contracts see it: the module that it runs, how many reductions it took, and the outcome that it keeps. It
 -- stands for the run of the module after so many reductions.
-use Rattle.std.specs.Prelude.{◌≡◌, ◌+◌, ◌^◌, ◌≤◌, ℕ, List, Option, Some, None, refl}
+use Rattle.std.specs.Prelude.{◌≡◌, ◌+◌, ◌^◌, ◌≤◌, ℕ, Option, Some, None, refl}
 use Rattle.std.specs.Coded.{Coded, code_by, coded×, coded_ℕ, coded_option}
 use Rattle.w_syntax.specs.declared.module.Module.{Module}
 use Rattle.w_syntax.specs.contracts.module.Module as module_contract
-use Rattle.w_machine.specs.Rows.{row_of}
-use Rattle.w_machine.specs.declared.value.Value.{Value}
-use Rattle.w_machine.specs.declared.store.Store.{Store}
-use Rattle.w_machine.specs.declared.configuration.Stage.{Stage}
+use Rattle.w_reduce.specs.Store.{Store, start_store}
 use Rattle.w_machine.specs.declared.outcome.Kept.{Kept}
 use Rattle.w_machine.specs.declared.outcome.Kept.TheVariants as kept
 use Rattle.w_machine.specs.contracts.outcome.Kept as kept_contract
@@ -16,9 +13,9 @@ use Rattle.w_machine.specs.declared.outcome.Stepped.TheVariants as stepped
 use Rattle.w_machine.specs.declared.outcome.Outcome.{Outcome}
 use Rattle.w_machine.specs.declared.outcome.Outcome.TheVariants as outcome
 use Rattle.w_machine.specs.Kept.{stepped_of, outcome_of}
-use Rattle.w_machine.specs.Terms.{start_store}
-use Rattle.w_machine.specs.Run.{Running, NoRule, came_to, Run, HasEnded}
-use Rattle.w_machine.specs.Configuration.{term_at, IsClean}
+use Rattle.w_reduce.specs.Terms.{Term}
+use Rattle.w_reduce.specs.Run.{Running, Limit, NoRule, Ran, came_to, Run, HasEnded}
+use Rattle.w_machine.specs.Configuration.{Parts, term_of, IsSound}
 
 pub record Position : Type 0 where
   pub program : Module
@@ -34,11 +31,22 @@ position_code = code_by (Module × (ℕ × Option Kept)) (coded× module_contrac
 abbrev pub most_reductions : ℕ
 most_reductions = 2 ^ 40
 
--- after n reductions the run of m came to the store and to the term that stands at this place with these operands
-pub record IsReached (m : Module) (s : Store) (stage : Stage) (vs : List Value) (n : ℕ) : Type 0 where
+-- what a run came to, where this outcome is kept
+abbrev pub ran_kept : Kept → Module → ℕ → Store → Term → Ran
+ran_kept (kept.Limit name) m n s t = record { taken = n; store = s; term = t; outcome = Limit name }
+ran_kept kept.Ended m n s t = came_to m n s t
+ran_kept kept.Stuck m n s t = came_to m n s t
+ran_kept kept.OutOfMemory m n s t = came_to m n s t
+
+abbrev pub ran : Option Kept → Module → ℕ → Store → Term → Ran
+ran (Some k) m n s t = ran_kept k m n s t
+ran None m n s t = came_to m n s t
+
+-- after n reductions the run of m came to the store and to the term that the parts stand for
+pub record IsReached (m : Module) (s : Store) (p : Parts) (k : Option Kept) (n : ℕ) : Type 0 where
   pub store : s ≡ start_store m
-  pub clean : IsClean stage vs
-  pub run : Run m n ≡ came_to m n (start_store m) (term_at m.main stage (row_of vs))
+  pub sound : IsSound p
+  pub run : Run m n ≡ ran k m n (start_store m) (term_of m p)
   pub bound : n ≤ most_reductions
 
 -- ## One step
@@ -48,6 +56,8 @@ abbrev pub StepsOn : Position → Stepped → Position → Type 0
 StepsOn old stepped.Went new = ((Run old.program old.taken).outcome ≡ Running) × (new ≡ record old { taken = old.taken + 1 })
 StepsOn old stepped.Ended new = HasEnded (Run old.program old.taken).outcome × (new ≡ record old { kept = Some kept.Ended })
 StepsOn old stepped.Stuck new = ((Run old.program old.taken).outcome ≡ NoRule) × (new ≡ record old { kept = Some kept.Stuck })
+StepsOn old (stepped.Limit name) new =
+    ((Run old.program (old.taken + 1)).outcome ≡ Limit name) × (new ≡ record old { taken = old.taken + 1; kept = Some (kept.Limit name) })
 StepsOn old stepped.OutOfMemory new = new ≡ record old { kept = Some kept.OutOfMemory }
 
 abbrev pub StepsFrom : Option Kept → Position → Stepped → Position → Type 0
@@ -70,6 +80,7 @@ RunsOn old steps outcome.Running new =
     ((Run old.program (old.taken + steps)).outcome ≡ Running) × (new ≡ record old { taken = old.taken + steps })
 RunsOn old steps outcome.Ended new = HasEnded (Run old.program (old.taken + steps)).outcome × Stops old steps kept.Ended new
 RunsOn old steps outcome.Stuck new = ((Run old.program (old.taken + steps)).outcome ≡ NoRule) × Stops old steps kept.Stuck new
+RunsOn old steps (outcome.Limit name) new = ((Run old.program (old.taken + steps)).outcome ≡ Limit name) × Stops old steps (kept.Limit name) new
 RunsOn old steps outcome.OutOfMemory new =
     (n : ℕ) × (n ≤ steps) × (new ≡ record old { taken = old.taken + n; kept = Some kept.OutOfMemory })
 

@@ -1,40 +1,59 @@
-//! The term of a run of main, as operands in one list and the place where the run stands.
-ghost use Rattle.std.specs.Prelude.{◌≡◌, ◌-◌, ◌≤◌, [], ◌∷◌, ◌++◌, take, OnOk, OnErr, option_map, slice_get, vec_len};
-ghost use Rattle.w_machine.specs.Configuration.{Finds, FindsInstruction, FindsInvoke, TakesI64, Fits, IsClean, IsInBody, stage_behind, stage_after, operands_after};
+//! The term of a run, as operands and locals in one list each, and the frames that wait.
+ghost use Rattle.std.specs.Prelude.{◌≡◌, ◌+◌, ◌≤◌, [], ◌++◌, length, take, reverse, replicate, OnOk, OnErr, vec_len};
+ghost use Rattle.w_types.specs.Values.{default_of};
+ghost use Rattle.w_reduce.specs.Reduce.{defaults};
+ghost use Rattle.w_machine.specs.Configuration.{parts, base as base_of, Fits, IsInBody, stage_behind, place_behind, after, left, replaced};
 
-use crate::store::{Function, Store};
-use crate::value::Value;
+use crate::functions::locals_at;
 use std::alloc::{AllocError, Global};
-use w_syntax::{Body, Numeric, Op};
+use w_syntax::{LocalRun, Module};
+use w_types::Value;
 
-/// Where a run of main stands.
+/// Where a run stands.
 #[derive(Clone, Copy, Debug, PartialEq, Eq)]
 pub enum Stage {
-    /// Main's invoke comes next.
-    Start,
-    /// In main's label, before the instruction of this number.
+    /// The invoke of the function of this address comes next.
+    Start(usize),
+    /// In the running function's label, before the instruction of this number.
     Body(usize),
-    /// In main's frame, whose label was left.
+    /// In the running function's frame, whose label was left.
     Frame,
-    /// Main's frame was left.
+    /// The last frame was left.
     Values,
 }
 
-/// The operands, the topmost last, and where the run stands.
+/// A frame that waits for one that it called.
+#[derive(Clone, Copy, Debug, PartialEq, Eq)]
+pub struct Caller {
+    pub function: usize,
+    /// The instruction that it goes on with.
+    pub place: usize,
+    /// How many operands stand below those of the frame that it called.
+    pub operands: usize,
+    /// How many locals stand below those of the frame that it called.
+    pub locals: usize,
+}
+
+/// Where the run stands, and in which function; all operands and locals, the topmost last, and the frames that wait, the
+/// innermost last.
 #[derive(Drop)]
 pub struct Configuration {
     pub stage: Stage,
+    pub function: usize,
     pub operands: Vec<Value>,
+    pub locals: Vec<Value>,
+    pub callers: Vec<Caller>,
 }
 
-/// What the next reduction acts on, with what it pushes.
+/// What the next reduction acts on.
 #[derive(Clone, Copy, Debug, PartialEq, Eq)]
 pub enum Redex {
-    Invoke,
-    /// A constant.
-    Constant(u64),
-    /// A product of the two topmost operands.
-    Product(u64),
+    /// So many operands, in whose place a value comes, or none.
+    Operands(usize, Option<Value>),
+    /// The first invoke, of the module's function of this index.
+    Invoke(usize),
+    /// A call of the module's function of this index, which takes so many operands.
+    Call(usize, usize),
     LabelExit,
     FrameExit,
 }
@@ -43,81 +62,87 @@ pub enum Redex {
 #[derive(Clone, Copy, Debug, PartialEq, Eq)]
 pub enum Found {
     Redex(Redex),
+    /// The reduction's result has too many frames.
+    Limit,
     /// The term is values.
     Values,
     /// No rule applies.
     NoRule,
 }
 
-// The topmost operand, an i64, and those beneath.
-fn top_i64(operands: &[Value]) -> Option<(u64, &[Value])>
-    ensures { TakesI64 operands.now (option_map (λ p. (p.0, p.1.now)) result) }
+// Puts a value in place of the last operands, or takes these alone.
+fn replace(operands: &mut Vec<Value>, taken: usize, given: Option<Value>) -> Result<(), AllocError>
+    requires { taken ≤ vec_len operands.old }
+    ensures ok { OnOk result (operands.new.items ≡ replaced taken given operands.old.items) }
+    ensures err { OnErr result (operands.new.items ≡ operands.old.items) }
 {
-    let (top, rest) = operands.split_last()?;
-    match top {
-        Value::I64(number) => Some((*number, rest)),
-        Value::I32(_) => None,
-    }
-}
-
-// The redex that a numeric instruction is.
-fn find_numeric(operands: &[Value], op: Numeric) -> Found
-    ensures { FindsInstruction operands.now (Op.Numeric op) result }
-{
-    match op {
-        Numeric::I64Const(number) => Found::Redex(Redex::Constant(number.cast_unsigned())),
-        Numeric::I64Mul => {
-            let Some((b, rest)) = top_i64(operands) else {
-                return Found::NoRule;
-            };
-            let Some((a, _)) = top_i64(rest) else {
-                return Found::NoRule;
-            };
-            Found::Redex(Redex::Product(a.wrapping_mul(b)))
-        }
-    }
-}
-
-// The redex that an instruction is.
-fn find_instruction(operands: &[Value], op: Op) -> Found
-    ensures { FindsInstruction operands.now op result }
-{
-    find_numeric(operands, op.numeric())
-}
-
-// The instruction at a place.
-fn op_at(ops: &[Op], place: usize) -> Option<Op>
-    ensures { result ≡ slice_get ops.now place }
-{
-    ops.get(place).copied()
-}
-
-// The invoke of main, which is the function at address 0.
-fn find_invoke(store: &Store) -> Found
-    ensures { FindsInvoke store.now result }
-{
-    let Some(function) = store.functions.as_slice().first() else {
-        return Found::NoRule;
+    let Some(value) = given else {
+        operands.truncate(operands.len() - taken);
+        return Ok(());
     };
-    let Function::Defined(index) = *function;
-    if index == 0 {
-        Found::Redex(Redex::Invoke)
-    } else {
-        Found::NoRule
+    if taken == 0 {
+        operands.push(value)?;
+        return Ok(());
     }
+    let place = operands.len() - taken;
+    operands[place] = value;
+    operands.truncate(place + 1);
+    Ok(())
 }
 
-// Puts a value in place of the two topmost operands.
-fn replace_two(operands: &mut Vec<Value>, value: Value)
-    requires { 2 ≤ vec_len operands.old }
-    ensures { operands.new.items ≡ take (vec_len operands.old - 2) operands.old.items ++ value ∷ [] }
+// Adds a run of locals, as they begin.
+fn push_run(locals: &mut Vec<Value>, run: LocalRun) -> Result<(), AllocError>
+    ensures ok { OnOk result (locals.new.items ≡ locals.old.items ++ replicate run.count (default_of run.kind)) }
+    ensures keeps { take (vec_len locals.old) locals.new.items ≡ locals.old.items }
 {
-    operands.pop();
-    let last = operands.len() - 1;
-    operands[last] = value;
+    for _ in 0..run.count {
+        locals.push(Value::default_of(run.kind))?;
+    }
+    Ok(())
 }
 
-// The place behind an instruction.
+// Adds runs of locals, as they begin.
+fn push_runs(locals: &mut Vec<Value>, runs: &[LocalRun]) -> Result<(), AllocError>
+    ensures ok { OnOk result (locals.new.items ≡ locals.old.items ++ defaults runs.now) }
+    ensures keeps { take (vec_len locals.old) locals.new.items ≡ locals.old.items }
+{
+    for run in runs {
+        push_run(locals, *run)?;
+    }
+    Ok(())
+}
+
+// Adds the locals of a function: its arguments, and runs as they begin.
+fn push_locals(
+    locals: &mut Vec<Value>,
+    arguments: &[Value],
+    runs: &[LocalRun],
+) -> Result<(), AllocError>
+    ensures ok { OnOk result (locals.new.items ≡ locals.old.items ++ (arguments.now ++ defaults runs.now)) }
+    ensures keeps { take (vec_len locals.old) locals.new.items ≡ locals.old.items }
+{
+    locals.extend_from_slice(arguments)?;
+    push_runs(locals, runs)
+}
+
+// The same, all of them or none.
+fn add_locals(
+    locals: &mut Vec<Value>,
+    arguments: &[Value],
+    runs: &[LocalRun],
+) -> Result<(), AllocError>
+    ensures ok { OnOk result (locals.new.items ≡ locals.old.items ++ (arguments.now ++ defaults runs.now)) }
+    ensures err { OnErr result (locals.new.items ≡ locals.old.items) }
+{
+    let before = locals.len();
+    let added = push_locals(locals, arguments, runs);
+    if added.is_err() {
+        locals.truncate(before);
+    }
+    added
+}
+
+// The stage behind an instruction.
 fn behind(stage: Stage) -> Stage
     requires { IsInBody stage }
     ensures { result ≡ stage_behind stage }
@@ -128,60 +153,106 @@ fn behind(stage: Stage) -> Stage
     }
 }
 
+// The place behind an instruction.
+fn next_place(stage: Stage) -> usize
+    requires { IsInBody stage }
+    ensures { result ≡ place_behind stage }
+{
+    match stage {
+        Stage::Body(place) => place + 1,
+        _ => unreachable!(),
+    }
+}
+
+/// How many operands stand below those of the running function.
+pub(crate) fn base(callers: &[Caller]) -> usize
+    ensures { result ≡ base_of (reverse callers.now) }
+{
+    match callers.last() {
+        Some(caller) => caller.operands,
+        None => 0,
+    }
+}
+
 impl Configuration {
-    /// The first term: main's invoke.
-    pub fn new(alloc: Global) -> Configuration
-        ensures stage { result.stage ≡ Stage.Start }
-        ensures operands { result.operands.items ≡ [] }
+    /// The first term: the invoke of the function of this address.
+    pub(crate) fn new(alloc: Global, address: usize) -> Configuration
+        ensures { parts result ≡ record { stage = Stage.Start address; function = 0; operands = []; locals = []; callers = [] } }
     {
         Configuration {
-            stage: Stage::Start,
+            stage: Stage::Start(address),
+            function: 0,
             operands: Vec::new(alloc),
+            locals: Vec::new(alloc),
+            callers: Vec::new(alloc),
         }
     }
 
-    /// Finds the next reduction of main's run.
-    pub fn find(&self, body: &Body, store: &Store) -> Found
-        requires { IsClean self.now.stage self.now.operands.items }
-        ensures { Finds body.now store.now self.now.stage self.now.operands.items result }
+    // Enters a function from the first invoke.
+    fn invoke(&mut self, program: &Module, function: usize) -> Result<(), AllocError>
+        ensures ok { OnOk result (parts self.new ≡ after program.now (Redex.Invoke function) (parts self.old)) }
+        ensures err { OnErr result (parts self.new ≡ parts self.old) }
     {
-        match self.stage {
-            Stage::Start => find_invoke(store),
-            Stage::Body(place) => match op_at(body.ops(), place) {
-                Some(op) => find_instruction(self.operands.as_slice(), op),
-                None => Found::Redex(Redex::LabelExit),
-            },
-            Stage::Frame => {
-                if self.operands.len() == 1 {
-                    Found::Redex(Redex::FrameExit)
-                } else {
-                    Found::NoRule
-                }
+        add_locals(&mut self.locals, &[], locals_at(program, function))?;
+        self.function = function;
+        self.stage = Stage::Body(0);
+        Ok(())
+    }
+
+    // Enters a function that the running one calls, which waits.
+    fn call(&mut self, program: &Module, function: usize, taken: usize) -> Result<(), AllocError>
+        requires body { IsInBody self.old.stage }
+        requires taken { taken ≤ vec_len self.old.operands }
+        ensures ok { OnOk result (parts self.new ≡ after program.now (Redex.Call function taken) (parts self.old)) }
+        ensures err { OnErr result (parts self.new ≡ parts self.old) }
+    {
+        let operands = self.operands.len() - taken;
+        self.callers.push(Caller {
+            function: self.function,
+            place: next_place(self.stage),
+            operands,
+            locals: self.locals.len(),
+        })?;
+        let arguments = &self.operands[operands..];
+        if add_locals(&mut self.locals, arguments, locals_at(program, function)).is_err() {
+            self.callers.pop();
+            return Err(AllocError);
+        }
+        self.operands.truncate(operands);
+        self.function = function;
+        self.stage = Stage::Body(0);
+        Ok(())
+    }
+
+    // Leaves the running function's frame.
+    fn leave(&mut self)
+        ensures { parts self.new ≡ left (parts self.old) (reverse self.old.callers.items) }
+    {
+        match self.callers.pop() {
+            Some(caller) => {
+                self.function = caller.function;
+                self.stage = Stage::Body(caller.place);
+                self.locals.truncate(caller.locals);
             }
-            Stage::Values => Found::Values,
+            None => self.stage = Stage::Values,
         }
     }
 
-    /// Takes the reduction that was found. It fails only for want of memory, and only at a constant.
-    pub fn contract(&mut self, redex: Redex) -> Result<(), AllocError>
+    /// Takes the reduction that was found. It fails only for want of memory, and changes nothing then.
+    pub(crate) fn contract(&mut self, program: &Module, redex: Redex) -> Result<(), AllocError>
         requires { Fits redex self.old.stage self.old.operands.items }
-        ensures stage { OnOk result (self.new.stage ≡ stage_after redex self.old.stage) }
-        ensures operands { OnOk result (self.new.operands.items ≡ operands_after redex self.old.operands.items) }
-        ensures same_stage { OnErr result (self.new.stage ≡ self.old.stage) }
-        ensures same_operands { OnErr result (self.new.operands.items ≡ self.old.operands.items) }
+        ensures ok { OnOk result (parts self.new ≡ after program.now redex (parts self.old)) }
+        ensures err { OnErr result (parts self.new ≡ parts self.old) }
     {
         match redex {
-            Redex::Invoke => self.stage = Stage::Body(0),
-            Redex::Constant(number) => {
-                self.operands.push(Value::I64(number))?;
+            Redex::Operands(taken, given) => {
+                replace(&mut self.operands, taken, given)?;
                 self.stage = behind(self.stage);
             }
-            Redex::Product(number) => {
-                replace_two(&mut self.operands, Value::I64(number));
-                self.stage = behind(self.stage);
-            }
+            Redex::Invoke(function) => self.invoke(program, function)?,
+            Redex::Call(function, taken) => self.call(program, function, taken)?,
             Redex::LabelExit => self.stage = Stage::Frame,
-            Redex::FrameExit => self.stage = Stage::Values,
+            Redex::FrameExit => self.leave(),
         }
         Ok(())
     }

@@ -1,16 +1,17 @@
 //! The machine.
 ghost use Rattle.std.specs.Prelude.{◌≡◌, ◌+◌, ◌<◌, ◌≤◌, None};
-ghost use Rattle.w_machine.specs.Terms.{start_store};
-ghost use Rattle.w_machine.specs.Run.{Run, results_of};
+ghost use Rattle.w_reduce.specs.Store.{start_store};
+ghost use Rattle.w_reduce.specs.Run.{Run, results_of};
 ghost use Rattle.w_machine.specs.Position.{Steps, Runs, most_reductions};
 
-use crate::checked::Checked;
 use crate::configuration::{Configuration, Found, Stage};
-use crate::outcome::{Kept, Outcome, Stepped};
+use crate::entries::entry;
+use crate::outcome::{Kept, Outcome, Stepped, passed_limit};
 use crate::store::Store;
-use crate::value::Value;
 use std::alloc::Global;
 use std::marker::Model;
+use w_rules::{Checked, LimitName};
+use w_types::Value;
 
 /// A run of a module. After so many steps it stands for the run of so many reductions.
 #[derive(Drop)]
@@ -23,6 +24,7 @@ pub struct Machine {
 }
 
 impl Model for Machine {
+    ghost use Rattle.w_machine.specs.Configuration.{parts};
     ghost use Rattle.w_machine.specs.Position.{Position, IsReached, position_code};
 
     ghost Value = { Position };
@@ -31,7 +33,7 @@ impl Model for Machine {
 
     ghost view = { λ a. record { program = a.checked; taken = a.taken; kept = a.kept } };
 
-    ghost invariant = { λ a. IsReached a.checked a.store a.configuration.stage a.configuration.operands.items a.taken };
+    ghost invariant = { λ a. IsReached a.checked a.store (parts a.configuration) a.kept a.taken };
 }
 
 impl Machine {
@@ -40,10 +42,11 @@ impl Machine {
         requires { store ≡ start_store checked }
         ensures { result ≡ record { program = checked; taken = 0; kept = None } }
     {
+        let address = entry(checked.module()).unwrap_or(0);
         Machine {
             checked,
             store,
-            configuration: Configuration::new(alloc),
+            configuration: Configuration::new(alloc, address),
             taken: 0,
             kept: None,
         }
@@ -61,6 +64,9 @@ impl Machine {
     pub fn results(&self) -> &[Value]
         ensures { result.now ≡ results_of (Run self.now.program self.now.taken).outcome }
     {
+        if passed_limit(self.kept) {
+            return &[];
+        }
         match self.configuration.stage {
             Stage::Values => self.configuration.operands.as_slice(),
             _ => &[],
@@ -72,15 +78,13 @@ impl Machine {
         requires { self.old.taken < most_reductions }
         ensures steps { Steps self.old result self.new }
         ensures run { (Run self.old.program self.old.taken).taken ≡ self.old.taken }
+        ensures ran { (Run self.new.program self.new.taken).taken ≡ self.new.taken }
     {
         if let Some(kept) = self.kept {
             return kept.stepped();
         }
-        match self
-            .configuration
-            .find(&self.checked.module().main, &self.store)
-        {
-            Found::Redex(redex) => match self.configuration.contract(redex) {
+        match self.configuration.find(self.checked.module(), &self.store) {
+            Found::Redex(redex) => match self.configuration.contract(self.checked.module(), redex) {
                 Ok(()) => {
                     self.taken += 1;
                     Stepped::Went
@@ -90,6 +94,11 @@ impl Machine {
                     Stepped::OutOfMemory
                 }
             },
+            Found::Limit => {
+                self.taken += 1;
+                self.kept = Some(Kept::Limit(LimitName::Frames));
+                Stepped::Limit(LimitName::Frames)
+            }
             Found::Values => {
                 self.kept = Some(Kept::Ended);
                 Stepped::Ended
@@ -108,11 +117,9 @@ impl Machine {
         if let Some(kept) = self.kept {
             return kept.outcome();
         }
-        match self
-            .configuration
-            .find(&self.checked.module().main, &self.store)
-        {
+        match self.configuration.find(self.checked.module(), &self.store) {
             Found::Redex(_) => Outcome::Running,
+            Found::Limit => Outcome::Running,
             Found::Values => {
                 self.kept = Some(Kept::Ended);
                 Outcome::Ended
@@ -134,6 +141,7 @@ impl Machine {
                 Stepped::Went => {}
                 Stepped::Ended => return Outcome::Ended,
                 Stepped::Stuck => return Outcome::Stuck,
+                Stepped::Limit(name) => return Outcome::Limit(name),
                 Stepped::OutOfMemory => return Outcome::OutOfMemory,
             }
         }

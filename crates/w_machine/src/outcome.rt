@@ -1,6 +1,8 @@
 //! How steps and runs end.
 ghost use Rattle.std.specs.Prelude.{◌≡◌};
-ghost use Rattle.w_machine.specs.Kept.{stepped_of, outcome_of};
+ghost use Rattle.w_machine.specs.Kept.{stepped_of, outcome_of, is_limit, has_passed};
+
+use w_rules::LimitName;
 
 /// An outcome that a machine keeps: it answers the same ever after, and changes nothing.
 #[derive(Clone, Copy, Debug, PartialEq, Eq)]
@@ -9,6 +11,8 @@ pub enum Kept {
     Ended,
     /// No rule applies to a term that isn't values.
     Stuck,
+    /// The result of the last reduction passed this limit.
+    Limit(LimitName),
     /// Memory ran out.
     OutOfMemory,
 }
@@ -22,6 +26,8 @@ pub enum Stepped {
     Ended,
     /// No rule applies; none was taken.
     Stuck,
+    /// One reduction was taken, and its result passed this limit.
+    Limit(LimitName),
     /// Memory ran out; none was taken.
     OutOfMemory,
 }
@@ -35,11 +41,33 @@ pub enum Outcome {
     Ended,
     /// No rule applies.
     Stuck,
+    /// The result of the last reduction passed this limit.
+    Limit(LimitName),
     /// Memory ran out.
     OutOfMemory,
 }
 
+/// Whether the outcome that is kept, if one is, is that a limit was passed.
+pub(crate) fn passed_limit(kept: Option<Kept>) -> bool
+    ensures { result ≡ has_passed kept }
+{
+    match kept {
+        Some(kept) => kept.is_limit(),
+        None => false,
+    }
+}
+
 impl Kept {
+    /// Whether a limit was passed.
+    pub(crate) fn is_limit(self) -> bool
+        ensures { result ≡ is_limit self }
+    {
+        match self {
+            Kept::Limit(_) => true,
+            _ => false,
+        }
+    }
+
     /// What a step answers.
     pub(crate) fn stepped(self) -> Stepped
         ensures { result ≡ stepped_of self }
@@ -47,6 +75,7 @@ impl Kept {
         match self {
             Kept::Ended => Stepped::Ended,
             Kept::Stuck => Stepped::Stuck,
+            Kept::Limit(name) => Stepped::Limit(name),
             Kept::OutOfMemory => Stepped::OutOfMemory,
         }
     }
@@ -58,6 +87,7 @@ impl Kept {
         match self {
             Kept::Ended => Outcome::Ended,
             Kept::Stuck => Outcome::Stuck,
+            Kept::Limit(name) => Outcome::Limit(name),
             Kept::OutOfMemory => Outcome::OutOfMemory,
         }
     }

@@ -15,7 +15,7 @@ tokens (Plain o c) = tok.Plain o ∷ tokens c
 unfoldable pub Expr : Grammar Code
 Expr b c = Each token.Spells b (tokens c ++ tok.End ∷ [])
 
--- ---- reading
+-- ## Reading
 
 -- what comes of a token, with the sequence c so far
 pub data Outcome : Type 0 where

@@ -28,7 +28,7 @@ unfolding tokens
 tokens-after Done d = refl
 tokens-after (Plain o c) d = ap (λ (l : List Token). tok.Plain o ∷ l) (tokens-after c d)
 
--- ---- what is read is spelled so
+-- ## What is read is spelled so
 
 abbrev Follows : List Token → Token → Outcome → Type 0
 Follows ts t (More d) = tokens d ≡ ts ++ t ∷ []
@@ -73,7 +73,7 @@ read_sound (suc n) c bytes d rest e =
       all = sym (append_assoc (tokens c) (a.0 ∷ []) m.more) ∙ m.all;
     }
 
--- ---- what is spelled is read
+-- ## What is spelled is read
 
 first_of : (t : Token) (ts : List Token) (n : ℕ) (c : Code) (b : List ℕ) (d : Code) (rest : List ℕ) (h : Each token.Spells b (t ∷ ts))
     → ((b' : List ℕ) → Each token.Spells b' ts → onward n (step c t) (b' ++ rest) ≡ Some (d, rest)) → read_code (suc n) c (b ++ rest) ≡ Some (d, rest)
@@ -117,7 +117,7 @@ expr_exact = record {
       (omega (arith, each_long b (tokens d ++ tok.End ∷ []) h, length-append b rest, length-append (tokens d) (tok.End ∷ []))) h;
 }
 
--- ---- how much is read at most doesn't matter
+-- ## How much is read at most doesn't matter
 
 pub token_shorter : (bytes : List ℕ) (t : Token) (rest : List ℕ) → token.read bytes ≡ Some (t, rest) → length rest < length bytes
 token_shorter bytes t rest e =

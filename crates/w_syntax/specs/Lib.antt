@@ -1,5 +1,10 @@
 pub mod Code
+pub mod Functions
 pub mod Tokens
 pub mod Expr
 pub mod ExprExact
+pub mod Types
+pub mod Locals
 pub mod Module
+pub mod SectionExact
+pub mod Spells

@@ -2,32 +2,31 @@
 
 use std::marker::Model;
 
+/// A binary operation on integers (Core, instructions, numeric instructions).
+#[derive(Clone, Copy, Debug, PartialEq, Eq)]
+pub enum Binary {
+    Add,
+    Sub,
+    Mul,
+}
+
 /// A numeric instruction (Core, instructions, numeric instructions).
 #[derive(Clone, Copy, Debug, PartialEq, Eq)]
 pub enum Numeric {
     /// `i64.const`, with its number as it is spelled, signed.
     I64Const(i64),
-    /// `i64.mul`
-    I64Mul,
+    /// `i64.add`, `i64.sub` or `i64.mul`
+    I64Binary(Binary),
 }
 
 /// An instruction that holds no others.
 #[derive(Clone, Copy, Debug, PartialEq, Eq)]
 pub enum Op {
     Numeric(Numeric),
-}
-
-impl Op {
-    ghost use Rattle.std.specs.Prelude.{◌≡◌};
-
-    /// The numeric instruction that it is: there is no other family yet.
-    pub fn numeric(self) -> Numeric
-        ensures { self ≡ Op.Numeric result }
-    {
-        match self {
-            Op::Numeric(numeric) => numeric,
-        }
-    }
+    /// `call`, with the function's index.
+    Call(u32),
+    /// `drop`
+    Drop,
 }
 
 /// What a reader of code takes at once: an instruction, or the mark that ends a sequence.

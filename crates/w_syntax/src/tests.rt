@@ -1,4 +1,4 @@
-use crate::{Body, ListOf, Numeric, Op};
+use crate::{Binary, Body, Name, Numeric, Op};
 use std::test::Fail;
 
 #[test]
@@ -7,7 +7,7 @@ fn a_body_gives_its_instructions_in_order(rt: HostRuntime) -> Result<(), Fail> {
     let ops = [
         Op::Numeric(Numeric::I64Const(6)),
         Op::Numeric(Numeric::I64Const(-7)),
-        Op::Numeric(Numeric::I64Mul),
+        Op::Numeric(Numeric::I64Binary(Binary::Mul)),
     ];
     let body = Body::new(Vec::from_slice(alloc, &ops)?);
     assert_eq!(rt; body.ops(), ops.as_slice());
@@ -15,17 +15,8 @@ fn a_body_gives_its_instructions_in_order(rt: HostRuntime) -> Result<(), Fail> {
 }
 
 #[test]
-fn a_list_gives_what_was_pushed_in_order(rt: HostRuntime) -> Result<(), Fail> {
-    let alloc = rt.alloc();
-    let mut list: ListOf<u32> = ListOf::new(alloc);
-    assert_eq!(rt; list.len(), 0);
-    list.push(7)?;
-    list.push(3)?;
-    list.push(7)?;
-    assert_eq!(rt; list.as_slice(), [7, 3, 7].as_slice());
-    assert_eq!(rt; list.len(), 3);
-    let mut again = ListOf::from_vec(list.into_vec());
-    again.push(9)?;
-    assert_eq!(rt; again.as_slice(), [7, 3, 7, 9].as_slice());
+fn a_name_gives_its_text(rt: HostRuntime) -> Result<(), Fail> {
+    let name = Name::new(String::from_str(rt.alloc(), "main")?);
+    assert_eq!(rt; name.as_str(), "main");
     Ok(())
 }

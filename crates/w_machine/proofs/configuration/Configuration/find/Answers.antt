@@ -1,29 +1,26 @@
-use Rattle.std.proofs.Common.{sym, ◌∙◌, ap, arith, ◌≡◌, ◌<◌, ◌+◌, ◌^◌, Some, List}
-use Rattle.std.specs.Prelude.{slice_get}
-use Rattle.w_syntax.specs.declared.code.Op.{Op}
-use Rattle.w_machine.proofs.Finding.{invoke_found, instruction_found, label_left, frame_left, frame_stuck, within}
+use Rattle.std.proofs.Common.{◌≡◌, ◌-◌, ◌≢◌, ap, sym, length, reverse, ◌∙◌, arith}
+use Rattle.w_machine.specs.Functions.{arity}
+use Rattle.w_machine.specs.Configuration.{base}
+use Rattle.w_machine.proofs.Reductions.{label_found, frame_found, frame_not_found}
 use Rattle.w_machine.proofs.configuration.Configuration.find.Goals as goal
 
-pub returns-in-Start : goal.returns-in-Start
-returns-in-Start c = let clean = rw c.in-Start.is at c.requires in
-    rw c.in-Start.is (invoke_found c.args.body.now c.args.store.now c.args.self.now.operands.items c.find_invoke.result clean c.find_invoke.ensures)
-
-pub returns-in-Some : goal.returns-in-Some
-returns-in-Some c =
-    let at : slice_get c.ops.result.now c.in-Body.place ≡ Some c.in-Some.op = sym c.op_at.ensures ∙ c.in-Some.is in
-    let fits : c.in-Body.place + 1 < 2 ^ 64 = omega (arith, within c.ops.result.now c.in-Body.place c.in-Some.op at) in
-    rw c.in-Body.is (
-    instruction_found c.args.body.now c.args.store.now c.in-Body.place c.in-Some.op c.args.self.now.operands.items c.find_instruction.result fits
-    (ap (λ (l : List Op). slice_get l c.in-Body.place) (sym c.ops.ensures) ∙ at)
-    (rw c.as_slice.ensures.value at c.find_instruction.ensures)
-    )
-
 pub returns-in-None : goal.returns-in-None
-returns-in-None c = rw c.in-Body.is (label_left c.args.body.now c.args.store.now c.in-Body.place c.args.self.now.operands.items
-    (ap (λ (l : List Op). slice_get l c.in-Body.place) (sym c.ops.ensures) ∙ sym c.op_at.ensures ∙ c.in-None.is))
+returns-in-None c =
+    let here = c.args.self.now in
+    label_found c.args.program.now c.args.store.now here.stage here.function c.in-Body.place here.operands.items here.locals.items (reverse here.callers.items)
+    c.in-Body.is (sym c.op_at.ensures.is ∙ c.in-None.is) c.requires
 
-pub returns-then-len-eq1 : goal.returns-then-len-eq1
-returns-then-len-eq1 c = rw c.in-Frame.is (frame_left c.args.body.now c.args.store.now c.args.self.now.operands.items (omega arith))
+pub returns-then-own-result_count : goal.returns-then-own-result_count
+returns-then-own-result_count c =
+    let here = c.args.self.now in
+    let base_is : c.base.result ≡ base (reverse here.callers.items) = c.base.ensures ∙ ap (λ (l : _). base (reverse l)) c.as_slice.ensures.value in
+    let n : length here.operands.items - base (reverse here.callers.items) ≡ arity c.args.program.now here.function = omega (arith, c.if-own-result_count.true, c.result_count.ensures, base_is) in
+    frame_found c.args.program.now c.args.store.now here.stage here.function here.operands.items here.locals.items (reverse here.callers.items) c.in-Frame.is n c.requires
 
-pub returns-else-len-eq1 : goal.returns-else-len-eq1
-returns-else-len-eq1 c = rw c.in-Frame.is (frame_stuck c.args.body.now c.args.store.now c.args.self.now.operands.items (omega arith))
+pub returns-else-own-result_count : goal.returns-else-own-result_count
+returns-else-own-result_count c =
+    let here = c.args.self.now in
+    let base_is : c.base.result ≡ base (reverse here.callers.items) = c.base.ensures ∙ ap (λ (l : _). base (reverse l)) c.as_slice.ensures.value in
+    let n : length here.operands.items - base (reverse here.callers.items) ≢ arity c.args.program.now here.function =
+    λ e. c.if-own-result_count.false (omega (arith, e, c.result_count.ensures, base_is)) in
+    frame_not_found c.args.program.now c.args.store.now here.stage here.function here.operands.items here.locals.items (reverse here.callers.items) c.in-Frame.is n

@@ -1,0 +1,5 @@
+use Rattle.w_decode.specs.ReadingExact.{one_module}
+use Rattle.w_decode.proofs.decoding.one_module.Goals as goal
+
+pub returns : goal.returns
+returns c = one_module

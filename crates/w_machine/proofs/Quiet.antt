@@ -1,0 +1,87 @@
+-- A reduction of a term that isn't values ends in none.
+use Rattle.std.proofs.Common.{◌≡◌, ℕ, zero, suc, List, [], ◌∷◌, Option, Some, None, refl}
+use Rattle.std.specs.Prelude.{Bool, true, false, nat_eq, nat_le, if◌then◌else◌, slice_get, length}
+use Rattle.w_types.specs.Rows.{Row, ε, ◌▹◌, size, row_of}
+use Rattle.w_types.specs.declared.value.Value.{Value}
+use Rattle.w_types.specs.declared.value.Value.TheVariants.{I32, I64}
+use Rattle.w_syntax.specs.Code.{Code, Done, Plain}
+use Rattle.w_syntax.specs.declared.code.Op.{Op}
+use Rattle.w_syntax.specs.declared.code.Op.TheVariants.{Numeric, Call, Drop}
+use Rattle.w_syntax.specs.declared.code.Numeric.TheVariants.{I64Const, I64Binary}
+use Rattle.w_syntax.specs.declared.module.Module.{Module}
+use Rattle.w_rules.specs.declared.limits.LimitName.TheVariants.{Frames}
+use Rattle.w_reduce.specs.Store.{Function, Store}
+use Rattle.w_reduce.specs.Terms.{Context, Rest, Term, frames, most_frames}
+use Rattle.w_reduce.specs.Reduce.{Reduced, Went, Limited, Stuck, or_stuck, take_value, as_i64, take_i64, take_values, instruction, enter, invoke, leave, limited, reduce, type_of, code_of}
+use Rattle.w_reduce.specs.Run.{told, results_of}
+use Rattle.w_machine.specs.declared.configuration.Caller.{Caller}
+use Rattle.w_machine.specs.declared.configuration.Stage.{Stage}
+use Rattle.w_machine.specs.declared.configuration.Stage.TheVariants.{Start, Body, Frame as InFrame, Values as AtValues}
+use Rattle.w_machine.specs.Functions.{code_from, arity}
+use Rattle.w_machine.specs.Configuration.{around, own, label_of, term_in}
+
+pub data Quiet : Reduced → Type 0 where
+  went : {s : Store} {t : Term} → Quiet (Went s t)
+  stuck : Quiet Stuck
+
+or_quiet : {A : Type 0} (o : Option A) (go : A → Reduced) → ((a : A) → Quiet (go a)) → Quiet (or_stuck o go)
+or_quiet None go h = stuck
+or_quiet (Some a) go h = h a
+
+i64_quiet : (v : Value) (go : ℕ → Reduced) → ((n : ℕ) → Quiet (go n)) → Quiet (as_i64 v go)
+i64_quiet (I64 n) go h = h n
+i64_quiet (I32 n) go h = stuck
+
+take_quiet : (vs : Row Value) (go : Row Value × ℕ → Reduced) → ((p : Row Value × ℕ) → Quiet (go p)) → Quiet (take_i64 vs go)
+take_quiet ε go h = stuck
+take_quiet (vs ▹ v) go h = i64_quiet v (λ n. go (vs, n)) (λ n. h (vs, n))
+
+value_quiet : (vs : Row Value) (go : Row Value × Value → Reduced) → ((p : Row Value × Value) → Quiet (go p)) → Quiet (take_value vs go)
+value_quiet ε go h = stuck
+value_quiet (vs ▹ v) go h = h (vs, v)
+
+values_quiet : (n : ℕ) (vs : Row Value) (go : Row Value × Row Value → Reduced) → ((p : Row Value × Row Value) → Quiet (go p)) → Quiet (take_values n vs go)
+values_quiet zero vs go h = h (vs, ε)
+values_quiet (suc n) ε go h = stuck
+values_quiet (suc n) (vs ▹ v) go h = values_quiet n vs (λ p. go (p.0, p.1 ▹ v)) (λ p. h (p.0, p.1 ▹ v))
+
+enter_quiet : (m : Module) (s : Store) (e : Context) (vs : Row Value) (f : Function) (rest : Rest) → Quiet (enter m s e vs f rest)
+enter_quiet m s e vs f rest = or_quiet (type_of m f) _ (λ t. or_quiet (code_of m f) _ (λ c. values_quiet (length t.params) vs _ (λ p. went)))
+
+invoke_quiet : (m : Module) (s : Store) (e : Context) (vs : Row Value) (a : ℕ) (rest : Rest) → Quiet (invoke m s e vs a rest)
+invoke_quiet m s e vs a rest = or_quiet (slice_get s.functions a) _ (λ f. enter_quiet m s e vs f rest)
+
+instruction_quiet : (m : Module) (s : Store) (e : Context) (vs : Row Value) (o : Op) (c : Code) → Quiet (instruction m s e vs o c)
+instruction_quiet m s e vs (Numeric (I64Const z)) c = went
+instruction_quiet m s e vs (Numeric (I64Binary o)) c = take_quiet vs _ (λ p. take_quiet p.0 _ (λ q. went))
+instruction_quiet m s e vs (Call x) c = invoke_quiet m s e vs x _
+instruction_quiet m s e vs Drop c = value_quiet vs _ (λ p. went)
+
+limited_quiet : {r : Reduced} → Quiet r → results_of (told (limited r)) ≡ []
+limited_quiet (went {s} {t}) = by_test s t (nat_le (frames t.around) most_frames)
+  where
+    by_test : (z : Store) (u : Term) (b : Bool) → results_of (told (if b then Went z u else Limited Frames)) ≡ []
+    by_test z u true = refl
+    by_test z u false = refl
+limited_quiet stuck = refl
+
+if_quiet : (b : Bool) (s : Store) (t : Term) → Quiet (if b then Went s t else Stuck)
+if_quiet true s t = went
+if_quiet false s t = stuck
+
+body_quiet : (m : Module) (s : Store) (f : ℕ) (vs : Row Value) (e : Context) (c : Code)
+    → results_of (told (reduce m s (record { around = label_of m f ∷ e; operands = vs; rest = record { ahead = []; code = c } }))) ≡ []
+body_quiet m s f vs e Done = limited_quiet {r = leave s (label_of m f ∷ e) vs} went
+body_quiet m s f vs e (Plain o c) = limited_quiet (instruction_quiet m s (label_of m f ∷ e) vs o c)
+
+frame_quiet : (m : Module) (s : Store) (f : ℕ) (vs ls : List Value) (cs : List Caller) → results_of (told (reduce m s (term_in m InFrame f vs ls cs))) ≡ []
+frame_quiet m s f vs ls [] = limited_quiet (if_quiet (nat_eq (size (row_of vs)) (arity m f)) _ _)
+frame_quiet m s f vs ls (c ∷ cs) = limited_quiet (if_quiet (nat_eq (size (row_of (own (c ∷ cs) vs))) (arity m f)) _ _)
+
+-- only behind the last frame a run has results
+pub no_results : (m : Module) (s : Store) (st : Stage) (f : ℕ) (vs ls : List Value) (cs : List Caller) → (st ≡ AtValues → ⊥)
+    → results_of (told (reduce m s (term_in m st f vs ls cs))) ≡ []
+no_results m s (Start a) f vs ls cs h = limited_quiet (invoke_quiet m s [] ε a _)
+no_results m s (Body place) f vs ls cs h = body_quiet m s f (row_of (own cs vs)) (around m f cs vs ls) (code_from m f place)
+no_results m s InFrame f vs ls cs h = frame_quiet m s f vs ls cs
+no_results m s AtValues f vs ls cs h = absurd (h refl)

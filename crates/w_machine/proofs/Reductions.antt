@@ -1,0 +1,248 @@
+-- What is found is the reduction of the term.
+use Rattle.std.proofs.Common.{◌≡◌, ◌≢◌, ℕ, ◌+◌, ◌-◌, ◌^◌, ◌<◌, ◌≤◌, List, [], ◌∷◌, ◌++◌, length, take, drop, map, Option, Some, None, refl, sym, ap, ◌∙◌, arith}
+use Rattle.std.specs.Prelude.{nat_eq, nat_le, Bool, true, false, if◌then◌else◌}
+use Rattle.std.proofs.lemmas.Bool.Decides.{nat_tests}
+use Rattle.std.proofs.lemmas.List.{length-drop, length-take-le, length-append, take_all}
+use Rattle.std.proofs.Math.Seq.{take-append_seam, drop-append_seam}
+use Rattle.w_types.specs.Rows.{ε, ◌⧺◌, row_of, size}
+use Rattle.w_types.specs.declared.value.Value.{Value}
+use Rattle.w_types.proofs.Rows.{unit_left, row_of-append, size-row_of}
+use Rattle.w_syntax.specs.Code.{Done, ops_of, tree_of-ops_of}
+use Rattle.w_syntax.specs.declared.code.Op.{Op}
+use Rattle.w_syntax.specs.declared.module.Module.{Module}
+use Rattle.w_reduce.specs.Store.{Store}
+use Rattle.w_reduce.specs.Terms.{Context, Rest, rest_of, Frame, most_frames}
+use Rattle.w_reduce.specs.Reduce.{Went, limited, instruction, reduce}
+use Rattle.w_machine.specs.declared.configuration.Caller.{Caller}
+use Rattle.w_machine.specs.declared.configuration.Stage.{Stage}
+use Rattle.w_machine.specs.declared.configuration.Stage.TheVariants.{Start, Body, Frame as InFrame, Values as AtValues}
+use Rattle.w_machine.specs.declared.configuration.Redex.TheVariants.{Operands, Invoke, Call, LabelExit, FrameExit}
+use Rattle.w_machine.specs.declared.configuration.Found.{Found}
+use Rattle.w_machine.specs.declared.configuration.Found.TheVariants as found
+use Rattle.w_machine.specs.Functions.{arity, params_of, body_of, code_from, op_at, defaults_of}
+use Rattle.w_machine.specs.Configuration.{Parts, around, base, own, label_of, term_of, Ordered, IsSound, replaced, after, found_within, FindsInstruction, FindsCall, Finds}
+use Rattle.w_machine.proofs.Lists.{front_of_front, end_of_front, end_of_end, seam, front_of_replaced, end_of_replaced, length_replaced}
+use Rattle.w_machine.proofs.Around.{around_same, ordered_same, base_within, frames_around, few_frames, many_frames}
+use Rattle.w_machine.proofs.Calls.{entered, enter_is}
+use Rattle.w_machine.proofs.Places.{here, past}
+
+-- the parts that stand before an instruction
+abbrev pub In : ℕ → ℕ → List Value → List Value → List Caller → Parts
+In place f vs ls cs = record { stage = Body place; function = f; operands = vs; locals = ls; callers = cs }
+
+-- ## Instructions that take operands and give some
+
+module _ (m : Module) (s : Store) (f place : ℕ) (vs ls : List Value) (cs : List Caller) where
+  -- the reduction of the instruction
+  at_instruction : (o : Op) → op_at m f place ≡ Some o
+      → reduce m s (term_of m (In place f vs ls cs)) ≡ limited (instruction m s (label_of m f ∷ around m f cs vs ls) (row_of (own cs vs)) o (code_from m f (place + 1)))
+  at_instruction o e = rw (here (ops_of (body_of m f)) place o e) refl
+
+  replaces : (n : ℕ) (v : Option Value) → IsSound (In place f vs ls cs) → n ≤ length (own cs vs) → base cs + n ≤ length vs
+  replaces n v i le = let b = base_within cs vs ls i.ordered in omega (arith, length-drop (base cs) vs, b)
+
+  pub operands_found : (o : Op) (n : ℕ) (v : Option Value) → place + 1 < 2 ^ 64 → op_at m f place ≡ Some o → IsSound (In place f vs ls cs)
+      → FindsInstruction m s (own cs vs) o (found.Redex (Operands n v)) → Finds m s (In place f vs ls cs) (found.Redex (Operands n v))
+  operands_found o n v small e i h =
+      let fits = replaces n v i h.0 in
+      let front : take (base cs) vs ≡ take (base cs) (replaced n v vs) = sym (front_of_replaced (base cs) n v vs fits) in
+      let few = i.few in (
+        (small, omega (arith, fits)),
+        record { ordered = ordered_same cs vs (replaced n v vs) ls front (length_replaced (base cs) n v vs fits) i.ordered; clean = tt; few = i.few },
+        at_instruction o e ∙ ap limited (h.1 (label_of m f ∷ around m f cs vs ls) (code_from m f (place + 1)))
+            ∙ few_frames s (record { around = label_of m f ∷ around m f cs vs ls; operands = row_of (replaced n v (own cs vs)); rest = rest_of (code_from m f (place + 1)) })
+            (omega (arith, few, frames_around m f cs vs ls))
+            ∙ rw (end_of_replaced (base cs) n v vs fits, ← around_same m f cs vs (replaced n v vs) ls front) refl,
+      )
+
+  -- ## Calls
+
+  abbrev called : ℕ → ℕ → Parts
+  called g n = after m (Call g n) (In place f vs ls cs)
+
+  -- the context of a function that was called
+  call_around : (g n : ℕ) → base cs + n ≤ length vs → n ≤ length (own cs vs)
+      → around m g (called g n).callers (called g n).operands (called g n).locals
+      ≡ Frame (row_of (take (length (own cs vs) - n) (own cs vs))) (arity m g) (map (λ (v : Value). Some v) (drop (length (own cs vs) - n) (own cs vs) ++ defaults_of m g)) (rest_of (code_from m f (place + 1)))
+      ∷ label_of m f ∷ around m f cs vs ls
+  call_around g n fits le =
+      let k : length vs - n ≤ length vs = omega arith in
+      let long : length (own cs vs) - n ≡ length vs - n - base cs = omega (arith, length-drop (base cs) vs) in
+      let whole : base cs + (length vs - n - base cs) ≡ length vs - n = omega arith in
+      let added : List Value = drop (length vs - n) vs ++ defaults_of m g in
+      let below : own cs (take (length vs - n) vs) ≡ take (length (own cs vs) - n) (own cs vs) =
+      end_of_front (base cs) (length vs - n) vs (omega arith) ∙ ap (λ (j : ℕ). take j (own cs vs)) (sym long) in
+      let args : drop (length vs - n) vs ≡ drop (length (own cs vs) - n) (own cs vs) =
+      ap (λ (j : ℕ). drop j vs) (sym whole) ∙ sym (end_of_end (base cs) (length vs - n - base cs) vs) ∙ ap (λ (j : ℕ). drop j (own cs vs)) (sym long) in
+      let again : take (length vs - n) (take (length vs - n) vs) ≡ take (length vs - n) vs = front_of_front (length vs - n) (length vs - n) vs (omega arith) in
+      let front : take (base cs) (take (length vs - n) vs) ≡ take (base cs) vs = front_of_front (base cs) (length vs - n) vs (omega arith) in
+      rw (again, drop-append_seam ls added, take-append_seam ls added, below, around_same m f cs (take (length vs - n) vs) vs ls front, args) refl
+
+  call_ordered : (g n : ℕ) → IsSound (In place f vs ls cs) → base cs + n ≤ length vs → Ordered (called g n).callers (called g n).operands (called g n).locals
+  call_ordered g n i fits =
+      let k : length vs - n ≤ length vs = omega arith in
+      let added : List Value = drop (length vs - n) vs ++ defaults_of m g in
+      let again : take (length vs - n) (take (length vs - n) vs) ≡ take (length vs - n) vs = front_of_front (length vs - n) (length vs - n) vs (omega arith) in
+      let front : take (base cs) vs ≡ take (base cs) (take (length vs - n) vs) = sym (front_of_front (base cs) (length vs - n) vs (omega arith)) in (
+        omega (arith, length-take-le (length vs - n) vs k),
+        omega arith,
+        omega (arith, length-append ls added),
+        rw (again, take-append_seam ls added)
+            (ordered_same cs vs (take (length vs - n) vs) ls front (omega (arith, length-take-le (length vs - n) vs k)) i.ordered),
+      )
+
+  call_reduced : (o : Op) (g n : ℕ) → op_at m f place ≡ Some o → IsSound (In place f vs ls cs) → FindsInstruction m s (own cs vs) o (found.Redex (Call g n))
+      → reduce m s (term_of m (In place f vs ls cs)) ≡ limited (Went s (term_of m (called g n)))
+  call_reduced o g n e i h =
+      let fits = replaces n None i h.1 in
+      let outer : Context = label_of m f ∷ around m f cs vs ls in
+      let behind : Rest = rest_of (code_from m f (place + 1)) in
+      let same : entered m s outer (own cs vs) g n behind ≡ Went s (term_of m (called g n)) =
+      rw (call_around g n fits h.1, nothing_above (length vs - n) vs, tree_of-ops_of (body_of m g)) refl in
+      at_instruction o e ∙ ap limited (h.2 outer (code_from m f (place + 1)) ∙ enter_is m s outer (own cs vs) g n behind h.0 h.1 ∙ same)
+    where
+      nothing_above : (j : ℕ) (xs : List Value) → drop j (take j xs) ≡ []
+      nothing_above j xs = end_of_front j j xs (omega arith) ∙ ap (λ (l : ℕ). take l (drop j xs)) (let z : j - j ≡ 0 = omega arith in z)
+
+  pub call_found : (o : Op) (g n : ℕ) → place + 1 < 2 ^ 64 → op_at m f place ≡ Some o → IsSound (In place f vs ls cs) → length cs + 1 < most_frames
+      → FindsInstruction m s (own cs vs) o (found.Redex (Call g n)) → Finds m s (In place f vs ls cs) (found.Redex (Call g n))
+  call_found o g n small e i few h =
+      let fits = replaces n None i h.1 in
+      let many = frames_around m g (called g n).callers (called g n).operands (called g n).locals in (
+        (small, omega (arith, fits)),
+        record { ordered = call_ordered g n i fits; clean = tt; few = omega (arith, few) },
+        call_reduced o g n e i h ∙ few_frames s (term_of m (called g n)) (omega (arith, few, many)),
+      )
+
+  pub call_limited : (o : Op) (g n : ℕ) → op_at m f place ≡ Some o → IsSound (In place f vs ls cs) → most_frames ≤ length cs + 1
+      → FindsInstruction m s (own cs vs) o (found.Redex (Call g n)) → Finds m s (In place f vs ls cs) found.Limit
+  call_limited o g n e i many h =
+      let all = frames_around m g (called g n).callers (called g n).operands (called g n).locals in
+      call_reduced o g n e i h ∙ many_frames s (term_of m (called g n)) (omega (arith, many, all))
+
+  pub stuck_found : (o : Op) → op_at m f place ≡ Some o → FindsInstruction m s (own cs vs) o found.NoRule → Finds m s (In place f vs ls cs) found.NoRule
+  stuck_found o e h = at_instruction o e ∙ ap limited (h _ _)
+
+  call_within : (o : Op) (g n : ℕ) → place + 1 < 2 ^ 64 → op_at m f place ≡ Some o → IsSound (In place f vs ls cs)
+      → FindsInstruction m s (own cs vs) o (found.Redex (Call g n)) → (b : Bool) → nat_le most_frames (length cs + 1) ≡ b
+      → Finds m s (In place f vs ls cs) (if b then found.Limit else found.Redex (Call g n))
+  call_within o g n small e i h true t = call_limited o g n e i (grind (arith, nat_tests)) h
+  call_within o g n small e i h false t = call_found o g n small e i (grind (arith, nat_tests)) h
+
+  -- what the instruction is, within the limit on frames
+  pub instruction_found : (o : Op) (x : Found) → place + 1 < 2 ^ 64 → op_at m f place ≡ Some o → IsSound (In place f vs ls cs)
+      → FindsInstruction m s (own cs vs) o x → Finds m s (In place f vs ls cs) (found_within (length cs) x)
+  instruction_found o (found.Redex (Operands n v)) small e i h = operands_found o n v small e i h
+  instruction_found o (found.Redex (Call g n)) small e i h = call_within o g n small e i h (nat_le most_frames (length cs + 1)) refl
+  instruction_found o (found.Redex (Invoke g)) small e i h = absurd h
+  instruction_found o (found.Redex LabelExit) small e i h = absurd h
+  instruction_found o (found.Redex FrameExit) small e i h = absurd h
+  instruction_found o found.Limit small e i h = absurd h
+  instruction_found o found.Values small e i h = absurd h
+  instruction_found o found.NoRule small e i h = stuck_found o e h
+
+  -- ## Exits
+
+  pub label_left : IsSound (In place f vs ls cs) → op_at m f place ≡ None → Finds m s (In place f vs ls cs) (found.Redex LabelExit)
+  label_left i e = let few = i.few in (
+    tt,
+    record { ordered = i.ordered; clean = tt; few = i.few },
+    rw (past (ops_of (body_of m f)) place e, unit_left (row_of (own cs vs))) (few_frames s _ (omega (arith, few, frames_around m f cs vs ls))),
+  )
+
+abbrev AtFrame : ℕ → List Value → List Value → List Caller → Parts
+AtFrame f vs ls cs = record { stage = InFrame; function = f; operands = vs; locals = ls; callers = cs }
+
+pub frame_left : (m : Module) (s : Store) (f : ℕ) (vs ls : List Value) (cs : List Caller) → IsSound (AtFrame f vs ls cs) → length vs - base cs ≡ arity m f
+    → Finds m s (AtFrame f vs ls cs) (found.Redex FrameExit)
+frame_left m s f vs ls [] i e =
+    let n : nat_eq (size (row_of vs)) (arity m f) ≡ true = grind (arith, nat_tests, size-row_of vs) in (
+      tt,
+      record { ordered = tt; clean = refl; few = i.few },
+      rw (n, unit_left (row_of vs)) refl,
+    )
+frame_left m s f vs ls (c ∷ cs) i e =
+    let o = i.ordered in
+    let few = i.few in
+    let n : nat_eq (size (row_of (drop c.operands vs))) (arity m f) ≡ true = grind (arith, nat_tests, size-row_of (drop c.operands vs), length-drop c.operands vs) in
+    let front : take (base cs) (take c.operands vs) ≡ take (base cs) vs = front_of_front (base cs) c.operands vs o.1 in
+    let results : row_of (own cs (take c.operands vs)) ⧺ row_of (drop c.operands vs) ≡ row_of (own cs vs) =
+    sym (row_of-append (own cs (take c.operands vs)) (drop c.operands vs)) ∙ ap row_of (seam (base cs) c.operands vs o.1 o.0) in (
+      tt,
+      record {
+        ordered = ordered_same cs (take c.operands vs) vs (take c.locals ls) front (let le = o.1 in let most = o.0 in omega (arith, le, most)) o.3;
+        clean = tt;
+        few = omega (arith, few);
+      },
+      rw (n, results, around_same m c.function cs (take c.operands vs) vs (take c.locals ls) front)
+          (few_frames s _ (omega (arith, few, frames_around m c.function cs vs (take c.locals ls)))),
+    )
+
+pub frame_stuck : (m : Module) (s : Store) (f : ℕ) (vs ls : List Value) (cs : List Caller) → length vs - base cs ≢ arity m f
+    → Finds m s (AtFrame f vs ls cs) found.NoRule
+frame_stuck m s f vs ls [] e = let n : nat_eq (size (row_of vs)) (arity m f) ≡ false = grind (arith, nat_tests, size-row_of vs) in rw n refl
+frame_stuck m s f vs ls (c ∷ cs) e =
+    let n : nat_eq (size (row_of (drop c.operands vs))) (arity m f) ≡ false = grind (arith, nat_tests, size-row_of (drop c.operands vs), length-drop c.operands vs) in rw n refl
+
+-- ## The first invoke
+
+abbrev AtStart : ℕ → ℕ → Parts
+AtStart a f = record { stage = Start a; function = f; operands = []; locals = []; callers = [] }
+
+first_found : (m : Module) (s : Store) (a f g n : ℕ) → FindsCall m s 0 a (found.Redex (Call g n)) → Finds m s (AtStart a f) (found.Redex (Invoke g))
+first_found m s a f g n h =
+    let le = h.2 in
+    let none : n ≡ 0 = omega (arith, le) in
+    let few : 1 ≤ most_frames = omega arith in
+    let same : entered m s [] [] g 0 (rest_of Done) ≡ Went s (term_of m (after m (Invoke g) (AtStart a f))) = rw (tree_of-ops_of (body_of m g)) refl in
+    let p : params_of m g ≡ Some 0 = h.1 ∙ ap (λ (k : ℕ). let q : Option ℕ = Some k in q) none in (
+      tt,
+      record { ordered = tt; clean = tt; few = omega arith },
+      rw h.0 (ap limited (enter_is m s [] [] g 0 (rest_of Done) p (omega arith) ∙ same)),
+    )
+
+pub invoke_found : (m : Module) (s : Store) (a : ℕ) (p : Parts) (g n : ℕ) → IsSound p → p.stage ≡ Start a → FindsCall m s 0 a (found.Redex (Call g n))
+    → Finds m s p (found.Redex (Invoke g))
+invoke_found m s a p g n i e h = by_stage p.stage p.function p.operands p.locals p.callers i e
+  where
+    by_stage : (st : Stage) (f : ℕ) (vs ls : List Value) (cs : List Caller) → IsSound (record { stage = st; function = f; operands = vs; locals = ls; callers = cs }) → st ≡ Start a
+        → Finds m s (record { stage = st; function = f; operands = vs; locals = ls; callers = cs }) (found.Redex (Invoke g))
+    by_stage (Start b) f [] [] [] i e = let same : b ≡ a = cc in rw same (first_found m s a f g n h)
+    by_stage (Start b) f (v ∷ vs) ls cs i e = let no = i.clean.0 in absurd cc
+    by_stage (Start b) f [] (l ∷ ls) cs i e = let no = i.clean.1 in absurd cc
+    by_stage (Start b) f [] [] (c ∷ cs) i e = let no = i.clean.2 in absurd cc
+    by_stage (Body place) f vs ls cs i e = absurd cc
+    by_stage InFrame f vs ls cs i e = absurd cc
+    by_stage AtValues f vs ls cs i e = absurd cc
+
+pub invoke_stuck : (m : Module) (s : Store) (a : ℕ) (p : Parts) → p.stage ≡ Start a → FindsCall m s 0 a found.NoRule → Finds m s p found.NoRule
+invoke_stuck m s a p e h = rw e (ap limited (h ε [] _ refl))
+
+-- ## The parts of a configuration
+
+-- what a slice from a place to the end is
+pub own_slice : (cs ds : List Caller) (vs xs : List Value) (b : ℕ) → xs ≡ vs → ds ≡ cs → b ≡ base ds → take (length xs - b) (drop b xs) ≡ own cs vs
+own_slice cs ds vs xs b e d f =
+    take_all (length xs - b) (drop b xs) (omega (arith, length-drop b xs))
+    ∙ ap (λ (n : ℕ). drop n xs) (f ∙ ap base d) ∙ ap (drop (base cs)) e
+
+pub within_found : (m : Module) (s : Store) (st : Stage) (f place k : ℕ) (vs ls : List Value) (cs : List Caller) (o : Op) (x y : Found)
+    → st ≡ Body place → place + 1 < 2 ^ 64 → op_at m f place ≡ Some o → IsSound (record { stage = st; function = f; operands = vs; locals = ls; callers = cs })
+    → FindsInstruction m s (own cs vs) o x → k ≡ length cs → y ≡ found_within k x
+    → Finds m s (record { stage = st; function = f; operands = vs; locals = ls; callers = cs }) y
+within_found m s st f place k vs ls cs o x y e small is i h n r =
+    rw (r, n, e) (instruction_found m s f place vs ls cs o x small is (rw e at i) h)
+
+pub label_found : (m : Module) (s : Store) (st : Stage) (f place : ℕ) (vs ls : List Value) (cs : List Caller)
+    → st ≡ Body place → op_at m f place ≡ None → IsSound (record { stage = st; function = f; operands = vs; locals = ls; callers = cs })
+    → Finds m s (record { stage = st; function = f; operands = vs; locals = ls; callers = cs }) (found.Redex LabelExit)
+label_found m s st f place vs ls cs e is i = rw e (label_left m s f place vs ls cs (rw e at i) is)
+
+pub frame_found : (m : Module) (s : Store) (st : Stage) (f : ℕ) (vs ls : List Value) (cs : List Caller)
+    → st ≡ InFrame → length vs - base cs ≡ arity m f → IsSound (record { stage = st; function = f; operands = vs; locals = ls; callers = cs })
+    → Finds m s (record { stage = st; function = f; operands = vs; locals = ls; callers = cs }) (found.Redex FrameExit)
+frame_found m s st f vs ls cs e n i = rw e (frame_left m s f vs ls cs (rw e at i) n)
+
+pub frame_not_found : (m : Module) (s : Store) (st : Stage) (f : ℕ) (vs ls : List Value) (cs : List Caller)
+    → st ≡ InFrame → length vs - base cs ≢ arity m f → Finds m s (record { stage = st; function = f; operands = vs; locals = ls; callers = cs }) found.NoRule
+frame_not_found m s st f vs ls cs e n = rw e (frame_stuck m s f vs ls cs n)

@@ -1,0 +1,151 @@
+//! Finding the next reduction.
+ghost use Rattle.std.specs.Prelude.{◌≡◌, ◌+◌, ◌^◌, ◌<◌, Some, option_map};
+ghost use Rattle.w_syntax.specs.declared.code.Op.TheVariants.{Numeric as NumericOp};
+ghost use Rattle.w_machine.specs.Functions.{op_at as op_of};
+ghost use Rattle.w_machine.specs.Configuration.{parts, IsSound, Finds, FindsInstruction, FindsCall, redex_within, found_within};
+ghost use Rattle.w_machine.specs.Operands.{TakesI64};
+
+use crate::binary::apply;
+use crate::configuration::{Configuration, Found, Redex, Stage, base};
+use crate::functions::{op_at, param_count, result_count};
+use crate::store::Store;
+use w_syntax::{Module, Numeric, Op};
+use w_types::Value;
+
+/// The most frames of a run.
+const MOST_FRAMES: usize = 20_000;
+
+// The topmost operand, an i64, and those beneath.
+fn top_i64(operands: &[Value]) -> Option<(u64, &[Value])>
+    ensures { TakesI64 operands.now (option_map (λ p. (p.0, p.1.now)) result) }
+{
+    let (top, rest) = operands.split_last()?;
+    match top {
+        Value::I64(number) => Some((*number, rest)),
+        Value::I32(_) => None,
+    }
+}
+
+// The redex that a numeric instruction is.
+fn find_numeric(program: &Module, store: &Store, operands: &[Value], op: Numeric) -> Found
+    ensures { FindsInstruction program.now store.now operands.now (NumericOp op) result }
+{
+    match op {
+        Numeric::I64Const(number) => {
+            Found::Redex(Redex::Operands(0, Some(Value::I64(number.cast_unsigned()))))
+        }
+        Numeric::I64Binary(operation) => {
+            let Some((b, rest)) = top_i64(operands) else {
+                return Found::NoRule;
+            };
+            let Some((a, _)) = top_i64(rest) else {
+                return Found::NoRule;
+            };
+            Found::Redex(Redex::Operands(2, Some(Value::I64(apply(operation, a, b)))))
+        }
+    }
+}
+
+// The call of the function of this address, with so many operands.
+fn find_call(program: &Module, store: &Store, operands: usize, address: usize) -> Found
+    ensures { FindsCall program.now store.now operands address result }
+{
+    let Some(function) = store.function(address) else {
+        return Found::NoRule;
+    };
+    match param_count(program, function) {
+        Some(taken) if taken <= operands => Found::Redex(Redex::Call(function, taken)),
+        _ => Found::NoRule,
+    }
+}
+
+// The redex that an instruction is.
+fn find_instruction(program: &Module, store: &Store, operands: &[Value], op: Op) -> Found
+    ensures { FindsInstruction program.now store.now operands.now op result }
+{
+    match op {
+        Op::Numeric(numeric) => find_numeric(program, store, operands, numeric),
+        Op::Call(address) => find_call(program, store, operands.len(), address as usize),
+        Op::Drop => {
+            if operands.is_empty() {
+                Found::NoRule
+            } else {
+                Found::Redex(Redex::Operands(1, None))
+            }
+        }
+    }
+}
+
+// The redex, or the limit on frames where its result passes that. So many frames wait.
+fn limited_redex(redex: Redex, waiting: usize) -> Found
+    requires { waiting + 1 < 2 ^ 64 }
+    ensures { result ≡ redex_within waiting redex }
+{
+    match redex {
+        Redex::Call(_, _) if waiting + 1 >= MOST_FRAMES => Found::Limit,
+        _ => Found::Redex(redex),
+    }
+}
+
+// What was found, or the limit on frames where the result passes that.
+fn limited(found: Found, waiting: usize) -> Found
+    requires { waiting + 1 < 2 ^ 64 }
+    ensures { result ≡ found_within waiting found }
+{
+    match found {
+        Found::Redex(redex) => limited_redex(redex, waiting),
+        _ => found,
+    }
+}
+
+impl Configuration {
+    // The redex of the instruction, or the limit on frames where its result passes that.
+    fn find_within(&self, program: &Module, store: &Store, place: usize, op: Op) -> Found
+        requires sound { IsSound (parts self.now) }
+        requires at { self.now.stage ≡ Stage.Body place }
+        requires next { place + 1 < 2 ^ 64 }
+        requires is { op_of program.now self.now.function place ≡ Some op }
+        ensures { Finds program.now store.now (parts self.now) result }
+    {
+        let own = &self.operands[base(self.callers.as_slice())..];
+        limited(
+            find_instruction(program, store, own, op),
+            self.callers.len(),
+        )
+    }
+
+    // The first invoke.
+    fn find_invoke(&self, program: &Module, store: &Store, address: usize) -> Found
+        requires sound { IsSound (parts self.now) }
+        requires at { self.now.stage ≡ Stage.Start address }
+        ensures { Finds program.now store.now (parts self.now) result }
+    {
+        match find_call(program, store, 0, address) {
+            Found::Redex(Redex::Call(function, _)) => Found::Redex(Redex::Invoke(function)),
+            _ => Found::NoRule,
+        }
+    }
+
+    /// Finds the next reduction.
+    pub(crate) fn find(&self, program: &Module, store: &Store) -> Found
+        requires { IsSound (parts self.now) }
+        ensures { Finds program.now store.now (parts self.now) result }
+    {
+        match self.stage {
+            Stage::Start(address) => self.find_invoke(program, store, address),
+            Stage::Body(place) => match op_at(program, self.function, place) {
+                Some(op) => self.find_within(program, store, place, op),
+                None => Found::Redex(Redex::LabelExit),
+            },
+            Stage::Frame => {
+                let own = self.operands.len() - base(self.callers.as_slice());
+                if own == result_count(program, self.function) {
+                    Found::Redex(Redex::FrameExit)
+                } else {
+                    Found::NoRule
+                }
+            }
+            Stage::Values => Found::Values,
+        }
+    }
+}

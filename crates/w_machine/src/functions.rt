@@ -1,0 +1,65 @@
+//! The functions of a module, looked up by their indices.
+ghost use Rattle.std.specs.Prelude.{◌≡◌, ◌+◌, ◌<◌, ◌^◌, IfSome, option_map, slice_get};
+ghost use Rattle.w_syntax.specs.Code.{ops_of};
+ghost use Rattle.w_syntax.specs.Functions.{type_of_function, code_of_function};
+ghost use Rattle.w_reduce.specs.Reduce.{defaults};
+ghost use Rattle.w_machine.specs.Functions.{arity, params_of, defaults_of, op_at as op_of};
+
+use w_syntax::{Func, LocalRun, Module, Op};
+use w_types::FuncType;
+
+/// The type of a function.
+pub(crate) fn type_at(program: &Module, function: usize) -> Option<&FuncType>
+    ensures { option_map (λ t. t.now) result ≡ type_of_function program.now function }
+{
+    let index = program.functions.as_slice().get(function)?;
+    program.types.as_slice().get(*index as usize)
+}
+
+/// The code of a function.
+pub(crate) fn code_at(program: &Module, function: usize) -> Option<&Func>
+    ensures { option_map (λ f. f.now) result ≡ code_of_function program.now function }
+{
+    program.codes.as_slice().get(function)
+}
+
+/// How many results a function has. A function that isn't there has none.
+pub(crate) fn result_count(program: &Module, function: usize) -> usize
+    ensures { result ≡ arity program.now function }
+{
+    match type_at(program, function) {
+        Some(of) => of.results.len(),
+        None => 0,
+    }
+}
+
+/// How many parameters a function takes. `None` where it has no type, or no code.
+pub(crate) fn param_count(program: &Module, function: usize) -> Option<usize>
+    ensures { result ≡ params_of program.now function }
+{
+    let of = type_at(program, function)?;
+    match code_at(program, function) {
+        Some(_) => Some(of.params.len()),
+        None => None,
+    }
+}
+
+/// The instruction at a place of a function's code.
+pub(crate) fn op_at(program: &Module, function: usize, place: usize) -> Option<Op>
+    ensures is { result ≡ op_of program.now function place }
+    // A place with an instruction is followed by another.
+    ensures next { IfSome result (λ op. place + 1 < 2 ^ 64) }
+{
+    let code = code_at(program, function)?;
+    code.body.ops().get(place).copied()
+}
+
+/// The locals of a function behind its parameters.
+pub(crate) fn locals_at(program: &Module, function: usize) -> &[LocalRun]
+    ensures { defaults result.now ≡ defaults_of program.now function }
+{
+    match code_at(program, function) {
+        Some(code) => code.locals.as_slice(),
+        None => &[],
+    }
+}

@@ -1,0 +1,36 @@
+-- Where a run begins (Core, execution, instantiation): the invoke of the function that is exported as main.
+use Rattle.std.specs.Prelude.{ℕ, List, [], ◌∷◌, codes, if◌then◌else◌, Option, Some, None}
+use Rattle.std.specs.Str.{bytes_eq}
+use Rattle.w_types.specs.declared.types.FuncType.{FuncType}
+use Rattle.w_types.specs.declared.types.ValType.{ValType}
+use Rattle.w_types.specs.Rows.{ε}
+use Rattle.w_syntax.specs.Code.{Done}
+use Rattle.w_syntax.specs.Functions.{type_of_function}
+use Rattle.w_syntax.specs.declared.module.Export.{Export}
+use Rattle.w_syntax.specs.declared.module.Module.{Module}
+use Rattle.w_reduce.specs.Terms.{Invoke, Term}
+
+abbrev pub without_params : ℕ → List ValType → Option ℕ
+without_params i [] = Some i
+without_params i (t ∷ ts) = None
+
+-- the function i, where its type is [] to integers
+abbrev pub entry_at : ℕ → Option FuncType → Option ℕ
+entry_at i (Some t) = without_params i t.params
+entry_at i None = None
+
+abbrev pub entry_in : Module → List Export → Option ℕ
+entry_in m [] = None
+entry_in m (e ∷ es) = if bytes_eq e.name (codes "main") then entry_at e.function (type_of_function m e.function) else entry_in m es
+
+-- the function that a run begins with
+abbrev pub entry : Module → Option ℕ
+entry m = entry_in m m.exports
+
+abbrev pub address_in : Option ℕ → ℕ
+address_in (Some i) = i
+address_in None = 0
+
+-- the first term: the invoke of main, where there is one
+abbrev pub start_term : Module → Term
+start_term m = record { around = []; operands = ε; rest = record { ahead = Invoke (address_in (entry m)) ∷ []; code = Done } }

@@ -1,0 +1,7 @@
+use Rattle.std.proofs.Common.{◌≡◌, ◌+◌, drop}
+use Rattle.w_rules.specs.Limits.{total}
+use Rattle.w_rules.proofs.limits.is_room.Given as goal
+
+-- the locals looked at so far took what is not left
+abbrev pub invariant-loop-run : goal.invariant-loop-run
+invariant-loop-run l = total l.runs + l.left ≡ total (drop l.run-index l.runs) + l.room

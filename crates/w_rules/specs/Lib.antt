@@ -1,0 +1,5 @@
+pub mod Matching
+pub mod Typing
+pub mod Family
+pub mod Limits
+pub mod Valid

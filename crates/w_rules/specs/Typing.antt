@@ -1,0 +1,54 @@
+-- The typing rules of instructions and sequences (Core, validation).
+use Rattle.std.specs.Prelude.{Option, Some, None}
+use Rattle.w_types.specs.declared.types.FuncType.{FuncType}
+use Rattle.w_types.specs.declared.types.ValType.{ValType}
+use Rattle.w_types.specs.declared.types.ValType.TheVariants.{I64}
+use Rattle.w_types.specs.Rows.{Row, ε, ◌▹◌, ◌⧺◌, row_of}
+use Rattle.w_syntax.specs.Code.{Code, Done, Plain}
+use Rattle.w_syntax.specs.Functions.{type_of_function}
+use Rattle.w_syntax.specs.declared.code.Op.{Op}
+use Rattle.w_syntax.specs.declared.code.Op.TheVariants.{Numeric, Call, Drop}
+use Rattle.w_syntax.specs.declared.code.Numeric.TheVariants.{I64Const, I64Binary}
+use Rattle.w_syntax.specs.declared.module.Module.{Module}
+use Rattle.w_rules.specs.Matching.{RowMatches}
+
+-- ## Instructions (Core, validation, instructions)
+
+-- an instruction's line in the table of instructions
+pub data Line : Type 0 where
+  -- [ins] to [outs]
+  fixed : (ins outs : Row ValType) → Line
+  -- [t] to []
+  drops : Line
+  -- no rule
+  no_line : Line
+
+abbrev pub call_line : Option FuncType → Line
+call_line (Some t) = fixed (row_of t.params) (row_of t.results)
+call_line None = no_line
+
+-- the table
+abbrev pub line : Module → Op → Line
+line m (Numeric (I64Const z)) = fixed ε (ε ▹ I64)
+line m (Numeric (I64Binary o)) = fixed (ε ▹ I64 ▹ I64) (ε ▹ I64)
+line m (Call x) = call_line (type_of_function m x)
+line m Drop = drops
+
+-- [ins] to [outs] with operands beneath, and with subsumption on both sides
+pub record Steps (ins outs ts us : Row ValType) : Type 0 where
+  pub beneath : Row ValType
+  pub takes : RowMatches ts (beneath ⧺ ins)
+  pub gives : RowMatches (beneath ⧺ outs) us
+
+-- an instruction of this line takes operands of types ts to operands of types us
+abbrev pub Takes : Line → Row ValType → Row ValType → Type 0
+Takes (fixed ins outs) ts us = Steps ins outs ts us
+Takes drops ts us = (t : ValType) × Steps (ε ▹ t) ε ts us
+Takes no_line ts us = ⊥
+
+-- ## Sequences (Core, validation, instruction sequences)
+
+-- the sequence takes operands of types ts to operands of types us
+abbrev pub Derives : Module → Code → Row ValType → Row ValType → Type 0
+Derives m Done ts us = RowMatches ts us
+Derives m (Plain o c) ts us = (vs : Row ValType) × Takes (line m o) ts vs × Derives m c vs us

@@ -1,0 +1,103 @@
+//! The limits on a module's size.
+ghost use Rattle.std.specs.Prelude.{◌≡◌, ◌+◌, ◌≤◌, ◌<◌, ◌↔◌, ◌^◌, length, IsTrue, IfSome, IfNone};
+ghost use Rattle.w_syntax.specs.Functions.{type_of_function};
+ghost use Rattle.w_rules.specs.Limits.{total, params_in, locals_of, EachType, IsNarrow, Keeps, Within, Passes};
+
+use crate::functions::function_type;
+use w_syntax::{LocalRun, Module};
+use w_types::FuncType;
+
+/// A counted quantity with a limit.
+#[derive(Clone, Copy, Debug, PartialEq, Eq)]
+pub enum LimitName {
+    /// Types of a module: 10,000.
+    Types,
+    /// Parameters, and results, of one function type: 1,000.
+    Params,
+    /// Locals of one function, its parameters among them: 50,000.
+    Locals,
+    /// Frames of a run: 20,000.
+    Frames,
+}
+
+const TYPES_LIMIT: usize = 10_000;
+
+const PARAMS_LIMIT: usize = 1_000;
+
+const LOCALS_LIMIT: usize = 50_000;
+
+// Whether each type has at most so many parameters and results.
+fn are_narrow(types: &[FuncType]) -> bool
+    ensures { IsTrue result ↔ EachType IsNarrow types.now }
+{
+    for kind in types {
+        if kind.params.len() > PARAMS_LIMIT || kind.results.len() > PARAMS_LIMIT {
+            return false;
+        }
+    }
+    true
+}
+
+// Whether the runs have at most so many locals. The sum is never formed, since it may be large.
+fn is_room(room: usize, runs: &[LocalRun]) -> bool
+    ensures { IsTrue result ↔ (total runs.now ≤ room) }
+{
+    let mut left = room;
+    for run in runs {
+        let count = run.count as usize;
+        if count > left {
+            return false;
+        }
+        left -= count;
+    }
+    true
+}
+
+// How many parameters the function of this index has.
+fn params_of(candidate: &Module, index: usize) -> usize
+    ensures { result ≡ params_in (type_of_function candidate.now index) }
+{
+    match function_type(candidate, index) {
+        Some(kind) => kind.params.len(),
+        None => 0,
+    }
+}
+
+// Whether the function of this index keeps the limit on locals.
+fn keeps_locals(candidate: &Module, index: usize) -> bool
+    requires { index < length candidate.now.codes }
+    ensures { IsTrue result ↔ (locals_of candidate.now index ≤ 50000) }
+{
+    let params = params_of(candidate, index);
+    let code = &candidate.codes.as_slice()[index];
+    params <= LOCALS_LIMIT && is_room(LOCALS_LIMIT - params, code.locals.as_slice())
+}
+
+// Whether each function keeps the limit on locals.
+fn all_keep_locals(candidate: &Module) -> bool
+    ensures { IsTrue result ↔ Keeps candidate.now LimitName.Locals }
+{
+    for index in 0..candidate.codes.len() {
+        if !keeps_locals(candidate, index) {
+            return false;
+        }
+    }
+    true
+}
+
+/// The first limit that a module passes, in the order types, parameters, locals. `None` where it keeps all of them.
+pub fn limits_of(candidate: &Module) -> Option<LimitName>
+    ensures none { IfNone result (Within candidate.now) }
+    ensures some { IfSome result (λ name. Passes candidate.now name) }
+{
+    if candidate.types.len() > TYPES_LIMIT {
+        return Some(LimitName::Types);
+    }
+    if !are_narrow(candidate.types.as_slice()) {
+        return Some(LimitName::Params);
+    }
+    if !all_keep_locals(candidate) {
+        return Some(LimitName::Locals);
+    }
+    None
+}

@@ -1,0 +1,14 @@
+//! Validation of modules.
+#![tactic(auto)]
+
+mod bodies;
+mod exports;
+mod fault;
+mod functions;
+mod instructions;
+#[cfg(test)]
+mod tests;
+mod validation;
+
+pub use fault::ValidFault;
+pub use validation::validate;
