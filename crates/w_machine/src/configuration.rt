@@ -1,5 +1,5 @@
 //! The term of a run, as operands and locals in one list each, and the frames that wait.
-ghost use Rattle.std.specs.Prelude.{◌≡◌, ◌+◌, ◌≤◌, [], ◌++◌, length, take, reverse, replicate, OnOk, OnErr, vec_len};
+ghost use Rattle.std.specs.Prelude.{◌≡◌, ◌+◌, ◌≤◌, [], ◌++◌, take, reverse, replicate, OnOk, OnErr, vec_len};
 ghost use Rattle.w_types.specs.Values.{default_of};
 ghost use Rattle.w_reduce.specs.Reduce.{defaults};
 ghost use Rattle.w_machine.specs.Configuration.{parts, base as base_of, Fits, IsInBody, stage_behind, place_behind, after, left, replaced};

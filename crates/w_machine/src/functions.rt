@@ -1,20 +1,11 @@
 //! The functions of a module, looked up by their indices.
-ghost use Rattle.std.specs.Prelude.{◌≡◌, ◌+◌, ◌<◌, ◌^◌, IfSome, option_map, slice_get};
-ghost use Rattle.w_syntax.specs.Code.{ops_of};
-ghost use Rattle.w_syntax.specs.Functions.{type_of_function, code_of_function};
+ghost use Rattle.std.specs.Prelude.{◌≡◌, ◌+◌, ◌<◌, ◌^◌, IfSome, option_map};
+ghost use Rattle.w_syntax.specs.Functions.{code_of_function};
 ghost use Rattle.w_reduce.specs.Reduce.{defaults};
 ghost use Rattle.w_machine.specs.Functions.{arity, params_of, defaults_of, op_at as op_of};
 
+use w_rules::function_type;
 use w_syntax::{Func, LocalRun, Module, Op};
-use w_types::FuncType;
-
-/// The type of a function.
-pub(crate) fn type_at(program: &Module, function: usize) -> Option<&FuncType>
-    ensures { option_map (λ t. t.now) result ≡ type_of_function program.now function }
-{
-    let index = program.functions.as_slice().get(function)?;
-    program.types.as_slice().get(*index as usize)
-}
 
 /// The code of a function.
 pub(crate) fn code_at(program: &Module, function: usize) -> Option<&Func>
@@ -27,7 +18,7 @@ pub(crate) fn code_at(program: &Module, function: usize) -> Option<&Func>
 pub(crate) fn result_count(program: &Module, function: usize) -> usize
     ensures { result ≡ arity program.now function }
 {
-    match type_at(program, function) {
+    match function_type(program, function) {
         Some(of) => of.results.len(),
         None => 0,
     }
@@ -37,7 +28,7 @@ pub(crate) fn result_count(program: &Module, function: usize) -> usize
 pub(crate) fn param_count(program: &Module, function: usize) -> Option<usize>
     ensures { result ≡ params_of program.now function }
 {
-    let of = type_at(program, function)?;
+    let of = function_type(program, function)?;
     match code_at(program, function) {
         Some(_) => Some(of.params.len()),
         None => None,

@@ -21,7 +21,7 @@ impl Model for Store {
 }
 
 impl Store {
-    ghost use Rattle.std.specs.Prelude.{◌≡◌, ◌<◌, ◌^◌, IfOk, option_map, slice_get};
+    ghost use Rattle.std.specs.Prelude.{◌≡◌, ◌<◌, IfOk, option_map, slice_get};
     ghost use Rattle.w_reduce.specs.Store.{Defined, defined};
 
     /// The store of a module's first so many functions, in order. It fails only for want of memory.

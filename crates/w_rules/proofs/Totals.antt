@@ -1,7 +1,7 @@
 -- The locals of runs from an index on.
 use Rattle.std.proofs.Common.{◌≡◌, ℕ, ◌+◌, ◌<◌, List, [], length, drop, get_or, refl, add-one, drop-cons}
 use Rattle.w_syntax.specs.declared.module.LocalRun.{LocalRun}
-use Rattle.w_rules.specs.Limits.{total}
+use Rattle.w_syntax.specs.Locals.{total}
 
 pub total_none : total [] ≡ 0
 unfolding total

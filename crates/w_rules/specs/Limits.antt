@@ -2,16 +2,11 @@
 use Rattle.std.specs.Prelude.{ℕ, ◌+◌, ◌<◌, ◌≤◌, List, [], ◌∷◌, length, Option, Some, None}
 use Rattle.w_types.specs.declared.types.FuncType.{FuncType}
 use Rattle.w_syntax.specs.Functions.{type_of_function, code_of_function}
-use Rattle.w_syntax.specs.declared.module.LocalRun.{LocalRun}
+use Rattle.w_syntax.specs.Locals.{total}
 use Rattle.w_syntax.specs.declared.module.Func.{Func}
 use Rattle.w_syntax.specs.declared.module.Module.{Module}
 use Rattle.w_rules.specs.declared.limits.LimitName.{LimitName}
 use Rattle.w_rules.specs.declared.limits.LimitName.TheVariants.{Types, Params, Locals, Frames}
-
--- how many locals the runs have
-unfoldable pub total : List LocalRun → ℕ
-total [] = 0
-total (r ∷ rs) = r.count + total rs
 
 abbrev pub params_in : Option FuncType → ℕ
 params_in (Some t) = length t.params

@@ -1,7 +1,8 @@
 //! The limits on a module's size.
-ghost use Rattle.std.specs.Prelude.{◌≡◌, ◌+◌, ◌≤◌, ◌<◌, ◌↔◌, ◌^◌, length, IsTrue, IfSome, IfNone};
+ghost use Rattle.std.specs.Prelude.{◌≡◌, ◌≤◌, ◌<◌, ◌↔◌, length, IsTrue, IfSome, IfNone};
 ghost use Rattle.w_syntax.specs.Functions.{type_of_function};
-ghost use Rattle.w_rules.specs.Limits.{total, params_in, locals_of, EachType, IsNarrow, Keeps, Within, Passes};
+ghost use Rattle.w_syntax.specs.Locals.{total};
+ghost use Rattle.w_rules.specs.Limits.{params_in, locals_of, EachType, IsNarrow, Keeps, Within, Passes};
 
 use crate::functions::function_type;
 use w_syntax::{LocalRun, Module};

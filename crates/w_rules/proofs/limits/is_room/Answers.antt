@@ -1,7 +1,7 @@
 use Rattle.std.proofs.Common.{arith, ap, refl}
 use Rattle.std.proofs.lemmas.List.{drop_all}
 use Rattle.w_types.specs.declared.types.ValType.TheVariants.{I32}
-use Rattle.w_rules.specs.Limits.{total}
+use Rattle.w_syntax.specs.Locals.{total}
 use Rattle.w_rules.proofs.Totals.{total_none, total_at}
 use Rattle.w_rules.proofs.limits.is_room.Goals as goal
 

@@ -1,5 +1,5 @@
 use Rattle.std.proofs.Common.{◌≡◌, ◌+◌, drop}
-use Rattle.w_rules.specs.Limits.{total}
+use Rattle.w_syntax.specs.Locals.{total}
 use Rattle.w_rules.proofs.limits.is_room.Given as goal
 
 -- the locals looked at so far took what is not left
