@@ -1,5 +1,5 @@
 -- Each line has an answer, for whatever is told of the files: there can't be none.
-use Rattle.std.proofs.Common.{◌≡◌, ◌≢◌, ◌⊎◌, ◌≤◌, ◌<◌, ◌+◌, inl, inr, refl, sym, subst, List, [], ℕ, zero, suc, length, Result, Ok, Err, arith}
+use Rattle.std.proofs.Common.{◌≡◌, ◌⊎◌, ◌≤◌, ◌<◌, ◌+◌, inl, inr, refl, List, [], ℕ, zero, suc, length, Result, Ok, Err, arith}
 use Rattle.w_outside.specs.Outside.{Known, untold, missing, holds}
 use Rattle.w_syntax.specs.declared.module.Module.{Module}
 use Rattle.w_decode.specs.declared.fault.DecodeFault.{DecodeFault}
@@ -8,7 +8,7 @@ use Rattle.w_decode.specs.Reading.{decoded}
 use Rattle.w_decode.specs.ReadingExact.{spelled_exactly, fault_exactly}
 use Rattle.w_syntax.specs.Spells.{Spells}
 use Rattle.w_rules.specs.declared.limits.LimitName.TheVariants.{Types, Params, Locals}
-use Rattle.w_rules.specs.Limits.{Within, Passes, Keeps}
+use Rattle.w_rules.specs.Limits.{Within, Passes}
 use Rattle.w_rules.specs.Valid.{Item, ExportItem, FunctionItem, ItemTyped, IsItem, Before, Valid, IsInvalidAt}
 use Rattle.w_valid.specs.declared.fault.ValidFault.{ValidFault}
 use Rattle.w_valid.specs.declared.fault.ValidFault.TheVariants as valid

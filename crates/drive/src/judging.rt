@@ -1,7 +1,7 @@
 //! The judgement on the bytes of a file.
-ghost use Rattle.std.specs.Prelude.{◌≡◌, ◌≤◌, [], ℕ, List};
+ghost use Rattle.std.specs.Prelude.{◌≡◌, ◌≤◌};
 ghost use Rattle.w_outside.specs.Outside.{Grew, Rose};
-ghost use Rattle.drive.specs.Answer.{invalid, malformed};
+ghost use Rattle.drive.specs.Answer.{invalid};
 ghost use Rattle.drive.specs.Delivery.{Ends};
 ghost use Rattle.drive.specs.Judging.{JudgesModule, JudgesOrRefuses};
 ghost use Rattle.drive.specs.Status.{code_of};
