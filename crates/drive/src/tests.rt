@@ -414,38 +414,93 @@ fn the_longest_file_and_one_byte_more(rt: HostRuntime) -> Result<(), Fail> {
     Ok(())
 }
 
-// 22 functions, each of which but the last calls the next one twice: 4,194,303 frames in all, of three reductions each.
-fn doubling(alloc: Global) -> Result<Vec<u8>, AllocError> {
+// A number below 2,097,152, spelled in three bytes (LEB128).
+fn push_number(bytes: &mut Vec<u8>, number: usize) -> Result<(), AllocError> {
+    bytes.extend_from_slice(&[
+        (number % 128 + 128) as u8,
+        (number / 128 % 128 + 128) as u8,
+        (number / 16_384 % 128) as u8,
+    ])
+}
+
+// Contents behind their size.
+fn push_sized(bytes: &mut Vec<u8>, contents: &[u8]) -> Result<(), AllocError> {
+    push_number(bytes, contents.len())?;
+    bytes.extend_from_slice(contents)
+}
+
+// The code of a function that calls another so many times.
+fn caller(alloc: Global, callee: usize, times: usize) -> Result<Vec<u8>, AllocError> {
+    let mut code = vec![in alloc; 0x00u8]?;
+    for _ in 0..times {
+        code.push(0x10)?;
+        push_number(&mut code, callee)?;
+    }
+    code.push(0x0B)?;
+    Ok(code)
+}
+
+// A module of functions that give nothing: so many call the next one once, so many behind these call it twice, and the last
+// one calls none. Main is the first.
+fn calls(alloc: Global, once: u32, twice: u32) -> Result<Vec<u8>, AllocError> {
+    let last = once as usize + twice as usize;
+    let mut functions = Vec::new(alloc);
+    let mut codes = Vec::new(alloc);
+    push_number(&mut functions, last + 1)?;
+    push_number(&mut codes, last + 1)?;
+    for index in 0..last {
+        functions.push(0x00)?;
+        let times = if index < once as usize { 1 } else { 2 };
+        push_sized(&mut codes, caller(alloc, index + 1, times)?.as_slice())?;
+    }
+    functions.push(0x00)?;
+    push_sized(&mut codes, caller(alloc, 0, 0)?.as_slice())?;
     let mut bytes = HEADER.to_vec(alloc)?;
-    bytes.extend_from_slice(&[0x01, 0x04, 0x01, 0x60, 0x00, 0x00, 0x03, 0x17, 0x16])?;
-    for _ in 0..22 {
-        bytes.push(0x00)?;
-    }
-    bytes.extend_from_slice(&[0x07, 0x08, 0x01, 0x04, 0x6D, 0x61, 0x69, 0x6E, 0x00, 0x00])?;
-    bytes.extend_from_slice(&[0x0A, 0x97, 0x01, 0x16])?;
-    for next in 1..22 {
-        bytes.extend_from_slice(&[0x06, 0x00, 0x10, next, 0x10, next, 0x0B])?;
-    }
-    bytes.extend_from_slice(&[0x02, 0x00, 0x0B])?;
+    bytes.extend_from_slice(&[0x01, 0x04, 0x01, 0x60, 0x00, 0x00, 0x03])?;
+    push_sized(&mut bytes, functions.as_slice())?;
+    bytes.extend_from_slice(&[
+        0x07, 0x08, 0x01, 0x04, 0x6D, 0x61, 0x69, 0x6E, 0x00, 0x00, 0x0A,
+    ])?;
+    push_sized(&mut bytes, codes.as_slice())?;
     Ok(bytes)
 }
 
-#[test]
-fn ten_million_reductions_of_calls(rt: HostRuntime) -> Result<(), Fail> {
-    let alloc = rt.alloc();
+// What ten million reductions of a module come to.
+fn ten_million(alloc: Global, bytes: Vec<u8>) -> Result<Ending, AllocError> {
     let mut files = Vec::new(alloc);
-    files.push((String::from_str(alloc, "doubling")?, doubling(alloc)?))?;
+    files.push((String::from_str(alloc, "calls")?, bytes))?;
     let mut inputs = SureInputs::new(alloc, files)?;
     let mut out = SureSink::new(alloc)?;
     let mut err = SureSink::new(alloc)?;
-    let words = words(
-        alloc,
-        &["stackwasm", "run", "doubling", "--steps", "10000000"],
-    )?;
+    let words = words(alloc, &["stackwasm", "run", "calls", "--steps", "10000000"])?;
     let status = command(alloc, words.as_slice(), &mut inputs, &mut out, &mut err);
-    assert_eq!(rt; status.code(), 10);
-    assert_eq!(rt; out.held(), b"".as_slice());
-    assert_eq!(rt; err.held(), b"running\n".as_slice());
+    Ok(Ending {
+        status: status.code(),
+        out: out.held().to_vec(alloc)?,
+        err: err.held().to_vec(alloc)?,
+    })
+}
+
+// 4,194,303 frames in all, of three reductions each.
+#[test]
+fn ten_million_reductions_of_calls(rt: HostRuntime) -> Result<(), Fail> {
+    let alloc = rt.alloc();
+    let ending = ten_million(alloc, calls(alloc, 0, 21)?)?;
+    assert_eq!(rt; ending.status, 10);
+    assert_eq!(rt; ending.out.as_slice(), b"".as_slice());
+    assert_eq!(rt; ending.err.as_slice(), b"running\n".as_slice());
+    Ok(())
+}
+
+// The same behind 19,900 frames that wait: all but the first 19,901 of the ten million reductions happen there. With steps
+// that cost in proportion to the frames that wait, this could not end in a test's time.
+#[test]
+fn a_step_costs_the_same_at_any_depth(rt: HostRuntime) -> Result<(), Fail> {
+    let alloc = rt.alloc();
+    let ending = ten_million(alloc, calls(alloc, 19_900, 21)?)?;
+    assert_eq!(rt; ending.status, 10);
+    assert_eq!(rt; ending.out.as_slice(), b"".as_slice());
+    assert_eq!(rt; ending.err.as_slice(), b"running\n".as_slice());
     Ok(())
 }
 
