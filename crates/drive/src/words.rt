@@ -174,7 +174,8 @@ pub(crate) fn asked<'s>(matches: &'s ArgMatches<'_>) -> Option<Request<'s>>
 
 /// Want of memory, or else a refusal of the words.
 pub(crate) fn fault_of_error(error: &Error) -> WordsFault
-    ensures { result ≡ WordsFault.Bad → kind_of error.now ≢ ErrorKind.OutOfMemory }
+    ensures bad { result ≡ WordsFault.Bad → kind_of error.now ≢ ErrorKind.OutOfMemory }
+    ensures memory { result ≡ WordsFault.OutOfMemory → kind_of error.now ≡ ErrorKind.OutOfMemory }
 {
     match error.kind() {
         ErrorKind::OutOfMemory => WordsFault::OutOfMemory,
