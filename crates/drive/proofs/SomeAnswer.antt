@@ -1,5 +1,5 @@
 -- Each line has an answer, for whatever is told of the files: there can't be none.
-use Rattle.std.proofs.Common.{◌≡◌, ◌⊎◌, ◌≤◌, ◌<◌, ◌+◌, inl, inr, refl, List, [], ℕ, zero, suc, length, Result, Ok, Err, arith}
+use Rattle.std.proofs.Common.{◌≡◌, ◌⊎◌, ◌≤◌, ◌<◌, ◌+◌, inl, inr, refl, sym, ◌∙◌, subst, List, [], ℕ, zero, suc, length, Result, Ok, Err, arith}
 use Rattle.w_outside.specs.Outside.{Known, untold, missing, holds}
 use Rattle.w_syntax.specs.declared.module.Module.{Module}
 use Rattle.w_decode.specs.declared.fault.DecodeFault.{DecodeFault}
@@ -9,7 +9,10 @@ use Rattle.w_decode.specs.ReadingExact.{spelled_exactly, fault_exactly}
 use Rattle.w_syntax.specs.Spells.{Spells}
 use Rattle.w_rules.specs.declared.limits.LimitName.TheVariants.{Types, Params, Locals}
 use Rattle.w_rules.specs.Limits.{Within, Passes}
-use Rattle.w_rules.specs.Valid.{Item, ExportItem, FunctionItem, ItemTyped, IsItem, Before, Valid, IsInvalidAt}
+use Rattle.w_rules.specs.Valid.{Item, TypeItem, ImportItem, TableItem, MemoryItem, TagItem, GlobalItem, ElementItem, DataItem, StartItem, ExportItem, FunctionItem, ItemTyped, IsItem, place_of, Before, Valid, IsInvalidAt}
+use Rattle.w_types.specs.Groups.{types_of}
+use Rattle.std.specs.Prelude.{nat_eq, cond}
+use Rattle.std.proofs.lemmas.Bool.{cases_lt}
 use Rattle.w_valid.specs.declared.fault.ValidFault.{ValidFault}
 use Rattle.w_valid.specs.declared.fault.ValidFault.TheVariants as valid
 use Rattle.drive.specs.Line.{Line, check, run, bad}
@@ -51,32 +54,130 @@ IsFine m x = IsItem m x → ItemTyped m x
 least_invalid : (m : Module) (x : Item) → ((y : Item) → Before y x → IsFine m y) → (IsInvalidAt m x → ⊥) → (IsFine m x → ⊥) → ⊥
 least_invalid m x below none k = k (λ is. absurd (none (record { item = is; untyped = λ t. k (λ _. t); least = λ y there before. below y before there })))
 
-exports_fine : (m : Module) → ((x : Item) → IsInvalidAt m x → ⊥) → (((i : ℕ) → i < length m.exports → IsFine m (ExportItem i)) → ⊥) → ⊥
-exports_fine m none = below_all (λ (i : ℕ). IsFine m (ExportItem i)) (λ n below. least_invalid m (ExportItem n) (before_export n below) (none (ExportItem n))) (length m.exports)
-  where
-    before_export : (n : ℕ) → ((i : ℕ) → i < n → IsFine m (ExportItem i)) → (y : Item) → Before y (ExportItem n) → IsFine m y
-    before_export n below (ExportItem i) h = below i h
-    before_export n below (FunctionItem i) h = absurd h
+-- the item at a place of the order, and how many places there are for a kind
+abbrev at : ℕ → ℕ → Item
+at k i =
+    cond (nat_eq k 0) (TypeItem i)
+    (cond (nat_eq k 1) (ImportItem i)
+    (cond (nat_eq k 2) (TableItem i)
+    (cond (nat_eq k 3) MemoryItem
+    (cond (nat_eq k 4) (TagItem i)
+    (cond (nat_eq k 5) (GlobalItem i)
+    (cond (nat_eq k 6) (ElementItem i)
+    (cond (nat_eq k 7) (DataItem i)
+    (cond (nat_eq k 8) StartItem
+    (cond (nat_eq k 9) (ExportItem i)
+    (FunctionItem i))))))))))
 
-functions_fine : (m : Module) → ((x : Item) → IsInvalidAt m x → ⊥) → ((i : ℕ) → i < length m.exports → IsFine m (ExportItem i))
-    → (((i : ℕ) → i < length m.functions + length m.codes → IsFine m (FunctionItem i)) → ⊥) → ⊥
-functions_fine m none exports =
-    below_all (λ (i : ℕ). IsFine m (FunctionItem i)) (λ n below. least_invalid m (FunctionItem n) (before_function n below) (none (FunctionItem n))) (length m.functions + length m.codes)
-  where
-    before_function : (n : ℕ) → ((i : ℕ) → i < n → IsFine m (FunctionItem i)) → (y : Item) → Before y (FunctionItem n) → IsFine m y
-    before_function n below (ExportItem i) h = λ is. exports i is is
-    before_function n below (FunctionItem i) h = below i h
+abbrev places : Module → ℕ → ℕ
+places m k =
+    cond (nat_eq k 0) (length (types_of m.types))
+    (cond (nat_eq k 1) (length m.imports)
+    (cond (nat_eq k 2) (length m.tables)
+    (cond (nat_eq k 3) (1)
+    (cond (nat_eq k 4) (length m.tags)
+    (cond (nat_eq k 5) (length m.globals)
+    (cond (nat_eq k 6) (length m.elements)
+    (cond (nat_eq k 7) (length m.datas)
+    (cond (nat_eq k 8) (1)
+    (cond (nat_eq k 9) (length m.exports)
+    (length m.functions + length m.codes))))))))))
+
+kind_is : (y : Item) → y ≡ at (place_of y).0 (place_of y).1
+kind_is (TypeItem i) = refl
+kind_is (ImportItem i) = refl
+kind_is (TableItem i) = refl
+kind_is MemoryItem = refl
+kind_is (TagItem i) = refl
+kind_is (GlobalItem i) = refl
+kind_is (ElementItem i) = refl
+kind_is (DataItem i) = refl
+kind_is StartItem = refl
+kind_is (ExportItem i) = refl
+kind_is (FunctionItem i) = refl
+
+abbrev EachKind : (ℕ → Type 0) → Type 0
+EachKind Q = Q 0 × Q 1 × Q 2 × Q 3 × Q 4 × Q 5 × Q 6 × Q 7 × Q 8 × Q 9 × Q 10
+
+by_kind : (Q : ℕ → Type 0) → EachKind Q → (k : ℕ) → k < 11 → Q k
+by_kind Q q zero lt = q.0
+by_kind Q q (suc zero) lt = q.1
+by_kind Q q (suc (suc zero)) lt = q.2
+by_kind Q q (suc (suc (suc zero))) lt = q.3
+by_kind Q q (suc (suc (suc (suc zero)))) lt = q.4
+by_kind Q q (suc (suc (suc (suc (suc zero))))) lt = q.5
+by_kind Q q (suc (suc (suc (suc (suc (suc zero)))))) lt = q.6
+by_kind Q q (suc (suc (suc (suc (suc (suc (suc zero))))))) lt = q.7
+by_kind Q q (suc (suc (suc (suc (suc (suc (suc (suc zero)))))))) lt = q.8
+by_kind Q q (suc (suc (suc (suc (suc (suc (suc (suc (suc zero))))))))) lt = q.9
+by_kind Q q (suc (suc (suc (suc (suc (suc (suc (suc (suc (suc zero)))))))))) lt = q.10
+by_kind Q q (suc (suc (suc (suc (suc (suc (suc (suc (suc (suc (suc k))))))))))) lt = absurd (omega (arith, lt))
+
+kind_below : (y : Item) → (place_of y).0 < 11
+kind_below (TypeItem i) = omega arith
+kind_below (ImportItem i) = omega arith
+kind_below (TableItem i) = omega arith
+kind_below MemoryItem = omega arith
+kind_below (TagItem i) = omega arith
+kind_below (GlobalItem i) = omega arith
+kind_below (ElementItem i) = omega arith
+kind_below (DataItem i) = omega arith
+kind_below StartItem = omega arith
+kind_below (ExportItem i) = omega arith
+kind_below (FunctionItem i) = omega arith
 
 is_below : (m : Module) (i : ℕ) → IsItem m (FunctionItem i) → i < length m.functions + length m.codes
 is_below m i (inl h) = omega (arith, h)
 is_below m i (inr h) = omega (arith, h)
 
+-- an item of the kind k at the place i stands there in the order
+abbrev StandsAt : ℕ → Type 0
+StandsAt k = (i : ℕ) → ((place_of (at k i)).0 ≡ k) × ((place_of (at k i)).1 ≤ i)
+
+stands_at : (k : ℕ) → k < 11 → StandsAt k
+stands_at = by_kind StandsAt (λ i. (refl, omega arith), λ i. (refl, omega arith), λ i. (refl, omega arith), λ i. (refl, omega arith), λ i. (refl, omega arith), λ i. (refl, omega arith), λ i. (refl, omega arith), λ i. (refl, omega arith), λ i. (refl, omega arith), λ i. (refl, omega arith), λ i. (refl, omega arith))
+
+-- items are fine where they are fine at the places of their kind
+abbrev IsEnough : Module → ℕ → Type 0
+IsEnough m k = ((i : ℕ) → i < places m k → IsFine m (at k i)) → (i : ℕ) → IsFine m (at k i)
+
+is_enough : (m : Module) (k : ℕ) → k < 11 → IsEnough m k
+is_enough m = by_kind (IsEnough m) (
+  λ h i is. h i is is,
+  λ h i is. h i is is,
+  λ h i is. h i is is,
+  λ h i is. h 0 (omega arith) is,
+  λ h i is. h i is is,
+  λ h i is. h i is is,
+  λ h i is. h i is is,
+  λ h i is. h i is is,
+  λ h i is. h 0 (omega arith) is,
+  λ h i is. h i is is,
+  λ h i is. h i (is_below m i is) is,
+)
+
+before_is_fine : (m : Module) (k n : ℕ) → k < 11 → ((j : ℕ) → j < k → j < 11 → (i : ℕ) → IsFine m (at j i)) → ((i : ℕ) → i < n → IsFine m (at k i)) → (y : Item) → Before y (at k n) → IsFine m y
+before_is_fine m k n lt lower below y (inl h) =
+    let stands = stands_at k lt n in
+    subst (IsFine m) (sym (kind_is y)) (lower (place_of y).0 (omega (arith, h, stands.0)) (kind_below y) (place_of y).1)
+before_is_fine m k n lt lower below y (inr h) =
+    let stands = stands_at k lt n in
+    let same : k ≡ (place_of y).0 = sym stands.0 ∙ sym h.0 in
+    subst (IsFine m) (sym (kind_is y)) (subst (λ (j : ℕ). IsFine m (at j (place_of y).1)) same (below (place_of y).1 (omega (arith, h.1, stands.1))))
+
+kind_fine : (m : Module) → ((x : Item) → IsInvalidAt m x → ⊥) → (k : ℕ) → k < 11 → ((j : ℕ) → j < k → j < 11 → (i : ℕ) → IsFine m (at j i)) → (((i : ℕ) → IsFine m (at k i)) → ⊥) → ⊥
+kind_fine m none k lt lower never =
+    below_all (λ (i : ℕ). IsFine m (at k i)) (λ n below. least_invalid m (at k n) (before_is_fine m k n lt lower below) (none (at k n))) (places m k)
+    (λ fine. never (is_enough m k lt fine))
+
+any_kind_fine : (m : Module) → ((x : Item) → IsInvalidAt m x → ⊥) → (k : ℕ) → (k < 11) ⊎ (11 ≤ k) → ((j : ℕ) → j < k → j < 11 → (i : ℕ) → IsFine m (at j i)) → ((k < 11 → (i : ℕ) → IsFine m (at k i)) → ⊥) → ⊥
+any_kind_fine m none k (inl lt) lower never = kind_fine m none k lt lower (λ fine. never (λ _. fine))
+any_kind_fine m none k (inr le) lower never = never (λ lt. absurd (omega (arith, lt, le)))
+
 valid_or_not : (m : Module) → (Valid m → ⊥) → ((x : Item) → IsInvalidAt m x → ⊥) → ⊥
-valid_or_not m never none = exports_fine m none (λ exports. functions_fine m none exports (λ functions. never (both exports functions)))
-  where
-    both : ((i : ℕ) → i < length m.exports → IsFine m (ExportItem i)) → ((i : ℕ) → i < length m.functions + length m.codes → IsFine m (FunctionItem i)) → Valid m
-    both exports functions (ExportItem i) is = exports i is is
-    both exports functions (FunctionItem i) is = functions i (is_below m i is) is
+valid_or_not m never none =
+    below_all (λ (k : ℕ). k < 11 → (i : ℕ) → IsFine m (at k i)) (λ k lower. any_kind_fine m none k (cases_lt k 11) lower) 11
+    (λ fine. never (λ y. subst (IsFine m) (sym (kind_is y)) (fine (place_of y).0 (kind_below y) (kind_below y) (place_of y).1)))
 
 within_or_not : (m : Module) → (Within m → ⊥) → (Passes m Types → ⊥) → (Passes m Params → ⊥) → (Passes m Locals → ⊥) → ⊥
 within_or_not m never types params locals =
@@ -89,6 +190,15 @@ module_total m never none =
     (λ h. none (valid.Limit Types) (λ e. absurd (cc), h)) (λ h. none (valid.Limit Params) (λ e. absurd (cc), h)) (λ h. none (valid.Limit Locals) (λ e. absurd (cc), h))
   where
     no_item : Within m → (x : Item) → IsInvalidAt m x → ⊥
+    no_item w (TypeItem i) h = none (valid.TypeAt i) (λ e. absurd (cc), (w, h))
+    no_item w (ImportItem i) h = none (valid.Import i) (λ e. absurd (cc), (w, h))
+    no_item w (TableItem i) h = none (valid.Table i) (λ e. absurd (cc), (w, h))
+    no_item w MemoryItem h = none valid.Memory (λ e. absurd (cc), (w, h))
+    no_item w (TagItem i) h = none (valid.Tag i) (λ e. absurd (cc), (w, h))
+    no_item w (GlobalItem i) h = none (valid.Global i) (λ e. absurd (cc), (w, h))
+    no_item w (ElementItem i) h = none (valid.Element i) (λ e. absurd (cc), (w, h))
+    no_item w (DataItem i) h = none (valid.Data i) (λ e. absurd (cc), (w, h))
+    no_item w StartItem h = none valid.Start (λ e. absurd (cc), (w, h))
     no_item w (ExportItem i) h = none (valid.Export i) (λ e. absurd (cc), (w, h))
     no_item w (FunctionItem i) h = none (valid.Function i) (λ e. absurd (cc), (w, h))
 

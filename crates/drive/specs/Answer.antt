@@ -65,6 +65,15 @@ limit name = refusal (limit_text name) 9
 -- what a module with this fault gives; want of memory is none of its
 abbrev pub invalid : ValidFault → Reply
 invalid (valid.Limit name) = limit name
+invalid (valid.TypeAt i) = refusal (codes "invalid type " ++ decimal i) 4
+invalid (valid.Import i) = refusal (codes "invalid import " ++ decimal i) 4
+invalid (valid.Table i) = refusal (codes "invalid table " ++ decimal i) 4
+invalid valid.Memory = refusal (codes "invalid memory") 4
+invalid (valid.Tag i) = refusal (codes "invalid tag " ++ decimal i) 4
+invalid (valid.Global i) = refusal (codes "invalid global " ++ decimal i) 4
+invalid (valid.Element i) = refusal (codes "invalid element " ++ decimal i) 4
+invalid (valid.Data i) = refusal (codes "invalid data " ++ decimal i) 4
+invalid valid.Start = refusal (codes "invalid start") 4
 invalid (valid.Export i) = refusal (codes "invalid export " ++ decimal i) 4
 invalid (valid.Function i) = refusal (codes "invalid function " ++ decimal i) 4
 invalid valid.OutOfMemory = refusal [] 4

@@ -1,7 +1,7 @@
 //! The judgement on the bytes of a file.
-ghost use Rattle.std.specs.Prelude.{◌≡◌, ◌≤◌};
+ghost use Rattle.std.specs.Prelude.{◌≡◌, ◌≢◌, ◌≤◌, [], ℕ, List, IsTrue, IsFalse};
 ghost use Rattle.w_outside.specs.Outside.{Grew, Rose};
-ghost use Rattle.drive.specs.Answer.{invalid};
+ghost use Rattle.drive.specs.Answer.{invalid, malformed};
 ghost use Rattle.drive.specs.Delivery.{Ends};
 ghost use Rattle.drive.specs.Judging.{JudgesModule, JudgesOrRefuses};
 ghost use Rattle.drive.specs.Status.{code_of};
@@ -23,9 +23,40 @@ fn invalid_status(fault: ValidFault) -> Status
 {
     match fault {
         ValidFault::Limit(_) => Status::Limit,
+        ValidFault::TypeAt(_) => Status::Invalid,
+        ValidFault::Import(_) => Status::Invalid,
+        ValidFault::Table(_) => Status::Invalid,
+        ValidFault::Memory => Status::Invalid,
+        ValidFault::Tag(_) => Status::Invalid,
+        ValidFault::Global(_) => Status::Invalid,
+        ValidFault::Element(_) => Status::Invalid,
+        ValidFault::Data(_) => Status::Invalid,
+        ValidFault::Start => Status::Invalid,
         ValidFault::Export(_) => Status::Invalid,
         ValidFault::Function(_) => Status::Invalid,
         ValidFault::OutOfMemory => Status::Invalid,
+    }
+}
+
+// Whether a fault says nothing of the module.
+fn is_of_memory(fault: ValidFault) -> bool
+    ensures yes { IsTrue result → fault ≡ ValidFault.OutOfMemory }
+    ensures no { IsFalse result → fault ≢ ValidFault.OutOfMemory }
+{
+    match fault {
+        ValidFault::Limit(_) => false,
+        ValidFault::TypeAt(_) => false,
+        ValidFault::Import(_) => false,
+        ValidFault::Table(_) => false,
+        ValidFault::Memory => false,
+        ValidFault::Tag(_) => false,
+        ValidFault::Global(_) => false,
+        ValidFault::Element(_) => false,
+        ValidFault::Data(_) => false,
+        ValidFault::Start => false,
+        ValidFault::Export(_) => false,
+        ValidFault::Function(_) => false,
+        ValidFault::OutOfMemory => true,
     }
 }
 
@@ -37,8 +68,10 @@ fn judge_module<E: Sink>(alloc: Global, candidate: Module, err: &mut E) -> Resul
 {
     match validate(alloc, candidate) {
         Ok(checked) => Ok(Judged::Accepted(checked)),
-        Err(ValidFault::OutOfMemory) => Err(Fault::OutOfMemory),
         Err(fault) => {
+            if is_of_memory(fault) {
+                return Err(Fault::OutOfMemory);
+            }
             let text = invalid_line(alloc, fault)?;
             let status = refuse(text.as_slice(), invalid_status(fault), err)?;
             Ok(Judged::Refused(status))

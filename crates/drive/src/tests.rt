@@ -4,6 +4,8 @@ use std::alloc::{AllocError, Global};
 use std::test::Fail;
 use w_outside::{MemInputs, MemSink, SureInputs, SureSink};
 
+mod decoding;
+
 // What stands before the code section.
 static FRONT: [u8; 29] = [
     0x00, 0x61, 0x73, 0x6D, 0x01, 0x00, 0x00, 0x00, 0x01, 0x05, 0x01, 0x60, 0x00, 0x01, 0x7E, 0x03,
@@ -137,7 +139,26 @@ fn done(
     out_fails: &[u64],
     err_fails: &[u64],
 ) -> Result<Ending, AllocError> {
-    let mut inputs = MemInputs::new(alloc, files(alloc)?, input_fails.to_vec(alloc)?)?;
+    let inputs = MemInputs::new(alloc, files(alloc)?, input_fails.to_vec(alloc)?)?;
+    done_over(alloc, line, inputs, out_fails, err_fails)
+}
+
+// The program's call over one file, x, where no call fails.
+fn done_on(alloc: Global, line: &[&str], bytes: Vec<u8>) -> Result<Ending, AllocError> {
+    let mut files = Vec::new(alloc);
+    files.push((String::from_str(alloc, "x")?, bytes))?;
+    let inputs = MemInputs::new(alloc, files, Vec::new(alloc))?;
+    done_over(alloc, line, inputs, &[], &[])
+}
+
+// The program's call over these files.
+fn done_over(
+    alloc: Global,
+    line: &[&str],
+    mut inputs: MemInputs,
+    out_fails: &[u64],
+    err_fails: &[u64],
+) -> Result<Ending, AllocError> {
     let mut out = MemSink::new(alloc, out_fails.to_vec(alloc)?)?;
     let mut err = MemSink::new(alloc, err_fails.to_vec(alloc)?)?;
     let words = words(alloc, line)?;

@@ -1,6 +1,2 @@
-pub mod Loop
-pub mod Cutting
-pub mod Bodies
-pub mod Joining
-pub mod Names
-pub mod OneSection
+mod Naming
+mod OneSection

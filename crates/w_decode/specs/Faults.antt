@@ -1,6 +1,7 @@
 -- The first fault of bytes that are no module (Core, binary format, modules).
-use Rattle.std.specs.Prelude.{◌≡◌, ◌≢◌, ◌⊎◌, ℕ, List, [], ◌++◌, length, Some, Result, Err}
-use Rattle.w_syntax.specs.Module.{frame, IsSection, next_rank, nothing_yet, with_parts, header, CountsAgree}
+use Rattle.std.specs.Prelude.{◌≡◌, ◌≢◌, ◌⊎◌, ℕ, List, [], ◌++◌, length, Some, None, Result, Err}
+use Rattle.w_syntax.specs.Sections.{frame, IsSection, next_rank}
+use Rattle.w_syntax.specs.Module.{nothing_yet, with_parts, header, count_after, CountsAgree}
 use Rattle.w_syntax.specs.Spells.{BeginsWith}
 use Rattle.w_syntax.specs.declared.module.Module.{Module}
 use Rattle.w_syntax.specs.declared.module.Part.{Part}
@@ -19,7 +20,7 @@ HasFault b (fault.Frame i) =
     (ps : List Part) × (k : ℕ) × (rest : List ℕ) × BeginsWith b ps k rest × (length ps ≡ i) × (rest ≢ []) × ((f : ℕ × List ℕ) (j : ℕ) → FramedInOrder k rest f j → ⊥)
 HasFault b (fault.Content i) =
     (ps : List Part) × (k : ℕ) × (rest : List ℕ) × BeginsWith b ps k rest × (length ps ≡ i) × (f : ℕ × List ℕ) × (j : ℕ) × FramedInOrder k rest f j × ((p : Part) → IsSection f p → ⊥)
-HasFault b fault.Counts = (ps : List Part) × (k : ℕ) × BeginsWith b ps k [] × (CountsAgree (with_parts nothing_yet ps) → ⊥)
+HasFault b fault.Counts = (ps : List Part) × (k : ℕ) × BeginsWith b ps k [] × (CountsAgree (count_after None ps) (with_parts nothing_yet ps) → ⊥)
 HasFault b fault.OutOfMemory = ⊥
 
 -- this answer, unless memory ran out

@@ -1,16 +1,10 @@
--- A piece of bytes by its places.
+-- A section by its places.
 use Rattle.std.specs.Prelude.{◌≡◌, ℕ, ◌≤◌, List, length, drop, Option, Some, None, Result, Err, slice_range}
-use Rattle.w_leb.specs.Formats.{bytes}
 use Rattle.w_decode.specs.Reading.{framed}
-use Rattle.w_decode.specs.declared.sections.Frame.{Frame}
+use Rattle.w_decode.specs.declared.frames.Frame.{Frame}
 use Rattle.w_syntax.specs.declared.module.Module.{Module}
 use Rattle.w_decode.specs.declared.fault.DecodeFault.{DecodeFault}
 use Rattle.w_decode.specs.declared.fault.DecodeFault.TheVariants as fault
-
--- the bytes behind a size at a place, by where they begin and where they end
-abbrev pub CutAt : List ℕ → ℕ → Option (ℕ × ℕ) → Type 0
-CutAt b at None = bytes.read (drop at b) ≡ None
-CutAt b at (Some x) = (bytes.read (drop at b) ≡ Some (slice_range b x.0 x.1, drop x.1 b)) × (at ≤ x.0) × (x.0 ≤ x.1) × (x.1 ≤ length b)
 
 -- the section at a place, in order after the rank k
 abbrev pub FrameAt : List ℕ → ℕ → ℕ → Option Frame → Type 0

@@ -1,18 +1,19 @@
 -- What is decoded is spelled, what is spelled is decoded, and each fault comes exactly where it is said to.
-use Rattle.std.proofs.Common.{◌≡◌, ℕ, zero, suc, ◌+◌, ◌-◌, ◌<◌, ◌≤◌, ◌≢◌, ◌↔◌, Bool, true, false, cond, List, [], ◌∷◌, ◌++◌, length, Option, Some, None, Result, Ok, Err, refl, sym, ap, subst, ◌∙◌, append_assoc, arith, eq-eqb}
-use Rattle.std.specs.Prelude.{nat_eq}
+use Rattle.std.proofs.Common.{◌≡◌, ℕ, zero, suc, ◌+◌, ◌-◌, ◌<◌, ◌≤◌, ◌≢◌, ◌↔◌, Bool, true, false, not, ◌&&◌, cond, List, [], ◌∷◌, ◌++◌, length, Option, Some, None, Result, Ok, Err, refl, sym, ap, subst, ◌∙◌, append_assoc, arith, eq-eqb}
+use Rattle.std.specs.Prelude.{nat_eq, IsFalse}
 use Rattle.std.proofs.lemmas.Bool.{eqb-true}
 use Rattle.std.proofs.lemmas.List.{append-nil, length-append}
 use Rattle.w_leb.specs.Format.{Each}
 use Rattle.w_leb.specs.Exact.{then_some, some_parts}
-use Rattle.w_syntax.specs.Module.{frame, IsSection, section_of, if_some, id_of, next_rank, rank_after, nothing_yet, with_part, with_parts, header, CountsAgree}
-use Rattle.w_syntax.specs.SectionExact.{section, section_decided}
+use Rattle.w_syntax.specs.Contents.{Contents, IsChosen}
+use Rattle.w_syntax.specs.Sections.{frame, kinds, IsSection, section_of, section_decided, section, if_some, id_of, next_rank, rank_after}
+use Rattle.w_syntax.specs.Module.{nothing_yet, with_parts, count_after, some_names_data, header, CountsAgree, DataAgrees}
 use Rattle.w_syntax.specs.Spells.{BeginsWith, Spells}
 use Rattle.w_decode.specs.Faults.{FramedInOrder, HasFault}
-use Rattle.w_decode.specs.Reading.{behind, counted_module, Framed, cut, framed, with_frame, with_content, with_header, read_sections, decoded}
+use Rattle.w_decode.specs.Reading.{behind, nothing_gathered, gather, data_agrees, counts_agree, counted_module, Framed, cut, framed, with_frame, with_content, with_header, read_sections, decoded}
+use Rattle.w_decode.specs.declared.sections.Gathered.{Gathered}
 use Rattle.w_syntax.specs.declared.module.Module.{Module}
 use Rattle.w_syntax.specs.declared.module.Part.{Part}
-use Rattle.w_syntax.specs.declared.module.Part.TheVariants as part
 use Rattle.w_decode.specs.declared.fault.DecodeFault.{DecodeFault}
 use Rattle.w_decode.specs.declared.fault.DecodeFault.TheVariants as fault
 
@@ -70,59 +71,78 @@ longer bytes (k ∷ a) rest f e h = omega (arith, ap length e, length-append a r
 
 -- ## One section on
 
-abbrev pub onward : ℕ → ℕ → Module → Option (Framed × List ℕ) → Result Module DecodeFault
-onward n i m o = with_frame i o (λ s rest. with_content i (section_of (s.1, s.2)) (λ p. read_sections n (i + 1) s.0 (with_part p m) rest))
+abbrev pub onward : ℕ → ℕ → Gathered → Option (Framed × List ℕ) → Result Module DecodeFault
+onward n i m o = with_frame i o (λ s rest. with_content i (section_of (s.1, s.2)) (λ p. read_sections n (i + 1) s.0 (gather p m) rest))
 
 same_content : (i : ℕ) (o : Option Part) (f g : Part → Result Module DecodeFault) → ((p : Part) → f p ≡ g p) → with_content i o f ≡ with_content i o g
 same_content i None f g h = refl
 same_content i (Some p) f g h = h p
 
-same_onward : (n l i k : ℕ) (m : Module) (bytes : List ℕ) (o : Option (Framed × List ℕ)) → framed k bytes ≡ o
-    → ((p : Part) (j : ℕ) (rest : List ℕ) → length rest < length bytes → read_sections n (i + 1) j (with_part p m) rest ≡ read_sections l (i + 1) j (with_part p m) rest)
+same_onward : (n l i k : ℕ) (m : Gathered) (bytes : List ℕ) (o : Option (Framed × List ℕ)) → framed k bytes ≡ o
+    → ((p : Part) (j : ℕ) (rest : List ℕ) → length rest < length bytes → read_sections n (i + 1) j (gather p m) rest ≡ read_sections l (i + 1) j (gather p m) rest)
     → onward n i m o ≡ onward l i m o
 same_onward n l i k m bytes None e h = refl
 same_onward n l i k m bytes (Some s) e h =
     let a = framed_some k bytes s.0 s.1 e in
-    same_content i (section_of (s.0.1, s.0.2)) (λ p. read_sections n (i + 1) s.0.0 (with_part p m) s.1) (λ p. read_sections l (i + 1) s.0.0 (with_part p m) s.1)
+    same_content i (section_of (s.0.1, s.0.2)) (λ p. read_sections n (i + 1) s.0.0 (gather p m) s.1) (λ p. read_sections l (i + 1) s.0.0 (gather p m) s.1)
     (λ p. h p s.0.0 s.1 (longer bytes a.0 s.1 (s.0.1, s.0.2) a.1 a.2))
 
-pub enough : (n l i k : ℕ) (m : Module) (bytes : List ℕ) → length bytes ≤ n → length bytes ≤ l → read_sections n i k m bytes ≡ read_sections l i k m bytes
+pub enough : (n l i k : ℕ) (m : Gathered) (bytes : List ℕ) → length bytes ≤ n → length bytes ≤ l → read_sections n i k m bytes ≡ read_sections l i k m bytes
 unfolding read_sections
 enough n l i k m [] h g = refl
 enough zero l i k m (b ∷ bs) h g = absurd (omega arith)
 enough (suc n) zero i k m (b ∷ bs) h g = absurd (omega arith)
 enough (suc n) (suc l) i k m (b ∷ bs) h g =
-    same_onward n l i k m (b ∷ bs) (framed k (b ∷ bs)) refl (λ p j rest lt. enough n l (i + 1) j (with_part p m) rest (omega arith) (omega arith))
+    same_onward n l i k m (b ∷ bs) (framed k (b ∷ bs)) refl (λ p j rest lt. enough n l (i + 1) j (gather p m) rest (omega arith) (omega arith))
 
-pub one_on : (i k : ℕ) (m : Module) (bytes : List ℕ) → bytes ≢ [] → read_sections (length bytes) i k m bytes ≡ onward (length bytes - 1) i m (framed k bytes)
+pub one_on : (i k : ℕ) (m : Gathered) (bytes : List ℕ) → bytes ≢ [] → read_sections (length bytes) i k m bytes ≡ onward (length bytes - 1) i m (framed k bytes)
 unfolding read_sections
 one_on i k m [] h = absurd (h refl)
 one_on i k m (b ∷ bs) h = ap (λ (n : ℕ). onward n i m (framed k (b ∷ bs))) (omega arith)
 
 -- what is left is read from the place after a section
-pub through_one : (i k j : ℕ) (m : Module) (a rest : List ℕ) (f : ℕ × List ℕ) (p : Part) → frame.Spells a f → next_rank k f.0 ≡ Some j → section_of f ≡ Some p
-    → read_sections (length (a ++ rest)) i k m (a ++ rest) ≡ read_sections (length rest) (i + 1) j (with_part p m) rest
+pub through_one : (i k j : ℕ) (m : Gathered) (a rest : List ℕ) (f : ℕ × List ℕ) (p : Part) → frame.Spells a f → next_rank k f.0 ≡ Some j → section_of f ≡ Some p
+    → read_sections (length (a ++ rest)) i k m (a ++ rest) ≡ read_sections (length rest) (i + 1) j (gather p m) rest
 through_one i k j m a rest f p h e s =
     let lt = longer (a ++ rest) a rest f refl h in
     one_on i k m (a ++ rest) (λ z. absurd (omega (arith, ap length z)))
     ∙ ap (onward (length (a ++ rest) - 1) i m) (framed_again k a rest f j h e)
-    ∙ ap (λ (o : Option Part). with_content i o (λ p. read_sections (length (a ++ rest) - 1) (i + 1) j (with_part p m) rest)) s
-    ∙ (enough (length (a ++ rest) - 1) (length rest) (i + 1) j (with_part p m) rest (omega arith) (omega arith))
+    ∙ ap (λ (o : Option Part). with_content i o (λ p. read_sections (length (a ++ rest) - 1) (i + 1) j (gather p m) rest)) s
+    ∙ (enough (length (a ++ rest) - 1) (length rest) (i + 1) j (gather p m) rest (omega arith) (omega arith))
+
+-- each entry says what has its id
+abbrev HaveIds : List (ℕ × Contents) → Type 0
+HaveIds [] = Unit {0}
+HaveIds (e ∷ es) = ((b : List ℕ) (p : Part) → e.1.Say b p → e.0 ≡ id_of p) × HaveIds es
+
+id_chosen_by : (v : Bool) (id k : ℕ) (S R : Type 0) (p : Part) → nat_eq id k ≡ v → (S → k ≡ id_of p) → (R → id ≡ id_of p) → cond v S R → id ≡ id_of p
+id_chosen_by true id k S R p e f g h = eqb-true id k e ∙ f h
+id_chosen_by false id k S R p e f g h = g h
+
+id_chosen : (es : List (ℕ × Contents)) → HaveIds es → (id : ℕ) (b : List ℕ) (p : Part) → IsChosen es id b p → id ≡ id_of p
+id_chosen [] i id b p h = absurd h
+id_chosen (e ∷ es) i id b p h = id_chosen_by (nat_eq id e.0) id e.0 (e.1.Say b p) (IsChosen es id b p) p refl (i.0 b p) (id_chosen es i.1 id b p) h
+
+have_ids : HaveIds kinds
+have_ids =
+    (λ b p h. ap id_of (sym h.5), (λ b p h. ap id_of h.2, (λ b p h. ap id_of h.2, (λ b p h. ap id_of h.2, (λ b p h. ap id_of h.2, (λ b p h. ap id_of h.2, (λ b p h. ap id_of h.2, (λ b p h. ap id_of h.2, (λ b p h. ap id_of h.2, (λ b p h. ap id_of h.2, (λ b p h. ap id_of h.2, (λ b p h. ap id_of h.2, (λ b p h. ap id_of h.2, (λ b p h. ap id_of h.2, tt))))))))))))))
 
 id_is : (f : ℕ × List ℕ) (p : Part) → IsSection f p → f.0 ≡ id_of p
 unfolding IsSection
-id_is f (part.Exports es) h = h.0
-id_is f (part.Types ts) h = h.0
-id_is f (part.Functions xs) h = h.0
-id_is f (part.Codes fs) h = h.0
+id_is f p h = id_chosen kinds have_ids f.0 f.1 p h
+
+-- the sections so far, and these
+unfoldable pub gather_all : Gathered → List Part → Gathered
+gather_all g [] = g
+gather_all g (p ∷ ps) = gather_all (gather p g) ps
 
 ranked : (o : Option ℕ) (ps : List Part) (l : ℕ) → if_some o (λ j. rank_after j ps) ≡ Some l → (j : ℕ) × (o ≡ Some j) × (rank_after j ps ≡ Some l)
 ranked None ps l e = absurd cc
 ranked (Some j) ps l e = (j, refl, e)
 
-pub through : (ps : List Part) (i k l : ℕ) (m : Module) (c rest : List ℕ) → Each section.Spells c ps → rank_after k ps ≡ Some l
-    → read_sections (length (c ++ rest)) i k m (c ++ rest) ≡ read_sections (length rest) (i + length ps) l (with_parts m ps) rest
-unfolding Each rank_after with_parts section
+pub through : (ps : List Part) (i k l : ℕ) (m : Gathered) (c rest : List ℕ) → Each section.Spells c ps → rank_after k ps ≡ Some l
+    → read_sections (length (c ++ rest)) i k m (c ++ rest) ≡ read_sections (length rest) (i + length ps) l (gather_all m ps) rest
+unfolding Each rank_after gather_all section
 through [] i k l m c rest h e =
     let same : k ≡ l = cc in
     let z : i ≡ i + 0 = omega arith in
@@ -136,28 +156,69 @@ through (p ∷ ps) i k l m c rest h e =
     let n : i + 1 + length ps ≡ i + suc (length ps) = omega arith in
     ap (λ (t : List ℕ). read_sections (length t) i k m t) whole
     ∙ through_one i k r.0 m h.0 (h.1 ++ rest) f p h.3.1 (ap (next_rank k) id ∙ r.1) s
-    ∙ through ps (i + 1) r.0 l (with_part p m) h.1 rest h.4 r.2
-    ∙ ap (λ (q : ℕ). read_sections (length rest) q l (with_parts (with_part p m) ps) rest) n
+    ∙ through ps (i + 1) r.0 l (gather p m) h.1 rest h.4 r.2
+    ∙ ap (λ (q : ℕ). read_sections (length rest) q l (gather_all (gather p m) ps) rest) n
 
 -- ## What is spelled is decoded
 
-pub after_sections : (b : List ℕ) (ps : List Part) (k : ℕ) (rest : List ℕ) → BeginsWith b ps k rest → decoded b ≡ read_sections (length rest) (length ps) k (with_parts nothing_yet ps) rest
+pub after_sections : (b : List ℕ) (ps : List Part) (k : ℕ) (rest : List ℕ) → BeginsWith b ps k rest → decoded b ≡ read_sections (length rest) (length ps) k (gather_all nothing_gathered ps) rest
 unfolding decoded
 after_sections b ps k rest h =
     let head : behind header b ≡ Some (h.sections ++ rest) = ap (behind header) h.parts ∙ behind_all header (h.sections ++ rest) in
     let z : 0 + length ps ≡ length ps = omega arith in
-    ap (λ (o : Option (List ℕ)). with_header o (λ rest. read_sections (length rest) 0 0 nothing_yet rest)) head ∙ (through ps 0 0 k nothing_yet h.sections rest h.each h.order ∙ ap (λ (q : ℕ). read_sections (length rest) q k (with_parts nothing_yet ps) rest) z)
+    ap (λ (o : Option (List ℕ)). with_header o (λ rest. read_sections (length rest) 0 0 nothing_gathered rest)) head ∙ (through ps 0 0 k nothing_gathered h.sections rest h.each h.order ∙ ap (λ (q : ℕ). read_sections (length rest) q k (gather_all nothing_gathered ps) rest) z)
 
-ended : (i k : ℕ) (m : Module) → read_sections 0 i k m [] ≡ counted_module m
+ended : (i k : ℕ) (m : Gathered) → read_sections 0 i k m [] ≡ counted_module m
 unfolding read_sections
 ended i k m = refl
 
-pub agreed : (m : Module) → CountsAgree m → counted_module m ≡ Ok m
-agreed m h = rw (h, same_eq (length m.codes)) refl
+pub gathered_is : (ps : List Part) (g : Gathered) → gather_all g ps ≡ record { tree = with_parts g.tree ps; data_count = count_after g.data_count ps }
+unfolding gather_all with_parts count_after
+gathered_is [] g = refl
+gathered_is (p ∷ ps) g = gathered_is ps (gather p g)
+
+no_data : (v : Bool) → IsFalse v → not v ≡ true
+no_data v h = cc
+
+data_no : (v : Bool) → not v ≡ true → IsFalse v
+data_no true h = absurd cc
+data_no false h = refl
+
+data_true : (c : Option ℕ) (m : Module) → DataAgrees c m → data_agrees c m ≡ true
+data_true (Some n) m h = rw h (same_eq (length m.datas))
+data_true None m h = no_data (some_names_data m.codes) h
+
+true_data : (c : Option ℕ) (m : Module) → data_agrees c m ≡ true → DataAgrees c m
+true_data (Some n) m h = eqb-true n (length m.datas) h
+true_data None m h = data_no (some_names_data m.codes) h
+
+both : (v w : Bool) → (v && w) ≡ true → (v ≡ true) × (w ≡ true)
+both true w h = (refl, h)
+both false w h = absurd cc
+
+agree_true : (g : Gathered) → CountsAgree g.data_count g.tree → counts_agree g ≡ true
+agree_true g h = rw (h.0, same_eq (length g.tree.codes)) (data_true g.data_count g.tree h.1)
+
+true_agrees : (g : Gathered) → counts_agree g ≡ true → CountsAgree g.data_count g.tree
+true_agrees g h =
+    let b = both (nat_eq (length g.tree.functions) (length g.tree.codes)) (data_agrees g.data_count g.tree) h in
+    (eqb-true (length g.tree.functions) (length g.tree.codes) b.0, true_data g.data_count g.tree b.1)
+
+pub agreed : (g : Gathered) → CountsAgree g.data_count g.tree → counted_module g ≡ Ok g.tree
+agreed g h = rw (agree_true g h) refl
+
+untrue : (g : Gathered) (v : Bool) → counts_agree g ≡ v → (CountsAgree g.data_count g.tree → ⊥) → ◌≡◌ {A = Result Module DecodeFault} (cond v (Ok g.tree) (Err fault.Counts)) (Err fault.Counts)
+untrue g true e h = absurd (h (true_agrees g e))
+untrue g false e h = refl
+
+pub disagreed : (g : Gathered) → (CountsAgree g.data_count g.tree → ⊥) → counted_module g ≡ Err fault.Counts
+disagreed g h = untrue g (counts_agree g) refl h
 
 pub spelled_decoded : (b : List ℕ) (m : Module) → Spells b m → decoded b ≡ Ok m
 spelled_decoded b m h =
-    after_sections b h.0 h.1 [] h.2 ∙ ended (length h.0) h.1 (with_parts nothing_yet h.0) ∙ ap counted_module h.3 ∙ agreed m h.4
+    let g = gathered_is h.0 nothing_gathered in
+    after_sections b h.0 h.1 [] h.2 ∙ ended (length h.0) h.1 (gather_all nothing_gathered h.0) ∙ ap counted_module g
+    ∙ agreed (record { tree = with_parts nothing_yet h.0; data_count = count_after None h.0 }) (subst (CountsAgree (count_after None h.0)) (sym h.3) h.4) ∙ ap Ok h.3
 
 -- ## Each fault is found where it is
 
@@ -173,31 +234,28 @@ no_header : (b : List ℕ) (o : Option (List ℕ)) → behind header b ≡ o →
 no_header b None e h = refl
 no_header b (Some rest) e h = absurd (h rest (behind_some header b rest e))
 
-pub unequal : (a b : ℕ) (v : Bool) → nat_eq a b ≡ v → (a ≡ b → ⊥) → v ≡ false
-unequal a b true e h = absurd (h (eqb-true a b e))
-unequal a b false e h = refl
-
 pub fault_decoded : (b : List ℕ) (e : DecodeFault) → HasFault b e → decoded b ≡ Err e
 unfolding decoded
 fault_decoded b fault.Header h =
-    ap (λ (o : Option (List ℕ)). with_header o (λ rest. read_sections (length rest) 0 0 nothing_yet rest)) (no_header b (behind header b) refl h)
+    ap (λ (o : Option (List ℕ)). with_header o (λ rest. read_sections (length rest) 0 0 nothing_gathered rest)) (no_header b (behind header b) refl h)
 fault_decoded b (fault.Frame i) h =
-    let m = with_parts nothing_yet h.0 in
+    let m = gather_all nothing_gathered h.0 in
     after_sections b h.0 h.1 h.2 h.3 ∙ one_on (length h.0) h.1 m h.2 h.5
     ∙ ap (onward (length h.2 - 1) (length h.0) m) (no_frame h.1 h.2 (framed h.1 h.2) refl h.6)
     ∙ ap (λ (j : ℕ). Err (fault.Frame j)) h.4
 fault_decoded b (fault.Content i) h =
-    let m = with_parts nothing_yet h.0 in
+    let m = gather_all nothing_gathered h.0 in
     let f = h.5 in
     let t = h.7 in
     let lt = longer h.2 t.0 t.1 f t.2 t.3 in
     after_sections b h.0 h.1 h.2 h.3 ∙ one_on (length h.0) h.1 m h.2 (λ z. absurd (omega (arith, ap length z)))
     ∙ ap (onward (length h.2 - 1) (length h.0) m) (ap (framed h.1) t.2 ∙ framed_again h.1 t.0 t.1 f h.6 t.3 t.4)
-    ∙ ap (λ (o : Option Part). with_content (length h.0) o (λ p. read_sections (length h.2 - 1) (length h.0 + 1) h.6 (with_part p m) t.1)) (no_section f (section_of f) refl h.8)
+    ∙ ap (λ (o : Option Part). with_content (length h.0) o (λ p. read_sections (length h.2 - 1) (length h.0 + 1) h.6 (gather p m) t.1)) (no_section f (section_of f) refl h.8)
     ∙ ap (λ (j : ℕ). Err (fault.Content j)) h.4
 fault_decoded b fault.Counts h =
-    let m = with_parts nothing_yet h.0 in
-    after_sections b h.0 h.1 [] h.2 ∙ ended (length h.0) h.1 m ∙ ap (λ (v : Bool). cond v (Ok m) (Err fault.Counts)) (unequal (length m.functions) (length m.codes) (nat_eq (length m.functions) (length m.codes)) refl h.3)
+    let g = gathered_is h.0 nothing_gathered in
+    after_sections b h.0 h.1 [] h.2 ∙ ended (length h.0) h.1 (gather_all nothing_gathered h.0) ∙ ap counted_module g
+    ∙ disagreed (record { tree = with_parts nothing_yet h.0; data_count = count_after None h.0 }) h.3
 fault_decoded b fault.OutOfMemory h = absurd h
 
 -- ## What is decoded is so
@@ -218,10 +276,10 @@ rank_last (q ∷ ps) p i k j h e =
     let r = ranked (next_rank i (id_of q)) ps k h in
     ap (λ (o : Option ℕ). if_some o (λ j. rank_after j (ps ++ p ∷ []))) r.1 ∙ rank_last ps p r.0 k j r.2 e
 
-pub parts_last : (ps : List Part) (p : Part) (m : Module) → with_parts m (ps ++ p ∷ []) ≡ with_part p (with_parts m ps)
-unfolding with_parts
-parts_last [] p m = refl
-parts_last (q ∷ ps) p m = parts_last ps p (with_part q m)
+pub parts_last : (ps : List Part) (p : Part) (g : Gathered) → gather_all g (ps ++ p ∷ []) ≡ gather p (gather_all g ps)
+unfolding gather_all
+parts_last [] p g = refl
+parts_last (q ∷ ps) p g = parts_last ps p (gather q g)
 
 pub one_more : (b : List ℕ) (ps : List Part) (k j : ℕ) (rest a more : List ℕ) (f : ℕ × List ℕ) (p : Part) → BeginsWith b ps k rest → rest ≡ a ++ more → frame.Spells a f → next_rank k f.0 ≡ Some j → IsSection f p → BeginsWith b (ps ++ p ∷ []) j more
 unfolding section
@@ -232,25 +290,29 @@ one_more b ps k j rest a more f p h e s r t = record {
   order = rank_last ps p 0 k j h.order (ap (next_rank k) (sym (id_is f p t)) ∙ r);
 }
 
-counts_mean : (b : List ℕ) (ps : List Part) (k : ℕ) (v : Bool) → BeginsWith b ps k [] → nat_eq (length (with_parts nothing_yet ps).functions) (length (with_parts nothing_yet ps).codes) ≡ v
-    → Means b (cond v (Ok (with_parts nothing_yet ps)) (Err fault.Counts))
-counts_mean b ps k true h e = (ps, k, h, refl, eqb-true _ _ e)
-counts_mean b ps k false h e = (ps, k, h, λ same. let z : false ≡ true = sym e ∙ eq-eqb _ _ same in absurd cc)
+counts_mean_by : (b : List ℕ) (ps : List Part) (k : ℕ) (g : Gathered) (v : Bool) → BeginsWith b ps k [] → g ≡ record { tree = with_parts nothing_yet ps; data_count = count_after None ps } → counts_agree g ≡ v → Means b (cond v (Ok g.tree) (Err fault.Counts))
+counts_mean_by b ps k g true h is e =
+    (ps, k, h, sym (ap (λ (x : Gathered). x.tree) is), subst (λ (x : Gathered). CountsAgree x.data_count g.tree) is (true_agrees g e))
+counts_mean_by b ps k g false h is e =
+    (ps, k, h, λ agree. let z : false ≡ true = sym e ∙ agree_true g (subst (λ (x : Gathered). CountsAgree x.data_count x.tree) (sym is) agree) in absurd cc)
+
+counts_mean : (b : List ℕ) (ps : List Part) (k : ℕ) → BeginsWith b ps k [] → Means b (counted_module (gather_all nothing_gathered ps))
+counts_mean b ps k h = counts_mean_by b ps k (gather_all nothing_gathered ps) (counts_agree (gather_all nothing_gathered ps)) h (gathered_is ps nothing_gathered) refl
 
 content_means : (b : List ℕ) (n : ℕ) (ps : List Part) (k : ℕ) (rest : List ℕ) (s : Framed) (a more : List ℕ) (o : Option Part) → BeginsWith b ps k rest → rest ≡ a ++ more → frame.Spells a (s.1, s.2) → next_rank k s.1 ≡ Some s.0 → section_of (s.1, s.2) ≡ o
-    → ((p : Part) → BeginsWith b (ps ++ p ∷ []) s.0 more → Means b (read_sections n (length (ps ++ p ∷ [])) s.0 (with_parts nothing_yet (ps ++ p ∷ [])) more))
-    → Means b (with_content (length ps) o (λ p. read_sections n (length ps + 1) s.0 (with_part p (with_parts nothing_yet ps)) more))
+    → ((p : Part) → BeginsWith b (ps ++ p ∷ []) s.0 more → Means b (read_sections n (length (ps ++ p ∷ [])) s.0 (gather_all nothing_gathered (ps ++ p ∷ [])) more))
+    → Means b (with_content (length ps) o (λ p. read_sections n (length ps + 1) s.0 (gather p (gather_all nothing_gathered ps)) more))
 content_means b n ps k rest s a more None h e f r t again =
     (ps, k, rest, h, refl, (s.1, s.2), s.0, (a, more, e, f, r), λ p g. let z : ◌≡◌ {A = Option Part} None (Some p) = sym t ∙ section_decided.only (s.1, s.2) p g in absurd cc)
 content_means b n ps k rest s a more (Some p) h e f r t again =
     let g = section_decided.found (s.1, s.2) p t in
     let len : length (ps ++ p ∷ []) ≡ length ps + 1 = omega (arith, length-append ps (p ∷ [])) in
-    subst (λ (i : ℕ). Means b (read_sections n i s.0 (with_part p (with_parts nothing_yet ps)) more)) len
-    (subst (λ (m : Module). Means b (read_sections n (length (ps ++ p ∷ [])) s.0 m more)) (parts_last ps p nothing_yet) (again p (one_more b ps k s.0 rest a more (s.1, s.2) p h e f r g)))
+    subst (λ (i : ℕ). Means b (read_sections n i s.0 (gather p (gather_all nothing_gathered ps)) more)) len
+    (subst (λ (m : Gathered). Means b (read_sections n (length (ps ++ p ∷ [])) s.0 m more)) (parts_last ps p nothing_gathered) (again p (one_more b ps k s.0 rest a more (s.1, s.2) p h e f r g)))
 
 frame_means : (b : List ℕ) (n : ℕ) (ps : List Part) (k : ℕ) (rest : List ℕ) (o : Option (Framed × List ℕ)) → BeginsWith b ps k rest → rest ≢ [] → framed k rest ≡ o
-    → ((qs : List Part) (j : ℕ) (more : List ℕ) → length more < length rest → BeginsWith b qs j more → Means b (read_sections n (length qs) j (with_parts nothing_yet qs) more))
-    → Means b (onward n (length ps) (with_parts nothing_yet ps) o)
+    → ((qs : List Part) (j : ℕ) (more : List ℕ) → length more < length rest → BeginsWith b qs j more → Means b (read_sections n (length qs) j (gather_all nothing_gathered qs) more))
+    → Means b (onward n (length ps) (gather_all nothing_gathered ps) o)
 frame_means b n ps k rest None h ne e again =
     (ps, k, rest, h, refl, ne, λ f j t. let z : ◌≡◌ {A = Option (Framed × List ℕ)} None (Some ((j, f.0, f.1), t.1)) = sym e ∙ ap (framed k) t.2 ∙ framed_again k t.0 t.1 f j t.3 t.4 in absurd cc)
 frame_means b n ps k rest (Some s) h ne e again =
@@ -258,15 +320,15 @@ frame_means b n ps k rest (Some s) h ne e again =
     content_means b n ps k rest s.0 a.0 s.1 (section_of (s.0.1, s.0.2)) h a.1 a.2 a.3 refl
     (λ p g. again (ps ++ p ∷ []) s.0.0 s.1 (longer rest a.0 s.1 (s.0.1, s.0.2) a.1 a.2) g)
 
-sections_mean : (n : ℕ) (b : List ℕ) (ps : List Part) (k : ℕ) (rest : List ℕ) → length rest ≤ n → BeginsWith b ps k rest → Means b (read_sections n (length ps) k (with_parts nothing_yet ps) rest)
+sections_mean : (n : ℕ) (b : List ℕ) (ps : List Part) (k : ℕ) (rest : List ℕ) → length rest ≤ n → BeginsWith b ps k rest → Means b (read_sections n (length ps) k (gather_all nothing_gathered ps) rest)
 unfolding read_sections
-sections_mean n b ps k [] le h = counts_mean b ps k _ h refl
+sections_mean n b ps k [] le h = counts_mean b ps k h
 sections_mean zero b ps k (x ∷ rest) le h = absurd (omega arith)
 sections_mean (suc n) b ps k (x ∷ rest) le h =
     frame_means b n ps k (x ∷ rest) (framed k (x ∷ rest)) h (λ z. absurd (omega (arith, ap length z))) refl (λ qs j more lt g. sections_mean n b qs j more (omega arith) g)
 
-header_means : (b : List ℕ) (o : Option (List ℕ)) → behind header b ≡ o → Means b (with_header o (λ rest. read_sections (length rest) 0 0 nothing_yet rest))
-unfolding Each rank_after with_parts
+header_means : (b : List ℕ) (o : Option (List ℕ)) → behind header b ≡ o → Means b (with_header o (λ rest. read_sections (length rest) 0 0 nothing_gathered rest))
+unfolding Each rank_after gather_all
 header_means b None e = λ rest h. let z : ◌≡◌ {A = Option (List ℕ)} None (Some rest) = sym e ∙ ap (behind header) h ∙ behind_all header rest in absurd cc
 header_means b (Some rest) e = sections_mean (length rest) b [] 0 rest (omega arith) (record { sections = []; parts = behind_some header b rest e; each = refl; order = refl })
 

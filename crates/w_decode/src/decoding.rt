@@ -4,16 +4,18 @@ ghost use Rattle.w_syntax.specs.Module.{header};
 ghost use Rattle.w_syntax.specs.Spells.{Spells};
 ghost use Rattle.w_syntax.specs.declared.module.Module.{Module as TheModule};
 ghost use Rattle.w_decode.specs.Faults.{HasFault, IsAnswer};
-ghost use Rattle.w_decode.specs.Reading.{decoded, behind};
+ghost use Rattle.w_decode.specs.Reading.{decoded, behind, nothing_gathered};
 ghost use Rattle.w_decode.specs.Places.{Gives};
 ghost use Rattle.w_decode.specs.declared.fault.DecodeFault.{DecodeFault as TheFault};
 ghost use Rattle.w_decode.specs.declared.fault.DecodeFault.TheVariants.{OutOfMemory};
 
+use crate::counts::counts_agree;
 use crate::fault::DecodeFault;
-use crate::sections::{Frame, add_part, frame_at, part_of};
+use crate::frames::{Frame, frame_at};
+use crate::sections::{Gathered, add_part, part_of};
 use std::alloc::Global;
 use w_syntax::Module;
-use w_types::ListOf;
+use w_types::{ListOf, RecGroups};
 
 // Whether the header stands at the front.
 #[tactic(auto, unfolding(crate::specs::Reading::behind))]
@@ -24,6 +26,30 @@ fn has_header(bytes: &[u8]) -> bool
     matches!(bytes, [0x00, 0x61, 0x73, 0x6D, 0x01, 0x00, 0x00, 0x00, ..])
 }
 
+// No sections yet.
+fn nothing(alloc: Global) -> Gathered
+    ensures { result ≡ nothing_gathered }
+{
+    let tree = Module {
+        types: RecGroups::new(alloc),
+        imports: ListOf::new(alloc),
+        functions: ListOf::new(alloc),
+        tables: ListOf::new(alloc),
+        memories: ListOf::new(alloc),
+        tags: ListOf::new(alloc),
+        globals: ListOf::new(alloc),
+        exports: ListOf::new(alloc),
+        start: None,
+        elements: ListOf::new(alloc),
+        codes: ListOf::new(alloc),
+        datas: ListOf::new(alloc),
+    };
+    Gathered {
+        tree,
+        data_count: None,
+    }
+}
+
 // Reads section after section, as the sections of a module stand one behind the other.
 fn decode_exactly(alloc: Global, bytes: &[u8]) -> Result<Module, DecodeFault>
     ensures { Gives result (decoded bytes.now) }
@@ -31,12 +57,7 @@ fn decode_exactly(alloc: Global, bytes: &[u8]) -> Result<Module, DecodeFault>
     if !has_header(bytes) {
         return Err(DecodeFault::Header);
     }
-    let mut module = Module {
-        types: ListOf::new(alloc),
-        functions: ListOf::new(alloc),
-        exports: ListOf::new(alloc),
-        codes: ListOf::new(alloc),
-    };
+    let mut so_far = nothing(alloc);
     let mut place = 8;
     let mut last = 0;
     let mut number = 0;
@@ -53,20 +74,25 @@ fn decode_exactly(alloc: Global, bytes: &[u8]) -> Result<Module, DecodeFault>
         let Some(part) = part_of(alloc, id, &bytes[start..end])? else {
             return Err(DecodeFault::Content(number));
         };
-        add_part(&mut module, part);
+        add_part(&mut so_far, part);
         place = end;
         last = rank;
         number += 1;
     }
-    if module.functions.len() != module.codes.len() {
+    if !counts_agree(&so_far) {
         return Err(DecodeFault::Counts);
     }
-    Ok(module)
+    let Gathered {
+        tree,
+        data_count: _,
+    } = so_far;
+    Ok(tree)
 }
 
 /// The module that the bytes spell, or the first fault that they have (Core, binary format, modules). `Header`: they do not
 /// begin with the header. `Frame(i)`: behind i whole sections no section is framed in order. `Content(i)`: the contents of
-/// the section there are not spelled. `Counts`: functions and codes differ in number. `OutOfMemory` may come of any bytes.
+/// the section there are not spelled. `Counts`: functions and codes differ in number, or the data count
+/// is not the number of data segments, or none is there and a body names a data segment. `OutOfMemory` may come of any bytes.
 pub fn decode(alloc: Global, bytes: &[u8]) -> Result<Module, DecodeFault>
     // What is decoded is spelled so, and a fault is one that the bytes have.
     ensures ok { IfOk result (λ m. Spells bytes.now m) }

@@ -18,8 +18,9 @@ pub enum DecodeFault {
     /// The section after so many whole ones is framed, and its contents are not spelled.
     #[error("the contents of section {0} are not spelled")]
     Content(usize),
-    /// The numbers of functions and of codes differ.
-    #[error("the numbers of functions and of codes differ")]
+    /// The numbers of functions and of codes differ, or the data count is not the number of data segments, or there is none and
+    /// a body names a data segment.
+    #[error("the counts of the sections do not agree")]
     Counts,
     #[error("out of memory")]
     OutOfMemory,

@@ -1,100 +1,76 @@
-//! Sections (Core, binary format, sections).
-ghost use Rattle.std.specs.Prelude.{◌≡◌, IfOk};
-ghost use Rattle.w_syntax.specs.Module.{section_of, with_part, next_rank as rank_next};
-ghost use Rattle.w_decode.specs.Places.{FrameAt};
+//! What sections say (Core, binary format, sections).
+ghost use Rattle.std.specs.Prelude.{◌≡◌, ◌↔◌, IfOk, IsTrue, IsSome};
+ghost use Rattle.w_syntax.specs.Fields.{name};
+ghost use Rattle.w_syntax.specs.Contents.{custom_of};
+ghost use Rattle.w_syntax.specs.Sections.{section_of};
+ghost use Rattle.w_decode.specs.Reading.{gather};
 
-use crate::fields::{cut_at, whole_of};
 use std::alloc::{AllocError, Global};
-use w_leb::read_byte;
+use w_code::{DataField, ElemField, FuncField, GlobalField, TableField};
+use w_fields::{IndexField, LimitsField, begins_name, list_of, whole_of};
+use w_sections::{ExportField, ImportField, RecGroupsField, TagField};
 use w_syntax::{Module, Part};
 
-/// A section by its places: where its id stands among the others, the id, and where its contents begin and end.
-pub(crate) struct Frame {
-    pub rank: u8,
-    pub id: u8,
-    pub start: usize,
-    pub end: usize,
+/// The module that the sections so far make, and the data count, where one was there.
+#[derive(Drop)]
+pub(crate) struct Gathered {
+    pub tree: Module,
+    pub data_count: Option<u32>,
 }
 
-// After the rank `last` the section of this id may come, and leaves this rank.
-#[tactic(auto, unfolding(w_syntax::specs::Module::next_rank, w_syntax::specs::Module::rank))]
-fn next_rank(last: u8, id: u8) -> Option<u8>
-    ensures { result ≡ rank_next last id }
+// A custom section, which is dropped.
+fn custom(contents: &[u8]) -> Option<Part>
+    ensures { result ≡ custom_of (name.read contents.now) }
 {
-    let rank = match id {
-        0x01 => 1,
-        0x03 => 2,
-        0x07 => 3,
-        0x0A => 4,
-        _ => return None,
-    };
-    if last < rank { Some(rank) } else { None }
-}
-
-/// The section at a place, where it is framed and may come after the rank `last`.
-#[tactic(auto, unfolding(crate::specs::Reading::framed, w_syntax::specs::Module::frame))]
-pub(crate) fn frame_at(bytes: &[u8], at: usize, last: u8) -> Option<Frame>
-    ensures { FrameAt bytes.now at last result }
-{
-    let Some((id, next)) = read_byte(bytes, at) else {
-        return None;
-    };
-    let Some((start, end)) = cut_at(bytes, next) else {
-        return None;
-    };
-    let Some(rank) = next_rank(last, id) else {
-        return None;
-    };
-    Some(Frame {
-        rank,
-        id,
-        start,
-        end,
-    })
+    if begins_name(contents) {
+        Some(Part::Custom)
+    } else {
+        None
+    }
 }
 
 /// What a section says.
-#[tactic(auto, unfolding(w_syntax::specs::Module::section_of))]
+#[tactic(auto, unfolding(w_syntax::specs::Sections::section_of))]
 pub(crate) fn part_of(alloc: Global, id: u8, contents: &[u8]) -> Result<Option<Part>, AllocError>
     ensures { IfOk result (λ o. o ≡ section_of (id, contents.now)) }
 {
     match id {
-        0x01 => {
-            let Some(types) = whole_of(alloc, contents)? else {
-                return Ok(None);
-            };
-            Ok(Some(Part::Types(types)))
-        }
-        0x03 => {
-            let Some(functions) = whole_of(alloc, contents)? else {
-                return Ok(None);
-            };
-            Ok(Some(Part::Functions(functions)))
-        }
-        0x07 => {
-            let Some(exports) = whole_of(alloc, contents)? else {
-                return Ok(None);
-            };
-            Ok(Some(Part::Exports(exports)))
-        }
-        0x0A => {
-            let Some(codes) = whole_of(alloc, contents)? else {
-                return Ok(None);
-            };
-            Ok(Some(Part::Codes(codes)))
-        }
+        0x00 => Ok(custom(contents)),
+        0x01 => Ok(whole_of::<RecGroupsField>(alloc, contents)?.map(|types| Part::Types(types))),
+        0x02 => Ok(list_of::<ImportField>(alloc, contents)?.map(|imports| Part::Imports(imports))),
+        0x03 => Ok(list_of::<IndexField>(alloc, contents)?.map(|types| Part::Functions(types))),
+        0x04 => Ok(list_of::<TableField>(alloc, contents)?.map(|tables| Part::Tables(tables))),
+        0x05 => Ok(list_of::<LimitsField>(alloc, contents)?.map(|limits| Part::Memories(limits))),
+        0x0D => Ok(list_of::<TagField>(alloc, contents)?.map(|tags| Part::Tags(tags))),
+        0x06 => Ok(list_of::<GlobalField>(alloc, contents)?.map(|globals| Part::Globals(globals))),
+        0x07 => Ok(list_of::<ExportField>(alloc, contents)?.map(|exports| Part::Exports(exports))),
+        0x08 => Ok(whole_of::<IndexField>(alloc, contents)?.map(|start| Part::Start(start))),
+        0x09 => Ok(list_of::<ElemField>(alloc, contents)?.map(|elems| Part::Elements(elems))),
+        0x0C => Ok(whole_of::<IndexField>(alloc, contents)?.map(|count| Part::DataCount(count))),
+        0x0A => Ok(list_of::<FuncField>(alloc, contents)?.map(|codes| Part::Codes(codes))),
+        0x0B => Ok(list_of::<DataField>(alloc, contents)?.map(|datas| Part::Datas(datas))),
         _ => Ok(None),
     }
 }
 
 /// The module with what a section says.
-pub(crate) fn add_part(so_far: &mut Module, part: Part)
-    ensures { so_far.new ≡ with_part part so_far.old }
+pub(crate) fn add_part(so_far: &mut Gathered, part: Part)
+    ensures { so_far.new ≡ gather part so_far.old }
 {
     match part {
-        Part::Types(types) => so_far.types = types,
-        Part::Functions(functions) => so_far.functions = functions,
-        Part::Exports(exports) => so_far.exports = exports,
-        Part::Codes(codes) => so_far.codes = codes,
+        Part::Custom => {}
+        Part::Types(types) => so_far.tree.types = types,
+        Part::Imports(imports) => so_far.tree.imports = imports,
+        Part::Functions(functions) => so_far.tree.functions = functions,
+        Part::Tables(tables) => so_far.tree.tables = tables,
+        Part::Memories(memories) => so_far.tree.memories = memories,
+        Part::Tags(tags) => so_far.tree.tags = tags,
+        Part::Globals(globals) => so_far.tree.globals = globals,
+        Part::Exports(exports) => so_far.tree.exports = exports,
+        Part::Start(function) => so_far.tree.start = Some(function),
+        Part::Elements(elements) => so_far.tree.elements = elements,
+        Part::DataCount(count) => so_far.data_count = Some(count),
+        Part::Codes(codes) => so_far.tree.codes = codes,
+        Part::Datas(datas) => so_far.tree.datas = datas,
     }
 }

@@ -1,118 +1,23 @@
-//! Expected values are written by hand from the Core Specification's binary format.
+//! Expected values are written by hand from the Core Specification's binary format and from the explainer.
 use crate::{DecodeFault, decode};
 use std::alloc::{AllocError, Global};
 use std::test::Fail;
-use w_syntax::{Binary, LocalRun, Numeric, Op};
-use w_types::ValType;
 
-static HEADER: [u8; 8] = [0x00, 0x61, 0x73, 0x6D, 0x01, 0x00, 0x00, 0x00];
+mod large;
+mod whole;
 
-// Two types; two functions, of types 1 and 0; two exports; an empty body, and one with five runs of locals and each
-// instruction.
-static SHORT: [u8; 61] = [
-    0x01, 0x0A, 0x02, 0x60, 0x02, 0x7F, 0x7E, 0x01, 0x7E, 0x60, 0x00, 0x00, // types
-    0x03, 0x03, 0x02, 0x01, 0x00, // functions
-    0x07, 0x0D, 0x02, 0x04, 0x6D, 0x61, 0x69, 0x6E, 0x00, 0x01, 0x02, 0xC3, 0xA9, 0x00, 0x00, // exports
-    0x0A, 0x1B, 0x02, 0x02, 0x00, 0x0B, 0x16, // code
-    0x05, 0x01, 0x7F, 0x02, 0x7F, 0x00, 0x7E, 0x03, 0x7F, 0x04, 0x7E, // locals
-    0x42, 0x7F, 0x42, 0x02, 0x7C, 0x7D, 0x7E, 0x10, 0x01, 0x1A, 0x0B,
-];
+pub(crate) static HEADER: [u8; 8] = [0x00, 0x61, 0x73, 0x6D, 0x01, 0x00, 0x00, 0x00];
 
-// The same, with longer spellings of the numbers.
-static LONG: [u8; 118] = [
-    0x01, 0x8F, 0x80, 0x80, 0x80, 0x00, 0x82, 0x00, 0x60, 0x82, 0x80, 0x00, 0x7F, 0x7E, 0x81, 0x00,
-    0x7E, 0x60, 0x80, 0x00, 0x00, // types
-    0x03, 0x8A, 0x00, 0x82, 0x80, 0x80, 0x80, 0x00, 0x81, 0x00, 0x80, 0x80, 0x00, // functions
-    0x07, 0x96, 0x00, 0x82, 0x00, 0x84, 0x80, 0x00, 0x6D, 0x61, 0x69, 0x6E, 0x00, 0x81, 0x00, 0x82,
-    0x00, 0xC3, 0xA9, 0x00, 0x80, 0x80, 0x80, 0x80, 0x00, // exports
-    0x0A, 0xB6, 0x80, 0x80, 0x00, 0x82, 0x00, 0x83, 0x00, 0x80, 0x00, 0x0B, 0xAC, 0x80, 0x00, // code
-    0x85, 0x00, 0x81, 0x00, 0x7F, 0x82, 0x80, 0x80, 0x80, 0x00, 0x7F, 0x80, 0x00, 0x7E, 0x83, 0x00,
-    0x7F, 0x84, 0x80, 0x00, 0x7E, // locals
-    0x42, 0xFF, 0x7F, 0x42, 0x82, 0x80, 0x80, 0x80, 0x80, 0x80, 0x80, 0x80, 0x80, 0x00, 0x7C, 0x7D,
-    0x7E, 0x10, 0x81, 0x80, 0x00, 0x1A, 0x0B,
-];
-
-// The header, and these sections.
-fn with_header(alloc: Global, sections: &[u8]) -> Result<Vec<u8>, AllocError> {
+/// The header, and these sections.
+pub(crate) fn with_header(alloc: Global, sections: &[u8]) -> Result<Vec<u8>, AllocError> {
     let mut bytes = HEADER.to_vec(alloc)?;
     bytes.extend_from_slice(sections)?;
     Ok(bytes)
 }
 
-#[test]
-fn each_field_is_decoded_in_any_spelling(rt: HostRuntime) -> Result<(), Fail> {
-    let alloc = rt.alloc();
-    let spellings: [&[u8]; 2] = [&SHORT, &LONG];
-    for spelling in spellings {
-        let bytes = with_header(alloc, spelling)?;
-        let decoded = decode(alloc, bytes.as_slice())?;
-        let [binary, nothing] = decoded.types.as_slice() else {
-            return Err(Fail::from("two types"));
-        };
-        assert_eq!(rt;
-            binary.params.as_slice(),
-            [ValType::I32, ValType::I64].as_slice()
-        );
-        assert_eq!(rt; binary.results.as_slice(), [ValType::I64].as_slice());
-        assert_eq!(rt; nothing.params.len(), 0);
-        assert_eq!(rt; nothing.results.len(), 0);
-        assert_eq!(rt; decoded.functions.as_slice(), [1, 0].as_slice());
-        let [main, accented] = decoded.exports.as_slice() else {
-            return Err(Fail::from("two exports"));
-        };
-        assert_eq!(rt; main.name.as_str(), "main");
-        assert_eq!(rt; main.function, 1);
-        assert_eq!(rt; accented.name.as_str(), "é");
-        assert_eq!(rt; accented.function, 0);
-    }
-    Ok(())
-}
-
-#[test]
-fn code_is_decoded_with_its_locals_joined(rt: HostRuntime) -> Result<(), Fail> {
-    let alloc = rt.alloc();
-    let runs = [
-        LocalRun {
-            count: 6,
-            kind: ValType::I32,
-        },
-        LocalRun {
-            count: 4,
-            kind: ValType::I64,
-        },
-    ];
-    let ops = [
-        Op::Numeric(Numeric::I64Const(-1)),
-        Op::Numeric(Numeric::I64Const(2)),
-        Op::Numeric(Numeric::I64Binary(Binary::Add)),
-        Op::Numeric(Numeric::I64Binary(Binary::Sub)),
-        Op::Numeric(Numeric::I64Binary(Binary::Mul)),
-        Op::Call(1),
-        Op::Drop,
-    ];
-    let spellings: [&[u8]; 2] = [&SHORT, &LONG];
-    for spelling in spellings {
-        let bytes = with_header(alloc, spelling)?;
-        let decoded = decode(alloc, bytes.as_slice())?;
-        let [empty, all] = decoded.codes.as_slice() else {
-            return Err(Fail::from("two codes"));
-        };
-        assert_eq!(rt; empty.locals.len(), 0);
-        assert_eq!(rt; empty.body.ops().len(), 0);
-        assert_eq!(rt; all.locals.as_slice(), runs.as_slice());
-        assert_eq!(rt; all.body.ops(), ops.as_slice());
-    }
-    Ok(())
-}
-
-#[test]
-fn the_header_alone_is_the_empty_module(rt: HostRuntime) -> Result<(), Fail> {
-    let decoded = decode(rt.alloc(), &HEADER)?;
-    assert_eq!(rt; decoded.types.len(), 0);
-    assert_eq!(rt; decoded.functions.len(), 0);
-    assert_eq!(rt; decoded.exports.len(), 0);
-    assert_eq!(rt; decoded.codes.len(), 0);
-    Ok(())
+// The fault of the header and these sections.
+fn fault_of(alloc: Global, sections: &[u8]) -> Result<Option<DecodeFault>, AllocError> {
+    Ok(decode(alloc, with_header(alloc, sections)?.as_slice()).err())
 }
 
 #[test]
@@ -128,10 +33,9 @@ fn other_headers_are_refused(rt: HostRuntime) {
 #[test]
 fn sections_are_framed_in_order(rt: HostRuntime) -> Result<(), Fail> {
     let alloc = rt.alloc();
-    let rows: [(&[u8], usize); 8] = [
-        // a custom section, an unknown id, and no size
-        (&[0x00, 0x02, 0x01, 0x61], 0),
-        (&[0x02, 0x01, 0x00], 0),
+    let rows: [(&[u8], usize); 9] = [
+        // an unknown id, and no size
+        (&[0x0E, 0x01, 0x00], 0),
         (&[0x01], 0),
         // six bytes of a size, and sizes that pass the end
         (&[0x01, 0x86, 0x80, 0x80, 0x80, 0x80, 0x00], 0),
@@ -140,15 +44,39 @@ fn sections_are_framed_in_order(rt: HostRuntime) -> Result<(), Fail> {
         // out of order, and repeated
         (&[0x03, 0x01, 0x00, 0x01, 0x01, 0x00], 1),
         (&[0x01, 0x01, 0x00, 0x01, 0x01, 0x00], 1),
+        // tags after globals, and custom sections counted
+        (&[0x06, 0x01, 0x00, 0x0D, 0x01, 0x00], 1),
+        (
+            &[
+                0x00, 0x01, 0x00, 0x03, 0x01, 0x00, 0x00, 0x01, 0x00, 0x02, 0x01, 0x00,
+            ],
+            3,
+        ),
     ];
     for (sections, number) in rows {
-        let bytes = with_header(alloc, sections)?;
-        let answer = decode(alloc, bytes.as_slice());
-        assert_eq!(rt;
-            answer.err(),
-            Some(DecodeFault::Frame(number)),
-            "{sections:?}"
-        );
+        let fault = fault_of(alloc, sections)?;
+        assert_eq!(rt; fault, Some(DecodeFault::Frame(number)), "{sections:?}");
+    }
+    Ok(())
+}
+
+#[test]
+fn each_id_has_its_place(rt: HostRuntime) -> Result<(), Fail> {
+    let alloc = rt.alloc();
+    // Each but the start and the data count is an empty list.
+    let order = [
+        0x01, 0x02, 0x03, 0x04, 0x05, 0x0D, 0x06, 0x07, 0x08, 0x09, 0x0C, 0x0A, 0x0B,
+    ];
+    for (place, first) in order.iter().enumerate() {
+        for (other, second) in order.iter().enumerate() {
+            let sections = [*first, 0x01, 0x00, *second, 0x01, 0x00];
+            let expected = if place < other {
+                None
+            } else {
+                Some(DecodeFault::Frame(1))
+            };
+            assert_eq!(rt; fault_of(alloc, &sections)?, expected, "{sections:?}");
+        }
     }
     Ok(())
 }
@@ -156,98 +84,73 @@ fn sections_are_framed_in_order(rt: HostRuntime) -> Result<(), Fail> {
 #[test]
 fn contents_are_spelled(rt: HostRuntime) -> Result<(), Fail> {
     let alloc = rt.alloc();
-    let rows: [(&[u8], usize); 11] = [
+    let rows: [&[u8]; 12] = [
+        // names of custom sections that are not UTF-8, or not whole
+        &[0x00, 0x02, 0x01, 0xFF],
+        &[0x00, 0x01, 0x01],
         // more types than there are bytes, bytes behind the types, and no types
-        (&[0x01, 0x05, 0xFF, 0xFF, 0xFF, 0xFF, 0x0F], 0),
-        (&[0x01, 0x02, 0x00, 0x00], 0),
-        (&[0x01, 0x04, 0x01, 0x61, 0x00, 0x00], 0),
-        (&[0x01, 0x05, 0x01, 0x60, 0x01, 0x7D, 0x00], 0),
-        // what is exported is no function, and a name that is not UTF-8
-        (&[0x07, 0x05, 0x01, 0x01, 0x61, 0x01, 0x00], 0),
-        (&[0x07, 0x05, 0x01, 0x01, 0xFF, 0x00, 0x00], 0),
-        // an opcode of no instruction, no end, and bytes behind the end
-        (
-            &[
-                0x03, 0x02, 0x01, 0x00, 0x0A, 0x05, 0x01, 0x03, 0x00, 0xE4, 0x0B,
-            ],
-            1,
-        ),
-        (&[0x0A, 0x05, 0x01, 0x03, 0x00, 0x1A, 0x1A], 0),
-        (&[0x0A, 0x05, 0x01, 0x03, 0x00, 0x0B, 0x0B], 0),
-        // a size that is one too short
-        (&[0x0A, 0x05, 0x01, 0x02, 0x00, 0x1A, 0x0B], 0),
-        // 2^32 locals
-        (
-            &[
-                0x0A, 0x0C, 0x01, 0x0A, 0x02, 0xFF, 0xFF, 0xFF, 0xFF, 0x0F, 0x7F, 0x01, 0x7F, 0x0B,
-            ],
-            0,
-        ),
-    ];
-    for (sections, number) in rows {
-        let bytes = with_header(alloc, sections)?;
-        let answer = decode(alloc, bytes.as_slice());
-        assert_eq!(rt;
-            answer.err(),
-            Some(DecodeFault::Content(number)),
-            "{sections:?}"
-        );
-    }
-    Ok(())
-}
-
-#[test]
-fn functions_and_codes_agree_in_number(rt: HostRuntime) -> Result<(), Fail> {
-    let alloc = rt.alloc();
-    let rows: [&[u8]; 2] = [
-        &[0x03, 0x02, 0x01, 0x00],
-        &[0x0A, 0x04, 0x01, 0x02, 0x00, 0x0B],
+        &[0x01, 0x05, 0xFF, 0xFF, 0xFF, 0xFF, 0x0F],
+        &[0x01, 0x02, 0x00, 0x00],
+        &[0x01, 0x04, 0x01, 0x61, 0x00, 0x00],
+        &[0x01, 0x05, 0x01, 0x60, 0x01, 0x7D, 0x00],
+        // a kind of export, a name and a flag of limits that are none
+        &[0x07, 0x05, 0x01, 0x01, 0x61, 0x05, 0x00],
+        &[0x07, 0x05, 0x01, 0x01, 0xFF, 0x00, 0x00],
+        &[0x05, 0x03, 0x01, 0x02, 0x00],
+        // no end, bytes behind the end, and a size that is one too short
+        &[0x0A, 0x05, 0x01, 0x03, 0x00, 0x1A, 0x1A],
+        &[0x0A, 0x05, 0x01, 0x03, 0x00, 0x0B, 0x0B],
+        &[0x0A, 0x05, 0x01, 0x02, 0x00, 0x1A, 0x0B],
     ];
     for sections in rows {
-        let bytes = with_header(alloc, sections)?;
-        let answer = decode(alloc, bytes.as_slice());
-        assert_eq!(rt; answer.err(), Some(DecodeFault::Counts), "{sections:?}");
+        let fault = fault_of(alloc, sections)?;
+        assert_eq!(rt; fault, Some(DecodeFault::Content(0)), "{sections:?}");
     }
     Ok(())
 }
 
 #[test]
-fn the_most_locals_are_joined(rt: HostRuntime) -> Result<(), Fail> {
+fn counts_agree(rt: HostRuntime) -> Result<(), Fail> {
     let alloc = rt.alloc();
-    let sections = [
-        0x03, 0x02, 0x01, 0x00, 0x0A, 0x0C, 0x01, 0x0A, 0x02, 0xFE, 0xFF, 0xFF, 0xFF, 0x0F, 0x7F,
-        0x01, 0x7F, 0x0B,
+    let code = [0x03, 0x02, 0x01, 0x00];
+    let rows: [(&[u8], Option<DecodeFault>); 9] = [
+        // functions and codes differ in number
+        (&code, Some(DecodeFault::Counts)),
+        (
+            &[0x0A, 0x04, 0x01, 0x02, 0x00, 0x0B],
+            Some(DecodeFault::Counts),
+        ),
+        // the data count is that of the segments
+        (&[0x0C, 0x01, 0x00], None),
+        (&[0x0C, 0x01, 0x01], Some(DecodeFault::Counts)),
+        (&[0x0C, 0x01, 0x01, 0x0B, 0x03, 0x01, 0x01, 0x00], None),
+        (&[0x0B, 0x03, 0x01, 0x01, 0x00], None),
+        // data.drop in a block, with a data count and without
+        (
+            &[
+                0x03, 0x02, 0x01, 0x00, 0x0C, 0x01, 0x00, 0x0A, 0x0A, 0x01, 0x08, 0x00, 0x02, 0x40,
+                0xFC, 0x09, 0x00, 0x0B, 0x0B,
+            ],
+            None,
+        ),
+        (
+            &[
+                0x03, 0x02, 0x01, 0x00, 0x0A, 0x0A, 0x01, 0x08, 0x00, 0x02, 0x40, 0xFC, 0x09, 0x00,
+                0x0B, 0x0B,
+            ],
+            Some(DecodeFault::Counts),
+        ),
+        // memory.init without a data count
+        (
+            &[
+                0x03, 0x02, 0x01, 0x00, 0x0A, 0x08, 0x01, 0x06, 0x00, 0xFC, 0x08, 0x00, 0x00, 0x0B,
+            ],
+            Some(DecodeFault::Counts),
+        ),
     ];
-    let bytes = with_header(alloc, &sections)?;
-    let decoded = decode(alloc, bytes.as_slice())?;
-    let [function] = decoded.codes.as_slice() else {
-        return Err(Fail::from("one code"));
-    };
-    let run = LocalRun {
-        count: u32::MAX,
-        kind: ValType::I32,
-    };
-    assert_eq!(rt; function.locals.as_slice(), [run].as_slice());
-    Ok(())
-}
-
-#[test]
-fn a_long_body_is_decoded(rt: HostRuntime) -> Result<(), Fail> {
-    let alloc = rt.alloc();
-    // Sizes of 100,006 and 100,002.
-    let front = [
-        0x03, 0x02, 0x01, 0x00, 0x0A, 0xA6, 0x8D, 0x06, 0x01, 0xA2, 0x8D, 0x06, 0x00,
-    ];
-    let mut bytes = with_header(alloc, &front)?;
-    for _ in 0..100_000u32 {
-        bytes.push(0x1A)?;
+    for (sections, expected) in rows {
+        assert_eq!(rt; fault_of(alloc, sections)?, expected, "{sections:?}");
     }
-    bytes.push(0x0B)?;
-    let decoded = decode(alloc, bytes.as_slice())?;
-    let [function] = decoded.codes.as_slice() else {
-        return Err(Fail::from("one code"));
-    };
-    assert_eq!(rt; function.body.ops().len(), 100_000);
     Ok(())
 }
 
@@ -266,7 +169,7 @@ fn faults_are_told_with_their_section(rt: HostRuntime) -> Result<(), Fail> {
         ),
         (
             DecodeFault::Counts,
-            "the numbers of functions and of codes differ",
+            "the counts of the sections do not agree",
         ),
         (DecodeFault::OutOfMemory, "out of memory"),
     ];

@@ -5,3 +5,4 @@ pub mod NumberExact
 pub mod Formats
 pub mod Shortest
 pub mod ShortestSigned
+pub mod Begins

@@ -1,5 +1,5 @@
 -- Contexts of frames that wait.
-use Rattle.std.proofs.Common.{◌≡◌, ℕ, suc, ◌<◌, ◌≤◌, List, [], ◌∷◌, length, take, drop, refl, ap, subst, arith}
+use Rattle.std.proofs.Common.{Option, ◌≡◌, ℕ, suc, ◌<◌, ◌≤◌, List, [], ◌∷◌, length, take, drop, refl, ap, subst, arith}
 use Rattle.std.specs.Prelude.{nat_le, true, false}
 use Rattle.std.proofs.lemmas.Bool.Decides.{nat_tests}
 use Rattle.w_types.specs.declared.value.Value.{Value}
@@ -13,23 +13,23 @@ use Rattle.w_machine.specs.Functions.{code_from}
 use Rattle.w_machine.specs.Configuration.{around, base, own, label_of, frame_of, Ordered}
 
 -- the frames see only the operands below the running function's
-pub around_same : (m : Module) (f : ℕ) (cs : List Caller) (vs ws ls : List Value) → take (base cs) vs ≡ take (base cs) ws → around m f cs vs ls ≡ around m f cs ws ls
+pub around_same : (m : Module) (f : ℕ) (cs : List Caller) (vs ws : List Value) (ls : List (Option Value)) → take (base cs) vs ≡ take (base cs) ws → around m f cs vs ls ≡ around m f cs ws ls
 around_same m f [] vs ws ls e = refl
 around_same m f (c ∷ cs) vs ws ls e =
     ap (λ (xs : List Value). frame_of m f (own cs xs) (drop c.locals ls) (code_from m c.function c.place) ∷ label_of m c.function ∷ around m c.function cs xs (take c.locals ls)) e
 
 -- and so does their order
-pub ordered_same : (cs : List Caller) (vs ws ls : List Value) → take (base cs) vs ≡ take (base cs) ws → base cs ≤ length ws → Ordered cs vs ls → Ordered cs ws ls
+pub ordered_same : (cs : List Caller) (vs ws : List Value) (ls : List (Option Value)) → take (base cs) vs ≡ take (base cs) ws → base cs ≤ length ws → Ordered cs vs ls → Ordered cs ws ls
 ordered_same [] vs ws ls e le o = tt
 ordered_same (c ∷ cs) vs ws ls e le o = (le, o.1, o.2, subst (λ (xs : List Value). Ordered cs xs (take c.locals ls)) e o.3)
 
 -- the running function's operands stand among all
-pub base_within : (cs : List Caller) (vs ls : List Value) → Ordered cs vs ls → base cs ≤ length vs
+pub base_within : (cs : List Caller) (vs : List Value) (ls : List (Option Value)) → Ordered cs vs ls → base cs ≤ length vs
 base_within [] vs ls o = omega arith
 base_within (c ∷ cs) vs ls o = o.0
 
 -- one frame for each that waits, and one that runs
-pub frames_around : (m : Module) (f : ℕ) (cs : List Caller) (vs ls : List Value) → frames (around m f cs vs ls) ≡ suc (length cs)
+pub frames_around : (m : Module) (f : ℕ) (cs : List Caller) (vs : List Value) (ls : List (Option Value)) → frames (around m f cs vs ls) ≡ suc (length cs)
 frames_around m f [] vs ls = refl
 frames_around m f (c ∷ cs) vs ls = ap suc (frames_around m c.function cs (take c.operands vs) (take c.locals ls))
 

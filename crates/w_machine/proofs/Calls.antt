@@ -7,7 +7,8 @@ use Rattle.w_types.specs.declared.types.FuncType.{FuncType}
 use Rattle.w_types.specs.declared.value.Value.{Value}
 use Rattle.w_types.proofs.Rows.{listed-row_of, size-row_of}
 use Rattle.w_syntax.specs.Functions.{type_of_function, code_of_function}
-use Rattle.w_syntax.specs.declared.code.Op.TheVariants.{Call as CallOp}
+use Rattle.w_syntax.specs.declared.instructions.Control.TheVariants as control
+use Rattle.w_syntax.specs.declared.instructions.Op.TheVariants.{Control}
 use Rattle.w_syntax.specs.declared.module.Func.{Func}
 use Rattle.w_syntax.specs.declared.module.Module.{Module}
 use Rattle.w_reduce.specs.Store.{Defined, Store}
@@ -23,7 +24,7 @@ use Rattle.w_machine.proofs.Operands.{take_listed, take_short}
 -- what entering the function f gives, with its arguments the last n values
 abbrev pub entered : Module → Store → Context → List Value → ℕ → ℕ → Rest → Reduced
 entered m s e vs f n rest =
-    goes s (label_of m f ∷ Frame (row_of (take (length vs - n) vs)) (arity m f) (map (λ (v : Value). Some v) (drop (length vs - n) vs ++ defaults_of m f)) rest ∷ e) ε
+    goes s (label_of m f ∷ Frame (row_of (take (length vs - n) vs)) (arity m f) (map (λ (v : Value). Some v) (drop (length vs - n) vs) ++ defaults_of m f) rest ∷ e) ε
     (rest_of (body_of m f))
 
 split_at : (vs : List Value) (n : ℕ) (go : Row Value × Row Value → Reduced) → n ≤ length vs
@@ -64,7 +65,7 @@ not_fitting m s k a f h short vs e rest z =
     rw h (not_entered m s e vs f rest (type_of_function m f) (code_of_function m f) refl refl (λ n p. let lt = short n p in omega (arith, z, lt)))
 
 -- what is found at an address is what the instruction is
-pub call_instruction : (m : Module) (s : Store) (vs : List Value) (a : ℕ) (f : Found) → FindsCall m s (length vs) a f → FindsInstruction m s vs (CallOp a) f
+pub call_instruction : (m : Module) (s : Store) (vs : List Value) (a : ℕ) (f : Found) → FindsCall m s (length vs) a f → FindsInstruction m s vs (Control (control.Call a)) f
 call_instruction m s vs a (found.Redex (Call g n)) h = (h.1, h.2, λ e c. rw h.0 refl)
 call_instruction m s vs a (found.Redex (Operands n v)) h = absurd h
 call_instruction m s vs a (found.Redex (Invoke g)) h = absurd h

@@ -2,6 +2,7 @@ pub mod Lists
 pub mod Around
 pub mod Operands
 pub mod Places
+pub mod Looking
 pub mod Calls
 pub mod Reductions
 pub mod Stores

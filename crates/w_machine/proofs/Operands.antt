@@ -8,12 +8,14 @@ use Rattle.w_types.specs.Rows.{Row, ε, ◌▹◌, ◌⧺◌, size, row_of}
 use Rattle.w_types.specs.declared.value.Value.{Value}
 use Rattle.w_types.specs.declared.value.Value.TheVariants.{I32, I64}
 use Rattle.w_types.proofs.Rows.{row_of-more, row_of-append, size-row_of}
-use Rattle.w_syntax.specs.declared.code.Binary.{Binary}
-use Rattle.w_syntax.specs.declared.code.Op.TheVariants.{Numeric, Drop}
-use Rattle.w_syntax.specs.declared.code.Numeric.TheVariants.{I64Const, I64Binary}
+use Rattle.w_syntax.specs.declared.numeric.IntType.TheVariants as int
+use Rattle.w_syntax.specs.declared.numeric.Binary.{Binary}
+use Rattle.w_syntax.specs.declared.numeric.Numeric.TheVariants as numeric
+use Rattle.w_syntax.specs.declared.instructions.Parametric.TheVariants as parametric
+use Rattle.w_syntax.specs.declared.instructions.Op.TheVariants.{Numeric, Parametric}
 use Rattle.w_syntax.specs.declared.module.Module.{Module}
 use Rattle.w_reduce.specs.Store.{Store}
-use Rattle.w_reduce.specs.Reduce.{Reduced, Stuck, bits_of, binary, take_i64, take_values}
+use Rattle.w_reduce.specs.Reduce.{Reduced, Stuck, bits_of, binary_i64, take_i64, take_values}
 use Rattle.w_machine.specs.declared.configuration.Redex.TheVariants.{Operands}
 use Rattle.w_machine.specs.declared.configuration.Found.TheVariants as found
 use Rattle.w_machine.specs.Configuration.{FindsInstruction}
@@ -33,7 +35,7 @@ bits-cast z h = ap (cast_unsigned w64) (to_z-of_z w64 z h) ∙ cast z h
     cast (negsuc n) f = omega (arith, f)
 
 pub constant_found : (m : Module) (s : Store) (vs : List Value) (z : ℤ) (n : ℕ) → n ≡ bits_of z
-    → FindsInstruction m s vs (Numeric (I64Const z)) (found.Redex (Operands 0 (Some (I64 n))))
+    → FindsInstruction m s vs (Numeric (numeric.I64Const z)) (found.Redex (Operands 0 (Some (I64 n))))
 constant_found m s vs z n e =
     let all : take (length vs - 0) vs ≡ vs = take_all (length vs - 0) vs (omega arith) in
     (omega arith, λ c d. rw (all, row_of-more vs (I64 n), e) refl)
@@ -50,18 +52,22 @@ beneath vs rest below a b p q =
     ap (take (length vs - 2)) (p ∙ ap (λ l. l ++ b ∷ []) q ∙ append_assoc below (a ∷ []) (b ∷ [])) ∙ take_at below (a ∷ b ∷ []) (length vs - 2) n
 
 pub binary_found : (m : Module) (s : Store) (o : Binary) (vs rest below : List Value) (a b n : ℕ) → vs ≡ rest ++ I64 b ∷ [] → rest ≡ below ++ I64 a ∷ []
-    → n ≡ binary o a b → FindsInstruction m s vs (Numeric (I64Binary o)) (found.Redex (Operands 2 (Some (I64 n))))
+    → Some n ≡ binary_i64 o a b → FindsInstruction m s vs (Numeric (numeric.Binary int.I64 o)) (found.Redex (Operands 2 (Some (I64 n))))
 binary_found m s o vs rest below a b n p q e = (
   omega (arith, two_long vs rest below (I64 a) (I64 b) p q),
-  λ c d. rw (two_on_top vs rest below a b p q, beneath vs rest below (I64 a) (I64 b) p q, row_of-more below (I64 n), e) refl,
+  λ c d. rw (two_on_top vs rest below a b p q, beneath vs rest below (I64 a) (I64 b) p q, row_of-more below (I64 n), ← e) refl,
 )
 
+pub binary_missing : (m : Module) (s : Store) (o : Binary) (vs rest below : List Value) (a b : ℕ) → vs ≡ rest ++ I64 b ∷ [] → rest ≡ below ++ I64 a ∷ []
+    → None ≡ binary_i64 o a b → FindsInstruction m s vs (Numeric (numeric.Binary int.I64 o)) found.NoRule
+binary_missing m s o vs rest below a b p q e = λ c d. rw (two_on_top vs rest below a b p q, ← e) refl
+
 pub one_missing : (m : Module) (s : Store) (o : Binary) (vs rest : List Value) (b : ℕ) → vs ≡ rest ++ I64 b ∷ []
-    → ((go : Row Value × ℕ → Reduced) → take_i64 (row_of rest) go ≡ Stuck) → FindsInstruction m s vs (Numeric (I64Binary o)) found.NoRule
+    → ((go : Row Value × ℕ → Reduced) → take_i64 (row_of rest) go ≡ Stuck) → FindsInstruction m s vs (Numeric (numeric.Binary int.I64 o)) found.NoRule
 one_missing m s o vs rest b p h e c = rw (p, row_of-more rest (I64 b)) (h _)
 
 pub both_missing : (m : Module) (s : Store) (o : Binary) (vs : List Value)
-    → ((go : Row Value × ℕ → Reduced) → take_i64 (row_of vs) go ≡ Stuck) → FindsInstruction m s vs (Numeric (I64Binary o)) found.NoRule
+    → ((go : Row Value × ℕ → Reduced) → take_i64 (row_of vs) go ≡ Stuck) → FindsInstruction m s vs (Numeric (numeric.Binary int.I64 o)) found.NoRule
 both_missing m s o vs h e c = h _
 
 -- a list that isn't empty has a last value
@@ -79,13 +85,13 @@ last_apart (x ∷ xs) h = let p = parts x xs in (
     parts y [] = ([], y, refl)
     parts y (z ∷ zs) = let q = parts z zs in (y ∷ q.0, q.1, ap (λ (l : List Value). y ∷ l) q.2)
 
-pub drop_found : (m : Module) (s : Store) (vs : List Value) → 0 < length vs → FindsInstruction m s vs Drop (found.Redex (Operands 1 None))
+pub drop_found : (m : Module) (s : Store) (vs : List Value) → 0 < length vs → FindsInstruction m s vs (Parametric parametric.Drop) (found.Redex (Operands 1 None))
 drop_found m s vs h = let l = last_apart vs h in (
   omega arith,
   λ c d. rw (l.1, append-nil (take (length vs - 1) vs)) refl,
 )
 
-pub drop_missing : (m : Module) (s : Store) (vs : List Value) → vs ≡ [] → FindsInstruction m s vs Drop found.NoRule
+pub drop_missing : (m : Module) (s : Store) (vs : List Value) → vs ≡ [] → FindsInstruction m s vs (Parametric parametric.Drop) found.NoRule
 drop_missing m s vs e c d = rw e refl
 
 -- ## Taking several

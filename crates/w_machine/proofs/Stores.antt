@@ -3,10 +3,9 @@ use Rattle.std.proofs.Common.{◌≡◌, ℕ, ◌+◌, ◌<◌, List, [], ◌∷
 use Rattle.std.specs.Prelude.{true, false, codes}
 use Rattle.std.specs.Str.{bytes_eq}
 use Rattle.std.proofs.lemmas.List.{at_drop_more}
-use Rattle.w_syntax.specs.Functions.{type_of_function}
 use Rattle.w_syntax.specs.declared.module.Export.{Export}
 use Rattle.w_syntax.specs.declared.module.Module.{Module}
-use Rattle.w_reduce.specs.Start.{entry_in, entry_at}
+use Rattle.w_reduce.specs.Start.{entry_in, entry_of}
 use Rattle.w_reduce.specs.Store.{Function, Defined, Store, defined}
 use Rattle.w_machine.specs.StoreCode.{store_of}
 
@@ -24,7 +23,7 @@ store_is xs n e = ap (λ (l : List Function). let s : Store = record { functions
 -- ## The entry
 
 pub entry_here : (m : Module) (xs : List Export) (i : ℕ) (d : Export) → i < length xs → bytes_eq (get_or xs i d).name (codes "main") ≡ true
-    → entry_in m (drop i xs) ≡ entry_at (get_or xs i d).function (type_of_function m (get_or xs i d).function)
+    → entry_in m (drop i xs) ≡ entry_of m (get_or xs i d).index
 entry_here m xs i d h e = at_drop_more (entry_in m) xs i d h ∙ rw e refl
 
 pub entry_later : (m : Module) (xs : List Export) (i : ℕ) (d : Export) → i < length xs → bytes_eq (get_or xs i d).name (codes "main") ≡ false

@@ -3,7 +3,7 @@ use Rattle.std.specs.Prelude.{◌≡◌, ℕ, ◌+◌, ◌-◌, ◌^◌, ◌<◌
 use Rattle.w_types.specs.Rows.{Row, ε, row_of, size}
 use Rattle.w_types.specs.declared.value.Value.{Value}
 use Rattle.w_syntax.specs.Code.{Code, Done}
-use Rattle.w_syntax.specs.declared.code.Op.{Op}
+use Rattle.w_syntax.specs.declared.instructions.Op.{Op}
 use Rattle.w_syntax.specs.declared.module.Module.{Module}
 use Rattle.w_rules.specs.declared.limits.LimitName.TheVariants as limit
 use Rattle.w_reduce.specs.Store.{Defined, Store}
@@ -26,7 +26,7 @@ pub record Parts : Type 0 where
   pub stage : Stage
   pub function : ℕ
   pub operands : List Value
-  pub locals : List Value
+  pub locals : List (Option Value)
   pub callers : List Caller
 
 abbrev pub parts : Configuration → Parts
@@ -46,18 +46,18 @@ own cs operands = drop (base cs) operands
 abbrev pub label_of : Module → ℕ → Layer
 label_of m f = Label ε (arity m f) Done (rest_of Done)
 
-abbrev pub frame_of : Module → ℕ → List Value → List Value → Code → Layer
-frame_of m f below locals rest = Frame (row_of below) (arity m f) (map (λ (v : Value). Some v) locals) (rest_of rest)
+abbrev pub frame_of : Module → ℕ → List Value → List (Option Value) → Code → Layer
+frame_of m f below locals rest = Frame (row_of below) (arity m f) locals (rest_of rest)
 
 -- the frame of the function f with its callers around it, of these operands and locals
-abbrev pub around : Module → ℕ → List Caller → List Value → List Value → Context
+abbrev pub around : Module → ℕ → List Caller → List Value → List (Option Value) → Context
 around m f [] operands locals = frame_of m f [] locals Done ∷ []
 around m f (c ∷ cs) operands locals =
     frame_of m f (own cs (take c.operands operands)) (drop c.locals locals) (code_from m c.function c.place)
     ∷ label_of m c.function
     ∷ around m c.function cs (take c.operands operands) (take c.locals locals)
 
-abbrev pub term_in : Module → Stage → ℕ → List Value → List Value → List Caller → Term
+abbrev pub term_in : Module → Stage → ℕ → List Value → List (Option Value) → List Caller → Term
 term_in m (Start a) f vs ls cs = record { around = []; operands = ε; rest = record { ahead = InvokeOf a ∷ []; code = Done } }
 term_in m (Body place) f vs ls cs =
     record { around = label_of m f ∷ around m f cs vs ls; operands = row_of (own cs vs); rest = rest_of (code_from m f place) }
@@ -71,13 +71,13 @@ term_of m p = term_in m p.stage p.function p.operands p.locals p.callers
 -- ## What holds of the parts
 
 -- each frame's operands and locals stand above those of its caller
-abbrev pub Ordered : List Caller → List Value → List Value → Type 0
+abbrev pub Ordered : List Caller → List Value → List (Option Value) → Type 0
 Ordered [] vs ls = ⊤
 Ordered (c ∷ cs) vs ls = (c.operands ≤ length vs) × (base cs ≤ c.operands) × (c.locals ≤ length ls)
     × Ordered cs (take c.operands vs) (take c.locals ls)
 
 -- before the first invoke there is nothing, and no frame waits behind the last
-abbrev pub IsClean : Stage → List Value → List Value → List Caller → Type 0
+abbrev pub IsClean : Stage → List Value → List (Option Value) → List Caller → Type 0
 IsClean (Start a) vs ls cs = (vs ≡ []) × (ls ≡ []) × (cs ≡ [])
 IsClean (Body place) vs ls cs = ⊤
 IsClean InFrame vs ls cs = ⊤
@@ -118,7 +118,7 @@ after m (Call f n) p = record {
   stage = Body 0;
   function = f;
   operands = take (length p.operands - n) p.operands;
-  locals = p.locals ++ (drop (length p.operands - n) p.operands ++ defaults_of m f);
+  locals = p.locals ++ (map (λ (v : Value). Some v) (drop (length p.operands - n) p.operands) ++ defaults_of m f);
   callers = record { function = p.function; place = place_behind p.stage; operands = length p.operands - n; locals = length p.locals } ∷ p.callers;
 }
 after m LabelExit p = record p { stage = InFrame }

@@ -2,9 +2,10 @@
 use Rattle.std.specs.Prelude.{ℕ, List, [], length, drop, Option, Some, None, slice_get}
 use Rattle.w_types.specs.declared.types.FuncType.{FuncType}
 use Rattle.w_types.specs.declared.value.Value.{Value}
-use Rattle.w_syntax.specs.Code.{Code, Done, tree_of, ops_of}
+use Rattle.w_syntax.specs.Code.{Code, Done}
+use Rattle.w_syntax.specs.Flat.{tree_of, whole}
 use Rattle.w_syntax.specs.Functions.{type_of_function, code_of_function}
-use Rattle.w_syntax.specs.declared.code.Op.{Op}
+use Rattle.w_syntax.specs.declared.instructions.Instr.{Instr}
 use Rattle.w_syntax.specs.declared.module.Func.{Func}
 use Rattle.w_syntax.specs.declared.module.Module.{Module}
 use Rattle.w_reduce.specs.Reduce.{defaults}
@@ -34,18 +35,22 @@ body_in None = Done
 abbrev pub body_of : Module → ℕ → Code
 body_of m f = body_in (code_of_function m f)
 
--- the function's code from a place on
+-- what is left of the innermost sequence at a place of the function's code
 abbrev pub code_from : Module → ℕ → ℕ → Code
-code_from m f place = tree_of (drop place (ops_of (body_of m f)))
+code_from m f place = tree_of (drop place (whole (body_of m f)))
+
+abbrev pub instr_in : Option Func → ℕ → Option Instr
+instr_in (Some c) place = slice_get (whole c.body) place
+instr_in None place = None
 
 -- the instruction at the place
-abbrev pub op_at : Module → ℕ → ℕ → Option Op
-op_at m f place = slice_get (ops_of (body_of m f)) place
+abbrev pub instr_at : Module → ℕ → ℕ → Option Instr
+instr_at m f place = instr_in (code_of_function m f) place
 
-abbrev pub defaults_in : Option Func → List Value
+abbrev pub defaults_in : Option Func → List (Option Value)
 defaults_in (Some c) = defaults c.locals
 defaults_in None = []
 
 -- what the function's locals behind its parameters begin with
-abbrev pub defaults_of : Module → ℕ → List Value
+abbrev pub defaults_of : Module → ℕ → List (Option Value)
 defaults_of m f = defaults_in (code_of_function m f)

@@ -1,5 +1,5 @@
 //! The term of a run, as operands and locals in one list each, and the frames that wait.
-ghost use Rattle.std.specs.Prelude.{◌≡◌, ◌+◌, ◌≤◌, [], ◌++◌, take, reverse, replicate, OnOk, OnErr, vec_len};
+ghost use Rattle.std.specs.Prelude.{◌≡◌, ◌+◌, ◌≤◌, [], ◌++◌, Some, length, map, take, reverse, replicate, OnOk, OnErr, vec_len};
 ghost use Rattle.w_types.specs.Values.{default_of};
 ghost use Rattle.w_reduce.specs.Reduce.{defaults};
 ghost use Rattle.w_machine.specs.Configuration.{parts, base as base_of, Fits, IsInBody, stage_behind, place_behind, after, left, replaced};
@@ -41,7 +41,8 @@ pub struct Configuration {
     pub stage: Stage,
     pub function: usize,
     pub operands: Vec<Value>,
-    pub locals: Vec<Value>,
+    /// A local that was never set holds nothing.
+    pub locals: Vec<Option<Value>>,
     pub callers: Vec<Caller>,
 }
 
@@ -91,7 +92,7 @@ fn replace(operands: &mut Vec<Value>, taken: usize, given: Option<Value>) -> Res
 }
 
 // Adds a run of locals, as they begin.
-fn push_run(locals: &mut Vec<Value>, run: LocalRun) -> Result<(), AllocError>
+fn push_run(locals: &mut Vec<Option<Value>>, run: LocalRun) -> Result<(), AllocError>
     ensures ok { OnOk result (locals.new.items ≡ locals.old.items ++ replicate run.count (default_of run.kind)) }
     ensures keeps { take (vec_len locals.old) locals.new.items ≡ locals.old.items }
 {
@@ -102,7 +103,7 @@ fn push_run(locals: &mut Vec<Value>, run: LocalRun) -> Result<(), AllocError>
 }
 
 // Adds runs of locals, as they begin.
-fn push_runs(locals: &mut Vec<Value>, runs: &[LocalRun]) -> Result<(), AllocError>
+fn push_runs(locals: &mut Vec<Option<Value>>, runs: &[LocalRun]) -> Result<(), AllocError>
     ensures ok { OnOk result (locals.new.items ≡ locals.old.items ++ defaults runs.now) }
     ensures keeps { take (vec_len locals.old) locals.new.items ≡ locals.old.items }
 {
@@ -112,26 +113,37 @@ fn push_runs(locals: &mut Vec<Value>, runs: &[LocalRun]) -> Result<(), AllocErro
     Ok(())
 }
 
+// Adds arguments as locals.
+fn push_arguments(locals: &mut Vec<Option<Value>>, arguments: &[Value]) -> Result<(), AllocError>
+    ensures ok { OnOk result (locals.new.items ≡ locals.old.items ++ map (λ (v : Value). Some v) arguments.now) }
+    ensures keeps { take (vec_len locals.old) locals.new.items ≡ locals.old.items }
+{
+    for value in arguments {
+        locals.push(Some(*value))?;
+    }
+    Ok(())
+}
+
 // Adds the locals of a function: its arguments, and runs as they begin.
 fn push_locals(
-    locals: &mut Vec<Value>,
+    locals: &mut Vec<Option<Value>>,
     arguments: &[Value],
     runs: &[LocalRun],
 ) -> Result<(), AllocError>
-    ensures ok { OnOk result (locals.new.items ≡ locals.old.items ++ (arguments.now ++ defaults runs.now)) }
+    ensures ok { OnOk result (locals.new.items ≡ locals.old.items ++ (map (λ (v : Value). Some v) arguments.now ++ defaults runs.now)) }
     ensures keeps { take (vec_len locals.old) locals.new.items ≡ locals.old.items }
 {
-    locals.extend_from_slice(arguments)?;
+    push_arguments(locals, arguments)?;
     push_runs(locals, runs)
 }
 
 // The same, all of them or none.
 fn add_locals(
-    locals: &mut Vec<Value>,
+    locals: &mut Vec<Option<Value>>,
     arguments: &[Value],
     runs: &[LocalRun],
 ) -> Result<(), AllocError>
-    ensures ok { OnOk result (locals.new.items ≡ locals.old.items ++ (arguments.now ++ defaults runs.now)) }
+    ensures ok { OnOk result (locals.new.items ≡ locals.old.items ++ (map (λ (v : Value). Some v) arguments.now ++ defaults runs.now)) }
     ensures err { OnErr result (locals.new.items ≡ locals.old.items) }
 {
     let before = locals.len();

@@ -1,30 +1,64 @@
 //! The function that a run begins with.
 ghost use Rattle.std.specs.Prelude.{◌≡◌};
-ghost use Rattle.w_reduce.specs.Start.{entry as entry_of, entry_at as entry_there};
+ghost use Rattle.w_reduce.specs.Start.{entry as the_entry, entry_of as entry_exported, entry_at as entry_there, is_entry_type as entry_type, are_integers as all_integers};
 ghost use Rattle.w_syntax.specs.Functions.{type_of_function};
 
 use w_rules::function_type;
-use w_syntax::Module;
+use w_syntax::{ExternIndex, Module};
+use w_types::{FuncType, ValType};
+
+// Whether the types are those of integers.
+fn are_integers(types: &[ValType]) -> bool
+    ensures { result ≡ all_integers types.now }
+{
+    for kind in types {
+        if matches!(kind, ValType::Ref(_)) {
+            return false;
+        }
+    }
+    true
+}
+
+// Whether the type is `[]` to integers.
+fn is_entry_type(kind: &FuncType) -> bool
+    ensures { result ≡ entry_type kind.now }
+{
+    kind.params.len() == 0 && are_integers(kind.results.as_slice())
+}
 
 // The function, where its type is `[]` to integers.
 fn entry_at(program: &Module, function: u32) -> Option<usize>
     ensures { result ≡ entry_there function (type_of_function program.now function) }
 {
-    let of = function_type(program, function as usize)?;
-    if of.params.len() == 0 {
-        Some(function as usize)
-    } else {
-        None
+    match function_type(program, function as usize) {
+        Some(kind) => {
+            if is_entry_type(kind) {
+                Some(function as usize)
+            } else {
+                None
+            }
+        }
+        None => None,
+    }
+}
+
+// What is exported, where it is a function whose type is `[]` to integers.
+fn entry_of(program: &Module, what: ExternIndex) -> Option<usize>
+    ensures { result ≡ entry_exported program.now what }
+{
+    match what {
+        ExternIndex::Func(function) => entry_at(program, function),
+        _ => None,
     }
 }
 
 /// The function that a run begins with: the one that is exported as main, where its type is `[]` to integers.
 pub(crate) fn entry(program: &Module) -> Option<usize>
-    ensures { result ≡ entry_of program.now }
+    ensures { result ≡ the_entry program.now }
 {
     for export in program.exports.as_slice() {
         if export.name.as_str() == "main" {
-            return entry_at(program, export.function);
+            return entry_of(program, export.index);
         }
     }
     None

@@ -1,15 +1,15 @@
 //! Finding the next reduction.
 ghost use Rattle.std.specs.Prelude.{◌≡◌, ◌+◌, ◌^◌, ◌<◌, Some, option_map};
-ghost use Rattle.w_syntax.specs.declared.code.Op.TheVariants.{Numeric as NumericOp};
-ghost use Rattle.w_machine.specs.Functions.{op_at as op_of};
+ghost use Rattle.w_syntax.specs.declared.instructions.Op.TheVariants.{Numeric as NumericOp, Control as ControlOp, Parametric as ParametricOp};
+ghost use Rattle.w_machine.specs.Functions.{instr_at as instr_of};
 ghost use Rattle.w_machine.specs.Configuration.{parts, IsSound, Finds, FindsInstruction, FindsCall, redex_within, found_within};
 ghost use Rattle.w_machine.specs.Operands.{TakesI64};
 
 use crate::binary::apply;
 use crate::configuration::{Configuration, Found, Redex, Stage, base};
-use crate::functions::{op_at, param_count, result_count};
+use crate::functions::{instr_at, param_count, result_count};
 use crate::store::Store;
-use w_syntax::{Module, Numeric, Op};
+use w_syntax::{Binary, Control, Instr, IntType, Module, Numeric, Op, Parametric};
 use w_types::Value;
 
 /// The most frames of a run.
@@ -26,6 +26,22 @@ fn top_i64(operands: &[Value]) -> Option<(u64, &[Value])>
     }
 }
 
+// The redex that a binary operation on two i64 is.
+fn find_binary(program: &Module, store: &Store, operands: &[Value], operation: Binary) -> Found
+    ensures { FindsInstruction program.now store.now operands.now (NumericOp (Numeric.Binary IntType.I64 operation)) result }
+{
+    let Some((b, rest)) = top_i64(operands) else {
+        return Found::NoRule;
+    };
+    let Some((a, _)) = top_i64(rest) else {
+        return Found::NoRule;
+    };
+    match apply(operation, a, b) {
+        Some(number) => Found::Redex(Redex::Operands(2, Some(Value::I64(number)))),
+        None => Found::NoRule,
+    }
+}
+
 // The redex that a numeric instruction is.
 fn find_numeric(program: &Module, store: &Store, operands: &[Value], op: Numeric) -> Found
     ensures { FindsInstruction program.now store.now operands.now (NumericOp op) result }
@@ -34,15 +50,10 @@ fn find_numeric(program: &Module, store: &Store, operands: &[Value], op: Numeric
         Numeric::I64Const(number) => {
             Found::Redex(Redex::Operands(0, Some(Value::I64(number.cast_unsigned()))))
         }
-        Numeric::I64Binary(operation) => {
-            let Some((b, rest)) = top_i64(operands) else {
-                return Found::NoRule;
-            };
-            let Some((a, _)) = top_i64(rest) else {
-                return Found::NoRule;
-            };
-            Found::Redex(Redex::Operands(2, Some(Value::I64(apply(operation, a, b)))))
-        }
+        Numeric::Binary(IntType::I64, operation) => find_binary(
+            program, store, operands, operation,
+        ),
+        _ => Found::NoRule,
     }
 }
 
@@ -59,20 +70,41 @@ fn find_call(program: &Module, store: &Store, operands: usize, address: usize) -
     }
 }
 
-// The redex that an instruction is.
-fn find_instruction(program: &Module, store: &Store, operands: &[Value], op: Op) -> Found
-    ensures { FindsInstruction program.now store.now operands.now op result }
+// The redex that a control instruction is.
+fn find_control(program: &Module, store: &Store, operands: &[Value], op: &Control) -> Found
+    ensures { FindsInstruction program.now store.now operands.now (ControlOp op.now) result }
 {
     match op {
-        Op::Numeric(numeric) => find_numeric(program, store, operands, numeric),
-        Op::Call(address) => find_call(program, store, operands.len(), address as usize),
-        Op::Drop => {
+        Control::Call(address) => find_call(program, store, operands.len(), *address as usize),
+        _ => Found::NoRule,
+    }
+}
+
+// The redex that a parametric instruction is.
+fn find_parametric(program: &Module, store: &Store, operands: &[Value], op: &Parametric) -> Found
+    ensures { FindsInstruction program.now store.now operands.now (ParametricOp op.now) result }
+{
+    match op {
+        Parametric::Drop => {
             if operands.is_empty() {
                 Found::NoRule
             } else {
                 Found::Redex(Redex::Operands(1, None))
             }
         }
+        _ => Found::NoRule,
+    }
+}
+
+// The redex that an instruction is.
+fn find_instruction(program: &Module, store: &Store, operands: &[Value], op: &Op) -> Found
+    ensures { FindsInstruction program.now store.now operands.now op.now result }
+{
+    match op {
+        Op::Control(op) => find_control(program, store, operands, op),
+        Op::Parametric(op) => find_parametric(program, store, operands, op),
+        Op::Numeric(op) => find_numeric(program, store, operands, *op),
+        _ => Found::NoRule,
     }
 }
 
@@ -100,11 +132,11 @@ fn limited(found: Found, waiting: usize) -> Found
 
 impl Configuration {
     // The redex of the instruction, or the limit on frames where its result passes that.
-    fn find_within(&self, program: &Module, store: &Store, place: usize, op: Op) -> Found
+    fn find_within(&self, program: &Module, store: &Store, place: usize, op: &Op) -> Found
         requires sound { IsSound (parts self.now) }
         requires at { self.now.stage ≡ Stage.Body place }
         requires next { place + 1 < 2 ^ 64 }
-        requires is { op_of program.now self.now.function place ≡ Some op }
+        requires is { instr_of program.now self.now.function place ≡ Some (Instr.Plain op.now) }
         ensures { Finds program.now store.now (parts self.now) result }
     {
         let own = &self.operands[base(self.callers.as_slice())..];
@@ -112,6 +144,23 @@ impl Configuration {
             find_instruction(program, store, own, op),
             self.callers.len(),
         )
+    }
+
+    // The redex of what stands at a place. A block has no rule yet; a mark ends the innermost sequence.
+    fn find_instr(&self, program: &Module, store: &Store, place: usize, instr: &Instr) -> Found
+        requires sound { IsSound (parts self.now) }
+        requires at { self.now.stage ≡ Stage.Body place }
+        requires next { place + 1 < 2 ^ 64 }
+        requires is { instr_of program.now self.now.function place ≡ Some instr.now }
+        ensures { Finds program.now store.now (parts self.now) result }
+    {
+        match instr {
+            Instr::Plain(op) => self.find_within(program, store, place, op),
+            Instr::Block(_, _, _) => Found::NoRule,
+            Instr::If(_, _, _) => Found::NoRule,
+            Instr::Else => Found::Redex(Redex::LabelExit),
+            Instr::End => Found::Redex(Redex::LabelExit),
+        }
     }
 
     // The first invoke.
@@ -133,8 +182,8 @@ impl Configuration {
     {
         match self.stage {
             Stage::Start(address) => self.find_invoke(program, store, address),
-            Stage::Body(place) => match op_at(program, self.function, place) {
-                Some(op) => self.find_within(program, store, place, op),
+            Stage::Body(place) => match instr_at(program, self.function, place) {
+                Some(instr) => self.find_instr(program, store, place, instr),
                 None => Found::Redex(Redex::LabelExit),
             },
             Stage::Frame => {

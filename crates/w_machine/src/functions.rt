@@ -1,11 +1,11 @@
 //! The functions of a module, looked up by their indices.
-ghost use Rattle.std.specs.Prelude.{◌≡◌, ◌+◌, ◌<◌, ◌^◌, IfSome, option_map};
-ghost use Rattle.w_syntax.specs.Functions.{code_of_function};
+ghost use Rattle.std.specs.Prelude.{◌≡◌, ◌+◌, ◌<◌, ◌^◌, IfSome, option_map, slice_get};
+ghost use Rattle.w_syntax.specs.Functions.{type_of_function, code_of_function};
 ghost use Rattle.w_reduce.specs.Reduce.{defaults};
-ghost use Rattle.w_machine.specs.Functions.{arity, params_of, defaults_of, op_at as op_of};
+ghost use Rattle.w_machine.specs.Functions.{arity, params_of, defaults_of, instr_at as instr_of};
 
 use w_rules::function_type;
-use w_syntax::{Func, LocalRun, Module, Op};
+use w_syntax::{Func, Instr, LocalRun, Module};
 
 /// The code of a function.
 pub(crate) fn code_at(program: &Module, function: usize) -> Option<&Func>
@@ -36,13 +36,15 @@ pub(crate) fn param_count(program: &Module, function: usize) -> Option<usize>
 }
 
 /// The instruction at a place of a function's code.
-pub(crate) fn op_at(program: &Module, function: usize, place: usize) -> Option<Op>
-    ensures is { result ≡ op_of program.now function place }
+pub(crate) fn instr_at(program: &Module, function: usize, place: usize) -> Option<&Instr>
+    ensures is { option_map (λ i. i.now) result ≡ instr_of program.now function place }
     // A place with an instruction is followed by another.
-    ensures next { IfSome result (λ op. place + 1 < 2 ^ 64) }
+    ensures next { IfSome result (λ instr. place + 1 < 2 ^ 64) }
 {
-    let code = code_at(program, function)?;
-    code.body.ops().get(place).copied()
+    match code_at(program, function) {
+        Some(code) => code.body.instrs().get(place),
+        None => None,
+    }
 }
 
 /// The locals of a function behind its parameters.

@@ -12,6 +12,10 @@ fn sums_differences_and_products_wrap(rt: HostRuntime) {
         (Binary::Mul, 9_223_372_036_854_775_808, 2, 0),
     ];
     for (operation, a, b, result) in rows {
-        assert_eq!(rt; apply(operation, a, b), result, "{operation:?} {a} {b}");
+        assert_eq!(rt;
+            apply(operation, a, b),
+            Some(result),
+            "{operation:?} {a} {b}"
+        );
     }
 }

@@ -1,17 +1,20 @@
 -- Terms are read as trees without loss: a tree is taken apart again.
 use Rattle.std.proofs.Common.{◌≡◌, List, [], ◌∷◌, refl, sym, ap, ◌∙◌}
-use Rattle.w_syntax.specs.Code.{Code, Done, Plain}
+use Rattle.w_syntax.specs.Code.{Code, Done, Plain, Block, If, IfElse}
 use Rattle.w_types.specs.Rows.{Row, ε, ◌▹◌, ◌⧺◌}
 use Rattle.w_types.specs.declared.value.Value.{Value}
 use Rattle.w_reduce.specs.Terms.{Administrative, Rest, Label, Frame, Context, Term}
 use Rattle.w_reduce.specs.Reduce.{Went, reduce}
-use Rattle.w_reduce.specs.Tree.{Is, Asks, Does, InLabel, InFrame, Sequence, Nil, ◌∙∙◌, values_then, written_code, asked, written, filled, tree, Decomposes, Deterministic}
+use Rattle.w_reduce.specs.Tree.{Is, Asks, Does, DoesBlock, DoesIf, DoesIfElse, InLabel, InFrame, Sequence, Nil, ◌∙∙◌, values_then, written_code, asked, written, filled, tree, Decomposes, Deterministic}
 use Rattle.w_types.proofs.Rows.{unit_left}
 
 -- the code, and the rest of a sequence, that instructions are
 code_in : Sequence → Code
 code_in Nil = Done
 code_in (Does o ∙∙ x) = Plain o (code_in x)
+code_in (DoesBlock kind b y ∙∙ x) = Block kind b y (code_in x)
+code_in (DoesIf b y ∙∙ x) = If b y (code_in x)
+code_in (DoesIfElse b y z ∙∙ x) = IfElse b y z (code_in x)
 code_in (Is v ∙∙ x) = Done
 code_in (Asks a ∙∙ x) = Done
 code_in (InLabel n again y ∙∙ x) = Done
@@ -24,6 +27,9 @@ rest_in : Sequence → Rest
 rest_in (Asks a ∙∙ x) = with_ahead a (rest_in x)
 rest_in Nil = record { ahead = []; code = Done }
 rest_in (Does o ∙∙ x) = record { ahead = []; code = Plain o (code_in x) }
+rest_in (DoesBlock kind b y ∙∙ x) = record { ahead = []; code = Block kind b y (code_in x) }
+rest_in (DoesIf b y ∙∙ x) = record { ahead = []; code = If b y (code_in x) }
+rest_in (DoesIfElse b y z ∙∙ x) = record { ahead = []; code = IfElse b y z (code_in x) }
 rest_in (Is v ∙∙ x) = record { ahead = []; code = Done }
 rest_in (InLabel n again y ∙∙ x) = record { ahead = []; code = Done }
 rest_in (InFrame n ls y ∙∙ x) = record { ahead = []; code = Done }
@@ -34,6 +40,9 @@ apart e vs Nil = record { around = e; operands = vs; rest = record { ahead = [];
 apart e vs (Is v ∙∙ x) = apart e (vs ▹ v) x
 apart e vs (Asks a ∙∙ x) = record { around = e; operands = vs; rest = with_ahead a (rest_in x) }
 apart e vs (Does o ∙∙ x) = record { around = e; operands = vs; rest = record { ahead = []; code = Plain o (code_in x) } }
+apart e vs (DoesBlock kind b y ∙∙ x) = record { around = e; operands = vs; rest = record { ahead = []; code = Block kind b y (code_in x) } }
+apart e vs (DoesIf b y ∙∙ x) = record { around = e; operands = vs; rest = record { ahead = []; code = If b y (code_in x) } }
+apart e vs (DoesIfElse b y z ∙∙ x) = record { around = e; operands = vs; rest = record { ahead = []; code = IfElse b y z (code_in x) } }
 apart e vs (InLabel n again y ∙∙ x) = apart (Label vs n again (rest_in x) ∷ e) ε y
 apart e vs (InFrame n ls y ∙∙ x) = apart (Frame vs n ls (rest_in x) ∷ e) ε y
 
@@ -41,11 +50,17 @@ code_written : (c : Code) → code_in (written_code c) ≡ c
 unfolding code_in
 code_written Done = refl
 code_written (Plain o c) = ap (Plain o) (code_written c)
+code_written (Block kind b x c) = ap (Block kind b x) (code_written c)
+code_written (If b x c) = ap (If b x) (code_written c)
+code_written (IfElse b x y c) = ap (IfElse b x y) (code_written c)
 
 only_code : (c : Code) → rest_in (written_code c) ≡ record { ahead = []; code = c }
 unfolding rest_in
 only_code Done = refl
 only_code (Plain o c) = ap (λ (d : Code). let r : Rest = record { ahead = []; code = Plain o d } in r) (code_written c)
+only_code (Block kind b x c) = ap (λ (d : Code). let r : Rest = record { ahead = []; code = Block kind b x d } in r) (code_written c)
+only_code (If b x c) = ap (λ (d : Code). let r : Rest = record { ahead = []; code = If b x d } in r) (code_written c)
+only_code (IfElse b x y c) = ap (λ (d : Code). let r : Rest = record { ahead = []; code = IfElse b x y d } in r) (code_written c)
 
 rest_written : (ahead : List Administrative) (c : Code) → rest_in (asked ahead (written_code c)) ≡ record { ahead = ahead; code = c }
 unfolding rest_in with_ahead
@@ -56,6 +71,9 @@ apart_rest : (e : Context) (vs : Row Value) (ahead : List Administrative) (c : C
 unfolding apart with_ahead
 apart_rest e vs [] Done = refl
 apart_rest e vs [] (Plain o c) = ap (λ (d : Code). let t : Term = record { around = e; operands = vs; rest = record { ahead = []; code = Plain o d } } in t) (code_written c)
+apart_rest e vs [] (Block kind b x c) = ap (λ (d : Code). let t : Term = record { around = e; operands = vs; rest = record { ahead = []; code = Block kind b x d } } in t) (code_written c)
+apart_rest e vs [] (If b x c) = ap (λ (d : Code). let t : Term = record { around = e; operands = vs; rest = record { ahead = []; code = If b x d } } in t) (code_written c)
+apart_rest e vs [] (IfElse b x y c) = ap (λ (d : Code). let t : Term = record { around = e; operands = vs; rest = record { ahead = []; code = IfElse b x y d } } in t) (code_written c)
 apart_rest e vs (a ∷ as2) c = ap (λ (r : Rest). let t : Term = record { around = e; operands = vs; rest = with_ahead a r } in t) (rest_written as2 c)
 
 apart_values : (e : Context) (vs : Row Value) (ws : Row Value) (x : Sequence) → apart e vs (values_then ws x) ≡ apart e (vs ⧺ ws) x

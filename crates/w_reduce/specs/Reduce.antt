@@ -7,12 +7,17 @@ use Rattle.w_types.specs.declared.value.Value.{Value}
 use Rattle.w_types.specs.declared.value.Value.TheVariants.{I32, I64}
 use Rattle.w_syntax.specs.Code.{Code, Done, Plain}
 use Rattle.w_syntax.specs.Functions.{type_of_function, code_of_function}
-use Rattle.w_syntax.specs.declared.code.Binary.{Binary}
-use Rattle.w_syntax.specs.declared.code.Binary.TheVariants.{Add, Sub, Mul}
-use Rattle.w_syntax.specs.declared.code.Numeric.{Numeric as NumericOp}
-use Rattle.w_syntax.specs.declared.code.Numeric.TheVariants.{I64Const, I64Binary}
-use Rattle.w_syntax.specs.declared.code.Op.{Op}
-use Rattle.w_syntax.specs.declared.code.Op.TheVariants.{Numeric, Call, Drop}
+use Rattle.w_syntax.specs.declared.numeric.IntType.TheVariants as int
+use Rattle.w_syntax.specs.declared.numeric.Binary.{Binary}
+use Rattle.w_syntax.specs.declared.numeric.Binary.TheVariants as binary
+use Rattle.w_syntax.specs.declared.numeric.Numeric.{Numeric}
+use Rattle.w_syntax.specs.declared.numeric.Numeric.TheVariants as numeric
+use Rattle.w_syntax.specs.declared.instructions.Control.{Control}
+use Rattle.w_syntax.specs.declared.instructions.Control.TheVariants as control
+use Rattle.w_syntax.specs.declared.instructions.Parametric.{Parametric}
+use Rattle.w_syntax.specs.declared.instructions.Parametric.TheVariants as parametric
+use Rattle.w_syntax.specs.declared.instructions.Op.{Op}
+use Rattle.w_syntax.specs.declared.instructions.Op.TheVariants as op
 use Rattle.w_syntax.specs.declared.module.Func.{Func}
 use Rattle.w_syntax.specs.declared.module.LocalRun.{LocalRun}
 use Rattle.w_syntax.specs.declared.module.Module.{Module}
@@ -72,25 +77,29 @@ abbrev pub bits_of : ℤ → ℕ
 bits_of (pos n) = n % 2 ^ 64
 bits_of (negsuc n) = 2 ^ 64 - 1 - n % 2 ^ 64
 
--- iadd, isub and imul of 64 bits
-abbrev pub binary : Binary → ℕ → ℕ → ℕ
-binary Add a b = (a + b) % 2 ^ 64
-binary Sub a b = (a + (2 ^ 64 - b)) % 2 ^ 64
-binary Mul a b = a * b % 2 ^ 64
+-- iadd, isub and imul of 64 bits; no rule yet for the others
+abbrev pub binary_i64 : Binary → ℕ → ℕ → Option ℕ
+binary_i64 binary.Add a b = Some ((a + b) % 2 ^ 64)
+binary_i64 binary.Sub a b = Some ((a + (2 ^ 64 - b)) % 2 ^ 64)
+binary_i64 binary.Mul a b = Some (a * b % 2 ^ 64)
+binary_i64 o a b = None
 
-abbrev pub numeric : Store → Context → Row Value → NumericOp → Code → Reduced
+abbrev pub numeric_op : Store → Context → Row Value → Numeric → Code → Reduced
 -- (i64.const z)  ↪  c
-numeric s e vs (I64Const z) c = goes s e (vs ▹ I64 (bits_of z)) (rest_of c)
+numeric_op s e vs (numeric.I64Const z) c = goes s e (vs ▹ I64 (bits_of z)) (rest_of c)
 -- (i64.const a) (i64.const b) i64.binop  ↪  (i64.const c)
-numeric s e vs (I64Binary o) c = do
+numeric_op s e vs (numeric.Binary int.I64 o) c = do
   (vs, b) ← take_i64 vs
   (vs, a) ← take_i64 vs
-  goes s e (vs ▹ I64 (binary o a b)) (rest_of c)
+  r ← or_stuck (binary_i64 o a b)
+  goes s e (vs ▹ I64 r) (rest_of c)
+-- no rule yet
+numeric_op s e vs o c = Stuck
 
 -- ## Calls (Core, execution, function calls)
 
--- what the locals of these runs begin with
-abbrev pub defaults : List LocalRun → List Value
+-- what the locals of these runs begin with; a local without a default value is not set
+abbrev pub defaults : List LocalRun → List (Option Value)
 defaults = flat_map (λ (r : LocalRun). replicate r.count (default_of r.kind))
 
 abbrev pub type_of : Module → Function → Option FuncType
@@ -107,7 +116,7 @@ enter m s e vs f rest = do
   code ← or_stuck (code_of m f)
   (below, args) ← take_values (length t.params) vs
   let k = length t.results in
-      goes s (Label ε k Done (rest_of Done) ∷ Frame below k (map (λ (v : Value). Some v) (listed args ++ defaults code.locals)) rest ∷ e) ε (rest_of code.body)
+      goes s (Label ε k Done (rest_of Done) ∷ Frame below k (map (λ (v : Value). Some v) (listed args) ++ defaults code.locals) rest ∷ e) ε (rest_of code.body)
 
 -- (invoke a), where the function of this address is f
 abbrev pub invoke : Module → Store → Context → Row Value → ℕ → Rest → Reduced
@@ -115,14 +124,26 @@ invoke m s e vs a rest = do
   f ← or_stuck (slice_get s.functions a)
   enter m s e vs f rest
 
-abbrev pub instruction : Module → Store → Context → Row Value → Op → Code → Reduced
-instruction m s e vs (Numeric o) c = numeric s e vs o c
+abbrev pub control_op : Module → Store → Context → Row Value → Control → Code → Reduced
 -- v^n (call x)  ↪  v^n (invoke x), and that is reduced at once
-instruction m s e vs (Call x) c = invoke m s e vs x (rest_of c)
+control_op m s e vs (control.Call x) c = invoke m s e vs x (rest_of c)
+-- no rule yet
+control_op m s e vs o c = Stuck
+
+abbrev pub parametric_op : Store → Context → Row Value → Parametric → Code → Reduced
 -- v drop  ↪  ε
-instruction m s e vs Drop c = do
+parametric_op s e vs parametric.Drop c = do
   (vs, v) ← take_value vs
   goes s e vs (rest_of c)
+-- no rule yet
+parametric_op s e vs o c = Stuck
+
+abbrev pub instruction : Module → Store → Context → Row Value → Op → Code → Reduced
+instruction m s e vs (op.Control o) c = control_op m s e vs o c
+instruction m s e vs (op.Parametric o) c = parametric_op s e vs o c
+instruction m s e vs (op.Numeric o) c = numeric_op s e vs o c
+-- no rule yet
+instruction m s e vs o c = Stuck
 
 -- ## Exits (Core, execution, exiting)
 
@@ -139,6 +160,8 @@ abbrev pub next : Module → Store → Context → Row Value → List Administra
 next m s e vs (Invoke a ∷ ahead) c = invoke m s e vs a (record { ahead = ahead; code = c })
 next m s e vs [] (Plain o c) = instruction m s e vs o c
 next m s e vs [] Done = leave s e vs
+-- no rule yet
+next m s e vs [] c = Stuck
 
 -- a result with more frames than the most is none
 abbrev pub limited : Reduced → Reduced

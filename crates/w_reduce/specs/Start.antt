@@ -1,27 +1,40 @@
 -- Where a run begins (Core, execution, instantiation): the invoke of the function that is exported as main.
-use Rattle.std.specs.Prelude.{ℕ, List, [], ◌∷◌, codes, if◌then◌else◌, Option, Some, None}
+use Rattle.std.specs.Prelude.{ℕ, nat_eq, Bool, true, false, ◌&&◌, List, [], ◌∷◌, length, codes, if◌then◌else◌, Option, Some, None}
 use Rattle.std.specs.Str.{bytes_eq}
 use Rattle.w_types.specs.declared.types.FuncType.{FuncType}
 use Rattle.w_types.specs.declared.types.ValType.{ValType}
+use Rattle.w_types.specs.declared.types.ValType.TheVariants as val
 use Rattle.w_types.specs.Rows.{ε}
 use Rattle.w_syntax.specs.Code.{Done}
 use Rattle.w_syntax.specs.Functions.{type_of_function}
 use Rattle.w_syntax.specs.declared.module.Export.{Export}
+use Rattle.w_syntax.specs.declared.module.ExternIndex.{ExternIndex}
+use Rattle.w_syntax.specs.declared.module.ExternIndex.TheVariants as index
 use Rattle.w_syntax.specs.declared.module.Module.{Module}
 use Rattle.w_reduce.specs.Terms.{Invoke, Term}
 
-abbrev pub without_params : ℕ → List ValType → Option ℕ
-without_params i [] = Some i
-without_params i (t ∷ ts) = None
+-- the type is [] to integers
+abbrev pub are_integers : List ValType → Bool
+are_integers [] = true
+are_integers (val.Ref r ∷ ts) = false
+are_integers (t ∷ ts) = are_integers ts
+
+abbrev pub is_entry_type : FuncType → Bool
+is_entry_type t = nat_eq (length t.params) 0 && are_integers t.results
 
 -- the function i, where its type is [] to integers
 abbrev pub entry_at : ℕ → Option FuncType → Option ℕ
-entry_at i (Some t) = without_params i t.params
+entry_at i (Some t) = if is_entry_type t then Some i else None
 entry_at i None = None
+
+-- what is exported, where that is a function
+abbrev pub entry_of : Module → ExternIndex → Option ℕ
+entry_of m (index.Func x) = entry_at x (type_of_function m x)
+entry_of m x = None
 
 abbrev pub entry_in : Module → List Export → Option ℕ
 entry_in m [] = None
-entry_in m (e ∷ es) = if bytes_eq e.name (codes "main") then entry_at e.function (type_of_function m e.function) else entry_in m es
+entry_in m (e ∷ es) = if bytes_eq e.name (codes "main") then entry_of m e.index else entry_in m es
 
 -- the function that a run begins with
 abbrev pub entry : Module → Option ℕ

@@ -1,8 +1,10 @@
 -- Terms as the standard writes them: sequences of values, instructions, labels and frames. Each term of `Terms` is read as
 -- one, its context around its operands and the rest of its sequence, and no two are read as the same.
 use Rattle.std.specs.Prelude.{◌≡◌, ℕ, List, [], ◌∷◌, Option}
-use Rattle.w_syntax.specs.Code.{Code, Done, Plain}
-use Rattle.w_syntax.specs.declared.code.Op.{Op}
+use Rattle.w_syntax.specs.Code.{Code, Done, Plain, Block, If, IfElse}
+use Rattle.w_syntax.specs.declared.instructions.Op.{Op}
+use Rattle.w_syntax.specs.declared.instructions.BlockKind.{BlockKind}
+use Rattle.w_syntax.specs.declared.instructions.BlockType.{BlockType}
 use Rattle.w_syntax.specs.declared.module.Module.{Module}
 use Rattle.w_types.specs.Rows.{Row, ε, ◌▹◌}
 use Rattle.w_types.specs.declared.value.Value.{Value}
@@ -16,6 +18,9 @@ mutual
     Is : Value → Item
     Asks : Administrative → Item
     Does : Op → Item
+    DoesBlock : BlockKind → BlockType → (inside : Code) → Item
+    DoesIf : BlockType → (inside : Code) → Item
+    DoesIfElse : BlockType → (first second : Code) → Item
     InLabel : (arity : ℕ) (again : Code) (body : Sequence) → Item
     InFrame : (arity : ℕ) (locals : List (Option Value)) (body : Sequence) → Item
 
@@ -31,6 +36,9 @@ values_then (vs ▹ v) x = values_then vs (Is v ∙∙ x)
 abbrev pub written_code : Code → Sequence
 written_code Done = Nil
 written_code (Plain o c) = Does o ∙∙ written_code c
+written_code (Block kind b x c) = DoesBlock kind b x ∙∙ written_code c
+written_code (If b x c) = DoesIf b x ∙∙ written_code c
+written_code (IfElse b x y c) = DoesIfElse b x y ∙∙ written_code c
 
 abbrev pub asked : List Administrative → Sequence → Sequence
 asked [] x = x

@@ -1,3 +1,4 @@
 pub mod Preorder
 pub mod Rules
 pub mod Totals
+pub mod Groups

@@ -1,4 +1,5 @@
 pub mod Matching
+pub mod Types
 pub mod Typing
 pub mod Family
 pub mod Limits

@@ -1,6 +1,9 @@
 -- The limits on a module's size. The number itself is within its limit.
-use Rattle.std.specs.Prelude.{ℕ, ◌+◌, ◌<◌, ◌≤◌, List, [], ◌∷◌, length, Option, Some, None}
+use Rattle.std.specs.Prelude.{ℕ, ◌+◌, ◌<◌, ◌≤◌, All, length, Option, Some, None}
 use Rattle.w_types.specs.declared.types.FuncType.{FuncType}
+use Rattle.w_types.specs.declared.types.CompType.{CompType}
+use Rattle.w_types.specs.declared.types.CompType.TheVariants as comp
+use Rattle.w_types.specs.Groups.{types_of}
 use Rattle.w_syntax.specs.Functions.{type_of_function, code_of_function}
 use Rattle.w_syntax.specs.Locals.{total}
 use Rattle.w_syntax.specs.declared.module.Func.{Func}
@@ -20,18 +23,15 @@ locals_in None = 0
 abbrev pub locals_of : Module → ℕ → ℕ
 locals_of m i = params_in (type_of_function m i) + locals_in (code_of_function m i)
 
-abbrev pub EachType : (FuncType → Type 0) → List FuncType → Type 0
-EachType P [] = Unit {0}
-EachType P (t ∷ ts) = P t × EachType P ts
-
--- at most so many parameters, and so many results
-abbrev pub IsNarrow : FuncType → Type 0
-IsNarrow t = (length t.params ≤ 1000) × (length t.results ≤ 1000)
+-- a function type has at most so many parameters, and so many results
+abbrev pub IsNarrow : CompType → Type 0
+IsNarrow (comp.Func t) = (length t.params ≤ 1000) × (length t.results ≤ 1000)
+IsNarrow (comp.Cont x) = Unit {0}
 
 -- the module keeps a limit
 abbrev pub Keeps : Module → LimitName → Type 0
-Keeps m Types = length m.types ≤ 10000
-Keeps m Params = EachType IsNarrow m.types
+Keeps m Types = length (types_of m.types) ≤ 10000
+Keeps m Params = All IsNarrow (types_of m.types)
 Keeps m Locals = (i : ℕ) → i < length m.codes → locals_of m i ≤ 50000
 Keeps m Frames = Unit {0}
 

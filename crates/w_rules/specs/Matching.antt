@@ -2,7 +2,7 @@
 use Rattle.w_types.specs.declared.types.ValType.{ValType}
 use Rattle.w_types.specs.Rows.{Row, ε, ◌▹◌}
 
--- a number type matches itself
+-- a value type matches itself
 pub data Matches : ValType → ValType → Type 0 where
   same : {t : ValType} → Matches t t
 

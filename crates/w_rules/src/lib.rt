@@ -9,6 +9,6 @@ mod limits;
 mod tests;
 
 pub use checked::Checked;
-pub use functions::function_type;
+pub use functions::{func_type, function_type};
 pub use laws::one_typing;
 pub use limits::{LimitName, limits_of};

@@ -1,12 +1,13 @@
 //! The limits on a module's size.
-ghost use Rattle.std.specs.Prelude.{◌≡◌, ◌≤◌, ◌<◌, ◌↔◌, length, IsTrue, IfSome, IfNone};
+ghost use Rattle.std.specs.Prelude.{◌≡◌, ◌+◌, ◌≤◌, ◌<◌, ◌↔◌, ◌^◌, All, length, IsTrue, IfSome, IfNone};
+ghost use Rattle.w_types.specs.Groups.{types_of};
 ghost use Rattle.w_syntax.specs.Functions.{type_of_function};
 ghost use Rattle.w_syntax.specs.Locals.{total};
-ghost use Rattle.w_rules.specs.Limits.{params_in, locals_of, EachType, IsNarrow, Keeps, Within, Passes};
+ghost use Rattle.w_rules.specs.Limits.{params_in, locals_of, IsNarrow, Keeps, Within, Passes};
 
 use crate::functions::function_type;
 use w_syntax::{LocalRun, Module};
-use w_types::FuncType;
+use w_types::{CompType, RecGroup};
 
 /// A counted quantity with a limit.
 #[derive(Clone, Copy, Debug, PartialEq, Eq)]
@@ -27,16 +28,30 @@ const PARAMS_LIMIT: usize = 1_000;
 
 const LOCALS_LIMIT: usize = 50_000;
 
-// Whether each type has at most so many parameters and results.
-fn are_narrow(types: &[FuncType]) -> bool
-    ensures { IsTrue result ↔ EachType IsNarrow types.now }
+// Whether a type has at most so many parameters and results.
+fn is_narrow(kind: &CompType) -> bool
+    ensures { IsTrue result ↔ IsNarrow kind.now }
 {
-    for kind in types {
-        if kind.params.len() > PARAMS_LIMIT || kind.results.len() > PARAMS_LIMIT {
-            return false;
+    match kind {
+        CompType::Func(kind) => {
+            kind.params.len() <= PARAMS_LIMIT && kind.results.len() <= PARAMS_LIMIT
         }
+        CompType::Cont(_) => true,
     }
-    true
+}
+
+// Whether each type of a group is narrow.
+fn is_group_narrow(group: &RecGroup) -> bool
+    ensures { IsTrue result ↔ All IsNarrow group.now.types }
+{
+    group.types.as_slice().iter().all(|kind| is_narrow(kind))
+}
+
+// Whether each type of these groups is narrow.
+fn are_narrow(groups: &[RecGroup]) -> bool
+    ensures { IsTrue result ↔ All IsNarrow (types_of groups.now) }
+{
+    groups.iter().all(|group| is_group_narrow(group))
 }
 
 // Whether the runs have at most so many locals. The sum is never formed, since it may be large.
@@ -91,7 +106,7 @@ pub fn limits_of(candidate: &Module) -> Option<LimitName>
     ensures none { IfNone result (Within candidate.now) }
     ensures some { IfSome result (λ name. Passes candidate.now name) }
 {
-    if candidate.types.len() > TYPES_LIMIT {
+    if candidate.types.type_count() > TYPES_LIMIT {
         return Some(LimitName::Types);
     }
     if !are_narrow(candidate.types.as_slice()) {

@@ -1,11 +1,11 @@
-use crate::{LimitName, limits_of};
+use crate::{LimitName, func_type, function_type, limits_of};
 use std::alloc::{AllocError, Global};
 use std::test::Fail;
-use w_syntax::{Body, Func, LocalRun, Module};
-use w_types::{FuncType, ListOf, ValType};
+use w_syntax::{Body, Control, Func, LocalRun, Module, Op};
+use w_types::{CompType, FuncType, ListOf, RecGroup, RecGroups, ValType};
 
 // A type with so many parameters and results.
-fn wide_type(alloc: Global, params: usize, results: usize) -> Result<FuncType, AllocError> {
+fn wide_type(alloc: Global, params: usize, results: usize) -> Result<CompType, AllocError> {
     let mut kind = FuncType {
         params: ListOf::new(alloc),
         results: ListOf::new(alloc),
@@ -16,30 +16,51 @@ fn wide_type(alloc: Global, params: usize, results: usize) -> Result<FuncType, A
     for _ in 0..results {
         kind.results.push(ValType::I64)?;
     }
-    Ok(kind)
+    Ok(CompType::Func(kind))
 }
 
-// A module of one function, which has so many parameters, results and locals, and of so many types.
+// So many types in two groups: the last is a function type with so many parameters and results, and the others are
+// continuation types.
+fn types_of(
+    alloc: Global,
+    types: u32,
+    (params, results): (usize, usize),
+) -> Result<RecGroups, AllocError> {
+    let mut first = ListOf::new(alloc);
+    for _ in 1..types {
+        first.push(CompType::Cont(0))?;
+    }
+    let mut last = ListOf::new(alloc);
+    last.push(wide_type(alloc, params, results)?)?;
+    let groups = Vec::from_array(alloc, [RecGroup { types: first }, RecGroup { types: last }])?;
+    Ok(RecGroups::from_vec(alloc, groups)?)
+}
+
+// A module of one function, of the last of so many types. It has so many parameters, results and locals.
 fn module_of(
     alloc: Global,
-    types: usize,
-    (params, results): (usize, usize),
+    types: u32,
+    widths: (usize, usize),
     locals: &[LocalRun],
 ) -> Result<Module, AllocError> {
     let mut made = Module {
-        types: ListOf::new(alloc),
+        types: types_of(alloc, types, widths)?,
+        imports: ListOf::new(alloc),
         functions: ListOf::new(alloc),
+        tables: ListOf::new(alloc),
+        memories: ListOf::new(alloc),
+        tags: ListOf::new(alloc),
+        globals: ListOf::new(alloc),
         exports: ListOf::new(alloc),
+        start: None,
+        elements: ListOf::new(alloc),
         codes: ListOf::new(alloc),
+        datas: ListOf::new(alloc),
     };
-    made.types.push(wide_type(alloc, params, results)?)?;
-    for _ in 1..types {
-        made.types.push(wide_type(alloc, 0, 0)?)?;
-    }
-    made.functions.push(0)?;
+    made.functions.push(types.saturating_sub(1))?;
     made.codes.push(Func {
         locals: ListOf::from_vec(Vec::from_slice(alloc, locals)?),
-        body: Body::new(Vec::new(alloc)),
+        body: Body::of_one(alloc, Op::Control(Control::Nop))?,
     })?;
     Ok(made)
 }
@@ -114,5 +135,21 @@ fn the_first_limit_is_named(rt: HostRuntime) -> Result<(), Fail> {
         limits_of(&module_of(alloc, 10_000, (1_001, 0), &[run(50_001)])?),
         Some(LimitName::Params)
     );
+    Ok(())
+}
+
+#[test]
+fn types_of_functions_are_found_through_groups(rt: HostRuntime) -> Result<(), Fail> {
+    let alloc = rt.alloc();
+    let mut made = module_of(alloc, 3, (1, 2), &[])?;
+    made.functions.push(1)?;
+    made.functions.push(3)?;
+    let widths = [Some((1, 2)), None, None, None];
+    for (index, width) in widths.iter().enumerate() {
+        let found = function_type(&made, index).map(|kind| (kind.params.len(), kind.results.len()));
+        assert_eq!(rt; found, *width);
+    }
+    assert_eq!(rt; func_type(&made, 2).map(|kind| kind.params.len()), Some(1));
+    assert_eq!(rt; func_type(&made, 0).map(|kind| kind.params.len()), None);
     Ok(())
 }

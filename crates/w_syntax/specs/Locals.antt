@@ -1,12 +1,23 @@
 -- Locals as the tree keeps them: neighbouring runs of one type joined, and runs of none dropped.
-use Rattle.std.specs.Prelude.{ℕ, ◌+◌, Bool, true, false, cond, nat_eq, List, [], ◌∷◌}
+use Rattle.std.specs.Prelude.{ℕ, ◌+◌, Bool, true, false, cond, not, ◌&&◌, nat_eq, List, [], ◌∷◌}
+use Rattle.w_types.specs.declared.types.HeapType.{HeapType}
+use Rattle.w_types.specs.declared.types.HeapType.TheVariants as heap
 use Rattle.w_types.specs.declared.types.ValType.{ValType}
 use Rattle.w_types.specs.declared.types.ValType.TheVariants as val
 use Rattle.w_syntax.specs.declared.module.LocalRun.{LocalRun}
 
+abbrev pub same_heap : HeapType → HeapType → Bool
+same_heap heap.Func heap.Func = true
+same_heap heap.NoFunc heap.NoFunc = true
+same_heap heap.Cont heap.Cont = true
+same_heap heap.NoCont heap.NoCont = true
+same_heap (heap.Index x) (heap.Index y) = nat_eq x y
+same_heap _ _ = false
+
 abbrev pub same_kind : ValType → ValType → Bool
 same_kind val.I32 val.I32 = true
 same_kind val.I64 val.I64 = true
+same_kind (val.Ref r) (val.Ref s) = cond r.nullable s.nullable (not s.nullable) && same_heap r.heap s.heap
 same_kind _ _ = false
 
 -- one run before others that are joined

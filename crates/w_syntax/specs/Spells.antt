@@ -1,8 +1,8 @@
 -- The spellings of modules (Core, binary format, modules).
-use Rattle.std.specs.Prelude.{◌≡◌, ℕ, List, [], ◌++◌, length, Some}
+use Rattle.std.specs.Prelude.{◌≡◌, ℕ, List, [], ◌++◌, Some, None}
 use Rattle.w_leb.specs.Format.{Each}
-use Rattle.w_syntax.specs.Module.{rank_after, nothing_yet, with_parts, header, CountsAgree}
-use Rattle.w_syntax.specs.SectionExact.{section}
+use Rattle.w_syntax.specs.Sections.{rank_after, section}
+use Rattle.w_syntax.specs.Module.{nothing_yet, with_parts, header, count_after, CountsAgree}
 use Rattle.w_syntax.specs.declared.module.Module.{Module}
 use Rattle.w_syntax.specs.declared.module.Part.{Part}
 
@@ -13,10 +13,6 @@ pub record BeginsWith (b : List ℕ) (ps : List Part) (k : ℕ) (rest : List ℕ
   pub each : Each section.Spells sections ps
   pub order : rank_after 0 ps ≡ Some k
 
--- b begins with the header and i sections that are framed, in order and spelled
-abbrev pub Front : List ℕ → ℕ → Type 0
-Front b i = (ps : List Part) × (k : ℕ) × (rest : List ℕ) × BeginsWith b ps k rest × (length ps ≡ i)
-
 -- The bytes b are a spelling of m: the header, and sections in order, which are m and agree in their counts.
 abbrev pub Spells : List ℕ → Module → Type 0
-Spells b m = (ps : List Part) × (k : ℕ) × BeginsWith b ps k [] × (with_parts nothing_yet ps ≡ m) × CountsAgree m
+Spells b m = (ps : List Part) × (k : ℕ) × BeginsWith b ps k [] × (with_parts nothing_yet ps ≡ m) × CountsAgree (count_after None ps) m

@@ -1,12 +1,26 @@
 //! Modules as trees, and how bytes spell them (`specs/`).
 #![tactic(auto)]
 
-mod code;
+mod body;
+mod builder;
+mod instructions;
+mod memory;
 mod module;
 mod name;
+mod numeric;
 #[cfg(test)]
 mod tests;
 
-pub use code::{Binary, Body, Numeric, Op, Token};
-pub use module::{Export, Func, LocalRun, Module, Part};
+pub use body::Body;
+pub use builder::{BodyBuilder, Stepped};
+pub use instructions::{
+    BlockKind, BlockType, Clause, Control, Instr, Op, Parametric, ReferenceOp, SwitchingOp,
+    TableOp, Token, VariableOp,
+};
+pub use memory::{Load, MemArg, MemoryOp, Store};
+pub use module::{
+    Data, DataMode, Elem, ElemMode, Export, ExternIndex, ExternType, Func, GlobalType,
+    GlobalVariable, Import, Limits, LocalRun, Module, Mutability, Part, Table, TableType, Tag,
+};
 pub use name::Name;
+pub use numeric::{Binary, Compare, Convert, IntType, Numeric, Unary};

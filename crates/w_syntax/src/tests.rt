@@ -1,16 +1,79 @@
-use crate::{Binary, Body, Name, Numeric, Op};
+use crate::{
+    BlockKind, BlockType, Body, BodyBuilder, Control, Instr, MemoryOp, Name, Op, Stepped, Token,
+};
+use std::alloc::{AllocError, Global};
 use std::test::Fail;
 
+// The body that the tokens make, if they make one.
+fn body_of(alloc: Global, tokens: Vec<Token>) -> Result<Option<Body>, AllocError> {
+    let mut builder = BodyBuilder::new(alloc);
+    for token in tokens {
+        match builder.push(token)? {
+            Stepped::More => {}
+            Stepped::Finished => return Ok(Some(builder.into_body())),
+            Stepped::Wrong => return Ok(None),
+        }
+    }
+    Ok(None)
+}
+
 #[test]
-fn a_body_gives_its_instructions_in_order(rt: HostRuntime) -> Result<(), Fail> {
+fn marks_have_their_places(rt: HostRuntime) -> Result<(), Fail> {
     let alloc = rt.alloc();
-    let ops = [
-        Op::Numeric(Numeric::I64Const(6)),
-        Op::Numeric(Numeric::I64Const(-7)),
-        Op::Numeric(Numeric::I64Binary(Binary::Mul)),
-    ];
-    let body = Body::new(Vec::from_slice(alloc, &ops)?);
-    assert_eq!(rt; body.ops(), ops.as_slice());
+    let tokens = vec![in alloc;
+        Token::If(BlockType::Empty),
+        Token::Plain(Op::Control(Control::Nop)),
+        Token::Else,
+        Token::Block(BlockKind::Loop, BlockType::Index(3)),
+        Token::End,
+        Token::End,
+        Token::If(BlockType::Empty),
+        Token::End,
+        Token::End,
+    ]?;
+    let expected = vec![in alloc;
+        Instr::If(BlockType::Empty, Some(2), 5),
+        Instr::Plain(Op::Control(Control::Nop)),
+        Instr::Else,
+        Instr::Block(BlockKind::Loop, BlockType::Index(3), 4),
+        Instr::End,
+        Instr::End,
+        Instr::If(BlockType::Empty, None, 7),
+        Instr::End,
+        Instr::End,
+    ]?;
+    match body_of(alloc, tokens)? {
+        Some(body) => assert_eq!(rt; body.instrs(), expected.as_slice()),
+        None => assert!(rt; false),
+    }
+    Ok(())
+}
+
+#[test]
+fn an_else_stands_once_in_an_if(rt: HostRuntime) -> Result<(), Fail> {
+    let alloc = rt.alloc();
+    let outside = vec![in alloc;
+        Token::Block(BlockKind::Block, BlockType::Empty),
+        Token::Else,
+    ]?;
+    assert!(rt; body_of(alloc, outside)?.is_none());
+    let twice = vec![in alloc;
+        Token::If(BlockType::Empty),
+        Token::Else,
+        Token::Else,
+        Token::End,
+        Token::End,
+    ]?;
+    assert!(rt; body_of(alloc, twice)?.is_none());
+    Ok(())
+}
+
+#[test]
+fn bodies_that_name_data_segments(rt: HostRuntime) -> Result<(), Fail> {
+    let alloc = rt.alloc();
+    assert!(rt; Body::of_one(alloc, Op::Memory(MemoryOp::Init(0, 0)))?.names_data());
+    assert!(rt; Body::of_one(alloc, Op::Memory(MemoryOp::DataDrop(1)))?.names_data());
+    assert!(rt; !Body::of_one(alloc, Op::Memory(MemoryOp::Fill(0)))?.names_data());
     Ok(())
 }
 

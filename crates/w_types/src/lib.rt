@@ -1,12 +1,14 @@
 //! Types and values, and the small lists that other crates keep them in.
 #![tactic(auto)]
 
+mod groups;
 mod list;
 #[cfg(test)]
 mod tests;
 mod types;
 mod value;
 
+pub use groups::RecGroups;
 pub use list::ListOf;
-pub use types::{FuncType, ValType};
+pub use types::{CompType, FuncType, HeapType, RecGroup, RefType, ValType};
 pub use value::Value;

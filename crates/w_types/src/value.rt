@@ -12,13 +12,14 @@ pub enum Value {
 }
 
 impl Value {
-    /// The value that a local begins with (Core, execution, default values).
-    pub fn default_of(kind: ValType) -> Value
+    /// The value that a local begins with (Core, execution, default values). `None` for a reference: no rule makes one yet.
+    pub fn default_of(kind: ValType) -> Option<Value>
         ensures { result ≡ default_of kind }
     {
         match kind {
-            ValType::I32 => Value::I32(0),
-            ValType::I64 => Value::I64(0),
+            ValType::I32 => Some(Value::I32(0)),
+            ValType::I64 => Some(Value::I64(0)),
+            ValType::Ref(_) => None,
         }
     }
 }

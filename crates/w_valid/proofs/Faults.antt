@@ -1,13 +1,30 @@
 -- A module has one fault at most.
-use Rattle.std.proofs.Common.{◌≡◌, inl, inr, ℕ, ◌<◌, Ok, Err, refl, ap, arith}
+use Rattle.std.proofs.Common.{◌≡◌, inl, inr, Ok, Err, refl, ap}
 use Rattle.w_syntax.specs.declared.module.Module.{Module}
 use Rattle.w_rules.specs.declared.limits.LimitName.{LimitName}
 use Rattle.w_rules.specs.declared.limits.LimitName.TheVariants.{Types, Params, Locals, Frames}
 use Rattle.w_rules.specs.Limits.{Within, Passes}
-use Rattle.w_rules.specs.Valid.{Item, ExportItem, FunctionItem, Before, Valid, IsInvalidAt}
+use Rattle.w_rules.specs.Valid.{
+  Item,
+  TypeItem,
+  ImportItem,
+  TableItem,
+  MemoryItem,
+  TagItem,
+  GlobalItem,
+  ElementItem,
+  DataItem,
+  StartItem,
+  ExportItem,
+  FunctionItem,
+  Before,
+  Valid,
+  IsInvalidAt,
+}
 use Rattle.w_valid.specs.declared.fault.ValidFault.{ValidFault}
-use Rattle.w_valid.specs.declared.fault.ValidFault.TheVariants.{Limit, Export, Function, OutOfMemory}
-use Rattle.w_valid.specs.Faults.{IsFaultOf, IsAnswer}
+use Rattle.w_valid.specs.declared.fault.ValidFault.TheVariants as fault
+use Rattle.w_valid.specs.Faults.{fault_of, IsRefusedAt, IsFaultOf, IsAnswer}
+use Rattle.w_valid.proofs.Items.{same_item}
 
 -- ## Limits
 
@@ -38,43 +55,54 @@ not_valid m x v i = i.untyped (v x i.item)
 not_before : (m : Module) (x y : Item) → IsInvalidAt m x → IsInvalidAt m y → Before x y → ⊥
 not_before m x y p q before = p.untyped (q.least x p.item before)
 
-same_export : (m : Module) (i j : ℕ) → IsInvalidAt m (ExportItem i) → IsInvalidAt m (ExportItem j) → i ≡ j
-same_export m i j p q =
-    let up : i < j → ⊥ = not_before m (ExportItem i) (ExportItem j) p q in
-    let down : j < i → ⊥ = not_before m (ExportItem j) (ExportItem i) q p in
-    grind arith
+one_item : (m : Module) (x y : Item) → IsInvalidAt m x → IsInvalidAt m y → x ≡ y
+one_item m x y p q = same_item x y (not_before m x y p q) (not_before m y x q p)
 
-same_function : (m : Module) (i j : ℕ) → IsInvalidAt m (FunctionItem i) → IsInvalidAt m (FunctionItem j) → i ≡ j
-same_function m i j p q =
-    let up : i < j → ⊥ = not_before m (FunctionItem i) (FunctionItem j) p q in
-    let down : j < i → ⊥ = not_before m (FunctionItem j) (FunctionItem i) q p in
-    grind arith
+-- ## Faults
 
-apart : (m : Module) (i j : ℕ) → IsInvalidAt m (ExportItem i) → IsInvalidAt m (FunctionItem j) → ⊥
-apart m i j p q = not_before m (ExportItem i) (FunctionItem j) p q tt
+-- what a fault names: a limit that is passed, the least item without a derivation, or want of memory
+data Named (m : Module) : ValidFault → Type 0 where
+  limit : (name : LimitName) → Passes m name → Named m (fault.Limit name)
+  item : (x : Item) → IsRefusedAt m x → Named m (fault_of x)
+  memory : Named m fault.OutOfMemory
+
+named : (m : Module) (g : ValidFault) → IsFaultOf m g → Named m g
+named m (fault.Limit name) h = limit name h
+named m (fault.TypeAt i) h = item (TypeItem i) h
+named m (fault.Import i) h = item (ImportItem i) h
+named m (fault.Table i) h = item (TableItem i) h
+named m fault.Memory h = item MemoryItem h
+named m (fault.Tag i) h = item (TagItem i) h
+named m (fault.Global i) h = item (GlobalItem i) h
+named m (fault.Element i) h = item (ElementItem i) h
+named m (fault.Data i) h = item (DataItem i) h
+named m fault.Start h = item StartItem h
+named m (fault.Export i) h = item (ExportItem i) h
+named m (fault.Function i) h = item (FunctionItem i) h
+named m fault.OutOfMemory h = memory
 
 -- ## Answers
 
+ok_named : {m : Module} {g : ValidFault} → Within m → Valid m → Named m g → IsAnswer (Ok m) (Err g)
+ok_named {m} w v (limit name p) = absurd (not_within m name w p)
+ok_named {m} w v (item x p) = absurd (not_valid m x v p.1)
+ok_named w v memory = inr refl
+
 pub only_ok : (m : Module) (g : ValidFault) → Within m → Valid m → IsFaultOf m g → IsAnswer (Ok m) (Err g)
-only_ok m (Limit name) w v f = absurd (not_within m name w f)
-only_ok m (Export i) w v f = absurd (not_valid m (ExportItem i) v f.1)
-only_ok m (Function i) w v f = absurd (not_valid m (FunctionItem i) v f.1)
-only_ok m OutOfMemory w v f = inr refl
+only_ok m g w v f = ok_named w v (named m g f)
 
-pub only_limit : (m : Module) (g : ValidFault) (name : LimitName) → Passes m name → IsFaultOf m g → IsAnswer (Err (Limit name)) (Err g)
-only_limit m (Limit other) name p f = inl (ap (λ (n : LimitName). Err (Limit n)) (one_limit m other name f p))
-only_limit m (Export i) name p f = absurd (not_within m name f.0 p)
-only_limit m (Function i) name p f = absurd (not_within m name f.0 p)
-only_limit m OutOfMemory name p f = inr refl
+limit_named : {m : Module} {g : ValidFault} (name : LimitName) → Passes m name → Named m g → IsAnswer (Err (fault.Limit name)) (Err g)
+limit_named {m} name p (limit other q) = inl (ap (λ (n : LimitName). Err (fault.Limit n)) (one_limit m other name q p))
+limit_named {m} name p (item x q) = absurd (not_within m name q.0 p)
+limit_named name p memory = inr refl
 
-pub only_export : (m : Module) (g : ValidFault) (i : ℕ) → Within m → IsInvalidAt m (ExportItem i) → IsFaultOf m g → IsAnswer (Err (Export i)) (Err g)
-only_export m (Limit name) i w p f = absurd (not_within m name w f)
-only_export m (Export j) i w p f = inl (ap (λ (n : ℕ). Err (Export n)) (same_export m j i f.1 p))
-only_export m (Function j) i w p f = absurd (apart m i j p f.1)
-only_export m OutOfMemory i w p f = inr refl
+pub only_limit : (m : Module) (g : ValidFault) (name : LimitName) → Passes m name → IsFaultOf m g → IsAnswer (Err (fault.Limit name)) (Err g)
+only_limit m g name p f = limit_named name p (named m g f)
 
-pub only_function : (m : Module) (g : ValidFault) (i : ℕ) → Within m → IsInvalidAt m (FunctionItem i) → IsFaultOf m g → IsAnswer (Err (Function i)) (Err g)
-only_function m (Limit name) i w p f = absurd (not_within m name w f)
-only_function m (Export j) i w p f = absurd (apart m j i f.1 p)
-only_function m (Function j) i w p f = inl (ap (λ (n : ℕ). Err (Function n)) (same_function m j i f.1 p))
-only_function m OutOfMemory i w p f = inr refl
+item_named : {m : Module} {g : ValidFault} (x : Item) → Within m → IsInvalidAt m x → Named m g → IsAnswer (Err (fault_of x)) (Err g)
+item_named {m} x w p (limit name q) = absurd (not_within m name w q)
+item_named {m} x w p (item y q) = inl (ap (λ (z : Item). Err (fault_of z)) (one_item m y x q.1 p))
+item_named x w p memory = inr refl
+
+pub only_item : (m : Module) (g : ValidFault) (x : Item) → Within m → IsInvalidAt m x → IsFaultOf m g → IsAnswer (Err (fault_of x)) (Err g)
+only_item m g x w p f = item_named x w p (named m g f)

@@ -7,7 +7,7 @@ use Rattle.w_types.specs.declared.types.ValType.{ValType}
 use Rattle.w_types.specs.Rows.{Row, ε, ◌▹◌, ◌⧺◌, row_of, listed}
 use Rattle.w_types.proofs.Rows.{row_of-more, listed-row_of}
 use Rattle.w_syntax.specs.Code.{Code, Plain}
-use Rattle.w_syntax.specs.declared.code.Op.{Op}
+use Rattle.w_syntax.specs.declared.instructions.Op.{Op}
 use Rattle.w_syntax.specs.declared.module.Module.{Module}
 use Rattle.w_rules.specs.Matching.{RowMatches}
 use Rattle.w_rules.specs.Typing.{fixed, drops, line, Steps, Derives}

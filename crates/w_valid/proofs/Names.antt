@@ -1,5 +1,5 @@
 -- The names of exports so far, as a set.
-use Rattle.std.proofs.Common.{◌≡◌, ℕ, ◌+◌, ◌<◌, ◌≤◌, List, length, Bool, true, false, cond, Option, Some, Bor, below_more, refl, sym, ap, subst, ◌∙◌, arith}
+use Rattle.std.proofs.Common.{◌≡◌, ℕ, ◌+◌, ◌<◌, List, Bool, true, false, cond, Option, Some, Bor, below_more, refl, sym, ap, subst, ◌∙◌, arith}
 use Rattle.std.specs.BTreeMap.{is_at}
 use Rattle.std.specs.BTreeSet.{BTreeSet, contains, contains_by}
 use Rattle.std.specs.Cmp.Lexicographic.{slice_cmp}
@@ -10,7 +10,7 @@ use Rattle.std.proofs.lemmas.Map.Text.{is_eq-slice_cmp}
 use Rattle.std.proofs.lemmas.Slice.Eq.{bytes_eq-Decides}
 use Rattle.w_syntax.specs.declared.module.Export.{Export}
 use Rattle.w_syntax.specs.declared.module.Module.{Module}
-use Rattle.w_rules.specs.Valid.{name_of_export, ExportTyped}
+use Rattle.w_rules.specs.Valid.{name_of_export, IsThere, ExportTyped}
 
 -- whether the set has the name
 abbrev pub has : BTreeSet (Bor (List ℕ)) → List ℕ → Bool
@@ -60,7 +60,7 @@ inserted m i name old more is updates h = one_more m i (has old) (has more) name
 pub name_at : (m : Module) (i : ℕ) (e : Export) → slice_get m.exports i ≡ Some e → name_of_export m i ≡ Some e.name
 name_at m i e is = subst (λ (o : Option Export). option_map (λ (x : Export). x.name) o ≡ Some e.name) (sym is) refl
 
-pub typed : (m : Module) (i : ℕ) (e : Export) (test : List ℕ → Bool) → slice_get m.exports i ≡ Some e → e.function < length m.functions
+pub typed : (m : Module) (i : ℕ) (e : Export) (test : List ℕ → Bool) → slice_get m.exports i ≡ Some e → IsThere m e.index
     → HasNames m i test → test e.name ≡ false → ExportTyped m i
 typed m i e test is there h free = record {
   export = e;
@@ -72,8 +72,8 @@ typed m i e test is there h free = record {
 same_export : (m : Module) (i : ℕ) (e : Export) → slice_get m.exports i ≡ Some e → (t : ExportTyped m i) → e ≡ t.export
 same_export m i e is t = let f = t.is in cc
 
-pub not_there : (m : Module) (i : ℕ) (e : Export) → slice_get m.exports i ≡ Some e → length m.functions ≤ e.function → ExportTyped m i → ⊥
-not_there m i e is out t = let same = ap (λ (x : Export). x.function) (same_export m i e is t) in let there = t.there in absurd (omega arith)
+pub not_there : (m : Module) (i : ℕ) (e : Export) → slice_get m.exports i ≡ Some e → (IsThere m e.index → ⊥) → ExportTyped m i → ⊥
+not_there m i e is out t = out (subst (λ (x : Export). IsThere m x.index) (sym (same_export m i e is t)) t.there)
 
 pub not_alone : (m : Module) (i : ℕ) (e : Export) (test : List ℕ → Bool) → slice_get m.exports i ≡ Some e → HasNames m i test → test e.name ≡ true → ExportTyped m i → ⊥
 not_alone m i e test is h taken t =

@@ -1,15 +1,16 @@
--- The first export and the first function without a derivation.
-use Rattle.std.specs.Prelude.{ℕ, ◌<◌, Option, Some, None}
+-- The first items without a derivation.
+use Rattle.std.specs.Prelude.{◌≡◌, ℕ, ◌<◌, Option, Some, None}
 use Rattle.w_syntax.specs.declared.module.Module.{Module}
-use Rattle.w_rules.specs.Valid.{ExportItem, FunctionItem, Item, ItemTyped, IsItem}
+use Rattle.w_rules.specs.Valid.{Item, ItemTyped, IsItem, Before, IsInvalidAt}
+use Rattle.w_valid.specs.declared.fault.ValidFault.{ValidFault}
+use Rattle.w_valid.specs.Faults.{fault_of}
 
 -- of the items of one kind, this is the first without a derivation, or there is none
 abbrev pub IsFirst : Module → (ℕ → Item) → Option ℕ → Type 0
 IsFirst m item None = (j : ℕ) → IsItem m (item j) → ItemTyped m (item j)
 IsFirst m item (Some i) = IsItem m (item i) × (ItemTyped m (item i) → ⊥) × ((j : ℕ) → j < i → IsItem m (item j) → ItemTyped m (item j))
 
-abbrev pub IsFirstExport : Module → Option ℕ → Type 0
-IsFirstExport m first = IsFirst m ExportItem first
-
-abbrev pub IsFirstFunction : Module → Option ℕ → Type 0
-IsFirstFunction m first = IsFirst m FunctionItem first
+-- of the items before z, the fault names the first without a derivation, or there is none
+abbrev pub IsFirstBefore : Module → Item → Option ValidFault → Type 0
+IsFirstBefore m z None = (x : Item) → Before x z → IsItem m x → ItemTyped m x
+IsFirstBefore m z (Some fault) = (x : Item) × (fault ≡ fault_of x) × Before x z × IsInvalidAt m x

@@ -1,3 +1,3 @@
 pub mod Operands
-pub mod Firsts
 pub mod Faults
+pub mod Firsts

@@ -12,11 +12,39 @@ pub enum ValidFault {
     /// The module passes a limit on its size, and this is the first.
     #[error("limit {0:?} is passed")]
     Limit(LimitName),
-    /// The export of this index is the first that is not valid: its function is not there, or its name stands at a lower index.
+    /// The type of this index is the first that is not valid: it is not a function type of integers.
+    #[error("type {0} is not valid")]
+    TypeAt(usize),
+    /// The import of this index is the first that is not valid. No rule makes one valid yet.
+    #[error("import {0} is not valid")]
+    Import(usize),
+    /// The table of this index is the first that is not valid. No rule makes one valid yet.
+    #[error("table {0} is not valid")]
+    Table(usize),
+    /// The memories are not valid. No rule makes them valid yet.
+    #[error("the memory is not valid")]
+    Memory,
+    /// The tag of this index is the first that is not valid. No rule makes one valid yet.
+    #[error("tag {0} is not valid")]
+    Tag(usize),
+    /// The global of this index is the first that is not valid. No rule makes one valid yet.
+    #[error("global {0} is not valid")]
+    Global(usize),
+    /// The element segment of this index is the first that is not valid. No rule makes one valid yet.
+    #[error("element segment {0} is not valid")]
+    Element(usize),
+    /// The data segment of this index is the first that is not valid. No rule makes one valid yet.
+    #[error("data segment {0} is not valid")]
+    Data(usize),
+    /// The start is not valid. No rule makes one valid yet.
+    #[error("the start is not valid")]
+    Start,
+    /// The export of this index is the first that is not valid: what it exports is not a function that is there, or its name stands
+    /// at a lower index.
     #[error("export {0} is not valid")]
     Export(usize),
-    /// The exports are valid, and the function of this index is the first that is not: it has no type or no code, or its body
-    /// does not have its type.
+    /// The function of this index is the first that is not valid: it has no function type or no code, a local's type is not valid,
+    /// or its body does not have its type.
     #[error("function {0} is not valid")]
     Function(usize),
     #[error("out of memory")]

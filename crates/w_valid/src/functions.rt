@@ -1,14 +1,15 @@
 //! Validity of functions.
 ghost use Rattle.std.specs.Prelude.{◌≡◌, ◌↔◌, IfOk, IsTrue};
-ghost use Rattle.w_rules.specs.Valid.{FunctionTyped};
-ghost use Rattle.w_valid.specs.Firsts.{IsFirstFunction};
+ghost use Rattle.w_rules.specs.Valid.{FunctionItem, FunctionTyped};
+ghost use Rattle.w_valid.specs.Firsts.{IsFirst};
 
 use crate::bodies::gives;
+use crate::types::are_locals_valid;
 use std::alloc::{AllocError, Global};
 use w_rules::function_type;
 use w_syntax::Module;
 
-// Whether the function of this index has a type, and code that has this type (Core, validation, modules).
+// Whether the function of this index has a function type, valid locals, and a body of this type (Core, validation, modules).
 fn is_typed(alloc: Global, owner: &Module, index: usize) -> Result<bool, AllocError>
     ensures { IfOk result (λ typed. IsTrue typed ↔ FunctionTyped owner.now index) }
 {
@@ -18,12 +19,15 @@ fn is_typed(alloc: Global, owner: &Module, index: usize) -> Result<bool, AllocEr
     let Some(code) = owner.codes.as_slice().get(index) else {
         return Ok(false);
     };
-    Ok(gives(alloc, owner, code.body.ops(), kind.results.as_slice())?)
+    if !are_locals_valid(code.locals.as_slice()) {
+        return Ok(false);
+    }
+    gives(alloc, owner, &code.body, kind.results.as_slice())
 }
 
 /// The first function that is not valid, if there is one: each index of a type or of code is that of a function.
 pub fn first_untyped_function(alloc: Global, owner: &Module) -> Result<Option<usize>, AllocError>
-    ensures { IfOk result (λ first. IsFirstFunction owner.now first) }
+    ensures { IfOk result (λ first. IsFirst owner.now FunctionItem first) }
 {
     let count = owner.functions.len().max(owner.codes.len());
     for index in 0..count {

@@ -8,6 +8,7 @@ mod functions;
 mod instructions;
 #[cfg(test)]
 mod tests;
+mod types;
 mod validation;
 
 pub use fault::ValidFault;

@@ -1,16 +1,52 @@
 //! Validation of a module.
-ghost use Rattle.std.specs.Prelude.{◌≡◌, ℕ, IfOk, IfErr, OnOk, Ok, Err};
+ghost use Rattle.std.specs.Prelude.{◌≡◌, IfOk, IfErr, OnOk, Ok, Err};
 ghost use Rattle.w_rules.specs.Limits.{Within, Passes};
-ghost use Rattle.w_rules.specs.Valid.{ExportItem, FunctionItem, Valid, IsInvalidAt};
+ghost use Rattle.w_rules.specs.Valid.{Item, ExportItem, Valid, IsInvalidAt};
 ghost use Rattle.w_rules.specs.declared.limits.LimitName.{LimitName as TheLimit};
-ghost use Rattle.w_valid.specs.Faults.{IsFaultOf, IsAnswer};
+ghost use Rattle.w_valid.specs.Faults.{fault_of, IsFaultOf, IsAnswer};
+ghost use Rattle.w_valid.specs.Firsts.{IsFirstBefore};
 
 use crate::exports::first_untyped_export;
 use crate::fault::ValidFault;
 use crate::functions::first_untyped_function;
+use crate::types::first_untyped_type;
 use std::alloc::Global;
 use w_rules::{Checked, limits_of};
 use w_syntax::Module;
+
+// The first item before the exports that is not valid, if there is one. From imports to the start no item has a rule yet.
+fn first_untyped_definition(candidate: &Module) -> Option<ValidFault>
+    ensures { IsFirstBefore candidate.now (ExportItem 0) result }
+{
+    if let Some(index) = first_untyped_type(candidate) {
+        return Some(ValidFault::TypeAt(index));
+    }
+    if candidate.imports.len() > 0 {
+        return Some(ValidFault::Import(0));
+    }
+    if candidate.tables.len() > 0 {
+        return Some(ValidFault::Table(0));
+    }
+    if candidate.memories.len() > 0 {
+        return Some(ValidFault::Memory);
+    }
+    if candidate.tags.len() > 0 {
+        return Some(ValidFault::Tag(0));
+    }
+    if candidate.globals.len() > 0 {
+        return Some(ValidFault::Global(0));
+    }
+    if candidate.elements.len() > 0 {
+        return Some(ValidFault::Element(0));
+    }
+    if candidate.datas.len() > 0 {
+        return Some(ValidFault::Data(0));
+    }
+    if candidate.start.is_some() {
+        return Some(ValidFault::Start);
+    }
+    None
+}
 
 // Finds the first fault of a module.
 fn judge(alloc: Global, candidate: &Module) -> Result<(), ValidFault>
@@ -20,6 +56,9 @@ fn judge(alloc: Global, candidate: &Module) -> Result<(), ValidFault>
 {
     if let Some(name) = limits_of(candidate) {
         return Err(ValidFault::Limit(name));
+    }
+    if let Some(fault) = first_untyped_definition(candidate) {
+        return Err(fault);
     }
     if let Some(index) = first_untyped_export(alloc, candidate)? {
         return Err(ValidFault::Export(index));
@@ -31,10 +70,9 @@ fn judge(alloc: Global, candidate: &Module) -> Result<(), ValidFault>
 }
 
 /// Validates a module (Core, validation, modules): keeps it where it is valid and within its limits, and else names its first
-/// fault, in the order limits, exports, functions.
+/// fault: the first limit that it passes, or its first item that is not valid, in the order of `ValidFault`.
 ///
-/// `Limit` names the first limit that it passes, `Export` the first export that is not valid, and `Function` the first function
-/// that is not. `OutOfMemory` says nothing of the module.
+/// `OutOfMemory` says nothing of the module.
 pub fn validate(alloc: Global, candidate: Module) -> Result<Checked, ValidFault>
     ensures ok { IfOk result (λ checked. checked ≡ candidate) }
     ensures within { IfOk result (λ checked. Within checked) }
@@ -43,8 +81,7 @@ pub fn validate(alloc: Global, candidate: Module) -> Result<Checked, ValidFault>
     // Each module has its answer, unless memory runs out.
     ensures only_ok { Within candidate → Valid candidate → IsAnswer (Ok candidate) result }
     ensures only_limit { (name : TheLimit) → Passes candidate name → IsAnswer (Err (ValidFault.Limit name)) result }
-    ensures only_export { (i : ℕ) → Within candidate → IsInvalidAt candidate (ExportItem i) → IsAnswer (Err (ValidFault.Export i)) result }
-    ensures only_function { (i : ℕ) → Within candidate → IsInvalidAt candidate (FunctionItem i) → IsAnswer (Err (ValidFault.Function i)) result }
+    ensures only_item { (x : Item) → Within candidate → IsInvalidAt candidate x → IsAnswer (Err (fault_of x)) result }
 {
     match judge(alloc, &candidate) {
         Ok(()) => Ok(Checked::make(candidate)),

@@ -4,7 +4,7 @@ use Rattle.w_decode.proofs.decoding.decode_exactly.Given as goal
 
 abbrev pub invariant-loop-place : goal.invariant-loop-place
 invariant-loop-place l = record {
-  reads : read_sections (length (drop l.place l.bytes)) l.number l.last l.module (drop l.place l.bytes) ≡ decoded l.bytes;
+  reads : read_sections (length (drop l.place l.bytes)) l.number l.last l.so_far (drop l.place l.bytes) ≡ decoded l.bytes;
   few : l.number ≤ l.place;
 }
 

@@ -1,5 +1,5 @@
 use Rattle.w_leb.specs.Number.{Unsigned, unsigned}
-use Rattle.w_leb.proofs.Places.{begins_none, begins_some}
+use Rattle.w_leb.specs.Begins.{begins_none, begins_some}
 use Rattle.w_leb.specs.NumberExact.{unsigned_exact}
 use Rattle.w_leb.proofs.reading.read_u32.Goals as goal
 

@@ -1,4 +1,4 @@
-use Rattle.std.proofs.Common.{◌≡◌, length, sym, ap, ◌∙◌, arith, append-nil, replicate, ◌++◌, [], List, drop, refl}
+use Rattle.std.proofs.Common.{◌≡◌, length, sym, ap, ◌∙◌, arith, append-nil, replicate, ◌++◌, [], List, Option, drop, refl}
 use Rattle.std.specs.Vec.{vec_len}
 use Rattle.std.proofs.lemmas.List.{drop_all}
 use Rattle.w_types.specs.declared.value.Value.{Value}
@@ -30,7 +30,7 @@ returns-clause-ok c =
     let none : drop c.loop-run.run-index c.args.runs.now ≡ [] = drop_all c.loop-run.run-index c.args.runs.now (omega arith) in
     let all : part ≡ defaults c.args.runs.now =
     sym (append-nil part) ∙ ap (λ (rs : List LocalRun). part ++ defaults rs) (sym none) ∙ c.loop-run.invariant.1 in
-    c.loop-run.invariant.2 ∙ ap (λ (l : List Value). c.args.locals.now.items ++ l) all
+    c.loop-run.invariant.2 ∙ ap (λ (l : List (Option Value)). c.args.locals.now.items ++ l) all
 
 pub returns-clause-keeps : goal.returns-clause-keeps
 returns-clause-keeps c =

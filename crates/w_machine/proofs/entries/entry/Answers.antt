@@ -1,10 +1,9 @@
 use Rattle.std.proofs.Common.{◌≡◌, sym, ap, ◌∙◌, arith, List, ℕ, get_or}
 use Rattle.std.specs.Prelude.{true, false, codes}
 use Rattle.std.specs.Str.{bytes_eq}
-use Rattle.w_syntax.specs.Functions.{type_of_function}
 use Rattle.std.proofs.lemmas.List.{drop_all}
 use Rattle.w_syntax.specs.declared.module.Export.{Export}
-use Rattle.w_reduce.specs.Start.{entry_in, entry_at}
+use Rattle.w_reduce.specs.Start.{entry_in, entry_of}
 use Rattle.w_machine.proofs.Stores.{entry_here, entry_later}
 use Rattle.w_machine.proofs.entries.entry.Goals as goal
 
@@ -17,8 +16,8 @@ returns-then-eq c =
     let xs = c.as_slice-export-items.result.now in
     let named : bytes_eq (get_or xs c.loop-export.export-index c.export-item.result).name (codes "main") ≡ true =
     ap (λ (x : Export). bytes_eq x.name (codes "main")) (sym c.export-item.is) ∙ ap (λ (n : List ℕ). bytes_eq n (codes "main")) (sym c.as_str.ensures) ∙ sym c.if-eq.ensures in
-    c.entry_at.ensures
-    ∙ ap (λ (x : Export). entry_at x.function (type_of_function m x.function)) c.export-item.is
+    c.entry_of.ensures
+    ∙ ap (λ (x : Export). entry_of m x.index) c.export-item.is
     ∙ sym (entry_here m xs c.loop-export.export-index c.export-item.result c.loop-export-test.true named)
     ∙ c.loop-export.invariant
 

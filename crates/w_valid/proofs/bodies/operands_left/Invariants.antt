@@ -1,7 +1,9 @@
-use Rattle.std.proofs.Common.{drop}
-use Rattle.w_syntax.specs.Code.{tree_of}
+use Rattle.std.proofs.Common.{◌≡◌, drop}
+use Rattle.w_syntax.specs.Code.{Code}
+use Rattle.w_valid.proofs.Laid.{with_end}
 use Rattle.w_valid.proofs.Leaving.{SoFar}
 use Rattle.w_valid.proofs.bodies.operands_left.Given as goal
 
-abbrev pub invariant-loop-op : goal.invariant-loop-op
-invariant-loop-op l = SoFar l.owner (tree_of l.ops) (tree_of (drop l.op-index l.ops)) l.operands.items
+-- the sequence that is still to come stands in the rest of the list
+abbrev pub invariant-loop-instr : goal.invariant-loop-instr
+invariant-loop-instr l = (rest : Code) × (drop l.instr-index l.instrs ≡ with_end l.instr-index rest) × SoFar l.owner l.body rest l.operands.items

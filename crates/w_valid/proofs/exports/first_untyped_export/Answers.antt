@@ -1,4 +1,4 @@
-use Rattle.std.proofs.Common.{◌≡◌, length, below_more, sym, ap, subst, ◌∙◌, arith, List, ℕ, true, false, refl, Some}
+use Rattle.std.proofs.Common.{◌≡◌, length, below_more, sym, ap, subst, ◌∙◌, arith, List, ℕ, true, false, refl, rules, Some}
 use Rattle.std.proofs.lemmas.Bool.{not-true, not-false}
 use Rattle.std.proofs.lemmas.Option.{slice_get_read}
 use Rattle.std.specs.Prelude.{slice_get}
@@ -29,6 +29,6 @@ loop-index-preserved c =
     let free = not-true _ (sym c.in_ok-insert.ensures.added ∙ c.if-not-branch.false) in
     let free_name = subst (λ (q : List ℕ). has c.loop-index.names q ≡ false) c.as_str.ensures free in
     record {
-      typed = below_more _ _ c.loop-index.invariant.typed (typed m i export (has c.loop-index.names) is (omega arith) c.loop-index.invariant.names free_name);
+      typed = below_more _ _ c.loop-index.invariant.typed (typed m i export (has c.loop-index.names) is (search rules) c.loop-index.invariant.names free_name);
       names = inserted m i key c.loop-index.names c.insert.new.self (name_at m i export is ∙ ap (λ (l : List ℕ). Some l) (sym c.as_str.ensures)) c.in_ok-insert.ensures.updates.0 c.loop-index.invariant.names;
     }

@@ -1,5 +1,6 @@
-use Rattle.std.proofs.Common.{◌≡◌, ◌-◌, ◌≢◌, ap, sym, length, reverse, ◌∙◌, arith}
-use Rattle.w_machine.specs.Functions.{arity}
+use Rattle.std.proofs.Common.{◌≡◌, ◌-◌, ◌≢◌, None, subst, ap, sym, length, reverse, ◌∙◌, arith}
+use Rattle.w_machine.specs.Functions.{arity, instr_at}
+use Rattle.w_machine.proofs.Looking.{IsMark}
 use Rattle.w_machine.specs.Configuration.{base}
 use Rattle.w_machine.proofs.Reductions.{label_found, frame_found, frame_not_found}
 use Rattle.w_machine.proofs.configuration.Configuration.find.Goals as goal
@@ -7,8 +8,9 @@ use Rattle.w_machine.proofs.configuration.Configuration.find.Goals as goal
 pub returns-in-None : goal.returns-in-None
 returns-in-None c =
     let here = c.args.self.now in
+    let none : instr_at c.args.program.now here.function c.in-Body.place ≡ None = rw c.in-None.is at (sym c.instr_at.ensures.is) in
     label_found c.args.program.now c.args.store.now here.stage here.function c.in-Body.place here.operands.items here.locals.items (reverse here.callers.items)
-    c.in-Body.is (sym c.op_at.ensures.is ∙ c.in-None.is) c.requires
+    c.in-Body.is (subst IsMark (sym none) tt) c.requires
 
 pub returns-then-own-result_count : goal.returns-then-own-result_count
 returns-then-own-result_count c =

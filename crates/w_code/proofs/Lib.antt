@@ -1,0 +1,3 @@
+pub mod TokenSteps
+pub mod Joining
+pub mod SameKind

@@ -1,0 +1,28 @@
+//! Readers of code: instructions, expressions, and the fields that hold one.
+#![tactic(auto)]
+
+mod bodies;
+mod bulk;
+mod control;
+mod datas;
+mod definitions;
+mod elements;
+mod functions;
+mod instructions;
+mod locals;
+mod memory;
+mod numeric;
+mod switching;
+#[cfg(test)]
+mod tests;
+mod tokens;
+
+pub use bodies::{BodyField, expr_at};
+pub use datas::DataField;
+pub use definitions::{GlobalField, TableField};
+pub use elements::{ElemField, FunctionItemField};
+pub use functions::FuncField;
+pub use instructions::instruction_at;
+pub use locals::LocalRunField;
+pub use switching::ClauseField;
+pub use tokens::token_at;

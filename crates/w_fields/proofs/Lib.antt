@@ -1,0 +1,3 @@
+mod Loop
+mod Cutting
+mod Utf8

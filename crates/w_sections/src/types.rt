@@ -1,0 +1,143 @@
+//! Types of a module (Core, binary format, types; the explainer, binary format).
+ghost use Rattle.std.specs.Prelude.{◌≡◌, IfOk, [], ◌∷◌};
+ghost use Rattle.w_leb.specs.Format.{ReadsAt};
+ghost use Rattle.w_leb.specs.Formats.{vec};
+ghost use Rattle.w_syntax.specs.Types.{functype, comptype, rectype};
+
+use std::alloc::{AllocError, Global};
+use w_fields::{Field, ValTypeField, vec_at};
+use w_leb::{read_byte, read_u32};
+use w_types::{CompType, FuncType, ListOf, RecGroup, RecGroups};
+
+/// A function type, as a kind of field: what stands behind its byte.
+pub struct FuncTypeField;
+
+impl Field for FuncTypeField {
+    type Item = FuncType;
+
+    ghost format = { functype };
+
+    #[tactic(auto, unfolding(w_syntax::specs::Types::functype))]
+    fn read(
+        alloc: Global,
+        bytes: &[u8],
+        at: usize,
+    ) -> Result<Option<(FuncType, usize)>, AllocError> {
+        let Some((params, next)) = vec_at::<ValTypeField>(alloc, bytes, at)? else {
+            return Ok(None);
+        };
+        let Some((results, next)) = vec_at::<ValTypeField>(alloc, bytes, next)? else {
+            return Ok(None);
+        };
+        Ok(Some((FuncType { params, results }, next)))
+    }
+}
+
+/// The composite type at a place.
+#[tactic(auto, unfolding(w_syntax::specs::Types::comptype))]
+pub fn comptype_at(
+    alloc: Global,
+    bytes: &[u8],
+    at: usize,
+) -> Result<Option<(CompType, usize)>, AllocError>
+    ensures { IfOk result (ReadsAt comptype.read bytes.now at) }
+{
+    let Some((tag, next)) = read_byte(bytes, at) else {
+        return Ok(None);
+    };
+    match tag {
+        0x60 => {
+            let Some((kind, next)) = FuncTypeField::read(alloc, bytes, next)? else {
+                return Ok(None);
+            };
+            Ok(Some((CompType::Func(kind), next)))
+        }
+        0x5D => {
+            let Some((index, next)) = read_u32(bytes, next) else {
+                return Ok(None);
+            };
+            Ok(Some((CompType::Cont(index), next)))
+        }
+        _ => Ok(None),
+    }
+}
+
+/// A composite type, as a kind of field.
+pub struct CompTypeField;
+
+impl Field for CompTypeField {
+    type Item = CompType;
+
+    ghost format = { comptype };
+
+    fn read(
+        alloc: Global,
+        bytes: &[u8],
+        at: usize,
+    ) -> Result<Option<(CompType, usize)>, AllocError> {
+        comptype_at(alloc, bytes, at)
+    }
+}
+
+// The group of one type.
+fn group_of_one(alloc: Global, kind: CompType) -> Result<RecGroup, AllocError>
+    ensures { IfOk result (λ group. group ≡ record { types = kind ∷ [] }) }
+{
+    let mut types = ListOf::new(alloc);
+    types.push(kind)?;
+    Ok(RecGroup { types })
+}
+
+/// A group of types, as a kind of field.
+pub struct RecGroupField;
+
+impl Field for RecGroupField {
+    type Item = RecGroup;
+
+    ghost format = { rectype };
+
+    #[tactic(auto, unfolding(w_syntax::specs::Types::rectype))]
+    fn read(
+        alloc: Global,
+        bytes: &[u8],
+        at: usize,
+    ) -> Result<Option<(RecGroup, usize)>, AllocError> {
+        let Some((tag, next)) = read_byte(bytes, at) else {
+            return Ok(None);
+        };
+        match tag {
+            0x4E => {
+                let Some((types, next)) = vec_at::<CompTypeField>(alloc, bytes, next)? else {
+                    return Ok(None);
+                };
+                Ok(Some((RecGroup { types }, next)))
+            }
+            _ => {
+                let Some((kind, next)) = comptype_at(alloc, bytes, at)? else {
+                    return Ok(None);
+                };
+                Ok(Some((group_of_one(alloc, kind)?, next)))
+            }
+        }
+    }
+}
+
+/// The types of a module, in groups, as a kind of field.
+pub struct RecGroupsField;
+
+impl Field for RecGroupsField {
+    type Item = RecGroups;
+
+    ghost format = { vec rectype };
+
+    fn read(
+        alloc: Global,
+        bytes: &[u8],
+        at: usize,
+    ) -> Result<Option<(RecGroups, usize)>, AllocError> {
+        let Some((groups, next)) = vec_at::<RecGroupField>(alloc, bytes, at)? else {
+            return Ok(None);
+        };
+        Ok(Some((RecGroups::from_vec(alloc, groups.into_vec())?, next)))
+    }
+}

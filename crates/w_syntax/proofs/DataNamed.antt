@@ -1,0 +1,58 @@
+-- The list of a body names a data segment where its tree does.
+use Rattle.std.proofs.Common.{◌≡◌, ℕ, ◌+◌, Bool, true, false, ◌||◌, ◌<◌, ◌≤◌, List, [], ◌∷◌, ◌++◌, length, drop, get_or, refl, sym, ap, ◌∙◌}
+use Rattle.std.proofs.lemmas.List.{drop_more, drop_all}
+use Rattle.w_syntax.specs.declared.instructions.Instr.{Instr}
+use Rattle.w_syntax.specs.declared.instructions.Instr.TheVariants as flat
+use Rattle.w_syntax.specs.Code.{Code, Done, Plain, Block, If, IfElse}
+use Rattle.w_syntax.specs.Counts.{is_of_data, names_data}
+use Rattle.w_syntax.specs.Flat.{size, laid, whole}
+use Rattle.w_syntax.specs.FlatData.{instr_of_data, some_of_data}
+
+or_assoc : (a b c : Bool) → ((a || b) || c) ≡ (a || (b || c))
+or_assoc true b c = refl
+or_assoc false b c = refl
+
+over : (xs ys : List Instr) → some_of_data (xs ++ ys) ≡ (some_of_data xs || some_of_data ys)
+unfolding some_of_data
+over [] ys = refl
+over (x ∷ xs) ys = ap (λ (b : Bool). instr_of_data x || b) (over xs ys) ∙ sym (or_assoc (instr_of_data x) (some_of_data xs) (some_of_data ys))
+
+laid_named : (k : ℕ) (c : Code) → some_of_data (laid k c) ≡ names_data c
+unfolding some_of_data laid names_data
+laid_named k Done = refl
+laid_named k (Plain o r) = ap (λ (b : Bool). is_of_data o || b) (laid_named (k + 1) r)
+laid_named k (Block kind b x r) =
+    over (laid (k + 1) x) (flat.End ∷ laid (k + 2 + size x) r) ∙ rw (laid_named (k + 1) x, laid_named (k + 2 + size x) r) refl
+laid_named k (If b x r) =
+    over (laid (k + 1) x) (flat.End ∷ laid (k + 2 + size x) r) ∙ rw (laid_named (k + 1) x, laid_named (k + 2 + size x) r) refl
+laid_named k (IfElse b x y r) =
+    over (laid (k + 1) x) (flat.Else ∷ (laid (k + 2 + size x) y ++ flat.End ∷ laid (k + 3 + size x + size y) r))
+    ∙ rw (over (laid (k + 2 + size x) y) (flat.End ∷ laid (k + 3 + size x + size y) r), laid_named (k + 1) x, laid_named (k + 2 + size x) y, laid_named (k + 3 + size x + size y) r) refl
+
+or_false : (b : Bool) → (b || false) ≡ b
+or_false true = refl
+or_false false = refl
+
+pub whole_named : (c : Code) → some_of_data (whole c) ≡ names_data c
+unfolding some_of_data
+whole_named c = over (laid 0 c) (flat.End ∷ []) ∙ or_false (some_of_data (laid 0 c)) ∙ laid_named 0 c
+
+-- ## One instruction after another
+
+abbrev FirstLeft : List Instr → ℕ → Instr → Type 0
+FirstLeft is i x = drop i is ≡ x ∷ drop (i + 1) is
+
+left : (is : List Instr) (i : ℕ) (x : Instr) → i < length is → x ≡ get_or is i x → FirstLeft is i x
+left is i x lt e = drop_more is i x lt ∙ ap (λ (y : Instr). y ∷ drop (i + 1) is) (sym e)
+
+pub one_named : (is : List Instr) (i : ℕ) (x : Instr) → i < length is → x ≡ get_or is i x → instr_of_data x ≡ true → some_of_data (drop i is) ≡ true
+unfolding some_of_data
+one_named is i x lt e t = ap some_of_data (left is i x lt e) ∙ ap (λ (b : Bool). b || some_of_data (drop (i + 1) is)) t
+
+pub more_named : (is : List Instr) (i : ℕ) (x : Instr) → i < length is → x ≡ get_or is i x → instr_of_data x ≡ false → some_of_data (drop i is) ≡ some_of_data (drop (i + 1) is)
+unfolding some_of_data
+more_named is i x lt e t = ap some_of_data (left is i x lt e) ∙ ap (λ (b : Bool). b || some_of_data (drop (i + 1) is)) t
+
+pub none_named : (is : List Instr) (i : ℕ) → length is ≤ i → some_of_data (drop i is) ≡ false
+unfolding some_of_data
+none_named is i le = ap some_of_data (drop_all i is le)

@@ -1,0 +1,3 @@
+mod DataNamed
+mod Steps
+mod Whole

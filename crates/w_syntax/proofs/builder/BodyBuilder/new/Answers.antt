@@ -1,0 +1,5 @@
+use Rattle.w_syntax.proofs.Whole.{starts}
+use Rattle.w_syntax.proofs.builder.BodyBuilder.new.Goals as goal
+
+pub returns : goal.returns
+returns c = starts _ c.new.ensures.items c.new-2.ensures.items
