@@ -3,7 +3,7 @@ use Rattle.std.proofs.Common.{◌≡◌, ℕ, nat_eq, List, [], ◌∷◌, refl,
 use Rattle.std.specs.Fmt.{digits}
 use Rattle.clap.specs.Walk.{Text}
 use Rattle.clap.proofs.OnLiterals.{clap_on_literals}
-use Rattle.drive.specs.Line.{Line, line_of, check, run, bad}
+use Rattle.drive.specs.Line.{Line, line_of, check, run, build, bad}
 
 -- what the words after the program's name ask for
 abbrev asked : List Text → Line
@@ -90,6 +90,32 @@ run_option : asked (codes "run" ∷ codes "-x" ∷ []) ≡ bad
 unfolding line_of clap_on_literals digits
 run_option = refl
 
+-- ## `build`
+
+build_file : asked (codes "build" ∷ codes "two" ∷ []) ≡ build (codes "two")
+unfolding line_of clap_on_literals digits
+build_file = refl
+
+build_any : (x : ℕ) (xs : Text) → nat_eq x 45 ≡ false → asked (codes "build" ∷ (x ∷ xs) ∷ []) ≡ build (x ∷ xs)
+unfolding line_of clap_on_literals digits
+build_any x xs e = simp e
+
+build_named_build : asked (codes "build" ∷ codes "build" ∷ []) ≡ build (codes "build")
+unfolding line_of clap_on_literals digits
+build_named_build = refl
+
+build_alone : asked (codes "build" ∷ []) ≡ bad
+unfolding line_of clap_on_literals digits
+build_alone = refl
+
+build_two_files : asked (codes "build" ∷ codes "two" ∷ codes "three" ∷ []) ≡ bad
+unfolding line_of clap_on_literals digits
+build_two_files = refl
+
+build_for_steps : asked (codes "build" ∷ codes "two" ∷ codes "--steps" ∷ codes "5" ∷ []) ≡ bad
+unfolding line_of clap_on_literals digits
+build_for_steps = refl
+
 -- ## Steps that are no number in the range
 
 steps_over_most : asked (codes "run" ∷ codes "two" ∷ codes "--steps" ∷ codes "1099511627777" ∷ []) ≡ bad
@@ -166,7 +192,7 @@ version_flag : asked (codes "--version" ∷ []) ≡ bad
 unfolding line_of clap_on_literals digits
 version_flag = refl
 
-other_command : asked (codes "build" ∷ codes "two" ∷ []) ≡ bad
+other_command : asked (codes "gen" ∷ codes "5" ∷ []) ≡ bad
 unfolding line_of clap_on_literals digits
 other_command = refl
 

@@ -15,8 +15,8 @@ use Rattle.std.specs.Prelude.{nat_eq, cond}
 use Rattle.std.proofs.lemmas.Bool.{cases_lt}
 use Rattle.w_valid.specs.declared.fault.ValidFault.{ValidFault}
 use Rattle.w_valid.specs.declared.fault.ValidFault.TheVariants as valid
-use Rattle.drive.specs.Line.{Line, check, run, bad}
-use Rattle.drive.specs.Answer.{Reply, Answer, HasModuleFault, OnFile, OnBytes, BytesGive, CheckGives, RunGives, input_limit}
+use Rattle.drive.specs.Line.{Line, check, run, build, bad}
+use Rattle.drive.specs.Answer.{Reply, Answer, HasModuleFault, OnFile, OnBytes, BytesGive, CheckGives, RunGives, BuildGives, input_limit}
 
 -- there can't be no reply of which it holds
 abbrev IsTotal : (Reply → Type 0) → Type 0
@@ -221,4 +221,5 @@ bytes_total accepted bytes none = elim (spelled_or_not bytes) [
 pub some_answer : (l : Line) (files : List ℕ → Known) → IsTotal (Answer l files)
 some_answer (check name) files none = on_file (files name) CheckGives (bytes_total _) none
 some_answer (run name steps) files none = on_file (files name) (RunGives steps) (bytes_total _) none
+some_answer (build name) files none = on_file (files name) BuildGives (bytes_total _) none
 some_answer bad files none = none _ refl

@@ -20,7 +20,8 @@ use Rattle.w_valid.specs.declared.fault.ValidFault.{ValidFault}
 use Rattle.w_valid.specs.declared.fault.ValidFault.TheVariants as valid
 use Rattle.w_reduce.specs.Start.{entry}
 use Rattle.w_reduce.specs.Run.{Outcome, Running, Values, Limit, NoRule, Run}
-use Rattle.drive.specs.Line.{Line, check, run, bad}
+use Rattle.w_encode.specs.Canon.{Canon}
+use Rattle.drive.specs.Line.{Line, check, run, build, bad}
 
 -- what is written to out and to err, and the status
 pub record Reply : Type 0 where
@@ -126,6 +127,10 @@ from_entry None reply = no_entry
 abbrev pub run_gives : ℕ → Module → Reply
 run_gives steps m = from_entry (entry m) (run_reply (Run m steps).outcome)
 
+-- a module that is valid, written again
+abbrev pub built : Module → Reply
+built m = record { out = Canon m; err = []; status = 0 }
+
 -- the module has this fault
 abbrev pub HasModuleFault : Module → ValidFault → Type 0
 HasModuleFault m fault = (fault ≢ valid.OutOfMemory) × IsFaultOf m fault
@@ -151,6 +156,10 @@ CheckGives = BytesGive (λ m. ok_module)
 abbrev pub RunGives : ℕ → List ℕ → Reply → Type 0
 RunGives steps = BytesGive (run_gives steps)
 
+-- what they give, written again in the canonical spelling
+abbrev pub BuildGives : List ℕ → Reply → Type 0
+BuildGives = BytesGive built
+
 -- ## Files
 
 -- what bytes give, where they are not too many
@@ -169,6 +178,7 @@ OnFile (holds bytes) Gives reply = OnBytes Gives bytes reply
 abbrev pub Answer : Line → (List ℕ → Known) → Reply → Type 0
 Answer (check name) files = OnFile (files name) CheckGives
 Answer (run name steps) files = OnFile (files name) (RunGives steps)
+Answer (build name) files = OnFile (files name) BuildGives
 Answer bad files = λ reply. reply ≡ usage
 
 -- the line has an answer with this status

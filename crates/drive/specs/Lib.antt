@@ -3,6 +3,7 @@ pub mod InputFault
 pub mod Line
 pub mod Request
 pub mod Answer
+pub mod Again
 pub mod Delivery
 pub mod Reading
 pub mod Judging

@@ -11,6 +11,8 @@ pub data Line : Type 0 where
   check : Text → Line
   -- run the module of this file, for so many steps
   run : Text → ℕ → Line
+  -- write the canonical spelling of the module of this file
+  build : Text → Line
   -- nothing that is there
   bad : Line
 
@@ -32,6 +34,10 @@ check_app = with_rule (new_app (codes "check")) file_rule
 abbrev pub run_app : App
 run_app = with_rule (with_rule (new_app (codes "run")) file_rule) steps_rule
 
+-- `build FILE`
+abbrev pub build_app : App
+build_app = with_rule (new_app (codes "build")) file_rule
+
 -- a command has to be named; `help` and `--help` are words like others
 abbrev pub settings : Shape → Shape
 settings s = record s {
@@ -40,9 +46,13 @@ settings s = record s {
   disable_help_subcommand = true;
 }
 
+-- the commands `check` and `run`
+abbrev pub base_app : App
+base_app = with_subcommand (with_subcommand (on_top settings (new_app (codes "stackwasm"))) check_app.top) run_app.top
+
 -- the program's commands
 abbrev pub the_app : App
-the_app = with_subcommand (with_subcommand (on_top settings (new_app (codes "stackwasm"))) check_app.top) run_app.top
+the_app = with_subcommand base_app build_app.top
 
 -- ## What its matches say
 
@@ -76,11 +86,15 @@ check_line rows = when (first_of (codes "file") rows) check
 abbrev pub run_line : List Row → Line
 run_line rows = when (first_of (codes "file") rows) (λ file. when (steps_in (first_of (codes "steps") rows)) (run file))
 
+abbrev pub build_line : List Row → Line
+build_line rows = when (first_of (codes "file") rows) build
+
 -- the line of a command's matches
 abbrev pub named_line : Text → List Row → Line
 named_line name rows = if bytes_eq name (codes "check") then check_line rows
     else (if bytes_eq name (codes "run") then run_line rows
-    else bad)
+    else (if bytes_eq name (codes "build") then build_line rows
+    else bad))
 
 abbrev pub entered_line : Option (Text × List Row) → Line
 entered_line (Some p) = named_line p.0 p.1

@@ -4,7 +4,9 @@ use std::alloc::{AllocError, Global};
 use std::test::Fail;
 use w_outside::{MemInputs, MemSink, SureInputs, SureSink};
 
+mod building;
 mod decoding;
+mod encoding;
 
 // What stands before the code section.
 static FRONT: [u8; 29] = [
@@ -355,7 +357,7 @@ fn other_words_are_refused(rt: HostRuntime) -> Result<(), Fail> {
             "6",
         ],
         &["stackwasm", "--steps", "6", "run", "product"],
-        &["stackwasm", "build", "product"],
+        &["stackwasm", "gen", "5"],
     ];
     for line in lines {
         let done = done(alloc, line, &[], &[], &[])?;

@@ -6,6 +6,7 @@ ghost use Rattle.drive.specs.Request.{asked_by, IsWithinSteps};
 ghost use Rattle.drive.specs.Answer.{Answer, HasStatus};
 ghost use Rattle.drive.specs.Delivery.{Answers, MayFail, Replies, Answered, Stopped};
 
+use crate::building::build_file;
 use crate::checking::check_file;
 use crate::files::refuse;
 use crate::running::run_file;
@@ -37,6 +38,7 @@ fn answer<F: Inputs, O: Sink, E: Sink>(
     match request {
         Request::Check { file } => check_file(alloc, file, files, out, err),
         Request::Run { file, steps } => run_file(alloc, file, steps, files, out, err),
+        Request::Build { file } => build_file(alloc, file, files, out, err),
     }
 }
 

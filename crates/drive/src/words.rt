@@ -8,7 +8,7 @@ ghost use Rattle.clap.specs.Walk.{first_of, rows_of};
 ghost use Rattle.clap.specs.Simple.{app_of, subcommand_of, subcommand_rows_of};
 ghost use Rattle.clap.specs.declared.builder.command.Command.TheViews.{out-Command};
 ghost use Rattle.w_machine.specs.Position.{most_reductions};
-ghost use Rattle.drive.specs.Line.{the_app, check_app, run_app, number_in, steps_in, check_line, run_line, named_line, entered_line, line_of, bad};
+ghost use Rattle.drive.specs.Line.{the_app, base_app, check_app, run_app, build_app, number_in, steps_in, check_line, run_line, build_line, named_line, entered_line, line_of, bad};
 ghost use Rattle.drive.specs.Request.{Asks, IsWithinSteps};
 
 use clap::error::ErrorKind;
@@ -30,6 +30,8 @@ pub(crate) enum Request<'a> {
     Check { file: &'a str },
     /// Run the module of this file, for so many steps.
     Run { file: &'a str, steps: u64 },
+    /// Write the canonical spelling of the module of this file.
+    Build { file: &'a str },
 }
 
 /// Why there is no request.
@@ -60,9 +62,18 @@ fn run_command<'a>(alloc: Global) -> Result<Command<'a>, AllocError>
     Command::new(alloc, "run").arg(file)?.arg(steps)
 }
 
-// The program's commands. `help` and `--help` are words like others.
-fn commands<'a>(alloc: Global) -> Result<Command<'a>, AllocError>
-    ensures { IfOk result (λ c. app_of c ≡ the_app) }
+// `build FILE`.
+fn build_command<'a>(alloc: Global) -> Result<Command<'a>, AllocError>
+    ensures app { IfOk result (λ c. app_of c ≡ build_app) }
+    ensures local { IfOk result (λ c. (out-Command c).has_globals ≡ false) }
+{
+    let file = Arg::new(alloc, "file").required(true);
+    Command::new(alloc, "build").arg(file)
+}
+
+// The commands `check` and `run`. `help` and `--help` are words like others.
+fn base_commands<'a>(alloc: Global) -> Result<Command<'a>, AllocError>
+    ensures { IfOk result (λ c. app_of c ≡ base_app) }
 {
     let check = check_command(alloc)?;
     let run = run_command(alloc)?;
@@ -71,6 +82,14 @@ fn commands<'a>(alloc: Global) -> Result<Command<'a>, AllocError>
         .disable_help_flag(true)
         .disable_help_subcommand(true);
     top.subcommand(check)?.subcommand(run)
+}
+
+// The program's commands.
+fn commands<'a>(alloc: Global) -> Result<Command<'a>, AllocError>
+    ensures { IfOk result (λ c. app_of c ≡ the_app) }
+{
+    let build = build_command(alloc)?;
+    base_commands(alloc)?.subcommand(build)
 }
 
 // What clap makes of the words.
@@ -149,6 +168,15 @@ fn run_asked<'s>(found: &'s ArgMatches<'_>) -> Option<Request<'s>>
     Some(Request::Run { file, steps })
 }
 
+// What the matches of `build` ask for.
+fn build_asked<'s>(found: &'s ArgMatches<'_>) -> Option<Request<'s>>
+    ensures asks { Asks result (build_line (rows_of (found_of found.now))) }
+    ensures within { IfSome result IsWithinSteps }
+{
+    let file = value_of(found, "file")?;
+    Some(Request::Build { file })
+}
+
 // What the matches of a command ask for.
 fn named_asked<'s>(name: &str, found: &'s ArgMatches<'_>) -> Option<Request<'s>>
     ensures asks { Asks result (named_line name.now (rows_of (found_of found.now))) }
@@ -159,6 +187,9 @@ fn named_asked<'s>(name: &str, found: &'s ArgMatches<'_>) -> Option<Request<'s>>
     }
     if name == "run" {
         return run_asked(found);
+    }
+    if name == "build" {
+        return build_asked(found);
     }
     None
 }

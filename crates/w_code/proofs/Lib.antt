@@ -1,3 +1,1 @@
 pub mod TokenSteps
-pub mod Joining
-pub mod SameKind

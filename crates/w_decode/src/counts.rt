@@ -1,22 +1,9 @@
 //! The counts that sections must agree on (Core, binary format, modules).
 ghost use Rattle.std.specs.Prelude.{◌≡◌};
-ghost use Rattle.w_syntax.specs.Module.{some_names_data};
 ghost use Rattle.w_decode.specs.Reading.{data_agrees as data_agreed, counts_agree as counts_agreed};
 
 use crate::sections::Gathered;
-use w_syntax::{Func, Module};
-
-// Whether the body of some function names a data segment.
-fn some_names_data_of(functions: &[Func]) -> bool
-    ensures { result ≡ some_names_data functions.now }
-{
-    for function in functions {
-        if function.body.names_data() {
-            return true;
-        }
-    }
-    false
-}
+use w_syntax::{Module, some_names_data};
 
 // Whether a data count agrees with the module.
 fn data_agrees(count: Option<u32>, tree: &Module) -> bool
@@ -24,7 +11,7 @@ fn data_agrees(count: Option<u32>, tree: &Module) -> bool
 {
     match count {
         Some(count) => count as usize == tree.datas.len(),
-        None => !some_names_data_of(tree.codes.as_slice()),
+        None => !some_names_data(tree.codes.as_slice()),
     }
 }
 

@@ -6,3 +6,6 @@ pub mod Formats
 pub mod Shortest
 pub mod ShortestSigned
 pub mod Begins
+pub mod Canonical
+pub mod Indices
+pub mod CanonicalTables

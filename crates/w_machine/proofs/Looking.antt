@@ -15,7 +15,8 @@ use Rattle.w_reduce.specs.Store.{Store}
 use Rattle.w_reduce.specs.Terms.{Context}
 use Rattle.w_reduce.specs.Reduce.{Stuck, next}
 use Rattle.w_machine.specs.Functions.{body_in, code_from, instr_in, instr_at}
-use Rattle.w_machine.proofs.Places.{here, at_end, at_else, past, at_block, at_if}
+use Rattle.w_syntax.proofs.Places.{here, at_end, at_else, past}
+use Rattle.w_machine.proofs.Places.{at_block, at_if}
 
 -- a mark ends a sequence, and so does the end of the list
 abbrev pub IsMark : Option Instr → Type 0

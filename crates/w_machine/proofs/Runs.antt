@@ -3,7 +3,7 @@ use Rattle.std.proofs.Common.{◌≡◌, ℕ, ◌+◌, ◌<◌, List, ◌++◌, 
 use Rattle.std.proofs.lemmas.List.{at_drop_more}
 use Rattle.w_types.specs.Values.{default_of}
 use Rattle.w_types.specs.declared.value.Value.{Value}
-use Rattle.w_syntax.specs.declared.module.LocalRun.{LocalRun}
+use Rattle.w_syntax.specs.declared.locals.LocalRun.{LocalRun}
 use Rattle.w_reduce.specs.Reduce.{defaults}
 
 -- the locals so far and those of the runs that are left are those of all runs: with a run more

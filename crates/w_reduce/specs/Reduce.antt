@@ -19,7 +19,7 @@ use Rattle.w_syntax.specs.declared.instructions.Parametric.TheVariants as parame
 use Rattle.w_syntax.specs.declared.instructions.Op.{Op}
 use Rattle.w_syntax.specs.declared.instructions.Op.TheVariants as op
 use Rattle.w_syntax.specs.declared.module.Func.{Func}
-use Rattle.w_syntax.specs.declared.module.LocalRun.{LocalRun}
+use Rattle.w_syntax.specs.declared.locals.LocalRun.{LocalRun}
 use Rattle.w_syntax.specs.declared.module.Module.{Module}
 use Rattle.w_rules.specs.declared.limits.LimitName.{LimitName}
 use Rattle.w_rules.specs.declared.limits.LimitName.TheVariants.{Frames}

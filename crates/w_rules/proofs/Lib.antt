@@ -1,4 +1,3 @@
 pub mod Preorder
 pub mod Rules
-pub mod Totals
 pub mod Groups

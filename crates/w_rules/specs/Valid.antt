@@ -9,7 +9,7 @@ use Rattle.w_syntax.specs.declared.module.Export.{Export}
 use Rattle.w_syntax.specs.declared.module.ExternIndex.{ExternIndex}
 use Rattle.w_syntax.specs.declared.module.ExternIndex.TheVariants as extern
 use Rattle.w_syntax.specs.declared.module.Func.{Func}
-use Rattle.w_syntax.specs.declared.module.LocalRun.{LocalRun}
+use Rattle.w_syntax.specs.declared.locals.LocalRun.{LocalRun}
 use Rattle.w_syntax.specs.declared.module.Module.{Module}
 use Rattle.w_rules.specs.Types.{IsValidType, IsValidCompType}
 use Rattle.w_rules.specs.Typing.{Derives}

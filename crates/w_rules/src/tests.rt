@@ -1,7 +1,7 @@
 use crate::{LimitName, func_type, function_type, limits_of};
 use std::alloc::{AllocError, Global};
 use std::test::Fail;
-use w_syntax::{Body, Control, Func, LocalRun, Module, Op};
+use w_syntax::{Body, Control, Func, LocalRun, Locals, Module, Op};
 use w_types::{CompType, FuncType, ListOf, RecGroup, RecGroups, ValType};
 
 // A type with so many parameters and results.
@@ -42,7 +42,7 @@ fn module_of(
     types: u32,
     widths: (usize, usize),
     locals: &[LocalRun],
-) -> Result<Module, AllocError> {
+) -> Result<Module, Fail> {
     let mut made = Module {
         types: types_of(alloc, types, widths)?,
         imports: ListOf::new(alloc),
@@ -58,8 +58,9 @@ fn module_of(
         datas: ListOf::new(alloc),
     };
     made.functions.push(types.saturating_sub(1))?;
+    let runs = Vec::from_slice(alloc, locals)?;
     made.codes.push(Func {
-        locals: ListOf::from_vec(Vec::from_slice(alloc, locals)?),
+        locals: Locals::of_runs(alloc, runs)?.ok_or("too many locals")?,
         body: Body::of_one(alloc, Op::Control(Control::Nop))?,
     })?;
     Ok(made)
@@ -118,7 +119,7 @@ fn fifty_thousand_locals_are_kept_with_parameters(rt: HostRuntime) -> Result<(),
         Some(LimitName::Locals)
     );
     assert_eq!(rt;
-        limits_of(&module_of(alloc, 1, (0, 0), &[run(u32::MAX), run(2)])?),
+        limits_of(&module_of(alloc, 1, (10, 0), &[run(u32::MAX)])?),
         Some(LimitName::Locals)
     );
     Ok(())

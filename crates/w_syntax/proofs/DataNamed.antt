@@ -1,6 +1,5 @@
 -- The list of a body names a data segment where its tree does.
-use Rattle.std.proofs.Common.{◌≡◌, ℕ, ◌+◌, Bool, true, false, ◌||◌, ◌<◌, ◌≤◌, List, [], ◌∷◌, ◌++◌, length, drop, get_or, refl, sym, ap, ◌∙◌}
-use Rattle.std.proofs.lemmas.List.{drop_more, drop_all}
+use Rattle.std.proofs.Common.{◌≡◌, ℕ, ◌+◌, Bool, true, false, ◌||◌, List, [], ◌∷◌, ◌++◌, refl, sym, ap, ◌∙◌}
 use Rattle.w_syntax.specs.declared.instructions.Instr.{Instr}
 use Rattle.w_syntax.specs.declared.instructions.Instr.TheVariants as flat
 use Rattle.w_syntax.specs.Code.{Code, Done, Plain, Block, If, IfElse}
@@ -37,22 +36,11 @@ pub whole_named : (c : Code) → some_of_data (whole c) ≡ names_data c
 unfolding some_of_data
 whole_named c = over (laid 0 c) (flat.End ∷ []) ∙ or_false (some_of_data (laid 0 c)) ∙ laid_named 0 c
 
--- ## One instruction after another
-
-abbrev FirstLeft : List Instr → ℕ → Instr → Type 0
-FirstLeft is i x = drop i is ≡ x ∷ drop (i + 1) is
-
-left : (is : List Instr) (i : ℕ) (x : Instr) → i < length is → x ≡ get_or is i x → FirstLeft is i x
-left is i x lt e = drop_more is i x lt ∙ ap (λ (y : Instr). y ∷ drop (i + 1) is) (sym e)
-
-pub one_named : (is : List Instr) (i : ℕ) (x : Instr) → i < length is → x ≡ get_or is i x → instr_of_data x ≡ true → some_of_data (drop i is) ≡ true
+-- one instruction, and then the others
+pub data_step : (x : Instr) (xs : List Instr) → some_of_data (x ∷ xs) ≡ (instr_of_data x || some_of_data xs)
 unfolding some_of_data
-one_named is i x lt e t = ap some_of_data (left is i x lt e) ∙ ap (λ (b : Bool). b || some_of_data (drop (i + 1) is)) t
+data_step x xs = refl
 
-pub more_named : (is : List Instr) (i : ℕ) (x : Instr) → i < length is → x ≡ get_or is i x → instr_of_data x ≡ false → some_of_data (drop i is) ≡ some_of_data (drop (i + 1) is)
+pub no_data : some_of_data [] ≡ false
 unfolding some_of_data
-more_named is i x lt e t = ap some_of_data (left is i x lt e) ∙ ap (λ (b : Bool). b || some_of_data (drop (i + 1) is)) t
-
-pub none_named : (is : List Instr) (i : ℕ) → length is ≤ i → some_of_data (drop i is) ≡ false
-unfolding some_of_data
-none_named is i le = ap some_of_data (drop_all i is le)
+no_data = refl

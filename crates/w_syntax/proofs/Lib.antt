@@ -1,3 +1,9 @@
 mod DataNamed
-mod Steps
+mod Joining
+mod SameKind
+pub mod Totals
+pub mod Steps
+pub mod Places
 mod Whole
+mod SomeOf
+mod FunctionsName

@@ -25,7 +25,7 @@ use Rattle.w_syntax.specs.declared.module.ElemMode.TheVariants as elem_mode
 use Rattle.w_syntax.specs.declared.module.Elem.{Elem}
 use Rattle.w_syntax.specs.declared.module.DataMode.TheVariants as data_mode
 use Rattle.w_syntax.specs.declared.module.Data.{Data}
-use Rattle.w_syntax.specs.declared.module.LocalRun.{LocalRun}
+use Rattle.w_syntax.specs.declared.locals.LocalRun.{LocalRun}
 use Rattle.w_syntax.specs.declared.module.Func.{Func}
 
 -- ## Imports and exports
@@ -38,28 +38,32 @@ name = such_that is_utf8 bytes
 unfoldable pub tag : Format Tag
 tag = table ((0x00, number 32 ⇒ λ x. record { type_index = x }) ∷ [])
 
-unfoldable pub externtype : Format ExternType
-externtype = table (
+abbrev pub externtypes : List (ℕ × Format ExternType)
+externtypes =
     (0x00, number 32 ⇒ extern.Func)
     ∷ (0x01, tabletype ⇒ extern.Table)
     ∷ (0x02, limits ⇒ extern.Memory)
     ∷ (0x03, globaltype ⇒ extern.Global)
     ∷ (0x04, tag ⇒ extern.Tag)
     ∷ []
-    )
+
+unfoldable pub externtype : Format ExternType
+externtype = table externtypes
 
 unfoldable pub import : Format Import
 import = name ⊗ name ⊗ externtype ⇒ λ p. record { module_name = p.0; item_name = p.1.0; kind = p.1.1 }
 
-unfoldable pub externidx : Format ExternIndex
-externidx = table (
+abbrev pub externindices : List (ℕ × Format ExternIndex)
+externindices =
     (0x00, number 32 ⇒ index.Func)
     ∷ (0x01, number 32 ⇒ index.Table)
     ∷ (0x02, number 32 ⇒ index.Memory)
     ∷ (0x03, number 32 ⇒ index.Global)
     ∷ (0x04, number 32 ⇒ index.Tag)
     ∷ []
-    )
+
+unfoldable pub externidx : Format ExternIndex
+externidx = table externindices
 
 unfoldable pub export : Format Export
 export = name ⊗ externidx ⇒ λ p. record { name = p.0; index = p.1 }
@@ -79,9 +83,12 @@ unfolding tabletype
 tabletype_solid t h = begins_solid h.1.0 h.1.1 h.0.0 h.1.2 h.1.3
 
 -- a table's type, behind 40 00 with what its elements begin with
+abbrev pub tables : List (ℕ × Format Table)
+tables = (0x40, table ((0x00, tabletype ⊗ expr ⇒ λ p. record { kind = p.0; init = Some p.1 }) ∷ [])) ∷ []
+
 unfoldable pub table_of : Format Table
 table_of =
-    table_or ((0x40, table ((0x00, tabletype ⊗ expr ⇒ λ p. record { kind = p.0; init = Some p.1 }) ∷ [])) ∷ [])
+    table_or tables
     (tabletype ⇒ λ t. record { kind = t; init = None }) (λ x h. tabletype_solid h.0 h.1)
 
 unfoldable pub global : Format GlobalVariable
@@ -106,8 +113,8 @@ passive kind items = record { kind = kind; items = items; mode = elem_mode.Passi
 abbrev pub declarative : RefType → List Code → Elem
 declarative kind items = record { kind = kind; items = items; mode = elem_mode.Declarative }
 
-unfoldable pub elem : Format Elem
-elem = choice (number 32) (
+abbrev pub elems : List (ℕ × Format Elem)
+elems =
     (0, expr ⊗ vec function_item ⇒ λ p. active 0 p.0 (non_null_to heap.Func) p.1)
     ∷ (1, elemkind ⊗ vec function_item ⇒ λ p. passive p.0 p.1)
     ∷ (2, number 32 ⊗ expr ⊗ elemkind ⊗ vec function_item ⇒ λ p. active p.0 p.1.0 p.1.1.0 p.1.1.1)
@@ -117,15 +124,19 @@ elem = choice (number 32) (
     ∷ (6, number 32 ⊗ expr ⊗ reftype ⊗ vec expr ⇒ λ p. active p.0 p.1.0 p.1.1.0 p.1.1.1)
     ∷ (7, reftype ⊗ vec expr ⇒ λ p. declarative p.0 p.1)
     ∷ []
-    )
 
-unfoldable pub data_segment : Format Data
-data_segment = choice (number 32) (
+unfoldable pub elem : Format Elem
+elem = choice (number 32) elems
+
+abbrev pub data_segments : List (ℕ × Format Data)
+data_segments =
     (0, expr ⊗ bytes ⇒ λ p. record { bytes = p.1; mode = data_mode.Active 0 p.0 })
     ∷ (1, bytes ⇒ λ b. record { bytes = b; mode = data_mode.Passive })
     ∷ (2, number 32 ⊗ expr ⊗ bytes ⇒ λ p. record { bytes = p.1.1; mode = data_mode.Active p.0 p.1.0 })
     ∷ []
-    )
+
+unfoldable pub data_segment : Format Data
+data_segment = choice (number 32) data_segments
 
 -- ## Code (Core, binary format, code section)
 

@@ -9,6 +9,7 @@ pub mod ExprExact
 pub mod FlatTree
 pub mod Stands
 pub mod Locals
+pub mod LocalsJoined
 pub mod Fields
 pub mod Contents
 pub mod Sections

@@ -1,10 +1,10 @@
 -- Locals as the tree keeps them: neighbouring runs of one type joined, and runs of none dropped.
-use Rattle.std.specs.Prelude.{ℕ, ◌+◌, Bool, true, false, cond, not, ◌&&◌, nat_eq, List, [], ◌∷◌}
+use Rattle.std.specs.Prelude.{ℕ, ◌+◌, ◌^◌, Bool, true, false, cond, not, ◌&&◌, nat_eq, nat_lt, Option, Some, None, List, [], ◌∷◌}
 use Rattle.w_types.specs.declared.types.HeapType.{HeapType}
 use Rattle.w_types.specs.declared.types.HeapType.TheVariants as heap
 use Rattle.w_types.specs.declared.types.ValType.{ValType}
 use Rattle.w_types.specs.declared.types.ValType.TheVariants as val
-use Rattle.w_syntax.specs.declared.module.LocalRun.{LocalRun}
+use Rattle.w_syntax.specs.declared.locals.LocalRun.{LocalRun}
 
 abbrev pub same_heap : HeapType → HeapType → Bool
 same_heap heap.Func heap.Func = true
@@ -37,3 +37,7 @@ joined ls = join_all ls []
 unfoldable pub total : List LocalRun → ℕ
 total [] = 0
 total (l ∷ ls) = l.count + total ls
+
+-- what the tree keeps of runs, where there are fewer than 2^32 locals
+abbrev pub locals_of_runs : List LocalRun → Option (List LocalRun)
+locals_of_runs ls = cond (nat_lt (total ls) (2 ^ 32)) (Some (joined ls)) None

@@ -34,8 +34,8 @@ use Rattle.w_syntax.specs.Types.{entries_of, valtypes, valtype, heaptype, index3
 
 -- ## Numeric instructions
 
-unfoldable pub arithmetic : Format Numeric
-arithmetic = table (
+abbrev pub arithmetics : List (ℕ × Format Numeric)
+arithmetics =
     (0x67, constant (numeric.Unary int.I32 unary.Clz))
     ∷ (0x68, constant (numeric.Unary int.I32 unary.Ctz))
     ∷ (0x69, constant (numeric.Unary int.I32 unary.Popcnt))
@@ -73,14 +73,16 @@ arithmetic = table (
     ∷ (0x89, constant (numeric.Binary int.I64 binary.Rotl))
     ∷ (0x8A, constant (numeric.Binary int.I64 binary.Rotr))
     ∷ []
-    )
+
+unfoldable pub arithmetic : Format Numeric
+arithmetic = table arithmetics
 
 pub arithmetic_solid : IsSolid arithmetic.Spells
 unfolding arithmetic
 arithmetic_solid x h = h
 
-unfoldable pub comparison : Format Numeric
-comparison = table_or (
+abbrev pub comparisons : List (ℕ × Format Numeric)
+comparisons =
     (0x46, constant (numeric.Compare int.I32 compare.Eq))
     ∷ (0x47, constant (numeric.Compare int.I32 compare.Ne))
     ∷ (0x48, constant (numeric.Compare int.I32 compare.LtS))
@@ -102,14 +104,16 @@ comparison = table_or (
     ∷ (0x59, constant (numeric.Compare int.I64 compare.GeS))
     ∷ (0x5A, constant (numeric.Compare int.I64 compare.GeU))
     ∷ []
-    ) arithmetic arithmetic_solid
+
+unfoldable pub comparison : Format Numeric
+comparison = table_or comparisons arithmetic arithmetic_solid
 
 pub comparison_solid : IsSolid comparison.Spells
 unfolding comparison
 comparison_solid x h = h
 
-unfoldable pub numeric_op : Format Numeric
-numeric_op = table_or (
+abbrev pub numerics : List (ℕ × Format Numeric)
+numerics =
     (0x41, signed_number 32 ⇒ numeric.I32Const)
     ∷ (0x42, signed_number 64 ⇒ numeric.I64Const)
     ∷ (0x45, constant (numeric.Eqz int.I32))
@@ -123,7 +127,9 @@ numeric_op = table_or (
     ∷ (0xC3, constant (numeric.Convert convert.I64Extend16S))
     ∷ (0xC4, constant (numeric.Convert convert.I64Extend32S))
     ∷ []
-    ) comparison comparison_solid
+
+unfoldable pub numeric_op : Format Numeric
+numeric_op = table_or numerics comparison comparison_solid
 
 pub numeric_solid : IsSolid numeric_op.Spells
 unfolding numeric_op
@@ -164,8 +170,8 @@ unfoldable pub memory_op : Format MemoryOp
 memory_op = table accesses
 
 -- behind the byte FC: by a number
-unfoldable pub bulk : Format Op
-bulk = choice (number 32) (
+abbrev pub bulks : List (ℕ × Format Op)
+bulks =
     (8, number 32 ⊗ number 32 ⇒ λ p. op.Memory (memory.Init p.0 p.1))
     ∷ (9, number 32 ⇒ λ d. op.Memory (memory.DataDrop d))
     ∷ (10, number 32 ⊗ number 32 ⇒ λ p. op.Memory (memory.Copy p.0 p.1))
@@ -177,7 +183,9 @@ bulk = choice (number 32) (
     ∷ (16, number 32 ⇒ λ t. op.Table (table_op.Size t))
     ∷ (17, number 32 ⇒ λ t. op.Table (table_op.Fill t))
     ∷ []
-    )
+
+unfoldable pub bulk : Format Op
+bulk = choice (number 32) bulks
 
 -- ## Control instructions that hold no others
 
@@ -202,8 +210,11 @@ control_op = table controls
 -- ## Stack switching
 
 -- a clause of a handler
+abbrev pub clauses : List (ℕ × Format Clause)
+clauses = (0x00, number 32 ⊗ number 32 ⇒ λ p. clause.Label p.0 p.1) ∷ (0x01, number 32 ⇒ clause.Switch) ∷ []
+
 unfoldable pub hdl : Format Clause
-hdl = table ((0x00, number 32 ⊗ number 32 ⇒ λ p. clause.Label p.0 p.1) ∷ (0x01, number 32 ⇒ clause.Switch) ∷ [])
+hdl = table clauses
 
 -- ## All instructions that hold no others
 
@@ -216,8 +227,8 @@ unfolding plain
 plain_solid x h = h
 
 -- parametric, variable, table, reference and stack switching instructions, and those behind FC
-unfoldable pub other : Format Op
-other = table_or (
+abbrev pub others : List (ℕ × Format Op)
+others =
     (0x1A, constant (op.Parametric parametric.Drop))
     ∷ (0x1B, constant (op.Parametric parametric.Select))
     ∷ (0x1C, vec valtype ⇒ λ ts. op.Parametric (parametric.SelectOf ts))
@@ -239,7 +250,9 @@ other = table_or (
     ∷ (0xE6, number 32 ⊗ number 32 ⇒ λ p. op.Switching (switching.Switch p.0 p.1))
     ∷ (0xFC, bulk)
     ∷ []
-    ) plain plain_solid
+
+unfoldable pub other : Format Op
+other = table_or others plain plain_solid
 
 pub other_solid : IsSolid other.Spells
 unfolding other
@@ -254,19 +267,24 @@ instruction_solid x h = h
 
 -- ## Blocks
 
+abbrev pub blocktypes : List (ℕ × Format BlockType)
+blocktypes = (0x40, constant block.Empty) ∷ entries_of block.Value valtypes
+
 unfoldable pub blocktype : Format BlockType
-blocktype = table_or ((0x40, constant block.Empty) ∷ entries_of block.Value valtypes) (index33 ⇒ block.Index) (λ x h. index33_solid h.0 h.1)
+blocktype = table_or blocktypes (index33 ⇒ block.Index) (λ x h. index33_solid h.0 h.1)
 
 -- an instruction, or a mark of the nesting
-unfoldable pub token : Format Token
-token = table_or (
+abbrev pub tokens_by_byte : List (ℕ × Format Token)
+tokens_by_byte =
     (0x02, blocktype ⇒ tok.Block kind.Block)
     ∷ (0x03, blocktype ⇒ tok.Block kind.Loop)
     ∷ (0x04, blocktype ⇒ tok.If)
     ∷ (0x05, constant tok.Else)
     ∷ (0x0B, constant tok.End)
     ∷ []
-    ) (instruction ⇒ tok.Plain) (λ x h. instruction_solid h.0 h.1)
+
+unfoldable pub token : Format Token
+token = table_or tokens_by_byte (instruction ⇒ tok.Plain) (λ x h. instruction_solid h.0 h.1)
 
 pub token_solid : IsSolid token.Spells
 unfolding token

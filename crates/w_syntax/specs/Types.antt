@@ -32,15 +32,11 @@ pub index33_solid : IsSolid index33.Spells
 unfolding index33
 index33_solid x h = signed_solid 33 h.0 h.1.0
 
+abbrev pub heaptypes : List (ℕ × Format HeapType)
+heaptypes = (0x70, constant heap.Func) ∷ (0x73, constant heap.NoFunc) ∷ (0x68, constant heap.Cont) ∷ (0x75, constant heap.NoCont) ∷ []
+
 unfoldable pub heaptype : Format HeapType
-heaptype =
-    table_or (
-    (0x70, constant heap.Func)
-    ∷ (0x73, constant heap.NoFunc)
-    ∷ (0x68, constant heap.Cont)
-    ∷ (0x75, constant heap.NoCont)
-    ∷ []
-    ) (index33 ⇒ heap.Index) (λ x h. index33_solid h.0 h.1)
+heaptype = table_or heaptypes (index33 ⇒ heap.Index) (λ x h. index33_solid h.0 h.1)
 
 abbrev pub nullable_to : HeapType → RefType
 nullable_to h = record { nullable = true; heap = h }
@@ -77,27 +73,42 @@ valtype = table valtypes
 unfoldable pub functype : Format FuncType
 functype = vec valtype ⊗ vec valtype ⇒ λ p. record { params = p.0; results = p.1 }
 
+abbrev pub comptypes : List (ℕ × Format CompType)
+comptypes = (0x60, functype ⇒ comp.Func) ∷ (0x5D, number 32 ⇒ comp.Cont) ∷ []
+
 unfoldable pub comptype : Format CompType
-comptype = table ((0x60, functype ⇒ comp.Func) ∷ (0x5D, number 32 ⇒ comp.Cont) ∷ [])
+comptype = table comptypes
 
 pub comptype_solid : IsSolid comptype.Spells
 unfolding comptype
 comptype_solid x h = h
 
+abbrev pub group_of : List CompType → RecGroup
+group_of ts = record { types = ts }
+
+abbrev pub groups : List (ℕ × Format RecGroup)
+groups = (0x4E, vec comptype ⇒ group_of) ∷ []
+
 -- a group, or one type that is a group of its own
 unfoldable pub rectype : Format RecGroup
-rectype = table_or ((0x4E, vec comptype ⇒ λ ts. record { types = ts }) ∷ []) (comptype ⇒ λ t. record { types = t ∷ [] }) (λ x h. comptype_solid h.0 h.1)
+rectype = table_or groups (comptype ⇒ λ t. group_of (t ∷ [])) (λ x h. comptype_solid h.0 h.1)
 
 -- ## Limits, tables and globals
 
+abbrev pub limits_by_byte : List (ℕ × Format Limits)
+limits_by_byte = (0x00, number 64 ⇒ λ n. record { min = n; max = None }) ∷ (0x01, number 64 ⊗ number 64 ⇒ λ p. record { min = p.0; max = Some p.1 }) ∷ []
+
 unfoldable pub limits : Format Limits
-limits = table ((0x00, number 64 ⇒ λ n. record { min = n; max = None }) ∷ (0x01, number 64 ⊗ number 64 ⇒ λ p. record { min = p.0; max = Some p.1 }) ∷ [])
+limits = table limits_by_byte
 
 unfoldable pub tabletype : Format TableType
 tabletype = reftype ⊗ limits ⇒ λ p. record { element = p.0; limits = p.1 }
 
+abbrev pub mutabilities : List (ℕ × Format Mutability)
+mutabilities = (0x00, constant access.Const) ∷ (0x01, constant access.Var) ∷ []
+
 unfoldable pub mutability : Format Mutability
-mutability = table ((0x00, constant access.Const) ∷ (0x01, constant access.Var) ∷ [])
+mutability = table mutabilities
 
 unfoldable pub globaltype : Format GlobalType
 globaltype = valtype ⊗ mutability ⇒ λ p. record { kind = p.0; mutability = p.1 }

@@ -1,6 +1,7 @@
 //! Modules (Core, modules).
 
 use crate::body::Body;
+use crate::locals::Locals;
 use crate::name::Name;
 use w_types::{ListOf, RecGroups, RefType, ValType};
 
@@ -119,17 +120,10 @@ pub struct Data {
     pub mode: DataMode,
 }
 
-/// So many locals of one type, one behind the other.
-#[derive(Clone, Copy, Debug, PartialEq, Eq)]
-pub struct LocalRun {
-    pub count: u32,
-    pub kind: ValType,
-}
-
 /// A function's code: its locals behind the parameters, and its body.
 #[derive(Drop)]
 pub struct Func {
-    pub locals: ListOf<LocalRun>,
+    pub locals: Locals,
     pub body: Body,
 }
 

@@ -1,8 +1,10 @@
 use crate::{
-    BlockKind, BlockType, Body, BodyBuilder, Control, Instr, MemoryOp, Name, Op, Stepped, Token,
+    BlockKind, BlockType, Body, BodyBuilder, Control, Instr, LocalRun, Locals, MemoryOp, Name, Op,
+    Stepped, Token,
 };
 use std::alloc::{AllocError, Global};
 use std::test::Fail;
+use w_types::ValType;
 
 // The body that the tokens make, if they make one.
 fn body_of(alloc: Global, tokens: Vec<Token>) -> Result<Option<Body>, AllocError> {
@@ -81,5 +83,44 @@ fn bodies_that_name_data_segments(rt: HostRuntime) -> Result<(), Fail> {
 fn a_name_gives_its_text(rt: HostRuntime) -> Result<(), Fail> {
     let name = Name::new(String::from_str(rt.alloc(), "main")?);
     assert_eq!(rt; name.as_str(), "main");
+    Ok(())
+}
+
+// Locals of a type: so many.
+fn run(count: u32, kind: ValType) -> LocalRun {
+    LocalRun { count, kind }
+}
+
+#[test]
+fn locals_of_neighbouring_runs_are_joined(rt: HostRuntime) -> Result<(), Fail> {
+    let alloc = rt.alloc();
+    let runs = vec![in alloc;
+        run(0, ValType::I64),
+        run(1, ValType::I32),
+        run(0, ValType::I64),
+        run(2, ValType::I32),
+        run(4, ValType::I64),
+        run(1, ValType::I32),
+        run(0, ValType::I32),
+    ]?;
+    let expected = vec![in alloc;
+        run(3, ValType::I32),
+        run(4, ValType::I64),
+        run(1, ValType::I32),
+    ]?;
+    match Locals::of_runs(alloc, runs)? {
+        Some(locals) => assert_eq!(rt; locals.as_slice(), expected.as_slice()),
+        None => assert!(rt; false),
+    }
+    Ok(())
+}
+
+#[test]
+fn locals_are_fewer_than_two_to_the_32(rt: HostRuntime) -> Result<(), Fail> {
+    let alloc = rt.alloc();
+    let most = vec![in alloc; run(4_294_967_294, ValType::I32), run(1, ValType::I64)]?;
+    assert!(rt; Locals::of_runs(alloc, most)?.is_some());
+    let more = vec![in alloc; run(4_294_967_295, ValType::I32), run(1, ValType::I64)]?;
+    assert!(rt; Locals::of_runs(alloc, more)?.is_none());
     Ok(())
 }

@@ -1,6 +1,6 @@
 //! Validity of types.
 ghost use Rattle.std.specs.Prelude.{◌≡◌, ◌↔◌, All, IsTrue};
-ghost use Rattle.w_syntax.specs.declared.module.LocalRun.{LocalRun as Run};
+ghost use Rattle.w_syntax.specs.declared.locals.LocalRun.{LocalRun as Run};
 ghost use Rattle.w_rules.specs.Types.{IsValidType, IsValidCompType};
 ghost use Rattle.w_rules.specs.Valid.{TypeItem, TypeTyped};
 ghost use Rattle.w_valid.specs.Firsts.{IsFirst};

@@ -4,8 +4,8 @@ use std::alloc::{AllocError, Global};
 use std::test::Fail;
 use w_syntax::{
     Binary, BlockKind, BlockType, Body, BodyBuilder, Control, Export, ExternIndex, Func, IntType,
-    LocalRun, MemoryOp, Module, Name, Numeric, Op, Parametric, ReferenceOp, Stepped, SwitchingOp,
-    TableOp, Token, VariableOp,
+    LocalRun, Locals, MemoryOp, Module, Name, Numeric, Op, Parametric, ReferenceOp, Stepped,
+    SwitchingOp, TableOp, Token, VariableOp,
 };
 use w_types::{CompType, FuncType, ListOf, RecGroup, RecGroups, ValType};
 
@@ -77,8 +77,9 @@ fn body_of(alloc: Global, pieces: &[Piece]) -> Result<Body, Fail> {
 
 /// Code with these locals.
 pub(crate) fn code_of(alloc: Global, locals: &[LocalRun], pieces: &[Piece]) -> Result<Func, Fail> {
+    let runs = Vec::from_slice(alloc, locals)?;
     Ok(Func {
-        locals: ListOf::from_vec(Vec::from_slice(alloc, locals)?),
+        locals: Locals::of_runs(alloc, runs)?.ok_or("too many locals")?,
         body: body_of(alloc, pieces)?,
     })
 }

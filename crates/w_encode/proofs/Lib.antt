@@ -1,0 +1,8 @@
+mod Appended
+mod Written
+mod TypesCanonical
+mod InstructionsCanonical
+mod FieldsCanonical
+mod SegmentsCanonical
+mod FunctionsCanonical
+pub mod Canonical

@@ -1,0 +1,7 @@
+use Rattle.std.proofs.Common.{◌≡◌, drop}
+use Rattle.w_encode.specs.FieldsWritten.{are_functions}
+use Rattle.w_encode.proofs.segments.are_functions.Given as goal
+
+-- all items are functions where those that are left are
+abbrev pub invariant-loop-item : goal.invariant-loop-item
+invariant-loop-item l = are_functions (drop l.item-index l.items) ≡ are_functions l.items

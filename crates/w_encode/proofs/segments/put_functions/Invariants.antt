@@ -1,0 +1,9 @@
+use Rattle.std.proofs.Common.{◌≡◌, ◌++◌, drop}
+use Rattle.std.specs.List.{flat_map}
+use Rattle.w_leb.specs.Canonical.{vec_written}
+use Rattle.w_encode.specs.FieldsWritten.{function_written}
+use Rattle.w_encode.proofs.segments.put_functions.Given as goal
+
+-- what was written, and the functions that are left, are all that is to be written
+abbrev pub invariant-loop-item : goal.invariant-loop-item
+invariant-loop-item l = l.out.items ++ flat_map function_written (drop l.item-index l.items) ≡ l.fn.out.items ++ vec_written function_written l.items

@@ -1,0 +1,5 @@
+pub mod TypesWritten
+pub mod InstructionsWritten
+pub mod FlatWritten
+pub mod FieldsWritten
+pub mod Canon
