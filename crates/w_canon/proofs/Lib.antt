@@ -1,0 +1,9 @@
+pub mod Orders
+pub mod Inserted
+pub mod EntriesOfTypes
+pub mod KeysOfGroups
+pub mod Places
+pub mod ClassesOfTypes
+pub mod Matches
+pub mod Equivalent
+pub mod Preorder

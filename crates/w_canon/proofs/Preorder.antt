@@ -1,0 +1,90 @@
+-- Matching is a preorder.
+use Rattle.std.proofs.Common.{ℕ, List, [], ◌∷◌, slice_get, ap, ◌∙◌}
+use Rattle.std.specs.Option.{option_map}
+use Rattle.w_types.specs.declared.types.HeapType.{HeapType}
+use Rattle.w_types.specs.declared.types.HeapType.TheVariants.{Func, NoFunc, Cont, NoCont, Index}
+use Rattle.w_types.specs.declared.types.ValType.{ValType}
+use Rattle.w_types.specs.declared.types.ValType.TheVariants.{I32, I64, Ref}
+use Rattle.w_types.specs.declared.types.RecGroup.{RecGroup}
+use Rattle.w_types.specs.Groups.{types_of}
+use Rattle.w_canon.specs.Entries.{kind_of}
+use Rattle.w_canon.specs.Relations.{none, more, IsReflexive, IsTransitive}
+use Rattle.w_canon.specs.Equivalence.{SameIndex}
+use Rattle.w_canon.specs.Matching.{IsFunc, IsCont, HeapMatches, func, no_func, cont, no_cont, index, index_func, index_cont, no_func_func, no_func_index, no_cont_cont, no_cont_index, ValMatches, i32, i64, ref, ResultMatches, FuncMatches}
+use Rattle.w_canon.proofs.Equivalent.{reflexive, symmetric, transitive, one_kind, joined}
+use Rattle.w_canon.proofs.Matches.{func_by_kind, cont_by_kind}
+
+-- ## Kinds of equivalent types
+
+func_before : (gs : List RecGroup) (x y : ℕ) → SameIndex gs x y → IsFunc gs y → IsFunc gs x
+func_before gs x y s f = func_by_kind (slice_get (types_of gs) x) (one_kind gs x y s ∙ ap (option_map kind_of) f.1)
+
+cont_before : (gs : List RecGroup) (x y : ℕ) → SameIndex gs x y → IsCont gs y → IsCont gs x
+cont_before gs x y s f = cont_by_kind (slice_get (types_of gs) x) (one_kind gs x y s ∙ ap (option_map kind_of) f.1)
+
+one_of_both : (gs : List RecGroup) (x : ℕ) → IsFunc gs x → IsCont gs x → ⊥
+one_of_both gs x f c = let e = f.1 in let d = c.1 in cc
+
+-- ## Heap types
+
+heap_refl : (gs : List RecGroup) → IsReflexive (HeapMatches gs)
+heap_refl gs Func = func
+heap_refl gs NoFunc = no_func
+heap_refl gs Cont = cont
+heap_refl gs NoCont = no_cont
+heap_refl gs (Index x) = index (reflexive gs x)
+
+module _ (gs : List RecGroup) where
+  heap_trans : {a b c : HeapType} → HeapMatches gs a b → HeapMatches gs b c → HeapMatches gs a c
+  heap_trans func func = func
+  heap_trans no_func k = k
+  heap_trans cont cont = cont
+  heap_trans no_cont k = k
+  heap_trans (index {x} {y} s) (index {y = z} t) = index (transitive gs x y z s t)
+  heap_trans (index {x} {y} s) (index_func f) = index_func (func_before gs x y s f)
+  heap_trans (index {x} {y} s) (index_cont f) = index_cont (cont_before gs x y s f)
+  heap_trans (index_func f) func = index_func f
+  heap_trans (index_cont f) cont = index_cont f
+  heap_trans no_func_func func = no_func_func
+  heap_trans (no_func_index {x} f) (index {y = z} t) = no_func_index (func_before gs z x (symmetric gs x z t) f)
+  heap_trans (no_func_index f) (index_func g) = no_func_func
+  heap_trans (no_func_index {x} f) (index_cont g) = absurd (one_of_both gs x f g)
+  heap_trans no_cont_cont cont = no_cont_cont
+  heap_trans (no_cont_index {x} f) (index {y = z} t) = no_cont_index (cont_before gs z x (symmetric gs x z t) f)
+  heap_trans (no_cont_index f) (index_cont g) = no_cont_cont
+  heap_trans (no_cont_index {x} f) (index_func g) = absurd (one_of_both gs x g f)
+
+-- ## Value types
+
+pub val_refl : (gs : List RecGroup) → IsReflexive (ValMatches gs)
+val_refl gs I32 = i32
+val_refl gs I64 = i64
+val_refl gs (Ref r) = ref (record { nullable = λ t. t; heap = heap_refl gs r.heap })
+
+val_joined : (gs : List RecGroup) {v w z : ValType} → ValMatches gs v w → ValMatches gs w z → ValMatches gs v z
+val_joined gs i32 i32 = i32
+val_joined gs i64 i64 = i64
+val_joined gs (ref h) (ref k) = ref (record { nullable = λ t. k.nullable (h.nullable t); heap = heap_trans gs h.heap k.heap })
+
+pub val_trans : (gs : List RecGroup) → IsTransitive (ValMatches gs)
+val_trans gs v w z h k = val_joined gs h k
+
+-- ## Result types
+
+pub result_refl : (gs : List RecGroup) → IsReflexive (ResultMatches gs)
+result_refl gs [] = none
+result_refl gs (v ∷ vs) = more (val_refl gs v) (result_refl gs vs)
+
+pub result_trans : (gs : List RecGroup) → IsTransitive (ResultMatches gs)
+result_trans gs vs ws zs h k = joined (val_trans gs) h k
+
+-- ## Function types
+
+pub func_refl : (gs : List RecGroup) → IsReflexive (FuncMatches gs)
+func_refl gs f = record { params = result_refl gs f.params; results = result_refl gs f.results }
+
+pub func_trans : (gs : List RecGroup) → IsTransitive (FuncMatches gs)
+func_trans gs f g h p q = record {
+  params = result_trans gs h.params g.params f.params q.params p.params;
+  results = result_trans gs f.results g.results h.results p.results q.results;
+}

@@ -1,0 +1,16 @@
+-- The entries of types.
+use Rattle.std.specs.Prelude.{ℕ, suc, List, [], ◌∷◌}
+use Rattle.w_types.specs.declared.types.CompType.{CompType}
+use Rattle.w_types.specs.declared.types.CompType.TheVariants as comp
+use Rattle.w_canon.specs.declared.entry.Kind.{Kind}
+use Rattle.w_canon.specs.declared.entry.Kind.TheVariants.{Func, Cont}
+use Rattle.w_canon.specs.declared.entry.Entry.{Entry}
+
+abbrev pub kind_of : CompType → Kind
+kind_of (comp.Func f) = Func
+kind_of (comp.Cont x) = Cont
+
+-- the entries of types of one group, the first at position p, where the first equal group has number g
+abbrev pub entries_from : ℕ → ℕ → List CompType → List Entry
+entries_from g p [] = []
+entries_from g p (t ∷ ts) = record { class = record { group = g; position = p }; kind = kind_of t } ∷ entries_from g (suc p) ts

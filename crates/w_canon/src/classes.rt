@@ -1,0 +1,117 @@
+//! The classes of the types of a module.
+ghost use Rattle.std.specs.Prelude.{◌≡◌, ◌++◌, ℕ, IfOk, OnOk};
+ghost use Rattle.w_canon.specs.Entries.{kind_of, entries_from};
+ghost use Rattle.w_canon.specs.Numbers.{Finds};
+
+use crate::entry::{Class, Entry, Kind};
+use crate::key::{Word, key_of};
+use std::alloc::{AllocError, Global};
+use std::collections::BTreeMap;
+use std::marker::Model;
+use w_types::{CompType, RecGroup};
+
+/// The classes of the types of a module: two types have one class exactly where they are equivalent (Core, types, recursive
+/// types). Contracts see the list of the types' entries.
+#[derive(Debug, Drop)]
+pub struct Classes {
+    entries: Vec<Entry>,
+}
+
+impl Model for Classes {
+    ghost use Rattle.std.specs.Prelude.{List};
+    ghost use Rattle.w_canon.specs.declared.entry.Entry.{Entry};
+
+    ghost Value = { List Entry };
+
+    ghost view = { λ a. a.entries.items };
+}
+
+fn kind_of(kind: &CompType) -> Kind
+    ensures { result ≡ kind_of kind.now }
+{
+    match kind {
+        CompType::Func(_) => Kind::Func,
+        CompType::Cont(_) => Kind::Cont,
+    }
+}
+
+// Adds the entries of the types of a group, where the first group equal to it has this number.
+fn push_entries(entries: &mut Vec<Entry>, first: usize, group: &RecGroup) -> Result<(), AllocError>
+    ensures { OnOk result (entries.new.items ≡ entries.old.items ++ entries_from first 0 group.now.types) }
+{
+    for (position, kind) in group.types.as_slice().iter().enumerate() {
+        entries.push(Entry {
+            class: Class {
+                group: first,
+                position,
+            },
+            kind: kind_of(kind),
+        })?;
+    }
+    Ok(())
+}
+
+// The number of the first group with this key, which is the given one where no group had it.
+fn first_with(
+    numbers: &mut BTreeMap<Vec<Word>, usize>,
+    key: Vec<Word>,
+    number: usize,
+) -> Result<usize, AllocError>
+    ensures { IfOk result (λ first. Finds numbers.old numbers.new key.items number first) }
+{
+    if let Some(first) = numbers.get(&key) {
+        return Ok(*first);
+    }
+    numbers.insert(key, number)?;
+    Ok(number)
+}
+
+impl Classes {
+    ghost use Rattle.std.specs.Prelude.{◌≡◌, ◌↔◌, IsTrue, IfOk, List, Some, slice_get};
+    ghost use Rattle.std.specs.Option.{option_map};
+    ghost use Rattle.w_canon.specs.declared.entry.Entry.{Entry};
+    ghost use Rattle.w_types.specs.declared.types.RecGroup.{RecGroup};
+    ghost use Rattle.w_canon.specs.Equivalence.{SameIndex};
+    ghost use Rattle.w_canon.specs.Stands.{OneClass, Stands};
+
+    /// Finds the classes of the types of these groups. It fails only for want of memory.
+    pub fn of_groups(alloc: Global, groups: &[RecGroup]) -> Result<Classes, AllocError>
+        ensures { IfOk result (λ c. Stands groups.now c) }
+    {
+        let mut numbers = BTreeMap::new(alloc);
+        let mut entries = Vec::new(alloc);
+        for (number, group) in groups.iter().enumerate() {
+            let key = key_of(alloc, entries.as_slice(), group)?;
+            let first = first_with(&mut numbers, key, number)?;
+            push_entries(&mut entries, first, group)?;
+        }
+        Ok(Classes { entries })
+    }
+
+    // Whether two types have one class.
+    fn have_one_class(&self, i: u32, j: u32) -> bool
+        ensures { IsTrue result ↔ OneClass self.now i j }
+    {
+        match (self.entries.get(i as usize), self.entries.get(j as usize)) {
+            (Some(one), Some(other)) => one.class == other.class,
+            _ => false,
+        }
+    }
+
+    /// Whether two types are equivalent (Core, types, recursive types). An index that no type has is equivalent to itself alone.
+    pub fn same(&self, i: u32, j: u32) -> bool
+        ensures { (gs : List RecGroup) → Stands gs self.now → (IsTrue result ↔ SameIndex gs i j) }
+    {
+        i == j || self.have_one_class(i, j)
+    }
+
+    // Whether the type of this index is of this kind.
+    pub(crate) fn is_of_kind(&self, index: u32, kind: Kind) -> bool
+        ensures { IsTrue result ↔ (option_map (λ (e : Entry). e.kind) (slice_get self.now index) ≡ Some kind) }
+    {
+        match self.entries.get(index as usize) {
+            Some(entry) => entry.kind == kind,
+            None => false,
+        }
+    }
+}

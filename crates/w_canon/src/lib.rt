@@ -1,0 +1,16 @@
+//! Equivalence of the types of a module, and matching, which rests on it (`specs/`).
+#![tactic(auto)]
+
+mod classes;
+mod entry;
+mod key;
+mod laws;
+mod matching;
+#[cfg(test)]
+mod tests;
+
+pub use classes::Classes;
+pub use laws::{
+    func_matching_is_a_preorder, result_matching_is_a_preorder, same_is_an_equivalence,
+    val_matching_is_a_preorder,
+};

@@ -1,0 +1,94 @@
+//! Matching of types.
+ghost use Rattle.std.specs.Prelude.{◌↔◌, IsTrue, List};
+ghost use Rattle.w_types.specs.declared.types.RecGroup.{RecGroup};
+ghost use Rattle.w_canon.specs.Matching.{IsFunc, IsCont, HeapMatches, RefMatches, ValMatches, ResultMatches, FuncMatches};
+ghost use Rattle.w_canon.specs.Stands.{Stands};
+
+use crate::classes::Classes;
+use crate::entry::Kind;
+use w_types::{FuncType, HeapType, RefType, ValType};
+
+impl Classes {
+    // Whether the type of this index is a function type.
+    fn is_func(&self, index: u32) -> bool
+        ensures { (gs : List RecGroup) → Stands gs self.now → (IsTrue result ↔ IsFunc gs index) }
+    {
+        self.is_of_kind(index, Kind::Func)
+    }
+
+    // Whether the type of this index is a continuation type.
+    fn is_cont(&self, index: u32) -> bool
+        ensures { (gs : List RecGroup) → Stands gs self.now → (IsTrue result ↔ IsCont gs index) }
+    {
+        self.is_of_kind(index, Kind::Cont)
+    }
+
+    // Whether a heap type matches another.
+    fn matches_heap(&self, a: HeapType, b: HeapType) -> bool
+        ensures { (gs : List RecGroup) → Stands gs self.now → (IsTrue result ↔ HeapMatches gs a b) }
+    {
+        match a {
+            HeapType::Func => matches!(b, HeapType::Func),
+            HeapType::NoFunc => match b {
+                HeapType::Func | HeapType::NoFunc => true,
+                HeapType::Index(y) => self.is_func(y),
+                HeapType::Cont | HeapType::NoCont => false,
+            },
+            HeapType::Cont => matches!(b, HeapType::Cont),
+            HeapType::NoCont => match b {
+                HeapType::Cont | HeapType::NoCont => true,
+                HeapType::Index(y) => self.is_cont(y),
+                HeapType::Func | HeapType::NoFunc => false,
+            },
+            HeapType::Index(x) => match b {
+                HeapType::Func => self.is_func(x),
+                HeapType::Cont => self.is_cont(x),
+                HeapType::Index(y) => self.same(x, y),
+                HeapType::NoFunc | HeapType::NoCont => false,
+            },
+        }
+    }
+
+    // Whether a reference type matches another.
+    fn matches_ref(&self, a: RefType, b: RefType) -> bool
+        ensures { (gs : List RecGroup) → Stands gs self.now → (IsTrue result ↔ RefMatches gs a b) }
+    {
+        (!a.nullable || b.nullable) && self.matches_heap(a.heap, b.heap)
+    }
+
+    /// Whether a value type matches another (Core, validation, matching).
+    pub fn matches_val(&self, a: ValType, b: ValType) -> bool
+        ensures { (gs : List RecGroup) → Stands gs self.now → (IsTrue result ↔ ValMatches gs a b) }
+    {
+        match (a, b) {
+            (ValType::I32, ValType::I32) => true,
+            (ValType::I64, ValType::I64) => true,
+            (ValType::Ref(a), ValType::Ref(b)) => self.matches_ref(a, b),
+            _ => false,
+        }
+    }
+
+    /// Whether types match others, each the one at its place, and they are as many (Core, validation, matching).
+    pub fn matches_result(&self, a: &[ValType], b: &[ValType]) -> bool
+        ensures { (gs : List RecGroup) → Stands gs self.now → (IsTrue result ↔ ResultMatches gs a.now b.now) }
+    {
+        if a.len() != b.len() {
+            return false;
+        }
+        for (index, kind) in a.iter().enumerate() {
+            if !self.matches_val(*kind, b[index]) {
+                return false;
+            }
+        }
+        true
+    }
+
+    /// Whether a function type matches another: it takes what the other takes, and gives what the other gives (Core,
+    /// validation, matching).
+    pub fn matches_func(&self, a: &FuncType, b: &FuncType) -> bool
+        ensures { (gs : List RecGroup) → Stands gs self.now → (IsTrue result ↔ FuncMatches gs a.now b.now) }
+    {
+        self.matches_result(b.params.as_slice(), a.params.as_slice())
+            && self.matches_result(a.results.as_slice(), b.results.as_slice())
+    }
+}

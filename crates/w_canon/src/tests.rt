@@ -1,0 +1,5 @@
+mod equivalence;
+mod large;
+mod matching;
+mod naive;
+mod shapes;
