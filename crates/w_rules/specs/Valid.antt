@@ -4,14 +4,15 @@ use Rattle.w_types.specs.declared.types.CompType.{CompType}
 use Rattle.w_types.specs.declared.types.FuncType.{FuncType}
 use Rattle.w_types.specs.Groups.{types_of}
 use Rattle.w_types.specs.Rows.{ε, row_of}
-use Rattle.w_syntax.specs.Functions.{type_of_function, code_of_function}
+use Rattle.w_syntax.specs.Functions.{func_type, type_of_function, code_of_function}
 use Rattle.w_syntax.specs.declared.module.Export.{Export}
 use Rattle.w_syntax.specs.declared.module.ExternIndex.{ExternIndex}
 use Rattle.w_syntax.specs.declared.module.ExternIndex.TheVariants as extern
 use Rattle.w_syntax.specs.declared.module.Func.{Func}
+use Rattle.w_syntax.specs.declared.module.Tag.{Tag}
 use Rattle.w_syntax.specs.declared.locals.LocalRun.{LocalRun}
 use Rattle.w_syntax.specs.declared.module.Module.{Module}
-use Rattle.w_rules.specs.Types.{IsValidType, IsValidCompType}
+use Rattle.w_rules.specs.Types.{IsValidCompType, IsValidLocal, with_ends}
 use Rattle.w_rules.specs.Typing.{Derives}
 
 -- An item of a module, by its index in its section; a type by its index through all groups. All memories are one item.
@@ -28,15 +29,24 @@ pub data Item : Type 0 where
   ExportItem : ℕ → Item
   FunctionItem : ℕ → Item
 
--- type i
+-- type i: its indices are below the end of its group
 pub record TypeTyped (m : Module) (i : ℕ) : Type 0 where
   pub type : CompType
-  pub is : slice_get (types_of m.types) i ≡ Some type
-  pub valid : IsValidCompType type
+  pub end : ℕ
+  pub is : slice_get (with_ends 0 m.types) i ≡ Some (end, type)
+  pub valid : IsValidCompType (types_of m.types) end type
+
+-- tag i: its index is that of a function type, which may have results
+pub record TagTyped (m : Module) (i : ℕ) : Type 0 where
+  pub tag : Tag
+  pub type : FuncType
+  pub is : slice_get m.tags i ≡ Some tag
+  pub has_type : func_type m tag.type_index ≡ Some type
 
 -- what is exported is there
 abbrev pub IsThere : Module → ExternIndex → Type 0
 IsThere m (extern.Func x) = x < length m.functions
+IsThere m (extern.Tag x) = x < length m.tags
 -- no rule yet
 IsThere m x = ⊥
 
@@ -57,19 +67,19 @@ pub record FunctionTyped (m : Module) (i : ℕ) : Type 0 where
   pub func : Func
   pub has_type : type_of_function m i ≡ Some type
   pub has_code : code_of_function m i ≡ Some func
-  pub locals : All (λ (run : LocalRun). IsValidType run.kind) func.locals
+  pub locals : All (λ (run : LocalRun). IsValidLocal run.kind) func.locals
   pub body : Derives m func.body ε (row_of type.results)
 
 -- a rule derives the item
 abbrev pub ItemTyped : Module → Item → Type 0
 ItemTyped m (TypeItem i) = TypeTyped m i
+ItemTyped m (TagItem i) = TagTyped m i
 ItemTyped m (ExportItem i) = ExportTyped m i
 ItemTyped m (FunctionItem i) = FunctionTyped m i
 -- no rule yet
 ItemTyped m (ImportItem i) = ⊥
 ItemTyped m (TableItem i) = ⊥
 ItemTyped m MemoryItem = ⊥
-ItemTyped m (TagItem i) = ⊥
 ItemTyped m (GlobalItem i) = ⊥
 ItemTyped m (ElementItem i) = ⊥
 ItemTyped m (DataItem i) = ⊥

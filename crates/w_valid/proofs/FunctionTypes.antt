@@ -8,13 +8,13 @@ use Rattle.w_syntax.specs.Functions.{type_of_function, code_of_function}
 use Rattle.w_syntax.specs.declared.module.Func.{Func}
 use Rattle.w_syntax.specs.declared.locals.LocalRun.{LocalRun}
 use Rattle.w_syntax.specs.declared.module.Module.{Module}
-use Rattle.w_rules.specs.Types.{IsValidType}
+use Rattle.w_rules.specs.Types.{IsValidLocal}
 use Rattle.w_rules.specs.Typing.{Derives}
 use Rattle.w_rules.specs.Valid.{FunctionTyped}
 
 -- the type of each of these locals is valid
 abbrev pub AreValid : List LocalRun → Type 0
-AreValid runs = All (λ (run : LocalRun). IsValidType run.kind) runs
+AreValid runs = All (λ (run : LocalRun). IsValidLocal run.kind) runs
 
 -- a function with a type and code has just these
 parts_of : (m : Module) (i : ℕ) (type : FuncType) (func : Func) → type_of_function m i ≡ Some type → code_of_function m i ≡ Some func

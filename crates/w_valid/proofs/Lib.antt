@@ -6,3 +6,5 @@ pub mod Names
 pub mod FunctionTypes
 pub mod Items
 pub mod Faults
+pub mod TypesOfGroups
+pub mod TagsTyped

@@ -1,5 +1,5 @@
 -- The first items without a derivation.
-use Rattle.std.specs.Prelude.{◌≡◌, ℕ, ◌<◌, Option, Some, None}
+use Rattle.std.specs.Prelude.{◌≡◌, ℕ, ◌<◌, List, Option, Some, None, slice_get}
 use Rattle.w_syntax.specs.declared.module.Module.{Module}
 use Rattle.w_rules.specs.Valid.{Item, ItemTyped, IsItem, Before, IsInvalidAt}
 use Rattle.w_valid.specs.declared.fault.ValidFault.{ValidFault}
@@ -9,6 +9,11 @@ use Rattle.w_valid.specs.Faults.{fault_of}
 abbrev pub IsFirst : Module → (ℕ → Item) → Option ℕ → Type 0
 IsFirst m item None = (j : ℕ) → IsItem m (item j) → ItemTyped m (item j)
 IsFirst m item (Some i) = IsItem m (item i) × (ItemTyped m (item i) → ⊥) × ((j : ℕ) → j < i → IsItem m (item j) → ItemTyped m (item j))
+
+-- of a list, this is the index of the first item that fails, or none does
+abbrev pub IsFirstFailing : {A : Type 0} → (A → Type 0) → List A → Option ℕ → Type 0
+IsFirstFailing {A} Holds xs None = (i : ℕ) (x : A) → slice_get xs i ≡ Some x → Holds x
+IsFirstFailing {A} Holds xs (Some k) = (x : A) × (slice_get xs k ≡ Some x) × (Holds x → ⊥) × ((i : ℕ) (y : A) → i < k → slice_get xs i ≡ Some y → Holds y)
 
 -- of the items before z, the fault names the first without a derivation, or there is none
 abbrev pub IsFirstBefore : Module → Item → Option ValidFault → Type 0

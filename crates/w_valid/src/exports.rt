@@ -13,11 +13,9 @@ fn is_there(owner: &Module, index: ExternIndex) -> bool
 {
     match index {
         ExternIndex::Func(function) => (function as usize) < owner.functions.len(),
+        ExternIndex::Tag(tag) => (tag as usize) < owner.tags.len(),
         // no rule yet
-        ExternIndex::Table(_)
-        | ExternIndex::Memory(_)
-        | ExternIndex::Global(_)
-        | ExternIndex::Tag(_) => false,
+        ExternIndex::Table(_) | ExternIndex::Memory(_) | ExternIndex::Global(_) => false,
     }
 }
 

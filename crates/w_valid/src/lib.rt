@@ -6,6 +6,7 @@ mod exports;
 mod fault;
 mod functions;
 mod instructions;
+mod tags;
 #[cfg(test)]
 mod tests;
 mod types;

@@ -1,16 +1,46 @@
 //! Validity of types.
-ghost use Rattle.std.specs.Prelude.{◌≡◌, ◌↔◌, All, IsTrue};
+ghost use Rattle.std.specs.Prelude.{◌≡◌, ◌↔◌, ◌+◌, ◌≤◌, All, IsTrue, length, List};
+ghost use Rattle.w_types.specs.Groups.{types_of};
+ghost use Rattle.w_types.specs.declared.types.CompType.{CompType as TheType};
 ghost use Rattle.w_syntax.specs.declared.locals.LocalRun.{LocalRun as Run};
-ghost use Rattle.w_rules.specs.Types.{IsValidType, IsValidCompType};
-ghost use Rattle.w_rules.specs.Valid.{TypeItem, TypeTyped};
-ghost use Rattle.w_valid.specs.Firsts.{IsFirst};
+ghost use Rattle.w_rules.specs.Types.{IsValidHeap, IsValidType, IsValidCompType, IsValidLocal};
+ghost use Rattle.w_rules.specs.Valid.{TypeItem};
+ghost use Rattle.w_valid.specs.Firsts.{IsFirst, IsFirstFailing};
 
+use w_rules::func_type;
 use w_syntax::{LocalRun, Module};
-use w_types::{CompType, ValType};
+use w_types::{CompType, HeapType, ValType};
 
-// Whether a value type is valid.
-fn is_valid(kind: ValType) -> bool
-    ensures { IsTrue result ↔ IsValidType kind }
+// Whether a heap type is valid among so many types.
+fn is_heap_valid(end: usize, heap: HeapType) -> bool
+    ensures { IsTrue result ↔ IsValidHeap end heap }
+{
+    match heap {
+        HeapType::Func | HeapType::NoFunc | HeapType::Cont | HeapType::NoCont => true,
+        HeapType::Index(index) => (index as usize) < end,
+    }
+}
+
+// Whether a value type is.
+fn is_valid(end: usize, kind: ValType) -> bool
+    ensures { IsTrue result ↔ IsValidType end kind }
+{
+    match kind {
+        ValType::I32 | ValType::I64 => true,
+        ValType::Ref(reference) => is_heap_valid(end, reference.heap),
+    }
+}
+
+// Whether each of these value types is.
+fn are_valid(end: usize, kinds: &[ValType]) -> bool
+    ensures { IsTrue result ↔ All (IsValidType end) kinds.now }
+{
+    kinds.iter().all(|kind| is_valid(end, *kind))
+}
+
+// Whether a local may have this type.
+fn is_local_valid(kind: ValType) -> bool
+    ensures { IsTrue result ↔ IsValidLocal kind }
 {
     match kind {
         ValType::I32 | ValType::I64 => true,
@@ -19,51 +49,52 @@ fn is_valid(kind: ValType) -> bool
     }
 }
 
-// Whether each of these value types is valid.
-fn are_valid(kinds: &[ValType]) -> bool
-    ensures { IsTrue result ↔ All IsValidType kinds.now }
-{
-    kinds.iter().all(|kind| is_valid(*kind))
-}
-
 /// Whether the type of each of these locals is valid.
 pub fn are_locals_valid(runs: &[LocalRun]) -> bool
-    ensures { IsTrue result ↔ All (λ (run : Run). IsValidType run.kind) runs.now }
+    ensures { IsTrue result ↔ All (λ (run : Run). IsValidLocal run.kind) runs.now }
 {
-    runs.iter().all(|run| is_valid(run.kind))
+    runs.iter().all(|run| is_local_valid(run.kind))
 }
 
-// Whether a composite type is valid.
-fn is_composite_valid(kind: &CompType) -> bool
-    ensures { IsTrue result ↔ IsValidCompType kind.now }
+// Whether a composite type of the module is valid, where its group ends at this index.
+fn is_composite_valid(owner: &Module, end: usize, kind: &CompType) -> bool
+    ensures { IsTrue result ↔ IsValidCompType (types_of owner.now.types) end kind.now }
 {
     match kind {
         CompType::Func(kind) => {
-            are_valid(kind.params.as_slice()) && are_valid(kind.results.as_slice())
+            are_valid(end, kind.params.as_slice()) && are_valid(end, kind.results.as_slice())
         }
-        // no rule yet
-        CompType::Cont(_) => false,
+        CompType::Cont(index) => {
+            (*index as usize) < end && func_type(owner, *index as usize).is_some()
+        }
     }
 }
 
-// Whether the type of this index is valid.
-fn is_typed(owner: &Module, index: usize) -> bool
-    ensures { IsTrue result ↔ TypeTyped owner.now index }
+// The position of the first type that is not valid, of those of a group that ends at this index.
+fn first_in_group(owner: &Module, end: usize, types: &[CompType]) -> Option<usize>
+    ensures { IsFirstFailing (IsValidCompType (types_of owner.now.types) end) types.now result }
 {
-    match owner.types.get(index) {
-        Some(kind) => is_composite_valid(kind),
-        None => false,
+    for (position, kind) in types.iter().enumerate() {
+        if !is_composite_valid(owner, end, kind) {
+            return Some(position);
+        }
     }
+    None
 }
 
 /// The first type that is not valid, if there is one.
 pub fn first_untyped_type(owner: &Module) -> Option<usize>
     ensures { IsFirst owner.now TypeItem result }
 {
-    for index in 0..owner.types.type_count() {
-        if !is_typed(owner, index) {
-            return Some(index);
+    // no index of a type, nor the end of a group, is above it
+    let _count = owner.types.type_count();
+    let mut start = 0;
+    for group in owner.types.as_slice() {
+        let end = start + group.types.len();
+        if let Some(position) = first_in_group(owner, end, group.types.as_slice()) {
+            return Some(start + position);
         }
+        start = end;
     }
     None
 }

@@ -9,12 +9,14 @@ ghost use Rattle.w_valid.specs.Firsts.{IsFirstBefore};
 use crate::exports::first_untyped_export;
 use crate::fault::ValidFault;
 use crate::functions::first_untyped_function;
+use crate::tags::first_untyped_tag;
 use crate::types::first_untyped_type;
 use std::alloc::Global;
 use w_rules::{Checked, limits_of};
 use w_syntax::Module;
 
-// The first item before the exports that is not valid, if there is one. From imports to the start no item has a rule yet.
+// The first item before the exports that is not valid, if there is one. Imports, tables, memories, globals,
+// segments and the start have no rule yet.
 fn first_untyped_definition(candidate: &Module) -> Option<ValidFault>
     ensures { IsFirstBefore candidate.now (ExportItem 0) result }
 {
@@ -30,8 +32,8 @@ fn first_untyped_definition(candidate: &Module) -> Option<ValidFault>
     if candidate.memories.len() > 0 {
         return Some(ValidFault::Memory);
     }
-    if candidate.tags.len() > 0 {
-        return Some(ValidFault::Tag(0));
+    if let Some(index) = first_untyped_tag(candidate) {
+        return Some(ValidFault::Tag(index));
     }
     if candidate.globals.len() > 0 {
         return Some(ValidFault::Global(0));

@@ -98,8 +98,7 @@ fn code_is_judged(rt: HostRuntime) -> Result<(), Fail> {
 #[test]
 fn items_without_a_rule_are_invalid(rt: HostRuntime) -> Result<(), Fail> {
     let alloc = rt.alloc();
-    let rows: [(&[u8], &[u8]); 10] = [
-        (&[0x01, 0x03, 0x01, 0x5D, 0x00], b"invalid type 0\n"),
+    let rows: [(&[u8], &[u8]); 9] = [
         (
             &[
                 0x01, 0x04, 0x01, 0x60, 0x00, 0x00, 0x02, 0x07, 0x01, 0x01, 0x61, 0x01, 0x62, 0x00,
@@ -111,7 +110,7 @@ fn items_without_a_rule_are_invalid(rt: HostRuntime) -> Result<(), Fail> {
         (&[0x05, 0x03, 0x01, 0x00, 0x00], b"invalid memory\n"),
         (
             &[
-                0x01, 0x04, 0x01, 0x60, 0x00, 0x00, 0x0D, 0x03, 0x01, 0x00, 0x00,
+                0x01, 0x04, 0x01, 0x60, 0x00, 0x00, 0x0D, 0x03, 0x01, 0x00, 0x01,
             ],
             b"invalid tag 0\n",
         ),
@@ -134,6 +133,56 @@ fn items_without_a_rule_are_invalid(rt: HostRuntime) -> Result<(), Fail> {
         let (written, status) = judged(alloc, &HEADER, sections)?;
         assert_eq!(rt; written.as_slice(), text, "{sections:?}");
         assert_eq!(rt; status, 4, "{sections:?}");
+    }
+    Ok(())
+}
+
+#[test]
+fn types_and_tags_are_judged(rt: HostRuntime) -> Result<(), Fail> {
+    let alloc = rt.alloc();
+    let rows: [(&[u8], &[u8]); 7] = [
+        // a continuation of itself, and of a type behind its group; both types in one group
+        (&[0x01, 0x03, 0x01, 0x5D, 0x00], b"invalid type 0\n"),
+        (
+            &[0x01, 0x06, 0x02, 0x5D, 0x01, 0x60, 0x00, 0x00],
+            b"invalid type 0\n",
+        ),
+        (
+            &[0x01, 0x08, 0x01, 0x4E, 0x02, 0x5D, 0x01, 0x60, 0x00, 0x00],
+            b"ok module\n",
+        ),
+        // a tag with results, and one of a continuation type
+        (
+            &[
+                0x01, 0x05, 0x01, 0x60, 0x00, 0x01, 0x7F, 0x0D, 0x03, 0x01, 0x00, 0x00,
+            ],
+            b"ok module\n",
+        ),
+        (
+            &[
+                0x01, 0x06, 0x02, 0x60, 0x00, 0x00, 0x5D, 0x00, 0x0D, 0x03, 0x01, 0x00, 0x01,
+            ],
+            b"invalid tag 0\n",
+        ),
+        // an export of a tag, and of one past the end
+        (
+            &[
+                0x01, 0x04, 0x01, 0x60, 0x00, 0x00, 0x0D, 0x03, 0x01, 0x00, 0x00, 0x07, 0x05, 0x01,
+                0x01, 0x74, 0x04, 0x00,
+            ],
+            b"ok module\n",
+        ),
+        (
+            &[
+                0x01, 0x04, 0x01, 0x60, 0x00, 0x00, 0x0D, 0x03, 0x01, 0x00, 0x00, 0x07, 0x05, 0x01,
+                0x01, 0x74, 0x04, 0x01,
+            ],
+            b"invalid export 0\n",
+        ),
+    ];
+    for (sections, text) in rows {
+        let (written, _) = judged(alloc, &HEADER, sections)?;
+        assert_eq!(rt; written.as_slice(), text, "{sections:?}");
     }
     Ok(())
 }
@@ -185,7 +234,7 @@ fn each_front_of_a_module(rt: HostRuntime) -> Result<(), Fail> {
                 (18, COUNTS),
                 (23, COUNTS),
                 (33, COUNTS),
-                (41, "invalid tag 0\n"),
+                (41, "invalid function 0\n"),
             ],
         ),
         (

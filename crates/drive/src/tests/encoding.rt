@@ -1,5 +1,5 @@
 //! Modules that are decoded, and written again.
-use super::HEADER;
+use super::{HEADER, done_on};
 use std::alloc::{AllocError, Global};
 use std::test::Fail;
 use w_decode::decode;
@@ -178,6 +178,11 @@ fn both_spellings_of_an_index_become_one(rt: HostRuntime) -> Result<(), Fail> {
     assert_eq!(rt; first.as_slice(), signed.as_slice());
     let second = rewritten(alloc, signed.as_slice())?;
     assert_eq!(rt; second.as_slice(), signed.as_slice());
+    for spelling in [unsigned, signed.clone()?] {
+        let built = done_on(alloc, &["stackwasm", "build", "x"], spelling)?;
+        assert_eq!(rt; built.status, 0);
+        assert_eq!(rt; built.out.as_slice(), signed.as_slice());
+    }
     Ok(())
 }
 

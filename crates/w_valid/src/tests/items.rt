@@ -11,7 +11,7 @@ use w_syntax::{
     Body, Data, DataMode, Elem, ElemMode, ExternIndex, ExternType, GlobalType, GlobalVariable,
     Import, Limits, LocalRun, Module, Mutability, Numeric, Op, Table, TableType, Tag,
 };
-use w_types::{CompType, HeapType, ListOf, RefType, ValType};
+use w_types::{CompType, HeapType, ListOf, RecGroup, RecGroups, RefType, ValType};
 
 const FUNCREF: RefType = RefType {
     nullable: true,
@@ -81,7 +81,7 @@ fn add(alloc: Global, candidate: &mut Module, extra: Extra) -> Result<(), AllocE
     match extra {
         Extra::Type => {
             let mut more = ListOf::new(alloc);
-            more.push(CompType::Cont(0))?;
+            more.push(CompType::Cont(9))?;
             candidate.types = types_of(alloc, &[], more)?;
         }
         Extra::Import => candidate.imports.push(import_of(alloc)?)?,
@@ -93,7 +93,7 @@ fn add(alloc: Global, candidate: &mut Module, extra: Extra) -> Result<(), AllocE
             init: None,
         })?,
         Extra::Memory => candidate.memories.push(LIMITS)?,
-        Extra::Tag => candidate.tags.push(Tag { type_index: 0 })?,
+        Extra::Tag => candidate.tags.push(Tag { type_index: 9 })?,
         Extra::Global => candidate.globals.push(global_of(alloc)?)?,
         Extra::Element => candidate.elements.push(Elem {
             kind: FUNCREF,
@@ -137,24 +137,127 @@ fn of_two_items_the_first_is_named(rt: HostRuntime) -> Result<(), Fail> {
     Ok(())
 }
 
+// Validates `module_of` with a group of three types more: these, and a function type.
+fn fault_of_types(
+    alloc: Global,
+    first: CompType,
+    second: CompType,
+) -> Result<Option<ValidFault>, Fail> {
+    let mut more = ListOf::new(alloc);
+    more.push(first)?;
+    more.push(second)?;
+    more.push(type_of(alloc, &[], &[])?)?;
+    let mut candidate = module_of(alloc, &[], &[])?;
+    candidate.types = types_of(alloc, &[], more)?;
+    Ok(validate(alloc, candidate).err())
+}
+
+fn reference_to(index: u32) -> ValType {
+    ValType::Ref(RefType {
+        nullable: false,
+        heap: HeapType::Index(index),
+    })
+}
+
 #[test]
-fn types_of_references_and_continuations_are_not_valid(rt: HostRuntime) -> Result<(), Fail> {
+fn types_name_those_up_to_the_end_of_their_group(rt: HostRuntime) -> Result<(), Fail> {
     let alloc = rt.alloc();
-    let types: [(&[ValType], &[ValType]); 2] = [
-        (&[ValType::I32, ValType::Ref(FUNCREF)], &[]),
-        (&[], &[ValType::Ref(FUNCREF)]),
+    // the three types have the indices 3, 4 and 5
+    let valid: [(u32, &[ValType], &[ValType]); 4] = [
+        (0, &[ValType::Ref(FUNCREF)], &[]),
+        (2, &[], &[ValType::I32, reference_to(0)]),
+        (4, &[reference_to(3)], &[reference_to(4)]),
+        (5, &[reference_to(5)], &[]),
     ];
-    for (params, results) in types {
+    for (function, params, results) in valid {
+        let second = type_of(alloc, params, results)?;
+        assert_eq!(rt;
+            fault_of_types(alloc, CompType::Cont(function), second)?,
+            None
+        );
+    }
+    let past: [(&[ValType], &[ValType]); 2] = [
+        (&[ValType::I32, reference_to(6)], &[]),
+        (&[], &[reference_to(6)]),
+    ];
+    for (params, results) in past {
+        let second = type_of(alloc, params, results)?;
+        assert_eq!(rt;
+            fault_of_types(alloc, CompType::Cont(0), second)?,
+            Some(ValidFault::TypeAt(4))
+        );
+    }
+    Ok(())
+}
+
+#[test]
+fn continuation_types_are_of_function_types(rt: HostRuntime) -> Result<(), Fail> {
+    let alloc = rt.alloc();
+    // of one that is not there, of another continuation type, and of its own
+    let cases = [(0, 6, 4), (0, 3, 4), (0, 4, 4), (3, 5, 3)];
+    for (first, second, index) in cases {
+        assert_eq!(rt;
+            fault_of_types(alloc, CompType::Cont(first), CompType::Cont(second))?,
+            Some(ValidFault::TypeAt(index))
+        );
+    }
+    assert_eq!(rt;
+        fault_of_types(alloc, CompType::Cont(1), CompType::Cont(5))?,
+        None
+    );
+    Ok(())
+}
+
+#[test]
+fn groups_do_not_name_types_of_later_ones(rt: HostRuntime) -> Result<(), Fail> {
+    let alloc = rt.alloc();
+    let mut first = ListOf::new(alloc);
+    first.push(type_of(alloc, &[], &[])?)?;
+    first.push(CompType::Cont(2))?;
+    let mut second = ListOf::new(alloc);
+    second.push(type_of(alloc, &[], &[])?)?;
+    let mut groups = Vec::new(alloc);
+    groups.push(RecGroup { types: first })?;
+    groups.push(RecGroup { types: second })?;
+    let mut candidate = module_of(alloc, &[], &[])?;
+    candidate.types = RecGroups::from_vec(alloc, groups)?;
+    assert_eq!(rt;
+        validate(alloc, candidate).err(),
+        Some(ValidFault::TypeAt(1))
+    );
+    Ok(())
+}
+
+#[test]
+fn tags_are_of_function_types(rt: HostRuntime) -> Result<(), Fail> {
+    let alloc = rt.alloc();
+    // a type with results, one that is not there, and a continuation type
+    let cases = [
+        (1, None),
+        (4, Some(ValidFault::Tag(1))),
+        (3, Some(ValidFault::Tag(1))),
+    ];
+    for (index, fault) in cases {
         let mut more = ListOf::new(alloc);
-        more.push(type_of(alloc, &[ValType::I32], &[])?)?;
-        more.push(type_of(alloc, params, results)?)?;
         more.push(CompType::Cont(0))?;
         let mut candidate = module_of(alloc, &[], &[])?;
         candidate.types = types_of(alloc, &[], more)?;
-        assert_eq!(rt;
-            validate(alloc, candidate).err(),
-            Some(ValidFault::TypeAt(4))
-        );
+        candidate.tags.push(Tag { type_index: 0 })?;
+        candidate.tags.push(Tag { type_index: index })?;
+        assert_eq!(rt; validate(alloc, candidate).err(), fault);
+    }
+    Ok(())
+}
+
+#[test]
+fn an_exported_tag_is_there(rt: HostRuntime) -> Result<(), Fail> {
+    let alloc = rt.alloc();
+    let cases = [(0, None), (1, Some(ValidFault::Export(0)))];
+    for (index, fault) in cases {
+        let mut candidate = module_of(alloc, &[], &[])?;
+        candidate.tags.push(Tag { type_index: 0 })?;
+        export_all(alloc, &mut candidate, &[("tag", ExternIndex::Tag(index))])?;
+        assert_eq!(rt; validate(alloc, candidate).err(), fault);
     }
     Ok(())
 }
@@ -265,7 +368,7 @@ fn the_first_export_that_is_not_valid_is_named(rt: HostRuntime) -> Result<(), Fa
 fn limits_come_before_items(rt: HostRuntime) -> Result<(), Fail> {
     let alloc = rt.alloc();
     let mut more = ListOf::new(alloc);
-    more.push(CompType::Cont(0))?;
+    more.push(CompType::Cont(9))?;
     more.push(type_of(alloc, &[ValType::I64; 1_001], &[])?)?;
     let mut candidate = module_of(alloc, &[Piece::Drop], &[])?;
     candidate.types = types_of(alloc, &[], more)?;

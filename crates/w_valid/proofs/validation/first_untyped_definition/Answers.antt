@@ -15,17 +15,17 @@ returns-then-len-gt0-2 c = (TableItem 0, refl, inl (omega arith), record { item 
 pub returns-then-len-gt0-3 : goal.returns-then-len-gt0-3
 returns-then-len-gt0-3 c = (MemoryItem, refl, inl (omega arith), record { item = omega arith; untyped = λ t. t; least = grind (arith, common_steps) })
 
+pub returns-in-Some-first_untyped_tag : goal.returns-in-Some-first_untyped_tag
+returns-in-Some-first_untyped_tag c = (TagItem c.in-Some-first_untyped_tag.index, refl, inl (omega arith), record { item = c.in-Some-first_untyped_tag.ensures.0; untyped = c.in-Some-first_untyped_tag.ensures.1; least = grind (arith, common_steps) })
+
 pub returns-then-len-gt0-4 : goal.returns-then-len-gt0-4
-returns-then-len-gt0-4 c = (TagItem 0, refl, inl (omega arith), record { item = omega arith; untyped = λ t. t; least = grind (arith, common_steps) })
+returns-then-len-gt0-4 c = (GlobalItem 0, refl, inl (omega arith), record { item = omega arith; untyped = λ t. t; least = grind (arith, common_steps) })
 
 pub returns-then-len-gt0-5 : goal.returns-then-len-gt0-5
-returns-then-len-gt0-5 c = (GlobalItem 0, refl, inl (omega arith), record { item = omega arith; untyped = λ t. t; least = grind (arith, common_steps) })
+returns-then-len-gt0-5 c = (ElementItem 0, refl, inl (omega arith), record { item = omega arith; untyped = λ t. t; least = grind (arith, common_steps) })
 
 pub returns-then-len-gt0-6 : goal.returns-then-len-gt0-6
-returns-then-len-gt0-6 c = (ElementItem 0, refl, inl (omega arith), record { item = omega arith; untyped = λ t. t; least = grind (arith, common_steps) })
-
-pub returns-then-len-gt0-7 : goal.returns-then-len-gt0-7
-returns-then-len-gt0-7 c = (DataItem 0, refl, inl (omega arith), record { item = omega arith; untyped = λ t. t; least = grind (arith, common_steps) })
+returns-then-len-gt0-6 c = (DataItem 0, refl, inl (omega arith), record { item = omega arith; untyped = λ t. t; least = grind (arith, common_steps) })
 
 pub returns-then-is_some : goal.returns-then-is_some
 returns-then-is_some c = (StartItem, refl, inl (omega arith), record { item = sym c.if-is_some.ensures; untyped = λ t. t; least = grind (arith, common_steps) })
