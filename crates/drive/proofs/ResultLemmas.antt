@@ -9,7 +9,7 @@ use Rattle.w_machine.specs.declared.outcome.Outcome.TheVariants as outcome
 use Rattle.w_rules.specs.declared.limits.LimitName.{LimitName}
 use Rattle.w_reduce.specs.Run.{Outcome, Running, Limit, NoRule, Ran, Run, HasEnded, results_of}
 use Rattle.w_machine.specs.Position.{Position, Runs}
-use Rattle.drive.specs.Answer.{Reply, result_line, run_reply, from_entry}
+use Rattle.drive.specs.Answer.{Reply, result_line, run_reply, no_printer, no_entry, from_entry, from_import}
 
 -- ## Lines
 
@@ -87,7 +87,16 @@ pub limit_reply : (written text : List ℕ) → written ≡ text
     → ◌≡◌ {A = Reply} (record { out = []; err = written; status = 9 }) (record { out = []; err = text; status = 9 })
 limit_reply written text e = ap (λ (l : List ℕ). let reply : Reply = record { out = []; err = l; status = 9 } in reply) e
 
--- where there is an entry the run gives the reply
-pub with_entry : (o : Option ℕ) (r : Reply) → o ≢ None → from_entry o r ≡ r
-with_entry (Some a) r h = refl
-with_entry None r h = absurd (h refl)
+-- where nothing is missing and there is an entry, the run gives the reply
+pub from_both : (i e : Option ℕ) (r : Reply) → i ≡ None → e ≢ None → from_import i (from_entry e r) ≡ r
+from_both None (Some a) r none h = refl
+from_both None None r none h = absurd (h refl)
+from_both (Some i) e r none h = absurd cc
+
+-- where an import is missing, that is told
+pub import_told : (i : Option ℕ) (n : ℕ) (r : Reply) → i ≡ Some n → from_import i r ≡ no_printer n
+import_told i n r is = ap (λ (o : Option ℕ). from_import o r) is
+
+-- nothing is imported, and there is no entry
+pub entry_told : (i e : Option ℕ) (r : Reply) → i ≡ None → e ≡ None → from_import i (from_entry e r) ≡ no_entry
+entry_told i e r none missing = ap (λ (o : Option ℕ). from_import o (from_entry e r)) none ∙ ap (λ (o : Option ℕ). from_entry o r) missing

@@ -18,7 +18,7 @@ use Rattle.w_rules.specs.declared.limits.LimitName.TheVariants.{Types, Params, L
 use Rattle.w_valid.specs.Faults.{IsFaultOf}
 use Rattle.w_valid.specs.declared.fault.ValidFault.{ValidFault}
 use Rattle.w_valid.specs.declared.fault.ValidFault.TheVariants as valid
-use Rattle.w_reduce.specs.Start.{entry}
+use Rattle.w_reduce.specs.Start.{first_import, entry}
 use Rattle.w_reduce.specs.Run.{Outcome, Running, Values, Limit, NoRule, Run}
 use Rattle.w_encode.specs.Canon.{Canon}
 use Rattle.drive.specs.Line.{Line, check, run, build, bad}
@@ -79,6 +79,10 @@ invalid (valid.Export i) = refusal (codes "invalid export " ++ decimal i) 4
 invalid (valid.Function i) = refusal (codes "invalid function " ++ decimal i) 4
 invalid valid.OutOfMemory = refusal [] 4
 
+-- nothing is there for import i
+abbrev pub no_printer : ℕ → Reply
+no_printer i = refusal (codes "no printer " ++ decimal i) 4
+
 abbrev pub no_entry : Reply
 no_entry = refusal (codes "no entry") 4
 
@@ -124,8 +128,13 @@ abbrev pub from_entry : Option ℕ → Reply → Reply
 from_entry (Some a) reply = reply
 from_entry None reply = no_entry
 
+-- what a module gives, where nothing is missing for its imports
+abbrev pub from_import : Option ℕ → Reply → Reply
+from_import (Some i) reply = no_printer i
+from_import None reply = reply
+
 abbrev pub run_gives : ℕ → Module → Reply
-run_gives steps m = from_entry (entry m) (run_reply (Run m steps).outcome)
+run_gives steps m = from_import (first_import m) (from_entry (entry m) (run_reply (Run m steps).outcome))
 
 -- a module that is valid, written again
 abbrev pub built : Module → Reply

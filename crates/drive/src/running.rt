@@ -1,10 +1,10 @@
 //! The command `run`.
-ghost use Rattle.std.specs.Prelude.{◌≡◌, ◌⊎◌, ◌≤◌, ℕ, List, flat_map, OnOk, OnErr};
+ghost use Rattle.std.specs.Prelude.{◌≡◌, ◌⊎◌, ◌≤◌, ℕ, List, [], flat_map, OnOk, OnErr};
 ghost use Rattle.w_outside.specs.Outside.{Grew, GrewByFront, HasCause, Rose};
 ghost use Rattle.w_reduce.specs.Run.{Run};
-ghost use Rattle.w_reduce.specs.Store.{start_store};
+ghost use Rattle.w_machine.specs.Beginning.{Begins};
 ghost use Rattle.w_machine.specs.Position.{most_reductions};
-ghost use Rattle.drive.specs.Answer.{OnFile, RunGives, result_line, run_reply, run_gives};
+ghost use Rattle.drive.specs.Answer.{OnFile, RunGives, result_line, run_reply, no_printer, run_gives};
 ghost use Rattle.drive.specs.Delivery.{MayFail, Replies};
 
 use crate::files::{open, refuse};
@@ -12,7 +12,7 @@ use crate::judged::Judged;
 use crate::judging::judge;
 use crate::opened::Opened;
 use crate::status::Status;
-use crate::text::{limit_line, value_line};
+use crate::text::{limit_line, printer_line, value_line};
 use std::alloc::Global;
 use w_machine::{InstFault, Machine, Outcome, Store, instantiate};
 use w_outside::{Fault, Inputs, Sink, put};
@@ -42,7 +42,7 @@ fn run_store<O: Sink, E: Sink>(
     err: &mut E,
 ) -> Result<Status, Fault>
     requires within { steps ≤ most_reductions }
-    requires first { store ≡ start_store checked }
+    requires first { Begins checked store }
     ensures replies { Replies (λ reply. reply ≡ run_reply (Run checked steps).outcome) result
         (Grew (O.held out.old) (O.held out.new)) (Grew (E.held err.old) (E.held err.new))
         (Rose (O.faults out.old) (O.faults out.new) ⊎ Rose (E.faults err.old) (E.faults err.new)) }
@@ -61,7 +61,17 @@ fn run_store<O: Sink, E: Sink>(
     }
 }
 
-// Runs an accepted module, where it has an entry.
+// Refuses a module for whose import of this index nothing is there.
+fn refuse_import<E: Sink>(alloc: Global, index: usize, err: &mut E) -> Result<Status, Fault>
+    ensures replies { Replies (λ reply. reply ≡ no_printer index) result
+        (λ text. text ≡ []) (Grew (E.held err.old) (E.held err.new)) (Rose (E.faults err.old) (E.faults err.new)) }
+    ensures later { E.faults err.old ≤ E.faults err.new }
+{
+    let line = printer_line(alloc, index)?;
+    refuse(line.as_slice(), Status::Invalid, err)
+}
+
+// Runs an accepted module, where nothing is missing for its imports and it has an entry.
 fn run_checked<O: Sink, E: Sink>(
     alloc: Global,
     checked: Checked,
@@ -77,6 +87,7 @@ fn run_checked<O: Sink, E: Sink>(
 {
     match instantiate(alloc, &checked) {
         Ok(store) => run_store(alloc, checked, store, steps, out, err),
+        Err(InstFault::Import(index)) => refuse_import(alloc, index, err),
         Err(InstFault::NoEntry) => refuse(b"no entry\n", Status::Invalid, err),
         Err(InstFault::OutOfMemory) => Err(Fault::OutOfMemory),
     }

@@ -1,6 +1,6 @@
 //! The lines that the program writes.
 ghost use Rattle.std.specs.Prelude.{◌≡◌, ◌++◌, IfOk};
-ghost use Rattle.drive.specs.Answer.{line, result_line, malformed, limit, invalid};
+ghost use Rattle.drive.specs.Answer.{line, result_line, malformed, limit, invalid, no_printer};
 
 use itoa::{Buffer, Integer};
 use std::alloc::{AllocError, Global};
@@ -74,4 +74,11 @@ pub(crate) fn invalid_line(alloc: Global, fault: ValidFault) -> Result<Vec<u8>, 
         ValidFault::Function(index) => number_line(alloc, b"invalid function ", index),
         ValidFault::OutOfMemory => Ok(Vec::from_slice(alloc, b"\n")?),
     }
+}
+
+/// The line of a module for whose import of this index nothing is there.
+pub(crate) fn printer_line(alloc: Global, index: usize) -> Result<Vec<u8>, AllocError>
+    ensures { IfOk result (λ v. v.items ≡ (no_printer index).err) }
+{
+    number_line(alloc, b"no printer ", index)
 }

@@ -5,5 +5,8 @@ pub mod KeysOfGroups
 pub mod Places
 pub mod ClassesOfTypes
 pub mod Matches
+pub mod TestsTold
+pub mod TestsOfLists
 pub mod Equivalent
 pub mod Preorder
+pub mod EqualTypes

@@ -10,7 +10,7 @@ use Rattle.w_types.specs.Groups.{types_of}
 use Rattle.w_canon.specs.Entries.{kind_of}
 use Rattle.w_canon.specs.Relations.{none, more, IsReflexive, IsTransitive}
 use Rattle.w_canon.specs.Equivalence.{SameIndex}
-use Rattle.w_canon.specs.Matching.{IsFunc, IsCont, HeapMatches, func, no_func, cont, no_cont, index, index_func, index_cont, no_func_func, no_func_index, no_cont_cont, no_cont_index, ValMatches, i32, i64, ref, ResultMatches, FuncMatches}
+use Rattle.w_canon.specs.Matching.{IsFunc, IsCont, HeapMatches, RefMatches, func, no_func, cont, no_cont, index, index_func, index_cont, no_func_func, no_func_index, no_cont_cont, no_cont_index, ValMatches, i32, i64, ref, ResultMatches, FuncMatches}
 use Rattle.w_canon.proofs.Equivalent.{reflexive, symmetric, transitive, one_kind, joined}
 use Rattle.w_canon.proofs.Matches.{func_by_kind, cont_by_kind}
 
@@ -27,7 +27,8 @@ one_of_both gs x f c = let e = f.1 in let d = c.1 in cc
 
 -- ## Heap types
 
-heap_refl : (gs : List RecGroup) → IsReflexive (HeapMatches gs)
+-- a heap type matches itself
+pub heap_refl : (gs : List RecGroup) → IsReflexive (HeapMatches gs)
 heap_refl gs Func = func
 heap_refl gs NoFunc = no_func
 heap_refl gs Cont = cont
@@ -35,54 +36,74 @@ heap_refl gs NoCont = no_cont
 heap_refl gs (Index x) = index (reflexive gs x)
 
 module _ (gs : List RecGroup) where
-  heap_trans : {a b c : HeapType} → HeapMatches gs a b → HeapMatches gs b c → HeapMatches gs a c
-  heap_trans func func = func
-  heap_trans no_func k = k
-  heap_trans cont cont = cont
-  heap_trans no_cont k = k
-  heap_trans (index {x} {y} s) (index {y = z} t) = index (transitive gs x y z s t)
-  heap_trans (index {x} {y} s) (index_func f) = index_func (func_before gs x y s f)
-  heap_trans (index {x} {y} s) (index_cont f) = index_cont (cont_before gs x y s f)
-  heap_trans (index_func f) func = index_func f
-  heap_trans (index_cont f) cont = index_cont f
-  heap_trans no_func_func func = no_func_func
-  heap_trans (no_func_index {x} f) (index {y = z} t) = no_func_index (func_before gs z x (symmetric gs x z t) f)
-  heap_trans (no_func_index f) (index_func g) = no_func_func
-  heap_trans (no_func_index {x} f) (index_cont g) = absurd (one_of_both gs x f g)
-  heap_trans no_cont_cont cont = no_cont_cont
-  heap_trans (no_cont_index {x} f) (index {y = z} t) = no_cont_index (cont_before gs z x (symmetric gs x z t) f)
-  heap_trans (no_cont_index f) (index_cont g) = no_cont_cont
-  heap_trans (no_cont_index {x} f) (index_func g) = absurd (one_of_both gs x g f)
+  heap_joined : {a b c : HeapType} → HeapMatches gs a b → HeapMatches gs b c → HeapMatches gs a c
+  heap_joined func func = func
+  heap_joined no_func k = k
+  heap_joined cont cont = cont
+  heap_joined no_cont k = k
+  heap_joined (index {x} {y} s) (index {y = z} t) = index (transitive gs x y z s t)
+  heap_joined (index {x} {y} s) (index_func f) = index_func (func_before gs x y s f)
+  heap_joined (index {x} {y} s) (index_cont f) = index_cont (cont_before gs x y s f)
+  heap_joined (index_func f) func = index_func f
+  heap_joined (index_cont f) cont = index_cont f
+  heap_joined no_func_func func = no_func_func
+  heap_joined (no_func_index {x} f) (index {y = z} t) = no_func_index (func_before gs z x (symmetric gs x z t) f)
+  heap_joined (no_func_index f) (index_func g) = no_func_func
+  heap_joined (no_func_index {x} f) (index_cont g) = absurd (one_of_both gs x f g)
+  heap_joined no_cont_cont cont = no_cont_cont
+  heap_joined (no_cont_index {x} f) (index {y = z} t) = no_cont_index (cont_before gs z x (symmetric gs x z t) f)
+  heap_joined (no_cont_index f) (index_cont g) = no_cont_cont
+  heap_joined (no_cont_index {x} f) (index_func g) = absurd (one_of_both gs x g f)
+
+-- matching of heap types is transitive
+pub heap_trans : (gs : List RecGroup) → IsTransitive (HeapMatches gs)
+heap_trans gs a b c h k = heap_joined gs h k
+
+-- ## Reference types
+
+-- a reference type matches itself
+pub ref_refl : (gs : List RecGroup) → IsReflexive (RefMatches gs)
+ref_refl gs r = record { nullable = λ t. t; heap = heap_refl gs r.heap }
+
+-- matching of reference types is transitive
+pub ref_trans : (gs : List RecGroup) → IsTransitive (RefMatches gs)
+ref_trans gs r q p h k = record { nullable = λ t. k.nullable (h.nullable t); heap = heap_joined gs h.heap k.heap }
 
 -- ## Value types
 
+-- a value type matches itself
 pub val_refl : (gs : List RecGroup) → IsReflexive (ValMatches gs)
 val_refl gs I32 = i32
 val_refl gs I64 = i64
-val_refl gs (Ref r) = ref (record { nullable = λ t. t; heap = heap_refl gs r.heap })
+val_refl gs (Ref r) = ref (ref_refl gs r)
 
 val_joined : (gs : List RecGroup) {v w z : ValType} → ValMatches gs v w → ValMatches gs w z → ValMatches gs v z
 val_joined gs i32 i32 = i32
 val_joined gs i64 i64 = i64
-val_joined gs (ref h) (ref k) = ref (record { nullable = λ t. k.nullable (h.nullable t); heap = heap_trans gs h.heap k.heap })
+val_joined gs (ref {r} {q} h) (ref {q = p} k) = ref (ref_trans gs r q p h k)
 
+-- matching of value types is transitive
 pub val_trans : (gs : List RecGroup) → IsTransitive (ValMatches gs)
 val_trans gs v w z h k = val_joined gs h k
 
 -- ## Result types
 
+-- result types match themselves
 pub result_refl : (gs : List RecGroup) → IsReflexive (ResultMatches gs)
 result_refl gs [] = none
 result_refl gs (v ∷ vs) = more (val_refl gs v) (result_refl gs vs)
 
+-- matching of result types is transitive
 pub result_trans : (gs : List RecGroup) → IsTransitive (ResultMatches gs)
 result_trans gs vs ws zs h k = joined (val_trans gs) h k
 
 -- ## Function types
 
+-- a function type matches itself
 pub func_refl : (gs : List RecGroup) → IsReflexive (FuncMatches gs)
 func_refl gs f = record { params = result_refl gs f.params; results = result_refl gs f.results }
 
+-- matching of function types is transitive
 pub func_trans : (gs : List RecGroup) → IsTransitive (FuncMatches gs)
 func_trans gs f g h p q = record {
   params = result_trans gs h.params g.params f.params q.params p.params;

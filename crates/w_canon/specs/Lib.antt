@@ -1,7 +1,9 @@
 pub mod Relations
 pub mod Equivalence
 pub mod Matching
+pub mod Equality
 pub mod Keys
 pub mod Entries
 pub mod Stands
+pub mod Tests
 pub mod Numbers

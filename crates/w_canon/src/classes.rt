@@ -67,12 +67,11 @@ fn first_with(
 }
 
 impl Classes {
-    ghost use Rattle.std.specs.Prelude.{◌≡◌, ◌↔◌, IsTrue, IfOk, List, Some, slice_get};
-    ghost use Rattle.std.specs.Option.{option_map};
-    ghost use Rattle.w_canon.specs.declared.entry.Entry.{Entry};
+    ghost use Rattle.std.specs.Prelude.{◌≡◌, ◌↔◌, IsTrue, IfOk, List, slice_get};
     ghost use Rattle.w_types.specs.declared.types.RecGroup.{RecGroup};
     ghost use Rattle.w_canon.specs.Equivalence.{SameIndex};
-    ghost use Rattle.w_canon.specs.Stands.{OneClass, Stands};
+    ghost use Rattle.w_canon.specs.Stands.{Stands};
+    ghost use Rattle.w_canon.specs.Tests.{one_class_test, same_test, kind_test};
 
     /// Finds the classes of the types of these groups. It fails only for want of memory.
     pub fn of_groups(alloc: Global, groups: &[RecGroup]) -> Result<Classes, AllocError>
@@ -90,7 +89,7 @@ impl Classes {
 
     // Whether two types have one class.
     fn have_one_class(&self, i: u32, j: u32) -> bool
-        ensures { IsTrue result ↔ OneClass self.now i j }
+        ensures { result ≡ one_class_test (slice_get self.now i) (slice_get self.now j) }
     {
         match (self.entries.get(i as usize), self.entries.get(j as usize)) {
             (Some(one), Some(other)) => one.class == other.class,
@@ -100,14 +99,15 @@ impl Classes {
 
     /// Whether two types are equivalent (Core, types, recursive types). An index that no type has is equivalent to itself alone.
     pub fn same(&self, i: u32, j: u32) -> bool
-        ensures { (gs : List RecGroup) → Stands gs self.now → (IsTrue result ↔ SameIndex gs i j) }
+        ensures computed { result ≡ same_test self.now i j }
+        ensures related { (gs : List RecGroup) → Stands gs self.now → (IsTrue result ↔ SameIndex gs i j) }
     {
         i == j || self.have_one_class(i, j)
     }
 
     // Whether the type of this index is of this kind.
     pub(crate) fn is_of_kind(&self, index: u32, kind: Kind) -> bool
-        ensures { IsTrue result ↔ (option_map (λ (e : Entry). e.kind) (slice_get self.now index) ≡ Some kind) }
+        ensures { result ≡ kind_test self.now index kind }
     {
         match self.entries.get(index as usize) {
             Some(entry) => entry.kind == kind,

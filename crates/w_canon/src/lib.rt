@@ -3,6 +3,7 @@
 
 mod classes;
 mod entry;
+mod equality;
 mod key;
 mod laws;
 mod matching;

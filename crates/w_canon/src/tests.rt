@@ -1,3 +1,4 @@
+mod equality;
 mod equivalence;
 mod large;
 mod matching;

@@ -1,17 +1,19 @@
 //! Instructions that hold no others (Core, binary format, instructions; the explainer, binary format).
 ghost use Rattle.std.specs.Prelude.{IfOk};
 ghost use Rattle.w_leb.specs.Format.{ReadsAt, BeginsAt};
+ghost use Rattle.w_leb.specs.Formats.{table};
 ghost use Rattle.w_syntax.specs.Tokens.{plain, other, instruction};
+ghost use Rattle.w_code.specs.Parts.{parametrics, indexed, references};
 
 use crate::bulk::bulk_at;
 use crate::control::control_at;
 use crate::memory::memory_op_at;
 use crate::numeric::numeric_at;
-use crate::switching::ClauseField;
+use crate::switching::switching_at;
 use std::alloc::{AllocError, Global};
 use w_fields::{Field, ValTypeField, field_at, heaptype_at, vec_at};
 use w_leb::{read_byte, read_u32};
-use w_syntax::{Op, Parametric, ReferenceOp, SwitchingOp, TableOp, VariableOp};
+use w_syntax::{Op, Parametric, ReferenceOp, TableOp, VariableOp};
 
 // Memory and numeric instructions.
 #[tactic(auto, unfolding(w_syntax::specs::Tokens::plain, w_syntax::specs::Tokens::memory_op))]
@@ -37,37 +39,35 @@ fn plain_at(bytes: &[u8], at: usize) -> Option<(Op, usize)>
     }
 }
 
-// All but control instructions.
-#[tactic(auto, unfolding(w_syntax::specs::Tokens::other))]
-fn other_at(alloc: Global, bytes: &[u8], at: usize) -> Result<Option<(Op, usize)>, AllocError>
-    ensures { IfOk result (ReadsAt other.read bytes.now at) }
+// Parametric instructions.
+fn parametric_at(alloc: Global, bytes: &[u8], at: usize) -> Result<Option<(Op, usize)>, AllocError>
+    ensures { IfOk result (ReadsAt (table parametrics).read bytes.now at) }
 {
     let Some((tag, next)) = read_byte(bytes, at) else {
         return Ok(None);
     };
     match tag {
-        0x1A => return Ok(Some((Op::Parametric(Parametric::Drop), next))),
-        0x1B => return Ok(Some((Op::Parametric(Parametric::Select), next))),
+        0x1A => Ok(Some((Op::Parametric(Parametric::Drop), next))),
+        0x1B => Ok(Some((Op::Parametric(Parametric::Select), next))),
         0x1C => {
             let Some((kinds, next)) = vec_at::<ValTypeField>(alloc, bytes, next)? else {
                 return Ok(None);
             };
-            return Ok(Some((Op::Parametric(Parametric::SelectOf(kinds)), next)));
+            Ok(Some((Op::Parametric(Parametric::SelectOf(kinds)), next)))
         }
-        0xD0 => {
-            let Some((heap, next)) = heaptype_at(bytes, next) else {
-                return Ok(None);
-            };
-            return Ok(Some((Op::Reference(ReferenceOp::Null(heap)), next)));
-        }
-        0xD1 => return Ok(Some((Op::Reference(ReferenceOp::IsNull), next))),
-        0xD4 => return Ok(Some((Op::Reference(ReferenceOp::AsNonNull), next))),
-        0xFC => return Ok(bulk_at(bytes, next)),
-        0x20..=0x26 | 0xD2 | 0xE0..=0xE3 | 0xE6 => {}
-        _ => return Ok(plain_at(bytes, at)),
+        _ => Ok(None),
     }
+}
+
+// Instructions on a variable or on one element of a table, which have one index.
+fn indexed_at(bytes: &[u8], at: usize) -> Option<(Op, usize)>
+    ensures { ReadsAt (table indexed).read bytes.now at result }
+{
+    let Some((tag, next)) = read_byte(bytes, at) else {
+        return None;
+    };
     let Some((index, next)) = read_u32(bytes, next) else {
-        return Ok(None);
+        return None;
     };
     let op = match tag {
         0x20 => Op::Variable(VariableOp::LocalGet(index)),
@@ -77,28 +77,53 @@ fn other_at(alloc: Global, bytes: &[u8], at: usize) -> Result<Option<(Op, usize)
         0x24 => Op::Variable(VariableOp::GlobalSet(index)),
         0x25 => Op::Table(TableOp::Get(index)),
         0x26 => Op::Table(TableOp::Set(index)),
-        0xD2 => Op::Reference(ReferenceOp::Func(index)),
-        0xE0 => Op::Switching(SwitchingOp::ContNew(index)),
-        0xE2 => Op::Switching(SwitchingOp::Suspend(index)),
-        0xE3 => {
-            let Some((clauses, next)) = vec_at::<ClauseField>(alloc, bytes, next)? else {
-                return Ok(None);
-            };
-            return Ok(Some((Op::Switching(SwitchingOp::Resume(index, clauses)), next)));
-        }
-        _ => {
-            let Some((second, next)) = read_u32(bytes, next) else {
-                return Ok(None);
-            };
-            let op = if tag == 0xE1 {
-                SwitchingOp::ContBind(index, second)
-            } else {
-                SwitchingOp::Switch(index, second)
-            };
-            return Ok(Some((Op::Switching(op), next)));
-        }
+        _ => return None,
     };
-    Ok(Some((op, next)))
+    Some((op, next))
+}
+
+// Reference instructions.
+fn reference_at(bytes: &[u8], at: usize) -> Option<(Op, usize)>
+    ensures { ReadsAt (table references).read bytes.now at result }
+{
+    let Some((tag, next)) = read_byte(bytes, at) else {
+        return None;
+    };
+    match tag {
+        0xD0 => {
+            let Some((heap, next)) = heaptype_at(bytes, next) else {
+                return None;
+            };
+            Some((Op::Reference(ReferenceOp::Null(heap)), next))
+        }
+        0xD1 => Some((Op::Reference(ReferenceOp::IsNull), next)),
+        0xD2 => {
+            let Some((index, next)) = read_u32(bytes, next) else {
+                return None;
+            };
+            Some((Op::Reference(ReferenceOp::Func(index)), next))
+        }
+        0xD4 => Some((Op::Reference(ReferenceOp::AsNonNull), next)),
+        _ => None,
+    }
+}
+
+// All but control instructions.
+#[tactic(auto, unfolding(w_syntax::specs::Tokens::other))]
+fn other_at(alloc: Global, bytes: &[u8], at: usize) -> Result<Option<(Op, usize)>, AllocError>
+    ensures { IfOk result (ReadsAt other.read bytes.now at) }
+{
+    let Some((tag, next)) = read_byte(bytes, at) else {
+        return Ok(None);
+    };
+    match tag {
+        0x1A..=0x1C => parametric_at(alloc, bytes, at),
+        0x20..=0x26 => Ok(indexed_at(bytes, at)),
+        0xD0..=0xD2 | 0xD4 => Ok(reference_at(bytes, at)),
+        0xE0..=0xE3 | 0xE6 => switching_at(alloc, bytes, at),
+        0xFC => Ok(bulk_at(bytes, next)),
+        _ => Ok(plain_at(bytes, at)),
+    }
 }
 
 // An instruction that holds no others, as a kind of field.

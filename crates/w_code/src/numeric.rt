@@ -1,9 +1,42 @@
 //! Numeric instructions (Core, binary format, numeric instructions).
 ghost use Rattle.w_leb.specs.Format.{ReadsAt};
+ghost use Rattle.w_leb.specs.Formats.{table};
 ghost use Rattle.w_syntax.specs.Tokens.{arithmetic, comparison, numeric_op};
+ghost use Rattle.w_code.specs.Parts.{i64_arithmetics};
 
 use w_leb::{read_byte, read_s32, read_s64};
 use w_syntax::{Binary, Compare, Convert, IntType, Numeric, Unary};
+
+// Operations on one or two integers of 64 bits.
+fn i64_arithmetic_at(bytes: &[u8], at: usize) -> Option<(Numeric, usize)>
+    ensures { ReadsAt (table i64_arithmetics).read bytes.now at result }
+{
+    let Some((tag, next)) = read_byte(bytes, at) else {
+        return None;
+    };
+    let op = match tag {
+        0x79 => Numeric::Unary(IntType::I64, Unary::Clz),
+        0x7A => Numeric::Unary(IntType::I64, Unary::Ctz),
+        0x7B => Numeric::Unary(IntType::I64, Unary::Popcnt),
+        0x7C => Numeric::Binary(IntType::I64, Binary::Add),
+        0x7D => Numeric::Binary(IntType::I64, Binary::Sub),
+        0x7E => Numeric::Binary(IntType::I64, Binary::Mul),
+        0x7F => Numeric::Binary(IntType::I64, Binary::DivS),
+        0x80 => Numeric::Binary(IntType::I64, Binary::DivU),
+        0x81 => Numeric::Binary(IntType::I64, Binary::RemS),
+        0x82 => Numeric::Binary(IntType::I64, Binary::RemU),
+        0x83 => Numeric::Binary(IntType::I64, Binary::And),
+        0x84 => Numeric::Binary(IntType::I64, Binary::Or),
+        0x85 => Numeric::Binary(IntType::I64, Binary::Xor),
+        0x86 => Numeric::Binary(IntType::I64, Binary::Shl),
+        0x87 => Numeric::Binary(IntType::I64, Binary::ShrS),
+        0x88 => Numeric::Binary(IntType::I64, Binary::ShrU),
+        0x89 => Numeric::Binary(IntType::I64, Binary::Rotl),
+        0x8A => Numeric::Binary(IntType::I64, Binary::Rotr),
+        _ => return None,
+    };
+    Some((op, next))
+}
 
 // Operations on one or two integers.
 #[tactic(auto, unfolding(w_syntax::specs::Tokens::arithmetic))]
@@ -32,25 +65,7 @@ fn arithmetic_at(bytes: &[u8], at: usize) -> Option<(Numeric, usize)>
         0x76 => Numeric::Binary(IntType::I32, Binary::ShrU),
         0x77 => Numeric::Binary(IntType::I32, Binary::Rotl),
         0x78 => Numeric::Binary(IntType::I32, Binary::Rotr),
-        0x79 => Numeric::Unary(IntType::I64, Unary::Clz),
-        0x7A => Numeric::Unary(IntType::I64, Unary::Ctz),
-        0x7B => Numeric::Unary(IntType::I64, Unary::Popcnt),
-        0x7C => Numeric::Binary(IntType::I64, Binary::Add),
-        0x7D => Numeric::Binary(IntType::I64, Binary::Sub),
-        0x7E => Numeric::Binary(IntType::I64, Binary::Mul),
-        0x7F => Numeric::Binary(IntType::I64, Binary::DivS),
-        0x80 => Numeric::Binary(IntType::I64, Binary::DivU),
-        0x81 => Numeric::Binary(IntType::I64, Binary::RemS),
-        0x82 => Numeric::Binary(IntType::I64, Binary::RemU),
-        0x83 => Numeric::Binary(IntType::I64, Binary::And),
-        0x84 => Numeric::Binary(IntType::I64, Binary::Or),
-        0x85 => Numeric::Binary(IntType::I64, Binary::Xor),
-        0x86 => Numeric::Binary(IntType::I64, Binary::Shl),
-        0x87 => Numeric::Binary(IntType::I64, Binary::ShrS),
-        0x88 => Numeric::Binary(IntType::I64, Binary::ShrU),
-        0x89 => Numeric::Binary(IntType::I64, Binary::Rotl),
-        0x8A => Numeric::Binary(IntType::I64, Binary::Rotr),
-        _ => return None,
+        _ => return i64_arithmetic_at(bytes, at),
     };
     Some((op, next))
 }

@@ -22,6 +22,7 @@ use Rattle.w_syntax.specs.Spells.{Spells}
 use Rattle.w_encode.specs.TypesWritten.{rectype_written, limits_written}
 use Rattle.w_encode.specs.FieldsWritten.{import_written, tag_written, export_written, table_written, global_written, elem_written, data_written}
 use Rattle.w_encode.specs.Canon.{code_written, list_section, number_section, data_count, Canon}
+use Rattle.w_encode.proofs.Cases.{in_either}
 use Rattle.w_encode.proofs.TypesCanonical.{canon_rectype, canon_limits}
 use Rattle.w_encode.proofs.FieldsCanonical.{canon_import, canon_tag, canon_export, canon_table_of, canon_global}
 use Rattle.w_encode.proofs.SegmentsCanonical.{canon_elem, canon_data}
@@ -51,13 +52,9 @@ abbrev AllSay : List (ℕ × Contents) → Type 0
 AllSay [] = Unit {0}
 AllSay (e ∷ es) = ((b : List ℕ) (p : Part) → e.1.Say b p → Says b p) × AllSay es
 
-chosen_or : (v : Bool) (P Q R : Type 0) → (P → R) → (Q → R) → cond v P Q → R
-chosen_or true P Q R f g h = f h
-chosen_or false P Q R f g h = g h
-
 chosen_says : (es : List (ℕ × Contents)) → AllSay es → (id : ℕ) (b : List ℕ) (p : Part) → IsChosen es id b p → Says b p
 chosen_says [] a id b p h = absurd h
-chosen_says (e ∷ es) a id b p h = chosen_or (nat_eq id e.0) (e.1.Say b p) (IsChosen es id b p) (Says b p) (a.0 b p) (chosen_says es a.1 id b p) h
+chosen_says (e ∷ es) a id b p h = in_either (nat_eq id e.0) (e.1.Say b p) (IsChosen es id b p) (Says b p) (a.0 b p) (chosen_says es a.1 id b p) h
 
 section_says : (f : ℕ × List ℕ) (p : Part) → IsSection f p → Says f.1 p
 unfolding IsSection

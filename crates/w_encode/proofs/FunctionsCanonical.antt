@@ -1,9 +1,9 @@
 -- The canonical spelling of a function's code spells it, and is at most twice as long as any.
-use Rattle.std.proofs.Common.{◌≡◌, ℕ, zero, suc, ◌+◌, ◌*◌, ◌/◌, ◌^◌, ◌<◌, ◌≤◌, inl, inr, Bool, true, false, cond, List, [], ◌∷◌, ◌++◌, length, refl, ap, subst, ◌∙◌, arith}
+use Rattle.std.proofs.Common.{◌≡◌, ℕ, zero, suc, ◌+◌, ◌*◌, ◌/◌, ◌^◌, ◌<◌, ◌≤◌, inl, inr, cond, List, [], ◌∷◌, ◌++◌, length, refl, ap, subst, ◌∙◌, arith}
 use Rattle.std.specs.Prelude.{nat_eq}
 use Rattle.std.specs.List.{flat_map}
 use Rattle.std.proofs.lemmas.List.{length-append}
-use Rattle.std.proofs.lemmas.Bool.{cases_lt, lt-ltb, le-ltb, ltb-true}
+use Rattle.std.proofs.lemmas.Bool.{cases_lt, lt-ltb, le-ltb, ltb-true, cond_both}
 use Rattle.w_leb.specs.Format.{Each, Counted}
 use Rattle.w_leb.specs.Formats.{number, ◌⊗◌}
 use Rattle.w_leb.specs.Number.{shortest, shortest_in}
@@ -26,35 +26,43 @@ canon_run = canon_image (number 32 ⊗ valtype) (λ p. shortest p.0 ++ valtype_w
 
 -- ## Joined locals are no longer
 
-some_byte : (k n : ℕ) → 0 < length (shortest_in k n)
-unfolding shortest_in
-some_byte zero n = omega arith
-some_byte (suc k) n = elim (cases_lt n 128) [ inl h ↦ rw (lt-ltb n 128 h) (omega arith) | inr h ↦ rw (le-ltb n 128 h) (omega arith) ]
-
 -- a larger number takes no fewer bytes
 grows : (k m n : ℕ) → m ≤ n → length (shortest_in k m) ≤ length (shortest_in k n)
 unfolding shortest_in
 grows zero m n le = omega arith
-grows (suc k) m n le = elim (cases_lt m 128) [
-  | inl small ↦ rw (lt-ltb m 128 small) (some_byte (suc k) n)
-  | inr big ↦ let up : 128 ≤ n = omega arith in rw (le-ltb m 128 big, le-ltb n 128 up) (omega (arith, grows k (m / 128) (n / 128) (omega arith)))
+grows (suc k) m n le = elim (cases_lt n 128) [
+  | inl low ↦ let small : m < 128 = omega arith in rw (lt-ltb m 128 small, lt-ltb n 128 low) (omega arith)
+  | inr high ↦ elim (cases_lt m 128) [
+    | inl small ↦ rw (lt-ltb m 128 small, le-ltb n 128 high) (omega arith)
+    | inr big ↦ rw (le-ltb m 128 big, le-ltb n 128 high) (omega (arith, grows k (m / 128) (n / 128) (omega arith)))
+  ]
 ]
 
 -- a sum takes no more bytes than its parts
 sum_short : (m n : ℕ) → length (shortest (m + n)) ≤ length (shortest m) + length (shortest n)
+unfolding shortest_in
 sum_short m n = elim (cases_lt m n) [
-  | inl lt ↦ omega (arith, twice 9 (m + n) n (omega arith), some_byte 9 m)
-  | inr ge ↦ omega (arith, twice 9 (m + n) m (omega arith), some_byte 9 n)
+  | inl lt ↦ omega (arith, twice 9 (m + n) n (omega arith), grows 9 0 m (omega arith))
+  | inr ge ↦ omega (arith, twice 9 (m + n) m (omega arith), grows 9 0 n (omega arith))
 ]
 
--- a run before others that are joined, by whether it is of none, and of the same type as the next
-abbrev two_joined : Bool → Bool → LocalRun → LocalRun → List LocalRun → List LocalRun
-two_joined u v l m ms = cond u (m ∷ ms) (cond v (record { count = l.count + m.count; kind = m.kind } ∷ ms) (l ∷ m ∷ ms))
+-- what holds of all that a run before others may become holds of them joined
+when_joined : (P : List LocalRun → Type 0) (l m : LocalRun) (ms : List LocalRun) → P (m ∷ ms) → P (record { count = l.count + m.count; kind = m.kind } ∷ ms) → P (l ∷ m ∷ ms) → P (join l (m ∷ ms))
+unfolding join
+when_joined P l m ms none same other =
+    let grown : LocalRun = record { count = l.count + m.count; kind = m.kind } in
+    cond_both (nat_eq l.count 0) (m ∷ ms) (cond (same_kind l.kind m.kind) (grown ∷ ms) (l ∷ m ∷ ms)) P (λ e. none) (λ e. cond_both (same_kind l.kind m.kind) (grown ∷ ms) (l ∷ m ∷ ms) P (λ f. same) (λ f. other))
 
-two_short : (u v : Bool) (l m : LocalRun) (ms : List LocalRun) → length (flat_map run_written (two_joined u v l m ms)) ≤ length (run_written l) + length (flat_map run_written (m ∷ ms))
-two_short true v l m ms = omega arith
-two_short false true l m ms =
-    omega (
+-- also with no others
+when_alone : (P : List LocalRun → Type 0) (l : LocalRun) → P [] → P (l ∷ []) → P (join l [])
+unfolding join
+when_alone P l none one = cond_both (nat_eq l.count 0) [] (l ∷ []) P (λ e. none) (λ e. one)
+
+join_short : (l : LocalRun) (ms : List LocalRun) → length (flat_map run_written (join l ms)) ≤ length (run_written l) + length (flat_map run_written ms)
+join_short l [] = when_alone (λ rs. length (flat_map run_written rs) ≤ length (run_written l) + 0) l (omega arith) (omega (arith, length-append (run_written l) []))
+join_short l (m ∷ ms) = when_joined (λ rs. length (flat_map run_written rs) ≤ length (run_written l) + length (flat_map run_written (m ∷ ms))) l m ms
+    (omega arith)
+    (omega (
       arith,
       sum_short l.count m.count,
       length-append (shortest (l.count + m.count)) (valtype_written m.kind),
@@ -62,17 +70,8 @@ two_short false true l m ms =
       length-append (shortest l.count) (valtype_written l.kind),
       length-append (run_written (record { count = l.count + m.count; kind = m.kind })) (flat_map run_written ms),
       length-append (run_written m) (flat_map run_written ms),
-    )
-two_short false false l m ms = omega (arith, length-append (run_written l) (flat_map run_written (m ∷ ms)))
-
-one_short : (u : Bool) (l : LocalRun) → length (flat_map run_written (cond u [] (l ∷ []))) ≤ length (run_written l)
-one_short true l = omega arith
-one_short false l = omega (arith, length-append (run_written l) [])
-
-join_short : (l : LocalRun) (ms : List LocalRun) → length (flat_map run_written (join l ms)) ≤ length (run_written l) + length (flat_map run_written ms)
-unfolding join
-join_short l [] = omega (arith, one_short (nat_eq l.count 0) l)
-join_short l (m ∷ ms) = two_short (nat_eq l.count 0) (same_kind l.kind m.kind) l m ms
+    ))
+    (omega (arith, length-append (run_written l) (flat_map run_written (m ∷ ms))))
 
 all_short : (ls : List LocalRun) → length (flat_map run_written (joined ls)) ≤ length (flat_map run_written ls)
 unfolding join_all
@@ -108,19 +107,10 @@ unfolding Each run
 each_written [] h = refl
 each_written (l ∷ ls) h = (run_written l, flat_map run_written ls, refl, ((l.count, l.kind), (shortest l.count, valtype_written l.kind, refl, shortest_spells 9 32 l.count (omega arith) h.0.0, h.0.1), refl), each_written ls h.1)
 
-two_written : (u v : Bool) (l m : LocalRun) (ms : List LocalRun) → IsRunWritten l → AllWritten (m ∷ ms) → l.count + m.count < 2 ^ 32 → AllWritten (two_joined u v l m ms)
-two_written true v l m ms h g lt = g
-two_written false true l m ms h g lt = ((lt, g.0.1), g.1)
-two_written false false l m ms h g lt = (h, g)
-
-one_is_written : (u : Bool) (l : LocalRun) → IsRunWritten l → AllWritten (cond u [] (l ∷ []))
-one_is_written true l h = tt
-one_is_written false l h = (h, tt)
-
 join_written : (l : LocalRun) (ms : List LocalRun) → IsRunWritten l → AllWritten ms → l.count + total ms < 2 ^ 32 → AllWritten (join l ms)
-unfolding join total
-join_written l [] h g lt = one_is_written (nat_eq l.count 0) l h
-join_written l (m ∷ ms) h g lt = two_written (nat_eq l.count 0) (same_kind l.kind m.kind) l m ms h g (omega arith)
+unfolding total
+join_written l [] h g lt = when_alone AllWritten l tt (h, tt)
+join_written l (m ∷ ms) h g lt = when_joined AllWritten l m ms g ((omega arith, g.0.1), g.1) (h, g)
 
 all_are_written : (ls : List LocalRun) → AllWritten ls → total ls < 2 ^ 32 → AllWritten (joined ls)
 unfolding join_all total

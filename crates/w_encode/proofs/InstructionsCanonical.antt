@@ -1,5 +1,5 @@
 -- The canonical spelling of an instruction spells it, and is at most twice as long as any.
-use Rattle.std.proofs.Common.{◌≡◌, ℕ, ◌^◌, ◌<◌, Bool, true, false, cond, List, [], ◌∷◌, ◌++◌, length, refl, sym, ap, subst, arith}
+use Rattle.std.proofs.Common.{◌≡◌, ℕ, ◌^◌, ◌<◌, List, [], ◌∷◌, ◌++◌, length, refl, sym, ap, subst, arith}
 use Rattle.std.specs.Prelude.{nat_lt, nat_eq}
 use Rattle.w_leb.specs.Format.{Format, Grammar, ByFirst, ByNumber, Picked, Never}
 use Rattle.w_leb.specs.Formats.{number, signed_number, vec, constant, ◌⊗◌, ◌⇒◌, such_that}
@@ -37,6 +37,7 @@ use Rattle.w_syntax.specs.Expr.{tokens, Expr}
 use Rattle.w_syntax.specs.Fields.{expr}
 use Rattle.w_encode.specs.TypesWritten.{index_written, heaptype_written, valtype_written}
 use Rattle.w_encode.specs.InstructionsWritten.{numeric_written, memarg_written, two_written, memory_written, control_written, clause_written, op_written, blocktype_written, token_written, expr_written}
+use Rattle.w_encode.proofs.Cases.{in_either}
 use Rattle.w_encode.proofs.TypesCanonical.{canon_index, canon_heaptype, canon_valtype, valtypes_written, not_an_index, spelled_behind, entries_written}
 
 -- ## Numeric instructions
@@ -211,13 +212,9 @@ abbrev StandsBehind : List (ℕ × Format Op) → Type 0
 StandsBehind [] = Unit {0}
 StandsBehind (e ∷ es) = ((b : List ℕ) (x : Op) → e.1.Spells b x → op_written x ≡ 0xFC ∷ bulk_written x) × StandsBehind es
 
-picked_or : (v : Bool) (P Q R : Type 0) → (P → R) → (Q → R) → cond v P Q → R
-picked_or true P Q R f g h = f h
-picked_or false P Q R f g h = g h
-
 picked_behind : (t : List (ℕ × Format Op)) → StandsBehind t → (n : ℕ) (b : List ℕ) (x : Op) → Picked t n b x → op_written x ≡ 0xFC ∷ bulk_written x
 picked_behind [] s n b x h = absurd h
-picked_behind (e ∷ t) s n b x h = picked_or (nat_eq n e.0) (e.1.Spells b x) (Picked t n b x) (op_written x ≡ 0xFC ∷ bulk_written x) (s.0 b x) (picked_behind t s.1 n b x) h
+picked_behind (e ∷ t) s n b x h = in_either (nat_eq n e.0) (e.1.Spells b x) (Picked t n b x) (op_written x ≡ 0xFC ∷ bulk_written x) (s.0 b x) (picked_behind t s.1 n b x) h
 
 of_op : {A : Type 0} (f : Format A) (make : A → Op) → ((a : A) → op_written (make a) ≡ 0xFC ∷ bulk_written (make a)) → (b : List ℕ) (x : Op) → (f ⇒ make).Spells b x → op_written x ≡ 0xFC ∷ bulk_written x
 of_op f make e b x h = subst (λ (o : Op). op_written o ≡ 0xFC ∷ bulk_written o) h.2 (e h.0)

@@ -1,3 +1,4 @@
+mod Cases
 mod Appended
 mod Written
 mod TypesCanonical

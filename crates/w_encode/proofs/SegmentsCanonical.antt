@@ -3,6 +3,7 @@ use Rattle.std.proofs.Common.{◌≡◌, ℕ, zero, suc, ◌+◌, ◌*◌, ◌^�
 use Rattle.std.specs.Prelude.{nat_eq, ◌&&◌, not, is_some}
 use Rattle.std.specs.List.{flat_map}
 use Rattle.std.proofs.lemmas.List.{length-append}
+use Rattle.std.proofs.lemmas.Bool.{and_parts}
 use Rattle.w_leb.specs.Format.{Grammar, ByNumber, Picked, Each, Counted}
 use Rattle.w_leb.specs.Formats.{number, constant, vec, bytes, ◌⊗◌, ◌⇒◌}
 use Rattle.w_leb.specs.Number.{Unsigned, shortest, shortest_in}
@@ -90,14 +91,6 @@ item_spelled c (Some x) e t h =
     let small = small_function x (subst (λ (d : Code). expr.Spells (expr_written d) d) is h) in
     (x, shortest_spells 9 32 x (omega arith) small, sym is)
 
-and_left : (u v : Bool) → (u && v) ≡ true → u ≡ true
-and_left true v e = refl
-and_left false v e = absurd cc
-
-and_right : (u v : Bool) → (u && v) ≡ true → v ≡ true
-and_right true v e = e
-and_right false v e = absurd cc
-
 -- items that are spelled as expressions, and are functions, are spelled by their indices
 items_spelled : (b : List ℕ) (cs : List Code) → Each expr.Spells b cs → length b ≤ 2 ^ 30 → are_functions cs ≡ true → Each function_item.Spells (flat_map function_written cs) cs
 unfolding Each
@@ -107,8 +100,8 @@ items_spelled b (c ∷ cs) h le t =
       function_written c,
       flat_map function_written cs,
       refl,
-      item_spelled c (function_of c) refl (and_left (is_some (function_of c)) (are_functions cs) t) (canon_expr.again h.0 c h.3 (omega arith)),
-      items_spelled h.1 cs h.4 (omega arith) (and_right (is_some (function_of c)) (are_functions cs) t),
+      item_spelled c (function_of c) refl (and_parts (is_some (function_of c)) (are_functions cs) t).0 (canon_expr.again h.0 c h.3 (omega arith)),
+      items_spelled h.1 cs h.4 (omega arith) (and_parts (is_some (function_of c)) (are_functions cs) t).1,
     )
 
 functions_spelled : (b : List ℕ) (cs : List Code) → (vec expr).Spells b cs → length b ≤ 2 ^ 30 → are_functions cs ≡ true → (vec function_item).Spells (vec_written function_written cs) cs
@@ -197,10 +190,10 @@ not_true true e = absurd cc
 not_true false e = refl
 
 funcref_is : (r : RefType) → is_funcref r ≡ true → r ≡ nullable_to heap.Func
-funcref_is r e = ref_is r.nullable true r.heap (and_right (is_func r.heap) r.nullable e) (func_is r.heap (and_left (is_func r.heap) r.nullable e))
+funcref_is r e = ref_is r.nullable true r.heap (and_parts (is_func r.heap) r.nullable e).1 (func_is r.heap (and_parts (is_func r.heap) r.nullable e).0)
 
 ref_func_is : (r : RefType) → is_ref_func r ≡ true → r ≡ non_null_to heap.Func
-ref_func_is r e = ref_is r.nullable false r.heap (not_true r.nullable (and_right (is_func r.heap) (not r.nullable) e)) (func_is r.heap (and_left (is_func r.heap) (not r.nullable) e))
+ref_func_is r e = ref_is r.nullable false r.heap (not_true r.nullable (and_parts (is_func r.heap) (not r.nullable) e).1) (func_is r.heap (and_parts (is_func r.heap) (not r.nullable) e).0)
 
 pair_is : (t : ℕ) (r : RefType) → t ≡ 0 → r ≡ nullable_to heap.Func → ◌≡◌ {A = ℕ × RefType} (0, nullable_to heap.Func) (t, r)
 pair_is t r e f = rw (e, f) refl

@@ -10,3 +10,5 @@ pub mod Runs
 pub mod Quiet
 pub mod Stepping
 pub mod Running
+pub mod StartTypes
+pub mod Beginnings

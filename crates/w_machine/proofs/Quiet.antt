@@ -119,14 +119,14 @@ body_quiet m s f vs e (Block kind b x c) = refl
 body_quiet m s f vs e (If b x c) = refl
 body_quiet m s f vs e (IfElse b x y c) = refl
 
-frame_quiet : (m : Module) (s : Store) (f : ℕ) (vs : List Value) (ls : List (Option Value)) (cs : List Caller) → results_of (told (reduce m s (term_in m InFrame f vs ls cs))) ≡ []
-frame_quiet m s f vs ls [] = limited_quiet (if_quiet (nat_eq (size (row_of vs)) (arity m f)) _ _)
-frame_quiet m s f vs ls (c ∷ cs) = limited_quiet (if_quiet (nat_eq (size (row_of (own (c ∷ cs) vs))) (arity m f)) _ _)
+frame_quiet : (m : Module) (s : Store) (x : Option ℕ) (f : ℕ) (vs : List Value) (ls : List (Option Value)) (cs : List Caller) → results_of (told (reduce m s (term_in m InFrame x f vs ls cs))) ≡ []
+frame_quiet m s x f vs ls [] = limited_quiet (if_quiet (nat_eq (size (row_of vs)) (arity m f)) _ _)
+frame_quiet m s x f vs ls (c ∷ cs) = limited_quiet (if_quiet (nat_eq (size (row_of (own (c ∷ cs) vs))) (arity m f)) _ _)
 
 -- only behind the last frame a run has results
-pub no_results : (m : Module) (s : Store) (st : Stage) (f : ℕ) (vs : List Value) (ls : List (Option Value)) (cs : List Caller) → (st ≡ AtValues → ⊥)
-    → results_of (told (reduce m s (term_in m st f vs ls cs))) ≡ []
-no_results m s (Start a) f vs ls cs h = limited_quiet (invoke_quiet m s [] ε a _)
-no_results m s (Body place) f vs ls cs h = body_quiet m s f (row_of (own cs vs)) (around m f cs vs ls) (code_from m f place)
-no_results m s InFrame f vs ls cs h = frame_quiet m s f vs ls cs
-no_results m s AtValues f vs ls cs h = absurd (h refl)
+pub no_results : (m : Module) (s : Store) (st : Stage) (x : Option ℕ) (f : ℕ) (vs : List Value) (ls : List (Option Value)) (cs : List Caller) → (st ≡ AtValues → ⊥)
+    → results_of (told (reduce m s (term_in m st x f vs ls cs))) ≡ []
+no_results m s (Start a) x f vs ls cs h = limited_quiet (invoke_quiet m s [] ε a _)
+no_results m s (Body place) x f vs ls cs h = body_quiet m s f (row_of (own cs vs)) (around m x f cs vs ls) (code_from m f place)
+no_results m s InFrame x f vs ls cs h = frame_quiet m s x f vs ls cs
+no_results m s AtValues x f vs ls cs h = absurd (h refl)

@@ -154,7 +154,7 @@ results_at m s p k n i h e = sym (ap results_of (outcome_at m s p k n i h) ∙ r
 -- any other has none
 pub none_at : (m : Module) (s : Store) (p : Parts) (k : Option Kept) (n : ℕ) → IsReached m s p k n → has_passed k ≡ false → (p.stage ≡ stage.Values → ⊥)
     → [] ≡ results_of (Run m n).outcome
-none_at m s p k n i h other = sym (ap results_of (outcome_at m s p k n i h) ∙ no_results m s p.stage p.function p.operands p.locals p.callers other)
+none_at m s p k n i h other = sym (ap results_of (outcome_at m s p k n i h) ∙ no_results m s p.stage p.next p.function p.operands p.locals p.callers other)
 
 -- nor has one that passed a limit
 pub none_passed : (m : Module) (s : Store) (p : Parts) (k : Option Kept) (n : ℕ) → IsReached m s p k n → has_passed k ≡ true → [] ≡ results_of (Run m n).outcome

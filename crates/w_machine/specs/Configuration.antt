@@ -7,6 +7,7 @@ use Rattle.w_syntax.specs.declared.instructions.Op.{Op}
 use Rattle.w_syntax.specs.declared.module.Module.{Module}
 use Rattle.w_rules.specs.declared.limits.LimitName.TheVariants as limit
 use Rattle.w_reduce.specs.Store.{Defined, Store}
+use Rattle.w_reduce.specs.Start.{invokes}
 use Rattle.w_reduce.specs.Terms.{Invoke as InvokeOf, Rest, rest_of, Layer, Label, Frame, Context, Term, most_frames}
 use Rattle.w_reduce.specs.Reduce.{Went, Limited, Ended, Stuck, goes, instruction, enter, invoke, reduce}
 use Rattle.w_machine.specs.Functions.{arity, params_of, code_from, defaults_of}
@@ -21,16 +22,18 @@ use Rattle.w_machine.specs.declared.configuration.Found.TheVariants as found
 
 -- ## The parts
 
--- Where the run stands, the running function, all operands and locals, and the frames that wait, innermost first.
+-- Where the run stands, the running function, the address to be invoked once the outermost function is left, all operands and
+-- locals, and the frames that wait, innermost first.
 pub record Parts : Type 0 where
   pub stage : Stage
   pub function : ℕ
+  pub next : Option ℕ
   pub operands : List Value
   pub locals : List (Option Value)
   pub callers : List Caller
 
 abbrev pub parts : Configuration → Parts
-parts c = record { stage = c.stage; function = c.function; operands = c.operands.items; locals = c.locals.items; callers = reverse c.callers.items }
+parts c = record { stage = c.stage; function = c.function; next = c.next; operands = c.operands.items; locals = c.locals.items; callers = reverse c.callers.items }
 
 -- how many operands stand below those of the running function
 abbrev pub base : List Caller → ℕ
@@ -46,27 +49,31 @@ own cs operands = drop (base cs) operands
 abbrev pub label_of : Module → ℕ → Layer
 label_of m f = Label ε (arity m f) Done (rest_of Done)
 
-abbrev pub frame_of : Module → ℕ → List Value → List (Option Value) → Code → Layer
-frame_of m f below locals rest = Frame (row_of below) (arity m f) locals (rest_of rest)
+abbrev pub frame_of : Module → ℕ → List Value → List (Option Value) → Rest → Layer
+frame_of m f below locals rest = Frame (row_of below) (arity m f) locals rest
 
--- the frame of the function f with its callers around it, of these operands and locals
-abbrev pub around : Module → ℕ → List Caller → List Value → List (Option Value) → Context
-around m f [] operands locals = frame_of m f [] locals Done ∷ []
-around m f (c ∷ cs) operands locals =
-    frame_of m f (own cs (take c.operands operands)) (drop c.locals locals) (code_from m c.function c.place)
+-- the invoke that comes next, where there is one
+abbrev pub invokes_next : Option ℕ → Rest
+invokes_next next = record { ahead = invokes next; code = Done }
+
+-- the frame of the function f with its callers around it, of these operands and locals, and what comes next behind the outermost
+abbrev pub around : Module → Option ℕ → ℕ → List Caller → List Value → List (Option Value) → Context
+around m next f [] operands locals = frame_of m f [] locals (invokes_next next) ∷ []
+around m next f (c ∷ cs) operands locals =
+    frame_of m f (own cs (take c.operands operands)) (drop c.locals locals) (rest_of (code_from m c.function c.place))
     ∷ label_of m c.function
-    ∷ around m c.function cs (take c.operands operands) (take c.locals locals)
+    ∷ around m next c.function cs (take c.operands operands) (take c.locals locals)
 
-abbrev pub term_in : Module → Stage → ℕ → List Value → List (Option Value) → List Caller → Term
-term_in m (Start a) f vs ls cs = record { around = []; operands = ε; rest = record { ahead = InvokeOf a ∷ []; code = Done } }
-term_in m (Body place) f vs ls cs =
-    record { around = label_of m f ∷ around m f cs vs ls; operands = row_of (own cs vs); rest = rest_of (code_from m f place) }
-term_in m InFrame f vs ls cs = record { around = around m f cs vs ls; operands = row_of (own cs vs); rest = rest_of Done }
-term_in m AtValues f vs ls cs = record { around = []; operands = row_of vs; rest = rest_of Done }
+abbrev pub term_in : Module → Stage → Option ℕ → ℕ → List Value → List (Option Value) → List Caller → Term
+term_in m (Start a) next f vs ls cs = record { around = []; operands = ε; rest = record { ahead = InvokeOf a ∷ invokes next; code = Done } }
+term_in m (Body place) next f vs ls cs =
+    record { around = label_of m f ∷ around m next f cs vs ls; operands = row_of (own cs vs); rest = rest_of (code_from m f place) }
+term_in m InFrame next f vs ls cs = record { around = around m next f cs vs ls; operands = row_of (own cs vs); rest = rest_of Done }
+term_in m AtValues next f vs ls cs = record { around = []; operands = row_of vs; rest = rest_of Done }
 
 -- the term that the parts stand for
 abbrev pub term_of : Module → Parts → Term
-term_of m p = term_in m p.stage p.function p.operands p.locals p.callers
+term_of m p = term_in m p.stage p.next p.function p.operands p.locals p.callers
 
 -- ## What holds of the parts
 
@@ -76,17 +83,40 @@ Ordered [] vs ls = ⊤
 Ordered (c ∷ cs) vs ls = (c.operands ≤ length vs) × (base cs ≤ c.operands) × (c.locals ≤ length ls)
     × Ordered cs (take c.operands vs) (take c.locals ls)
 
--- before the first invoke there is nothing, and no frame waits behind the last
+-- before an invoke with nothing around it there are no operands and locals, and no frame waits behind the last
 abbrev pub IsClean : Stage → List Value → List (Option Value) → List Caller → Type 0
 IsClean (Start a) vs ls cs = (vs ≡ []) × (ls ≡ []) × (cs ≡ [])
 IsClean (Body place) vs ls cs = ⊤
 IsClean InFrame vs ls cs = ⊤
 IsClean AtValues vs ls cs = cs ≡ []
 
-pub record IsSound (p : Parts) : Type 0 where
+-- the outermost function: the one that waits longest, or the running one where none waits
+abbrev pub outermost : ℕ → List Caller → ℕ
+outermost f [] = f
+outermost f (c ∷ cs) = outermost c.function cs
+
+-- another invoke may come next: the outermost function has no results, and behind the last frame nothing comes
+abbrev pub MayGoOn : Module → Store → Stage → ℕ → List Caller → Type 0
+MayGoOn m s (Start a) f cs = (g : ℕ) → slice_get s.functions a ≡ Some (Defined g) → arity m g ≡ 0
+MayGoOn m s (Body place) f cs = arity m (outermost f cs) ≡ 0
+MayGoOn m s InFrame f cs = arity m (outermost f cs) ≡ 0
+MayGoOn m s AtValues f cs = ⊥
+
+pub record IsSound (m : Module) (s : Store) (p : Parts) : Type 0 where
   pub ordered : Ordered p.callers p.operands p.locals
   pub clean : IsClean p.stage p.operands p.locals p.callers
   pub few : length p.callers < most_frames
+  pub goes_on : (a : ℕ) → p.next ≡ Some a → MayGoOn m s p.stage p.function p.callers
+
+-- ## The first term
+
+abbrev pub at_start : ℕ → Option ℕ → Parts
+at_start a next = record { stage = Start a; function = 0; next = next; operands = []; locals = []; callers = [] }
+
+-- the start function's invoke, where there is one, and then main's
+abbrev pub first_parts : Option ℕ → ℕ → Parts
+first_parts (Some a) main = at_start a (Some main)
+first_parts None main = at_start main None
 
 -- ## What a reduction leaves
 
@@ -106,10 +136,15 @@ abbrev pub place_behind : Stage → ℕ
 place_behind (Body place) = place + 1
 place_behind stage = 0
 
--- the frame of a function was left: its caller runs on, or none is left
+-- behind the outermost function the next invoke comes, or none is left
+abbrev pub stage_outside : Option ℕ → Stage
+stage_outside (Some a) = Start a
+stage_outside None = AtValues
+
+-- the frame of a function was left: its caller runs on, or the outermost was left
 abbrev pub left : Parts → List Caller → Parts
-left p [] = record p { stage = AtValues }
-left p (c ∷ cs) = record { stage = Body c.place; function = c.function; operands = p.operands; locals = take c.locals p.locals; callers = cs }
+left p [] = record p { stage = stage_outside p.next; next = None; locals = [] }
+left p (c ∷ cs) = record { stage = Body c.place; function = c.function; next = p.next; operands = p.operands; locals = take c.locals p.locals; callers = cs }
 
 abbrev pub after : Module → Redex → Parts → Parts
 after m (Operands n v) p = record p { stage = stage_behind p.stage; operands = replaced n v p.operands }
@@ -117,6 +152,7 @@ after m (Invoke f) p = record p { stage = Body 0; function = f; locals = p.local
 after m (Call f n) p = record {
   stage = Body 0;
   function = f;
+  next = p.next;
   operands = take (length p.operands - n) p.operands;
   locals = p.locals ++ (map (λ (v : Value). Some v) (drop (length p.operands - n) p.operands) ++ defaults_of m f);
   callers = record { function = p.function; place = place_behind p.stage; operands = length p.operands - n; locals = length p.locals } ∷ p.callers;
@@ -174,7 +210,7 @@ found_within k found.NoRule = found.NoRule
 
 -- the reduction of the term, or why there is none
 abbrev pub Finds : Module → Store → Parts → Found → Type 0
-Finds m s p (found.Redex r) = Fits r p.stage p.operands × IsSound (after m r p) × (reduce m s (term_of m p) ≡ Went s (term_of m (after m r p)))
+Finds m s p (found.Redex r) = Fits r p.stage p.operands × IsSound m s (after m r p) × (reduce m s (term_of m p) ≡ Went s (term_of m (after m r p)))
 Finds m s p found.Limit = reduce m s (term_of m p) ≡ Limited limit.Frames
 Finds m s p found.Values = reduce m s (term_of m p) ≡ Ended (row_of p.operands)
 Finds m s p found.NoRule = reduce m s (term_of m p) ≡ Stuck

@@ -4,3 +4,4 @@ pub mod Operands
 pub mod Configuration
 pub mod Kept
 pub mod Position
+pub mod Beginning

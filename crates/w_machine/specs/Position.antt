@@ -45,7 +45,7 @@ ran None m n s t = came_to m n s t
 -- after n reductions the run of m came to the store and to the term that the parts stand for
 pub record IsReached (m : Module) (s : Store) (p : Parts) (k : Option Kept) (n : ℕ) : Type 0 where
   pub store : s ≡ start_store m
-  pub sound : IsSound p
+  pub sound : IsSound m s p
   pub run : Run m n ≡ ran k m n (start_store m) (term_of m p)
   pub bound : n ≤ most_reductions
 

@@ -2,7 +2,7 @@
 ghost use Rattle.std.specs.Prelude.{◌≡◌, ◌+◌, ◌≤◌, [], ◌++◌, Some, length, map, take, reverse, replicate, OnOk, OnErr, vec_len};
 ghost use Rattle.w_types.specs.Values.{default_of};
 ghost use Rattle.w_reduce.specs.Reduce.{defaults};
-ghost use Rattle.w_machine.specs.Configuration.{parts, base as base_of, Fits, IsInBody, stage_behind, place_behind, after, left, replaced};
+ghost use Rattle.w_machine.specs.Configuration.{parts, base as base_of, Fits, IsInBody, stage_behind, place_behind, after, first_parts, left, replaced};
 
 use crate::functions::locals_at;
 use std::alloc::{AllocError, Global};
@@ -12,7 +12,7 @@ use w_types::Value;
 /// Where a run stands.
 #[derive(Clone, Copy, Debug, PartialEq, Eq)]
 pub enum Stage {
-    /// The invoke of the function of this address comes next.
+    /// The invoke of the function of this address comes next, with nothing around it.
     Start(usize),
     /// In the running function's label, before the instruction of this number.
     Body(usize),
@@ -34,12 +34,13 @@ pub struct Caller {
     pub locals: usize,
 }
 
-/// Where the run stands, and in which function; all operands and locals, the topmost last, and the frames that wait, the
-/// innermost last.
+/// Where the run stands, and in which function; the address to be invoked once the outermost function is left; all operands
+/// and locals, the topmost last, and the frames that wait, the innermost last.
 #[derive(Drop)]
 pub struct Configuration {
     pub stage: Stage,
     pub function: usize,
+    pub next: Option<usize>,
     pub operands: Vec<Value>,
     /// A local that was never set holds nothing.
     pub locals: Vec<Option<Value>>,
@@ -51,7 +52,7 @@ pub struct Configuration {
 pub enum Redex {
     /// So many operands, in whose place a value comes, or none.
     Operands(usize, Option<Value>),
-    /// The first invoke, of the module's function of this index.
+    /// An invoke with nothing around it, of the module's function of this index.
     Invoke(usize),
     /// A call of the module's function of this index, which takes so many operands.
     Call(usize, usize),
@@ -187,20 +188,25 @@ pub(crate) fn base(callers: &[Caller]) -> usize
 }
 
 impl Configuration {
-    /// The first term: the invoke of the function of this address.
-    pub(crate) fn new(alloc: Global, address: usize) -> Configuration
-        ensures { parts result ≡ record { stage = Stage.Start address; function = 0; operands = []; locals = []; callers = [] } }
+    /// The first term: the invoke of the start function, where there is one, and then that of main.
+    pub(crate) fn new(alloc: Global, start: Option<u32>, main: usize) -> Configuration
+        ensures { parts result ≡ first_parts start main }
     {
+        let (address, next) = match start {
+            Some(function) => (function as usize, Some(main)),
+            None => (main, None),
+        };
         Configuration {
             stage: Stage::Start(address),
             function: 0,
+            next,
             operands: Vec::new(alloc),
             locals: Vec::new(alloc),
             callers: Vec::new(alloc),
         }
     }
 
-    // Enters a function from the first invoke.
+    // Enters a function from an invoke with nothing around it.
     fn invoke(&mut self, program: &Module, function: usize) -> Result<(), AllocError>
         ensures ok { OnOk result (parts self.new ≡ after program.now (Redex.Invoke function) (parts self.old)) }
         ensures err { OnErr result (parts self.new ≡ parts self.old) }
@@ -246,7 +252,13 @@ impl Configuration {
                 self.stage = Stage::Body(caller.place);
                 self.locals.truncate(caller.locals);
             }
-            None => self.stage = Stage::Values,
+            None => {
+                self.stage = match self.next.take() {
+                    Some(address) => Stage::Start(address),
+                    None => Stage::Values,
+                };
+                self.locals.clear();
+            }
         }
     }
 

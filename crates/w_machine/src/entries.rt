@@ -1,4 +1,4 @@
-//! The function that a run begins with.
+//! The entry of a module: the function that is exported as main.
 ghost use Rattle.std.specs.Prelude.{◌≡◌};
 ghost use Rattle.w_reduce.specs.Start.{entry as the_entry, entry_of as entry_exported, entry_at as entry_there, is_entry_type as entry_type, are_integers as all_integers};
 ghost use Rattle.w_syntax.specs.Functions.{type_of_function};
@@ -52,7 +52,7 @@ fn entry_of(program: &Module, what: ExternIndex) -> Option<usize>
     }
 }
 
-/// The function that a run begins with: the one that is exported as main, where its type is `[]` to integers.
+/// The entry: the function that is exported as main, where its type is `[]` to integers.
 pub(crate) fn entry(program: &Module) -> Option<usize>
     ensures { result ≡ the_entry program.now }
 {

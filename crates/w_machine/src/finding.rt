@@ -133,7 +133,7 @@ fn limited(found: Found, waiting: usize) -> Found
 impl Configuration {
     // The redex of the instruction, or the limit on frames where its result passes that.
     fn find_within(&self, program: &Module, store: &Store, place: usize, op: &Op) -> Found
-        requires sound { IsSound (parts self.now) }
+        requires sound { IsSound program.now store.now (parts self.now) }
         requires at { self.now.stage ≡ Stage.Body place }
         requires next { place + 1 < 2 ^ 64 }
         requires is { instr_of program.now self.now.function place ≡ Some (Instr.Plain op.now) }
@@ -148,7 +148,7 @@ impl Configuration {
 
     // The redex of what stands at a place. A block has no rule yet; a mark ends the innermost sequence.
     fn find_instr(&self, program: &Module, store: &Store, place: usize, instr: &Instr) -> Found
-        requires sound { IsSound (parts self.now) }
+        requires sound { IsSound program.now store.now (parts self.now) }
         requires at { self.now.stage ≡ Stage.Body place }
         requires next { place + 1 < 2 ^ 64 }
         requires is { instr_of program.now self.now.function place ≡ Some instr.now }
@@ -163,9 +163,9 @@ impl Configuration {
         }
     }
 
-    // The first invoke.
+    // An invoke with nothing around it.
     fn find_invoke(&self, program: &Module, store: &Store, address: usize) -> Found
-        requires sound { IsSound (parts self.now) }
+        requires sound { IsSound program.now store.now (parts self.now) }
         requires at { self.now.stage ≡ Stage.Start address }
         ensures { Finds program.now store.now (parts self.now) result }
     {
@@ -177,7 +177,7 @@ impl Configuration {
 
     /// Finds the next reduction.
     pub(crate) fn find(&self, program: &Module, store: &Store) -> Found
-        requires { IsSound (parts self.now) }
+        requires { IsSound program.now store.now (parts self.now) }
         ensures { Finds program.now store.now (parts self.now) result }
     {
         match self.stage {

@@ -1,7 +1,7 @@
 //! The machine.
 ghost use Rattle.std.specs.Prelude.{◌≡◌, ◌+◌, ◌<◌, ◌≤◌, None};
-ghost use Rattle.w_reduce.specs.Store.{start_store};
 ghost use Rattle.w_reduce.specs.Run.{Run, results_of};
+ghost use Rattle.w_machine.specs.Beginning.{Begins};
 ghost use Rattle.w_machine.specs.Position.{Steps, Runs, most_reductions};
 
 use crate::configuration::{Configuration, Found, Stage};
@@ -39,14 +39,16 @@ impl Model for Machine {
 impl Machine {
     /// The run of a module from its first store, with no reduction taken.
     pub fn new(alloc: Global, checked: Checked, store: Store) -> Machine
-        requires { store ≡ start_store checked }
+        requires { Begins checked store }
         ensures { result ≡ record { program = checked; taken = 0; kept = None } }
     {
-        let address = entry(checked.module()).unwrap_or(0);
+        let module = checked.module();
+        let main = entry(module).unwrap_or(0);
+        let configuration = Configuration::new(alloc, module.start, main);
         Machine {
             checked,
             store,
-            configuration: Configuration::new(alloc, address),
+            configuration,
             taken: 0,
             kept: None,
         }

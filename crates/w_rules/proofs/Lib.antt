@@ -1,3 +1,7 @@
+mod Groups
 pub mod Preorder
-pub mod Rules
-pub mod Groups
+pub mod Derive
+mod Rules
+mod SpacesSoFar
+pub mod Marks
+pub mod Contexts

@@ -1,36 +1,56 @@
--- Matching is a preorder, and operands beneath do not matter.
-use Rattle.std.proofs.Common.{◌≡◌, refl, ap}
-use Rattle.w_types.specs.declared.types.ValType.{ValType}
-use Rattle.w_types.specs.Rows.{Row, ε, ◌▹◌, ◌⧺◌}
-use Rattle.w_rules.specs.Matching.{Matches, same, RowMatches, none, more}
+-- Matching of operands and of rows of them is a preorder.
+use Rattle.std.proofs.Common.{◌≡◌, List, suc, refl, ap}
+use Rattle.w_types.specs.declared.types.RecGroup.{RecGroup}
+use Rattle.w_types.specs.Rows.{Row, ε, ◌▹◌, ◌⧺◌, size}
+use Rattle.w_canon.specs.Matching.{ref}
+use Rattle.w_canon.proofs.Preorder.{val_refl, val_trans}
+use Rattle.w_rules.specs.declared.operand.Operand.{Operand}
+use Rattle.w_rules.specs.declared.operand.Operand.TheVariants.{Known, Bottom, BottomRef}
+use Rattle.w_rules.specs.Matching.{OperandMatches, value, bottom, bottom_ref, bottom_refs, RowMatches, none, more}
 
-pub matches_same : {t u : ValType} → Matches t u → t ≡ u
-matches_same same = refl
+-- ## Operands
 
-matches_trans : {t u v : ValType} → Matches t u → Matches u v → Matches t v
-matches_trans same q = q
+-- an operand matches itself
+pub operand_refl : (gs : List RecGroup) (t : Operand) → OperandMatches gs t t
+operand_refl gs (Known t) = value (val_refl gs t)
+operand_refl gs Bottom = bottom
+operand_refl gs (BottomRef n) = bottom_refs (λ h. h)
 
-pub row_refl : (ts : Row ValType) → RowMatches ts ts
-row_refl ε = none
-row_refl (ts ▹ t) = more (row_refl ts) same
+operand_joined : (gs : List RecGroup) {t u v : Operand} → OperandMatches gs t u → OperandMatches gs u v → OperandMatches gs t v
+operand_joined gs (value {t} {u} h) (value {u = v} k) = value (val_trans gs t u v h k)
+operand_joined gs bottom k = bottom
+operand_joined gs (bottom_ref f) (value (ref m)) = bottom_ref (λ t. m.nullable (f t))
+operand_joined gs (bottom_refs f) (bottom_ref g) = bottom_ref (λ t. g (f t))
+operand_joined gs (bottom_refs f) (bottom_refs g) = bottom_refs (λ t. g (f t))
 
-pub row_trans : {ts us vs : Row ValType} → RowMatches ts us → RowMatches us vs → RowMatches ts vs
-row_trans none q = q
-row_trans (more p h) (more q k) = more (row_trans p q) (matches_trans h k)
+-- matching of operands is transitive
+pub operand_trans : (gs : List RecGroup) (t u v : Operand) → OperandMatches gs t u → OperandMatches gs u v → OperandMatches gs t v
+operand_trans gs t u v h k = operand_joined gs h k
 
-pub row_beneath : (beneath : Row ValType) {ts us : Row ValType} → RowMatches ts us → RowMatches (beneath ⧺ ts) (beneath ⧺ us)
-row_beneath beneath none = row_refl beneath
-row_beneath beneath (more p h) = more (row_beneath beneath p) h
+-- ## Rows
 
--- rows of number types match only where they are equal
-pub rows_same : {ts us : Row ValType} → RowMatches ts us → ts ≡ us
-rows_same none = refl
-rows_same (more p q) = let e = rows_same p in let f = matches_same q in cc
+-- a row matches itself
+pub row_refl : (gs : List RecGroup) (ts : Row Operand) → RowMatches gs ts ts
+row_refl gs ε = none
+row_refl gs (ts ▹ t) = more (row_refl gs ts) (operand_refl gs t)
 
-pub beside_assoc : {A : Type 0} (xs ys zs : Row A) → (xs ⧺ ys) ⧺ zs ≡ xs ⧺ (ys ⧺ zs)
-beside_assoc xs ys ε = refl
-beside_assoc xs ys (zs ▹ z) = ap (λ r. r ▹ z) (beside_assoc xs ys zs)
+row_joined : (gs : List RecGroup) {ts us vs : Row Operand} → RowMatches gs ts us → RowMatches gs us vs → RowMatches gs ts vs
+row_joined gs none none = none
+row_joined gs (more r h) (more q k) = more (row_joined gs r q) (operand_joined gs h k)
 
-pub unit_left : {A : Type 0} (xs : Row A) → ε ⧺ xs ≡ xs
-unit_left ε = refl
-unit_left (xs ▹ x) = ap (λ r. r ▹ x) (unit_left xs)
+-- matching of rows is transitive
+pub row_trans : (gs : List RecGroup) (ts us vs : Row Operand) → RowMatches gs ts us → RowMatches gs us vs → RowMatches gs ts vs
+row_trans gs ts us vs h k = row_joined gs h k
+
+row_one_size : (gs : List RecGroup) {ts us : Row Operand} → RowMatches gs ts us → size ts ≡ size us
+row_one_size gs none = refl
+row_one_size gs (more r h) = ap suc (row_one_size gs r)
+
+-- rows that match have one size
+pub row_size : (gs : List RecGroup) (ts us : Row Operand) → RowMatches gs ts us → size ts ≡ size us
+row_size gs ts us h = row_one_size gs h
+
+-- rows that match, each with a row that it matches at its right
+pub row_beside : (gs : List RecGroup) (ts us vs ws : Row Operand) → RowMatches gs ts us → RowMatches gs vs ws → RowMatches gs (ts ⧺ vs) (us ⧺ ws)
+row_beside gs ts us _ _ h none = h
+row_beside gs ts us _ _ h (more {ts = vs} {us = ws} r k) = more (row_beside gs ts us vs ws h r) k

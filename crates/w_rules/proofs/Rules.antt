@@ -1,115 +1,145 @@
 -- The rules of the standard derive what the definition of typing says.
-use Rattle.std.proofs.Common.{◌≡◌, ℕ, refl, sym, subst, Option, Some, None}
-use Rattle.w_types.specs.declared.types.FuncType.{FuncType}
-use Rattle.w_types.specs.declared.types.ValType.{ValType}
-use Rattle.w_types.specs.Rows.{Row, ε, ◌▹◌, ◌⧺◌, row_of}
+use Rattle.std.proofs.Common.{◌≡◌, Bool, true, false, List, Option, Some, None, refl, sym, subst}
+use Rattle.w_types.specs.declared.types.RecGroup.{RecGroup}
+use Rattle.w_types.specs.declared.types.ValType.TheVariants.{I32}
+use Rattle.w_types.specs.Rows.{Row, ε, ◌▹◌, ◌⧺◌}
+use Rattle.w_types.proofs.Rows.{unit_left}
 use Rattle.w_syntax.specs.Code.{Code, Done, Plain, Block, If, IfElse, after}
-use Rattle.w_syntax.specs.Functions.{type_of_function}
-use Rattle.w_syntax.specs.declared.instructions.Op.{Op}
-use Rattle.w_syntax.specs.declared.instructions.Op.TheVariants as op
-use Rattle.w_syntax.specs.declared.instructions.Control.TheVariants.{Call}
-use Rattle.w_syntax.specs.declared.instructions.Parametric.TheVariants.{Drop}
-use Rattle.w_syntax.specs.declared.numeric.IntType.TheVariants as int
-use Rattle.w_syntax.specs.declared.numeric.Binary.TheVariants as binary
-use Rattle.w_syntax.specs.declared.numeric.Numeric.TheVariants.{I64Const, Binary}
-use Rattle.w_syntax.specs.declared.module.Module.{Module}
-use Rattle.w_rules.specs.Matching.{RowMatches, none}
-use Rattle.w_rules.specs.Typing.{Line, fixed, drops, no_line, call_line, line, Steps, Takes, Derives}
-use Rattle.w_rules.specs.Family.{Typed, empty, i64_const, i64_add, i64_sub, i64_mul, call, drop, composition, subsumption, OneTyping}
-use Rattle.w_rules.proofs.Preorder.{row_refl, row_trans, row_beneath, beside_assoc, unit_left}
+use Rattle.w_rules.specs.declared.operand.Operand.{Operand}
+use Rattle.w_rules.specs.declared.operand.Operand.TheVariants.{Known}
+use Rattle.w_rules.specs.Conditions.{Holds}
+use Rattle.w_rules.specs.Context.{Context, Arrow, arrow_of, label_of, labelled}
+use Rattle.w_rules.specs.Lines.{Line, fixed, leaves, leaves_by, drops, selects, tests_null, as_non_null, on_null, no_line, line, sets}
+use Rattle.w_rules.specs.Matching.{RowMatches, none, known}
+use Rattle.w_rules.specs.Typing.{Steps, Takes, ref_to, set_by, Derives}
+use Rattle.w_rules.specs.Family.{Has, has_fixed, has_leaves, has_leaves_by, has_drops, has_selects, has_tests_null, has_as_non_null, has_on_null, Typed, empty, instruction, block, if_then, if_else, composition, subsumption, OneTyping}
+use Rattle.w_rules.proofs.Preorder.{row_refl}
+use Rattle.w_rules.proofs.Derive.{derives_left, derives_right, derives_frame, after_in}
 
--- ## Subsumption, operands beneath, and composition are admissible
+-- ## By the rules, and so by the definition
 
-steps_wider : {ins outs ts us ts' us' : Row ValType} → RowMatches ts' ts → Steps ins outs ts us → RowMatches us us' → Steps ins outs ts' us'
-steps_wider p h q = record { beneath = h.beneath; takes = row_trans p h.takes; gives = row_trans h.gives q }
+-- a row matches itself with nothing beneath it
+under_none : (gs : List RecGroup) (ts : Row Operand) → RowMatches gs ts (ε ⧺ ts)
+under_none gs ts = let P : Row Operand → Type 0 = λ us. RowMatches gs ts us in subst P (sym (unit_left ts)) (row_refl gs ts)
 
-takes_wider : (l : Line) {ts us ts' us' : Row ValType} → RowMatches ts' ts → Takes l ts us → RowMatches us us' → Takes l ts' us'
-takes_wider (fixed ins outs) p h q = steps_wider p h q
-takes_wider drops p h q = (h.0, steps_wider p h.1 q)
-takes_wider no_line p h q = absurd h
+-- the same, the other way round
+over_none : (gs : List RecGroup) (ts : Row Operand) → RowMatches gs (ε ⧺ ts) ts
+over_none gs ts = let P : Row Operand → Type 0 = λ us. RowMatches gs us ts in subst P (sym (unit_left ts)) (row_refl gs ts)
 
-pub derives_wider : (m : Module) (c : Code) {ts us ts' us' : Row ValType} → RowMatches ts' ts → Derives m c ts us → RowMatches us us' → Derives m c ts' us'
-derives_wider m Done p h q = row_trans p (row_trans h q)
-derives_wider m (Plain o c) p h q = (h.0, takes_wider (line m o) p h.1 (row_refl h.0), derives_wider m c (row_refl h.0) h.2 q)
-derives_wider m (Block kind b x c) p h q = absurd h
-derives_wider m (If b x c) p h q = absurd h
-derives_wider m (IfElse b x y c) p h q = absurd h
+-- a rule itself, with nothing beneath
+exactly : (gs : List RecGroup) (ins outs : Row Operand) → Steps gs ins outs ins outs
+exactly gs ins outs = record { beneath = ε; takes = under_none gs ins; gives = over_none gs outs }
 
-steps_beneath : (ins outs beneath ts us : Row ValType) → Steps ins outs ts us → Steps ins outs (beneath ⧺ ts) (beneath ⧺ us)
-steps_beneath ins outs beneath ts us h = record {
-  beneath = beneath ⧺ h.beneath;
-  takes = subst (λ r. RowMatches (beneath ⧺ ts) r) (sym (beside_assoc beneath h.beneath ins)) (row_beneath beneath h.takes);
-  gives = subst (λ r. RowMatches r (beneath ⧺ us)) (sym (beside_assoc beneath h.beneath outs)) (row_beneath beneath h.gives);
-}
+-- an instruction takes what its rule says
+has_takes : (gs : List RecGroup) (l : Line) (ts us : Row Operand) → Has gs l ts us → Takes gs l ts us
+has_takes gs l ts us (has_fixed ins outs) = exactly gs (known ins) (known outs)
+has_takes gs l ts us (has_leaves ins beneath vs) = record { beneath = beneath; takes = row_refl gs (beneath ⧺ known ins) }
+has_takes gs l ts us (has_leaves_by one others beneath ins vs each) =
+    record { ins = ins; leaves = record { beneath = beneath; takes = row_refl gs ((beneath ⧺ ins) ▹ Known I32) }; each = each }
+has_takes gs l ts us (has_drops t) = (t, exactly gs (ε ▹ t) ε)
+has_takes gs l ts us (has_selects t n) = (t, n, exactly gs (ε ▹ t ▹ t ▹ Known I32) (ε ▹ t))
+has_takes gs l ts us (has_tests_null h) = (h, exactly gs (ε ▹ ref_to true h) (ε ▹ Known I32))
+has_takes gs l ts us (has_as_non_null h) = (h, exactly gs (ε ▹ ref_to true h) (ε ▹ ref_to false h))
+has_takes gs l ts us (has_on_null vs h) = (h, exactly gs (known vs ▹ ref_to true h) (known vs ▹ ref_to false h))
 
-takes_beneath : (l : Line) (beneath ts us : Row ValType) → Takes l ts us → Takes l (beneath ⧺ ts) (beneath ⧺ us)
-takes_beneath (fixed ins outs) beneath ts us h = steps_beneath ins outs beneath ts us h
-takes_beneath drops beneath ts us h = (h.0, steps_beneath (ε ▹ h.0) ε beneath ts us h.1)
-takes_beneath no_line beneath ts us h = absurd h
+-- what holds of the value that is there
+at_arrow : (o : Option Arrow) (a : Arrow) (P : Arrow → Type 0) → o ≡ Some a → P a → Holds o P
+at_arrow o a P e h = let Q : Option Arrow → Type 0 = λ q. Holds q P in subst Q (sym e) h
 
-derives_beneath : (m : Module) (c : Code) (beneath ts us : Row ValType) → Derives m c ts us → Derives m c (beneath ⧺ ts) (beneath ⧺ us)
-derives_beneath m Done beneath ts us h = row_beneath beneath h
-derives_beneath m (Plain o c) beneath ts us h = (beneath ⧺ h.0, takes_beneath (line m o) beneath ts h.0 h.1, derives_beneath m c beneath h.0 us h.2)
-derives_beneath m (Block kind b x c) beneath ts us h = absurd h
-derives_beneath m (If b x c) beneath ts us h = absurd h
-derives_beneath m (IfElse b x y c) beneath ts us h = absurd h
+-- what the rules derive, the definition derives
+typed_derives : (c : Context) (s : List Bool) (k : Code) (ts us : Row Operand) → Typed c s k ts us → Derives c s k ts us
+typed_derives c s k ts us (empty c' s') = none
+typed_derives c s k ts us (instruction c' s' o ts' us' p h) = (p, (us', has_takes c'.types (line c' s' o) ts' us' h, row_refl c'.types us'))
+typed_derives c s k ts us (block c' s' kind x a b e d) = at_arrow (arrow_of c' x) a _ e (
+  typed_derives (labelled c' (label_of kind a)) s' b (known a.from) (known a.to) d,
+  (known a.to, exactly c'.types (known a.from) (known a.to), row_refl c'.types (known a.to)),
+)
+typed_derives c s k ts us (if_then c' s' x a b e m d) = at_arrow (arrow_of c' x) a _ e (
+  m,
+  typed_derives (labelled c' a.to) s' b (known a.from) (known a.to) d,
+  (known a.to, exactly c'.types (known a.from ▹ Known I32) (known a.to), row_refl c'.types (known a.to)),
+)
+typed_derives c s k ts us (if_else c' s' x a b l e d f) = at_arrow (arrow_of c' x) a _ e (
+  typed_derives (labelled c' a.to) s' b (known a.from) (known a.to) d,
+  typed_derives (labelled c' a.to) s' l (known a.from) (known a.to) f,
+  (known a.to, exactly c'.types (known a.from ▹ Known I32) (known a.to), row_refl c'.types (known a.to)),
+)
+typed_derives c s k ts us (composition c' s' k' l ts' vs us' d f) =
+    after_in c' s' k' l ts' vs us' (typed_derives c' s' k' ts' vs d) (typed_derives c' (set_by k' s') l vs us' f)
+typed_derives c s k ts us (subsumption c' s' k' beneath ts' us' ts'' us'' d m n) =
+    derives_left c' s' k' ts'' (beneath ⧺ ts') us'' m
+    (derives_right c' s' k' (beneath ⧺ ts') (beneath ⧺ us') us'' (derives_frame c' s' k' beneath ts' us' (typed_derives c' s' k' ts' us' d)) n)
 
-derives_after : (m : Module) (c d : Code) (ts us vs : Row ValType) → Derives m c ts us → Derives m d us vs → Derives m (after c d) ts vs
+-- ## By the definition, and so by the rules
+
+-- a rule, the operands beneath it, and subsumption
+record Framed (gs : List RecGroup) (l : Line) (ts us : Row Operand) : Type 0 where
+  pub ins : Row Operand
+  pub outs : Row Operand
+  pub beneath : Row Operand
+  pub has : Has gs l ins outs
+  pub takes : RowMatches gs ts (beneath ⧺ ins)
+  pub gives : RowMatches gs (beneath ⧺ outs) us
+
+-- a step is its rule with operands beneath
+steps_framed : (gs : List RecGroup) (l : Line) (ins outs ts us : Row Operand) → Has gs l ins outs → Steps gs ins outs ts us → Framed gs l ts us
+steps_framed gs l ins outs ts us r h = record { ins = ins; outs = outs; beneath = h.beneath; has = r; takes = h.takes; gives = h.gives }
+
+-- a rule that takes all operands
+whole_framed : (gs : List RecGroup) (l : Line) (ins ts us : Row Operand) → Has gs l ins us → RowMatches gs ts ins → Framed gs l ts us
+whole_framed gs l ins ts us r m = let P : Row Operand → Type 0 = λ vs. RowMatches gs ts vs in
+    record { ins = ins; outs = us; beneath = ε; has = r; takes = subst P (sym (unit_left ins)) m; gives = over_none gs us }
+
+-- an instruction is its rule with operands beneath
+takes_framed : (gs : List RecGroup) (l : Line) (ts us : Row Operand) → Takes gs l ts us → Framed gs l ts us
+takes_framed gs (fixed ins outs) ts us h = steps_framed gs (fixed ins outs) (known ins) (known outs) ts us (has_fixed ins outs) h
+takes_framed gs (leaves ins) ts us h = whole_framed gs (leaves ins) (h.beneath ⧺ known ins) ts us (has_leaves ins h.beneath us) h.takes
+takes_framed gs (leaves_by one others) ts us h =
+    whole_framed gs (leaves_by one others) ((h.leaves.beneath ⧺ h.ins) ▹ Known I32) ts us (has_leaves_by one others h.leaves.beneath h.ins us h.each) h.leaves.takes
+takes_framed gs drops ts us (t, h) = steps_framed gs drops (ε ▹ t) ε ts us (has_drops t) h
+takes_framed gs selects ts us (t, n, h) = steps_framed gs selects (ε ▹ t ▹ t ▹ Known I32) (ε ▹ t) ts us (has_selects t n) h
+takes_framed gs tests_null ts us (t, h) = steps_framed gs tests_null (ε ▹ ref_to true t) (ε ▹ Known I32) ts us (has_tests_null t) h
+takes_framed gs as_non_null ts us (t, h) = steps_framed gs as_non_null (ε ▹ ref_to true t) (ε ▹ ref_to false t) ts us (has_as_non_null t) h
+takes_framed gs (on_null vs) ts us (t, h) =
+    steps_framed gs (on_null vs) (known vs ▹ ref_to true t) (known vs ▹ ref_to false t) ts us (has_on_null vs t) h
+takes_framed gs no_line ts us h = absurd h
+
+-- what holds of a value that may not be there tells the value
+with_arrow : (o : Option Arrow) (P : Arrow → Type 0) (G : Type 0) → Holds o P → ((a : Arrow) → o ≡ Some a → P a → G) → G
+with_arrow None P G h f = absurd h
+with_arrow (Some a) P G h f = f a refl h
+
+-- a derivation by a rule, with operands beneath and subsumption
+steps_typed : (c : Context) (s : List Bool) (k : Code) (ins outs ts us : Row Operand) → Typed c s k ins outs → Steps c.types ins outs ts us → Typed c s k ts us
+steps_typed c s k ins outs ts us d h = subsumption c s k h.beneath ins outs ts us d h.takes h.gives
+
+-- what the definition derives, the rules derive
+derives_typed : (c : Context) (s : List Bool) (k : Code) (ts us : Row Operand) → Derives c s k ts us → Typed c s k ts us
 unfolding after
-derives_after m Done d ts us vs h k = derives_wider m d h k (row_refl vs)
-derives_after m (Plain o c) d ts us vs h k = (h.0, h.1, derives_after m c d h.0 us vs h.2 k)
-derives_after m (Block kind b x c) d ts us vs h k = absurd h
-derives_after m (If b x c) d ts us vs h k = absurd h
-derives_after m (IfElse b x y c) d ts us vs h k = absurd h
+derives_typed c s Done ts us d = subsumption c s Done ts ε ε ts us (empty c s) (row_refl c.types ts) d
+derives_typed c s (Plain o k) ts us (p, (vs, t, d)) =
+    let f = takes_framed c.types (line c s o) ts vs t in
+    composition c s (Plain o Done) k ts vs us
+    (subsumption c s (Plain o Done) f.beneath f.ins f.outs ts vs (instruction c s o f.ins f.outs p f.has) f.takes f.gives)
+    (derives_typed c (sets o s) k vs us d)
+derives_typed c s (Block kind x b k) ts us d = with_arrow (arrow_of c x) _ _ d (λ a e h.
+    composition c s (Block kind x b Done) k ts h.1.0 us
+    (steps_typed c s (Block kind x b Done) (known a.from) (known a.to) ts h.1.0
+    (block c s kind x a b e (derives_typed (labelled c (label_of kind a)) s b (known a.from) (known a.to) h.0)) h.1.1)
+    (derives_typed c s k h.1.0 us h.1.2))
+derives_typed c s (If x b k) ts us d = with_arrow (arrow_of c x) _ _ d (λ a e h.
+    composition c s (If x b Done) k ts h.2.0 us
+    (steps_typed c s (If x b Done) (known a.from ▹ Known I32) (known a.to) ts h.2.0
+    (if_then c s x a b e h.0 (derives_typed (labelled c a.to) s b (known a.from) (known a.to) h.1)) h.2.1)
+    (derives_typed c s k h.2.0 us h.2.2))
+derives_typed c s (IfElse x b l k) ts us d = with_arrow (arrow_of c x) _ _ d (λ a e h.
+    composition c s (IfElse x b l Done) k ts h.2.0 us
+    (steps_typed c s (IfElse x b l Done) (known a.from ▹ Known I32) (known a.to) ts h.2.0
+    (if_else c s x a b l e
+    (derives_typed (labelled c a.to) s b (known a.from) (known a.to) h.0)
+    (derives_typed (labelled c a.to) s l (known a.from) (known a.to) h.1)) h.2.1)
+    (derives_typed c s k h.2.0 us h.2.2))
 
--- ## The two directions
-
--- a step with nothing beneath
-plain_step : (ins outs : Row ValType) → Steps ins outs ins outs
-plain_step ins outs = record {
-  beneath = ε;
-  takes = subst (λ s. RowMatches ins s) (sym (unit_left ins)) (row_refl ins);
-  gives = subst (λ s. RowMatches s outs) (sym (unit_left outs)) (row_refl outs);
-}
-
--- an instruction alone
-alone : (m : Module) (o : Op) (ins outs : Row ValType) → line m o ≡ fixed ins outs → Derives m (Plain o Done) ins outs
-alone m o ins outs e = (outs, subst (λ l. Takes l ins outs) (sym e) (plain_step ins outs), row_refl outs)
-
-call_alone : (m : Module) (x : ℕ) (t : FuncType) → type_of_function m x ≡ Some t → Derives m (Plain (op.Control (Call x)) Done) (row_of t.params) (row_of t.results)
-call_alone m x t e = alone m (op.Control (Call x)) (row_of t.params) (row_of t.results) (subst (λ (o : Option FuncType). call_line o ≡ fixed (row_of t.params) (row_of t.results)) (sym e) refl)
-
-typed_derives : {m : Module} {c : Code} {ts us : Row ValType} → Typed m c ts us → Derives m c ts us
-typed_derives empty = none
-typed_derives {m} (i64_const z) = alone m (op.Numeric (I64Const z)) _ _ refl
-typed_derives {m} i64_add = alone m (op.Numeric (Binary int.I64 binary.Add)) _ _ refl
-typed_derives {m} i64_sub = alone m (op.Numeric (Binary int.I64 binary.Sub)) _ _ refl
-typed_derives {m} i64_mul = alone m (op.Numeric (Binary int.I64 binary.Mul)) _ _ refl
-typed_derives {m} (call x t e) = call_alone m x t e
-typed_derives {m} (drop t) = (ε, (t, plain_step (ε ▹ t) ε), none)
-typed_derives {m} (composition c d ts us vs h k) = derives_after m c d ts us vs (typed_derives h) (typed_derives k)
-typed_derives {m} (subsumption c beneath ts us ts' us' h p q) = derives_wider m c p (derives_beneath m c beneath ts us (typed_derives h)) q
-
-call_typed : (m : Module) (x : ℕ) (o : Option FuncType) → type_of_function m x ≡ o → {ts us : Row ValType} → Takes (call_line o) ts us → Typed m (Plain (op.Control (Call x)) Done) ts us
-call_typed m x (Some t) e h = subsumption _ h.beneath _ _ _ _ (call x t e) h.takes h.gives
-call_typed m x None e h = absurd h
-
-op_typed : (m : Module) (o : Op) {ts us : Row ValType} → Takes (line m o) ts us → Typed m (Plain o Done) ts us
-op_typed m (op.Numeric (I64Const z)) h = subsumption _ h.beneath _ _ _ _ (i64_const z) h.takes h.gives
-op_typed m (op.Numeric (Binary int.I64 binary.Add)) h = subsumption _ h.beneath _ _ _ _ i64_add h.takes h.gives
-op_typed m (op.Numeric (Binary int.I64 binary.Sub)) h = subsumption _ h.beneath _ _ _ _ i64_sub h.takes h.gives
-op_typed m (op.Numeric (Binary int.I64 binary.Mul)) h = subsumption _ h.beneath _ _ _ _ i64_mul h.takes h.gives
-op_typed m (op.Control (Call x)) h = call_typed m x (type_of_function m x) refl h
-op_typed m (op.Parametric Drop) h = subsumption _ h.1.beneath _ _ _ _ (drop h.0) h.1.takes h.1.gives
-op_typed m _ h = absurd h
-
-derives_typed : (m : Module) (c : Code) {ts us : Row ValType} → Derives m c ts us → Typed m c ts us
-unfolding after
-derives_typed m Done {ts} {us} h = subsumption Done ts ε ε ts us empty (row_refl ts) h
-derives_typed m (Plain o c) {ts} {us} h = composition (Plain o Done) c ts h.0 us (op_typed m o h.1) (derives_typed m c h.2)
-derives_typed m (Block kind b x c) h = absurd h
-derives_typed m (If b x c) h = absurd h
-derives_typed m (IfElse b x y c) h = absurd h
-
+-- the two derive the same
 pub one_typing : OneTyping
-one_typing m c ts us = (typed_derives, derives_typed m c)
+one_typing c s k ts us = (typed_derives c s k ts us, derives_typed c s k ts us)

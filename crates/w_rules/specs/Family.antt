@@ -1,34 +1,52 @@
--- The typing rules as the standard states them: a rule for each instruction, one for composition, and one for subsumption,
--- which also frames operands beneath (Core, validation, instructions).
-use Rattle.std.specs.Prelude.{◌≡◌, ℕ, ℤ, ◌↔◌, Some}
-use Rattle.w_types.specs.declared.types.FuncType.{FuncType}
+-- The typing rules as the standard states them: one rule for the instructions of the table, one for each kind of block, one for
+-- composition, and one for subsumption, which also frames operands beneath (Core, validation, instructions).
+use Rattle.std.specs.Prelude.{◌≡◌, ◌↔◌, Bool, true, false, List, ◌∷◌, Option, Some}
+use Rattle.w_types.specs.declared.types.HeapType.{HeapType}
+use Rattle.w_types.specs.declared.types.RecGroup.{RecGroup}
 use Rattle.w_types.specs.declared.types.ValType.{ValType}
-use Rattle.w_types.specs.declared.types.ValType.TheVariants.{I64}
-use Rattle.w_types.specs.Rows.{Row, ε, ◌▹◌, ◌⧺◌, row_of}
-use Rattle.w_syntax.specs.Code.{Code, Done, Plain, after}
-use Rattle.w_syntax.specs.Functions.{type_of_function}
-use Rattle.w_syntax.specs.declared.instructions.Control.TheVariants.{Call}
-use Rattle.w_syntax.specs.declared.instructions.Parametric.TheVariants.{Drop}
-use Rattle.w_syntax.specs.declared.instructions.Op.TheVariants.{Control, Parametric, Numeric}
-use Rattle.w_syntax.specs.declared.numeric.IntType.TheVariants as int
-use Rattle.w_syntax.specs.declared.numeric.Binary.TheVariants.{Add, Sub, Mul}
-use Rattle.w_syntax.specs.declared.numeric.Numeric.TheVariants.{I64Const, Binary}
-use Rattle.w_syntax.specs.declared.module.Module.{Module}
-use Rattle.w_rules.specs.Matching.{RowMatches}
-use Rattle.w_rules.specs.Typing.{Derives}
+use Rattle.w_types.specs.declared.types.ValType.TheVariants.{I32}
+use Rattle.w_types.specs.Rows.{Row, ε, ◌▹◌, ◌⧺◌}
+use Rattle.w_syntax.specs.declared.instructions.BlockKind.{BlockKind}
+use Rattle.w_syntax.specs.declared.instructions.BlockType.{BlockType}
+use Rattle.w_syntax.specs.declared.instructions.Op.{Op}
+use Rattle.w_syntax.specs.Code.{Code, Done, Plain, Block, If, IfElse, after}
+use Rattle.w_rules.specs.declared.operand.Operand.{Operand}
+use Rattle.w_rules.specs.declared.operand.Operand.TheVariants.{Known}
+use Rattle.w_rules.specs.Conditions.{Condition}
+use Rattle.w_rules.specs.Context.{Context, Arrow, arrow_of, label_of, labelled}
+use Rattle.w_rules.specs.Lines.{Line, fixed, leaves, leaves_by, drops, selects, tests_null, as_non_null, on_null, line}
+use Rattle.w_rules.specs.Matching.{RowMatches, known}
+use Rattle.w_rules.specs.Typing.{MatchesEach, IsNumeric, ref_to, set_by, Derives}
 
-pub data Typed (m : Module) : Code → Row ValType → Row ValType → Type 0 where
-  empty : Typed m Done ε ε
-  i64_const : (z : ℤ) → Typed m (Plain (Numeric (I64Const z)) Done) ε (ε ▹ I64)
-  i64_add : Typed m (Plain (Numeric (Binary int.I64 Add)) Done) (ε ▹ I64 ▹ I64) (ε ▹ I64)
-  i64_sub : Typed m (Plain (Numeric (Binary int.I64 Sub)) Done) (ε ▹ I64 ▹ I64) (ε ▹ I64)
-  i64_mul : Typed m (Plain (Numeric (Binary int.I64 Mul)) Done) (ε ▹ I64 ▹ I64) (ε ▹ I64)
-  call : (x : ℕ) (t : FuncType) → type_of_function m x ≡ Some t → Typed m (Plain (Control (Call x)) Done) (row_of t.params) (row_of t.results)
-  drop : (t : ValType) → Typed m (Plain (Parametric Drop) Done) (ε ▹ t) ε
-  composition : (c d : Code) (ts us vs : Row ValType) → Typed m c ts us → Typed m d us vs → Typed m (after c d) ts vs
-  subsumption : (c : Code) (beneath ts us ts' us' : Row ValType)
-      → Typed m c ts us → RowMatches ts' (beneath ⧺ ts) → RowMatches (beneath ⧺ us) us' → Typed m c ts' us'
+-- the types of an instruction of each line
+pub data Has (gs : List RecGroup) : Line → Row Operand → Row Operand → Type 0 where
+  has_fixed : (ins outs : Row ValType) → Has gs (fixed ins outs) (known ins) (known outs)
+  has_leaves : (ins : Row ValType) (beneath us : Row Operand) → Has gs (leaves ins) (beneath ⧺ known ins) us
+  has_leaves_by : (one : Row ValType) (others : List (Row ValType)) (beneath ins us : Row Operand)
+      → MatchesEach gs ins (one ∷ others) → Has gs (leaves_by one others) ((beneath ⧺ ins) ▹ Known I32) us
+  has_drops : (t : Operand) → Has gs drops (ε ▹ t) ε
+  has_selects : (t : Operand) → IsNumeric gs t → Has gs selects (ε ▹ t ▹ t ▹ Known I32) (ε ▹ t)
+  has_tests_null : (h : Option HeapType) → Has gs tests_null (ε ▹ ref_to true h) (ε ▹ Known I32)
+  has_as_non_null : (h : Option HeapType) → Has gs as_non_null (ε ▹ ref_to true h) (ε ▹ ref_to false h)
+  has_on_null : (vs : Row ValType) (h : Option HeapType) → Has gs (on_null vs) (known vs ▹ ref_to true h) (known vs ▹ ref_to false h)
+
+pub data Typed : Context → List Bool → Code → Row Operand → Row Operand → Type 0 where
+  empty : (c : Context) (s : List Bool) → Typed c s Done ε ε
+  instruction : (c : Context) (s : List Bool) (o : Op) (ts us : Row Operand)
+      → Condition c o → Has c.types (line c s o) ts us → Typed c s (Plain o Done) ts us
+  block : (c : Context) (s : List Bool) (kind : BlockKind) (x : BlockType) (a : Arrow) (b : Code) → arrow_of c x ≡ Some a
+      → Typed (labelled c (label_of kind a)) s b (known a.from) (known a.to) → Typed c s (Block kind x b Done) (known a.from) (known a.to)
+  if_then : (c : Context) (s : List Bool) (x : BlockType) (a : Arrow) (b : Code) → arrow_of c x ≡ Some a
+      → RowMatches c.types (known a.from) (known a.to) → Typed (labelled c a.to) s b (known a.from) (known a.to)
+      → Typed c s (If x b Done) (known a.from ▹ Known I32) (known a.to)
+  if_else : (c : Context) (s : List Bool) (x : BlockType) (a : Arrow) (b d : Code) → arrow_of c x ≡ Some a
+      → Typed (labelled c a.to) s b (known a.from) (known a.to) → Typed (labelled c a.to) s d (known a.from) (known a.to)
+      → Typed c s (IfElse x b d Done) (known a.from ▹ Known I32) (known a.to)
+  composition : (c : Context) (s : List Bool) (k l : Code) (ts us vs : Row Operand)
+      → Typed c s k ts us → Typed c (set_by k s) l us vs → Typed c s (after k l) ts vs
+  subsumption : (c : Context) (s : List Bool) (k : Code) (beneath ts us ts' us' : Row Operand)
+      → Typed c s k ts us → RowMatches c.types ts' (beneath ⧺ ts) → RowMatches c.types (beneath ⧺ us) us' → Typed c s k ts' us'
 
 -- the rules derive just what `Derives` says
 abbrev pub OneTyping : Type 0
-OneTyping = (m : Module) (c : Code) (ts us : Row ValType) → Typed m c ts us ↔ Derives m c ts us
+OneTyping = (c : Context) (s : List Bool) (k : Code) (ts us : Row Operand) → Typed c s k ts us ↔ Derives c s k ts us

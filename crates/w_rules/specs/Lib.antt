@@ -1,6 +1,15 @@
-pub mod Matching
 pub mod Types
+pub mod Context
+pub mod Matching
+pub mod Lines
+pub mod Conditions
 pub mod Typing
 pub mod Family
+pub mod Peak
+pub mod Spaces
+pub mod Named
+pub mod Bodies
 pub mod Limits
 pub mod Valid
+pub mod Facts
+pub mod View

@@ -1,5 +1,5 @@
 -- Validity of types (Core, validation, types; the explainer, validation).
-use Rattle.std.specs.Prelude.{◌≡◌, ℕ, ◌+◌, ◌<◌, All, List, [], ◌∷◌, ◌++◌, map, length, Some, slice_get}
+use Rattle.std.specs.Prelude.{◌≡◌, ℕ, ◌+◌, ◌<◌, nat_lt, Bool, true, IsTrue, All, List, [], ◌∷◌, ◌++◌, map, length, Some, slice_get}
 use Rattle.w_types.specs.declared.types.HeapType.{HeapType}
 use Rattle.w_types.specs.declared.types.HeapType.TheVariants as heap
 use Rattle.w_types.specs.declared.types.ValType.{ValType}
@@ -9,30 +9,30 @@ use Rattle.w_types.specs.declared.types.CompType.TheVariants as comp
 use Rattle.w_types.specs.declared.types.FuncType.{FuncType}
 use Rattle.w_types.specs.declared.types.RecGroup.{RecGroup}
 
--- the heap type is valid among so many types
-abbrev pub IsValidHeap : ℕ → HeapType → Type 0
-IsValidHeap end heap.Func = Unit {0}
-IsValidHeap end heap.NoFunc = Unit {0}
-IsValidHeap end heap.Cont = Unit {0}
-IsValidHeap end heap.NoCont = Unit {0}
-IsValidHeap end (heap.Index x) = x < end
+-- the heap type is there, among so many types
+abbrev pub has_heap : ℕ → HeapType → Bool
+has_heap end heap.Func = true
+has_heap end heap.NoFunc = true
+has_heap end heap.Cont = true
+has_heap end heap.NoCont = true
+has_heap end (heap.Index x) = nat_lt x end
 
 -- the value type is
-abbrev pub IsValidType : ℕ → ValType → Type 0
-IsValidType end val.I32 = Unit {0}
-IsValidType end val.I64 = Unit {0}
-IsValidType end (val.Ref r) = IsValidHeap end r.heap
+abbrev pub has_type : ℕ → ValType → Bool
+has_type end val.I32 = true
+has_type end val.I64 = true
+has_type end (val.Ref r) = has_heap end r.heap
 
--- the composite type is, where the types are these: a continuation type is of a function type
+abbrev pub IsValidHeap : ℕ → HeapType → Type 0
+IsValidHeap end h = IsTrue (has_heap end h)
+
+abbrev pub IsValidType : ℕ → ValType → Type 0
+IsValidType end t = IsTrue (has_type end t)
+
+-- the composite type is valid, where the types are these: a continuation type is of a function type
 abbrev pub IsValidCompType : List CompType → ℕ → CompType → Type 0
 IsValidCompType ts end (comp.Func t) = All (IsValidType end) t.params × All (IsValidType end) t.results
 IsValidCompType ts end (comp.Cont x) = (x < end) × (t : FuncType) × (slice_get ts x ≡ Some (comp.Func t))
-
--- the type of a local: no rule yet for references
-abbrev pub IsValidLocal : ValType → Type 0
-IsValidLocal val.I32 = Unit {0}
-IsValidLocal val.I64 = Unit {0}
-IsValidLocal (val.Ref r) = ⊥
 
 -- each type of the groups, with the number of types up to the end of its group, where so many types stand before them
 unfoldable pub with_ends : ℕ → List RecGroup → List (ℕ × CompType)

@@ -1,84 +1,85 @@
--- The typing rules of instructions and sequences (Core, validation).
-use Rattle.std.specs.Prelude.{Option, Some, None}
-use Rattle.w_types.specs.declared.types.FuncType.{FuncType}
+-- The typing rules of instructions and sequences (Core, validation, instructions).
+use Rattle.std.specs.Prelude.{◌⊎◌, Bool, true, false, List, [], ◌∷◌, Option, Some, None}
+use Rattle.w_types.specs.declared.types.HeapType.{HeapType}
+use Rattle.w_types.specs.declared.types.RecGroup.{RecGroup}
+use Rattle.w_types.specs.declared.types.ValType.TheVariants.{I32, I64, Ref}
 use Rattle.w_types.specs.declared.types.ValType.{ValType}
-use Rattle.w_types.specs.declared.types.ValType.TheVariants.{I64}
-use Rattle.w_types.specs.Rows.{Row, ε, ◌▹◌, ◌⧺◌, row_of}
+use Rattle.w_types.specs.Rows.{Row, ε, ◌▹◌, ◌⧺◌}
 use Rattle.w_syntax.specs.Code.{Code, Done, Plain, Block, If, IfElse}
-use Rattle.w_syntax.specs.Functions.{type_of_function}
-use Rattle.w_syntax.specs.declared.instructions.Control.{Control}
-use Rattle.w_syntax.specs.declared.instructions.Control.TheVariants as control
-use Rattle.w_syntax.specs.declared.instructions.Parametric.{Parametric}
-use Rattle.w_syntax.specs.declared.instructions.Parametric.TheVariants as parametric
-use Rattle.w_syntax.specs.declared.instructions.Op.{Op}
-use Rattle.w_syntax.specs.declared.instructions.Op.TheVariants as op
-use Rattle.w_syntax.specs.declared.numeric.IntType.TheVariants as int
-use Rattle.w_syntax.specs.declared.numeric.Binary.TheVariants as binary
-use Rattle.w_syntax.specs.declared.numeric.Numeric.{Numeric}
-use Rattle.w_syntax.specs.declared.numeric.Numeric.TheVariants as numeric
-use Rattle.w_syntax.specs.declared.module.Module.{Module}
-use Rattle.w_rules.specs.Matching.{RowMatches}
+use Rattle.w_rules.specs.declared.operand.Operand.{Operand}
+use Rattle.w_rules.specs.declared.operand.Operand.TheVariants.{Known, BottomRef}
+use Rattle.w_rules.specs.Conditions.{Condition, Holds}
+use Rattle.w_rules.specs.Context.{Context, Arrow, arrow_of, label_of, labelled}
+use Rattle.w_rules.specs.Lines.{Line, fixed, leaves, leaves_by, drops, selects, tests_null, as_non_null, on_null, no_line, line, sets}
+use Rattle.w_rules.specs.Matching.{OperandMatches, RowMatches, known}
 
--- ## Instructions (Core, validation, instructions)
-
--- an instruction's line in the table of instructions
-pub data Line : Type 0 where
-  -- [ins] to [outs]
-  fixed : (ins outs : Row ValType) → Line
-  -- [t] to []
-  drops : Line
-  -- no rule
-  no_line : Line
-
-abbrev pub call_line : Option FuncType → Line
-call_line (Some t) = fixed (row_of t.params) (row_of t.results)
-call_line None = no_line
-
-abbrev pub control_line : Module → Control → Line
-control_line m (control.Call x) = call_line (type_of_function m x)
--- no rule yet
-control_line m o = no_line
-
-abbrev pub parametric_line : Parametric → Line
-parametric_line parametric.Drop = drops
--- no rule yet
-parametric_line o = no_line
-
-abbrev pub numeric_line : Numeric → Line
-numeric_line (numeric.I64Const z) = fixed ε (ε ▹ I64)
-numeric_line (numeric.Binary int.I64 binary.Add) = fixed (ε ▹ I64 ▹ I64) (ε ▹ I64)
-numeric_line (numeric.Binary int.I64 binary.Sub) = fixed (ε ▹ I64 ▹ I64) (ε ▹ I64)
-numeric_line (numeric.Binary int.I64 binary.Mul) = fixed (ε ▹ I64 ▹ I64) (ε ▹ I64)
--- no rule yet
-numeric_line o = no_line
-
--- the table
-abbrev pub line : Module → Op → Line
-line m (op.Control o) = control_line m o
-line m (op.Parametric o) = parametric_line o
-line m (op.Numeric o) = numeric_line o
--- no rule yet
-line m o = no_line
+-- ## Instructions
 
 -- [ins] to [outs] with operands beneath, and with subsumption on both sides
-pub record Steps (ins outs ts us : Row ValType) : Type 0 where
-  pub beneath : Row ValType
-  pub takes : RowMatches ts (beneath ⧺ ins)
-  pub gives : RowMatches (beneath ⧺ outs) us
+pub record Steps (gs : List RecGroup) (ins outs ts us : Row Operand) : Type 0 where
+  pub beneath : Row Operand
+  pub takes : RowMatches gs ts (beneath ⧺ ins)
+  pub gives : RowMatches gs (beneath ⧺ outs) us
+
+-- [t* ins] to any
+pub record Leaves (gs : List RecGroup) (ins ts : Row Operand) : Type 0 where
+  pub beneath : Row Operand
+  pub takes : RowMatches gs ts (beneath ⧺ ins)
+
+abbrev pub MatchesEach : List RecGroup → Row Operand → List (Row ValType) → Type 0
+MatchesEach gs us [] = Unit {0}
+MatchesEach gs us (vs ∷ vss) = RowMatches gs us (known vs) × MatchesEach gs us vss
+
+-- [t* u* i32] to any, where u* matches each of these
+pub record LeavesBy (gs : List RecGroup) (labels : List (Row ValType)) (ts : Row Operand) : Type 0 where
+  pub ins : Row Operand
+  pub leaves : Leaves gs (ins ▹ Known I32) ts
+  pub each : MatchesEach gs ins labels
+
+abbrev pub IsNumeric : List RecGroup → Operand → Type 0
+IsNumeric gs t = OperandMatches gs t (Known I32) ⊎ OperandMatches gs t (Known I64)
+
+-- a reference to a heap type, or to the bottom one
+abbrev pub ref_to : Bool → Option HeapType → Operand
+ref_to n (Some h) = Known (Ref (record { nullable = n; heap = h }))
+ref_to n None = BottomRef n
 
 -- an instruction of this line takes operands of types ts to operands of types us
-abbrev pub Takes : Line → Row ValType → Row ValType → Type 0
-Takes (fixed ins outs) ts us = Steps ins outs ts us
-Takes drops ts us = (t : ValType) × Steps (ε ▹ t) ε ts us
-Takes no_line ts us = ⊥
+abbrev pub Takes : List RecGroup → Line → Row Operand → Row Operand → Type 0
+Takes gs (fixed ins outs) ts us = Steps gs (known ins) (known outs) ts us
+Takes gs (leaves ins) ts us = Leaves gs (known ins) ts
+Takes gs (leaves_by one others) ts us = LeavesBy gs (one ∷ others) ts
+Takes gs drops ts us = (t : Operand) × Steps gs (ε ▹ t) ε ts us
+Takes gs selects ts us = (t : Operand) × IsNumeric gs t × Steps gs (ε ▹ t ▹ t ▹ Known I32) (ε ▹ t) ts us
+Takes gs tests_null ts us = (h : Option HeapType) × Steps gs (ε ▹ ref_to true h) (ε ▹ Known I32) ts us
+Takes gs as_non_null ts us = (h : Option HeapType) × Steps gs (ε ▹ ref_to true h) (ε ▹ ref_to false h) ts us
+Takes gs (on_null vs) ts us = (h : Option HeapType) × Steps gs (known vs ▹ ref_to true h) (known vs ▹ ref_to false h) ts us
+Takes gs no_line ts us = ⊥
 
--- ## Sequences (Core, validation, instruction sequences)
+-- ## Sequences; s says which locals are set before them
 
 -- the sequence takes operands of types ts to operands of types us
-abbrev pub Derives : Module → Code → Row ValType → Row ValType → Type 0
-Derives m Done ts us = RowMatches ts us
-Derives m (Plain o c) ts us = (vs : Row ValType) × Takes (line m o) ts vs × Derives m c vs us
--- no rule yet
-Derives m (Block kind b x c) ts us = ⊥
-Derives m (If b x c) ts us = ⊥
-Derives m (IfElse b x y c) ts us = ⊥
+abbrev pub Derives : Context → List Bool → Code → Row Operand → Row Operand → Type 0
+Derives c s Done ts us = RowMatches c.types ts us
+Derives c s (Plain o k) ts us = Condition c o × ((vs : Row Operand) × Takes c.types (line c s o) ts vs × Derives c (sets o s) k vs us)
+-- the label takes the results of a block, and the parameters of a loop
+Derives c s (Block kind x b k) ts us = Holds (arrow_of c x) (λ (a : Arrow).
+    Derives (labelled c (label_of kind a)) s b (known a.from) (known a.to)
+    × ((vs : Row Operand) × Steps c.types (known a.from) (known a.to) ts vs × Derives c s k vs us))
+-- without a second branch the parameters match the results
+Derives c s (If x b k) ts us = Holds (arrow_of c x) (λ (a : Arrow).
+    RowMatches c.types (known a.from) (known a.to)
+    × Derives (labelled c a.to) s b (known a.from) (known a.to)
+    × ((vs : Row Operand) × Steps c.types (known a.from ▹ Known I32) (known a.to) ts vs × Derives c s k vs us))
+Derives c s (IfElse x b d k) ts us = Holds (arrow_of c x) (λ (a : Arrow).
+    Derives (labelled c a.to) s b (known a.from) (known a.to)
+    × Derives (labelled c a.to) s d (known a.from) (known a.to)
+    × ((vs : Row Operand) × Steps c.types (known a.from ▹ Known I32) (known a.to) ts vs × Derives c s k vs us))
+
+-- the locals that are set after a sequence; what a block sets is forgotten at its end
+abbrev pub set_by : Code → List Bool → List Bool
+set_by Done s = s
+set_by (Plain o k) s = set_by k (sets o s)
+set_by (Block kind x b k) s = set_by k s
+set_by (If x b k) s = set_by k s
+set_by (IfElse x b d k) s = set_by k s

@@ -2,13 +2,23 @@
 #![tactic(auto)]
 
 mod checked;
+mod context;
+mod facts;
 mod functions;
 mod laws;
 mod limits;
+mod named_functions;
+mod operand;
+mod spaces;
 #[cfg(test)]
 mod tests;
 
 pub use checked::Checked;
+pub use context::Context;
+pub use facts::Facts;
 pub use functions::{func_type, function_type};
 pub use laws::one_typing;
 pub use limits::{LimitName, limits_of};
+pub use named_functions::declared_functions;
+pub use operand::Operand;
+pub use spaces::Spaces;

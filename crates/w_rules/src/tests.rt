@@ -1,3 +1,5 @@
+mod contexts;
+
 use crate::{LimitName, func_type, function_type, limits_of};
 use std::alloc::{AllocError, Global};
 use std::test::Fail;
@@ -36,15 +38,10 @@ fn types_of(
     Ok(RecGroups::from_vec(alloc, groups)?)
 }
 
-// A module of one function, of the last of so many types. It has so many parameters, results and locals.
-fn module_of(
-    alloc: Global,
-    types: u32,
-    widths: (usize, usize),
-    locals: &[LocalRun],
-) -> Result<Module, Fail> {
-    let mut made = Module {
-        types: types_of(alloc, types, widths)?,
+// A module of these types, with nothing else.
+fn module_with(alloc: Global, types: RecGroups) -> Module {
+    Module {
+        types,
         imports: ListOf::new(alloc),
         functions: ListOf::new(alloc),
         tables: ListOf::new(alloc),
@@ -56,7 +53,17 @@ fn module_of(
         elements: ListOf::new(alloc),
         codes: ListOf::new(alloc),
         datas: ListOf::new(alloc),
-    };
+    }
+}
+
+// A module of one function, of the last of so many types. It has so many parameters, results and locals.
+fn module_of(
+    alloc: Global,
+    types: u32,
+    widths: (usize, usize),
+    locals: &[LocalRun],
+) -> Result<Module, Fail> {
+    let mut made = module_with(alloc, types_of(alloc, types, widths)?);
     made.functions.push(types.saturating_sub(1))?;
     let runs = Vec::from_slice(alloc, locals)?;
     made.codes.push(Func {

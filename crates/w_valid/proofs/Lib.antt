@@ -1,10 +1,8 @@
-pub mod Rows
-pub mod ValTypes
-pub mod Leaving
-pub mod Laid
+pub mod ConstantsListed
+pub mod FunctionsMeasured
+pub mod GlobalsBelow
+pub mod BodiesMeasured
 pub mod Names
-pub mod FunctionTypes
 pub mod Items
 pub mod Faults
 pub mod TypesOfGroups
-pub mod TagsTyped

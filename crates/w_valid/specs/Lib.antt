@@ -1,3 +1,5 @@
-pub mod Operands
+pub mod Judged
+pub mod Constants
+pub mod Measured
 pub mod Faults
 pub mod Firsts

@@ -1,50 +1,51 @@
-//! The type of a body.
-ghost use Rattle.std.specs.Prelude.{◌≡◌, ◌↔◌, IfOk, IsTrue, option_map};
-ghost use Rattle.w_types.specs.Rows.{ε, row_of};
-ghost use Rattle.w_rules.specs.Typing.{Derives};
-ghost use Rattle.w_valid.specs.Operands.{Gives};
+//! The type of a body, and what it needs.
+ghost use Rattle.std.specs.Prelude.{◌≡◌, ◌↔◌, Bool, IfOk, IsTrue, List};
+ghost use Rattle.w_rules.specs.View.{context_in, HasClasses};
+ghost use Rattle.w_vplain.specs.Levels.{Sofar, Good, follow};
+ghost use Rattle.w_vplain.specs.Standing.{StandsFor, context_for};
+ghost use Rattle.w_valid.specs.Measured.{IsMeasure};
 
-use crate::instructions::step;
 use std::alloc::{AllocError, Global};
-use w_syntax::{Body, Instr, Module};
+use w_rules::Context;
+use w_syntax::{Body, Instr, LocalRun, Op};
 use w_types::ValType;
+use w_vplain::Checker;
+use w_vswitch::switching;
 
-// The types of the operands that a body leaves of none. `None` where an instruction has no rule, or its operands are not there.
-fn operands_left(
-    alloc: Global,
-    owner: &Module,
-    body: &Body,
-) -> Result<Option<Vec<ValType>>, AllocError>
-    ensures { IfOk result (λ left. Gives owner.now body.now (option_map (λ operands. operands.items) left)) }
+// One instruction more: whether the rules derive the sequence with it.
+fn call(checker: &mut Checker, instr: &Instr) -> Result<bool, AllocError>
+    ensures stands { IfOk result (λ _. (s : List Bool) (w : Sofar) → StandsFor checker.old s w → StandsFor checker.new s (follow instr.now w)) }
+    ensures exact { IfOk result (λ taken. (s : List Bool) (w : Sofar) → StandsFor checker.old s w
+        → IsTrue taken ↔ Good (context_for checker.old) s (follow instr.now w)) }
+    ensures context { context_for checker.new ≡ context_for checker.old }
 {
-    let instrs = body.instrs();
-    let mut operands = Vec::new(alloc);
-    for instr in instrs {
-        match instr {
-            Instr::Plain(op) => {
-                if !step(owner, op, &mut operands)? {
-                    return Ok(None);
-                }
-            }
-            Instr::End => return Ok(Some(operands)),
-            // no rule yet
-            Instr::Block(_, _, _) | Instr::If(_, _, _) | Instr::Else => return Ok(None),
-        }
+    match instr {
+        Instr::Plain(Op::Switching(_)) => switching(checker, instr),
+        Instr::Plain(_) => checker.plain(instr),
+        Instr::Block(_, _, _) | Instr::If(_, _, _) => checker.enter(instr),
+        Instr::Else => checker.other(),
+        Instr::End => checker.end(),
     }
-    unreachable!()
 }
 
-/// Whether a body takes no operands to operands of these types (Core, validation, instruction sequences).
-pub fn gives(
+/// Types a body (Core, validation, functions): where it has its type, the greatest number of operands at a counted place of it, and
+/// one plus the greatest number of blocks around a place. It fails only for want of memory.
+pub fn measure(
     alloc: Global,
-    owner: &Module,
-    body: &Body,
+    cx: &Context,
+    params: &[ValType],
+    runs: &[LocalRun],
     results: &[ValType],
-) -> Result<bool, AllocError>
-    ensures { IfOk result (λ given. IsTrue given ↔ Derives owner.now body.now ε (row_of results.now)) }
+    body: &Body,
+) -> Result<Option<(u64, u32)>, AllocError>
+    requires { HasClasses cx.now }
+    ensures { IfOk result (λ measured. IsMeasure (context_in cx.now) params.now runs.now results.now body.now measured) }
 {
-    match operands_left(alloc, owner, body)? {
-        Some(operands) => Ok(operands.as_slice() == results),
-        None => Ok(false),
+    let mut checker = Checker::begin(alloc, cx, params, runs, results)?;
+    for instr in body.instrs() {
+        if !call(&mut checker, instr)? {
+            return Ok(None);
+        }
     }
+    Ok(Some((checker.height(), checker.depth())))
 }

@@ -1,39 +1,67 @@
 //! Validity of functions.
-ghost use Rattle.std.specs.Prelude.{◌≡◌, ◌↔◌, IfOk, IsTrue};
-ghost use Rattle.w_rules.specs.Valid.{FunctionItem, FunctionTyped};
+ghost use Rattle.std.specs.Prelude.{◌≡◌, [], IfOk, IfNone, OnOk};
+ghost use Rattle.w_rules.specs.Valid.{FunctionItem};
 ghost use Rattle.w_valid.specs.Firsts.{IsFirst};
+ghost use Rattle.w_valid.specs.Judged.{IsWhole};
+ghost use Rattle.w_valid.specs.Measured.{IsFunctionMeasure, AreMeasures};
 
-use crate::bodies::gives;
+use crate::bodies::measure;
+use crate::lists::item_at;
 use crate::types::are_locals_valid;
 use std::alloc::{AllocError, Global};
-use w_rules::function_type;
-use w_syntax::Module;
+use w_rules::{Context, function_type};
 
-// Whether the function of this index has a function type, valid locals, and a body of this type (Core, validation, modules).
-fn is_typed(alloc: Global, owner: &Module, index: usize) -> Result<bool, AllocError>
-    ensures { IfOk result (λ typed. IsTrue typed ↔ FunctionTyped owner.now index) }
-{
-    let Some(kind) = function_type(owner, index) else {
-        return Ok(false);
-    };
-    let Some(code) = owner.codes.as_slice().get(index) else {
-        return Ok(false);
-    };
-    if !are_locals_valid(code.locals.as_slice()) {
-        return Ok(false);
-    }
-    gives(alloc, owner, &code.body, kind.results.as_slice())
+/// What the bodies of functions need, by the index of the function: see `Facts`.
+#[derive(Drop)]
+pub struct Measures {
+    pub heights: Vec<u64>,
+    pub depths: Vec<u32>,
 }
 
-/// The first function that is not valid, if there is one: each index of a type or of code is that of a function.
-pub fn first_untyped_function(alloc: Global, owner: &Module) -> Result<Option<usize>, AllocError>
-    ensures { IfOk result (λ first. IsFirst owner.now FunctionItem first) }
+// Whether the function of this index has a function type, valid locals, and a body of this type (Core, validation, modules), and
+// then its height and its depth.
+fn measure_function(
+    alloc: Global,
+    cx: &Context,
+    index: usize,
+) -> Result<Option<(u64, u32)>, AllocError>
+    requires { IsWhole cx.now }
+    ensures { IfOk result (λ measured. IsFunctionMeasure cx.now.owner.now index measured) }
 {
-    let count = owner.functions.len().max(owner.codes.len());
+    let Some(kind) = function_type(cx.owner, index) else {
+        return Ok(None);
+    };
+    let Some(code) = item_at(&cx.owner.codes, index) else {
+        return Ok(None);
+    };
+    let runs = code.locals.as_slice();
+    if !are_locals_valid(cx.owner.types.type_count(), runs) {
+        return Ok(None);
+    }
+    let (params, results) = (kind.params.as_slice(), kind.results.as_slice());
+    measure(alloc, cx, params, runs, results, &code.body)
+}
+
+/// The first function that is not valid, if there is one: each index of a type or of code is that of a function. Where there is
+/// none it adds what their bodies need.
+pub fn first_untyped_function(
+    alloc: Global,
+    cx: &Context,
+    measures: &mut Measures,
+) -> Result<Option<usize>, AllocError>
+    requires whole { IsWhole cx.now }
+    requires no_heights { measures.old.heights.items ≡ [] }
+    requires no_depths { measures.old.depths.items ≡ [] }
+    ensures first { IfOk result (λ first. IsFirst cx.now.owner.now FunctionItem first) }
+    ensures measured { IfOk result (λ first. IfNone first (AreMeasures cx.now.owner.now measures.new.heights.items measures.new.depths.items)) }
+{
+    let count = cx.owner.functions.len().max(cx.owner.codes.len());
     for index in 0..count {
-        if !is_typed(alloc, owner, index)? {
+        let Some((height, depth)) = measure_function(alloc, cx, index)? else {
             return Ok(Some(index));
-        }
+        };
+        measures.heights.push(height)?;
+        measures.depths.push(depth)?;
     }
     Ok(None)
 }

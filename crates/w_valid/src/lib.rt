@@ -2,10 +2,19 @@
 #![tactic(auto)]
 
 mod bodies;
+mod constants;
+mod datas;
+mod elements;
 mod exports;
 mod fault;
 mod functions;
-mod instructions;
+mod globals;
+mod imports;
+mod limits;
+mod lists;
+mod memories;
+mod start;
+mod tables;
 mod tags;
 #[cfg(test)]
 mod tests;

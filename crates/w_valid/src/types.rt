@@ -3,8 +3,8 @@ ghost use Rattle.std.specs.Prelude.{◌≡◌, ◌↔◌, ◌+◌, ◌≤◌, Al
 ghost use Rattle.w_types.specs.Groups.{types_of};
 ghost use Rattle.w_types.specs.declared.types.CompType.{CompType as TheType};
 ghost use Rattle.w_syntax.specs.declared.locals.LocalRun.{LocalRun as Run};
-ghost use Rattle.w_rules.specs.Types.{IsValidHeap, IsValidType, IsValidCompType, IsValidLocal};
-ghost use Rattle.w_rules.specs.Valid.{TypeItem};
+ghost use Rattle.w_rules.specs.Types.{IsValidHeap, IsValidType, IsValidCompType};
+ghost use Rattle.w_rules.specs.Valid.{IsFunctionType, TypeItem};
 ghost use Rattle.w_valid.specs.Firsts.{IsFirst, IsFirstFailing};
 
 use w_rules::func_type;
@@ -38,22 +38,18 @@ fn are_valid(end: usize, kinds: &[ValType]) -> bool
     kinds.iter().all(|kind| is_valid(end, *kind))
 }
 
-// Whether a local may have this type.
-fn is_local_valid(kind: ValType) -> bool
-    ensures { IsTrue result ↔ IsValidLocal kind }
+/// Whether the type of each of these locals is valid, among so many types.
+pub fn are_locals_valid(count: usize, runs: &[LocalRun]) -> bool
+    ensures { IsTrue result ↔ All (λ (run : Run). IsValidType count run.kind) runs.now }
 {
-    match kind {
-        ValType::I32 | ValType::I64 => true,
-        // no rule yet
-        ValType::Ref(_) => false,
-    }
+    runs.iter().all(|run| is_valid(count, run.kind))
 }
 
-/// Whether the type of each of these locals is valid.
-pub fn are_locals_valid(runs: &[LocalRun]) -> bool
-    ensures { IsTrue result ↔ All (λ (run : Run). IsValidLocal run.kind) runs.now }
+/// Whether the type of this index is a function type.
+pub fn is_function_type(owner: &Module, index: u32) -> bool
+    ensures { IsTrue result ↔ IsFunctionType owner.now index }
 {
-    runs.iter().all(|run| is_local_valid(run.kind))
+    func_type(owner, index as usize).is_some()
 }
 
 // Whether a composite type of the module is valid, where its group ends at this index.

@@ -1,74 +1,120 @@
 //! Validation of a module.
 ghost use Rattle.std.specs.Prelude.{◌≡◌, IfOk, IfErr, OnOk, Ok, Err};
+ghost use Rattle.w_rules.specs.Facts.{AreFacts};
 ghost use Rattle.w_rules.specs.Limits.{Within, Passes};
 ghost use Rattle.w_rules.specs.Valid.{Item, ExportItem, Valid, IsInvalidAt};
 ghost use Rattle.w_rules.specs.declared.limits.LimitName.{LimitName as TheLimit};
 ghost use Rattle.w_valid.specs.Faults.{fault_of, IsFaultOf, IsAnswer};
 ghost use Rattle.w_valid.specs.Firsts.{IsFirstBefore};
+ghost use Rattle.w_valid.specs.Judged.{IsWhole};
+ghost use Rattle.w_valid.specs.Measured.{AreMeasures};
 
+use crate::datas::first_untyped_data;
+use crate::elements::first_untyped_element;
 use crate::exports::first_untyped_export;
 use crate::fault::ValidFault;
-use crate::functions::first_untyped_function;
+use crate::functions::{Measures, first_untyped_function};
+use crate::globals::first_untyped_global;
+use crate::imports::first_untyped_import;
+use crate::memories::are_memories_typed;
+use crate::start::is_start_typed;
+use crate::tables::first_untyped_table;
 use crate::tags::first_untyped_tag;
 use crate::types::first_untyped_type;
-use std::alloc::Global;
-use w_rules::{Checked, limits_of};
+use std::alloc::{AllocError, Global};
+use w_canon::Classes;
+use w_rules::{Checked, Context, Facts, Spaces, declared_functions, limits_of};
 use w_syntax::Module;
 
-// The first item before the exports that is not valid, if there is one. Imports, tables, memories, globals,
-// segments and the start have no rule yet.
-fn first_untyped_definition(candidate: &Module) -> Option<ValidFault>
-    ensures { IsFirstBefore candidate.now (ExportItem 0) result }
+// The first item before the exports that is not valid, if there is one.
+fn first_untyped_definition(alloc: Global, cx: &Context) -> Result<Option<ValidFault>, AllocError>
+    requires { IsWhole cx.now }
+    ensures { IfOk result (λ first. IsFirstBefore cx.now.owner.now (ExportItem 0) first) }
 {
-    if let Some(index) = first_untyped_type(candidate) {
-        return Some(ValidFault::TypeAt(index));
+    if let Some(index) = first_untyped_type(cx.owner) {
+        return Ok(Some(ValidFault::TypeAt(index)));
     }
-    if candidate.imports.len() > 0 {
-        return Some(ValidFault::Import(0));
+    if let Some(index) = first_untyped_import(cx) {
+        return Ok(Some(ValidFault::Import(index)));
     }
-    if candidate.tables.len() > 0 {
-        return Some(ValidFault::Table(0));
+    if let Some(index) = first_untyped_table(alloc, cx)? {
+        return Ok(Some(ValidFault::Table(index)));
     }
-    if candidate.memories.len() > 0 {
-        return Some(ValidFault::Memory);
+    if !are_memories_typed(cx) {
+        return Ok(Some(ValidFault::Memory));
     }
-    if let Some(index) = first_untyped_tag(candidate) {
-        return Some(ValidFault::Tag(index));
+    if let Some(index) = first_untyped_tag(cx.owner) {
+        return Ok(Some(ValidFault::Tag(index)));
     }
-    if candidate.globals.len() > 0 {
-        return Some(ValidFault::Global(0));
+    if let Some(index) = first_untyped_global(alloc, cx)? {
+        return Ok(Some(ValidFault::Global(index)));
     }
-    if candidate.elements.len() > 0 {
-        return Some(ValidFault::Element(0));
+    if let Some(index) = first_untyped_element(alloc, cx)? {
+        return Ok(Some(ValidFault::Element(index)));
     }
-    if candidate.datas.len() > 0 {
-        return Some(ValidFault::Data(0));
+    if let Some(index) = first_untyped_data(alloc, cx)? {
+        return Ok(Some(ValidFault::Data(index)));
     }
-    if candidate.start.is_some() {
-        return Some(ValidFault::Start);
+    if !is_start_typed(cx) {
+        return Ok(Some(ValidFault::Start));
     }
-    None
+    Ok(None)
 }
 
-// Finds the first fault of a module.
-fn judge(alloc: Global, candidate: &Module) -> Result<(), ValidFault>
+// Finds the first item that is not valid, and else what the bodies of the functions need.
+fn judge_items(alloc: Global, cx: &Context) -> Result<Measures, ValidFault>
+    requires whole { IsWhole cx.now }
+    requires within { Within cx.now.owner.now }
+    ensures valid { OnOk result (Valid cx.now.owner.now) }
+    ensures measured { IfOk result (λ measures. AreMeasures cx.now.owner.now measures.heights.items measures.depths.items) }
+    ensures err { IfErr result (λ fault. IsFaultOf cx.now.owner.now fault) }
+{
+    if let Some(fault) = first_untyped_definition(alloc, cx)? {
+        return Err(fault);
+    }
+    if let Some(index) = first_untyped_export(alloc, cx)? {
+        return Err(ValidFault::Export(index));
+    }
+    let mut measures = Measures {
+        heights: Vec::new(alloc),
+        depths: Vec::new(alloc),
+    };
+    if let Some(index) = first_untyped_function(alloc, cx, &mut measures)? {
+        return Err(ValidFault::Function(index));
+    }
+    Ok(measures)
+}
+
+// Finds the first fault of a module, and else what is known of it.
+fn judge(alloc: Global, candidate: &Module) -> Result<Facts, ValidFault>
     ensures within { OnOk result (Within candidate.now) }
     ensures valid { OnOk result (Valid candidate.now) }
+    ensures facts { IfOk result (λ facts. AreFacts candidate.now facts) }
     ensures err { IfErr result (λ fault. IsFaultOf candidate.now fault) }
 {
     if let Some(name) = limits_of(candidate) {
         return Err(ValidFault::Limit(name));
     }
-    if let Some(fault) = first_untyped_definition(candidate) {
-        return Err(fault);
-    }
-    if let Some(index) = first_untyped_export(alloc, candidate)? {
-        return Err(ValidFault::Export(index));
-    }
-    if let Some(index) = first_untyped_function(alloc, candidate)? {
-        return Err(ValidFault::Function(index));
-    }
-    Ok(())
+    let spaces = Spaces::of_module(alloc, candidate)?;
+    let declared = declared_functions(alloc, candidate, spaces.functions.len())?;
+    let classes = Classes::of_groups(alloc, candidate.types.as_slice())?;
+    let cx = Context {
+        owner: candidate,
+        classes: &classes,
+        functions: spaces.functions.as_slice(),
+        tables: spaces.tables.as_slice(),
+        memories: spaces.memories.as_slice(),
+        globals: spaces.globals.as_slice(),
+        tags: spaces.tags.as_slice(),
+        declared: declared.as_slice(),
+    };
+    let measures = judge_items(alloc, &cx)?;
+    Ok(Facts {
+        heights: measures.heights,
+        depths: measures.depths,
+        declared,
+        classes,
+    })
 }
 
 /// Validates a module (Core, validation, modules): keeps it where it is valid and within its limits, and else names its first
@@ -86,7 +132,7 @@ pub fn validate(alloc: Global, candidate: Module) -> Result<Checked, ValidFault>
     ensures only_item { (x : Item) → Within candidate → IsInvalidAt candidate x → IsAnswer (Err (fault_of x)) result }
 {
     match judge(alloc, &candidate) {
-        Ok(()) => Ok(Checked::make(candidate)),
+        Ok(facts) => Ok(Checked::make(candidate, facts)),
         Err(fault) => Err(fault),
     }
 }

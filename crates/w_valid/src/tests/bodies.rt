@@ -4,7 +4,7 @@ use crate::tests::fixtures::{ADD, CALL_I32, CALL_WIDE, CONST, MUL, Piece, SUB, m
 use crate::{ValidFault, validate};
 use std::alloc::Global;
 use std::test::Fail;
-use w_syntax::{Binary, BlockKind, IntType, MemoryOp, Numeric, ReferenceOp, TableOp, VariableOp};
+use w_syntax::{BlockKind, MemoryOp, Numeric, ReferenceOp, TableOp, VariableOp};
 use w_types::{HeapType, ValType};
 
 // Validates `module_of`.
@@ -19,19 +19,50 @@ fn fault_of(
 #[test]
 fn bodies_with_a_derivation_are_valid(rt: HostRuntime) -> Result<(), Fail> {
     let alloc = rt.alloc();
-    let cases: [(&[Piece], &[ValType]); 10] = [
+    let cases: [(&[Piece], &[ValType]); 12] = [
         (&[], &[]),
-        (&[CONST], &[ValType::I64]),
-        (&[CONST, CONST, ADD], &[ValType::I64]),
         (&[CONST, CONST, CONST, SUB, MUL], &[ValType::I64]),
-        (&[CONST, Piece::Drop], &[]),
-        (&[CONST, CALL_I32, Piece::Drop], &[ValType::I64]),
-        (&[CALL_I32], &[ValType::I32]),
         (&[CALL_I32, CONST], &[ValType::I32, ValType::I64]),
-        (&[CALL_I32, CONST, CALL_WIDE], &[ValType::I64]),
         (
             &[CONST, CALL_I32, CONST, CALL_WIDE],
             &[ValType::I64, ValType::I64],
+        ),
+        (&[CONST, CONST, CALL_I32, Piece::Select], &[ValType::I64]),
+        (
+            &[
+                Piece::Reference(ReferenceOp::Null(HeapType::Func)),
+                Piece::Drop,
+            ],
+            &[],
+        ),
+        // blocks
+        (
+            &[Piece::Block(BlockKind::Loop), Piece::Branch(0), Piece::End],
+            &[],
+        ),
+        (&[CALL_I32, Piece::If, Piece::End], &[]),
+        (
+            &[
+                CALL_I32,
+                Piece::If,
+                Piece::Branch(1),
+                Piece::Else,
+                Piece::End,
+            ],
+            &[],
+        ),
+        // behind a branch operands are of any type
+        (&[Piece::Unreachable, ADD, Piece::Drop], &[ValType::I32]),
+        (&[CONST, Piece::Branch(0), ADD], &[ValType::I64]),
+        (
+            &[
+                Piece::Block(BlockKind::Block),
+                Piece::Unreachable,
+                ADD,
+                Piece::Drop,
+                Piece::End,
+            ],
+            &[],
         ),
     ];
     for (pieces, results) in cases {
@@ -43,29 +74,39 @@ fn bodies_with_a_derivation_are_valid(rt: HostRuntime) -> Result<(), Fail> {
 #[test]
 fn bodies_without_a_derivation_are_not(rt: HostRuntime) -> Result<(), Fail> {
     let alloc = rt.alloc();
-    let cases: [(&[Piece], &[ValType]); 17] = [
+    let cases: [(&[Piece], &[ValType]); 15] = [
         // results that are missing, too many, or of another type
         (&[], &[ValType::I64]),
-        (&[CONST], &[]),
         (&[CONST, CONST], &[ValType::I64]),
-        (&[CONST], &[ValType::I32]),
         (&[CALL_I32, CONST], &[ValType::I64, ValType::I32]),
-        // operands that are missing
-        (&[ADD], &[ValType::I64]),
+        // operands that are missing, or of another type
         (&[CONST, ADD], &[ValType::I64]),
-        (&[Piece::Drop], &[]),
-        (&[CALL_I32, CALL_WIDE], &[ValType::I64]),
         (&[CONST, CALL_WIDE], &[ValType::I64]),
-        // operands of another type
-        (&[CALL_I32, CONST, MUL], &[ValType::I64]),
         (&[CONST, CALL_I32, SUB], &[ValType::I64]),
-        (&[CONST, CONST, CALL_WIDE], &[ValType::I64]),
-        (&[CONST, CALL_I32, CALL_WIDE], &[ValType::I64]),
-        // a function that is not there
+        // what is not there
         (&[Piece::Call(3)], &[]),
-        (&[Piece::Call(u32::MAX), Piece::Drop], &[]),
-        // what follows does not mend it
-        (&[Piece::Drop, CONST], &[ValType::I64]),
+        (
+            &[Piece::Variable(VariableOp::LocalGet(0)), Piece::Drop],
+            &[],
+        ),
+        (&[Piece::Table(TableOp::Size(0)), Piece::Drop], &[]),
+        (&[Piece::Memory(MemoryOp::Size(0)), Piece::Drop], &[]),
+        (&[Piece::Branch(1)], &[]),
+        // a function that is not declared
+        (&[Piece::Reference(ReferenceOp::Func(0)), Piece::Drop], &[]),
+        // a block that leaves operands, or takes those around it
+        (&[Piece::Block(BlockKind::Block), CONST, Piece::End], &[]),
+        (
+            &[
+                CONST,
+                Piece::Block(BlockKind::Block),
+                Piece::Drop,
+                Piece::End,
+            ],
+            &[],
+        ),
+        // behind a branch an operand that is known is of another type
+        (&[Piece::Unreachable, CALL_I32, ADD], &[ValType::I64]),
     ];
     for (pieces, results) in cases {
         assert_eq!(rt;
@@ -77,49 +118,42 @@ fn bodies_without_a_derivation_are_not(rt: HostRuntime) -> Result<(), Fail> {
 }
 
 #[test]
-fn instructions_without_a_rule_are_not_valid(rt: HostRuntime) -> Result<(), Fail> {
+fn what_bodies_need_is_known(rt: HostRuntime) -> Result<(), Fail> {
     let alloc = rt.alloc();
-    let divide = Piece::Numeric(Numeric::Binary(IntType::I64, Binary::DivS));
-    let add_i32 = Piece::Numeric(Numeric::Binary(IntType::I32, Binary::Add));
-    let cases: [&[Piece]; 16] = [
-        &[Piece::Nop],
-        &[Piece::Numeric(Numeric::I32Const(1)), Piece::Drop],
-        &[
-            CONST,
-            Piece::Numeric(Numeric::Eqz(IntType::I64)),
-            Piece::Drop,
-        ],
-        &[CONST, CONST, divide, Piece::Drop],
-        &[CALL_I32, CALL_I32, add_i32, Piece::Drop],
-        &[CONST, CONST, CALL_I32, Piece::Select, Piece::Drop],
-        &[Piece::Variable(VariableOp::LocalGet(0)), Piece::Drop],
-        &[Piece::Table(TableOp::Size(0)), Piece::Drop],
-        &[Piece::Memory(MemoryOp::Size(0)), Piece::Drop],
-        &[
-            Piece::Reference(ReferenceOp::Null(HeapType::Func)),
-            Piece::Drop,
-        ],
-        &[
-            Piece::Reference(ReferenceOp::Func(0)),
-            Piece::ContNew(0),
-            Piece::Drop,
-        ],
-        &[Piece::Block(BlockKind::Block), Piece::End],
-        &[Piece::Block(BlockKind::Loop), Piece::End],
-        &[
-            Piece::Block(BlockKind::Block),
-            CONST,
-            Piece::Drop,
-            Piece::End,
-        ],
-        &[CALL_I32, Piece::If, Piece::End],
-        &[CALL_I32, Piece::If, Piece::Else, Piece::End],
+    let number = Piece::Numeric(Numeric::I32Const(1));
+    let cases: [(&[Piece], u64, u32); 5] = [
+        (&[], 0, 1),
+        (&[CONST, CONST, ADD, Piece::Drop], 2, 1),
+        (&[Piece::Block(BlockKind::Block), Piece::End], 0, 2),
+        (
+            &[
+                CONST,
+                number,
+                Piece::If,
+                CONST,
+                CONST,
+                Piece::Drop,
+                Piece::Drop,
+                Piece::End,
+                Piece::Drop,
+            ],
+            3,
+            2,
+        ),
+        // places that are not reached are not counted
+        (
+            &[Piece::Unreachable, CONST, CONST, Piece::Drop, Piece::Drop],
+            0,
+            1,
+        ),
     ];
-    for pieces in cases {
-        assert_eq!(rt;
-            fault_of(alloc, pieces, &[])?,
-            Some(ValidFault::Function(0))
-        );
+    for (pieces, height, depth) in cases {
+        let Ok(checked) = validate(alloc, module_of(alloc, pieces, &[])?) else {
+            return Err(Fail::new("not valid"));
+        };
+        assert_eq!(rt; checked.height(0), height);
+        assert_eq!(rt; checked.depth(0), depth);
+        assert_eq!(rt; checked.height(2), 1);
     }
     Ok(())
 }

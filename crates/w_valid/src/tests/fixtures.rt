@@ -3,17 +3,19 @@
 use std::alloc::{AllocError, Global};
 use std::test::Fail;
 use w_syntax::{
-    Binary, BlockKind, BlockType, Body, BodyBuilder, Control, Export, ExternIndex, Func, IntType,
-    LocalRun, Locals, MemoryOp, Module, Name, Numeric, Op, Parametric, ReferenceOp, Stepped,
-    SwitchingOp, TableOp, Token, VariableOp,
+    Binary, BlockKind, BlockType, Body, BodyBuilder, Control, Export, ExternIndex, ExternType,
+    Func, GlobalType, GlobalVariable, Import, IntType, Limits, LocalRun, Locals, MemoryOp, Module,
+    Mutability, Name, Numeric, Op, Parametric, ReferenceOp, Stepped, Table, TableOp, TableType,
+    Token, VariableOp,
 };
-use w_types::{CompType, FuncType, ListOf, RecGroup, RecGroups, ValType};
+use w_types::{CompType, FuncType, HeapType, ListOf, RecGroup, RecGroups, RefType, ValType};
 
 /// An instruction of a body, or a mark of the nesting.
 #[derive(Clone, Copy)]
 pub(crate) enum Piece {
     Call(u32),
-    Nop,
+    Unreachable,
+    Branch(u32),
     Drop,
     Select,
     Variable(VariableOp),
@@ -21,7 +23,6 @@ pub(crate) enum Piece {
     Memory(MemoryOp),
     Numeric(Numeric),
     Reference(ReferenceOp),
-    ContNew(u32),
     Block(BlockKind),
     If,
     Else,
@@ -44,7 +45,8 @@ pub(crate) const CALL_I32: Piece = Piece::Call(2);
 fn token_of(piece: Piece) -> Token {
     match piece {
         Piece::Call(function) => Token::Plain(Op::Control(Control::Call(function))),
-        Piece::Nop => Token::Plain(Op::Control(Control::Nop)),
+        Piece::Unreachable => Token::Plain(Op::Control(Control::Unreachable)),
+        Piece::Branch(label) => Token::Plain(Op::Control(Control::Br(label))),
         Piece::Drop => Token::Plain(Op::Parametric(Parametric::Drop)),
         Piece::Select => Token::Plain(Op::Parametric(Parametric::Select)),
         Piece::Variable(op) => Token::Plain(Op::Variable(op)),
@@ -52,7 +54,6 @@ fn token_of(piece: Piece) -> Token {
         Piece::Memory(op) => Token::Plain(Op::Memory(op)),
         Piece::Numeric(op) => Token::Plain(Op::Numeric(op)),
         Piece::Reference(op) => Token::Plain(Op::Reference(op)),
-        Piece::ContNew(index) => Token::Plain(Op::Switching(SwitchingOp::ContNew(index))),
         Piece::Block(kind) => Token::Block(kind, BlockType::Empty),
         Piece::If => Token::If(BlockType::Empty),
         Piece::Else => Token::Else,
@@ -60,8 +61,8 @@ fn token_of(piece: Piece) -> Token {
     }
 }
 
-// The body of these pieces, with the end behind them.
-fn body_of(alloc: Global, pieces: &[Piece]) -> Result<Body, Fail> {
+/// The body of these pieces, with the end behind them.
+pub(crate) fn body_of(alloc: Global, pieces: &[Piece]) -> Result<Body, Fail> {
     let mut builder = BodyBuilder::new(alloc);
     for piece in pieces {
         match builder.push(token_of(*piece))? {
@@ -142,7 +143,7 @@ pub(crate) fn module_of(
     Ok(made)
 }
 
-pub(crate) fn name_of(alloc: Global, name: &str) -> Result<Name, AllocError> {
+fn name_of(alloc: Global, name: &str) -> Result<Name, AllocError> {
     Ok(Name::new(String::from_str(alloc, name)?))
 }
 
@@ -160,4 +161,38 @@ pub(crate) fn export_all(
         })?;
     }
     Ok(())
+}
+
+pub(crate) const FUNCREF: RefType = RefType {
+    nullable: true,
+    heap: HeapType::Func,
+};
+
+/// An import of this type.
+pub(crate) fn import_of(alloc: Global, kind: ExternType) -> Result<Import, AllocError> {
+    Ok(Import {
+        module_name: name_of(alloc, "env")?,
+        item_name: name_of(alloc, "log")?,
+        kind,
+    })
+}
+
+/// A table whose elements begin with null.
+pub(crate) fn table_of(element: RefType, limits: Limits) -> Table {
+    Table {
+        kind: TableType { element, limits },
+        init: None,
+    }
+}
+
+/// A global that begins with an i64.
+pub(crate) fn global_of(
+    alloc: Global,
+    kind: ValType,
+    mutability: Mutability,
+) -> Result<GlobalVariable, AllocError> {
+    Ok(GlobalVariable {
+        kind: GlobalType { kind, mutability },
+        init: Body::of_one(alloc, Op::Numeric(Numeric::I64Const(0)))?,
+    })
 }

@@ -1,22 +1,14 @@
-//! Items, and their order.
+//! Items of each kind.
 
 use crate::tests::fixtures::{
-    CALL_I32, Piece, code_of, export_all, module_of, name_of, type_of, types_of,
+    CALL_I32, FUNCREF, Piece, code_of, export_all, global_of, module_of, table_of, type_of,
+    types_of,
 };
 use crate::{ValidFault, validate};
-use std::alloc::{AllocError, Global};
+use std::alloc::Global;
 use std::test::Fail;
-use w_rules::LimitName;
-use w_syntax::{
-    Body, Data, DataMode, Elem, ElemMode, ExternIndex, ExternType, GlobalType, GlobalVariable,
-    Import, Limits, LocalRun, Module, Mutability, Numeric, Op, Table, TableType, Tag,
-};
+use w_syntax::{ExternIndex, Limits, LocalRun, Mutability, Tag};
 use w_types::{CompType, HeapType, ListOf, RecGroup, RecGroups, RefType, ValType};
-
-const FUNCREF: RefType = RefType {
-    nullable: true,
-    heap: HeapType::Func,
-};
 
 // Functions of `module_of`, and one that is not there.
 const FIRST: ExternIndex = ExternIndex::Func(0);
@@ -24,118 +16,6 @@ const FIRST: ExternIndex = ExternIndex::Func(0);
 const LAST: ExternIndex = ExternIndex::Func(2);
 
 const FAR: ExternIndex = ExternIndex::Func(3);
-
-const LIMITS: Limits = Limits { min: 1, max: None };
-
-// An item that is not valid.
-#[derive(Clone, Copy)]
-enum Extra {
-    Type,
-    Import,
-    Table,
-    Memory,
-    Tag,
-    Global,
-    Element,
-    Data,
-    Start,
-    Export,
-    Function,
-}
-
-// In order, with the faults of `module_of` and such an item.
-const EXTRAS: [(Extra, ValidFault); 11] = [
-    (Extra::Type, ValidFault::TypeAt(3)),
-    (Extra::Import, ValidFault::Import(0)),
-    (Extra::Table, ValidFault::Table(0)),
-    (Extra::Memory, ValidFault::Memory),
-    (Extra::Tag, ValidFault::Tag(0)),
-    (Extra::Global, ValidFault::Global(0)),
-    (Extra::Element, ValidFault::Element(0)),
-    (Extra::Data, ValidFault::Data(0)),
-    (Extra::Start, ValidFault::Start),
-    (Extra::Export, ValidFault::Export(0)),
-    (Extra::Function, ValidFault::Function(3)),
-];
-
-fn import_of(alloc: Global) -> Result<Import, AllocError> {
-    Ok(Import {
-        module_name: name_of(alloc, "env")?,
-        item_name: name_of(alloc, "log")?,
-        kind: ExternType::Func(0),
-    })
-}
-
-fn global_of(alloc: Global) -> Result<GlobalVariable, AllocError> {
-    Ok(GlobalVariable {
-        kind: GlobalType {
-            kind: ValType::I64,
-            mutability: Mutability::Const,
-        },
-        init: Body::of_one(alloc, Op::Numeric(Numeric::I64Const(0)))?,
-    })
-}
-
-// Adds an item to `module_of`, behind those of its kind.
-fn add(alloc: Global, candidate: &mut Module, extra: Extra) -> Result<(), AllocError> {
-    match extra {
-        Extra::Type => {
-            let mut more = ListOf::new(alloc);
-            more.push(CompType::Cont(9))?;
-            candidate.types = types_of(alloc, &[], more)?;
-        }
-        Extra::Import => candidate.imports.push(import_of(alloc)?)?,
-        Extra::Table => candidate.tables.push(Table {
-            kind: TableType {
-                element: FUNCREF,
-                limits: LIMITS,
-            },
-            init: None,
-        })?,
-        Extra::Memory => candidate.memories.push(LIMITS)?,
-        Extra::Tag => candidate.tags.push(Tag { type_index: 9 })?,
-        Extra::Global => candidate.globals.push(global_of(alloc)?)?,
-        Extra::Element => candidate.elements.push(Elem {
-            kind: FUNCREF,
-            items: ListOf::new(alloc),
-            mode: ElemMode::Passive,
-        })?,
-        Extra::Data => candidate.datas.push(Data {
-            bytes: ListOf::new(alloc),
-            mode: DataMode::Passive,
-        })?,
-        Extra::Start => candidate.start = Some(0),
-        Extra::Export => export_all(alloc, candidate, &[("far", ExternIndex::Func(9))])?,
-        Extra::Function => candidate.functions.push(9)?,
-    }
-    Ok(())
-}
-
-#[test]
-fn each_kind_of_item_is_refused_as_that_item(rt: HostRuntime) -> Result<(), Fail> {
-    let alloc = rt.alloc();
-    assert_eq!(rt; validate(alloc, module_of(alloc, &[], &[])?).err(), None);
-    for (extra, fault) in EXTRAS {
-        let mut candidate = module_of(alloc, &[], &[])?;
-        add(alloc, &mut candidate, extra)?;
-        assert_eq!(rt; validate(alloc, candidate).err(), Some(fault));
-    }
-    Ok(())
-}
-
-#[test]
-fn of_two_items_the_first_is_named(rt: HostRuntime) -> Result<(), Fail> {
-    let alloc = rt.alloc();
-    for (index, (extra, fault)) in EXTRAS.iter().enumerate() {
-        for (later, _) in EXTRAS.iter().skip(index) {
-            let mut candidate = module_of(alloc, &[], &[])?;
-            add(alloc, &mut candidate, *later)?;
-            add(alloc, &mut candidate, *extra)?;
-            assert_eq!(rt; validate(alloc, candidate).err(), Some(*fault));
-        }
-    }
-    Ok(())
-}
 
 // Validates `module_of` with a group of three types more: these, and a function type.
 fn fault_of_types(
@@ -250,14 +130,30 @@ fn tags_are_of_function_types(rt: HostRuntime) -> Result<(), Fail> {
 }
 
 #[test]
-fn an_exported_tag_is_there(rt: HostRuntime) -> Result<(), Fail> {
+fn what_is_exported_is_there(rt: HostRuntime) -> Result<(), Fail> {
     let alloc = rt.alloc();
-    let cases = [(0, None), (1, Some(ValidFault::Export(0)))];
-    for (index, fault) in cases {
+    let limits = Limits { min: 1, max: None };
+    let fault = Some(ValidFault::Export(0));
+    let cases = [
+        (ExternIndex::Tag(0), None),
+        (ExternIndex::Table(0), None),
+        (ExternIndex::Memory(0), None),
+        (ExternIndex::Global(0), None),
+        (ExternIndex::Tag(1), fault),
+        (ExternIndex::Table(1), fault),
+        (ExternIndex::Memory(1), fault),
+        (ExternIndex::Global(1), fault),
+    ];
+    for (index, expected) in cases {
         let mut candidate = module_of(alloc, &[], &[])?;
         candidate.tags.push(Tag { type_index: 0 })?;
-        export_all(alloc, &mut candidate, &[("tag", ExternIndex::Tag(index))])?;
-        assert_eq!(rt; validate(alloc, candidate).err(), fault);
+        candidate.tables.push(table_of(FUNCREF, limits))?;
+        candidate.memories.push(limits)?;
+        candidate
+            .globals
+            .push(global_of(alloc, ValType::I64, Mutability::Const)?)?;
+        export_all(alloc, &mut candidate, &[("item", index)])?;
+        assert_eq!(rt; validate(alloc, candidate).err(), expected);
     }
     Ok(())
 }
@@ -288,9 +184,13 @@ fn the_first_function_that_is_not_valid_is_named(rt: HostRuntime) -> Result<(), 
         count: 1,
         kind: ValType::Ref(FUNCREF),
     };
+    let far = LocalRun {
+        count: 1,
+        kind: reference_to(3),
+    };
     assert_eq!(rt; fault_of_functions(alloc, &[0], &[], &[])?, None);
     assert_eq!(rt;
-        fault_of_functions(alloc, &[2], &[number], &[CALL_I32])?,
+        fault_of_functions(alloc, &[2], &[number, reference], &[CALL_I32])?,
         None
     );
     let cases: [(&[u32], &[LocalRun], &[Piece], usize); 5] = [
@@ -303,7 +203,7 @@ fn the_first_function_that_is_not_valid_is_named(rt: HostRuntime) -> Result<(), 
         // code without a function
         (&[], &[], &[], 3),
         // a local of a type that is not valid
-        (&[0], &[number, reference], &[], 3),
+        (&[0], &[number, far], &[], 3),
     ];
     for (kinds, locals, more, index) in cases {
         assert_eq!(rt;
@@ -335,7 +235,7 @@ fn the_first_export_that_is_not_valid_is_named(rt: HostRuntime) -> Result<(), Fa
         ("Main", FIRST),
     ];
     assert_eq!(rt; fault_of_exports(alloc, &names)?, None);
-    let cases: [(&[(&str, ExternIndex)], usize); 7] = [
+    let cases: [(&[(&str, ExternIndex)], usize); 4] = [
         // a name that stands at a lower index, with another function
         (
             &[
@@ -349,56 +249,14 @@ fn the_first_export_that_is_not_valid_is_named(rt: HostRuntime) -> Result<(), Fa
         // a function that is not there
         (&[("main", FIRST), ("other", FAR), ("main", FIRST)], 1),
         (&[("main", ExternIndex::Func(u32::MAX))], 0),
-        // other kinds
+        // none of another kind is there
         (&[("main", FIRST), ("other", ExternIndex::Table(0))], 1),
-        (&[("main", ExternIndex::Memory(0))], 0),
-        (&[("main", ExternIndex::Global(0))], 0),
-        (&[("main", ExternIndex::Tag(0))], 0),
     ];
     for (exports, index) in cases {
         assert_eq!(rt;
             fault_of_exports(alloc, exports)?,
             Some(ValidFault::Export(index))
         );
-    }
-    Ok(())
-}
-
-#[test]
-fn limits_come_before_items(rt: HostRuntime) -> Result<(), Fail> {
-    let alloc = rt.alloc();
-    let mut more = ListOf::new(alloc);
-    more.push(CompType::Cont(9))?;
-    more.push(type_of(alloc, &[ValType::I64; 1_001], &[])?)?;
-    let mut candidate = module_of(alloc, &[Piece::Drop], &[])?;
-    candidate.types = types_of(alloc, &[], more)?;
-    assert_eq!(rt;
-        validate(alloc, candidate).err(),
-        Some(ValidFault::Limit(LimitName::Params))
-    );
-    Ok(())
-}
-
-#[test]
-fn faults_are_told_in_words(rt: HostRuntime) -> Result<(), Fail> {
-    let alloc = rt.alloc();
-    let words = [
-        (ValidFault::Limit(LimitName::Types), "limit Types is passed"),
-        (ValidFault::TypeAt(1), "type 1 is not valid"),
-        (ValidFault::Import(2), "import 2 is not valid"),
-        (ValidFault::Table(3), "table 3 is not valid"),
-        (ValidFault::Memory, "the memory is not valid"),
-        (ValidFault::Tag(4), "tag 4 is not valid"),
-        (ValidFault::Global(5), "global 5 is not valid"),
-        (ValidFault::Element(6), "element segment 6 is not valid"),
-        (ValidFault::Data(7), "data segment 7 is not valid"),
-        (ValidFault::Start, "the start is not valid"),
-        (ValidFault::Export(8), "export 8 is not valid"),
-        (ValidFault::Function(9), "function 9 is not valid"),
-        (ValidFault::OutOfMemory, "out of memory"),
-    ];
-    for (fault, text) in words {
-        assert_eq!(rt; format!(in alloc; "{fault}")?.as_str(), text);
     }
     Ok(())
 }

@@ -1,6 +1,11 @@
 use Rattle.std.proofs.Common.{ℕ, ◌<◌}
 use Rattle.w_rules.specs.Valid.{FunctionTyped}
+use Rattle.w_valid.specs.Measured.{AreMeasuresBelow}
 use Rattle.w_valid.proofs.functions.first_untyped_function.Given as goal
 
+-- each function so far is typed, and what its body needs is there
 abbrev pub invariant-loop-index : goal.invariant-loop-index
-invariant-loop-index l = (j : ℕ) → j < l.index → FunctionTyped l.owner j
+invariant-loop-index l = record {
+  typed : (j : ℕ) → j < l.index → FunctionTyped l.cx.owner.now j;
+  measured : AreMeasuresBelow l.cx.owner.now l.index l.measures.heights.items l.measures.depths.items;
+}

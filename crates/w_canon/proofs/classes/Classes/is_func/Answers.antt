@@ -1,5 +1,5 @@
-use Rattle.w_canon.proofs.Matches.{through, func_by_entry}
+use Rattle.w_canon.proofs.TestsTold.{told_by, func_kind_told}
 use Rattle.w_canon.proofs.classes.Classes.is_func.Goals as goal
 
-pub returns : goal.returns
-returns c = λ gs h. through c.is_of_kind.ensures (func_by_entry gs c.args.self.now c.args.index h)
+pub returns-clause-related : goal.returns-clause-related
+returns-clause-related c = λ gs h. told_by c.is_of_kind.result _ (c.is_of_kind.ensures) (func_kind_told gs c.args.self.now h c.args.index)

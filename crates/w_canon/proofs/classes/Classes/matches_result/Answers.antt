@@ -1,19 +1,27 @@
+use Rattle.std.proofs.Common.{false, true}
 use Rattle.w_types.specs.declared.types.ValType.TheVariants.{I32}
-use Rattle.w_canon.proofs.Matches.{one_length, differ_here, match_here, all_match}
+use Rattle.w_canon.specs.Tests.{val_test}
+use Rattle.w_canon.proofs.TestsTold.{told_by, result_told}
+use Rattle.w_canon.proofs.TestsOfLists.{lengths_differ, differ_here, agree_here, all_agree}
 use Rattle.w_canon.proofs.classes.Classes.matches_result.Goals as goal
 
 pub returns-then-a-b : goal.returns-then-a-b
-returns-then-a-b c = λ gs h. (λ f. absurd (cc), λ m. absurd (c.if-a-b.true (one_length m)))
+returns-then-a-b c =
+    let e = lengths_differ (val_test c.args.self.now) c.args.a.now c.args.b.now c.if-a-b.true in
+    record { computed = e; related = λ gs h. told_by false _ e (result_told gs c.args.self.now h c.args.a.now c.args.b.now) }
 
 pub returns-then-not-matches_val : goal.returns-then-not-matches_val
-returns-then-not-matches_val c = λ gs h.
-    differ_here gs c.args.a.now c.args.b.now c.loop-index.index c.loop-index.invariant.0 (c.loop-index.invariant.1 gs h) I32 I32 c.matches_val.result c.loop-index-test.true (c.matches_val.ensures gs h) c.if-not-matches_val.true
+returns-then-not-matches_val c =
+    let e = differ_here (val_test c.args.self.now) c.args.a.now c.args.b.now c.loop-index.index c.loop-index.invariant.0 c.loop-index.invariant.1 I32 I32 c.loop-index-test.true (cc) in
+    record { computed = e; related = λ gs h. told_by false _ e (result_told gs c.args.self.now h c.args.a.now c.args.b.now) }
 
 pub loop-index-preserved : goal.loop-index-preserved
 loop-index-preserved c = (
   c.loop-index.invariant.0,
-  λ gs h. match_here gs c.args.a.now c.args.b.now c.loop-index.index c.loop-index.invariant.0 (c.loop-index.invariant.1 gs h) I32 I32 c.matches_val.result c.loop-index-test.true (c.matches_val.ensures gs h) c.if-not-matches_val.false,
+  agree_here (val_test c.args.self.now) c.args.a.now c.args.b.now c.loop-index.index c.loop-index.invariant.0 c.loop-index.invariant.1 I32 I32 c.loop-index-test.true (cc),
 )
 
 pub returns : goal.returns
-returns c = λ gs h. all_match gs c.args.a.now c.args.b.now c.loop-index.index c.loop-index.invariant.0 (c.loop-index.invariant.1 gs h) c.loop-index-test.false
+returns c =
+    let e = all_agree (val_test c.args.self.now) c.args.a.now c.args.b.now c.loop-index.index c.loop-index.invariant.0 c.loop-index.invariant.1 c.loop-index-test.false in
+    record { computed = e; related = λ gs h. told_by true _ e (result_told gs c.args.self.now h c.args.a.now c.args.b.now) }

@@ -1,9 +1,7 @@
-use Rattle.std.proofs.Common.{◌≡◌, ◌↔◌, List, length, drop}
-use Rattle.w_types.specs.declared.types.RecGroup.{RecGroup}
-use Rattle.w_canon.specs.Matching.{ResultMatches}
-use Rattle.w_canon.specs.Stands.{Stands}
+use Rattle.std.proofs.Common.{◌≡◌, length, drop}
+use Rattle.w_canon.specs.Tests.{result_test}
 use Rattle.w_canon.proofs.classes.Classes.matches_result.Given as goal
 
--- what is left matches where all does
+-- the test of what is left is that of all
 abbrev pub invariant-loop-index : goal.invariant-loop-index
-invariant-loop-index l = (length l.a ≡ length l.b) × ((gs : List RecGroup) → Stands gs l.self → ResultMatches gs (drop l.index l.a) (drop l.index l.b) ↔ ResultMatches gs l.a l.b)
+invariant-loop-index l = (length l.a ≡ length l.b) × (result_test l.self (drop l.index l.a) (drop l.index l.b) ≡ result_test l.self l.a l.b)

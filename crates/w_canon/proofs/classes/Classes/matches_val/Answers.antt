@@ -1,12 +1,12 @@
-use Rattle.w_canon.specs.Matching.{ValMatches, i32, i64}
-use Rattle.w_canon.proofs.Matches.{through, at_same, yes, ref_decides}
+use Rattle.std.proofs.Common.{true}
+use Rattle.w_canon.proofs.TestsTold.{told_by, val_told}
 use Rattle.w_canon.proofs.classes.Classes.matches_val.Goals as goal
 
-pub returns-in-Ref-Ref : goal.returns-in-Ref-Ref
-returns-in-Ref-Ref c = λ gs h. at_same (ValMatches gs) c.in-Ref-Ref.is-0 c.in-Ref-Ref.is-1 (through (c.matches_ref.ensures gs h) (ref_decides gs c.in-Ref-Ref.a c.in-Ref-Ref.b))
+pub returns-in-I32-I32-clause-related : goal.returns-in-I32-I32-clause-related
+returns-in-I32-I32-clause-related c = λ gs h. told_by true _ (let e = c.in-I32-I32.is-0 in let f = c.in-I32-I32.is-1 in cc) (val_told gs c.args.self.now h c.args.a c.args.b)
 
-pub returns-in-I32-I32 : goal.returns-in-I32-I32
-returns-in-I32-I32 c = λ gs h. at_same (ValMatches gs) c.in-I32-I32.is-0 c.in-I32-I32.is-1 (yes i32)
+pub returns-in-I64-I64-clause-related : goal.returns-in-I64-I64-clause-related
+returns-in-I64-I64-clause-related c = λ gs h. told_by true _ (cc) (val_told gs c.args.self.now h c.args.a c.args.b)
 
-pub returns-in-I64-I64 : goal.returns-in-I64-I64
-returns-in-I64-I64 c = λ gs h. at_same (ValMatches gs) c.in-I64-I64.is-0 c.in-I64-I64.is-1 (yes i64)
+pub returns-in-Ref-Ref-clause-related : goal.returns-in-Ref-Ref-clause-related
+returns-in-Ref-Ref-clause-related c = λ gs h. told_by c.matches_ref.result _ (cc) (val_told gs c.args.self.now h c.args.a c.args.b)

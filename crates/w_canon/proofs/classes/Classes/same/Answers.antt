@@ -1,6 +1,7 @@
-use Rattle.w_canon.proofs.Matches.{through}
-use Rattle.w_canon.proofs.ClassesOfTypes.{told_by_class}
+use Rattle.std.proofs.Common.{arith}
+use Rattle.std.proofs.lemmas.Bool.Decides.{eqb_tells}
+use Rattle.w_canon.proofs.TestsTold.{told_by, same_told}
 use Rattle.w_canon.proofs.classes.Classes.same.Goals as goal
 
-pub returns-else-i-j : goal.returns-else-i-j
-returns-else-i-j c = λ gs h. through c.have_one_class.ensures (told_by_class gs c.args.self.now c.args.i c.args.j h c.if-i-j.false)
+pub returns-else-i-j-clause-related : goal.returns-else-i-j-clause-related
+returns-else-i-j-clause-related c = λ gs h. told_by c.have_one_class.result _ (grind (arith, eqb_tells c.args.i c.args.j)) (same_told gs c.args.self.now h c.args.i c.args.j)

@@ -13,6 +13,6 @@ returns c =
     let cs = reverse here.callers.items in
     let own_is = own_slice cs (reverse c.as_slice.result.now) here.operands.items c.deref.result.now c.base.result c.deref.ensures.value
     (ap reverse c.as_slice.ensures.value) c.base.ensures in
-    within_found m s here.stage here.function c.args.place c.len.result here.operands.items here.locals.items cs c.args.op.now c.find_instruction.result c.limited.result
+    within_found m s here.stage here.next here.function c.args.place c.len.result here.operands.items here.locals.items cs c.args.op.now c.find_instruction.result c.limited.result
     c.requires.at c.requires.next c.requires.is c.requires.sound (subst (λ (l : List Value). FindsInstruction m s l c.args.op.now c.find_instruction.result) own_is c.find_instruction.ensures)
     (omega (arith, length-reverse here.callers.items)) c.limited.ensures

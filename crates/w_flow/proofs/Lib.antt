@@ -1,0 +1,8 @@
+pub mod Options
+pub mod Covers
+pub mod References
+mod Selects
+mod Tables
+pub mod Exact
+pub mod RowsOfLists
+pub mod LabelsOfTables

@@ -1,0 +1,8 @@
+use Rattle.std.proofs.Common.{◌≡◌, take}
+use Rattle.w_types.specs.Rows.{row_of, ◌⧺◌}
+use Rattle.w_rules.specs.Matching.{known}
+use Rattle.w_flow.proofs.operands.give_types.Given as goal
+
+-- the first types are given
+abbrev pub invariant-loop-kind : goal.invariant-loop-kind
+invariant-loop-kind l = row_of l.operands.items ≡ row_of l.initial.operands.items ⧺ known (row_of (take l.kind-index l.types))

@@ -1,0 +1,101 @@
+//! The operands of a block.
+
+use crate::operands::{can_take, end_with, give_types, take_types};
+use std::alloc::{AllocError, Global};
+use w_canon::Classes;
+use w_rules::Operand;
+use w_types::ValType;
+
+/// The operands that stand at a place of a block, the topmost last, and whether more of any type may lie beneath them, since the
+/// place cannot be reached (Core, validation algorithm). Contracts see it as what `flow_view` gives. Where a method gives back
+/// false, or fails for want of memory, the operands are no longer known.
+#[derive(Drop)]
+pub struct Flow {
+    pub(crate) any: bool,
+    pub(crate) operands: Vec<Operand>,
+}
+
+impl Flow {
+    ghost use Rattle.std.specs.Prelude.{◌≡◌, if◌then◌else◌, IfOk, Some, None};
+    ghost use Rattle.w_types.specs.Rows.{ε, ◌⧺◌, row_of, size};
+    ghost use Rattle.w_rules.specs.Matching.{known};
+    ghost use Rattle.w_flow.specs.Flow.{pops, is_popped, ends};
+    ghost use Rattle.w_flow.specs.View.{flow_view, reached};
+
+    /// No operands, at a place that can be reached.
+    pub fn new(alloc: Global) -> Flow
+        ensures { flow_view result ≡ reached ε }
+    {
+        Flow {
+            any: false,
+            operands: Vec::new(alloc),
+        }
+    }
+
+    /// Operands of these types, at a place that can be reached. It fails only for want of memory.
+    pub fn of_types(alloc: Global, types: &[ValType]) -> Result<Flow, AllocError>
+        ensures { IfOk result (λ f. flow_view f ≡ reached (known (row_of types.now))) }
+    {
+        let mut operands = Vec::new(alloc);
+        give_types(&mut operands, types)?;
+        Ok(Flow {
+            any: false,
+            operands,
+        })
+    }
+
+    /// Goes back to a place that can be reached, with operands of these types. It fails only for want of memory.
+    pub fn reset(&mut self, types: &[ValType]) -> Result<(), AllocError>
+        ensures { IfOk result (λ _. flow_view self.new ≡ reached (known (row_of types.now))) }
+    {
+        self.any = false;
+        self.operands.clear();
+        give_types(&mut self.operands, types)?;
+        Ok(())
+    }
+
+    /// How many operands there are.
+    #[tactic(auto, using(crate::proofs::RowsOfLists::row_length))]
+    pub fn len(&self) -> usize
+        ensures { result ≡ size (row_of self.now.operands.items) }
+    {
+        self.operands.len()
+    }
+
+    /// Whether more operands of any type may lie beneath.
+    pub fn is_any(&self) -> bool
+        ensures { result ≡ self.now.any }
+    {
+        self.any
+    }
+
+    /// Whether operands of these types can be taken. It compares no more types than there are operands.
+    pub fn can_take(&self, classes: &Classes, ins: &[ValType]) -> bool
+        ensures { result ≡ is_popped (pops classes.now self.now.any (row_of self.now.operands.items) (row_of ins.now)) }
+    {
+        can_take(classes, self.any, &self.operands, ins)
+    }
+
+    /// Whether the operands are just of these types, as at the end of a block.
+    pub fn ends_with(&self, classes: &Classes, outs: &[ValType]) -> bool
+        ensures { result ≡ ends classes.now self.now.any (row_of self.now.operands.items) (row_of outs.now) }
+    {
+        end_with(classes, self.any, &self.operands, outs)
+    }
+
+    /// Takes operands of these types, as where a block begins, or gives back false.
+    pub fn take(&mut self, classes: &Classes, ins: &[ValType]) -> bool
+        ensures left { pops classes.now self.old.any (row_of self.old.operands.items) (row_of ins.now) ≡ (if result then Some (row_of self.new.operands.items) else None) }
+        ensures any { self.new.any ≡ self.old.any }
+    {
+        take_types(classes, self.any, &mut self.operands, ins)
+    }
+
+    /// Gives operands of these types, as where a block has ended. It fails only for want of memory.
+    pub fn give(&mut self, outs: &[ValType]) -> Result<(), AllocError>
+        ensures operands { IfOk result (λ _. row_of self.new.operands.items ≡ row_of self.old.operands.items ⧺ known (row_of outs.now)) }
+        ensures any { self.new.any ≡ self.old.any }
+    {
+        give_types(&mut self.operands, outs)
+    }
+}

@@ -1,0 +1,28 @@
+-- What the context that checks are run in stands for.
+use Rattle.std.specs.Prelude.{[], map, length}
+use Rattle.w_types.specs.Rows.{ε}
+use Rattle.w_syntax.specs.declared.module.Elem.{Elem}
+use Rattle.w_canon.specs.Stands.{Stands}
+use Rattle.w_rules.specs.declared.context.Context as rt
+use Rattle.w_rules.specs.Context.{Context}
+
+-- outside of bodies: there are no locals, no results and no labels
+abbrev pub context_in : rt.Context → Context
+context_in cx = record {
+  types = cx.owner.now.types;
+  functions = cx.functions.now;
+  tables = cx.tables.now;
+  memories = cx.memories.now;
+  globals = cx.globals.now;
+  tags = cx.tags.now;
+  elements = map (λ (e : Elem). e.kind) cx.owner.now.elements;
+  segments = length cx.owner.now.datas;
+  declared = cx.declared.now;
+  locals = [];
+  results = ε;
+  labels = [];
+}
+
+-- the classes are those of the context's types
+abbrev pub HasClasses : rt.Context → Type 0
+HasClasses cx = Stands cx.owner.now.types cx.classes.now

@@ -1,0 +1,150 @@
+//! What bodies and expressions are checked in.
+ghost use Rattle.std.specs.Prelude.{◌≡◌, nat_lt, slice_get};
+ghost use Rattle.std.specs.Option.{option_copied};
+ghost use Rattle.w_rules.specs.Context.{func_of, func_index_of_cont, cont_of, type_of_func, type_of_tag, type_count};
+ghost use Rattle.w_rules.specs.Lines.{has_memory};
+ghost use Rattle.w_rules.specs.Types.{has_heap, has_type};
+ghost use Rattle.w_rules.specs.View.{context_in};
+
+use crate::functions::func_type;
+use w_canon::Classes;
+use w_syntax::{GlobalType, Limits, Module, TableType, Tag};
+use w_types::{CompType, FuncType, HeapType, RefType, ValType};
+
+/// A module, and what its instructions name by an index (Core, validation, contexts). What is imported stands in front of what the
+/// module defines, as in `Spaces`.
+#[derive(Clone, Copy)]
+pub struct Context<'a> {
+    pub owner: &'a Module,
+    /// The classes of the module's types.
+    pub classes: &'a Classes,
+    /// The index of each function's type.
+    pub functions: &'a [u32],
+    pub tables: &'a [TableType],
+    pub memories: &'a [Limits],
+    pub globals: &'a [GlobalType],
+    pub tags: &'a [Tag],
+    /// Of each function, whether `ref.func` may name it.
+    pub declared: &'a [bool],
+}
+
+impl<'a> Context<'a> {
+    /// The function type of this index, where the type of this index is one.
+    pub fn func_of(&self, index: u32) -> Option<&'a FuncType>
+        ensures { option_copied result ≡ func_of (context_in self.now) index }
+    {
+        func_type(self.owner, index as usize)
+    }
+
+    /// The index of the function type of the continuation type of this index.
+    pub fn func_index_of_cont(&self, index: u32) -> Option<u32>
+        ensures { result ≡ func_index_of_cont (context_in self.now) index }
+    {
+        match self.owner.types.get(index as usize) {
+            Some(CompType::Cont(function)) => Some(*function),
+            Some(CompType::Func(_)) | None => None,
+        }
+    }
+
+    /// The function type of the continuation type of this index.
+    pub fn cont_of(&self, index: u32) -> Option<&'a FuncType>
+        ensures { option_copied result ≡ cont_of (context_in self.now) index }
+    {
+        match self.func_index_of_cont(index) {
+            Some(function) => self.func_of(function),
+            None => None,
+        }
+    }
+
+    /// The type of the function of this index.
+    pub fn type_of_func(&self, index: u32) -> Option<&'a FuncType>
+        ensures { option_copied result ≡ type_of_func (context_in self.now) index }
+    {
+        match self.functions.get(index as usize) {
+            Some(type_index) => self.func_of(*type_index),
+            None => None,
+        }
+    }
+
+    /// The type of the tag of this index.
+    pub fn type_of_tag(&self, index: u32) -> Option<&'a FuncType>
+        ensures { option_copied result ≡ type_of_tag (context_in self.now) index }
+    {
+        match self.tags.get(index as usize) {
+            Some(tag) => self.func_of(tag.type_index),
+            None => None,
+        }
+    }
+
+    /// The index of the type of the function of this index.
+    pub fn function(&self, index: u32) -> Option<u32>
+        ensures { result ≡ slice_get (context_in self.now).functions index }
+    {
+        self.functions.get(index as usize).copied()
+    }
+
+    /// The type of the table of this index.
+    pub fn table(&self, index: u32) -> Option<TableType>
+        ensures { result ≡ slice_get (context_in self.now).tables index }
+    {
+        self.tables.get(index as usize).copied()
+    }
+
+    /// The type of the global of this index.
+    pub fn global(&self, index: u32) -> Option<GlobalType>
+        ensures { result ≡ slice_get (context_in self.now).globals index }
+    {
+        self.globals.get(index as usize).copied()
+    }
+
+    /// The type of the element segment of this index.
+    pub fn element(&self, index: u32) -> Option<RefType>
+        ensures { result ≡ slice_get (context_in self.now).elements index }
+    {
+        match self.owner.elements.as_slice().get(index as usize) {
+            Some(element) => Some(element.kind),
+            None => None,
+        }
+    }
+
+    /// Whether there is a memory of this index.
+    pub fn has_memory(&self, index: u32) -> bool
+        ensures { result ≡ has_memory (context_in self.now) index }
+    {
+        (index as usize) < self.memories.len()
+    }
+
+    /// Whether there is a data segment of this index.
+    pub fn has_segment(&self, index: u32) -> bool
+        ensures { result ≡ nat_lt index (context_in self.now).segments }
+    {
+        (index as usize) < self.owner.datas.len()
+    }
+
+    /// Whether `ref.func` may name the function of this index, where there is one.
+    pub fn is_declared(&self, index: u32) -> Option<bool>
+        ensures { result ≡ slice_get (context_in self.now).declared index }
+    {
+        self.declared.get(index as usize).copied()
+    }
+
+    /// Whether the types that a heap type names are there (Core, validation, heap types).
+    pub fn has_heap(&self, kind: HeapType) -> bool
+        ensures { result ≡ has_heap (type_count (context_in self.now)) kind }
+    {
+        match kind {
+            HeapType::Index(index) => (index as usize) < self.owner.types.type_count(),
+            HeapType::Func | HeapType::NoFunc | HeapType::Cont | HeapType::NoCont => true,
+        }
+    }
+
+    /// Whether the types that a value type names are there (Core, validation, value types).
+    pub fn has_type(&self, kind: ValType) -> bool
+        ensures { result ≡ has_type (type_count (context_in self.now)) kind }
+    {
+        match kind {
+            ValType::I32 | ValType::I64 => true,
+            ValType::Ref(kind) => self.has_heap(kind.heap),
+        }
+    }
+}

@@ -1,0 +1,45 @@
+-- What is found of bodies and functions.
+use Rattle.std.specs.Prelude.{◌≡◌, ℕ, ◌<◌, ◌++◌, List, length, Option, Some, None, slice_get}
+use Rattle.w_types.specs.declared.types.FuncType.{FuncType}
+use Rattle.w_types.specs.declared.types.ValType.{ValType}
+use Rattle.w_syntax.specs.Code.{Code}
+use Rattle.w_syntax.specs.Functions.{type_of_function, code_of_function}
+use Rattle.w_syntax.specs.declared.locals.LocalRun.{LocalRun}
+use Rattle.w_syntax.specs.declared.module.Func.{Func}
+use Rattle.w_syntax.specs.declared.module.Module.{Module}
+use Rattle.w_rules.specs.Bodies.{types_of_runs, set_first, BodyTyped}
+use Rattle.w_rules.specs.Context.{Context}
+use Rattle.w_rules.specs.Facts.{height_of}
+use Rattle.w_rules.specs.Peak.{peak, depth}
+use Rattle.w_rules.specs.Spaces.{in_body}
+use Rattle.w_rules.specs.Valid.{FunctionTyped}
+
+-- the body is typed, with this height and this depth; or it is not
+abbrev pub IsMeasure : Context → List ValType → List LocalRun → List ValType → Code → Option (ℕ × ℕ) → Type 0
+IsMeasure c params runs results k None = BodyTyped c params runs results k → ⊥
+IsMeasure c params runs results k (Some n) = BodyTyped c params runs results k
+    × (n.0 ≡ peak (in_body c (params ++ types_of_runs runs) results) (set_first params runs) k 0)
+    × (n.1 ≡ depth k)
+
+-- of the function of this index: its height and its depth
+abbrev pub IsMeasureOf : Module → ℕ → ℕ × ℕ → Type 0
+IsMeasureOf m i n = (t : FuncType) (f : Func) → type_of_function m i ≡ Some t → code_of_function m i ≡ Some f
+    → (n.0 ≡ height_of m t f) × (n.1 ≡ depth f.body)
+
+-- the function of this index is typed, with this height and this depth; or it is not
+abbrev pub IsFunctionMeasure : Module → ℕ → Option (ℕ × ℕ) → Type 0
+IsFunctionMeasure m i None = FunctionTyped m i → ⊥
+IsFunctionMeasure m i (Some n) = FunctionTyped m i × IsMeasureOf m i n
+
+-- of each function below an index, its height and its depth
+pub record AreMeasuresBelow (m : Module) (n : ℕ) (hs ds : List ℕ) : Type 0 where
+  pub as_many_heights : length hs ≡ n
+  pub as_many_depths : length ds ≡ n
+  pub heights : (i : ℕ) (t : FuncType) (f : Func) → type_of_function m i ≡ Some t → code_of_function m i ≡ Some f → i < n
+      → slice_get hs i ≡ Some (height_of m t f)
+  pub depths : (i : ℕ) (t : FuncType) (f : Func) → type_of_function m i ≡ Some t → code_of_function m i ≡ Some f → i < n
+      → slice_get ds i ≡ Some (depth f.body)
+
+-- of each function that has code
+abbrev pub AreMeasures : Module → List ℕ → List ℕ → Type 0
+AreMeasures m hs ds = AreMeasuresBelow m (length m.codes) hs ds

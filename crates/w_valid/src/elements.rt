@@ -1,0 +1,89 @@
+//! Validity of element segments.
+ghost use Rattle.std.specs.Prelude.{◌≡◌, ◌↔◌, All, IfOk, IsTrue};
+ghost use Rattle.w_types.specs.declared.types.ValType.TheVariants as val;
+ghost use Rattle.w_syntax.specs.Code.{Code};
+ghost use Rattle.w_rules.specs.Bodies.{ConstTyped};
+ghost use Rattle.w_rules.specs.Spaces.{context_of};
+ghost use Rattle.w_rules.specs.Valid.{ElementItem, ElementTyped, IsElemModeTyped};
+ghost use Rattle.w_valid.specs.Firsts.{IsFirst};
+ghost use Rattle.w_valid.specs.Judged.{IsWhole};
+
+use crate::constants::is_const_typed;
+use crate::lists::item_at;
+use std::alloc::{AllocError, Global};
+use w_rules::Context;
+use w_syntax::{Body, ElemMode};
+use w_types::{RefType, ValType};
+
+// Whether a segment of this type fits its table, where it is active.
+fn is_mode_typed(
+    alloc: Global,
+    cx: &Context,
+    kind: RefType,
+    mode: &ElemMode,
+) -> Result<bool, AllocError>
+    requires { IsWhole cx.now }
+    ensures { IfOk result (λ typed. IsTrue typed ↔ IsElemModeTyped cx.now.owner.now kind mode.now) }
+{
+    match mode {
+        ElemMode::Active(table, offset) => {
+            let Some(table) = cx.table(*table) else {
+                return Ok(false);
+            };
+            if !cx.classes.matches_ref(kind, table.element) {
+                return Ok(false);
+            }
+            is_const_typed(alloc, cx, offset, ValType::I32)
+        }
+        ElemMode::Passive | ElemMode::Declarative => Ok(true),
+    }
+}
+
+// Whether each of these items is constant and of this type.
+fn are_items_typed(
+    alloc: Global,
+    cx: &Context,
+    kind: RefType,
+    items: &[Body],
+) -> Result<bool, AllocError>
+    requires { IsWhole cx.now }
+    ensures { IfOk result (λ typed. IsTrue typed ↔ All (λ (k : Code). ConstTyped (context_of cx.now.owner.now) k (val.Ref kind)) items.now) }
+{
+    for item in items {
+        if !is_const_typed(alloc, cx, item, ValType::Ref(kind))? {
+            return Ok(false);
+        }
+    }
+    Ok(true)
+}
+
+// Whether the element segment of this index is valid.
+fn is_typed(alloc: Global, cx: &Context, index: usize) -> Result<bool, AllocError>
+    requires { IsWhole cx.now }
+    ensures { IfOk result (λ typed. IsTrue typed ↔ ElementTyped cx.now.owner.now index) }
+{
+    let Some(element) = item_at(&cx.owner.elements, index) else {
+        return Ok(false);
+    };
+    if !cx.has_heap(element.kind.heap) {
+        return Ok(false);
+    }
+    if !is_mode_typed(alloc, cx, element.kind, &element.mode)? {
+        return Ok(false);
+    }
+    are_items_typed(alloc, cx, element.kind, element.items.as_slice())
+}
+
+/// The first element segment that is not valid, if there is one: its type is not, an item is not constant and of this type, or it
+/// is active and its table or its offset does not fit.
+pub fn first_untyped_element(alloc: Global, cx: &Context) -> Result<Option<usize>, AllocError>
+    requires { IsWhole cx.now }
+    ensures { IfOk result (λ first. IsFirst cx.now.owner.now ElementItem first) }
+{
+    for index in 0..cx.owner.elements.len() {
+        if !is_typed(alloc, cx, index)? {
+            return Ok(Some(index));
+        }
+    }
+    Ok(None)
+}

@@ -1,0 +1,43 @@
+//! Validity of globals.
+ghost use Rattle.std.specs.Prelude.{◌≡◌, ◌↔◌, IfOk, IsTrue};
+ghost use Rattle.w_rules.specs.Valid.{GlobalItem, GlobalTyped};
+ghost use Rattle.w_valid.specs.Firsts.{IsFirst};
+ghost use Rattle.w_valid.specs.Judged.{IsWhole};
+
+use crate::constants::is_const_typed;
+use crate::lists::item_at;
+use std::alloc::{AllocError, Global};
+use w_rules::Context;
+
+// Whether the global of this index is valid.
+fn is_typed(alloc: Global, cx: &Context, index: usize) -> Result<bool, AllocError>
+    requires { IsWhole cx.now }
+    ensures { IfOk result (λ typed. IsTrue typed ↔ GlobalTyped cx.now.owner.now index) }
+{
+    let Some(global) = item_at(&cx.owner.globals, index) else {
+        return Ok(false);
+    };
+    if !cx.has_type(global.kind.kind) {
+        return Ok(false);
+    }
+    // what it begins with gets only globals of lower index
+    let imported = cx.globals.len() - cx.owner.globals.len();
+    let below = Context {
+        globals: &cx.globals[..imported + index],
+        ..*cx
+    };
+    is_const_typed(alloc, &below, &global.init, global.kind.kind)
+}
+
+/// The first global that is not valid, if there is one: its type is not, or what it begins with is not constant and of this type.
+pub fn first_untyped_global(alloc: Global, cx: &Context) -> Result<Option<usize>, AllocError>
+    requires { IsWhole cx.now }
+    ensures { IfOk result (λ first. IsFirst cx.now.owner.now GlobalItem first) }
+{
+    for index in 0..cx.owner.globals.len() {
+        if !is_typed(alloc, cx, index)? {
+            return Ok(Some(index));
+        }
+    }
+    Ok(None)
+}

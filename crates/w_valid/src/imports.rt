@@ -1,0 +1,46 @@
+//! Validity of imports.
+ghost use Rattle.std.specs.Prelude.{◌≡◌, ◌↔◌, IsTrue};
+ghost use Rattle.w_rules.specs.Valid.{ImportItem, ImportTyped, IsExternValid};
+ghost use Rattle.w_valid.specs.Firsts.{IsFirst};
+
+use crate::limits::{MOST_PAGES, are_limits_valid};
+use crate::lists::item_at;
+use crate::tables::is_table_type_valid;
+use crate::types::is_function_type;
+use w_rules::Context;
+use w_syntax::ExternType;
+
+// Whether the type of what is imported is valid (Core, validation, external types).
+fn is_extern_valid(cx: &Context, kind: ExternType) -> bool
+    ensures { IsTrue result ↔ IsExternValid cx.now.owner.now kind }
+{
+    match kind {
+        ExternType::Func(type_index) => is_function_type(cx.owner, type_index),
+        ExternType::Table(kind) => is_table_type_valid(cx, kind),
+        ExternType::Memory(limits) => are_limits_valid(MOST_PAGES, limits),
+        ExternType::Global(kind) => cx.has_type(kind.kind),
+        ExternType::Tag(tag) => is_function_type(cx.owner, tag.type_index),
+    }
+}
+
+// Whether the import of this index is valid.
+fn is_typed(cx: &Context, index: usize) -> bool
+    ensures { IsTrue result ↔ ImportTyped cx.now.owner.now index }
+{
+    match item_at(&cx.owner.imports, index) {
+        Some(import) => is_extern_valid(cx, import.kind),
+        None => false,
+    }
+}
+
+/// The first import that is not valid, if there is one: its type is not.
+pub fn first_untyped_import(cx: &Context) -> Option<usize>
+    ensures { IsFirst cx.now.owner.now ImportItem result }
+{
+    for index in 0..cx.owner.imports.len() {
+        if !is_typed(cx, index) {
+            return Some(index);
+        }
+    }
+    None
+}

@@ -1,0 +1,25 @@
+//! Validity of memories.
+ghost use Rattle.std.specs.Prelude.{◌≡◌, ◌↔◌, All, IsTrue};
+ghost use Rattle.w_rules.specs.Valid.{AreLimitsValid, MemoryTyped, most_pages};
+ghost use Rattle.w_valid.specs.Judged.{IsWhole};
+
+use crate::limits::{MOST_PAGES, are_limits_valid};
+use w_rules::Context;
+use w_syntax::Limits;
+
+// Whether the limits of each of these memories are valid.
+fn are_valid(memories: &[Limits]) -> bool
+    ensures { IsTrue result ↔ All (AreLimitsValid most_pages) memories.now }
+{
+    memories
+        .iter()
+        .all(|limits| are_limits_valid(MOST_PAGES, *limits))
+}
+
+/// Whether the memories are valid: there is at most one with those imported, and its limits are valid.
+pub fn are_memories_typed(cx: &Context) -> bool
+    requires { IsWhole cx.now }
+    ensures { IsTrue result ↔ MemoryTyped cx.now.owner.now }
+{
+    cx.memories.len() <= 1 && are_valid(cx.owner.memories.as_slice())
+}

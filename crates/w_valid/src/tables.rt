@@ -1,0 +1,64 @@
+//! Validity of tables.
+ghost use Rattle.std.specs.Prelude.{◌≡◌, ◌↔◌, IfOk, IsTrue};
+ghost use Rattle.w_rules.specs.Valid.{TableItem, TableTyped, IsInitTyped, IsTableTypeValid};
+ghost use Rattle.w_valid.specs.Firsts.{IsFirst};
+ghost use Rattle.w_valid.specs.Judged.{IsWhole};
+
+use crate::constants::is_const_typed;
+use crate::limits::{MOST_ELEMENTS, are_limits_valid};
+use crate::lists::item_at;
+use std::alloc::{AllocError, Global};
+use w_rules::Context;
+use w_syntax::{Body, TableType};
+use w_types::{RefType, ValType};
+
+/// Whether the type of a table is valid (Core, validation, table types).
+pub fn is_table_type_valid(cx: &Context, kind: TableType) -> bool
+    ensures { IsTrue result ↔ IsTableTypeValid cx.now.owner.now kind }
+{
+    are_limits_valid(MOST_ELEMENTS, kind.limits) && cx.has_heap(kind.element.heap)
+}
+
+// Whether what the elements of a table begin with is constant and of this type; null where nothing is said.
+fn is_init_typed(
+    alloc: Global,
+    cx: &Context,
+    kind: RefType,
+    init: &Option<Body>,
+) -> Result<bool, AllocError>
+    requires { IsWhole cx.now }
+    ensures { IfOk result (λ typed. IsTrue typed ↔ IsInitTyped cx.now.owner.now kind init.now) }
+{
+    match init {
+        Some(body) => is_const_typed(alloc, cx, body, ValType::Ref(kind)),
+        None => Ok(kind.nullable),
+    }
+}
+
+// Whether the table of this index is valid.
+fn is_typed(alloc: Global, cx: &Context, index: usize) -> Result<bool, AllocError>
+    requires { IsWhole cx.now }
+    ensures { IfOk result (λ typed. IsTrue typed ↔ TableTyped cx.now.owner.now index) }
+{
+    let Some(table) = item_at(&cx.owner.tables, index) else {
+        return Ok(false);
+    };
+    if !is_table_type_valid(cx, table.kind) {
+        return Ok(false);
+    }
+    is_init_typed(alloc, cx, table.kind.element, &table.init)
+}
+
+/// The first table that is not valid, if there is one: its type is not, or what its elements begin with is not constant and of
+/// their type.
+pub fn first_untyped_table(alloc: Global, cx: &Context) -> Result<Option<usize>, AllocError>
+    requires { IsWhole cx.now }
+    ensures { IfOk result (λ first. IsFirst cx.now.owner.now TableItem first) }
+{
+    for index in 0..cx.owner.tables.len() {
+        if !is_typed(alloc, cx, index)? {
+            return Ok(Some(index));
+        }
+    }
+    Ok(None)
+}

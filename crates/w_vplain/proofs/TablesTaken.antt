@@ -1,0 +1,89 @@
+-- What branches need of the rows of labels.
+use Rattle.std.proofs.Common.{◌≡◌, ℕ, ◌+◌, ◌<◌, Bool, true, false, ◌&&◌, List, [], ◌∷◌, ◌++◌, length, get_or, drop, nat_eq, slice_get, Option, Some, None, if◌then◌else◌, refl, sym, ◌∙◌, ap, eq-eqb, eqb-true}
+use Rattle.std.proofs.lemmas.List.{drop_more}
+use Rattle.w_types.specs.declared.types.ValType.{ValType}
+use Rattle.w_types.specs.declared.types.ValType.TheVariants.{I32}
+use Rattle.w_types.specs.Rows.{Row, ε, ◌▹◌, row_of, size}
+use Rattle.w_types.proofs.Rows.{row_of-more, size-row_of}
+use Rattle.w_canon.specs.declared.entry.Entry.{Entry}
+use Rattle.w_rules.specs.declared.operand.Operand.{Operand}
+use Rattle.w_rules.specs.Lines.{labels_at, br_table_line, br_on_non_null_line}
+use Rattle.w_flow.specs.Flow.{pops, is_popped, fits_one, fit_each, step}
+use Rattle.w_flow.specs.View.{anything}
+use Rattle.w_flow.proofs.LabelsOfTables.{table_step}
+
+-- ## A branch where the operand is not null
+
+-- its line, by the last type of the label's list
+pub top_taken : (label beneath : List ValType) (t u : ValType) → label ≡ beneath ++ t ∷ [] → t ≡ u →
+    br_on_non_null_line (Some (row_of label)) ≡ br_on_non_null_line (Some (row_of beneath ▹ u))
+top_taken label beneath t u e f =
+    ap (λ (r : Row ValType). br_on_non_null_line (Some r)) (ap row_of e ∙ row_of-more beneath t ∙ ap (λ (v : ValType). row_of beneath ▹ v) f)
+
+-- ## Tests
+
+-- both are true
+both_true : (b c : Bool) → b ≡ true → c ≡ true → b && c ≡ true
+both_true b c e f = ap (λ (x : Bool). x && c) e ∙ f
+
+-- the second is false
+right_false : (b c : Bool) → c ≡ false → b && c ≡ false
+right_false true c e = e
+right_false false c e = refl
+
+-- a test that is not true is false
+not_true : (b : Bool) → (b ≡ true → ⊥) → b ≡ false
+not_true true h = absurd (h refl)
+not_true false h = refl
+
+-- ## A label of a br_table, by the index that stands at a place of the list
+
+module _ (es : List Entry) (labels : List (Row ValType)) (p : Bool) (ts : Row Operand) (n : ℕ) (xs : List ℕ) (k d : ℕ) (label : List ValType) where
+  -- whether this label fits
+  abbrev fits : Bool
+  fits = nat_eq (size (row_of label)) n && is_popped (pops es p ts (row_of label))
+
+  -- those left fit where this label does and those behind it
+  one_more : k < length xs → slice_get labels (get_or xs k d) ≡ Some (row_of label) →
+      fit_each es labels p ts n (drop k xs) ≡ fits && fit_each es labels p ts n (drop (k + 1) xs)
+  one_more h l =
+      ap (fit_each es labels p ts n) (drop_more xs k d h)
+      ∙ ap (λ (o : Option (Row ValType)). fits_one es p ts n o && fit_each es labels p ts n (drop (k + 1) xs)) l
+
+  -- where it fits, all fit that are left where those behind it do
+  pub label_fits : k < length xs → slice_get labels (get_or xs k d) ≡ Some (row_of label) → length label ≡ n → is_popped (pops es p ts (row_of label)) ≡ true →
+      fit_each es labels p ts n (drop k xs) ≡ fit_each es labels p ts n (drop (k + 1) xs)
+  label_fits h l long can =
+      one_more h l ∙ ap (λ (b : Bool). b && fit_each es labels p ts n (drop (k + 1) xs))
+      (both_true _ _ (eq-eqb (size (row_of label)) n (size-row_of label ∙ long)) can)
+
+  -- where it does not fit, not all do
+  refused : k < length xs → slice_get labels (get_or xs k d) ≡ Some (row_of label) → fits ≡ false → fit_each es labels p ts n (drop k xs) ≡ false
+  refused h l e = one_more h l ∙ ap (λ (b : Bool). b && fit_each es labels p ts n (drop (k + 1) xs)) e
+
+  -- it does not where it has another number of types
+  pub label_differs : k < length xs → slice_get labels (get_or xs k d) ≡ Some (row_of label) → (length label ≡ n → ⊥) → fit_each es labels p ts n (drop k xs) ≡ false
+  label_differs h l differs =
+      refused h l (ap (λ (b : Bool). b && is_popped (pops es p ts (row_of label)))
+      (not_true _ (λ e. differs (sym (size-row_of label) ∙ eqb-true (size (row_of label)) n e))))
+
+  -- nor where it cannot be taken
+  pub label_fails : k < length xs → slice_get labels (get_or xs k d) ≡ Some (row_of label) → is_popped (pops es p ts (row_of label)) ≡ false →
+      fit_each es labels p ts n (drop k xs) ≡ false
+  label_fails h l cannot = refused h l (right_false _ _ cannot)
+
+-- ## The step of a br_table
+
+-- the step where the index is taken, and the last label can be taken, by whether the others fit
+pub table_answer : (es : List Entry) (labels : List (Row ValType)) (p q : Bool) (ts rest : Row Operand) (label : List ValType) (d : ℕ) (xs : List ℕ)
+    (taken can fit : Bool) →
+    pops es p ts (ε ▹ I32) ≡ (if taken then Some rest else None) → taken ≡ true → q ≡ p → slice_get labels d ≡ Some (row_of label) →
+    can ≡ is_popped (pops es q rest (row_of label)) → can ≡ true → fit ≡ fit_each es labels q rest (length label) xs →
+    step es (br_table_line (slice_get labels d) (labels_at labels xs)) p ts ≡ (if fit then Some anything else None)
+table_answer es labels p q ts rest label d xs taken can fit left all same found tested passed others =
+    let last : is_popped (pops es p rest (row_of label)) ≡ true =
+    ap (λ (x : Bool). is_popped (pops es x rest (row_of label))) (sym same) ∙ sym tested ∙ passed in
+    table_step es labels p ts rest (row_of label) d xs (left ∙ ap (λ (b : Bool). if b then Some rest else None) all) found
+    ∙ ap (λ (b : Bool). if b && fit_each es labels p rest (size (row_of label)) xs then Some anything else None) last
+    ∙ ap (λ (m : ℕ). if fit_each es labels p rest m xs then Some anything else None) (size-row_of label)
+    ∙ ap (λ (b : Bool). if b then Some anything else None) (ap (λ (x : Bool). fit_each es labels x rest (length label) xs) (sym same) ∙ sym others)

@@ -1,0 +1,162 @@
+-- What is known of each open block, and how an instruction changes that (Core, validation algorithm).
+use Rattle.std.specs.Prelude.{◌≡◌, Bool, true, false, ◌&&◌, not, List, [], ◌∷◌, Option, Some, None, if◌then◌else◌, slice_get}
+use Rattle.w_types.specs.declared.types.RefType.{RefType}
+use Rattle.w_types.specs.declared.types.ValType.{ValType}
+use Rattle.w_types.specs.Rows.{Row, ε, ◌⧺◌}
+use Rattle.w_syntax.specs.declared.instructions.Control.{Control}
+use Rattle.w_syntax.specs.declared.instructions.Control.TheVariants as control
+use Rattle.w_syntax.specs.declared.instructions.Instr.{Instr}
+use Rattle.w_syntax.specs.declared.instructions.Instr.TheVariants as flat
+use Rattle.w_syntax.specs.declared.instructions.Op.{Op}
+use Rattle.w_syntax.specs.declared.instructions.Op.TheVariants as op
+use Rattle.w_syntax.specs.declared.instructions.TableOp.{TableOp}
+use Rattle.w_syntax.specs.declared.instructions.TableOp.TheVariants as table
+use Rattle.w_syntax.specs.declared.module.TableType.{TableType}
+use Rattle.w_canon.specs.declared.entry.Entry.{Entry}
+use Rattle.w_canon.specs.Tests.{ref_test}
+use Rattle.w_rules.specs.declared.operand.Operand.{Operand}
+use Rattle.w_rules.specs.Conditions.{Holds, funcref}
+use Rattle.w_rules.specs.Context.{Context, Arrow}
+use Rattle.w_rules.specs.Lines.{Line, line, sets}
+use Rattle.w_rules.specs.Matching.{known}
+use Rattle.w_flow.specs.Flow.{Covers, ◌>>=◌, pops, ends, step}
+use Rattle.w_vplain.specs.Levels.{Level, Sofar, open_at, ended, broken, arrow_at, taken_by, within, set_at, Reaches, Good}
+use Rattle.w_vplain.specs.declared.kind.Kind.{Kind}
+use Rattle.w_vplain.specs.declared.kind.Kind.TheVariants as kind
+
+-- an open block: its operands, whether more of any type may lie beneath them, and which locals are set
+pub record Frame : Type 0 where
+  pub kind : Kind
+  pub any : Bool
+  pub operands : Row Operand
+  pub is_set : List Bool
+
+abbrev pub frame_kinds : List Frame → List Kind
+frame_kinds [] = []
+frame_kinds (f ∷ fs) = f.kind ∷ frame_kinds fs
+
+-- ## What a plain instruction asks beside its line, as a test on the entries of the types
+
+abbrev pub holds_functions : List Entry → Option TableType → Bool
+holds_functions es (Some t) = ref_test es t.element funcref
+holds_functions es None = false
+
+abbrev pub control_test : List Entry → Context → Control → Bool
+control_test es c (control.CallIndirect y x) = holds_functions es (slice_get c.tables x)
+control_test es c o = true
+
+abbrev pub init_test : List Entry → Option RefType → Option TableType → Bool
+init_test es (Some r) (Some t) = ref_test es r t.element
+init_test es (Some r) None = false
+init_test es None o = false
+
+abbrev pub copy_test : List Entry → Option TableType → Option TableType → Bool
+copy_test es (Some t) (Some u) = ref_test es u.element t.element
+copy_test es (Some t) None = false
+copy_test es None o = false
+
+abbrev pub table_test : List Entry → Context → TableOp → Bool
+table_test es c (table.Init e x) = init_test es (slice_get c.elements e) (slice_get c.tables x)
+table_test es c (table.Copy x y) = copy_test es (slice_get c.tables x) (slice_get c.tables y)
+table_test es c o = true
+
+abbrev pub condition_test : List Entry → Context → Op → Bool
+condition_test es c (op.Control o) = control_test es c o
+condition_test es c (op.Table o) = table_test es c o
+condition_test es c o = true
+
+-- ## One instruction
+
+-- an instruction of this line, which passes its test
+abbrev pub line_next : List Entry → Line → Op → Frame → List Frame → Option (List Frame)
+line_next es l o f fs = step es l f.any f.operands >>= λ w. Some (record f { any = w.any; operands = w.operands; is_set = sets o f.is_set } ∷ fs)
+
+abbrev pub plain_next : List Entry → Context → Op → Frame → List Frame → Option (List Frame)
+plain_next es c o f fs =
+    if condition_test es c o then line_next es (line (within c (f.kind ∷ frame_kinds fs)) f.is_set o) o f fs else None
+
+abbrev pub enter_next : List Entry → Context → Kind → Frame → List Frame → Option (List Frame)
+enter_next es c k f fs = arrow_at c k >>= λ a. pops es f.any f.operands (taken_by k a) >>= λ w.
+    Some (record { kind = k; any = false; operands = known a.from; is_set = f.is_set } ∷ record f { operands = w } ∷ fs)
+
+abbrev pub other_next : List Entry → Context → Kind → Frame → List Frame → Option (List Frame)
+other_next es c (kind.Then x) f [] = None
+other_next es c (kind.Then x) f (g ∷ gs) = arrow_at c (kind.Then x) >>= λ a. (if ends es f.any f.operands a.to
+    then Some (record { kind = kind.Else x; any = false; operands = known a.from; is_set = g.is_set } ∷ g ∷ gs) else None)
+other_next es c kind.Body f fs = None
+other_next es c (kind.Block b x) f fs = None
+other_next es c (kind.Else x) f fs = None
+
+-- without a second branch the parameters match the results
+abbrev pub end_test : List Entry → Kind → Arrow → Bool
+end_test es (kind.Then x) a = ends es false (known a.from) a.to
+end_test es kind.Body a = true
+end_test es (kind.Block b x) a = true
+end_test es (kind.Else x) a = true
+
+abbrev pub leave : Row ValType → List Frame → List Frame
+leave to [] = []
+leave to (g ∷ gs) = record g { operands = g.operands ⧺ known to } ∷ gs
+
+abbrev pub no_frames : List Frame → Bool
+no_frames [] = true
+no_frames (g ∷ gs) = false
+
+-- a body stands alone, and every other block in one
+abbrev pub fits : Kind → Bool → Bool
+fits kind.Body alone = alone
+fits (kind.Block b x) alone = not alone
+fits (kind.Then x) alone = not alone
+fits (kind.Else x) alone = not alone
+
+abbrev pub end_next : List Entry → Context → Frame → List Frame → Option (List Frame)
+end_next es c f fs = arrow_at c f.kind >>= λ a. (if fits f.kind (no_frames fs) && (ends es f.any f.operands a.to && end_test es f.kind a)
+    then Some (leave a.to fs) else None)
+
+-- an instruction that does not switch stacks
+abbrev pub op_next : List Entry → Context → Op → Frame → List Frame → Option (List Frame)
+op_next es c (op.Switching o) f fs = None
+op_next es c o f fs = plain_next es c o f fs
+
+abbrev pub frame_next : List Entry → Context → Instr → Frame → List Frame → Option (List Frame)
+frame_next es c (flat.Plain o) f fs = op_next es c o f fs
+frame_next es c (flat.Block b x end) f fs = enter_next es c (kind.Block b x) f fs
+frame_next es c (flat.If x other end) f fs = enter_next es c (kind.Then x) f fs
+frame_next es c flat.Else f fs = other_next es c f.kind f fs
+frame_next es c flat.End f fs = end_next es c f fs
+
+-- no frames: the body has ended
+abbrev pub next : List Entry → Context → Instr → List Frame → Option (List Frame)
+next es c i [] = None
+next es c i (f ∷ fs) = frame_next es c i f fs
+
+-- ## What frames stand for
+
+-- A frame stands for a block's instructions so far: it covers the operands that they lead to, without what an inner block took.
+pub record StandsAt (c : Context) (s : List Bool) (taken : Row ValType) (f : Frame) (l : Level) (ls : List Level) : Type 0 where
+  pub kind : f.kind ≡ l.kind
+  pub is_set : f.is_set ≡ set_at s (l ∷ ls)
+  pub reaches : (us : Row Operand) → Reaches c s l ls (us ⧺ known taken) → Covers c.types f.any f.operands us
+  pub reached : (us : Row Operand) → Covers c.types f.any f.operands us → Reaches c s l ls (us ⧺ known taken)
+
+abbrev pub StandsAll : Context → List Bool → Row ValType → List Frame → List Level → Type 0
+StandsAll c s taken [] [] = Unit {0}
+StandsAll c s taken [] (l ∷ ls) = ⊥
+StandsAll c s taken (f ∷ fs) [] = ⊥
+StandsAll c s taken (f ∷ fs) (l ∷ ls) =
+    StandsAt c s taken f l ls × Holds (arrow_at c l.kind) (λ (a : Arrow). StandsAll c s (taken_by l.kind a) fs ls)
+
+abbrev pub IsNil : List Frame → Type 0
+IsNil [] = Unit {0}
+IsNil (f ∷ fs) = ⊥
+
+-- the frames stand for the sequence
+abbrev pub FramesStand : Context → List Bool → List Frame → Sofar → Type 0
+FramesStand c s fs (open_at l ls) = StandsAll c s ε fs (l ∷ ls)
+FramesStand c s fs (ended k) = IsNil fs × Good c s (ended k)
+FramesStand c s fs broken = ⊥
+
+-- what is known of a sequence: it is derived, and the frames stand for it; or there are none, and it isn't
+abbrev pub Knows : Context → List Bool → Option (List Frame) → Sofar → Type 0
+Knows c s None w = Good c s w → ⊥
+Knows c s (Some fs) w = FramesStand c s fs w

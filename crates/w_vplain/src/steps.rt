@@ -1,0 +1,46 @@
+//! What instructions do to the operands.
+ghost use Rattle.std.specs.Prelude.{◌≡◌, IfOk};
+ghost use Rattle.w_flow.specs.Flow.{step};
+ghost use Rattle.w_flow.specs.View.{flow_view, flow_if};
+ghost use Rattle.w_rules.specs.Lines.{line};
+ghost use Rattle.w_vplain.specs.Locals.{first_set};
+ghost use Rattle.w_vplain.specs.View.{context_at, gated, plain_test};
+
+mod control;
+mod given;
+mod memory;
+mod numeric;
+mod parametric;
+mod reference;
+mod table;
+mod variable;
+
+use crate::place::Place;
+use control::control_step;
+use memory::memory_step;
+use numeric::numeric_step;
+use parametric::parametric_step;
+use reference::reference_step;
+use std::alloc::AllocError;
+use table::table_step;
+use variable::variable_step;
+use w_flow::Flow;
+use w_syntax::Op;
+
+/// An instruction that holds no others and does not switch stacks.
+pub(crate) fn plain_step(place: &Place, flow: &mut Flow, op: &Op) -> Result<bool, AllocError>
+    ensures { IfOk result (λ taken. gated (plain_test place.now.cx.now.classes.now (context_at place.now) op.now)
+        (step place.now.cx.now.classes.now (line (context_at place.now) (first_set place.now.locals.now.sets) op.now) (flow_view flow.old).any (flow_view flow.old).operands) ≡ flow_if taken flow.new) }
+{
+    match op {
+        Op::Control(op) => control_step(place, flow, op),
+        Op::Parametric(op) => parametric_step(place.cx, flow, op),
+        Op::Variable(op) => variable_step(place, flow, *op),
+        Op::Table(op) => table_step(place.cx, flow, *op),
+        Op::Memory(op) => memory_step(place.cx, flow, *op),
+        Op::Numeric(op) => numeric_step(place.cx.classes, flow, *op),
+        Op::Reference(op) => reference_step(place.cx, flow, *op),
+        // it has no test here
+        Op::Switching(_) => Ok(false),
+    }
+}

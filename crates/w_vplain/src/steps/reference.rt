@@ -1,0 +1,54 @@
+//! Reference instructions.
+ghost use Rattle.std.specs.Prelude.{◌≡◌, IfOk, slice_get};
+ghost use Rattle.w_flow.specs.Flow.{step};
+ghost use Rattle.w_flow.specs.View.{flow_view, flow_if};
+ghost use Rattle.w_rules.specs.Lines.{ref_func_line, reference_line};
+ghost use Rattle.w_rules.specs.View.{context_in};
+ghost use Rattle.w_vplain.specs.View.{gives_type};
+
+use crate::steps::given::fixed_given;
+use std::alloc::AllocError;
+use w_flow::Flow;
+use w_rules::Context;
+use w_syntax::ReferenceOp;
+use w_types::{HeapType, RefType, ValType};
+
+// The type of a reference to a function that is declared.
+fn function_reference(cx: &Context, function: u32) -> Option<ValType>
+    ensures { ref_func_line (slice_get (context_in cx.now).functions function) (slice_get (context_in cx.now).declared function) ≡ gives_type result }
+{
+    let index = *cx.functions.get(function as usize)?;
+    if *cx.declared.get(function as usize)? {
+        Some(ValType::Ref(RefType {
+            nullable: false,
+            heap: HeapType::Index(index),
+        }))
+    } else {
+        None
+    }
+}
+
+/// A reference instruction.
+pub(crate) fn reference_step(
+    cx: &Context,
+    flow: &mut Flow,
+    op: ReferenceOp,
+) -> Result<bool, AllocError>
+    ensures { IfOk result (λ taken. step cx.now.classes.now (reference_line (context_in cx.now) op) (flow_view flow.old).any (flow_view flow.old).operands ≡ flow_if taken flow.new) }
+{
+    match op {
+        ReferenceOp::Null(heap) => {
+            let null = ValType::Ref(RefType {
+                nullable: true,
+                heap,
+            });
+            fixed_given(cx.classes, flow, cx.has_heap(heap), &[], &[null])
+        }
+        ReferenceOp::IsNull => flow.tests_null(),
+        ReferenceOp::Func(function) => match function_reference(cx, function) {
+            Some(kind) => flow.fixed(cx.classes, &[], &[kind]),
+            None => Ok(false),
+        },
+        ReferenceOp::AsNonNull => flow.as_non_null(),
+    }
+}

@@ -1,0 +1,59 @@
+//! Variable instructions.
+ghost use Rattle.std.specs.Prelude.{◌≡◌, IfOk, slice_get};
+ghost use Rattle.w_types.specs.Rows.{ε, ◌▹◌};
+ghost use Rattle.w_flow.specs.Flow.{step};
+ghost use Rattle.w_flow.specs.View.{flow_view, flow_if};
+ghost use Rattle.w_rules.specs.Lines.{global_set_line, variable_line};
+ghost use Rattle.w_vplain.specs.Locals.{first_set};
+ghost use Rattle.w_vplain.specs.View.{context_at, takes_type};
+
+use crate::place::Place;
+use std::alloc::AllocError;
+use w_flow::Flow;
+use w_rules::Context;
+use w_syntax::{Mutability, VariableOp};
+use w_types::ValType;
+
+// The type of a global that may be written.
+fn variable_global(cx: &Context, global: u32) -> Option<ValType>
+    ensures { global_set_line (slice_get cx.now.globals.now global) ≡ takes_type result }
+{
+    let found = cx.global(global)?;
+    match found.mutability {
+        Mutability::Var => Some(found.kind),
+        Mutability::Const => None,
+    }
+}
+
+/// A variable instruction.
+pub(crate) fn variable_step(
+    place: &Place,
+    flow: &mut Flow,
+    op: VariableOp,
+) -> Result<bool, AllocError>
+    ensures { IfOk result (λ taken. step place.now.cx.now.classes.now (variable_line (context_at place.now) (first_set place.now.locals.now.sets) op) (flow_view flow.old).any (flow_view flow.old).operands ≡ flow_if taken flow.new) }
+{
+    let classes = place.cx.classes;
+    match op {
+        VariableOp::LocalGet(local) => match place.locals.get_set(local) {
+            Some(kind) => flow.fixed(classes, &[], &[kind]),
+            None => Ok(false),
+        },
+        VariableOp::LocalSet(local) => match place.locals.get(local) {
+            Some(kind) => flow.fixed(classes, &[kind], &[]),
+            None => Ok(false),
+        },
+        VariableOp::LocalTee(local) => match place.locals.get(local) {
+            Some(kind) => flow.fixed(classes, &[kind], &[kind]),
+            None => Ok(false),
+        },
+        VariableOp::GlobalGet(global) => match place.cx.global(global) {
+            Some(found) => flow.fixed(classes, &[], &[found.kind]),
+            None => Ok(false),
+        },
+        VariableOp::GlobalSet(global) => match variable_global(place.cx, global) {
+            Some(kind) => flow.fixed(classes, &[kind], &[]),
+            None => Ok(false),
+        },
+    }
+}

@@ -1,0 +1,9 @@
+use Rattle.std.proofs.Common.{take}
+use Rattle.std.specs.Prelude.{All}
+use Rattle.w_rules.specs.Conditions.{ClauseTyped}
+use Rattle.w_vswitch.specs.Places.{AtEnds}
+use Rattle.w_vswitch.proofs.clauses.clauses_fit.Given as goal
+
+-- the clauses before this one are typed
+abbrev pub invariant-loop-clause : goal.invariant-loop-clause
+invariant-loop-clause l = AtEnds l.checker (λ c. All (ClauseTyped c l.results) (take l.clause-index l.clauses))

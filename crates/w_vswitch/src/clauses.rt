@@ -1,0 +1,107 @@
+//! The clauses of a `resume`.
+ghost use Rattle.std.specs.Prelude.{◌≡◌, ◌↔◌, ℕ, ◌∷◌, [], All, IsTrue, Some, List, slice_get};
+ghost use Rattle.w_types.specs.Rows.{row_of};
+ghost use Rattle.w_rules.specs.Conditions.{ClauseTyped, LabelClauseTyped, SwitchClauseTyped};
+ghost use Rattle.w_rules.specs.Peak.{clause_tops};
+ghost use Rattle.w_vplain.specs.Row.{above};
+ghost use Rattle.w_vswitch.specs.Places.{Anywhere, AtEnds};
+ghost use Rattle.w_vswitch.specs.Rows.{label_test};
+
+use crate::continuations::last_index;
+use w_canon::Classes;
+use w_rules::Context;
+use w_syntax::Clause;
+use w_types::{FuncType, ValType};
+use w_vplain::Checker;
+
+// Whether a tag, what a label takes beneath a continuation, and the continuation's type fit in a resume with these results.
+fn label_matches(
+    classes: &Classes,
+    results: &[ValType],
+    tag: &FuncType,
+    beneath: &[ValType],
+    target: &FuncType,
+) -> bool
+    ensures { result ≡ label_test classes.now results.now tag.now beneath.now target.now }
+{
+    classes.matches_result(tag.params.as_slice(), beneath)
+        && classes.matches_result(target.params.as_slice(), tag.results.as_slice())
+        && classes.matches_result(results, target.results.as_slice())
+}
+
+// Whether the rules type a clause with a label, which takes these types.
+fn label_clause_fits(cx: &Context, results: &[ValType], tag: u32, label: &[ValType]) -> bool
+    ensures { Anywhere cx.now (λ c. (l : ℕ) → slice_get c.labels l ≡ Some (row_of label.now) → IsTrue result ↔ LabelClauseTyped c results.now tag l) }
+{
+    let Some(tag) = cx.type_of_tag(tag) else {
+        return false;
+    };
+    let Some((beneath, index)) = last_index(label) else {
+        return false;
+    };
+    match cx.cont_of(index) {
+        Some(target) => label_matches(cx.classes, results, tag, beneath, target),
+        None => false,
+    }
+}
+
+// Whether the rules type a clause with `switch`.
+fn switch_clause_fits(cx: &Context, results: &[ValType], tag: u32) -> bool
+    ensures { Anywhere cx.now (λ c. IsTrue result ↔ SwitchClauseTyped c results.now tag) }
+{
+    match cx.type_of_tag(tag) {
+        Some(tag) => {
+            tag.params.len() == 0 && cx.classes.equals_result(tag.results.as_slice(), results)
+        }
+        None => false,
+    }
+}
+
+// Whether the rules type a clause of a resume with these results, where the checker stands.
+fn clause_fits(checker: &Checker, results: &[ValType], clause: &Clause) -> bool
+    ensures { AtEnds checker.now (λ c. IsTrue result ↔ ClauseTyped c results.now clause.now) }
+{
+    match clause {
+        Clause::Label(tag, label) => match checker.label(*label) {
+            Some(types) => label_clause_fits(checker.context(), results, *tag, types),
+            None => false,
+        },
+        Clause::Switch(tag) => switch_clause_fits(checker.context(), results, *tag),
+    }
+}
+
+/// Whether the rules type each clause of a resume with these results, where the checker stands.
+pub(crate) fn clauses_fit(checker: &Checker, results: &[ValType], clauses: &[Clause]) -> bool
+    ensures { AtEnds checker.now (λ c. IsTrue result ↔ All (ClauseTyped c results.now) clauses.now) }
+{
+    for clause in clauses {
+        if !clause_fits(checker, results, clause) {
+            return false;
+        }
+    }
+    true
+}
+
+// How many types a clause's label takes, if it has one.
+fn label_size(checker: &Checker, clause: &Clause) -> Option<u64>
+    ensures { AtEnds checker.now (λ c. (h : ℕ) → clause_tops c.labels h (clause.now ∷ []) ≡ above 0 result h) }
+{
+    match clause {
+        Clause::Label(_, label) => match checker.label(*label) {
+            Some(types) => Some(types.len() as u64),
+            None => None,
+        },
+        Clause::Switch(_) => None,
+    }
+}
+
+/// How many types the longest label of clauses takes, if one has a label.
+pub(crate) fn longest_label(checker: &Checker, clauses: &[Clause]) -> Option<u64>
+    ensures { AtEnds checker.now (λ c. (h : ℕ) → clause_tops c.labels h clauses.now ≡ above 0 result h) }
+{
+    let mut longest = None;
+    for clause in clauses {
+        longest = longest.max(label_size(checker, clause));
+    }
+    longest
+}

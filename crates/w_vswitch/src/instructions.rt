@@ -1,0 +1,164 @@
+//! The stack switching instructions (the explainer, validation).
+ghost use Rattle.std.specs.Prelude.{◌≡◌, ◌↔◌, Bool, List, IfOk, IsErr, IsTrue, OnErr, Some, None};
+ghost use Rattle.std.specs.Option.{option_map};
+ghost use Rattle.w_syntax.specs.declared.instructions.SwitchingOp.TheVariants as op;
+ghost use Rattle.w_vplain.specs.Levels.{Sofar, Good};
+ghost use Rattle.w_vplain.specs.Standing.{StandsFor, context_for, classes_for};
+ghost use Rattle.w_vswitch.specs.Following.{Answers, follow_switching};
+ghost use Rattle.w_vswitch.specs.Places.{Anywhere};
+ghost use Rattle.w_vswitch.specs.Rows.{BoundBy, SwitchedBy};
+
+use crate::clauses::{clauses_fit, longest_label};
+use crate::continuations::{last_index, non_null, nullable};
+use std::alloc::AllocError;
+use w_rules::Context;
+use w_syntax::{Clause, Instr, Op, SwitchingOp};
+use w_types::{FuncType, ValType};
+use w_vplain::Checker;
+
+// A continuation of a function.
+fn cont_new(checker: &mut Checker, index: u32) -> Result<bool, AllocError>
+    ensures answers { IfOk result (λ taken. Answers checker.old checker.new (op.ContNew index) taken) }
+    ensures context { context_for checker.new ≡ context_for checker.old }
+    ensures classes { classes_for checker.new ≡ classes_for checker.old }
+    ensures wants { IsTrue checker.old.starved → IsErr result }
+    ensures starves { OnErr result (IsTrue checker.new.starved) }
+{
+    match checker.context().func_index_of_cont(index) {
+        Some(function) => checker.apply(&[], Some(nullable(function)), &[non_null(index)], None),
+        None => checker.refuse(),
+    }
+}
+
+// The parameters of a continuation that a `cont.bind` of two types binds, where its condition holds.
+fn bound<'a>(cx: &'a Context<'a>, before: u32, after: u32) -> Option<&'a [ValType]>
+    ensures { Anywhere cx.now (BoundBy before after (option_map (λ v. v.now) result)) }
+{
+    let one = cx.cont_of(before)?;
+    let other = cx.cont_of(after)?;
+    let count = one.params.len().checked_sub(other.params.len())?;
+    let (front, left) = one.params.as_slice().split_at(count);
+    let classes = cx.classes;
+    if classes.matches_result(other.params.as_slice(), left)
+        && classes.matches_result(one.results.as_slice(), other.results.as_slice())
+    {
+        Some(front)
+    } else {
+        None
+    }
+}
+
+// A continuation with some of its parameters bound.
+fn cont_bind(checker: &mut Checker, before: u32, after: u32) -> Result<bool, AllocError>
+    ensures answers { IfOk result (λ taken. Answers checker.old checker.new (op.ContBind before after) taken) }
+    ensures context { context_for checker.new ≡ context_for checker.old }
+    ensures classes { classes_for checker.new ≡ classes_for checker.old }
+    ensures wants { IsTrue checker.old.starved → IsErr result }
+    ensures starves { OnErr result (IsTrue checker.new.starved) }
+{
+    match bound(checker.context(), before, after) {
+        Some(front) => checker.apply(front, Some(nullable(before)), &[non_null(after)], None),
+        None => checker.refuse(),
+    }
+}
+
+// An event.
+fn suspend(checker: &mut Checker, tag: u32) -> Result<bool, AllocError>
+    ensures answers { IfOk result (λ taken. Answers checker.old checker.new (op.Suspend tag) taken) }
+    ensures context { context_for checker.new ≡ context_for checker.old }
+    ensures classes { classes_for checker.new ≡ classes_for checker.old }
+    ensures wants { IsTrue checker.old.starved → IsErr result }
+    ensures starves { OnErr result (IsTrue checker.new.starved) }
+{
+    let Some(kind) = checker.context().type_of_tag(tag) else {
+        return checker.refuse();
+    };
+    let outs = kind.results.as_slice();
+    checker.apply(kind.params.as_slice(), None, outs, None)
+}
+
+// A continuation goes on, under a handler of these clauses.
+fn resume(checker: &mut Checker, index: u32, clauses: &[Clause]) -> Result<bool, AllocError>
+    ensures answers { IfOk result (λ taken. Answers checker.old checker.new (op.Resume index clauses.now) taken) }
+    ensures context { context_for checker.new ≡ context_for checker.old }
+    ensures classes { classes_for checker.new ≡ classes_for checker.old }
+    ensures wants { IsTrue checker.old.starved → IsErr result }
+    ensures starves { OnErr result (IsTrue checker.new.starved) }
+{
+    let Some(kind) = checker.context().cont_of(index) else {
+        return checker.refuse();
+    };
+    if !clauses_fit(checker, kind.results.as_slice(), clauses) {
+        return checker.refuse();
+    }
+    let raise = longest_label(checker, clauses);
+    let reference = nullable(index);
+    let (ins, outs) = (kind.params.as_slice(), kind.results.as_slice());
+    checker.apply(ins, Some(reference), outs, raise)
+}
+
+// What a `switch` to a continuation of this type takes beneath it, and what it gives back, where its condition holds.
+fn switched<'a>(cx: &'a Context<'a>, index: u32, tag: u32) -> Option<(&'a [ValType], &'a [ValType])>
+    ensures { Anywhere cx.now (SwitchedBy index tag (option_map (λ p. (p.0.now, p.1.now)) result)) }
+{
+    let one = cx.cont_of(index)?;
+    let (beneath, back) = last_index(one.params.as_slice())?;
+    let other = cx.cont_of(back)?;
+    let tag = cx.type_of_tag(tag)?;
+    let classes = cx.classes;
+    if tag.params.len() == 0
+        && classes.matches_result(one.results.as_slice(), tag.results.as_slice())
+        && classes.matches_result(tag.results.as_slice(), other.results.as_slice())
+    {
+        Some((beneath, other.params.as_slice()))
+    } else {
+        None
+    }
+}
+
+// Another continuation goes on in place of this one.
+fn switch(checker: &mut Checker, index: u32, tag: u32) -> Result<bool, AllocError>
+    ensures answers { IfOk result (λ taken. Answers checker.old checker.new (op.Switch index tag) taken) }
+    ensures context { context_for checker.new ≡ context_for checker.old }
+    ensures classes { classes_for checker.new ≡ classes_for checker.old }
+    ensures wants { IsTrue checker.old.starved → IsErr result }
+    ensures starves { OnErr result (IsTrue checker.new.starved) }
+{
+    match switched(checker.context(), index, tag) {
+        Some((beneath, back)) => checker.apply(beneath, Some(nullable(index)), back, None),
+        None => checker.refuse(),
+    }
+}
+
+// Any of these.
+fn typed(checker: &mut Checker, op: &SwitchingOp) -> Result<bool, AllocError>
+    ensures answers { IfOk result (λ taken. Answers checker.old checker.new op.now taken) }
+    ensures context { context_for checker.new ≡ context_for checker.old }
+    ensures classes { classes_for checker.new ≡ classes_for checker.old }
+    ensures wants { IsTrue checker.old.starved → IsErr result }
+    ensures starves { OnErr result (IsTrue checker.new.starved) }
+{
+    match op {
+        SwitchingOp::ContNew(index) => cont_new(checker, *index),
+        SwitchingOp::ContBind(before, after) => cont_bind(checker, *before, *after),
+        SwitchingOp::Suspend(tag) => suspend(checker, *tag),
+        SwitchingOp::Resume(index, clauses) => resume(checker, *index, clauses.as_slice()),
+        SwitchingOp::Switch(index, tag) => switch(checker, *index, *tag),
+    }
+}
+
+/// A stack switching instruction; another one begins no body there. Whether the rules derive the sequence with it (the explainer,
+/// validation). It fails only for want of memory.
+pub fn switching(checker: &mut Checker, instr: &Instr) -> Result<bool, AllocError>
+    ensures stands { IfOk result (λ _. (s : List Bool) (w : Sofar) → StandsFor checker.old s w → StandsFor checker.new s (follow_switching instr.now w)) }
+    ensures exact { IfOk result (λ taken. (s : List Bool) (w : Sofar) → StandsFor checker.old s w → IsTrue taken ↔ Good (context_for checker.old) s (follow_switching instr.now w)) }
+    ensures context { context_for checker.new ≡ context_for checker.old }
+    ensures classes { classes_for checker.new ≡ classes_for checker.old }
+    ensures wants { IsTrue checker.old.starved → IsErr result }
+    ensures starves { OnErr result (IsTrue checker.new.starved) }
+{
+    match instr {
+        Instr::Plain(Op::Switching(op)) => typed(checker, op),
+        _ => checker.refuse(),
+    }
+}

@@ -1,0 +1,81 @@
+"""A second reader of the rules: it decodes a module, and says what the validator is to say of it.
+
+It rests on the standard alone. It shares nothing with the assembler, not even tables of opcodes, so that a slip in one
+of them shows.
+"""
+
+from reader.byte_source import Malformed
+from reader.context import Context, Invalid
+from reader.items import items
+from reader.module_decoding import decode
+from reader.types import FuncType
+
+FUNCTION_EXPORT = 0
+GREATEST_TYPES = 10000
+GREATEST_PARAMETERS = 1000      # and results
+GREATEST_LOCALS = 50000         # parameters among them
+
+
+def answer(data):
+    """What is to be said of the module that these bytes spell."""
+    try:
+        module = decode(data)
+    except Malformed as fault:
+        return f'malformed {fault}'
+    context = _context(module)
+    limit = _passed_limit(module, context.types)
+    if limit is not None:
+        return f'limit {limit}'
+    for name, check in items(module, context):
+        try:
+            check()
+        except Invalid:
+            return f'invalid {name}'
+    return 'ok module'
+
+
+def _passed_limit(module, types):
+    """The first limit that the module passes, or nothing."""
+    if len(types) > GREATEST_TYPES:
+        return 'types'
+    functions = [each for each in types if isinstance(each, FuncType)]
+    if any(max(len(each.parameters), len(each.results)) > GREATEST_PARAMETERS for each in functions):
+        return 'params'
+    for function, code in zip(module.functions, module.codes):
+        count = sum(count for count, _ in code.runs)
+        if function < len(types) and isinstance(types[function], FuncType):
+            count += len(types[function].parameters)
+        if count > GREATEST_LOCALS:
+            return 'locals'
+    return None
+
+
+def _context(module):
+    """The context of a module, whose imports stand in front."""
+    def imported(kind):
+        return [described for name, *described in module.imports if name == kind]
+
+    def firsts(kind):
+        return [first for first, *_ in imported(kind)]
+
+    return Context(
+        types=[comp_type for group in module.groups for comp_type in group],
+        functions=firsts('func') + module.functions,
+        tables=firsts('table') + [table.type for table in module.tables],
+        memories=firsts('memory') + module.memories,
+        globals=imported('global') + [[each.type, each.mutable] for each in module.globals],
+        tags=firsts('tag') + module.tags,
+        elements=[element.type for element in module.elements],
+        data_segments=len(module.datas),
+        declared=_declared(module))
+
+
+def _declared(module):
+    """The functions that exports, and the expressions of elements, globals and tables name."""
+    expressions = [item for element in module.elements for item in element.items]
+    expressions += [each.initial for each in module.globals]
+    expressions += [table.initial or [] for table in module.tables]
+    named = {export.index for export in module.exports if export.kind == FUNCTION_EXPORT}
+    for expression in expressions:
+        named |= {instruction.immediates[0] for instruction in expression if instruction.name == 'ref.func'}
+    return named

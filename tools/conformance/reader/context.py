@@ -1,0 +1,71 @@
+"""The context in which items and instructions are judged."""
+
+from dataclasses import dataclass
+
+from reader.types import ContType, FuncType, Ref
+
+
+class Invalid(Exception):
+    """A rule that doesn't hold."""
+
+
+def require(condition):
+    """Go on where the condition holds."""
+    if not condition:
+        raise Invalid
+
+
+def entry(entries, index):
+    """The entry with this index, which has to be there."""
+    require(index < len(entries))
+    return entries[index]
+
+
+@dataclass
+class Context:
+    """The index spaces of a module, where what is imported stands in front of what it defines.
+
+    Functions and tags stand for the indices of their types, tables for the types of their elements, memories for their
+    limits, globals for their types and whether they may be set, and element segments for their types.
+    """
+
+    types: list
+    functions: list
+    tables: list
+    memories: list
+    globals: list
+    tags: list
+    elements: list
+    data_segments: int
+    declared: set               # the functions that bodies may refer to
+    type_keys: list | None = None       # equal for equivalent types; known once the types are valid
+
+    def kind(self, heap):
+        """Whether a heap type is the index of a type of functions or of continuations, or neither."""
+        if isinstance(heap, int) and heap < len(self.types):
+            return self.types[heap].kind
+        return None
+
+    def has_type(self, value_type):
+        """Whether the index in a value type is in range."""
+        return not isinstance(value_type, Ref) or value_type.index is None or value_type.index < len(self.types)
+
+    def function_type(self, index):
+        """The function type with this index."""
+        function_type = entry(self.types, index)
+        require(isinstance(function_type, FuncType))
+        return function_type
+
+    def continuation_type(self, index):
+        """The continuation type with this index."""
+        continuation_type = entry(self.types, index)
+        require(isinstance(continuation_type, ContType))
+        return continuation_type
+
+    def continued(self, index):
+        """The function type of the continuation type with this index."""
+        return self.function_type(self.continuation_type(index).function)
+
+    def tag(self, index):
+        """The type of the tag with this index."""
+        return self.function_type(entry(self.tags, index))

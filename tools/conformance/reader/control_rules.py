@@ -1,0 +1,118 @@
+"""The rules of blocks, branches and calls. Each is a function of the block around and of the immediates."""
+
+from reader.context import entry, require
+from reader.matching import all_match, matches
+from reader.types import FUNCREF, I32, BottomRef, Ref
+
+
+def unreachable(block):
+    block.leave()
+
+
+def nop(_block):
+    pass
+
+
+def _arrow(context, block_type):
+    """The parameters and the results of a block type."""
+    if isinstance(block_type, list):
+        require(all(context.has_type(result) for result in block_type))
+        return [], block_type
+    function_type = context.function_type(block_type)
+    return function_type.parameters, function_type.results
+
+
+def block_(block, block_type, instructions):
+    parameters, results = _arrow(block.context, block_type)
+    block.take(*parameters)
+    block.judge_inner(instructions, results, parameters, results)
+    block.give(*results)
+
+
+def loop(block, block_type, instructions):
+    parameters, results = _arrow(block.context, block_type)
+    block.take(*parameters)
+    block.judge_inner(instructions, parameters, parameters, results)
+    block.give(*results)
+
+
+def if_(block, block_type, then, otherwise):
+    parameters, results = _arrow(block.context, block_type)
+    block.take(*parameters, I32)
+    block.judge_inner(then, results, parameters, results)
+    if otherwise is None:
+        require(all_match(block.context, parameters, results))
+    else:
+        block.judge_inner(otherwise, results, parameters, results)
+    block.give(*results)
+
+
+def br(block, label):
+    block.take(*entry(block.labels, label))
+    block.leave()
+
+
+def br_if(block, label):
+    taken = entry(block.labels, label)
+    block.take(*taken, I32)
+    block.give(*taken)
+
+
+def br_table(block, labels, default):
+    taken = [entry(block.labels, label) for label in [*labels, default]]
+    block.take(I32)
+    count = len(taken[0])
+    require(all(len(types) == count for types in taken))
+    operands = [block.pop() for _ in range(count)][::-1]
+    require(all(all_match(block.context, operands, types) for types in taken))
+    block.leave()
+
+
+def return_(block):
+    block.take(*block.returned)
+    block.leave()
+
+
+def br_on_null(block, label):
+    taken = entry(block.labels, label)
+    operand = block.pop_ref()
+    block.take(*taken)
+    block.give(*taken, not_null(operand))
+
+
+def not_null(ref_type):
+    """The type of the references of this type that are not null."""
+    return BottomRef(False) if isinstance(ref_type, BottomRef) else Ref(False, ref_type.heap)
+
+
+def br_on_non_null(block, label):
+    taken = entry(block.labels, label)
+    require(taken and isinstance(taken[-1], Ref))
+    block.take(*taken[:-1], Ref(True, taken[-1].heap))
+    block.give(*taken[:-1])
+
+
+def call(block, function):
+    _apply(block, block.context.function_type(entry(block.context.functions, function)))
+
+
+def _apply(block, function_type, *callee):
+    """Take the parameters of a function, and above them what tells the function, and give the results."""
+    block.take(*function_type.parameters, *callee)
+    block.give(*function_type.results)
+
+
+def call_indirect(block, function_type, table):
+    require(matches(block.context, entry(block.context.tables, table), FUNCREF))
+    _apply(block, block.context.function_type(function_type), I32)
+
+
+def call_ref(block, function_type):
+    _apply(block, block.context.function_type(function_type), Ref(True, function_type))
+
+
+RULES = {
+    'unreachable': unreachable, 'nop': nop, 'block': block_, 'loop': loop, 'if': if_, 'br': br, 'br_if': br_if,
+    'br_table': br_table, 'return': return_, 'br_on_null': br_on_null, 'br_on_non_null': br_on_non_null, 'call': call,
+    'call_indirect': call_indirect, 'call_ref': call_ref,
+}

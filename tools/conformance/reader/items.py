@@ -1,0 +1,164 @@
+"""Judges the items of a module: types, imports, definitions, segments, the start, exports and bodies."""
+
+from dataclasses import replace
+from functools import partial
+
+from reader.blocks import Block
+from reader.context import entry, require
+from reader.matching import matches, type_keys
+from reader.types import I32, FuncType, Ref
+
+GREATEST_TABLE = 2 ** 32 - 1
+GREATEST_MEMORY = 65536     # in pages
+
+CONSTANT = {
+    'i32.const', 'i64.const', 'i32.add', 'i32.sub', 'i32.mul', 'i64.add', 'i64.sub', 'i64.mul', 'ref.null', 'ref.func'}
+
+
+def items(module, context):
+    """Each item by its name, with what judges it, in the order in which they are judged.
+
+    An item is to be judged, and to be valid, before the next is asked for.
+    """
+    yield from _type_items(module, context)
+    context.type_keys = type_keys(module.groups)
+    for number, extern_type in enumerate(module.imports):
+        yield f'import {number}', partial(_check_import, context, *extern_type)
+    for number, table in enumerate(module.tables):
+        yield f'table {number}', partial(_check_table, context, table)
+    yield 'memory', partial(_check_memories, context, module.memories)
+    for number, tag in enumerate(module.tags):
+        yield f'tag {number}', partial(context.function_type, tag)
+    yield from _global_items(module, context)
+    for number, element in enumerate(module.elements):
+        yield f'element {number}', partial(_check_element, context, element)
+    for number, active in enumerate(module.datas):
+        yield f'data {number}', partial(_check_data, context, active)
+    if module.start is not None:
+        yield 'start', partial(_check_start, context, module.start)
+    names = set()
+    for number, export in enumerate(module.exports):
+        yield f'export {number}', partial(_check_export, context, export, names)
+        names.add(export.name)
+    for number, (function, code) in enumerate(zip(module.functions, module.codes)):
+        yield f'function {number}', partial(_check_function, context, function, code)
+
+
+def _type_items(module, context):
+    number = end = 0
+    for group in module.groups:
+        end += len(group)
+        for comp_type in group:
+            yield f'type {number}', partial(_check_type, context, comp_type, end)
+            number += 1
+
+
+def _check_type(context, comp_type, end):
+    """A type may name those before the end of its group."""
+    if isinstance(comp_type, FuncType):
+        for value_type in comp_type.parameters + comp_type.results:
+            require(not isinstance(value_type, Ref) or value_type.index is None or value_type.index < end)
+    else:
+        require(comp_type.function < end)
+        context.function_type(comp_type.function)
+
+
+def _check_limits(greatest, limits):
+    require(limits.minimum <= greatest)
+    require(limits.maximum is None or limits.minimum <= limits.maximum <= greatest)
+
+
+def _check_table_type(context, ref_type, limits):
+    _check_limits(GREATEST_TABLE, limits)
+    require(context.has_type(ref_type))
+
+
+def _check_import(context, kind, described, *more):
+    if kind in ('func', 'tag'):
+        context.function_type(described)
+    elif kind == 'table':
+        _check_table_type(context, described, *more)
+    elif kind == 'memory':
+        _check_limits(GREATEST_MEMORY, described)
+    else:
+        require(context.has_type(described))
+
+
+def _check_table(context, table):
+    _check_table_type(context, table.type, table.limits)
+    if table.initial is None:
+        require(table.type.nullable)
+    else:
+        _check_constant(context, table.initial, table.type)
+
+
+def _check_memories(context, memories):
+    require(len(context.memories) <= 1)
+    for limits in memories:
+        _check_limits(GREATEST_MEMORY, limits)
+
+
+def _global_items(module, context):
+    """The expression of a global sees only those in front of it."""
+    imported = len(context.globals) - len(module.globals)
+    for number, each in enumerate(module.globals):
+        before = replace(context, globals=context.globals[:imported + number])
+        yield f'global {number}', partial(_check_global, before, each)
+
+
+def _check_global(context, defined):
+    require(context.has_type(defined.type))
+    _check_constant(context, defined.initial, defined.type)
+
+
+def _check_element(context, element):
+    require(context.has_type(element.type))
+    if element.active is not None:
+        require(matches(context, element.type, entry(context.tables, element.active.index)))
+        _check_constant(context, element.active.offset, I32)
+    for item in element.items:
+        _check_constant(context, item, element.type)
+
+
+def _check_data(context, active):
+    if active is not None:
+        entry(context.memories, active.index)
+        _check_constant(context, active.offset, I32)
+
+
+def _check_start(context, function):
+    function_type = context.function_type(entry(context.functions, function))
+    require(not function_type.parameters and not function_type.results)
+
+
+def _check_export(context, export, names):
+    """An export of a name that none of those in front of it has."""
+    spaces = [context.functions, context.tables, context.memories, context.globals, context.tags]
+    entry(spaces[export.kind], export.index)
+    require(export.name not in names)
+
+
+def _check_constant(context, instructions, value_type):
+    """A constant expression of a value of this type."""
+    for instruction in instructions:
+        if instruction.name == 'global.get':
+            _, mutable = entry(context.globals, *instruction.immediates)
+            require(not mutable)
+        else:
+            require(instruction.name in CONSTANT)
+    _judge_body(context, [], [], [value_type], instructions)
+
+
+def _check_function(context, function, code):
+    function_type = context.function_type(function)
+    for count, value_type in code.runs:
+        require(count == 0 or context.has_type(value_type))
+    declared = [value_type for count, value_type in code.runs for _ in range(count)]
+    _judge_body(context, function_type.parameters, declared, function_type.results, code.body)
+
+
+def _judge_body(context, parameters, declared, results, instructions):
+    """Judge the instructions of a function with these parameters, further locals and results."""
+    defaults = [not isinstance(value_type, Ref) or value_type.nullable for value_type in declared]
+    set_locals = [True] * len(parameters) + defaults
+    Block(context, parameters + declared, set_locals, results, [results]).judge(instructions, results)

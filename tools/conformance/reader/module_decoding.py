@@ -1,0 +1,201 @@
+"""Reads a module from bytes."""
+
+from dataclasses import dataclass, field
+from typing import NamedTuple
+
+from reader.byte_source import ByteSource, Malformed
+from reader.instructions import Instruction, all_instructions, expression
+from reader.type_decoding import (
+    extern_type, index, limits, mutability, rec_group, ref_type, tag_type, value_type)
+from reader.types import FUNCREF, Limits, Ref
+
+HEADER = b'\x00asm\x01\x00\x00\x00'
+
+
+class Table(NamedTuple):
+    """A table, with its initial expression where there is one."""
+
+    type: Ref
+    limits: Limits
+    initial: list | None
+
+
+class Global(NamedTuple):
+    """A global."""
+
+    type: object
+    mutable: bool
+    initial: list
+
+
+class Export(NamedTuple):
+    """An export, with its kind as a number."""
+
+    name: bytes
+    kind: int
+    index: int
+
+
+class Active(NamedTuple):
+    """Where an active segment goes: the index of a table or of a memory, and the offset."""
+
+    index: int
+    offset: list
+
+
+class Element(NamedTuple):
+    """An element segment. Its items are expressions."""
+
+    type: Ref
+    active: Active | None
+    items: list
+
+
+class Code(NamedTuple):
+    """The locals of a function in runs of one type, each as a count and the type, and its instructions."""
+
+    runs: list
+    body: list
+
+
+@dataclass
+class Module:
+    """A module. Functions and tags stand for the indices of their types, data segments for where they go."""
+
+    groups: list = field(default_factory=list)
+    imports: list = field(default_factory=list)
+    functions: list = field(default_factory=list)
+    tables: list = field(default_factory=list)
+    memories: list = field(default_factory=list)
+    tags: list = field(default_factory=list)
+    globals: list = field(default_factory=list)
+    exports: list = field(default_factory=list)
+    start: int | None = None
+    elements: list = field(default_factory=list)
+    data_count: int | None = None
+    codes: list = field(default_factory=list)
+    datas: list = field(default_factory=list)
+
+
+def _import(source):
+    """The type of an import, whose names are left out."""
+    source.name()
+    source.name()
+    return extern_type(source)
+
+
+def _table(source):
+    if source.peek() == 0x40:
+        source.byte()
+        if source.byte():
+            raise Malformed('table')
+        return Table(ref_type(source), limits(source), expression(source))
+    return Table(ref_type(source), limits(source), None)
+
+
+def _global(source):
+    return Global(value_type(source), mutability(source), expression(source))
+
+
+def _export(source):
+    return Export(source.name(), source.byte(), index(source))
+
+
+def _element(source):
+    flag = index(source)
+    if flag > 7:
+        raise Malformed('elem')
+    active = None
+    if not flag & 1:
+        active = Active(index(source) if flag & 2 else 0, expression(source))
+    tells_type = flag & 3
+    if flag & 4:
+        segment_type = ref_type(source) if tells_type else FUNCREF
+        return Element(segment_type, active, source.vector(expression))
+    if tells_type and source.byte():
+        raise Malformed('elemkind')
+    items = [[Instruction('ref.func', (function,))] for function in source.vector(index)]
+    return Element(Ref(False, 'func'), active, items)
+
+
+def _data(source):
+    flag = index(source)
+    if flag > 2:
+        raise Malformed('data')
+    active = None
+    if flag != 1:
+        active = Active(index(source) if flag == 2 else 0, expression(source))
+    source.name()
+    return active
+
+
+def _run(source):
+    return index(source), value_type(source)
+
+
+def _code(source):
+    return read_code(source.part('size'))
+
+
+def read_code(source):
+    """The code of a function, which takes up the whole source."""
+    runs = source.vector(_run)
+    if sum(count for count, _ in runs) >= 2 ** 32:
+        raise Malformed('locals')
+    body = expression(source)
+    if source.position != source.end:
+        raise Malformed('junk')
+    return Code(runs, body)
+
+
+def _vector(read):
+    return lambda source: source.vector(read)
+
+
+# The sections by id, in the order in which they may stand: the field of the module, and what reads it.
+SECTIONS = {
+    1: ('groups', _vector(rec_group)), 2: ('imports', _vector(_import)), 3: ('functions', _vector(index)),
+    4: ('tables', _vector(_table)), 5: ('memories', _vector(limits)), 13: ('tags', _vector(tag_type)),
+    6: ('globals', _vector(_global)), 7: ('exports', _vector(_export)), 8: ('start', index),
+    9: ('elements', _vector(_element)), 12: ('data_count', index), 10: ('codes', _vector(_code)),
+    11: ('datas', _vector(_data)),
+}
+ORDER = list(SECTIONS)
+CUSTOM = 0
+
+
+def decode(data):
+    """The module that the bytes spell."""
+    if not data.startswith(HEADER):
+        raise Malformed('header')
+    module = Module()
+    source = ByteSource(data, len(HEADER))
+    last = -1
+    while source.position < source.end:
+        section = source.byte()
+        contents = source.part('section')
+        if section == CUSTOM:
+            contents.name()
+            continue
+        place = ORDER.index(section)
+        if place <= last:
+            raise Malformed('order')
+        last = place
+        name, read = SECTIONS[section]
+        setattr(module, name, read(contents))
+        if contents.position != contents.end:
+            raise Malformed(f'junk in {section}')
+    _check_counts(module)
+    return module
+
+
+def _check_counts(module):
+    """Refuse a module whose sections tell unlike numbers of the same things."""
+    if len(module.functions) != len(module.codes):
+        raise Malformed('counts')
+    if module.data_count is None:
+        instructions = (each for code in module.codes for each in all_instructions(code.body))
+        if any(instruction.name in ('memory.init', 'data.drop') for instruction in instructions):
+            raise Malformed('counts')
+    elif module.data_count != len(module.datas):
+        raise Malformed('counts')

@@ -1,0 +1,112 @@
+"""Reads types from bytes."""
+
+from reader.byte_source import Malformed
+from reader.types import I32, I64, ContType, FuncType, Limits, Ref
+
+HEAP_TYPES = {0x70: 'func', 0x73: 'nofunc', 0x68: 'cont', 0x75: 'nocont'}
+NUMBER_TYPES = {0x7f: I32, 0x7e: I64}
+NULLABLE = 0x63
+NOT_NULL = 0x64
+
+
+def index(source):
+    return source.unsigned()
+
+
+def heap_type(source):
+    if source.peek() in HEAP_TYPES:
+        return HEAP_TYPES[source.byte()]
+    return _signed_index(source, 'heap')
+
+
+def _signed_index(source, fault):
+    """An index that is spelled as a signed number; where this is negative, the fault is raised."""
+    number = source.signed(33)
+    if number < 0:
+        raise Malformed(fault)
+    return number
+
+
+def value_type(source):
+    byte = source.byte()
+    if byte in NUMBER_TYPES:
+        return NUMBER_TYPES[byte]
+    if byte in (NULLABLE, NOT_NULL):
+        return Ref(byte == NULLABLE, heap_type(source))
+    if byte in HEAP_TYPES:
+        return Ref(True, HEAP_TYPES[byte])
+    raise Malformed(f'valtype {byte:x}')
+
+
+def ref_type(source):
+    read = value_type(source)
+    if not isinstance(read, Ref):
+        raise Malformed('reftype')
+    return read
+
+
+def _comp_type(source):
+    byte = source.byte()
+    if byte == 0x60:
+        return FuncType(source.vector(value_type), source.vector(value_type))
+    if byte == 0x5d:
+        return ContType(index(source))
+    raise Malformed('comptype')
+
+
+def rec_group(source):
+    """A recursive group, or one type that stands for a group of its own, as a list of types."""
+    if source.peek() == 0x4e:
+        source.byte()
+        return source.vector(_comp_type)
+    return [_comp_type(source)]
+
+
+def limits(source):
+    flag = source.byte()
+    if flag == 0:
+        return Limits(source.unsigned(64), None)
+    if flag == 1:
+        return Limits(source.unsigned(64), source.unsigned(64))
+    raise Malformed('limits')
+
+
+def mutability(source):
+    byte = source.byte()
+    if byte > 1:
+        raise Malformed('mut')
+    return byte == 1
+
+
+def tag_type(source):
+    """The index of a tag's type."""
+    if source.byte():
+        raise Malformed('tag')
+    return index(source)
+
+
+def extern_type(source):
+    """The type of an import: its kind, and what tells the type of this kind."""
+    byte = source.byte()
+    if byte == 0:
+        return 'func', index(source)
+    if byte == 1:
+        return 'table', ref_type(source), limits(source)
+    if byte == 2:
+        return 'memory', limits(source)
+    if byte == 3:
+        return 'global', value_type(source), mutability(source)
+    if byte == 4:
+        return 'tag', tag_type(source)
+    raise Malformed('extern')
+
+
+def block_type(source):
+    """The index of a function type, or a list of no or one result."""
+    byte = source.peek()
+    if byte == 0x40:
+        source.byte()
+        return []
+    if byte in NUMBER_TYPES or byte in (NULLABLE, NOT_NULL) or byte in HEAP_TYPES:
+        return [value_type(source)]
+    return _signed_index(source, 'blocktype')

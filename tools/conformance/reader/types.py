@@ -1,0 +1,55 @@
+"""The types of the standard, and the two that only operands of unreachable code have."""
+
+from dataclasses import dataclass
+
+I32 = 'i32'
+I64 = 'i64'
+BOTTOM = 'bottom'       # below all value types
+
+
+@dataclass(frozen=True)
+class Ref:
+    """A reference type. Its heap type is a name or the index of a type."""
+
+    nullable: bool
+    heap: str | int
+
+    @property
+    def index(self):
+        """The index of the type that it refers to, where there is one."""
+        return self.heap if isinstance(self.heap, int) else None
+
+
+@dataclass(frozen=True)
+class BottomRef:
+    """The type of references to the bottom heap type, which is below all heap types."""
+
+    nullable: bool
+
+
+FUNCREF = Ref(True, 'func')
+
+
+@dataclass(frozen=True)
+class FuncType:
+    """The type of functions."""
+
+    kind = 'func'
+    parameters: list
+    results: list
+
+
+@dataclass(frozen=True)
+class ContType:
+    """The type of continuations of a function type, which is given by its index."""
+
+    kind = 'cont'
+    function: int
+
+
+@dataclass(frozen=True)
+class Limits:
+    """The limits of a table or of a memory."""
+
+    minimum: int
+    maximum: int | None
