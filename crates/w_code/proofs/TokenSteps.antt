@@ -2,25 +2,25 @@
 use Rattle.std.proofs.Common.{◌≡◌, ℕ, ◌<◌, ◌≤◌, List, length, drop, Some, None, refl, arith}
 use Rattle.std.proofs.lemmas.List.{length-drop}
 use Rattle.w_syntax.specs.declared.builder.BodyBuilder.{BodyBuilder}
-use Rattle.w_syntax.specs.declared.builder.Stepped.TheVariants as stepped
+use Rattle.w_syntax.specs.declared.builder.Progress.TheVariants as stepped
 use Rattle.w_syntax.specs.declared.instructions.Token.{Token}
 use Rattle.w_syntax.specs.Code.{Code, Done}
 use Rattle.w_syntax.specs.Tokens.{token}
 use Rattle.w_syntax.specs.Expr.{Path, Top, Outcome, More, Finished, Wrong, read_code, read_expr}
-use Rattle.w_syntax.specs.ExprExact.{none_left, token_shorter}
-use Rattle.w_syntax.specs.Stands.{Stands, SteppedTo, Holds}
+use Rattle.w_syntax.specs.ExprLaws.{none_left, token_shorter}
+use Rattle.w_syntax.specs.Builds.{Builds, ProgressTo, Holds}
 
-pub to_more : (o : Outcome) (s : BodyBuilder) → SteppedTo o stepped.More s → (q : Path) × (d : Code) × (o ≡ More q d) × Stands q d s
+pub to_more : (o : Outcome) (s : BodyBuilder) → ProgressTo o stepped.More s → (q : Path) × (d : Code) × (o ≡ More q d) × Builds q d s
 to_more (More q d) s h = (q, d, refl, h.1)
 to_more (Finished d) s h = let e = h.0 in absurd cc
 to_more Wrong s h = absurd cc
 
-pub to_finished : (o : Outcome) (s : BodyBuilder) → SteppedTo o stepped.Finished s → (d : Code) × (o ≡ Finished d) × Holds d s
+pub to_finished : (o : Outcome) (s : BodyBuilder) → ProgressTo o stepped.Finished s → (d : Code) × (o ≡ Finished d) × Holds d s
 to_finished (More q d) s h = let e = h.0 in absurd cc
 to_finished (Finished d) s h = (d, refl, h.1)
 to_finished Wrong s h = absurd cc
 
-pub to_wrong : (o : Outcome) (s : BodyBuilder) → SteppedTo o stepped.Wrong s → o ≡ Wrong
+pub to_wrong : (o : Outcome) (s : BodyBuilder) → ProgressTo o stepped.Wrong s → o ≡ Wrong
 to_wrong (More q d) s h = let e = h.0 in absurd cc
 to_wrong (Finished d) s h = let e = h.0 in absurd cc
 to_wrong Wrong s h = refl

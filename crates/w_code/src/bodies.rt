@@ -7,7 +7,7 @@ ghost use Rattle.w_syntax.specs.Fields.{expr};
 use crate::tokens::token_at;
 use std::alloc::{AllocError, Global};
 use w_fields::{Field, field_at};
-use w_syntax::{Body, BodyBuilder, Stepped};
+use w_syntax::{Body, BodyBuilder, Progress};
 
 // The body that stands at a place, token by token.
 fn body_at(alloc: Global, bytes: &[u8], at: usize) -> Result<Option<(Body, usize)>, AllocError>
@@ -21,9 +21,9 @@ fn body_at(alloc: Global, bytes: &[u8], at: usize) -> Result<Option<(Body, usize
         };
         place = next;
         match builder.push(token)? {
-            Stepped::More => {}
-            Stepped::Finished => return Ok(Some((builder.into_body(), next))),
-            Stepped::Wrong => return Ok(None),
+            Progress::More => {}
+            Progress::Finished => return Ok(Some((builder.into_body(), next))),
+            Progress::Wrong => return Ok(None),
         }
     }
     Ok(None)

@@ -6,7 +6,7 @@ ghost use Rattle.w_syntax.specs.Fields.{data_segment};
 
 use crate::bodies::expr_at;
 use std::alloc::{AllocError, Global};
-use w_fields::{Field, cut_at};
+use w_fields::{Field, sized_at};
 use w_leb::read_u32;
 use w_syntax::{Data, DataMode};
 use w_types::ListOf;
@@ -19,7 +19,7 @@ fn byte_string_at(
 ) -> Result<Option<(ListOf<u8>, usize)>, AllocError>
     ensures { IfOk result (ReadsAt byte_string.read bytes.now at) }
 {
-    let Some((start, end)) = cut_at(bytes, at) else {
+    let Some((start, end)) = sized_at(bytes, at) else {
         return Ok(None);
     };
     let copy = bytes[start..end].to_vec(alloc)?;

@@ -10,17 +10,7 @@ use std::alloc::{AllocError, Global};
 use w_fields::{Field, reftype_at, vec_at};
 use w_leb::{read_byte, read_u32};
 use w_syntax::{Body, Elem, ElemMode, Op, ReferenceOp};
-use w_types::{HeapType, ListOf, RefType};
-
-const FUNCTION: RefType = RefType {
-    nullable: false,
-    heap: HeapType::Func,
-};
-
-const FUNCTION_OR_NULL: RefType = RefType {
-    nullable: true,
-    heap: HeapType::Func,
-};
+use w_types::{ListOf, RefType};
 
 /// A function's index, as a kind of field: it stands for a reference to the function (Core, binary format, element section).
 pub struct FunctionItemField;
@@ -51,7 +41,7 @@ fn elemkind_at(bytes: &[u8], at: usize) -> Option<(RefType, usize)>
     if kind != 0x00 {
         return None;
     }
-    Some((FUNCTION, next))
+    Some((RefType::FUNC, next))
 }
 
 // A kind, and functions.
@@ -171,11 +161,11 @@ impl Field for ElemField {
             return Ok(None);
         };
         match form {
-            0 => in_first_table_at::<FunctionItemField>(alloc, bytes, next, FUNCTION),
+            0 => in_first_table_at::<FunctionItemField>(alloc, bytes, next, RefType::FUNC),
             1 => listed_at::<FunctionsField>(alloc, bytes, next, ElemMode::Passive),
             2 => in_table_at::<FunctionsField>(alloc, bytes, next),
             3 => listed_at::<FunctionsField>(alloc, bytes, next, ElemMode::Declarative),
-            4 => in_first_table_at::<BodyField>(alloc, bytes, next, FUNCTION_OR_NULL),
+            4 => in_first_table_at::<BodyField>(alloc, bytes, next, RefType::FUNCREF),
             5 => listed_at::<ExpressionsField>(alloc, bytes, next, ElemMode::Passive),
             6 => in_table_at::<ExpressionsField>(alloc, bytes, next),
             7 => listed_at::<ExpressionsField>(alloc, bytes, next, ElemMode::Declarative),

@@ -5,7 +5,7 @@ ghost use Rattle.w_syntax.specs.Fields.{func, code};
 use crate::bodies::expr_at;
 use crate::locals::locals_at;
 use std::alloc::{AllocError, Global};
-use w_fields::{Field, cut_at, whole_of};
+use w_fields::{Field, sized_at, whole_of};
 use w_syntax::Func;
 
 // What stands behind the size of a function: its locals, and an expression.
@@ -38,7 +38,7 @@ impl Field for FuncField {
 
     #[tactic(auto, unfolding(w_syntax::specs::Fields::code))]
     fn read(alloc: Global, bytes: &[u8], at: usize) -> Result<Option<(Func, usize)>, AllocError> {
-        let Some((start, end)) = cut_at(bytes, at) else {
+        let Some((start, end)) = sized_at(bytes, at) else {
             return Ok(None);
         };
         let Some(function) = whole_of::<SizedFuncField>(alloc, &bytes[start..end])? else {

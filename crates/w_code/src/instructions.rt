@@ -13,7 +13,7 @@ use crate::switching::switching_at;
 use std::alloc::{AllocError, Global};
 use w_fields::{Field, ValTypeField, field_at, heaptype_at, vec_at};
 use w_leb::{read_byte, read_u32};
-use w_syntax::{Op, Parametric, ReferenceOp, TableOp, VariableOp};
+use w_syntax::{Op, ParametricOp, ReferenceOp, TableOp, VariableOp};
 
 // Memory and numeric instructions.
 #[tactic(auto, unfolding(w_syntax::specs::Tokens::plain, w_syntax::specs::Tokens::memory_op))]
@@ -47,13 +47,13 @@ fn parametric_at(alloc: Global, bytes: &[u8], at: usize) -> Result<Option<(Op, u
         return Ok(None);
     };
     match tag {
-        0x1A => Ok(Some((Op::Parametric(Parametric::Drop), next))),
-        0x1B => Ok(Some((Op::Parametric(Parametric::Select), next))),
+        0x1A => Ok(Some((Op::Parametric(ParametricOp::Drop), next))),
+        0x1B => Ok(Some((Op::Parametric(ParametricOp::Select), next))),
         0x1C => {
             let Some((kinds, next)) = vec_at::<ValTypeField>(alloc, bytes, next)? else {
                 return Ok(None);
             };
-            Ok(Some((Op::Parametric(Parametric::SelectOf(kinds)), next)))
+            Ok(Some((Op::Parametric(ParametricOp::SelectOf(kinds)), next)))
         }
         _ => Ok(None),
     }

@@ -5,24 +5,24 @@ mod bodies;
 mod bulk;
 mod control;
 mod datas;
-mod definitions;
 mod elements;
 mod functions;
+mod globals;
 mod instructions;
 mod locals;
 mod memory;
 mod numeric;
 mod switching;
-#[cfg(test)]
-mod tests;
+mod tables;
 mod tokens;
 
 pub use bodies::{BodyField, expr_at};
 pub use datas::DataField;
-pub use definitions::{GlobalField, TableField};
 pub use elements::{ElemField, FunctionItemField};
 pub use functions::FuncField;
+pub use globals::GlobalField;
 pub use instructions::instruction_at;
 pub use locals::LocalRunField;
 pub use switching::ClauseField;
+pub use tables::TableField;
 pub use tokens::token_at;

@@ -4,7 +4,7 @@ ghost use Rattle.w_leb.specs.Formats.{◌⇒◌};
 ghost use Rattle.w_syntax.specs.Tokens.{memarg, memory_op};
 
 use w_leb::{read_byte, read_u32, read_u64};
-use w_syntax::{Load, MemArg, MemoryOp, Store};
+use w_syntax::{LoadOp, MemArg, MemoryOp, StoreOp};
 
 // The exponent of the alignment, and the offset.
 #[tactic(auto, unfolding(w_syntax::specs::Tokens::memarg))]
@@ -24,7 +24,7 @@ fn memarg_at(bytes: &[u8], at: usize) -> Option<(MemArg, usize)>
 }
 
 // What stands behind the opcode of a load.
-fn load_at(bytes: &[u8], at: usize, load: Load) -> Option<(MemoryOp, usize)>
+fn load_at(bytes: &[u8], at: usize, load: LoadOp) -> Option<(MemoryOp, usize)>
     ensures { ReadsAt (memarg ⇒ MemoryOp.Load load).read bytes.now at result }
 {
     let Some((memarg, next)) = memarg_at(bytes, at) else {
@@ -34,7 +34,7 @@ fn load_at(bytes: &[u8], at: usize, load: Load) -> Option<(MemoryOp, usize)>
 }
 
 // What stands behind the opcode of a store.
-fn store_at(bytes: &[u8], at: usize, store: Store) -> Option<(MemoryOp, usize)>
+fn store_at(bytes: &[u8], at: usize, store: StoreOp) -> Option<(MemoryOp, usize)>
     ensures { ReadsAt (memarg ⇒ MemoryOp.Store store).read bytes.now at result }
 {
     let Some((memarg, next)) = memarg_at(bytes, at) else {
@@ -52,25 +52,25 @@ pub(crate) fn memory_op_at(bytes: &[u8], at: usize) -> Option<(MemoryOp, usize)>
         return None;
     };
     match tag {
-        0x28 => load_at(bytes, next, Load::I32Load),
-        0x29 => load_at(bytes, next, Load::I64Load),
-        0x2C => load_at(bytes, next, Load::I32Load8S),
-        0x2D => load_at(bytes, next, Load::I32Load8U),
-        0x2E => load_at(bytes, next, Load::I32Load16S),
-        0x2F => load_at(bytes, next, Load::I32Load16U),
-        0x30 => load_at(bytes, next, Load::I64Load8S),
-        0x31 => load_at(bytes, next, Load::I64Load8U),
-        0x32 => load_at(bytes, next, Load::I64Load16S),
-        0x33 => load_at(bytes, next, Load::I64Load16U),
-        0x34 => load_at(bytes, next, Load::I64Load32S),
-        0x35 => load_at(bytes, next, Load::I64Load32U),
-        0x36 => store_at(bytes, next, Store::I32Store),
-        0x37 => store_at(bytes, next, Store::I64Store),
-        0x3A => store_at(bytes, next, Store::I32Store8),
-        0x3B => store_at(bytes, next, Store::I32Store16),
-        0x3C => store_at(bytes, next, Store::I64Store8),
-        0x3D => store_at(bytes, next, Store::I64Store16),
-        0x3E => store_at(bytes, next, Store::I64Store32),
+        0x28 => load_at(bytes, next, LoadOp::I32Load),
+        0x29 => load_at(bytes, next, LoadOp::I64Load),
+        0x2C => load_at(bytes, next, LoadOp::I32Load8S),
+        0x2D => load_at(bytes, next, LoadOp::I32Load8U),
+        0x2E => load_at(bytes, next, LoadOp::I32Load16S),
+        0x2F => load_at(bytes, next, LoadOp::I32Load16U),
+        0x30 => load_at(bytes, next, LoadOp::I64Load8S),
+        0x31 => load_at(bytes, next, LoadOp::I64Load8U),
+        0x32 => load_at(bytes, next, LoadOp::I64Load16S),
+        0x33 => load_at(bytes, next, LoadOp::I64Load16U),
+        0x34 => load_at(bytes, next, LoadOp::I64Load32S),
+        0x35 => load_at(bytes, next, LoadOp::I64Load32U),
+        0x36 => store_at(bytes, next, StoreOp::I32Store),
+        0x37 => store_at(bytes, next, StoreOp::I64Store),
+        0x3A => store_at(bytes, next, StoreOp::I32Store8),
+        0x3B => store_at(bytes, next, StoreOp::I32Store16),
+        0x3C => store_at(bytes, next, StoreOp::I64Store8),
+        0x3D => store_at(bytes, next, StoreOp::I64Store16),
+        0x3E => store_at(bytes, next, StoreOp::I64Store32),
         0x3F => {
             let Some((memory, next)) = read_u32(bytes, next) else {
                 return None;

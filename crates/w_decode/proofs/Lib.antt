@@ -1,1 +1,2 @@
 mod OneSection
+pub mod ReadingExact

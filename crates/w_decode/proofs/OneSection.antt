@@ -3,25 +3,25 @@ use Rattle.std.proofs.Common.{◌≡◌, ◌≢◌, ℕ, ◌+◌, ◌-◌, ◌<�
 use Rattle.std.specs.Prelude.{IfOk, IfErr}
 use Rattle.std.proofs.lemmas.List.{length-drop, drop_all}
 use Rattle.w_syntax.specs.Sections.{section_of}
-use Rattle.w_decode.specs.Reading.{nothing_gathered, gather, counts_agree, Framed, framed, with_content, read_sections, counted_module, decoded, behind, with_header}
+use Rattle.w_decode.specs.Reading.{no_sections, with_section, counts_agree, Framed, framed, with_content, read_sections, counted_module, decoded, behind, with_header}
 use Rattle.w_syntax.specs.Module.{header}
-use Rattle.w_decode.specs.ReadingExact.{one_on, onward, framed_some, longer, enough, decoded_means, spelled_decoded, fault_decoded, Means}
+use Rattle.w_decode.proofs.ReadingExact.{one_on, onward, framed_some, longer, enough, decoded_means, spelled_decoded, fault_decoded, Means}
 use Rattle.w_decode.specs.Places.{Gives}
 use Rattle.w_decode.specs.Faults.{HasFault, IsAnswer}
 use Rattle.w_syntax.specs.Spells.{Spells}
-use Rattle.w_decode.specs.declared.sections.Gathered.{Gathered}
+use Rattle.w_decode.specs.declared.sections.PartialModule.{PartialModule}
 use Rattle.w_syntax.specs.declared.module.Module.{Module}
-use Rattle.w_syntax.specs.declared.module.Part.{Part}
+use Rattle.w_syntax.specs.declared.module.Section.{Section}
 use Rattle.w_decode.specs.declared.fault.DecodeFault.{DecodeFault}
 use Rattle.w_decode.specs.declared.fault.DecodeFault.TheVariants as fault
 
-pub starts : (b : List ℕ) → behind header b ≡ Some (drop 8 b) → read_sections (length (drop 8 b)) 0 0 nothing_gathered (drop 8 b) ≡ decoded b
+pub starts : (b : List ℕ) → behind header b ≡ Some (drop 8 b) → read_sections (length (drop 8 b)) 0 0 no_sections (drop 8 b) ≡ decoded b
 unfolding decoded
-starts b h = sym (ap (λ (o : Option (List ℕ)). with_header o (λ rest. read_sections (length rest) 0 0 nothing_gathered rest)) h)
+starts b h = sym (ap (λ (o : Option (List ℕ)). with_header o (λ rest. read_sections (length rest) 0 0 no_sections rest)) h)
 
 pub no_header : (b : List ℕ) → behind header b ≡ None → decoded b ≡ Err fault.Header
 unfolding decoded
-no_header b h = ap (λ (o : Option (List ℕ)). with_header o (λ rest. read_sections (length rest) 0 0 nothing_gathered rest)) h
+no_header b h = ap (λ (o : Option (List ℕ)). with_header o (λ rest. read_sections (length rest) 0 0 no_sections rest)) h
 
 some_left : (b : List ℕ) (at : ℕ) → at < length b → drop at b ≢ []
 some_left b at lt e = absurd (omega (arith, ap length e, length-drop at b))
@@ -31,30 +31,30 @@ moves b at end k s h le =
     let a = framed_some k (drop at b) s (drop end b) h in
     omega (arith, longer (drop at b) a.0 (drop end b) (s.1, s.2) a.1 a.2, length-drop at b, length-drop end b)
 
-pub bad_frame : (b : List ℕ) (at i k : ℕ) (m : Gathered) → at < length b → framed k (drop at b) ≡ None → read_sections (length (drop at b)) i k m (drop at b) ≡ Err (fault.Frame i)
+pub bad_frame : (b : List ℕ) (at i k : ℕ) (m : PartialModule) → at < length b → framed k (drop at b) ≡ None → read_sections (length (drop at b)) i k m (drop at b) ≡ Err (fault.Frame i)
 bad_frame b at i k m lt h = one_on i k m (drop at b) (some_left b at lt) ∙ ap (onward (length (drop at b) - 1) i m) h
 
-pub bad_content : (b : List ℕ) (at end i k j id : ℕ) (m : Gathered) (c : List ℕ) → at < length b → framed k (drop at b) ≡ Some ((j, id, c), drop end b) → section_of (id, c) ≡ None → read_sections (length (drop at b)) i k m (drop at b) ≡ Err (fault.Content i)
+pub bad_content : (b : List ℕ) (at end i k j id : ℕ) (m : PartialModule) (c : List ℕ) → at < length b → framed k (drop at b) ≡ Some ((j, id, c), drop end b) → section_of (id, c) ≡ None → read_sections (length (drop at b)) i k m (drop at b) ≡ Err (fault.Content i)
 bad_content b at end i k j id m c lt h s =
     one_on i k m (drop at b) (some_left b at lt) ∙ ap (onward (length (drop at b) - 1) i m) h
-    ∙ ap (λ (o : Option Part). with_content i o (λ p. read_sections (length (drop at b) - 1) (i + 1) j (gather p m) (drop end b))) s
+    ∙ ap (λ (o : Option Section). with_content i o (λ p. read_sections (length (drop at b) - 1) (i + 1) j (with_section p m) (drop end b))) s
 
-pub goes_on : (b : List ℕ) (at end i k j id : ℕ) (m : Gathered) (c : List ℕ) (p : Part) → at < length b → end ≤ length b → framed k (drop at b) ≡ Some ((j, id, c), drop end b) → section_of (id, c) ≡ Some p
-    → read_sections (length (drop at b)) i k m (drop at b) ≡ read_sections (length (drop end b)) (i + 1) j (gather p m) (drop end b)
+pub goes_on : (b : List ℕ) (at end i k j id : ℕ) (m : PartialModule) (c : List ℕ) (p : Section) → at < length b → end ≤ length b → framed k (drop at b) ≡ Some ((j, id, c), drop end b) → section_of (id, c) ≡ Some p
+    → read_sections (length (drop at b)) i k m (drop at b) ≡ read_sections (length (drop end b)) (i + 1) j (with_section p m) (drop end b)
 goes_on b at end i k j id m c p lt le h s =
     let mv = moves b at end k (j, id, c) h le in
     one_on i k m (drop at b) (some_left b at lt) ∙ ap (onward (length (drop at b) - 1) i m) h
-    ∙ ap (λ (o : Option Part). with_content i o (λ p. read_sections (length (drop at b) - 1) (i + 1) j (gather p m) (drop end b))) s
-    ∙ enough (length (drop at b) - 1) (length (drop end b)) (i + 1) j (gather p m) (drop end b) (omega (arith, length-drop at b, length-drop end b)) (omega arith)
+    ∙ ap (λ (o : Option Section). with_content i o (λ p. read_sections (length (drop at b) - 1) (i + 1) j (with_section p m) (drop end b))) s
+    ∙ enough (length (drop at b) - 1) (length (drop end b)) (i + 1) j (with_section p m) (drop end b) (omega (arith, length-drop at b, length-drop end b)) (omega arith)
 
-pub all_read : (b : List ℕ) (at i k : ℕ) (m : Gathered) → length b ≤ at → read_sections (length (drop at b)) i k m (drop at b) ≡ counted_module m
+pub all_read : (b : List ℕ) (at i k : ℕ) (m : PartialModule) → length b ≤ at → read_sections (length (drop at b)) i k m (drop at b) ≡ counted_module m
 unfolding read_sections
 all_read b at i k m le = ap (λ (l : List ℕ). read_sections (length l) i k m l) (drop_all at b le)
 
-pub differ : (g : Gathered) (v : Bool) → v ≡ counts_agree g → v ≡ false → counted_module g ≡ Err fault.Counts
+pub differ : (g : PartialModule) (v : Bool) → v ≡ counts_agree g → v ≡ false → counted_module g ≡ Err fault.Counts
 differ g v e h = ap (λ (w : Bool). cond w (Ok g.tree) (Err fault.Counts)) (sym e ∙ h)
 
-pub same : (g : Gathered) (v : Bool) → v ≡ counts_agree g → v ≡ true → counted_module g ≡ Ok g.tree
+pub same : (g : PartialModule) (v : Bool) → v ≡ counts_agree g → v ≡ true → counted_module g ≡ Ok g.tree
 same g v e h = ap (λ (w : Bool). cond w (Ok g.tree) (Err fault.Counts)) (sym e ∙ h)
 
 -- ## The clauses of `decode`

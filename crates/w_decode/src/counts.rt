@@ -2,8 +2,8 @@
 ghost use Rattle.std.specs.Prelude.{◌≡◌};
 ghost use Rattle.w_decode.specs.Reading.{data_agrees as data_agreed, counts_agree as counts_agreed};
 
-use crate::sections::Gathered;
-use w_syntax::{Module, some_names_data};
+use crate::sections::PartialModule;
+use w_syntax::{Module, any_uses_data};
 
 // Whether a data count agrees with the module.
 fn data_agrees(count: Option<u32>, tree: &Module) -> bool
@@ -11,12 +11,12 @@ fn data_agrees(count: Option<u32>, tree: &Module) -> bool
 {
     match count {
         Some(count) => count as usize == tree.datas.len(),
-        None => !some_names_data(tree.codes.as_slice()),
+        None => !any_uses_data(tree.codes.as_slice()),
     }
 }
 
 /// Whether each function has its code, and the data count agrees.
-pub(crate) fn counts_agree(so_far: &Gathered) -> bool
+pub(crate) fn counts_agree(so_far: &PartialModule) -> bool
     ensures { result ≡ counts_agreed so_far.now }
 {
     so_far.tree.functions.len() == so_far.tree.codes.len()

@@ -4,7 +4,7 @@ ghost use Rattle.w_syntax.specs.Module.{header};
 ghost use Rattle.w_syntax.specs.Spells.{Spells};
 ghost use Rattle.w_syntax.specs.declared.module.Module.{Module as TheModule};
 ghost use Rattle.w_decode.specs.Faults.{HasFault, IsAnswer};
-ghost use Rattle.w_decode.specs.Reading.{decoded, behind, nothing_gathered};
+ghost use Rattle.w_decode.specs.Reading.{decoded, behind, no_sections};
 ghost use Rattle.w_decode.specs.Places.{Gives};
 ghost use Rattle.w_decode.specs.declared.fault.DecodeFault.{DecodeFault as TheFault};
 ghost use Rattle.w_decode.specs.declared.fault.DecodeFault.TheVariants.{OutOfMemory};
@@ -12,10 +12,9 @@ ghost use Rattle.w_decode.specs.declared.fault.DecodeFault.TheVariants.{OutOfMem
 use crate::counts::counts_agree;
 use crate::fault::DecodeFault;
 use crate::frames::{Frame, frame_at};
-use crate::sections::{Gathered, add_part, part_of};
+use crate::sections::{PartialModule, add_section, section_at};
 use std::alloc::Global;
 use w_syntax::Module;
-use w_types::{ListOf, RecGroups};
 
 // Whether the header stands at the front.
 #[tactic(auto, unfolding(crate::specs::Reading::behind))]
@@ -27,25 +26,11 @@ fn has_header(bytes: &[u8]) -> bool
 }
 
 // No sections yet.
-fn nothing(alloc: Global) -> Gathered
-    ensures { result ≡ nothing_gathered }
+fn nothing(alloc: Global) -> PartialModule
+    ensures { result ≡ no_sections }
 {
-    let tree = Module {
-        types: RecGroups::new(alloc),
-        imports: ListOf::new(alloc),
-        functions: ListOf::new(alloc),
-        tables: ListOf::new(alloc),
-        memories: ListOf::new(alloc),
-        tags: ListOf::new(alloc),
-        globals: ListOf::new(alloc),
-        exports: ListOf::new(alloc),
-        start: None,
-        elements: ListOf::new(alloc),
-        codes: ListOf::new(alloc),
-        datas: ListOf::new(alloc),
-    };
-    Gathered {
-        tree,
+    PartialModule {
+        tree: Module::empty(alloc),
         data_count: None,
     }
 }
@@ -71,10 +56,10 @@ fn decode_exactly(alloc: Global, bytes: &[u8]) -> Result<Module, DecodeFault>
             start,
             end,
         } = frame;
-        let Some(part) = part_of(alloc, id, &bytes[start..end])? else {
+        let Some(part) = section_at(alloc, id, &bytes[start..end])? else {
             return Err(DecodeFault::Content(number));
         };
-        add_part(&mut so_far, part);
+        add_section(&mut so_far, part);
         place = end;
         last = rank;
         number += 1;
@@ -82,7 +67,7 @@ fn decode_exactly(alloc: Global, bytes: &[u8]) -> Result<Module, DecodeFault>
     if !counts_agree(&so_far) {
         return Err(DecodeFault::Counts);
     }
-    let Gathered {
+    let PartialModule {
         tree,
         data_count: _,
     } = so_far;

@@ -3,7 +3,7 @@ ghost use Rattle.std.specs.Prelude.{◌≡◌};
 ghost use Rattle.w_syntax.specs.Sections.{rank as rank_of, next_rank as rank_next};
 ghost use Rattle.w_decode.specs.Places.{FrameAt};
 
-use w_fields::cut_at;
+use w_fields::sized_at;
 use w_leb::read_byte;
 
 /// A section by its places: where its id stands among the others, the id, and where its contents begin and end.
@@ -59,7 +59,7 @@ pub(crate) fn frame_at(bytes: &[u8], at: usize, last: u8) -> Option<Frame>
     let Some((id, next)) = read_byte(bytes, at) else {
         return None;
     };
-    let Some((start, end)) = cut_at(bytes, next) else {
+    let Some((start, end)) = sized_at(bytes, next) else {
         return None;
     };
     let Some(rank) = next_rank(last, id) else {

@@ -6,8 +6,6 @@ mod decoding;
 mod fault;
 mod frames;
 mod sections;
-#[cfg(test)]
-mod tests;
 
 pub use decoding::{decode, one_module};
 pub use fault::DecodeFault;

@@ -7,17 +7,17 @@ use Rattle.std.proofs.lemmas.Bool.{lt-ltb}
 use Rattle.w_leb.specs.Format.{Format, Each, Counted}
 use Rattle.w_leb.specs.Formats.{any_byte, vec, number}
 use Rattle.w_leb.specs.Number.{shortest, shortest_in}
-use Rattle.w_leb.specs.Shortest.{shortest_spells, shortest_is_short, within_bits}
-use Rattle.w_leb.specs.Canonical.{IsCanonical, canon_vec, canon_number, vec_written, sized_written, each_byte}
-use Rattle.w_leb.specs.CanonicalTables.{◌&◌}
+use Rattle.w_leb.specs.ShortestLaws.{shortest_spells, shortest_is_short, within_bits}
+use Rattle.w_leb.specs.CanonicalLaws.{IsCanonical, canon_vec, canon_number, vec_written, sized_written, each_byte}
+use Rattle.w_leb.specs.CanonicalTableLaws.{◌&◌}
 use Rattle.w_syntax.specs.declared.module.Module.{Module}
-use Rattle.w_syntax.specs.declared.module.Part.{Part}
-use Rattle.w_syntax.specs.declared.module.Part.TheVariants as part
+use Rattle.w_syntax.specs.declared.module.Section.{Section}
+use Rattle.w_syntax.specs.declared.module.Section.TheVariants as part
 use Rattle.w_syntax.specs.Types.{rectype, limits}
 use Rattle.w_syntax.specs.Fields.{tag, import, export, table_of, global, elem, data_segment, code}
 use Rattle.w_syntax.specs.Contents.{Contents, IsChosen}
 use Rattle.w_syntax.specs.Sections.{frame, kinds, IsSection, section, rank, next_rank, id_of, rank_after}
-use Rattle.w_syntax.specs.Module.{nothing_yet, with_part, with_parts, header, some_names_data, with_count, count_after, DataAgrees}
+use Rattle.w_syntax.specs.Module.{empty_module, with_contents, with_all_contents, header, any_uses_data, with_count, count_after, DataAgrees}
 use Rattle.w_syntax.specs.Spells.{Spells}
 use Rattle.w_encode.specs.TypesWritten.{rectype_written, limits_written}
 use Rattle.w_encode.specs.FieldsWritten.{import_written, tag_written, export_written, table_written, global_written, elem_written, data_written}
@@ -31,7 +31,7 @@ use Rattle.w_encode.proofs.FunctionsCanonical.{canon_code}
 -- ## What the sections say
 
 -- what contents say, by the part that they are
-abbrev Says : List ℕ → Part → Type 0
+abbrev Says : List ℕ → Section → Type 0
 Says b part.Custom = Unit {0}
 Says b (part.Types ts) = (vec rectype).Spells b ts
 Says b (part.Imports is) = (vec import).Spells b is
@@ -50,13 +50,13 @@ Says b (part.Datas ds) = (vec data_segment).Spells b ds
 -- what is asked of each kind of contents
 abbrev AllSay : List (ℕ × Contents) → Type 0
 AllSay [] = Unit {0}
-AllSay (e ∷ es) = ((b : List ℕ) (p : Part) → e.1.Say b p → Says b p) × AllSay es
+AllSay (e ∷ es) = ((b : List ℕ) (p : Section) → e.1.Say b p → Says b p) × AllSay es
 
-chosen_says : (es : List (ℕ × Contents)) → AllSay es → (id : ℕ) (b : List ℕ) (p : Part) → IsChosen es id b p → Says b p
+chosen_says : (es : List (ℕ × Contents)) → AllSay es → (id : ℕ) (b : List ℕ) (p : Section) → IsChosen es id b p → Says b p
 chosen_says [] a id b p h = absurd h
 chosen_says (e ∷ es) a id b p h = in_either (nat_eq id e.0) (e.1.Say b p) (IsChosen es id b p) (Says b p) (a.0 b p) (chosen_says es a.1 id b p) h
 
-section_says : (f : ℕ × List ℕ) (p : Part) → IsSection f p → Says f.1 p
+section_says : (f : ℕ × List ℕ) (p : Section) → IsSection f p → Says f.1 p
 unfolding IsSection
 section_says f p h = chosen_says kinds
     ((λ b p h. subst (Says b) (sym h.5) tt)
@@ -77,8 +77,8 @@ section_says f p h = chosen_says kinds
     f.0 f.1 p h
 
 -- a list that is empty, or that at most n bytes spell
-abbrev Within : {A : Type 0} → Format A → ℕ → List A → Type 0
-Within f n xs = (xs ≡ []) ⊎ ((e : List ℕ) × (vec f).Spells e xs × (length e ≤ n))
+abbrev Decoded : {A : Type 0} → Format A → ℕ → List A → Type 0
+Decoded f n xs = (xs ≡ []) ⊎ ((e : List ℕ) × (vec f).Spells e xs × (length e ≤ n))
 
 abbrev StartWithin : Option ℕ → Type 0
 StartWithin None = Unit {0}
@@ -87,20 +87,20 @@ StartWithin (Some x) = x < 2 ^ 32
 -- each list of the module is, in the order of its fields, and the start function is a number of 32 bits
 abbrev Lists : ℕ → Module → Type 0
 Lists n m =
-    Within rectype n m.types
-    × Within import n m.imports
-    × Within (number 32) n m.functions
-    × Within table_of n m.tables
-    × Within limits n m.memories
-    × Within tag n m.tags
-    × Within global n m.globals
-    × Within export n m.exports
+    Decoded rectype n m.types
+    × Decoded import n m.imports
+    × Decoded (number 32) n m.functions
+    × Decoded table_of n m.tables
+    × Decoded limits n m.memories
+    × Decoded tag n m.tags
+    × Decoded global n m.globals
+    × Decoded export n m.exports
     × StartWithin m.start
-    × Within elem n m.elements
-    × Within code n m.codes
-    × Within data_segment n m.datas
+    × Decoded elem n m.elements
+    × Decoded code n m.codes
+    × Decoded data_segment n m.datas
 
-one_list : (n : ℕ) (m : Module) (p : Part) (b : List ℕ) → Says b p → length b ≤ n → Lists n m → Lists n (with_part p m)
+one_list : (n : ℕ) (m : Module) (p : Section) (b : List ℕ) → Says b p → length b ≤ n → Lists n m → Lists n (with_contents p m)
 one_list n m part.Custom b h le l = l
 one_list n m (part.Types ts) b h le l = (inr (b, h, le), l.1, l.2, l.3, l.4, l.5, l.6, l.7, l.8, l.9, l.10, l.11)
 one_list n m (part.Imports is) b h le l = (l.0, inr (b, h, le), l.2, l.3, l.4, l.5, l.6, l.7, l.8, l.9, l.10, l.11)
@@ -125,27 +125,27 @@ frame_len : (a : List ℕ) (f : ℕ × List ℕ) → frame.Spells a f → length
 unfolding frame Counted
 frame_len a f h = let c = h.4 in omega (arith, ap length h.2, length-append h.0 h.1, ap length c.2, length-append c.0 c.1, bytes_len c.1 f.1 c.4)
 
-all_lists : (n : ℕ) (ps : List Part) (c : List ℕ) (m : Module) → Each section.Spells c ps → length c ≤ n → Lists n m → Lists n (with_parts m ps)
-unfolding Each with_parts section
+all_lists : (n : ℕ) (ps : List Section) (c : List ℕ) (m : Module) → Each section.Spells c ps → length c ≤ n → Lists n m → Lists n (with_all_contents m ps)
+unfolding Each with_all_contents section
 all_lists n [] c m h le l = l
 all_lists n (p ∷ ps) c m h le l =
     let f = h.3.0 in
     let len : length c ≡ length h.0 + length h.1 = ap length h.2 ∙ length-append h.0 h.1 in
-    all_lists n ps h.1 (with_part p m) h.4 (omega arith) (one_list n m p f.1 (section_says f p h.3.2) (omega (arith, frame_len h.0 f h.3.1)) l)
+    all_lists n ps h.1 (with_contents p m) h.4 (omega arith) (one_list n m p f.1 (section_says f p h.3.2) (omega (arith, frame_len h.0 f h.3.1)) l)
 
 lists_of : (b : List ℕ) (m : Module) → Spells b m → length b ≤ 2 ^ 30 → Lists (2 ^ 30) m
 lists_of b m h le =
     let s = h.2 in
     let len : length b ≡ length header + (length s.sections + 0) = ap length s.parts ∙ length-append header (s.sections ++ []) ∙ ap (λ (n : ℕ). length header + n) (length-append s.sections []) in
-    subst (Lists (2 ^ 30)) h.3 (all_lists (2 ^ 30) h.0 s.sections nothing_yet s.each (omega arith) (inl refl, inl refl, inl refl, inl refl, inl refl, inl refl, inl refl, inl refl, tt, inl refl, inl refl, inl refl))
+    subst (Lists (2 ^ 30)) h.3 (all_lists (2 ^ 30) h.0 s.sections empty_module s.each (omega arith) (inl refl, inl refl, inl refl, inl refl, inl refl, inl refl, inl refl, inl refl, tt, inl refl, inl refl, inl refl))
 
 -- ## A section that is written
 
-section_spelled : (id : ℕ) (e : List ℕ) (p : Part) → length e < 2 ^ 32 → IsSection (id, e) p → section.Spells (id ∷ (shortest (length e) ++ e)) p
+section_spelled : (id : ℕ) (e : List ℕ) (p : Section) → length e < 2 ^ 32 → IsSection (id, e) p → section.Spells (id ∷ (shortest (length e) ++ e)) p
 unfolding section frame Counted
 section_spelled id e p lt h = ((id, e), (id ∷ [], shortest (length e) ++ e, refl, refl, (shortest (length e), e, refl, shortest_spells 9 32 (length e) (omega arith) lt, each_byte e)), h)
 
-each_one : (a : List ℕ) (p : Part) → section.Spells a p → Each section.Spells a (p ∷ [])
+each_one : (a : List ℕ) (p : Section) → section.Spells a p → Each section.Spells a (p ∷ [])
 unfolding Each
 each_one a p h = (a, [], sym (append-nil a), h, refl)
 
@@ -153,21 +153,21 @@ each_none : Each section.Spells [] []
 unfolding Each
 each_none = refl
 
-each_both : (ps qs : List Part) (a b : List ℕ) → Each section.Spells a ps → Each section.Spells b qs → Each section.Spells (a ++ b) (ps ++ qs)
+each_both : (ps qs : List Section) (a b : List ℕ) → Each section.Spells a ps → Each section.Spells b qs → Each section.Spells (a ++ b) (ps ++ qs)
 unfolding Each
 each_both [] qs a b h g = subst (λ (l : List ℕ). Each section.Spells (l ++ b) qs) (sym h) g
 each_both (p ∷ ps) qs a b h g = (h.0, h.1 ++ b, ap (λ (l : List ℕ). l ++ b) h.2 ∙ append_assoc h.0 h.1 b, h.3, each_both ps qs h.1 b h.4 g)
 
 -- the part of a list, where it is not empty
-abbrev part_of : {A : Type 0} → (List A → Part) → List A → List Part
-part_of make [] = []
-part_of make (x ∷ xs) = make (x ∷ xs) ∷ []
+abbrev section_of_list : {A : Type 0} → (List A → Section) → List A → List Section
+section_of_list make [] = []
+section_of_list make (x ∷ xs) = make (x ∷ xs) ∷ []
 
-abbrev number_part : (ℕ → Part) → Option ℕ → List Part
+abbrev number_part : (ℕ → Section) → Option ℕ → List Section
 number_part make None = []
 number_part make (Some n) = make n ∷ []
 
-list_spelled : {A : Type 0} (f : Format A) (w : A → List ℕ) (id : ℕ) (make : List A → Part) (xs : List A) → IsCanonical f w → Within f (2 ^ 30) xs → ((e : List ℕ) (ys : List A) → (vec f).Spells e ys → IsSection (id, e) (make ys)) → Each section.Spells (list_section id w xs) (part_of make xs)
+list_spelled : {A : Type 0} (f : Format A) (w : A → List ℕ) (id : ℕ) (make : List A → Section) (xs : List A) → IsCanonical f w → Decoded f (2 ^ 30) xs → ((e : List ℕ) (ys : List A) → (vec f).Spells e ys → IsSection (id, e) (make ys)) → Each section.Spells (list_section id w xs) (section_of_list make xs)
 list_spelled f w id make [] p h s = each_none
 list_spelled f w id make (x ∷ xs) p (inl e) s = absurd cc
 list_spelled f w id make (x ∷ xs) p (inr h) s =
@@ -185,7 +185,7 @@ unfolding shortest_in
 few_bytes zero n = omega arith
 few_bytes (suc k) n = few_or (nat_lt n 128) k n (few_bytes k (n / 128))
 
-number_spelled : (id : ℕ) (make : ℕ → Part) (o : Option ℕ) → StartWithin o → ((e : List ℕ) (n : ℕ) → (number 32).Spells e n → IsSection (id, e) (make n)) → Each section.Spells (number_section id o) (number_part make o)
+number_spelled : (id : ℕ) (make : ℕ → Section) (o : Option ℕ) → StartWithin o → ((e : List ℕ) (n : ℕ) → (number 32).Spells e n → IsSection (id, e) (make n)) → Each section.Spells (number_section id o) (number_part make o)
 number_spelled id make None h s = each_none
 number_spelled id make (Some n) h s =
     let e = shortest n in
@@ -194,46 +194,46 @@ number_spelled id make (Some n) h s =
 
 -- ## The sections in their order
 
-abbrev parts_of : Module → List Part
+abbrev parts_of : Module → List Section
 parts_of m =
-    part_of part.Types m.types
-    ++ (part_of part.Imports m.imports
-    ++ (part_of part.Functions m.functions
-    ++ (part_of part.Tables m.tables
-    ++ (part_of part.Memories m.memories
-    ++ (part_of part.Tags m.tags
-    ++ (part_of part.Globals m.globals
-    ++ (part_of part.Exports m.exports
+    section_of_list part.Types m.types
+    ++ (section_of_list part.Imports m.imports
+    ++ (section_of_list part.Functions m.functions
+    ++ (section_of_list part.Tables m.tables
+    ++ (section_of_list part.Memories m.memories
+    ++ (section_of_list part.Tags m.tags
+    ++ (section_of_list part.Globals m.globals
+    ++ (section_of_list part.Exports m.exports
     ++ (number_part part.Start m.start
-    ++ (part_of part.Elements m.elements
+    ++ (section_of_list part.Elements m.elements
     ++ (number_part part.DataCount (data_count m)
-    ++ (part_of part.Codes m.codes
-    ++ part_of part.Datas m.datas)))))))))))
+    ++ (section_of_list part.Codes m.codes
+    ++ section_of_list part.Datas m.datas)))))))))))
 
 -- after a rank up to j these parts are in order
-abbrev StandsAfter : ℕ → List Part → Type 0
+abbrev StandsAfter : ℕ → List Section → Type 0
 StandsAfter j ps = (k : ℕ) → k ≤ j → (r : ℕ) × (rank_after k ps ≡ Some r)
 
 none_stands : (j : ℕ) → StandsAfter j []
 unfolding rank_after
 none_stands j k le = (k, refl)
 
-earlier : (j : ℕ) (ps : List Part) → StandsAfter (suc j) ps → StandsAfter j ps
+earlier : (j : ℕ) (ps : List Section) → StandsAfter (suc j) ps → StandsAfter j ps
 earlier j ps s k le = s k (omega arith)
 
 -- a part of the next rank before them
-part_stands : (j : ℕ) (p : Part) (ps : List Part) → nat_eq (id_of p) 0x00 ≡ false → rank (id_of p) ≡ Some (suc j) → StandsAfter (suc j) ps → StandsAfter j (p ∷ ps)
+part_stands : (j : ℕ) (p : Section) (ps : List Section) → nat_eq (id_of p) 0x00 ≡ false → rank (id_of p) ≡ Some (suc j) → StandsAfter (suc j) ps → StandsAfter j (p ∷ ps)
 unfolding rank_after next_rank
 part_stands j p ps n e s k le =
     let lt : nat_lt k (suc j) ≡ true = lt-ltb k (suc j) (omega arith) in
     let r = s (suc j) (omega arith) in
     (r.0, rw (n, e, lt) r.1)
 
-list_stands : {A : Type 0} (j : ℕ) (make : List A → Part) (xs : List A) (ps : List Part) → ((ys : List A) → nat_eq (id_of (make ys)) 0x00 ≡ false) → ((ys : List A) → rank (id_of (make ys)) ≡ Some (suc j)) → StandsAfter (suc j) ps → StandsAfter j (part_of make xs ++ ps)
+list_stands : {A : Type 0} (j : ℕ) (make : List A → Section) (xs : List A) (ps : List Section) → ((ys : List A) → nat_eq (id_of (make ys)) 0x00 ≡ false) → ((ys : List A) → rank (id_of (make ys)) ≡ Some (suc j)) → StandsAfter (suc j) ps → StandsAfter j (section_of_list make xs ++ ps)
 list_stands j make [] ps n e s = earlier j ps s
 list_stands j make (x ∷ xs) ps n e s = part_stands j (make (x ∷ xs)) ps (n (x ∷ xs)) (e (x ∷ xs)) s
 
-number_stands : (j : ℕ) (make : ℕ → Part) (o : Option ℕ) (ps : List Part) → ((n : ℕ) → nat_eq (id_of (make n)) 0x00 ≡ false) → ((n : ℕ) → rank (id_of (make n)) ≡ Some (suc j)) → StandsAfter (suc j) ps → StandsAfter j (number_part make o ++ ps)
+number_stands : (j : ℕ) (make : ℕ → Section) (o : Option ℕ) (ps : List Section) → ((n : ℕ) → nat_eq (id_of (make n)) 0x00 ≡ false) → ((n : ℕ) → rank (id_of (make n)) ≡ Some (suc j)) → StandsAfter (suc j) ps → StandsAfter j (number_part make o ++ ps)
 number_stands j make None ps n e s = earlier j ps s
 number_stands j make (Some x) ps n e s = part_stands j (make x) ps (n x) (e x) s
 
@@ -252,53 +252,53 @@ in_order m =
     (list_stands 9 part.Elements m.elements _ (λ n. refl) (λ n. refl)
     (number_stands 10 part.DataCount (data_count m) _ (λ n. refl) (λ n. refl)
     (list_stands 11 part.Codes m.codes _ (λ n. refl) (λ n. refl)
-    (subst (StandsAfter 12) (append-nil (part_of part.Datas m.datas)) (list_stands 12 part.Datas m.datas [] (λ n. refl) (λ n. refl) (none_stands 13)))))))))))))))
+    (subst (StandsAfter 12) (append-nil (section_of_list part.Datas m.datas)) (list_stands 12 part.Datas m.datas [] (λ n. refl) (λ n. refl) (none_stands 13)))))))))))))))
 
 -- ## The module of these sections
 
-list_made : {A : Type 0} (make : List A → Part) (xs : List A) (m : Module) (ps : List Part) → with_part (make []) m ≡ m → with_parts m (part_of make xs ++ ps) ≡ with_parts (with_part (make xs) m) ps
-unfolding with_parts
-list_made make [] m ps e = ap (λ (t : Module). with_parts t ps) (sym e)
+list_made : {A : Type 0} (make : List A → Section) (xs : List A) (m : Module) (ps : List Section) → with_contents (make []) m ≡ m → with_all_contents m (section_of_list make xs ++ ps) ≡ with_all_contents (with_contents (make xs) m) ps
+unfolding with_all_contents
+list_made make [] m ps e = ap (λ (t : Module). with_all_contents t ps) (sym e)
 list_made make (x ∷ xs) m ps e = refl
 
-start_made : (o : Option ℕ) (m : Module) (ps : List Part) → m.start ≡ None → with_parts m (number_part part.Start o ++ ps) ≡ with_parts (record m { start = o }) ps
-unfolding with_parts
-start_made None m ps e = ap (λ (o : Option ℕ). with_parts (record m { start = o }) ps) e
+start_made : (o : Option ℕ) (m : Module) (ps : List Section) → m.start ≡ None → with_all_contents m (number_part part.Start o ++ ps) ≡ with_all_contents (record m { start = o }) ps
+unfolding with_all_contents
+start_made None m ps e = ap (λ (o : Option ℕ). with_all_contents (record m { start = o }) ps) e
 start_made (Some x) m ps e = refl
 
-count_made : (o : Option ℕ) (m : Module) (ps : List Part) → with_parts m (number_part part.DataCount o ++ ps) ≡ with_parts m ps
-unfolding with_parts
+count_made : (o : Option ℕ) (m : Module) (ps : List Section) → with_all_contents m (number_part part.DataCount o ++ ps) ≡ with_all_contents m ps
+unfolding with_all_contents
 count_made None m ps = refl
 count_made (Some n) m ps = refl
 
-made : (m : Module) → with_parts nothing_yet (parts_of m) ≡ m
-unfolding with_parts
+made : (m : Module) → with_all_contents empty_module (parts_of m) ≡ m
+unfolding with_all_contents
 made m =
-    let r12 = part_of part.Datas m.datas in
-    let r11 = part_of part.Codes m.codes ++ r12 in
+    let r12 = section_of_list part.Datas m.datas in
+    let r11 = section_of_list part.Codes m.codes ++ r12 in
     let r10 = number_part part.DataCount (data_count m) ++ r11 in
-    let r9 = part_of part.Elements m.elements ++ r10 in
+    let r9 = section_of_list part.Elements m.elements ++ r10 in
     let r8 = number_part part.Start m.start ++ r9 in
-    let r7 = part_of part.Exports m.exports ++ r8 in
-    let r6 = part_of part.Globals m.globals ++ r7 in
-    let r5 = part_of part.Tags m.tags ++ r6 in
-    let r4 = part_of part.Memories m.memories ++ r5 in
-    let r3 = part_of part.Tables m.tables ++ r4 in
-    let r2 = part_of part.Functions m.functions ++ r3 in
-    let r1 = part_of part.Imports m.imports ++ r2 in
-    let m0 = nothing_yet in
-    let m1 = with_part (part.Types m.types) m0 in
-    let m2 = with_part (part.Imports m.imports) m1 in
-    let m3 = with_part (part.Functions m.functions) m2 in
-    let m4 = with_part (part.Tables m.tables) m3 in
-    let m5 = with_part (part.Memories m.memories) m4 in
-    let m6 = with_part (part.Tags m.tags) m5 in
-    let m7 = with_part (part.Globals m.globals) m6 in
-    let m8 = with_part (part.Exports m.exports) m7 in
+    let r7 = section_of_list part.Exports m.exports ++ r8 in
+    let r6 = section_of_list part.Globals m.globals ++ r7 in
+    let r5 = section_of_list part.Tags m.tags ++ r6 in
+    let r4 = section_of_list part.Memories m.memories ++ r5 in
+    let r3 = section_of_list part.Tables m.tables ++ r4 in
+    let r2 = section_of_list part.Functions m.functions ++ r3 in
+    let r1 = section_of_list part.Imports m.imports ++ r2 in
+    let m0 = empty_module in
+    let m1 = with_contents (part.Types m.types) m0 in
+    let m2 = with_contents (part.Imports m.imports) m1 in
+    let m3 = with_contents (part.Functions m.functions) m2 in
+    let m4 = with_contents (part.Tables m.tables) m3 in
+    let m5 = with_contents (part.Memories m.memories) m4 in
+    let m6 = with_contents (part.Tags m.tags) m5 in
+    let m7 = with_contents (part.Globals m.globals) m6 in
+    let m8 = with_contents (part.Exports m.exports) m7 in
     let m9 = record m8 { start = m.start } in
-    let m10 = with_part (part.Elements m.elements) m9 in
+    let m10 = with_contents (part.Elements m.elements) m9 in
     let m11 = m10 in
-    let m12 = with_part (part.Codes m.codes) m11 in
+    let m12 = with_contents (part.Codes m.codes) m11 in
     list_made part.Types m.types m0 r1 refl
     ∙ list_made part.Imports m.imports m1 r2 refl
     ∙ list_made part.Functions m.functions m2 r3 refl
@@ -311,21 +311,21 @@ made m =
     ∙ list_made part.Elements m.elements m9 r10 refl
     ∙ count_made (data_count m) m10 r11
     ∙ list_made part.Codes m.codes m11 r12 refl
-    ∙ ap (with_parts m12) (sym (append-nil (part_of part.Datas m.datas))) ∙ list_made part.Datas m.datas m12 [] refl
+    ∙ ap (with_all_contents m12) (sym (append-nil (section_of_list part.Datas m.datas))) ∙ list_made part.Datas m.datas m12 [] refl
 
 -- ## Their counts
 
-list_counts : {A : Type 0} (make : List A → Part) (xs : List A) (c : Option ℕ) (ps : List Part) → ((ys : List A) → with_count (make ys) c ≡ c) → count_after c (part_of make xs ++ ps) ≡ count_after c ps
+list_counts : {A : Type 0} (make : List A → Section) (xs : List A) (c : Option ℕ) (ps : List Section) → ((ys : List A) → with_count (make ys) c ≡ c) → count_after c (section_of_list make xs ++ ps) ≡ count_after c ps
 unfolding count_after
 list_counts make [] c ps e = refl
 list_counts make (x ∷ xs) c ps e = ap (λ (d : Option ℕ). count_after d ps) (e (x ∷ xs))
 
-start_counts : (o c : Option ℕ) (ps : List Part) → count_after c (number_part part.Start o ++ ps) ≡ count_after c ps
+start_counts : (o c : Option ℕ) (ps : List Section) → count_after c (number_part part.Start o ++ ps) ≡ count_after c ps
 unfolding count_after
 start_counts None c ps = refl
 start_counts (Some x) c ps = refl
 
-number_counts : (o : Option ℕ) (ps : List Part) → count_after None (number_part part.DataCount o ++ ps) ≡ count_after o ps
+number_counts : (o : Option ℕ) (ps : List Section) → count_after None (number_part part.DataCount o ++ ps) ≡ count_after o ps
 unfolding count_after
 number_counts None ps = refl
 number_counts (Some n) ps = refl
@@ -333,18 +333,18 @@ number_counts (Some n) ps = refl
 counted : (m : Module) → count_after None (parts_of m) ≡ data_count m
 unfolding count_after
 counted m =
-    let r12 = part_of part.Datas m.datas in
-    let r11 = part_of part.Codes m.codes ++ r12 in
+    let r12 = section_of_list part.Datas m.datas in
+    let r11 = section_of_list part.Codes m.codes ++ r12 in
     let r10 = number_part part.DataCount (data_count m) ++ r11 in
-    let r9 = part_of part.Elements m.elements ++ r10 in
+    let r9 = section_of_list part.Elements m.elements ++ r10 in
     let r8 = number_part part.Start m.start ++ r9 in
-    let r7 = part_of part.Exports m.exports ++ r8 in
-    let r6 = part_of part.Globals m.globals ++ r7 in
-    let r5 = part_of part.Tags m.tags ++ r6 in
-    let r4 = part_of part.Memories m.memories ++ r5 in
-    let r3 = part_of part.Tables m.tables ++ r4 in
-    let r2 = part_of part.Functions m.functions ++ r3 in
-    let r1 = part_of part.Imports m.imports ++ r2 in
+    let r7 = section_of_list part.Exports m.exports ++ r8 in
+    let r6 = section_of_list part.Globals m.globals ++ r7 in
+    let r5 = section_of_list part.Tags m.tags ++ r6 in
+    let r4 = section_of_list part.Memories m.memories ++ r5 in
+    let r3 = section_of_list part.Tables m.tables ++ r4 in
+    let r2 = section_of_list part.Functions m.functions ++ r3 in
+    let r1 = section_of_list part.Imports m.imports ++ r2 in
     list_counts part.Types m.types None r1 (λ ys. refl)
     ∙ list_counts part.Imports m.imports None r2 (λ ys. refl)
     ∙ list_counts part.Functions m.functions None r3 (λ ys. refl)
@@ -357,13 +357,13 @@ counted m =
     ∙ list_counts part.Elements m.elements None r10 (λ ys. refl)
     ∙ number_counts (data_count m) r11
     ∙ list_counts part.Codes m.codes (data_count m) r12 (λ ys. refl)
-    ∙ ap (count_after (data_count m)) (sym (append-nil (part_of part.Datas m.datas))) ∙ list_counts part.Datas m.datas (data_count m) [] (λ ys. refl)
+    ∙ ap (count_after (data_count m)) (sym (append-nil (section_of_list part.Datas m.datas))) ∙ list_counts part.Datas m.datas (data_count m) [] (λ ys. refl)
 
-count_agrees : (v : Bool) (m : Module) → some_names_data m.codes ≡ v → DataAgrees (cond v (Some (length m.datas)) None) m
+count_agrees : (v : Bool) (m : Module) → any_uses_data m.codes ≡ v → DataAgrees (cond v (Some (length m.datas)) None) m
 count_agrees true m e = refl
 count_agrees false m e = subst IsFalse (sym e) refl
 
-few_of : (m : Module) (v : Bool) → Within data_segment (2 ^ 30) m.datas → StartWithin (cond v (Some (length m.datas)) None)
+few_of : (m : Module) (v : Bool) → Decoded data_segment (2 ^ 30) m.datas → StartWithin (cond v (Some (length m.datas)) None)
 unfolding Counted
 few_of m true (inl e) = omega (arith, ap length e)
 few_of m true (inr h) = within_bits 32 (length m.datas) h.1.0 h.1.3
@@ -384,10 +384,10 @@ all_spelled m l =
     let e8 = list_spelled export export_written 0x07 part.Exports m.exports canon_export l.7 (λ e ys s. (ys, s, refl)) in
     let e9 = number_spelled 0x08 part.Start m.start l.8 (λ e n s. (n, s, refl)) in
     let e10 = list_spelled elem elem_written 0x09 part.Elements m.elements canon_elem l.9 (λ e ys s. (ys, s, refl)) in
-    let e11 = number_spelled 0x0C part.DataCount (data_count m) (few_of m (some_names_data m.codes) l.11) (λ e n s. (n, s, refl)) in
+    let e11 = number_spelled 0x0C part.DataCount (data_count m) (few_of m (any_uses_data m.codes) l.11) (λ e n s. (n, s, refl)) in
     let e12 = list_spelled code code_written 0x0A part.Codes m.codes canon_code l.10 (λ e ys s. (ys, s, refl)) in
     let e13 = list_spelled data_segment data_written 0x0B part.Datas m.datas canon_data l.11 (λ e ys s. (ys, s, refl)) in
-    (_, refl, each_both (part_of part.Types m.types) _ _ _ e1 (each_both (part_of part.Imports m.imports) _ _ _ e2 (each_both (part_of part.Functions m.functions) _ _ _ e3 (each_both (part_of part.Tables m.tables) _ _ _ e4 (each_both (part_of part.Memories m.memories) _ _ _ e5 (each_both (part_of part.Tags m.tags) _ _ _ e6 (each_both (part_of part.Globals m.globals) _ _ _ e7 (each_both (part_of part.Exports m.exports) _ _ _ e8 (each_both (number_part part.Start m.start) _ _ _ e9 (each_both (part_of part.Elements m.elements) _ _ _ e10 (each_both (number_part part.DataCount (data_count m)) _ _ _ e11 (each_both (part_of part.Codes m.codes) _ _ _ e12 (e13)))))))))))))
+    (_, refl, each_both (section_of_list part.Types m.types) _ _ _ e1 (each_both (section_of_list part.Imports m.imports) _ _ _ e2 (each_both (section_of_list part.Functions m.functions) _ _ _ e3 (each_both (section_of_list part.Tables m.tables) _ _ _ e4 (each_both (section_of_list part.Memories m.memories) _ _ _ e5 (each_both (section_of_list part.Tags m.tags) _ _ _ e6 (each_both (section_of_list part.Globals m.globals) _ _ _ e7 (each_both (section_of_list part.Exports m.exports) _ _ _ e8 (each_both (number_part part.Start m.start) _ _ _ e9 (each_both (section_of_list part.Elements m.elements) _ _ _ e10 (each_both (number_part part.DataCount (data_count m)) _ _ _ e11 (each_both (section_of_list part.Codes m.codes) _ _ _ e12 (e13)))))))))))))
 
 pub canon_spells : (b : List ℕ) (m : Module) → Spells b m → length b ≤ 2 ^ 30 → Spells (Canon m) m
 canon_spells b m h le =
@@ -398,7 +398,7 @@ canon_spells b m h le =
       o.0,
       record { sections = s.0; parts = s.1 ∙ ap (λ (t : List ℕ). header ++ t) (sym (append-nil s.0)); each = s.2; order = o.1 },
       made m,
-      (h.4.0, subst (λ (c : Option ℕ). DataAgrees c m) (sym (counted m)) (count_agrees (some_names_data m.codes) m refl)),
+      (h.4.0, subst (λ (c : Option ℕ). DataAgrees c m) (sym (counted m)) (count_agrees (any_uses_data m.codes) m refl)),
     )
 
 -- what is the canonical spelling is a spelling

@@ -5,8 +5,8 @@ use Rattle.std.specs.Str.{is_utf8}
 use Rattle.w_leb.specs.Format.{Format, ByFirst, Never, IsSolid}
 use Rattle.w_leb.specs.Formats.{number, bytes, ◌⊗◌, ◌⇒◌, table}
 use Rattle.w_leb.specs.Number.{shortest}
-use Rattle.w_leb.specs.Canonical.{IsCanonical, canon_number, canon_pair, canon_image, canon_such, canon_bytes}
-use Rattle.w_leb.specs.CanonicalTables.{◌&◌, IsWritten, BeginsIn, keys, apart_from, begins_table, begins_pair, canon_table, canon_table_or, of_image}
+use Rattle.w_leb.specs.CanonicalLaws.{IsCanonical, canon_number, canon_pair, canon_image, canon_such, canon_bytes}
+use Rattle.w_leb.specs.CanonicalTableLaws.{◌&◌, IsWritten, BeginsIn, keys, apart_from, begins_table, begins_pair, canon_table, canon_table_or, of_image}
 use Rattle.w_syntax.specs.declared.module.TableType.{TableType}
 use Rattle.w_syntax.specs.declared.module.Tag.{Tag}
 use Rattle.w_syntax.specs.declared.module.ExternType.TheVariants as extern

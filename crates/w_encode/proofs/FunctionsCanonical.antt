@@ -7,12 +7,12 @@ use Rattle.std.proofs.lemmas.Bool.{cases_lt, lt-ltb, le-ltb, ltb-true, cond_both
 use Rattle.w_leb.specs.Format.{Each, Counted}
 use Rattle.w_leb.specs.Formats.{number, ◌⊗◌}
 use Rattle.w_leb.specs.Number.{shortest, shortest_in}
-use Rattle.w_leb.specs.Shortest.{shortest_spells, shortest_is_short, within_bits, twice}
-use Rattle.w_leb.specs.Canonical.{IsCanonical, canon_number, canon_pair, canon_image, canon_sized, each_short, vec_written}
+use Rattle.w_leb.specs.ShortestLaws.{shortest_spells, shortest_is_short, within_bits, twice}
+use Rattle.w_leb.specs.CanonicalLaws.{IsCanonical, canon_number, canon_pair, canon_image, canon_sized, each_short, vec_written}
 use Rattle.w_syntax.specs.declared.locals.LocalRun.{LocalRun}
 use Rattle.w_syntax.specs.Types.{valtype}
 use Rattle.w_syntax.specs.Locals.{same_kind, join, join_all, joined, total}
-use Rattle.w_syntax.specs.LocalsJoined.{all_joined, joined_twice, total_joined, few_joined}
+use Rattle.w_syntax.specs.LocalsLaws.{all_joined, joined_twice, total_joined, few_joined}
 use Rattle.w_syntax.specs.Fields.{run, locals, expr, func, code}
 use Rattle.w_encode.specs.TypesWritten.{valtype_written}
 use Rattle.w_encode.specs.InstructionsWritten.{expr_written}

@@ -4,22 +4,22 @@ use Rattle.std.specs.Prelude.{nat_lt, nat_eq}
 use Rattle.w_leb.specs.Format.{Format, Grammar, ByFirst, ByNumber, Picked, Never}
 use Rattle.w_leb.specs.Formats.{number, signed_number, vec, constant, ◌⊗◌, ◌⇒◌, such_that}
 use Rattle.w_leb.specs.Number.{shortest, shortest_in, shortest_signed, Unsigned}
-use Rattle.w_leb.specs.Canonical.{IsCanonical, canon_number, canon_signed, canon_pair, canon_image, canon_such, canon_vec, each_short, each_again, vec_written}
-use Rattle.w_leb.specs.CanonicalTables.{◌&◌, IsWritten, IsWrittenBy, EntriesWritten, BeginsIn, keys, apart_from, begins_table, begins_table_or, canon_table, canon_table_or, canon_choice, of_constant, of_image, of_number}
+use Rattle.w_leb.specs.CanonicalLaws.{IsCanonical, canon_number, canon_signed, canon_pair, canon_image, canon_such, canon_vec, each_short, each_again, vec_written}
+use Rattle.w_leb.specs.CanonicalTableLaws.{◌&◌, IsWritten, IsWrittenBy, EntriesWritten, BeginsIn, keys, apart_from, begins_table, begins_table_or, canon_table, canon_table_or, canon_choice, of_constant, of_image, of_number}
 use Rattle.w_types.specs.declared.types.ValType.{ValType}
 use Rattle.w_syntax.specs.declared.numeric.IntType.TheVariants as int
-use Rattle.w_syntax.specs.declared.numeric.Unary.TheVariants as unary
-use Rattle.w_syntax.specs.declared.numeric.Binary.TheVariants as binary
-use Rattle.w_syntax.specs.declared.numeric.Compare.TheVariants as compare
-use Rattle.w_syntax.specs.declared.numeric.Convert.TheVariants as convert
-use Rattle.w_syntax.specs.declared.numeric.Numeric.TheVariants as numeric
-use Rattle.w_syntax.specs.declared.memory.Load.TheVariants as load
-use Rattle.w_syntax.specs.declared.memory.Store.TheVariants as store
-use Rattle.w_syntax.specs.declared.memory.MemoryOp.{MemoryOp}
-use Rattle.w_syntax.specs.declared.memory.MemoryOp.TheVariants as memory
-use Rattle.w_syntax.specs.declared.instructions.Control.{Control}
-use Rattle.w_syntax.specs.declared.instructions.Control.TheVariants as control
-use Rattle.w_syntax.specs.declared.instructions.Parametric.TheVariants as parametric
+use Rattle.w_syntax.specs.declared.numeric.Unop.TheVariants as unary
+use Rattle.w_syntax.specs.declared.numeric.Binop.TheVariants as binary
+use Rattle.w_syntax.specs.declared.numeric.Relop.TheVariants as compare
+use Rattle.w_syntax.specs.declared.numeric.Cvtop.TheVariants as convert
+use Rattle.w_syntax.specs.declared.numeric.NumericOp.TheVariants as numeric
+use Rattle.w_syntax.specs.declared.memory_instructions.LoadOp.TheVariants as load
+use Rattle.w_syntax.specs.declared.memory_instructions.StoreOp.TheVariants as store
+use Rattle.w_syntax.specs.declared.memory_instructions.MemoryOp.{MemoryOp}
+use Rattle.w_syntax.specs.declared.memory_instructions.MemoryOp.TheVariants as memory
+use Rattle.w_syntax.specs.declared.instructions.ControlOp.{ControlOp}
+use Rattle.w_syntax.specs.declared.instructions.ControlOp.TheVariants as control
+use Rattle.w_syntax.specs.declared.instructions.ParametricOp.TheVariants as parametric
 use Rattle.w_syntax.specs.declared.instructions.VariableOp.TheVariants as variable
 use Rattle.w_syntax.specs.declared.instructions.TableOp.TheVariants as table_op
 use Rattle.w_syntax.specs.declared.instructions.ReferenceOp.TheVariants as reference
@@ -312,7 +312,7 @@ controls_written =
     & of_image (number 32) shortest control.BrOnNonNull (ByFirst controls Never) control_written (canon_number 32 (omega arith)) (λ a. omega arith) (λ a s. (a, s, refl))
     & tt
 
-control_spelled : (l : List ℕ) (o : Control) → ByFirst controls Never l o → ByFirst (entries_of op.Control controls) other.Spells l (op.Control o)
+control_spelled : (l : List ℕ) (o : ControlOp) → ByFirst controls Never l o → ByFirst (entries_of op.Control controls) other.Spells l (op.Control o)
 control_spelled l o h = spelled_behind [] controls op.Control other.Spells refl l o h
 
 canon_instruction : IsCanonical instruction op_written

@@ -7,3 +7,5 @@ mod FieldsCanonical
 mod SegmentsCanonical
 mod FunctionsCanonical
 pub mod Canonical
+mod WrittenRows
+mod OpcodeRows

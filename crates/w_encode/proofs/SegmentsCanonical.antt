@@ -7,9 +7,9 @@ use Rattle.std.proofs.lemmas.Bool.{and_parts}
 use Rattle.w_leb.specs.Format.{Grammar, ByNumber, Picked, Each, Counted}
 use Rattle.w_leb.specs.Formats.{number, constant, vec, bytes, ◌⊗◌, ◌⇒◌}
 use Rattle.w_leb.specs.Number.{Unsigned, shortest, shortest_in}
-use Rattle.w_leb.specs.Shortest.{shortest_spells, shortest_is_short, within_bits}
-use Rattle.w_leb.specs.Canonical.{IsCanonical, canon_number, canon_pair, canon_image, canon_vec, canon_bytes, vec_written}
-use Rattle.w_leb.specs.CanonicalTables.{◌&◌, IsWrittenBy, canon_choice, of_number}
+use Rattle.w_leb.specs.ShortestLaws.{shortest_spells, shortest_is_short, within_bits}
+use Rattle.w_leb.specs.CanonicalLaws.{IsCanonical, canon_number, canon_pair, canon_image, canon_vec, canon_bytes, vec_written}
+use Rattle.w_leb.specs.CanonicalTableLaws.{◌&◌, IsWrittenBy, canon_choice, of_number}
 use Rattle.w_types.specs.declared.types.HeapType.{HeapType}
 use Rattle.w_types.specs.declared.types.HeapType.TheVariants as heap
 use Rattle.w_types.specs.declared.types.RefType.{RefType}

@@ -7,11 +7,11 @@ use Rattle.std.proofs.lemmas.List.{length-append, append-nil}
 use Rattle.w_leb.specs.Format.{Format, Grammar, ByFirst, Chosen, Never, Each, Counted}
 use Rattle.w_leb.specs.Formats.{number, signed_number, vec, constant, ◌⊗◌, ◌⇒◌}
 use Rattle.w_leb.specs.Number.{shortest, shortest_signed, Signed}
-use Rattle.w_leb.specs.Shortest.{shortest_is_short, within_bits}
-use Rattle.w_leb.specs.ShortestSigned.{signed_spells}
-use Rattle.w_leb.specs.Canonical.{IsCanonical, canon_number, canon_signed, canon_pair, canon_image, canon_vec, vec_written}
-use Rattle.w_leb.specs.CanonicalTables.{◌&◌, IsWritten, EntriesWritten, BeginsIn, has_none, are_apart, keys, apart_from, begins_table, canon_table, canon_table_or, default_spells, of_constant, of_image}
-use Rattle.w_leb.specs.Indices.{index_is_u32, natural_begins, signed_is_longer}
+use Rattle.w_leb.specs.ShortestLaws.{shortest_is_short, within_bits}
+use Rattle.w_leb.specs.ShortestSignedLaws.{signed_spells}
+use Rattle.w_leb.specs.CanonicalLaws.{IsCanonical, canon_number, canon_signed, canon_pair, canon_image, canon_vec, vec_written}
+use Rattle.w_leb.specs.CanonicalTableLaws.{◌&◌, IsWritten, EntriesWritten, BeginsIn, has_none, are_apart, keys, apart_from, begins_table, canon_table, canon_table_or, default_spells, of_constant, of_image}
+use Rattle.w_leb.specs.IndexLaws.{index_is_u32, natural_begins, signed_is_longer}
 use Rattle.w_types.specs.declared.types.HeapType.{HeapType}
 use Rattle.w_types.specs.declared.types.HeapType.TheVariants as heap
 use Rattle.w_types.specs.declared.types.RefType.{RefType}

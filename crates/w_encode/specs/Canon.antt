@@ -1,11 +1,11 @@
 -- The canonical spelling of a module: of all spellings, the one that is written (Core, binary format, modules).
 use Rattle.std.specs.Prelude.{ℕ, cond, List, [], ◌∷◌, ◌++◌, Option, Some, None, length}
 use Rattle.w_leb.specs.Number.{shortest}
-use Rattle.w_leb.specs.Canonical.{vec_written, sized_written}
+use Rattle.w_leb.specs.CanonicalLaws.{vec_written, sized_written}
 use Rattle.w_syntax.specs.declared.locals.LocalRun.{LocalRun}
 use Rattle.w_syntax.specs.declared.module.Func.{Func}
 use Rattle.w_syntax.specs.declared.module.Module.{Module}
-use Rattle.w_syntax.specs.Module.{header, some_names_data}
+use Rattle.w_syntax.specs.Module.{header, any_uses_data}
 use Rattle.w_encode.specs.TypesWritten.{valtype_written, rectype_written, limits_written}
 use Rattle.w_encode.specs.InstructionsWritten.{expr_written}
 use Rattle.w_encode.specs.FieldsWritten.{import_written, tag_written, export_written, table_written, global_written, elem_written, data_written}
@@ -36,7 +36,7 @@ number_section id (Some n) = id ∷ sized_written shortest n
 
 -- the number of data segments, where some body names one
 abbrev pub data_count : Module → Option ℕ
-data_count m = cond (some_names_data m.codes) (Some (length m.datas)) None
+data_count m = cond (any_uses_data m.codes) (Some (length m.datas)) None
 
 -- The canonical spelling.
 abbrev pub Canon : Module → List ℕ

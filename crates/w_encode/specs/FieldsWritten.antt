@@ -1,7 +1,7 @@
 -- The canonical spelling of the fields of a module.
 use Rattle.std.specs.Prelude.{ℕ, zero, Bool, true, false, ◌&&◌, not, cond, List, [], ◌∷◌, ◌++◌, Option, Some, None, is_some, length}
 use Rattle.w_leb.specs.Number.{shortest}
-use Rattle.w_leb.specs.Canonical.{vec_written}
+use Rattle.w_leb.specs.CanonicalLaws.{vec_written}
 use Rattle.w_types.specs.declared.types.HeapType.{HeapType}
 use Rattle.w_types.specs.declared.types.HeapType.TheVariants as heap
 use Rattle.w_types.specs.declared.types.RefType.{RefType}

@@ -2,30 +2,30 @@
 use Rattle.std.specs.Prelude.{ℕ, List, [], ◌∷◌, ◌++◌}
 use Rattle.std.specs.List.{flat_map}
 use Rattle.w_leb.specs.Number.{shortest, shortest_signed}
-use Rattle.w_leb.specs.Canonical.{vec_written}
+use Rattle.w_leb.specs.CanonicalLaws.{vec_written}
 use Rattle.w_syntax.specs.declared.numeric.IntType.{IntType}
 use Rattle.w_syntax.specs.declared.numeric.IntType.TheVariants as int
-use Rattle.w_syntax.specs.declared.numeric.Unary.{Unary}
-use Rattle.w_syntax.specs.declared.numeric.Unary.TheVariants as unary
-use Rattle.w_syntax.specs.declared.numeric.Binary.{Binary}
-use Rattle.w_syntax.specs.declared.numeric.Binary.TheVariants as binary
-use Rattle.w_syntax.specs.declared.numeric.Compare.{Compare}
-use Rattle.w_syntax.specs.declared.numeric.Compare.TheVariants as compare
-use Rattle.w_syntax.specs.declared.numeric.Convert.{Convert}
-use Rattle.w_syntax.specs.declared.numeric.Convert.TheVariants as convert
-use Rattle.w_syntax.specs.declared.numeric.Numeric.{Numeric}
-use Rattle.w_syntax.specs.declared.numeric.Numeric.TheVariants as numeric
-use Rattle.w_syntax.specs.declared.memory.Load.{Load}
-use Rattle.w_syntax.specs.declared.memory.Load.TheVariants as load
-use Rattle.w_syntax.specs.declared.memory.Store.{Store}
-use Rattle.w_syntax.specs.declared.memory.Store.TheVariants as store
-use Rattle.w_syntax.specs.declared.memory.MemArg.{MemArg}
-use Rattle.w_syntax.specs.declared.memory.MemoryOp.{MemoryOp}
-use Rattle.w_syntax.specs.declared.memory.MemoryOp.TheVariants as memory
-use Rattle.w_syntax.specs.declared.instructions.Control.{Control}
-use Rattle.w_syntax.specs.declared.instructions.Control.TheVariants as control
-use Rattle.w_syntax.specs.declared.instructions.Parametric.{Parametric}
-use Rattle.w_syntax.specs.declared.instructions.Parametric.TheVariants as parametric
+use Rattle.w_syntax.specs.declared.numeric.Unop.{Unop}
+use Rattle.w_syntax.specs.declared.numeric.Unop.TheVariants as unary
+use Rattle.w_syntax.specs.declared.numeric.Binop.{Binop}
+use Rattle.w_syntax.specs.declared.numeric.Binop.TheVariants as binary
+use Rattle.w_syntax.specs.declared.numeric.Relop.{Relop}
+use Rattle.w_syntax.specs.declared.numeric.Relop.TheVariants as compare
+use Rattle.w_syntax.specs.declared.numeric.Cvtop.{Cvtop}
+use Rattle.w_syntax.specs.declared.numeric.Cvtop.TheVariants as convert
+use Rattle.w_syntax.specs.declared.numeric.NumericOp.{NumericOp}
+use Rattle.w_syntax.specs.declared.numeric.NumericOp.TheVariants as numeric
+use Rattle.w_syntax.specs.declared.memory_instructions.LoadOp.{LoadOp}
+use Rattle.w_syntax.specs.declared.memory_instructions.LoadOp.TheVariants as load
+use Rattle.w_syntax.specs.declared.memory_instructions.StoreOp.{StoreOp}
+use Rattle.w_syntax.specs.declared.memory_instructions.StoreOp.TheVariants as store
+use Rattle.w_syntax.specs.declared.memory_instructions.MemArg.{MemArg}
+use Rattle.w_syntax.specs.declared.memory_instructions.MemoryOp.{MemoryOp}
+use Rattle.w_syntax.specs.declared.memory_instructions.MemoryOp.TheVariants as memory
+use Rattle.w_syntax.specs.declared.instructions.ControlOp.{ControlOp}
+use Rattle.w_syntax.specs.declared.instructions.ControlOp.TheVariants as control
+use Rattle.w_syntax.specs.declared.instructions.ParametricOp.{ParametricOp}
+use Rattle.w_syntax.specs.declared.instructions.ParametricOp.TheVariants as parametric
 use Rattle.w_syntax.specs.declared.instructions.VariableOp.{VariableOp}
 use Rattle.w_syntax.specs.declared.instructions.VariableOp.TheVariants as variable
 use Rattle.w_syntax.specs.declared.instructions.TableOp.{TableOp}
@@ -54,7 +54,7 @@ abbrev pub eqz_code : IntType → ℕ
 eqz_code int.I32 = 0x45
 eqz_code int.I64 = 0x50
 
-abbrev pub compare_code : IntType → Compare → ℕ
+abbrev pub compare_code : IntType → Relop → ℕ
 compare_code int.I32 compare.Eq = 0x46
 compare_code int.I32 compare.Ne = 0x47
 compare_code int.I32 compare.LtS = 0x48
@@ -76,7 +76,7 @@ compare_code int.I64 compare.LeU = 0x58
 compare_code int.I64 compare.GeS = 0x59
 compare_code int.I64 compare.GeU = 0x5A
 
-abbrev pub unary_code : IntType → Unary → ℕ
+abbrev pub unary_code : IntType → Unop → ℕ
 unary_code int.I32 unary.Clz = 0x67
 unary_code int.I32 unary.Ctz = 0x68
 unary_code int.I32 unary.Popcnt = 0x69
@@ -84,7 +84,7 @@ unary_code int.I64 unary.Clz = 0x79
 unary_code int.I64 unary.Ctz = 0x7A
 unary_code int.I64 unary.Popcnt = 0x7B
 
-abbrev pub binary_code : IntType → Binary → ℕ
+abbrev pub binary_code : IntType → Binop → ℕ
 binary_code int.I32 binary.Add = 0x6A
 binary_code int.I32 binary.Sub = 0x6B
 binary_code int.I32 binary.Mul = 0x6C
@@ -116,7 +116,7 @@ binary_code int.I64 binary.ShrU = 0x88
 binary_code int.I64 binary.Rotl = 0x89
 binary_code int.I64 binary.Rotr = 0x8A
 
-abbrev pub convert_code : Convert → ℕ
+abbrev pub convert_code : Cvtop → ℕ
 convert_code convert.I32WrapI64 = 0xA7
 convert_code convert.I64ExtendI32S = 0xAC
 convert_code convert.I64ExtendI32U = 0xAD
@@ -126,7 +126,7 @@ convert_code convert.I64Extend8S = 0xC2
 convert_code convert.I64Extend16S = 0xC3
 convert_code convert.I64Extend32S = 0xC4
 
-abbrev pub numeric_written : Numeric → List ℕ
+abbrev pub numeric_written : NumericOp → List ℕ
 numeric_written (numeric.I32Const z) = 0x41 ∷ shortest_signed z
 numeric_written (numeric.I64Const z) = 0x42 ∷ shortest_signed z
 numeric_written (numeric.Eqz t) = eqz_code t ∷ []
@@ -137,7 +137,7 @@ numeric_written (numeric.Convert o) = convert_code o ∷ []
 
 -- ## Memory instructions
 
-abbrev pub load_code : Load → ℕ
+abbrev pub load_code : LoadOp → ℕ
 load_code load.I32Load = 0x28
 load_code load.I64Load = 0x29
 load_code load.I32Load8S = 0x2C
@@ -151,7 +151,7 @@ load_code load.I64Load16U = 0x33
 load_code load.I64Load32S = 0x34
 load_code load.I64Load32U = 0x35
 
-abbrev pub store_code : Store → ℕ
+abbrev pub store_code : StoreOp → ℕ
 store_code store.I32Store = 0x36
 store_code store.I64Store = 0x37
 store_code store.I32Store8 = 0x3A
@@ -179,7 +179,7 @@ memory_written (memory.Fill x) = 0xFC ∷ 11 ∷ shortest x
 
 -- ## Control instructions that hold no others
 
-abbrev pub control_written : Control → List ℕ
+abbrev pub control_written : ControlOp → List ℕ
 control_written control.Unreachable = 0x00 ∷ []
 control_written control.Nop = 0x01 ∷ []
 control_written (control.Br l) = 0x0C ∷ shortest l
@@ -194,7 +194,7 @@ control_written (control.BrOnNonNull l) = 0xD6 ∷ shortest l
 
 -- ## Parametric, variable, table and reference instructions
 
-abbrev pub parametric_written : Parametric → List ℕ
+abbrev pub parametric_written : ParametricOp → List ℕ
 parametric_written parametric.Drop = 0x1A ∷ []
 parametric_written parametric.Select = 0x1B ∷ []
 parametric_written (parametric.SelectOf ts) = 0x1C ∷ vec_written valtype_written ts

@@ -5,42 +5,42 @@ use crate::memory::{put_one, put_two};
 use crate::put::{Put, put_index, put_vec};
 use std::alloc::AllocError;
 use w_syntax::{
-    BlockType, Clause, Control, Op, Parametric, ReferenceOp, SwitchingOp, TableOp, VariableOp,
+    BlockType, Clause, ControlOp, Op, ParametricOp, ReferenceOp, SwitchingOp, TableOp, VariableOp,
 };
 
-impl Put for Control {
+impl Put for ControlOp {
     ghost written = { control_written };
 
     fn put(&self, out: &mut Vec<u8>) -> Result<(), AllocError> {
         match self {
-            Control::Unreachable => out.push(0x00)?,
-            Control::Nop => out.push(0x01)?,
-            Control::Br(label) => put_one(&[0x0C], *label, out)?,
-            Control::BrIf(label) => put_one(&[0x0D], *label, out)?,
-            Control::BrTable(labels, otherwise) => {
+            ControlOp::Unreachable => out.push(0x00)?,
+            ControlOp::Nop => out.push(0x01)?,
+            ControlOp::Br(label) => put_one(&[0x0C], *label, out)?,
+            ControlOp::BrIf(label) => put_one(&[0x0D], *label, out)?,
+            ControlOp::BrTable(labels, otherwise) => {
                 out.push(0x0E)?;
                 put_vec(labels.as_slice(), out)?;
                 otherwise.put(out)?;
             }
-            Control::Return => out.push(0x0F)?,
-            Control::Call(function) => put_one(&[0x10], *function, out)?,
-            Control::CallIndirect(kind, table) => put_two(&[0x11], *kind, *table, out)?,
-            Control::CallRef(kind) => put_one(&[0x14], *kind, out)?,
-            Control::BrOnNull(label) => put_one(&[0xD5], *label, out)?,
-            Control::BrOnNonNull(label) => put_one(&[0xD6], *label, out)?,
+            ControlOp::Return => out.push(0x0F)?,
+            ControlOp::Call(function) => put_one(&[0x10], *function, out)?,
+            ControlOp::CallIndirect(kind, table) => put_two(&[0x11], *kind, *table, out)?,
+            ControlOp::CallRef(kind) => put_one(&[0x14], *kind, out)?,
+            ControlOp::BrOnNull(label) => put_one(&[0xD5], *label, out)?,
+            ControlOp::BrOnNonNull(label) => put_one(&[0xD6], *label, out)?,
         }
         Ok(())
     }
 }
 
-impl Put for Parametric {
+impl Put for ParametricOp {
     ghost written = { parametric_written };
 
     fn put(&self, out: &mut Vec<u8>) -> Result<(), AllocError> {
         match self {
-            Parametric::Drop => out.push(0x1A)?,
-            Parametric::Select => out.push(0x1B)?,
-            Parametric::SelectOf(types) => {
+            ParametricOp::Drop => out.push(0x1A)?,
+            ParametricOp::Select => out.push(0x1B)?,
+            ParametricOp::SelectOf(types) => {
                 out.push(0x1C)?;
                 put_vec(types.as_slice(), out)?;
             }

@@ -5,13 +5,13 @@ mod bodies;
 mod fields;
 mod functions;
 mod instructions;
+mod laws;
 mod memory;
 mod module;
 mod numeric;
 mod put;
 mod segments;
-#[cfg(test)]
-mod tests;
 mod types;
 
+pub use laws::canonical_spells;
 pub use module::encode;

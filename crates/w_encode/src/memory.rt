@@ -5,38 +5,38 @@ ghost use Rattle.w_encode.specs.InstructionsWritten.{load_code, store_code, mema
 
 use crate::put::Put;
 use std::alloc::AllocError;
-use w_syntax::{Load, MemArg, MemoryOp, Store};
+use w_syntax::{LoadOp, MemArg, MemoryOp, StoreOp};
 
-fn load_code(operation: Load) -> u8
+fn load_code(operation: LoadOp) -> u8
     ensures { result ≡ load_code operation }
 {
     match operation {
-        Load::I32Load => 0x28,
-        Load::I64Load => 0x29,
-        Load::I32Load8S => 0x2C,
-        Load::I32Load8U => 0x2D,
-        Load::I32Load16S => 0x2E,
-        Load::I32Load16U => 0x2F,
-        Load::I64Load8S => 0x30,
-        Load::I64Load8U => 0x31,
-        Load::I64Load16S => 0x32,
-        Load::I64Load16U => 0x33,
-        Load::I64Load32S => 0x34,
-        Load::I64Load32U => 0x35,
+        LoadOp::I32Load => 0x28,
+        LoadOp::I64Load => 0x29,
+        LoadOp::I32Load8S => 0x2C,
+        LoadOp::I32Load8U => 0x2D,
+        LoadOp::I32Load16S => 0x2E,
+        LoadOp::I32Load16U => 0x2F,
+        LoadOp::I64Load8S => 0x30,
+        LoadOp::I64Load8U => 0x31,
+        LoadOp::I64Load16S => 0x32,
+        LoadOp::I64Load16U => 0x33,
+        LoadOp::I64Load32S => 0x34,
+        LoadOp::I64Load32U => 0x35,
     }
 }
 
-fn store_code(operation: Store) -> u8
+fn store_code(operation: StoreOp) -> u8
     ensures { result ≡ store_code operation }
 {
     match operation {
-        Store::I32Store => 0x36,
-        Store::I64Store => 0x37,
-        Store::I32Store8 => 0x3A,
-        Store::I32Store16 => 0x3B,
-        Store::I64Store8 => 0x3C,
-        Store::I64Store16 => 0x3D,
-        Store::I64Store32 => 0x3E,
+        StoreOp::I32Store => 0x36,
+        StoreOp::I64Store => 0x37,
+        StoreOp::I32Store8 => 0x3A,
+        StoreOp::I32Store16 => 0x3B,
+        StoreOp::I64Store8 => 0x3C,
+        StoreOp::I64Store16 => 0x3D,
+        StoreOp::I64Store32 => 0x3E,
     }
 }
 

@@ -7,7 +7,7 @@ ghost use Rattle.w_encode.specs.Canon.{code_written, list_section, number_sectio
 use crate::functions::put_codes;
 use crate::put::{Put, put_bytes, put_count, put_vec};
 use std::alloc::{AllocError, Global};
-use w_syntax::{Func, Module, some_names_data};
+use w_syntax::{Func, Module, any_uses_data};
 
 // Writes the section of a list, where that is not empty.
 fn put_list<T: Put>(alloc: Global, id: u8, items: &[T], out: &mut Vec<u8>) -> Result<(), AllocError>
@@ -58,7 +58,7 @@ fn put_number(
 fn data_count(program: &Module) -> Option<u64>
     ensures { result ≡ data_count program.now }
 {
-    if some_names_data(program.codes.as_slice()) {
+    if any_uses_data(program.codes.as_slice()) {
         Some(program.datas.len() as u64)
     } else {
         None

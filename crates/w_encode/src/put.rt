@@ -1,7 +1,7 @@
 //! Writing numbers, lists and what stands behind a size.
 ghost use Rattle.std.specs.Prelude.{◌≡◌, ◌++◌, ℕ, length, OnOk};
 ghost use Rattle.w_leb.specs.Number.{shortest, shortest_signed};
-ghost use Rattle.w_leb.specs.Canonical.{vec_written};
+ghost use Rattle.w_leb.specs.CanonicalLaws.{vec_written};
 ghost use Rattle.w_encode.specs.TypesWritten.{index_written};
 ghost use Rattle.w_encode.specs.FieldsWritten.{bytes_written};
 

@@ -1,6 +1,6 @@
 //! Element and data segments.
 ghost use Rattle.std.specs.Prelude.{◌≡◌, ◌++◌, OnOk, Option, Some, None};
-ghost use Rattle.w_leb.specs.Canonical.{vec_written};
+ghost use Rattle.w_leb.specs.CanonicalLaws.{vec_written};
 ghost use Rattle.w_encode.specs.InstructionsWritten.{expr_written};
 ghost use Rattle.w_encode.specs.FlatWritten.{function_in};
 ghost use Rattle.w_encode.specs.FieldsWritten.{referred_by, function_of, are_functions, function_written, is_ref_func, is_funcref, index_form, active_form, expression_form, elem_written, data_form, data_written};

@@ -64,7 +64,7 @@ pub fn list_of<F: Field>(alloc: Global, bytes: &[u8]) -> Result<Option<ListOf<F:
 }
 
 /// The bytes behind a size: where they begin, and where they end.
-pub fn cut_at(bytes: &[u8], at: usize) -> Option<(usize, usize)>
+pub fn sized_at(bytes: &[u8], at: usize) -> Option<(usize, usize)>
     ensures { CutAt bytes.now at result }
 {
     let Some((size, start)) = read_u32(bytes, at) else {
@@ -77,8 +77,8 @@ pub fn cut_at(bytes: &[u8], at: usize) -> Option<(usize, usize)>
     Some((start, start + size))
 }
 
-/// A count, and so many fields. The list grows as they are read, however many are declared.
-pub fn vec_at<F: Field>(
+// Reads a count, and so many fields; the list grows as they are read, however many are declared.
+fn read_vec<F: Field>(
     alloc: Global,
     bytes: &[u8],
     at: usize,
@@ -97,6 +97,18 @@ pub fn vec_at<F: Field>(
         place = next;
     }
     Ok(Some((items, place)))
+}
+
+/// A count, and so many fields. The list grows as they are read, however many are declared. `None` exactly where no spelling of one begins.
+pub fn vec_at<F: Field>(
+    alloc: Global,
+    bytes: &[u8],
+    at: usize,
+) -> Result<Option<(ListOf<F::Item>, usize)>, AllocError>
+    ensures reads { IfOk result (ReadsAt (vec F.format).read bytes.now at) }
+    ensures begins { IfOk result (BeginsAt (vec F.format).Spells bytes.now at) }
+{
+    read_vec::<F>(alloc, bytes, at)
 }
 
 /// An index, a number of 32 bits.

@@ -1,5 +1,5 @@
 //! Value types (Core, binary format, types; the explainer, binary format).
-ghost use Rattle.w_leb.specs.Format.{ReadsAt};
+ghost use Rattle.w_leb.specs.Format.{ReadsAt, BeginsAt};
 ghost use Rattle.w_syntax.specs.Types.{index33, heaptype, reftype, valtype};
 
 use crate::fields::Field;
@@ -7,9 +7,9 @@ use std::alloc::{AllocError, Global};
 use w_leb::{read_byte, read_s33};
 use w_types::{HeapType, RefType, ValType};
 
-/// The index of a type at a place, a non-negative number of 33 bits with a sign.
+// Reads the index of a type.
 #[tactic(auto, unfolding(w_syntax::specs::Types::index33))]
-pub fn index_at(bytes: &[u8], at: usize) -> Option<(u32, usize)>
+fn read_index(bytes: &[u8], at: usize) -> Option<(u32, usize)>
     ensures { ReadsAt index33.read bytes.now at result }
 {
     let Some((value, next)) = read_s33(bytes, at) else {
@@ -21,9 +21,18 @@ pub fn index_at(bytes: &[u8], at: usize) -> Option<(u32, usize)>
     Some((value as u32, next))
 }
 
-/// The heap type at a place.
+/// The index of a type at a place, a non-negative number of 33 bits with a sign. `None` exactly where no spelling of one begins.
+#[tactic(auto, using(w_leb::specs::ReadingLaws::begins_at))]
+pub fn index_at(bytes: &[u8], at: usize) -> Option<(u32, usize)>
+    ensures reads { ReadsAt index33.read bytes.now at result }
+    ensures begins { BeginsAt index33.Spells bytes.now at result }
+{
+    read_index(bytes, at)
+}
+
+// Reads a heap type.
 #[tactic(auto, unfolding(w_syntax::specs::Types::heaptype))]
-pub fn heaptype_at(bytes: &[u8], at: usize) -> Option<(HeapType, usize)>
+fn read_heaptype(bytes: &[u8], at: usize) -> Option<(HeapType, usize)>
     ensures { ReadsAt heaptype.read bytes.now at result }
 {
     let Some((tag, next)) = read_byte(bytes, at) else {
@@ -43,9 +52,18 @@ pub fn heaptype_at(bytes: &[u8], at: usize) -> Option<(HeapType, usize)>
     }
 }
 
-/// The reference type at a place.
+/// The heap type at a place. `None` exactly where no spelling of one begins.
+#[tactic(auto, using(w_leb::specs::ReadingLaws::begins_at))]
+pub fn heaptype_at(bytes: &[u8], at: usize) -> Option<(HeapType, usize)>
+    ensures reads { ReadsAt heaptype.read bytes.now at result }
+    ensures begins { BeginsAt heaptype.Spells bytes.now at result }
+{
+    read_heaptype(bytes, at)
+}
+
+// Reads a reference type.
 #[tactic(auto, unfolding(w_syntax::specs::Types::reftype))]
-pub fn reftype_at(bytes: &[u8], at: usize) -> Option<(RefType, usize)>
+fn read_reftype(bytes: &[u8], at: usize) -> Option<(RefType, usize)>
     ensures { ReadsAt reftype.read bytes.now at result }
 {
     let Some((tag, next)) = read_byte(bytes, at) else {
@@ -76,9 +94,18 @@ pub fn reftype_at(bytes: &[u8], at: usize) -> Option<(RefType, usize)>
     Some((RefType { nullable, heap }, next))
 }
 
-/// The value type at a place.
+/// The reference type at a place. `None` exactly where no spelling of one begins.
+#[tactic(auto, using(w_leb::specs::ReadingLaws::begins_at))]
+pub fn reftype_at(bytes: &[u8], at: usize) -> Option<(RefType, usize)>
+    ensures reads { ReadsAt reftype.read bytes.now at result }
+    ensures begins { BeginsAt reftype.Spells bytes.now at result }
+{
+    read_reftype(bytes, at)
+}
+
+// Reads a value type.
 #[tactic(auto, unfolding(w_syntax::specs::Types::reftype, w_syntax::specs::Types::valtype))]
-pub fn valtype_at(bytes: &[u8], at: usize) -> Option<(ValType, usize)>
+fn read_valtype(bytes: &[u8], at: usize) -> Option<(ValType, usize)>
     ensures { ReadsAt valtype.read bytes.now at result }
 {
     let Some((tag, next)) = read_byte(bytes, at) else {
@@ -94,6 +121,15 @@ pub fn valtype_at(bytes: &[u8], at: usize) -> Option<(ValType, usize)>
             Some((ValType::Ref(kind), next))
         }
     }
+}
+
+/// The value type at a place. `None` exactly where no spelling of one begins.
+#[tactic(auto, using(w_leb::specs::ReadingLaws::begins_at))]
+pub fn valtype_at(bytes: &[u8], at: usize) -> Option<(ValType, usize)>
+    ensures reads { ReadsAt valtype.read bytes.now at result }
+    ensures begins { BeginsAt valtype.Spells bytes.now at result }
+{
+    read_valtype(bytes, at)
 }
 
 /// A value type, as a kind of field.

@@ -2,8 +2,6 @@
 #![tactic(auto)]
 
 mod reading;
-#[cfg(test)]
-mod tests;
 mod writing;
 
 pub use reading::{read_byte, read_s32, read_s33, read_s64, read_u32, read_u64};

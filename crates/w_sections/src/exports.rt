@@ -1,5 +1,5 @@
 //! Exports (Core, binary format, export section).
-ghost use Rattle.w_leb.specs.Format.{ReadsAt};
+ghost use Rattle.w_leb.specs.Format.{ReadsAt, BeginsAt};
 ghost use Rattle.w_syntax.specs.Fields.{externidx, export};
 
 use std::alloc::{AllocError, Global};
@@ -7,9 +7,9 @@ use w_fields::{Field, name_at};
 use w_leb::{read_byte, read_u32};
 use w_syntax::{Export, ExternIndex};
 
-/// What is exported, at a place.
+// Reads what is exported.
 #[tactic(auto, unfolding(w_syntax::specs::Fields::externidx))]
-pub fn externidx_at(bytes: &[u8], at: usize) -> Option<(ExternIndex, usize)>
+fn read_externidx(bytes: &[u8], at: usize) -> Option<(ExternIndex, usize)>
     ensures { ReadsAt externidx.read bytes.now at result }
 {
     let Some((kind, next)) = read_byte(bytes, at) else {
@@ -29,6 +29,15 @@ pub fn externidx_at(bytes: &[u8], at: usize) -> Option<(ExternIndex, usize)>
         _ => ExternIndex::Tag(index),
     };
     Some((what, next))
+}
+
+/// What is exported, at a place. `None` exactly where no spelling of one begins.
+#[tactic(auto, using(w_leb::specs::ReadingLaws::begins_at))]
+pub fn externidx_at(bytes: &[u8], at: usize) -> Option<(ExternIndex, usize)>
+    ensures reads { ReadsAt externidx.read bytes.now at result }
+    ensures begins { BeginsAt externidx.Spells bytes.now at result }
+{
+    read_externidx(bytes, at)
 }
 
 /// An export, as a kind of field.

@@ -1,5 +1,5 @@
 //! Imports (Core, binary format, import section).
-ghost use Rattle.w_leb.specs.Format.{ReadsAt};
+ghost use Rattle.w_leb.specs.Format.{ReadsAt, BeginsAt};
 ghost use Rattle.w_syntax.specs.Fields.{externtype, import};
 
 use crate::tags::tag_at;
@@ -8,9 +8,9 @@ use w_fields::{Field, globaltype_at, limits_at, name_at, tabletype_at};
 use w_leb::{read_byte, read_u32};
 use w_syntax::{ExternType, Import};
 
-/// The type of what is imported, at a place.
+// Reads the type of what is imported.
 #[tactic(auto, unfolding(w_syntax::specs::Fields::externtype))]
-pub fn externtype_at(bytes: &[u8], at: usize) -> Option<(ExternType, usize)>
+fn read_externtype(bytes: &[u8], at: usize) -> Option<(ExternType, usize)>
     ensures { ReadsAt externtype.read bytes.now at result }
 {
     let Some((kind, next)) = read_byte(bytes, at) else {
@@ -49,6 +49,15 @@ pub fn externtype_at(bytes: &[u8], at: usize) -> Option<(ExternType, usize)>
         }
         _ => None,
     }
+}
+
+/// The type of what is imported, at a place. `None` exactly where no spelling of one begins.
+#[tactic(auto, using(w_leb::specs::ReadingLaws::begins_at))]
+pub fn externtype_at(bytes: &[u8], at: usize) -> Option<(ExternType, usize)>
+    ensures reads { ReadsAt externtype.read bytes.now at result }
+    ensures begins { BeginsAt externtype.Spells bytes.now at result }
+{
+    read_externtype(bytes, at)
 }
 
 /// An import, as a kind of field.

@@ -4,8 +4,6 @@
 mod exports;
 mod imports;
 mod tags;
-#[cfg(test)]
-mod tests;
 mod types;
 
 pub use exports::{ExportField, externidx_at};

@@ -1,5 +1,5 @@
 //! Tags (Core, binary format, tag section).
-ghost use Rattle.w_leb.specs.Format.{ReadsAt};
+ghost use Rattle.w_leb.specs.Format.{ReadsAt, BeginsAt};
 ghost use Rattle.w_syntax.specs.Fields.{tag};
 
 use std::alloc::{AllocError, Global};
@@ -7,9 +7,9 @@ use w_fields::Field;
 use w_leb::{read_byte, read_u32};
 use w_syntax::Tag;
 
-/// The tag at a place.
+// Reads a tag.
 #[tactic(auto, unfolding(w_syntax::specs::Fields::tag))]
-pub fn tag_at(bytes: &[u8], at: usize) -> Option<(Tag, usize)>
+fn read_tag(bytes: &[u8], at: usize) -> Option<(Tag, usize)>
     ensures { ReadsAt tag.read bytes.now at result }
 {
     let Some((attribute, next)) = read_byte(bytes, at) else {
@@ -22,6 +22,15 @@ pub fn tag_at(bytes: &[u8], at: usize) -> Option<(Tag, usize)>
         return None;
     };
     Some((Tag { type_index }, next))
+}
+
+/// The tag at a place. `None` exactly where no spelling of one begins.
+#[tactic(auto, using(w_leb::specs::ReadingLaws::begins_at))]
+pub fn tag_at(bytes: &[u8], at: usize) -> Option<(Tag, usize)>
+    ensures reads { ReadsAt tag.read bytes.now at result }
+    ensures begins { BeginsAt tag.Spells bytes.now at result }
+{
+    read_tag(bytes, at)
 }
 
 /// A tag, as a kind of field.

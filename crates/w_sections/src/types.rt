@@ -1,6 +1,6 @@
 //! Types of a module (Core, binary format, types; the explainer, binary format).
 ghost use Rattle.std.specs.Prelude.{◌≡◌, IfOk, [], ◌∷◌};
-ghost use Rattle.w_leb.specs.Format.{ReadsAt};
+ghost use Rattle.w_leb.specs.Format.{ReadsAt, BeginsAt};
 ghost use Rattle.w_leb.specs.Formats.{vec};
 ghost use Rattle.w_syntax.specs.Types.{functype, comptype, rectype};
 
@@ -33,9 +33,9 @@ impl Field for FuncTypeField {
     }
 }
 
-/// The composite type at a place.
+// Reads a composite type.
 #[tactic(auto, unfolding(w_syntax::specs::Types::comptype))]
-pub fn comptype_at(
+fn read_comptype(
     alloc: Global,
     bytes: &[u8],
     at: usize,
@@ -60,6 +60,18 @@ pub fn comptype_at(
         }
         _ => Ok(None),
     }
+}
+
+/// The composite type at a place. `None` exactly where no spelling of one begins.
+pub fn comptype_at(
+    alloc: Global,
+    bytes: &[u8],
+    at: usize,
+) -> Result<Option<(CompType, usize)>, AllocError>
+    ensures reads { IfOk result (ReadsAt comptype.read bytes.now at) }
+    ensures begins { IfOk result (BeginsAt comptype.Spells bytes.now at) }
+{
+    read_comptype(alloc, bytes, at)
 }
 
 /// A composite type, as a kind of field.

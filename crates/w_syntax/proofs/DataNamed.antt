@@ -3,7 +3,7 @@ use Rattle.std.proofs.Common.{◌≡◌, ℕ, ◌+◌, Bool, true, false, ◌||�
 use Rattle.w_syntax.specs.declared.instructions.Instr.{Instr}
 use Rattle.w_syntax.specs.declared.instructions.Instr.TheVariants as flat
 use Rattle.w_syntax.specs.Code.{Code, Done, Plain, Block, If, IfElse}
-use Rattle.w_syntax.specs.Counts.{is_of_data, names_data}
+use Rattle.w_syntax.specs.DataUses.{is_of_data, uses_data}
 use Rattle.w_syntax.specs.Flat.{size, laid, whole}
 use Rattle.w_syntax.specs.FlatData.{instr_of_data, some_of_data}
 
@@ -16,8 +16,8 @@ unfolding some_of_data
 over [] ys = refl
 over (x ∷ xs) ys = ap (λ (b : Bool). instr_of_data x || b) (over xs ys) ∙ sym (or_assoc (instr_of_data x) (some_of_data xs) (some_of_data ys))
 
-laid_named : (k : ℕ) (c : Code) → some_of_data (laid k c) ≡ names_data c
-unfolding some_of_data laid names_data
+laid_named : (k : ℕ) (c : Code) → some_of_data (laid k c) ≡ uses_data c
+unfolding some_of_data laid uses_data
 laid_named k Done = refl
 laid_named k (Plain o r) = ap (λ (b : Bool). is_of_data o || b) (laid_named (k + 1) r)
 laid_named k (Block kind b x r) =
@@ -32,7 +32,7 @@ or_false : (b : Bool) → (b || false) ≡ b
 or_false true = refl
 or_false false = refl
 
-pub whole_named : (c : Code) → some_of_data (whole c) ≡ names_data c
+pub whole_named : (c : Code) → some_of_data (whole c) ≡ uses_data c
 unfolding some_of_data
 whole_named c = over (laid 0 c) (flat.End ∷ []) ∙ or_false (some_of_data (laid 0 c)) ∙ laid_named 0 c
 

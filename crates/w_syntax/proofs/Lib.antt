@@ -7,3 +7,4 @@ pub mod Places
 mod Whole
 mod SomeOf
 mod FunctionsName
+mod LocalRows

@@ -5,7 +5,7 @@ use Rattle.std.proofs.lemmas.Bool.{cases_lt}
 use Rattle.std.proofs.lemmas.List.{length-append}
 use Rattle.w_syntax.specs.Code.{Code, Done, Plain, Block, If, IfElse}
 use Rattle.w_syntax.specs.Flat.{size, laid, put, begun, first_of, tree_of, whole}
-use Rattle.w_syntax.specs.FlatTree.{begun_laid}
+use Rattle.w_syntax.specs.FlatLaws.{begun_laid}
 use Rattle.w_syntax.specs.declared.instructions.Op.{Op}
 use Rattle.w_syntax.specs.declared.instructions.Instr.{Instr}
 use Rattle.w_syntax.specs.declared.instructions.Instr.TheVariants as flat

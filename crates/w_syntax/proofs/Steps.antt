@@ -11,7 +11,7 @@ use Rattle.w_syntax.specs.declared.builder.Open.TheVariants as opn
 use Rattle.w_syntax.specs.Code.{Code, Done, Plain, Block, If, IfElse, after}
 use Rattle.w_syntax.specs.Expr.{Path, Top, InBlock, InThen, InElse, More, Finished, Wrong, on_else, on_end}
 use Rattle.w_syntax.specs.Flat.{size, laid}
-use Rattle.w_syntax.specs.Stands.{place, open_laid, heads, closed_of}
+use Rattle.w_syntax.specs.Builds.{place, open_laid, heads, closed_of}
 
 pub length-laid : (k : ℕ) (c : Code) → length (laid k c) ≡ size c
 unfolding laid size

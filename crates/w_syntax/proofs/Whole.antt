@@ -7,8 +7,8 @@ use Rattle.w_syntax.specs.declared.builder.BodyBuilder.{BodyBuilder}
 use Rattle.w_syntax.specs.Code.{Code, Done, Plain}
 use Rattle.w_syntax.specs.Expr.{Top}
 use Rattle.w_syntax.specs.Flat.{laid, tree_of, IsFlat, whole}
-use Rattle.w_syntax.specs.FlatTree.{tree_of-whole}
-use Rattle.w_syntax.specs.Stands.{Stands, open_laid, place, heads}
+use Rattle.w_syntax.specs.FlatLaws.{tree_of-whole}
+use Rattle.w_syntax.specs.Builds.{Builds, open_laid, place, heads}
 
 -- a list that is laid out from a tree is that of its own tree
 pub flat_is : (d : Code) (is : List Instr) → is ≡ whole d → IsFlat is
@@ -25,6 +25,6 @@ unfolding laid
 one_laid o = refl
 
 -- with nothing, nothing is open
-pub starts : (s : BodyBuilder) → s.code.items ≡ [] → s.opens.items ≡ [] → Stands Top Done s
+pub starts : (s : BodyBuilder) → s.code.items ≡ [] → s.opens.items ≡ [] → Builds Top Done s
 unfolding open_laid laid place heads
 starts s e f = record { code = e; opens = f }

@@ -7,7 +7,7 @@ use Rattle.w_types.specs.declared.types.HeapType.TheVariants as heap
 use Rattle.w_types.specs.declared.types.RefType.{RefType}
 use Rattle.w_syntax.specs.Code.{Code, Done, Plain}
 use Rattle.w_syntax.specs.Expr.{Expr, read_expr}
-use Rattle.w_syntax.specs.ExprExact.{expr_exact}
+use Rattle.w_syntax.specs.ExprLaws.{expr_exact}
 use Rattle.w_syntax.specs.Types.{nullable_to, non_null_to, reftype, valtype, limits, tabletype, globaltype}
 use Rattle.w_syntax.specs.Locals.{total, joined}
 use Rattle.w_syntax.specs.declared.instructions.Op.TheVariants as op

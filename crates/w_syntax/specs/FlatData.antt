@@ -2,7 +2,7 @@
 use Rattle.std.specs.Prelude.{Bool, false, List, [], ◌∷◌, ◌||◌}
 use Rattle.w_syntax.specs.declared.instructions.Instr.{Instr}
 use Rattle.w_syntax.specs.declared.instructions.Instr.TheVariants as flat
-use Rattle.w_syntax.specs.Counts.{is_of_data}
+use Rattle.w_syntax.specs.DataUses.{is_of_data}
 
 abbrev pub instr_of_data : Instr → Bool
 instr_of_data (flat.Plain o) = is_of_data o

@@ -5,8 +5,8 @@ use Rattle.w_leb.specs.Formats.{any_byte, ◌⊗◌, number, vec, bytes, meaning
 use Rattle.w_syntax.specs.Types.{rectype, limits}
 use Rattle.w_syntax.specs.Fields.{tag, import, export, table_of, global, elem, data_segment, code}
 use Rattle.w_syntax.specs.Contents.{Contents, wholly, custom, IsChosen, chosen, chosen_decided}
-use Rattle.w_syntax.specs.declared.module.Part.{Part}
-use Rattle.w_syntax.specs.declared.module.Part.TheVariants as part
+use Rattle.w_syntax.specs.declared.module.Section.{Section}
+use Rattle.w_syntax.specs.declared.module.Section.TheVariants as part
 
 -- ## Sections
 
@@ -34,11 +34,11 @@ kinds =
     ∷ []
 
 -- what an id and contents say
-unfoldable pub IsSection : ℕ × List ℕ → Part → Type 0
+unfoldable pub IsSection : ℕ × List ℕ → Section → Type 0
 IsSection f p = IsChosen kinds f.0 f.1 p
 
 -- the same, read
-unfoldable pub section_of : ℕ × List ℕ → Option Part
+unfoldable pub section_of : ℕ × List ℕ → Option Section
 section_of f = chosen kinds f.0 f.1
 
 pub section_decided : IsDecided IsSection section_of
@@ -46,7 +46,7 @@ unfolding IsSection section_of
 section_decided = record { found = λ f p. (chosen_decided kinds f.0).found f.1 p; only = λ f p. (chosen_decided kinds f.0).only f.1 p }
 
 -- a section: its frame, and what its id and contents say
-unfoldable pub section : Format Part
+unfoldable pub section : Format Section
 section = meaning frame IsSection section_of section_decided
 
 -- ## Their order
@@ -71,7 +71,7 @@ if_some (Some x) f = f x
 unfoldable pub next_rank : ℕ → ℕ → Option ℕ
 next_rank k id = cond (nat_eq id 0x00) (Some k) (if_some (rank id) (λ j. cond (nat_lt k j) (Some j) None))
 
-abbrev pub id_of : Part → ℕ
+abbrev pub id_of : Section → ℕ
 id_of part.Custom = 0x00
 id_of (part.Types ts) = 0x01
 id_of (part.Imports is) = 0x02
@@ -88,6 +88,6 @@ id_of (part.Codes cs) = 0x0A
 id_of (part.Datas ds) = 0x0B
 
 -- the rank after these sections, where they stand in order, each at most once
-unfoldable pub rank_after : ℕ → List Part → Option ℕ
+unfoldable pub rank_after : ℕ → List Section → Option ℕ
 rank_after k [] = Some k
 rank_after k (p ∷ ps) = if_some (next_rank k (id_of p)) (λ j. rank_after j ps)

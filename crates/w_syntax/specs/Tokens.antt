@@ -3,20 +3,20 @@ use Rattle.std.specs.Prelude.{ℕ, nat_lt, List, [], ◌∷◌}
 use Rattle.w_leb.specs.Format.{Format, IsSolid}
 use Rattle.w_leb.specs.Formats.{constant, ◌⊗◌, ◌⇒◌, such_that, table_or, table, choice, number, signed_number, vec}
 use Rattle.w_syntax.specs.declared.numeric.IntType.TheVariants as int
-use Rattle.w_syntax.specs.declared.numeric.Unary.TheVariants as unary
-use Rattle.w_syntax.specs.declared.numeric.Binary.TheVariants as binary
-use Rattle.w_syntax.specs.declared.numeric.Compare.TheVariants as compare
-use Rattle.w_syntax.specs.declared.numeric.Convert.TheVariants as convert
-use Rattle.w_syntax.specs.declared.numeric.Numeric.{Numeric}
-use Rattle.w_syntax.specs.declared.numeric.Numeric.TheVariants as numeric
-use Rattle.w_syntax.specs.declared.memory.Load.TheVariants as load
-use Rattle.w_syntax.specs.declared.memory.Store.TheVariants as store
-use Rattle.w_syntax.specs.declared.memory.MemArg.{MemArg}
-use Rattle.w_syntax.specs.declared.memory.MemoryOp.{MemoryOp}
-use Rattle.w_syntax.specs.declared.memory.MemoryOp.TheVariants as memory
-use Rattle.w_syntax.specs.declared.instructions.Control.{Control}
-use Rattle.w_syntax.specs.declared.instructions.Control.TheVariants as control
-use Rattle.w_syntax.specs.declared.instructions.Parametric.TheVariants as parametric
+use Rattle.w_syntax.specs.declared.numeric.Unop.TheVariants as unary
+use Rattle.w_syntax.specs.declared.numeric.Binop.TheVariants as binary
+use Rattle.w_syntax.specs.declared.numeric.Relop.TheVariants as compare
+use Rattle.w_syntax.specs.declared.numeric.Cvtop.TheVariants as convert
+use Rattle.w_syntax.specs.declared.numeric.NumericOp.{NumericOp}
+use Rattle.w_syntax.specs.declared.numeric.NumericOp.TheVariants as numeric
+use Rattle.w_syntax.specs.declared.memory_instructions.LoadOp.TheVariants as load
+use Rattle.w_syntax.specs.declared.memory_instructions.StoreOp.TheVariants as store
+use Rattle.w_syntax.specs.declared.memory_instructions.MemArg.{MemArg}
+use Rattle.w_syntax.specs.declared.memory_instructions.MemoryOp.{MemoryOp}
+use Rattle.w_syntax.specs.declared.memory_instructions.MemoryOp.TheVariants as memory
+use Rattle.w_syntax.specs.declared.instructions.ControlOp.{ControlOp}
+use Rattle.w_syntax.specs.declared.instructions.ControlOp.TheVariants as control
+use Rattle.w_syntax.specs.declared.instructions.ParametricOp.TheVariants as parametric
 use Rattle.w_syntax.specs.declared.instructions.VariableOp.TheVariants as variable
 use Rattle.w_syntax.specs.declared.instructions.TableOp.TheVariants as table_op
 use Rattle.w_syntax.specs.declared.instructions.ReferenceOp.TheVariants as reference
@@ -34,7 +34,7 @@ use Rattle.w_syntax.specs.Types.{entries_of, valtypes, valtype, heaptype, index3
 
 -- ## Numeric instructions
 
-abbrev pub arithmetics : List (ℕ × Format Numeric)
+abbrev pub arithmetics : List (ℕ × Format NumericOp)
 arithmetics =
     (0x67, constant (numeric.Unary int.I32 unary.Clz))
     ∷ (0x68, constant (numeric.Unary int.I32 unary.Ctz))
@@ -74,14 +74,14 @@ arithmetics =
     ∷ (0x8A, constant (numeric.Binary int.I64 binary.Rotr))
     ∷ []
 
-unfoldable pub arithmetic : Format Numeric
+unfoldable pub arithmetic : Format NumericOp
 arithmetic = table arithmetics
 
 pub arithmetic_solid : IsSolid arithmetic.Spells
 unfolding arithmetic
 arithmetic_solid x h = h
 
-abbrev pub comparisons : List (ℕ × Format Numeric)
+abbrev pub comparisons : List (ℕ × Format NumericOp)
 comparisons =
     (0x46, constant (numeric.Compare int.I32 compare.Eq))
     ∷ (0x47, constant (numeric.Compare int.I32 compare.Ne))
@@ -105,14 +105,14 @@ comparisons =
     ∷ (0x5A, constant (numeric.Compare int.I64 compare.GeU))
     ∷ []
 
-unfoldable pub comparison : Format Numeric
+unfoldable pub comparison : Format NumericOp
 comparison = table_or comparisons arithmetic arithmetic_solid
 
 pub comparison_solid : IsSolid comparison.Spells
 unfolding comparison
 comparison_solid x h = h
 
-abbrev pub numerics : List (ℕ × Format Numeric)
+abbrev pub numerics : List (ℕ × Format NumericOp)
 numerics =
     (0x41, signed_number 32 ⇒ numeric.I32Const)
     ∷ (0x42, signed_number 64 ⇒ numeric.I64Const)
@@ -128,7 +128,7 @@ numerics =
     ∷ (0xC4, constant (numeric.Convert convert.I64Extend32S))
     ∷ []
 
-unfoldable pub numeric_op : Format Numeric
+unfoldable pub numeric_op : Format NumericOp
 numeric_op = table_or numerics comparison comparison_solid
 
 pub numeric_solid : IsSolid numeric_op.Spells
@@ -189,7 +189,7 @@ bulk = choice (number 32) bulks
 
 -- ## Control instructions that hold no others
 
-abbrev pub controls : List (ℕ × Format Control)
+abbrev pub controls : List (ℕ × Format ControlOp)
 controls =
     (0x00, constant control.Unreachable)
     ∷ (0x01, constant control.Nop)
@@ -204,7 +204,7 @@ controls =
     ∷ (0xD6, number 32 ⇒ control.BrOnNonNull)
     ∷ []
 
-unfoldable pub control_op : Format Control
+unfoldable pub control_op : Format ControlOp
 control_op = table controls
 
 -- ## Stack switching

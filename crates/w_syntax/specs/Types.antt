@@ -2,7 +2,7 @@
 use Rattle.std.specs.Prelude.{ℕ, ℤ, pos, negsuc, unsigned_abs, Bool, true, false, List, [], ◌∷◌, Some, None}
 use Rattle.w_leb.specs.Format.{Format, IsSolid}
 use Rattle.w_leb.specs.Formats.{constant, ◌⊗◌, ◌⇒◌, such_that, table_or, table, number, signed_number, vec}
-use Rattle.w_leb.specs.NumberExact.{signed_solid}
+use Rattle.w_leb.specs.NumberLaws.{signed_solid}
 use Rattle.w_types.specs.declared.types.HeapType.{HeapType}
 use Rattle.w_types.specs.declared.types.HeapType.TheVariants as heap
 use Rattle.w_types.specs.declared.types.RefType.{RefType}

@@ -1,9 +1,11 @@
 //! Bodies.
 ghost use Rattle.std.specs.Prelude.{◌≡◌};
 ghost use Rattle.w_syntax.specs.FlatData.{instr_of_data, some_of_data};
+ghost use Rattle.w_syntax.specs.Module.{any_uses_data};
 
 use crate::instructions::{Instr, Op};
-use crate::memory::MemoryOp;
+use crate::memory_instructions::MemoryOp;
+use crate::module::Func;
 use std::alloc::{AllocError, Global};
 use std::marker::Model;
 
@@ -24,7 +26,7 @@ fn is_of_data(instr: &Instr) -> bool
     }
 }
 
-// Whether some instruction does.
+// Whether some instruction of the list names a data segment.
 fn some_is_of_data(instrs: &[Instr]) -> bool
     ensures { result ≡ some_of_data instrs.now }
 {
@@ -39,7 +41,7 @@ fn some_is_of_data(instrs: &[Instr]) -> bool
 impl Model for Body {
     ghost use Rattle.std.specs.Prelude.{◌≡◌};
     ghost use Rattle.w_syntax.specs.Code.{Code};
-    ghost use Rattle.w_syntax.specs.FlatTree.{code_code};
+    ghost use Rattle.w_syntax.specs.FlatLaws.{code_code};
     ghost use Rattle.w_syntax.specs.Flat.{tree_of, IsFlat};
 
     ghost Value = { Code };
@@ -55,7 +57,7 @@ impl Body {
     ghost use Rattle.std.specs.Prelude.{◌≡◌, IfOk};
     ghost use Rattle.w_syntax.specs.Code.{Plain, Done};
     ghost use Rattle.w_syntax.specs.Flat.{tree_of, IsFlat, whole};
-    ghost use Rattle.w_syntax.specs.Counts.{names_data};
+    ghost use Rattle.w_syntax.specs.DataUses.{uses_data};
 
     /// The body that this list is laid out from.
     pub fn new(code: Vec<Instr>) -> Body
@@ -76,8 +78,8 @@ impl Body {
     }
 
     /// Whether some instruction names a data segment.
-    pub fn names_data(&self) -> bool
-        ensures { result ≡ names_data self.now }
+    pub fn uses_data(&self) -> bool
+        ensures { result ≡ uses_data self.now }
     {
         some_is_of_data(self.instrs())
     }
@@ -88,4 +90,16 @@ impl Body {
     {
         self.code.as_slice()
     }
+}
+
+/// Whether the body of some function names a data segment.
+pub fn any_uses_data(functions: &[Func]) -> bool
+    ensures { result ≡ any_uses_data functions.now }
+{
+    for function in functions {
+        if function.body.uses_data() {
+            return true;
+        }
+    }
+    false
 }

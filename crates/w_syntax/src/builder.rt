@@ -2,7 +2,7 @@
 ghost use Rattle.std.specs.Prelude.{◌≡◌, ◌<◌, IfOk, length, slice_set};
 ghost use Rattle.w_syntax.specs.Code.{Code, Done};
 ghost use Rattle.w_syntax.specs.Expr.{Path, Top, step};
-ghost use Rattle.w_syntax.specs.Stands.{Stands, SteppedTo, Holds, closed_of};
+ghost use Rattle.w_syntax.specs.Builds.{Builds, ProgressTo, Holds, closed_of};
 
 use crate::body::Body;
 use crate::instructions::{BlockKind, BlockType, Instr, Token};
@@ -23,8 +23,8 @@ pub struct BodyBuilder {
     opens: Vec<Open>,
 }
 /// What came of a token: the body goes on, or it is finished, or no body begins with these tokens.
-#[derive(Clone, Copy, Debug, PartialEq, Eq)]
-pub enum Stepped {
+#[derive(Clone, Copy)]
+pub enum Progress {
     More,
     Finished,
     Wrong,
@@ -52,7 +52,7 @@ fn closed(ended: Open, here: usize) -> (usize, Instr)
 impl BodyBuilder {
     /// No instructions yet.
     pub fn new(alloc: Global) -> BodyBuilder
-        ensures { Stands Top Done result }
+        ensures { Builds Top Done result }
     {
         BodyBuilder {
             code: Vec::new(alloc),
@@ -62,47 +62,47 @@ impl BodyBuilder {
 
     /// Takes the next token. After `Finished` the body is there, by `into_body`; after `Wrong` and want of memory nothing is
     /// known of the builder.
-    pub fn push(&mut self, token: Token) -> Result<Stepped, AllocError>
-        requires { (p : Path) × (c : Code) × Stands p c self.old }
-        ensures { IfOk result (λ r. (p : Path) (c : Code) → Stands p c self.old → SteppedTo (step p c token) r self.new) }
+    pub fn push(&mut self, token: Token) -> Result<Progress, AllocError>
+        requires { (p : Path) × (c : Code) × Builds p c self.old }
+        ensures { IfOk result (λ r. (p : Path) (c : Code) → Builds p c self.old → ProgressTo (step p c token) r self.new) }
     {
         let here = self.code.len();
         match token {
             Token::Plain(op) => {
                 self.code.push(Instr::Plain(op))?;
-                Ok(Stepped::More)
+                Ok(Progress::More)
             }
             Token::Block(kind, block) => {
                 self.opens.push(Open::Block(kind, block, here))?;
                 self.code.push(Instr::Block(kind, block, 0))?;
-                Ok(Stepped::More)
+                Ok(Progress::More)
             }
             Token::If(block) => {
                 self.opens.push(Open::Then(block, here))?;
                 self.code.push(Instr::If(block, None, 0))?;
-                Ok(Stepped::More)
+                Ok(Progress::More)
             }
             Token::Else => {
                 let Some(last) = self.opens.pop() else {
-                    return Ok(Stepped::Wrong);
+                    return Ok(Progress::Wrong);
                 };
                 let Open::Then(block, head) = last else {
-                    return Ok(Stepped::Wrong);
+                    return Ok(Progress::Wrong);
                 };
                 replace(&mut self.code, head, Instr::If(block, Some(here), 0));
                 self.opens.push(Open::Else(block, head, here))?;
                 self.code.push(Instr::Else)?;
-                Ok(Stepped::More)
+                Ok(Progress::More)
             }
             Token::End => {
                 let Some(last) = self.opens.pop() else {
                     self.code.push(Instr::End)?;
-                    return Ok(Stepped::Finished);
+                    return Ok(Progress::Finished);
                 };
                 let (head, instr) = closed(last, here);
                 replace(&mut self.code, head, instr);
                 self.code.push(Instr::End)?;
-                Ok(Stepped::More)
+                Ok(Progress::More)
             }
         }
     }

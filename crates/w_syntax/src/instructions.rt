@@ -1,13 +1,13 @@
 //! Instructions (Core, instructions).
 
-use crate::memory::MemoryOp;
-use crate::numeric::Numeric;
+use crate::memory_instructions::MemoryOp;
+use crate::numeric::NumericOp;
 use w_types::{HeapType, ListOf, ValType};
 
 /// A control instruction that holds no others (Core, instructions, control instructions). A label is counted from the
 /// innermost one outwards.
-#[derive(Debug, Drop, PartialEq)]
-pub enum Control {
+#[derive(Drop)]
+pub enum ControlOp {
     Unreachable,
     Nop,
     Br(u32),
@@ -26,8 +26,8 @@ pub enum Control {
 }
 
 /// A parametric instruction (Core, instructions, parametric instructions).
-#[derive(Debug, Drop, PartialEq)]
-pub enum Parametric {
+#[derive(Drop)]
+pub enum ParametricOp {
     Drop,
     /// `select` of integers.
     Select,
@@ -36,7 +36,7 @@ pub enum Parametric {
 }
 
 /// A variable instruction (Core, instructions, variable instructions), with the local or the global.
-#[derive(Clone, Copy, Debug, PartialEq, Eq)]
+#[derive(Clone, Copy)]
 pub enum VariableOp {
     LocalGet(u32),
     LocalSet(u32),
@@ -46,7 +46,7 @@ pub enum VariableOp {
 }
 
 /// A table instruction (Core, instructions, table instructions), with the table where no other index is named.
-#[derive(Clone, Copy, Debug, PartialEq, Eq)]
+#[derive(Clone, Copy)]
 pub enum TableOp {
     Get(u32),
     Set(u32),
@@ -62,7 +62,7 @@ pub enum TableOp {
 }
 
 /// A reference instruction (Core, instructions, reference instructions).
-#[derive(Clone, Copy, Debug, PartialEq, Eq)]
+#[derive(Clone, Copy)]
 pub enum ReferenceOp {
     Null(HeapType),
     IsNull,
@@ -72,7 +72,7 @@ pub enum ReferenceOp {
 }
 
 /// A clause of a handler (the explainer, instructions).
-#[derive(Clone, Copy, Debug, PartialEq, Eq)]
+#[derive(Clone, Copy)]
 pub enum Clause {
     /// `on`, with the tag and the label.
     Label(u32, u32),
@@ -81,7 +81,7 @@ pub enum Clause {
 }
 
 /// A stack switching instruction (the explainer, instructions).
-#[derive(Debug, Drop, PartialEq)]
+#[derive(Drop)]
 pub enum SwitchingOp {
     /// `cont.new`, with the continuation type.
     ContNew(u32),
@@ -96,21 +96,21 @@ pub enum SwitchingOp {
 }
 
 /// An instruction that holds no others.
-#[derive(Debug, Drop, PartialEq)]
+#[derive(Drop)]
 pub enum Op {
-    Control(Control),
-    Parametric(Parametric),
+    Control(ControlOp),
+    Parametric(ParametricOp),
     Variable(VariableOp),
     Table(TableOp),
     Memory(MemoryOp),
-    Numeric(Numeric),
+    Numeric(NumericOp),
     Reference(ReferenceOp),
     Switching(SwitchingOp),
 }
 
 /// The type of a block (Core, instructions, control instructions): nothing to nothing, nothing to one value, or the function
 /// type of this index.
-#[derive(Clone, Copy, Debug, PartialEq, Eq)]
+#[derive(Clone, Copy)]
 pub enum BlockType {
     Empty,
     Value(ValType),
@@ -118,14 +118,14 @@ pub enum BlockType {
 }
 
 /// Where a branch to a block's label goes on: behind the block, or at its beginning.
-#[derive(Clone, Copy, Debug, PartialEq, Eq)]
+#[derive(Clone, Copy)]
 pub enum BlockKind {
     Block,
     Loop,
 }
 
 /// What a reader of code takes at once: an instruction, or a mark of the nesting (Core, binary format, instructions).
-#[derive(Debug, Drop, PartialEq)]
+#[derive(Drop)]
 pub enum Token {
     Plain(Op),
     Block(BlockKind, BlockType),
@@ -135,7 +135,7 @@ pub enum Token {
 }
 
 /// An instruction of a body in one list. A block has the place of its end, an if also that of its else.
-#[derive(Debug, Drop, PartialEq)]
+#[derive(Drop)]
 pub enum Instr {
     Plain(Op),
     Block(BlockKind, BlockType, usize),

@@ -3,28 +3,24 @@
 
 mod body;
 mod builder;
-mod counts;
 mod instructions;
 mod locals;
-mod memory;
+mod memory_instructions;
 mod module;
 mod name;
 mod numeric;
-#[cfg(test)]
-mod tests;
 
-pub use body::Body;
-pub use builder::{BodyBuilder, Stepped};
-pub use counts::some_names_data;
+pub use body::{Body, any_uses_data};
+pub use builder::{BodyBuilder, Progress};
 pub use instructions::{
-    BlockKind, BlockType, Clause, Control, Instr, Op, Parametric, ReferenceOp, SwitchingOp,
+    BlockKind, BlockType, Clause, ControlOp, Instr, Op, ParametricOp, ReferenceOp, SwitchingOp,
     TableOp, Token, VariableOp,
 };
 pub use locals::{LocalRun, Locals};
-pub use memory::{Load, MemArg, MemoryOp, Store};
+pub use memory_instructions::{LoadOp, MemArg, MemoryOp, StoreOp};
 pub use module::{
     Data, DataMode, Elem, ElemMode, Export, ExternIndex, ExternType, Func, GlobalType,
-    GlobalVariable, Import, Limits, Module, Mutability, Part, Table, TableType, Tag,
+    GlobalVariable, Import, Limits, Module, Mutability, Section, Table, TableType, Tag,
 };
 pub use name::Name;
-pub use numeric::{Binary, Compare, Convert, IntType, Numeric, Unary};
+pub use numeric::{Binop, Cvtop, IntType, NumericOp, Relop, Unop};

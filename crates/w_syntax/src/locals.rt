@@ -7,7 +7,7 @@ use std::marker::Model;
 use w_types::ValType;
 
 /// So many locals of one type, one behind the other.
-#[derive(Clone, Copy, Debug, PartialEq, Eq)]
+#[derive(Clone, Copy)]
 pub struct LocalRun {
     pub count: u32,
     pub kind: ValType,
@@ -47,7 +47,7 @@ fn are_few(runs: &[LocalRun]) -> bool
 }
 
 // Puts a run before the runs, which stand from the last to the first.
-fn put_before(run: LocalRun, backwards: &mut Vec<LocalRun>) -> Result<(), AllocError>
+fn prepend_run(run: LocalRun, backwards: &mut Vec<LocalRun>) -> Result<(), AllocError>
     requires { run.count + total (reverse backwards.old.items) < 2 ^ 32 }
     ensures { OnOk result (reverse backwards.new.items ≡ join run (reverse backwards.old.items)) }
 {
@@ -77,7 +77,7 @@ fn joined_runs(alloc: Global, mut runs: Vec<LocalRun>) -> Result<Vec<LocalRun>, 
 {
     let mut backwards = Vec::new(alloc);
     while let Some(run) = runs.pop() {
-        put_before(run, &mut backwards)?;
+        prepend_run(run, &mut backwards)?;
     }
     backwards.reverse();
     Ok(backwards)

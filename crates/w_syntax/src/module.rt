@@ -3,44 +3,45 @@
 use crate::body::Body;
 use crate::locals::Locals;
 use crate::name::Name;
+use std::alloc::Global;
 use w_types::{ListOf, RecGroups, RefType, ValType};
 
 /// The least and the greatest size of a table or a memory (Core, types, limits).
-#[derive(Clone, Copy, Debug, PartialEq, Eq)]
+#[derive(Clone, Copy)]
 pub struct Limits {
     pub min: u64,
     pub max: Option<u64>,
 }
 
 /// The type of a table (Core, types, table types).
-#[derive(Clone, Copy, Debug, PartialEq, Eq)]
+#[derive(Clone, Copy)]
 pub struct TableType {
     pub element: RefType,
     pub limits: Limits,
 }
 
 /// Whether a global may be written.
-#[derive(Clone, Copy, Debug, PartialEq, Eq)]
+#[derive(Clone, Copy, PartialEq, Eq)]
 pub enum Mutability {
     Const,
     Var,
 }
 
 /// The type of a global (Core, types, global types).
-#[derive(Clone, Copy, Debug, PartialEq, Eq)]
+#[derive(Clone, Copy)]
 pub struct GlobalType {
     pub kind: ValType,
     pub mutability: Mutability,
 }
 
 /// A tag, by the index of its type (Core, modules, tags).
-#[derive(Clone, Copy, Debug, PartialEq, Eq)]
+#[derive(Clone, Copy)]
 pub struct Tag {
     pub type_index: u32,
 }
 
 /// The type of what is imported (Core, types, external types): a function has the index of its type.
-#[derive(Clone, Copy, Debug, PartialEq, Eq)]
+#[derive(Clone, Copy)]
 pub enum ExternType {
     Func(u32),
     Table(TableType),
@@ -72,7 +73,7 @@ pub struct GlobalVariable {
 }
 
 /// What is exported, by its index (Core, modules, exports).
-#[derive(Clone, Copy, Debug, PartialEq, Eq)]
+#[derive(Clone, Copy)]
 pub enum ExternIndex {
     Func(u32),
     Table(u32),
@@ -148,9 +149,34 @@ pub struct Module {
     pub datas: ListOf<Data>,
 }
 
+impl Module {
+    ghost use Rattle.std.specs.Prelude.{◌≡◌};
+    ghost use Rattle.w_syntax.specs.Module.{empty_module};
+
+    /// The module of no sections.
+    pub fn empty(alloc: Global) -> Module
+        ensures { result ≡ empty_module }
+    {
+        Module {
+            types: RecGroups::new(alloc),
+            imports: ListOf::new(alloc),
+            functions: ListOf::new(alloc),
+            tables: ListOf::new(alloc),
+            memories: ListOf::new(alloc),
+            tags: ListOf::new(alloc),
+            globals: ListOf::new(alloc),
+            exports: ListOf::new(alloc),
+            start: None,
+            elements: ListOf::new(alloc),
+            codes: ListOf::new(alloc),
+            datas: ListOf::new(alloc),
+        }
+    }
+}
+
 /// What one section of a module says (Core, binary format, sections).
 #[derive(Drop)]
-pub enum Part {
+pub enum Section {
     Custom,
     Types(RecGroups),
     Imports(ListOf<Import>),

@@ -1,23 +1,23 @@
 //! Numeric instructions (Core, instructions, numeric instructions).
 
 /// A type of integers (Core, types, number types).
-#[derive(Clone, Copy, Debug, PartialEq, Eq)]
+#[derive(Clone, Copy)]
 pub enum IntType {
     I32,
     I64,
 }
 
 /// An operation on one integer.
-#[derive(Clone, Copy, Debug, PartialEq, Eq)]
-pub enum Unary {
+#[derive(Clone, Copy)]
+pub enum Unop {
     Clz,
     Ctz,
     Popcnt,
 }
 
 /// An operation on two integers.
-#[derive(Clone, Copy, Debug, PartialEq, Eq)]
-pub enum Binary {
+#[derive(Clone, Copy)]
+pub enum Binop {
     Add,
     Sub,
     Mul,
@@ -36,8 +36,8 @@ pub enum Binary {
 }
 
 /// A comparison of two integers.
-#[derive(Clone, Copy, Debug, PartialEq, Eq)]
-pub enum Compare {
+#[derive(Clone, Copy)]
+pub enum Relop {
     Eq,
     Ne,
     LtS,
@@ -51,8 +51,8 @@ pub enum Compare {
 }
 
 /// A conversion of an integer to another width, or of its low bits to the whole width.
-#[derive(Clone, Copy, Debug, PartialEq, Eq)]
-pub enum Convert {
+#[derive(Clone, Copy)]
+pub enum Cvtop {
     I32WrapI64,
     I64ExtendI32S,
     I64ExtendI32U,
@@ -64,16 +64,16 @@ pub enum Convert {
 }
 
 /// A numeric instruction.
-#[derive(Clone, Copy, Debug, PartialEq, Eq)]
-pub enum Numeric {
+#[derive(Clone, Copy)]
+pub enum NumericOp {
     /// `i32.const`, with its number as it is spelled, signed.
     I32Const(i32),
     /// `i64.const`, with its number as it is spelled, signed.
     I64Const(i64),
     /// `eqz`
     Eqz(IntType),
-    Compare(IntType, Compare),
-    Unary(IntType, Unary),
-    Binary(IntType, Binary),
-    Convert(Convert),
+    Compare(IntType, Relop),
+    Unary(IntType, Unop),
+    Binary(IntType, Binop),
+    Convert(Cvtop),
 }

@@ -3,12 +3,10 @@
 
 mod groups;
 mod list;
-#[cfg(test)]
-mod tests;
 mod types;
 mod value;
 
 pub use groups::RecGroups;
 pub use list::ListOf;
 pub use types::{CompType, FuncType, HeapType, RecGroup, RefType, ValType};
-pub use value::Value;
+pub use value::{ContRef, Value};

@@ -1,9 +1,10 @@
 //! Types.
+ghost use Rattle.std.specs.Prelude.{◌≡◌, true, false};
 
 use crate::list::ListOf;
 
 /// A heap type (Core, types, heap types; the explainer adds continuations). An index is that of a type of the module.
-#[derive(Clone, Copy, Debug, PartialEq, Eq)]
+#[derive(Clone, Copy, PartialEq, Eq)]
 pub enum HeapType {
     Func,
     NoFunc,
@@ -13,14 +14,48 @@ pub enum HeapType {
 }
 
 /// A reference type (Core, types, reference types).
-#[derive(Clone, Copy, Debug, PartialEq, Eq)]
+#[derive(Clone, Copy, PartialEq, Eq)]
 pub struct RefType {
     pub nullable: bool,
     pub heap: HeapType,
 }
 
+impl RefType {
+    /// `funcref`, which is `(ref null func)`.
+    pub const FUNCREF: RefType = RefType {
+        nullable: true,
+        heap: HeapType::Func,
+    };
+
+    /// `(ref func)`.
+    pub const FUNC: RefType = RefType {
+        nullable: false,
+        heap: HeapType::Func,
+    };
+
+    /// `(ref null heap)`.
+    pub fn or_null(heap: HeapType) -> RefType
+        ensures { result ≡ record { nullable = true; heap = heap } }
+    {
+        RefType {
+            nullable: true,
+            heap,
+        }
+    }
+
+    /// `(ref heap)`.
+    pub fn non_null(heap: HeapType) -> RefType
+        ensures { result ≡ record { nullable = false; heap = heap } }
+    {
+        RefType {
+            nullable: false,
+            heap,
+        }
+    }
+}
+
 /// A value type (Core, types, value types): integers and references.
-#[derive(Clone, Copy, Debug, PartialEq, Eq)]
+#[derive(Clone, Copy, PartialEq, Eq)]
 pub enum ValType {
     I32,
     I64,
@@ -28,7 +63,7 @@ pub enum ValType {
 }
 
 /// A function type (Core, types, function types): from parameters to results, each in order.
-#[derive(Debug, Drop, PartialEq)]
+#[derive(Drop)]
 pub struct FuncType {
     pub params: ListOf<ValType>,
     pub results: ListOf<ValType>,
@@ -36,14 +71,14 @@ pub struct FuncType {
 
 /// A composite type (Core, types, composite types). A continuation type has the index of its function type (the explainer,
 /// types).
-#[derive(Debug, Drop, PartialEq)]
+#[derive(Drop)]
 pub enum CompType {
     Func(FuncType),
     Cont(u32),
 }
 
 /// Types that are defined together, so that each may name the others (Core, types, recursive types).
-#[derive(Debug, Drop, PartialEq)]
+#[derive(Drop)]
 pub struct RecGroup {
     pub types: ListOf<CompType>,
 }

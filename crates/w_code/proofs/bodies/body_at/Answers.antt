@@ -1,7 +1,7 @@
 use Rattle.std.proofs.Common.{drop, length, sym, ap, ◌∙◌, arith, Some}
 use Rattle.w_syntax.specs.Code.{Code, Done}
 use Rattle.w_syntax.specs.Expr.{Top, step}
-use Rattle.w_syntax.specs.ExprExact.{one_on, none_on, onward}
+use Rattle.w_syntax.specs.ExprLaws.{one_on, none_on, onward}
 use Rattle.w_code.proofs.TokenSteps.{to_more, to_finished, to_wrong, reads_start, moves, past}
 use Rattle.w_code.proofs.bodies.body_at.Goals as goal
 

@@ -32,7 +32,7 @@ loop-place-preserved c =
     let m = moves c.args.bytes.now c.loop-place.place c.in-Some.frame.end c.loop-place.last _ h.0 h.3 in
     let s = sym c.in_ok-part.ensures ∙ c.in-Some-2.is in
     record {
-      reads = rw c.add_part.ensures (sym (goes_on c.args.bytes.now c.loop-place.place c.in-Some.frame.end c.loop-place.number c.loop-place.last c.in-Some.frame.rank c.in-Some.frame.id c.loop-place.so_far _ c.in-Some-2.part c.loop-place-test.true h.3 h.0 s) ∙ c.loop-place.invariant.reads);
+      reads = rw c.add_section.ensures (sym (goes_on c.args.bytes.now c.loop-place.place c.in-Some.frame.end c.loop-place.number c.loop-place.last c.in-Some.frame.rank c.in-Some.frame.id c.loop-place.so_far _ c.in-Some-2.part c.loop-place-test.true h.3 h.0 s) ∙ c.loop-place.invariant.reads);
       few = omega (arith, m, c.loop-place.invariant.few);
     }
 

@@ -1,4 +1,4 @@
-use Rattle.w_decode.specs.ReadingExact.{one_module}
+use Rattle.w_decode.proofs.ReadingExact.{one_module}
 use Rattle.w_decode.proofs.decoding.one_module.Goals as goal
 
 pub returns : goal.returns

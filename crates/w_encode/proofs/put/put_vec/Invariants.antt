@@ -1,6 +1,6 @@
 use Rattle.std.proofs.Common.{◌≡◌, ◌++◌, drop}
 use Rattle.std.specs.List.{flat_map}
-use Rattle.w_leb.specs.Canonical.{vec_written}
+use Rattle.w_leb.specs.CanonicalLaws.{vec_written}
 use Rattle.w_encode.proofs.put.put_vec.Given as goal
 
 -- what was written, and the items that are left, are all that is to be written

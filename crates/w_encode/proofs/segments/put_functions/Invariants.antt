@@ -1,6 +1,6 @@
 use Rattle.std.proofs.Common.{◌≡◌, ◌++◌, drop}
 use Rattle.std.specs.List.{flat_map}
-use Rattle.w_leb.specs.Canonical.{vec_written}
+use Rattle.w_leb.specs.CanonicalLaws.{vec_written}
 use Rattle.w_encode.specs.FieldsWritten.{function_written}
 use Rattle.w_encode.proofs.segments.put_functions.Given as goal
 

@@ -2,8 +2,8 @@ use Rattle.std.proofs.Common.{◌≡◌, arith, sym, subst, ℤ, to_z, of_z, w32
 use Rattle.std.specs.Prelude.{slice_range}
 use Rattle.std.proofs.lemmas.Int.{ints}
 use Rattle.w_leb.specs.Number.{Signed, signed}
-use Rattle.w_leb.specs.Begins.{begins_none, begins_some}
-use Rattle.w_leb.specs.NumberExact.{signed_exact}
+use Rattle.w_leb.specs.ReadingLaws.{begins_none, begins_some}
+use Rattle.w_leb.specs.NumberLaws.{signed_exact}
 use Rattle.w_leb.proofs.reading.read_s32.Goals as goal
 
 pub returns-in_default-clause-begins : goal.returns-in_default-clause-begins

@@ -1,6 +1,6 @@
 use Rattle.w_leb.specs.Number.{Signed, signed}
-use Rattle.w_leb.specs.NumberExact.{signed_exact}
-use Rattle.w_leb.specs.Begins.{begins}
+use Rattle.w_leb.specs.NumberLaws.{signed_exact}
+use Rattle.w_leb.specs.ReadingLaws.{begins}
 use Rattle.w_leb.proofs.reading.read_s64.Goals as goal
 
 pub returns-clause-begins : goal.returns-clause-begins

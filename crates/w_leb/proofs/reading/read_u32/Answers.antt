@@ -1,6 +1,6 @@
 use Rattle.w_leb.specs.Number.{Unsigned, unsigned}
-use Rattle.w_leb.specs.Begins.{begins_none, begins_some}
-use Rattle.w_leb.specs.NumberExact.{unsigned_exact}
+use Rattle.w_leb.specs.ReadingLaws.{begins_none, begins_some}
+use Rattle.w_leb.specs.NumberLaws.{unsigned_exact}
 use Rattle.w_leb.proofs.reading.read_u32.Goals as goal
 
 pub returns-in_default-clause-begins : goal.returns-in_default-clause-begins

@@ -1,6 +1,6 @@
 use Rattle.w_leb.specs.Number.{Unsigned, unsigned}
-use Rattle.w_leb.specs.NumberExact.{unsigned_exact}
-use Rattle.w_leb.specs.Begins.{begins}
+use Rattle.w_leb.specs.NumberLaws.{unsigned_exact}
+use Rattle.w_leb.specs.ReadingLaws.{begins}
 use Rattle.w_leb.proofs.reading.read_u64.Goals as goal
 
 pub returns-clause-begins : goal.returns-clause-begins

@@ -1,7 +1,7 @@
 use Rattle.std.proofs.Common.{◌≡◌, arith}
 use Rattle.std.proofs.lemmas.Int.{to_z-of_z}
 use Rattle.w_leb.specs.Number.{shortest_signed}
-use Rattle.w_leb.specs.ShortestSigned.{shortest_in_bits, signed_is_short}
+use Rattle.w_leb.specs.ShortestSignedLaws.{shortest_in_bits, signed_is_short}
 use Rattle.w_leb.proofs.writing.put_s33.Goals as goal
 
 pub returns-clause-spelled : goal.returns-clause-spelled

@@ -1,5 +1,5 @@
 use Rattle.std.proofs.Common.{arith, rules}
-use Rattle.w_leb.specs.Shortest.{shortest_spells, shortest_is_short}
+use Rattle.w_leb.specs.ShortestLaws.{shortest_spells, shortest_is_short}
 use Rattle.w_leb.proofs.writing.put_u32.Goals as goal
 
 pub returns-clause-spelled : goal.returns-clause-spelled

@@ -5,7 +5,7 @@ use Rattle.w_syntax.specs.declared.instructions.Instr.TheVariants as flat
 use Rattle.w_syntax.specs.declared.builder.Open.{Open}
 use Rattle.w_syntax.specs.declared.builder.Open.TheVariants as opn
 use Rattle.w_syntax.specs.Expr.{step}
-use Rattle.w_syntax.specs.Stands.{heads}
+use Rattle.w_syntax.specs.Builds.{heads}
 use Rattle.w_syntax.proofs.Steps.{plain_laid, block_laid, if_laid, here_is, head_within, ended, turned, no_else, else_none, end_none, pushed}
 use Rattle.w_syntax.proofs.builder.BodyBuilder.push.Goals as goal
 

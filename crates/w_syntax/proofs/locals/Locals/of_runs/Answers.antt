@@ -1,6 +1,6 @@
 use Rattle.std.proofs.Common.{◌<◌, ◌^◌, arith, rules}
 use Rattle.w_syntax.specs.Locals.{joined, total}
-use Rattle.w_syntax.specs.LocalsJoined.{all_joined, joined_twice, total_joined}
+use Rattle.w_syntax.specs.LocalsLaws.{all_joined, joined_twice, total_joined}
 use Rattle.w_syntax.proofs.locals.Locals.of_runs.Goals as goal
 
 pub invariant_of-result : goal.invariant_of-result
