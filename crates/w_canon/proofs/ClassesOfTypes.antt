@@ -15,11 +15,12 @@ use Rattle.w_canon.specs.Entries.{kind_of, entries_from}
 use Rattle.w_canon.specs.Equivalence.{AlikeGroup, Place, AtOnePosition, Same, SameIndex}
 use Rattle.w_canon.specs.Keys.{group_words}
 use Rattle.w_canon.specs.Numbers.{number_of, Finds}
-use Rattle.w_canon.specs.Stands.{OneClass, Stands}
+use Rattle.w_canon.specs.IsClassesOf.{OneClass, IsClassesOf}
 use Rattle.w_canon.proofs.EntriesOfTypes.{kinds-entries_from, class-entries_from}
 use Rattle.w_canon.proofs.KeysOfGroups.{ClassedBy, one_key}
 use Rattle.w_canon.proofs.Orders.{one_class}
-use Rattle.w_canon.proofs.Places.{types_of-append, types_of-cons, types_of-nil, count, count-append, count-split, within_all, front_within, place, place_wider, one_place, get-front, get-behind}
+use Rattle.w_types.proofs.Lists.{get-front, get-behind}
+use Rattle.w_canon.proofs.Places.{types_of-append, types_of-cons, types_of-nil, count, count-append, count-split, within_all, front_within, place, place_wider, one_place}
 
 abbrev pub Numbers : Type 0
 Numbers = BTreeMap (Vec Word Global) ℕ
@@ -246,11 +247,11 @@ stands_at m gs es c i j a b h k =
     )
 
 -- the entries stand for the types of the module
-stands : (m : Numbers) (gs : List RecGroup) (es : List Entry) → Classed m gs es → Stands gs es
+stands : (m : Numbers) (gs : List RecGroup) (es : List Entry) → Classed m gs es → IsClassesOf gs es
 stands m gs es c = record { kinds = c.kinds; classes = stands_at m gs es c }
 
 -- when all groups were classed
-pub stands_at_end : (m : Numbers) (gs : List RecGroup) (i : ℕ) (es : List Entry) → length gs ≤ i → Classed m (take i gs) es → Stands gs es
+pub stands_at_end : (m : Numbers) (gs : List RecGroup) (i : ℕ) (es : List Entry) → length gs ≤ i → Classed m (take i gs) es → IsClassesOf gs es
 stands_at_end m gs i es le c = stands m gs es (subst (λ (x : List RecGroup). Classed m x es) (take_all i gs le) c)
 
 -- ## Telling whether types are equivalent
@@ -261,7 +262,7 @@ same_within zero gs i j h = absurd h
 same_within (suc n) gs i j h = (within_all gs i h.one, within_all gs j h.other)
 
 -- they have one class
-classed_alike : (gs : List RecGroup) (es : List Entry) (i j : ℕ) → Stands gs es → Same (length gs) gs i j → OneClass es i j
+classed_alike : (gs : List RecGroup) (es : List Entry) (i j : ℕ) → IsClassesOf gs es → Same (length gs) gs i j → OneClass es i j
 classed_alike gs es i j h s =
     let w = same_within (length gs) gs i j s in
     let len = as_many gs es h.kinds in
@@ -270,7 +271,7 @@ classed_alike gs es i j h s =
     (a.0, b.0, a.1, b.1, (h.classes i j a.0 b.0 a.1 b.1).1 (inr s))
 
 -- different types are equivalent exactly where they have one class
-pub told_by_class : (gs : List RecGroup) (es : List Entry) (i j : ℕ) → Stands gs es → (i ≡ j → ⊥) → OneClass es i j ↔ SameIndex gs i j
+pub told_by_class : (gs : List RecGroup) (es : List Entry) (i j : ℕ) → IsClassesOf gs es → (i ≡ j → ⊥) → OneClass es i j ↔ SameIndex gs i j
 told_by_class gs es i j h apart = (
   λ (o : OneClass es i j). (h.classes i j o.0 o.1 o.2 o.3).0 o.4,
   λ (s : SameIndex gs i j). elim s [ inl e ↦ absurd (apart e) | inr r ↦ classed_alike gs es i j h r ],

@@ -5,7 +5,7 @@ pub mod KeysOfGroups
 pub mod Places
 pub mod ClassesOfTypes
 pub mod Matches
-pub mod TestsTold
+pub mod MatchingTests
 pub mod TestsOfLists
 pub mod Equivalent
 pub mod Preorder

@@ -15,7 +15,7 @@ use Rattle.w_canon.specs.Entries.{kind_of}
 use Rattle.w_canon.specs.Relations.{Pairwise, none, more}
 use Rattle.w_canon.specs.Matching.{IsFunc, IsCont, ResultMatches}
 use Rattle.w_canon.specs.Equality.{ResultEqual}
-use Rattle.w_canon.specs.Stands.{Stands}
+use Rattle.w_canon.specs.IsClassesOf.{IsClassesOf}
 
 -- equivalences joined
 pub through : {P Q R : Type 0} → P ↔ Q → Q ↔ R → P ↔ R
@@ -24,7 +24,7 @@ through h k = (λ p. k.0 (h.0 p), λ r. h.1 (k.1 r))
 -- ## Kinds
 
 -- the kind of an entry is that of the type
-pub kind_at : (gs : List RecGroup) (es : List Entry) (i : ℕ) → Stands gs es → option_map (λ (e : Entry). e.kind) (slice_get es i) ≡ option_map kind_of (slice_get (types_of gs) i)
+pub kind_at : (gs : List RecGroup) (es : List Entry) (i : ℕ) → IsClassesOf gs es → option_map (λ (e : Entry). e.kind) (slice_get es i) ≡ option_map kind_of (slice_get (types_of gs) i)
 kind_at gs es i h = sym (slice_get-map (λ (e : Entry). e.kind) es i) ∙ ap (λ (ks : List Kind). slice_get ks i) h.kinds ∙ slice_get-map kind_of (types_of gs) i
 
 -- a type of the kind of functions is a function type
@@ -40,14 +40,14 @@ cont_by_kind (Some (comp.Func f)) h = absurd (cc)
 cont_by_kind None h = absurd (cc)
 
 -- what the entries say of a type tells whether it is a function type
-pub func_by_entry : (gs : List RecGroup) (es : List Entry) (i : ℕ) → Stands gs es → (option_map (λ (e : Entry). e.kind) (slice_get es i) ≡ Some kind.Func) ↔ IsFunc gs i
+pub func_by_entry : (gs : List RecGroup) (es : List Entry) (i : ℕ) → IsClassesOf gs es → (option_map (λ (e : Entry). e.kind) (slice_get es i) ≡ Some kind.Func) ↔ IsFunc gs i
 func_by_entry gs es i h = (
   λ k. func_by_kind (slice_get (types_of gs) i) (sym (kind_at gs es i h) ∙ k),
   λ (f : IsFunc gs i). kind_at gs es i h ∙ ap (option_map kind_of) f.1,
 )
 
 -- or a continuation type
-pub cont_by_entry : (gs : List RecGroup) (es : List Entry) (i : ℕ) → Stands gs es → (option_map (λ (e : Entry). e.kind) (slice_get es i) ≡ Some kind.Cont) ↔ IsCont gs i
+pub cont_by_entry : (gs : List RecGroup) (es : List Entry) (i : ℕ) → IsClassesOf gs es → (option_map (λ (e : Entry). e.kind) (slice_get es i) ≡ Some kind.Cont) ↔ IsCont gs i
 cont_by_entry gs es i h = (
   λ k. cont_by_kind (slice_get (types_of gs) i) (sym (kind_at gs es i h) ∙ k),
   λ (f : IsCont gs i). kind_at gs es i h ∙ ap (option_map kind_of) f.1,

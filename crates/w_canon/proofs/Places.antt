@@ -1,7 +1,8 @@
 -- Where types stand.
-use Rattle.std.proofs.Common.{◌≡◌, ◌⊎◌, inl, inr, ℕ, zero, suc, ◌+◌, ◌-◌, ◌<◌, ◌≤◌, List, [], ◌∷◌, ◌++◌, length, slice_get, refl, sym, ap, ◌∙◌, append_assoc, arith}
+use Rattle.std.proofs.Common.{◌≡◌, ◌⊎◌, inl, inr, ℕ, ◌+◌, ◌-◌, ◌<◌, ◌≤◌, List, [], ◌∷◌, ◌++◌, length, slice_get, refl, sym, ap, ◌∙◌, append_assoc, arith}
 use Rattle.std.proofs.lemmas.Bool.{cases_lt}
 use Rattle.std.proofs.lemmas.List.{length-append}
+use Rattle.w_types.proofs.Lists.{get-front, get-behind}
 use Rattle.w_types.specs.declared.types.CompType.{CompType}
 use Rattle.w_types.specs.declared.types.RecGroup.{RecGroup}
 use Rattle.w_types.specs.Groups.{types_of}
@@ -119,15 +120,6 @@ pub one_place : (gs : List RecGroup) (i : ℕ) (P Q : Place gs i) → IsSame P.f
 one_place gs i P Q = same_parts P.front Q.front P.group Q.group P.back Q.back P.position Q.position (sym P.is ∙ Q.is) (sym P.counts ∙ Q.counts) P.within Q.within
 
 -- ## The type at a place
-
-pub get-front : {A : Type 0} (xs ys : List A) (i : ℕ) → i < length xs → slice_get (xs ++ ys) i ≡ slice_get xs i
-get-front [] ys i h = absurd (omega arith)
-get-front (x ∷ xs) ys zero h = refl
-get-front (x ∷ xs) ys (suc i) h = get-front xs ys i (omega arith)
-
-pub get-behind : {A : Type 0} (xs ys : List A) (i : ℕ) → slice_get (xs ++ ys) (length xs + i) ≡ slice_get ys i
-get-behind [] ys i = ap (slice_get ys) (omega arith)
-get-behind (x ∷ xs) ys i = let e : suc (length xs) + i ≡ suc (length xs + i) = omega arith in rw e (get-behind xs ys i)
 
 -- it is the one of its group at its position
 pub type_at_place : (gs : List RecGroup) (i : ℕ) (P : Place gs i) → slice_get (types_of gs) i ≡ slice_get P.group.types P.position

@@ -4,6 +4,6 @@ pub mod Matching
 pub mod Equality
 pub mod Keys
 pub mod Entries
-pub mod Stands
+pub mod IsClassesOf
 pub mod Tests
 pub mod Numbers

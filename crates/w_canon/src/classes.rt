@@ -70,12 +70,12 @@ impl Classes {
     ghost use Rattle.std.specs.Prelude.{◌≡◌, ◌↔◌, IsTrue, IfOk, List, slice_get};
     ghost use Rattle.w_types.specs.declared.types.RecGroup.{RecGroup};
     ghost use Rattle.w_canon.specs.Equivalence.{SameIndex};
-    ghost use Rattle.w_canon.specs.Stands.{Stands};
+    ghost use Rattle.w_canon.specs.IsClassesOf.{IsClassesOf};
     ghost use Rattle.w_canon.specs.Tests.{one_class_test, same_test, kind_test};
 
     /// Finds the classes of the types of these groups. It fails only for want of memory.
     pub fn of_groups(alloc: Global, groups: &[RecGroup]) -> Result<Classes, AllocError>
-        ensures { IfOk result (λ c. Stands groups.now c) }
+        ensures { IfOk result (λ c. IsClassesOf groups.now c) }
     {
         let mut numbers = BTreeMap::new(alloc);
         let mut entries = Vec::new(alloc);
@@ -100,7 +100,7 @@ impl Classes {
     /// Whether two types are equivalent (Core, types, recursive types). An index that no type has is equivalent to itself alone.
     pub fn same(&self, i: u32, j: u32) -> bool
         ensures computed { result ≡ same_test self.now i j }
-        ensures related { (gs : List RecGroup) → Stands gs self.now → (IsTrue result ↔ SameIndex gs i j) }
+        ensures related { (gs : List RecGroup) → IsClassesOf gs self.now → (IsTrue result ↔ SameIndex gs i j) }
     {
         i == j || self.have_one_class(i, j)
     }

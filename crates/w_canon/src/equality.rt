@@ -2,7 +2,7 @@
 ghost use Rattle.std.specs.Prelude.{◌≡◌, ◌↔◌, IsTrue, List};
 ghost use Rattle.w_types.specs.declared.types.RecGroup.{RecGroup};
 ghost use Rattle.w_canon.specs.Equality.{ValEqual, ResultEqual};
-ghost use Rattle.w_canon.specs.Stands.{Stands};
+ghost use Rattle.w_canon.specs.IsClassesOf.{IsClassesOf};
 ghost use Rattle.w_canon.specs.Tests.{heap_same_test, ref_same_test, val_same_test, result_same_test};
 
 use crate::classes::Classes;
@@ -35,7 +35,7 @@ impl Classes {
     /// Whether value types are equal, where indices are equal if their types are equivalent (Core, types, recursive types).
     pub fn equals_val(&self, a: ValType, b: ValType) -> bool
         ensures computed { result ≡ val_same_test self.now a b }
-        ensures related { (gs : List RecGroup) → Stands gs self.now → (IsTrue result ↔ ValEqual gs a b) }
+        ensures related { (gs : List RecGroup) → IsClassesOf gs self.now → (IsTrue result ↔ ValEqual gs a b) }
     {
         match (a, b) {
             (ValType::I32, ValType::I32) => true,
@@ -49,7 +49,7 @@ impl Classes {
     /// equivalent (Core, types, recursive types).
     pub fn equals_result(&self, a: &[ValType], b: &[ValType]) -> bool
         ensures computed { result ≡ result_same_test self.now a.now b.now }
-        ensures related { (gs : List RecGroup) → Stands gs self.now → (IsTrue result ↔ ResultEqual gs a.now b.now) }
+        ensures related { (gs : List RecGroup) → IsClassesOf gs self.now → (IsTrue result ↔ ResultEqual gs a.now b.now) }
     {
         if a.len() != b.len() {
             return false;

@@ -7,8 +7,6 @@ mod equality;
 mod key;
 mod laws;
 mod matching;
-#[cfg(test)]
-mod tests;
 
 pub use classes::Classes;
 pub use laws::{

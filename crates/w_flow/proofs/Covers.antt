@@ -5,13 +5,13 @@ use Rattle.w_types.specs.declared.types.ValType.{ValType}
 use Rattle.w_types.specs.declared.types.ValType.TheVariants.{I32, I64, Ref}
 use Rattle.w_types.specs.Rows.{Row, ε, ◌▹◌, ◌⧺◌}
 use Rattle.w_canon.specs.declared.entry.Entry.{Entry}
-use Rattle.w_canon.specs.Stands.{Stands}
-use Rattle.w_canon.proofs.TestsTold.{val_told}
+use Rattle.w_canon.specs.IsClassesOf.{IsClassesOf}
+use Rattle.w_canon.proofs.MatchingTests.{val_told}
 use Rattle.w_rules.specs.declared.operand.Operand.{Operand}
 use Rattle.w_rules.specs.declared.operand.Operand.TheVariants.{Known, Bottom, BottomRef}
 use Rattle.w_rules.specs.Conditions.{Holds}
 use Rattle.w_rules.specs.Matching.{OperandMatches, value, bottom, bottom_ref, RowMatches, none, more, known}
-use Rattle.w_rules.specs.Typing.{Steps}
+use Rattle.w_rules.specs.Typing.{HasType}
 use Rattle.w_rules.proofs.Preorder.{operand_refl, operand_trans, row_refl}
 use Rattle.w_flow.specs.Flow.{Covers, operand_test, pops, pop}
 use Rattle.w_flow.proofs.Options.{guard_in, guard_out, holds_map, with_value}
@@ -41,7 +41,7 @@ null_found : (n m : Bool) → IsTrue (if n then m else true) → IsTrue n → Is
 null_found true m h k = h
 null_found false m h k = absurd (cc)
 
-module _ (gs : List RecGroup) (es : List Entry) (s : Stands gs es) where
+module _ (gs : List RecGroup) (es : List Entry) (s : IsClassesOf gs es) where
   -- an operand that passes the test matches
   pub operand_found : (t : Operand) (u : ValType) → IsTrue (operand_test es t u) → OperandMatches gs t (Known u)
   operand_found (Known t) u h = value ((val_told gs es s t u).0 h)
@@ -109,9 +109,9 @@ push_out gs p ts (b ▹ t) (us ▹ u) h =
 
 -- ## Taking and giving
 
-module _ (gs : List RecGroup) (es : List Entry) (s : Stands gs es) where
+module _ (gs : List RecGroup) (es : List Entry) (s : IsClassesOf gs es) where
   -- operands that are given where others were taken stand for what [a] to [b] leads to
-  pub steps_in : (p : Bool) (ts : Row Operand) (a : Row ValType) (b vs us : Row Operand) → Covers gs p ts vs → Steps gs (known a) b vs us →
+  pub steps_in : (p : Bool) (ts : Row Operand) (a : Row ValType) (b vs us : Row Operand) → Covers gs p ts vs → HasType gs (known a) b vs us →
       Holds (pops es p ts a) (λ (w : Row Operand). Covers gs p (w ⧺ b) us)
   steps_in p ts a b vs us h t =
       holds_map (pops es p ts a) (λ (w : Row Operand). Covers gs p w t.beneath) _
@@ -120,7 +120,7 @@ module _ (gs : List RecGroup) (es : List Entry) (s : Stands gs es) where
 
   -- and each row that they stand for is one that [a] to [b] leads to
   pub steps_out : (p : Bool) (ts : Row Operand) (a : Row ValType) (b us : Row Operand) →
-      Holds (pops es p ts a) (λ (w : Row Operand). Covers gs p (w ⧺ b) us) → (vs : Row Operand) × Covers gs p ts vs × Steps gs (known a) b vs us
+      Holds (pops es p ts a) (λ (w : Row Operand). Covers gs p (w ⧺ b) us) → (vs : Row Operand) × Covers gs p ts vs × HasType gs (known a) b vs us
   steps_out p ts a b us h =
       with_value (pops es p ts a) (λ (w : Row Operand). Covers gs p (w ⧺ b) us) _ h (λ w k e.
       let r = push_out gs p w b us k in (

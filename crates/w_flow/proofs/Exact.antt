@@ -1,14 +1,14 @@
--- A step of a flow stands for just the rows that the line leads to.
+-- A step of a flow stands for just the rows that the type leads to.
 use Rattle.std.proofs.Common.{◌&&◌, Bool, true, false, List, ◌∷◌, Some, refl}
 use Rattle.w_types.specs.declared.types.RecGroup.{RecGroup}
 use Rattle.w_types.specs.declared.types.ValType.{ValType}
 use Rattle.w_types.specs.declared.types.ValType.TheVariants.{I32}
 use Rattle.w_types.specs.Rows.{Row, ε, ◌▹◌, ◌⧺◌, size}
 use Rattle.w_canon.specs.declared.entry.Entry.{Entry}
-use Rattle.w_canon.specs.Stands.{Stands}
+use Rattle.w_canon.specs.IsClassesOf.{IsClassesOf}
 use Rattle.w_rules.specs.declared.operand.Operand.{Operand}
 use Rattle.w_rules.specs.declared.operand.Operand.TheVariants.{Known}
-use Rattle.w_rules.specs.Lines.{Line, fixed, leaves, leaves_by, drops, selects, tests_null, as_non_null, on_null, no_line}
+use Rattle.w_rules.specs.InstructionTypes.{InstrType, fixed, polymorphic, table_polymorphic, drops, selects, tests_null, as_non_null, on_null, untyped}
 use Rattle.w_rules.specs.Matching.{OperandMatches, RowMatches, more, known}
 use Rattle.w_rules.specs.Typing.{ref_to}
 use Rattle.w_rules.proofs.Preorder.{operand_refl, operand_trans, row_refl}
@@ -28,8 +28,8 @@ top_in : (gs : List RecGroup) (p : Bool) (ts : Row Operand) (x t : Operand) (res
     RowMatches gs (rest ▹ t) us → Covers gs p (ts ▹ x) us
 top_in gs p ts x t rest _ c l (more {us} {u} r k) = (covers_trans gs p ts rest us c r, operand_trans gs x t u l k)
 
-module _ (gs : List RecGroup) (es : List Entry) (s : Stands gs es) where
-  -- ## Each line
+module _ (gs : List RecGroup) (es : List Entry) (s : IsClassesOf gs es) where
+  -- ## Each type
 
   -- [a] to [b]: what is left when a is taken, with b at its right
   fixed_in : (p : Bool) (ts : Row Operand) (a b : Row ValType) (us : Row Operand) → Image gs (fixed a b) p ts us → InFlow gs (step es (fixed a b) p ts) us
@@ -39,14 +39,14 @@ module _ (gs : List RecGroup) (es : List Entry) (s : Stands gs es) where
   fixed_out p ts a b us i = steps_out gs es s p ts a (known b) us (bind_out (pops es p ts a) _ (In gs us) i)
 
   -- [t* a] to any: each row
-  leaves_in : (p : Bool) (ts : Row Operand) (a : Row ValType) (us : Row Operand) → Image gs (leaves a) p ts us → InFlow gs (step es (leaves a) p ts) us
-  leaves_in p ts a us (vs, c, t) =
+  polymorphic_in : (p : Bool) (ts : Row Operand) (a : Row ValType) (us : Row Operand) → Image gs (polymorphic a) p ts us → InFlow gs (step es (polymorphic a) p ts) us
+  polymorphic_in p ts a us (vs, c, t) =
       bind_in (pops es p ts a) _ _ (holds_map (pops es p ts a) _ _
       (pops_in gs es s p ts a t.beneath (covers_trans gs p ts vs (t.beneath ⧺ known a) c t.takes))
       (λ w k. any_covers gs true refl us))
 
-  leaves_out : (p : Bool) (ts : Row Operand) (a : Row ValType) (us : Row Operand) → InFlow gs (step es (leaves a) p ts) us → Image gs (leaves a) p ts us
-  leaves_out p ts a us i =
+  polymorphic_out : (p : Bool) (ts : Row Operand) (a : Row ValType) (us : Row Operand) → InFlow gs (step es (polymorphic a) p ts) us → Image gs (polymorphic a) p ts us
+  polymorphic_out p ts a us i =
       with_value (pops es p ts a) _ _ (bind_out (pops es p ts a) _ (In gs us) i) (λ w k e. (
         w ⧺ known a,
         pops_out gs es s p ts a w (rw e (covers_refl gs p w)),
@@ -54,19 +54,19 @@ module _ (gs : List RecGroup) (es : List Entry) (s : Stands gs es) where
       ))
 
   -- [t* u* i32] to any: the topmost operands are u*, bottom where there are no more
-  table_in : (p : Bool) (ts : Row Operand) (v : Row ValType) (vs : List (Row ValType)) (us : Row Operand) → Image gs (leaves_by v vs) p ts us →
-      InFlow gs (step es (leaves_by v vs) p ts) us
+  table_in : (p : Bool) (ts : Row Operand) (v : Row ValType) (vs : List (Row ValType)) (us : Row Operand) → Image gs (table_polymorphic v vs) p ts us →
+      InFlow gs (step es (table_polymorphic v vs) p ts) us
   table_in p ts v vs us (ws, c, t) =
-      let rest = t.leaves.beneath in
+      let rest = t.polymorphic.beneath in
       bind_in (pops es p ts (ε ▹ I32)) _ _ (holds_map (pops es p ts (ε ▹ I32)) _ _
-      (pops_in gs es s p ts (ε ▹ I32) (rest ⧺ t.ins) (covers_trans gs p ts ws _ c t.leaves.takes)) (λ w k.
+      (pops_in gs es s p ts (ε ▹ I32) (rest ⧺ t.ins) (covers_trans gs p ts ws _ c t.polymorphic.takes)) (λ w k.
       guard_in (all_long (size v) vs && pops_each es p w (v ∷ vs)) (Some (record { any = true; operands = ε })) _
       (and_intro (all_long (size v) vs) (pops_each es p w (v ∷ vs)) (each_long gs es s t.ins (size v) vs (long_as gs es s t.ins v t.each.0) t.each.1)
       (each_popped gs es s p w t.ins rest (v ∷ vs) k t.each))
       (any_covers gs true refl us)))
 
-  table_out : (p : Bool) (ts : Row Operand) (v : Row ValType) (vs : List (Row ValType)) (us : Row Operand) → InFlow gs (step es (leaves_by v vs) p ts) us →
-      Image gs (leaves_by v vs) p ts us
+  table_out : (p : Bool) (ts : Row Operand) (v : Row ValType) (vs : List (Row ValType)) (us : Row Operand) → InFlow gs (step es (table_polymorphic v vs) p ts) us →
+      Image gs (table_polymorphic v vs) p ts us
   table_out p ts v vs us i =
       with_value (pops es p ts (ε ▹ I32)) _ _ (bind_out (pops es p ts (ε ▹ I32)) _ (In gs us) i) (λ w k e.
       let g = and_true (all_long (size v) vs) (pops_each es p w (v ∷ vs)) (guard_out (all_long (size v) vs && pops_each es p w (v ∷ vs)) _ (In gs us) k).0 in
@@ -77,7 +77,7 @@ module _ (gs : List RecGroup) (es : List Entry) (s : Stands gs es) where
         pops_out gs es s p ts (ε ▹ I32) (rest ⧺ a) (rw e (top_covers gs es s p w v h.0)),
         record {
           ins = a;
-          leaves = record { beneath = rest; takes = row_refl gs ((rest ⧺ a) ▹ Known I32) };
+          polymorphic = record { beneath = rest; takes = row_refl gs ((rest ⧺ a) ▹ Known I32) };
           each = (top_matches gs es s p w v h.0, each_matched gs es s p w (size v) vs g.0 h.1);
         },
       ))
@@ -170,32 +170,32 @@ module _ (gs : List RecGroup) (es : List Entry) (s : Stands gs es) where
         (r.1, record { beneath = b.0; takes = row_refl gs ((b.0 ⧺ known a) ▹ ref_to true r.1); gives = b.2 }),
       )))
 
-  -- ## Every line
+  -- ## Every type
 
-  -- each row that the line leads to is one that the step stands for
-  pub step_in : (l : Line) (p : Bool) (ts us : Row Operand) → Image gs l p ts us → InFlow gs (step es l p ts) us
+  -- each row that the type leads to is one that the step stands for
+  pub step_in : (l : InstrType) (p : Bool) (ts us : Row Operand) → Image gs l p ts us → InFlow gs (step es l p ts) us
   step_in (fixed a b) p ts us i = fixed_in p ts a b us i
-  step_in (leaves a) p ts us i = leaves_in p ts a us i
-  step_in (leaves_by v vs) p ts us i = table_in p ts v vs us i
+  step_in (polymorphic a) p ts us i = polymorphic_in p ts a us i
+  step_in (table_polymorphic v vs) p ts us i = table_in p ts v vs us i
   step_in drops p ts us i = drops_in p ts us i
   step_in selects p ts us i = selects_in p ts us i
   step_in tests_null p ts us i = tests_in p ts us i
   step_in as_non_null p ts us i = casts_in p ts us i
   step_in (on_null a) p ts us i = on_null_in p ts a us i
-  step_in no_line p ts us i = i.2
+  step_in untyped p ts us i = i.2
 
-  -- each row that the step stands for is one that the line leads to
-  pub step_out : (l : Line) (p : Bool) (ts us : Row Operand) → InFlow gs (step es l p ts) us → Image gs l p ts us
+  -- each row that the step stands for is one that the type leads to
+  pub step_out : (l : InstrType) (p : Bool) (ts us : Row Operand) → InFlow gs (step es l p ts) us → Image gs l p ts us
   step_out (fixed a b) p ts us i = fixed_out p ts a b us i
-  step_out (leaves a) p ts us i = leaves_out p ts a us i
-  step_out (leaves_by v vs) p ts us i = table_out p ts v vs us i
+  step_out (polymorphic a) p ts us i = polymorphic_out p ts a us i
+  step_out (table_polymorphic v vs) p ts us i = table_out p ts v vs us i
   step_out drops p ts us i = drops_out p ts us i
   step_out selects p ts us i = selects_out p ts us i
   step_out tests_null p ts us i = tests_out p ts us i
   step_out as_non_null p ts us i = casts_out p ts us i
   step_out (on_null a) p ts us i = on_null_out p ts a us i
-  step_out no_line p ts us i = absurd i
+  step_out untyped p ts us i = absurd i
 
 -- a step is exact
-pub exact : (gs : List RecGroup) (es : List Entry) → Stands gs es → IsExact gs es
+pub exact : (gs : List RecGroup) (es : List Entry) → IsClassesOf gs es → IsExact gs es
 exact gs es s = λ l p ts us. (step_in gs es s l p ts us, step_out gs es s l p ts us)

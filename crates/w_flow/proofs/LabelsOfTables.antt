@@ -5,7 +5,7 @@ use Rattle.w_types.specs.declared.types.ValType.TheVariants.{I32}
 use Rattle.w_types.specs.Rows.{Row, ε, ◌▹◌, size}
 use Rattle.w_canon.specs.declared.entry.Entry.{Entry}
 use Rattle.w_rules.specs.declared.operand.Operand.{Operand}
-use Rattle.w_rules.specs.Lines.{with_label, labels_at, br_table_line}
+use Rattle.w_rules.specs.InstructionTypes.{with_label, labels_at, br_table_type}
 use Rattle.w_flow.specs.Flow.{◌>>=◌, pops, is_popped, pops_each, all_long, fits_one, fit_each, step}
 use Rattle.w_flow.specs.View.{anything}
 
@@ -49,11 +49,11 @@ module _ (es : List Entry) (p : Bool) (ts : Row Operand) where
   both_each labels n (x ∷ xs) =
       both_with n (slice_get labels x) (labels_at labels xs) ∙ ap (λ (b : Bool). fits_one es p ts n (slice_get labels x) && b) (both_each labels n xs)
 
-  -- ## The line
+  -- ## The type
 
   -- where these operands are left when the index is taken, and the last label takes this row
   by_line : (left : Row Operand) (v : Row ValType) (o : Option (List (Row ValType))) → pops es p ts (ε ▹ I32) ≡ Some left →
-      step es (br_table_line (Some v) o) p ts ≡ (if is_popped (pops es p left v) && both es p left (size v) o then Some anything else None)
+      step es (br_table_type (Some v) o) p ts ≡ (if is_popped (pops es p left v) && both es p left (size v) o then Some anything else None)
   by_line left v None e = sym (ap (λ (b : Bool). if b then Some anything else None) (and_false (is_popped (pops es p left v))))
   by_line left v (Some vs) e =
       ap (λ (q : Option (Row Operand)). q >>= λ (rest : Row Operand). (if all_long (size v) vs && pops_each es p rest (v ∷ vs) then Some anything else None)) e
@@ -62,8 +62,8 @@ module _ (es : List Entry) (p : Bool) (ts : Row Operand) where
 -- the step of a br_table of labels xs and d, where these operands are left when the index is taken, and label d takes this row
 pub table_step : (es : List Entry) (labels : List (Row ValType)) (p : Bool) (ts left : Row Operand) (v : Row ValType) (d : ℕ) (xs : List ℕ) →
     pops es p ts (ε ▹ I32) ≡ Some left → slice_get labels d ≡ Some v →
-    step es (br_table_line (slice_get labels d) (labels_at labels xs)) p ts
+    step es (br_table_type (slice_get labels d) (labels_at labels xs)) p ts
     ≡ (if is_popped (pops es p left v) && fit_each es labels p left (size v) xs then Some anything else None)
 table_step es labels p ts left v d xs e l =
-    ap (λ (o : Option (Row ValType)). step es (br_table_line o (labels_at labels xs)) p ts) l ∙ by_line es p ts left v (labels_at labels xs) e
+    ap (λ (o : Option (Row ValType)). step es (br_table_type o (labels_at labels xs)) p ts) l ∙ by_line es p ts left v (labels_at labels xs) e
     ∙ ap (λ (b : Bool). if is_popped (pops es p left v) && b then Some anything else None) (both_each es p left labels (size v) xs)

@@ -4,7 +4,7 @@ use Rattle.w_types.specs.declared.types.RecGroup.{RecGroup}
 use Rattle.w_types.specs.declared.types.ValType.{ValType}
 use Rattle.w_types.specs.Rows.{Row, ε, ◌▹◌, ◌⧺◌, size}
 use Rattle.w_canon.specs.declared.entry.Entry.{Entry}
-use Rattle.w_canon.specs.Stands.{Stands}
+use Rattle.w_canon.specs.IsClassesOf.{IsClassesOf}
 use Rattle.w_rules.specs.declared.operand.Operand.{Operand}
 use Rattle.w_rules.specs.declared.operand.Operand.TheVariants.{Bottom}
 use Rattle.w_rules.specs.Conditions.{Holds}
@@ -44,7 +44,7 @@ popped_by : (o : Option (Row Operand)) (P : Row Operand → Type 0) → Holds o 
 popped_by None P h = absurd h
 popped_by (Some x) P h = refl
 
-module _ (gs : List RecGroup) (es : List Entry) (s : Stands gs es) where
+module _ (gs : List RecGroup) (es : List Entry) (s : IsClassesOf gs es) where
   -- where a row can be taken, the topmost operands match it
   pub top_matches : (p : Bool) (ts : Row Operand) (v : Row ValType) → IsTrue (is_popped (pops es p ts v)) → RowMatches gs (top (size v) ts) (known v)
   top_matches p ts ε h = none

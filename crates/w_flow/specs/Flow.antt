@@ -1,4 +1,4 @@
--- What is known of the operands of one block at a place of it, and how a line of the table changes that (Core, validation
+-- What is known of the operands of one block at a place of it, and how an instruction type changes that (Core, validation
 -- algorithm).
 use Rattle.std.specs.Prelude.{ℕ, nat_eq, Bool, true, false, ◌&&◌, ◌||◌, not, List, [], ◌∷◌, Option, Some, None, if◌then◌else◌, IsTrue, slice_get}
 use Rattle.w_types.specs.declared.types.HeapType.{HeapType}
@@ -11,9 +11,9 @@ use Rattle.w_canon.specs.Tests.{val_test}
 use Rattle.w_rules.specs.declared.operand.Operand.{Operand}
 use Rattle.w_rules.specs.declared.operand.Operand.TheVariants.{Known, Bottom, BottomRef}
 use Rattle.w_rules.specs.Conditions.{Holds}
-use Rattle.w_rules.specs.Lines.{Line, fixed, leaves, leaves_by, drops, selects, tests_null, as_non_null, on_null, no_line}
+use Rattle.w_rules.specs.InstructionTypes.{InstrType, fixed, polymorphic, table_polymorphic, drops, selects, tests_null, as_non_null, on_null, untyped}
 use Rattle.w_rules.specs.Matching.{OperandMatches, known}
-use Rattle.w_rules.specs.Typing.{Takes, ref_to}
+use Rattle.w_rules.specs.Typing.{HasInstrType, ref_to}
 
 -- The operands that stand at a place, and whether more of any type may lie beneath them, since the place cannot be reached.
 pub record Flow : Type 0 where
@@ -115,12 +115,12 @@ heap_of (Known I64) = None
 abbrev pub pop_ref : Bool → Row Operand → Option (Row Operand × Option HeapType)
 pop_ref p ts = pop p ts >>= λ r. heap_of r.1 >>= λ h. Some (r.0, h)
 
--- ## A line
+-- ## An instruction type
 
-abbrev pub step : List Entry → Line → Bool → Row Operand → Option Flow
+abbrev pub step : List Entry → InstrType → Bool → Row Operand → Option Flow
 step es (fixed ins outs) p ts = pops es p ts ins >>= λ rest. Some (record { any = p; operands = rest ⧺ known outs })
-step es (leaves ins) p ts = pops es p ts ins >>= λ rest. Some (record { any = true; operands = ε })
-step es (leaves_by one others) p ts = pops es p ts (ε ▹ I32) >>= λ rest.
+step es (polymorphic ins) p ts = pops es p ts ins >>= λ rest. Some (record { any = true; operands = ε })
+step es (table_polymorphic one others) p ts = pops es p ts (ε ▹ I32) >>= λ rest.
     (if all_long (size one) others && pops_each es p rest (one ∷ others) then Some (record { any = true; operands = ε }) else None)
 step es drops p ts = pop p ts >>= λ r. Some (record { any = p; operands = r.0 })
 step es selects p ts = pops es p ts (ε ▹ I32) >>= λ rest. pop p rest >>= λ r. pop p r.0 >>= λ q. select_of q.1 r.1 >>= λ t.
@@ -129,7 +129,7 @@ step es tests_null p ts = pop_ref p ts >>= λ r. Some (record { any = p; operand
 step es as_non_null p ts = pop_ref p ts >>= λ r. Some (record { any = p; operands = r.0 ▹ ref_to false r.1 })
 step es (on_null vs) p ts = pop_ref p ts >>= λ r. pops es p r.0 vs >>= λ rest.
     Some (record { any = p; operands = (rest ⧺ known vs) ▹ ref_to false r.1 })
-step es no_line p ts = None
+step es untyped p ts = None
 
 -- ## What a step stands for
 
@@ -137,10 +137,10 @@ step es no_line p ts = None
 abbrev pub InFlow : List RecGroup → Option Flow → Row Operand → Type 0
 InFlow gs o us = Holds o (λ (f : Flow). Covers gs f.any f.operands us)
 
--- the rows that the line leads to from the rows of a flow
-abbrev pub Image : List RecGroup → Line → Bool → Row Operand → Row Operand → Type 0
-Image gs l p ts us = (vs : Row Operand) × Covers gs p ts vs × Takes gs l vs us
+-- the rows that the type leads to from the rows of a flow
+abbrev pub Image : List RecGroup → InstrType → Bool → Row Operand → Row Operand → Type 0
+Image gs l p ts us = (vs : Row Operand) × Covers gs p ts vs × HasInstrType gs l vs us
 
--- a step of the flow is exact: it stands for just the rows that the line leads to
+-- a step of the flow is exact: it stands for just the rows that the type leads to
 abbrev pub IsExact : List RecGroup → List Entry → Type 0
-IsExact gs es = (l : Line) (p : Bool) (ts us : Row Operand) → (Image gs l p ts us → InFlow gs (step es l p ts) us) × (InFlow gs (step es l p ts) us → Image gs l p ts us)
+IsExact gs es = (l : InstrType) (p : Bool) (ts us : Row Operand) → (Image gs l p ts us → InFlow gs (step es l p ts) us) × (InFlow gs (step es l p ts) us → Image gs l p ts us)

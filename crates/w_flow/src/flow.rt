@@ -1,4 +1,5 @@
-//! The operands of a block.
+//! The operands of a block: of the standard's validation algorithm, the part of `vals` above the `val_height` of a `ctrl_frame`, and its
+//! `unreachable`. `take` is `pop_vals`, `give` is `push_vals`, and `leave` is `unreachable()`.
 
 use crate::operands::{can_take, end_with, give_types, take_types};
 use std::alloc::{AllocError, Global};
@@ -8,7 +9,7 @@ use w_types::ValType;
 
 /// The operands that stand at a place of a block, the topmost last, and whether more of any type may lie beneath them, since the
 /// place cannot be reached (Core, validation algorithm). Contracts see it as what `flow_view` gives. Where a method gives back
-/// false, or fails for want of memory, the operands are no longer known.
+/// false, or fails when out of memory, the operands are no longer known.
 #[derive(Drop)]
 pub struct Flow {
     pub(crate) any: bool,
@@ -32,7 +33,7 @@ impl Flow {
         }
     }
 
-    /// Operands of these types, at a place that can be reached. It fails only for want of memory.
+    /// Operands of these types, at a place that can be reached. It fails only when out of memory.
     pub fn of_types(alloc: Global, types: &[ValType]) -> Result<Flow, AllocError>
         ensures { IfOk result (λ f. flow_view f ≡ reached (known (row_of types.now))) }
     {
@@ -42,16 +43,6 @@ impl Flow {
             any: false,
             operands,
         })
-    }
-
-    /// Goes back to a place that can be reached, with operands of these types. It fails only for want of memory.
-    pub fn reset(&mut self, types: &[ValType]) -> Result<(), AllocError>
-        ensures { IfOk result (λ _. flow_view self.new ≡ reached (known (row_of types.now))) }
-    {
-        self.any = false;
-        self.operands.clear();
-        give_types(&mut self.operands, types)?;
-        Ok(())
     }
 
     /// How many operands there are.
@@ -71,29 +62,33 @@ impl Flow {
 
     /// Whether operands of these types can be taken. It compares no more types than there are operands.
     pub fn can_take(&self, classes: &Classes, ins: &[ValType]) -> bool
-        ensures { result ≡ is_popped (pops classes.now self.now.any (row_of self.now.operands.items) (row_of ins.now)) }
+        ensures { result ≡ is_popped (pops classes.now self.now.any (row_of self.now.operands.items)
+            (row_of ins.now)) }
     {
         can_take(classes, self.any, &self.operands, ins)
     }
 
     /// Whether the operands are just of these types, as at the end of a block.
     pub fn ends_with(&self, classes: &Classes, outs: &[ValType]) -> bool
-        ensures { result ≡ ends classes.now self.now.any (row_of self.now.operands.items) (row_of outs.now) }
+        ensures { result ≡ ends classes.now self.now.any (row_of self.now.operands.items)
+            (row_of outs.now) }
     {
         end_with(classes, self.any, &self.operands, outs)
     }
 
     /// Takes operands of these types, as where a block begins, or gives back false.
     pub fn take(&mut self, classes: &Classes, ins: &[ValType]) -> bool
-        ensures left { pops classes.now self.old.any (row_of self.old.operands.items) (row_of ins.now) ≡ (if result then Some (row_of self.new.operands.items) else None) }
+        ensures left { pops classes.now self.old.any (row_of self.old.operands.items)
+            (row_of ins.now) ≡ (if result then Some (row_of self.new.operands.items) else None) }
         ensures any { self.new.any ≡ self.old.any }
     {
         take_types(classes, self.any, &mut self.operands, ins)
     }
 
-    /// Gives operands of these types, as where a block has ended. It fails only for want of memory.
+    /// Gives operands of these types, as where a block has ended. It fails only when out of memory.
     pub fn give(&mut self, outs: &[ValType]) -> Result<(), AllocError>
-        ensures operands { IfOk result (λ _. row_of self.new.operands.items ≡ row_of self.old.operands.items ⧺ known (row_of outs.now)) }
+        ensures operands { IfOk result (λ _. row_of self.new.operands.items
+            ≡ row_of self.old.operands.items ⧺ known (row_of outs.now)) }
         ensures any { self.new.any ≡ self.old.any }
     {
         give_types(&mut self.operands, outs)

@@ -29,7 +29,8 @@ fn matches_type(classes: &Classes, operand: Operand, wanted: ValType) -> bool
 // How many operands are left when these types are taken, or `None` where they can't be. It compares no more types than there are
 // operands.
 fn left(classes: &Classes, any: bool, operands: &[Operand], wanted: &[ValType]) -> Option<usize>
-    ensures what { pops classes.now any (row_of operands.now) (row_of wanted.now) ≡ option_map (λ n. row_of (take n operands.now)) result }
+    ensures what { pops classes.now any (row_of operands.now) (row_of wanted.now)
+        ≡ option_map (λ n. row_of (take n operands.now)) result }
     ensures within { IfSome result (λ n. n ≤ length operands.now) }
 {
     let mut i = wanted.len();
@@ -47,15 +48,25 @@ fn left(classes: &Classes, any: bool, operands: &[Operand], wanted: &[ValType]) 
     Some(n)
 }
 
-// Whether these types can be taken.
-pub fn can_take(classes: &Classes, any: bool, operands: &[Operand], wanted: &[ValType]) -> bool
+/// Whether these types can be taken.
+pub(crate) fn can_take(
+    classes: &Classes,
+    any: bool,
+    operands: &[Operand],
+    wanted: &[ValType],
+) -> bool
     ensures { result ≡ is_popped (pops classes.now any (row_of operands.now) (row_of wanted.now)) }
 {
     left(classes, any, operands, wanted).is_some()
 }
 
-// Whether the operands are just of these types.
-pub fn end_with(classes: &Classes, any: bool, operands: &[Operand], wanted: &[ValType]) -> bool
+/// Whether the operands are just of these types.
+pub(crate) fn end_with(
+    classes: &Classes,
+    any: bool,
+    operands: &[Operand],
+    wanted: &[ValType],
+) -> bool
     ensures { result ≡ ends classes.now any (row_of operands.now) (row_of wanted.now) }
 {
     match left(classes, any, operands, wanted) {
@@ -64,14 +75,15 @@ pub fn end_with(classes: &Classes, any: bool, operands: &[Operand], wanted: &[Va
     }
 }
 
-// Takes these types, or answers false.
-pub fn take_types(
+/// Takes these types, or answers false.
+pub(crate) fn take_types(
     classes: &Classes,
     any: bool,
     operands: &mut Vec<Operand>,
     wanted: &[ValType],
 ) -> bool
-    ensures { pops classes.now any (row_of operands.old.items) (row_of wanted.now) ≡ (if result then Some (row_of operands.new.items) else None) }
+    ensures { pops classes.now any (row_of operands.old.items) (row_of wanted.now)
+        ≡ (if result then Some (row_of operands.new.items) else None) }
 {
     match left(classes, any, operands, wanted) {
         Some(n) => {
@@ -82,10 +94,16 @@ pub fn take_types(
     }
 }
 
-// Takes an operand of this type, or answers false.
+/// Takes an operand of this type, or answers false.
 #[tactic(auto, using(crate::proofs::RowsOfLists::row_more))]
-pub fn take_type(classes: &Classes, any: bool, operands: &mut Vec<Operand>, wanted: ValType) -> bool
-    ensures { pops classes.now any (row_of operands.old.items) (ε ▹ wanted) ≡ (if result then Some (row_of operands.new.items) else None) }
+pub(crate) fn take_type(
+    classes: &Classes,
+    any: bool,
+    operands: &mut Vec<Operand>,
+    wanted: ValType,
+) -> bool
+    ensures { pops classes.now any (row_of operands.old.items) (ε ▹ wanted)
+        ≡ (if result then Some (row_of operands.new.items) else None) }
 {
     match operands.pop() {
         Some(operand) => matches_type(classes, operand, wanted),
@@ -93,9 +111,9 @@ pub fn take_type(classes: &Classes, any: bool, operands: &mut Vec<Operand>, want
     }
 }
 
-// Takes an operand, whatever it is.
+/// Takes an operand, whatever it is.
 #[tactic(auto, using(crate::proofs::RowsOfLists::row_more))]
-pub fn take_any(any: bool, operands: &mut Vec<Operand>) -> Option<Operand>
+pub(crate) fn take_any(any: bool, operands: &mut Vec<Operand>) -> Option<Operand>
     ensures { pop any (row_of operands.old.items) ≡ with_rest (row_of operands.new.items) result }
 {
     match operands.pop() {
@@ -116,16 +134,17 @@ fn heap_type(operand: Operand) -> Option<Option<HeapType>>
     }
 }
 
-// Takes a reference, and gives its heap type.
-pub fn take_reference(any: bool, operands: &mut Vec<Operand>) -> Option<Option<HeapType>>
-    ensures { pop_ref any (row_of operands.old.items) ≡ with_rest (row_of operands.new.items) result }
+/// Takes a reference, and gives its heap type.
+pub(crate) fn take_reference(any: bool, operands: &mut Vec<Operand>) -> Option<Option<HeapType>>
+    ensures { pop_ref any (row_of operands.old.items)
+        ≡ with_rest (row_of operands.new.items) result }
 {
     let operand = take_any(any, operands)?;
     heap_type(operand)
 }
 
-// A reference to this heap type that is not null.
-pub fn non_null(heap: Option<HeapType>) -> Operand
+/// A reference to this heap type that is not null.
+pub(crate) fn non_null(heap: Option<HeapType>) -> Operand
     ensures { result ≡ ref_to Bool.false heap }
 {
     match heap {
@@ -137,8 +156,8 @@ pub fn non_null(heap: Option<HeapType>) -> Operand
     }
 }
 
-// The one type of the two numbers that a select takes.
-pub fn selected(one: Operand, other: Operand) -> Option<Operand>
+/// The one type of the two numbers that a select takes.
+pub(crate) fn selected(one: Operand, other: Operand) -> Option<Operand>
     ensures { result ≡ select_of one other }
 {
     match (one, other) {
@@ -155,9 +174,10 @@ pub fn selected(one: Operand, other: Operand) -> Option<Operand>
     }
 }
 
-// Gives operands of these types.
-pub fn give_types(operands: &mut Vec<Operand>, types: &[ValType]) -> Result<(), AllocError>
-    ensures { IfOk result (λ _. row_of operands.new.items ≡ row_of operands.old.items ⧺ known (row_of types.now)) }
+/// Gives operands of these types.
+pub(crate) fn give_types(operands: &mut Vec<Operand>, types: &[ValType]) -> Result<(), AllocError>
+    ensures { IfOk result (λ _. row_of operands.new.items
+        ≡ row_of operands.old.items ⧺ known (row_of types.now)) }
 {
     for kind in types {
         operands.push(Operand::Known(*kind))?;

@@ -9,9 +9,9 @@ use Rattle.w_rules.specs.declared.operand.Operand.{Operand}
 use Rattle.w_rules.specs.declared.operand.Operand.TheVariants.{Known}
 use Rattle.w_rules.specs.Conditions.{Holds}
 use Rattle.w_rules.specs.Context.{Context, arrow_of}
-use Rattle.w_rules.specs.Lines.{Line, fixed, leaves, leaves_by, drops, selects, tests_null, as_non_null, on_null, no_line, line, sets}
+use Rattle.w_rules.specs.InstructionTypes.{InstrType, fixed, polymorphic, table_polymorphic, drops, selects, tests_null, as_non_null, on_null, untyped, instr_type, sets}
 use Rattle.w_rules.specs.Matching.{RowMatches, known}
-use Rattle.w_rules.specs.Typing.{Steps, Leaves, Takes, ref_to, Derives, set_by}
+use Rattle.w_rules.specs.Typing.{HasType, Polymorphic, HasInstrType, ref_to, Derives, set_by}
 use Rattle.w_rules.proofs.Preorder.{row_refl, row_trans, row_beside}
 
 -- ## Values that may not be there
@@ -30,45 +30,45 @@ holds_pull (Some a) P Q R h f = f a h
 -- ## Subsumption
 
 -- of a step, on the left
-pub steps_left : (gs : List RecGroup) (ins outs ts' ts us : Row Operand) → RowMatches gs ts' ts → Steps gs ins outs ts us → Steps gs ins outs ts' us
+pub steps_left : (gs : List RecGroup) (ins outs ts' ts us : Row Operand) → RowMatches gs ts' ts → HasType gs ins outs ts us → HasType gs ins outs ts' us
 steps_left gs ins outs ts' ts us m h = record { beneath = h.beneath; takes = row_trans gs ts' ts (h.beneath ⧺ ins) m h.takes; gives = h.gives }
 
 -- on the right
-pub steps_right : (gs : List RecGroup) (ins outs ts us us' : Row Operand) → Steps gs ins outs ts us → RowMatches gs us us' → Steps gs ins outs ts us'
+pub steps_right : (gs : List RecGroup) (ins outs ts us us' : Row Operand) → HasType gs ins outs ts us → RowMatches gs us us' → HasType gs ins outs ts us'
 steps_right gs ins outs ts us us' h m = record { beneath = h.beneath; takes = h.takes; gives = row_trans gs (h.beneath ⧺ outs) us us' h.gives m }
 
 -- of an instruction typed to any, on the left
-pub leaves_left : (gs : List RecGroup) (ins ts' ts : Row Operand) → RowMatches gs ts' ts → Leaves gs ins ts → Leaves gs ins ts'
-leaves_left gs ins ts' ts m h = record { beneath = h.beneath; takes = row_trans gs ts' ts (h.beneath ⧺ ins) m h.takes }
+pub polymorphic_left : (gs : List RecGroup) (ins ts' ts : Row Operand) → RowMatches gs ts' ts → Polymorphic gs ins ts → Polymorphic gs ins ts'
+polymorphic_left gs ins ts' ts m h = record { beneath = h.beneath; takes = row_trans gs ts' ts (h.beneath ⧺ ins) m h.takes }
 
 -- of an instruction, on the left
-pub takes_left : (gs : List RecGroup) (l : Line) (ts' ts us : Row Operand) → RowMatches gs ts' ts → Takes gs l ts us → Takes gs l ts' us
+pub takes_left : (gs : List RecGroup) (l : InstrType) (ts' ts us : Row Operand) → RowMatches gs ts' ts → HasInstrType gs l ts us → HasInstrType gs l ts' us
 takes_left gs (fixed ins outs) ts' ts us m h = steps_left gs (known ins) (known outs) ts' ts us m h
-takes_left gs (leaves ins) ts' ts us m h = leaves_left gs (known ins) ts' ts m h
-takes_left gs (leaves_by one others) ts' ts us m h = record { ins = h.ins; leaves = leaves_left gs (h.ins ▹ Known I32) ts' ts m h.leaves; each = h.each }
+takes_left gs (polymorphic ins) ts' ts us m h = polymorphic_left gs (known ins) ts' ts m h
+takes_left gs (table_polymorphic one others) ts' ts us m h = record { ins = h.ins; polymorphic = polymorphic_left gs (h.ins ▹ Known I32) ts' ts m h.polymorphic; each = h.each }
 takes_left gs drops ts' ts us m (t, h) = (t, steps_left gs (ε ▹ t) ε ts' ts us m h)
 takes_left gs selects ts' ts us m (t, n, h) = (t, n, steps_left gs (ε ▹ t ▹ t ▹ Known I32) (ε ▹ t) ts' ts us m h)
 takes_left gs tests_null ts' ts us m (t, h) = (t, steps_left gs (ε ▹ ref_to true t) (ε ▹ Known I32) ts' ts us m h)
 takes_left gs as_non_null ts' ts us m (t, h) = (t, steps_left gs (ε ▹ ref_to true t) (ε ▹ ref_to false t) ts' ts us m h)
 takes_left gs (on_null vs) ts' ts us m (t, h) = (t, steps_left gs (known vs ▹ ref_to true t) (known vs ▹ ref_to false t) ts' ts us m h)
-takes_left gs no_line ts' ts us m h = h
+takes_left gs untyped ts' ts us m h = h
 
 -- on the right
-pub takes_right : (gs : List RecGroup) (l : Line) (ts us us' : Row Operand) → Takes gs l ts us → RowMatches gs us us' → Takes gs l ts us'
+pub takes_right : (gs : List RecGroup) (l : InstrType) (ts us us' : Row Operand) → HasInstrType gs l ts us → RowMatches gs us us' → HasInstrType gs l ts us'
 takes_right gs (fixed ins outs) ts us us' h m = steps_right gs (known ins) (known outs) ts us us' h m
-takes_right gs (leaves ins) ts us us' h m = h
-takes_right gs (leaves_by one others) ts us us' h m = h
+takes_right gs (polymorphic ins) ts us us' h m = h
+takes_right gs (table_polymorphic one others) ts us us' h m = h
 takes_right gs drops ts us us' (t, h) m = (t, steps_right gs (ε ▹ t) ε ts us us' h m)
 takes_right gs selects ts us us' (t, n, h) m = (t, n, steps_right gs (ε ▹ t ▹ t ▹ Known I32) (ε ▹ t) ts us us' h m)
 takes_right gs tests_null ts us us' (t, h) m = (t, steps_right gs (ε ▹ ref_to true t) (ε ▹ Known I32) ts us us' h m)
 takes_right gs as_non_null ts us us' (t, h) m = (t, steps_right gs (ε ▹ ref_to true t) (ε ▹ ref_to false t) ts us us' h m)
 takes_right gs (on_null vs) ts us us' (t, h) m = (t, steps_right gs (known vs ▹ ref_to true t) (known vs ▹ ref_to false t) ts us us' h m)
-takes_right gs no_line ts us us' h m = h
+takes_right gs untyped ts us us' h m = h
 
 -- of a sequence, on the left
 pub derives_left : (c : Context) (s : List Bool) (k : Code) (ts' ts us : Row Operand) → RowMatches c.types ts' ts → Derives c s k ts us → Derives c s k ts' us
 derives_left c s Done ts' ts us m d = row_trans c.types ts' ts us m d
-derives_left c s (Plain o k) ts' ts us m (p, (vs, t, d)) = (p, (vs, takes_left c.types (line c s o) ts' ts vs m t, d))
+derives_left c s (Plain o k) ts' ts us m (p, (vs, t, d)) = (p, (vs, takes_left c.types (instr_type c s o) ts' ts vs m t, d))
 derives_left c s (Block kind x b k) ts' ts us m d =
     holds_map (arrow_of c x) _ _ d (λ a h. (h.0, (h.1.0, steps_left c.types (known a.from) (known a.to) ts' ts h.1.0 m h.1.1, h.1.2)))
 derives_left c s (If x b k) ts' ts us m d =
@@ -100,7 +100,7 @@ from_beneath gs beneath r outs us m = let P : Row Operand → Type 0 = λ vs. Ro
     subst P (sym (beside_assoc beneath r outs)) (row_beside gs beneath beneath (r ⧺ outs) us (row_refl gs beneath) m)
 
 -- a step takes operands over the same ones
-steps_frame : (gs : List RecGroup) (beneath ins outs ts us : Row Operand) → Steps gs ins outs ts us → Steps gs ins outs (beneath ⧺ ts) (beneath ⧺ us)
+steps_frame : (gs : List RecGroup) (beneath ins outs ts us : Row Operand) → HasType gs ins outs ts us → HasType gs ins outs (beneath ⧺ ts) (beneath ⧺ us)
 steps_frame gs beneath ins outs ts us h = record {
   beneath = beneath ⧺ h.beneath;
   takes = onto_beneath gs beneath ts h.beneath ins h.takes;
@@ -108,27 +108,27 @@ steps_frame gs beneath ins outs ts us h = record {
 }
 
 -- so does an instruction typed to any
-leaves_frame : (gs : List RecGroup) (beneath ins ts : Row Operand) → Leaves gs ins ts → Leaves gs ins (beneath ⧺ ts)
-leaves_frame gs beneath ins ts h = record { beneath = beneath ⧺ h.beneath; takes = onto_beneath gs beneath ts h.beneath ins h.takes }
+polymorphic_frame : (gs : List RecGroup) (beneath ins ts : Row Operand) → Polymorphic gs ins ts → Polymorphic gs ins (beneath ⧺ ts)
+polymorphic_frame gs beneath ins ts h = record { beneath = beneath ⧺ h.beneath; takes = onto_beneath gs beneath ts h.beneath ins h.takes }
 
 -- an instruction takes operands over the same ones
-pub takes_frame : (gs : List RecGroup) (l : Line) (beneath ts us : Row Operand) → Takes gs l ts us → Takes gs l (beneath ⧺ ts) (beneath ⧺ us)
+pub takes_frame : (gs : List RecGroup) (l : InstrType) (beneath ts us : Row Operand) → HasInstrType gs l ts us → HasInstrType gs l (beneath ⧺ ts) (beneath ⧺ us)
 takes_frame gs (fixed ins outs) beneath ts us h = steps_frame gs beneath (known ins) (known outs) ts us h
-takes_frame gs (leaves ins) beneath ts us h = leaves_frame gs beneath (known ins) ts h
-takes_frame gs (leaves_by one others) beneath ts us h = record { ins = h.ins; leaves = leaves_frame gs beneath (h.ins ▹ Known I32) ts h.leaves; each = h.each }
+takes_frame gs (polymorphic ins) beneath ts us h = polymorphic_frame gs beneath (known ins) ts h
+takes_frame gs (table_polymorphic one others) beneath ts us h = record { ins = h.ins; polymorphic = polymorphic_frame gs beneath (h.ins ▹ Known I32) ts h.polymorphic; each = h.each }
 takes_frame gs drops beneath ts us (t, h) = (t, steps_frame gs beneath (ε ▹ t) ε ts us h)
 takes_frame gs selects beneath ts us (t, n, h) = (t, n, steps_frame gs beneath (ε ▹ t ▹ t ▹ Known I32) (ε ▹ t) ts us h)
 takes_frame gs tests_null beneath ts us (t, h) = (t, steps_frame gs beneath (ε ▹ ref_to true t) (ε ▹ Known I32) ts us h)
 takes_frame gs as_non_null beneath ts us (t, h) = (t, steps_frame gs beneath (ε ▹ ref_to true t) (ε ▹ ref_to false t) ts us h)
 takes_frame gs (on_null vs) beneath ts us (t, h) = (t, steps_frame gs beneath (known vs ▹ ref_to true t) (known vs ▹ ref_to false t) ts us h)
-takes_frame gs no_line beneath ts us h = h
+takes_frame gs untyped beneath ts us h = h
 
 -- so does a sequence
 pub derives_frame : (c : Context) (s : List Bool) (k : Code) (beneath ts us : Row Operand) → Derives c s k ts us
     → Derives c s k (beneath ⧺ ts) (beneath ⧺ us)
 derives_frame c s Done beneath ts us d = row_beside c.types beneath beneath ts us (row_refl c.types beneath) d
 derives_frame c s (Plain o k) beneath ts us (p, (vs, t, d)) =
-    (p, (beneath ⧺ vs, takes_frame c.types (line c s o) beneath ts vs t, derives_frame c (sets o s) k beneath vs us d))
+    (p, (beneath ⧺ vs, takes_frame c.types (instr_type c s o) beneath ts vs t, derives_frame c (sets o s) k beneath vs us d))
 derives_frame c s (Block kind x b k) beneath ts us d = holds_map (arrow_of c x) _ _ d (λ a h.
     (h.0, (beneath ⧺ h.1.0, steps_frame c.types beneath (known a.from) (known a.to) ts h.1.0 h.1.1, derives_frame c s k beneath h.1.0 us h.1.2)))
 derives_frame c s (If x b k) beneath ts us d = holds_map (arrow_of c x) _ _ d (λ a h.

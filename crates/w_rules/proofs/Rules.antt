@@ -9,10 +9,10 @@ use Rattle.w_rules.specs.declared.operand.Operand.{Operand}
 use Rattle.w_rules.specs.declared.operand.Operand.TheVariants.{Known}
 use Rattle.w_rules.specs.Conditions.{Holds}
 use Rattle.w_rules.specs.Context.{Context, Arrow, arrow_of, label_of, labelled}
-use Rattle.w_rules.specs.Lines.{Line, fixed, leaves, leaves_by, drops, selects, tests_null, as_non_null, on_null, no_line, line, sets}
+use Rattle.w_rules.specs.InstructionTypes.{InstrType, fixed, polymorphic, table_polymorphic, drops, selects, tests_null, as_non_null, on_null, untyped, instr_type, sets}
 use Rattle.w_rules.specs.Matching.{RowMatches, none, known}
-use Rattle.w_rules.specs.Typing.{Steps, Takes, ref_to, set_by, Derives}
-use Rattle.w_rules.specs.Family.{Has, has_fixed, has_leaves, has_leaves_by, has_drops, has_selects, has_tests_null, has_as_non_null, has_on_null, Typed, empty, instruction, block, if_then, if_else, composition, subsumption, OneTyping}
+use Rattle.w_rules.specs.Typing.{HasType, HasInstrType, ref_to, set_by, Derives}
+use Rattle.w_rules.specs.Family.{Has, has_fixed, has_polymorphic, has_table_polymorphic, has_drops, has_selects, has_tests_null, has_as_non_null, has_on_null, Typed, empty, instruction, block, if_then, if_else, composition, subsumption, OneTyping}
 use Rattle.w_rules.proofs.Preorder.{row_refl}
 use Rattle.w_rules.proofs.Derive.{derives_left, derives_right, derives_frame, after_in}
 
@@ -27,15 +27,15 @@ over_none : (gs : List RecGroup) (ts : Row Operand) → RowMatches gs (ε ⧺ ts
 over_none gs ts = let P : Row Operand → Type 0 = λ us. RowMatches gs us ts in subst P (sym (unit_left ts)) (row_refl gs ts)
 
 -- a rule itself, with nothing beneath
-exactly : (gs : List RecGroup) (ins outs : Row Operand) → Steps gs ins outs ins outs
+exactly : (gs : List RecGroup) (ins outs : Row Operand) → HasType gs ins outs ins outs
 exactly gs ins outs = record { beneath = ε; takes = under_none gs ins; gives = over_none gs outs }
 
 -- an instruction takes what its rule says
-has_takes : (gs : List RecGroup) (l : Line) (ts us : Row Operand) → Has gs l ts us → Takes gs l ts us
+has_takes : (gs : List RecGroup) (l : InstrType) (ts us : Row Operand) → Has gs l ts us → HasInstrType gs l ts us
 has_takes gs l ts us (has_fixed ins outs) = exactly gs (known ins) (known outs)
-has_takes gs l ts us (has_leaves ins beneath vs) = record { beneath = beneath; takes = row_refl gs (beneath ⧺ known ins) }
-has_takes gs l ts us (has_leaves_by one others beneath ins vs each) =
-    record { ins = ins; leaves = record { beneath = beneath; takes = row_refl gs ((beneath ⧺ ins) ▹ Known I32) }; each = each }
+has_takes gs l ts us (has_polymorphic ins beneath vs) = record { beneath = beneath; takes = row_refl gs (beneath ⧺ known ins) }
+has_takes gs l ts us (has_table_polymorphic one others beneath ins vs each) =
+    record { ins = ins; polymorphic = record { beneath = beneath; takes = row_refl gs ((beneath ⧺ ins) ▹ Known I32) }; each = each }
 has_takes gs l ts us (has_drops t) = (t, exactly gs (ε ▹ t) ε)
 has_takes gs l ts us (has_selects t n) = (t, n, exactly gs (ε ▹ t ▹ t ▹ Known I32) (ε ▹ t))
 has_takes gs l ts us (has_tests_null h) = (h, exactly gs (ε ▹ ref_to true h) (ε ▹ Known I32))
@@ -49,7 +49,7 @@ at_arrow o a P e h = let Q : Option Arrow → Type 0 = λ q. Holds q P in subst 
 -- what the rules derive, the definition derives
 typed_derives : (c : Context) (s : List Bool) (k : Code) (ts us : Row Operand) → Typed c s k ts us → Derives c s k ts us
 typed_derives c s k ts us (empty c' s') = none
-typed_derives c s k ts us (instruction c' s' o ts' us' p h) = (p, (us', has_takes c'.types (line c' s' o) ts' us' h, row_refl c'.types us'))
+typed_derives c s k ts us (instruction c' s' o ts' us' p h) = (p, (us', has_takes c'.types (instr_type c' s' o) ts' us' h, row_refl c'.types us'))
 typed_derives c s k ts us (block c' s' kind x a b e d) = at_arrow (arrow_of c' x) a _ e (
   typed_derives (labelled c' (label_of kind a)) s' b (known a.from) (known a.to) d,
   (known a.to, exactly c'.types (known a.from) (known a.to), row_refl c'.types (known a.to)),
@@ -73,7 +73,7 @@ typed_derives c s k ts us (subsumption c' s' k' beneath ts' us' ts'' us'' d m n)
 -- ## By the definition, and so by the rules
 
 -- a rule, the operands beneath it, and subsumption
-record Framed (gs : List RecGroup) (l : Line) (ts us : Row Operand) : Type 0 where
+record Framed (gs : List RecGroup) (l : InstrType) (ts us : Row Operand) : Type 0 where
   pub ins : Row Operand
   pub outs : Row Operand
   pub beneath : Row Operand
@@ -82,27 +82,27 @@ record Framed (gs : List RecGroup) (l : Line) (ts us : Row Operand) : Type 0 whe
   pub gives : RowMatches gs (beneath ⧺ outs) us
 
 -- a step is its rule with operands beneath
-steps_framed : (gs : List RecGroup) (l : Line) (ins outs ts us : Row Operand) → Has gs l ins outs → Steps gs ins outs ts us → Framed gs l ts us
+steps_framed : (gs : List RecGroup) (l : InstrType) (ins outs ts us : Row Operand) → Has gs l ins outs → HasType gs ins outs ts us → Framed gs l ts us
 steps_framed gs l ins outs ts us r h = record { ins = ins; outs = outs; beneath = h.beneath; has = r; takes = h.takes; gives = h.gives }
 
 -- a rule that takes all operands
-whole_framed : (gs : List RecGroup) (l : Line) (ins ts us : Row Operand) → Has gs l ins us → RowMatches gs ts ins → Framed gs l ts us
+whole_framed : (gs : List RecGroup) (l : InstrType) (ins ts us : Row Operand) → Has gs l ins us → RowMatches gs ts ins → Framed gs l ts us
 whole_framed gs l ins ts us r m = let P : Row Operand → Type 0 = λ vs. RowMatches gs ts vs in
     record { ins = ins; outs = us; beneath = ε; has = r; takes = subst P (sym (unit_left ins)) m; gives = over_none gs us }
 
 -- an instruction is its rule with operands beneath
-takes_framed : (gs : List RecGroup) (l : Line) (ts us : Row Operand) → Takes gs l ts us → Framed gs l ts us
+takes_framed : (gs : List RecGroup) (l : InstrType) (ts us : Row Operand) → HasInstrType gs l ts us → Framed gs l ts us
 takes_framed gs (fixed ins outs) ts us h = steps_framed gs (fixed ins outs) (known ins) (known outs) ts us (has_fixed ins outs) h
-takes_framed gs (leaves ins) ts us h = whole_framed gs (leaves ins) (h.beneath ⧺ known ins) ts us (has_leaves ins h.beneath us) h.takes
-takes_framed gs (leaves_by one others) ts us h =
-    whole_framed gs (leaves_by one others) ((h.leaves.beneath ⧺ h.ins) ▹ Known I32) ts us (has_leaves_by one others h.leaves.beneath h.ins us h.each) h.leaves.takes
+takes_framed gs (polymorphic ins) ts us h = whole_framed gs (polymorphic ins) (h.beneath ⧺ known ins) ts us (has_polymorphic ins h.beneath us) h.takes
+takes_framed gs (table_polymorphic one others) ts us h =
+    whole_framed gs (table_polymorphic one others) ((h.polymorphic.beneath ⧺ h.ins) ▹ Known I32) ts us (has_table_polymorphic one others h.polymorphic.beneath h.ins us h.each) h.polymorphic.takes
 takes_framed gs drops ts us (t, h) = steps_framed gs drops (ε ▹ t) ε ts us (has_drops t) h
 takes_framed gs selects ts us (t, n, h) = steps_framed gs selects (ε ▹ t ▹ t ▹ Known I32) (ε ▹ t) ts us (has_selects t n) h
 takes_framed gs tests_null ts us (t, h) = steps_framed gs tests_null (ε ▹ ref_to true t) (ε ▹ Known I32) ts us (has_tests_null t) h
 takes_framed gs as_non_null ts us (t, h) = steps_framed gs as_non_null (ε ▹ ref_to true t) (ε ▹ ref_to false t) ts us (has_as_non_null t) h
 takes_framed gs (on_null vs) ts us (t, h) =
     steps_framed gs (on_null vs) (known vs ▹ ref_to true t) (known vs ▹ ref_to false t) ts us (has_on_null vs t) h
-takes_framed gs no_line ts us h = absurd h
+takes_framed gs untyped ts us h = absurd h
 
 -- what holds of a value that may not be there tells the value
 with_arrow : (o : Option Arrow) (P : Arrow → Type 0) (G : Type 0) → Holds o P → ((a : Arrow) → o ≡ Some a → P a → G) → G
@@ -110,7 +110,7 @@ with_arrow None P G h f = absurd h
 with_arrow (Some a) P G h f = f a refl h
 
 -- a derivation by a rule, with operands beneath and subsumption
-steps_typed : (c : Context) (s : List Bool) (k : Code) (ins outs ts us : Row Operand) → Typed c s k ins outs → Steps c.types ins outs ts us → Typed c s k ts us
+steps_typed : (c : Context) (s : List Bool) (k : Code) (ins outs ts us : Row Operand) → Typed c s k ins outs → HasType c.types ins outs ts us → Typed c s k ts us
 steps_typed c s k ins outs ts us d h = subsumption c s k h.beneath ins outs ts us d h.takes h.gives
 
 -- what the definition derives, the rules derive
@@ -118,7 +118,7 @@ derives_typed : (c : Context) (s : List Bool) (k : Code) (ts us : Row Operand) �
 unfolding after
 derives_typed c s Done ts us d = subsumption c s Done ts ε ε ts us (empty c s) (row_refl c.types ts) d
 derives_typed c s (Plain o k) ts us (p, (vs, t, d)) =
-    let f = takes_framed c.types (line c s o) ts vs t in
+    let f = takes_framed c.types (instr_type c s o) ts vs t in
     composition c s (Plain o Done) k ts vs us
     (subsumption c s (Plain o Done) f.beneath f.ins f.outs ts vs (instruction c s o f.ins f.outs p f.has) f.takes f.gives)
     (derives_typed c (sets o s) k vs us d)

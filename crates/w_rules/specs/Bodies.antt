@@ -12,9 +12,9 @@ use Rattle.w_syntax.specs.declared.locals.LocalRun.{LocalRun}
 use Rattle.w_syntax.specs.declared.module.GlobalType.{GlobalType}
 use Rattle.w_syntax.specs.declared.module.Mutability.{Mutability}
 use Rattle.w_syntax.specs.declared.module.Mutability.TheVariants as mutability
-use Rattle.w_syntax.specs.declared.numeric.Binary.{Binary}
-use Rattle.w_syntax.specs.declared.numeric.Binary.TheVariants as binary
-use Rattle.w_syntax.specs.declared.numeric.Numeric.TheVariants as numeric
+use Rattle.w_syntax.specs.declared.numeric.Binop.{Binop}
+use Rattle.w_syntax.specs.declared.numeric.Binop.TheVariants as binary
+use Rattle.w_syntax.specs.declared.numeric.NumericOp.TheVariants as numeric
 use Rattle.w_rules.specs.Context.{Context}
 use Rattle.w_rules.specs.Matching.{known}
 use Rattle.w_rules.specs.Spaces.{in_body}
@@ -43,7 +43,7 @@ BodyTyped c params runs results k =
 
 -- ## Constant expressions
 
-abbrev pub is_const_binary : Binary → Bool
+abbrev pub is_const_binary : Binop → Bool
 is_const_binary binary.Add = true
 is_const_binary binary.Sub = true
 is_const_binary binary.Mul = true

@@ -8,8 +8,8 @@ use Rattle.w_types.specs.declared.types.ValType.TheVariants.{Ref}
 use Rattle.w_types.specs.Rows.{Row, ◌▹◌, row_of, listed}
 use Rattle.w_syntax.specs.declared.instructions.Clause.{Clause}
 use Rattle.w_syntax.specs.declared.instructions.Clause.TheVariants as clause
-use Rattle.w_syntax.specs.declared.instructions.Control.{Control}
-use Rattle.w_syntax.specs.declared.instructions.Control.TheVariants as control
+use Rattle.w_syntax.specs.declared.instructions.ControlOp.{ControlOp}
+use Rattle.w_syntax.specs.declared.instructions.ControlOp.TheVariants as control
 use Rattle.w_syntax.specs.declared.instructions.TableOp.{TableOp}
 use Rattle.w_syntax.specs.declared.instructions.TableOp.TheVariants as table
 use Rattle.w_syntax.specs.declared.instructions.SwitchingOp.{SwitchingOp}
@@ -32,7 +32,7 @@ abbrev pub funcref : RefType
 funcref = record { nullable = true; heap = Func }
 
 -- call_indirect: the table holds functions
-abbrev pub ControlCondition : Context → Control → Type 0
+abbrev pub ControlCondition : Context → ControlOp → Type 0
 ControlCondition c (control.CallIndirect y x) = Holds (slice_get c.tables x) (λ (t : TableType). RefMatches c.types t.element funcref)
 ControlCondition c o = Unit {0}
 
@@ -95,7 +95,7 @@ pub record SwitchTyped (c : Context) (x e : ℕ) : Type 0 where
   pub has_other : cont_of c index ≡ Some other
   pub has_tag : type_of_tag c e ≡ Some tag
   pub no_params : tag.params ≡ []
-  pub leaves : ResultMatches c.types one.results tag.results
+  pub results : ResultMatches c.types one.results tag.results
   pub comes_back : ResultMatches c.types tag.results other.results
 
 abbrev pub SwitchingCondition : Context → SwitchingOp → Type 0
@@ -105,7 +105,7 @@ SwitchingCondition c (switching.Suspend e) = Unit {0}
 SwitchingCondition c (switching.Resume x hs) = Holds (cont_of c x) (λ (t : FuncType). All (ClauseTyped c t.results) hs)
 SwitchingCondition c (switching.Switch x e) = SwitchTyped c x e
 
--- what the instruction's rule asks beside its line
+-- what the instruction's rule asks beside its type
 abbrev pub Condition : Context → Op → Type 0
 Condition c (op.Control o) = ControlCondition c o
 Condition c (op.Table o) = TableCondition c o

@@ -31,7 +31,7 @@ pub record Context : Type 0 where
   -- the type of each element segment
   pub elements : List RefType
   -- how many data segments there are
-  pub segments : ℕ
+  pub datas : ℕ
   -- of each function, whether ref.func may name it
   pub declared : List Bool
   pub locals : List ValType

@@ -4,7 +4,7 @@ use Rattle.w_types.specs.declared.types.FuncType.{FuncType}
 use Rattle.w_syntax.specs.Functions.{type_of_function, code_of_function}
 use Rattle.w_syntax.specs.declared.module.Func.{Func}
 use Rattle.w_syntax.specs.declared.module.Module.{Module}
-use Rattle.w_canon.specs.Stands.{Stands}
+use Rattle.w_canon.specs.IsClassesOf.{IsClassesOf}
 use Rattle.w_rules.specs.declared.facts.Facts.{Facts}
 use Rattle.w_rules.specs.Bodies.{types_of_runs, set_first}
 use Rattle.w_rules.specs.Peak.{peak, depth}
@@ -23,4 +23,4 @@ pub record AreFacts (m : Module) (facts : Facts) : Type 0 where
   pub depths : (i : ℕ) (t : FuncType) (f : Func) → type_of_function m i ≡ Some t → code_of_function m i ≡ Some f
       → slice_get facts.depths.items i ≡ Some (depth f.body)
   pub declared : facts.declared.items ≡ declared_of m
-  pub classes : Stands m.types facts.classes
+  pub classes : IsClassesOf m.types facts.classes

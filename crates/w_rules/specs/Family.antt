@@ -14,16 +14,16 @@ use Rattle.w_rules.specs.declared.operand.Operand.{Operand}
 use Rattle.w_rules.specs.declared.operand.Operand.TheVariants.{Known}
 use Rattle.w_rules.specs.Conditions.{Condition}
 use Rattle.w_rules.specs.Context.{Context, Arrow, arrow_of, label_of, labelled}
-use Rattle.w_rules.specs.Lines.{Line, fixed, leaves, leaves_by, drops, selects, tests_null, as_non_null, on_null, line}
+use Rattle.w_rules.specs.InstructionTypes.{InstrType, fixed, polymorphic, table_polymorphic, drops, selects, tests_null, as_non_null, on_null, instr_type}
 use Rattle.w_rules.specs.Matching.{RowMatches, known}
 use Rattle.w_rules.specs.Typing.{MatchesEach, IsNumeric, ref_to, set_by, Derives}
 
--- the types of an instruction of each line
-pub data Has (gs : List RecGroup) : Line → Row Operand → Row Operand → Type 0 where
+-- the types of an instruction of each type
+pub data Has (gs : List RecGroup) : InstrType → Row Operand → Row Operand → Type 0 where
   has_fixed : (ins outs : Row ValType) → Has gs (fixed ins outs) (known ins) (known outs)
-  has_leaves : (ins : Row ValType) (beneath us : Row Operand) → Has gs (leaves ins) (beneath ⧺ known ins) us
-  has_leaves_by : (one : Row ValType) (others : List (Row ValType)) (beneath ins us : Row Operand)
-      → MatchesEach gs ins (one ∷ others) → Has gs (leaves_by one others) ((beneath ⧺ ins) ▹ Known I32) us
+  has_polymorphic : (ins : Row ValType) (beneath us : Row Operand) → Has gs (polymorphic ins) (beneath ⧺ known ins) us
+  has_table_polymorphic : (one : Row ValType) (others : List (Row ValType)) (beneath ins us : Row Operand)
+      → MatchesEach gs ins (one ∷ others) → Has gs (table_polymorphic one others) ((beneath ⧺ ins) ▹ Known I32) us
   has_drops : (t : Operand) → Has gs drops (ε ▹ t) ε
   has_selects : (t : Operand) → IsNumeric gs t → Has gs selects (ε ▹ t ▹ t ▹ Known I32) (ε ▹ t)
   has_tests_null : (h : Option HeapType) → Has gs tests_null (ε ▹ ref_to true h) (ε ▹ Known I32)
@@ -33,7 +33,7 @@ pub data Has (gs : List RecGroup) : Line → Row Operand → Row Operand → Typ
 pub data Typed : Context → List Bool → Code → Row Operand → Row Operand → Type 0 where
   empty : (c : Context) (s : List Bool) → Typed c s Done ε ε
   instruction : (c : Context) (s : List Bool) (o : Op) (ts us : Row Operand)
-      → Condition c o → Has c.types (line c s o) ts us → Typed c s (Plain o Done) ts us
+      → Condition c o → Has c.types (instr_type c s o) ts us → Typed c s (Plain o Done) ts us
   block : (c : Context) (s : List Bool) (kind : BlockKind) (x : BlockType) (a : Arrow) (b : Code) → arrow_of c x ≡ Some a
       → Typed (labelled c (label_of kind a)) s b (known a.from) (known a.to) → Typed c s (Block kind x b Done) (known a.from) (known a.to)
   if_then : (c : Context) (s : List Bool) (x : BlockType) (a : Arrow) (b : Code) → arrow_of c x ≡ Some a

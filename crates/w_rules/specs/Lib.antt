@@ -1,7 +1,7 @@
 pub mod Types
 pub mod Context
 pub mod Matching
-pub mod Lines
+pub mod InstructionTypes
 pub mod Conditions
 pub mod Typing
 pub mod Family

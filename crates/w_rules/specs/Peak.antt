@@ -12,19 +12,19 @@ use Rattle.w_syntax.specs.declared.instructions.SwitchingOp.TheVariants as switc
 use Rattle.w_syntax.specs.declared.instructions.Op.{Op}
 use Rattle.w_syntax.specs.declared.instructions.Op.TheVariants as op
 use Rattle.w_rules.specs.Context.{Context, Arrow, arrow_of, label_of, labelled, cont_of}
-use Rattle.w_rules.specs.Lines.{Line, fixed, leaves, leaves_by, drops, selects, tests_null, as_non_null, on_null, no_line, line, sets}
+use Rattle.w_rules.specs.InstructionTypes.{InstrType, fixed, polymorphic, table_polymorphic, drops, selects, tests_null, as_non_null, on_null, untyped, instr_type, sets}
 
--- how many operands a line takes and gives; none where it is typed to any
-abbrev pub net : Line → Option (ℕ × ℕ)
+-- how many operands an instruction type takes and gives; none where it is typed to any
+abbrev pub net : InstrType → Option (ℕ × ℕ)
 net (fixed ins outs) = Some (size ins, size outs)
-net (leaves ins) = None
-net (leaves_by one others) = None
+net (polymorphic ins) = None
+net (table_polymorphic one others) = None
 net drops = Some (1, 0)
 net selects = Some (3, 1)
 net tests_null = Some (1, 1)
 net as_non_null = Some (1, 1)
 net (on_null us) = Some (size us + 1, size us + 1)
-net no_line = None
+net untyped = None
 
 abbrev pub or_none : Option ℕ → (ℕ → ℕ) → ℕ
 or_none None f = 0
@@ -82,7 +82,7 @@ extra c (op.Reference o) h = 0
 -- of a sequence that begins at h operands, those of the blocks around it among them
 abbrev pub peak : Context → List Bool → Code → ℕ → ℕ
 peak c s Done h = h
-peak c s (Plain o k) h = max (max h (extra c o h)) (past_net (net (line c s o)) h (peak c (sets o s) k))
+peak c s (Plain o k) h = max (max h (extra c o h)) (past_net (net (instr_type c s o)) h (peak c (sets o s) k))
 peak c s (Block kind x b k) h = max h (in_arrow (arrow_of c x) (λ (a : Arrow).
     max (peak (labelled c (label_of kind a)) s b h) (peak c s k (past_arrow a h))))
 peak c s (If x b k) h = max h (in_arrow (arrow_of c x) (λ (a : Arrow).

@@ -1,5 +1,5 @@
 -- The context of a module (Core, validation, modules): in each list what is imported stands in front of what the module defines.
-use Rattle.std.specs.Prelude.{ℕ, Bool, true, false, List, [], ◌∷◌, ◌++◌, map, flat_map, replicate, take, length, slice_set}
+use Rattle.std.specs.Prelude.{ℕ, ◌<◌, Contains, Bool, true, false, List, [], ◌∷◌, ◌++◌, map, flat_map, replicate, take, length, slice_set}
 use Rattle.w_types.specs.declared.types.ValType.{ValType}
 use Rattle.w_types.specs.Rows.{ε, row_of}
 use Rattle.w_syntax.specs.Code.{Code, Done, Plain, Block, If, IfElse}
@@ -106,6 +106,12 @@ marked s (x ∷ xs) = marked (slice_set s x true) xs
 abbrev pub declared_of : Module → List Bool
 declared_of m = marked (replicate (length (functions_of m)) false) (named_of m)
 
+-- ref.func may name the function: an export, an element segment, or the expression of a global or a table names it (Core, validation,
+-- modules: C.refs)
+pub record IsDeclared (m : Module) (x : ℕ) : Type 0 where
+  pub is_there : x < length (functions_of m)
+  pub is_named : Contains (named_of m) x
+
 -- ## The context
 
 abbrev pub context_of : Module → Context
@@ -117,7 +123,7 @@ context_of m = record {
   globals = globals_of m;
   tags = tags_of m;
   elements = map (λ (e : Elem). e.kind) m.elements;
-  segments = length m.datas;
+  datas = length m.datas;
   declared = declared_of m;
   locals = [];
   results = ε;

@@ -10,19 +10,19 @@ use Rattle.w_rules.specs.declared.operand.Operand.{Operand}
 use Rattle.w_rules.specs.declared.operand.Operand.TheVariants.{Known, BottomRef}
 use Rattle.w_rules.specs.Conditions.{Condition, Holds}
 use Rattle.w_rules.specs.Context.{Context, Arrow, arrow_of, label_of, labelled}
-use Rattle.w_rules.specs.Lines.{Line, fixed, leaves, leaves_by, drops, selects, tests_null, as_non_null, on_null, no_line, line, sets}
+use Rattle.w_rules.specs.InstructionTypes.{InstrType, fixed, polymorphic, table_polymorphic, drops, selects, tests_null, as_non_null, on_null, untyped, instr_type, sets}
 use Rattle.w_rules.specs.Matching.{OperandMatches, RowMatches, known}
 
 -- ## Instructions
 
 -- [ins] to [outs] with operands beneath, and with subsumption on both sides
-pub record Steps (gs : List RecGroup) (ins outs ts us : Row Operand) : Type 0 where
+pub record HasType (gs : List RecGroup) (ins outs ts us : Row Operand) : Type 0 where
   pub beneath : Row Operand
   pub takes : RowMatches gs ts (beneath ⧺ ins)
   pub gives : RowMatches gs (beneath ⧺ outs) us
 
 -- [t* ins] to any
-pub record Leaves (gs : List RecGroup) (ins ts : Row Operand) : Type 0 where
+pub record Polymorphic (gs : List RecGroup) (ins ts : Row Operand) : Type 0 where
   pub beneath : Row Operand
   pub takes : RowMatches gs ts (beneath ⧺ ins)
 
@@ -31,9 +31,9 @@ MatchesEach gs us [] = Unit {0}
 MatchesEach gs us (vs ∷ vss) = RowMatches gs us (known vs) × MatchesEach gs us vss
 
 -- [t* u* i32] to any, where u* matches each of these
-pub record LeavesBy (gs : List RecGroup) (labels : List (Row ValType)) (ts : Row Operand) : Type 0 where
+pub record TablePolymorphic (gs : List RecGroup) (labels : List (Row ValType)) (ts : Row Operand) : Type 0 where
   pub ins : Row Operand
-  pub leaves : Leaves gs (ins ▹ Known I32) ts
+  pub polymorphic : Polymorphic gs (ins ▹ Known I32) ts
   pub each : MatchesEach gs ins labels
 
 abbrev pub IsNumeric : List RecGroup → Operand → Type 0
@@ -44,37 +44,37 @@ abbrev pub ref_to : Bool → Option HeapType → Operand
 ref_to n (Some h) = Known (Ref (record { nullable = n; heap = h }))
 ref_to n None = BottomRef n
 
--- an instruction of this line takes operands of types ts to operands of types us
-abbrev pub Takes : List RecGroup → Line → Row Operand → Row Operand → Type 0
-Takes gs (fixed ins outs) ts us = Steps gs (known ins) (known outs) ts us
-Takes gs (leaves ins) ts us = Leaves gs (known ins) ts
-Takes gs (leaves_by one others) ts us = LeavesBy gs (one ∷ others) ts
-Takes gs drops ts us = (t : Operand) × Steps gs (ε ▹ t) ε ts us
-Takes gs selects ts us = (t : Operand) × IsNumeric gs t × Steps gs (ε ▹ t ▹ t ▹ Known I32) (ε ▹ t) ts us
-Takes gs tests_null ts us = (h : Option HeapType) × Steps gs (ε ▹ ref_to true h) (ε ▹ Known I32) ts us
-Takes gs as_non_null ts us = (h : Option HeapType) × Steps gs (ε ▹ ref_to true h) (ε ▹ ref_to false h) ts us
-Takes gs (on_null vs) ts us = (h : Option HeapType) × Steps gs (known vs ▹ ref_to true h) (known vs ▹ ref_to false h) ts us
-Takes gs no_line ts us = ⊥
+-- an instruction of this type takes operands of types ts to operands of types us
+abbrev pub HasInstrType : List RecGroup → InstrType → Row Operand → Row Operand → Type 0
+HasInstrType gs (fixed ins outs) ts us = HasType gs (known ins) (known outs) ts us
+HasInstrType gs (polymorphic ins) ts us = Polymorphic gs (known ins) ts
+HasInstrType gs (table_polymorphic one others) ts us = TablePolymorphic gs (one ∷ others) ts
+HasInstrType gs drops ts us = (t : Operand) × HasType gs (ε ▹ t) ε ts us
+HasInstrType gs selects ts us = (t : Operand) × IsNumeric gs t × HasType gs (ε ▹ t ▹ t ▹ Known I32) (ε ▹ t) ts us
+HasInstrType gs tests_null ts us = (h : Option HeapType) × HasType gs (ε ▹ ref_to true h) (ε ▹ Known I32) ts us
+HasInstrType gs as_non_null ts us = (h : Option HeapType) × HasType gs (ε ▹ ref_to true h) (ε ▹ ref_to false h) ts us
+HasInstrType gs (on_null vs) ts us = (h : Option HeapType) × HasType gs (known vs ▹ ref_to true h) (known vs ▹ ref_to false h) ts us
+HasInstrType gs untyped ts us = ⊥
 
 -- ## Sequences; s says which locals are set before them
 
 -- the sequence takes operands of types ts to operands of types us
 abbrev pub Derives : Context → List Bool → Code → Row Operand → Row Operand → Type 0
 Derives c s Done ts us = RowMatches c.types ts us
-Derives c s (Plain o k) ts us = Condition c o × ((vs : Row Operand) × Takes c.types (line c s o) ts vs × Derives c (sets o s) k vs us)
+Derives c s (Plain o k) ts us = Condition c o × ((vs : Row Operand) × HasInstrType c.types (instr_type c s o) ts vs × Derives c (sets o s) k vs us)
 -- the label takes the results of a block, and the parameters of a loop
 Derives c s (Block kind x b k) ts us = Holds (arrow_of c x) (λ (a : Arrow).
     Derives (labelled c (label_of kind a)) s b (known a.from) (known a.to)
-    × ((vs : Row Operand) × Steps c.types (known a.from) (known a.to) ts vs × Derives c s k vs us))
+    × ((vs : Row Operand) × HasType c.types (known a.from) (known a.to) ts vs × Derives c s k vs us))
 -- without a second branch the parameters match the results
 Derives c s (If x b k) ts us = Holds (arrow_of c x) (λ (a : Arrow).
     RowMatches c.types (known a.from) (known a.to)
     × Derives (labelled c a.to) s b (known a.from) (known a.to)
-    × ((vs : Row Operand) × Steps c.types (known a.from ▹ Known I32) (known a.to) ts vs × Derives c s k vs us))
+    × ((vs : Row Operand) × HasType c.types (known a.from ▹ Known I32) (known a.to) ts vs × Derives c s k vs us))
 Derives c s (IfElse x b d k) ts us = Holds (arrow_of c x) (λ (a : Arrow).
     Derives (labelled c a.to) s b (known a.from) (known a.to)
     × Derives (labelled c a.to) s d (known a.from) (known a.to)
-    × ((vs : Row Operand) × Steps c.types (known a.from ▹ Known I32) (known a.to) ts vs × Derives c s k vs us))
+    × ((vs : Row Operand) × HasType c.types (known a.from ▹ Known I32) (known a.to) ts vs × Derives c s k vs us))
 
 -- the locals that are set after a sequence; what a block sets is forgotten at its end
 abbrev pub set_by : Code → List Bool → List Bool

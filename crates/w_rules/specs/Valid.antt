@@ -49,7 +49,7 @@ pub data Item : Type 0 where
   FunctionItem : ℕ → Item
 
 -- type i: its indices are below the end of its group
-pub record TypeTyped (m : Module) (i : ℕ) : Type 0 where
+pub record TypeValid (m : Module) (i : ℕ) : Type 0 where
   pub type : CompType
   pub end : ℕ
   pub is : slice_get (with_ends 0 m.types) i ≡ Some (end, type)
@@ -92,69 +92,69 @@ IsExternValid m (imported.Tag t) = IsFunctionType m t.type_index
 -- ## Items
 
 -- import i: what it names is valid
-pub record ImportTyped (m : Module) (i : ℕ) : Type 0 where
+pub record ImportValid (m : Module) (i : ℕ) : Type 0 where
   pub value : Import
   pub is : slice_get m.imports i ≡ Some value
   pub valid : IsExternValid m value.kind
 
 -- what the elements of a table begin with: null where nothing is said
-abbrev pub IsInitTyped : Module → RefType → Option Code → Type 0
-IsInitTyped m r (Some k) = ConstTyped (context_of m) k (Ref r)
-IsInitTyped m r None = IsTrue r.nullable
+abbrev pub IsInitValid : Module → RefType → Option Code → Type 0
+IsInitValid m r (Some k) = ConstTyped (context_of m) k (Ref r)
+IsInitValid m r None = IsTrue r.nullable
 
 -- table i: its type is valid, and what its elements begin with is constant and of their type
-pub record TableTyped (m : Module) (i : ℕ) : Type 0 where
+pub record TableValid (m : Module) (i : ℕ) : Type 0 where
   pub table : Table
   pub is : slice_get m.tables i ≡ Some table
   pub valid : IsTableTypeValid m table.kind
-  pub init : IsInitTyped m table.kind.element table.init
+  pub init : IsInitValid m table.kind.element table.init
 
 -- memories: there is at most one with those imported, and its limits are valid
-pub record MemoryTyped (m : Module) : Type 0 where
+pub record MemoryValid (m : Module) : Type 0 where
   pub one : length (memories_of m) ≤ 1
   pub limits : All (AreLimitsValid most_pages) m.memories
 
 -- tag i: its index is that of a function type, which may have results
-pub record TagTyped (m : Module) (i : ℕ) : Type 0 where
+pub record TagValid (m : Module) (i : ℕ) : Type 0 where
   pub tag : Tag
   pub type : FuncType
   pub is : slice_get m.tags i ≡ Some tag
   pub has_type : func_type m tag.type_index ≡ Some type
 
 -- global i: its type is valid, and what it begins with is constant and of this type, by globals of lower index
-pub record GlobalTyped (m : Module) (i : ℕ) : Type 0 where
+pub record GlobalValid (m : Module) (i : ℕ) : Type 0 where
   pub global : GlobalVariable
   pub is : slice_get m.globals i ≡ Some global
   pub valid : IsValidType (length (types_of m.types)) global.kind.kind
   pub init : ConstTyped (context_below m i) global.init global.kind.kind
 
 -- an active segment's table is there, its type matches, and its offset is a constant i32
-abbrev pub IsElemModeTyped : Module → RefType → ElemMode → Type 0
-IsElemModeTyped m r (elements.Active x k) = Holds (slice_get (tables_of m) x) (λ (t : TableType). RefMatches m.types r t.element)
+abbrev pub IsElemModeValid : Module → RefType → ElemMode → Type 0
+IsElemModeValid m r (elements.Active x k) = Holds (slice_get (tables_of m) x) (λ (t : TableType). RefMatches m.types r t.element)
     × ConstTyped (context_of m) k I32
-IsElemModeTyped m r elements.Passive = Unit {0}
-IsElemModeTyped m r elements.Declarative = Unit {0}
+IsElemModeValid m r elements.Passive = Unit {0}
+IsElemModeValid m r elements.Declarative = Unit {0}
 
 -- element segment i: its type is valid, its items are constant and of this type, and where it is active it fits its table
-pub record ElementTyped (m : Module) (i : ℕ) : Type 0 where
+pub record ElementValid (m : Module) (i : ℕ) : Type 0 where
   pub element : Elem
   pub is : slice_get m.elements i ≡ Some element
   pub valid : IsValidHeap (length (types_of m.types)) element.kind.heap
-  pub mode : IsElemModeTyped m element.kind element.mode
+  pub mode : IsElemModeValid m element.kind element.mode
   pub items : All (λ (k : Code). ConstTyped (context_of m) k (Ref element.kind)) element.items
 
-abbrev pub IsDataModeTyped : Module → DataMode → Type 0
-IsDataModeTyped m (datas.Active x k) = (x < length (memories_of m)) × ConstTyped (context_of m) k I32
-IsDataModeTyped m datas.Passive = Unit {0}
+abbrev pub IsDataModeValid : Module → DataMode → Type 0
+IsDataModeValid m (datas.Active x k) = (x < length (memories_of m)) × ConstTyped (context_of m) k I32
+IsDataModeValid m datas.Passive = Unit {0}
 
 -- data segment i: where it is active its memory is there, and its offset is a constant i32
-pub record DataTyped (m : Module) (i : ℕ) : Type 0 where
+pub record DataValid (m : Module) (i : ℕ) : Type 0 where
   pub segment : Data
   pub is : slice_get m.datas i ≡ Some segment
-  pub mode : IsDataModeTyped m segment.mode
+  pub mode : IsDataModeValid m segment.mode
 
 -- the start: the function is there and of type [] to []
-pub record StartTyped (m : Module) : Type 0 where
+pub record StartValid (m : Module) : Type 0 where
   pub function : ℕ
   pub type : FuncType
   pub is : m.start ≡ Some function
@@ -175,7 +175,7 @@ abbrev pub name_of_export : Module → ℕ → Option (List ℕ)
 name_of_export m i = option_map (λ (e : Export). e.name) (slice_get m.exports i)
 
 -- export i: what it exports is there, and its name stands at no lower index
-pub record ExportTyped (m : Module) (i : ℕ) : Type 0 where
+pub record ExportValid (m : Module) (i : ℕ) : Type 0 where
   pub export : Export
   pub is : slice_get m.exports i ≡ Some export
   pub there : IsThere m export.index
@@ -183,7 +183,7 @@ pub record ExportTyped (m : Module) (i : ℕ) : Type 0 where
 
 -- function i of those that the module defines: it has a function type and valid locals, and its body takes no operands to the type's
 -- results
-pub record FunctionTyped (m : Module) (i : ℕ) : Type 0 where
+pub record FunctionValid (m : Module) (i : ℕ) : Type 0 where
   pub type : FuncType
   pub func : Func
   pub has_type : type_of_function m i ≡ Some type
@@ -192,18 +192,18 @@ pub record FunctionTyped (m : Module) (i : ℕ) : Type 0 where
   pub body : BodyTyped (context_of m) type.params func.locals type.results func.body
 
 -- a rule derives the item
-abbrev pub ItemTyped : Module → Item → Type 0
-ItemTyped m (TypeItem i) = TypeTyped m i
-ItemTyped m (ImportItem i) = ImportTyped m i
-ItemTyped m (TableItem i) = TableTyped m i
-ItemTyped m MemoryItem = MemoryTyped m
-ItemTyped m (TagItem i) = TagTyped m i
-ItemTyped m (GlobalItem i) = GlobalTyped m i
-ItemTyped m (ElementItem i) = ElementTyped m i
-ItemTyped m (DataItem i) = DataTyped m i
-ItemTyped m StartItem = StartTyped m
-ItemTyped m (ExportItem i) = ExportTyped m i
-ItemTyped m (FunctionItem i) = FunctionTyped m i
+abbrev pub ItemValid : Module → Item → Type 0
+ItemValid m (TypeItem i) = TypeValid m i
+ItemValid m (ImportItem i) = ImportValid m i
+ItemValid m (TableItem i) = TableValid m i
+ItemValid m MemoryItem = MemoryValid m
+ItemValid m (TagItem i) = TagValid m i
+ItemValid m (GlobalItem i) = GlobalValid m i
+ItemValid m (ElementItem i) = ElementValid m i
+ItemValid m (DataItem i) = DataValid m i
+ItemValid m StartItem = StartValid m
+ItemValid m (ExportItem i) = ExportValid m i
+ItemValid m (FunctionItem i) = FunctionValid m i
 
 -- the module has the item: a function has a type or code; the memories are an item of every module
 abbrev pub IsItem : Module → Item → Type 0
@@ -239,10 +239,10 @@ Before x y = ((place_of x).0 < (place_of y).0) ⊎ (((place_of x).0 ≡ (place_o
 
 -- each item of the module has a derivation
 abbrev pub Valid : Module → Type 0
-Valid m = (x : Item) → IsItem m x → ItemTyped m x
+Valid m = (x : Item) → IsItem m x → ItemValid m x
 
 -- the least item without one
 pub record IsInvalidAt (m : Module) (x : Item) : Type 0 where
   pub item : IsItem m x
-  pub untyped : ItemTyped m x → ⊥
-  pub least : (y : Item) → IsItem m y → Before y x → ItemTyped m y
+  pub invalid : ItemValid m x → ⊥
+  pub least : (y : Item) → IsItem m y → Before y x → ItemValid m y

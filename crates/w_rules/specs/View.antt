@@ -2,7 +2,7 @@
 use Rattle.std.specs.Prelude.{[], map, length}
 use Rattle.w_types.specs.Rows.{ε}
 use Rattle.w_syntax.specs.declared.module.Elem.{Elem}
-use Rattle.w_canon.specs.Stands.{Stands}
+use Rattle.w_canon.specs.IsClassesOf.{IsClassesOf}
 use Rattle.w_rules.specs.declared.context.Context as rt
 use Rattle.w_rules.specs.Context.{Context}
 
@@ -16,7 +16,7 @@ context_in cx = record {
   globals = cx.globals.now;
   tags = cx.tags.now;
   elements = map (λ (e : Elem). e.kind) cx.owner.now.elements;
-  segments = length cx.owner.now.datas;
+  datas = length cx.owner.now.datas;
   declared = cx.declared.now;
   locals = [];
   results = ε;
@@ -25,4 +25,4 @@ context_in cx = record {
 
 -- the classes are those of the context's types
 abbrev pub HasClasses : rt.Context → Type 0
-HasClasses cx = Stands cx.owner.now.types cx.classes.now
+HasClasses cx = IsClassesOf cx.owner.now.types cx.classes.now

@@ -30,15 +30,15 @@ impl Model for Checked {
 }
 
 impl Checked {
-    ghost use Rattle.std.specs.Prelude.{◌≡◌, false, Some, slice_index_or};
+    ghost use Rattle.std.specs.Prelude.{◌≡◌, ◌↔◌, IsTrue, false, Some, None, slice_index_or};
     ghost use Rattle.w_types.specs.declared.types.FuncType.{FuncType};
     ghost use Rattle.w_syntax.specs.Functions.{type_of_function, code_of_function};
     ghost use Rattle.w_syntax.specs.declared.module.Func.{Func};
-    ghost use Rattle.w_canon.specs.Stands.{Stands};
+    ghost use Rattle.w_canon.specs.IsClassesOf.{IsClassesOf};
     ghost use Rattle.w_rules.specs.Facts.{AreFacts, height_of};
     ghost use Rattle.w_rules.specs.Limits.{Within};
     ghost use Rattle.w_rules.specs.Peak.{depth};
-    ghost use Rattle.w_rules.specs.Spaces.{declared_of};
+    ghost use Rattle.w_rules.specs.Spaces.{IsDeclared, declared_of};
     ghost use Rattle.w_rules.specs.Valid.{Valid};
 
     /// Keeps a module that is valid and within its limits, with what the check of it found out.
@@ -66,7 +66,9 @@ impl Checked {
     /// The greatest number of operands at a counted place of the body of this function, of those that the module defines; 0 where
     /// there is none.
     pub fn height(&self, function: u32) -> u64
-        ensures { (t : FuncType) (f : Func) → type_of_function self.now function ≡ Some t → code_of_function self.now function ≡ Some f → result ≡ height_of self.now t f }
+        ensures there { (t : FuncType) (f : Func) → type_of_function self.now function ≡ Some t
+            → code_of_function self.now function ≡ Some f → result ≡ height_of self.now t f }
+        ensures none { code_of_function self.now function ≡ None → result ≡ 0 }
     {
         match self.facts.heights.get(function as usize) {
             Some(height) => *height,
@@ -77,7 +79,9 @@ impl Checked {
     /// One plus the greatest number of blocks around a place of the body of this function, of those that the module defines; 0 where
     /// there is none.
     pub fn depth(&self, function: u32) -> u32
-        ensures { (t : FuncType) (f : Func) → type_of_function self.now function ≡ Some t → code_of_function self.now function ≡ Some f → result ≡ depth f.body }
+        ensures there { (t : FuncType) (f : Func) → type_of_function self.now function ≡ Some t
+            → code_of_function self.now function ≡ Some f → result ≡ depth f.body }
+        ensures none { code_of_function self.now function ≡ None → result ≡ 0 }
     {
         match self.facts.depths.get(function as usize) {
             Some(depth) => *depth,
@@ -87,7 +91,8 @@ impl Checked {
 
     /// Whether `ref.func` may name the function of this index. Imported functions stand in front.
     pub fn declared(&self, function: u32) -> bool
-        ensures { result ≡ slice_index_or (declared_of self.now) function false }
+        ensures flag { result ≡ slice_index_or (declared_of self.now) function false }
+        ensures declared { IsTrue result ↔ IsDeclared self.now function }
     {
         match self.facts.declared.get(function as usize) {
             Some(declared) => *declared,
@@ -97,7 +102,7 @@ impl Checked {
 
     /// The classes of the module's types.
     pub fn classes(&self) -> &Classes
-        ensures { Stands self.now.types result.now }
+        ensures { IsClassesOf self.now.types result.now }
     {
         &self.facts.classes
     }

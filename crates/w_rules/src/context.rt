@@ -2,11 +2,12 @@
 ghost use Rattle.std.specs.Prelude.{◌≡◌, nat_lt, slice_get};
 ghost use Rattle.std.specs.Option.{option_copied};
 ghost use Rattle.w_rules.specs.Context.{func_of, func_index_of_cont, cont_of, type_of_func, type_of_tag, type_count};
-ghost use Rattle.w_rules.specs.Lines.{has_memory};
+ghost use Rattle.w_rules.specs.InstructionTypes.{has_memory};
 ghost use Rattle.w_rules.specs.Types.{has_heap, has_type};
 ghost use Rattle.w_rules.specs.View.{context_in};
 
 use crate::functions::func_type;
+use crate::types;
 use w_canon::Classes;
 use w_syntax::{GlobalType, Limits, Module, TableType, Tag};
 use w_types::{CompType, FuncType, HeapType, RefType, ValType};
@@ -115,36 +116,23 @@ impl<'a> Context<'a> {
     }
 
     /// Whether there is a data segment of this index.
-    pub fn has_segment(&self, index: u32) -> bool
-        ensures { result ≡ nat_lt index (context_in self.now).segments }
+    pub fn has_data(&self, index: u32) -> bool
+        ensures { result ≡ nat_lt index (context_in self.now).datas }
     {
         (index as usize) < self.owner.datas.len()
-    }
-
-    /// Whether `ref.func` may name the function of this index, where there is one.
-    pub fn is_declared(&self, index: u32) -> Option<bool>
-        ensures { result ≡ slice_get (context_in self.now).declared index }
-    {
-        self.declared.get(index as usize).copied()
     }
 
     /// Whether the types that a heap type names are there (Core, validation, heap types).
     pub fn has_heap(&self, kind: HeapType) -> bool
         ensures { result ≡ has_heap (type_count (context_in self.now)) kind }
     {
-        match kind {
-            HeapType::Index(index) => (index as usize) < self.owner.types.type_count(),
-            HeapType::Func | HeapType::NoFunc | HeapType::Cont | HeapType::NoCont => true,
-        }
+        types::has_heap(self.owner.types.type_count(), kind)
     }
 
     /// Whether the types that a value type names are there (Core, validation, value types).
     pub fn has_type(&self, kind: ValType) -> bool
         ensures { result ≡ has_type (type_count (context_in self.now)) kind }
     {
-        match kind {
-            ValType::I32 | ValType::I64 => true,
-            ValType::Ref(kind) => self.has_heap(kind.heap),
-        }
+        types::has_type(self.owner.types.type_count(), kind)
     }
 }

@@ -3,7 +3,7 @@
 use w_canon::Classes;
 
 /// What a check of a module finds out about it, and what its runs need.
-#[derive(Debug, Drop)]
+#[derive(Drop)]
 pub struct Facts {
     /// Of each function that the module defines, the greatest number of operands at a counted place of its body.
     pub heights: Vec<u64>,

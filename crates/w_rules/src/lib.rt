@@ -10,15 +10,15 @@ mod limits;
 mod named_functions;
 mod operand;
 mod spaces;
-#[cfg(test)]
-mod tests;
+mod types;
 
 pub use checked::Checked;
 pub use context::Context;
 pub use facts::Facts;
 pub use functions::{func_type, function_type};
-pub use laws::one_typing;
-pub use limits::{LimitName, limits_of};
+pub use laws::{joining_keeps_types, one_typing};
+pub use limits::{SizeLimit, limits_of};
 pub use named_functions::declared_functions;
 pub use operand::Operand;
 pub use spaces::Spaces;
+pub use types::{has_heap, has_type};

@@ -3,30 +3,28 @@ ghost use Rattle.std.specs.Prelude.{◌≡◌, ◌+◌, ◌≤◌, ◌<◌, ◌�
 ghost use Rattle.w_types.specs.Groups.{types_of};
 ghost use Rattle.w_syntax.specs.Functions.{type_of_function};
 ghost use Rattle.w_syntax.specs.Locals.{total};
-ghost use Rattle.w_rules.specs.Limits.{params_in, locals_of, IsNarrow, Keeps, Within, Passes};
+ghost use Rattle.w_rules.specs.Limits.{params_in, locals_of, most_locals, IsNarrow, Keeps, Within, Passes};
 
 use crate::functions::function_type;
 use w_syntax::{LocalRun, Module};
 use w_types::{CompType, RecGroup};
 
-/// A counted quantity with a limit.
+/// A quantity of a module that has a limit.
 #[derive(Clone, Copy, Debug, PartialEq, Eq)]
-pub enum LimitName {
+pub enum SizeLimit {
     /// Types of a module: 10,000.
     Types,
     /// Parameters, and results, of one function type: 1,000.
     Params,
     /// Locals of one function, its parameters among them: 50,000.
     Locals,
-    /// Frames of a run: 20,000.
-    Frames,
 }
 
-const TYPES_LIMIT: usize = 10_000;
+const MOST_TYPES: usize = 10_000;
 
-const PARAMS_LIMIT: usize = 1_000;
+const MOST_PARAMS: usize = 1_000;
 
-const LOCALS_LIMIT: usize = 50_000;
+const MOST_LOCALS: usize = 50_000;
 
 // Whether a type has at most so many parameters and results.
 fn is_narrow(kind: &CompType) -> bool
@@ -34,7 +32,7 @@ fn is_narrow(kind: &CompType) -> bool
 {
     match kind {
         CompType::Func(kind) => {
-            kind.params.len() <= PARAMS_LIMIT && kind.results.len() <= PARAMS_LIMIT
+            kind.params.len() <= MOST_PARAMS && kind.results.len() <= MOST_PARAMS
         }
         CompType::Cont(_) => true,
     }
@@ -55,7 +53,7 @@ fn are_narrow(groups: &[RecGroup]) -> bool
 }
 
 // Whether the runs have at most so many locals. The sum is never formed, since it may be large.
-fn is_room(room: usize, runs: &[LocalRun]) -> bool
+fn fits_within(room: usize, runs: &[LocalRun]) -> bool
     ensures { IsTrue result ↔ (total runs.now ≤ room) }
 {
     let mut left = room;
@@ -82,16 +80,16 @@ fn params_of(candidate: &Module, index: usize) -> usize
 // Whether the function of this index keeps the limit on locals.
 fn keeps_locals(candidate: &Module, index: usize) -> bool
     requires { index < length candidate.now.codes }
-    ensures { IsTrue result ↔ (locals_of candidate.now index ≤ 50000) }
+    ensures { IsTrue result ↔ (locals_of candidate.now index ≤ most_locals) }
 {
     let params = params_of(candidate, index);
     let code = &candidate.codes.as_slice()[index];
-    params <= LOCALS_LIMIT && is_room(LOCALS_LIMIT - params, code.locals.as_slice())
+    params <= MOST_LOCALS && fits_within(MOST_LOCALS - params, code.locals.as_slice())
 }
 
 // Whether each function keeps the limit on locals.
 fn all_keep_locals(candidate: &Module) -> bool
-    ensures { IsTrue result ↔ Keeps candidate.now LimitName.Locals }
+    ensures { IsTrue result ↔ Keeps candidate.now SizeLimit.Locals }
 {
     for index in 0..candidate.codes.len() {
         if !keeps_locals(candidate, index) {
@@ -102,18 +100,18 @@ fn all_keep_locals(candidate: &Module) -> bool
 }
 
 /// The first limit that a module passes, in the order types, parameters, locals. `None` where it keeps all of them.
-pub fn limits_of(candidate: &Module) -> Option<LimitName>
+pub fn limits_of(candidate: &Module) -> Option<SizeLimit>
     ensures none { IfNone result (Within candidate.now) }
     ensures some { IfSome result (λ name. Passes candidate.now name) }
 {
-    if candidate.types.type_count() > TYPES_LIMIT {
-        return Some(LimitName::Types);
+    if candidate.types.type_count() > MOST_TYPES {
+        return Some(SizeLimit::Types);
     }
     if !are_narrow(candidate.types.as_slice()) {
-        return Some(LimitName::Params);
+        return Some(SizeLimit::Params);
     }
     if !all_keep_locals(candidate) {
-        return Some(LimitName::Locals);
+        return Some(SizeLimit::Locals);
     }
     None
 }

@@ -53,7 +53,8 @@ fn mark_export(declared: &mut [bool], export: &Export)
 
 // Marks the functions that are exported.
 fn mark_exports(declared: &mut [bool], exports: &[Export])
-    ensures { declared.new ≡ marked declared.old (flat_map (λ (e : Export). exported e.index) exports.now) }
+    ensures { declared.new ≡ marked declared.old (flat_map
+        (λ (e : Export). exported e.index) exports.now) }
 {
     for export in exports {
         mark_export(declared, export);
@@ -71,7 +72,8 @@ fn mark_bodies(declared: &mut [bool], bodies: &[Body])
 
 // Marks the functions that the items of elements name.
 fn mark_elements(declared: &mut [bool], elements: &[Elem])
-    ensures { declared.new ≡ marked declared.old (flat_map (λ (e : Elem). flat_map named_in e.items) elements.now) }
+    ensures { declared.new ≡ marked declared.old (flat_map
+        (λ (e : Elem). flat_map named_in e.items) elements.now) }
 {
     for element in elements {
         mark_bodies(declared, element.items.as_slice());
@@ -80,7 +82,8 @@ fn mark_elements(declared: &mut [bool], elements: &[Elem])
 
 // Marks the functions that what globals begin with names.
 fn mark_globals(declared: &mut [bool], globals: &[GlobalVariable])
-    ensures { declared.new ≡ marked declared.old (flat_map (λ (g : GlobalVariable). named_in g.init) globals.now) }
+    ensures { declared.new ≡ marked declared.old (flat_map
+        (λ (g : GlobalVariable). named_in g.init) globals.now) }
 {
     for global in globals {
         mark_body(declared, &global.init);
@@ -98,7 +101,8 @@ fn mark_table(declared: &mut [bool], table: &Table)
 
 // Marks the functions that what tables begin with names.
 fn mark_tables(declared: &mut [bool], tables: &[Table])
-    ensures { declared.new ≡ marked declared.old (flat_map (λ (t : Table). named_in_some t.init) tables.now) }
+    ensures { declared.new ≡ marked declared.old (flat_map
+        (λ (t : Table). named_in_some t.init) tables.now) }
 {
     for table in tables {
         mark_table(declared, table);
@@ -116,7 +120,7 @@ fn mark_named(declared: &mut [bool], owner: &Module)
 }
 
 /// Of each of so many functions, whether `ref.func` may name it: those that are exported, and those that elements and the
-/// expressions of globals and tables name (Core, validation, modules). It fails only for want of memory.
+/// expressions of globals and tables name (Core, validation, modules). It fails only when out of memory.
 pub fn declared_functions(
     alloc: Global,
     owner: &Module,

@@ -1,9 +1,9 @@
 //! The index spaces of a module.
-ghost use Rattle.std.specs.Prelude.{◌≡◌, ◌++◌, IfOk, OnOk, length, map, flat_map};
+ghost use Rattle.std.specs.Prelude.{◌≡◌, ◌++◌, IfOk, OnOk, map, flat_map};
 ghost use Rattle.w_syntax.specs.declared.module.GlobalVariable.{GlobalVariable};
 ghost use Rattle.w_syntax.specs.declared.module.Import.{Import};
 ghost use Rattle.w_syntax.specs.declared.module.Table.{Table};
-ghost use Rattle.w_rules.specs.Spaces.{as_function, as_table, as_memory, as_global, as_tag, imports_by, functions_of, tables_of, memories_of, globals_of, tags_of};
+ghost use Rattle.w_rules.specs.Spaces.{as_function, as_table, as_memory, as_global, as_tag, functions_of, tables_of, memories_of, globals_of, tags_of};
 
 use std::alloc::{AllocError, Global};
 use w_syntax::{
@@ -12,7 +12,7 @@ use w_syntax::{
 
 /// What instructions name by an index, of each kind: what is imported, and behind it what the module defines (Core, modules,
 /// indices).
-#[derive(Debug, Drop)]
+#[derive(Drop)]
 pub struct Spaces {
     /// The index of each function's type.
     pub functions: Vec<u32>,
@@ -20,13 +20,12 @@ pub struct Spaces {
     pub memories: Vec<Limits>,
     pub globals: Vec<GlobalType>,
     pub tags: Vec<Tag>,
-    /// How many of the globals are imported.
-    pub imported_globals: usize,
 }
 
 // Adds the types of these tables.
 fn push_tables(tables: &mut Vec<TableType>, own: &[Table]) -> Result<(), AllocError>
-    ensures { OnOk result (tables.new.items ≡ tables.old.items ++ map (λ (t : Table). t.kind) own.now) }
+    ensures { OnOk result (tables.new.items
+        ≡ tables.old.items ++ map (λ (t : Table). t.kind) own.now) }
 {
     for table in own {
         tables.push(table.kind)?;
@@ -36,7 +35,8 @@ fn push_tables(tables: &mut Vec<TableType>, own: &[Table]) -> Result<(), AllocEr
 
 // Adds the types of these globals.
 fn push_globals(globals: &mut Vec<GlobalType>, own: &[GlobalVariable]) -> Result<(), AllocError>
-    ensures { OnOk result (globals.new.items ≡ globals.old.items ++ map (λ (g : GlobalVariable). g.kind) own.now) }
+    ensures { OnOk result (globals.new.items
+        ≡ globals.old.items ++ map (λ (g : GlobalVariable). g.kind) own.now) }
 {
     for global in own {
         globals.push(global.kind)?;
@@ -47,10 +47,14 @@ fn push_globals(globals: &mut Vec<GlobalType>, own: &[GlobalVariable]) -> Result
 impl Spaces {
     // Adds what is imported.
     fn push(&mut self, kind: ExternType) -> Result<(), AllocError>
-        ensures functions { OnOk result (self.new.functions.items ≡ self.old.functions.items ++ as_function kind) }
-        ensures tables { OnOk result (self.new.tables.items ≡ self.old.tables.items ++ as_table kind) }
-        ensures memories { OnOk result (self.new.memories.items ≡ self.old.memories.items ++ as_memory kind) }
-        ensures globals { OnOk result (self.new.globals.items ≡ self.old.globals.items ++ as_global kind) }
+        ensures functions { OnOk result (self.new.functions.items
+            ≡ self.old.functions.items ++ as_function kind) }
+        ensures tables { OnOk result (self.new.tables.items
+            ≡ self.old.tables.items ++ as_table kind) }
+        ensures memories { OnOk result (self.new.memories.items
+            ≡ self.old.memories.items ++ as_memory kind) }
+        ensures globals { OnOk result (self.new.globals.items
+            ≡ self.old.globals.items ++ as_global kind) }
         ensures tags { OnOk result (self.new.tags.items ≡ self.old.tags.items ++ as_tag kind) }
     {
         match kind {
@@ -65,11 +69,16 @@ impl Spaces {
 
     // What is imported.
     fn of_imports(alloc: Global, imports: &[Import]) -> Result<Spaces, AllocError>
-        ensures functions { IfOk result (λ s. s.functions.items ≡ flat_map (λ (i : Import). as_function i.kind) imports.now) }
-        ensures tables { IfOk result (λ s. s.tables.items ≡ flat_map (λ (i : Import). as_table i.kind) imports.now) }
-        ensures memories { IfOk result (λ s. s.memories.items ≡ flat_map (λ (i : Import). as_memory i.kind) imports.now) }
-        ensures globals { IfOk result (λ s. s.globals.items ≡ flat_map (λ (i : Import). as_global i.kind) imports.now) }
-        ensures tags { IfOk result (λ s. s.tags.items ≡ flat_map (λ (i : Import). as_tag i.kind) imports.now) }
+        ensures functions { IfOk result (λ s. s.functions.items
+            ≡ flat_map (λ (i : Import). as_function i.kind) imports.now) }
+        ensures tables { IfOk result (λ s. s.tables.items
+            ≡ flat_map (λ (i : Import). as_table i.kind) imports.now) }
+        ensures memories { IfOk result (λ s. s.memories.items
+            ≡ flat_map (λ (i : Import). as_memory i.kind) imports.now) }
+        ensures globals { IfOk result (λ s. s.globals.items
+            ≡ flat_map (λ (i : Import). as_global i.kind) imports.now) }
+        ensures tags { IfOk result (λ s. s.tags.items
+            ≡ flat_map (λ (i : Import). as_tag i.kind) imports.now) }
     {
         let mut spaces = Spaces {
             functions: Vec::new(alloc),
@@ -77,7 +86,6 @@ impl Spaces {
             memories: Vec::new(alloc),
             globals: Vec::new(alloc),
             tags: Vec::new(alloc),
-            imported_globals: 0,
         };
         for import in imports {
             spaces.push(import.kind)?;
@@ -85,17 +93,15 @@ impl Spaces {
         Ok(spaces)
     }
 
-    /// The index spaces of a module. It fails only for want of memory.
+    /// The index spaces of a module. It fails only when out of memory.
     pub fn of_module(alloc: Global, owner: &Module) -> Result<Spaces, AllocError>
         ensures functions { IfOk result (λ s. s.functions.items ≡ functions_of owner.now) }
         ensures tables { IfOk result (λ s. s.tables.items ≡ tables_of owner.now) }
         ensures memories { IfOk result (λ s. s.memories.items ≡ memories_of owner.now) }
         ensures globals { IfOk result (λ s. s.globals.items ≡ globals_of owner.now) }
         ensures tags { IfOk result (λ s. s.tags.items ≡ tags_of owner.now) }
-        ensures imported_globals { IfOk result (λ s. s.imported_globals ≡ length (imports_by as_global owner.now)) }
     {
         let mut spaces = Spaces::of_imports(alloc, owner.imports.as_slice())?;
-        spaces.imported_globals = spaces.globals.len();
         spaces
             .functions
             .extend_from_slice(owner.functions.as_slice())?;

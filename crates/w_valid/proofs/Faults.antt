@@ -1,8 +1,8 @@
 -- A module has one fault at most.
 use Rattle.std.proofs.Common.{◌≡◌, inl, inr, Ok, Err, refl, ap}
 use Rattle.w_syntax.specs.declared.module.Module.{Module}
-use Rattle.w_rules.specs.declared.limits.LimitName.{LimitName}
-use Rattle.w_rules.specs.declared.limits.LimitName.TheVariants.{Types, Params, Locals, Frames}
+use Rattle.w_rules.specs.declared.limits.SizeLimit.{SizeLimit}
+use Rattle.w_rules.specs.declared.limits.SizeLimit.TheVariants.{Types, Params, Locals}
 use Rattle.w_rules.specs.Limits.{Within, Passes}
 use Rattle.w_rules.specs.Valid.{
   Item,
@@ -28,13 +28,12 @@ use Rattle.w_valid.proofs.Items.{same_item}
 
 -- ## Limits
 
-pub not_within : (m : Module) (name : LimitName) → Within m → Passes m name → ⊥
+pub not_within : (m : Module) (name : SizeLimit) → Within m → Passes m name → ⊥
 not_within m Types w p = p w.types
 not_within m Params w p = p.1 w.params
 not_within m Locals w p = p.2 w.locals
-not_within m Frames w p = p
 
-one_limit : (m : Module) (a b : LimitName) → Passes m a → Passes m b → a ≡ b
+one_limit : (m : Module) (a b : SizeLimit) → Passes m a → Passes m b → a ≡ b
 one_limit m Types Types p q = refl
 one_limit m Types Params p q = absurd (p q.0)
 one_limit m Types Locals p q = absurd (p q.0)
@@ -44,25 +43,23 @@ one_limit m Params Locals p q = absurd (p.1 q.1)
 one_limit m Locals Types p q = absurd (q p.0)
 one_limit m Locals Params p q = absurd (q.1 p.1)
 one_limit m Locals Locals p q = refl
-one_limit m Frames b p q = absurd p
-one_limit m a Frames p q = absurd q
 
 -- ## Items
 
 pub not_valid : (m : Module) (x : Item) → Valid m → IsInvalidAt m x → ⊥
-not_valid m x v i = i.untyped (v x i.item)
+not_valid m x v i = i.invalid (v x i.item)
 
 not_before : (m : Module) (x y : Item) → IsInvalidAt m x → IsInvalidAt m y → Before x y → ⊥
-not_before m x y p q before = p.untyped (q.least x p.item before)
+not_before m x y p q before = p.invalid (q.least x p.item before)
 
 one_item : (m : Module) (x y : Item) → IsInvalidAt m x → IsInvalidAt m y → x ≡ y
 one_item m x y p q = same_item x y (not_before m x y p q) (not_before m y x q p)
 
 -- ## Faults
 
--- what a fault names: a limit that is passed, the least item without a derivation, or want of memory
+-- what a fault names: a limit that is passed, the least item without a derivation, or out of memory
 data Named (m : Module) : ValidFault → Type 0 where
-  limit : (name : LimitName) → Passes m name → Named m (fault.Limit name)
+  limit : (name : SizeLimit) → Passes m name → Named m (fault.Limit name)
   item : (x : Item) → IsRefusedAt m x → Named m (fault_of x)
   memory : Named m fault.OutOfMemory
 
@@ -91,12 +88,12 @@ ok_named w v memory = inr refl
 pub only_ok : (m : Module) (g : ValidFault) → Within m → Valid m → IsFaultOf m g → IsAnswer (Ok m) (Err g)
 only_ok m g w v f = ok_named w v (named m g f)
 
-limit_named : {m : Module} {g : ValidFault} (name : LimitName) → Passes m name → Named m g → IsAnswer (Err (fault.Limit name)) (Err g)
-limit_named {m} name p (limit other q) = inl (ap (λ (n : LimitName). Err (fault.Limit n)) (one_limit m other name q p))
+limit_named : {m : Module} {g : ValidFault} (name : SizeLimit) → Passes m name → Named m g → IsAnswer (Err (fault.Limit name)) (Err g)
+limit_named {m} name p (limit other q) = inl (ap (λ (n : SizeLimit). Err (fault.Limit n)) (one_limit m other name q p))
 limit_named {m} name p (item x q) = absurd (not_within m name q.0 p)
 limit_named name p memory = inr refl
 
-pub only_limit : (m : Module) (g : ValidFault) (name : LimitName) → Passes m name → IsFaultOf m g → IsAnswer (Err (fault.Limit name)) (Err g)
+pub only_limit : (m : Module) (g : ValidFault) (name : SizeLimit) → Passes m name → IsFaultOf m g → IsAnswer (Err (fault.Limit name)) (Err g)
 only_limit m g name p f = limit_named name p (named m g f)
 
 item_named : {m : Module} {g : ValidFault} (x : Item) → Within m → IsInvalidAt m x → Named m g → IsAnswer (Err (fault_of x)) (Err g)

@@ -8,7 +8,7 @@ use Rattle.w_syntax.specs.declared.module.Module.{Module}
 use Rattle.w_syntax.specs.Functions.{type_of_function, code_of_function}
 use Rattle.w_rules.specs.Facts.{height_of}
 use Rattle.w_rules.specs.Peak.{depth}
-use Rattle.w_rules.specs.Valid.{FunctionTyped}
+use Rattle.w_rules.specs.Valid.{FunctionValid}
 use Rattle.w_valid.specs.Measured.{IsMeasureOf, AreMeasuresBelow, AreMeasures}
 
 -- ## One item more at the end of a list
@@ -54,12 +54,12 @@ one_measured m n h d hs ds gs es p q below here = record {
 }
 
 -- where each function is typed, each has code
-all_have_code : (m : Module) (n : ℕ) → length m.codes ≤ n → ((j : ℕ) → j < n → FunctionTyped m j) → n ≡ length m.codes
+all_have_code : (m : Module) (n : ℕ) → length m.codes ≤ n → ((j : ℕ) → j < n → FunctionValid m j) → n ≡ length m.codes
 all_have_code m n le typed = elim (cases_lt (length m.codes) n) [
   | inl h ↦ let f = typed (length m.codes) h in absurd (omega (arith, slice_get_within m.codes (length m.codes) f.func f.has_code))
   | inr h ↦ omega arith
 ]
 
 -- these are all
-pub all_measured : (m : Module) (n : ℕ) (hs ds : List ℕ) → length m.codes ≤ n → ((j : ℕ) → j < n → FunctionTyped m j) → AreMeasuresBelow m n hs ds → AreMeasures m hs ds
+pub all_measured : (m : Module) (n : ℕ) (hs ds : List ℕ) → length m.codes ≤ n → ((j : ℕ) → j < n → FunctionValid m j) → AreMeasuresBelow m n hs ds → AreMeasures m hs ds
 all_measured m n hs ds le typed h = let P : ℕ → Type 0 = λ k. AreMeasuresBelow m k hs ds in subst P (all_have_code m n le typed) h

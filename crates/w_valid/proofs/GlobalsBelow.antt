@@ -11,7 +11,7 @@ use Rattle.w_rules.specs.Bodies.{ConstTyped}
 use Rattle.w_rules.specs.Context.{Context}
 use Rattle.w_rules.specs.Spaces.{as_global, imports_by, globals_of, globals_below, context_of, context_below}
 use Rattle.w_rules.specs.Types.{IsValidType}
-use Rattle.w_rules.specs.Valid.{GlobalTyped}
+use Rattle.w_rules.specs.Valid.{GlobalValid}
 
 length-kinds : (gs : List GlobalVariable) → length (map (λ (g : GlobalVariable). g.kind) gs) ≡ length gs
 length-kinds gs = simp length-map
@@ -38,7 +38,7 @@ cut_below m c i n e f =
 
 -- of a global whose type is valid, what it begins with decides
 pub decided : (m : Module) (i : ℕ) (g : GlobalVariable) → slice_get m.globals i ≡ Some g → IsValidType (length (types_of m.types)) g.kind.kind
-    → (c : Context) → c ≡ context_below m i → ConstTyped c g.init g.kind.kind ↔ GlobalTyped m i
+    → (c : Context) → c ≡ context_below m i → ConstTyped c g.init g.kind.kind ↔ GlobalValid m i
 decided m i g is valid c e = (
   λ t. record { global = g; is = is; valid = valid; init = subst (λ (d : Context). ConstTyped d g.init g.kind.kind) e t },
   λ t.

@@ -10,7 +10,7 @@ use Rattle.std.proofs.lemmas.Map.Text.{is_eq-slice_cmp}
 use Rattle.std.proofs.lemmas.Slice.Eq.{bytes_eq-Decides}
 use Rattle.w_syntax.specs.declared.module.Export.{Export}
 use Rattle.w_syntax.specs.declared.module.Module.{Module}
-use Rattle.w_rules.specs.Valid.{name_of_export, IsThere, ExportTyped}
+use Rattle.w_rules.specs.Valid.{name_of_export, IsThere, ExportValid}
 
 -- whether the set has the name
 abbrev pub has : BTreeSet (Bor (List ℕ)) → List ℕ → Bool
@@ -61,7 +61,7 @@ pub name_at : (m : Module) (i : ℕ) (e : Export) → slice_get m.exports i ≡ 
 name_at m i e is = subst (λ (o : Option Export). option_map (λ (x : Export). x.name) o ≡ Some e.name) (sym is) refl
 
 pub typed : (m : Module) (i : ℕ) (e : Export) (test : List ℕ → Bool) → slice_get m.exports i ≡ Some e → IsThere m e.index
-    → HasNames m i test → test e.name ≡ false → ExportTyped m i
+    → HasNames m i test → test e.name ≡ false → ExportValid m i
 typed m i e test is there h free = record {
   export = e;
   is = is;
@@ -69,13 +69,13 @@ typed m i e test is there h free = record {
   alone = λ j lt same. let taken = h.all j lt e.name same in absurd (cc);
 }
 
-same_export : (m : Module) (i : ℕ) (e : Export) → slice_get m.exports i ≡ Some e → (t : ExportTyped m i) → e ≡ t.export
+same_export : (m : Module) (i : ℕ) (e : Export) → slice_get m.exports i ≡ Some e → (t : ExportValid m i) → e ≡ t.export
 same_export m i e is t = let f = t.is in cc
 
-pub not_there : (m : Module) (i : ℕ) (e : Export) → slice_get m.exports i ≡ Some e → (IsThere m e.index → ⊥) → ExportTyped m i → ⊥
+pub not_there : (m : Module) (i : ℕ) (e : Export) → slice_get m.exports i ≡ Some e → (IsThere m e.index → ⊥) → ExportValid m i → ⊥
 not_there m i e is out t = out (subst (λ (x : Export). IsThere m x.index) (sym (same_export m i e is t)) t.there)
 
-pub not_alone : (m : Module) (i : ℕ) (e : Export) (test : List ℕ → Bool) → slice_get m.exports i ≡ Some e → HasNames m i test → test e.name ≡ true → ExportTyped m i → ⊥
+pub not_alone : (m : Module) (i : ℕ) (e : Export) (test : List ℕ → Bool) → slice_get m.exports i ≡ Some e → HasNames m i test → test e.name ≡ true → ExportValid m i → ⊥
 not_alone m i e test is h taken t =
     let p = h.only e.name taken in
     t.alone p.0 p.1 (p.2 ∙ ap (λ (x : Export). Some x.name) (same_export m i e is t))

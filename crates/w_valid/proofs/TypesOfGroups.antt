@@ -10,7 +10,7 @@ use Rattle.w_types.specs.declared.types.RecGroup.{RecGroup}
 use Rattle.w_types.specs.Groups.{types_of}
 use Rattle.w_syntax.specs.declared.module.Module.{Module}
 use Rattle.w_rules.specs.Types.{IsValidCompType, with_ends}
-use Rattle.w_rules.specs.Valid.{TypeTyped}
+use Rattle.w_rules.specs.Valid.{TypeValid}
 use Rattle.w_valid.specs.Firsts.{IsFirstFailing}
 
 abbrev IsValidOf : Module → ℕ × CompType → Type 0
@@ -96,7 +96,7 @@ within_count gs start g rest l = omega (arith, (fewer_left gs start g rest l).co
 
 -- ## What is found of a group
 
-same_type : (m : Module) (i end : ℕ) (t : CompType) → slice_get (with_ends 0 m.types) i ≡ Some (end, t) → TypeTyped m i → IsValidCompType (types_of m.types) end t
+same_type : (m : Module) (i end : ℕ) (t : CompType) → slice_get (with_ends 0 m.types) i ≡ Some (end, t) → TypeValid m i → IsValidCompType (types_of m.types) end t
 same_type m i end t is h =
     let same : ◌≡◌ {A = ℕ × CompType} (h.end, h.type) (end, t) = let f = h.is in cc in
     subst (IsValidOf m) same h.valid
@@ -105,7 +105,7 @@ abbrev pub IsFailing : Module → ℕ → List CompType → Option ℕ → Type 
 IsFailing m end ts o = IsFirstFailing (IsValidCompType (types_of m.types) end) ts o
 
 -- a type at a position of the first group that is left, which is not valid
-pub not_typed : (m : Module) (start k : ℕ) (g : RecGroup) (rest : List RecGroup) → Left m.types start (g ∷ rest) → IsFailing m (start + length g.types) g.types (Some k) → TypeTyped m (start + k) → ⊥
+pub not_typed : (m : Module) (start k : ℕ) (g : RecGroup) (rest : List RecGroup) → Left m.types start (g ∷ rest) → IsFailing m (start + length g.types) g.types (Some k) → TypeValid m (start + k) → ⊥
 not_typed m start k g rest l f h = f.2 (same_type m (start + k) (start + length g.types) f.0 (at_position m.types start g rest k f.0 l f.1) h)
 
 -- an index among the first items of a group
@@ -141,7 +141,7 @@ length-ends start (g ∷ gs) =
     omega (arith, length-append (paired (start + length g.types) g.types) (with_ends (start + length g.types) gs), length-append g.types (types_of gs), length-paired (start + length g.types) g.types, length-ends (start + length g.types) gs)
 
 -- a type below a bound of valid ones is typed
-pub typed_below : (m : Module) (n : ℕ) → ValidBelow m n → (j : ℕ) → j < n → j < length (types_of m.types) → TypeTyped m j
+pub typed_below : (m : Module) (n : ℕ) → ValidBelow m n → (j : ℕ) → j < n → j < length (types_of m.types) → TypeValid m j
 typed_below m n below j lt item =
     let l = with_ends 0 m.types in
     let inside : j < length l = omega (arith, length-ends 0 m.types) in

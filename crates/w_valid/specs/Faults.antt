@@ -38,7 +38,7 @@ fault_of (FunctionItem i) = fault.Function i
 abbrev pub IsRefusedAt : Module → Item → Type 0
 IsRefusedAt m x = Within m × IsInvalidAt m x
 
--- the fault is that of the module; want of memory may be told of any module
+-- the fault is that of the module; out of memory may be told of any module
 abbrev pub IsFaultOf : Module → ValidFault → Type 0
 IsFaultOf m (fault.Limit name) = Passes m name
 IsFaultOf m (fault.TypeAt i) = IsRefusedAt m (TypeItem i)

@@ -1,14 +1,14 @@
 -- The first items without a derivation.
 use Rattle.std.specs.Prelude.{◌≡◌, ℕ, ◌<◌, List, Option, Some, None, slice_get}
 use Rattle.w_syntax.specs.declared.module.Module.{Module}
-use Rattle.w_rules.specs.Valid.{Item, ItemTyped, IsItem, Before, IsInvalidAt}
+use Rattle.w_rules.specs.Valid.{Item, ItemValid, IsItem, Before, IsInvalidAt}
 use Rattle.w_valid.specs.declared.fault.ValidFault.{ValidFault}
 use Rattle.w_valid.specs.Faults.{fault_of}
 
 -- of the items of one kind, this is the first without a derivation, or there is none
 abbrev pub IsFirst : Module → (ℕ → Item) → Option ℕ → Type 0
-IsFirst m item None = (j : ℕ) → IsItem m (item j) → ItemTyped m (item j)
-IsFirst m item (Some i) = IsItem m (item i) × (ItemTyped m (item i) → ⊥) × ((j : ℕ) → j < i → IsItem m (item j) → ItemTyped m (item j))
+IsFirst m item None = (j : ℕ) → IsItem m (item j) → ItemValid m (item j)
+IsFirst m item (Some i) = IsItem m (item i) × (ItemValid m (item i) → ⊥) × ((j : ℕ) → j < i → IsItem m (item j) → ItemValid m (item j))
 
 -- of a list, this is the index of the first item that fails, or none does
 abbrev pub IsFirstFailing : {A : Type 0} → (A → Type 0) → List A → Option ℕ → Type 0
@@ -17,5 +17,5 @@ IsFirstFailing {A} Holds xs (Some k) = (x : A) × (slice_get xs k ≡ Some x) ×
 
 -- of the items before z, the fault names the first without a derivation, or there is none
 abbrev pub IsFirstBefore : Module → Item → Option ValidFault → Type 0
-IsFirstBefore m z None = (x : Item) → Before x z → IsItem m x → ItemTyped m x
+IsFirstBefore m z None = (x : Item) → Before x z → IsItem m x → ItemValid m x
 IsFirstBefore m z (Some fault) = (x : Item) × (fault ≡ fault_of x) × Before x z × IsInvalidAt m x

@@ -5,6 +5,6 @@ use Rattle.w_rules.specs.Spaces.{context_of}
 use Rattle.w_rules.specs.View.{context_in, HasClasses}
 
 -- the context is that of its module, with the classes of its types
-pub record IsWhole (cx : rt.Context) : Type 0 where
+pub record IsContextOf (cx : rt.Context) : Type 0 where
   pub context : context_in cx ≡ context_of cx.owner.now
   pub classes : HasClasses cx

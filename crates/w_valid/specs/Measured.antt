@@ -12,7 +12,7 @@ use Rattle.w_rules.specs.Context.{Context}
 use Rattle.w_rules.specs.Facts.{height_of}
 use Rattle.w_rules.specs.Peak.{peak, depth}
 use Rattle.w_rules.specs.Spaces.{in_body}
-use Rattle.w_rules.specs.Valid.{FunctionTyped}
+use Rattle.w_rules.specs.Valid.{FunctionValid}
 
 -- the body is typed, with this height and this depth; or it is not
 abbrev pub IsMeasure : Context → List ValType → List LocalRun → List ValType → Code → Option (ℕ × ℕ) → Type 0
@@ -28,8 +28,8 @@ IsMeasureOf m i n = (t : FuncType) (f : Func) → type_of_function m i ≡ Some 
 
 -- the function of this index is typed, with this height and this depth; or it is not
 abbrev pub IsFunctionMeasure : Module → ℕ → Option (ℕ × ℕ) → Type 0
-IsFunctionMeasure m i None = FunctionTyped m i → ⊥
-IsFunctionMeasure m i (Some n) = FunctionTyped m i × IsMeasureOf m i n
+IsFunctionMeasure m i None = FunctionValid m i → ⊥
+IsFunctionMeasure m i (Some n) = FunctionValid m i × IsMeasureOf m i n
 
 -- of each function below an index, its height and its depth
 pub record AreMeasuresBelow (m : Module) (n : ℕ) (hs ds : List ℕ) : Type 0 where

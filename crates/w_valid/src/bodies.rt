@@ -1,8 +1,8 @@
 //! The type of a body, and what it needs.
-ghost use Rattle.std.specs.Prelude.{◌≡◌, ◌↔◌, Bool, IfOk, IsTrue, List};
+ghost use Rattle.std.specs.Prelude.{IfOk};
 ghost use Rattle.w_rules.specs.View.{context_in, HasClasses};
-ghost use Rattle.w_vplain.specs.Levels.{Sofar, Good, follow};
-ghost use Rattle.w_vplain.specs.Standing.{StandsFor, context_for};
+ghost use Rattle.w_vplain.specs.Prefixes.{follow};
+ghost use Rattle.w_vplain.specs.Standing.{Answers, IsSameBody};
 ghost use Rattle.w_valid.specs.Measured.{IsMeasure};
 
 use std::alloc::{AllocError, Global};
@@ -14,10 +14,9 @@ use w_vswitch::switching;
 
 // One instruction more: whether the rules derive the sequence with it.
 fn call(checker: &mut Checker, instr: &Instr) -> Result<bool, AllocError>
-    ensures stands { IfOk result (λ _. (s : List Bool) (w : Sofar) → StandsFor checker.old s w → StandsFor checker.new s (follow instr.now w)) }
-    ensures exact { IfOk result (λ taken. (s : List Bool) (w : Sofar) → StandsFor checker.old s w
-        → IsTrue taken ↔ Good (context_for checker.old) s (follow instr.now w)) }
-    ensures context { context_for checker.new ≡ context_for checker.old }
+    ensures answers { IfOk result (λ taken. Answers checker.old checker.new
+        (follow instr.now) taken) }
+    ensures body { IsSameBody checker.old checker.new }
 {
     match instr {
         Instr::Plain(Op::Switching(_)) => switching(checker, instr),
@@ -29,8 +28,8 @@ fn call(checker: &mut Checker, instr: &Instr) -> Result<bool, AllocError>
 }
 
 /// Types a body (Core, validation, functions): where it has its type, the greatest number of operands at a counted place of it, and
-/// one plus the greatest number of blocks around a place. It fails only for want of memory.
-pub fn measure(
+/// one plus the greatest number of blocks around a place. It fails only when out of memory.
+pub(crate) fn check_body(
     alloc: Global,
     cx: &Context,
     params: &[ValType],
@@ -39,7 +38,8 @@ pub fn measure(
     body: &Body,
 ) -> Result<Option<(u64, u32)>, AllocError>
     requires { HasClasses cx.now }
-    ensures { IfOk result (λ measured. IsMeasure (context_in cx.now) params.now runs.now results.now body.now measured) }
+    ensures { IfOk result (λ measured. IsMeasure
+        (context_in cx.now) params.now runs.now results.now body.now measured) }
 {
     let mut checker = Checker::begin(alloc, cx, params, runs, results)?;
     for instr in body.instrs() {

@@ -8,24 +8,26 @@ ghost use Rattle.w_rules.specs.Context.{Context as TheContext};
 ghost use Rattle.w_rules.specs.View.{context_in, HasClasses};
 ghost use Rattle.w_valid.specs.Constants.{is_const_at};
 
-use crate::bodies::measure;
+use crate::bodies::check_body;
 use std::alloc::{AllocError, Global};
 use w_rules::Context;
-use w_syntax::{Binary, Body, GlobalType, Instr, Mutability, Numeric, Op, ReferenceOp, VariableOp};
+use w_syntax::{
+    Binop, Body, GlobalType, Instr, Mutability, NumericOp, Op, ReferenceOp, VariableOp,
+};
 use w_types::ValType;
 
-fn is_const_binary(op: Binary) -> bool
+fn is_const_binary(op: Binop) -> bool
     ensures { result ≡ is_const_binary op }
 {
-    matches!(op, Binary::Add | Binary::Sub | Binary::Mul)
+    matches!(op, Binop::Add | Binop::Sub | Binop::Mul)
 }
 
-fn is_const_numeric(number: Numeric) -> bool
+fn is_const_numeric(number: NumericOp) -> bool
     ensures { (c : TheContext) → result ≡ is_const c (op.Numeric number) }
 {
     match number {
-        Numeric::I32Const(_) | Numeric::I64Const(_) => true,
-        Numeric::Binary(_, op) => is_const_binary(op),
+        NumericOp::I32Const(_) | NumericOp::I64Const(_) => true,
+        NumericOp::Binary(_, op) => is_const_binary(op),
         _ => false,
     }
 }
@@ -71,7 +73,7 @@ fn is_const(cx: &Context, op: &Op) -> bool
     }
 }
 
-// The same of an instruction of a body's list, where the end may stand.
+// Whether an instruction may stand in the list of a constant expression, as its end may.
 fn is_const_at(cx: &Context, instr: &Instr) -> bool
     ensures { result ≡ is_const_at (context_in cx.now) instr.now }
 {
@@ -82,9 +84,10 @@ fn is_const_at(cx: &Context, instr: &Instr) -> bool
     }
 }
 
-// The same of each instruction of such a list.
+// Whether each of these may stand in such a list.
 fn are_const(cx: &Context, instrs: &[Instr]) -> bool
-    ensures { IsTrue result ↔ All (λ (i : Flat). IsTrue (is_const_at (context_in cx.now) i)) instrs.now }
+    ensures { IsTrue result ↔ All (λ (i : Flat). IsTrue (is_const_at
+        (context_in cx.now) i)) instrs.now }
 {
     instrs.iter().all(|instr| is_const_at(cx, instr))
 }
@@ -97,7 +100,7 @@ fn all_const(cx: &Context, body: &Body) -> bool
 }
 
 /// Whether an expression is constant and gives a value of this type (Core, validation, constant expressions).
-pub fn is_const_typed(
+pub(crate) fn is_const_typed(
     alloc: Global,
     cx: &Context,
     body: &Body,
@@ -109,6 +112,6 @@ pub fn is_const_typed(
     if !all_const(cx, body) {
         return Ok(false);
     }
-    let measured = measure(alloc, cx, &[], &[], &[kind], body)?;
+    let measured = check_body(alloc, cx, &[], &[], &[kind], body)?;
     Ok(measured.is_some())
 }

@@ -1,8 +1,8 @@
 //! Validity of data segments.
 ghost use Rattle.std.specs.Prelude.{◌≡◌, ◌↔◌, IfOk, IsTrue};
-ghost use Rattle.w_rules.specs.Valid.{DataItem, DataTyped, IsDataModeTyped};
+ghost use Rattle.w_rules.specs.Valid.{DataItem, DataValid, IsDataModeValid};
 ghost use Rattle.w_valid.specs.Firsts.{IsFirst};
-ghost use Rattle.w_valid.specs.Judged.{IsWhole};
+ghost use Rattle.w_valid.specs.Judged.{IsContextOf};
 
 use crate::constants::is_const_typed;
 use crate::lists::item_at;
@@ -13,8 +13,8 @@ use w_types::ValType;
 
 // Whether a segment's memory is there and its offset is a constant, where it is active.
 fn is_mode_typed(alloc: Global, cx: &Context, mode: &DataMode) -> Result<bool, AllocError>
-    requires { IsWhole cx.now }
-    ensures { IfOk result (λ typed. IsTrue typed ↔ IsDataModeTyped cx.now.owner.now mode.now) }
+    requires { IsContextOf cx.now }
+    ensures { IfOk result (λ typed. IsTrue typed ↔ IsDataModeValid cx.now.owner.now mode.now) }
 {
     match mode {
         DataMode::Active(memory, offset) => {
@@ -28,9 +28,9 @@ fn is_mode_typed(alloc: Global, cx: &Context, mode: &DataMode) -> Result<bool, A
 }
 
 // Whether the data segment of this index is valid.
-fn is_typed(alloc: Global, cx: &Context, index: usize) -> Result<bool, AllocError>
-    requires { IsWhole cx.now }
-    ensures { IfOk result (λ typed. IsTrue typed ↔ DataTyped cx.now.owner.now index) }
+fn is_valid(alloc: Global, cx: &Context, index: usize) -> Result<bool, AllocError>
+    requires { IsContextOf cx.now }
+    ensures { IfOk result (λ typed. IsTrue typed ↔ DataValid cx.now.owner.now index) }
 {
     match item_at(&cx.owner.datas, index) {
         Some(segment) => is_mode_typed(alloc, cx, &segment.mode),
@@ -40,12 +40,12 @@ fn is_typed(alloc: Global, cx: &Context, index: usize) -> Result<bool, AllocErro
 
 /// The first data segment that is not valid, if there is one: it is active, and its memory is not there or its offset is not a
 /// constant of type i32.
-pub fn first_untyped_data(alloc: Global, cx: &Context) -> Result<Option<usize>, AllocError>
-    requires { IsWhole cx.now }
+pub(crate) fn first_invalid_data(alloc: Global, cx: &Context) -> Result<Option<usize>, AllocError>
+    requires { IsContextOf cx.now }
     ensures { IfOk result (λ first. IsFirst cx.now.owner.now DataItem first) }
 {
     for index in 0..cx.owner.datas.len() {
-        if !is_typed(alloc, cx, index)? {
+        if !is_valid(alloc, cx, index)? {
             return Ok(Some(index));
         }
     }

@@ -4,9 +4,9 @@ ghost use Rattle.w_types.specs.declared.types.ValType.TheVariants as val;
 ghost use Rattle.w_syntax.specs.Code.{Code};
 ghost use Rattle.w_rules.specs.Bodies.{ConstTyped};
 ghost use Rattle.w_rules.specs.Spaces.{context_of};
-ghost use Rattle.w_rules.specs.Valid.{ElementItem, ElementTyped, IsElemModeTyped};
+ghost use Rattle.w_rules.specs.Valid.{ElementItem, ElementValid, IsElemModeValid};
 ghost use Rattle.w_valid.specs.Firsts.{IsFirst};
-ghost use Rattle.w_valid.specs.Judged.{IsWhole};
+ghost use Rattle.w_valid.specs.Judged.{IsContextOf};
 
 use crate::constants::is_const_typed;
 use crate::lists::item_at;
@@ -22,8 +22,8 @@ fn is_mode_typed(
     kind: RefType,
     mode: &ElemMode,
 ) -> Result<bool, AllocError>
-    requires { IsWhole cx.now }
-    ensures { IfOk result (λ typed. IsTrue typed ↔ IsElemModeTyped cx.now.owner.now kind mode.now) }
+    requires { IsContextOf cx.now }
+    ensures { IfOk result (λ typed. IsTrue typed ↔ IsElemModeValid cx.now.owner.now kind mode.now) }
 {
     match mode {
         ElemMode::Active(table, offset) => {
@@ -46,8 +46,9 @@ fn are_items_typed(
     kind: RefType,
     items: &[Body],
 ) -> Result<bool, AllocError>
-    requires { IsWhole cx.now }
-    ensures { IfOk result (λ typed. IsTrue typed ↔ All (λ (k : Code). ConstTyped (context_of cx.now.owner.now) k (val.Ref kind)) items.now) }
+    requires { IsContextOf cx.now }
+    ensures { IfOk result (λ typed. IsTrue typed
+        ↔ All (λ (k : Code). ConstTyped (context_of cx.now.owner.now) k (val.Ref kind)) items.now) }
 {
     for item in items {
         if !is_const_typed(alloc, cx, item, ValType::Ref(kind))? {
@@ -58,9 +59,9 @@ fn are_items_typed(
 }
 
 // Whether the element segment of this index is valid.
-fn is_typed(alloc: Global, cx: &Context, index: usize) -> Result<bool, AllocError>
-    requires { IsWhole cx.now }
-    ensures { IfOk result (λ typed. IsTrue typed ↔ ElementTyped cx.now.owner.now index) }
+fn is_valid(alloc: Global, cx: &Context, index: usize) -> Result<bool, AllocError>
+    requires { IsContextOf cx.now }
+    ensures { IfOk result (λ typed. IsTrue typed ↔ ElementValid cx.now.owner.now index) }
 {
     let Some(element) = item_at(&cx.owner.elements, index) else {
         return Ok(false);
@@ -76,12 +77,15 @@ fn is_typed(alloc: Global, cx: &Context, index: usize) -> Result<bool, AllocErro
 
 /// The first element segment that is not valid, if there is one: its type is not, an item is not constant and of this type, or it
 /// is active and its table or its offset does not fit.
-pub fn first_untyped_element(alloc: Global, cx: &Context) -> Result<Option<usize>, AllocError>
-    requires { IsWhole cx.now }
+pub(crate) fn first_invalid_element(
+    alloc: Global,
+    cx: &Context,
+) -> Result<Option<usize>, AllocError>
+    requires { IsContextOf cx.now }
     ensures { IfOk result (λ first. IsFirst cx.now.owner.now ElementItem first) }
 {
     for index in 0..cx.owner.elements.len() {
-        if !is_typed(alloc, cx, index)? {
+        if !is_valid(alloc, cx, index)? {
             return Ok(Some(index));
         }
     }

@@ -2,7 +2,7 @@
 ghost use Rattle.std.specs.Prelude.{◌≡◌, ◌↔◌, IfOk, IsTrue};
 ghost use Rattle.w_rules.specs.Valid.{ExportItem, IsThere};
 ghost use Rattle.w_valid.specs.Firsts.{IsFirst};
-ghost use Rattle.w_valid.specs.Judged.{IsWhole};
+ghost use Rattle.w_valid.specs.Judged.{IsContextOf};
 
 use std::alloc::{AllocError, Global};
 use std::collections::BTreeSet;
@@ -11,7 +11,7 @@ use w_syntax::ExternIndex;
 
 // Whether what is exported is there.
 fn is_there(cx: &Context, index: ExternIndex) -> bool
-    requires { IsWhole cx.now }
+    requires { IsContextOf cx.now }
     ensures { IsTrue result ↔ IsThere cx.now.owner.now index }
 {
     match index {
@@ -24,8 +24,8 @@ fn is_there(cx: &Context, index: ExternIndex) -> bool
 }
 
 /// The first export that is not valid, if there is one: what it exports is not there, or its name stands at a lower index.
-pub fn first_untyped_export(alloc: Global, cx: &Context) -> Result<Option<usize>, AllocError>
-    requires { IsWhole cx.now }
+pub(crate) fn first_invalid_export(alloc: Global, cx: &Context) -> Result<Option<usize>, AllocError>
+    requires { IsContextOf cx.now }
     ensures { IfOk result (λ first. IsFirst cx.now.owner.now ExportItem first) }
 {
     let mut names: BTreeSet<&str> = BTreeSet::new(alloc);

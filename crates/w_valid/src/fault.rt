@@ -4,14 +4,14 @@ ghost use Rattle.w_valid.specs.declared.fault.ValidFault.TheVariants.{OutOfMemor
 
 use std::alloc::{AllocError, AllocFailed};
 use thiserror::Error;
-use w_rules::LimitName;
+use w_rules::SizeLimit;
 
 /// Why a module is not accepted (Core, validation, modules).
-#[derive(Clone, Copy, Debug, PartialEq, Eq, Error)]
+#[derive(Clone, Copy, Debug, Error)]
 pub enum ValidFault {
     /// The module passes a limit on its size, and this is the first.
     #[error("limit {0:?} is passed")]
-    Limit(LimitName),
+    Limit(SizeLimit),
     /// The type of this index is the first that is not valid: it names a type that is not there yet, or it is a continuation type and not
     /// of a function type.
     #[error("type {0} is not valid")]

@@ -2,10 +2,10 @@
 ghost use Rattle.std.specs.Prelude.{◌≡◌, [], IfOk, IfNone, OnOk};
 ghost use Rattle.w_rules.specs.Valid.{FunctionItem};
 ghost use Rattle.w_valid.specs.Firsts.{IsFirst};
-ghost use Rattle.w_valid.specs.Judged.{IsWhole};
+ghost use Rattle.w_valid.specs.Judged.{IsContextOf};
 ghost use Rattle.w_valid.specs.Measured.{IsFunctionMeasure, AreMeasures};
 
-use crate::bodies::measure;
+use crate::bodies::check_body;
 use crate::lists::item_at;
 use crate::types::are_locals_valid;
 use std::alloc::{AllocError, Global};
@@ -13,7 +13,7 @@ use w_rules::{Context, function_type};
 
 /// What the bodies of functions need, by the index of the function: see `Facts`.
 #[derive(Drop)]
-pub struct Measures {
+pub(crate) struct BodyFacts {
     pub heights: Vec<u64>,
     pub depths: Vec<u32>,
 }
@@ -25,7 +25,7 @@ fn measure_function(
     cx: &Context,
     index: usize,
 ) -> Result<Option<(u64, u32)>, AllocError>
-    requires { IsWhole cx.now }
+    requires { IsContextOf cx.now }
     ensures { IfOk result (λ measured. IsFunctionMeasure cx.now.owner.now index measured) }
 {
     let Some(kind) = function_type(cx.owner, index) else {
@@ -39,21 +39,22 @@ fn measure_function(
         return Ok(None);
     }
     let (params, results) = (kind.params.as_slice(), kind.results.as_slice());
-    measure(alloc, cx, params, runs, results, &code.body)
+    check_body(alloc, cx, params, runs, results, &code.body)
 }
 
 /// The first function that is not valid, if there is one: each index of a type or of code is that of a function. Where there is
 /// none it adds what their bodies need.
-pub fn first_untyped_function(
+pub(crate) fn first_invalid_function(
     alloc: Global,
     cx: &Context,
-    measures: &mut Measures,
+    measures: &mut BodyFacts,
 ) -> Result<Option<usize>, AllocError>
-    requires whole { IsWhole cx.now }
+    requires whole { IsContextOf cx.now }
     requires no_heights { measures.old.heights.items ≡ [] }
     requires no_depths { measures.old.depths.items ≡ [] }
     ensures first { IfOk result (λ first. IsFirst cx.now.owner.now FunctionItem first) }
-    ensures measured { IfOk result (λ first. IfNone first (AreMeasures cx.now.owner.now measures.new.heights.items measures.new.depths.items)) }
+    ensures measured { IfOk result (λ first. IfNone first
+        (AreMeasures cx.now.owner.now measures.new.heights.items measures.new.depths.items)) }
 {
     let count = cx.owner.functions.len().max(cx.owner.codes.len());
     for index in 0..count {

@@ -1,8 +1,8 @@
 //! Validity of globals.
 ghost use Rattle.std.specs.Prelude.{◌≡◌, ◌↔◌, IfOk, IsTrue};
-ghost use Rattle.w_rules.specs.Valid.{GlobalItem, GlobalTyped};
+ghost use Rattle.w_rules.specs.Valid.{GlobalItem, GlobalValid};
 ghost use Rattle.w_valid.specs.Firsts.{IsFirst};
-ghost use Rattle.w_valid.specs.Judged.{IsWhole};
+ghost use Rattle.w_valid.specs.Judged.{IsContextOf};
 
 use crate::constants::is_const_typed;
 use crate::lists::item_at;
@@ -10,9 +10,9 @@ use std::alloc::{AllocError, Global};
 use w_rules::Context;
 
 // Whether the global of this index is valid.
-fn is_typed(alloc: Global, cx: &Context, index: usize) -> Result<bool, AllocError>
-    requires { IsWhole cx.now }
-    ensures { IfOk result (λ typed. IsTrue typed ↔ GlobalTyped cx.now.owner.now index) }
+fn is_valid(alloc: Global, cx: &Context, index: usize) -> Result<bool, AllocError>
+    requires { IsContextOf cx.now }
+    ensures { IfOk result (λ typed. IsTrue typed ↔ GlobalValid cx.now.owner.now index) }
 {
     let Some(global) = item_at(&cx.owner.globals, index) else {
         return Ok(false);
@@ -30,12 +30,12 @@ fn is_typed(alloc: Global, cx: &Context, index: usize) -> Result<bool, AllocErro
 }
 
 /// The first global that is not valid, if there is one: its type is not, or what it begins with is not constant and of this type.
-pub fn first_untyped_global(alloc: Global, cx: &Context) -> Result<Option<usize>, AllocError>
-    requires { IsWhole cx.now }
+pub(crate) fn first_invalid_global(alloc: Global, cx: &Context) -> Result<Option<usize>, AllocError>
+    requires { IsContextOf cx.now }
     ensures { IfOk result (λ first. IsFirst cx.now.owner.now GlobalItem first) }
 {
     for index in 0..cx.owner.globals.len() {
-        if !is_typed(alloc, cx, index)? {
+        if !is_valid(alloc, cx, index)? {
             return Ok(Some(index));
         }
     }

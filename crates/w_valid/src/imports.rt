@@ -1,6 +1,6 @@
 //! Validity of imports.
 ghost use Rattle.std.specs.Prelude.{◌≡◌, ◌↔◌, IsTrue};
-ghost use Rattle.w_rules.specs.Valid.{ImportItem, ImportTyped, IsExternValid};
+ghost use Rattle.w_rules.specs.Valid.{ImportItem, ImportValid, IsExternValid};
 ghost use Rattle.w_valid.specs.Firsts.{IsFirst};
 
 use crate::limits::{MOST_PAGES, are_limits_valid};
@@ -24,8 +24,8 @@ fn is_extern_valid(cx: &Context, kind: ExternType) -> bool
 }
 
 // Whether the import of this index is valid.
-fn is_typed(cx: &Context, index: usize) -> bool
-    ensures { IsTrue result ↔ ImportTyped cx.now.owner.now index }
+fn is_valid(cx: &Context, index: usize) -> bool
+    ensures { IsTrue result ↔ ImportValid cx.now.owner.now index }
 {
     match item_at(&cx.owner.imports, index) {
         Some(import) => is_extern_valid(cx, import.kind),
@@ -34,11 +34,11 @@ fn is_typed(cx: &Context, index: usize) -> bool
 }
 
 /// The first import that is not valid, if there is one: its type is not.
-pub fn first_untyped_import(cx: &Context) -> Option<usize>
+pub(crate) fn first_invalid_import(cx: &Context) -> Option<usize>
     ensures { IsFirst cx.now.owner.now ImportItem result }
 {
     for index in 0..cx.owner.imports.len() {
-        if !is_typed(cx, index) {
+        if !is_valid(cx, index) {
             return Some(index);
         }
     }

@@ -16,8 +16,6 @@ mod memories;
 mod start;
 mod tables;
 mod tags;
-#[cfg(test)]
-mod tests;
 mod types;
 mod validation;
 

@@ -11,7 +11,7 @@ pub const MOST_ELEMENTS: u64 = 4_294_967_295;
 pub const MOST_PAGES: u64 = 65_536;
 
 /// Whether limits are valid, where no size is above this bound (Core, validation, limits).
-pub fn are_limits_valid(bound: u64, limits: Limits) -> bool
+pub(crate) fn are_limits_valid(bound: u64, limits: Limits) -> bool
     ensures { IsTrue result ↔ AreLimitsValid bound limits }
 {
     match limits.max {

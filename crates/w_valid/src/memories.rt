@@ -1,7 +1,7 @@
 //! Validity of memories.
 ghost use Rattle.std.specs.Prelude.{◌≡◌, ◌↔◌, All, IsTrue};
-ghost use Rattle.w_rules.specs.Valid.{AreLimitsValid, MemoryTyped, most_pages};
-ghost use Rattle.w_valid.specs.Judged.{IsWhole};
+ghost use Rattle.w_rules.specs.Valid.{AreLimitsValid, MemoryValid, most_pages};
+ghost use Rattle.w_valid.specs.Judged.{IsContextOf};
 
 use crate::limits::{MOST_PAGES, are_limits_valid};
 use w_rules::Context;
@@ -17,9 +17,9 @@ fn are_valid(memories: &[Limits]) -> bool
 }
 
 /// Whether the memories are valid: there is at most one with those imported, and its limits are valid.
-pub fn are_memories_typed(cx: &Context) -> bool
-    requires { IsWhole cx.now }
-    ensures { IsTrue result ↔ MemoryTyped cx.now.owner.now }
+pub(crate) fn are_memories_valid(cx: &Context) -> bool
+    requires { IsContextOf cx.now }
+    ensures { IsTrue result ↔ MemoryValid cx.now.owner.now }
 {
     cx.memories.len() <= 1 && are_valid(cx.owner.memories.as_slice())
 }

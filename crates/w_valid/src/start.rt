@@ -1,15 +1,16 @@
 //! Validity of the start.
 ghost use Rattle.std.specs.Prelude.{◌≡◌, IsFalse, IsSome, IsTrue};
-ghost use Rattle.w_rules.specs.Valid.{StartTyped};
-ghost use Rattle.w_valid.specs.Judged.{IsWhole};
+ghost use Rattle.w_rules.specs.Valid.{StartValid};
+ghost use Rattle.w_valid.specs.Judged.{IsContextOf};
 
 use w_rules::Context;
 
 /// Whether the start is valid, where there is one: its function takes nothing and gives nothing.
-pub fn is_start_typed(cx: &Context) -> bool
-    requires { IsWhole cx.now }
-    ensures typed { IsTrue result → IsSome cx.now.owner.now.start → StartTyped cx.now.owner.now }
-    ensures untyped { IsFalse result → IsSome cx.now.owner.now.start × (StartTyped cx.now.owner.now → ⊥) }
+pub(crate) fn is_start_valid(cx: &Context) -> bool
+    requires { IsContextOf cx.now }
+    ensures typed { IsTrue result → IsSome cx.now.owner.now.start → StartValid cx.now.owner.now }
+    ensures invalid { IsFalse result → IsSome cx.now.owner.now.start × (StartValid cx.now.owner.now
+        → ⊥) }
 {
     let Some(function) = cx.owner.start else {
         return true;

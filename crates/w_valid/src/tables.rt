@@ -1,8 +1,8 @@
 //! Validity of tables.
 ghost use Rattle.std.specs.Prelude.{◌≡◌, ◌↔◌, IfOk, IsTrue};
-ghost use Rattle.w_rules.specs.Valid.{TableItem, TableTyped, IsInitTyped, IsTableTypeValid};
+ghost use Rattle.w_rules.specs.Valid.{TableItem, TableValid, IsInitValid, IsTableTypeValid};
 ghost use Rattle.w_valid.specs.Firsts.{IsFirst};
-ghost use Rattle.w_valid.specs.Judged.{IsWhole};
+ghost use Rattle.w_valid.specs.Judged.{IsContextOf};
 
 use crate::constants::is_const_typed;
 use crate::limits::{MOST_ELEMENTS, are_limits_valid};
@@ -13,7 +13,7 @@ use w_syntax::{Body, TableType};
 use w_types::{RefType, ValType};
 
 /// Whether the type of a table is valid (Core, validation, table types).
-pub fn is_table_type_valid(cx: &Context, kind: TableType) -> bool
+pub(crate) fn is_table_type_valid(cx: &Context, kind: TableType) -> bool
     ensures { IsTrue result ↔ IsTableTypeValid cx.now.owner.now kind }
 {
     are_limits_valid(MOST_ELEMENTS, kind.limits) && cx.has_heap(kind.element.heap)
@@ -26,8 +26,8 @@ fn is_init_typed(
     kind: RefType,
     init: &Option<Body>,
 ) -> Result<bool, AllocError>
-    requires { IsWhole cx.now }
-    ensures { IfOk result (λ typed. IsTrue typed ↔ IsInitTyped cx.now.owner.now kind init.now) }
+    requires { IsContextOf cx.now }
+    ensures { IfOk result (λ typed. IsTrue typed ↔ IsInitValid cx.now.owner.now kind init.now) }
 {
     match init {
         Some(body) => is_const_typed(alloc, cx, body, ValType::Ref(kind)),
@@ -36,9 +36,9 @@ fn is_init_typed(
 }
 
 // Whether the table of this index is valid.
-fn is_typed(alloc: Global, cx: &Context, index: usize) -> Result<bool, AllocError>
-    requires { IsWhole cx.now }
-    ensures { IfOk result (λ typed. IsTrue typed ↔ TableTyped cx.now.owner.now index) }
+fn is_valid(alloc: Global, cx: &Context, index: usize) -> Result<bool, AllocError>
+    requires { IsContextOf cx.now }
+    ensures { IfOk result (λ typed. IsTrue typed ↔ TableValid cx.now.owner.now index) }
 {
     let Some(table) = item_at(&cx.owner.tables, index) else {
         return Ok(false);
@@ -51,12 +51,12 @@ fn is_typed(alloc: Global, cx: &Context, index: usize) -> Result<bool, AllocErro
 
 /// The first table that is not valid, if there is one: its type is not, or what its elements begin with is not constant and of
 /// their type.
-pub fn first_untyped_table(alloc: Global, cx: &Context) -> Result<Option<usize>, AllocError>
-    requires { IsWhole cx.now }
+pub(crate) fn first_invalid_table(alloc: Global, cx: &Context) -> Result<Option<usize>, AllocError>
+    requires { IsContextOf cx.now }
     ensures { IfOk result (λ first. IsFirst cx.now.owner.now TableItem first) }
 {
     for index in 0..cx.owner.tables.len() {
-        if !is_typed(alloc, cx, index)? {
+        if !is_valid(alloc, cx, index)? {
             return Ok(Some(index));
         }
     }

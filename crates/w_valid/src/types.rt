@@ -3,50 +3,30 @@ ghost use Rattle.std.specs.Prelude.{◌≡◌, ◌↔◌, ◌+◌, ◌≤◌, Al
 ghost use Rattle.w_types.specs.Groups.{types_of};
 ghost use Rattle.w_types.specs.declared.types.CompType.{CompType as TheType};
 ghost use Rattle.w_syntax.specs.declared.locals.LocalRun.{LocalRun as Run};
-ghost use Rattle.w_rules.specs.Types.{IsValidHeap, IsValidType, IsValidCompType};
+ghost use Rattle.w_rules.specs.Types.{IsValidType, IsValidCompType};
 ghost use Rattle.w_rules.specs.Valid.{IsFunctionType, TypeItem};
 ghost use Rattle.w_valid.specs.Firsts.{IsFirst, IsFirstFailing};
 
-use w_rules::func_type;
+use w_rules::{func_type, has_type};
 use w_syntax::{LocalRun, Module};
-use w_types::{CompType, HeapType, ValType};
+use w_types::{CompType, ValType};
 
-// Whether a heap type is valid among so many types.
-fn is_heap_valid(end: usize, heap: HeapType) -> bool
-    ensures { IsTrue result ↔ IsValidHeap end heap }
-{
-    match heap {
-        HeapType::Func | HeapType::NoFunc | HeapType::Cont | HeapType::NoCont => true,
-        HeapType::Index(index) => (index as usize) < end,
-    }
-}
-
-// Whether a value type is.
-fn is_valid(end: usize, kind: ValType) -> bool
-    ensures { IsTrue result ↔ IsValidType end kind }
-{
-    match kind {
-        ValType::I32 | ValType::I64 => true,
-        ValType::Ref(reference) => is_heap_valid(end, reference.heap),
-    }
-}
-
-// Whether each of these value types is.
+// Whether each of these value types is valid, among so many types.
 fn are_valid(end: usize, kinds: &[ValType]) -> bool
     ensures { IsTrue result ↔ All (IsValidType end) kinds.now }
 {
-    kinds.iter().all(|kind| is_valid(end, *kind))
+    kinds.iter().all(|kind| has_type(end, *kind))
 }
 
 /// Whether the type of each of these locals is valid, among so many types.
-pub fn are_locals_valid(count: usize, runs: &[LocalRun]) -> bool
+pub(crate) fn are_locals_valid(count: usize, runs: &[LocalRun]) -> bool
     ensures { IsTrue result ↔ All (λ (run : Run). IsValidType count run.kind) runs.now }
 {
-    runs.iter().all(|run| is_valid(count, run.kind))
+    runs.iter().all(|run| has_type(count, run.kind))
 }
 
 /// Whether the type of this index is a function type.
-pub fn is_function_type(owner: &Module, index: u32) -> bool
+pub(crate) fn is_function_type(owner: &Module, index: u32) -> bool
     ensures { IsTrue result ↔ IsFunctionType owner.now index }
 {
     func_type(owner, index as usize).is_some()
@@ -79,7 +59,7 @@ fn first_in_group(owner: &Module, end: usize, types: &[CompType]) -> Option<usiz
 }
 
 /// The first type that is not valid, if there is one.
-pub fn first_untyped_type(owner: &Module) -> Option<usize>
+pub(crate) fn first_invalid_type(owner: &Module) -> Option<usize>
     ensures { IsFirst owner.now TypeItem result }
 {
     // no index of a type, nor the end of a group, is above it

@@ -3,83 +3,84 @@ ghost use Rattle.std.specs.Prelude.{◌≡◌, IfOk, IfErr, OnOk, Ok, Err};
 ghost use Rattle.w_rules.specs.Facts.{AreFacts};
 ghost use Rattle.w_rules.specs.Limits.{Within, Passes};
 ghost use Rattle.w_rules.specs.Valid.{Item, ExportItem, Valid, IsInvalidAt};
-ghost use Rattle.w_rules.specs.declared.limits.LimitName.{LimitName as TheLimit};
+ghost use Rattle.w_rules.specs.declared.limits.SizeLimit.{SizeLimit as TheLimit};
 ghost use Rattle.w_valid.specs.Faults.{fault_of, IsFaultOf, IsAnswer};
 ghost use Rattle.w_valid.specs.Firsts.{IsFirstBefore};
-ghost use Rattle.w_valid.specs.Judged.{IsWhole};
+ghost use Rattle.w_valid.specs.Judged.{IsContextOf};
 ghost use Rattle.w_valid.specs.Measured.{AreMeasures};
 
-use crate::datas::first_untyped_data;
-use crate::elements::first_untyped_element;
-use crate::exports::first_untyped_export;
+use crate::datas::first_invalid_data;
+use crate::elements::first_invalid_element;
+use crate::exports::first_invalid_export;
 use crate::fault::ValidFault;
-use crate::functions::{Measures, first_untyped_function};
-use crate::globals::first_untyped_global;
-use crate::imports::first_untyped_import;
-use crate::memories::are_memories_typed;
-use crate::start::is_start_typed;
-use crate::tables::first_untyped_table;
-use crate::tags::first_untyped_tag;
-use crate::types::first_untyped_type;
+use crate::functions::{BodyFacts, first_invalid_function};
+use crate::globals::first_invalid_global;
+use crate::imports::first_invalid_import;
+use crate::memories::are_memories_valid;
+use crate::start::is_start_valid;
+use crate::tables::first_invalid_table;
+use crate::tags::first_invalid_tag;
+use crate::types::first_invalid_type;
 use std::alloc::{AllocError, Global};
 use w_canon::Classes;
 use w_rules::{Checked, Context, Facts, Spaces, declared_functions, limits_of};
 use w_syntax::Module;
 
 // The first item before the exports that is not valid, if there is one.
-fn first_untyped_definition(alloc: Global, cx: &Context) -> Result<Option<ValidFault>, AllocError>
-    requires { IsWhole cx.now }
+fn first_invalid_definition(alloc: Global, cx: &Context) -> Result<Option<ValidFault>, AllocError>
+    requires { IsContextOf cx.now }
     ensures { IfOk result (λ first. IsFirstBefore cx.now.owner.now (ExportItem 0) first) }
 {
-    if let Some(index) = first_untyped_type(cx.owner) {
+    if let Some(index) = first_invalid_type(cx.owner) {
         return Ok(Some(ValidFault::TypeAt(index)));
     }
-    if let Some(index) = first_untyped_import(cx) {
+    if let Some(index) = first_invalid_import(cx) {
         return Ok(Some(ValidFault::Import(index)));
     }
-    if let Some(index) = first_untyped_table(alloc, cx)? {
+    if let Some(index) = first_invalid_table(alloc, cx)? {
         return Ok(Some(ValidFault::Table(index)));
     }
-    if !are_memories_typed(cx) {
+    if !are_memories_valid(cx) {
         return Ok(Some(ValidFault::Memory));
     }
-    if let Some(index) = first_untyped_tag(cx.owner) {
+    if let Some(index) = first_invalid_tag(cx.owner) {
         return Ok(Some(ValidFault::Tag(index)));
     }
-    if let Some(index) = first_untyped_global(alloc, cx)? {
+    if let Some(index) = first_invalid_global(alloc, cx)? {
         return Ok(Some(ValidFault::Global(index)));
     }
-    if let Some(index) = first_untyped_element(alloc, cx)? {
+    if let Some(index) = first_invalid_element(alloc, cx)? {
         return Ok(Some(ValidFault::Element(index)));
     }
-    if let Some(index) = first_untyped_data(alloc, cx)? {
+    if let Some(index) = first_invalid_data(alloc, cx)? {
         return Ok(Some(ValidFault::Data(index)));
     }
-    if !is_start_typed(cx) {
+    if !is_start_valid(cx) {
         return Ok(Some(ValidFault::Start));
     }
     Ok(None)
 }
 
 // Finds the first item that is not valid, and else what the bodies of the functions need.
-fn judge_items(alloc: Global, cx: &Context) -> Result<Measures, ValidFault>
-    requires whole { IsWhole cx.now }
+fn judge_items(alloc: Global, cx: &Context) -> Result<BodyFacts, ValidFault>
+    requires whole { IsContextOf cx.now }
     requires within { Within cx.now.owner.now }
     ensures valid { OnOk result (Valid cx.now.owner.now) }
-    ensures measured { IfOk result (λ measures. AreMeasures cx.now.owner.now measures.heights.items measures.depths.items) }
+    ensures measured { IfOk result (λ measures. AreMeasures cx.now.owner.now measures.heights.items
+        measures.depths.items) }
     ensures err { IfErr result (λ fault. IsFaultOf cx.now.owner.now fault) }
 {
-    if let Some(fault) = first_untyped_definition(alloc, cx)? {
+    if let Some(fault) = first_invalid_definition(alloc, cx)? {
         return Err(fault);
     }
-    if let Some(index) = first_untyped_export(alloc, cx)? {
+    if let Some(index) = first_invalid_export(alloc, cx)? {
         return Err(ValidFault::Export(index));
     }
-    let mut measures = Measures {
+    let mut measures = BodyFacts {
         heights: Vec::new(alloc),
         depths: Vec::new(alloc),
     };
-    if let Some(index) = first_untyped_function(alloc, cx, &mut measures)? {
+    if let Some(index) = first_invalid_function(alloc, cx, &mut measures)? {
         return Err(ValidFault::Function(index));
     }
     Ok(measures)
@@ -128,8 +129,10 @@ pub fn validate(alloc: Global, candidate: Module) -> Result<Checked, ValidFault>
     ensures err { IfErr result (λ fault. IsFaultOf candidate fault) }
     // Each module has its answer, unless memory runs out.
     ensures only_ok { Within candidate → Valid candidate → IsAnswer (Ok candidate) result }
-    ensures only_limit { (name : TheLimit) → Passes candidate name → IsAnswer (Err (ValidFault.Limit name)) result }
-    ensures only_item { (x : Item) → Within candidate → IsInvalidAt candidate x → IsAnswer (Err (fault_of x)) result }
+    ensures only_limit { (name : TheLimit) → Passes candidate name
+        → IsAnswer (Err (ValidFault.Limit name)) result }
+    ensures only_item { (x : Item) → Within candidate → IsInvalidAt candidate x
+        → IsAnswer (Err (fault_of x)) result }
 {
     match judge(alloc, &candidate) {
         Ok(facts) => Ok(Checked::make(candidate, facts)),

@@ -5,11 +5,11 @@ use Rattle.w_flow.specs.View.{flow_view, reached}
 use Rattle.w_types.specs.Rows.{ε}
 use Rattle.w_vplain.specs.Frames.{Frame}
 use Rattle.w_vplain.specs.Standing.{total_of, bases_from}
-use Rattle.w_vplain.specs.Locals.{first_set, outer_sets}
+use Rattle.w_locals.specs.Locals.{first_set, outer_sets}
 use Rattle.w_vplain.specs.View.{frame_view, frames_with}
 use Rattle.w_vplain.specs.declared.frame.Frame as code
-use Rattle.w_vplain.specs.declared.kind.Kind.{Kind}
-use Rattle.w_vplain.specs.declared.kind.Kind.TheVariants as kind
+use Rattle.w_vplain.specs.declared.frame_kind.FrameKind.{FrameKind}
+use Rattle.w_vplain.specs.declared.frame_kind.FrameKind.TheVariants as kind
 use Rattle.w_vplain.proofs.WholeBodies.{first_frame}
 
 -- the frame of the empty sequence
@@ -19,7 +19,7 @@ begin_frames g xs ss s k f none one =
     ap (λ (ys : List code.Frame). frame_view g (first_set ss) ∷ frames_with (reverse ys) (outer_sets ss)) none
     ∙ ap (λ (ts : List (List Bool)). frame_view g (first_set ts) ∷ []) one
     ∙ ap (λ (v : Flow). let h : Frame = record { kind = g.kind; any = v.any; operands = v.operands; is_set = s } in h ∷ []) f
-    ∙ ap (λ (d : Kind). let h : Frame = record (first_frame s) { kind = d } in h ∷ []) k
+    ∙ ap (λ (d : FrameKind). let h : Frame = record (first_frame s) { kind = d } in h ∷ []) k
 
 -- no operands stand around it
 pub bases_none : (xs : List code.Frame) → xs ≡ [] → (Some 0 ≡ total_of (reverse xs)) × bases_from (reverse xs)

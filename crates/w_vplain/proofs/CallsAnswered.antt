@@ -1,33 +1,36 @@
 -- What the calls of the checker answer, from what its data says.
-use Rattle.std.proofs.Common.{◌≡◌, ◌↔◌, ℕ, max, Bool, true, false, List, [], ◌∷◌, length, reverse, Result, Ok, Err, Option, Some, None, if◌then◌else◌, refl, sym, ap, subst, ◌∙◌, arith}
-use Rattle.std.specs.Prelude.{IfOk, IsTrue, IsFalse, is_some, slice_get}
+use Rattle.std.proofs.Common.{◌≡◌, ◌↔◌, ℕ, max, Bool, true, false, List, [], ◌∷◌, length, reverse, Result, Ok, Err, Option, Some, None, if◌then◌else◌, refl, sym, ap, subst, ◌∙◌}
+use Rattle.std.specs.Prelude.{IfOk, IsTrue, is_some, slice_get}
+use Rattle.std.specs.Borrow.{Bor}
 use Rattle.std.proofs.lemmas.Bool.{false≢true}
 use Rattle.w_syntax.specs.declared.instructions.Instr.{Instr}
 use Rattle.w_syntax.specs.declared.instructions.Instr.TheVariants as flat
 use Rattle.w_syntax.specs.declared.instructions.Op.{Op}
 use Rattle.w_syntax.specs.declared.instructions.Op.TheVariants as op
 use Rattle.w_types.specs.declared.types.ValType.{ValType}
-use Rattle.w_types.specs.Rows.{Row, size}
+use Rattle.w_types.specs.Rows.{Row, row_of, size}
 use Rattle.w_canon.specs.declared.entry.Entry.{Entry}
-use Rattle.w_canon.specs.Stands.{Stands}
+use Rattle.w_canon.specs.IsClassesOf.{IsClassesOf}
 use Rattle.w_flow.specs.Flow.{◌>>=◌}
 use Rattle.w_rules.specs.Context.{Context}
 use Rattle.w_rules.specs.Peak.{or_none}
 use Rattle.w_vplain.specs.Frames.{Frame, FramesStand, Knows, frame_kinds, next}
-use Rattle.w_vplain.specs.Levels.{Sofar, Good, empty, follow, is_checked, labels_of, within}
-use Rattle.w_vplain.specs.Measures.{CountsFor, Raised, extra_in, extra_at, peak_of, depth_of, total}
-use Rattle.w_vplain.specs.Row.{IsRow, RaisedBy, after_row, labels_in, raised_by, row_next}
-use Rattle.w_vplain.specs.Standing.{StandsFor, Counts, counts_if, HasBases, HasClasses, context_for, classes_for, top_of, outer_of, frames_of, known, after_next, peak_after}
-use Rattle.w_vplain.specs.Locals.{outer_sets}
-use Rattle.w_vplain.specs.View.{outer_kinds}
+use Rattle.w_vplain.specs.Prefixes.{Prefix, IsDerivable, empty, follow, is_checked, labels_of, within, malformed}
+use Rattle.w_vplain.specs.Measures.{CountsFor, Raised, extra_in, extra_at, peak_of, depth_of, tally, total}
+use Rattle.w_vplain.specs.Row.{IsRow, RaisedBy, above, added_by, labels_in, move_next, raised_to, row_next}
+use Rattle.w_vplain.specs.Standing.{StandsFor, Answers, AnswersRow, Refuses, IsSameBody, IsCall, IsCounted, Counts, counts_if, HasBases, HasClasses, context_for, classes_for, top_of, outer_of, frames_of, frames_of_derived}
+use Rattle.w_locals.specs.Locals.{outer_sets}
+use Rattle.w_vplain.specs.View.{outer_kinds, row_with}
+use Rattle.w_vplain.specs.declared.moves.Move.{Move}
+use Rattle.w_vplain.specs.declared.moves.Move.TheVariants as move
 use Rattle.w_vplain.specs.declared.checker.Checker.{Checker}
-use Rattle.w_vplain.specs.declared.kind.Kind.{Kind}
-use Rattle.w_vplain.proofs.ByRow.{row_knows, row_exact, row_counted, row_deepens, labels_same, labels_of_frames}
+use Rattle.w_vplain.specs.declared.frame_kind.FrameKind.{FrameKind}
+use Rattle.w_vplain.proofs.RowCalls.{row_knows, row_exact, row_counted, row_deepens, labels_same, labels_of_frames}
 use Rattle.w_vplain.proofs.CallsCounted.{calls_counted}
 use Rattle.w_vplain.proofs.CallsDeepen.{Deepens, calls_deepen}
-use Rattle.w_vplain.proofs.CallsKnown.{step_knows, knows_good, stands_good}
-use Rattle.w_vplain.proofs.FramesTold.{kinds_with}
-use Rattle.w_vplain.proofs.Whenever.{at_whenever}
+use Rattle.w_vplain.proofs.CallsKnown.{step_knows, knows_derivable, stands_derivable}
+use Rattle.w_vplain.proofs.FrameViews.{beneath_told, kinds_with}
+use Rattle.w_vplain.proofs.Options.{at_whenever, bind_same}
 use Rattle.w_vplain.proofs.WholeBodies.{first_frame, begin_stands, begin_counts}
 
 -- ## Results
@@ -35,10 +38,6 @@ use Rattle.w_vplain.proofs.WholeBodies.{first_frame, begin_stands, begin_counts}
 pub ok_with : {A E : Type 0} (r : Result A E) (P Q : A → Type 0) → IfOk r P → ((x : A) → P x → Q x) → IfOk r Q
 ok_with (Ok x) P Q h f = f x h
 ok_with (Err e) P Q h f = h
-
-pub ok_all : {A E : Type 0} (r : Result A E) (P Q R S : A → Type 0) → IfOk r P → IfOk r Q → IfOk r R → ((x : A) → P x → Q x → R x → S x) → IfOk r S
-ok_all (Ok x) P Q R S h k l f = f x h k l
-ok_all (Err e) P Q R S h k l f = h
 
 -- ## What a checker stands for
 
@@ -54,30 +53,29 @@ pub open_known : (b : Bool) (fs : List Frame) → b ≡ false → (if b then Non
 open_known b fs e = ap (λ (d : Bool). if d then None else Some fs) e
 
 -- the checker before a call: what its frames stand for, and its counts
-pub frames_stand : (c : Checker) (s : List Bool) (w : Sofar) → StandsFor c s w → c.failed ≡ false → FramesStand (context_for c) s (frames_of c) w
+pub frames_stand : (c : Checker) (s : List Bool) (w : Prefix) → StandsFor c s w → c.refused ≡ false → FramesStand (context_for c) s (frames_of c) w
 frames_stand c s w k alive =
     let P : Option (List Frame) → Type 0 = λ o. Knows (context_for c) s o w in
-    subst P (open_known c.failed (frames_of c) alive) k.knows
+    subst P (open_known c.refused (frames_of c) alive) k.knows
 
-pub counts_stand : (c : Checker) (s : List Bool) (w : Sofar) → StandsFor c s w → c.failed ≡ false → Counts c s w
-counts_stand c s w k alive = counts_given c.failed (Counts c s w) alive k.counts
+pub counts_stand : (c : Checker) (s : List Bool) (w : Prefix) → StandsFor c s w → c.refused ≡ false → Counts c s w
+counts_stand c s w k alive = counts_given c.refused (Counts c s w) alive k.counts
 
--- the checker after a call, where the context stays the same
-pub stands_by : (old new : Checker) (s : List Bool) (w w' : Sofar) → context_for new ≡ context_for old → classes_for new ≡ classes_for old → HasClasses old
-    → Knows (context_for old) s (known new) w'
-    → (new.failed ≡ false → CountsFor (context_for old) s (frames_of new) w' × (new.peak ≡ peak_of (context_for old) s w') × HasBases new × (new.depth ≡ depth_of w'))
+-- the checker after a call
+pub stands_by : (old new : Checker) (s : List Bool) (w w' : Prefix) → IsSameBody old new → HasClasses old → Knows (context_for old) s (frames_of_derived new) w'
+    → (new.refused ≡ false → CountsFor (context_for old) s (frames_of new) w' × (new.peak ≡ peak_of (context_for old) s w') × HasBases new × (new.depth ≡ depth_of w'))
     → StandsFor new s w'
-stands_by old new s w w' c e types k counts = record {
-  classes = (let P : Context → List Entry → Type 0 = λ d es. Stands d.types es in
+stands_by old new s w w' same types k counts = record {
+  classes = (let P : Context → List Entry → Type 0 = λ d es. IsClassesOf d.types es in
       let Q : Context → Type 0 = λ d. P d (classes_for new) in
-      subst Q (sym c) (subst (P (context_for old)) (sym e) types));
-  knows = (let P : Context → Type 0 = λ d. Knows d s (known new) w' in subst P (sym c) k);
-  counts = counts_case new.failed (Counts new s w') (λ alive. (
+      subst Q (sym same.context) (subst (P (context_for old)) (sym same.classes) types));
+  knows = (let P : Context → Type 0 = λ d. Knows d s (frames_of_derived new) w' in subst P (sym same.context) k);
+  counts = counts_case new.refused (Counts new s w') (λ alive. (
       let r = counts alive in
       let P : Context → Type 0 = λ d. CountsFor d s (frames_of new) w' in
       record {
-        frames = subst P (sym c) r.0;
-        peak = r.1 ∙ ap (λ d. peak_of d s w') (sym c);
+        frames = subst P (sym same.context) r.0;
+        peak = r.1 ∙ ap (λ d. peak_of d s w') (sym same.context);
         bases = r.2;
         depth = r.3;
       }));
@@ -100,155 +98,160 @@ no_extra c (flat.If x other end) h e = refl
 no_extra c flat.Else h e = refl
 no_extra c flat.End h e = refl
 
-nothing_at : (c : Context) (i : Instr) (ks : List Kind) (now : Option ℕ) → is_checked i ≡ true → extra_at c i ks now ≡ 0
+nothing_at : (c : Context) (i : Instr) (ks : List FrameKind) (now : Option ℕ) → is_checked i ≡ true → extra_at c i ks now ≡ 0
 nothing_at c i ks None e = refl
 nothing_at c i ks (Some h) e = no_extra (within c ks) i h e
 
-max_zero : (p q x : ℕ) → x ≡ 0 → max (max p x) q ≡ max p q
-max_zero p q x e = omega (arith, e)
+-- what the old checker's frames led to, where the answer is true
+module _ (old new : Checker) (m : Move) (answer : Bool) (h : IsCall old new m answer) (alive : new.refused ≡ false) where
+  now_known : frames_of_derived new ≡ Some (frames_of new)
+  now_known = open_known new.refused (frames_of new) alive
 
--- what `call` ensures
-abbrev pub Steps : Checker → Checker → Instr → Type 0
-Steps old new i = known new ≡ after_next (classes_for old) (context_for old) i (known old)
+  was_alive : old.refused ≡ false
+  was_alive = (h.counted (h.answer ∙ ap is_some now_known)).0
 
-abbrev pub Counted : Checker → Checker → Bool → Type 0
-Counted old new answer = IsTrue answer → IsFalse old.failed × (new.depth ≡ max old.depth (length (frames_of new)))
-    × (HasBases old → HasBases new × (new.peak ≡ peak_after old (frames_of new)))
+  is_counted : IsCounted old new (added_by m (frames_of old))
+  is_counted = (h.counted (h.answer ∙ ap is_some now_known)).1
 
-counts_after : (old new : Checker) (i : Instr) (s : List Bool) (w : Sofar) (answer : Bool) → is_checked i ≡ true → Steps old new i → answer ≡ is_some (known new)
-    → Counted old new answer → StandsFor old s w → new.failed ≡ false
-    → CountsFor (context_for old) s (frames_of new) (follow i w) × (new.peak ≡ peak_of (context_for old) s (follow i w)) × HasBases new × (new.depth ≡ depth_of (follow i w))
-counts_after old new i s w answer ch e a n k alive =
+  leads_on : move_next (classes_for old) (context_for old) m (frames_of old) ≡ Some (frames_of new)
+  leads_on =
+      ap (λ (o : Option (List Frame)). o >>= move_next (classes_for old) (context_for old) m) (sym (open_known old.refused (frames_of old) was_alive))
+      ∙ sym h.leads ∙ now_known
+
+counts_after : (old new : Checker) (i : Bor Instr) (s : List Bool) (w : Prefix) (answer : Bool) → is_checked i.now ≡ true → IsCall old new (move.Instr i) answer
+    → StandsFor old s w → new.refused ≡ false
+    → CountsFor (context_for old) s (frames_of new) (follow i.now w) × (new.peak ≡ peak_of (context_for old) s (follow i.now w)) × HasBases new × (new.depth ≡ depth_of (follow i.now w))
+counts_after old new i s w answer ch h k alive =
     let c = context_for old in
     let es = classes_for old in
-    let now : known new ≡ Some (frames_of new) = open_known new.failed (frames_of new) alive in
-    let before = n (a ∙ ap is_some now) in
-    let then_known : known old ≡ Some (frames_of old) = open_known old.failed (frames_of old) before.0 in
-    let next_is : next es c i (frames_of old) ≡ Some (frames_of new) = ap (λ (o : Option (List Frame)). o >>= next es c i) (sym then_known) ∙ sym e ∙ now in
-    let stands = frames_stand old s w k before.0 in
-    let counts = counts_stand old s w k before.0 in
-    let r = at_whenever (next es c i (frames_of old)) (λ gs. CountsFor c s gs (follow i w) × Raised c s i (frames_of old) gs w (follow i w)) (frames_of new) next_is
-    (calls_counted es c s i (frames_of old) w stands counts.frames) in
-    let d = at_whenever (next es c i (frames_of old)) (Deepens w (follow i w)) (frames_of new) next_is (calls_deepen es c s i (frames_of old) w stands) in
-    let b = before.2 counts.bases in (
+    let w' = follow i.now w in
+    let was = was_alive old new (move.Instr i) answer h alive in
+    let next_is : next es c i.now (frames_of old) ≡ Some (frames_of new) = leads_on old new (move.Instr i) answer h alive in
+    let counted = is_counted old new (move.Instr i) answer h alive in
+    let stands = frames_stand old s w k was in
+    let counts = counts_stand old s w k was in
+    let r = at_whenever (next es c i.now (frames_of old)) (λ gs. CountsFor c s gs w' × Raised c s i.now (frames_of old) gs w w') (frames_of new) next_is
+    (calls_counted es c s i.now (frames_of old) w stands counts.frames) in
+    let d = at_whenever (next es c i.now (frames_of old)) (Deepens w w') (frames_of new) next_is (calls_deepen es c s i.now (frames_of old) w stands) in
+    let b = counted.peak counts.bases in (
       r.0,
-      b.1 ∙ ap (λ (p : ℕ). max p (or_none (total (frames_of new)) (λ (h : ℕ). h))) counts.peak
-          ∙ sym (max_zero (peak_of c s w) (or_none (total (frames_of new)) (λ (h : ℕ). h)) (extra_at c i (frame_kinds (frames_of old)) (total (frames_of old)))
-          (nothing_at c i (frame_kinds (frames_of old)) (total (frames_of old)) ch))
+      b.1 ∙ ap (λ (p : ℕ). raised_to p 0 (frames_of new)) counts.peak
+          ∙ ap (λ (x : ℕ). raised_to (peak_of c s w) x (frames_of new)) (sym (nothing_at c i.now (frame_kinds (frames_of old)) (total (frames_of old)) ch))
           ∙ sym r.1,
       b.0,
-      before.1 ∙ ap (λ (m : ℕ). max m (length (frames_of new))) counts.depth ∙ sym d,
+      counted.depth ∙ ap (λ (m : ℕ). max m (length (frames_of new))) counts.depth ∙ sym d,
     )
 
--- it stands for the sequence with the instruction
-pub stands_after : (old new : Checker) (i : Instr) (s : List Bool) (w : Sofar) (answer : Bool) → is_checked i ≡ true → Steps old new i → context_for new ≡ context_for old
-    → classes_for new ≡ classes_for old → answer ≡ is_some (known new) → Counted old new answer → StandsFor old s w → StandsFor new s (follow i w)
-stands_after old new i s w answer ch e c t a n k =
-    let P : Option (List Frame) → Type 0 = λ o. Knows (context_for old) s o (follow i w) in
-    stands_by old new s w (follow i w) c t k.classes
-    (subst P (sym e) (step_knows (classes_for old) (context_for old) k.classes s i ch (known old) w k.knows))
-    (counts_after old new i s w answer ch e a n k)
+-- the call answers for the sequence with the instruction
+answered : (old new : Checker) (i : Bor Instr) (answer : Bool) → is_checked i.now ≡ true → IsCall old new (move.Instr i) answer → IsSameBody old new → Answers old new (follow i.now) answer
+answered old new i answer ch h same = λ s w k.
+    let c = context_for old in
+    let es = classes_for old in
+    let P : Option (List Frame) → Type 0 = λ o. Knows c s o (follow i.now w) in
+    let leads : frames_of_derived new ≡ (frames_of_derived old >>= next es c i.now) = h.leads ∙ bind_same (frames_of_derived old) (move_next es c (move.Instr i)) (next es c i.now) (λ fs. refl) in
+    let knows = step_knows es c k.classes s i.now ch (frames_of_derived old) w k.knows in (
+      stands_by old new s w (follow i.now w) same k.classes (subst P (sym leads) knows) (counts_after old new i s w answer ch h k),
+      knows_derivable c s (frames_of_derived old >>= next es c i.now) (follow i.now w) knows answer (h.answer ∙ ap is_some leads),
+    )
 
--- the answer is whether the rules derive it
-pub exact_after : (old new : Checker) (i : Instr) (s : List Bool) (w : Sofar) (answer : Bool) → is_checked i ≡ true → Steps old new i → answer ≡ is_some (known new) → StandsFor old s w
-    → IsTrue answer ↔ Good (context_for old) s (follow i w)
-exact_after old new i s w answer ch e a k =
-    knows_good (context_for old) s (after_next (classes_for old) (context_for old) i (known old)) (follow i w)
-    (step_knows (classes_for old) (context_for old) k.classes s i ch (known old) w k.knows) answer (a ∙ ap is_some e)
+-- and for each sequence that is that one
+answers_same : (old new : Checker) (f g : Prefix → Prefix) (answer : Bool) → ((w : Prefix) → g w ≡ f w) → Answers old new f answer → Answers old new g answer
+answers_same old new f g answer e h = λ s w k.
+    let P : Prefix → Type 0 = λ v. StandsFor new s v × (IsTrue answer ↔ IsDerivable (context_for old) s v) in
+    subst P (sym (e w)) (h s w k)
 
--- ## The calls for each class of instructions
-
-pub stands_same : {E : Type 0} (r : Result Bool E) (old new : Checker) (v f : Sofar → Sofar) → ((w : Sofar) → v w ≡ f w)
-    → IfOk r (λ _. (s : List Bool) (w : Sofar) → StandsFor old s w → StandsFor new s (f w)) → IfOk r (λ _. (s : List Bool) (w : Sofar) → StandsFor old s w → StandsFor new s (v w))
-stands_same r old new v f e h = ok_with r _ _ h (λ x k s w o. let P : Sofar → Type 0 = λ u. StandsFor new s u in subst P (sym (e w)) (k s w o))
-
-pub exact_same : {E : Type 0} (r : Result Bool E) (old : Checker) (d : Context) (v f : Sofar → Sofar) → ((w : Sofar) → v w ≡ f w)
-    → IfOk r (λ taken. (s : List Bool) (w : Sofar) → StandsFor old s w → IsTrue taken ↔ Good d s (f w))
-    → IfOk r (λ taken. (s : List Bool) (w : Sofar) → StandsFor old s w → IsTrue taken ↔ Good d s (v w))
-exact_same r old d v f e h = ok_with r _ _ h (λ x k s w o. let P : Sofar → Type 0 = λ u. IsTrue x ↔ Good d s u in subst P (sym (e w)) (k s w o))
-
-failed_knows : (c : Checker) (d : Context) (s : List Bool) (w : Sofar) → c.failed ≡ true → (Good d s w → ⊥) → Knows d s (known c) w
-failed_knows c d s w t n =
-    let P : Option (List Frame) → Type 0 = λ o. Knows d s o w in
-    subst P (sym (ap (λ (b : Bool). if b then None else Some (frames_of c)) t)) n
-
-pub stands_refused : {E : Type 0} (r : Result Bool E) (old new : Checker) (v : Sofar → Sofar) → context_for new ≡ context_for old → classes_for new ≡ classes_for old
-    → ((s : List Bool) (w : Sofar) → Good (context_for old) s (v w) → ⊥)
-    → IfOk r (λ taken. IsFalse taken × IsTrue new.failed) → IfOk r (λ _. (s : List Bool) (w : Sofar) → StandsFor old s w → StandsFor new s (v w))
-stands_refused r old new v c e n h =
-    ok_with r _ _ h (λ x k s w o. stands_by old new s w (v w) c e o.classes (failed_knows new (context_for old) s (v w) k.1 (n s w)) (λ alive. absurd (false≢true (sym alive ∙ k.1))))
-
-pub exact_refused : {E : Type 0} (r : Result Bool E) (old new : Checker) (d : Context) (v : Sofar → Sofar) → ((s : List Bool) (w : Sofar) → Good d s (v w) → ⊥)
-    → IfOk r (λ taken. IsFalse taken × IsTrue new.failed) → IfOk r (λ taken. (s : List Bool) (w : Sofar) → StandsFor old s w → IsTrue taken ↔ Good d s (v w))
-exact_refused r old new d v n h = ok_with r _ _ h (λ x k s w o. (λ t. absurd (false≢true (sym k.0 ∙ t)), λ g. absurd (n s w g)))
+pub answers_instr : {E : Type 0} (r : Result Bool E) (old new : Checker) (i : Bor Instr) (next : Prefix → Prefix) → IfOk r (λ taken. IsCall old new (move.Instr i) taken) → IsSameBody old new
+    → is_checked i.now ≡ true → ((w : Prefix) → next w ≡ follow i.now w) → IfOk r (λ taken. Answers old new next taken)
+answers_instr r old new i next h same ch e = ok_with r _ _ h (λ taken x. answers_same old new (follow i.now) next taken e (answered old new i taken ch x same))
 
 -- ## A call by a row
 
-abbrev pub RowSteps : Checker → Checker → Row ValType → Row ValType → Type 0
-RowSteps old new ins outs = known new ≡ after_row (classes_for old) ins outs (known old)
-
-abbrev pub RowCounted : Checker → Checker → ℕ → Option ℕ → Bool → Type 0
-RowCounted old new taken raise answer = IsTrue answer → IsFalse old.failed × (new.depth ≡ max old.depth (length (frames_of new)))
-    × (HasBases old → HasBases new × (new.peak ≡ raised_by old.peak taken raise (frames_of old) (frames_of new)))
-
-counts_by_row : (old new : Checker) (o : Op) (s : List Bool) (w : Sofar) (ins outs : Row ValType) (raise : Option ℕ) (answer : Bool) → RowSteps old new ins outs → answer ≡ is_some (known new)
-    → RowCounted old new (size ins) raise answer → StandsFor old s w → (Good (context_for old) s w → IsRow (context_for old) s w o ins outs raise) → new.failed ≡ false
+counts_by_row : (old new : Checker) (ins : Bor (List ValType)) (top : Option ValType) (outs : Bor (List ValType)) (raise : Option ℕ) (o : Op) (s : List Bool) (w : Prefix) (answer : Bool)
+    → IsCall old new (move.Row ins top outs raise) answer → StandsFor old s w
+    → (IsDerivable (context_for old) s w → IsRow (context_for old) s w o (row_with (row_of ins.now) top) (row_of outs.now) raise) → new.refused ≡ false
     → CountsFor (context_for old) s (frames_of new) (follow (flat.Plain o) w) × (new.peak ≡ peak_of (context_for old) s (follow (flat.Plain o) w)) × HasBases new
     × (new.depth ≡ depth_of (follow (flat.Plain o) w))
-counts_by_row old new o s w ins outs raise answer e a n k found alive =
+counts_by_row old new ins top outs raise o s w answer h k found alive =
     let c = context_for old in
     let es = classes_for old in
+    let m = move.Row ins top outs raise in
+    let takes = row_with (row_of ins.now) top in
+    let gives = row_of outs.now in
     let w' = follow (flat.Plain o) w in
-    let now : known new ≡ Some (frames_of new) = open_known new.failed (frames_of new) alive in
-    let before = n (a ∙ ap is_some now) in
-    let then_known : known old ≡ Some (frames_of old) = open_known old.failed (frames_of old) before.0 in
-    let next_is : row_next es ins outs (frames_of old) ≡ Some (frames_of new) = ap (after_row es ins outs) (sym then_known) ∙ sym e ∙ now in
-    let stands = frames_stand old s w k before.0 in
-    let counts = counts_stand old s w k before.0 in
-    let r = found (stands_good c s (frames_of old) w stands) in
-    let q = at_whenever (row_next es ins outs (frames_of old)) (λ gs. CountsFor c s gs w' × RaisedBy c s (size ins) raise (frames_of old) gs w w') (frames_of new) next_is
-    (row_counted es c s o ins outs raise (frames_of old) w stands counts.frames r) in
-    let d = at_whenever (row_next es ins outs (frames_of old)) (Deepens w w') (frames_of new) next_is (row_deepens es c s o ins outs raise (frames_of old) w stands r) in
-    let b = before.2 counts.bases in (
+    let was = was_alive old new m answer h alive in
+    let next_is : row_next es takes gives (frames_of old) ≡ Some (frames_of new) = leads_on old new m answer h alive in
+    let counted = is_counted old new m answer h alive in
+    let stands = frames_stand old s w k was in
+    let counts = counts_stand old s w k was in
+    let r = found (stands_derivable c s (frames_of old) w stands) in
+    let q = at_whenever (row_next es takes gives (frames_of old)) (λ gs. CountsFor c s gs w' × RaisedBy c s (size takes) raise (frames_of old) gs w w') (frames_of new) next_is
+    (row_counted es c s o takes gives raise (frames_of old) w stands counts.frames r) in
+    let d = at_whenever (row_next es takes gives (frames_of old)) (Deepens w w') (frames_of new) next_is (row_deepens es c s o takes gives raise (frames_of old) w stands r) in
+    let b = counted.peak counts.bases in (
       q.0,
-      b.1 ∙ ap (λ (p : ℕ). raised_by p (size ins) raise (frames_of old) (frames_of new)) counts.peak ∙ sym q.1,
+      b.1 ∙ ap (λ (p : ℕ). raised_to p (added_by m (frames_of old)) (frames_of new)) counts.peak ∙ sym q.1,
       b.0,
-      before.1 ∙ ap (λ (m : ℕ). max m (length (frames_of new))) counts.depth ∙ sym d,
+      counted.depth ∙ ap (λ (n : ℕ). max n (length (frames_of new))) counts.depth ∙ sym d,
     )
 
--- it stands for the sequence with each instruction of the row
-pub stands_by_row : (old new : Checker) (ins outs : Row ValType) (raise : Option ℕ) (answer : Bool) → RowSteps old new ins outs → context_for new ≡ context_for old → classes_for new ≡ classes_for old
-    → answer ≡ is_some (known new) → RowCounted old new (size ins) raise answer → (s : List Bool) (w : Sofar) (o : Op) → StandsFor old s w → (Good (context_for old) s w → IsRow (context_for old) s w o ins outs raise)
-    → StandsFor new s (follow (flat.Plain o) w)
-stands_by_row old new ins outs raise answer e c t a n s w o k r =
-    let P : Option (List Frame) → Type 0 = λ x. Knows (context_for old) s x (follow (flat.Plain o) w) in
-    stands_by old new s w (follow (flat.Plain o) w) c t k.classes
-    (subst P (sym e) (row_knows (classes_for old) (context_for old) k.classes s o ins outs raise (known old) w k.knows r))
-    (counts_by_row old new o s w ins outs raise answer e a n k r)
+-- the call answers for the sequence with each instruction of the row
+pub answers_row : {E : Type 0} (r : Result Bool E) (old new : Checker) (ins : Bor (List ValType)) (top : Option ValType) (outs : Bor (List ValType)) (raise : Option ℕ)
+    → IfOk r (λ taken. IsCall old new (move.Row ins top outs raise) taken) → IsSameBody old new
+    → IfOk r (λ taken. AnswersRow old new (row_with (row_of ins.now) top) (row_of outs.now) raise taken)
+answers_row r old new ins top outs raise call same =
+    ok_with r _ _ call (λ taken h s w o k found.
+    let c = context_for old in
+    let es = classes_for old in
+    let takes = row_with (row_of ins.now) top in
+    let gives = row_of outs.now in
+    let w' = follow (flat.Plain o) w in
+    let P : Option (List Frame) → Type 0 = λ x. Knows c s x w' in
+    let leads : frames_of_derived new ≡ (frames_of_derived old >>= row_next es takes gives) =
+    h.leads ∙ bind_same (frames_of_derived old) (move_next es c (move.Row ins top outs raise)) (row_next es takes gives) (λ fs. refl) in (
+      stands_by old new s w w' same k.classes
+          (subst P (sym leads) (row_knows es c k.classes s o takes gives raise (frames_of_derived old) w k.knows found))
+          (counts_by_row old new ins top outs raise o s w taken h k found),
+      row_exact es c k.classes s o takes gives raise (frames_of_derived old) w k.knows found taken (h.answer ∙ ap is_some leads),
+    ))
 
--- the answer is whether the rules derive it
-pub exact_by_row : (old new : Checker) (ins outs : Row ValType) (raise : Option ℕ) (answer : Bool) → RowSteps old new ins outs → answer ≡ is_some (known new)
-    → (s : List Bool) (w : Sofar) (o : Op) → StandsFor old s w → (Good (context_for old) s w → IsRow (context_for old) s w o ins outs raise) → IsTrue answer ↔ Good (context_for old) s (follow (flat.Plain o) w)
-exact_by_row old new ins outs raise answer e a s w o k r =
-    row_exact (classes_for old) (context_for old) k.classes s o ins outs raise (known old) w k.knows r answer (a ∙ ap is_some e)
+-- what it adds to the operands of its place
+pub added_told : {E : Type 0} (r : Result ℕ E) (c : Checker) (m : Move) (ins : Bor (List ValType)) (top : Option ValType) (outs : Bor (List ValType)) (raise : Option ℕ) (taken : ℕ) (here : Option ℕ)
+    → m ≡ move.Row ins top outs raise → c.ended ≡ false → here ≡ tally (top_of c).any (top_of c).operands c.top.base → taken ≡ size (row_with (row_of ins.now) top)
+    → IfOk r (λ n. n ≡ or_none here (above taken raise)) → IfOk r (λ n. HasBases c → n ≡ added_by m (frames_of c))
+added_told r c m ins top outs raise taken here is going e f h =
+    ok_with r _ _ h (λ n x bases.
+    beneath_told c.ended (top_of c) c.outer.items (outer_sets c.locals.sets) c.top.base here n (above taken raise) going bases.0 e x
+    ∙ ap (λ (k : ℕ). or_none (total (frames_of c)) (above k raise)) f
+    ∙ ap (λ (d : Move). added_by d (frames_of c)) (sym is))
 
 -- ## A sequence that is not derived
 
-pub false_of : {E : Type 0} (r : Result Bool E) (new : Checker) → IfOk r (λ taken. IsFalse taken × IsTrue new.failed) → IfOk r (λ taken. IsFalse taken)
-false_of r new h = ok_with r _ _ h (λ x k. k.0)
+refused_knows : (c : Checker) (d : Context) (s : List Bool) (w : Prefix) → c.refused ≡ true → (IsDerivable d s w → ⊥) → Knows d s (frames_of_derived c) w
+refused_knows c d s w t n =
+    let P : Option (List Frame) → Type 0 = λ o. Knows d s o w in
+    subst P (sym (ap (λ (b : Bool). if b then None else Some (frames_of c)) t)) n
 
-pub stands_without : {E : Type 0} (r : Result Bool E) (old new : Checker) → context_for new ≡ context_for old → classes_for new ≡ classes_for old → IfOk r (λ taken. IsFalse taken × IsTrue new.failed)
-    → IfOk r (λ _. (s : List Bool) (w v : Sofar) → StandsFor old s w → (Good (context_for old) s v → ⊥) → StandsFor new s v)
-stands_without r old new c e h =
-    ok_with r _ _ h (λ x k s w v st no. stands_by old new s w v c e st.classes (failed_knows new (context_for old) s v k.1 no) (λ alive. absurd (false≢true (sym alive ∙ k.1))))
+-- a checker that refused stands for it
+pub refuses : (old new : Checker) (answer : Bool) → IsSameBody old new → new.refused ≡ true → answer ≡ false → Refuses old new answer
+refuses old new answer same t e = record {
+  is_false = e;
+  stands = λ s w v st no. stands_by old new s w v same st.classes (refused_knows new (context_for old) s v t no) (λ alive. absurd (false≢true (sym alive ∙ t)));
+}
+
+-- an instruction of another class begins no body
+pub answers_malformed : {E : Type 0} (r : Result Bool E) (old new : Checker) (next : Prefix → Prefix) → ((w : Prefix) → next w ≡ malformed)
+    → IfOk r (λ taken. Refuses old new taken) → IfOk r (λ taken. Answers old new next taken)
+answers_malformed r old new next e h =
+    ok_with r _ _ h (λ taken x. answers_same old new (λ w. malformed) next taken e
+    (λ s w k. (x.stands s w malformed k (λ g. g), (λ t. absurd (false≢true (sym x.is_false ∙ t)), λ g. absurd g))))
 
 -- ## The beginning
 
-pub begins : (c : Checker) (s : List Bool) → HasClasses c → known c ≡ Some (first_frame s ∷ []) → frames_of c ≡ first_frame s ∷ [] → c.peak ≡ 0 → c.depth ≡ 1 → HasBases c → StandsFor c s empty
+pub begins : (c : Checker) (s : List Bool) → HasClasses c → frames_of_derived c ≡ Some (first_frame s ∷ []) → frames_of c ≡ first_frame s ∷ [] → c.peak ≡ 0 → c.depth ≡ 1 → HasBases c → StandsFor c s empty
 begins c s types e f p d b = record {
   classes = types;
   knows = (let P : Option (List Frame) → Type 0 = λ o. Knows (context_for c) s o empty in subst P (sym e) (begin_stands (context_for c) s));
-  counts = counts_case c.failed (Counts c s empty) (λ alive. record {
+  counts = counts_case c.refused (Counts c s empty) (λ alive. record {
     frames = (let P : List Frame → Type 0 = λ fs. CountsFor (context_for c) s fs empty in subst P (sym f) (begin_counts (context_for c) s));
     peak = p;
     bases = b;
@@ -258,34 +261,34 @@ begins c s types e f p d b = record {
 
 -- ## Where the sequence is derived
 
-known_good : (c : Context) (s : List Bool) (b : Bool) (fs : List Frame) (w : Sofar) → Knows c s (if b then None else Some fs) w → Good c s w → b ≡ false
-known_good c s true fs w k g = absurd (k g)
-known_good c s false fs w k g = refl
+known_derivable : (c : Context) (s : List Bool) (b : Bool) (fs : List Frame) (w : Prefix) → Knows c s (if b then None else Some fs) w → IsDerivable c s w → b ≡ false
+known_derivable c s true fs w k g = absurd (k g)
+known_derivable c s false fs w k g = refl
 
 -- ## The labels
 
-pub label_told : (c : Checker) (s : List Bool) (w : Sofar) (index : ℕ) → StandsFor c s w → Good (context_for c) s w → c.ended ≡ false
+pub label_told : (c : Checker) (s : List Bool) (w : Prefix) (index : ℕ) → StandsFor c s w → IsDerivable (context_for c) s w → c.ended ≡ false
     → slice_get (labels_in (context_for c) w) index ≡ slice_get (labels_of (context_for c) (c.top.kind ∷ outer_kinds c.outer.items)) index
 label_told c s w index k g e =
     let open_is : frames_of c ≡ top_of c ∷ outer_of c = ap (λ (b : Bool). if b then [] else top_of c ∷ outer_of c) e in
     let P : List Frame → Type 0 = λ fs. FramesStand (context_for c) s fs w in
-    let stands = subst P open_is (frames_stand c s w k (known_good (context_for c) s c.failed (frames_of c) w k.knows g)) in
+    let stands = subst P open_is (frames_stand c s w k (known_derivable (context_for c) s c.refused (frames_of c) w k.knows g)) in
     ap (λ (ls : List (Row ValType)). slice_get ls index)
     (labels_same (context_for c) s (top_of c) (outer_of c) w stands
-    ∙ ap (λ (ks : List Kind). labels_of (context_for c) (c.top.kind ∷ ks)) (kinds_with (reverse c.outer.items) (outer_sets c.locals.sets)))
+    ∙ ap (λ (ks : List FrameKind). labels_of (context_for c) (c.top.kind ∷ ks)) (kinds_with (reverse c.outer.items) (outer_sets c.locals.sets)))
 
-none_at_end : (c : Context) (s : List Bool) (fs : List Frame) (w : Sofar) → fs ≡ [] → FramesStand c s fs w → labels_in c w ≡ []
+none_at_end : (c : Context) (s : List Bool) (fs : List Frame) (w : Prefix) → fs ≡ [] → FramesStand c s fs w → labels_in c w ≡ []
 none_at_end c s fs w e st = let P : List Frame → Type 0 = λ gs. FramesStand c s gs w in labels_of_frames c s [] w (subst P e st)
 
-pub label_none : (c : Checker) (s : List Bool) (w : Sofar) (index : ℕ) → StandsFor c s w → Good (context_for c) s w → c.ended ≡ true
+pub label_none : (c : Checker) (s : List Bool) (w : Prefix) (index : ℕ) → StandsFor c s w → IsDerivable (context_for c) s w → c.ended ≡ true
     → slice_get (labels_in (context_for c) w) index ≡ None
 label_none c s w index k g e =
     let none : frames_of c ≡ [] = ap (λ (b : Bool). if b then [] else top_of c ∷ outer_of c) e in
     ap (λ (ls : List (Row ValType)). slice_get ls index)
-    (none_at_end (context_for c) s (frames_of c) w none (frames_stand c s w k (known_good (context_for c) s c.failed (frames_of c) w k.knows g)))
+    (none_at_end (context_for c) s (frames_of c) w none (frames_stand c s w k (known_derivable (context_for c) s c.refused (frames_of c) w k.knows g)))
 
 -- ## The counts
 
 -- where the sequence is derived, no answer was false
-pub alive : (c : Checker) (s : List Bool) (w : Sofar) → StandsFor c s w → Good (context_for c) s w → c.failed ≡ false
-alive c s w k g = known_good (context_for c) s c.failed (frames_of c) w k.knows g
+pub alive : (c : Checker) (s : List Bool) (w : Prefix) → StandsFor c s w → IsDerivable (context_for c) s w → c.refused ≡ false
+alive c s w k g = known_derivable (context_for c) s c.refused (frames_of c) w k.knows g

@@ -9,29 +9,28 @@ use Rattle.w_syntax.specs.declared.instructions.Op.TheVariants as op
 use Rattle.w_canon.specs.declared.entry.Entry.{Entry}
 use Rattle.w_rules.specs.declared.operand.Operand.{Operand}
 use Rattle.w_rules.specs.Context.{Context, Arrow, arrow_of}
-use Rattle.w_rules.specs.Lines.{Line, line}
+use Rattle.w_rules.specs.InstructionTypes.{InstrType, instr_type}
 use Rattle.w_rules.specs.Matching.{known}
 use Rattle.w_rules.specs.Peak.{or_none, extra}
 use Rattle.w_flow.specs.Flow.{◌>>=◌, pops, ends, step}
-use Rattle.w_vplain.specs.Levels.{Level, Sofar, open_at, ended, broken, opened, more, turned, node, closed, followed, follow, arrow_at, taken_by, within, kinds_of, set_at}
-use Rattle.w_vplain.specs.Frames.{Frame, frame_kinds, condition_test, line_next, plain_next, op_next, enter_next, other_next, end_test, leave, end_next, frame_next, next, StandsAll, FramesStand}
+use Rattle.w_vplain.specs.Prefixes.{OpenBlock, Prefix, open_at, ended, malformed, opened, more, in_else, node, closed, followed, follow, arrow_at, taken_by, within, kinds_of, set_at}
+use Rattle.w_vplain.specs.Frames.{Frame, frame_kinds, condition_test, typed_next, plain_next, op_next, enter_next, other_next, end_test, leave, end_next, frame_next, next, StandsAll, FramesStand}
 use Rattle.w_vplain.specs.Measures.{height_at, peaks, peak_of, tally, total, Tallies, CountsFor, Raised}
-use Rattle.w_vplain.specs.declared.kind.Kind.{Kind}
-use Rattle.w_vplain.specs.declared.kind.Kind.TheVariants as kind
-use Rattle.w_vplain.proofs.Held.{held_at, at_held, held_fact}
-use Rattle.w_vplain.proofs.Reaching.{level, framed, frame_is, kinds_same, tail_kinds}
-use Rattle.w_vplain.proofs.LinesKnown.{line_at}
+use Rattle.w_vplain.specs.declared.frame_kind.FrameKind.{FrameKind}
+use Rattle.w_vplain.specs.declared.frame_kind.FrameKind.TheVariants as kind
+use Rattle.w_vplain.proofs.Options.{held_at, at_held, held_fact, Whenever, whenever_bind, whenever_map, whenever_eq, at_whenever, when_if, whenever_none}
+use Rattle.w_vplain.proofs.Reaching.{open_block, framed, frame_is, kinds_same, tail_kinds}
+use Rattle.w_vplain.proofs.TypesKnown.{instr_type_at}
 use Rattle.w_vplain.proofs.Nodes.{Inner, is_block, is_then, is_else}
-use Rattle.w_vplain.proofs.Whenever.{Whenever, whenever_bind, whenever_map, whenever_eq, at_whenever, when_if, whenever_none}
-use Rattle.w_vplain.proofs.LineHeights.{pops_long, step_tally}
-use Rattle.w_vplain.proofs.LevelPeaks.{no_zero, NoFirst, line_counts, enter_heights, enter_peaks, turn_counts, end_counts}
+use Rattle.w_vplain.proofs.TypeHeights.{pops_long, step_tally}
+use Rattle.w_vplain.proofs.BlockPeaks.{no_zero, NoFirst, typed_counts, enter_heights, enter_peaks, turn_counts, end_counts}
 
 -- the frames have as many operands as the place, and the peak is raised by it
-abbrev pub Counted : Context → List Bool → Sofar → Sofar → List Frame → Type 0
+abbrev pub Counted : Context → List Bool → Prefix → Prefix → List Frame → Type 0
 Counted c s old new gs = CountsFor c s gs new × (peak_of c s new ≡ max (peak_of c s old) (or_none (total gs) (λ (h : ℕ). h)))
 
 -- and by what a resume adds
-abbrev pub CountedBy : Context → List Bool → Instr → List Frame → Sofar → Sofar → List Frame → Type 0
+abbrev pub CountedBy : Context → List Bool → Instr → List Frame → Prefix → Prefix → List Frame → Type 0
 CountedBy c s i fs old new gs = CountsFor c s gs new × Raised c s i fs gs old new
 
 -- nothing is added
@@ -40,49 +39,49 @@ quiet None a b c e = omega arith
 quiet (Some h) a b c e = omega arith
 
 -- an instruction that no resume is
-quietly : (c : Context) (s : List Bool) (n : Option (List Frame)) (now : Option ℕ) (old new : Sofar) → Whenever n (Counted c s old new) →
+quietly : (c : Context) (s : List Bool) (n : Option (List Frame)) (now : Option ℕ) (old new : Prefix) → Whenever n (Counted c s old new) →
     Whenever n (λ (gs : List Frame). CountsFor c s gs new × (peak_of c s new ≡ max (max (peak_of c s old) (or_none now (λ (h : ℕ). 0))) (or_none (total gs) (λ (h : ℕ). h))))
 quietly c s n now old new h = whenever_map n _ _ h (λ gs k. (k.0, quiet now _ _ _ k.1))
 
--- ## By a line
+-- ## By an instruction type
 
--- an instruction of the line that it has there
-step_counted : (es : List Entry) (c : Context) (s : List Bool) (o : Op) (f : Frame) (fs : List Frame) (l : Level) (ls : List Level) →
+-- an instruction of the type that it has there
+step_counted : (es : List Entry) (c : Context) (s : List Bool) (o : Op) (f : Frame) (fs : List Frame) (l : OpenBlock) (ls : List OpenBlock) →
     frame_kinds (f ∷ fs) ≡ kinds_of (l ∷ ls) → Tallies c s 0 (f ∷ fs) (l ∷ ls) →
-    Whenever (line_next es (line_at c s l ls o) o f fs) (CountedBy c s (flat.Plain o) (f ∷ fs) (open_at l ls) (open_at (more l (Plain o Done)) ls))
+    Whenever (typed_next es (instr_type_at c s l ls o) o f fs) (CountedBy c s (flat.Plain o) (f ∷ fs) (open_at l ls) (open_at (more l (Plain o Done)) ls))
 step_counted es c s o f fs l ls same t =
-    let n = line_at c s l ls o in
+    let n = instr_type_at c s l ls o in
     whenever_bind (step es n f.any f.operands) _ _ (whenever_map (step es n f.any f.operands) _ _ (step_tally es n f.any f.operands) (λ w goes.
-    (let r = line_counts c s o f.any f.operands l ls fs w goes t.0 in (
+    (let r = typed_counts c s o f.any f.operands l ls fs w goes t.0 in (
       (r.0, t.1),
-      r.1 ∙ ap (λ (ks : List Kind). max (max (peaks c s (l ∷ ls)) (or_none (total (f ∷ fs)) (extra (within c ks) o))) (or_none (tally w.any w.operands (total fs)) (λ (h : ℕ). h)))
+      r.1 ∙ ap (λ (ks : List FrameKind). max (max (peaks c s (l ∷ ls)) (or_none (total (f ∷ fs)) (extra (within c ks) o))) (or_none (tally w.any w.operands (total fs)) (λ (h : ℕ). h)))
           (sym same),
     ))))
 
--- an instruction of this line, which passes its test
-pub line_counted : (es : List Entry) (c : Context) (s : List Bool) (o : Op) (n : Line) (f : Frame) (fs : List Frame) (l : Level) (ls : List Level) →
-    StandsAll c s ε (f ∷ fs) (l ∷ ls) → Tallies c s 0 (f ∷ fs) (l ∷ ls) → (b : Bool) → line_at c s l ls o ≡ n →
-    Whenever (if b then line_next es n o f fs else None) (CountedBy c s (flat.Plain o) (f ∷ fs) (open_at l ls) (open_at (more l (Plain o Done)) ls))
-line_counted es c s o n f fs l ls st t b e =
-    let P : Line → Type 0 = λ m. Whenever (if b then line_next es m o f fs else None)
+-- an instruction of this type, which passes its test
+pub typed_counted : (es : List Entry) (c : Context) (s : List Bool) (o : Op) (n : InstrType) (f : Frame) (fs : List Frame) (l : OpenBlock) (ls : List OpenBlock) →
+    StandsAll c s ε (f ∷ fs) (l ∷ ls) → Tallies c s 0 (f ∷ fs) (l ∷ ls) → (b : Bool) → instr_type_at c s l ls o ≡ n →
+    Whenever (if b then typed_next es n o f fs else None) (CountedBy c s (flat.Plain o) (f ∷ fs) (open_at l ls) (open_at (more l (Plain o Done)) ls))
+typed_counted es c s o n f fs l ls st t b e =
+    let P : InstrType → Type 0 = λ m. Whenever (if b then typed_next es m o f fs else None)
     (CountedBy c s (flat.Plain o) (f ∷ fs) (open_at l ls) (open_at (more l (Plain o Done)) ls)) in
-    subst P e (when_if b (line_next es (line_at c s l ls o) o f fs) _ (step_counted es c s o f fs l ls (kinds_same c s ε (f ∷ fs) (l ∷ ls) st) t))
+    subst P e (when_if b (typed_next es (instr_type_at c s l ls o) o f fs) _ (step_counted es c s o f fs l ls (kinds_same c s ε (f ∷ fs) (l ∷ ls) st) t))
 
 -- ## A block begins
 
 -- the place before the call
-height_now : (c : Context) (s : List Bool) (f : Frame) (l : Level) (ls : List Level) (fs : List Frame) → Tallies c s 0 (f ∷ fs) (l ∷ ls) →
+height_now : (c : Context) (s : List Bool) (f : Frame) (l : OpenBlock) (ls : List OpenBlock) (fs : List Frame) → Tallies c s 0 (f ∷ fs) (l ∷ ls) →
     height_at c s (l ∷ ls) ≡ tally f.any f.operands (total fs)
 height_now c s f l ls fs t = t.0 ∙ no_zero (tally f.any f.operands (total fs))
 
 -- so many operands are taken
-longer : (es : List Entry) (p : Bool) (ts w : Row Operand) (k : Kind) (a : Arrow) → pops es p ts (taken_by k a) ≡ Some w → p ≡ false → size w + size (taken_by k a) ≡ size ts
+longer : (es : List Entry) (p : Bool) (ts w : Row Operand) (k : FrameKind) (a : Arrow) → pops es p ts (taken_by k a) ≡ Some w → p ≡ false → size w + size (taken_by k a) ≡ size ts
 longer es true ts w k a h e = cc
 longer es false ts w k a h e =
     at_whenever (pops es false ts (taken_by k a)) (λ (v : Row Operand). size v + size (taken_by k a) ≡ size ts) w h (pops_long es ts (taken_by k a))
 
 -- of this kind
-pub enter_counted : (es : List Entry) (c : Context) (s : List Bool) (k : Kind) → NoFirst k → (f : Frame) (fs : List Frame) (l : Level) (ls : List Level) →
+pub enter_counted : (es : List Entry) (c : Context) (s : List Bool) (k : FrameKind) → NoFirst k → (f : Frame) (fs : List Frame) (l : OpenBlock) (ls : List OpenBlock) →
     Tallies c s 0 (f ∷ fs) (l ∷ ls) →
     Whenever (enter_next es c k f fs) (Counted c s (open_at l ls) (open_at (opened k) (l ∷ ls)))
 enter_counted es c s k z f fs l ls t =
@@ -99,9 +98,9 @@ enter_counted es c s k z f fs l ls t =
 -- ## The second branch begins
 
 -- an else
-pub other_counted : (es : List Entry) (c : Context) (s : List Bool) (k : Kind) (f d : Code) (p : Bool) (ts : Row Operand) (ls : List Level) (fs : List Frame) →
-    Tallies c s 0 (framed s p ts (level k f d) ls ∷ fs) (level k f d ∷ ls) →
-    Whenever (other_next es c k (framed s p ts (level k f d) ls) fs) (Counted c s (open_at (level k f d) ls) (turned k d ls))
+pub other_counted : (es : List Entry) (c : Context) (s : List Bool) (k : FrameKind) (f d : Code) (p : Bool) (ts : Row Operand) (ls : List OpenBlock) (fs : List Frame) →
+    Tallies c s 0 (framed s p ts (open_block k f d) ls ∷ fs) (open_block k f d ∷ ls) →
+    Whenever (other_next es c k (framed s p ts (open_block k f d) ls) fs) (Counted c s (open_at (open_block k f d) ls) (in_else k d ls))
 other_counted es c s kind.Body f d p ts ls fs t = tt
 other_counted es c s (kind.Block b x) f d p ts ls fs t = tt
 other_counted es c s (kind.Else x) f d p ts ls fs t = tt
@@ -120,10 +119,10 @@ body_peak : (a : ℕ) → a ≡ max (max (max 0 a) 0) 0
 body_peak a = omega arith
 
 -- in another block
-inner_counted : (es : List Entry) (c : Context) (s : List Bool) (k : Kind) → Inner k → (f d : Code) (p : Bool) (ts : Row Operand) (m : Level) (ms : List Level) (g : Frame) (gs : List Frame) →
-    Tallies c s 0 (framed s p ts (level k f d) (m ∷ ms) ∷ g ∷ gs) (level k f d ∷ m ∷ ms) →
+inner_counted : (es : List Entry) (c : Context) (s : List Bool) (k : FrameKind) → Inner k → (f d : Code) (p : Bool) (ts : Row Operand) (m : OpenBlock) (ms : List OpenBlock) (g : Frame) (gs : List Frame) →
+    Tallies c s 0 (framed s p ts (open_block k f d) (m ∷ ms) ∷ g ∷ gs) (open_block k f d ∷ m ∷ ms) →
     Whenever (arrow_at c k >>= λ a. (if ends es p ts a.to && end_test es k a then Some (leave a.to (g ∷ gs)) else None))
-    (Counted c s (open_at (level k f d) (m ∷ ms)) (open_at (more m (node k f d)) ms))
+    (Counted c s (open_at (open_block k f d) (m ∷ ms)) (open_at (more m (node k f d)) ms))
 inner_counted es c s k i f d p ts m ms g gs t =
     whenever_bind (arrow_at c k) _ _ (whenever_eq (arrow_at c k) _ (λ a eq.
     when_if (ends es p ts a.to && end_test es k a) (Some (leave a.to (g ∷ gs))) _
@@ -132,9 +131,9 @@ inner_counted es c s k i f d p ts m ms g gs t =
     ((r.0 ∙ sym (no_zero (tally g.any (g.operands ⧺ known a.to) (total gs))), out.1), r.1))))
 
 -- an end
-pub end_counted : (es : List Entry) (c : Context) (s : List Bool) (k : Kind) (f d : Code) (p : Bool) (ts : Row Operand) (ls : List Level) (fs : List Frame) →
-    Tallies c s 0 (framed s p ts (level k f d) ls ∷ fs) (level k f d ∷ ls) →
-    Whenever (end_next es c (framed s p ts (level k f d) ls) fs) (Counted c s (open_at (level k f d) ls) (closed k f d ls))
+pub end_counted : (es : List Entry) (c : Context) (s : List Bool) (k : FrameKind) (f d : Code) (p : Bool) (ts : Row Operand) (ls : List OpenBlock) (fs : List Frame) →
+    Tallies c s 0 (framed s p ts (open_block k f d) ls ∷ fs) (open_block k f d ∷ ls) →
+    Whenever (end_next es c (framed s p ts (open_block k f d) ls) fs) (Counted c s (open_at (open_block k f d) ls) (closed k f d ls))
 end_counted es c s kind.Body f d p ts [] [] t = when_if (ends es p ts c.results && true) (Some []) _ (tt, body_peak _)
 end_counted es c s kind.Body f d p ts [] (g ∷ gs) t = absurd t.1
 end_counted es c s kind.Body f d p ts (m ∷ ms) [] t = absurd t.1
@@ -155,24 +154,24 @@ end_counted es c s (kind.Else x) f d p ts (m ∷ ms) (g ∷ gs) t = inner_counte
 -- ## Any instruction
 
 -- an instruction that does not switch stacks
-plain_counted : (es : List Entry) (c : Context) (s : List Bool) (o : Op) (p : Bool) (ts : Row Operand) (l : Level) (ls : List Level) (fs : List Frame) →
+plain_counted : (es : List Entry) (c : Context) (s : List Bool) (o : Op) (p : Bool) (ts : Row Operand) (l : OpenBlock) (ls : List OpenBlock) (fs : List Frame) →
     StandsAll c s ε (framed s p ts l ls ∷ fs) (l ∷ ls) → Tallies c s 0 (framed s p ts l ls ∷ fs) (l ∷ ls) →
     Whenever (plain_next es c o (framed s p ts l ls) fs)
     (CountedBy c s (flat.Plain o) (framed s p ts l ls ∷ fs) (open_at l ls) (open_at (more l (Plain o Done)) ls))
 plain_counted es c s o p ts l ls fs st t =
-    line_counted es c s o (line (within c (l.kind ∷ frame_kinds fs)) (set_at s (l ∷ ls)) o) (framed s p ts l ls) fs l ls st t (condition_test es c o)
-    (ap (λ (ks : List Kind). line (within c (l.kind ∷ ks)) (set_at s (l ∷ ls)) o) (sym (tail_kinds c s (framed s p ts l ls) fs l ls st)))
+    typed_counted es c s o (instr_type (within c (l.kind ∷ frame_kinds fs)) (set_at s (l ∷ ls)) o) (framed s p ts l ls) fs l ls st t (condition_test es c o)
+    (ap (λ (ks : List FrameKind). instr_type (within c (l.kind ∷ ks)) (set_at s (l ∷ ls)) o) (sym (tail_kinds c s (framed s p ts l ls) fs l ls st)))
 
 -- one that holds no others
-op_counted : (es : List Entry) (c : Context) (s : List Bool) (o : Op) (p : Bool) (ts : Row Operand) (l : Level) (ls : List Level) (fs : List Frame) →
+op_counted : (es : List Entry) (c : Context) (s : List Bool) (o : Op) (p : Bool) (ts : Row Operand) (l : OpenBlock) (ls : List OpenBlock) (fs : List Frame) →
     StandsAll c s ε (framed s p ts l ls ∷ fs) (l ∷ ls) → Tallies c s 0 (framed s p ts l ls ∷ fs) (l ∷ ls) →
     Whenever (op_next es c o (framed s p ts l ls) fs)
     (CountedBy c s (flat.Plain o) (framed s p ts l ls ∷ fs) (open_at l ls) (open_at (more l (Plain o Done)) ls))
 op_counted es c s (op.Switching o) p ts l ls fs st t = tt
 op_counted es c s o p ts l ls fs st t = plain_counted es c s o p ts l ls fs st t
 
--- any, where the frame is that of the level
-framed_counted : (es : List Entry) (c : Context) (s : List Bool) (i : Instr) (p : Bool) (ts : Row Operand) (l : Level) (ls : List Level) (fs : List Frame) →
+-- any, where the frame is that of the open block
+framed_counted : (es : List Entry) (c : Context) (s : List Bool) (i : Instr) (p : Bool) (ts : Row Operand) (l : OpenBlock) (ls : List OpenBlock) (fs : List Frame) →
     StandsAll c s ε (framed s p ts l ls ∷ fs) (l ∷ ls) → Tallies c s 0 (framed s p ts l ls ∷ fs) (l ∷ ls) →
     Whenever (frame_next es c i (framed s p ts l ls) fs) (CountedBy c s i (framed s p ts l ls ∷ fs) (open_at l ls) (followed i l ls))
 framed_counted es c s (flat.Plain o) p ts l ls fs st t = op_counted es c s o p ts l ls fs st t
@@ -186,7 +185,7 @@ framed_counted es c s flat.End p ts l ls fs st t =
     quietly c s _ (total (framed s p ts l ls ∷ fs)) (open_at l ls) _ (end_counted es c s l.kind l.first l.code p ts ls fs t)
 
 -- any, where blocks are open
-frame_counted : (es : List Entry) (c : Context) (s : List Bool) (i : Instr) (f : Frame) (fs : List Frame) (l : Level) (ls : List Level) →
+frame_counted : (es : List Entry) (c : Context) (s : List Bool) (i : Instr) (f : Frame) (fs : List Frame) (l : OpenBlock) (ls : List OpenBlock) →
     StandsAll c s ε (f ∷ fs) (l ∷ ls) → Tallies c s 0 (f ∷ fs) (l ∷ ls) →
     Whenever (next es c i (f ∷ fs)) (CountedBy c s i (f ∷ fs) (open_at l ls) (followed i l ls))
 frame_counted es c s i f fs l ls st t =
@@ -195,9 +194,9 @@ frame_counted es c s i f fs l ls st t =
     subst P (sym (frame_is c s ε f l ls st.0)) (framed_counted es c s i f.any f.operands l ls fs) st t
 
 -- where a call goes on, the frames tally again, and the peak is raised by the place that they reach
-pub calls_counted : (es : List Entry) (c : Context) (s : List Bool) (i : Instr) (fs : List Frame) (w : Sofar) → FramesStand c s fs w → CountsFor c s fs w →
+pub calls_counted : (es : List Entry) (c : Context) (s : List Bool) (i : Instr) (fs : List Frame) (w : Prefix) → FramesStand c s fs w → CountsFor c s fs w →
     Whenever (next es c i fs) (λ (gs : List Frame). CountsFor c s gs (follow i w) × Raised c s i fs gs w (follow i w))
 calls_counted es c s i [] w st t = tt
 calls_counted es c s i (f ∷ fs) (open_at l ls) st t = frame_counted es c s i f fs l ls st t
 calls_counted es c s i (f ∷ fs) (ended k) st t = absurd st.0
-calls_counted es c s i (f ∷ fs) broken st t = absurd st
+calls_counted es c s i (f ∷ fs) malformed st t = absurd st

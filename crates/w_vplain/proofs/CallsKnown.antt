@@ -8,37 +8,37 @@ use Rattle.w_syntax.specs.declared.instructions.Instr.TheVariants as flat
 use Rattle.w_syntax.specs.declared.instructions.Op.{Op}
 use Rattle.w_syntax.specs.declared.instructions.Op.TheVariants as op
 use Rattle.w_canon.specs.declared.entry.Entry.{Entry}
-use Rattle.w_canon.specs.Stands.{Stands}
+use Rattle.w_canon.specs.IsClassesOf.{IsClassesOf}
 use Rattle.w_rules.specs.declared.operand.Operand.{Operand}
 use Rattle.w_rules.specs.Conditions.{Holds}
 use Rattle.w_rules.specs.Context.{Context, Arrow}
-use Rattle.w_rules.specs.Lines.{line}
+use Rattle.w_rules.specs.InstructionTypes.{instr_type}
 use Rattle.w_flow.specs.Flow.{◌>>=◌}
-use Rattle.w_vplain.specs.Levels.{is_checked, Level, Sofar, open_at, ended, broken, more, followed, follow, is_switching, is_plain, opens, follow_plain, follow_enter, arrow_at, taken_by, within, kinds_of, set_at, Around, Good}
+use Rattle.w_vplain.specs.Prefixes.{is_checked, OpenBlock, Prefix, open_at, ended, malformed, more, followed, follow, is_switching, is_plain, opens, follow_plain, follow_enter, arrow_at, taken_by, within, kinds_of, set_at, Around, IsDerivable}
 use Rattle.w_vplain.specs.Frames.{Frame, frame_kinds, condition_test, plain_next, op_next, frame_next, next, StandsAll, FramesStand, Knows}
-use Rattle.w_vplain.specs.declared.kind.Kind.{Kind}
-use Rattle.w_vplain.specs.declared.kind.Kind.TheVariants as kind
-use Rattle.w_vplain.proofs.Held.{held_fact}
-use Rattle.w_vplain.proofs.ConditionsTold.{condition_told_within}
+use Rattle.w_vplain.specs.declared.frame_kind.FrameKind.{FrameKind}
+use Rattle.w_vplain.specs.declared.frame_kind.FrameKind.TheVariants as kind
+use Rattle.w_vplain.proofs.Options.{held_fact}
+use Rattle.w_vplain.proofs.ConditionTests.{condition_told_within}
 use Rattle.w_vplain.proofs.Reaching.{framed, frame_is, tail_kinds}
-use Rattle.w_vplain.proofs.LinesKnown.{line_known}
+use Rattle.w_vplain.proofs.TypesKnown.{typed_known}
 use Rattle.w_vplain.proofs.EnterKnown.{enter_known}
 use Rattle.w_vplain.proofs.EndsKnown.{other_known, end_known}
-use Rattle.w_vplain.proofs.Before.{good_before}
+use Rattle.w_vplain.proofs.Monotone.{derivable_before}
 use Rattle.w_flow.proofs.Covers.{covers_refl}
 use Rattle.w_rules.proofs.Derive.{holds_map}
 
 -- an instruction that does not switch stacks
-plain_known : (es : List Entry) (c : Context) → Stands c.types es → (s : List Bool) (o : Op) → is_switching o ≡ false → (p : Bool) (ts : Row Operand) (l : Level) (ls : List Level) (fs : List Frame) →
+plain_known : (es : List Entry) (c : Context) → IsClassesOf c.types es → (s : List Bool) (o : Op) → is_switching o ≡ false → (p : Bool) (ts : Row Operand) (l : OpenBlock) (ls : List OpenBlock) (fs : List Frame) →
     StandsAll c s ε (framed s p ts l ls ∷ fs) (l ∷ ls) →
     Knows c s (plain_next es c o (framed s p ts l ls) fs) (open_at (more l (Plain o Done)) ls)
 plain_known es c types s o h p ts l ls fs st =
-    line_known es c types s o (line (within c (l.kind ∷ frame_kinds fs)) (set_at s (l ∷ ls)) o) (framed s p ts l ls) fs l ls st (condition_test es c o)
+    typed_known es c types s o (instr_type (within c (l.kind ∷ frame_kinds fs)) (set_at s (l ∷ ls)) o) (framed s p ts l ls) fs l ls st (condition_test es c o)
     (condition_told_within es c types (kinds_of (l ∷ ls)) o h)
-    (ap (λ (ks : List Kind). line (within c (l.kind ∷ ks)) (set_at s (l ∷ ls)) o) (sym (tail_kinds c s (framed s p ts l ls) fs l ls st)))
+    (ap (λ (ks : List FrameKind). instr_type (within c (l.kind ∷ ks)) (set_at s (l ∷ ls)) o) (sym (tail_kinds c s (framed s p ts l ls) fs l ls st)))
 
 -- the same, by its class
-op_known : (es : List Entry) (c : Context) → Stands c.types es → (s : List Bool) (o : Op) → is_checked (flat.Plain o) ≡ true → (p : Bool) (ts : Row Operand) (l : Level) (ls : List Level) (fs : List Frame) →
+op_known : (es : List Entry) (c : Context) → IsClassesOf c.types es → (s : List Bool) (o : Op) → is_checked (flat.Plain o) ≡ true → (p : Bool) (ts : Row Operand) (l : OpenBlock) (ls : List OpenBlock) (fs : List Frame) →
     StandsAll c s ε (framed s p ts l ls ∷ fs) (l ∷ ls) →
     Knows c s (op_next es c o (framed s p ts l ls) fs) (open_at (more l (Plain o Done)) ls)
 op_known es c types s (op.Switching o) h p ts l ls fs st = absurd (false≢true h)
@@ -50,8 +50,8 @@ op_known es c types s (op.Memory o) h p ts l ls fs st = plain_known es c types s
 op_known es c types s (op.Numeric o) h p ts l ls fs st = plain_known es c types s (op.Numeric o) refl p ts l ls fs st
 op_known es c types s (op.Reference o) h p ts l ls fs st = plain_known es c types s (op.Reference o) refl p ts l ls fs st
 
--- any of these, where the frame is that of the level
-framed_known : (es : List Entry) (c : Context) → Stands c.types es → (s : List Bool) (i : Instr) → is_checked i ≡ true → (p : Bool) (ts : Row Operand) (l : Level) (ls : List Level) (fs : List Frame) →
+-- any of these, where the frame is that of the open block
+framed_known : (es : List Entry) (c : Context) → IsClassesOf c.types es → (s : List Bool) (i : Instr) → is_checked i ≡ true → (p : Bool) (ts : Row Operand) (l : OpenBlock) (ls : List OpenBlock) (fs : List Frame) →
     StandsAll c s ε (framed s p ts l ls ∷ fs) (l ∷ ls) →
     Knows c s (frame_next es c i (framed s p ts l ls) fs) (followed i l ls)
 framed_known es c types s (flat.Plain o) h p ts l ls fs st = op_known es c types s o h p ts l ls fs st
@@ -61,11 +61,11 @@ framed_known es c types s flat.Else h p ts l ls fs st = other_known es c types s
 framed_known es c types s flat.End h p ts l ls fs st = end_known es c types s l.kind l.first l.code p ts ls fs st
 
 -- one call, where the frames stand for the sequence before it
-pub next_knows : (es : List Entry) (c : Context) → Stands c.types es → (s : List Bool) (i : Instr) → is_checked i ≡ true → (fs : List Frame) (w : Sofar) →
+pub next_knows : (es : List Entry) (c : Context) → IsClassesOf c.types es → (s : List Bool) (i : Instr) → is_checked i ≡ true → (fs : List Frame) (w : Prefix) →
     FramesStand c s fs w → Knows c s (next es c i fs) (follow i w)
 next_knows es c types s i h [] (open_at l ls) st = absurd st
 next_knows es c types s i h [] (ended k) st = λ good. good
-next_knows es c types s i h fs broken st = absurd st
+next_knows es c types s i h fs malformed st = absurd st
 next_knows es c types s i h (f ∷ fs) (ended k) st = absurd st.0
 next_knows es c types s i h (f ∷ fs) (open_at l ls) st =
     let P : Frame → Type 0 = λ g. StandsAll c s ε (g ∷ fs) (l ∷ ls) → Knows c s (next es c i (g ∷ fs)) (follow i (open_at l ls)) in
@@ -74,7 +74,7 @@ next_knows es c types s i h (f ∷ fs) (open_at l ls) st =
 -- what frames stand for is derived
 
 -- of the blocks around
-around_of : (c : Context) (s : List Bool) (k : Kind) (fs : List Frame) (ls : List Level) → Holds (arrow_at c k) (λ (a : Arrow). StandsAll c s (taken_by k a) fs ls) →
+around_of : (c : Context) (s : List Bool) (k : FrameKind) (fs : List Frame) (ls : List OpenBlock) → Holds (arrow_at c k) (λ (a : Arrow). StandsAll c s (taken_by k a) fs ls) →
     Around c s k ls
 around_of c s k fs [] st = tt
 around_of c s k [] (m ∷ ms) st = held_fact (arrow_at c k) _ _ st (λ a h. absurd h)
@@ -84,67 +84,49 @@ around_of c s k (f ∷ fs) (m ∷ ms) st = (
 )
 
 -- a sequence that frames stand for is derived
-pub stands_good : (c : Context) (s : List Bool) (fs : List Frame) (w : Sofar) → FramesStand c s fs w → Good c s w
-stands_good c s [] (open_at l ls) st = absurd st
-stands_good c s fs (ended k) st = st.1
-stands_good c s fs broken st = st
-stands_good c s (f ∷ fs) (open_at l ls) st =
+pub stands_derivable : (c : Context) (s : List Bool) (fs : List Frame) (w : Prefix) → FramesStand c s fs w → IsDerivable c s w
+stands_derivable c s [] (open_at l ls) st = absurd st
+stands_derivable c s fs (ended k) st = st.1
+stands_derivable c s fs malformed st = st
+stands_derivable c s (f ∷ fs) (open_at l ls) st =
     ((f.operands, st.0.reached f.operands (covers_refl c.types f.any f.operands)), around_of c s l.kind fs ls st.1)
 
 -- one call, from what is known before it
-pub step_knows : (es : List Entry) (c : Context) → Stands c.types es → (s : List Bool) (i : Instr) → is_checked i ≡ true → (o : Option (List Frame)) (w : Sofar) →
+pub step_knows : (es : List Entry) (c : Context) → IsClassesOf c.types es → (s : List Bool) (i : Instr) → is_checked i ≡ true → (o : Option (List Frame)) (w : Prefix) →
     Knows c s o w → Knows c s (o >>= next es c i) (follow i w)
-step_knows es c types s i h None w k = λ good. k (good_before c s i w good)
+step_knows es c types s i h None w k = λ good. k (derivable_before c s i w good)
 step_knows es c types s i h (Some fs) w k = next_knows es c types s i h fs w k
 
 -- the answer that the frames give is whether the rules derive the sequence
-pub knows_good : (c : Context) (s : List Bool) (o : Option (List Frame)) (w : Sofar) → Knows c s o w → (answer : Bool) → answer ≡ is_some o →
-    IsTrue answer ↔ Good c s w
-knows_good c s None w k answer h = (λ t. absurd (false≢true (sym h ∙ t)), λ good. absurd (k good))
-knows_good c s (Some fs) w k answer h = (λ t. stands_good c s fs w k, λ good. h)
+pub knows_derivable : (c : Context) (s : List Bool) (o : Option (List Frame)) (w : Prefix) → Knows c s o w → (answer : Bool) → answer ≡ is_some o →
+    IsTrue answer ↔ IsDerivable c s w
+knows_derivable c s None w k answer h = (λ t. absurd (false≢true (sym h ∙ t)), λ good. absurd (k good))
+knows_derivable c s (Some fs) w k answer h = (λ t. stands_derivable c s fs w k, λ good. h)
 
 -- ## The calls for each class of instructions
 
--- an instruction of the class follows as any does
-pub plain_same : (i : Instr) (w : Sofar) → is_plain i ≡ true → follow_plain i w ≡ follow i w
-plain_same i w h = ap (λ (b : Bool). if b then follow i w else broken) h
+-- an instruction of the class follows as any does, and of another class it begins no body
+pub plain_same : (i : Instr) (w : Prefix) → is_plain i ≡ true → follow_plain i w ≡ follow i w
+plain_same i w h = ap (λ (b : Bool). if b then follow i w else malformed) h
 
--- one of another class is not derived there
-pub plain_refused : (c : Context) (s : List Bool) (i : Instr) (w : Sofar) → is_plain i ≡ false → Good c s (follow_plain i w) → ⊥
-plain_refused c s i w h g = let P : Sofar → Type 0 = λ v. Good c s v in subst P (ap (λ (b : Bool). if b then follow i w else broken) h) g
+pub plain_malformed : (i : Instr) (w : Prefix) → is_plain i ≡ false → follow_plain i w ≡ malformed
+plain_malformed i w h = ap (λ (b : Bool). if b then follow i w else malformed) h
 
--- an instruction that opens a block follows as any does
-pub enter_same : (i : Instr) (w : Sofar) → opens i ≡ true → follow_enter i w ≡ follow i w
-enter_same i w h = ap (λ (b : Bool). if b then follow i w else broken) h
+-- likewise of instructions that open a block
+pub enter_same : (i : Instr) (w : Prefix) → opens i ≡ true → follow_enter i w ≡ follow i w
+enter_same i w h = ap (λ (b : Bool). if b then follow i w else malformed) h
 
--- one that opens none is not derived there
-pub enter_refused : (c : Context) (s : List Bool) (i : Instr) (w : Sofar) → opens i ≡ false → Good c s (follow_enter i w) → ⊥
-enter_refused c s i w h g = let P : Sofar → Type 0 = λ v. Good c s v in subst P (ap (λ (b : Bool). if b then follow i w else broken) h) g
+pub enter_malformed : (i : Instr) (w : Prefix) → opens i ≡ false → follow_enter i w ≡ malformed
+enter_malformed i w h = ap (λ (b : Bool). if b then follow i w else malformed) h
 
 -- an instruction of the class does not switch stacks
-plain_checked : (i : Instr) → is_plain i ≡ true → is_checked i ≡ true
+pub plain_checked : (i : Instr) → is_plain i ≡ true → is_checked i ≡ true
 plain_checked (flat.Plain (op.Switching o)) h = h
 plain_checked (flat.Plain o) h = refl
 plain_checked i h = cc
 
 -- nor does one that opens a block
-opens_checked : (i : Instr) → opens i ≡ true → is_checked i ≡ true
+pub opens_checked : (i : Instr) → opens i ≡ true → is_checked i ≡ true
 opens_checked (flat.Block b x end) h = refl
 opens_checked (flat.If x other end) h = refl
 opens_checked i h = cc
-
--- where the test of the class is false, the sequence begins no body
-class_knows : (c : Context) (s : List Bool) (b : Bool) (x : Option (List Frame)) (w : Sofar) → (b ≡ true → Knows c s x w) →
-    Knows c s (if b then x else None) (if b then w else broken)
-class_knows c s true x w f = f refl
-class_knows c s false x w f = λ good. good
-
--- the call for instructions that open or end no block
-pub plain_knows : (es : List Entry) (c : Context) → Stands c.types es → (s : List Bool) (i : Instr) (o : Option (List Frame)) (w : Sofar) → Knows c s o w →
-    Knows c s (if is_plain i then o >>= next es c i else None) (follow_plain i w)
-plain_knows es c types s i o w k = class_knows c s (is_plain i) _ _ (λ h. step_knows es c types s i (plain_checked i h) o w k)
-
--- the call for instructions that open one
-pub enter_knows : (es : List Entry) (c : Context) → Stands c.types es → (s : List Bool) (i : Instr) (o : Option (List Frame)) (w : Sofar) → Knows c s o w →
-    Knows c s (if opens i then o >>= next es c i else None) (follow_enter i w)
-enter_knows es c types s i o w k = class_knows c s (opens i) _ _ (λ h. step_knows es c types s i (opens_checked i h) o w k)

@@ -2,19 +2,19 @@
 use Rattle.std.proofs.Common.{◌≡◌, ℕ, ◌-◌, ◌≤◌, max, Bool, List, Option, Some, None, refl, sym, ◌∙◌, ap, arith}
 use Rattle.w_syntax.specs.Code.{Code, Done, Plain, Block, If, IfElse, after}
 use Rattle.w_rules.specs.Context.{Context, Arrow, arrow_of}
-use Rattle.w_rules.specs.Lines.{line, sets}
+use Rattle.w_rules.specs.InstructionTypes.{instr_type, sets}
 use Rattle.w_rules.specs.Peak.{net, or_none, in_arrow, moved, past_net, past_arrow, extra, peak}
 use Rattle.w_rules.specs.Typing.{set_by}
 use Rattle.w_flow.specs.Flow.{◌>>=◌}
 use Rattle.w_vplain.specs.Measures.{height}
-use Rattle.w_vplain.proofs.Whenever.{Whenever, whenever_map, bind_assoc, bind_same}
+use Rattle.w_vplain.proofs.Options.{Whenever, whenever_map, bind_assoc, bind_same}
 
 -- the second sequence begins where the first one ends
 pub height-after : (c : Context) (s : List Bool) (d k : Code) (h : ℕ) → height c s (after d k) h ≡ (height c s d h >>= λ g. height c (set_by d s) k g)
 unfolding after
 height-after c s Done k h = refl
 height-after c s (Plain o d) k h =
-    bind_same (net (line c s o)) _ _ (λ n. height-after c (sets o s) d k (moved h n)) ∙ sym (bind_assoc (net (line c s o)) _ _)
+    bind_same (net (instr_type c s o)) _ _ (λ n. height-after c (sets o s) d k (moved h n)) ∙ sym (bind_assoc (net (instr_type c s o)) _ _)
 height-after c s (Block b x i d) k h =
     bind_same (arrow_of c x) _ _ (λ a. height-after c s d k (past_arrow a h)) ∙ sym (bind_assoc (arrow_of c x) _ _)
 height-after c s (If x i d) k h =
@@ -59,7 +59,7 @@ pub peak-after : (c : Context) (s : List Bool) (d k : Code) (h : ℕ) →
     peak c s (after d k) h ≡ max (peak c s d h) (or_none (height c s d h) (peak c (set_by d s) k))
 unfolding after
 peak-after c s Done k h = omega (arith, least c s k h)
-peak-after c s (Plain o d) k h = after_net (net (line c s o)) (max h (extra c o h)) h (peak c (sets o s) (after d k)) (peak c (sets o s) d) (height c (sets o s) d) (peak c (set_by d (sets o s)) k)
+peak-after c s (Plain o d) k h = after_net (net (instr_type c s o)) (max h (extra c o h)) h (peak c (sets o s) (after d k)) (peak c (sets o s) d) (height c (sets o s) d) (peak c (set_by d (sets o s)) k)
     (λ m. peak-after c (sets o s) d k m)
 peak-after c s (Block b x i d) k h = after_arrow (arrow_of c x) h _ _ _ _ _ (λ a. peak-after c s d k (past_arrow a h))
 peak-after c s (If x i d) k h = after_arrow (arrow_of c x) h _ _ _ _ _ (λ a. peak-after c s d k (past_arrow a (h - 1)))
@@ -80,7 +80,7 @@ arrow_below (Some a) h b f k e = whenever_map (k a) _ _ (e a) (λ g le. omega ar
 -- the end is below the peak
 pub end_below : (c : Context) (s : List Bool) (d : Code) (h : ℕ) → Whenever (height c s d h) (λ (g : ℕ). g ≤ peak c s d h)
 end_below c s Done h = omega arith
-end_below c s (Plain o d) h = net_below (net (line c s o)) (max h (extra c o h)) h (peak c (sets o s) d) (height c (sets o s) d) (λ m. end_below c (sets o s) d m)
+end_below c s (Plain o d) h = net_below (net (instr_type c s o)) (max h (extra c o h)) h (peak c (sets o s) d) (height c (sets o s) d) (λ m. end_below c (sets o s) d m)
 end_below c s (Block b x i d) h = arrow_below (arrow_of c x) h _ _ _ (λ a. end_below c s d (past_arrow a h))
 end_below c s (If x i d) h = arrow_below (arrow_of c x) h _ _ _ (λ a. end_below c s d (past_arrow a (h - 1)))
 end_below c s (IfElse x i j d) h = arrow_below (arrow_of c x) h _ _ _ (λ a. end_below c s d (past_arrow a (h - 1)))

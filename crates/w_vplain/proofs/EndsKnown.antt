@@ -5,18 +5,18 @@ use Rattle.w_types.specs.Rows.{Row, ε, ◌⧺◌}
 use Rattle.w_syntax.specs.Code.{Code, Done}
 use Rattle.w_syntax.specs.declared.instructions.BlockType.{BlockType}
 use Rattle.w_canon.specs.declared.entry.Entry.{Entry}
-use Rattle.w_canon.specs.Stands.{Stands}
+use Rattle.w_canon.specs.IsClassesOf.{IsClassesOf}
 use Rattle.w_rules.specs.declared.operand.Operand.{Operand}
 use Rattle.w_rules.specs.Context.{Context, Arrow, arrow_of}
 use Rattle.w_rules.specs.Matching.{known}
 use Rattle.w_flow.specs.Flow.{Covers, ◌>>=◌, ends}
-use Rattle.w_vplain.specs.Levels.{Level, open_at, ended, broken, more, turned, node, closed, arrow_at, taken_by, kinds_of, set_at, Reaches}
+use Rattle.w_vplain.specs.Prefixes.{OpenBlock, open_at, ended, malformed, more, in_else, node, closed, arrow_at, taken_by, kinds_of, set_at, Reaches}
 use Rattle.w_vplain.specs.Frames.{Frame, other_next, end_test, leave, end_next, StandsAt, StandsAll, Knows}
-use Rattle.w_vplain.specs.declared.kind.Kind.{Kind}
-use Rattle.w_vplain.specs.declared.kind.Kind.TheVariants as kind
-use Rattle.w_vplain.proofs.Held.{held_at, at_held, held_none, held_fact}
-use Rattle.w_vplain.proofs.Reaching.{level, framed, reaches_in, reaches_out, reaches_right}
-use Rattle.w_vplain.proofs.EndsTold.{covers_matches, matches_covers, ends_in, ends_out, end_test_in, end_test_out}
+use Rattle.w_vplain.specs.declared.frame_kind.FrameKind.{FrameKind}
+use Rattle.w_vplain.specs.declared.frame_kind.FrameKind.TheVariants as kind
+use Rattle.w_vplain.proofs.Options.{held_at, at_held, held_none, held_fact}
+use Rattle.w_vplain.proofs.Reaching.{open_block, framed, reaches_in, reaches_out, reaches_right}
+use Rattle.w_vplain.proofs.BlockEnds.{covers_matches, matches_covers, ends_in, ends_out, end_test_in, end_test_out}
 use Rattle.w_vplain.proofs.Nodes.{Inner, is_block, is_then, is_else, Whole, node_in, node_out, node_sets}
 use Rattle.w_rules.proofs.Derive.{set_by-after}
 use Rattle.w_rules.proofs.Preorder.{row_refl}
@@ -26,11 +26,11 @@ use Rattle.w_flow.proofs.Options.{and_intro, and_true}
 -- ## The second branch begins
 
 -- by the test of what is left
-turn_test : (es : List Entry) (c : Context) → Stands c.types es → (s : List Bool) (x : BlockType) (f d : Code) (p : Bool) (ts : Row Operand) (m : Level) (ms : List Level) (g : Frame) (gs : List Frame) (a : Arrow) → arrow_of c x ≡ Some a →
-    StandsAll c s ε (framed s p ts (level (kind.Then x) f d) (m ∷ ms) ∷ g ∷ gs) (level (kind.Then x) f d ∷ m ∷ ms) →
+turn_test : (es : List Entry) (c : Context) → IsClassesOf c.types es → (s : List Bool) (x : BlockType) (f d : Code) (p : Bool) (ts : Row Operand) (m : OpenBlock) (ms : List OpenBlock) (g : Frame) (gs : List Frame) (a : Arrow) → arrow_of c x ≡ Some a →
+    StandsAll c s ε (framed s p ts (open_block (kind.Then x) f d) (m ∷ ms) ∷ g ∷ gs) (open_block (kind.Then x) f d ∷ m ∷ ms) →
     (b : Bool) → ends es p ts a.to ≡ b →
     Knows c s (if b then Some (record { kind = kind.Else x; any = false; operands = known a.from; is_set = g.is_set } ∷ g ∷ gs) else None)
-    (open_at (level (kind.Else x) d Done) (m ∷ ms))
+    (open_at (open_block (kind.Else x) d Done) (m ∷ ms))
 turn_test es c types s x f d p ts m ms g gs a eq st false test = λ good.
     let h = held_at (arrow_of c x) a _ eq good.0.1 in
     false≢true (sym test ∙ ends_in c.types es types p ts a.to (st.0.reaches (known a.to) (at_held (arrow_of c x) a _ eq (tt, h.0))))
@@ -46,18 +46,18 @@ turn_test es c types s x f d p ts m ms g gs a eq st true test = (
 )
 
 -- by the type of the block
-turn_arrow : (es : List Entry) (c : Context) → Stands c.types es → (s : List Bool) (x : BlockType) (f d : Code) (p : Bool) (ts : Row Operand) (m : Level) (ms : List Level) (g : Frame) (gs : List Frame) (o : Option Arrow) → arrow_of c x ≡ o →
-    StandsAll c s ε (framed s p ts (level (kind.Then x) f d) (m ∷ ms) ∷ g ∷ gs) (level (kind.Then x) f d ∷ m ∷ ms) →
+turn_arrow : (es : List Entry) (c : Context) → IsClassesOf c.types es → (s : List Bool) (x : BlockType) (f d : Code) (p : Bool) (ts : Row Operand) (m : OpenBlock) (ms : List OpenBlock) (g : Frame) (gs : List Frame) (o : Option Arrow) → arrow_of c x ≡ o →
+    StandsAll c s ε (framed s p ts (open_block (kind.Then x) f d) (m ∷ ms) ∷ g ∷ gs) (open_block (kind.Then x) f d ∷ m ∷ ms) →
     Knows c s (o >>= λ a. (if ends es p ts a.to
     then Some (record { kind = kind.Else x; any = false; operands = known a.from; is_set = g.is_set } ∷ g ∷ gs) else None))
-    (open_at (level (kind.Else x) d Done) (m ∷ ms))
+    (open_at (open_block (kind.Else x) d Done) (m ∷ ms))
 turn_arrow es c types s x f d p ts m ms g gs None eq st = λ good. held_none (arrow_of c x) _ eq good.0.1
 turn_arrow es c types s x f d p ts m ms g gs (Some a) eq st = turn_test es c types s x f d p ts m ms g gs a eq st _ refl
 
 -- an else
-pub other_known : (es : List Entry) (c : Context) → Stands c.types es → (s : List Bool) (k : Kind) (f d : Code) (p : Bool) (ts : Row Operand) (ls : List Level) (fs : List Frame) →
-    StandsAll c s ε (framed s p ts (level k f d) ls ∷ fs) (level k f d ∷ ls) →
-    Knows c s (other_next es c k (framed s p ts (level k f d) ls) fs) (turned k d ls)
+pub other_known : (es : List Entry) (c : Context) → IsClassesOf c.types es → (s : List Bool) (k : FrameKind) (f d : Code) (p : Bool) (ts : Row Operand) (ls : List OpenBlock) (fs : List Frame) →
+    StandsAll c s ε (framed s p ts (open_block k f d) ls ∷ fs) (open_block k f d ∷ ls) →
+    Knows c s (other_next es c k (framed s p ts (open_block k f d) ls) fs) (in_else k d ls)
 other_known es c types s (kind.Then x) f d p ts [] [] st = λ good. good
 other_known es c types s (kind.Then x) f d p ts [] (g ∷ gs) st = held_fact (arrow_of c x) _ _ st.1 (λ a h. absurd h)
 other_known es c types s (kind.Then x) f d p ts (m ∷ ms) [] st = held_fact (arrow_of c x) _ _ st.1 (λ a h. absurd h)
@@ -69,24 +69,24 @@ other_known es c types s (kind.Else x) f d p ts ls fs st = λ good. good
 -- ## A block ends
 
 -- what is covered at the end of the block is what the rules ask of it
-whole_in : (es : List Entry) (c : Context) → Stands c.types es → (s : List Bool) (k : Kind) (f d : Code) (ls : List Level) (a : Arrow) → arrow_at c k ≡ Some a → (p : Bool) (ts : Row Operand) →
-    ((us : Row Operand) → Reaches c s (level k f d) ls us → Covers c.types p ts us) →
+whole_in : (es : List Entry) (c : Context) → IsClassesOf c.types es → (s : List Bool) (k : FrameKind) (f d : Code) (ls : List OpenBlock) (a : Arrow) → arrow_at c k ≡ Some a → (p : Bool) (ts : Row Operand) →
+    ((us : Row Operand) → Reaches c s (open_block k f d) ls us → Covers c.types p ts us) →
     Whole c (set_at s ls) k f d (kinds_of ls) a → IsTrue (ends es p ts a.to && end_test es k a)
 whole_in es c types s k f d ls a eq p ts g w =
     and_intro _ _ (ends_in c.types es types p ts a.to (g (known a.to) (at_held (arrow_at c k) a _ eq w.0))) (end_test_in es c types k a w.1)
 
 -- and the other way
-whole_out : (es : List Entry) (c : Context) → Stands c.types es → (s : List Bool) (k : Kind) (f d : Code) (ls : List Level) (a : Arrow) → arrow_at c k ≡ Some a → (p : Bool) (ts : Row Operand) →
-    ((us : Row Operand) → Covers c.types p ts us → Reaches c s (level k f d) ls us) →
+whole_out : (es : List Entry) (c : Context) → IsClassesOf c.types es → (s : List Bool) (k : FrameKind) (f d : Code) (ls : List OpenBlock) (a : Arrow) → arrow_at c k ≡ Some a → (p : Bool) (ts : Row Operand) →
+    ((us : Row Operand) → Covers c.types p ts us → Reaches c s (open_block k f d) ls us) →
     IsTrue (ends es p ts a.to && end_test es k a) → Whole c (set_at s ls) k f d (kinds_of ls) a
 whole_out es c types s k f d ls a eq p ts g h =
     let t = and_true _ _ h in
     (held_at (arrow_at c k) a _ eq (g (known a.to) (ends_out c.types es types p ts a.to t.0)), end_test_out es c types k a t.1)
 
 -- in another block, by the test of what is left
-inner_test : (es : List Entry) (c : Context) → Stands c.types es → (s : List Bool) (k : Kind) → Inner k → (f d : Code) (m : Level) (ms : List Level) (a : Arrow) → arrow_at c k ≡ Some a → (p : Bool) (ts : Row Operand) →
+inner_test : (es : List Entry) (c : Context) → IsClassesOf c.types es → (s : List Bool) (k : FrameKind) → Inner k → (f d : Code) (m : OpenBlock) (ms : List OpenBlock) (a : Arrow) → arrow_at c k ≡ Some a → (p : Bool) (ts : Row Operand) →
     (g : Frame) (gs : List Frame) →
-    StandsAt c s ε (framed s p ts (level k f d) (m ∷ ms)) (level k f d) (m ∷ ms) →
+    StandsAt c s ε (framed s p ts (open_block k f d) (m ∷ ms)) (open_block k f d) (m ∷ ms) →
     StandsAll c s (taken_by k a) (g ∷ gs) (m ∷ ms) →
     (b : Bool) → (ends es p ts a.to && end_test es k a) ≡ b →
     Knows c s (if b then Some (record g { operands = g.operands ⧺ known a.to } ∷ gs) else None) (open_at (more m (node k f d)) ms)
@@ -114,9 +114,9 @@ inner_test es c types s k inner f d m ms a eq p ts g gs st around true test =
     )
 
 -- by the type of the block
-inner_arrow : (es : List Entry) (c : Context) → Stands c.types es → (s : List Bool) (k : Kind) → Inner k → (f d : Code) (m : Level) (ms : List Level) (o : Option Arrow) → arrow_at c k ≡ o → (p : Bool) (ts : Row Operand) →
+inner_arrow : (es : List Entry) (c : Context) → IsClassesOf c.types es → (s : List Bool) (k : FrameKind) → Inner k → (f d : Code) (m : OpenBlock) (ms : List OpenBlock) (o : Option Arrow) → arrow_at c k ≡ o → (p : Bool) (ts : Row Operand) →
     (g : Frame) (gs : List Frame) →
-    StandsAll c s ε (framed s p ts (level k f d) (m ∷ ms) ∷ g ∷ gs) (level k f d ∷ m ∷ ms) →
+    StandsAll c s ε (framed s p ts (open_block k f d) (m ∷ ms) ∷ g ∷ gs) (open_block k f d ∷ m ∷ ms) →
     Knows c s (o >>= λ a. (if ends es p ts a.to && end_test es k a then Some (leave a.to (g ∷ gs)) else None))
     (open_at (more m (node k f d)) ms)
 inner_arrow es c types s k inner f d m ms None eq p ts g gs st = absurd (held_none (arrow_at c k) _ eq st.1)
@@ -124,13 +124,13 @@ inner_arrow es c types s k inner f d m ms (Some a) eq p ts g gs st =
     inner_test es c types s k inner f d m ms a eq p ts g gs st.0 (held_at (arrow_at c k) a _ eq st.1) _ refl
 
 -- nothing is known of what begins no body
-no_way : (c : Context) (s : List Bool) (o : Option Arrow) → Knows c s (o >>= λ a. None) broken
+no_way : (c : Context) (s : List Bool) (o : Option Arrow) → Knows c s (o >>= λ a. None) malformed
 no_way c s None = λ good. good
 no_way c s (Some a) = λ good. good
 
 -- the body ends
-body_case : (es : List Entry) (c : Context) → Stands c.types es → (s : List Bool) (f d : Code) (p : Bool) (ts : Row Operand) →
-    StandsAll c s ε (framed s p ts (level kind.Body f d) [] ∷ []) (level kind.Body f d ∷ []) →
+body_case : (es : List Entry) (c : Context) → IsClassesOf c.types es → (s : List Bool) (f d : Code) (p : Bool) (ts : Row Operand) →
+    StandsAll c s ε (framed s p ts (open_block kind.Body f d) [] ∷ []) (open_block kind.Body f d ∷ []) →
     (b : Bool) → (ends es p ts c.results && true) ≡ b → Knows c s (if b then Some [] else None) (ended d)
 body_case es c types s f d p ts st false test = λ good.
     false≢true (sym test ∙ and_intro _ _ (ends_in c.types es types p ts c.results (st.0.reaches (known c.results) (tt, good))) refl)
@@ -138,9 +138,9 @@ body_case es c types s f d p ts st true test =
     (tt, (st.0.reached (known c.results) (ends_out c.types es types p ts c.results (and_true _ _ test).0)).1)
 
 -- an end
-pub end_known : (es : List Entry) (c : Context) → Stands c.types es → (s : List Bool) (k : Kind) (f d : Code) (p : Bool) (ts : Row Operand) (ls : List Level) (fs : List Frame) →
-    StandsAll c s ε (framed s p ts (level k f d) ls ∷ fs) (level k f d ∷ ls) →
-    Knows c s (end_next es c (framed s p ts (level k f d) ls) fs) (closed k f d ls)
+pub end_known : (es : List Entry) (c : Context) → IsClassesOf c.types es → (s : List Bool) (k : FrameKind) (f d : Code) (p : Bool) (ts : Row Operand) (ls : List OpenBlock) (fs : List Frame) →
+    StandsAll c s ε (framed s p ts (open_block k f d) ls ∷ fs) (open_block k f d ∷ ls) →
+    Knows c s (end_next es c (framed s p ts (open_block k f d) ls) fs) (closed k f d ls)
 end_known es c types s kind.Body f d p ts [] [] st = body_case es c types s f d p ts st _ refl
 end_known es c types s kind.Body f d p ts [] (g ∷ gs) st = absurd st.1
 end_known es c types s kind.Body f d p ts (m ∷ ms) [] st = absurd st.1

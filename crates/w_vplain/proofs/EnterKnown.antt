@@ -3,26 +3,26 @@ use Rattle.std.proofs.Common.{◌≡◌, Bool, false, List, ◌∷◌, Option, S
 use Rattle.w_types.specs.Rows.{Row, ε, ◌⧺◌}
 use Rattle.w_syntax.specs.Code.{Done}
 use Rattle.w_canon.specs.declared.entry.Entry.{Entry}
-use Rattle.w_canon.specs.Stands.{Stands}
+use Rattle.w_canon.specs.IsClassesOf.{IsClassesOf}
 use Rattle.w_rules.specs.declared.operand.Operand.{Operand}
 use Rattle.w_rules.specs.Conditions.{Holds}
 use Rattle.w_rules.specs.Context.{Context, Arrow}
 use Rattle.w_rules.specs.Matching.{known}
 use Rattle.w_flow.specs.Flow.{Covers, ◌>>=◌, pops}
-use Rattle.w_vplain.specs.Levels.{Level, open_at, opened, arrow_at, taken_by, set_at, FirstDerives}
+use Rattle.w_vplain.specs.Prefixes.{OpenBlock, open_at, opened, arrow_at, taken_by, set_at, FirstDerives}
 use Rattle.w_vplain.specs.Frames.{Frame, enter_next, StandsAll, Knows}
-use Rattle.w_vplain.specs.declared.kind.Kind.{Kind}
-use Rattle.w_vplain.proofs.Held.{held_at, at_held, held_none}
+use Rattle.w_vplain.specs.declared.frame_kind.FrameKind.{FrameKind}
+use Rattle.w_vplain.proofs.Options.{held_at, at_held, held_none}
 use Rattle.w_vplain.proofs.Reaching.{framed}
-use Rattle.w_vplain.proofs.EndsTold.{covers_matches, matches_covers}
+use Rattle.w_vplain.proofs.BlockEnds.{covers_matches, matches_covers}
 use Rattle.w_flow.proofs.Covers.{pops_in, pops_out}
 
 -- no first branch has to be derived
-abbrev pub Unbranched : Kind → Type 0
+abbrev pub Unbranched : FrameKind → Type 0
 Unbranched k = (c : Context) (s : List Bool) (a : Arrow) → FirstDerives c s k Done a
 
 -- by the operands that the block takes
-enter_taken : (c : Context) (s : List Bool) (k : Kind) (a : Arrow) → arrow_at c k ≡ Some a → Unbranched k → (p : Bool) (ts : Row Operand) (l : Level) (ls : List Level) (fs : List Frame) →
+enter_taken : (c : Context) (s : List Bool) (k : FrameKind) (a : Arrow) → arrow_at c k ≡ Some a → Unbranched k → (p : Bool) (ts : Row Operand) (l : OpenBlock) (ls : List OpenBlock) (fs : List Frame) →
     StandsAll c s ε (framed s p ts l ls ∷ fs) (l ∷ ls) →
     (o : Option (Row Operand)) →
     ((us : Row Operand) → Covers c.types p ts (us ⧺ known (taken_by k a)) → Holds o (λ (w : Row Operand). Covers c.types p w us)) →
@@ -50,7 +50,7 @@ enter_taken c s k a eq un p ts l ls fs st (Some w) f g = (
 )
 
 -- by the type of the block
-enter_arrow : (es : List Entry) (c : Context) → Stands c.types es → (s : List Bool) (k : Kind) (o : Option Arrow) → arrow_at c k ≡ o → Unbranched k → (p : Bool) (ts : Row Operand) (l : Level) (ls : List Level) (fs : List Frame) →
+enter_arrow : (es : List Entry) (c : Context) → IsClassesOf c.types es → (s : List Bool) (k : FrameKind) (o : Option Arrow) → arrow_at c k ≡ o → Unbranched k → (p : Bool) (ts : Row Operand) (l : OpenBlock) (ls : List OpenBlock) (fs : List Frame) →
     StandsAll c s ε (framed s p ts l ls ∷ fs) (l ∷ ls) →
     Knows c s (o >>= λ a. pops es p ts (taken_by k a) >>= λ w.
     Some (record { kind = k; any = false; operands = known a.from; is_set = set_at s (l ∷ ls) } ∷ framed s p w l ls ∷ fs)) (open_at (opened k) (l ∷ ls))
@@ -59,6 +59,6 @@ enter_arrow es c types s k (Some a) eq un p ts l ls fs st =
     enter_taken c s k a eq un p ts l ls fs st _ (λ us. pops_in c.types es types p ts (taken_by k a) us) (λ us. pops_out c.types es types p ts (taken_by k a) us)
 
 -- a block of this kind begins
-pub enter_known : (es : List Entry) (c : Context) → Stands c.types es → (s : List Bool) (k : Kind) → Unbranched k → (p : Bool) (ts : Row Operand) (l : Level) (ls : List Level) (fs : List Frame) →
+pub enter_known : (es : List Entry) (c : Context) → IsClassesOf c.types es → (s : List Bool) (k : FrameKind) → Unbranched k → (p : Bool) (ts : Row Operand) (l : OpenBlock) (ls : List OpenBlock) (fs : List Frame) →
     StandsAll c s ε (framed s p ts l ls ∷ fs) (l ∷ ls) → Knows c s (enter_next es c k (framed s p ts l ls) fs) (open_at (opened k) (l ∷ ls))
 enter_known es c types s k un p ts l ls fs st = enter_arrow es c types s k (arrow_at c k) refl un p ts l ls fs st

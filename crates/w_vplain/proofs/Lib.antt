@@ -1,26 +1,23 @@
-pub mod Held
-pub mod ConditionsTold
+pub mod Options
+pub mod ConditionTests
 pub mod Reaching
-pub mod LinesKnown
-pub mod EndsTold
+pub mod TypesKnown
+pub mod BlockEnds
 pub mod EnterKnown
 pub mod Nodes
 pub mod EndsKnown
-pub mod Before
+pub mod Monotone
 pub mod CallsKnown
-pub mod Whenever
-pub mod LineHeights
+pub mod TypeHeights
 pub mod CodeHeights
-pub mod LevelPeaks
+pub mod BlockPeaks
 pub mod CallsCounted
 pub mod CallsDeepen
 pub mod BodiesFollowed
-pub mod ByRow
+pub mod RowCalls
 pub mod WholeBodies
 pub mod EndsListed
-mod LocalRuns
-mod LogsTold
-pub mod FramesTold
+pub mod FrameViews
 mod LabelsBack
 mod TablesTaken
 pub mod CallsAnswered

@@ -7,25 +7,25 @@ use Rattle.w_rules.specs.declared.operand.Operand.{Operand}
 use Rattle.w_rules.specs.Context.{Context}
 use Rattle.w_rules.specs.Matching.{RowMatches, known}
 use Rattle.w_rules.specs.Typing.{Derives}
-use Rattle.w_vplain.specs.Levels.{Level, more, arrow_at, taken_by, within, kinds_of, set_at, Reaches}
+use Rattle.w_vplain.specs.Prefixes.{OpenBlock, more, arrow_at, taken_by, within, kinds_of, set_at, Reaches}
 use Rattle.w_vplain.specs.Frames.{Frame, frame_kinds, StandsAt, StandsAll}
-use Rattle.w_vplain.specs.declared.kind.Kind.{Kind}
-use Rattle.w_vplain.proofs.Held.{held_fact}
+use Rattle.w_vplain.specs.declared.frame_kind.FrameKind.{FrameKind}
+use Rattle.w_vplain.proofs.Options.{held_fact}
 use Rattle.w_rules.proofs.Derive.{derives_right, after_in, after_out, holds_map, holds_pull}
 
 -- ## Levels
 
-abbrev pub level : Kind → Code → Code → Level
-level k f d = record { kind = k; first = f; code = d }
+abbrev pub open_block : FrameKind → Code → Code → OpenBlock
+open_block k f d = record { kind = k; first = f; code = d }
 
 -- a sequence behind what is there leads on
-pub reaches_in : (c : Context) (s : List Bool) (l : Level) (ls : List Level) (k : Code) (vs us : Row Operand) → Reaches c s l ls vs →
+pub reaches_in : (c : Context) (s : List Bool) (l : OpenBlock) (ls : List OpenBlock) (k : Code) (vs us : Row Operand) → Reaches c s l ls vs →
     Derives (within c (kinds_of (l ∷ ls))) (set_at s (l ∷ ls)) k vs us → Reaches c s (more l k) ls us
 reaches_in c s l ls k vs us r d =
     holds_map (arrow_at c l.kind) _ _ r (λ a h. (h.0, after_in (within c (kinds_of (l ∷ ls))) (set_at s ls) l.code k (known a.from) vs us h.1 d))
 
 -- and what is led to with it is led to through what is there
-pub reaches_out : (c : Context) (s : List Bool) (l : Level) (ls : List Level) (k : Code) (us : Row Operand) → Reaches c s (more l k) ls us →
+pub reaches_out : (c : Context) (s : List Bool) (l : OpenBlock) (ls : List OpenBlock) (k : Code) (us : Row Operand) → Reaches c s (more l k) ls us →
     (vs : Row Operand) × Reaches c s l ls vs × Derives (within c (kinds_of (l ∷ ls))) (set_at s (l ∷ ls)) k vs us
 reaches_out c s l ls k us r =
     holds_pull (arrow_at c l.kind) _ _ _ r (λ a h.
@@ -33,24 +33,24 @@ reaches_out c s l ls k us r =
     (j.0, (h.0, j.1), j.2))
 
 -- with operands also operands that these match
-pub reaches_right : (c : Context) (s : List Bool) (l : Level) (ls : List Level) (us vs : Row Operand) → Reaches c s l ls us → RowMatches c.types us vs →
+pub reaches_right : (c : Context) (s : List Bool) (l : OpenBlock) (ls : List OpenBlock) (us vs : Row Operand) → Reaches c s l ls us → RowMatches c.types us vs →
     Reaches c s l ls vs
 reaches_right c s l ls us vs r m =
     holds_map (arrow_at c l.kind) _ _ r (λ a h. (h.0, derives_right (within c (kinds_of (l ∷ ls))) (set_at s ls) l.code (known a.from) us vs h.1 m))
 
 -- ## Frames
 
--- a frame of the level, with these operands
-abbrev pub framed : List Bool → Bool → Row Operand → Level → List Level → Frame
+-- a frame of the open block, with these operands
+abbrev pub framed : List Bool → Bool → Row Operand → OpenBlock → List OpenBlock → Frame
 framed s p ts l ls = record { kind = l.kind; any = p; operands = ts; is_set = set_at s (l ∷ ls) }
 
--- a frame that stands for a level is one of the level
-pub frame_is : (c : Context) (s : List Bool) (taken : Row ValType) (f : Frame) (l : Level) (ls : List Level) → StandsAt c s taken f l ls →
+-- a frame that stands for an open block is one of the open block
+pub frame_is : (c : Context) (s : List Bool) (taken : Row ValType) (f : Frame) (l : OpenBlock) (ls : List OpenBlock) → StandsAt c s taken f l ls →
     f ≡ framed s f.any f.operands l ls
 frame_is c s taken f l ls st = λ j. record { kind = st.kind j; any = f.any; operands = f.operands; is_set = st.is_set j }
 
 -- frames are of the kinds of the blocks that they stand for
-pub kinds_same : (c : Context) (s : List Bool) (taken : Row ValType) (fs : List Frame) (ls : List Level) → StandsAll c s taken fs ls →
+pub kinds_same : (c : Context) (s : List Bool) (taken : Row ValType) (fs : List Frame) (ls : List OpenBlock) → StandsAll c s taken fs ls →
     frame_kinds fs ≡ kinds_of ls
 kinds_same c s taken [] [] st = refl
 kinds_same c s taken [] (l ∷ ls) st = absurd st
@@ -59,7 +59,7 @@ kinds_same c s taken (f ∷ fs) (l ∷ ls) st = held_fact (arrow_at c l.kind) _ 
     ap (λ k. k ∷ frame_kinds fs) st.0.kind ∙ ap (λ ks. l.kind ∷ ks) (kinds_same c s (taken_by l.kind a) fs ls h))
 
 -- and as many
-pub count_same : (c : Context) (s : List Bool) (taken : Row ValType) (fs : List Frame) (ls : List Level) → StandsAll c s taken fs ls → length fs ≡ length ls
+pub count_same : (c : Context) (s : List Bool) (taken : Row ValType) (fs : List Frame) (ls : List OpenBlock) → StandsAll c s taken fs ls → length fs ≡ length ls
 count_same c s taken [] [] st = refl
 count_same c s taken [] (l ∷ ls) st = absurd st
 count_same c s taken (f ∷ fs) [] st = absurd st
@@ -67,6 +67,6 @@ count_same c s taken (f ∷ fs) (l ∷ ls) st =
     held_fact (arrow_at c l.kind) _ _ st.1 (λ a h. ap suc (count_same c s (taken_by l.kind a) fs ls h))
 
 -- the frames around the innermost one are of the kinds of the blocks around it
-pub tail_kinds : (c : Context) (s : List Bool) (f : Frame) (fs : List Frame) (l : Level) (ls : List Level) → StandsAll c s ε (f ∷ fs) (l ∷ ls) →
+pub tail_kinds : (c : Context) (s : List Bool) (f : Frame) (fs : List Frame) (l : OpenBlock) (ls : List OpenBlock) → StandsAll c s ε (f ∷ fs) (l ∷ ls) →
     frame_kinds fs ≡ kinds_of ls
 tail_kinds c s f fs l ls st = held_fact (arrow_at c l.kind) _ _ st.1 (λ a h. kinds_same c s (taken_by l.kind a) fs ls h)

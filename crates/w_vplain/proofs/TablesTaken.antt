@@ -7,18 +7,18 @@ use Rattle.w_types.specs.Rows.{Row, ε, ◌▹◌, row_of, size}
 use Rattle.w_types.proofs.Rows.{row_of-more, size-row_of}
 use Rattle.w_canon.specs.declared.entry.Entry.{Entry}
 use Rattle.w_rules.specs.declared.operand.Operand.{Operand}
-use Rattle.w_rules.specs.Lines.{labels_at, br_table_line, br_on_non_null_line}
+use Rattle.w_rules.specs.InstructionTypes.{labels_at, br_table_type, br_on_non_null_type}
 use Rattle.w_flow.specs.Flow.{pops, is_popped, fits_one, fit_each, step}
 use Rattle.w_flow.specs.View.{anything}
 use Rattle.w_flow.proofs.LabelsOfTables.{table_step}
 
 -- ## A branch where the operand is not null
 
--- its line, by the last type of the label's list
+-- its type, by the last type of the label's list
 pub top_taken : (label beneath : List ValType) (t u : ValType) → label ≡ beneath ++ t ∷ [] → t ≡ u →
-    br_on_non_null_line (Some (row_of label)) ≡ br_on_non_null_line (Some (row_of beneath ▹ u))
+    br_on_non_null_type (Some (row_of label)) ≡ br_on_non_null_type (Some (row_of beneath ▹ u))
 top_taken label beneath t u e f =
-    ap (λ (r : Row ValType). br_on_non_null_line (Some r)) (ap row_of e ∙ row_of-more beneath t ∙ ap (λ (v : ValType). row_of beneath ▹ v) f)
+    ap (λ (r : Row ValType). br_on_non_null_type (Some r)) (ap row_of e ∙ row_of-more beneath t ∙ ap (λ (v : ValType). row_of beneath ▹ v) f)
 
 -- ## Tests
 
@@ -58,19 +58,19 @@ module _ (es : List Entry) (labels : List (Row ValType)) (p : Bool) (ts : Row Op
       (both_true _ _ (eq-eqb (size (row_of label)) n (size-row_of label ∙ long)) can)
 
   -- where it does not fit, not all do
-  refused : k < length xs → slice_get labels (get_or xs k d) ≡ Some (row_of label) → fits ≡ false → fit_each es labels p ts n (drop k xs) ≡ false
-  refused h l e = one_more h l ∙ ap (λ (b : Bool). b && fit_each es labels p ts n (drop (k + 1) xs)) e
+  not_taken : k < length xs → slice_get labels (get_or xs k d) ≡ Some (row_of label) → fits ≡ false → fit_each es labels p ts n (drop k xs) ≡ false
+  not_taken h l e = one_more h l ∙ ap (λ (b : Bool). b && fit_each es labels p ts n (drop (k + 1) xs)) e
 
   -- it does not where it has another number of types
   pub label_differs : k < length xs → slice_get labels (get_or xs k d) ≡ Some (row_of label) → (length label ≡ n → ⊥) → fit_each es labels p ts n (drop k xs) ≡ false
   label_differs h l differs =
-      refused h l (ap (λ (b : Bool). b && is_popped (pops es p ts (row_of label)))
+      not_taken h l (ap (λ (b : Bool). b && is_popped (pops es p ts (row_of label)))
       (not_true _ (λ e. differs (sym (size-row_of label) ∙ eqb-true (size (row_of label)) n e))))
 
   -- nor where it cannot be taken
   pub label_fails : k < length xs → slice_get labels (get_or xs k d) ≡ Some (row_of label) → is_popped (pops es p ts (row_of label)) ≡ false →
       fit_each es labels p ts n (drop k xs) ≡ false
-  label_fails h l cannot = refused h l (right_false _ _ cannot)
+  label_fails h l cannot = not_taken h l (right_false _ _ cannot)
 
 -- ## The step of a br_table
 
@@ -79,7 +79,7 @@ pub table_answer : (es : List Entry) (labels : List (Row ValType)) (p q : Bool) 
     (taken can fit : Bool) →
     pops es p ts (ε ▹ I32) ≡ (if taken then Some rest else None) → taken ≡ true → q ≡ p → slice_get labels d ≡ Some (row_of label) →
     can ≡ is_popped (pops es q rest (row_of label)) → can ≡ true → fit ≡ fit_each es labels q rest (length label) xs →
-    step es (br_table_line (slice_get labels d) (labels_at labels xs)) p ts ≡ (if fit then Some anything else None)
+    step es (br_table_type (slice_get labels d) (labels_at labels xs)) p ts ≡ (if fit then Some anything else None)
 table_answer es labels p q ts rest label d xs taken can fit left all same found tested passed others =
     let last : is_popped (pops es p rest (row_of label)) ≡ true =
     ap (λ (x : Bool). is_popped (pops es x rest (row_of label))) (sym same) ∙ sym tested ∙ passed in

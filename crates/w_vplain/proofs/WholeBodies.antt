@@ -12,11 +12,11 @@ use Rattle.w_rules.specs.Matching.{known}
 use Rattle.w_rules.specs.Peak.{peak, depth}
 use Rattle.w_rules.specs.Spaces.{in_body}
 use Rattle.w_rules.specs.Typing.{Derives}
-use Rattle.w_vplain.specs.Levels.{Sofar, ended, empty, follow_all, within, Good}
+use Rattle.w_vplain.specs.Prefixes.{Prefix, ended, empty, follow_all, within, IsDerivable}
 use Rattle.w_vplain.specs.Frames.{Frame, FramesStand}
 use Rattle.w_vplain.specs.Measures.{peak_of, depth_of, CountsFor}
-use Rattle.w_vplain.specs.declared.kind.Kind.TheVariants as kind
-use Rattle.w_vplain.proofs.EndsTold.{covers_matches, matches_covers}
+use Rattle.w_vplain.specs.declared.frame_kind.FrameKind.TheVariants as kind
+use Rattle.w_vplain.proofs.BlockEnds.{covers_matches, matches_covers}
 use Rattle.w_vplain.proofs.BodiesFollowed.{follow_flat}
 
 -- ## The beginning
@@ -56,13 +56,13 @@ pub end_derived : (c : Context) (s : List Bool) (k : Code) → FramesStand c s [
 end_derived c s k st = st.1
 
 -- in a body's context, a whole body is derived exactly where it takes no operands to its results
-pub body_good : (c : Context) (locals results : List ValType) (s : List Bool) (k : Code) →
-    Good (in_body c locals results) s (ended k) ↔ Derives (in_body c locals results) s k ε (known (row_of results))
-body_good c locals results s k = (λ g. g, λ d. d)
+pub body_derivable : (c : Context) (locals results : List ValType) (s : List Bool) (k : Code) →
+    IsDerivable (in_body c locals results) s (ended k) ↔ Derives (in_body c locals results) s k ε (known (row_of results))
+body_derivable c locals results s k = (λ g. g, λ d. d)
 
 -- and so exactly where it is typed
 pub body_typed : (c : Context) (params : List ValType) (runs : List LocalRun) (results : List ValType) (k : Code) →
-    Good (in_body c (params ++ types_of_runs runs) results) (set_first params runs) (ended k) ↔ BodyTyped c params runs results k
+    IsDerivable (in_body c (params ++ types_of_runs runs) results) (set_first params runs) (ended k) ↔ BodyTyped c params runs results k
 body_typed c params runs results k = (λ g. g, λ d. d)
 
 -- its peak
@@ -75,7 +75,7 @@ pub body_depth : (k : Code) → depth_of (ended k) ≡ depth k
 body_depth k = refl
 
 -- the list of a body leads to it
-pub flat_good : (c : Context) (s : List Bool) (is : List Instr) → IsFlat is → Good c s (follow_all is empty) ↔ Good c s (ended (tree_of is))
-flat_good c s is h =
-    let P : Sofar → Type 0 = λ w. Good c s w ↔ Good c s (ended (tree_of is)) in
+pub flat_derivable : (c : Context) (s : List Bool) (is : List Instr) → IsFlat is → IsDerivable c s (follow_all is empty) ↔ IsDerivable c s (ended (tree_of is))
+flat_derivable c s is h =
+    let P : Prefix → Type 0 = λ w. IsDerivable c s w ↔ IsDerivable c s (ended (tree_of is)) in
     subst P (sym (follow_flat is h)) (λ g. g, λ g. g)

@@ -3,8 +3,8 @@ use Rattle.std.specs.Prelude.{◌≡◌, Bool, true, false, ◌&&◌, not, List,
 use Rattle.w_types.specs.declared.types.RefType.{RefType}
 use Rattle.w_types.specs.declared.types.ValType.{ValType}
 use Rattle.w_types.specs.Rows.{Row, ε, ◌⧺◌}
-use Rattle.w_syntax.specs.declared.instructions.Control.{Control}
-use Rattle.w_syntax.specs.declared.instructions.Control.TheVariants as control
+use Rattle.w_syntax.specs.declared.instructions.ControlOp.{ControlOp}
+use Rattle.w_syntax.specs.declared.instructions.ControlOp.TheVariants as control
 use Rattle.w_syntax.specs.declared.instructions.Instr.{Instr}
 use Rattle.w_syntax.specs.declared.instructions.Instr.TheVariants as flat
 use Rattle.w_syntax.specs.declared.instructions.Op.{Op}
@@ -17,31 +17,31 @@ use Rattle.w_canon.specs.Tests.{ref_test}
 use Rattle.w_rules.specs.declared.operand.Operand.{Operand}
 use Rattle.w_rules.specs.Conditions.{Holds, funcref}
 use Rattle.w_rules.specs.Context.{Context, Arrow}
-use Rattle.w_rules.specs.Lines.{Line, line, sets}
+use Rattle.w_rules.specs.InstructionTypes.{InstrType, instr_type, sets}
 use Rattle.w_rules.specs.Matching.{known}
 use Rattle.w_flow.specs.Flow.{Covers, ◌>>=◌, pops, ends, step}
-use Rattle.w_vplain.specs.Levels.{Level, Sofar, open_at, ended, broken, arrow_at, taken_by, within, set_at, Reaches, Good}
-use Rattle.w_vplain.specs.declared.kind.Kind.{Kind}
-use Rattle.w_vplain.specs.declared.kind.Kind.TheVariants as kind
+use Rattle.w_vplain.specs.Prefixes.{OpenBlock, Prefix, open_at, ended, malformed, arrow_at, taken_by, within, set_at, Reaches, IsDerivable}
+use Rattle.w_vplain.specs.declared.frame_kind.FrameKind.{FrameKind}
+use Rattle.w_vplain.specs.declared.frame_kind.FrameKind.TheVariants as kind
 
 -- an open block: its operands, whether more of any type may lie beneath them, and which locals are set
 pub record Frame : Type 0 where
-  pub kind : Kind
+  pub kind : FrameKind
   pub any : Bool
   pub operands : Row Operand
   pub is_set : List Bool
 
-abbrev pub frame_kinds : List Frame → List Kind
+abbrev pub frame_kinds : List Frame → List FrameKind
 frame_kinds [] = []
 frame_kinds (f ∷ fs) = f.kind ∷ frame_kinds fs
 
--- ## What a plain instruction asks beside its line, as a test on the entries of the types
+-- ## What a plain instruction asks beside its type, as a test on the entries of the types
 
 abbrev pub holds_functions : List Entry → Option TableType → Bool
 holds_functions es (Some t) = ref_test es t.element funcref
 holds_functions es None = false
 
-abbrev pub control_test : List Entry → Context → Control → Bool
+abbrev pub control_test : List Entry → Context → ControlOp → Bool
 control_test es c (control.CallIndirect y x) = holds_functions es (slice_get c.tables x)
 control_test es c o = true
 
@@ -67,19 +67,19 @@ condition_test es c o = true
 
 -- ## One instruction
 
--- an instruction of this line, which passes its test
-abbrev pub line_next : List Entry → Line → Op → Frame → List Frame → Option (List Frame)
-line_next es l o f fs = step es l f.any f.operands >>= λ w. Some (record f { any = w.any; operands = w.operands; is_set = sets o f.is_set } ∷ fs)
+-- an instruction of this type, which passes its test
+abbrev pub typed_next : List Entry → InstrType → Op → Frame → List Frame → Option (List Frame)
+typed_next es l o f fs = step es l f.any f.operands >>= λ w. Some (record f { any = w.any; operands = w.operands; is_set = sets o f.is_set } ∷ fs)
 
 abbrev pub plain_next : List Entry → Context → Op → Frame → List Frame → Option (List Frame)
 plain_next es c o f fs =
-    if condition_test es c o then line_next es (line (within c (f.kind ∷ frame_kinds fs)) f.is_set o) o f fs else None
+    if condition_test es c o then typed_next es (instr_type (within c (f.kind ∷ frame_kinds fs)) f.is_set o) o f fs else None
 
-abbrev pub enter_next : List Entry → Context → Kind → Frame → List Frame → Option (List Frame)
+abbrev pub enter_next : List Entry → Context → FrameKind → Frame → List Frame → Option (List Frame)
 enter_next es c k f fs = arrow_at c k >>= λ a. pops es f.any f.operands (taken_by k a) >>= λ w.
     Some (record { kind = k; any = false; operands = known a.from; is_set = f.is_set } ∷ record f { operands = w } ∷ fs)
 
-abbrev pub other_next : List Entry → Context → Kind → Frame → List Frame → Option (List Frame)
+abbrev pub other_next : List Entry → Context → FrameKind → Frame → List Frame → Option (List Frame)
 other_next es c (kind.Then x) f [] = None
 other_next es c (kind.Then x) f (g ∷ gs) = arrow_at c (kind.Then x) >>= λ a. (if ends es f.any f.operands a.to
     then Some (record { kind = kind.Else x; any = false; operands = known a.from; is_set = g.is_set } ∷ g ∷ gs) else None)
@@ -88,7 +88,7 @@ other_next es c (kind.Block b x) f fs = None
 other_next es c (kind.Else x) f fs = None
 
 -- without a second branch the parameters match the results
-abbrev pub end_test : List Entry → Kind → Arrow → Bool
+abbrev pub end_test : List Entry → FrameKind → Arrow → Bool
 end_test es (kind.Then x) a = ends es false (known a.from) a.to
 end_test es kind.Body a = true
 end_test es (kind.Block b x) a = true
@@ -103,7 +103,7 @@ no_frames [] = true
 no_frames (g ∷ gs) = false
 
 -- a body stands alone, and every other block in one
-abbrev pub fits : Kind → Bool → Bool
+abbrev pub fits : FrameKind → Bool → Bool
 fits kind.Body alone = alone
 fits (kind.Block b x) alone = not alone
 fits (kind.Then x) alone = not alone
@@ -133,13 +133,13 @@ next es c i (f ∷ fs) = frame_next es c i f fs
 -- ## What frames stand for
 
 -- A frame stands for a block's instructions so far: it covers the operands that they lead to, without what an inner block took.
-pub record StandsAt (c : Context) (s : List Bool) (taken : Row ValType) (f : Frame) (l : Level) (ls : List Level) : Type 0 where
+pub record StandsAt (c : Context) (s : List Bool) (taken : Row ValType) (f : Frame) (l : OpenBlock) (ls : List OpenBlock) : Type 0 where
   pub kind : f.kind ≡ l.kind
   pub is_set : f.is_set ≡ set_at s (l ∷ ls)
   pub reaches : (us : Row Operand) → Reaches c s l ls (us ⧺ known taken) → Covers c.types f.any f.operands us
   pub reached : (us : Row Operand) → Covers c.types f.any f.operands us → Reaches c s l ls (us ⧺ known taken)
 
-abbrev pub StandsAll : Context → List Bool → Row ValType → List Frame → List Level → Type 0
+abbrev pub StandsAll : Context → List Bool → Row ValType → List Frame → List OpenBlock → Type 0
 StandsAll c s taken [] [] = Unit {0}
 StandsAll c s taken [] (l ∷ ls) = ⊥
 StandsAll c s taken (f ∷ fs) [] = ⊥
@@ -151,12 +151,12 @@ IsNil [] = Unit {0}
 IsNil (f ∷ fs) = ⊥
 
 -- the frames stand for the sequence
-abbrev pub FramesStand : Context → List Bool → List Frame → Sofar → Type 0
+abbrev pub FramesStand : Context → List Bool → List Frame → Prefix → Type 0
 FramesStand c s fs (open_at l ls) = StandsAll c s ε fs (l ∷ ls)
-FramesStand c s fs (ended k) = IsNil fs × Good c s (ended k)
-FramesStand c s fs broken = ⊥
+FramesStand c s fs (ended k) = IsNil fs × IsDerivable c s (ended k)
+FramesStand c s fs malformed = ⊥
 
 -- what is known of a sequence: it is derived, and the frames stand for it; or there are none, and it isn't
-abbrev pub Knows : Context → List Bool → Option (List Frame) → Sofar → Type 0
-Knows c s None w = Good c s w → ⊥
+abbrev pub Knows : Context → List Bool → Option (List Frame) → Prefix → Type 0
+Knows c s None w = IsDerivable c s w → ⊥
 Knows c s (Some fs) w = FramesStand c s fs w

@@ -1,7 +1,6 @@
-pub mod Levels
+pub mod Prefixes
 pub mod Frames
 pub mod Measures
 pub mod Row
-pub mod Locals
 pub mod View
 pub mod Standing

@@ -6,13 +6,13 @@ ghost use Rattle.w_flow.specs.View.{flow_view};
 ghost use Rattle.w_rules.specs.Spaces.{in_body};
 ghost use Rattle.w_rules.specs.View.{context_in};
 ghost use Rattle.w_vplain.specs.Frames.{Frame as TheFrame, enter_next, other_next, end_test as needs_no_branch, end_next, no_frames};
-ghost use Rattle.w_vplain.specs.Levels.{taken_by};
+ghost use Rattle.w_vplain.specs.Prefixes.{taken_by};
 ghost use Rattle.w_vplain.specs.Measures.{tally};
-ghost use Rattle.w_vplain.specs.View.{frame_view, entered_with, turned_with, left_with};
+ghost use Rattle.w_vplain.specs.View.{frame_view, inner_with, else_with, left_with};
 
+use crate::body_context::arrow;
 use crate::frame::Frame;
-use crate::kind::Kind;
-use crate::place::arrow;
+use crate::frame_kind::FrameKind;
 use std::alloc::{AllocError, Global};
 use w_canon::Classes;
 use w_flow::Flow;
@@ -20,23 +20,25 @@ use w_rules::Context;
 use w_types::ValType;
 
 // Takes what a block with these parameters takes.
-fn take_params(classes: &Classes, kind: &Kind, flow: &mut Flow, from: &[ValType]) -> bool
-    ensures left { pops classes.now (flow_view flow.old).any (flow_view flow.old).operands (taken_by kind.now (record { from = row_of from.now; to = row_of [] }))
+fn take_params(classes: &Classes, kind: &FrameKind, flow: &mut Flow, from: &[ValType]) -> bool
+    ensures left { pops classes.now (flow_view flow.old).any (flow_view flow.old).operands
+        (taken_by kind.now (record { from = row_of from.now; to = row_of [] }))
         ≡ (if result then Some (flow_view flow.new).operands else None) }
     ensures same { (flow_view flow.new).any ≡ (flow_view flow.old).any }
 {
     match kind {
-        Kind::Then(_) | Kind::Else(_) => {
+        FrameKind::Then(_) | FrameKind::Else(_) => {
             flow.take(classes, &[ValType::I32]) && flow.take(classes, from)
         }
-        Kind::Body | Kind::Block(_, _) => flow.take(classes, from),
+        FrameKind::Body | FrameKind::Block(_, _) => flow.take(classes, from),
     }
 }
 
 /// How many operands there are in the block and around it, where its place is counted. It fails where that passes 64 bits, as for want
 /// of memory.
 pub(crate) fn height(frame: &Frame) -> Result<Option<u64>, AllocError>
-    ensures { IfOk result (λ h. h ≡ tally (flow_view frame.now.flow).any (flow_view frame.now.flow).operands frame.now.base) }
+    ensures { IfOk result (λ h. h ≡ tally (flow_view frame.now.flow).any
+        (flow_view frame.now.flow).operands frame.now.base) }
 {
     if frame.flow.is_any() {
         return Ok(None);
@@ -51,16 +53,19 @@ pub(crate) fn height(frame: &Frame) -> Result<Option<u64>, AllocError>
 }
 
 /// Takes what a block takes of the operands around it, and gives the frame inside it. `None` where they are not there.
-pub(crate) fn entered(
+pub(crate) fn inner_frame(
     alloc: Global,
     cx: &Context,
     results: &[ValType],
-    kind: Kind,
+    kind: FrameKind,
     around: &mut Frame,
 ) -> Result<Option<Frame>, AllocError>
     ensures steps { IfOk result (λ inner. (fs : List TheFrame) (s : List Bool) →
-        enter_next cx.now.classes.now (in_body (context_in cx.now) [] results.now) kind (frame_view around.old s) fs ≡ entered_with inner around.new s fs) }
-    ensures base { IfOk result (λ inner. IfSome inner (λ f. f.base ≡ tally (flow_view around.new.flow).any (flow_view around.new.flow).operands around.new.base)) }
+        enter_next cx.now.classes.now (in_body (context_in cx.now) [] results.now) kind
+        (frame_view around.old s) fs ≡ inner_with inner around.new s fs) }
+    ensures base { IfOk result (λ inner. IfSome inner (λ f. f.base
+        ≡ tally (flow_view around.new.flow).any
+        (flow_view around.new.flow).operands around.new.base)) }
     ensures same_base { around.new.base ≡ around.old.base }
     ensures same_kind { around.new.kind ≡ around.old.kind }
     ensures kind { IfOk result (λ inner. IfSome inner (λ f. f.kind ≡ kind)) }
@@ -77,17 +82,18 @@ pub(crate) fn entered(
 }
 
 /// The frame of an if's second branch, where the first one ends well and has blocks around it.
-pub(crate) fn turned(
+pub(crate) fn else_frame(
     alloc: Global,
     cx: &Context,
     results: &[ValType],
     first: &Frame,
 ) -> Result<Option<Frame>, AllocError>
     ensures steps { IfOk result (λ second. (g : TheFrame) (gs : List TheFrame) (s : List Bool) →
-        other_next cx.now.classes.now (in_body (context_in cx.now) [] results.now) first.now.kind (frame_view first.now s) (g ∷ gs) ≡ turned_with second g gs) }
+        other_next cx.now.classes.now (in_body (context_in cx.now) [] results.now) first.now.kind
+        (frame_view first.now s) (g ∷ gs) ≡ else_with second g gs) }
     ensures base { IfOk result (λ second. IfSome second (λ f. f.base ≡ first.now.base)) }
 {
-    let Kind::Then(block) = first.kind else {
+    let FrameKind::Then(block) = first.kind else {
         return Ok(None);
     };
     let Some((from, to)) = arrow(cx, results, &first.kind) else {
@@ -98,7 +104,7 @@ pub(crate) fn turned(
     }
     let flow = Flow::of_types(alloc, from)?;
     Ok(Some(Frame {
-        kind: Kind::Else(block),
+        kind: FrameKind::Else(block),
         flow,
         base: first.base,
     }))
@@ -106,27 +112,29 @@ pub(crate) fn turned(
 
 // Whether a block without a second branch needs none.
 #[tactic(auto, using(crate::proofs::EndsListed::ends_listed))]
-fn needs_none(classes: &Classes, kind: &Kind, from: &[ValType], to: &[ValType]) -> bool
-    ensures { result ≡ needs_no_branch classes.now kind.now (record { from = row_of from.now; to = row_of to.now }) }
+fn needs_none(classes: &Classes, kind: &FrameKind, from: &[ValType], to: &[ValType]) -> bool
+    ensures { result ≡ needs_no_branch classes.now kind.now
+        (record { from = row_of from.now; to = row_of to.now }) }
 {
     match kind {
-        Kind::Then(_) => classes.matches_result(from, to),
-        Kind::Body | Kind::Block(_, _) | Kind::Else(_) => true,
+        FrameKind::Then(_) => classes.matches_result(from, to),
+        FrameKind::Body | FrameKind::Block(_, _) | FrameKind::Else(_) => true,
     }
 }
 
 /// What the innermost block leaves, where it ends well; a body stands alone, and every other block in one.
-pub(crate) fn closing<'c>(
+pub(crate) fn end_types<'c>(
     cx: &'c Context<'c>,
     results: &'c [ValType],
     top: &'c Frame,
     alone: bool,
 ) -> Option<&'c [ValType]>
     ensures { (fs : List TheFrame) (s : List Bool) → alone ≡ no_frames fs →
-        end_next cx.now.classes.now (in_body (context_in cx.now) [] results.now) (frame_view top.now s) fs ≡ left_with result fs }
+        end_next cx.now.classes.now (in_body (context_in cx.now) [] results.now)
+        (frame_view top.now s) fs ≡ left_with result fs }
 {
     let (from, to) = arrow(cx, results, &top.kind)?;
-    if matches!(top.kind, Kind::Body) != alone {
+    if matches!(top.kind, FrameKind::Body) != alone {
         return None;
     }
     if !top.flow.ends_with(cx.classes, to) {

@@ -2,16 +2,12 @@
 #![tactic(auto)]
 
 mod blocks;
+mod body_context;
 mod checker;
 mod frame;
-mod items;
-mod kind;
-mod local_types;
-mod locals;
-mod place;
+mod frame_kind;
+mod moves;
 mod steps;
-#[cfg(test)]
-mod tests;
 
 pub use checker::Checker;
-pub use kind::Kind;
+pub use frame_kind::FrameKind;

@@ -2,12 +2,12 @@
 ghost use Rattle.std.specs.Prelude.{◌≡◌, IfOk};
 ghost use Rattle.w_flow.specs.Flow.{step};
 ghost use Rattle.w_flow.specs.View.{flow_view, flow_if};
-ghost use Rattle.w_rules.specs.Lines.{line};
-ghost use Rattle.w_vplain.specs.Locals.{first_set};
+ghost use Rattle.w_rules.specs.InstructionTypes.{instr_type};
+ghost use Rattle.w_locals.specs.Locals.{first_set};
 ghost use Rattle.w_vplain.specs.View.{context_at, gated, plain_test};
 
 mod control;
-mod given;
+mod if_valid;
 mod memory;
 mod numeric;
 mod parametric;
@@ -15,7 +15,7 @@ mod reference;
 mod table;
 mod variable;
 
-use crate::place::Place;
+use crate::body_context::BodyContext;
 use control::control_step;
 use memory::memory_step;
 use numeric::numeric_step;
@@ -28,18 +28,21 @@ use w_flow::Flow;
 use w_syntax::Op;
 
 /// An instruction that holds no others and does not switch stacks.
-pub(crate) fn plain_step(place: &Place, flow: &mut Flow, op: &Op) -> Result<bool, AllocError>
-    ensures { IfOk result (λ taken. gated (plain_test place.now.cx.now.classes.now (context_at place.now) op.now)
-        (step place.now.cx.now.classes.now (line (context_at place.now) (first_set place.now.locals.now.sets) op.now) (flow_view flow.old).any (flow_view flow.old).operands) ≡ flow_if taken flow.new) }
+pub(crate) fn plain_step(body: &BodyContext, flow: &mut Flow, op: &Op) -> Result<bool, AllocError>
+    ensures { IfOk result (λ taken. gated (plain_test body.now.cx.now.classes.now
+        (context_at body.now) op.now)
+        (step body.now.cx.now.classes.now (instr_type (context_at body.now)
+        (first_set body.now.locals.now.sets) op.now) (flow_view flow.old).any
+        (flow_view flow.old).operands) ≡ flow_if taken flow.new) }
 {
     match op {
-        Op::Control(op) => control_step(place, flow, op),
-        Op::Parametric(op) => parametric_step(place.cx, flow, op),
-        Op::Variable(op) => variable_step(place, flow, *op),
-        Op::Table(op) => table_step(place.cx, flow, *op),
-        Op::Memory(op) => memory_step(place.cx, flow, *op),
-        Op::Numeric(op) => numeric_step(place.cx.classes, flow, *op),
-        Op::Reference(op) => reference_step(place.cx, flow, *op),
+        Op::Control(op) => control_step(body, flow, op),
+        Op::Parametric(op) => parametric_step(body.cx, flow, op),
+        Op::Variable(op) => variable_step(body, flow, *op),
+        Op::Table(op) => table_step(body.cx, flow, *op),
+        Op::Memory(op) => memory_step(body.cx, flow, *op),
+        Op::Numeric(op) => numeric_step(body.cx.classes, flow, *op),
+        Op::Reference(op) => reference_step(body.cx, flow, *op),
         // it has no test here
         Op::Switching(_) => Ok(false),
     }

@@ -8,7 +8,7 @@ use Rattle.w_types.specs.Rows.{Row, ε, ◌▹◌, row_of}
 use Rattle.w_syntax.specs.declared.instructions.SwitchingOp.{SwitchingOp}
 use Rattle.w_syntax.specs.declared.instructions.SwitchingOp.TheVariants as op
 use Rattle.w_rules.specs.Context.{Context, type_of_tag, func_index_of_cont}
-use Rattle.w_rules.specs.Lines.{fixed, cont_new_line, call_line, nullable, non_null}
+use Rattle.w_rules.specs.InstructionTypes.{fixed, cont_new_type, call_type, nullable, non_null}
 use Rattle.w_vswitch.specs.Rows.{RowAt}
 
 -- what was found is there
@@ -28,7 +28,7 @@ pub new_row : (c : Context) (x f : ℕ) (ref cont : ValType) → func_index_of_c
     RowAt (op.ContNew x) (ε ▹ ref) (ε ▹ cont) None c
 new_row c x f ref cont e r n = record {
   condition = tt;
-  row = ap (cont_new_line x) e ∙ ap (λ (t : ValType). fixed (ε ▹ t) (ε ▹ non_null x)) (sym r) ∙ ap (λ (t : ValType). fixed (ε ▹ ref) (ε ▹ t)) (sym n);
+  row = ap (cont_new_type x) e ∙ ap (λ (t : ValType). fixed (ε ▹ t) (ε ▹ non_null x)) (sym r) ∙ ap (λ (t : ValType). fixed (ε ▹ ref) (ε ▹ t)) (sym n);
   adds = λ h. refl;
 }
 
@@ -37,7 +37,7 @@ pub suspend_row : (c : Context) (e : ℕ) (kind : FuncType) (ins outs : List Val
     RowAt (op.Suspend e) (row_of ins) (row_of outs) None c
 suspend_row c e kind ins outs t i o = record {
   condition = tt;
-  row = ap call_line t ∙ ap (λ (us : List ValType). fixed (row_of us) (row_of kind.results)) (sym i) ∙ ap (λ (us : List ValType). fixed (row_of ins) (row_of us)) (sym o);
+  row = ap call_type t ∙ ap (λ (us : List ValType). fixed (row_of us) (row_of kind.results)) (sym i) ∙ ap (λ (us : List ValType). fixed (row_of ins) (row_of us)) (sym o);
   adds = λ h. refl;
 }
 

@@ -9,9 +9,9 @@ use Rattle.w_types.specs.Rows.{Row, ◌▹◌, row_of, listed}
 use Rattle.w_types.proofs.Rows.{listed-row_of}
 use Rattle.w_canon.specs.declared.entry.Entry.{Entry}
 use Rattle.w_canon.specs.Matching.{ResultMatches}
-use Rattle.w_canon.specs.Stands.{Stands}
+use Rattle.w_canon.specs.IsClassesOf.{IsClassesOf}
 use Rattle.w_canon.specs.Tests.{result_test}
-use Rattle.w_canon.proofs.TestsTold.{result_told}
+use Rattle.w_canon.proofs.MatchingTests.{result_told}
 use Rattle.w_rules.specs.Conditions.{LabelClauseTyped}
 use Rattle.w_rules.specs.Context.{Context, type_of_tag, cont_of}
 use Rattle.w_vswitch.specs.Rows.{label_test, last_index}
@@ -23,7 +23,7 @@ both_told : (b c : Bool) {P Q : Type 0} → IsTrue b ↔ P → IsTrue c ↔ Q �
 both_told true c h k = (λ t. (h.0 refl, k.0 t), λ p. k.1 p.1)
 both_told false c h k = (λ t. absurd (cc), λ p. h.1 p.0)
 
-module _ (es : List Entry) (c : Context) (st : Stands c.types es) (results : List ValType) where
+module _ (es : List Entry) (c : Context) (st : IsClassesOf c.types es) (results : List ValType) where
   -- the test tells that all match
   label_told : (tag target : FuncType) (beneath : List ValType) → IsTrue (label_test es results tag beneath target) ↔
       (ResultMatches c.types tag.params beneath × (ResultMatches c.types target.params tag.results × ResultMatches c.types results target.results))

@@ -10,10 +10,10 @@ use Rattle.w_syntax.specs.declared.instructions.SwitchingOp.TheVariants as op
 use Rattle.w_rules.specs.declared.context.Context as rt
 use Rattle.w_rules.specs.Conditions.{Holds, ClauseTyped}
 use Rattle.w_rules.specs.Context.{Context, cont_of}
-use Rattle.w_rules.specs.Lines.{fixed, nullable, resume_line}
+use Rattle.w_rules.specs.InstructionTypes.{fixed, nullable, resume_type}
 use Rattle.w_rules.specs.Peak.{clause_tops, resume_tops}
 use Rattle.w_rules.specs.View.{context_in}
-use Rattle.w_vplain.specs.Levels.{Sofar}
+use Rattle.w_vplain.specs.Prefixes.{Prefix}
 use Rattle.w_vplain.specs.Row.{above}
 use Rattle.w_vplain.specs.Standing.{context_for}
 use Rattle.w_vplain.specs.declared.checker.Checker.{Checker}
@@ -22,7 +22,7 @@ use Rattle.w_vswitch.specs.Rows.{RowAt, RefusedAt}
 
 -- a continuation's type, where the checker stands
 pub cont_at : (c : Checker) (cx : rt.Context) → cx ≡ c.cx.now → (x : ℕ) (kind : FuncType) → cont_of (context_in cx) x ≡ Some kind →
-    (w : Sofar) → cont_of (at_end (context_for c) w) x ≡ Some kind
+    (w : Prefix) → cont_of (at_end (context_for c) w) x ≡ Some kind
 cont_at c cx e x kind h w = ap (λ (d : rt.Context). cont_of (context_in d) x) (sym e) ∙ h
 
 module _ (c : Context) (x : ℕ) (hs : List Clause) (kind : FuncType) (results : List ValType) where
@@ -53,7 +53,7 @@ module _ (c : Context) (x : ℕ) (hs : List Clause) (kind : FuncType) (results :
         let P : Option FuncType → Type 0 = λ o. Holds o (λ (k : FuncType). All (ClauseTyped c k.results) hs) in
         let Q : List ValType → Type 0 = λ us. All (ClauseTyped c us) hs in
         subst P (sym e) (subst Q same typed));
-    row = ap (resume_line x) e
+    row = ap (resume_type x) e
         ∙ ap (λ (us : List ValType). fixed (row_of us ▹ nullable x) (row_of kind.results)) (sym takes)
         ∙ ap (λ (u : ValType). fixed (row_of ins ▹ u) (row_of kind.results)) (sym top)
         ∙ ap (λ (us : List ValType). fixed (row_of ins ▹ t) (row_of us)) (sym gives);

@@ -7,7 +7,7 @@ use Rattle.w_types.specs.Rows.{◌▹◌, row_of}
 use Rattle.w_syntax.specs.declared.instructions.SwitchingOp.TheVariants as op
 use Rattle.w_canon.specs.Matching.{ResultMatches}
 use Rattle.w_rules.specs.Context.{Context, cont_of, type_of_tag}
-use Rattle.w_rules.specs.Lines.{nullable, params_of, switch_line, switched_line}
+use Rattle.w_rules.specs.InstructionTypes.{nullable, params_of, switch_type, switched_type}
 use Rattle.w_vswitch.specs.Rows.{RowAt, last_index}
 use Rattle.w_vswitch.proofs.LastTypes.{last_found}
 
@@ -16,7 +16,7 @@ pub switch_row : (c : Context) (x e y : ℕ) (one other tag : FuncType) (beneath
     cont_of c x ≡ Some one → last_index (row_of one.params) ≡ Some (row_of beneath, y) → cont_of c y ≡ Some other → type_of_tag c e ≡ Some tag → tag.params ≡ [] →
     ResultMatches c.types one.results tag.results → ResultMatches c.types tag.results other.results →
     RowAt (op.Switch x e) (row_of beneath ▹ nullable x) (row_of other.params) None c
-switch_row c x e y one other tag beneath has_one ends has_other has_tag no_params leaves comes_back =
+switch_row c x e y one other tag beneath has_one ends has_other has_tag no_params results_match comes_back =
     let last = last_found (row_of one.params) (row_of beneath) y ends in record {
       condition = record {
         one = one;
@@ -30,10 +30,10 @@ switch_row c x e y one other tag beneath has_one ends has_other has_tag no_param
         has_other = has_other;
         has_tag = has_tag;
         no_params = no_params;
-        leaves = leaves;
+        results = results_match;
         comes_back = comes_back;
       };
-      row = ap (λ (o : Option FuncType). switch_line c x (params_of o)) has_one ∙ ap (switch_line c x) last.1 ∙ ap (switched_line x (row_of beneath)) has_other;
+      row = ap (λ (o : Option FuncType). switch_type c x (params_of o)) has_one ∙ ap (switch_type c x) last.1 ∙ ap (switched_type x (row_of beneath)) has_other;
       adds = λ h. refl;
     }
 

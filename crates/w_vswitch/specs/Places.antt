@@ -5,13 +5,13 @@ use Rattle.w_types.specs.Rows.{Row}
 use Rattle.w_rules.specs.declared.context.Context as rt
 use Rattle.w_rules.specs.Context.{Context}
 use Rattle.w_rules.specs.View.{context_in, HasClasses}
-use Rattle.w_vplain.specs.Levels.{Sofar, Good}
+use Rattle.w_vplain.specs.Prefixes.{Prefix, IsDerivable}
 use Rattle.w_vplain.specs.Row.{labels_in}
 use Rattle.w_vplain.specs.Standing.{StandsFor, context_for}
 use Rattle.w_vplain.specs.declared.checker.Checker.{Checker}
 
 -- the context at the end of a sequence
-abbrev pub at_end : Context → Sofar → Context
+abbrev pub at_end : Context → Prefix → Context
 at_end c w = record c { labels = labels_in c w }
 
 -- the context with these labels, in a body with these locals and results
@@ -24,4 +24,4 @@ Anywhere cx P = HasClasses cx → (ts : List ValType) (rs : Row ValType) (ls : L
 
 -- what holds at the end of each derived sequence that the checker stands for
 abbrev pub AtEnds : Checker → (Context → Type 0) → Type 0
-AtEnds c P = (s : List Bool) (w : Sofar) → StandsFor c s w → Good (context_for c) s w → P (at_end (context_for c) w)
+AtEnds c P = (s : List Bool) (w : Prefix) → StandsFor c s w → IsDerivable (context_for c) s w → P (at_end (context_for c) w)

@@ -13,19 +13,19 @@ use Rattle.w_canon.specs.declared.entry.Entry.{Entry}
 use Rattle.w_canon.specs.Tests.{result_test}
 use Rattle.w_rules.specs.Conditions.{BindTyped, SwitchTyped, SwitchingCondition}
 use Rattle.w_rules.specs.Context.{Context}
-use Rattle.w_rules.specs.Lines.{fixed, no_line, nullable, non_null, switching_line}
+use Rattle.w_rules.specs.InstructionTypes.{fixed, untyped, nullable, non_null, switching_op_type}
 use Rattle.w_rules.specs.Peak.{switching_extra}
 use Rattle.w_vplain.specs.Row.{above}
 
 -- the instruction's rule holds, with [ins] to [outs], and it adds what the longest label of its clauses takes
 pub record RowAt (o : SwitchingOp) (ins outs : Row ValType) (raise : Option ℕ) (c : Context) : Type 0 where
   pub condition : SwitchingCondition c o
-  pub row : switching_line c o ≡ fixed ins outs
+  pub row : switching_op_type c o ≡ fixed ins outs
   pub adds : (h : ℕ) → switching_extra c o h ≡ above (size ins) raise h
 
 -- the instruction has no rule, or what its rule asks does not hold
 abbrev pub RefusedAt : SwitchingOp → Context → Type 0
-RefusedAt o c = (SwitchingCondition c o → ⊥) ⊎ (switching_line c o ≡ no_line)
+RefusedAt o c = (SwitchingCondition c o → ⊥) ⊎ (switching_op_type c o ≡ untyped)
 
 -- ## Rows that end in a reference to a type by its index
 

@@ -31,7 +31,8 @@ fn label_matches(
 
 // Whether the rules type a clause with a label, which takes these types.
 fn label_clause_fits(cx: &Context, results: &[ValType], tag: u32, label: &[ValType]) -> bool
-    ensures { Anywhere cx.now (λ c. (l : ℕ) → slice_get c.labels l ≡ Some (row_of label.now) → IsTrue result ↔ LabelClauseTyped c results.now tag l) }
+    ensures { Anywhere cx.now (λ c. (l : ℕ) → slice_get c.labels l ≡ Some (row_of label.now)
+        → IsTrue result ↔ LabelClauseTyped c results.now tag l) }
 {
     let Some(tag) = cx.type_of_tag(tag) else {
         return false;
@@ -72,7 +73,8 @@ fn clause_fits(checker: &Checker, results: &[ValType], clause: &Clause) -> bool
 
 /// Whether the rules type each clause of a resume with these results, where the checker stands.
 pub(crate) fn clauses_fit(checker: &Checker, results: &[ValType], clauses: &[Clause]) -> bool
-    ensures { AtEnds checker.now (λ c. IsTrue result ↔ All (ClauseTyped c results.now) clauses.now) }
+    ensures { AtEnds checker.now (λ c. IsTrue result
+        ↔ All (ClauseTyped c results.now) clauses.now) }
 {
     for clause in clauses {
         if !clause_fits(checker, results, clause) {
@@ -84,7 +86,8 @@ pub(crate) fn clauses_fit(checker: &Checker, results: &[ValType], clauses: &[Cla
 
 // How many types a clause's label takes, if it has one.
 fn label_size(checker: &Checker, clause: &Clause) -> Option<u64>
-    ensures { AtEnds checker.now (λ c. (h : ℕ) → clause_tops c.labels h (clause.now ∷ []) ≡ above 0 result h) }
+    ensures { AtEnds checker.now (λ c. (h : ℕ) → clause_tops c.labels h (clause.now ∷ [])
+        ≡ above 0 result h) }
 {
     match clause {
         Clause::Label(_, label) => match checker.label(*label) {
@@ -97,7 +100,8 @@ fn label_size(checker: &Checker, clause: &Clause) -> Option<u64>
 
 /// How many types the longest label of clauses takes, if one has a label.
 pub(crate) fn longest_label(checker: &Checker, clauses: &[Clause]) -> Option<u64>
-    ensures { AtEnds checker.now (λ c. (h : ℕ) → clause_tops c.labels h clauses.now ≡ above 0 result h) }
+    ensures { AtEnds checker.now (λ c. (h : ℕ) → clause_tops c.labels h clauses.now
+        ≡ above 0 result h) }
 {
     let mut longest = None;
     for clause in clauses {

@@ -2,7 +2,7 @@
 ghost use Rattle.std.specs.Prelude.{◌≡◌};
 ghost use Rattle.std.specs.Option.{option_map};
 ghost use Rattle.w_types.specs.Rows.{row_of};
-ghost use Rattle.w_rules.specs.Lines.{nullable, non_null};
+ghost use Rattle.w_rules.specs.InstructionTypes.{nullable, non_null};
 ghost use Rattle.w_vswitch.specs.Rows.{index_of, last_index, index_view};
 
 use w_types::{HeapType, RefType, ValType};

@@ -1,10 +1,10 @@
 //! The stack switching instructions (the explainer, validation).
-ghost use Rattle.std.specs.Prelude.{◌≡◌, ◌↔◌, Bool, List, IfOk, IsErr, IsTrue, OnErr, Some, None};
+ghost use Rattle.std.specs.Prelude.{IfOk, Some, None};
 ghost use Rattle.std.specs.Option.{option_map};
 ghost use Rattle.w_syntax.specs.declared.instructions.SwitchingOp.TheVariants as op;
-ghost use Rattle.w_vplain.specs.Levels.{Sofar, Good};
-ghost use Rattle.w_vplain.specs.Standing.{StandsFor, context_for, classes_for};
-ghost use Rattle.w_vswitch.specs.Following.{Answers, follow_switching};
+ghost use Rattle.w_vplain.specs.Prefixes.{follow};
+ghost use Rattle.w_vplain.specs.Standing.{Answers, IsSameBody, StaysOutOfMemory};
+ghost use Rattle.w_vswitch.specs.Following.{follow_switching, instr_of};
 ghost use Rattle.w_vswitch.specs.Places.{Anywhere};
 ghost use Rattle.w_vswitch.specs.Rows.{BoundBy, SwitchedBy};
 
@@ -18,11 +18,10 @@ use w_vplain::Checker;
 
 // A continuation of a function.
 fn cont_new(checker: &mut Checker, index: u32) -> Result<bool, AllocError>
-    ensures answers { IfOk result (λ taken. Answers checker.old checker.new (op.ContNew index) taken) }
-    ensures context { context_for checker.new ≡ context_for checker.old }
-    ensures classes { classes_for checker.new ≡ classes_for checker.old }
-    ensures wants { IsTrue checker.old.starved → IsErr result }
-    ensures starves { OnErr result (IsTrue checker.new.starved) }
+    ensures answers { IfOk result (λ taken. Answers checker.old checker.new (follow (instr_of
+        (op.ContNew index))) taken) }
+    ensures body { IsSameBody checker.old checker.new }
+    ensures memory { StaysOutOfMemory checker.old result checker.new }
 {
     match checker.context().func_index_of_cont(index) {
         Some(function) => checker.apply(&[], Some(nullable(function)), &[non_null(index)], None),
@@ -50,11 +49,10 @@ fn bound<'a>(cx: &'a Context<'a>, before: u32, after: u32) -> Option<&'a [ValTyp
 
 // A continuation with some of its parameters bound.
 fn cont_bind(checker: &mut Checker, before: u32, after: u32) -> Result<bool, AllocError>
-    ensures answers { IfOk result (λ taken. Answers checker.old checker.new (op.ContBind before after) taken) }
-    ensures context { context_for checker.new ≡ context_for checker.old }
-    ensures classes { classes_for checker.new ≡ classes_for checker.old }
-    ensures wants { IsTrue checker.old.starved → IsErr result }
-    ensures starves { OnErr result (IsTrue checker.new.starved) }
+    ensures answers { IfOk result (λ taken. Answers checker.old checker.new (follow (instr_of
+        (op.ContBind before after))) taken) }
+    ensures body { IsSameBody checker.old checker.new }
+    ensures memory { StaysOutOfMemory checker.old result checker.new }
 {
     match bound(checker.context(), before, after) {
         Some(front) => checker.apply(front, Some(nullable(before)), &[non_null(after)], None),
@@ -62,13 +60,12 @@ fn cont_bind(checker: &mut Checker, before: u32, after: u32) -> Result<bool, All
     }
 }
 
-// An event.
+// An event: control goes to a handler of this tag.
 fn suspend(checker: &mut Checker, tag: u32) -> Result<bool, AllocError>
-    ensures answers { IfOk result (λ taken. Answers checker.old checker.new (op.Suspend tag) taken) }
-    ensures context { context_for checker.new ≡ context_for checker.old }
-    ensures classes { classes_for checker.new ≡ classes_for checker.old }
-    ensures wants { IsTrue checker.old.starved → IsErr result }
-    ensures starves { OnErr result (IsTrue checker.new.starved) }
+    ensures answers { IfOk result (λ taken. Answers checker.old checker.new (follow (instr_of
+        (op.Suspend tag))) taken) }
+    ensures body { IsSameBody checker.old checker.new }
+    ensures memory { StaysOutOfMemory checker.old result checker.new }
 {
     let Some(kind) = checker.context().type_of_tag(tag) else {
         return checker.refuse();
@@ -79,11 +76,10 @@ fn suspend(checker: &mut Checker, tag: u32) -> Result<bool, AllocError>
 
 // A continuation goes on, under a handler of these clauses.
 fn resume(checker: &mut Checker, index: u32, clauses: &[Clause]) -> Result<bool, AllocError>
-    ensures answers { IfOk result (λ taken. Answers checker.old checker.new (op.Resume index clauses.now) taken) }
-    ensures context { context_for checker.new ≡ context_for checker.old }
-    ensures classes { classes_for checker.new ≡ classes_for checker.old }
-    ensures wants { IsTrue checker.old.starved → IsErr result }
-    ensures starves { OnErr result (IsTrue checker.new.starved) }
+    ensures answers { IfOk result (λ taken. Answers checker.old checker.new (follow (instr_of
+        (op.Resume index clauses.now))) taken) }
+    ensures body { IsSameBody checker.old checker.new }
+    ensures memory { StaysOutOfMemory checker.old result checker.new }
 {
     let Some(kind) = checker.context().cont_of(index) else {
         return checker.refuse();
@@ -118,11 +114,10 @@ fn switched<'a>(cx: &'a Context<'a>, index: u32, tag: u32) -> Option<(&'a [ValTy
 
 // Another continuation goes on in place of this one.
 fn switch(checker: &mut Checker, index: u32, tag: u32) -> Result<bool, AllocError>
-    ensures answers { IfOk result (λ taken. Answers checker.old checker.new (op.Switch index tag) taken) }
-    ensures context { context_for checker.new ≡ context_for checker.old }
-    ensures classes { classes_for checker.new ≡ classes_for checker.old }
-    ensures wants { IsTrue checker.old.starved → IsErr result }
-    ensures starves { OnErr result (IsTrue checker.new.starved) }
+    ensures answers { IfOk result (λ taken. Answers checker.old checker.new (follow (instr_of
+        (op.Switch index tag))) taken) }
+    ensures body { IsSameBody checker.old checker.new }
+    ensures memory { StaysOutOfMemory checker.old result checker.new }
 {
     match switched(checker.context(), index, tag) {
         Some((beneath, back)) => checker.apply(beneath, Some(nullable(index)), back, None),
@@ -130,13 +125,12 @@ fn switch(checker: &mut Checker, index: u32, tag: u32) -> Result<bool, AllocErro
     }
 }
 
-// Any of these.
+// A stack switching instruction.
 fn typed(checker: &mut Checker, op: &SwitchingOp) -> Result<bool, AllocError>
-    ensures answers { IfOk result (λ taken. Answers checker.old checker.new op.now taken) }
-    ensures context { context_for checker.new ≡ context_for checker.old }
-    ensures classes { classes_for checker.new ≡ classes_for checker.old }
-    ensures wants { IsTrue checker.old.starved → IsErr result }
-    ensures starves { OnErr result (IsTrue checker.new.starved) }
+    ensures answers { IfOk result (λ taken. Answers checker.old checker.new (follow
+        (instr_of op.now)) taken) }
+    ensures body { IsSameBody checker.old checker.new }
+    ensures memory { StaysOutOfMemory checker.old result checker.new }
 {
     match op {
         SwitchingOp::ContNew(index) => cont_new(checker, *index),
@@ -148,14 +142,12 @@ fn typed(checker: &mut Checker, op: &SwitchingOp) -> Result<bool, AllocError>
 }
 
 /// A stack switching instruction; another one begins no body there. Whether the rules derive the sequence with it (the explainer,
-/// validation). It fails only for want of memory.
+/// validation). It fails only when out of memory.
 pub fn switching(checker: &mut Checker, instr: &Instr) -> Result<bool, AllocError>
-    ensures stands { IfOk result (λ _. (s : List Bool) (w : Sofar) → StandsFor checker.old s w → StandsFor checker.new s (follow_switching instr.now w)) }
-    ensures exact { IfOk result (λ taken. (s : List Bool) (w : Sofar) → StandsFor checker.old s w → IsTrue taken ↔ Good (context_for checker.old) s (follow_switching instr.now w)) }
-    ensures context { context_for checker.new ≡ context_for checker.old }
-    ensures classes { classes_for checker.new ≡ classes_for checker.old }
-    ensures wants { IsTrue checker.old.starved → IsErr result }
-    ensures starves { OnErr result (IsTrue checker.new.starved) }
+    ensures answers { IfOk result (λ taken. Answers checker.old checker.new
+        (follow_switching instr.now) taken) }
+    ensures body { IsSameBody checker.old checker.new }
+    ensures memory { StaysOutOfMemory checker.old result checker.new }
 {
     match instr {
         Instr::Plain(Op::Switching(op)) => typed(checker, op),

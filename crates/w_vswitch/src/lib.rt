@@ -4,7 +4,5 @@
 mod clauses;
 mod continuations;
 mod instructions;
-#[cfg(test)]
-mod tests;
 
 pub use instructions::switching;

@@ -3,28 +3,29 @@ ghost use Rattle.std.specs.Prelude.{◌≡◌, IfOk, slice_get};
 ghost use Rattle.w_types.specs.Rows.{row_of};
 ghost use Rattle.w_flow.specs.Flow.{step, fit_each};
 ghost use Rattle.w_flow.specs.View.{flow_view, flow_if};
-ghost use Rattle.w_rules.specs.Lines.{br_if_line, br_on_null_line, br_on_non_null_line, br_table_line, labels_at, call_line, call_indirect_line, call_ref_line, control_line};
+ghost use Rattle.w_rules.specs.InstructionTypes.{br_if_type, br_on_null_type, br_on_non_null_type, br_table_type, labels_at, call_type, call_indirect_type, call_ref_type, control_op_type};
 ghost use Rattle.w_rules.specs.Context.{func_of, type_of_func};
 ghost use Rattle.w_rules.specs.View.{context_in};
 ghost use Rattle.w_vplain.specs.Frames.{holds_functions, control_test};
-ghost use Rattle.w_vplain.specs.View.{context_at, gated, non_null_line};
+ghost use Rattle.w_vplain.specs.View.{context_at, gated, non_null_type};
 
-use crate::place::Place;
+use crate::body_context::BodyContext;
 use std::alloc::AllocError;
 use w_flow::Flow;
 use w_rules::Context;
-use w_syntax::Control;
+use w_syntax::ControlOp;
 use w_types::{HeapType, RefType, ValType};
 
 // Whether each of these labels takes n types that can be taken.
-fn labels_fit(place: &Place, flow: &Flow, labels: &[u32], count: usize) -> bool
-    ensures { result ≡ fit_each place.now.cx.now.classes.now (context_at place.now).labels (flow_view flow.now).any (flow_view flow.now).operands count labels.now }
+fn labels_fit(body: &BodyContext, flow: &Flow, labels: &[u32], count: usize) -> bool
+    ensures { result ≡ fit_each body.now.cx.now.classes.now (context_at body.now).labels
+        (flow_view flow.now).any (flow_view flow.now).operands count labels.now }
 {
     for index in labels {
-        let Some(label) = place.label(*index) else {
+        let Some(label) = body.label(*index) else {
             return false;
         };
-        if label.len() != count || !flow.can_take(place.cx.classes, label) {
+        if label.len() != count || !flow.can_take(body.cx.classes, label) {
             return false;
         }
     }
@@ -32,20 +33,21 @@ fn labels_fit(place: &Place, flow: &Flow, labels: &[u32], count: usize) -> bool
 }
 
 // A branch by a table.
-fn table_step(place: &Place, flow: &mut Flow, labels: &[u32], otherwise: u32) -> bool
-    ensures { step place.now.cx.now.classes.now (br_table_line (slice_get (context_at place.now).labels otherwise) (labels_at (context_at place.now).labels labels.now))
+fn table_step(body: &BodyContext, flow: &mut Flow, labels: &[u32], otherwise: u32) -> bool
+    ensures { step body.now.cx.now.classes.now (br_table_type (slice_get
+        (context_at body.now).labels otherwise) (labels_at (context_at body.now).labels labels.now))
         (flow_view flow.old).any (flow_view flow.old).operands ≡ flow_if result flow.new }
 {
-    if !flow.begin_table(place.cx.classes) {
+    if !flow.begin_table(body.cx.classes) {
         return false;
     }
-    let Some(label) = place.label(otherwise) else {
+    let Some(label) = body.label(otherwise) else {
         return false;
     };
-    if !flow.can_take(place.cx.classes, label) {
+    if !flow.can_take(body.cx.classes, label) {
         return false;
     }
-    if !labels_fit(place, flow, labels, label.len()) {
+    if !labels_fit(body, flow, labels, label.len()) {
         return false;
     }
     flow.leave();
@@ -53,28 +55,32 @@ fn table_step(place: &Place, flow: &mut Flow, labels: &[u32], otherwise: u32) ->
 }
 
 // A branch where the operand is not 0.
-fn br_if_step(place: &Place, flow: &mut Flow, index: u32) -> Result<bool, AllocError>
-    ensures { IfOk result (λ taken. step place.now.cx.now.classes.now (br_if_line (slice_get (context_at place.now).labels index)) (flow_view flow.old).any (flow_view flow.old).operands ≡ flow_if taken flow.new) }
+fn br_if_step(body: &BodyContext, flow: &mut Flow, index: u32) -> Result<bool, AllocError>
+    ensures { IfOk result (λ taken. step body.now.cx.now.classes.now (br_if_type (slice_get
+        (context_at body.now).labels index)) (flow_view flow.old).any (flow_view flow.old).operands
+        ≡ flow_if taken flow.new) }
 {
-    match place.label(index) {
-        Some(label) => flow.fixed_below(place.cx.classes, label, ValType::I32, label),
+    match body.label(index) {
+        Some(label) => flow.fixed_below(body.cx.classes, label, ValType::I32, label),
         None => Ok(false),
     }
 }
 
 // A branch where the operand is null.
-fn br_on_null_step(place: &Place, flow: &mut Flow, index: u32) -> Result<bool, AllocError>
-    ensures { IfOk result (λ taken. step place.now.cx.now.classes.now (br_on_null_line (slice_get (context_at place.now).labels index)) (flow_view flow.old).any (flow_view flow.old).operands ≡ flow_if taken flow.new) }
+fn br_on_null_step(body: &BodyContext, flow: &mut Flow, index: u32) -> Result<bool, AllocError>
+    ensures { IfOk result (λ taken. step body.now.cx.now.classes.now (br_on_null_type (slice_get
+        (context_at body.now).labels index)) (flow_view flow.old).any (flow_view flow.old).operands
+        ≡ flow_if taken flow.new) }
 {
-    match place.label(index) {
-        Some(label) => flow.on_null(place.cx.classes, label),
+    match body.label(index) {
+        Some(label) => flow.on_null(body.cx.classes, label),
         None => Ok(false),
     }
 }
 
 // What a label takes beneath a reference, and the reference's heap type, where it takes a reference last.
 fn reference_label(label: &[ValType]) -> Option<(&[ValType], HeapType)>
-    ensures { br_on_non_null_line (Some (row_of label.now)) ≡ non_null_line result }
+    ensures { br_on_non_null_type (Some (row_of label.now)) ≡ non_null_type result }
 {
     let (top, beneath) = label.split_last()?;
     match *top {
@@ -84,10 +90,12 @@ fn reference_label(label: &[ValType]) -> Option<(&[ValType], HeapType)>
 }
 
 // A branch where the operand is not null.
-fn br_on_non_null_step(place: &Place, flow: &mut Flow, index: u32) -> Result<bool, AllocError>
-    ensures { IfOk result (λ taken. step place.now.cx.now.classes.now (br_on_non_null_line (slice_get (context_at place.now).labels index)) (flow_view flow.old).any (flow_view flow.old).operands ≡ flow_if taken flow.new) }
+fn br_on_non_null_step(body: &BodyContext, flow: &mut Flow, index: u32) -> Result<bool, AllocError>
+    ensures { IfOk result (λ taken. step body.now.cx.now.classes.now (br_on_non_null_type (slice_get
+        (context_at body.now).labels index)) (flow_view flow.old).any (flow_view flow.old).operands
+        ≡ flow_if taken flow.new) }
 {
-    let Some(label) = place.label(index) else {
+    let Some(label) = body.label(index) else {
         return Ok(false);
     };
     let Some((beneath, heap)) = reference_label(label) else {
@@ -97,12 +105,14 @@ fn br_on_non_null_step(place: &Place, flow: &mut Flow, index: u32) -> Result<boo
         nullable: true,
         heap,
     });
-    flow.fixed_below(place.cx.classes, beneath, reference, beneath)
+    flow.fixed_below(body.cx.classes, beneath, reference, beneath)
 }
 
 // A call of a function.
 fn call_step(cx: &Context, flow: &mut Flow, function: u32) -> Result<bool, AllocError>
-    ensures { IfOk result (λ taken. step cx.now.classes.now (call_line (type_of_func (context_in cx.now) function)) (flow_view flow.old).any (flow_view flow.old).operands ≡ flow_if taken flow.new) }
+    ensures { IfOk result (λ taken. step cx.now.classes.now (call_type (type_of_func
+        (context_in cx.now) function)) (flow_view flow.old).any (flow_view flow.old).operands
+        ≡ flow_if taken flow.new) }
 {
     match cx.type_of_func(function) {
         Some(kind) => flow.fixed(cx.classes, kind.params.as_slice(), kind.results.as_slice()),
@@ -117,8 +127,10 @@ fn call_indirect_step(
     kind: u32,
     table: u32,
 ) -> Result<bool, AllocError>
-    ensures { let c = context_in cx.now in IfOk result (λ taken. gated (holds_functions cx.now.classes.now (slice_get c.tables table))
-        (step cx.now.classes.now (call_indirect_line (slice_get c.tables table) (func_of c kind)) (flow_view flow.old).any (flow_view flow.old).operands) ≡ flow_if taken flow.new) }
+    ensures { let c = context_in cx.now in IfOk result
+        (λ taken. gated (holds_functions cx.now.classes.now (slice_get c.tables table))
+        (step cx.now.classes.now (call_indirect_type (slice_get c.tables table) (func_of c kind))
+        (flow_view flow.old).any (flow_view flow.old).operands) ≡ flow_if taken flow.new) }
 {
     let Some(table) = cx.table(table) else {
         return Ok(false);
@@ -143,7 +155,9 @@ fn call_indirect_step(
 
 // A call of a function by a reference.
 fn call_ref_step(cx: &Context, flow: &mut Flow, index: u32) -> Result<bool, AllocError>
-    ensures { IfOk result (λ taken. step cx.now.classes.now (call_ref_line index (func_of (context_in cx.now) index)) (flow_view flow.old).any (flow_view flow.old).operands ≡ flow_if taken flow.new) }
+    ensures { IfOk result (λ taken. step cx.now.classes.now (call_ref_type index (func_of
+        (context_in cx.now) index)) (flow_view flow.old).any (flow_view flow.old).operands
+        ≡ flow_if taken flow.new) }
 {
     let reference = ValType::Ref(RefType {
         nullable: true,
@@ -161,30 +175,36 @@ fn call_ref_step(cx: &Context, flow: &mut Flow, index: u32) -> Result<bool, Allo
 }
 
 /// A control instruction that holds no others.
-pub(crate) fn control_step(place: &Place, flow: &mut Flow, op: &Control) -> Result<bool, AllocError>
-    ensures { IfOk result (λ taken. gated (control_test place.now.cx.now.classes.now (context_at place.now) op.now)
-        (step place.now.cx.now.classes.now (control_line (context_at place.now) op.now) (flow_view flow.old).any (flow_view flow.old).operands) ≡ flow_if taken flow.new) }
+pub(crate) fn control_step(
+    body: &BodyContext,
+    flow: &mut Flow,
+    op: &ControlOp,
+) -> Result<bool, AllocError>
+    ensures { IfOk result (λ taken. gated (control_test body.now.cx.now.classes.now
+        (context_at body.now) op.now)
+        (step body.now.cx.now.classes.now (control_op_type (context_at body.now) op.now)
+        (flow_view flow.old).any (flow_view flow.old).operands) ≡ flow_if taken flow.new) }
 {
-    let cx = place.cx;
+    let cx = body.cx;
     match op {
-        Control::Unreachable => Ok(flow.leaves(cx.classes, &[])),
-        Control::Nop => flow.fixed(cx.classes, &[], &[]),
-        Control::Br(index) => match place.label(*index) {
-            Some(label) => Ok(flow.leaves(cx.classes, label)),
+        ControlOp::Unreachable => Ok(flow.polymorphic(cx.classes, &[])),
+        ControlOp::Nop => flow.fixed(cx.classes, &[], &[]),
+        ControlOp::Br(index) => match body.label(*index) {
+            Some(label) => Ok(flow.polymorphic(cx.classes, label)),
             None => Ok(false),
         },
-        Control::BrIf(index) => br_if_step(place, flow, *index),
-        Control::BrTable(labels, otherwise) => Ok(table_step(
-            place,
+        ControlOp::BrIf(index) => br_if_step(body, flow, *index),
+        ControlOp::BrTable(labels, otherwise) => Ok(table_step(
+            body,
             flow,
             labels.as_slice(),
             *otherwise,
         )),
-        Control::Return => Ok(flow.leaves(cx.classes, place.results)),
-        Control::BrOnNull(index) => br_on_null_step(place, flow, *index),
-        Control::BrOnNonNull(index) => br_on_non_null_step(place, flow, *index),
-        Control::Call(function) => call_step(cx, flow, *function),
-        Control::CallIndirect(kind, table) => call_indirect_step(cx, flow, *kind, *table),
-        Control::CallRef(kind) => call_ref_step(cx, flow, *kind),
+        ControlOp::Return => Ok(flow.polymorphic(cx.classes, body.results)),
+        ControlOp::BrOnNull(index) => br_on_null_step(body, flow, *index),
+        ControlOp::BrOnNonNull(index) => br_on_non_null_step(body, flow, *index),
+        ControlOp::Call(function) => call_step(cx, flow, *function),
+        ControlOp::CallIndirect(kind, table) => call_indirect_step(cx, flow, *kind, *table),
+        ControlOp::CallRef(kind) => call_ref_step(cx, flow, *kind),
     }
 }

@@ -3,12 +3,12 @@ ghost use Rattle.std.specs.Prelude.{◌≡◌, IfOk};
 ghost use Rattle.w_types.specs.Rows.{ε, ◌▹◌};
 ghost use Rattle.w_flow.specs.Flow.{step};
 ghost use Rattle.w_flow.specs.View.{flow_view, flow_if};
-ghost use Rattle.w_rules.specs.Lines.{fixed, of_int as the_type, convert_line, numeric_line};
+ghost use Rattle.w_rules.specs.InstructionTypes.{fixed, of_int as the_type, convert_type, numeric_op_type};
 
 use std::alloc::AllocError;
 use w_canon::Classes;
 use w_flow::Flow;
-use w_syntax::{Convert, IntType, Numeric};
+use w_syntax::{Cvtop, IntType, NumericOp};
 use w_types::ValType;
 
 fn of_int(kind: IntType) -> ValType
@@ -21,14 +21,14 @@ fn of_int(kind: IntType) -> ValType
 }
 
 // What a conversion takes and gives.
-fn converted(convert: Convert) -> (ValType, ValType)
-    ensures { convert_line convert ≡ fixed (ε ▹ result.0) (ε ▹ result.1) }
+fn converted(convert: Cvtop) -> (ValType, ValType)
+    ensures { convert_type convert ≡ fixed (ε ▹ result.0) (ε ▹ result.1) }
 {
     match convert {
-        Convert::I32WrapI64 => (ValType::I64, ValType::I32),
-        Convert::I64ExtendI32S | Convert::I64ExtendI32U => (ValType::I32, ValType::I64),
-        Convert::I32Extend8S | Convert::I32Extend16S => (ValType::I32, ValType::I32),
-        Convert::I64Extend8S | Convert::I64Extend16S | Convert::I64Extend32S => {
+        Cvtop::I32WrapI64 => (ValType::I64, ValType::I32),
+        Cvtop::I64ExtendI32S | Cvtop::I64ExtendI32U => (ValType::I32, ValType::I64),
+        Cvtop::I32Extend8S | Cvtop::I32Extend16S => (ValType::I32, ValType::I32),
+        Cvtop::I64Extend8S | Cvtop::I64Extend16S | Cvtop::I64Extend32S => {
             (ValType::I64, ValType::I64)
         }
     }
@@ -38,26 +38,27 @@ fn converted(convert: Convert) -> (ValType, ValType)
 pub(crate) fn numeric_step(
     classes: &Classes,
     flow: &mut Flow,
-    op: Numeric,
+    op: NumericOp,
 ) -> Result<bool, AllocError>
-    ensures { IfOk result (λ taken. step classes.now (numeric_line op) (flow_view flow.old).any (flow_view flow.old).operands ≡ flow_if taken flow.new) }
+    ensures { IfOk result (λ taken. step classes.now (numeric_op_type op) (flow_view flow.old).any
+        (flow_view flow.old).operands ≡ flow_if taken flow.new) }
 {
     match op {
-        Numeric::I32Const(_) => flow.fixed(classes, &[], &[ValType::I32]),
-        Numeric::I64Const(_) => flow.fixed(classes, &[], &[ValType::I64]),
-        Numeric::Eqz(kind) => flow.fixed(classes, &[of_int(kind)], &[ValType::I32]),
-        Numeric::Compare(kind, _) => flow.fixed(
+        NumericOp::I32Const(_) => flow.fixed(classes, &[], &[ValType::I32]),
+        NumericOp::I64Const(_) => flow.fixed(classes, &[], &[ValType::I64]),
+        NumericOp::Eqz(kind) => flow.fixed(classes, &[of_int(kind)], &[ValType::I32]),
+        NumericOp::Compare(kind, _) => flow.fixed(
             classes,
             &[of_int(kind), of_int(kind)],
             &[ValType::I32],
         ),
-        Numeric::Unary(kind, _) => flow.fixed(classes, &[of_int(kind)], &[of_int(kind)]),
-        Numeric::Binary(kind, _) => flow.fixed(
+        NumericOp::Unary(kind, _) => flow.fixed(classes, &[of_int(kind)], &[of_int(kind)]),
+        NumericOp::Binary(kind, _) => flow.fixed(
             classes,
             &[of_int(kind), of_int(kind)],
             &[of_int(kind)],
         ),
-        Numeric::Convert(convert) => {
+        NumericOp::Convert(convert) => {
             let (from, to) = converted(convert);
             flow.fixed(classes, &[from], &[to])
         }

@@ -2,11 +2,11 @@
 ghost use Rattle.std.specs.Prelude.{◌≡◌, IfOk, slice_get};
 ghost use Rattle.w_flow.specs.Flow.{step};
 ghost use Rattle.w_flow.specs.View.{flow_view, flow_if};
-ghost use Rattle.w_rules.specs.Lines.{ref_func_line, reference_line};
+ghost use Rattle.w_rules.specs.InstructionTypes.{ref_func_type, reference_op_type};
 ghost use Rattle.w_rules.specs.View.{context_in};
-ghost use Rattle.w_vplain.specs.View.{gives_type};
+ghost use Rattle.w_locals.specs.Locals.{gives_type};
 
-use crate::steps::given::fixed_given;
+use crate::steps::if_valid::fixed_if_valid;
 use std::alloc::AllocError;
 use w_flow::Flow;
 use w_rules::Context;
@@ -15,7 +15,8 @@ use w_types::{HeapType, RefType, ValType};
 
 // The type of a reference to a function that is declared.
 fn function_reference(cx: &Context, function: u32) -> Option<ValType>
-    ensures { ref_func_line (slice_get (context_in cx.now).functions function) (slice_get (context_in cx.now).declared function) ≡ gives_type result }
+    ensures { ref_func_type (slice_get (context_in cx.now).functions function) (slice_get
+        (context_in cx.now).declared function) ≡ gives_type result }
 {
     let index = *cx.functions.get(function as usize)?;
     if *cx.declared.get(function as usize)? {
@@ -34,7 +35,9 @@ pub(crate) fn reference_step(
     flow: &mut Flow,
     op: ReferenceOp,
 ) -> Result<bool, AllocError>
-    ensures { IfOk result (λ taken. step cx.now.classes.now (reference_line (context_in cx.now) op) (flow_view flow.old).any (flow_view flow.old).operands ≡ flow_if taken flow.new) }
+    ensures { IfOk result (λ taken. step cx.now.classes.now (reference_op_type
+        (context_in cx.now) op) (flow_view flow.old).any (flow_view flow.old).operands
+        ≡ flow_if taken flow.new) }
 {
     match op {
         ReferenceOp::Null(heap) => {
@@ -42,7 +45,7 @@ pub(crate) fn reference_step(
                 nullable: true,
                 heap,
             });
-            fixed_given(cx.classes, flow, cx.has_heap(heap), &[], &[null])
+            fixed_if_valid(cx.classes, flow, cx.has_heap(heap), &[], &[null])
         }
         ReferenceOp::IsNull => flow.tests_null(),
         ReferenceOp::Func(function) => match function_reference(cx, function) {

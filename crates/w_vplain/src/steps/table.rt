@@ -2,7 +2,7 @@
 ghost use Rattle.std.specs.Prelude.{◌≡◌, IfOk, slice_get};
 ghost use Rattle.w_flow.specs.Flow.{step};
 ghost use Rattle.w_flow.specs.View.{flow_view, flow_if};
-ghost use Rattle.w_rules.specs.Lines.{table_line, table_init_line, table_copy_line, table_grow_line, table_fill_line};
+ghost use Rattle.w_rules.specs.InstructionTypes.{table_op_type, table_init_type, table_copy_type, table_grow_type, table_fill_type};
 ghost use Rattle.w_rules.specs.View.{context_in};
 ghost use Rattle.w_vplain.specs.Frames.{init_test, copy_test, table_test};
 ghost use Rattle.w_vplain.specs.View.{gated};
@@ -18,8 +18,12 @@ const THREE: [ValType; 3] = [ValType::I32, ValType::I32, ValType::I32];
 
 // A copy of an element segment into a table.
 fn init_step(cx: &Context, flow: &mut Flow, segment: u32, table: u32) -> Result<bool, AllocError>
-    ensures { let c = context_in cx.now in IfOk result (λ taken. gated (init_test cx.now.classes.now (slice_get c.elements segment) (slice_get c.tables table))
-        (step cx.now.classes.now (table_init_line (slice_get c.elements segment) (slice_get c.tables table)) (flow_view flow.old).any (flow_view flow.old).operands) ≡ flow_if taken flow.new) }
+    ensures { let c = context_in cx.now in IfOk result
+        (λ taken. gated (init_test cx.now.classes.now (slice_get c.elements segment)
+        (slice_get c.tables table))
+        (step cx.now.classes.now (table_init_type (slice_get c.elements segment)
+        (slice_get c.tables table)) (flow_view flow.old).any (flow_view flow.old).operands)
+        ≡ flow_if taken flow.new) }
 {
     let Some(element) = cx.element(segment) else {
         return Ok(false);
@@ -35,8 +39,11 @@ fn init_step(cx: &Context, flow: &mut Flow, segment: u32, table: u32) -> Result<
 
 // A copy of a part of a table into a table.
 fn copy_step(cx: &Context, flow: &mut Flow, to: u32, from: u32) -> Result<bool, AllocError>
-    ensures { let c = context_in cx.now in IfOk result (λ taken. gated (copy_test cx.now.classes.now (slice_get c.tables to) (slice_get c.tables from))
-        (step cx.now.classes.now (table_copy_line (slice_get c.tables to) (slice_get c.tables from)) (flow_view flow.old).any (flow_view flow.old).operands) ≡ flow_if taken flow.new) }
+    ensures { let c = context_in cx.now in IfOk result
+        (λ taken. gated (copy_test cx.now.classes.now (slice_get c.tables to)
+        (slice_get c.tables from))
+        (step cx.now.classes.now (table_copy_type (slice_get c.tables to) (slice_get c.tables from))
+        (flow_view flow.old).any (flow_view flow.old).operands) ≡ flow_if taken flow.new) }
 {
     let Some(to) = cx.table(to) else {
         return Ok(false);
@@ -52,7 +59,9 @@ fn copy_step(cx: &Context, flow: &mut Flow, to: u32, from: u32) -> Result<bool, 
 
 // The growth of a table.
 fn grow_step(cx: &Context, flow: &mut Flow, index: u32) -> Result<bool, AllocError>
-    ensures { IfOk result (λ taken. step cx.now.classes.now (table_grow_line (slice_get (context_in cx.now).tables index)) (flow_view flow.old).any (flow_view flow.old).operands ≡ flow_if taken flow.new) }
+    ensures { IfOk result (λ taken. step cx.now.classes.now (table_grow_type (slice_get
+        (context_in cx.now).tables index)) (flow_view flow.old).any (flow_view flow.old).operands
+        ≡ flow_if taken flow.new) }
 {
     match cx.table(index) {
         Some(table) => {
@@ -65,7 +74,9 @@ fn grow_step(cx: &Context, flow: &mut Flow, index: u32) -> Result<bool, AllocErr
 
 // The filling of a part of a table.
 fn fill_step(cx: &Context, flow: &mut Flow, index: u32) -> Result<bool, AllocError>
-    ensures { IfOk result (λ taken. step cx.now.classes.now (table_fill_line (slice_get (context_in cx.now).tables index)) (flow_view flow.old).any (flow_view flow.old).operands ≡ flow_if taken flow.new) }
+    ensures { IfOk result (λ taken. step cx.now.classes.now (table_fill_type (slice_get
+        (context_in cx.now).tables index)) (flow_view flow.old).any (flow_view flow.old).operands
+        ≡ flow_if taken flow.new) }
 {
     match cx.table(index) {
         Some(table) => {
@@ -79,7 +90,8 @@ fn fill_step(cx: &Context, flow: &mut Flow, index: u32) -> Result<bool, AllocErr
 /// A table instruction.
 pub(crate) fn table_step(cx: &Context, flow: &mut Flow, op: TableOp) -> Result<bool, AllocError>
     ensures { IfOk result (λ taken. gated (table_test cx.now.classes.now (context_in cx.now) op)
-        (step cx.now.classes.now (table_line (context_in cx.now) op) (flow_view flow.old).any (flow_view flow.old).operands) ≡ flow_if taken flow.new) }
+        (step cx.now.classes.now (table_op_type (context_in cx.now) op) (flow_view flow.old).any
+        (flow_view flow.old).operands) ≡ flow_if taken flow.new) }
 {
     let classes = cx.classes;
     match op {

@@ -3,11 +3,11 @@ ghost use Rattle.std.specs.Prelude.{◌≡◌, IfOk, slice_get};
 ghost use Rattle.w_types.specs.Rows.{ε, ◌▹◌};
 ghost use Rattle.w_flow.specs.Flow.{step};
 ghost use Rattle.w_flow.specs.View.{flow_view, flow_if};
-ghost use Rattle.w_rules.specs.Lines.{global_set_line, variable_line};
-ghost use Rattle.w_vplain.specs.Locals.{first_set};
+ghost use Rattle.w_rules.specs.InstructionTypes.{global_set_type, variable_op_type};
+ghost use Rattle.w_locals.specs.Locals.{first_set};
 ghost use Rattle.w_vplain.specs.View.{context_at, takes_type};
 
-use crate::place::Place;
+use crate::body_context::BodyContext;
 use std::alloc::AllocError;
 use w_flow::Flow;
 use w_rules::Context;
@@ -16,7 +16,7 @@ use w_types::ValType;
 
 // The type of a global that may be written.
 fn variable_global(cx: &Context, global: u32) -> Option<ValType>
-    ensures { global_set_line (slice_get cx.now.globals.now global) ≡ takes_type result }
+    ensures { global_set_type (slice_get cx.now.globals.now global) ≡ takes_type result }
 {
     let found = cx.global(global)?;
     match found.mutability {
@@ -27,31 +27,33 @@ fn variable_global(cx: &Context, global: u32) -> Option<ValType>
 
 /// A variable instruction.
 pub(crate) fn variable_step(
-    place: &Place,
+    body: &BodyContext,
     flow: &mut Flow,
     op: VariableOp,
 ) -> Result<bool, AllocError>
-    ensures { IfOk result (λ taken. step place.now.cx.now.classes.now (variable_line (context_at place.now) (first_set place.now.locals.now.sets) op) (flow_view flow.old).any (flow_view flow.old).operands ≡ flow_if taken flow.new) }
+    ensures { IfOk result (λ taken. step body.now.cx.now.classes.now (variable_op_type
+        (context_at body.now) (first_set body.now.locals.now.sets) op) (flow_view flow.old).any
+        (flow_view flow.old).operands ≡ flow_if taken flow.new) }
 {
-    let classes = place.cx.classes;
+    let classes = body.cx.classes;
     match op {
-        VariableOp::LocalGet(local) => match place.locals.get_set(local) {
+        VariableOp::LocalGet(local) => match body.locals.get_set(local) {
             Some(kind) => flow.fixed(classes, &[], &[kind]),
             None => Ok(false),
         },
-        VariableOp::LocalSet(local) => match place.locals.get(local) {
+        VariableOp::LocalSet(local) => match body.locals.get(local) {
             Some(kind) => flow.fixed(classes, &[kind], &[]),
             None => Ok(false),
         },
-        VariableOp::LocalTee(local) => match place.locals.get(local) {
+        VariableOp::LocalTee(local) => match body.locals.get(local) {
             Some(kind) => flow.fixed(classes, &[kind], &[kind]),
             None => Ok(false),
         },
-        VariableOp::GlobalGet(global) => match place.cx.global(global) {
+        VariableOp::GlobalGet(global) => match body.cx.global(global) {
             Some(found) => flow.fixed(classes, &[], &[found.kind]),
             None => Ok(false),
         },
-        VariableOp::GlobalSet(global) => match variable_global(place.cx, global) {
+        VariableOp::GlobalSet(global) => match variable_global(body.cx, global) {
             Some(kind) => flow.fixed(classes, &[kind], &[]),
             None => Ok(false),
         },

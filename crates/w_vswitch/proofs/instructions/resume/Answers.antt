@@ -1,7 +1,7 @@
 use Rattle.std.proofs.Common.{inr, ap}
 use Rattle.w_types.specs.Rows.{◌▹◌, row_of}
 use Rattle.w_syntax.specs.declared.instructions.SwitchingOp.TheVariants as op
-use Rattle.w_rules.specs.Lines.{resume_line}
+use Rattle.w_rules.specs.InstructionTypes.{resume_type}
 use Rattle.w_vswitch.specs.Rows.{RefusedAt}
 use Rattle.w_vswitch.proofs.FoundTypes.{found, missing}
 use Rattle.w_vswitch.proofs.Resumes.{cont_at, resume_row, resume_refused}
@@ -11,16 +11,16 @@ use Rattle.w_vswitch.proofs.instructions.resume.Goals as goal
 pub returns-in_default-clause-answers : goal.returns-in_default-clause-answers
 returns-in_default-clause-answers c =
     let o = op.Resume c.args.index c.args.clauses.now in
-    without_row c.refuse.result c.args.checker.now c.refuse.new.self o c.refuse.ensures.answer c.refuse.ensures.stands
+    without_row c.refuse.result c.args.checker.now c.refuse.new.self o c.refuse.ensures.refuses
     (at_place c.args.checker.now c.context.result.now c.context.ensures (RefusedAt o)
-    (λ classes ts rs ls. inr (ap (resume_line c.args.index) (missing c.cont_of.result _ c.cont_of.ensures c.in_default.is))))
+    (λ classes ts rs ls. inr (ap (resume_type c.args.index) (missing c.cont_of.result _ c.cont_of.ensures c.in_default.is))))
 
 pub returns-then-not-clauses_fit-clause-answers : goal.returns-then-not-clauses_fit-clause-answers
 returns-then-not-clauses_fit-clause-answers c =
     let o = op.Resume c.args.index c.args.clauses.now in
     let r = c.refuse-then-not-clauses_fit in
     let kind = c.in-Some.kind.now in
-    without_row r.result c.args.checker.now r.new.self o r.ensures.answer r.ensures.stands
+    without_row r.result c.args.checker.now r.new.self o r.ensures.refuses
     (λ s w k g. resume_refused _ c.args.index c.args.clauses.now kind c.as_slice.result.now c.clauses_fit.result
     (cont_at c.args.checker.now c.context.result.now c.context.ensures c.args.index kind (found c.cont_of.result c.in-Some.kind _ c.cont_of.ensures c.in-Some.is) w)
     c.as_slice.ensures (c.clauses_fit.ensures s w k g) c.if-not-clauses_fit.true)
@@ -32,7 +32,7 @@ returns-clause-answers c =
     let outs = row_of c.as_slice-outs.result.now in
     let raise = c.longest_label-raise.result in
     let kind = c.in-Some.kind.now in
-    by_row c.apply.result c.args.checker.now c.apply.new.self o ins outs raise c.apply.ensures.stands c.apply.ensures.exact
+    by_row c.apply.result c.args.checker.now c.apply.new.self o ins outs raise c.apply.ensures.answers
     (λ s w k g. resume_row _ c.args.index c.args.clauses.now kind c.as_slice.result.now c.as_slice-ins.result.now c.as_slice-outs.result.now c.nullable-reference.result raise
     (cont_at c.args.checker.now c.context.result.now c.context.ensures c.args.index kind (found c.cont_of.result c.in-Some.kind _ c.cont_of.ensures c.in-Some.is) w)
     c.as_slice.ensures c.as_slice-ins.ensures c.as_slice-outs.ensures c.nullable-reference.ensures ((c.clauses_fit.ensures s w k g).0 c.if-not-clauses_fit.false) (c.longest_label-raise.ensures s w k g))

@@ -11,12 +11,12 @@ returns-in-Some-clause-answers c =
     let o = op.Switch c.args.index c.args.tag in
     let ins = row_of c.in-Some.beneath.now ▹ c.nullable.result in
     let outs = row_of c.in-Some.back.now in
-    by_row c.apply.result c.args.checker.now c.apply.new.self o ins outs None c.apply.ensures.stands c.apply.ensures.exact
+    by_row c.apply.result c.args.checker.now c.apply.new.self o ins outs None c.apply.ensures.answers
     (at_place c.args.checker.now c.context.result.now c.context.ensures (RowAt o ins outs None)
     (λ classes ts rs ls. with_top o (row_of c.in-Some.beneath.now) outs _ _ None _ c.nullable.ensures (c.in-Some.ensures classes ts rs ls)))
 
 pub returns-in-None-clause-answers : goal.returns-in-None-clause-answers
 returns-in-None-clause-answers c =
     let o = op.Switch c.args.index c.args.tag in
-    without_row c.refuse.result c.args.checker.now c.refuse.new.self o c.refuse.ensures.answer c.refuse.ensures.stands
+    without_row c.refuse.result c.args.checker.now c.refuse.new.self o c.refuse.ensures.refuses
     (at_place c.args.checker.now c.context.result.now c.context.ensures (RefusedAt o) (λ classes ts rs ls. inl (c.in-None.ensures classes ts rs ls)))

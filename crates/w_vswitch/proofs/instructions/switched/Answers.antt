@@ -1,7 +1,7 @@
 use Rattle.std.proofs.Common.{List, None, refl, sym, subst, ap, ◌∙◌}
 use Rattle.w_types.specs.declared.types.ValType.{ValType}
 use Rattle.w_types.specs.Rows.{◌▹◌, row_of}
-use Rattle.w_rules.specs.Lines.{nullable}
+use Rattle.w_rules.specs.InstructionTypes.{nullable}
 use Rattle.w_syntax.specs.declared.instructions.SwitchingOp.TheVariants as op
 use Rattle.w_vswitch.specs.Places.{placed}
 use Rattle.w_vswitch.specs.Rows.{RowAt, last_index}

@@ -1,4 +1,5 @@
-use Rattle.w_canon.proofs.TestsTold.{told_by, cont_kind_told}
+use Rattle.w_types.proofs.Tests.{told_by}
+use Rattle.w_canon.proofs.MatchingTests.{cont_kind_told}
 use Rattle.w_canon.proofs.classes.Classes.is_cont.Goals as goal
 
 pub returns-clause-related : goal.returns-clause-related

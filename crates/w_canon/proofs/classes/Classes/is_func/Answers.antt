@@ -1,4 +1,5 @@
-use Rattle.w_canon.proofs.TestsTold.{told_by, func_kind_told}
+use Rattle.w_types.proofs.Tests.{told_by}
+use Rattle.w_canon.proofs.MatchingTests.{func_kind_told}
 use Rattle.w_canon.proofs.classes.Classes.is_func.Goals as goal
 
 pub returns-clause-related : goal.returns-clause-related

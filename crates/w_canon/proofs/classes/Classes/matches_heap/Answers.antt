@@ -1,5 +1,6 @@
 use Rattle.std.proofs.Common.{inl, inr, true}
-use Rattle.w_canon.proofs.TestsTold.{told_by, heap_told}
+use Rattle.w_types.proofs.Tests.{told_by}
+use Rattle.w_canon.proofs.MatchingTests.{heap_told}
 use Rattle.w_canon.proofs.classes.Classes.matches_heap.Goals as goal
 
 pub returns-in-Func-matches-clause-related : goal.returns-in-Func-matches-clause-related

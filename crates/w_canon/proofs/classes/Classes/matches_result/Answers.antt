@@ -1,7 +1,8 @@
 use Rattle.std.proofs.Common.{false, true}
 use Rattle.w_types.specs.declared.types.ValType.TheVariants.{I32}
 use Rattle.w_canon.specs.Tests.{val_test}
-use Rattle.w_canon.proofs.TestsTold.{told_by, result_told}
+use Rattle.w_types.proofs.Tests.{told_by}
+use Rattle.w_canon.proofs.MatchingTests.{result_told}
 use Rattle.w_canon.proofs.TestsOfLists.{lengths_differ, differ_here, agree_here, all_agree}
 use Rattle.w_canon.proofs.classes.Classes.matches_result.Goals as goal
 

@@ -1,5 +1,6 @@
 use Rattle.std.proofs.Common.{true}
-use Rattle.w_canon.proofs.TestsTold.{told_by, val_told}
+use Rattle.w_types.proofs.Tests.{told_by}
+use Rattle.w_canon.proofs.MatchingTests.{val_told}
 use Rattle.w_canon.proofs.classes.Classes.matches_val.Goals as goal
 
 pub returns-in-I32-I32-clause-related : goal.returns-in-I32-I32-clause-related

@@ -1,6 +1,7 @@
 use Rattle.std.proofs.Common.{arith}
 use Rattle.std.proofs.lemmas.Bool.Decides.{eqb_tells}
-use Rattle.w_canon.proofs.TestsTold.{told_by, same_told}
+use Rattle.w_types.proofs.Tests.{told_by}
+use Rattle.w_canon.proofs.MatchingTests.{same_told}
 use Rattle.w_canon.proofs.classes.Classes.same.Goals as goal
 
 pub returns-else-i-j-clause-related : goal.returns-else-i-j-clause-related

@@ -1,12 +1,5 @@
-use Rattle.w_types.specs.Rows.{row_of}
-use Rattle.w_vplain.specs.View.{row_with}
-use Rattle.w_vplain.proofs.CallsAnswered.{ok_all, stands_by_row, exact_by_row}
+use Rattle.w_vplain.proofs.CallsAnswered.{answers_row}
 use Rattle.w_vplain.proofs.checker.Checker.apply.Goals as goal
 
-pub returns-clause-stands : goal.returns-clause-stands
-returns-clause-stands c = ok_all c.call_row.result _ _ _ _ c.call_row.ensures.steps c.call_row.ensures.answer c.call_row.ensures.counts
-    (λ x h a n. stands_by_row c.args.self.now c.call_row.new.self (row_with (row_of c.args.ins.now) c.args.top) (row_of c.args.outs.now) c.args.raise x h c.call_row.ensures.context c.call_row.ensures.classes a n)
-
-pub returns-clause-exact : goal.returns-clause-exact
-returns-clause-exact c = ok_all c.call_row.result _ _ _ _ c.call_row.ensures.steps c.call_row.ensures.answer c.call_row.ensures.counts
-    (λ x h a n. exact_by_row c.args.self.now c.call_row.new.self (row_with (row_of c.args.ins.now) c.args.top) (row_of c.args.outs.now) c.args.raise x h a)
+pub returns-clause-answers : goal.returns-clause-answers
+returns-clause-answers c = answers_row c.call.result c.args.self.now c.call.new.self c.args.ins c.args.top c.args.outs c.args.raise c.call.ensures.steps c.call.ensures.body

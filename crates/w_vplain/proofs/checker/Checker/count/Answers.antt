@@ -1,7 +1,7 @@
 use Rattle.std.proofs.Common.{◌∙◌}
 use Rattle.w_vplain.specs.Standing.{top_of}
-use Rattle.w_vplain.specs.Locals.{outer_sets}
-use Rattle.w_vplain.proofs.FramesTold.{depth_told, peak_told}
+use Rattle.w_locals.specs.Locals.{outer_sets}
+use Rattle.w_vplain.proofs.FrameViews.{depth_told, peak_told}
 use Rattle.w_vplain.proofs.checker.Checker.count.Goals as goal
 
 pub returns-clause-deepens : goal.returns-clause-deepens

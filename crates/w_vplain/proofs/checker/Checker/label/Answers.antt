@@ -4,7 +4,7 @@ use Rattle.w_types.specs.declared.types.ValType.{ValType}
 use Rattle.w_types.specs.Rows.{row_of}
 use Rattle.w_rules.specs.Spaces.{in_body}
 use Rattle.w_rules.specs.View.{context_in}
-use Rattle.w_vplain.specs.Levels.{labels_of}
+use Rattle.w_vplain.specs.Prefixes.{labels_of}
 use Rattle.w_vplain.specs.View.{outer_kinds}
 use Rattle.w_vplain.specs.declared.frame.Frame.{Frame}
 use Rattle.w_vplain.proofs.CallsAnswered.{label_told}

@@ -2,8 +2,8 @@ use Rattle.std.proofs.Common.{reverse}
 use Rattle.w_flow.specs.View.{flow_view}
 use Rattle.w_rules.specs.View.{context_in}
 use Rattle.w_vplain.specs.Standing.{classes_for, context_for, top_of}
-use Rattle.w_vplain.specs.Locals.{outer_sets, first_set}
-use Rattle.w_vplain.proofs.FramesTold.{op_taken, op_refused, along, PlainStep}
+use Rattle.w_locals.specs.Locals.{outer_sets, first_set}
+use Rattle.w_vplain.proofs.FrameViews.{op_taken, op_refused, along, PlainStep}
 use Rattle.w_vplain.proofs.checker.Checker.op.Goals as goal
 
 pub returns-then-not-branch-clause-steps : goal.returns-then-not-branch-clause-steps

@@ -7,14 +7,14 @@ use Rattle.w_vplain.proofs.steps.control.table_step.Goals as goal
 pub returns-then-not-labels_fit : goal.returns-then-not-labels_fit
 returns-then-not-labels_fit c =
     let flow = flow_view c.args.flow.now in
-    table_answer c.args.place.now.cx.now.classes.now (context_at c.args.place.now).labels flow.any _ flow.operands _ c.in-Some.label.now c.args.otherwise c.args.labels.now _ _ _
+    table_answer c.args.body.now.cx.now.classes.now (context_at c.args.body.now).labels flow.any _ flow.operands _ c.in-Some.label.now c.args.otherwise c.args.labels.now _ _ _
     c.begin_table.ensures.left c.if-not-begin_table.false c.begin_table.ensures.any c.in-Some.ensures c.can_take.ensures c.if-not-can_take.false c.labels_fit.ensures
     ∙ ap (λ (b : Bool). if b then Some anything else None) c.if-not-labels_fit.true
 
 pub returns : goal.returns
 returns c =
     let flow = flow_view c.args.flow.now in
-    table_answer c.args.place.now.cx.now.classes.now (context_at c.args.place.now).labels flow.any _ flow.operands _ c.in-Some.label.now c.args.otherwise c.args.labels.now _ _ _
+    table_answer c.args.body.now.cx.now.classes.now (context_at c.args.body.now).labels flow.any _ flow.operands _ c.in-Some.label.now c.args.otherwise c.args.labels.now _ _ _
     c.begin_table.ensures.left c.if-not-begin_table.false c.begin_table.ensures.any c.in-Some.ensures c.can_take.ensures c.if-not-can_take.false c.labels_fit.ensures
     ∙ ap (λ (b : Bool). if b then Some anything else None) c.if-not-labels_fit.false
     ∙ ap Some (sym c.leave.ensures)

@@ -1,6 +1,0 @@
-mod equality;
-mod equivalence;
-mod large;
-mod matching;
-mod naive;
-mod shapes;

@@ -1,0 +1,2 @@
+pub mod LocalRuns
+pub mod InitLog

@@ -1,0 +1,10 @@
+use Rattle.std.proofs.Common.{drop}
+use Rattle.w_valid.proofs.TypesOfGroups.{ValidBelow, Left}
+use Rattle.w_valid.proofs.types.first_invalid_type.Given as goal
+
+-- each type of the groups so far is valid, and those that are left stand behind them
+abbrev pub invariant-loop-group : goal.invariant-loop-group
+invariant-loop-group l = record {
+  valid : ValidBelow l.owner l.start;
+  left : Left l.owner.types l.start (drop l.group-index l.owner.types);
+}

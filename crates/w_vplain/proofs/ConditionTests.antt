@@ -1,0 +1,79 @@
+-- What the tests of instructions tell: where the entries are those of the types, each is true exactly where the rule's condition holds.
+use Rattle.std.proofs.Common.{◌≡◌, ◌↔◌, true, false, List, Option, Some, None, slice_get, IsTrue, refl}
+use Rattle.w_types.specs.declared.types.RefType.{RefType}
+use Rattle.w_types.specs.declared.types.ValType.{ValType}
+use Rattle.w_types.specs.Rows.{Row}
+use Rattle.w_syntax.specs.declared.instructions.ControlOp.{ControlOp}
+use Rattle.w_syntax.specs.declared.instructions.ControlOp.TheVariants as control
+use Rattle.w_syntax.specs.declared.instructions.Op.{Op}
+use Rattle.w_syntax.specs.declared.instructions.Op.TheVariants as op
+use Rattle.w_syntax.specs.declared.instructions.TableOp.{TableOp}
+use Rattle.w_syntax.specs.declared.instructions.TableOp.TheVariants as table
+use Rattle.w_syntax.specs.declared.module.TableType.{TableType}
+use Rattle.w_canon.specs.declared.entry.Entry.{Entry}
+use Rattle.w_canon.specs.Matching.{RefMatches}
+use Rattle.w_canon.specs.IsClassesOf.{IsClassesOf}
+use Rattle.w_canon.proofs.MatchingTests.{ref_told}
+use Rattle.w_rules.specs.Conditions.{Holds, funcref, ControlCondition, TableCondition, Condition}
+use Rattle.w_rules.specs.Context.{Context}
+use Rattle.w_vplain.specs.Prefixes.{is_switching, labels_of, within}
+use Rattle.w_vplain.specs.Frames.{holds_functions, init_test, copy_test, control_test, table_test, condition_test}
+use Rattle.w_vplain.specs.declared.frame_kind.FrameKind.{FrameKind}
+
+-- nothing is asked
+nothing : IsTrue true ↔ Unit {0}
+nothing = (λ t. tt, λ u. refl)
+
+-- nothing can hold
+never : IsTrue false ↔ ⊥
+never = (λ t. absurd (cc), λ h. absurd h)
+
+module _ (es : List Entry) (c : Context) (st : IsClassesOf c.types es) where
+  -- the table is there, and holds functions
+  functions_told : (o : Option TableType) → IsTrue (holds_functions es o) ↔ Holds o (λ (t : TableType). RefMatches c.types t.element funcref)
+  functions_told None = never
+  functions_told (Some t) = ref_told c.types es st t.element funcref
+
+  -- the segment and the table are there, and match
+  init_told : (o : Option RefType) (p : Option TableType) →
+      IsTrue (init_test es o p) ↔ Holds o (λ (r : RefType). Holds p (λ (t : TableType). RefMatches c.types r t.element))
+  init_told None p = never
+  init_told (Some r) None = never
+  init_told (Some r) (Some t) = ref_told c.types es st r t.element
+
+  -- both tables are there, and match
+  copy_told : (o p : Option TableType) →
+      IsTrue (copy_test es o p) ↔ Holds o (λ (t : TableType). Holds p (λ (u : TableType). RefMatches c.types u.element t.element))
+  copy_told None p = never
+  copy_told (Some t) None = never
+  copy_told (Some t) (Some u) = ref_told c.types es st u.element t.element
+
+  -- a control instruction, whatever the labels take
+  control_told : (us : List (Row ValType)) (o : ControlOp) → IsTrue (control_test es c o) ↔ ControlCondition (record c { labels = us }) o
+  control_told us (control.CallIndirect y x) = functions_told (slice_get c.tables x)
+  control_told us o = nothing
+
+  -- a table instruction
+  table_told : (us : List (Row ValType)) (o : TableOp) → IsTrue (table_test es c o) ↔ TableCondition (record c { labels = us }) o
+  table_told us (table.Init e x) = init_told (slice_get c.elements e) (slice_get c.tables x)
+  table_told us (table.Copy x y) = copy_told (slice_get c.tables x) (slice_get c.tables y)
+  table_told us o = nothing
+
+  -- an instruction that does not switch stacks
+  op_told : (us : List (Row ValType)) (o : Op) → is_switching o ≡ false → IsTrue (condition_test es c o) ↔ Condition (record c { labels = us }) o
+  op_told us (op.Control o) h = control_told us o
+  op_told us (op.Table o) h = table_told us o
+  op_told us (op.Switching o) h = absurd (cc)
+  op_told us (op.Parametric o) h = nothing
+  op_told us (op.Variable o) h = nothing
+  op_told us (op.Memory o) h = nothing
+  op_told us (op.Numeric o) h = nothing
+  op_told us (op.Reference o) h = nothing
+
+  -- the test of an instruction that does not switch stacks
+  pub condition_told : (o : Op) → is_switching o ≡ false → IsTrue (condition_test es c o) ↔ Condition c o
+  condition_told o h = op_told c.labels o h
+
+  -- the same inside these blocks
+  pub condition_told_within : (ks : List FrameKind) (o : Op) → is_switching o ≡ false → IsTrue (condition_test es c o) ↔ Condition (within c ks) o
+  condition_told_within ks o h = op_told (labels_of c ks) o h

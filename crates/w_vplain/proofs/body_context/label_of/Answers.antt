@@ -1,0 +1,14 @@
+use Rattle.std.proofs.Common.{◌∙◌, [], ap, arith, Some}
+use Rattle.w_rules.specs.Spaces.{in_body}
+use Rattle.w_rules.specs.View.{context_in}
+use Rattle.w_vplain.proofs.LabelsBack.{label_past, label_back}
+use Rattle.w_vplain.proofs.body_context.label_of.Goals as goal
+
+pub returns-then-back-outer : goal.returns-then-back-outer
+returns-then-back-outer c =
+    label_past (in_body (context_in c.args.cx.now) [] c.args.results.now) c.args.kind.now c.args.outer.now c.args.index c.if-back-outer.true
+
+pub returns : goal.returns
+returns c =
+    label_back (in_body (context_in c.args.cx.now) [] c.args.results.now) c.args.kind.now c.args.outer.now c.args.index c.index-outer-outer.result c.if-index-eq0.false (omega arith)
+    ∙ ap Some c.label-2.ensures

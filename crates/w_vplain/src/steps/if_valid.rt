@@ -1,0 +1,29 @@
+//! Types that stand only where a test holds.
+ghost use Rattle.std.specs.Prelude.{◌≡◌, IfOk};
+ghost use Rattle.w_types.specs.Rows.{row_of};
+ghost use Rattle.w_flow.specs.Flow.{step};
+ghost use Rattle.w_flow.specs.View.{flow_view, flow_if};
+ghost use Rattle.w_rules.specs.InstructionTypes.{fixed, if_valid};
+
+use std::alloc::AllocError;
+use w_canon::Classes;
+use w_flow::Flow;
+use w_types::ValType;
+
+/// Takes and gives operands of these types, where the test holds.
+pub(crate) fn fixed_if_valid(
+    classes: &Classes,
+    flow: &mut Flow,
+    test: bool,
+    ins: &[ValType],
+    outs: &[ValType],
+) -> Result<bool, AllocError>
+    ensures { IfOk result (λ taken. step classes.now (if_valid test (fixed (row_of ins.now)
+        (row_of outs.now))) (flow_view flow.old).any (flow_view flow.old).operands
+        ≡ flow_if taken flow.new) }
+{
+    if !test {
+        return Ok(false);
+    }
+    flow.fixed(classes, ins, outs)
+}
