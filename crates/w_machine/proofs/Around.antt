@@ -4,10 +4,11 @@ use Rattle.std.specs.Prelude.{nat_le, true, false}
 use Rattle.std.proofs.lemmas.Bool.Decides.{nat_tests}
 use Rattle.w_types.specs.declared.value.Value.{Value}
 use Rattle.w_syntax.specs.declared.module.Module.{Module}
-use Rattle.w_rules.specs.declared.limits.LimitName.TheVariants as limit
+use Rattle.w_reduce.specs.declared.limit.RunLimit.TheVariants as limit
 use Rattle.w_reduce.specs.Store.{Store}
 use Rattle.w_reduce.specs.Terms.{Term, rest_of, frames, most_frames}
-use Rattle.w_reduce.specs.Reduce.{Went, Limited, limited}
+use Rattle.w_reduce.specs.Reduced.{Went, Limited}
+use Rattle.w_reduce.specs.Reduce.{limited}
 use Rattle.w_machine.specs.declared.configuration.Caller.{Caller}
 use Rattle.w_machine.specs.Functions.{code_from}
 use Rattle.w_machine.specs.Configuration.{around, base, own, label_of, frame_of, Ordered}

@@ -8,7 +8,7 @@ use Rattle.w_rules.specs.Valid.{Valid}
 use Rattle.w_reduce.specs.Start.{first_import, entry, address_in, start_term}
 use Rattle.w_reduce.specs.Store.{Defined, Store, defined, start_store}
 use Rattle.w_reduce.specs.Terms.{Term}
-use Rattle.w_reduce.specs.Run.{came_to}
+use Rattle.w_reduce.specs.Run.{state_at}
 use Rattle.w_machine.specs.Beginning.{Begins}
 use Rattle.w_machine.specs.Configuration.{Parts, first_parts, term_of, IsSound}
 use Rattle.w_machine.specs.Functions.{arity}
@@ -58,7 +58,7 @@ reached_at : (m : Module) (s : Store) (p : Parts) → Begins m s → Valid m →
 reached_at m s p begins valid e = rw (e, begins.store) (record {
   store = refl;
   sound = first_sound m m.start (address_in (entry m)) refl begins.complete valid;
-  run = ap (λ (t : Term). came_to m 0 (start_store m) t) (first_term m m.start refl);
+  run = ap (λ (t : Term). state_at m 0 (start_store m) t) (first_term m m.start refl);
   bound = omega arith;
 })
 

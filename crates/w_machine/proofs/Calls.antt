@@ -7,13 +7,14 @@ use Rattle.w_types.specs.declared.types.FuncType.{FuncType}
 use Rattle.w_types.specs.declared.value.Value.{Value}
 use Rattle.w_types.proofs.Rows.{listed-row_of, size-row_of}
 use Rattle.w_syntax.specs.Functions.{type_of_function, code_of_function}
-use Rattle.w_syntax.specs.declared.instructions.Control.TheVariants as control
+use Rattle.w_syntax.specs.declared.instructions.ControlOp.TheVariants as control
 use Rattle.w_syntax.specs.declared.instructions.Op.TheVariants.{Control}
 use Rattle.w_syntax.specs.declared.module.Func.{Func}
 use Rattle.w_syntax.specs.declared.module.Module.{Module}
 use Rattle.w_reduce.specs.Store.{Defined, Store}
 use Rattle.w_reduce.specs.Terms.{Context, Rest, rest_of, Frame}
-use Rattle.w_reduce.specs.Reduce.{Reduced, Stuck, goes, take_values, enter}
+use Rattle.w_reduce.specs.Reduced.{Reduced, Stuck, steps_to, take_values}
+use Rattle.w_reduce.specs.Control.{enter}
 use Rattle.w_machine.specs.declared.configuration.Redex.TheVariants.{Operands, Invoke, Call, LabelExit, FrameExit}
 use Rattle.w_machine.specs.declared.configuration.Found.{Found}
 use Rattle.w_machine.specs.declared.configuration.Found.TheVariants as found
@@ -24,7 +25,7 @@ use Rattle.w_machine.proofs.Operands.{take_listed, take_short}
 -- what entering the function f gives, with its arguments the last n values
 abbrev pub entered : Module → Store → Context → List Value → ℕ → ℕ → Rest → Reduced
 entered m s e vs f n rest =
-    goes s (label_of m f ∷ Frame (row_of (take (length vs - n) vs)) (arity m f) (map (λ (v : Value). Some v) (drop (length vs - n) vs) ++ defaults_of m f) rest ∷ e) ε
+    steps_to s (label_of m f ∷ Frame (row_of (take (length vs - n) vs)) (arity m f) (map (λ (v : Value). Some v) (drop (length vs - n) vs) ++ defaults_of m f) rest ∷ e) ε
     (rest_of (body_of m f))
 
 split_at : (vs : List Value) (n : ℕ) (go : Row Value × Row Value → Reduced) → n ≤ length vs

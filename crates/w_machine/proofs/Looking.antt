@@ -13,7 +13,8 @@ use Rattle.w_syntax.specs.declared.module.Func.{Func}
 use Rattle.w_syntax.specs.declared.module.Module.{Module}
 use Rattle.w_reduce.specs.Store.{Store}
 use Rattle.w_reduce.specs.Terms.{Context}
-use Rattle.w_reduce.specs.Reduce.{Stuck, next}
+use Rattle.w_reduce.specs.Reduced.{Stuck}
+use Rattle.w_reduce.specs.Reduce.{next}
 use Rattle.w_machine.specs.Functions.{body_in, code_from, instr_in, instr_at}
 use Rattle.w_syntax.proofs.Places.{here, at_end, at_else, past}
 use Rattle.w_machine.proofs.Places.{at_block, at_if}

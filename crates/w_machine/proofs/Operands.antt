@@ -6,25 +6,34 @@ use Rattle.std.proofs.lemmas.Int.{to_z-of_z}
 use Rattle.std.proofs.lemmas.List.{length-append, take_at, take_all}
 use Rattle.w_types.specs.Rows.{Row, ε, ◌▹◌, ◌⧺◌, size, row_of}
 use Rattle.w_types.specs.declared.value.Value.{Value}
-use Rattle.w_types.specs.declared.value.Value.TheVariants.{I32, I64}
+use Rattle.w_types.specs.declared.value.Value.TheVariants.{I32, I64, Null, Func, Cont}
 use Rattle.w_types.proofs.Rows.{row_of-more, row_of-append, size-row_of}
 use Rattle.w_syntax.specs.declared.numeric.IntType.TheVariants as int
-use Rattle.w_syntax.specs.declared.numeric.Binary.{Binary}
-use Rattle.w_syntax.specs.declared.numeric.Numeric.TheVariants as numeric
-use Rattle.w_syntax.specs.declared.instructions.Parametric.TheVariants as parametric
+use Rattle.w_syntax.specs.declared.numeric.Binop.{Binop}
+use Rattle.w_syntax.specs.declared.numeric.NumericOp.TheVariants as numeric
+use Rattle.w_syntax.specs.declared.instructions.ParametricOp.TheVariants as parametric
 use Rattle.w_syntax.specs.declared.instructions.Op.TheVariants.{Numeric, Parametric}
 use Rattle.w_syntax.specs.declared.module.Module.{Module}
 use Rattle.w_reduce.specs.Store.{Store}
-use Rattle.w_reduce.specs.Reduce.{Reduced, Stuck, bits_of, binary_i64, take_i64, take_values}
+use Rattle.w_reduce.specs.Reduced.{Reduced, Stuck, take_i64, take_values, as_i64}
+use Rattle.w_reduce.specs.Numeric.{bits_of, binary_i64}
 use Rattle.w_machine.specs.declared.configuration.Redex.TheVariants.{Operands}
 use Rattle.w_machine.specs.declared.configuration.Found.TheVariants as found
 use Rattle.w_machine.specs.Configuration.{FindsInstruction}
 
 -- ## Taking one operand
 
--- a topmost i32 is no i64
-pub no_i64 : (vs rest : List Value) (n : ℕ) → vs ≡ rest ++ I32 n ∷ [] → (go : Row Value × ℕ → Reduced) → take_i64 (row_of vs) go ≡ Stuck
-no_i64 vs rest n e go = ap (λ r. take_i64 r go) (ap row_of e ∙ row_of-more rest (I32 n))
+-- a value that is no i64 gives none
+not_i64 : (v : Value) → ((n : ℕ) → v ≡ I64 n → ⊥) → (go : ℕ → Reduced) → as_i64 v go ≡ Stuck
+not_i64 (I32 n) h go = refl
+not_i64 (I64 n) h go = absurd (h n refl)
+not_i64 Null h go = refl
+not_i64 (Func a) h go = refl
+not_i64 (Cont r) h go = refl
+
+-- so where it is topmost there is no i64 to take
+pub no_i64 : (vs rest : List Value) (v : Value) → ((n : ℕ) → v ≡ I64 n → ⊥) → vs ≡ rest ++ v ∷ [] → (go : Row Value × ℕ → Reduced) → take_i64 (row_of vs) go ≡ Stuck
+no_i64 vs rest v h e go = ap (λ r. take_i64 r go) (ap row_of e ∙ row_of-more rest v) ∙ not_i64 v h (λ n. go (row_of rest, n))
 
 -- what a cast of a number of 64 bits gives
 pub bits-cast : (z : ℤ) → FitsSigned w64 z → cast_unsigned w64 (cast_signed w64 (cast_unsigned w64 z)) ≡ bits_of z
@@ -51,22 +60,22 @@ beneath vs rest below a b p q =
     let n : length below ≡ length vs - 2 = omega (arith, two_long vs rest below a b p q) in
     ap (take (length vs - 2)) (p ∙ ap (λ l. l ++ b ∷ []) q ∙ append_assoc below (a ∷ []) (b ∷ [])) ∙ take_at below (a ∷ b ∷ []) (length vs - 2) n
 
-pub binary_found : (m : Module) (s : Store) (o : Binary) (vs rest below : List Value) (a b n : ℕ) → vs ≡ rest ++ I64 b ∷ [] → rest ≡ below ++ I64 a ∷ []
+pub binary_found : (m : Module) (s : Store) (o : Binop) (vs rest below : List Value) (a b n : ℕ) → vs ≡ rest ++ I64 b ∷ [] → rest ≡ below ++ I64 a ∷ []
     → Some n ≡ binary_i64 o a b → FindsInstruction m s vs (Numeric (numeric.Binary int.I64 o)) (found.Redex (Operands 2 (Some (I64 n))))
 binary_found m s o vs rest below a b n p q e = (
   omega (arith, two_long vs rest below (I64 a) (I64 b) p q),
   λ c d. rw (two_on_top vs rest below a b p q, beneath vs rest below (I64 a) (I64 b) p q, row_of-more below (I64 n), ← e) refl,
 )
 
-pub binary_missing : (m : Module) (s : Store) (o : Binary) (vs rest below : List Value) (a b : ℕ) → vs ≡ rest ++ I64 b ∷ [] → rest ≡ below ++ I64 a ∷ []
+pub binary_missing : (m : Module) (s : Store) (o : Binop) (vs rest below : List Value) (a b : ℕ) → vs ≡ rest ++ I64 b ∷ [] → rest ≡ below ++ I64 a ∷ []
     → None ≡ binary_i64 o a b → FindsInstruction m s vs (Numeric (numeric.Binary int.I64 o)) found.NoRule
 binary_missing m s o vs rest below a b p q e = λ c d. rw (two_on_top vs rest below a b p q, ← e) refl
 
-pub one_missing : (m : Module) (s : Store) (o : Binary) (vs rest : List Value) (b : ℕ) → vs ≡ rest ++ I64 b ∷ []
+pub one_missing : (m : Module) (s : Store) (o : Binop) (vs rest : List Value) (b : ℕ) → vs ≡ rest ++ I64 b ∷ []
     → ((go : Row Value × ℕ → Reduced) → take_i64 (row_of rest) go ≡ Stuck) → FindsInstruction m s vs (Numeric (numeric.Binary int.I64 o)) found.NoRule
 one_missing m s o vs rest b p h e c = rw (p, row_of-more rest (I64 b)) (h _)
 
-pub both_missing : (m : Module) (s : Store) (o : Binary) (vs : List Value)
+pub both_missing : (m : Module) (s : Store) (o : Binop) (vs : List Value)
     → ((go : Row Value × ℕ → Reduced) → take_i64 (row_of vs) go ≡ Stuck) → FindsInstruction m s vs (Numeric (numeric.Binary int.I64 o)) found.NoRule
 both_missing m s o vs h e c = h _
 

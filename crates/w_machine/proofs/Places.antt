@@ -11,7 +11,8 @@ use Rattle.w_syntax.specs.declared.module.Module.{Module}
 use Rattle.w_syntax.proofs.Places.{IsBegun, drop_at, left_begun}
 use Rattle.w_reduce.specs.Store.{Store}
 use Rattle.w_reduce.specs.Terms.{Context}
-use Rattle.w_reduce.specs.Reduce.{Stuck, next}
+use Rattle.w_reduce.specs.Reduced.{Stuck}
+use Rattle.w_reduce.specs.Reduce.{next}
 
 block_put : (m : Module) (t : Store) (e : Context) (vs : Row Value) (kind : _) (b : _) (n : ℕ) (s : List (Bool × Code)) → IsBegun (put (flat.Block kind b n) s) → next m t e vs [] (first_of (put (flat.Block kind b n) s)) ≡ Stuck
 unfolding put

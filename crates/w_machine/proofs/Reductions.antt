@@ -7,13 +7,14 @@ use Rattle.std.proofs.Math.Seq.{take-append_seam, drop-append_seam}
 use Rattle.w_types.specs.Rows.{ε, ◌⧺◌, row_of, size}
 use Rattle.w_types.specs.declared.value.Value.{Value}
 use Rattle.w_types.proofs.Rows.{unit_left, row_of-append, size-row_of}
-use Rattle.w_syntax.specs.FlatTree.{tree_of-whole}
+use Rattle.w_syntax.specs.FlatLaws.{tree_of-whole}
 use Rattle.w_syntax.specs.declared.instructions.Op.{Op}
 use Rattle.w_syntax.specs.declared.instructions.Instr.TheVariants as flat
 use Rattle.w_syntax.specs.declared.module.Module.{Module}
 use Rattle.w_reduce.specs.Store.{Store}
 use Rattle.w_reduce.specs.Terms.{Context, Rest, rest_of, Frame, most_frames}
-use Rattle.w_reduce.specs.Reduce.{Went, limited, instruction, reduce}
+use Rattle.w_reduce.specs.Reduced.{Went}
+use Rattle.w_reduce.specs.Reduce.{limited, instruction, reduce}
 use Rattle.w_machine.specs.declared.configuration.Caller.{Caller}
 use Rattle.w_machine.specs.declared.configuration.Stage.{Stage}
 use Rattle.w_machine.specs.declared.configuration.Stage.TheVariants.{Start, Body, Frame as InFrame, Values as AtValues}

@@ -1,8 +1,8 @@
 -- Runs of more reductions.
 use Rattle.std.proofs.Common.{◌≡◌, ℕ, zero, suc, ◌+◌, ◌<◌, ◌≤◌, ◌-◌, Option, Some, None, refl, sym, ap, subst, ◌∙◌, arith, add-zero, zero-add}
 use Rattle.w_syntax.specs.declared.module.Module.{Module}
-use Rattle.w_rules.specs.declared.limits.LimitName.{LimitName}
-use Rattle.w_reduce.specs.Run.{Outcome, Running, Values, Limit, NoRule, Ran, onward, Run, HasEnded}
+use Rattle.w_reduce.specs.declared.limit.RunLimit.{RunLimit}
+use Rattle.w_reduce.specs.Run.{Outcome, Running, Values, Limit, NoRule, RunState, continued, Run, HasEnded}
 use Rattle.w_machine.specs.declared.outcome.Kept.{Kept}
 use Rattle.w_machine.specs.declared.outcome.Kept.TheVariants as kept
 use Rattle.w_machine.specs.declared.outcome.Stepped.TheVariants as stepped
@@ -12,7 +12,7 @@ use Rattle.w_machine.specs.Position.{Position, Steps, StepsFrom, Stops, Runs, Ru
 
 -- ## What is told of a run that doesn't go on stays
 
-stays : (m : Module) (r : Ran) (o : Outcome) → (o ≡ Running → ⊥) → onward m r o ≡ r
+stays : (m : Module) (r : RunState) (o : Outcome) → (o ≡ Running → ⊥) → continued m r o ≡ r
 stays m r Running h = absurd (h refl)
 stays m r (Values vs) h = refl
 stays m r (Limit name) h = refl
@@ -22,7 +22,7 @@ pub settled : (m : Module) (n k : ℕ) → ((Run m n).outcome ≡ Running → �
 settled m n zero h = ap (Run m) (zero-add n)
 settled m n (suc k) h =
     let e : suc k + n ≡ suc (k + n) = omega arith in
-    ap (Run m) e ∙ ap (λ (r : Ran). onward m r r.outcome) (settled m n k h) ∙ stays m (Run m n) (Run m n).outcome h
+    ap (Run m) e ∙ ap (λ (r : RunState). continued m r r.outcome) (settled m n k h) ∙ stays m (Run m n) (Run m n).outcome h
 
 -- ## A run that stops at a step
 
@@ -41,7 +41,7 @@ stopped : (p new : Position) (i steps : ℕ) (x : Kept) → i ≤ steps → (Run
     → Stops p steps x new
 stopped p new i steps x le reached h e =
     let same = same_run p i steps le h in
-    let taken : p.taken + i ≡ (Run p.program (p.taken + steps)).taken = sym reached ∙ ap (λ (r : Ran). r.taken) (sym same) in
+    let taken : p.taken + i ≡ (Run p.program (p.taken + steps)).taken = sym reached ∙ ap (λ (r : RunState). r.taken) (sym same) in
     (e ∙ ap (λ (t : ℕ). let q : Position = record p { taken = t; kept = Some x } in q) taken, ap (λ (q : Position). Run p.program q.taken) e ∙ sym same)
 
 -- where an outcome was kept, no reduction was taken
@@ -65,7 +65,7 @@ ended_from : (p new : Position) (i steps : ℕ) (k : Option Kept) → k ≡ p.ke
 ended_from p new i steps (Some x) is none le reached h = (kept_ended x h.0, at_first p new (Some x) x i refl none h.1)
 ended_from p new i steps None is none le reached h =
     let apart = ended_apart _ h.0 in (
-      subst (λ (r : Ran). HasEnded r.outcome) (sym (same_run p i steps le apart)) h.0,
+      subst (λ (r : RunState). HasEnded r.outcome) (sym (same_run p i steps le apart)) h.0,
       stopped p new i steps kept.Ended le reached apart h.1,
     )
 
@@ -91,7 +91,7 @@ stuck_from : (p new : Position) (i steps : ℕ) (k : Option Kept) → k ≡ p.ke
 stuck_from p new i steps (Some x) is none le reached h = (kept_stuck x h.0, at_first p new (Some x) x i refl none h.1)
 stuck_from p new i steps None is none le reached h =
     let apart = stuck_apart _ h.0 in (
-      ap (λ (r : Ran). r.outcome) (same_run p i steps le apart) ∙ h.0,
+      ap (λ (r : RunState). r.outcome) (same_run p i steps le apart) ∙ h.0,
       stopped p new i steps kept.Stuck le reached apart h.1,
     )
 
@@ -103,29 +103,29 @@ run_stops_stuck p q new i steps e none le reached h =
 
 -- ## A limit, which the step's own reduction passes
 
-kept_limit : (x : Kept) (name : LimitName) → stepped.Limit name ≡ stepped_of x → outcome.Limit name ≡ outcome_of x
+kept_limit : (x : Kept) (name : RunLimit) → stepped.Limit name ≡ stepped_of x → outcome.Limit name ≡ outcome_of x
 kept_limit kept.Ended name e = absurd (cc)
 kept_limit kept.Stuck name e = absurd (cc)
 kept_limit (kept.Limit other) name e = let same : name ≡ other = cc in ap outcome.Limit same
 kept_limit kept.OutOfMemory name e = absurd (cc)
 
-limit_apart : (o : Outcome) (name : LimitName) → o ≡ Limit name → o ≡ Running → ⊥
+limit_apart : (o : Outcome) (name : RunLimit) → o ≡ Limit name → o ≡ Running → ⊥
 limit_apart o name h e = absurd (cc)
 
-limit_from : (p new : Position) (i steps : ℕ) (name : LimitName) (k : Option Kept) → k ≡ p.kept → (0 < i → k ≡ None) → i < steps
+limit_from : (p new : Position) (i steps : ℕ) (name : RunLimit) (k : Option Kept) → k ≡ p.kept → (0 < i → k ≡ None) → i < steps
     → (Run new.program new.taken).taken ≡ new.taken → StepsFrom k (At p i) (stepped.Limit name) new → RunsFrom k p steps (outcome.Limit name) new
 limit_from p new i steps name (Some x) is none lt reached h = (kept_limit x name h.0, at_first p new (Some x) x i refl none h.1)
 limit_from p new i steps name None is none lt reached h =
     let e : p.taken + i + 1 ≡ p.taken + (i + 1) = omega arith in
-    let told : (Run p.program (p.taken + (i + 1))).outcome ≡ Limit name = ap (λ (n : ℕ). (Run p.program n).outcome) (sym e) ∙ h.0 in
+    let outcome_by : (Run p.program (p.taken + (i + 1))).outcome ≡ Limit name = ap (λ (n : ℕ). (Run p.program n).outcome) (sym e) ∙ h.0 in
     let is : new ≡ record p { taken = p.taken + (i + 1); kept = Some (kept.Limit name) } =
     h.1 ∙ ap (λ (t : ℕ). let q : Position = record p { taken = t; kept = Some (kept.Limit name) } in q) e in
-    let apart = limit_apart _ name told in (
-      ap (λ (r : Ran). r.outcome) (same_run p (i + 1) steps (omega arith) apart) ∙ told,
+    let apart = limit_apart _ name outcome_by in (
+      ap (λ (r : RunState). r.outcome) (same_run p (i + 1) steps (omega arith) apart) ∙ outcome_by,
       stopped p new (i + 1) steps (kept.Limit name) (omega arith) (subst (λ (z : Position). (Run z.program z.taken).taken ≡ z.taken) is reached) apart is,
     )
 
-pub run_stops_limited : (p q new : Position) (i steps : ℕ) (name : LimitName) → q ≡ At p i → (0 < i → p.kept ≡ None) → i < steps
+pub run_stops_limited : (p q new : Position) (i steps : ℕ) (name : RunLimit) → q ≡ At p i → (0 < i → p.kept ≡ None) → i < steps
     → (Run new.program new.taken).taken ≡ new.taken → Steps q (stepped.Limit name) new → Runs p steps (outcome.Limit name) new
 run_stops_limited p q new i steps name e none lt reached h =
     limit_from p new i steps name p.kept refl none lt reached (subst (λ (z : Position). Steps z (stepped.Limit name) new) e h)

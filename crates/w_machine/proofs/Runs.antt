@@ -4,7 +4,7 @@ use Rattle.std.proofs.lemmas.List.{at_drop_more}
 use Rattle.w_types.specs.Values.{default_of}
 use Rattle.w_types.specs.declared.value.Value.{Value}
 use Rattle.w_syntax.specs.declared.locals.LocalRun.{LocalRun}
-use Rattle.w_reduce.specs.Reduce.{defaults}
+use Rattle.w_reduce.specs.Control.{defaults}
 
 -- the locals so far and those of the runs that are left are those of all runs: with a run more
 pub runs_more : (rs : List LocalRun) (i : ℕ) (d : LocalRun) (part : List (Option Value)) (whole : List (Option Value)) → i < length rs

@@ -6,7 +6,7 @@ use Rattle.w_syntax.specs.declared.module.Import.{Import}
 use Rattle.w_syntax.specs.declared.module.Module.{Module}
 use Rattle.w_rules.specs.Context.{func_at}
 use Rattle.w_rules.specs.Spaces.{context_of, functions_of}
-use Rattle.w_rules.specs.Valid.{StartItem, StartTyped, Valid}
+use Rattle.w_rules.specs.Valid.{StartItem, StartValid, Valid}
 use Rattle.w_reduce.specs.Start.{first_missing, first_import}
 use Rattle.w_machine.specs.Functions.{results_in, arity}
 
@@ -25,7 +25,7 @@ type_at_same m (Some x) = refl
 type_at_same m None = refl
 
 -- by the rule of the start
-by_rule : (m : Module) (x : ℕ) → first_import m ≡ None → StartTyped m → m.start ≡ Some x → arity m x ≡ 0
+by_rule : (m : Module) (x : ℕ) → first_import m ≡ None → StartValid m → m.start ≡ Some x → arity m x ≡ 0
 by_rule m x none t e =
     let same : t.function ≡ x = (let f = t.is in cc) in
     let at : slice_get (functions_of m) t.function ≡ slice_get m.functions x = ap (λ (fs : List ℕ). slice_get fs t.function) (only_defined m none) ∙ ap (slice_get m.functions) same in

@@ -4,11 +4,12 @@ use Rattle.std.specs.Prelude.{true, false}
 use Rattle.w_types.specs.Rows.{row_of}
 use Rattle.w_types.proofs.Rows.{listed-row_of}
 use Rattle.w_syntax.specs.declared.module.Module.{Module}
-use Rattle.w_rules.specs.declared.limits.LimitName.TheVariants.{Frames}
+use Rattle.w_reduce.specs.declared.limit.RunLimit.TheVariants.{Frames}
 use Rattle.w_reduce.specs.Store.{Store}
 use Rattle.w_reduce.specs.Terms.{Term}
-use Rattle.w_reduce.specs.Reduce.{Reduced, Went, Limited, reduce}
-use Rattle.w_reduce.specs.Run.{Running, Run, Ran, told, came_to, went_on, onward, results_of}
+use Rattle.w_reduce.specs.Reduced.{Reduced, Went, Limited}
+use Rattle.w_reduce.specs.Reduce.{reduce}
+use Rattle.w_reduce.specs.Run.{Running, Run, RunState, outcome_by, state_at, after_reduction, continued, results_of}
 use Rattle.w_machine.specs.declared.configuration.Stage.TheVariants as stage
 use Rattle.w_machine.specs.declared.configuration.Redex.{Redex}
 use Rattle.w_machine.specs.declared.configuration.Found.TheVariants as found
@@ -27,7 +28,7 @@ Free k = (x : Kept) → k ≡ Some x → ⊥
 
 -- ## The run, where no limit was passed
 
-came : (m : Module) (s : Store) (p : Parts) (k : Option Kept) (n : ℕ) → IsReached m s p k n → has_passed k ≡ false → Run m n ≡ came_to m n s (term_of m p)
+came : (m : Module) (s : Store) (p : Parts) (k : Option Kept) (n : ℕ) → IsReached m s p k n → has_passed k ≡ false → Run m n ≡ state_at m n s (term_of m p)
 came m s p (Some kept.Ended) n i h = rw i.store i.run
 came m s p (Some kept.Stuck) n i h = rw i.store i.run
 came m s p (Some (kept.Limit name)) n i h = absurd cc
@@ -39,23 +40,23 @@ free_passed (Some x) none = absurd (none x refl)
 free_passed None none = refl
 
 outcome_at : (m : Module) (s : Store) (p : Parts) (k : Option Kept) (n : ℕ) → IsReached m s p k n → has_passed k ≡ false
-    → (Run m n).outcome ≡ told (reduce m s (term_of m p))
-outcome_at m s p k n i h = ap (λ (r : Ran). r.outcome) (came m s p k n i h)
+    → (Run m n).outcome ≡ outcome_by (reduce m s (term_of m p))
+outcome_at m s p k n i h = ap (λ (r : RunState). r.outcome) (came m s p k n i h)
 
 -- the run is where the machine says
 pub taken_at : (m : Module) (s : Store) (p : Parts) (k : Option Kept) (n : ℕ) → IsReached m s p k n → (Run m n).taken ≡ n
-taken_at m s p (Some kept.Ended) n i = ap (λ (r : Ran). r.taken) i.run
-taken_at m s p (Some kept.Stuck) n i = ap (λ (r : Ran). r.taken) i.run
-taken_at m s p (Some (kept.Limit name)) n i = ap (λ (r : Ran). r.taken) i.run
-taken_at m s p (Some kept.OutOfMemory) n i = ap (λ (r : Ran). r.taken) i.run
-taken_at m s p None n i = ap (λ (r : Ran). r.taken) i.run
+taken_at m s p (Some kept.Ended) n i = ap (λ (r : RunState). r.taken) i.run
+taken_at m s p (Some kept.Stuck) n i = ap (λ (r : RunState). r.taken) i.run
+taken_at m s p (Some (kept.Limit name)) n i = ap (λ (r : RunState). r.taken) i.run
+taken_at m s p (Some kept.OutOfMemory) n i = ap (λ (r : RunState). r.taken) i.run
+taken_at m s p None n i = ap (λ (r : RunState). r.taken) i.run
 
 -- ## One reduction on
 
-next_run : (m : Module) (s : Store) (t : Term) (n : ℕ) (r : Reduced) → Run m n ≡ came_to m n s t → reduce m s t ≡ r → told r ≡ Running → Run m (n + 1) ≡ went_on m (came_to m n s t) r
+next_run : (m : Module) (s : Store) (t : Term) (n : ℕ) (r : Reduced) → Run m n ≡ state_at m n s t → reduce m s t ≡ r → outcome_by r ≡ Running → Run m (n + 1) ≡ after_reduction m (state_at m n s t) r
 next_run m s t n r e f g =
-    ap (Run m) (add-one n) ∙ ap (λ (x : Ran). onward m x x.outcome) e
-    ∙ ap (onward m (came_to m n s t)) (ap told f ∙ g) ∙ ap (went_on m (came_to m n s t)) f
+    ap (Run m) (add-one n) ∙ ap (λ (x : RunState). continued m x x.outcome) e
+    ∙ ap (continued m (state_at m n s t)) (ap outcome_by f ∙ g) ∙ ap (after_reduction m (state_at m n s t)) f
 
 -- the machine went on
 pub went : (m : Module) (s : Store) (p q : Parts) (k : Option Kept) (n : ℕ) (r : Redex) → IsReached m s p k n → Free k → Finds m s p (found.Redex r)
@@ -85,25 +86,25 @@ pub step_limited : (m : Module) (s : Store) (p : Parts) (n : ℕ) (k : Option Ke
     → record { program = m; taken = n; kept = k } ≡ z → Free k → IsReached m s p (Some (kept.Limit Frames)) (n + 1)
     → Steps z (stepped.Limit Frames) (record { program = m; taken = n + 1; kept = Some (kept.Limit Frames) })
 step_limited m s p n (Some x) z e none i = absurd (none x refl)
-step_limited m s p n None z e none i = rw (← e) (ap (λ (r : Ran). r.outcome) i.run, refl)
+step_limited m s p n None z e none i = rw (← e) (ap (λ (r : RunState). r.outcome) i.run, refl)
 
 pub step_ended : (m : Module) (s : Store) (p : Parts) (n : ℕ) (k : Option Kept) (z : Position)
     → record { program = m; taken = n; kept = k } ≡ z → Free k → IsReached m s p k n → Finds m s p found.Values
     → Steps z stepped.Ended (record { program = m; taken = n; kept = Some kept.Ended })
 step_ended m s p n (Some x) z e none i f = absurd (none x refl)
-step_ended m s p n None z e none i f = rw (← e) ((row_of p.operands, outcome_at m s p None n i refl ∙ ap told f), refl)
+step_ended m s p n None z e none i f = rw (← e) ((row_of p.operands, outcome_at m s p None n i refl ∙ ap outcome_by f), refl)
 
 pub step_stuck : (m : Module) (s : Store) (p : Parts) (n : ℕ) (k : Option Kept) (z : Position)
     → record { program = m; taken = n; kept = k } ≡ z → Free k → IsReached m s p k n → Finds m s p found.NoRule
     → Steps z stepped.Stuck (record { program = m; taken = n; kept = Some kept.Stuck })
 step_stuck m s p n (Some x) z e none i f = absurd (none x refl)
-step_stuck m s p n None z e none i f = rw (← e) (outcome_at m s p None n i refl ∙ ap told f, refl)
+step_stuck m s p n None z e none i f = rw (← e) (outcome_at m s p None n i refl ∙ ap outcome_by f, refl)
 
 pub step_went : (m : Module) (s : Store) (p : Parts) (n : ℕ) (k : Option Kept) (z : Position) (r : Redex)
     → record { program = m; taken = n; kept = k } ≡ z → Free k → IsReached m s p k n → Finds m s p (found.Redex r)
     → Steps z stepped.Went (record { program = m; taken = n + 1; kept = k })
 step_went m s p n (Some x) z r e none i f = absurd (none x refl)
-step_went m s p n None z r e none i f = rw (← e) (outcome_at m s p None n i refl ∙ ap told f.2, refl)
+step_went m s p n None z r e none i f = rw (← e) (outcome_at m s p None n i refl ∙ ap outcome_by f.2, refl)
 
 -- ## What is told with no reduction left
 
@@ -119,7 +120,7 @@ tell_ended m s p n (Some x) z e none i f = absurd (none x refl)
 tell_ended m s p n None z e none i f =
     let same = ap (Run m) (add-zero n) in
     rw (← e) (
-      (row_of p.operands, ap (λ (r : Ran). r.outcome) same ∙ outcome_at m s p None n i refl ∙ ap told f),
+      (row_of p.operands, ap (λ (r : RunState). r.outcome) same ∙ outcome_at m s p None n i refl ∙ ap outcome_by f),
       (told_at m n kept.Ended (taken_at m s p None n i), sym same),
     )
 
@@ -130,17 +131,17 @@ tell_stuck m s p n (Some x) z e none i f = absurd (none x refl)
 tell_stuck m s p n None z e none i f =
     let same = ap (Run m) (add-zero n) in
     rw (← e) (
-      ap (λ (r : Ran). r.outcome) same ∙ outcome_at m s p None n i refl ∙ ap told f,
+      ap (λ (r : RunState). r.outcome) same ∙ outcome_at m s p None n i refl ∙ ap outcome_by f,
       (told_at m n kept.Stuck (taken_at m s p None n i), sym same),
     )
 
 pub tell_running : (m : Module) (s : Store) (p : Parts) (n : ℕ) (k : Option Kept) (z : Position)
-    → record { program = m; taken = n; kept = k } ≡ z → Free k → IsReached m s p k n → told (reduce m s (term_of m p)) ≡ Running
+    → record { program = m; taken = n; kept = k } ≡ z → Free k → IsReached m s p k n → outcome_by (reduce m s (term_of m p)) ≡ Running
     → Runs z 0 outcome.Running (record { program = m; taken = n; kept = k })
 tell_running m s p n (Some x) z e none i f = absurd (none x refl)
 tell_running m s p n None z e none i f =
     rw (← e) (
-      ap (λ (r : Ran). r.outcome) (ap (Run m) (add-zero n)) ∙ outcome_at m s p None n i refl ∙ f,
+      ap (λ (r : RunState). r.outcome) (ap (Run m) (add-zero n)) ∙ outcome_at m s p None n i refl ∙ f,
       ap (λ (t : ℕ). let q : Position = record { program = m; taken = t; kept = None } in q) (sym (add-zero n)),
     )
 
@@ -160,6 +161,6 @@ none_at m s p k n i h other = sym (ap results_of (outcome_at m s p k n i h) ∙ 
 pub none_passed : (m : Module) (s : Store) (p : Parts) (k : Option Kept) (n : ℕ) → IsReached m s p k n → has_passed k ≡ true → [] ≡ results_of (Run m n).outcome
 none_passed m s p (Some kept.Ended) n i h = absurd cc
 none_passed m s p (Some kept.Stuck) n i h = absurd cc
-none_passed m s p (Some (kept.Limit name)) n i h = sym (ap (λ (r : Ran). results_of r.outcome) i.run)
+none_passed m s p (Some (kept.Limit name)) n i h = sym (ap (λ (r : RunState). results_of r.outcome) i.run)
 none_passed m s p (Some kept.OutOfMemory) n i h = absurd cc
 none_passed m s p None n i h = absurd cc

@@ -5,11 +5,13 @@ use Rattle.w_types.specs.declared.value.Value.{Value}
 use Rattle.w_syntax.specs.Code.{Code, Done}
 use Rattle.w_syntax.specs.declared.instructions.Op.{Op}
 use Rattle.w_syntax.specs.declared.module.Module.{Module}
-use Rattle.w_rules.specs.declared.limits.LimitName.TheVariants as limit
+use Rattle.w_reduce.specs.declared.limit.RunLimit.TheVariants as limit
 use Rattle.w_reduce.specs.Store.{Defined, Store}
 use Rattle.w_reduce.specs.Start.{invokes}
 use Rattle.w_reduce.specs.Terms.{Invoke as InvokeOf, Rest, rest_of, Layer, Label, Frame, Context, Term, most_frames}
-use Rattle.w_reduce.specs.Reduce.{Went, Limited, Ended, Stuck, goes, instruction, enter, invoke, reduce}
+use Rattle.w_reduce.specs.Reduced.{Went, Limited, Ended, Stuck, steps_to}
+use Rattle.w_reduce.specs.Control.{enter, invoke}
+use Rattle.w_reduce.specs.Reduce.{instruction, reduce}
 use Rattle.w_machine.specs.Functions.{arity, params_of, code_from, defaults_of}
 use Rattle.w_machine.specs.declared.configuration.Stage.{Stage}
 use Rattle.w_machine.specs.declared.configuration.Stage.TheVariants.{Start, Body, Frame as InFrame, Values as AtValues}
@@ -178,7 +180,7 @@ Fits FrameExit stage vs = ⊤
 -- the redex of an instruction with the running function's operands
 abbrev pub FindsInstruction : Module → Store → List Value → Op → Found → Type 0
 FindsInstruction m s vs o (found.Redex (Operands n v)) = (n ≤ length vs)
-    × ((e : Context) (c : Code) → instruction m s e (row_of vs) o c ≡ goes s e (row_of (replaced n v vs)) (rest_of c))
+    × ((e : Context) (c : Code) → instruction m s e (row_of vs) o c ≡ steps_to s e (row_of (replaced n v vs)) (rest_of c))
 FindsInstruction m s vs o (found.Redex (Call f n)) = (params_of m f ≡ Some n) × (n ≤ length vs)
     × ((e : Context) (c : Code) → instruction m s e (row_of vs) o c ≡ enter m s e (row_of vs) (Defined f) (rest_of c))
 FindsInstruction m s vs o (found.Redex r) = ⊥

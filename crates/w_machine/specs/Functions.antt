@@ -8,7 +8,7 @@ use Rattle.w_syntax.specs.Functions.{type_of_function, code_of_function}
 use Rattle.w_syntax.specs.declared.instructions.Instr.{Instr}
 use Rattle.w_syntax.specs.declared.module.Func.{Func}
 use Rattle.w_syntax.specs.declared.module.Module.{Module}
-use Rattle.w_reduce.specs.Reduce.{defaults}
+use Rattle.w_reduce.specs.Control.{defaults}
 
 abbrev pub results_in : Option FuncType → ℕ
 results_in (Some t) = length t.results

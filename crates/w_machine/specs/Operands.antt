@@ -3,7 +3,7 @@ use Rattle.std.specs.Prelude.{◌≡◌, ℕ, List, [], ◌∷◌, ◌++◌, Opt
 use Rattle.w_types.specs.Rows.{Row, row_of}
 use Rattle.w_types.specs.declared.value.Value.{Value}
 use Rattle.w_types.specs.declared.value.Value.TheVariants as value
-use Rattle.w_reduce.specs.Reduce.{Reduced, Stuck, take_i64}
+use Rattle.w_reduce.specs.Reduced.{Reduced, Stuck, take_i64}
 
 -- the topmost operand is an i64, with these beneath; or there is none
 abbrev pub TakesI64 : List Value → Option (ℕ × List Value) → Type 0

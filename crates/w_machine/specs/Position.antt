@@ -14,7 +14,7 @@ use Rattle.w_machine.specs.declared.outcome.Outcome.{Outcome}
 use Rattle.w_machine.specs.declared.outcome.Outcome.TheVariants as outcome
 use Rattle.w_machine.specs.Kept.{stepped_of, outcome_of}
 use Rattle.w_reduce.specs.Terms.{Term}
-use Rattle.w_reduce.specs.Run.{Running, Limit, NoRule, Ran, came_to, Run, HasEnded}
+use Rattle.w_reduce.specs.Run.{Running, Limit, NoRule, RunState, state_at, Run, HasEnded}
 use Rattle.w_machine.specs.Configuration.{Parts, term_of, IsSound}
 
 pub record Position : Type 0 where
@@ -32,15 +32,15 @@ abbrev pub most_reductions : ℕ
 most_reductions = 2 ^ 40
 
 -- what a run came to, where this outcome is kept
-abbrev pub ran_kept : Kept → Module → ℕ → Store → Term → Ran
+abbrev pub ran_kept : Kept → Module → ℕ → Store → Term → RunState
 ran_kept (kept.Limit name) m n s t = record { taken = n; store = s; term = t; outcome = Limit name }
-ran_kept kept.Ended m n s t = came_to m n s t
-ran_kept kept.Stuck m n s t = came_to m n s t
-ran_kept kept.OutOfMemory m n s t = came_to m n s t
+ran_kept kept.Ended m n s t = state_at m n s t
+ran_kept kept.Stuck m n s t = state_at m n s t
+ran_kept kept.OutOfMemory m n s t = state_at m n s t
 
-abbrev pub ran : Option Kept → Module → ℕ → Store → Term → Ran
+abbrev pub ran : Option Kept → Module → ℕ → Store → Term → RunState
 ran (Some k) m n s t = ran_kept k m n s t
-ran None m n s t = came_to m n s t
+ran None m n s t = state_at m n s t
 
 -- after n reductions the run of m came to the store and to the term that the parts stand for
 pub record IsReached (m : Module) (s : Store) (p : Parts) (k : Option Kept) (n : ℕ) : Type 0 where

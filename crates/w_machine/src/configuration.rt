@@ -1,7 +1,7 @@
 //! The term of a run, as operands and locals in one list each, and the frames that wait.
 ghost use Rattle.std.specs.Prelude.{◌≡◌, ◌+◌, ◌≤◌, [], ◌++◌, Some, length, map, take, reverse, replicate, OnOk, OnErr, vec_len};
 ghost use Rattle.w_types.specs.Values.{default_of};
-ghost use Rattle.w_reduce.specs.Reduce.{defaults};
+ghost use Rattle.w_reduce.specs.Control.{defaults};
 ghost use Rattle.w_machine.specs.Configuration.{parts, base as base_of, Fits, IsInBody, stage_behind, place_behind, after, first_parts, left, replaced};
 
 use crate::functions::locals_at;
@@ -10,7 +10,7 @@ use w_syntax::{LocalRun, Module};
 use w_types::Value;
 
 /// Where a run stands.
-#[derive(Clone, Copy, Debug, PartialEq, Eq)]
+#[derive(Clone, Copy)]
 pub enum Stage {
     /// The invoke of the function of this address comes next, with nothing around it.
     Start(usize),
@@ -23,7 +23,7 @@ pub enum Stage {
 }
 
 /// A frame that waits for one that it called.
-#[derive(Clone, Copy, Debug, PartialEq, Eq)]
+#[derive(Clone, Copy)]
 pub struct Caller {
     pub function: usize,
     /// The instruction that it goes on with.
@@ -48,7 +48,7 @@ pub struct Configuration {
 }
 
 /// What the next reduction acts on.
-#[derive(Clone, Copy, Debug, PartialEq, Eq)]
+#[derive(Clone, Copy)]
 pub enum Redex {
     /// So many operands, in whose place a value comes, or none.
     Operands(usize, Option<Value>),
@@ -61,7 +61,7 @@ pub enum Redex {
 }
 
 /// The next reduction, or why there is none.
-#[derive(Clone, Copy, Debug, PartialEq, Eq)]
+#[derive(Clone, Copy)]
 pub enum Found {
     Redex(Redex),
     /// The reduction's result has too many frames.

@@ -1,6 +1,6 @@
 //! Finding the next reduction.
 ghost use Rattle.std.specs.Prelude.{◌≡◌, ◌+◌, ◌^◌, ◌<◌, Some, option_map};
-ghost use Rattle.w_syntax.specs.declared.instructions.Op.TheVariants.{Numeric as NumericOp, Control as ControlOp, Parametric as ParametricOp};
+ghost use Rattle.w_syntax.specs.declared.instructions.Op.TheVariants.{Numeric as OpNumeric, Control as OpControl, Parametric as OpParametric};
 ghost use Rattle.w_machine.specs.Functions.{instr_at as instr_of};
 ghost use Rattle.w_machine.specs.Configuration.{parts, IsSound, Finds, FindsInstruction, FindsCall, redex_within, found_within};
 ghost use Rattle.w_machine.specs.Operands.{TakesI64};
@@ -9,7 +9,7 @@ use crate::binary::apply;
 use crate::configuration::{Configuration, Found, Redex, Stage, base};
 use crate::functions::{instr_at, param_count, result_count};
 use crate::store::Store;
-use w_syntax::{Binary, Control, Instr, IntType, Module, Numeric, Op, Parametric};
+use w_syntax::{Binop, ControlOp, Instr, IntType, Module, NumericOp, Op, ParametricOp};
 use w_types::Value;
 
 /// The most frames of a run.
@@ -22,13 +22,13 @@ fn top_i64(operands: &[Value]) -> Option<(u64, &[Value])>
     let (top, rest) = operands.split_last()?;
     match top {
         Value::I64(number) => Some((*number, rest)),
-        Value::I32(_) => None,
+        _ => None,
     }
 }
 
 // The redex that a binary operation on two i64 is.
-fn find_binary(program: &Module, store: &Store, operands: &[Value], operation: Binary) -> Found
-    ensures { FindsInstruction program.now store.now operands.now (NumericOp (Numeric.Binary IntType.I64 operation)) result }
+fn find_binary(program: &Module, store: &Store, operands: &[Value], operation: Binop) -> Found
+    ensures { FindsInstruction program.now store.now operands.now (OpNumeric (NumericOp.Binary IntType.I64 operation)) result }
 {
     let Some((b, rest)) = top_i64(operands) else {
         return Found::NoRule;
@@ -43,14 +43,14 @@ fn find_binary(program: &Module, store: &Store, operands: &[Value], operation: B
 }
 
 // The redex that a numeric instruction is.
-fn find_numeric(program: &Module, store: &Store, operands: &[Value], op: Numeric) -> Found
-    ensures { FindsInstruction program.now store.now operands.now (NumericOp op) result }
+fn find_numeric(program: &Module, store: &Store, operands: &[Value], op: NumericOp) -> Found
+    ensures { FindsInstruction program.now store.now operands.now (OpNumeric op) result }
 {
     match op {
-        Numeric::I64Const(number) => {
+        NumericOp::I64Const(number) => {
             Found::Redex(Redex::Operands(0, Some(Value::I64(number.cast_unsigned()))))
         }
-        Numeric::Binary(IntType::I64, operation) => find_binary(
+        NumericOp::Binary(IntType::I64, operation) => find_binary(
             program, store, operands, operation,
         ),
         _ => Found::NoRule,
@@ -71,21 +71,21 @@ fn find_call(program: &Module, store: &Store, operands: usize, address: usize) -
 }
 
 // The redex that a control instruction is.
-fn find_control(program: &Module, store: &Store, operands: &[Value], op: &Control) -> Found
-    ensures { FindsInstruction program.now store.now operands.now (ControlOp op.now) result }
+fn find_control(program: &Module, store: &Store, operands: &[Value], op: &ControlOp) -> Found
+    ensures { FindsInstruction program.now store.now operands.now (OpControl op.now) result }
 {
     match op {
-        Control::Call(address) => find_call(program, store, operands.len(), *address as usize),
+        ControlOp::Call(address) => find_call(program, store, operands.len(), *address as usize),
         _ => Found::NoRule,
     }
 }
 
 // The redex that a parametric instruction is.
-fn find_parametric(program: &Module, store: &Store, operands: &[Value], op: &Parametric) -> Found
-    ensures { FindsInstruction program.now store.now operands.now (ParametricOp op.now) result }
+fn find_parametric(program: &Module, store: &Store, operands: &[Value], op: &ParametricOp) -> Found
+    ensures { FindsInstruction program.now store.now operands.now (OpParametric op.now) result }
 {
     match op {
-        Parametric::Drop => {
+        ParametricOp::Drop => {
             if operands.is_empty() {
                 Found::NoRule
             } else {

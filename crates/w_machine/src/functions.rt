@@ -1,7 +1,7 @@
 //! The functions of a module, looked up by their indices.
 ghost use Rattle.std.specs.Prelude.{◌≡◌, ◌+◌, ◌<◌, ◌^◌, IfSome, option_map, slice_get};
 ghost use Rattle.w_syntax.specs.Functions.{type_of_function, code_of_function};
-ghost use Rattle.w_reduce.specs.Reduce.{defaults};
+ghost use Rattle.w_reduce.specs.Control.{defaults};
 ghost use Rattle.w_machine.specs.Functions.{arity, params_of, defaults_of, instr_at as instr_of};
 
 use w_rules::function_type;

@@ -3,17 +3,15 @@
 
 mod binary;
 mod configuration;
-mod entries;
+mod entry;
 mod finding;
 mod functions;
+mod instantiation;
 mod machine;
 mod outcome;
-mod start;
 mod store;
-#[cfg(test)]
-mod tests;
 
+pub use instantiation::{InstFault, instantiate};
 pub use machine::Machine;
 pub use outcome::{Kept, Outcome, Stepped};
-pub use start::{InstFault, instantiate};
 pub use store::Store;

@@ -5,12 +5,13 @@ ghost use Rattle.w_machine.specs.Beginning.{Begins};
 ghost use Rattle.w_machine.specs.Position.{Steps, Runs, most_reductions};
 
 use crate::configuration::{Configuration, Found, Stage};
-use crate::entries::entry;
+use crate::entry::entry;
 use crate::outcome::{Kept, Outcome, Stepped, passed_limit};
 use crate::store::Store;
 use std::alloc::Global;
 use std::marker::Model;
-use w_rules::{Checked, LimitName};
+use w_reduce::RunLimit;
+use w_rules::Checked;
 use w_types::Value;
 
 /// A run of a module. After so many steps it stands for the run of so many reductions.
@@ -98,8 +99,8 @@ impl Machine {
             },
             Found::Limit => {
                 self.taken += 1;
-                self.kept = Some(Kept::Limit(LimitName::Frames));
-                Stepped::Limit(LimitName::Frames)
+                self.kept = Some(Kept::Limit(RunLimit::Frames));
+                Stepped::Limit(RunLimit::Frames)
             }
             Found::Values => {
                 self.kept = Some(Kept::Ended);

@@ -2,23 +2,23 @@
 ghost use Rattle.std.specs.Prelude.{◌≡◌};
 ghost use Rattle.w_machine.specs.Kept.{stepped_of, outcome_of, is_limit, has_passed};
 
-use w_rules::LimitName;
+use w_reduce::RunLimit;
 
 /// An outcome that a machine keeps: it answers the same ever after, and changes nothing.
-#[derive(Clone, Copy, Debug, PartialEq, Eq)]
+#[derive(Clone, Copy)]
 pub enum Kept {
     /// The term is values.
     Ended,
     /// No rule applies to a term that isn't values.
     Stuck,
     /// The result of the last reduction passed this limit.
-    Limit(LimitName),
+    Limit(RunLimit),
     /// Memory ran out.
     OutOfMemory,
 }
 
 /// What a step comes to.
-#[derive(Clone, Copy, Debug, PartialEq, Eq)]
+#[derive(Clone, Copy)]
 pub enum Stepped {
     /// One reduction was taken.
     Went,
@@ -27,13 +27,13 @@ pub enum Stepped {
     /// No rule applies; none was taken.
     Stuck,
     /// One reduction was taken, and its result passed this limit.
-    Limit(LimitName),
+    Limit(RunLimit),
     /// Memory ran out; none was taken.
     OutOfMemory,
 }
 
 /// What a run comes to.
-#[derive(Clone, Copy, Debug, PartialEq, Eq)]
+#[derive(Clone, Copy)]
 pub enum Outcome {
     /// The reductions asked for were taken, and a rule still applies.
     Running,
@@ -42,7 +42,7 @@ pub enum Outcome {
     /// No rule applies.
     Stuck,
     /// The result of the last reduction passed this limit.
-    Limit(LimitName),
+    Limit(RunLimit),
     /// Memory ran out.
     OutOfMemory,
 }

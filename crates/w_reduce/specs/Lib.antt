@@ -1,6 +1,11 @@
 pub mod Store
 pub mod Terms
 pub mod Start
+pub mod Reduced
+pub mod Numeric
+pub mod Parametric
+pub mod Control
+pub mod Exits
 pub mod Reduce
 pub mod Run
 pub mod Tree

@@ -10,51 +10,52 @@ use Rattle.w_types.specs.Rows.{Row, ε, ◌▹◌}
 use Rattle.w_types.specs.declared.value.Value.{Value}
 use Rattle.w_reduce.specs.Store.{Store}
 use Rattle.w_reduce.specs.Terms.{Administrative, Rest, Label, Frame, Context, Term}
-use Rattle.w_reduce.specs.Reduce.{Went, reduce}
+use Rattle.w_reduce.specs.Reduced.{Went}
+use Rattle.w_reduce.specs.Reduce.{reduce}
 
 infixr 50 ◌∙∙◌
 mutual
-  pub data Item : Type 0 where
-    Is : Value → Item
-    Asks : Administrative → Item
-    Does : Op → Item
-    DoesBlock : BlockKind → BlockType → (inside : Code) → Item
-    DoesIf : BlockType → (inside : Code) → Item
-    DoesIfElse : BlockType → (first second : Code) → Item
-    InLabel : (arity : ℕ) (again : Code) (body : Sequence) → Item
-    InFrame : (arity : ℕ) (locals : List (Option Value)) (body : Sequence) → Item
+  pub data AdminInstr : Type 0 where
+    Const : Value → AdminInstr
+    Admin : Administrative → AdminInstr
+    Instr : Op → AdminInstr
+    InstrBlock : BlockKind → BlockType → (inside : Code) → AdminInstr
+    InstrIf : BlockType → (inside : Code) → AdminInstr
+    InstrIfElse : BlockType → (first second : Code) → AdminInstr
+    InLabel : (arity : ℕ) (again : Code) (body : Sequence) → AdminInstr
+    InFrame : (arity : ℕ) (locals : List (Option Value)) (body : Sequence) → AdminInstr
 
   pub data Sequence : Type 0 where
     Nil : Sequence
-    ◌∙∙◌ : Item → Sequence → Sequence
+    ◌∙∙◌ : AdminInstr → Sequence → Sequence
 
 -- values in front of a sequence
 abbrev pub values_then : Row Value → Sequence → Sequence
 values_then ε x = x
-values_then (vs ▹ v) x = values_then vs (Is v ∙∙ x)
+values_then (vs ▹ v) x = values_then vs (Const v ∙∙ x)
 
-abbrev pub written_code : Code → Sequence
-written_code Done = Nil
-written_code (Plain o c) = Does o ∙∙ written_code c
-written_code (Block kind b x c) = DoesBlock kind b x ∙∙ written_code c
-written_code (If b x c) = DoesIf b x ∙∙ written_code c
-written_code (IfElse b x y c) = DoesIfElse b x y ∙∙ written_code c
+abbrev pub instructions_of : Code → Sequence
+instructions_of Done = Nil
+instructions_of (Plain o c) = Instr o ∙∙ instructions_of c
+instructions_of (Block kind b x c) = InstrBlock kind b x ∙∙ instructions_of c
+instructions_of (If b x c) = InstrIf b x ∙∙ instructions_of c
+instructions_of (IfElse b x y c) = InstrIfElse b x y ∙∙ instructions_of c
 
-abbrev pub asked : List Administrative → Sequence → Sequence
-asked [] x = x
-asked (a ∷ bs) x = Asks a ∙∙ asked bs x
+abbrev pub admin_then : List Administrative → Sequence → Sequence
+admin_then [] x = x
+admin_then (a ∷ bs) x = Admin a ∙∙ admin_then bs x
 
-abbrev pub written : Rest → Sequence
-written r = asked r.ahead (written_code r.code)
+abbrev pub sequence_of : Rest → Sequence
+sequence_of r = admin_then r.ahead (instructions_of r.code)
 
 -- E[x], a sequence put at the hole of a context
-abbrev pub filled : Context → Sequence → Sequence
-filled [] x = x
-filled (Label below n again rest ∷ e) x = filled e (values_then below (InLabel n again x ∙∙ written rest))
-filled (Frame below n locals rest ∷ e) x = filled e (values_then below (InFrame n locals x ∙∙ written rest))
+abbrev pub plugged : Context → Sequence → Sequence
+plugged [] x = x
+plugged (Label below n again rest ∷ e) x = plugged e (values_then below (InLabel n again x ∙∙ sequence_of rest))
+plugged (Frame below n locals rest ∷ e) x = plugged e (values_then below (InFrame n locals x ∙∙ sequence_of rest))
 
 abbrev pub tree : Term → Sequence
-tree t = filled t.around (values_then t.operands (written t.rest))
+tree t = plugged t.around (values_then t.operands (sequence_of t.rest))
 
 -- one reduction, on terms as the standard writes them: T = E[r], T' = E[r'], and r goes to r'
 pub record Reduces (m : Module) (s : Store) (T : Sequence) (s' : Store) (T' : Sequence) : Type 0 where

@@ -2,5 +2,7 @@
 #![tactic(auto)]
 
 mod laws;
+mod limit;
 
 pub use laws::{decomposes, deterministic};
+pub use limit::RunLimit;

@@ -3,7 +3,7 @@ use Rattle.std.specs.Vec.{vec_len}
 use Rattle.std.proofs.lemmas.List.{drop_all}
 use Rattle.w_types.specs.declared.value.Value.{Value}
 use Rattle.w_syntax.specs.declared.locals.LocalRun.{LocalRun}
-use Rattle.w_reduce.specs.Reduce.{defaults}
+use Rattle.w_reduce.specs.Control.{defaults}
 use Rattle.w_machine.proofs.Lists.{kept_front, front_of_more}
 use Rattle.w_machine.proofs.Runs.{runs_more, runs_joined}
 use Rattle.w_machine.proofs.configuration.push_runs.Goals as goal

@@ -1,5 +1,5 @@
 use Rattle.std.proofs.Common.{◌<◌, ◌+◌, Some}
-use Rattle.w_rules.specs.declared.limits.LimitName.TheVariants.{Frames}
+use Rattle.w_reduce.specs.declared.limit.RunLimit.TheVariants.{Frames}
 use Rattle.w_machine.specs.declared.outcome.Kept.TheVariants as kept
 use Rattle.w_machine.specs.Configuration.{parts}
 use Rattle.w_machine.specs.Position.{most_reductions}

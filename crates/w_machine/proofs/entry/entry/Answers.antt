@@ -5,7 +5,7 @@ use Rattle.std.proofs.lemmas.List.{drop_all}
 use Rattle.w_syntax.specs.declared.module.Export.{Export}
 use Rattle.w_reduce.specs.Start.{entry_in, entry_of}
 use Rattle.w_machine.proofs.Stores.{entry_here, entry_later}
-use Rattle.w_machine.proofs.entries.entry.Goals as goal
+use Rattle.w_machine.proofs.entry.entry.Goals as goal
 
 pub loop-export-init : goal.loop-export-init
 loop-export-init c = ap (entry_in c.args.program.now) c.as_slice-export-items.ensures

@@ -2,9 +2,9 @@
 ghost use Rattle.std.specs.Prelude.{◌≡◌, ℕ, Some, None, Err, IfOk, IsErrOf};
 ghost use Rattle.w_reduce.specs.Start.{entry as entry_of, first_import as missing_import};
 ghost use Rattle.w_machine.specs.Beginning.{Begins};
-ghost use Rattle.w_machine.specs.declared.start.InstFault.TheVariants.{OutOfMemory};
+ghost use Rattle.w_machine.specs.declared.instantiation.InstFault.TheVariants.{OutOfMemory};
 
-use crate::entries::entry;
+use crate::entry::entry;
 use crate::store::Store;
 use std::alloc::{AllocError, Global};
 use thiserror::Error;

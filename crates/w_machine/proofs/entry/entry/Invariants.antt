@@ -1,6 +1,6 @@
 use Rattle.std.proofs.Common.{◌≡◌, drop}
 use Rattle.w_reduce.specs.Start.{entry_in}
-use Rattle.w_machine.proofs.entries.entry.Given as goal
+use Rattle.w_machine.proofs.entry.entry.Given as goal
 
 -- none of the exports so far has the name
 abbrev pub invariant-loop-export : goal.invariant-loop-export
