@@ -1,10 +1,9 @@
-pub mod LineLemmas
-mod LineRows
-pub mod InputLemmas
-pub mod ReplyLemmas
-pub mod JudgeLemmas
-pub mod BuildLemmas
-pub mod OpenLemmas
-pub mod ResultLemmas
+pub mod LongFiles
+pub mod FileReplies
+pub mod Refusals
+pub mod Joined
+pub mod Runs
+pub mod Replies
+pub mod OneAnswer
 pub mod SomeAnswer
-pub mod AgainLemmas
+pub mod BuiltAgain

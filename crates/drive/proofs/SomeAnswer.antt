@@ -5,18 +5,19 @@ use Rattle.w_syntax.specs.declared.module.Module.{Module}
 use Rattle.w_decode.specs.declared.fault.DecodeFault.{DecodeFault}
 use Rattle.w_decode.specs.Faults.{HasFault}
 use Rattle.w_decode.specs.Reading.{decoded}
-use Rattle.w_decode.specs.ReadingExact.{spelled_exactly, fault_exactly}
+use Rattle.w_decode.proofs.ReadingExact.{spelled_exactly, fault_exactly}
 use Rattle.w_syntax.specs.Spells.{Spells}
-use Rattle.w_rules.specs.declared.limits.LimitName.TheVariants.{Types, Params, Locals}
+use Rattle.w_rules.specs.declared.limits.SizeLimit.TheVariants.{Types, Params, Locals}
 use Rattle.w_rules.specs.Limits.{Within, Passes}
-use Rattle.w_rules.specs.Valid.{Item, TypeItem, ImportItem, TableItem, MemoryItem, TagItem, GlobalItem, ElementItem, DataItem, StartItem, ExportItem, FunctionItem, ItemTyped, IsItem, place_of, Before, Valid, IsInvalidAt}
+use Rattle.w_rules.specs.Valid.{Item, TypeItem, ImportItem, TableItem, MemoryItem, TagItem, GlobalItem, ElementItem, DataItem, StartItem, ExportItem, FunctionItem, ItemValid, IsItem, place_of, Before, Valid, IsInvalidAt}
 use Rattle.w_types.specs.Groups.{types_of}
 use Rattle.std.specs.Prelude.{nat_eq, cond}
 use Rattle.std.proofs.lemmas.Bool.{cases_lt}
 use Rattle.w_valid.specs.declared.fault.ValidFault.{ValidFault}
 use Rattle.w_valid.specs.declared.fault.ValidFault.TheVariants as valid
-use Rattle.drive.specs.Line.{Line, check, run, build, bad}
-use Rattle.drive.specs.Answer.{Reply, Answer, HasModuleFault, OnFile, OnBytes, BytesGive, CheckGives, RunGives, BuildGives, input_limit}
+use Rattle.words.specs.Line.{on_file as line_on_file, bad}
+use Rattle.drive.specs.Answer.{Reply, HasModuleFault, OnFile, OnBytes, BytesGive, gives, input_limit}
+use Rattle.drive.specs.Laws.{SomeAnswer}
 
 -- there can't be no reply of which it holds
 abbrev IsTotal : (Reply → Type 0) → Type 0
@@ -49,10 +50,10 @@ below_all P first (suc n) k = below_all P first n (λ below. first n below (λ a
 
 -- item x, where it is one, has a derivation
 abbrev IsFine : Module → Item → Type 0
-IsFine m x = IsItem m x → ItemTyped m x
+IsFine m x = IsItem m x → ItemValid m x
 
 least_invalid : (m : Module) (x : Item) → ((y : Item) → Before y x → IsFine m y) → (IsInvalidAt m x → ⊥) → (IsFine m x → ⊥) → ⊥
-least_invalid m x below none k = k (λ is. absurd (none (record { item = is; untyped = λ t. k (λ _. t); least = λ y there before. below y before there })))
+least_invalid m x below none k = k (λ is. absurd (none (record { item = is; invalid = λ t. k (λ _. t); least = λ y there before. below y before there })))
 
 -- the item at a place of the order, and how many places there are for a kind
 abbrev at : ℕ → ℕ → Item
@@ -218,8 +219,6 @@ bytes_total accepted bytes none = elim (spelled_or_not bytes) [
   | inr h ↦ none _ (inr (inr (h.0, h.1, refl)))
 ]
 
-pub some_answer : (l : Line) (files : List ℕ → Known) → IsTotal (Answer l files)
-some_answer (check name) files none = on_file (files name) CheckGives (bytes_total _) none
-some_answer (run name steps) files none = on_file (files name) (RunGives steps) (bytes_total _) none
-some_answer (build name) files none = on_file (files name) BuildGives (bytes_total _) none
+pub some_answer : SomeAnswer
+some_answer (line_on_file name action) files none = on_file (files name) (BytesGive (gives action)) (bytes_total _) none
 some_answer bad files none = none _ refl

@@ -7,21 +7,25 @@ use Rattle.w_syntax.specs.declared.module.Module.{Module}
 use Rattle.w_syntax.specs.Spells.{Spells}
 use Rattle.w_types.specs.Rows.{listed}
 use Rattle.w_types.specs.declared.value.Value.{Value}
-use Rattle.w_types.specs.declared.value.Value.TheVariants.{I32, I64}
+use Rattle.w_types.specs.declared.value.Value.TheVariants.{I32, I64, Null, Func, Cont}
 use Rattle.w_decode.specs.Faults.{HasFault}
 use Rattle.w_decode.specs.declared.fault.DecodeFault.{DecodeFault}
 use Rattle.w_decode.specs.declared.fault.DecodeFault.TheVariants as decode
 use Rattle.w_rules.specs.Limits.{Within}
 use Rattle.w_rules.specs.Valid.{Valid}
-use Rattle.w_rules.specs.declared.limits.LimitName.{LimitName}
-use Rattle.w_rules.specs.declared.limits.LimitName.TheVariants.{Types, Params, Locals, Frames}
+use Rattle.w_rules.specs.declared.limits.SizeLimit.{SizeLimit}
+use Rattle.w_rules.specs.declared.limits.SizeLimit.TheVariants.{Types, Params, Locals}
+use Rattle.w_reduce.specs.declared.limit.RunLimit.{RunLimit}
+use Rattle.w_reduce.specs.declared.limit.RunLimit.TheVariants.{Frames}
 use Rattle.w_valid.specs.Faults.{IsFaultOf}
 use Rattle.w_valid.specs.declared.fault.ValidFault.{ValidFault}
 use Rattle.w_valid.specs.declared.fault.ValidFault.TheVariants as valid
 use Rattle.w_reduce.specs.Start.{first_import, entry}
 use Rattle.w_reduce.specs.Run.{Outcome, Running, Values, Limit, NoRule, Run}
 use Rattle.w_encode.specs.Canon.{Canon}
-use Rattle.drive.specs.Line.{Line, check, run, build, bad}
+use Rattle.words.specs.declared.request.Action.{Action}
+use Rattle.words.specs.declared.request.Action.TheVariants.{Check, Run as RunFor, Build}
+use Rattle.words.specs.Line.{Line, on_file, bad}
 
 -- what is written to out and to err, and the status
 pub record Reply : Type 0 where
@@ -53,19 +57,22 @@ malformed_text decode.OutOfMemory = []
 abbrev pub malformed : DecodeFault → Reply
 malformed fault = refusal (malformed_text fault) 3
 
--- a limit's name
-abbrev pub limit_text : LimitName → List ℕ
-limit_text Types = codes "limit types"
-limit_text Params = codes "limit params"
-limit_text Locals = codes "limit locals"
-limit_text Frames = codes "limit frames"
+-- the names of limits, on a module and of a run
+abbrev pub size_limit_text : SizeLimit → List ℕ
+size_limit_text Types = codes "limit types"
+size_limit_text Params = codes "limit params"
+size_limit_text Locals = codes "limit locals"
 
-abbrev pub limit : LimitName → Reply
-limit name = refusal (limit_text name) 9
+abbrev pub run_limit_text : RunLimit → List ℕ
+run_limit_text Frames = codes "limit frames"
+
+-- a limit that is passed
+abbrev pub limit : List ℕ → Reply
+limit text = refusal text 9
 
 -- what a module with this fault gives; want of memory is none of its
 abbrev pub invalid : ValidFault → Reply
-invalid (valid.Limit name) = limit name
+invalid (valid.Limit name) = limit (size_limit_text name)
 invalid (valid.TypeAt i) = refusal (codes "invalid type " ++ decimal i) 4
 invalid (valid.Import i) = refusal (codes "invalid import " ++ decimal i) 4
 invalid (valid.Table i) = refusal (codes "invalid table " ++ decimal i) 4
@@ -108,10 +115,13 @@ input_limit = 16777216
 abbrev pub ok_module : Reply
 ok_module = record { out = line (codes "ok module"); err = []; status = 0 }
 
--- a value, signed
+-- an integer, signed; a reference, by its address
 abbrev pub value_text : Value → List ℕ
 value_text (I32 n) = signed_decimal (cast_signed w32 n)
 value_text (I64 n) = signed_decimal (cast_signed w64 n)
+value_text Null = codes "null"
+value_text (Func a) = codes "func " ++ decimal a
+value_text (Cont r) = codes "cont " ++ decimal r.serial
 
 abbrev pub result_line : Value → List ℕ
 result_line v = line (codes "= " ++ value_text v)
@@ -120,7 +130,7 @@ result_line v = line (codes "= " ++ value_text v)
 abbrev pub run_reply : Outcome → Reply
 run_reply (Values vs) = record { out = flat_map result_line (listed vs); err = []; status = 0 }
 run_reply Running = running
-run_reply (Limit name) = limit name
+run_reply (Limit name) = limit (run_limit_text name)
 run_reply NoRule = stuck
 
 -- what a run gives, where there is an entry to begin with
@@ -140,6 +150,12 @@ run_gives steps m = from_import (first_import m) (from_entry (entry m) (run_repl
 abbrev pub built : Module → Reply
 built m = record { out = Canon m; err = []; status = 0 }
 
+-- what an action gives of a valid module
+abbrev pub gives : Action → Module → Reply
+gives Check m = ok_module
+gives (RunFor steps) m = run_gives steps m
+gives Build m = built m
+
 -- the module has this fault
 abbrev pub HasModuleFault : Module → ValidFault → Type 0
 HasModuleFault m fault = (fault ≢ valid.OutOfMemory) × IsFaultOf m fault
@@ -157,18 +173,6 @@ BytesRefusal bytes reply = ((m : Module) × Spells bytes m × ModuleRefusal m re
 abbrev pub BytesGive : (Module → Reply) → List ℕ → Reply → Type 0
 BytesGive accepted bytes reply = ((m : Module) × Spells bytes m × Within m × Valid m × (reply ≡ accepted m)) ⊎ BytesRefusal bytes reply
 
--- what the bytes of a module give, judged
-abbrev pub CheckGives : List ℕ → Reply → Type 0
-CheckGives = BytesGive (λ m. ok_module)
-
--- what they give, run for so many steps
-abbrev pub RunGives : ℕ → List ℕ → Reply → Type 0
-RunGives steps = BytesGive (run_gives steps)
-
--- what they give, written again in the canonical spelling
-abbrev pub BuildGives : List ℕ → Reply → Type 0
-BuildGives = BytesGive built
-
 -- ## Files
 
 -- what bytes give, where they are not too many
@@ -185,9 +189,7 @@ OnFile (holds bytes) Gives reply = OnBytes Gives bytes reply
 -- ## The answer
 
 abbrev pub Answer : Line → (List ℕ → Known) → Reply → Type 0
-Answer (check name) files = OnFile (files name) CheckGives
-Answer (run name steps) files = OnFile (files name) (RunGives steps)
-Answer (build name) files = OnFile (files name) BuildGives
+Answer (on_file name action) files = OnFile (files name) (BytesGive (gives action))
 Answer bad files = λ reply. reply ≡ usage
 
 -- the line has an answer with this status

@@ -7,6 +7,7 @@ use Rattle.drive.specs.Status.{code_of}
 use Rattle.drive.specs.declared.status.Status.{Status}
 use Rattle.drive.specs.declared.status.Status.TheVariants as status
 use Rattle.drive.specs.Answer.{Reply, read_fault}
+use Rattle.drive.specs.Stop.{Ends}
 
 -- what is due, or where reading failed the line `read fault`
 abbrev pub MayFail : Type 0 → (Reply → Type 0) → Reply → Type 0
@@ -40,13 +41,7 @@ Begins Due OutGrew ErrGrew = (reply : Reply) × Due reply × WrotePart reply Out
 abbrev pub BeginsAtMost : (Reply → Type 0) → (List ℕ → Type 0) → (List ℕ → Type 0) → Type 0
 BeginsAtMost Due OutGrew ErrGrew = (OutGrew [] × ErrGrew []) ⊎ Begins Due OutGrew ErrGrew
 
--- a status with which a call ends by itself
-abbrev pub Ends : Status → Type 0
-Ends status.WriteFault = ⊥
-Ends status.OutOfMemory = ⊥
-Ends _ = ⊤
-
--- what a part of the call did, which ends with a status, or stops where a sink failed or memory ran out
+-- what writing an answer did: it ends with a status, or stops where a sink failed or memory ran out
 abbrev pub Replies : (Reply → Type 0) → Result Status Fault → (List ℕ → Type 0) → (List ℕ → Type 0) → Type 0 → Type 0
 Replies Due (Ok status) OutGrew ErrGrew rose = Ends status × Answers Due status OutGrew ErrGrew
 Replies Due (Err Failed) OutGrew ErrGrew rose = Begins Due OutGrew ErrGrew × rose

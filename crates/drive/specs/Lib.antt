@@ -1,9 +1,10 @@
 pub mod Status
 pub mod InputFault
-pub mod Line
-pub mod Request
+pub mod Pieces
 pub mod Answer
-pub mod Again
+pub mod Idempotent
+pub mod Laws
 pub mod Delivery
+pub mod Stop
 pub mod Reading
-pub mod Judging
+pub mod Running

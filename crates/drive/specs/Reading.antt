@@ -1,12 +1,10 @@
 -- What reading a file comes to.
-use Rattle.std.specs.Prelude.{◌≡◌, ◌⊎◌, ◌<◌, ◌≤◌, ℕ, List, [], length, ⊤, Result, Ok, Err}
+use Rattle.std.specs.Prelude.{◌≡◌, ◌⊎◌, ◌+◌, ◌<◌, ◌≤◌, ℕ, List, [], length, ⊤, Option, Some, Result, Ok, Err}
+use Rattle.std.specs.Io.KnownBytes.{prepend_known}
 use Rattle.w_outside.specs.Outside.{Known, untold, missing, holds}
-use Rattle.w_outside.specs.declared.traits.Fault.{Fault}
-use Rattle.w_outside.specs.declared.traits.Fault.TheVariants.{Failed, OutOfMemory}
-use Rattle.drive.specs.declared.opened.Opened.{Opened}
-use Rattle.drive.specs.declared.opened.Opened.TheVariants.{Bytes, Refused}
+use Rattle.drive.specs.declared.input.InputFault.{InputFault}
+use Rattle.drive.specs.declared.input.InputFault.TheVariants.{TooLong}
 use Rattle.drive.specs.Answer.{Reply, read_fault, limit_input, input_limit}
-use Rattle.drive.specs.Delivery.{Ends, Answers, Begins, BeginsAtMost}
 
 -- the name may give these bytes, by what is told of it
 abbrev pub MayHold : Known → List ℕ → Type 0
@@ -23,12 +21,20 @@ abbrev pub FileRefusal : Known → Type 0 → Reply → Type 0
 FileRefusal known failed reply = ((known ≡ missing) × (reply ≡ read_fault))
     ⊎ ((IsTooLong known × (reply ≡ limit_input)) ⊎ (failed × (reply ≡ read_fault)))
 
--- the file's bytes, with nothing written; or a refusal was written
-abbrev pub ReadsOrRefuses : Known → Type 0 → Result Opened Fault → (List ℕ → Type 0) → Type 0 → Type 0
-ReadsOrRefuses known failed (Ok (Bytes bytes)) ErrGrew rose =
-    MayHold known bytes.items × (length bytes.items ≤ input_limit) × ErrGrew []
-ReadsOrRefuses known failed (Ok (Refused status)) ErrGrew rose =
-    Ends status × Answers (FileRefusal known failed) status (λ text. text ≡ []) ErrGrew
-ReadsOrRefuses known failed (Err Failed) ErrGrew rose = Begins (FileRefusal known failed) (λ text. text ≡ []) ErrGrew × rose
-ReadsOrRefuses known failed (Err OutOfMemory) ErrGrew rose =
-    BeginsAtMost (FileRefusal known failed) (λ text. text ≡ []) ErrGrew
+-- what was left is a first part, of at most so many bytes, and what is left
+pub record TakesPart (most : ℕ) (before now : Option (List ℕ)) : Type 0 where
+  pub part : List ℕ
+  pub taken : before ≡ prepend_known part now
+  pub short : length part ≤ most
+
+-- of a file whose bytes are told, at most one byte more than the limit was taken
+abbrev pub LeavesRest : Known → Option (List ℕ) → Type 0
+LeavesRest (holds bytes) left = TakesPart (input_limit + 1) (Some bytes) left
+LeavesRest untold left = ⊤
+LeavesRest missing left = ⊤
+
+-- so it is after each reading, where not a call failed that leaves nothing open
+abbrev pub ReadsPart : {T : Type 0} → Known → Option (List ℕ) → Result T InputFault → Type 0
+ReadsPart known left (Ok bytes) = LeavesRest known left
+ReadsPart known left (Err TooLong) = LeavesRest known left
+ReadsPart known left (Err fault) = (left ≡ Some []) ⊎ LeavesRest known left

@@ -1,10 +1,10 @@
 //! A file's bytes, up to the limit of an input.
-ghost use Rattle.std.specs.Prelude.{◌≡◌, ◌+◌, ◌<◌, ◌≤◌, List, ℕ, Ok, OnOk, IfOk, IsErrOf, vec_len};
+ghost use Rattle.std.specs.Prelude.{◌≡◌, ◌+◌, ◌<◌, ◌≤◌, List, ℕ, Ok, OnOk, OnErr, IfOk, IsErrOf, vec_len};
 ghost use Rattle.std.specs.Io.KnownBytes.{prepend_known, IsAtEnd};
 ghost use Rattle.w_outside.specs.Outside.{HasCause, Rose, missing};
 ghost use Rattle.drive.specs.InputFault.{input_fault_of};
 ghost use Rattle.drive.specs.Answer.{input_limit};
-ghost use Rattle.drive.specs.Reading.{MayHold, IsTooLong};
+ghost use Rattle.drive.specs.Reading.{MayHold, IsTooLong, ReadsPart, TakesPart};
 
 use std::alloc::Global;
 use thiserror::Error;
@@ -46,6 +46,7 @@ fn read_more<F: Inputs>(files: &mut F, bytes: &mut Vec<u8>, most: usize) -> Resu
     ensures whole { OnOk result (prepend_known bytes.old.items (F.left files.old)
         ≡ prepend_known bytes.new.items (F.left files.new)) }
     ensures end { result ≡ Ok 0 → IsAtEnd (F.left files.new) }
+    ensures err { OnErr result (TakesPart most (F.left files.old) (F.left files.new)) }
     ensures names { (n : List ℕ) → F.file files.new n ≡ F.file files.old n }
     ensures cause { HasCause (F.faults files.old) (F.faults files.new) result }
 {
@@ -67,6 +68,8 @@ pub fn read_input<F: Inputs>(
     ensures missing { IsErrOf result InputFault.Missing → F.file files.old name.now ≡ missing }
     ensures too_long { IsErrOf result InputFault.TooLong → IsTooLong (F.file files.old name.now) }
     ensures failed { IsErrOf result InputFault.Failed → Rose (F.faults files.old) (F.faults files.new) }
+    // Of a file whose bytes are told, it takes at most one byte more than the limit.
+    ensures part { ReadsPart (F.file files.old name.now) (F.left files.new) result }
     ensures later { F.faults files.old ≤ F.faults files.new }
     ensures names { (n : List ℕ) → F.file files.new n ≡ F.file files.old n }
 {

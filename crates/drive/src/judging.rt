@@ -1,18 +1,18 @@
 //! The judgement on the bytes of a file.
-ghost use Rattle.std.specs.Prelude.{◌≡◌, ◌≢◌, ◌≤◌, [], ℕ, List, IsTrue, IsFalse};
-ghost use Rattle.w_outside.specs.Outside.{Grew, Rose};
-ghost use Rattle.drive.specs.Answer.{invalid, malformed};
-ghost use Rattle.drive.specs.Delivery.{Ends};
-ghost use Rattle.drive.specs.Judging.{JudgesModule, JudgesOrRefuses};
+ghost use Rattle.std.specs.Prelude.{◌≡◌, ◌≢◌, IfOk, IfErr, IsTrue, IsFalse};
+ghost use Rattle.w_syntax.specs.Spells.{Spells};
+ghost use Rattle.w_rules.specs.Limits.{Within};
+ghost use Rattle.w_rules.specs.Valid.{Valid};
+ghost use Rattle.drive.specs.Answer.{BytesRefusal, ModuleRefusal, invalid};
 ghost use Rattle.drive.specs.Status.{code_of};
+ghost use Rattle.drive.specs.Stop.{Ends, Refuses};
 
-use crate::files::refuse;
-use crate::judged::Judged;
+use crate::lines::{invalid_line, malformed_line};
 use crate::status::Status;
-use crate::text::{invalid_line, malformed_line};
+use crate::stop::{Refusal, Stop};
 use std::alloc::Global;
 use w_decode::{DecodeFault, decode};
-use w_outside::{Fault, Sink};
+use w_rules::Checked;
 use w_syntax::Module;
 use w_valid::{ValidFault, validate};
 
@@ -60,38 +60,51 @@ fn is_of_memory(fault: ValidFault) -> bool
     }
 }
 
-// Keeps a module that is accepted, or writes why it isn't.
-fn judge_module<E: Sink>(alloc: Global, candidate: Module, err: &mut E) -> Result<Judged, Fault>
-    ensures judges { JudgesModule candidate result (Grew (E.held err.old) (E.held err.new))
-        (Rose (E.faults err.old) (E.faults err.new)) }
-    ensures later { E.faults err.old ≤ E.faults err.new }
+// Why a module is refused.
+fn refusal_of(alloc: Global, fault: ValidFault) -> Stop
+    ensures { Refuses (λ reply. (fault ≢ ValidFault.OutOfMemory) × (reply ≡ invalid fault)) result }
 {
-    match validate(alloc, candidate) {
-        Ok(checked) => Ok(Judged::Accepted(checked)),
-        Err(fault) => {
-            if is_of_memory(fault) {
-                return Err(Fault::OutOfMemory);
-            }
-            let text = invalid_line(alloc, fault)?;
-            let status = refuse(text.as_slice(), invalid_status(fault), err)?;
-            Ok(Judged::Refused(status))
-        }
+    if is_of_memory(fault) {
+        return Stop::OutOfMemory;
+    }
+    match invalid_line(alloc, fault) {
+        Ok(line) => Stop::Refused(Refusal {
+            line,
+            status: invalid_status(fault),
+        }),
+        Err(_) => Stop::OutOfMemory,
     }
 }
 
-/// The module that bytes spell, where it is accepted. Where there is none, writes why.
-pub(crate) fn judge<E: Sink>(alloc: Global, bytes: &[u8], err: &mut E) -> Result<Judged, Fault>
-    ensures judges { JudgesOrRefuses bytes.now result (Grew (E.held err.old) (E.held err.new))
-        (Rose (E.faults err.old) (E.faults err.new)) }
-    ensures later { E.faults err.old ≤ E.faults err.new }
+// The module itself, where it is valid and within its limits.
+fn accept(alloc: Global, candidate: Module) -> Result<Checked, Stop>
+    ensures same { IfOk result (λ checked. checked ≡ candidate) }
+    ensures within { IfOk result Within }
+    ensures valid { IfOk result Valid }
+    ensures refused { IfErr result (Refuses (ModuleRefusal candidate)) }
+{
+    match validate(alloc, candidate) {
+        Ok(checked) => Ok(checked),
+        Err(fault) => Err(refusal_of(alloc, fault)),
+    }
+}
+
+/// The module that bytes spell, where it is valid and within its limits.
+pub(crate) fn judge(alloc: Global, bytes: &[u8]) -> Result<Checked, Stop>
+    ensures spelled { IfOk result (λ checked. Spells bytes.now checked) }
+    ensures within { IfOk result Within }
+    ensures valid { IfOk result Valid }
+    ensures refused { IfErr result (Refuses (BytesRefusal bytes.now)) }
 {
     match decode(alloc, bytes) {
-        Ok(candidate) => judge_module(alloc, candidate, err),
-        Err(DecodeFault::OutOfMemory) => Err(Fault::OutOfMemory),
+        Ok(candidate) => accept(alloc, candidate),
+        Err(DecodeFault::OutOfMemory) => Err(Stop::OutOfMemory),
         Err(fault) => {
-            let text = malformed_line(alloc, fault)?;
-            let status = refuse(text.as_slice(), Status::Malformed, err)?;
-            Ok(Judged::Refused(status))
+            let line = malformed_line(alloc, fault)?;
+            Err(Stop::Refused(Refusal {
+                line,
+                status: Status::Malformed,
+            }))
         }
     }
 }

@@ -1,7 +1,18 @@
 //! Laws of the definitions, each the contract of a function that does nothing.
-ghost use Rattle.drive.specs.Again.{WritesAgain};
+ghost use Rattle.drive.specs.Idempotent.{BuildIsIdempotent};
+ghost use Rattle.drive.specs.Laws.{OneAnswer, SomeAnswer};
 
 /// What `build` wrote of a file, it writes again.
-pub fn writes_again()
-    ensures { WritesAgain }
+pub fn build_is_idempotent()
+    ensures { BuildIsIdempotent }
+{}
+
+/// Where something is told of each name, a line has one answer.
+pub fn one_answer()
+    ensures { OneAnswer }
+{}
+
+/// Whatever is told of the files, there can't be no answer.
+pub fn some_answer()
+    ensures { SomeAnswer }
 {}

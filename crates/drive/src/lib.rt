@@ -1,24 +1,20 @@
 //! The program, over any files and sinks: words, files, decoding, validation, runs and answers.
 #![tactic(auto)]
 
-mod building;
-mod checking;
+mod delivery;
 mod files;
+mod finishing;
 mod input;
-mod judged;
 mod judging;
 mod laws;
-mod opened;
+mod lines;
+mod output;
+mod program;
 mod running;
 mod status;
-#[cfg(test)]
-mod tests;
-mod text;
-mod top;
-mod words;
+mod stop;
 
 pub use input::{InputFault, read_input};
-pub use laws::writes_again;
+pub use laws::{build_is_idempotent, one_answer, some_answer};
+pub use program::command;
 pub use status::Status;
-pub use top::command;
-pub use words::{DEFAULT_STEPS, MOST_STEPS};

@@ -1,138 +1,92 @@
-//! The command `run`.
-ghost use Rattle.std.specs.Prelude.{◌≡◌, ◌⊎◌, ◌≤◌, ℕ, List, [], flat_map, OnOk, OnErr};
-ghost use Rattle.w_outside.specs.Outside.{Grew, GrewByFront, HasCause, Rose};
+//! Runs.
+ghost use Rattle.std.specs.Prelude.{◌≡◌, ◌≤◌, ℕ, flat_map, IfOk};
 ghost use Rattle.w_reduce.specs.Run.{Run};
 ghost use Rattle.w_machine.specs.Beginning.{Begins};
 ghost use Rattle.w_machine.specs.Position.{most_reductions};
-ghost use Rattle.drive.specs.Answer.{OnFile, RunGives, result_line, run_reply, no_printer, run_gives};
-ghost use Rattle.drive.specs.Delivery.{MayFail, Replies};
+ghost use Rattle.drive.specs.Answer.{result_line, run_reply, no_printer, no_entry, run_gives};
+ghost use Rattle.drive.specs.Pieces.{joined};
+ghost use Rattle.drive.specs.Running.{IsFirst};
+ghost use Rattle.drive.specs.Stop.{Gives, Refuses};
 
-use crate::files::{open, refuse};
-use crate::judged::Judged;
-use crate::judging::judge;
-use crate::opened::Opened;
+use crate::lines::{printer_line, run_limit_line, value_line};
+use crate::output::Output;
 use crate::status::Status;
-use crate::text::{limit_line, printer_line, value_line};
-use std::alloc::Global;
+use crate::stop::{Refusal, Stop, refuse};
+use std::alloc::{AllocError, Global};
 use w_machine::{InstFault, Machine, Outcome, Store, instantiate};
-use w_outside::{Fault, Inputs, Sink, put};
 use w_rules::Checked;
 use w_types::Value;
 
-// Writes a line for each result, each line as one piece.
-fn write_results<O: Sink>(alloc: Global, values: &[Value], out: &mut O) -> Result<(), Fault>
-    ensures ok { OnOk result (Grew (O.held out.old) (O.held out.new) (flat_map result_line values.now)) }
-    ensures err { OnErr result (GrewByFront (O.held out.old) (O.held out.new) (flat_map result_line values.now)) }
-    ensures cause { HasCause (O.faults out.old) (O.faults out.new) result }
+// A line for each result.
+fn result_lines(alloc: Global, values: &[Value]) -> Result<Vec<Vec<u8>>, AllocError>
+    ensures { IfOk result (λ lines. joined lines.items ≡ flat_map result_line values.now) }
 {
+    let mut lines = Vec::new(alloc);
     for value in values {
-        let text = value_line(alloc, *value)?;
-        put(out, text.as_slice())?;
+        lines.push(value_line(alloc, *value)?)?;
     }
-    Ok(())
+    Ok(lines)
 }
 
-// Runs a module from its first store, and writes how the run ended.
-fn run_store<O: Sink, E: Sink>(
-    alloc: Global,
-    checked: Checked,
-    store: Store,
-    steps: u64,
-    out: &mut O,
-    err: &mut E,
-) -> Result<Status, Fault>
+// Runs a machine that has taken no reduction.
+fn run_machine(alloc: Global, machine: &mut Machine, steps: u64) -> Result<Output, Stop>
     requires within { steps ≤ most_reductions }
-    requires first { Begins checked store }
-    ensures replies { Replies (λ reply. reply ≡ run_reply (Run checked steps).outcome) result
-        (Grew (O.held out.old) (O.held out.new)) (Grew (E.held err.old) (E.held err.new))
-        (Rose (O.faults out.old) (O.faults out.new) ⊎ Rose (E.faults err.old) (E.faults err.new)) }
-    ensures later { (O.faults out.old ≤ O.faults out.new) × (E.faults err.old ≤ E.faults err.new) }
+    requires first { IsFirst machine.old }
+    ensures { Gives (λ reply. reply ≡ run_reply (Run machine.old.program steps).outcome) result }
 {
-    let mut machine = Machine::new(alloc, checked, store);
     match machine.run(steps) {
         Outcome::Ended => {
-            write_results(alloc, machine.results(), out)?;
-            Ok(Status::Done)
+            let pieces = result_lines(alloc, machine.results())?;
+            Ok(Output { pieces })
         }
-        Outcome::Running => refuse(b"running\n", Status::Running, err),
-        Outcome::Stuck => refuse(b"stuck\n", Status::Stuck, err),
-        Outcome::Limit(name) => refuse(limit_line(name), Status::Limit, err),
-        Outcome::OutOfMemory => Err(Fault::OutOfMemory),
+        Outcome::Running => Err(refuse(alloc, b"running\n", Status::Running)),
+        Outcome::Stuck => Err(refuse(alloc, b"stuck\n", Status::Stuck)),
+        Outcome::Limit(name) => Err(refuse(alloc, run_limit_line(name), Status::Limit)),
+        Outcome::OutOfMemory => Err(Stop::OutOfMemory),
     }
 }
 
-// Refuses a module for whose import of this index nothing is there.
-fn refuse_import<E: Sink>(alloc: Global, index: usize, err: &mut E) -> Result<Status, Fault>
-    ensures replies { Replies (λ reply. reply ≡ no_printer index) result
-        (λ text. text ≡ []) (Grew (E.held err.old) (E.held err.new)) (Rose (E.faults err.old) (E.faults err.new)) }
-    ensures later { E.faults err.old ≤ E.faults err.new }
+// Runs a module from its first store. The machine is let go in one place, since each such place is proved anew.
+fn run_from(alloc: Global, checked: Checked, store: Store, steps: u64) -> Result<Output, Stop>
+    requires within { steps ≤ most_reductions }
+    requires first { Begins checked store }
+    ensures { Gives (λ reply. reply ≡ run_reply (Run checked steps).outcome) result }
 {
-    let line = printer_line(alloc, index)?;
-    refuse(line.as_slice(), Status::Invalid, err)
+    let mut machine = Machine::new(alloc, checked, store);
+    let output = run_machine(alloc, &mut machine, steps);
+    drop(machine);
+    output
 }
 
-// Runs an accepted module, where nothing is missing for its imports and it has an entry.
-fn run_checked<O: Sink, E: Sink>(
-    alloc: Global,
-    checked: Checked,
-    steps: u64,
-    out: &mut O,
-    err: &mut E,
-) -> Result<Status, Fault>
+// Why a module has no run.
+fn no_run(alloc: Global, fault: InstFault) -> Stop
+    ensures import { (i : ℕ) → fault ≡ InstFault.Import i → Refuses (λ reply. reply ≡ no_printer i) result }
+    ensures entry { fault ≡ InstFault.NoEntry → Refuses (λ reply. reply ≡ no_entry) result }
+    ensures memory { fault ≡ InstFault.OutOfMemory → result ≡ Stop.OutOfMemory }
+{
+    match fault {
+        InstFault::Import(index) => match printer_line(alloc, index) {
+            Ok(line) => Stop::Refused(Refusal {
+                line,
+                status: Status::Invalid,
+            }),
+            Err(_) => Stop::OutOfMemory,
+        },
+        InstFault::NoEntry => refuse(alloc, b"no entry\n", Status::Invalid),
+        InstFault::OutOfMemory => Stop::OutOfMemory,
+    }
+}
+
+/// Runs a module, where nothing is missing for its imports and it has an entry.
+pub(crate) fn run(alloc: Global, checked: Checked, steps: u64) -> Result<Output, Stop>
     requires { steps ≤ most_reductions }
-    ensures replies { Replies (λ reply. reply ≡ run_gives steps checked) result
-        (Grew (O.held out.old) (O.held out.new)) (Grew (E.held err.old) (E.held err.new))
-        (Rose (O.faults out.old) (O.faults out.new) ⊎ Rose (E.faults err.old) (E.faults err.new)) }
-    ensures later { (O.faults out.old ≤ O.faults out.new) × (E.faults err.old ≤ E.faults err.new) }
+    ensures { Gives (λ reply. reply ≡ run_gives steps checked) result }
 {
     match instantiate(alloc, &checked) {
-        Ok(store) => run_store(alloc, checked, store, steps, out, err),
-        Err(InstFault::Import(index)) => refuse_import(alloc, index, err),
-        Err(InstFault::NoEntry) => refuse(b"no entry\n", Status::Invalid, err),
-        Err(InstFault::OutOfMemory) => Err(Fault::OutOfMemory),
-    }
-}
-
-// Runs the module that bytes spell.
-fn run_bytes<O: Sink, E: Sink>(
-    alloc: Global,
-    bytes: &[u8],
-    steps: u64,
-    out: &mut O,
-    err: &mut E,
-) -> Result<Status, Fault>
-    requires { steps ≤ most_reductions }
-    ensures replies { Replies (RunGives steps bytes.now) result
-        (Grew (O.held out.old) (O.held out.new)) (Grew (E.held err.old) (E.held err.new))
-        (Rose (O.faults out.old) (O.faults out.new) ⊎ Rose (E.faults err.old) (E.faults err.new)) }
-    ensures later { (O.faults out.old ≤ O.faults out.new) × (E.faults err.old ≤ E.faults err.new) }
-{
-    match judge(alloc, bytes, err)? {
-        Judged::Accepted(checked) => run_checked(alloc, checked, steps, out, err),
-        Judged::Refused(status) => Ok(status),
-    }
-}
-
-/// Runs a file.
-pub(crate) fn run_file<F: Inputs, O: Sink, E: Sink>(
-    alloc: Global,
-    name: &str,
-    steps: u64,
-    files: &mut F,
-    out: &mut O,
-    err: &mut E,
-) -> Result<Status, Fault>
-    requires { steps ≤ most_reductions }
-    ensures replies { Replies (MayFail (Rose (F.faults files.old) (F.faults files.new))
-        (OnFile (F.file files.old name.now) (RunGives steps))) result
-        (Grew (O.held out.old) (O.held out.new)) (Grew (E.held err.old) (E.held err.new))
-        (Rose (O.faults out.old) (O.faults out.new) ⊎ Rose (E.faults err.old) (E.faults err.new)) }
-    ensures later { (F.faults files.old ≤ F.faults files.new) × (O.faults out.old ≤ O.faults out.new)
-        × (E.faults err.old ≤ E.faults err.new) }
-    ensures names { (n : List ℕ) → F.file files.new n ≡ F.file files.old n }
-{
-    match open(alloc, files, name, err)? {
-        Opened::Bytes(bytes) => run_bytes(alloc, bytes.as_slice(), steps, out, err),
-        Opened::Refused(status) => Ok(status),
+        Ok(store) => run_from(alloc, checked, store, steps),
+        Err(fault) => {
+            drop(checked);
+            Err(no_run(alloc, fault))
+        }
     }
 }

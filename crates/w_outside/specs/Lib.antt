@@ -1,3 +1,3 @@
 pub mod Outside
 pub mod Files
-pub mod Plans
+pub mod FaultPlans

@@ -1,5 +1,5 @@
 -- What a program is told of the files, streams and sinks that it is lent.
-use Rattle.std.specs.Prelude.{◌≡◌, ◌+◌, ◌-◌, ◌^◌, ◌<◌, ◌≤◌, ℕ, Bool, true, false, List, [], ◌++◌, length, take, min, ⊤, Option, Some, None, Result, Ok, Err, IsErrOf}
+use Rattle.std.specs.Prelude.{◌≡◌, ◌+◌, ◌-◌, ◌^◌, ◌<◌, ◌≤◌, ℕ, Bool, true, false, List, [], ◌++◌, length, take, min, ⊤, Option, Some, None, Result, Ok, Err, IsErrOf, OnOk}
 use Rattle.std.specs.Io.KnownBytes.{append_known, prepend_known, IsAtEnd}
 use Rattle.w_outside.specs.declared.traits.Fault.{Fault}
 use Rattle.w_outside.specs.declared.traits.Fault.TheVariants.{Failed}
@@ -14,9 +14,10 @@ pub data Known : Type 0 where
 abbrev pub Rose : ℕ → ℕ → Type 0
 Rose before now = min (before + 1) (2 ^ 64 - 1) ≤ now
 
--- the count didn't fall, and `Failed` was answered only where it rose
+-- the count didn't fall, it stands where the call came to its end, and `Failed` was answered only where it rose
 pub record HasCause {T : Type 0} (before now : ℕ) (result : Result T Fault) : Type 0 where
   pub later : before ≤ now
+  pub kept : OnOk result (now ≡ before)
   pub failed : IsErrOf result Failed → Rose before now
 
 -- what an opened name leaves to be read
@@ -32,16 +33,17 @@ OpenLeaves known left (Ok true) = Opens known left
 OpenLeaves known left (Ok false) = (known ≡ missing) × (left ≡ Some [])
 OpenLeaves known left (Err fault) = left ≡ Some []
 
--- no fault is counted where `open` says that there is no file
-abbrev pub OpenCounts : ℕ → ℕ → Result Bool Fault → Type 0
-OpenCounts before now (Ok false) = now ≡ before
-OpenCounts before now _ = ⊤
-
 -- `read` gives the next n bytes, none only at the end or with no room, and a failed one gives nothing
 abbrev pub ReadGives : Option (List ℕ) → Option (List ℕ) → List ℕ → Result ℕ Fault → Type 0
 ReadGives before now buffer (Ok n) =
     (before ≡ prepend_known (take n buffer) now) × (n ≡ 0 → 0 < length buffer → IsAtEnd now)
 ReadGives before now buffer (Err fault) = now ≡ before
+
+-- a `read` fills the buffer, or gives all that is left
+abbrev pub ReadsWhole : Option (List ℕ) → List ℕ → Result ℕ Fault → Type 0
+ReadsWhole (Some left) buffer (Ok n) = n ≡ min (length buffer) (length left)
+ReadsWhole (Some left) buffer (Err fault) = ⊤
+ReadsWhole None buffer result = ⊤
 
 -- `write` takes the first n bytes of the piece, at least one where there is one, and a failed one takes nothing
 abbrev pub WriteTakes : Option (List ℕ) → Option (List ℕ) → List ℕ → Result ℕ Fault → Type 0

@@ -1,5 +1,5 @@
 //! Files in memory, of which one at a time is open.
-ghost use Rattle.std.specs.Prelude.{◌≡◌, ◌+◌, ◌<◌, ◌≤◌, ◌++◌, ◌^◌, [], true, false, drop, take, length, position};
+ghost use Rattle.std.specs.Prelude.{◌≡◌, ◌+◌, ◌<◌, ◌≤◌, ◌++◌, ◌^◌, [], true, false, drop, take, length, min, position};
 ghost use Rattle.w_outside.specs.Outside.{holds, missing};
 ghost use Rattle.w_outside.specs.Files.{known_in, bytes_at, has_name};
 
@@ -16,6 +16,7 @@ fn place_of(files: &Vec<(String, Vec<u8>)>, name: &str) -> Option<usize>
 fn copy_to(rest: &[u8], buf: &mut [u8]) -> usize
     ensures bound { result ≤ length buf.new }
     ensures within { result ≤ length rest.now }
+    ensures whole { result ≡ min (length buf.new) (length rest.now) }
     ensures bytes { rest.now ≡ take result buf.new ++ drop result rest.now }
     ensures end { result ≡ 0 → 0 < length buf.new → rest.now ≡ [] }
 {
@@ -28,6 +29,7 @@ fn copy_to(rest: &[u8], buf: &mut [u8]) -> usize
 fn read_at(files: &Vec<(String, Vec<u8>)>, place: usize, at: usize, buf: &mut [u8]) -> usize
     ensures bound { result ≤ length buf.new }
     ensures fits { at + result < 2 ^ 64 }
+    ensures whole { result ≡ min (length buf.new) (length (drop at (bytes_at files.now.items place))) }
     ensures bytes { drop at (bytes_at files.now.items place)
         ≡ take result buf.new ++ drop (at + result) (bytes_at files.now.items place) }
     ensures end { result ≡ 0 → 0 < length buf.new → drop (at + result) (bytes_at files.now.items place) ≡ [] }
@@ -93,6 +95,7 @@ impl Files {
     pub(crate) fn read(&mut self, buf: &mut [u8]) -> usize
         ensures files { self.new.files ≡ self.old.files }
         ensures bound { result ≤ length buf.new }
+        ensures whole { result ≡ min (length buf.new) (length (drop self.old.at (bytes_at self.old.files.items self.old.place))) }
         ensures bytes { drop self.old.at (bytes_at self.old.files.items self.old.place)
             ≡ take result buf.new ++ drop self.new.at (bytes_at self.new.files.items self.new.place) }
         ensures end { result ≡ 0 → 0 < length buf.new

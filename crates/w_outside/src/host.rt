@@ -86,6 +86,8 @@ impl<W: Write + Drop> Sink for HostSink<W> {
 
     ghost faults = { λ s. s.faults };
 
+    ghost allocates = { ⊥ };
+
     fn write(&mut self, piece: &[u8]) -> Result<usize, Fault> {
         match self.stream.write(piece) {
             Ok(count) if count > 0 || piece.is_empty() => Ok(count),

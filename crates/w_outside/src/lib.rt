@@ -4,14 +4,12 @@
 //! memory tell all; the forms over the machine tell nothing, and are the trusted edge.
 #![tactic(auto)]
 
+mod fault_plan;
 mod files;
 mod host;
 mod memory;
 mod offer;
-mod plan;
 mod sure;
-#[cfg(test)]
-mod tests;
 mod traits;
 
 pub use host::{HostInputs, HostSink};

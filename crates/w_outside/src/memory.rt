@@ -1,12 +1,12 @@
 //! Files and sinks in memory, of which chosen calls fail.
-ghost use Rattle.std.specs.Prelude.{◌≡◌, ◌↔◌, ◌+◌, ◌-◌, ◌^◌, ◌<◌, ◌≤◌, ◌++◌, ℕ, List, [], drop, take, min, length, Some, IfOk, IsErrOf, Contains};
+ghost use Rattle.std.specs.Prelude.{◌≡◌, ◌↔◌, ◌+◌, ◌-◌, ◌^◌, ◌<◌, ◌≤◌, ◌++◌, ℕ, List, [], drop, take, min, length, ⊤, Some, IfOk, IsErrOf, Contains};
 ghost use Rattle.std.specs.Io.{ReadsAtMost};
-ghost use Rattle.w_outside.specs.Outside.{HasCause, OpenLeaves, OpenCounts, ReadGives, WriteTakes};
+ghost use Rattle.w_outside.specs.Outside.{HasCause, OpenLeaves, ReadGives, ReadsWhole, WriteTakes};
 ghost use Rattle.w_outside.specs.Files.{known_in, bytes_at};
-ghost use Rattle.w_outside.specs.Plans.{input_failing, input_calls, sink_failing, sink_calls};
+ghost use Rattle.w_outside.specs.FaultPlans.{input_failing, input_calls, sink_failing, sink_calls};
 
+use crate::fault_plan::FaultPlan;
 use crate::files::Files;
-use crate::plan::Plan;
 use crate::{Fault, Inputs, Sink};
 use std::alloc::{AllocError, Global};
 
@@ -14,7 +14,7 @@ use std::alloc::{AllocError, Global};
 #[derive(Drop)]
 pub struct MemInputs {
     files: Files,
-    plan: Plan,
+    plan: FaultPlan,
 }
 
 impl MemInputs {
@@ -32,7 +32,7 @@ impl MemInputs {
     {
         Ok(MemInputs {
             files: Files::new(files),
-            plan: Plan::new(fails),
+            plan: FaultPlan::new(fails),
         })
     }
 }
@@ -46,7 +46,6 @@ impl Inputs for MemInputs {
 
     fn open(&mut self, name: &str) -> Result<bool, Fault>
         ensures leaves { OpenLeaves (⟦<MemInputs as Inputs>⟧.file self.old name.now) (⟦<MemInputs as Inputs>⟧.left self.new) result }
-        ensures counts { OpenCounts (⟦<MemInputs as Inputs>⟧.faults self.old) (⟦<MemInputs as Inputs>⟧.faults self.new) result }
         ensures names { (n : List ℕ) → ⟦<MemInputs as Inputs>⟧.file self.new n ≡ ⟦<MemInputs as Inputs>⟧.file self.old n }
         ensures cause { HasCause (⟦<MemInputs as Inputs>⟧.faults self.old) (⟦<MemInputs as Inputs>⟧.faults self.new) result }
         ensures memory { IsErrOf result Fault.OutOfMemory → ⊥ }
@@ -69,6 +68,8 @@ impl Inputs for MemInputs {
     fn read(&mut self, buf: &mut [u8]) -> Result<usize, Fault>
         ensures bound { ReadsAtMost result buf.new }
         ensures gives { ReadGives (⟦<MemInputs as Inputs>⟧.left self.old) (⟦<MemInputs as Inputs>⟧.left self.new) buf.new result }
+        // It gives as much as the buffer takes, or all that is left.
+        ensures whole { ReadsWhole (⟦<MemInputs as Inputs>⟧.left self.old) buf.new result }
         ensures names { (n : List ℕ) → ⟦<MemInputs as Inputs>⟧.file self.new n ≡ ⟦<MemInputs as Inputs>⟧.file self.old n }
         ensures cause { HasCause (⟦<MemInputs as Inputs>⟧.faults self.old) (⟦<MemInputs as Inputs>⟧.faults self.new) result }
         ensures memory { IsErrOf result Fault.OutOfMemory → ⊥ }
@@ -88,7 +89,7 @@ impl Inputs for MemInputs {
 #[derive(Drop)]
 pub struct MemSink {
     bytes: Vec<u8>,
-    plan: Plan,
+    plan: FaultPlan,
 }
 
 impl MemSink {
@@ -101,7 +102,7 @@ impl MemSink {
     {
         Ok(MemSink {
             bytes: Vec::new(alloc),
-            plan: Plan::new(fails),
+            plan: FaultPlan::new(fails),
         })
     }
 
@@ -118,9 +119,12 @@ impl Sink for MemSink {
 
     ghost faults = { λ s. s.plan.faults };
 
+    ghost allocates = { ⊤ };
+
     fn write(&mut self, piece: &[u8]) -> Result<usize, Fault>
         ensures takes { WriteTakes (⟦<MemSink as Sink>⟧.held self.old) (⟦<MemSink as Sink>⟧.held self.new) piece.now result }
         ensures cause { HasCause (⟦<MemSink as Sink>⟧.faults self.old) (⟦<MemSink as Sink>⟧.faults self.new) result }
+        ensures memory { IsErrOf result Fault.OutOfMemory → ⟦<MemSink as Sink>⟧.allocates }
         // It takes whole pieces.
         ensures whole { IfOk result (λ n. n ≡ length piece.now) }
         // It fails exactly where the list has the call's number.

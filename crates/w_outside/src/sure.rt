@@ -1,7 +1,7 @@
 //! Files and sinks in memory that never fail.
-ghost use Rattle.std.specs.Prelude.{◌≡◌, ℕ, List, [], drop, length, Some, IfOk, IsErrOf};
+ghost use Rattle.std.specs.Prelude.{◌≡◌, ℕ, List, [], drop, length, Some, IfOk, IsErrOf, ⊤};
 ghost use Rattle.std.specs.Io.{ReadsAtMost};
-ghost use Rattle.w_outside.specs.Outside.{HasCause, OpenLeaves, OpenCounts, ReadGives, WriteTakes};
+ghost use Rattle.w_outside.specs.Outside.{HasCause, OpenLeaves, ReadGives, ReadsWhole, WriteTakes};
 ghost use Rattle.w_outside.specs.Files.{known_in, bytes_at};
 
 use crate::files::Files;
@@ -35,7 +35,6 @@ impl Inputs for SureInputs {
 
     fn open(&mut self, name: &str) -> Result<bool, Fault>
         ensures leaves { OpenLeaves (⟦<SureInputs as Inputs>⟧.file self.old name.now) (⟦<SureInputs as Inputs>⟧.left self.new) result }
-        ensures counts { OpenCounts (⟦<SureInputs as Inputs>⟧.faults self.old) (⟦<SureInputs as Inputs>⟧.faults self.new) result }
         ensures names { (n : List ℕ) → ⟦<SureInputs as Inputs>⟧.file self.new n ≡ ⟦<SureInputs as Inputs>⟧.file self.old n }
         ensures cause { HasCause (⟦<SureInputs as Inputs>⟧.faults self.old) (⟦<SureInputs as Inputs>⟧.faults self.new) result }
         ensures memory { IsErrOf result Fault.OutOfMemory → ⊥ }
@@ -50,6 +49,8 @@ impl Inputs for SureInputs {
     fn read(&mut self, buf: &mut [u8]) -> Result<usize, Fault>
         ensures bound { ReadsAtMost result buf.new }
         ensures gives { ReadGives (⟦<SureInputs as Inputs>⟧.left self.old) (⟦<SureInputs as Inputs>⟧.left self.new) buf.new result }
+        // It gives as much as the buffer takes, or all that is left.
+        ensures whole { ReadsWhole (⟦<SureInputs as Inputs>⟧.left self.old) buf.new result }
         ensures names { (n : List ℕ) → ⟦<SureInputs as Inputs>⟧.file self.new n ≡ ⟦<SureInputs as Inputs>⟧.file self.old n }
         ensures cause { HasCause (⟦<SureInputs as Inputs>⟧.faults self.old) (⟦<SureInputs as Inputs>⟧.faults self.new) result }
         ensures memory { IsErrOf result Fault.OutOfMemory → ⊥ }
@@ -87,9 +88,12 @@ impl Sink for SureSink {
 
     ghost faults = { λ _. 0 };
 
+    ghost allocates = { ⊤ };
+
     fn write(&mut self, piece: &[u8]) -> Result<usize, Fault>
         ensures takes { WriteTakes (⟦<SureSink as Sink>⟧.held self.old) (⟦<SureSink as Sink>⟧.held self.new) piece.now result }
         ensures cause { HasCause (⟦<SureSink as Sink>⟧.faults self.old) (⟦<SureSink as Sink>⟧.faults self.new) result }
+        ensures memory { IsErrOf result Fault.OutOfMemory → ⟦<SureSink as Sink>⟧.allocates }
         // It takes whole pieces.
         ensures whole { IfOk result (λ n. n ≡ length piece.now) }
     {

@@ -1,8 +1,8 @@
 //! The two traits, and their fault.
-ghost use Rattle.std.specs.Prelude.{◌≡◌, List, ℕ, Option};
+ghost use Rattle.std.specs.Prelude.{◌≡◌, List, ℕ, Option, IsErrOf};
 ghost use Rattle.std.specs.Io.{ReadsAtMost};
 ghost use Rattle.w_outside.specs.declared.traits.Fault.TheVariants.{OutOfMemory};
-ghost use Rattle.w_outside.specs.Outside.{Known, HasCause, OpenLeaves, OpenCounts, ReadGives, WriteTakes};
+ghost use Rattle.w_outside.specs.Outside.{Known, HasCause, OpenLeaves, ReadGives, WriteTakes};
 
 use std::alloc::{AllocError, AllocFailed};
 use thiserror::Error;
@@ -46,7 +46,6 @@ pub trait Inputs {
     /// Opens a file, in place of the one that was open. `false` says that there is no such file.
     fn open(&mut self, name: &str) -> Result<bool, Fault>
         ensures leaves { OpenLeaves (file self.old name.now) (left self.new) result }
-        ensures counts { OpenCounts (faults self.old) (faults self.new) result }
         ensures names { (n : List ℕ) → file self.new n ≡ file self.old n }
         ensures cause { HasCause (faults self.old) (faults self.new) result };
 
@@ -66,8 +65,12 @@ pub trait Sink {
     /// How often a call has failed. It stands still at its type's end.
     ghost faults: { Self → ℕ };
 
+    /// Whether its calls take memory, which may run out.
+    ghost allocates: { Type 0 };
+
     /// Takes a first part of the piece.
     fn write(&mut self, piece: &[u8]) -> Result<usize, Fault>
         ensures takes { WriteTakes (held self.old) (held self.new) piece.now result }
-        ensures cause { HasCause (faults self.old) (faults self.new) result };
+        ensures cause { HasCause (faults self.old) (faults self.new) result }
+        ensures memory { IsErrOf result Fault.OutOfMemory → allocates };
 }

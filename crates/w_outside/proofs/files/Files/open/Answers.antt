@@ -1,5 +1,5 @@
 use Rattle.std.proofs.Common.{sym}
-use Rattle.w_outside.proofs.FileLemmas.{known-position, known-no_position}
+use Rattle.w_outside.proofs.NamedFiles.{known-position, known-no_position}
 use Rattle.w_outside.proofs.files.Files.open.Goals as goal
 
 pub returns-in-Some-clause-found : goal.returns-in-Some-clause-found

@@ -1,0 +1,55 @@
+-- From what was read and judged to what is due of a file.
+use Rattle.std.proofs.Common.{◌≡◌, ◌≤◌, ◌<◌, inl, inr, sym, subst, List, ℕ, length}
+use Rattle.w_outside.specs.Outside.{Known, untold, missing, holds}
+use Rattle.w_syntax.specs.declared.module.Module.{Module}
+use Rattle.w_syntax.specs.Spells.{Spells}
+use Rattle.w_rules.specs.Limits.{Within}
+use Rattle.w_rules.specs.Valid.{Valid}
+use Rattle.words.specs.declared.request.Action.{Action}
+use Rattle.words.specs.Line.{Line, on_file as line_on_file}
+use Rattle.drive.specs.Answer.{Answer, OnFile, OnBytes, BytesGive, BytesRefusal, Reply, gives, input_limit, limit_input, read_fault}
+use Rattle.drive.specs.Delivery.{MayFail}
+use Rattle.drive.specs.Reading.{FileRefusal, IsTooLong, MayHold}
+
+on_file : (known : Known) (Gives : List ℕ → Reply → Type 0) (bytes : List ℕ) (r : Reply) → MayHold known bytes
+    → length bytes ≤ input_limit → Gives bytes r → OnFile known Gives r
+on_file untold Gives bytes r may short gives = (bytes, inl (short, gives))
+on_file missing Gives bytes r may short gives = absurd may
+on_file (holds c) Gives bytes r may short gives = subst (λ (b : List ℕ). OnBytes Gives b r) may (inl (short, gives))
+
+-- a file that was refused
+refusal_on_file : (known : Known) (failed : Type 0) (Gives : List ℕ → Reply → Type 0) (r : Reply) → FileRefusal known failed r
+    → MayFail failed (OnFile known Gives) r
+refusal_on_file known failed Gives r (inl gone) = inl (on_missing known gone.0 gone.1)
+  where
+    on_missing : (k : Known) → k ≡ missing → r ≡ read_fault → OnFile k Gives r
+    on_missing untold e is = absurd (cc)
+    on_missing missing e is = is
+    on_missing (holds c) e is = absurd (cc)
+refusal_on_file known failed Gives r (inr (inl long)) = inl (on_long known long.0 long.1)
+  where
+    on_long : (k : Known) → IsTooLong k → r ≡ limit_input → OnFile k Gives r
+    on_long untold h is = (h.0, inr (h.2, is))
+    on_long missing h is = absurd h.1
+    on_long (holds c) h is = inr (subst (λ (l : List ℕ). input_limit < length l) h.1 h.2, is)
+refusal_on_file known failed Gives r (inr (inr f)) = inr f
+
+-- what a file gives is the answer to its line
+module _ (line : Line) (name : List ℕ) (action : Action) (files : List ℕ → Known) (failed : Type 0) (asks : line ≡ line_on_file name action) where
+  of_line : (r : Reply) → MayFail failed (OnFile (files name) (BytesGive (gives action))) r → MayFail failed (Answer line files) r
+  of_line r (inl h) = inl (subst (λ (l : Line). Answer l files r) (sym asks) h)
+  of_line r (inr h) = inr h
+
+  pub unread : (r : Reply) → FileRefusal (files name) failed r → MayFail failed (Answer line files) r
+  unread r h = of_line r (refusal_on_file (files name) failed (BytesGive (gives action)) r h)
+
+  module _ (slice bytes : List ℕ) (same : slice ≡ bytes) (may : MayHold (files name) bytes) (short : length bytes ≤ input_limit) where
+    of_bytes : (r : Reply) → BytesGive (gives action) slice r → MayFail failed (Answer line files) r
+    of_bytes r h =
+        of_line r (inl (on_file (files name) (BytesGive (gives action)) bytes r may short (subst (λ (l : List ℕ). BytesGive (gives action) l r) same h)))
+
+    pub refused : (r : Reply) → BytesRefusal slice r → MayFail failed (Answer line files) r
+    refused r h = of_bytes r (inr h)
+
+    pub accepted : (m : Module) → Spells slice m → Within m → Valid m → (r : Reply) → r ≡ gives action m → MayFail failed (Answer line files) r
+    accepted m spells within valid r is = of_bytes r (inl (m, spells, within, valid, is))

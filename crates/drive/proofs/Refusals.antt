@@ -1,0 +1,72 @@
+-- Refusals by their lines.
+use Rattle.std.proofs.Common.{◌≡◌, ◌∙◌, ℕ, List, [], Result, Ok, Err, refl, sym, ap, subst}
+use Rattle.std.specs.Prelude.{IfOk, IfErr, IsErrAnd}
+use Rattle.w_syntax.specs.declared.module.Module.{Module}
+use Rattle.w_syntax.specs.Spells.{Spells}
+use Rattle.w_valid.specs.declared.fault.ValidFault.{ValidFault}
+use Rattle.w_valid.specs.declared.fault.ValidFault.TheVariants as valid
+use Rattle.drive.specs.declared.output.Output.{Output}
+use Rattle.drive.specs.declared.stop.Stop.{Stop}
+use Rattle.drive.specs.declared.stop.Stop.TheVariants.{Refused, OutOfMemory}
+use Rattle.drive.specs.Answer.{Reply, invalid}
+use Rattle.drive.specs.Stop.{Refuses, Gives}
+
+-- a line that is a text, and a code
+pub same_refusal : (written text : List ℕ) (status code : ℕ) → written ≡ text → status ≡ code
+    → ◌≡◌ {A = Reply} (record { out = []; err = written; status = status }) (record { out = []; err = text; status = code })
+same_refusal written text status code same code_is =
+    ap (λ (l : List ℕ). let reply : Reply = record { out = []; err = l; status = status } in reply) same
+    ∙ ap (λ (n : ℕ). let reply : Reply = record { out = []; err = text; status = n } in reply) code_is
+
+invalid_alone : (fault : ValidFault) → ◌≡◌ {A = Reply} (record { out = []; err = (invalid fault).err; status = (invalid fault).status }) (invalid fault)
+invalid_alone (valid.Limit name) = refl
+invalid_alone (valid.TypeAt i) = refl
+invalid_alone (valid.Import i) = refl
+invalid_alone (valid.Table i) = refl
+invalid_alone valid.Memory = refl
+invalid_alone (valid.Tag i) = refl
+invalid_alone (valid.Global i) = refl
+invalid_alone (valid.Element i) = refl
+invalid_alone (valid.Data i) = refl
+invalid_alone valid.Start = refl
+invalid_alone (valid.Export i) = refl
+invalid_alone (valid.Function i) = refl
+invalid_alone valid.OutOfMemory = refl
+
+-- the line and the status of a module's fault are what the module gives
+pub same_invalid : (fault : ValidFault) (line : List ℕ) (code : ℕ) → line ≡ (invalid fault).err → code ≡ (invalid fault).status
+    → ◌≡◌ {A = Reply} (record { out = []; err = line; status = code }) (invalid fault)
+same_invalid fault line code line_is code_is = same_refusal line (invalid fault).err code (invalid fault).status line_is code_is ∙ invalid_alone fault
+
+module _ {Due Due' : Reply → Type 0} (due : (r : Reply) → Due r → Due' r) where
+  -- what is refused by a reply that is due is refused by one that is due of more
+  pub refuses_as : (stop : Stop) → Refuses Due stop → Refuses Due' stop
+  refuses_as (Refused refusal) h = (h.0, due _ h.1)
+  refuses_as OutOfMemory h = tt
+
+  pub gives_as : (answer : Result Output Stop) → Gives Due answer → Gives Due' answer
+  gives_as (Ok output) h = due _ h
+  gives_as (Err stop) h = refuses_as stop h
+
+  -- a call stops where a part of it does
+  pub gives_stop : (answer : Result Output Stop) (stop : Stop) → IsErrAnd answer (λ e. e ≡ stop) → Refuses Due stop → Gives Due' answer
+  gives_stop (Ok output) stop is h = absurd is
+  gives_stop (Err other) stop is h = subst (λ (s : Stop). Refuses Due' s) (sym is) (refuses_as stop h)
+
+  pub judged_as : (judged : Result Module Stop) → IfErr judged (Refuses Due) → IfErr judged (Refuses Due')
+  judged_as (Ok m) h = tt
+  judged_as (Err stop) h = refuses_as stop h
+
+-- two replies that are the same
+pub refuses_same : {one other : Reply} (stop : Stop) → one ≡ other → Refuses (λ reply. reply ≡ one) stop → Refuses (λ reply. reply ≡ other) stop
+refuses_same (Refused refusal) e h = (h.0, h.1 ∙ e)
+refuses_same OutOfMemory e h = tt
+
+pub gives_same : {one other : Reply} (answer : Result Output Stop) → one ≡ other → Gives (λ reply. reply ≡ one) answer → Gives (λ reply. reply ≡ other) answer
+gives_same (Ok output) e h = h ∙ e
+gives_same (Err stop) e h = refuses_same stop e h
+
+-- what was accepted is what the bytes spell
+pub spelled_same : (bytes : List ℕ) (candidate : Module) (judged : Result Module Stop) → IfOk judged (λ m. m ≡ candidate) → Spells bytes candidate → IfOk judged (λ m. Spells bytes m)
+spelled_same bytes candidate (Ok m) is spells = subst (Spells bytes) (sym is) spells
+spelled_same bytes candidate (Err stop) is spells = tt

@@ -1,0 +1,5 @@
+use Rattle.drive.proofs.BuiltAgain.{build_is_idempotent}
+use Rattle.drive.proofs.laws.build_is_idempotent.Goals as goal
+
+pub returns : goal.returns
+returns c = build_is_idempotent

@@ -1,0 +1,9 @@
+use Rattle.std.proofs.Common.{◌≡◌, ◌++◌, drop, flat_map}
+use Rattle.drive.specs.Answer.{result_line}
+use Rattle.drive.specs.Pieces.{joined}
+use Rattle.drive.proofs.running.result_lines.Given as goal
+
+-- the lines that were collected, and those of the values that are left, are the lines of all
+abbrev pub invariant-loop-value : goal.invariant-loop-value
+invariant-loop-value l =
+    joined l.lines.items ++ flat_map result_line (drop l.value-index l.values) ≡ flat_map result_line l.values

@@ -1,0 +1,48 @@
+//! Writing an answer.
+ghost use Rattle.std.specs.Prelude.{◌≡◌, ◌⊎◌, ◌≤◌, ℕ, List, OnOk, OnErr};
+ghost use Rattle.w_outside.specs.Outside.{Grew, GrewByFront, HasCause, Rose};
+ghost use Rattle.drive.specs.Delivery.{Replies};
+ghost use Rattle.drive.specs.Pieces.{joined};
+ghost use Rattle.drive.specs.Stop.{EndsByItself, IsReplyOf};
+
+use crate::output::Output;
+use crate::status::Status;
+use crate::stop::Stop;
+use w_outside::{Fault, Sink, put};
+
+// Writes pieces in their order.
+fn write_pieces<O: Sink>(pieces: &[Vec<u8>], out: &mut O) -> Result<(), Fault>
+    ensures ok { OnOk result (Grew (O.held out.old) (O.held out.new) (joined pieces.now)) }
+    ensures err { OnErr result (GrewByFront (O.held out.old) (O.held out.new) (joined pieces.now)) }
+    ensures cause { HasCause (O.faults out.old) (O.faults out.new) result }
+{
+    for piece in pieces {
+        put(out, piece.as_slice())?;
+    }
+    Ok(())
+}
+
+/// Writes an answer, and gives its status.
+pub(crate) fn deliver<O: Sink, E: Sink>(
+    answer: Result<Output, Stop>,
+    out: &mut O,
+    err: &mut E,
+) -> Result<Status, Fault>
+    requires { EndsByItself answer }
+    ensures replies { Replies (IsReplyOf answer) result
+        (Grew (O.held out.old) (O.held out.new)) (Grew (E.held err.old) (E.held err.new))
+        (Rose (O.faults out.old) (O.faults out.new) ⊎ Rose (E.faults err.old) (E.faults err.new)) }
+    ensures later { (O.faults out.old ≤ O.faults out.new) × (E.faults err.old ≤ E.faults err.new) }
+{
+    match answer {
+        Ok(output) => {
+            write_pieces(output.pieces.as_slice(), out)?;
+            Ok(Status::Done)
+        }
+        Err(Stop::Refused(refusal)) => {
+            put(err, refusal.line.as_slice())?;
+            Ok(refusal.status)
+        }
+        Err(Stop::OutOfMemory) => Err(Fault::OutOfMemory),
+    }
+}

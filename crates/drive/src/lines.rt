@@ -1,0 +1,96 @@
+//! The lines that the program writes.
+ghost use Rattle.std.specs.Prelude.{◌≡◌, ◌++◌, IfOk};
+ghost use Rattle.drive.specs.Answer.{line, result_line, malformed, limit, size_limit_text, run_limit_text, invalid, no_printer};
+
+use itoa::{Buffer, Integer};
+use std::alloc::{AllocError, Global};
+use w_decode::DecodeFault;
+use w_reduce::RunLimit;
+use w_rules::SizeLimit;
+use w_types::Value;
+use w_valid::ValidFault;
+
+// A text and a number, as a line.
+fn number_line<I: Integer>(alloc: Global, text: &[u8], number: I) -> Result<Vec<u8>, AllocError>
+    ensures { IfOk result (λ v. v.items ≡ line (text.now ++ I.text number)) }
+{
+    let mut buffer = Buffer::new();
+    let mut line = Vec::from_slice(alloc, text)?;
+    line.extend_from_slice(buffer.format(number).as_bytes())?;
+    line.push(b'\n')?;
+    Ok(line)
+}
+
+/// The line of a result: an integer, signed, or a reference by its address.
+pub(crate) fn value_line(alloc: Global, value: Value) -> Result<Vec<u8>, AllocError>
+    ensures { IfOk result (λ v. v.items ≡ result_line value) }
+{
+    match value {
+        Value::I32(bits) => number_line(alloc, b"= ", bits.cast_signed()),
+        Value::I64(bits) => number_line(alloc, b"= ", bits.cast_signed()),
+        Value::Null => Ok(Vec::from_slice(alloc, b"= null\n")?),
+        Value::Func(address) => number_line(alloc, b"= func ", address),
+        Value::Cont(reference) => number_line(alloc, b"= cont ", reference.serial),
+    }
+}
+
+/// The line of bytes that spell no module.
+pub(crate) fn malformed_line(alloc: Global, fault: DecodeFault) -> Result<Vec<u8>, AllocError>
+    ensures { IfOk result (λ v. v.items ≡ (malformed fault).err) }
+{
+    match fault {
+        DecodeFault::Header => Ok(Vec::from_slice(alloc, b"malformed header\n")?),
+        DecodeFault::Frame(index) => number_line(alloc, b"malformed frame ", index),
+        DecodeFault::Content(index) => number_line(alloc, b"malformed content ", index),
+        DecodeFault::Counts => Ok(Vec::from_slice(alloc, b"malformed counts\n")?),
+        DecodeFault::OutOfMemory => Ok(Vec::from_slice(alloc, b"\n")?),
+    }
+}
+
+/// The line of a limit on a module that is passed.
+pub(crate) fn size_limit_line(name: SizeLimit) -> &'static [u8]
+    ensures { result.now ≡ (limit (size_limit_text name)).err }
+{
+    match name {
+        SizeLimit::Types => b"limit types\n",
+        SizeLimit::Params => b"limit params\n",
+        SizeLimit::Locals => b"limit locals\n",
+    }
+}
+
+/// The line of a limit of a run that is passed.
+pub(crate) fn run_limit_line(name: RunLimit) -> &'static [u8]
+    ensures { result.now ≡ (limit (run_limit_text name)).err }
+{
+    match name {
+        RunLimit::Frames => b"limit frames\n",
+    }
+}
+
+/// The line of a module that is not accepted.
+pub(crate) fn invalid_line(alloc: Global, fault: ValidFault) -> Result<Vec<u8>, AllocError>
+    ensures { IfOk result (λ v. v.items ≡ (invalid fault).err) }
+{
+    match fault {
+        ValidFault::Limit(name) => Ok(Vec::from_slice(alloc, size_limit_line(name))?),
+        ValidFault::TypeAt(index) => number_line(alloc, b"invalid type ", index),
+        ValidFault::Import(index) => number_line(alloc, b"invalid import ", index),
+        ValidFault::Table(index) => number_line(alloc, b"invalid table ", index),
+        ValidFault::Memory => Ok(Vec::from_slice(alloc, b"invalid memory\n")?),
+        ValidFault::Tag(index) => number_line(alloc, b"invalid tag ", index),
+        ValidFault::Global(index) => number_line(alloc, b"invalid global ", index),
+        ValidFault::Element(index) => number_line(alloc, b"invalid element ", index),
+        ValidFault::Data(index) => number_line(alloc, b"invalid data ", index),
+        ValidFault::Start => Ok(Vec::from_slice(alloc, b"invalid start\n")?),
+        ValidFault::Export(index) => number_line(alloc, b"invalid export ", index),
+        ValidFault::Function(index) => number_line(alloc, b"invalid function ", index),
+        ValidFault::OutOfMemory => Ok(Vec::from_slice(alloc, b"\n")?),
+    }
+}
+
+/// The line of a module for whose import of this index nothing is there.
+pub(crate) fn printer_line(alloc: Global, index: usize) -> Result<Vec<u8>, AllocError>
+    ensures { IfOk result (λ v. v.items ≡ (no_printer index).err) }
+{
+    number_line(alloc, b"no printer ", index)
+}

@@ -1,0 +1,22 @@
+//! What an action gives.
+ghost use Rattle.std.specs.Prelude.{◌≡◌, IfOk};
+ghost use Rattle.drive.specs.Pieces.{joined};
+
+use std::alloc::{AllocError, Global};
+
+/// What is written to out: these pieces, in their order.
+#[derive(Drop)]
+pub(crate) struct Output {
+    pub(crate) pieces: Vec<Vec<u8>>,
+}
+
+impl Output {
+    /// One piece.
+    pub(crate) fn of_piece(alloc: Global, piece: Vec<u8>) -> Result<Output, AllocError>
+        ensures { IfOk result (λ output. joined output.pieces.items ≡ piece.items) }
+    {
+        let mut pieces = Vec::new(alloc);
+        pieces.push(piece)?;
+        Ok(Output { pieces })
+    }
+}

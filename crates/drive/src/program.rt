@@ -1,0 +1,80 @@
+//! The program.
+ghost use Rattle.std.specs.Prelude.{◌≡◌, ◌≢◌, ◌⊎◌, ◌≤◌, ℕ, List, map, string_bytes};
+ghost use Rattle.w_outside.specs.Outside.{Grew, Rose};
+ghost use Rattle.words.specs.Line.{line_of};
+ghost use Rattle.drive.specs.Answer.{Answer, HasStatus};
+ghost use Rattle.drive.specs.Delivery.{Answers, Answered, Stopped, MayFail};
+ghost use Rattle.drive.specs.Stop.{Gives};
+
+use crate::delivery::deliver;
+use crate::files::open;
+use crate::finishing::finish;
+use crate::judging::judge;
+use crate::output::Output;
+use crate::status::Status;
+use crate::stop::{Stop, refuse};
+use std::alloc::Global;
+use w_outside::{Fault, Inputs, Sink};
+use words::{WordsFault, request_of};
+
+static USAGE: &[u8] =
+    b"usage: stackwasm check FILE | run FILE [--steps N] [--stats] | build FILE | gen N\n";
+
+// The answer to the words.
+fn answer<F: Inputs>(alloc: Global, words: &[String], files: &mut F) -> Result<Output, Stop>
+    ensures gives { Gives (MayFail (Rose (F.faults files.old) (F.faults files.new))
+        (Answer (line_of (map string_bytes words.now)) (F.file files.old))) result }
+    ensures later { F.faults files.old ≤ F.faults files.new }
+    ensures names { (n : List ℕ) → F.file files.new n ≡ F.file files.old n }
+{
+    match request_of(alloc, words) {
+        Ok(request) => {
+            let bytes = open(alloc, files, request.file)?;
+            let checked = judge(alloc, bytes.as_slice())?;
+            finish(alloc, request.action, checked)
+        }
+        Err(WordsFault::Bad) => Err(refuse(alloc, USAGE, Status::Usage)),
+        Err(WordsFault::OutOfMemory) => Err(Stop::OutOfMemory),
+    }
+}
+
+/// The program: does what the words ask for with the files, and says how it ended.
+pub fn command<F: Inputs, O: Sink, E: Sink>(
+    alloc: Global,
+    words: &[String],
+    files: &mut F,
+    out: &mut O,
+    err: &mut E,
+) -> Status
+    // With any status but a write fault and want of memory, the answer to the words was written, or where reading
+    // failed the line `read fault`, and the status is its own.
+    ensures answered { Answered result (MayFail (Rose (F.faults files.old) (F.faults files.new))
+        (Answer (line_of (map string_bytes words.now)) (F.file files.old)))
+        (Grew (O.held out.old) (O.held out.new)) (Grew (E.held err.old) (E.held err.new)) }
+    // With these two, a first part of that, and nothing more.
+    ensures stopped { Stopped result (MayFail (Rose (F.faults files.old) (F.faults files.new))
+        (Answer (line_of (map string_bytes words.now)) (F.file files.old)))
+        (Grew (O.held out.old) (O.held out.new)) (Grew (E.held err.old) (E.held err.new)) }
+    // A write fault comes only where a sink counted one.
+    ensures write_fault { result ≡ Status.WriteFault
+        → Rose (O.faults out.old) (O.faults out.new) ⊎ Rose (E.faults err.old) (E.faults err.new) }
+    // A read fault comes only where the files counted one, or where it is the answer, for a file that isn't there.
+    ensures read_fault { result ≡ Status.ReadFault → Rose (F.faults files.old) (F.faults files.new)
+        ⊎ HasStatus (line_of (map string_bytes words.now)) (F.file files.old) 6 }
+    // Where nothing failed, the answer was written, unless memory ran out.
+    ensures complete { ¬ (Rose (F.faults files.old) (F.faults files.new))
+        → ¬ (Rose (O.faults out.old) (O.faults out.new))
+        → ¬ (Rose (E.faults err.old) (E.faults err.new)) → result ≢ Status.OutOfMemory
+        → Answers (Answer (line_of (map string_bytes words.now)) (F.file files.old)) result
+        (Grew (O.held out.old) (O.held out.new)) (Grew (E.held err.old) (E.held err.new)) }
+    // No file changes, and no count falls.
+    ensures names { (n : List ℕ) → F.file files.new n ≡ F.file files.old n }
+    ensures later { (F.faults files.old ≤ F.faults files.new) × (O.faults out.old ≤ O.faults out.new)
+        × (E.faults err.old ≤ E.faults err.new) }
+{
+    match deliver(answer(alloc, words, files), out, err) {
+        Ok(status) => status,
+        Err(Fault::Failed) => Status::WriteFault,
+        Err(Fault::OutOfMemory) => Status::OutOfMemory,
+    }
+}

@@ -1,0 +1,43 @@
+//! Why there is no output.
+ghost use Rattle.std.specs.Prelude.{◌≡◌, []};
+ghost use Rattle.drive.specs.Status.{code_of};
+ghost use Rattle.drive.specs.Stop.{Ends, Refuses};
+ghost use Rattle.drive.specs.declared.stop.Stop.TheVariants.{OutOfMemory};
+
+use crate::status::Status;
+use std::alloc::{AllocError, Global};
+
+/// A line that is written to err, and the status that goes with it.
+#[derive(Drop)]
+pub(crate) struct Refusal {
+    pub(crate) line: Vec<u8>,
+    pub(crate) status: Status,
+}
+
+/// Why an action gives no output.
+#[derive(Drop)]
+pub(crate) enum Stop {
+    /// It is refused.
+    Refused(Refusal),
+    /// Memory ran out.
+    OutOfMemory,
+}
+
+impl From<AllocError> for Stop {
+    ghost from_gives = { λ _ e. e ≡ OutOfMemory };
+
+    fn from(_: AllocError) -> Self {
+        Stop::OutOfMemory
+    }
+}
+
+/// A refusal by a line.
+pub(crate) fn refuse(alloc: Global, line: &[u8], status: Status) -> Stop
+    requires { Ends status }
+    ensures { Refuses (λ reply. reply ≡ record { out = []; err = line.now; status = code_of status }) result }
+{
+    match Vec::from_slice(alloc, line) {
+        Ok(line) => Stop::Refused(Refusal { line, status }),
+        Err(_) => Stop::OutOfMemory,
+    }
+}

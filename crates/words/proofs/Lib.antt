@@ -1,0 +1,3 @@
+pub mod TakenWords
+pub mod Numerals
+mod LineRows

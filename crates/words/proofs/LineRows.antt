@@ -1,0 +1,210 @@
+-- What some lists of words ask for, computed by the definition.
+use Rattle.std.proofs.Common.{◌≡◌, ℕ, nat_eq, List, [], ◌∷◌, refl, codes, false}
+use Rattle.std.specs.Fmt.{digits}
+use Rattle.clap.specs.Walk.{Text}
+use Rattle.clap.proofs.OnLiterals.{clap_on_literals}
+use Rattle.words.specs.declared.request.Action.TheVariants.{Check, Run, Build}
+use Rattle.words.specs.Line.{Line, line_of, on_file, bad}
+
+-- what the words after the program's name ask for
+abbrev asked : List Text → Line
+asked words = line_of (codes "stackwasm" ∷ words)
+
+no_words : line_of [] ≡ bad
+unfolding line_of clap_on_literals digits
+no_words = refl
+
+-- ## `check`
+
+check_file : asked (codes "check" ∷ codes "two" ∷ []) ≡ on_file (codes "two") Check
+unfolding line_of clap_on_literals digits
+check_file = refl
+
+-- any name that doesn't begin with a hyphen
+check_any : (x : ℕ) (xs : Text) → nat_eq x 45 ≡ false → asked (codes "check" ∷ (x ∷ xs) ∷ []) ≡ on_file (x ∷ xs) Check
+unfolding line_of clap_on_literals digits
+check_any x xs e = simp e
+
+check_named_check : asked (codes "check" ∷ codes "check" ∷ []) ≡ on_file (codes "check") Check
+unfolding line_of clap_on_literals digits
+check_named_check = refl
+
+check_alone : asked (codes "check" ∷ []) ≡ bad
+unfolding line_of clap_on_literals digits
+check_alone = refl
+
+check_two_files : asked (codes "check" ∷ codes "two" ∷ codes "three" ∷ []) ≡ bad
+unfolding line_of clap_on_literals digits
+check_two_files = refl
+
+check_for_steps : asked (codes "check" ∷ codes "two" ∷ codes "--steps" ∷ codes "5" ∷ []) ≡ bad
+unfolding line_of clap_on_literals digits
+check_for_steps = refl
+
+-- ## `run`
+
+run_file : asked (codes "run" ∷ codes "two" ∷ []) ≡ on_file (codes "two") (Run 100000000)
+unfolding line_of clap_on_literals digits
+run_file = refl
+
+run_for_steps : asked (codes "run" ∷ codes "two" ∷ codes "--steps" ∷ codes "5" ∷ []) ≡ on_file (codes "two") (Run 5)
+unfolding line_of clap_on_literals digits
+run_for_steps = refl
+
+run_for_steps_first : asked (codes "run" ∷ codes "--steps" ∷ codes "5" ∷ codes "two" ∷ []) ≡ on_file (codes "two") (Run 5)
+unfolding line_of clap_on_literals digits
+run_for_steps_first = refl
+
+run_for_steps_joined : asked (codes "run" ∷ codes "two" ∷ codes "--steps=5" ∷ []) ≡ on_file (codes "two") (Run 5)
+unfolding line_of clap_on_literals digits
+run_for_steps_joined = refl
+
+run_for_none : asked (codes "run" ∷ codes "two" ∷ codes "--steps" ∷ codes "0" ∷ []) ≡ on_file (codes "two") (Run 0)
+unfolding line_of clap_on_literals digits
+run_for_none = refl
+
+run_for_most : asked (codes "run" ∷ codes "two" ∷ codes "--steps" ∷ codes "1099511627776" ∷ []) ≡ on_file (codes "two") (Run 1099511627776)
+unfolding line_of clap_on_literals digits
+run_for_most = refl
+
+run_behind_hyphens : asked (codes "run" ∷ codes "--" ∷ codes "-x" ∷ []) ≡ on_file (codes "-x") (Run 100000000)
+unfolding line_of clap_on_literals digits
+run_behind_hyphens = refl
+
+run_hyphen : asked (codes "run" ∷ codes "-" ∷ []) ≡ on_file (codes "-") (Run 100000000)
+unfolding line_of clap_on_literals digits
+run_hyphen = refl
+
+run_no_name : asked (codes "run" ∷ codes "" ∷ []) ≡ on_file [] (Run 100000000)
+unfolding line_of clap_on_literals digits
+run_no_name = refl
+
+run_alone : asked (codes "run" ∷ []) ≡ bad
+unfolding line_of clap_on_literals digits
+run_alone = refl
+
+run_two_files : asked (codes "run" ∷ codes "two" ∷ codes "three" ∷ []) ≡ bad
+unfolding line_of clap_on_literals digits
+run_two_files = refl
+
+run_option : asked (codes "run" ∷ codes "-x" ∷ []) ≡ bad
+unfolding line_of clap_on_literals digits
+run_option = refl
+
+-- ## `build`
+
+build_file : asked (codes "build" ∷ codes "two" ∷ []) ≡ on_file (codes "two") Build
+unfolding line_of clap_on_literals digits
+build_file = refl
+
+build_any : (x : ℕ) (xs : Text) → nat_eq x 45 ≡ false → asked (codes "build" ∷ (x ∷ xs) ∷ []) ≡ on_file (x ∷ xs) Build
+unfolding line_of clap_on_literals digits
+build_any x xs e = simp e
+
+build_named_build : asked (codes "build" ∷ codes "build" ∷ []) ≡ on_file (codes "build") Build
+unfolding line_of clap_on_literals digits
+build_named_build = refl
+
+build_alone : asked (codes "build" ∷ []) ≡ bad
+unfolding line_of clap_on_literals digits
+build_alone = refl
+
+build_two_files : asked (codes "build" ∷ codes "two" ∷ codes "three" ∷ []) ≡ bad
+unfolding line_of clap_on_literals digits
+build_two_files = refl
+
+build_for_steps : asked (codes "build" ∷ codes "two" ∷ codes "--steps" ∷ codes "5" ∷ []) ≡ bad
+unfolding line_of clap_on_literals digits
+build_for_steps = refl
+
+-- ## Steps that are no number in the range
+
+steps_over_most : asked (codes "run" ∷ codes "two" ∷ codes "--steps" ∷ codes "1099511627777" ∷ []) ≡ bad
+unfolding line_of clap_on_literals digits
+steps_over_most = refl
+
+steps_with_sign : asked (codes "run" ∷ codes "two" ∷ codes "--steps" ∷ codes "+5" ∷ []) ≡ bad
+unfolding line_of clap_on_literals digits
+steps_with_sign = refl
+
+steps_below_none : asked (codes "run" ∷ codes "two" ∷ codes "--steps" ∷ codes "-5" ∷ []) ≡ bad
+unfolding line_of clap_on_literals digits
+steps_below_none = refl
+
+steps_below_none_joined : asked (codes "run" ∷ codes "two" ∷ codes "--steps=-5" ∷ []) ≡ bad
+unfolding line_of clap_on_literals digits
+steps_below_none_joined = refl
+
+steps_with_zero : asked (codes "run" ∷ codes "two" ∷ codes "--steps" ∷ codes "05" ∷ []) ≡ bad
+unfolding line_of clap_on_literals digits
+steps_with_zero = refl
+
+steps_with_blank : asked (codes "run" ∷ codes "two" ∷ codes "--steps" ∷ codes " 5" ∷ []) ≡ bad
+unfolding line_of clap_on_literals digits
+steps_with_blank = refl
+
+steps_empty : asked (codes "run" ∷ codes "two" ∷ codes "--steps" ∷ codes "" ∷ []) ≡ bad
+unfolding line_of clap_on_literals digits
+steps_empty = refl
+
+steps_missing : asked (codes "run" ∷ codes "two" ∷ codes "--steps" ∷ []) ≡ bad
+unfolding line_of clap_on_literals digits
+steps_missing = refl
+
+steps_twice : asked (codes "run" ∷ codes "two" ∷ codes "--steps" ∷ codes "5" ∷ codes "--steps" ∷ codes "5" ∷ []) ≡ bad
+unfolding line_of clap_on_literals digits
+steps_twice = refl
+
+steps_shortened : asked (codes "run" ∷ codes "two" ∷ codes "--step" ∷ codes "5" ∷ []) ≡ bad
+unfolding line_of clap_on_literals digits
+steps_shortened = refl
+
+steps_before_the_command : asked (codes "--steps" ∷ codes "5" ∷ codes "run" ∷ codes "two" ∷ []) ≡ bad
+unfolding line_of clap_on_literals digits
+steps_before_the_command = refl
+
+-- ## Other words
+
+name_alone : asked ([]) ≡ bad
+unfolding line_of clap_on_literals digits
+name_alone = refl
+
+help_flag : asked (codes "--help" ∷ []) ≡ bad
+unfolding line_of clap_on_literals digits
+help_flag = refl
+
+help_letter : asked (codes "-h" ∷ []) ≡ bad
+unfolding line_of clap_on_literals digits
+help_letter = refl
+
+help_word : asked (codes "help" ∷ []) ≡ bad
+unfolding line_of clap_on_literals digits
+help_word = refl
+
+help_of_run : asked (codes "run" ∷ codes "--help" ∷ []) ≡ bad
+unfolding line_of clap_on_literals digits
+help_of_run = refl
+
+help_word_of_run : asked (codes "help" ∷ codes "run" ∷ []) ≡ bad
+unfolding line_of clap_on_literals digits
+help_word_of_run = refl
+
+version_flag : asked (codes "--version" ∷ []) ≡ bad
+unfolding line_of clap_on_literals digits
+version_flag = refl
+
+other_command : asked (codes "gen" ∷ codes "5" ∷ []) ≡ bad
+unfolding line_of clap_on_literals digits
+other_command = refl
+
+command_shortened : asked (codes "ru" ∷ codes "two" ∷ []) ≡ bad
+unfolding line_of clap_on_literals digits
+command_shortened = refl
+
+command_in_capitals : asked (codes "RUN" ∷ codes "two" ∷ []) ≡ bad
+unfolding line_of clap_on_literals digits
+command_in_capitals = refl
+
+command_behind_hyphens : asked (codes "--" ∷ codes "run" ∷ codes "two" ∷ []) ≡ bad
+unfolding line_of clap_on_literals digits
+command_behind_hyphens = refl

@@ -1,0 +1,98 @@
+-- What a list of words asks for, by the definition of `clap`.
+use Rattle.std.specs.Prelude.{◌&&◌, ℕ, true, List, Option, Some, None, option_map, codes, nat_le, if◌then◌else◌, decimal}
+use Rattle.std.specs.Str.{bytes_eq}
+use Rattle.std.specs.Str.Parse.{digits_value}
+use Rattle.clap.specs.Walk.{Row, Rule, Text, first_of, is_empty}
+use Rattle.clap.specs.Simple.{App, Shape, new_app, new_rule, on_top, subcommand_of, with_rule, with_subcommand}
+use Rattle.clap.specs.Faults.{fault_of}
+use Rattle.words.specs.declared.request.Action.{Action}
+use Rattle.words.specs.declared.request.Action.TheVariants.{Check, Run, Build}
+
+pub data Line : Type 0 where
+  -- this action on the module of this file
+  on_file : Text → Action → Line
+  -- nothing that is there
+  bad : Line
+
+-- ## The command line, as clap sees it
+
+-- one file, which has to be named
+abbrev pub file_rule : Rule
+file_rule = record (new_rule (codes "file")) { required = true }
+
+-- `--steps N`, which may be left out
+abbrev pub steps_rule : Rule
+steps_rule = record (new_rule (codes "steps")) { long = Some (codes "steps") }
+
+-- `check FILE`
+abbrev pub check_app : App
+check_app = with_rule (new_app (codes "check")) file_rule
+
+-- `run FILE [--steps N]`
+abbrev pub run_app : App
+run_app = with_rule (with_rule (new_app (codes "run")) file_rule) steps_rule
+
+-- `build FILE`
+abbrev pub build_app : App
+build_app = with_rule (new_app (codes "build")) file_rule
+
+-- a command has to be named; `help` and `--help` are words like others
+abbrev pub settings : Shape → Shape
+settings s = record s {
+  subcommand_required = true;
+  disable_help_flag = true;
+  disable_help_subcommand = true;
+}
+
+-- the commands `check` and `run`
+abbrev pub base_app : App
+base_app = with_subcommand (with_subcommand (on_top settings (new_app (codes "stackwasm"))) check_app.top) run_app.top
+
+-- the program's commands
+abbrev pub the_app : App
+the_app = with_subcommand base_app build_app.top
+
+-- ## What its matches say
+
+-- the steps of a run where the words give none
+abbrev pub default_steps : ℕ
+default_steps = 100000000
+
+-- the most steps that the words may give
+abbrev pub most_steps : ℕ
+most_steps = 1099511627776
+
+-- the number that the text spells in decimal digits, with no sign and no zero before it, from the least to the most
+abbrev pub number_in : ℕ → ℕ → Text → Option ℕ
+number_in least most text = if bytes_eq text (decimal (digits_value 10 text))
+    && (nat_le least (digits_value 10 text) && nat_le (digits_value 10 text) most)
+    then Some (digits_value 10 text) else None
+
+-- the number of steps, by the text that the words give for it
+abbrev pub steps_in : Option Text → Option ℕ
+steps_in (Some text) = number_in 0 most_steps text
+steps_in None = Some default_steps
+
+-- a line of what is there, and else a bad one
+abbrev pub when : {X : Type 0} → Option X → (X → Line) → Line
+when (Some x) line = line x
+when None line = bad
+
+-- what a command does with the module of its file
+abbrev pub action_of : Text → List Row → Option Action
+action_of name rows = if bytes_eq name (codes "check") then Some Check
+    else (if bytes_eq name (codes "run") then option_map Run (steps_in (first_of (codes "steps") rows))
+    else (if bytes_eq name (codes "build") then Some Build
+    else None))
+
+-- the line of a command's matches
+abbrev pub named_line : Text → List Row → Line
+named_line name rows = when (first_of (codes "file") rows) (λ file. when (action_of name rows) (on_file file))
+
+abbrev pub entered_line : Option (Text × List Row) → Line
+entered_line (Some p) = named_line p.0 p.1
+entered_line None = bad
+
+-- what the words ask for, the program's name first: clap takes them, and its matches say it
+unfoldable pub line_of : List Text → Line
+line_of words = if is_empty (fault_of the_app words) then entered_line (subcommand_of the_app words) else bad

@@ -1,0 +1,69 @@
+//! The command line, as clap sees it.
+ghost use Rattle.std.specs.Prelude.{◌≡◌, [], map, string_bytes, false, IfOk, IfErr};
+ghost use Rattle.clap.specs.Kinds.{HasKind};
+ghost use Rattle.clap.specs.Faults.{fault_of};
+ghost use Rattle.clap.specs.Simple.{app_of, subcommand_of, subcommand_rows_of};
+ghost use Rattle.clap.specs.declared.builder.command.Command.TheViews.{out-Command};
+ghost use Rattle.words.specs.Line.{the_app, base_app, check_app, run_app, build_app};
+
+use clap::{Arg, ArgMatches, Command, Error};
+use std::alloc::{AllocError, Global};
+
+// `check FILE`.
+fn check_command<'a>(alloc: Global) -> Result<Command<'a>, AllocError>
+    ensures app { IfOk result (λ c. app_of c ≡ check_app) }
+    ensures local { IfOk result (λ c. (out-Command c).has_globals ≡ false) }
+{
+    let file = Arg::new(alloc, "file").required(true);
+    Command::new(alloc, "check").arg(file)
+}
+
+// `run FILE [--steps N]`.
+fn run_command<'a>(alloc: Global) -> Result<Command<'a>, AllocError>
+    ensures app { IfOk result (λ c. app_of c ≡ run_app) }
+    ensures local { IfOk result (λ c. (out-Command c).has_globals ≡ false) }
+{
+    let file = Arg::new(alloc, "file").required(true);
+    let steps = Arg::new(alloc, "steps").long("steps");
+    Command::new(alloc, "run").arg(file)?.arg(steps)
+}
+
+// `build FILE`.
+fn build_command<'a>(alloc: Global) -> Result<Command<'a>, AllocError>
+    ensures app { IfOk result (λ c. app_of c ≡ build_app) }
+    ensures local { IfOk result (λ c. (out-Command c).has_globals ≡ false) }
+{
+    let file = Arg::new(alloc, "file").required(true);
+    Command::new(alloc, "build").arg(file)
+}
+
+// The commands `check` and `run`. `help` and `--help` are words like others.
+fn base_commands<'a>(alloc: Global) -> Result<Command<'a>, AllocError>
+    ensures { IfOk result (λ c. app_of c ≡ base_app) }
+{
+    let check = check_command(alloc)?;
+    let run = run_command(alloc)?;
+    let top = Command::new(alloc, "stackwasm")
+        .subcommand_required(true)
+        .disable_help_flag(true)
+        .disable_help_subcommand(true);
+    top.subcommand(check)?.subcommand(run)
+}
+
+// The program's commands.
+fn commands<'a>(alloc: Global) -> Result<Command<'a>, AllocError>
+    ensures { IfOk result (λ c. app_of c ≡ the_app) }
+{
+    let build = build_command(alloc)?;
+    base_commands(alloc)?.subcommand(build)
+}
+
+/// What clap makes of the words.
+pub(crate) fn parse<'a>(alloc: Global, words: &'a [String]) -> Result<ArgMatches<'a>, Error>
+    ensures taken { IfOk result (λ m. fault_of the_app (map string_bytes words.entry.now) ≡ []) }
+    ensures rows { IfOk result (λ m. subcommand_rows_of m
+        ≡ subcommand_of the_app (map string_bytes words.entry.now)) }
+    ensures refused { IfErr result (λ e. HasKind (fault_of the_app (map string_bytes words.entry.now)) e) }
+{
+    commands(alloc)?.try_get_matches_from(words)
+}

@@ -1,0 +1,54 @@
+//! The number of steps of a run, as the words give it.
+ghost use Rattle.std.specs.Prelude.{◌≡◌, ◌≤◌, IfSome, option_map, codes};
+ghost use Rattle.clap.specs.Matches.{found_of};
+ghost use Rattle.clap.specs.Walk.{first_of, rows_of};
+ghost use Rattle.words.specs.Line.{number_in, steps_in, most_steps};
+
+use clap::ArgMatches;
+use itoa::Buffer;
+
+/// The steps of a run where the words give none.
+pub const DEFAULT_STEPS: u64 = 100_000_000;
+
+/// The most steps that the words may give.
+pub const MOST_STEPS: u64 = 1_099_511_627_776;
+
+// A number in decimal digits, with no sign and no zero before it, from the least to the most.
+fn number_of(least: u64, most: u64, text: &str) -> Option<u64>
+    ensures number { result ≡ number_in least most text.now }
+    ensures within { IfSome result (λ number. number ≤ most) }
+{
+    let Ok(number) = text.parse::<u64>() else {
+        return None;
+    };
+    if number < least {
+        return None;
+    }
+    if number > most {
+        return None;
+    }
+    let mut buffer = Buffer::new();
+    if buffer.format(number) == text {
+        Some(number)
+    } else {
+        None
+    }
+}
+
+/// The value of an argument.
+pub(crate) fn value_of<'a>(found: &ArgMatches<'a>, id: &str) -> Option<&'a str>
+    ensures { option_map (λ s. s.now) result ≡ first_of id.now (rows_of (found_of found.now)) }
+{
+    found.get_str(id)
+}
+
+/// The number of steps.
+pub(crate) fn steps_of(found: &ArgMatches) -> Option<u64>
+    ensures steps { result ≡ steps_in (first_of (codes "steps") (rows_of (found_of found.now))) }
+    ensures within { IfSome result (λ steps. steps ≤ most_steps) }
+{
+    match value_of(found, "steps") {
+        Some(text) => number_of(0, MOST_STEPS, text),
+        None => Some(DEFAULT_STEPS),
+    }
+}
