@@ -13,7 +13,7 @@ from typing import NamedTuple
 from assembler.encoding import indices, signed, unsigned, vector
 from assembler.instructions import NOP, global_get, i64_const, local_get, ref_func, ref_null
 from assembler.modules import (
-    HEADER, as_func, as_global, as_table, as_tag, code, export, global_, imported, section, table, tag)
+    HEADER, SECTION_IDS, as_func, as_global, as_table, as_tag, code, export, global_, imported, section, table, tag)
 from assembler.segments import (
     active_data, active_functions, declared_functions, passive_data, passive_expressions, passive_functions)
 from assembler.types import (
@@ -176,9 +176,26 @@ def surroundings():
         data=section('datas', vector([passive_data('abc'), active_data('de')])))
 
 
-def module_with(function_type, code_contents):
-    """The module in which the judged function has this type, and this code, which is given without its size."""
+def pieces():
+    """The pieces that spell the module around the judged function, each with its name."""
     around = surroundings()
-    types = section('types', around.types + function_type)
-    codes = section('codes', CODES_IN_FRONT + unsigned(len(code_contents)) + code_contents + CODES_BEHIND)
-    return HEADER + types + around.items + codes + around.data
+    parts = [
+        ('header', HEADER), ('types', around.types), ('items', around.items), ('codes_in_front', CODES_IN_FRONT),
+        ('codes_behind', CODES_BEHIND), ('segments', around.data)]
+    return [(piece, spelling.hex().upper()) for piece, spelling in parts]
+
+
+def words_with(function_type, code_contents):
+    """The words that spell the module in which the judged function has this type, and this code, which is given without
+    its size."""
+    size = unsigned(len(code_contents))
+    types = _section_front('types', len(surroundings().types) + len(function_type))
+    codes = _section_front('codes', len(CODES_IN_FRONT + size + code_contents + CODES_BEHIND))
+    return (
+        f'@header {types} @types {function_type.hex().upper()} @items {codes} @codes_in_front '
+        f'{(size + code_contents).hex().upper()} @codes_behind @segments')
+
+
+def _section_front(kind, size):
+    """What stands in front of a section of this size."""
+    return (bytes([SECTION_IDS[kind]]) + unsigned(size)).hex().upper()

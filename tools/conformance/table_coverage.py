@@ -10,7 +10,7 @@ from itertools import product
 from reader.byte_source import ByteSource
 from reader.instructions import BLOCKS, PLAIN, PREFIXED, all_instructions
 from reader.module_decoding import read_code
-from rows import TEXTS
+from rows import FILES
 from rows.sections import FunctionSection
 
 WANTED = set(product(['accepted', 'refused'], ['reached', 'unreached']))
@@ -34,7 +34,7 @@ def _lines_of(instruction):
 def lacking_lines():
     """The lines of the table that lack a row, each with what is lacking."""
     shown = defaultdict(set)
-    for section in (section for text in TEXTS for section in text.sections):
+    for section in (section for row_file in FILES for section in row_file.sections):
         if isinstance(section, FunctionSection):
             for row in section.rows:
                 accepted = 'accepted' if row.mark == '+' else 'refused'

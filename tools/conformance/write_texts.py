@@ -1,72 +1,55 @@
 #!/usr/bin/env python3
-"""Writes the texts of rows for the tests of the crate `conformance`.
+"""Writes files of rows for the program `conformance`, and the files that name them and count their rows.
 
-Before, the second reader judges every row. Where it and the row disagree nothing is written, and the row is named.
+Before, the second reader judges every row that it can, also of the files that are kept by hand. Where it and a row
+disagree nothing is written, and the row is named.
 """
 
 import argparse
 import sys
-from collections import Counter
 from pathlib import Path
 
-from reader import answer
-from rows import TEXTS
+from judging import faults, is_judged
+from row_files import rows_of, text_of
+from rows import FILES
 from table_coverage import lacking_lines, table_lines
-from texts import front_text, rows_text
 
 ROOT = Path(__file__).resolve().parents[2]
-TESTS = ROOT / 'crates' / 'conformance' / 'src' / 'tests'
-
-
-def all_rows():
-    """Every row of every text."""
-    return [row for text in TEXTS for section in text.sections for row in section.rows]
-
-
-def faults(rows):
-    """What is wrong with rows: names that are no names or not their own, and answers that the reader contradicts."""
-    counts = Counter(row.name for row in rows)
-    found = [f'{name}: {count} rows of this name' for name, count in counts.items() if count > 1]
-    found += [f'{row.name!r}: a name has no space' for row in rows if ' ' in row.name]
-    for row in rows:
-        read = read_answer(row)
-        if read != row.answer:
-            found.append(f'{row.name}: the row says {row.answer!r}, and the second reader {read!r}')
-    return found
-
-
-def read_answer(row):
-    """What the second reader says of a row. An error of the reader itself names the row."""
-    try:
-        return answer(row.module)
-    except Exception as error:
-        error.add_note(f'This is of the row {row.name}.')
-        raise
+CRATE = ROOT / 'crates' / 'conformance'
+DATA = CRATE / 'data'
 
 
 def all_texts():
-    """What each file is to hold, by its path."""
-    contents = {'front': front_text()} | {text.name: rows_text(text) for text in TEXTS}
-    return {TESTS / f'{name}.rt': content.encode() for name, content in contents.items()}
+    """The text of every file of rows, by the file's name: those that are written here, and those kept by hand."""
+    written = {f'{row_file.name}.rows': text_of(row_file) for row_file in FILES}
+    kept = {path.name: path.read_text() for path in DATA.glob('*.rows') if path.name not in written}
+    return dict(sorted((written | kept).items()))
 
 
-def check():
+def contents_of(texts, rows):
+    """What each file is to hold, by its path: the rows, the names of the files of rows, and what the program prints."""
+    counts = [f'{name}: {len(rows[name])} rows, of which 0 came out otherwise' for name in texts]
+    contents = {DATA / name: text for name, text in texts.items()}
+    contents[CRATE / 'args'] = ''.join(f'{name}\n' for name in texts)
+    contents[CRATE / 'stdout'] = ''.join(f'{line}\n' for line in counts)
+    return contents
+
+
+def check(contents):
     """Name the files that hold something else, and give the status."""
-    texts = all_texts()
-    stale = [path for path, content in texts.items() if not path.is_file() or path.read_bytes() != content]
+    stale = [path for path, text in contents.items() if not path.is_file() or path.read_text() != text]
     for path in stale:
         print(f'differs: {path.relative_to(ROOT)}')
     if not stale:
-        print(f'{len(texts)} files hold what would be written.')
+        print(f'{len(contents)} files hold what would be written.')
     return 1 if stale else 0
 
 
-def write():
+def write(contents):
     """Write the files, and give the status."""
-    texts = all_texts()
-    for path, content in texts.items():
-        path.write_bytes(content)
-    print(f'{len(texts)} files written to {TESTS.relative_to(ROOT)}.')
+    for path, text in contents.items():
+        path.write_text(text)
+    print(f'{len(contents)} files written to {CRATE.relative_to(ROOT)}.')
     return 0
 
 
@@ -82,7 +65,7 @@ def coverage():
 
 def main():
     """Do what the arguments ask for, and give the status."""
-    parser = argparse.ArgumentParser(description='Write the texts of rows for the tests of the crate `conformance`.')
+    parser = argparse.ArgumentParser(description='Write files of rows for the program `conformance`.')
     modes = parser.add_mutually_exclusive_group()
     modes.add_argument('--check', action='store_true', help='write nothing, and name the files that would change')
     modes.add_argument(
@@ -90,11 +73,16 @@ def main():
     arguments = parser.parse_args()
     if arguments.coverage:
         return coverage()
-    found = faults(all_rows())
+    texts = all_texts()
+    rows = {name: rows_of(text) for name, text in texts.items()}
+    found = [fault for name in texts for fault in faults(name, rows[name])]
     if found:
         print('\n'.join(found), file=sys.stderr)
         return 1
-    return check() if arguments.check else write()
+    judged = sum(is_judged(row) for name in texts for row in rows[name])
+    print(f'{sum(map(len, rows.values()))} rows, of which the second reader judges {judged}.')
+    contents = contents_of(texts, rows)
+    return check(contents) if arguments.check else write(contents)
 
 
 if __name__ == '__main__':

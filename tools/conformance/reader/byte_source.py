@@ -62,5 +62,13 @@ class ByteSource:
         """A count, and so many things that are read by a function of the source."""
         return [read(self) for _ in range(self.unsigned())]
 
-    def name(self):
+    def bytes(self):
         return bytes(self.vector(ByteSource.byte))
+
+    def name(self):
+        name = self.bytes()
+        try:
+            name.decode()
+        except UnicodeDecodeError:
+            raise Malformed('name') from None
+        return name

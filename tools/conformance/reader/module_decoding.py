@@ -10,6 +10,7 @@ from reader.type_decoding import (
 from reader.types import FUNCREF, Limits, Ref
 
 HEADER = b'\x00asm\x01\x00\x00\x00'
+GREATEST_KIND = 4       # of exports
 
 
 class Table(NamedTuple):
@@ -98,7 +99,10 @@ def _global(source):
 
 
 def _export(source):
-    return Export(source.name(), source.byte(), index(source))
+    export = Export(source.name(), source.byte(), index(source))
+    if export.kind > GREATEST_KIND:
+        raise Malformed('exportkind')
+    return export
 
 
 def _element(source):
@@ -125,7 +129,7 @@ def _data(source):
     active = None
     if flag != 1:
         active = Active(index(source) if flag == 2 else 0, expression(source))
-    source.name()
+    source.bytes()
     return active
 
 
@@ -165,28 +169,51 @@ CUSTOM = 0
 
 
 def decode(data):
-    """The module that the bytes spell."""
+    """The module that the bytes spell.
+
+    A fault tells the first section, counted from 0, that is not framed in its place, or whose contents say nothing.
+    """
     if not data.startswith(HEADER):
         raise Malformed('header')
     module = Module()
     source = ByteSource(data, len(HEADER))
     last = -1
+    number = 0
     while source.position < source.end:
-        section = source.byte()
-        contents = source.part('section')
-        if section == CUSTOM:
-            contents.name()
-            continue
-        place = ORDER.index(section)
-        if place <= last:
-            raise Malformed('order')
-        last = place
-        name, read = SECTIONS[section]
-        setattr(module, name, read(contents))
-        if contents.position != contents.end:
-            raise Malformed(f'junk in {section}')
+        section, last, contents = _told('frame', number, _frame, source, last)
+        _told('content', number, _read_contents, module, section, contents)
+        number += 1
     _check_counts(module)
     return module
+
+
+def _told(part, number, read, *arguments):
+    """What is read, or the fault that this part of this section has."""
+    try:
+        return read(*arguments)
+    except Malformed:
+        raise Malformed(f'{part} {number}') from None
+
+
+def _frame(source, last):
+    """A section that may stand behind the last one: its id, what is the last place from now on, and its contents."""
+    section = source.byte()
+    if section == CUSTOM:
+        return section, last, source.part('section')
+    if section not in ORDER or ORDER.index(section) <= last:
+        raise Malformed('order')
+    return section, ORDER.index(section), source.part('section')
+
+
+def _read_contents(module, section, contents):
+    """Read the contents of a section into the module."""
+    if section == CUSTOM:
+        contents.name()
+        return
+    name, read = SECTIONS[section]
+    setattr(module, name, read(contents))
+    if contents.position != contents.end:
+        raise Malformed('junk')
 
 
 def _check_counts(module):

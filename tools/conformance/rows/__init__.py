@@ -1,6 +1,6 @@
-"""The rows, by topic, and the texts in which they stand.
+"""The rows, by topic, and the files in which they stand.
 
-This goes through the topics in the order of the texts, since the types of the module of `surroundings` are numbered in
+This goes through the topics in the order of the files, since the types of the module of `surroundings` are numbered in
 the order in which rows ask for them.
 """
 
@@ -9,25 +9,29 @@ from typing import NamedTuple
 from rows import (
     numeric, memory, tables, variables, references, control, branches, calls, making, suspending, handling, switching,
     whole_modules, without_a_memory, types_and_imports, tables_and_memories, constant_expressions, segments,
-    starts_exports_and_functions, orders)
+    starts_exports_and_functions, orders, decoding, framing, fields, spellings, instructions,
+    equivalence, matching, limits, arithmetic, sizes, long_runs)
+from surroundings import pieces
 
 
-class Text(NamedTuple):
-    """A text of rows."""
+class RowFile(NamedTuple):
+    """A file of rows."""
 
     name: str
     heading: str
+    pieces: list
     sections: list
 
 
 def _functions(name, topic, *sections):
-    heading = (
-        f'Functions of {topic}: what each shows, `+` where it is valid, and the digits of its type and of its locals '
-        'and body.')
-    return Text(name, heading, list(sections))
+    return lambda: RowFile(name, f'Functions of {topic}, each the second of one module.', pieces(), sections)
 
 
-TEXTS = [
+def _modules(name, heading, *sections):
+    return lambda: RowFile(name, heading, [], sections)
+
+
+_FILES = [
     _functions(
         'numeric', 'numeric instructions', numeric.CONVERSIONS, numeric.COMPARISONS, numeric.ARITHMETIC_OF_I32,
         numeric.ARITHMETIC_OF_I64),
@@ -42,7 +46,26 @@ TEXTS = [
     _functions('control', 'blocks, branches and calls', control.SECTION, branches.SECTION, calls.SECTION),
     _functions(
         'switching', 'stack switching', making.SECTION, suspending.SECTION, handling.SECTION, switching.SECTION),
-    Text('modules', 'Whole modules: what each shows, its digits, and the line that is wanted.', [
+    _modules(
+        'modules', 'Whole modules, and the item that is named where one is not valid.',
         whole_modules.SECTION, without_a_memory.SECTION, types_and_imports.SECTION, tables_and_memories.SECTION,
-        constant_expressions.SECTION, segments.SECTION, starts_exports_and_functions.SECTION, orders.SECTION]),
+        constant_expressions.SECTION, segments.SECTION, starts_exports_and_functions.SECTION, orders.SECTION),
+    lambda: RowFile(
+        'equivalence', 'Types that are equivalent, and types that are not.', equivalence.PIECES, [equivalence.SECTION]),
+    _modules('matching', 'Types that match and types that are equal.', matching.SECTION),
+    _modules('limits', 'Limits on modules.', limits.SECTION),
+    _modules('arithmetic', 'Runs of one operation.', arithmetic.SECTION),
+    _modules('decoding', 'Bytes that spell a module, and bytes that spell none.', decoding.SECTION),
+    _modules('sections', 'Sections: their frames, order, contents and counts.', framing.SECTION),
+    _modules('fields', 'Types, names, lists, imports, exports and segments, and bytes that are none.', fields.SECTION),
+    _modules('spellings', 'Modules that are written, each also as it was written.', spellings.SECTION),
+    lambda: RowFile(
+        'instructions', 'How each instruction is spelled, and what spells none.', instructions.PIECES,
+        [instructions.SECTION]),
+    lambda: RowFile(
+        'sizes', 'Modules as large as a file may be, or nested deeply.', sizes.PIECES, [sizes.SECTION]),
+    _modules('long_runs', 'Runs of ten million reductions.', long_runs.SECTION),
 ]
+
+# All rows are made by now, and with them the module in which functions are judged.
+FILES = [make() for make in _FILES]

@@ -38,7 +38,7 @@ def module_of(kinds):
 KINDS = list(INVALID_ITEMS)
 for place, (kind, (answer, _)) in enumerate(INVALID_ITEMS.items()):
     row(f'orders/{kind}-and-all-later-ones', answer, module_of(KINDS[place:]))
-    for next_kind in KINDS[place + 1:place + 2]:
+    for next_kind in KINDS[place + 1:]:
         row(f'orders/{kind}-before-{next_kind}', answer, module_of([kind, next_kind]))
 
 row('orders/global-before-export-and-function', 'invalid global 0',

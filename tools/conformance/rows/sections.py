@@ -1,6 +1,6 @@
 """Sections of rows: functions with the mark of whether they are valid, and modules with what is said of them.
 
-A row has a name that no other row has. Each section is one static of a text.
+A row has a name that no other row of its file has.
 """
 
 from typing import NamedTuple
@@ -8,8 +8,10 @@ from typing import NamedTuple
 from assembler.instructions import UNREACHABLE, local_get
 from assembler.modules import code_contents
 from assembler.types import I32, I64, functype
-from surroundings import module_with
+from surroundings import words_with
 
+STATUSES = {'ok': 0, 'malformed': 3, 'invalid': 4, 'limit': 9}
+HEADER_LENGTH = 8
 VALID = 'ok module'
 
 
@@ -27,14 +29,10 @@ class FunctionRow(NamedTuple):
         return VALID if self.mark == '+' else 'invalid function 1'
 
     @property
-    def module(self):
-        """The bytes of the module in which the function is judged."""
-        return module_with(self.function_type, self.code)
-
-    @property
-    def line(self):
-        """The row as it stands in the text."""
-        return ' '.join([self.name, self.mark, digits(self.function_type), digits(self.code)])
+    def fields(self):
+        """The lines of the row."""
+        given = words_with(self.function_type, self.code)
+        return ['words stackwasm check x', f'file x {given}', *answered(self.answer)]
 
 
 class ModuleRow(NamedTuple):
@@ -43,30 +41,64 @@ class ModuleRow(NamedTuple):
     name: str
     answer: str             # what is to be said of it
     module: bytes
+    command: str = 'check'
 
     @property
-    def line(self):
-        """The row as it stands in the text."""
-        return ' '.join([self.name, digits(self.module), self.answer])
+    def fields(self):
+        """The lines of the row."""
+        return [f'words stackwasm {self.command} x', f'file x {spelled(self.module)}'.rstrip(), *answered(self.answer)]
 
 
-class ModuleSection:
+class BuiltRow(NamedTuple):
+    """A module, and how it is written."""
+
+    name: str
+    given: str              # words that spell the bytes
+    written: str
+
+    @property
+    def fields(self):
+        """The lines of the row."""
+        return ['words stackwasm build x', f'file x {self.given}', f'out {self.written}']
+
+
+class CallRow(NamedTuple):
+    """A call on a file."""
+
+    name: str
+    words: str              # behind the name of the program
+    given: str              # words that spell the bytes
+    wanted: tuple           # the lines that say what it comes to
+
+    @property
+    def fields(self):
+        """The lines of the row."""
+        return [f'words stackwasm {self.words}', f'file x {self.given}', *self.wanted]
+
+
+class Section:
+    """Rows of some kinds."""
+
+    def __init__(self, name):
+        self.name = name
+        self.rows = []
+
+
+class ModuleSection(Section):
     """Rows of modules."""
 
-    def __init__(self, name):
-        self.name = name
-        self.rows = []
+    def row(self, name, answer, module, command='check'):
+        self.rows.append(ModuleRow(name, answer, module, command))
 
-    def row(self, name, answer, module):
-        self.rows.append(ModuleRow(name, answer, module))
+    def built(self, name, given, written):
+        """A module that is written so, and once more, as it was written."""
+        self.rows.append(BuiltRow(name, spelled(given), spelled(written)))
+        if given != written:
+            self.rows.append(BuiltRow(f'{name}/again', spelled(written), spelled(written)))
 
 
-class FunctionSection:
+class FunctionSection(Section):
     """Rows of functions."""
-
-    def __init__(self, name):
-        self.name = name
-        self.rows = []
 
     def row(self, name, mark, parameters, results, body, local_runs=()):
         """A function of these parameters, results, locals and instructions."""
@@ -109,9 +141,31 @@ class FunctionSection:
             self.row(f'{name}/unreached-result-from-beneath', '+', operands, [I32], UNREACHABLE + instruction)
 
 
-def digits(spelling):
-    """Bytes as hexadecimal digits."""
-    return spelling.hex().upper()
+def answered(answer):
+    """The lines that say that this is answered: on out where the module is accepted, and else on err."""
+    status = STATUSES[answer.split()[0]]
+    return [f'out | {answer}'] if status == 0 else [f'err | {answer}', f'status {status}']
+
+
+def spelled(module):
+    """The words that spell a module: its header, and a word for each section."""
+    words = [module[:HEADER_LENGTH]]
+    rest = module[HEADER_LENGTH:]
+    while rest:
+        end = _section_end(rest)
+        words.append(rest[:end])
+        rest = rest[end:]
+    return ' '.join(word.hex().upper() for word in words)
+
+
+def _section_end(rest):
+    """Where the section ends that is in front; where there is none, where the bytes end."""
+    size, place = 0, 1
+    for place in range(1, min(len(rest), 6)):
+        size |= (rest[place] & 0x7f) << 7 * (place - 1)
+        if rest[place] < 0x80:
+            return min(place + 1 + size, len(rest))
+    return len(rest)
 
 
 def wrong_type(value_type):

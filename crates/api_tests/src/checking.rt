@@ -1,0 +1,153 @@
+//! The checker of bodies, call by call.
+use std::alloc::{AllocError, Global};
+use std::process::Abort;
+use std::test::Fail;
+use w_canon::Classes;
+use w_decode::decode;
+use w_rules::Context;
+use w_syntax::{BlockKind, BlockType, ControlOp, Instr, Module, NumericOp, Op, SwitchingOp};
+use w_types::ValType;
+use w_vplain::Checker;
+use w_vswitch::switching;
+
+// The types [] to [] and [i32] to [].
+static MODULE: [u8; 18] = [
+    0x00, 0x61, 0x73, 0x6D, 0x01, 0x00, 0x00, 0x00, 0x01, 0x08, 0x02, 0x60, 0x00, 0x00, 0x60, 0x01,
+    0x7F, 0x00,
+];
+
+// The module, and the classes of its types.
+#[derive(Drop)]
+struct Bench {
+    owner: Module,
+    classes: Classes,
+}
+
+impl Bench {
+    fn new(alloc: Global) -> Result<Bench, Fail> {
+        let owner = decode(alloc, &MODULE)?;
+        match Classes::of_groups(alloc, owner.types.as_slice()) {
+            Ok(classes) => Ok(Bench { owner, classes }),
+            Err(error) => {
+                drop(owner);
+                Err(Fail::from(error))
+            }
+        }
+    }
+
+    // With nothing but these types.
+    fn context(&self) -> Context<'_> {
+        Context {
+            owner: &self.owner,
+            classes: &self.classes,
+            functions: &[],
+            tables: &[],
+            memories: &[],
+            globals: &[],
+            tags: &[],
+            declared: &[],
+        }
+    }
+}
+
+fn nop() -> Instr {
+    Instr::Plain(Op::Control(ControlOp::Nop))
+}
+
+fn cont_new() -> Instr {
+    Instr::Plain(Op::Switching(SwitchingOp::ContNew(0)))
+}
+
+// Whether each of these calls is true: constants of i64, i32 and i64.
+fn push_three(checker: &mut Checker<'_>) -> Result<bool, AllocError> {
+    let long = Instr::Plain(Op::Numeric(NumericOp::I64Const(7)));
+    let short = Instr::Plain(Op::Numeric(NumericOp::I32Const(7)));
+    Ok(checker.plain(&long)? && checker.plain(&short)? && checker.plain(&long)?)
+}
+
+// A row takes two operands and gives none; with it go five more of a clause's label.
+fn row_leaves_one(rt: &impl Abort, checker: &mut Checker<'_>) -> Result<(), Fail> {
+    assert!(rt; push_three(checker)?);
+    assert_eq!(rt; (checker.height(), checker.depth()), (3, 1));
+    assert!(rt; checker.apply(&[ValType::I32], Some(ValType::I64), &[], Some(5))?);
+    assert_eq!(rt; checker.height(), 6);
+    assert!(rt; checker.end()?);
+    Ok(())
+}
+
+// Behind a call that answers false, each one does.
+fn all_false(checker: &mut Checker<'_>) -> Result<bool, AllocError> {
+    Ok(
+        !checker.plain(&nop())?
+            && !checker.enter(&Instr::If(BlockType::Empty, None, 0))?
+            && !checker.other()?
+            && !checker.end()?
+            && !switching(checker, &cont_new())?
+            && !checker.apply(&[], None, &[], None)?,
+    )
+}
+
+// An instruction in the call of another class has no place, and nothing has behind it.
+fn plain_call_refuses_switching(rt: &impl Abort, checker: &mut Checker<'_>) -> Result<(), Fail> {
+    assert!(rt; !checker.plain(&cont_new())?);
+    assert!(rt; all_false(checker)?);
+    Ok(())
+}
+
+// How many values a branch to the label takes, and whether the first is an i32; where there is such a label.
+fn label_of(checker: &Checker<'_>, index: u32) -> Option<(usize, bool)> {
+    let label = checker.label(index)?;
+    Some((label.len(), matches!(label.first(), Some(ValType::I32))))
+}
+
+// Whether each of these calls is true: a constant of i32, a loop that takes it, and a block in that.
+fn open_two(checker: &mut Checker<'_>) -> Result<bool, AllocError> {
+    let number = Instr::Plain(Op::Numeric(NumericOp::I32Const(7)));
+    let outer = Instr::Block(BlockKind::Loop, BlockType::Index(1), 0);
+    let inner = Instr::Block(BlockKind::Block, BlockType::Empty, 0);
+    Ok(checker.plain(&number)? && checker.enter(&outer)? && checker.enter(&inner)?)
+}
+
+fn labels_are_told(rt: &impl Abort, checker: &mut Checker<'_>) -> Result<(), Fail> {
+    assert!(rt; open_two(checker)?);
+    assert_eq!(rt; label_of(checker, 0), Some((0, false)));
+    assert_eq!(rt; label_of(checker, 1), Some((1, true)));
+    assert_eq!(rt; label_of(checker, 2), Some((1, false)));
+    assert_eq!(rt; label_of(checker, 3), None);
+    assert_eq!(rt; checker.context().tables.len(), 0);
+    Ok(())
+}
+
+// What is done with the checker of a body to [i64].
+#[derive(Clone, Copy)]
+enum Call {
+    Row,
+    OtherClass,
+    Labels,
+}
+
+fn perform(alloc: Global, rt: &impl Abort, bench: &Bench, call: Call) -> Result<(), Fail> {
+    let context = bench.context();
+    let mut checker = Checker::begin(alloc, &context, &[], &[], &[ValType::I64])?;
+    let told = match call {
+        Call::Row => row_leaves_one(rt, &mut checker),
+        Call::OtherClass => plain_call_refuses_switching(rt, &mut checker),
+        Call::Labels => labels_are_told(rt, &mut checker),
+    };
+    drop(checker);
+    told
+}
+
+fn perform_all(alloc: Global, rt: &impl Abort, bench: &Bench) -> Result<(), Fail> {
+    perform(alloc, rt, bench, Call::Row)?;
+    perform(alloc, rt, bench, Call::OtherClass)?;
+    perform(alloc, rt, bench, Call::Labels)
+}
+
+#[test]
+fn a_checker_answers_call_by_call(rt: HostRuntime) -> Result<(), Fail> {
+    let bench = Bench::new(rt.alloc())?;
+    let told = perform_all(rt.alloc(), &rt, &bench);
+    drop(bench);
+    told
+}

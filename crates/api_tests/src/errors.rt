@@ -1,0 +1,73 @@
+//! What errors say, which no command prints.
+use std::test::Fail;
+use w_decode::DecodeFault;
+use w_machine::InstFault;
+use w_outside::Fault;
+use w_rules::SizeLimit;
+use w_valid::ValidFault;
+
+#[test]
+fn faults_of_bytes_are_told_with_their_section(rt: HostRuntime) -> Result<(), Fail> {
+    let rows = [
+        (
+            DecodeFault::Header,
+            "the bytes do not begin with the header of a module",
+        ),
+        (DecodeFault::Frame(0), "section 0 is not framed"),
+        (
+            DecodeFault::Content(12),
+            "the contents of section 12 are not spelled",
+        ),
+        (
+            DecodeFault::Counts,
+            "the counts of the sections do not agree",
+        ),
+        (DecodeFault::OutOfMemory, "out of memory"),
+    ];
+    for (fault, text) in rows {
+        assert_eq!(rt; fault.to_string(rt.alloc())?.as_str(), text);
+    }
+    Ok(())
+}
+
+#[test]
+fn faults_of_modules_are_told_with_their_item(rt: HostRuntime) -> Result<(), Fail> {
+    let rows = [
+        (ValidFault::Limit(SizeLimit::Types), "limit Types is passed"),
+        (ValidFault::TypeAt(1), "type 1 is not valid"),
+        (ValidFault::Import(2), "import 2 is not valid"),
+        (ValidFault::Table(3), "table 3 is not valid"),
+        (ValidFault::Memory, "the memory is not valid"),
+        (ValidFault::Tag(4), "tag 4 is not valid"),
+        (ValidFault::Global(5), "global 5 is not valid"),
+        (ValidFault::Element(6), "element segment 6 is not valid"),
+        (ValidFault::Data(7), "data segment 7 is not valid"),
+        (ValidFault::Start, "the start is not valid"),
+        (ValidFault::Export(8), "export 8 is not valid"),
+        (ValidFault::Function(9), "function 9 is not valid"),
+        (ValidFault::OutOfMemory, "out of memory"),
+    ];
+    for (fault, text) in rows {
+        assert_eq!(rt; fault.to_string(rt.alloc())?.as_str(), text);
+    }
+    Ok(())
+}
+
+#[test]
+fn faults_of_runs_and_of_the_outside_are_told(rt: HostRuntime) -> Result<(), Fail> {
+    let alloc = rt.alloc();
+    let rows = [
+        (InstFault::Import(2), "nothing is there for import 2"),
+        (InstFault::NoEntry, "there is no entry"),
+        (InstFault::OutOfMemory, "out of memory"),
+    ];
+    for (fault, text) in rows {
+        assert_eq!(rt; fault.to_string(alloc)?.as_str(), text);
+    }
+    assert_eq!(rt; Fault::Failed.to_string(alloc)?.as_str(), "the call failed");
+    assert_eq!(rt;
+        Fault::OutOfMemory.to_string(alloc)?.as_str(),
+        "out of memory"
+    );
+    Ok(())
+}

@@ -1,0 +1,91 @@
+//! Whole modules from bytes: decoded, validated, written and run, and what validation found of them.
+ghost use Rattle.std.specs.Prelude.{◌≡◌};
+
+use std::alloc::Global;
+use std::process::Abort;
+use std::test::Fail;
+use w_decode::decode;
+use w_encode::encode;
+use w_machine::{Machine, Outcome, instantiate};
+use w_rules::Checked;
+use w_valid::validate;
+
+// Types [] to [i64] and [] to []. Main, of the first, is 6 times 7; the second function has an if in which three operands stand
+// on those around it; the third, behind it, has two blocks in an if, and what stands behind an unreachable.
+static MODULE: [u8; 88] = [
+    0x00, 0x61, 0x73, 0x6D, 0x01, 0x00, 0x00, 0x00, // header
+    0x01, 0x08, 0x02, 0x60, 0x00, 0x01, 0x7E, 0x60, 0x00, 0x00, // types
+    0x03, 0x04, 0x03, 0x00, 0x01, 0x01, // functions
+    0x07, 0x08, 0x01, 0x04, 0x6D, 0x61, 0x69, 0x6E, 0x00, 0x00, // exports
+    0x09, 0x05, 0x01, 0x03, 0x00, 0x01, 0x02, // elements
+    0x0A, 0x2D, 0x03, // codes
+    0x07, 0x00, 0x42, 0x06, 0x42, 0x07, 0x7E, 0x0B, //
+    0x11, 0x00, 0x42, 0x01, 0x41, 0x01, 0x04, 0x40, 0x42, 0x01, 0x42, 0x01, 0x1A, 0x1A, 0x0B, 0x1A,
+    0x01, 0x0B, //
+    0x11, 0x00, 0x41, 0x01, 0x04, 0x40, 0x02, 0x40, 0x02, 0x40, 0x0B, 0x0B, 0x00, 0x42, 0x01, 0x1A,
+    0x0B, 0x0B,
+];
+
+// The module, decoded and validated.
+fn checked(alloc: Global) -> Result<Checked, Fail> {
+    let module = decode(alloc, &MODULE)?;
+    Ok(validate(alloc, module)?)
+}
+
+#[test]
+fn a_module_is_written_as_it_was_given(rt: HostRuntime) -> Result<(), Fail> {
+    let module = decode(rt.alloc(), &MODULE)?;
+    let written = encode(rt.alloc(), &module);
+    drop(module);
+    assert_eq!(rt; written?.as_slice(), MODULE.as_slice());
+    Ok(())
+}
+
+fn what_bodies_need_is_known(rt: &impl Abort, checked: &Checked) {
+    let rows = [(0, 2, 1), (1, 3, 2), (2, 1, 4), (3, 0, 0)];
+    for (function, height, depth) in rows {
+        assert_eq!(rt; checked.height(function), height, "{function}");
+        assert_eq!(rt; checked.depth(function), depth, "{function}");
+    }
+}
+
+fn declared_functions_and_classes_are_known(rt: &impl Abort, checked: &Checked) {
+    let declared = [(0, true), (1, false), (2, true), (3, false)];
+    for (function, is_declared) in declared {
+        assert_eq!(rt; checked.declared(function), is_declared, "{function}");
+    }
+    assert!(rt; checked.classes().same(0, 0));
+    assert!(rt; !checked.classes().same(0, 1));
+    assert_eq!(rt; checked.module().functions.len(), 3);
+}
+
+#[test]
+fn what_validation_found_is_known(rt: HostRuntime) -> Result<(), Fail> {
+    let checked = checked(rt.alloc())?;
+    what_bodies_need_is_known(&rt, &checked);
+    declared_functions_and_classes_are_known(&rt, &checked);
+    drop(checked);
+    Ok(())
+}
+
+// The product takes six reductions: the call, two constants, the product, and the exits of the label and of the frame.
+fn takes_three(rt: &impl Abort, machine: &mut Machine)
+    requires { machine.old.taken ≡ 0 }
+{
+    assert!(rt; matches!(machine.run(3), Outcome::Running));
+    assert_eq!(rt; machine.taken(), 3);
+    assert_eq!(rt; machine.results().len(), 0);
+}
+
+#[test]
+fn reductions_are_counted(rt: HostRuntime) -> Result<(), Fail> {
+    let checked = checked(rt.alloc())?;
+    let Ok(store) = instantiate(rt.alloc(), &checked) else {
+        drop(checked);
+        return Err(Fail::from("no store"));
+    };
+    let mut machine = Machine::new(rt.alloc(), checked, store);
+    takes_three(&rt, &mut machine);
+    drop(machine);
+    Ok(())
+}
