@@ -136,6 +136,9 @@ pub fn validate(alloc: Global, candidate: Module) -> Result<Checked, ValidFault>
 {
     match judge(alloc, &candidate) {
         Ok(facts) => Ok(Checked::make(candidate, facts)),
-        Err(fault) => Err(fault),
+        Err(fault) => {
+            drop(candidate);
+            Err(fault)
+        }
     }
 }

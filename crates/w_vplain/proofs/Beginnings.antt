@@ -7,9 +7,9 @@ use Rattle.w_vplain.specs.Frames.{Frame}
 use Rattle.w_vplain.specs.Standing.{total_of, bases_from}
 use Rattle.w_locals.specs.Locals.{first_set, outer_sets}
 use Rattle.w_vplain.specs.View.{frame_view, frames_with}
-use Rattle.w_vplain.specs.declared.frame.Frame as code
-use Rattle.w_vplain.specs.declared.frame_kind.FrameKind.{FrameKind}
-use Rattle.w_vplain.specs.declared.frame_kind.FrameKind.TheVariants as kind
+use Rattle.w_steps.specs.declared.frame.Frame as code
+use Rattle.w_steps.specs.declared.frame_kind.FrameKind.{FrameKind}
+use Rattle.w_steps.specs.declared.frame_kind.FrameKind.TheVariants as kind
 use Rattle.w_vplain.proofs.WholeBodies.{first_frame}
 
 -- the frame of the empty sequence

@@ -12,8 +12,8 @@ use Rattle.w_rules.specs.Context.{Context, Arrow}
 use Rattle.w_rules.specs.Matching.{RowMatches, none, more, known}
 use Rattle.w_flow.specs.Flow.{Covers, pops, none_left, ends}
 use Rattle.w_vplain.specs.Frames.{end_test}
-use Rattle.w_vplain.specs.declared.frame_kind.FrameKind.{FrameKind}
-use Rattle.w_vplain.specs.declared.frame_kind.FrameKind.TheVariants as kind
+use Rattle.w_steps.specs.declared.frame_kind.FrameKind.{FrameKind}
+use Rattle.w_steps.specs.declared.frame_kind.FrameKind.TheVariants as kind
 use Rattle.w_flow.proofs.Covers.{pops_in, pops_out}
 
 -- where no more may lie beneath, what is covered is what the operands match

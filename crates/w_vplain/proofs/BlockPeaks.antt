@@ -11,11 +11,12 @@ use Rattle.w_rules.specs.InstructionTypes.{instr_type}
 use Rattle.w_rules.specs.Matching.{known}
 use Rattle.w_rules.specs.Peak.{net, or_none, in_arrow, moved, past_net, past_arrow, extra, peak}
 use Rattle.w_flow.specs.Flow.{Flow, ◌>>=◌}
-use Rattle.w_vplain.specs.Prefixes.{OpenBlock, opened, more, node, arrow_at, taken_by, to_of, within, kinds_of, set_at}
+use Rattle.w_steps.specs.Labels.{arrow_at, to_of, within}
+use Rattle.w_vplain.specs.Prefixes.{OpenBlock, opened, more, node, taken_by, kinds_of, set_at}
 use Rattle.w_vplain.specs.Frames.{Frame}
 use Rattle.w_vplain.specs.Measures.{height, condition, height_at, first_peak, block_peak, peaks, tally, total}
-use Rattle.w_vplain.specs.declared.frame_kind.FrameKind.{FrameKind}
-use Rattle.w_vplain.specs.declared.frame_kind.FrameKind.TheVariants as kind
+use Rattle.w_steps.specs.declared.frame_kind.FrameKind.{FrameKind}
+use Rattle.w_steps.specs.declared.frame_kind.FrameKind.TheVariants as kind
 use Rattle.w_vplain.proofs.Reaching.{open_block}
 use Rattle.w_vplain.proofs.Nodes.{Inner, is_block, is_then, is_else, label_is, labelled_by}
 use Rattle.w_vplain.proofs.Options.{Whenever, whenever_map, bind_assoc, bind_same, or_same}

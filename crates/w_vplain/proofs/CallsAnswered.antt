@@ -15,16 +15,18 @@ use Rattle.w_flow.specs.Flow.{◌>>=◌}
 use Rattle.w_rules.specs.Context.{Context}
 use Rattle.w_rules.specs.Peak.{or_none}
 use Rattle.w_vplain.specs.Frames.{Frame, FramesStand, Knows, frame_kinds, next}
-use Rattle.w_vplain.specs.Prefixes.{Prefix, IsDerivable, empty, follow, is_checked, labels_of, within, malformed}
+use Rattle.w_steps.specs.Labels.{labels_of, within}
+use Rattle.w_vplain.specs.Prefixes.{Prefix, IsDerivable, empty, follow, is_checked, malformed}
 use Rattle.w_vplain.specs.Measures.{CountsFor, Raised, extra_in, extra_at, peak_of, depth_of, tally, total}
 use Rattle.w_vplain.specs.Row.{IsRow, RaisedBy, above, added_by, labels_in, move_next, raised_to, row_next}
 use Rattle.w_vplain.specs.Standing.{StandsFor, Answers, AnswersRow, Refuses, IsSameBody, IsCall, IsCounted, Counts, counts_if, HasBases, HasClasses, context_for, classes_for, top_of, outer_of, frames_of, frames_of_derived}
 use Rattle.w_locals.specs.Locals.{outer_sets}
-use Rattle.w_vplain.specs.View.{outer_kinds, row_with}
+use Rattle.w_steps.specs.View.{outer_kinds}
+use Rattle.w_vplain.specs.View.{row_with}
 use Rattle.w_vplain.specs.declared.moves.Move.{Move}
 use Rattle.w_vplain.specs.declared.moves.Move.TheVariants as move
 use Rattle.w_vplain.specs.declared.checker.Checker.{Checker}
-use Rattle.w_vplain.specs.declared.frame_kind.FrameKind.{FrameKind}
+use Rattle.w_steps.specs.declared.frame_kind.FrameKind.{FrameKind}
 use Rattle.w_vplain.proofs.RowCalls.{row_knows, row_exact, row_counted, row_deepens, labels_same, labels_of_frames}
 use Rattle.w_vplain.proofs.CallsCounted.{calls_counted}
 use Rattle.w_vplain.proofs.CallsDeepen.{Deepens, calls_deepen}

@@ -13,11 +13,13 @@ use Rattle.w_rules.specs.InstructionTypes.{InstrType, instr_type}
 use Rattle.w_rules.specs.Matching.{known}
 use Rattle.w_rules.specs.Peak.{or_none, extra}
 use Rattle.w_flow.specs.Flow.{◌>>=◌, pops, ends, step}
-use Rattle.w_vplain.specs.Prefixes.{OpenBlock, Prefix, open_at, ended, malformed, opened, more, in_else, node, closed, followed, follow, arrow_at, taken_by, within, kinds_of, set_at}
-use Rattle.w_vplain.specs.Frames.{Frame, frame_kinds, condition_test, typed_next, plain_next, op_next, enter_next, other_next, end_test, leave, end_next, frame_next, next, StandsAll, FramesStand}
+use Rattle.w_steps.specs.Labels.{arrow_at, within}
+use Rattle.w_vplain.specs.Prefixes.{OpenBlock, Prefix, open_at, ended, malformed, opened, more, in_else, node, closed, followed, follow, taken_by, kinds_of, set_at}
+use Rattle.w_steps.specs.PlainTests.{condition_test}
+use Rattle.w_vplain.specs.Frames.{Frame, frame_kinds, typed_next, plain_next, op_next, enter_next, other_next, end_test, leave, end_next, frame_next, next, StandsAll, FramesStand}
 use Rattle.w_vplain.specs.Measures.{height_at, peaks, peak_of, tally, total, Tallies, CountsFor, Raised}
-use Rattle.w_vplain.specs.declared.frame_kind.FrameKind.{FrameKind}
-use Rattle.w_vplain.specs.declared.frame_kind.FrameKind.TheVariants as kind
+use Rattle.w_steps.specs.declared.frame_kind.FrameKind.{FrameKind}
+use Rattle.w_steps.specs.declared.frame_kind.FrameKind.TheVariants as kind
 use Rattle.w_vplain.proofs.Options.{held_at, at_held, held_fact, Whenever, whenever_bind, whenever_map, whenever_eq, at_whenever, when_if, whenever_none}
 use Rattle.w_vplain.proofs.Reaching.{open_block, framed, frame_is, kinds_same, tail_kinds}
 use Rattle.w_vplain.proofs.TypesKnown.{instr_type_at}

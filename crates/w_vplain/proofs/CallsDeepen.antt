@@ -14,11 +14,13 @@ use Rattle.w_rules.specs.InstructionTypes.{InstrType, instr_type}
 use Rattle.w_rules.specs.Matching.{known}
 use Rattle.w_rules.specs.Peak.{depth}
 use Rattle.w_flow.specs.Flow.{◌>>=◌, pops, ends, step}
-use Rattle.w_vplain.specs.Prefixes.{OpenBlock, Prefix, open_at, ended, malformed, opened, more, in_else, node, closed, followed, follow, arrow_at, taken_by, within}
-use Rattle.w_vplain.specs.Frames.{Frame, frame_kinds, condition_test, typed_next, op_next, enter_next, other_next, end_test, leave, end_next, frame_next, next, FramesStand}
+use Rattle.w_steps.specs.Labels.{arrow_at, within}
+use Rattle.w_vplain.specs.Prefixes.{OpenBlock, Prefix, open_at, ended, malformed, opened, more, in_else, node, closed, followed, follow, taken_by}
+use Rattle.w_steps.specs.PlainTests.{condition_test}
+use Rattle.w_vplain.specs.Frames.{Frame, frame_kinds, typed_next, op_next, enter_next, other_next, end_test, leave, end_next, frame_next, next, FramesStand}
 use Rattle.w_vplain.specs.Measures.{first_depth, depths, depth_of}
-use Rattle.w_vplain.specs.declared.frame_kind.FrameKind.{FrameKind}
-use Rattle.w_vplain.specs.declared.frame_kind.FrameKind.TheVariants as kind
+use Rattle.w_steps.specs.declared.frame_kind.FrameKind.{FrameKind}
+use Rattle.w_steps.specs.declared.frame_kind.FrameKind.TheVariants as kind
 use Rattle.w_vplain.proofs.Options.{held_fact, Whenever, whenever_bind, always, when_if, whenever_none}
 use Rattle.w_vplain.proofs.Reaching.{open_block, count_same}
 use Rattle.w_vplain.proofs.Nodes.{Inner, is_block, is_then, is_else}

@@ -14,10 +14,12 @@ use Rattle.w_rules.specs.Conditions.{Holds}
 use Rattle.w_rules.specs.Context.{Context, Arrow}
 use Rattle.w_rules.specs.InstructionTypes.{instr_type}
 use Rattle.w_flow.specs.Flow.{◌>>=◌}
-use Rattle.w_vplain.specs.Prefixes.{is_checked, OpenBlock, Prefix, open_at, ended, malformed, more, followed, follow, is_switching, is_plain, opens, follow_plain, follow_enter, arrow_at, taken_by, within, kinds_of, set_at, Around, IsDerivable}
-use Rattle.w_vplain.specs.Frames.{Frame, frame_kinds, condition_test, plain_next, op_next, frame_next, next, StandsAll, FramesStand, Knows}
-use Rattle.w_vplain.specs.declared.frame_kind.FrameKind.{FrameKind}
-use Rattle.w_vplain.specs.declared.frame_kind.FrameKind.TheVariants as kind
+use Rattle.w_steps.specs.Labels.{arrow_at, within}
+use Rattle.w_vplain.specs.Prefixes.{is_checked, OpenBlock, Prefix, open_at, ended, malformed, more, followed, follow, is_switching, is_plain, opens, follow_plain, follow_enter, taken_by, kinds_of, set_at, Around, IsDerivable}
+use Rattle.w_steps.specs.PlainTests.{condition_test}
+use Rattle.w_vplain.specs.Frames.{Frame, frame_kinds, plain_next, op_next, frame_next, next, StandsAll, FramesStand, Knows}
+use Rattle.w_steps.specs.declared.frame_kind.FrameKind.{FrameKind}
+use Rattle.w_steps.specs.declared.frame_kind.FrameKind.TheVariants as kind
 use Rattle.w_vplain.proofs.Options.{held_fact}
 use Rattle.w_vplain.proofs.ConditionTests.{condition_told_within}
 use Rattle.w_vplain.proofs.Reaching.{framed, frame_is, tail_kinds}

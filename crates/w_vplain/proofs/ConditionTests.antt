@@ -16,9 +16,10 @@ use Rattle.w_canon.specs.IsClassesOf.{IsClassesOf}
 use Rattle.w_canon.proofs.MatchingTests.{ref_told}
 use Rattle.w_rules.specs.Conditions.{Holds, funcref, ControlCondition, TableCondition, Condition}
 use Rattle.w_rules.specs.Context.{Context}
-use Rattle.w_vplain.specs.Prefixes.{is_switching, labels_of, within}
-use Rattle.w_vplain.specs.Frames.{holds_functions, init_test, copy_test, control_test, table_test, condition_test}
-use Rattle.w_vplain.specs.declared.frame_kind.FrameKind.{FrameKind}
+use Rattle.w_steps.specs.Labels.{labels_of, within}
+use Rattle.w_vplain.specs.Prefixes.{is_switching}
+use Rattle.w_steps.specs.PlainTests.{holds_functions, init_test, copy_test, control_test, table_test, condition_test}
+use Rattle.w_steps.specs.declared.frame_kind.FrameKind.{FrameKind}
 
 -- nothing is asked
 nothing : IsTrue true ↔ Unit {0}

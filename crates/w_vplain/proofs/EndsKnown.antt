@@ -10,10 +10,11 @@ use Rattle.w_rules.specs.declared.operand.Operand.{Operand}
 use Rattle.w_rules.specs.Context.{Context, Arrow, arrow_of}
 use Rattle.w_rules.specs.Matching.{known}
 use Rattle.w_flow.specs.Flow.{Covers, ◌>>=◌, ends}
-use Rattle.w_vplain.specs.Prefixes.{OpenBlock, open_at, ended, malformed, more, in_else, node, closed, arrow_at, taken_by, kinds_of, set_at, Reaches}
+use Rattle.w_steps.specs.Labels.{arrow_at}
+use Rattle.w_vplain.specs.Prefixes.{OpenBlock, open_at, ended, malformed, more, in_else, node, closed, taken_by, kinds_of, set_at, Reaches}
 use Rattle.w_vplain.specs.Frames.{Frame, other_next, end_test, leave, end_next, StandsAt, StandsAll, Knows}
-use Rattle.w_vplain.specs.declared.frame_kind.FrameKind.{FrameKind}
-use Rattle.w_vplain.specs.declared.frame_kind.FrameKind.TheVariants as kind
+use Rattle.w_steps.specs.declared.frame_kind.FrameKind.{FrameKind}
+use Rattle.w_steps.specs.declared.frame_kind.FrameKind.TheVariants as kind
 use Rattle.w_vplain.proofs.Options.{held_at, at_held, held_none, held_fact}
 use Rattle.w_vplain.proofs.Reaching.{open_block, framed, reaches_in, reaches_out, reaches_right}
 use Rattle.w_vplain.proofs.BlockEnds.{covers_matches, matches_covers, ends_in, ends_out, end_test_in, end_test_out}

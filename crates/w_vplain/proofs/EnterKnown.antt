@@ -9,9 +9,10 @@ use Rattle.w_rules.specs.Conditions.{Holds}
 use Rattle.w_rules.specs.Context.{Context, Arrow}
 use Rattle.w_rules.specs.Matching.{known}
 use Rattle.w_flow.specs.Flow.{Covers, ◌>>=◌, pops}
-use Rattle.w_vplain.specs.Prefixes.{OpenBlock, open_at, opened, arrow_at, taken_by, set_at, FirstDerives}
+use Rattle.w_steps.specs.Labels.{arrow_at}
+use Rattle.w_vplain.specs.Prefixes.{OpenBlock, open_at, opened, taken_by, set_at, FirstDerives}
 use Rattle.w_vplain.specs.Frames.{Frame, enter_next, StandsAll, Knows}
-use Rattle.w_vplain.specs.declared.frame_kind.FrameKind.{FrameKind}
+use Rattle.w_steps.specs.declared.frame_kind.FrameKind.{FrameKind}
 use Rattle.w_vplain.proofs.Options.{held_at, at_held, held_none}
 use Rattle.w_vplain.proofs.Reaching.{framed}
 use Rattle.w_vplain.proofs.BlockEnds.{covers_matches, matches_covers}

@@ -19,15 +19,17 @@ use Rattle.w_rules.specs.Peak.{or_none}
 use Rattle.std.specs.Option.{unwrap_or}
 use Rattle.w_rules.specs.Spaces.{in_body}
 use Rattle.w_vplain.specs.Frames.{Frame, frame_kinds, no_frames, leave, other_next, end_next, op_next}
-use Rattle.w_vplain.specs.Prefixes.{arrow_at, within}
+use Rattle.w_steps.specs.Labels.{arrow_at, within}
 use Rattle.w_vplain.specs.Measures.{total, tally}
 use Rattle.w_vplain.specs.Row.{raised_to}
 use Rattle.w_vplain.specs.Standing.{total_of}
 use Rattle.w_locals.specs.Locals.{first_set, outer_sets, set_in_first, twice}
-use Rattle.w_vplain.specs.View.{frame_view, frames_with, outer_kinds, plain_test, gated, inner_with, else_with, left_with}
-use Rattle.w_vplain.specs.declared.frame_kind.FrameKind.{FrameKind}
-use Rattle.w_vplain.specs.declared.frame_kind.FrameKind.TheVariants as kind
-use Rattle.w_vplain.specs.declared.frame.Frame as code
+use Rattle.w_steps.specs.PlainTests.{plain_test}
+use Rattle.w_steps.specs.View.{outer_kinds, gated}
+use Rattle.w_vplain.specs.View.{frame_view, frames_with, inner_with, else_with, left_with}
+use Rattle.w_steps.specs.declared.frame_kind.FrameKind.{FrameKind}
+use Rattle.w_steps.specs.declared.frame_kind.FrameKind.TheVariants as kind
+use Rattle.w_steps.specs.declared.frame.Frame as code
 
 -- ## Lists of what is set
 

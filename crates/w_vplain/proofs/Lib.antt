@@ -18,7 +18,5 @@ pub mod RowCalls
 pub mod WholeBodies
 pub mod EndsListed
 pub mod FrameViews
-mod LabelsBack
-mod TablesTaken
 pub mod CallsAnswered
 mod Beginnings

@@ -9,9 +9,10 @@ use Rattle.w_rules.specs.declared.operand.Operand.{Operand}
 use Rattle.w_rules.specs.Context.{Context, Arrow, arrow_of}
 use Rattle.w_rules.specs.Matching.{known}
 use Rattle.w_rules.specs.Typing.{Derives}
-use Rattle.w_vplain.specs.Prefixes.{OpenBlock, Prefix, open_at, ended, malformed, opened, more, in_else, node, closed, followed, follow, follow_all, arrow_at, taken_by, within, kinds_of, set_at, Reaches, Around, IsDerivable}
-use Rattle.w_vplain.specs.declared.frame_kind.FrameKind.{FrameKind}
-use Rattle.w_vplain.specs.declared.frame_kind.FrameKind.TheVariants as kind
+use Rattle.w_steps.specs.Labels.{arrow_at, within}
+use Rattle.w_vplain.specs.Prefixes.{OpenBlock, Prefix, open_at, ended, malformed, opened, more, in_else, node, closed, followed, follow, follow_all, taken_by, kinds_of, set_at, Reaches, Around, IsDerivable}
+use Rattle.w_steps.specs.declared.frame_kind.FrameKind.{FrameKind}
+use Rattle.w_steps.specs.declared.frame_kind.FrameKind.TheVariants as kind
 use Rattle.w_vplain.proofs.Options.{at_held, held_fact}
 use Rattle.w_vplain.proofs.Reaching.{open_block, reaches_out, reaches_right}
 use Rattle.w_vplain.proofs.TypesKnown.{typed_reached}

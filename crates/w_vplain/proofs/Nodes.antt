@@ -9,9 +9,10 @@ use Rattle.w_rules.specs.declared.operand.Operand.{Operand}
 use Rattle.w_rules.specs.Context.{Context, Arrow, arrow_of, label_of, labelled}
 use Rattle.w_rules.specs.Matching.{known}
 use Rattle.w_rules.specs.Typing.{HasType, Derives, set_by}
-use Rattle.w_vplain.specs.Prefixes.{node, arrow_at, taken_by, label_in, to_of, within, FirstDerives}
-use Rattle.w_vplain.specs.declared.frame_kind.FrameKind.{FrameKind}
-use Rattle.w_vplain.specs.declared.frame_kind.FrameKind.TheVariants as kind
+use Rattle.w_steps.specs.Labels.{arrow_at, label_in, to_of, within}
+use Rattle.w_vplain.specs.Prefixes.{node, taken_by, FirstDerives}
+use Rattle.w_steps.specs.declared.frame_kind.FrameKind.{FrameKind}
+use Rattle.w_steps.specs.declared.frame_kind.FrameKind.TheVariants as kind
 use Rattle.w_vplain.proofs.Options.{held_at, at_held, held_none}
 use Rattle.w_vplain.proofs.BlockEnds.{EndTest}
 use Rattle.w_rules.proofs.Derive.{steps_right}

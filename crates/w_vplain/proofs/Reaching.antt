@@ -7,9 +7,10 @@ use Rattle.w_rules.specs.declared.operand.Operand.{Operand}
 use Rattle.w_rules.specs.Context.{Context}
 use Rattle.w_rules.specs.Matching.{RowMatches, known}
 use Rattle.w_rules.specs.Typing.{Derives}
-use Rattle.w_vplain.specs.Prefixes.{OpenBlock, more, arrow_at, taken_by, within, kinds_of, set_at, Reaches}
+use Rattle.w_steps.specs.Labels.{arrow_at, within}
+use Rattle.w_vplain.specs.Prefixes.{OpenBlock, more, taken_by, kinds_of, set_at, Reaches}
 use Rattle.w_vplain.specs.Frames.{Frame, frame_kinds, StandsAt, StandsAll}
-use Rattle.w_vplain.specs.declared.frame_kind.FrameKind.{FrameKind}
+use Rattle.w_steps.specs.declared.frame_kind.FrameKind.{FrameKind}
 use Rattle.w_vplain.proofs.Options.{held_fact}
 use Rattle.w_rules.proofs.Derive.{derives_right, after_in, after_out, holds_map, holds_pull}
 

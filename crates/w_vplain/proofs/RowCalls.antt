@@ -12,11 +12,12 @@ use Rattle.w_rules.specs.InstructionTypes.{InstrType, fixed, sets}
 use Rattle.w_rules.specs.Peak.{or_none, extra}
 use Rattle.w_rules.specs.Typing.{HasInstrType}
 use Rattle.w_flow.specs.Flow.{◌>>=◌, step}
-use Rattle.w_vplain.specs.Prefixes.{OpenBlock, Prefix, open_at, ended, malformed, more, follow, within, labels_of, taken_by, arrow_at, IsDerivable}
+use Rattle.w_steps.specs.Labels.{within, labels_of, arrow_at}
+use Rattle.w_vplain.specs.Prefixes.{OpenBlock, Prefix, open_at, ended, malformed, more, follow, taken_by, IsDerivable}
 use Rattle.w_vplain.specs.Frames.{Frame, frame_kinds, typed_next, StandsAll, FramesStand, Knows}
 use Rattle.w_vplain.specs.Measures.{peak_of, total, CountsFor}
 use Rattle.w_vplain.specs.Row.{labels_in, above, HasRow, IsRow, IsRefused, row_next, RaisedBy}
-use Rattle.w_vplain.specs.declared.frame_kind.FrameKind.{FrameKind}
+use Rattle.w_steps.specs.declared.frame_kind.FrameKind.{FrameKind}
 use Rattle.w_vplain.proofs.Options.{held_fact, Whenever, whenever_map}
 use Rattle.w_vplain.proofs.Reaching.{kinds_same, count_same}
 use Rattle.w_vplain.proofs.TypesKnown.{typed_reached, typed_known}

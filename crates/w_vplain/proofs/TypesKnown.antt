@@ -11,7 +11,8 @@ use Rattle.w_rules.specs.Context.{Context}
 use Rattle.w_rules.specs.InstructionTypes.{InstrType, instr_type, sets}
 use Rattle.w_rules.specs.Typing.{HasInstrType}
 use Rattle.w_flow.specs.Flow.{Flow, ◌>>=◌, InFlow, Image}
-use Rattle.w_vplain.specs.Prefixes.{OpenBlock, open_at, more, within, kinds_of, set_at, Reaches}
+use Rattle.w_steps.specs.Labels.{within}
+use Rattle.w_vplain.specs.Prefixes.{OpenBlock, open_at, more, kinds_of, set_at, Reaches}
 use Rattle.w_vplain.specs.Frames.{Frame, typed_next, StandsAll, Knows}
 use Rattle.w_vplain.proofs.Reaching.{reaches_in, reaches_out, framed, frame_is}
 use Rattle.w_rules.proofs.Derive.{set_by-after, takes_right}

@@ -12,10 +12,11 @@ use Rattle.w_rules.specs.Matching.{known}
 use Rattle.w_rules.specs.Peak.{peak, depth}
 use Rattle.w_rules.specs.Spaces.{in_body}
 use Rattle.w_rules.specs.Typing.{Derives}
-use Rattle.w_vplain.specs.Prefixes.{Prefix, ended, empty, follow_all, within, IsDerivable}
+use Rattle.w_steps.specs.Labels.{within}
+use Rattle.w_vplain.specs.Prefixes.{Prefix, ended, empty, follow_all, IsDerivable}
 use Rattle.w_vplain.specs.Frames.{Frame, FramesStand}
 use Rattle.w_vplain.specs.Measures.{peak_of, depth_of, CountsFor}
-use Rattle.w_vplain.specs.declared.frame_kind.FrameKind.TheVariants as kind
+use Rattle.w_steps.specs.declared.frame_kind.FrameKind.TheVariants as kind
 use Rattle.w_vplain.proofs.BlockEnds.{covers_matches, matches_covers}
 use Rattle.w_vplain.proofs.BodiesFollowed.{follow_flat}
 

@@ -1,28 +1,23 @@
 -- What is known of each open block, and how an instruction changes that (Core, validation algorithm).
-use Rattle.std.specs.Prelude.{◌≡◌, Bool, true, false, ◌&&◌, not, List, [], ◌∷◌, Option, Some, None, if◌then◌else◌, slice_get}
-use Rattle.w_types.specs.declared.types.RefType.{RefType}
+use Rattle.std.specs.Prelude.{◌≡◌, Bool, true, false, ◌&&◌, not, List, [], ◌∷◌, Option, Some, None, if◌then◌else◌}
 use Rattle.w_types.specs.declared.types.ValType.{ValType}
 use Rattle.w_types.specs.Rows.{Row, ε, ◌⧺◌}
-use Rattle.w_syntax.specs.declared.instructions.ControlOp.{ControlOp}
-use Rattle.w_syntax.specs.declared.instructions.ControlOp.TheVariants as control
 use Rattle.w_syntax.specs.declared.instructions.Instr.{Instr}
 use Rattle.w_syntax.specs.declared.instructions.Instr.TheVariants as flat
 use Rattle.w_syntax.specs.declared.instructions.Op.{Op}
 use Rattle.w_syntax.specs.declared.instructions.Op.TheVariants as op
-use Rattle.w_syntax.specs.declared.instructions.TableOp.{TableOp}
-use Rattle.w_syntax.specs.declared.instructions.TableOp.TheVariants as table
-use Rattle.w_syntax.specs.declared.module.TableType.{TableType}
 use Rattle.w_canon.specs.declared.entry.Entry.{Entry}
-use Rattle.w_canon.specs.Tests.{ref_test}
 use Rattle.w_rules.specs.declared.operand.Operand.{Operand}
-use Rattle.w_rules.specs.Conditions.{Holds, funcref}
+use Rattle.w_rules.specs.Conditions.{Holds}
 use Rattle.w_rules.specs.Context.{Context, Arrow}
 use Rattle.w_rules.specs.InstructionTypes.{InstrType, instr_type, sets}
 use Rattle.w_rules.specs.Matching.{known}
 use Rattle.w_flow.specs.Flow.{Covers, ◌>>=◌, pops, ends, step}
-use Rattle.w_vplain.specs.Prefixes.{OpenBlock, Prefix, open_at, ended, malformed, arrow_at, taken_by, within, set_at, Reaches, IsDerivable}
-use Rattle.w_vplain.specs.declared.frame_kind.FrameKind.{FrameKind}
-use Rattle.w_vplain.specs.declared.frame_kind.FrameKind.TheVariants as kind
+use Rattle.w_steps.specs.Labels.{arrow_at, within}
+use Rattle.w_vplain.specs.Prefixes.{OpenBlock, Prefix, open_at, ended, malformed, taken_by, set_at, Reaches, IsDerivable}
+use Rattle.w_steps.specs.declared.frame_kind.FrameKind.{FrameKind}
+use Rattle.w_steps.specs.declared.frame_kind.FrameKind.TheVariants as kind
+use Rattle.w_steps.specs.PlainTests.{condition_test}
 
 -- an open block: its operands, whether more of any type may lie beneath them, and which locals are set
 pub record Frame : Type 0 where
@@ -36,34 +31,6 @@ frame_kinds [] = []
 frame_kinds (f ∷ fs) = f.kind ∷ frame_kinds fs
 
 -- ## What a plain instruction asks beside its type, as a test on the entries of the types
-
-abbrev pub holds_functions : List Entry → Option TableType → Bool
-holds_functions es (Some t) = ref_test es t.element funcref
-holds_functions es None = false
-
-abbrev pub control_test : List Entry → Context → ControlOp → Bool
-control_test es c (control.CallIndirect y x) = holds_functions es (slice_get c.tables x)
-control_test es c o = true
-
-abbrev pub init_test : List Entry → Option RefType → Option TableType → Bool
-init_test es (Some r) (Some t) = ref_test es r t.element
-init_test es (Some r) None = false
-init_test es None o = false
-
-abbrev pub copy_test : List Entry → Option TableType → Option TableType → Bool
-copy_test es (Some t) (Some u) = ref_test es u.element t.element
-copy_test es (Some t) None = false
-copy_test es None o = false
-
-abbrev pub table_test : List Entry → Context → TableOp → Bool
-table_test es c (table.Init e x) = init_test es (slice_get c.elements e) (slice_get c.tables x)
-table_test es c (table.Copy x y) = copy_test es (slice_get c.tables x) (slice_get c.tables y)
-table_test es c o = true
-
-abbrev pub condition_test : List Entry → Context → Op → Bool
-condition_test es c (op.Control o) = control_test es c o
-condition_test es c (op.Table o) = table_test es c o
-condition_test es c o = true
 
 -- ## One instruction
 

@@ -10,10 +10,11 @@ use Rattle.w_rules.specs.Context.{Context, Arrow, arrow_of}
 use Rattle.w_rules.specs.InstructionTypes.{instr_type, sets}
 use Rattle.w_rules.specs.Peak.{net, moved, past_arrow, or_none, extra, peak, depth}
 use Rattle.w_flow.specs.Flow.{◌>>=◌}
-use Rattle.w_vplain.specs.Prefixes.{OpenBlock, Prefix, open_at, ended, malformed, arrow_at, taken_by, within, kinds_of, set_at}
+use Rattle.w_steps.specs.Labels.{arrow_at, within}
+use Rattle.w_vplain.specs.Prefixes.{OpenBlock, Prefix, open_at, ended, malformed, taken_by, kinds_of, set_at}
 use Rattle.w_vplain.specs.Frames.{Frame, frame_kinds}
-use Rattle.w_vplain.specs.declared.frame_kind.FrameKind.{FrameKind}
-use Rattle.w_vplain.specs.declared.frame_kind.FrameKind.TheVariants as kind
+use Rattle.w_steps.specs.declared.frame_kind.FrameKind.{FrameKind}
+use Rattle.w_steps.specs.declared.frame_kind.FrameKind.TheVariants as kind
 
 -- ## The number of operands where a sequence ends, if that place is counted
 

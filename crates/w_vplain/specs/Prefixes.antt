@@ -1,5 +1,5 @@
 -- A sequence of instructions so far, with the blocks that are open, and what it means that the rules derive it.
-use Rattle.std.specs.Prelude.{Bool, true, false, List, [], ◌∷◌, Option, Some, None, if◌then◌else◌}
+use Rattle.std.specs.Prelude.{Bool, true, false, List, [], ◌∷◌, if◌then◌else◌}
 use Rattle.w_types.specs.declared.types.ValType.{ValType}
 use Rattle.w_types.specs.declared.types.ValType.TheVariants.{I32}
 use Rattle.w_types.specs.Rows.{Row, ε, ◌▹◌, ◌⧺◌}
@@ -10,11 +10,12 @@ use Rattle.w_syntax.specs.declared.instructions.Op.{Op}
 use Rattle.w_syntax.specs.declared.instructions.Op.TheVariants as op
 use Rattle.w_rules.specs.declared.operand.Operand.{Operand}
 use Rattle.w_rules.specs.Conditions.{Holds}
-use Rattle.w_rules.specs.Context.{Context, Arrow, arrow_of, label_of}
+use Rattle.w_rules.specs.Context.{Context, Arrow}
 use Rattle.w_rules.specs.Matching.{known}
 use Rattle.w_rules.specs.Typing.{Derives, set_by}
-use Rattle.w_vplain.specs.declared.frame_kind.FrameKind.{FrameKind}
-use Rattle.w_vplain.specs.declared.frame_kind.FrameKind.TheVariants as kind
+use Rattle.w_steps.specs.declared.frame_kind.FrameKind.{FrameKind}
+use Rattle.w_steps.specs.declared.frame_kind.FrameKind.TheVariants as kind
+use Rattle.w_steps.specs.Labels.{arrow_at, within}
 
 -- ## Sequences so far
 
@@ -121,16 +122,6 @@ follow_enter i w = if opens i then follow i w else malformed
 
 -- ## Blocks
 
-abbrev pub body_arrow : Context → Arrow
-body_arrow c = record { from = ε; to = c.results }
-
--- a body takes nothing, and gives the results
-abbrev pub arrow_at : Context → FrameKind → Option Arrow
-arrow_at c kind.Body = Some (body_arrow c)
-arrow_at c (kind.Block b x) = arrow_of c x
-arrow_at c (kind.Then x) = arrow_of c x
-arrow_at c (kind.Else x) = arrow_of c x
-
 -- what the block takes of the operands around it
 abbrev pub taken_by : FrameKind → Arrow → Row ValType
 taken_by kind.Body a = a.from
@@ -138,31 +129,9 @@ taken_by (kind.Block b x) a = a.from
 taken_by (kind.Then x) a = a.from ▹ I32
 taken_by (kind.Else x) a = a.from ▹ I32
 
-abbrev pub label_in : (Arrow → Row ValType) → Option Arrow → Row ValType
-label_in f (Some a) = f a
-label_in f None = ε
-
-abbrev pub to_of : Arrow → Row ValType
-to_of a = a.to
-
--- what a branch to the block's label takes
-abbrev pub label_at : Context → FrameKind → Row ValType
-label_at c kind.Body = c.results
-label_at c (kind.Block b x) = label_in (label_of b) (arrow_of c x)
-label_at c (kind.Then x) = label_in to_of (arrow_of c x)
-label_at c (kind.Else x) = label_in to_of (arrow_of c x)
-
-abbrev pub labels_of : Context → List FrameKind → List (Row ValType)
-labels_of c [] = []
-labels_of c (k ∷ ks) = label_at c k ∷ labels_of c ks
-
 abbrev pub kinds_of : List OpenBlock → List FrameKind
 kinds_of [] = []
 kinds_of (l ∷ ls) = l.kind ∷ kinds_of ls
-
--- the context inside these blocks
-abbrev pub within : Context → List FrameKind → Context
-within c ks = record c { labels = labels_of c ks }
 
 -- ## Derivations
 

@@ -18,7 +18,7 @@ use Rattle.w_locals.specs.Locals.{first_set, outer_sets}
 use Rattle.w_vplain.specs.Row.{IsRow, added_by, move_next, raised_to}
 use Rattle.w_vplain.specs.View.{frame_view, frames_with}
 use Rattle.w_vplain.specs.declared.checker.Checker.{Checker}
-use Rattle.w_vplain.specs.declared.frame.Frame as code
+use Rattle.w_steps.specs.declared.frame.Frame as code
 use Rattle.w_vplain.specs.declared.moves.Move.{Move}
 
 -- the context that a checker types in

@@ -10,13 +10,11 @@ ghost use Rattle.w_vplain.specs.Prefixes.{taken_by};
 ghost use Rattle.w_vplain.specs.Measures.{tally};
 ghost use Rattle.w_vplain.specs.View.{frame_view, inner_with, else_with, left_with};
 
-use crate::body_context::arrow;
-use crate::frame::Frame;
-use crate::frame_kind::FrameKind;
 use std::alloc::{AllocError, Global};
 use w_canon::Classes;
 use w_flow::Flow;
 use w_rules::Context;
+use w_steps::{Frame, FrameKind, arrow};
 use w_types::ValType;
 
 // Takes what a block with these parameters takes.

@@ -18,16 +18,13 @@ ghost use Rattle.w_vplain.specs.Measures.{total, peak_of, depth_of};
 ghost use Rattle.w_vplain.specs.Standing.{StandsFor, HasBases, HasClasses, Leads, IsCall, Answers, AnswersRow, Refuses, IsSameBody, IsUncounted, IsCounted, StaysOutOfMemory, context_for, classes_for, top_of, outer_of, frames_of, frames_of_derived};
 
 use crate::blocks::{else_frame, end_types, height, inner_frame};
-use crate::body_context::{BodyContext, label_of};
-use crate::frame::Frame;
-use crate::frame_kind::FrameKind;
 use crate::moves::Move;
-use crate::steps::plain_step;
 use std::alloc::{AllocError, Global};
 use std::mem;
 use w_flow::Flow;
 use w_locals::Locals;
 use w_rules::Context;
+use w_steps::{BodyContext, Frame, FrameKind, label_of, plain_step};
 use w_syntax::{Instr, LocalRun, Op, VariableOp};
 use w_types::ValType;
 

@@ -3,7 +3,7 @@ use Rattle.w_types.specs.declared.types.ValType.{ValType}
 use Rattle.w_rules.specs.Spaces.{in_body}
 use Rattle.w_rules.specs.View.{context_in}
 use Rattle.w_vplain.specs.Frames.{Frame, other_next}
-use Rattle.w_vplain.specs.declared.frame.Frame.{Frame as Around}
+use Rattle.w_steps.specs.declared.frame.Frame.{Frame as Around}
 use Rattle.w_vplain.specs.Standing.{classes_for, context_for, top_of}
 use Rattle.w_locals.specs.Locals.{first_set}
 use Rattle.w_vplain.specs.View.{else_with}

@@ -4,9 +4,9 @@ use Rattle.w_types.specs.declared.types.ValType.{ValType}
 use Rattle.w_types.specs.Rows.{row_of}
 use Rattle.w_rules.specs.Spaces.{in_body}
 use Rattle.w_rules.specs.View.{context_in}
-use Rattle.w_vplain.specs.Prefixes.{labels_of}
-use Rattle.w_vplain.specs.View.{outer_kinds}
-use Rattle.w_vplain.specs.declared.frame.Frame.{Frame}
+use Rattle.w_steps.specs.Labels.{labels_of}
+use Rattle.w_steps.specs.View.{outer_kinds}
+use Rattle.w_steps.specs.declared.frame.Frame.{Frame}
 use Rattle.w_vplain.proofs.CallsAnswered.{label_told}
 use Rattle.w_vplain.proofs.checker.Checker.label.Goals as goal
 

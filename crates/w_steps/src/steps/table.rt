@@ -4,8 +4,8 @@ ghost use Rattle.w_flow.specs.Flow.{step};
 ghost use Rattle.w_flow.specs.View.{flow_view, flow_if};
 ghost use Rattle.w_rules.specs.InstructionTypes.{table_op_type, table_init_type, table_copy_type, table_grow_type, table_fill_type};
 ghost use Rattle.w_rules.specs.View.{context_in};
-ghost use Rattle.w_vplain.specs.Frames.{init_test, copy_test, table_test};
-ghost use Rattle.w_vplain.specs.View.{gated};
+ghost use Rattle.w_steps.specs.PlainTests.{init_test, copy_test, table_test};
+ghost use Rattle.w_steps.specs.View.{gated};
 
 use std::alloc::AllocError;
 use w_flow::Flow;

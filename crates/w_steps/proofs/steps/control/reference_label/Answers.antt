@@ -1,7 +1,7 @@
 use Rattle.w_types.specs.declared.types.ValType.TheVariants.{I32, I64, Ref}
 use Rattle.std.proofs.Common.{inl, inr}
-use Rattle.w_vplain.proofs.TablesTaken.{top_taken}
-use Rattle.w_vplain.proofs.steps.control.reference_label.Goals as goal
+use Rattle.w_steps.proofs.TablesTaken.{top_taken}
+use Rattle.w_steps.proofs.steps.control.reference_label.Goals as goal
 
 pub returns-in-Ref : goal.returns-in-Ref
 returns-in-Ref c =

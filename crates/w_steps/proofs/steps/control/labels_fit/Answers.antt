@@ -1,9 +1,9 @@
 use Rattle.std.proofs.Common.{sym, ◌∙◌}
 use Rattle.w_flow.specs.View.{flow_view}
-use Rattle.w_vplain.specs.View.{context_at}
-use Rattle.w_vplain.proofs.TablesTaken.{label_fits, label_differs, label_fails}
-use Rattle.w_vplain.proofs.steps.control.labels_fit.Goals.{then-label-count-via-then-label-count, then-label-count-via-else-label-count+then-not-can_take}
-use Rattle.w_vplain.proofs.steps.control.labels_fit.Goals as goal
+use Rattle.w_steps.specs.View.{context_at}
+use Rattle.w_steps.proofs.TablesTaken.{label_fits, label_differs, label_fails}
+use Rattle.w_steps.proofs.steps.control.labels_fit.Goals.{then-label-count-via-then-label-count, then-label-count-via-else-label-count+then-not-can_take}
+use Rattle.w_steps.proofs.steps.control.labels_fit.Goals as goal
 
 pub returns-then-label-count : goal.returns-then-label-count
 returns-then-label-count c =

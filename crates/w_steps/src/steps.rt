@@ -4,7 +4,8 @@ ghost use Rattle.w_flow.specs.Flow.{step};
 ghost use Rattle.w_flow.specs.View.{flow_view, flow_if};
 ghost use Rattle.w_rules.specs.InstructionTypes.{instr_type};
 ghost use Rattle.w_locals.specs.Locals.{first_set};
-ghost use Rattle.w_vplain.specs.View.{context_at, gated, plain_test};
+ghost use Rattle.w_steps.specs.PlainTests.{plain_test};
+ghost use Rattle.w_steps.specs.View.{context_at, gated};
 
 mod control;
 mod if_valid;
@@ -28,7 +29,7 @@ use w_flow::Flow;
 use w_syntax::Op;
 
 /// An instruction that holds no others and does not switch stacks.
-pub(crate) fn plain_step(body: &BodyContext, flow: &mut Flow, op: &Op) -> Result<bool, AllocError>
+pub fn plain_step(body: &BodyContext, flow: &mut Flow, op: &Op) -> Result<bool, AllocError>
     ensures { IfOk result (λ taken. gated (plain_test body.now.cx.now.classes.now
         (context_at body.now) op.now)
         (step body.now.cx.now.classes.now (instr_type (context_at body.now)

@@ -6,7 +6,7 @@ use w_flow::Flow;
 
 /// An open block: its operands, and how many operands there are in the blocks around it, where its places are counted.
 #[derive(Drop)]
-pub(crate) struct Frame {
+pub struct Frame {
     pub kind: FrameKind,
     pub flow: Flow,
     pub base: Option<u64>,

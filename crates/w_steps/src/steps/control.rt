@@ -6,8 +6,8 @@ ghost use Rattle.w_flow.specs.View.{flow_view, flow_if};
 ghost use Rattle.w_rules.specs.InstructionTypes.{br_if_type, br_on_null_type, br_on_non_null_type, br_table_type, labels_at, call_type, call_indirect_type, call_ref_type, control_op_type};
 ghost use Rattle.w_rules.specs.Context.{func_of, type_of_func};
 ghost use Rattle.w_rules.specs.View.{context_in};
-ghost use Rattle.w_vplain.specs.Frames.{holds_functions, control_test};
-ghost use Rattle.w_vplain.specs.View.{context_at, gated, non_null_type};
+ghost use Rattle.w_steps.specs.PlainTests.{holds_functions, control_test};
+ghost use Rattle.w_steps.specs.View.{context_at, gated, non_null_type};
 
 use crate::body_context::BodyContext;
 use std::alloc::AllocError;

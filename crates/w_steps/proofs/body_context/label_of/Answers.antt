@@ -1,8 +1,8 @@
 use Rattle.std.proofs.Common.{◌∙◌, [], ap, arith, Some}
 use Rattle.w_rules.specs.Spaces.{in_body}
 use Rattle.w_rules.specs.View.{context_in}
-use Rattle.w_vplain.proofs.LabelsBack.{label_past, label_back}
-use Rattle.w_vplain.proofs.body_context.label_of.Goals as goal
+use Rattle.w_steps.proofs.LabelsBack.{label_past, label_back}
+use Rattle.w_steps.proofs.body_context.label_of.Goals as goal
 
 pub returns-then-back-outer : goal.returns-then-back-outer
 returns-then-back-outer c =

@@ -5,8 +5,8 @@ ghost use Rattle.w_types.specs.Rows.{row_of};
 ghost use Rattle.w_rules.specs.Context.{arrow_of};
 ghost use Rattle.w_rules.specs.Spaces.{in_body};
 ghost use Rattle.w_rules.specs.View.{context_in};
-ghost use Rattle.w_vplain.specs.Prefixes.{arrow_at, label_at, labels_of};
-ghost use Rattle.w_vplain.specs.View.{arrow_view, outer_kinds};
+ghost use Rattle.w_steps.specs.Labels.{arrow_at, label_at, labels_of};
+ghost use Rattle.w_steps.specs.View.{arrow_view, outer_kinds};
 
 use crate::frame::Frame;
 use crate::frame_kind::FrameKind;
@@ -19,7 +19,7 @@ use w_types::ValType;
 /// What the typing of an instruction goes by, but for the operands: the module, the function's locals and those of them that are
 /// set, its results, the innermost block's kind, and the blocks around it.
 #[derive(Clone, Copy)]
-pub(crate) struct BodyContext<'c> {
+pub struct BodyContext<'c> {
     pub cx: &'c Context<'c>,
     pub locals: &'c Locals,
     pub results: &'c [ValType],
@@ -51,7 +51,7 @@ fn block_arrow<'c>(
 }
 
 /// What a block of this kind takes and gives, in a function of these results.
-pub(crate) fn arrow<'c>(
+pub fn arrow<'c>(
     cx: &'c Context<'c>,
     results: &'c [ValType],
     kind: &'c FrameKind,
@@ -84,7 +84,7 @@ fn label<'c>(cx: &'c Context<'c>, results: &'c [ValType], kind: &'c FrameKind) -
 }
 
 /// What a branch to a label takes, in a block of this kind with others around it. Labels are counted from the innermost block.
-pub(crate) fn label_of<'c>(
+pub fn label_of<'c>(
     cx: &'c Context<'c>,
     results: &'c [ValType],
     kind: &'c FrameKind,
@@ -109,10 +109,10 @@ impl<'c> BodyContext<'c> {
     ghost use Rattle.std.specs.Prelude.{◌≡◌, slice_get};
     ghost use Rattle.std.specs.Option.{option_map};
     ghost use Rattle.w_types.specs.Rows.{row_of};
-    ghost use Rattle.w_vplain.specs.View.{context_at};
+    ghost use Rattle.w_steps.specs.View.{context_at};
 
     /// What a branch to a label takes.
-    pub(crate) fn label(&self, index: u32) -> Option<&'c [ValType]>
+    pub fn label(&self, index: u32) -> Option<&'c [ValType]>
         ensures { slice_get (context_at self.now).labels index
             ≡ option_map (λ v. row_of v.now) result }
     {

@@ -1,8 +1,8 @@
 use Rattle.std.proofs.Common.{Bool, Some, None, if◌then◌else◌, sym, ◌∙◌, ap}
 use Rattle.w_flow.specs.View.{flow_view, anything}
-use Rattle.w_vplain.specs.View.{context_at}
-use Rattle.w_vplain.proofs.TablesTaken.{table_answer}
-use Rattle.w_vplain.proofs.steps.control.table_step.Goals as goal
+use Rattle.w_steps.specs.View.{context_at}
+use Rattle.w_steps.proofs.TablesTaken.{table_answer}
+use Rattle.w_steps.proofs.steps.control.table_step.Goals as goal
 
 pub returns-then-not-labels_fit : goal.returns-then-not-labels_fit
 returns-then-not-labels_fit c =

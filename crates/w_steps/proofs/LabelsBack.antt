@@ -4,10 +4,10 @@ use Rattle.std.specs.Option.{option_map}
 use Rattle.std.proofs.lemmas.List.{get_or-reverse, length-reverse}
 use Rattle.std.proofs.lemmas.Option.{slice_get-map, slice_get-get_or, slice_get_past}
 use Rattle.w_rules.specs.Context.{Context}
-use Rattle.w_vplain.specs.Prefixes.{label_at, labels_of}
-use Rattle.w_vplain.specs.View.{outer_kinds}
-use Rattle.w_vplain.specs.declared.frame.Frame.{Frame}
-use Rattle.w_vplain.specs.declared.frame_kind.FrameKind.{FrameKind}
+use Rattle.w_steps.specs.Labels.{label_at, labels_of}
+use Rattle.w_steps.specs.View.{outer_kinds}
+use Rattle.w_steps.specs.declared.frame.Frame.{Frame}
+use Rattle.w_steps.specs.declared.frame_kind.FrameKind.{FrameKind}
 
 labels_by_kind : (c : Context) (ks : List FrameKind) (l : ℕ) → slice_get (labels_of c ks) l ≡ option_map (label_at c) (slice_get ks l)
 labels_by_kind c [] l = refl

@@ -1,8 +1,8 @@
 use Rattle.std.proofs.Common.{◌≡◌, drop}
 use Rattle.w_flow.specs.Flow.{fit_each}
 use Rattle.w_flow.specs.View.{flow_view}
-use Rattle.w_vplain.specs.View.{context_at}
-use Rattle.w_vplain.proofs.steps.control.labels_fit.Given as goal
+use Rattle.w_steps.specs.View.{context_at}
+use Rattle.w_steps.proofs.steps.control.labels_fit.Given as goal
 
 -- whether all labels fit is whether those from here on do
 abbrev pub invariant-loop-index : goal.invariant-loop-index

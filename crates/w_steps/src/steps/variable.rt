@@ -5,7 +5,7 @@ ghost use Rattle.w_flow.specs.Flow.{step};
 ghost use Rattle.w_flow.specs.View.{flow_view, flow_if};
 ghost use Rattle.w_rules.specs.InstructionTypes.{global_set_type, variable_op_type};
 ghost use Rattle.w_locals.specs.Locals.{first_set};
-ghost use Rattle.w_vplain.specs.View.{context_at, takes_type};
+ghost use Rattle.w_steps.specs.View.{context_at, takes_type};
 
 use crate::body_context::BodyContext;
 use std::alloc::AllocError;

@@ -1,0 +1,2 @@
+mod LabelsBack
+mod TablesTaken
