@@ -36,7 +36,7 @@ in_turn_exact g r h s p q = record {
       let c = p.sound bytes a.0 a.1 a.2 in
       let d = (q a.0).sound a.1 b.0 b.1 b.2 in
       let f = some_parts (a.0, b.0) x b.1 rest b.3 in
-      (c.0 ++ d.0, joined bytes c.0 d.0 a.1 b.1 rest c.1 d.1 f.1, subst (InTurn g h (c.0 ++ d.0)) f.0 (c.0, d.0, refl, c.2, d.2));
+      (c.0 ++ d.0, joined bytes c.0 d.0 a.1 b.1 rest c.1 d.1 f.1, subst (InTurn g h (c.0 ++ d.0)) f.0 (c.0, d.0, refl {a = c.0 ++ d.0}, c.2, d.2));
   complete = λ b x rest t.
       let first : r (b ++ rest) ≡ Some (x.0, t.1 ++ rest) = ap r (ap (λ (l : List ℕ). l ++ rest) t.2 ∙ append_assoc t.0 t.1 rest) ∙ p.complete t.0 x.0 (t.1 ++ rest) t.3 in
       let second : s x.0 (t.1 ++ rest) ≡ Some (x.1, rest) = (q x.0).complete t.1 x.1 rest t.4 in

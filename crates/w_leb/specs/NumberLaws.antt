@@ -22,6 +22,10 @@ split_and false b e = absurd cc
 both : (w b : ℕ) → goes_on w b ≡ true → (7 < w) × (b < 256)
 both w b e = let p = split_and (nat_lt 7 w) (nat_lt b 256) e in (ltb-true 7 w p.0, ltb-true b 256 p.1)
 
+-- one byte, bytes behind it, and what is left
+after_byte : (b : ℕ) (bs front left rest : List ℕ) → bs ≡ front ++ left → left ≡ rest → b ∷ bs ≡ (b ∷ front) ++ rest
+after_byte b bs front left rest e f = ap (λ (r : List ℕ). b ∷ r) (e ∙ ap (λ (r : List ℕ). front ++ r) f)
+
 pub unsigned_more : (w b : ℕ) (bs : List ℕ) (high : ℕ) → 128 ≤ b → b < 256 → 7 < w → Unsigned (w - 7) bs high → Unsigned w (b ∷ bs) (b - 128 + 128 * high)
 unfolding Unsigned
 unsigned_more w b [] high lo byte wide h = absurd h
@@ -50,7 +54,7 @@ unsigned_sound w (b ∷ bs) n rest e =
                 let a = then_some (unsigned (w - 7) bs) (λ high rest. Some (b - 128 + 128 * high, rest)) n rest e3 in
                 let c = unsigned_sound (w - 7) bs a.0 a.1 a.2 in
                 let d = some_parts (b - 128 + 128 * a.0) n a.1 rest a.3 in
-                (b ∷ c.0, ap (λ (r : List ℕ). b ∷ r) (c.1 ∙ ap (λ (r : List ℕ). c.0 ++ r) d.1), subst (Unsigned w (b ∷ c.0)) d.0 (unsigned_more w b c.0 a.0 lo (both w b more).1 (both w b more).0 c.2))
+                (b ∷ c.0, after_byte b bs c.0 a.1 rest c.1 d.1, subst (Unsigned w (b ∷ c.0)) d.0 (unsigned_more w b c.0 a.0 lo (both w b more).1 (both w b more).0 c.2))
             | inr ends ↦
                 let e3 : ◌≡◌ {A = Option (ℕ × List ℕ)} None (Some (n, rest)) = rw ends at e2 in absurd cc
           ]
@@ -113,7 +117,7 @@ signed_sound w (b ∷ bs) n rest e =
                 let a = then_some (signed (w - 7) bs) (λ high rest. Some (pos (b - 128) +ℤ pos 128 *ℤ high, rest)) n rest e3 in
                 let c = signed_sound (w - 7) bs a.0 a.1 a.2 in
                 let d = some_parts (pos (b - 128) +ℤ pos 128 *ℤ a.0) n a.1 rest a.3 in
-                (b ∷ c.0, ap (λ (r : List ℕ). b ∷ r) (c.1 ∙ ap (λ (r : List ℕ). c.0 ++ r) d.1), subst (Signed w (b ∷ c.0)) d.0 (signed_more w b c.0 a.0 lo (both w b more).1 (both w b more).0 c.2))
+                (b ∷ c.0, after_byte b bs c.0 a.1 rest c.1 d.1, subst (Signed w (b ∷ c.0)) d.0 (signed_more w b c.0 a.0 lo (both w b more).1 (both w b more).0 c.2))
             | inr ends ↦
                 let e3 : ◌≡◌ {A = Option (ℤ × List ℕ)} None (Some (n, rest)) = rw ends at e2 in absurd cc
           ]

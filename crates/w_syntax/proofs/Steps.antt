@@ -11,7 +11,8 @@ use Rattle.w_syntax.specs.declared.builder.Open.TheVariants as opn
 use Rattle.w_syntax.specs.Code.{Code, Done, Plain, Block, If, IfElse, after}
 use Rattle.w_syntax.specs.Expr.{Path, Top, InBlock, InThen, InElse, More, Finished, Wrong, on_else, on_end}
 use Rattle.w_syntax.specs.Flat.{size, laid}
-use Rattle.w_syntax.specs.Builds.{place, open_laid, heads, closed_of}
+use Rattle.w_syntax.specs.Builds.{place, open_laid, heads, closed_of, Builds}
+use Rattle.w_syntax.specs.declared.builder.BodyBuilder.{BodyBuilder}
 
 pub length-laid : (k : ℕ) (c : Code) → length (laid k c) ≡ size c
 unfolding laid size
@@ -212,3 +213,8 @@ else_none p c e = ap (λ (q : Path). on_else q c) (no_open p e)
 pub end_none : (p : Path) (c : Code) → heads p ≡ [] → (on_end p c ≡ Finished c) × (open_laid p ++ laid (place p) c ≡ laid 0 c)
 unfolding open_laid place
 end_none p c e = (ap (λ (q : Path). on_end q c) (no_open p e), ap (λ (q : Path). open_laid q ++ laid (place q) c) (no_open p e))
+
+-- a builder with one instruction more, behind one that was put in the place of another
+pub builds_after : (q : Path) (d : Code) (s : BodyBuilder) (before replaced : List Instr) (i : Instr) (opens : List Open) → s.code.items ≡ before ++ i ∷ [] → before ≡ replaced
+    → replaced ++ i ∷ [] ≡ open_laid q ++ laid (place q) d → s.opens.items ≡ opens → opens ≡ heads q → Builds q d s
+builds_after q d s before replaced i opens e f g h k = record { code = e ∙ ap (λ (l : List Instr). l ++ i ∷ []) f ∙ g; opens = h ∙ k }

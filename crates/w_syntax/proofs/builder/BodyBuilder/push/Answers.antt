@@ -1,12 +1,13 @@
 use Rattle.std.proofs.Common.{◌≡◌, ℕ, length, List, [], ◌∷◌, ◌++◌, refl, sym, ap, ◌∙◌, rules, set}
 use Rattle.std.proofs.lemmas.List.{nil_from_length}
+use Rattle.w_syntax.specs.Code.{Done}
 use Rattle.w_syntax.specs.declared.instructions.Instr.{Instr}
 use Rattle.w_syntax.specs.declared.instructions.Instr.TheVariants as flat
 use Rattle.w_syntax.specs.declared.builder.Open.{Open}
 use Rattle.w_syntax.specs.declared.builder.Open.TheVariants as opn
 use Rattle.w_syntax.specs.Expr.{step}
 use Rattle.w_syntax.specs.Builds.{heads}
-use Rattle.w_syntax.proofs.Steps.{plain_laid, block_laid, if_laid, here_is, head_within, ended, turned, no_else, else_none, end_none, pushed}
+use Rattle.w_syntax.proofs.Steps.{plain_laid, block_laid, if_laid, here_is, head_within, ended, turned, no_else, else_none, end_none, pushed, builds_after}
 use Rattle.w_syntax.proofs.builder.BodyBuilder.push.Goals as goal
 
 pub returns-in_ok-push-in-Plain : goal.returns-in_ok-push-in-Plain
@@ -62,10 +63,7 @@ returns-in_ok-push-in-Else-2 c = λ p d s.
     let t = turned p d c.pop.new.self.items c.in-Then.block c.in-Then.head c.args.self.now.code.items c.len-here.result (s.code, top, here) in
     rw (c.in-Else.is, t.1) (
       refl,
-      record {
-        code = c.in_ok-push-in-Else-2.ensures.items ∙ ap (λ (l : List Instr). l ++ flat.Else ∷ []) c.replace.ensures ∙ t.2;
-        opens = c.in_ok-push-in-Else.ensures.items ∙ t.3;
-      },
+      builds_after t.0 Done _ _ _ flat.Else _ c.in_ok-push-in-Else-2.ensures.items c.replace.ensures t.2 c.in_ok-push-in-Else.ensures.items t.3,
     )
 
 pub returns-in_default-pop : goal.returns-in_default-pop
@@ -90,8 +88,5 @@ returns-in_ok-push-in-End-2 c = λ p d s.
     let t = ended p d c.pop-in-End.new.self.items c.in-Some-pop.last c.args.self.now.code.items c.len-here.result (s.code, top, here) in
     rw (c.in-End.is, t.2) (
       refl,
-      record {
-        code = c.in_ok-push-in-End-2.ensures.items ∙ ap (λ (l : List Instr). l ++ flat.End ∷ []) (c.replace-in-End.ensures ∙ ap (λ (x : ℕ × Instr). set c.args.self.now.code.items x.0 x.1) c.closed-head.ensures) ∙ t.3;
-        opens = t.4;
-      },
+      builds_after t.0 t.1 _ _ _ flat.End _ c.in_ok-push-in-End-2.ensures.items (c.replace-in-End.ensures ∙ ap (λ (x : ℕ × Instr). set c.args.self.now.code.items x.0 x.1) c.closed-head.ensures) t.3 refl t.4,
     )
