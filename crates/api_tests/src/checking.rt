@@ -50,19 +50,39 @@ impl Bench {
     }
 }
 
-fn nop() -> Instr {
-    Instr::Plain(Op::Control(ControlOp::Nop))
+// The call for instructions that open or end no block.
+fn plain(checker: &mut Checker<'_>, op: Op) -> Result<bool, AllocError> {
+    let instr = Instr::Plain(op);
+    let answer = checker.plain(&instr);
+    drop(instr);
+    answer
 }
 
-fn cont_new() -> Instr {
-    Instr::Plain(Op::Switching(SwitchingOp::ContNew(0)))
+// The call for those that open one.
+fn enter(checker: &mut Checker<'_>, kind: BlockKind, block: BlockType) -> Result<bool, AllocError> {
+    let instr = Instr::Block(kind, block, 0);
+    let answer = checker.enter(&instr);
+    drop(instr);
+    answer
+}
+
+// The call for those that switch stacks.
+fn switch_stacks(checker: &mut Checker<'_>) -> Result<bool, AllocError> {
+    let instr = Instr::Plain(Op::Switching(SwitchingOp::ContNew(0)));
+    let answer = switching(checker, &instr);
+    drop(instr);
+    answer
+}
+
+fn number(checker: &mut Checker<'_>, number: NumericOp) -> Result<bool, AllocError> {
+    plain(checker, Op::Numeric(number))
 }
 
 // Whether each of these calls is true: constants of i64, i32 and i64.
 fn push_three(checker: &mut Checker<'_>) -> Result<bool, AllocError> {
-    let long = Instr::Plain(Op::Numeric(NumericOp::I64Const(7)));
-    let short = Instr::Plain(Op::Numeric(NumericOp::I32Const(7)));
-    Ok(checker.plain(&long)? && checker.plain(&short)? && checker.plain(&long)?)
+    let long = NumericOp::I64Const(7);
+    let short = NumericOp::I32Const(7);
+    Ok(number(checker, long)? && number(checker, short)? && number(checker, long)?)
 }
 
 // A row takes two operands and gives none; with it go five more of a clause's label.
@@ -78,18 +98,18 @@ fn row_leaves_one(rt: &impl Abort, checker: &mut Checker<'_>) -> Result<(), Fail
 // Behind a call that answers false, each one does.
 fn all_false(checker: &mut Checker<'_>) -> Result<bool, AllocError> {
     Ok(
-        !checker.plain(&nop())?
-            && !checker.enter(&Instr::If(BlockType::Empty, None, 0))?
+        !plain(checker, Op::Control(ControlOp::Nop))?
+            && !enter(checker, BlockKind::Block, BlockType::Empty)?
             && !checker.other()?
             && !checker.end()?
-            && !switching(checker, &cont_new())?
+            && !switch_stacks(checker)?
             && !checker.apply(&[], None, &[], None)?,
     )
 }
 
 // An instruction in the call of another class has no place, and nothing has behind it.
 fn plain_call_refuses_switching(rt: &impl Abort, checker: &mut Checker<'_>) -> Result<(), Fail> {
-    assert!(rt; !checker.plain(&cont_new())?);
+    assert!(rt; !plain(checker, Op::Switching(SwitchingOp::ContNew(0)))?);
     assert!(rt; all_false(checker)?);
     Ok(())
 }
@@ -102,10 +122,11 @@ fn label_of(checker: &Checker<'_>, index: u32) -> Option<(usize, bool)> {
 
 // Whether each of these calls is true: a constant of i32, a loop that takes it, and a block in that.
 fn open_two(checker: &mut Checker<'_>) -> Result<bool, AllocError> {
-    let number = Instr::Plain(Op::Numeric(NumericOp::I32Const(7)));
-    let outer = Instr::Block(BlockKind::Loop, BlockType::Index(1), 0);
-    let inner = Instr::Block(BlockKind::Block, BlockType::Empty, 0);
-    Ok(checker.plain(&number)? && checker.enter(&outer)? && checker.enter(&inner)?)
+    Ok(
+        number(checker, NumericOp::I32Const(7))?
+            && enter(checker, BlockKind::Loop, BlockType::Index(1))?
+            && enter(checker, BlockKind::Block, BlockType::Empty)?,
+    )
 }
 
 fn labels_are_told(rt: &impl Abort, checker: &mut Checker<'_>) -> Result<(), Fail> {
