@@ -24,6 +24,6 @@ def row(name, called):
 # 4,194,303 frames in all, of three reductions each.
 row('ten-million-reductions-of-calls', calls(0, 21))
 
-# The same behind 1,900 frames that wait: all but the first 1,901 reductions happen there. With steps that cost in
-# proportion to the frames that wait, this would take twenty thousand million steps, and could not end in its time.
-row('a-step-costs-the-same-at-any-depth', calls(1900, 21))
+# The same behind 19,900 frames that wait: all but the first 19,901 reductions happen there. With steps that cost in
+# proportion to the frames that wait, this would take two hundred thousand million steps, and could not end in its time.
+row('a-step-costs-the-same-at-any-depth', calls(19900, 21))
