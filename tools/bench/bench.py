@@ -6,6 +6,7 @@ system counts the copy as the child's peak.
 """
 
 import argparse
+import resource
 import shutil
 import sys
 import tempfile
@@ -33,6 +34,7 @@ def arguments():
     parser.add_argument('--forms', nargs='+', metavar='WORDS', help='only forms whose names have one of these words')
     parser.add_argument('--rounds', default=3, type=int, help='each figure is the best of so many (3)')
     parser.add_argument('--limit', default=60, type=int, help='seconds after which a call is ended (60)')
+    parser.add_argument('--memory', default=8, type=int, help='GiB that a call may take (8)')
     parser.add_argument('--build', action='store_true', help='time build too')
     parser.add_argument('--keep', type=Path, metavar='FOLDER', help='keep the modules there')
     parser.add_argument('--list', action='store_true', help='name the forms, and what they are')
@@ -120,6 +122,7 @@ def main():
         for name, form in FORMS.items():
             print(f'{name}: {form.__doc__.strip().splitlines()[0]}')
         return 0
+    resource.setrlimit(resource.RLIMIT_AS, (given.memory << 30, given.memory << 30))    # children have it too
     with tempfile.TemporaryDirectory() as temporary:
         folder = given.keep or Path(temporary)
         folder.mkdir(parents=True, exist_ok=True)

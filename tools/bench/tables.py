@@ -37,7 +37,7 @@ def _rate_and_peak(call, size):
     if call is None:
         return ['', '']
     if not _counts(call):
-        return ['refused', '']
+        return ['died' if call.status < 0 else 'refused', '']
     below = '< ' if call.ended else ''
     return [f'{below}{_figure(rate(call, size) / MEGA)}', _figure(call.peak / size)]
 

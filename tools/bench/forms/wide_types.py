@@ -163,12 +163,14 @@ def wide_branches_by_subtyping_shifted(size):
 
 
 def _rows_of_branches(size, value_type, operand, row):
-    """Functions of a block of a thousand results, with rows of branches to it; function 0 is of type `BELOW`."""
-    opening = b'\x02' + signed(2) + operand * WIDTH
-    closing = UNREACHABLE + b'\x0b' + RETURN
+    """Functions of a block of a thousand results, with rows of branches to it.
+
+    Function 0 takes a thousand of the type, and gives a thousand that match it.
+    """
+    types = [NOTHING, SAME if value_type == I32 else BELOW, functype([], [value_type] * WIDTH)]
     return module_of_rows(
-        size, repeat(row * CHUNK), [NOTHING, BELOW, functype([], [value_type] * WIDTH)], opening=opening,
-        closing=closing, imports=[imported(as_func(1))])
+        size, repeat(row * CHUNK), types, opening=b'\x02' + signed(2) + operand * WIDTH,
+        closing=UNREACHABLE + b'\x0b' + RETURN, imports=[imported(as_func(1))])
 
 
 def _branch_table(size, label_types, operand, labels):
