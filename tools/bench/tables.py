@@ -19,8 +19,10 @@ def row(name, size, best, straight_rate):
     cells = [name, f'{size:,}']
     for program in ('check', 'build', 'wasm-validate'):
         cells += _rate_and_peak(best.get(program), size)
-    cells.append(_ratio(rate(check, size), rate(wabt, size)) if _counts(wabt) and _counts(check) else '')
-    cells.append(_ratio(straight_rate, rate(check, size)) if straight_rate and _counts(check) else '')
+    both_done = _counts(check) and _counts(wabt) and not check.ended and not wabt.ended
+    cells.append(_ratio(rate(check, size), rate(wabt, size)) if both_done else '')
+    above = '> ' if check.ended else ''
+    cells.append(above + _ratio(straight_rate, rate(check, size)) if _counts(check) else '')
     return _line(cells)
 
 
