@@ -1,1 +1,2 @@
 pub mod TokenSteps
+mod ShortItems

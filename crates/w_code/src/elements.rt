@@ -5,30 +5,13 @@ ghost use Rattle.w_leb.specs.Formats.{◌⊗◌, ◌⇒◌, number, vec};
 ghost use Rattle.w_syntax.specs.Types.{reftype};
 ghost use Rattle.w_syntax.specs.Fields.{expr, elemkind, function_item, active, elem};
 
-use crate::bodies::{BodyField, expr_at};
+use crate::bodies::expr_at;
+use crate::items::{ExpressionItemsField, FunctionItemsField};
 use std::alloc::{AllocError, Global};
-use w_fields::{Field, reftype_at, vec_at};
+use w_fields::{Field, reftype_at};
 use w_leb::{read_byte, read_u32};
-use w_syntax::{Body, Elem, ElemMode, Op, ReferenceOp};
-use w_types::{ListOf, RefType};
-
-/// A function's index, as a kind of field: it stands for a reference to the function (Core, binary format, element section).
-pub struct FunctionItemField;
-
-impl Field for FunctionItemField {
-    type Item = Body;
-
-    ghost format = { function_item };
-
-    #[tactic(auto, unfolding(w_syntax::specs::Fields::function_item))]
-    fn read(alloc: Global, bytes: &[u8], at: usize) -> Result<Option<(Body, usize)>, AllocError> {
-        let Some((function, next)) = read_u32(bytes, at) else {
-            return Ok(None);
-        };
-        let reference = Op::Reference(ReferenceOp::Func(function));
-        Ok(Some((Body::of_one(alloc, reference)?, next)))
-    }
-}
+use w_syntax::{Elem, ElemMode, Items};
+use w_types::RefType;
 
 // The kind of a segment that lists functions.
 #[tactic(auto, unfolding(w_syntax::specs::Fields::elemkind))]
@@ -48,7 +31,7 @@ fn elemkind_at(bytes: &[u8], at: usize) -> Option<(RefType, usize)>
 struct FunctionsField;
 
 impl Field for FunctionsField {
-    type Item = (RefType, ListOf<Body>);
+    type Item = (RefType, Items);
 
     ghost format = { elemkind ⊗ vec function_item };
 
@@ -56,11 +39,11 @@ impl Field for FunctionsField {
         alloc: Global,
         bytes: &[u8],
         at: usize,
-    ) -> Result<Option<((RefType, ListOf<Body>), usize)>, AllocError> {
+    ) -> Result<Option<((RefType, Items), usize)>, AllocError> {
         let Some((kind, next)) = elemkind_at(bytes, at) else {
             return Ok(None);
         };
-        let Some((items, next)) = vec_at::<FunctionItemField>(alloc, bytes, next)? else {
+        let Some((items, next)) = FunctionItemsField::read(alloc, bytes, next)? else {
             return Ok(None);
         };
         Ok(Some(((kind, items), next)))
@@ -71,7 +54,7 @@ impl Field for FunctionsField {
 struct ExpressionsField;
 
 impl Field for ExpressionsField {
-    type Item = (RefType, ListOf<Body>);
+    type Item = (RefType, Items);
 
     ghost format = { reftype ⊗ vec expr };
 
@@ -79,11 +62,11 @@ impl Field for ExpressionsField {
         alloc: Global,
         bytes: &[u8],
         at: usize,
-    ) -> Result<Option<((RefType, ListOf<Body>), usize)>, AllocError> {
+    ) -> Result<Option<((RefType, Items), usize)>, AllocError> {
         let Some((kind, next)) = reftype_at(bytes, at) else {
             return Ok(None);
         };
-        let Some((items, next)) = vec_at::<BodyField>(alloc, bytes, next)? else {
+        let Some((items, next)) = ExpressionItemsField::read(alloc, bytes, next)? else {
             return Ok(None);
         };
         Ok(Some(((kind, items), next)))
@@ -91,7 +74,7 @@ impl Field for ExpressionsField {
 }
 
 // What stands in a segment that is not active: a kind and items.
-fn listed_at<F: Field<Item = (RefType, ListOf<Body>)>>(
+fn listed_at<F: Field<Item = (RefType, Items)>>(
     alloc: Global,
     bytes: &[u8],
     at: usize,
@@ -107,18 +90,18 @@ fn listed_at<F: Field<Item = (RefType, ListOf<Body>)>>(
 
 // What stands in an active segment of the first table: a place, and items of one kind.
 #[tactic(auto, unfolding(w_syntax::specs::Fields::expr))]
-fn in_first_table_at<F: Field<Item = Body>>(
+fn in_first_table_at<F: Field<Item = Items>>(
     alloc: Global,
     bytes: &[u8],
     at: usize,
     kind: RefType,
 ) -> Result<Option<(Elem, usize)>, AllocError>
-    ensures { IfOk result (ReadsAt (expr ⊗ vec F.format ⇒ λ p. active 0 p.0 kind p.1).read bytes.now at) }
+    ensures { IfOk result (ReadsAt (expr ⊗ F.format ⇒ λ p. active 0 p.0 kind p.1).read bytes.now at) }
 {
     let Some((place, next)) = expr_at(alloc, bytes, at)? else {
         return Ok(None);
     };
-    let Some((items, next)) = vec_at::<F>(alloc, bytes, next)? else {
+    let Some((items, next)) = F::read(alloc, bytes, next)? else {
         return Ok(None);
     };
     let mode = ElemMode::Active(0, place);
@@ -127,7 +110,7 @@ fn in_first_table_at<F: Field<Item = Body>>(
 
 // What stands in an active segment that names its table: the table, a place, a kind and items.
 #[tactic(auto, unfolding(w_syntax::specs::Fields::expr))]
-fn in_table_at<F: Field<Item = (RefType, ListOf<Body>)>>(
+fn in_table_at<F: Field<Item = (RefType, Items)>>(
     alloc: Global,
     bytes: &[u8],
     at: usize,
@@ -161,11 +144,11 @@ impl Field for ElemField {
             return Ok(None);
         };
         match form {
-            0 => in_first_table_at::<FunctionItemField>(alloc, bytes, next, RefType::FUNC),
+            0 => in_first_table_at::<FunctionItemsField>(alloc, bytes, next, RefType::FUNC),
             1 => listed_at::<FunctionsField>(alloc, bytes, next, ElemMode::Passive),
             2 => in_table_at::<FunctionsField>(alloc, bytes, next),
             3 => listed_at::<FunctionsField>(alloc, bytes, next, ElemMode::Declarative),
-            4 => in_first_table_at::<BodyField>(alloc, bytes, next, RefType::FUNCREF),
+            4 => in_first_table_at::<ExpressionItemsField>(alloc, bytes, next, RefType::FUNCREF),
             5 => listed_at::<ExpressionsField>(alloc, bytes, next, ElemMode::Passive),
             6 => in_table_at::<ExpressionsField>(alloc, bytes, next),
             7 => listed_at::<ExpressionsField>(alloc, bytes, next, ElemMode::Declarative),

@@ -9,6 +9,7 @@ mod elements;
 mod functions;
 mod globals;
 mod instructions;
+mod items;
 mod locals;
 mod memory;
 mod numeric;
@@ -18,7 +19,7 @@ mod tokens;
 
 pub use bodies::{BodyField, expr_at};
 pub use datas::DataField;
-pub use elements::{ElemField, FunctionItemField};
+pub use elements::ElemField;
 pub use functions::FuncField;
 pub use globals::GlobalField;
 pub use instructions::instruction_at;

@@ -1,6 +1,7 @@
 mod Cases
 mod Appended
 mod Written
+mod ItemsWritten
 mod TypesCanonical
 mod InstructionsCanonical
 mod FieldsCanonical

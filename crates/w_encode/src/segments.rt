@@ -1,13 +1,16 @@
 //! Element and data segments.
 ghost use Rattle.std.specs.Prelude.{◌≡◌, ◌++◌, OnOk, Option, Some, None};
 ghost use Rattle.w_leb.specs.CanonicalLaws.{vec_written};
+ghost use Rattle.w_syntax.specs.Code.{Done, Plain};
+ghost use Rattle.w_syntax.specs.Items.{code_of};
+ghost use Rattle.w_syntax.specs.declared.instructions.Op.TheVariants as op;
 ghost use Rattle.w_encode.specs.InstructionsWritten.{expr_written};
 ghost use Rattle.w_encode.specs.FlatWritten.{function_in};
 ghost use Rattle.w_encode.specs.FieldsWritten.{referred_by, function_of, are_functions, function_written, is_ref_func, is_funcref, index_form, active_form, expression_form, elem_written, data_form, data_written};
 
-use crate::put::{Put, put_bytes, put_count, put_vec};
+use crate::put::{Put, put_bytes, put_count};
 use std::alloc::AllocError;
-use w_syntax::{Body, Data, DataMode, Elem, ElemMode, Instr, Op, ReferenceOp};
+use w_syntax::{Body, Data, DataMode, Elem, ElemMode, Instr, ItemView, Items, Op, ReferenceOp};
 use w_types::{HeapType, RefType};
 
 // The function that an instruction refers to.
@@ -30,12 +33,23 @@ fn function_in(instr: &Instr) -> Option<u32>
 }
 
 // The function of a body that is one `ref.func`.
-fn function_of(body: &Body) -> Option<u32>
+fn function_of_body(body: &Body) -> Option<u32>
     ensures { result ≡ function_of body.now }
 {
     match body.instrs() {
         [instr, _] => function_in(instr),
         _ => None,
+    }
+}
+
+// The function of an item that is one `ref.func`.
+fn function_of(item: ItemView<'_>) -> Option<u32>
+    ensures { result ≡ function_of (code_of item.entry) }
+{
+    match item {
+        ItemView::Function(function) => Some(function),
+        ItemView::Null(_) => None,
+        ItemView::Expression(body) => function_of_body(body),
     }
 }
 
@@ -59,32 +73,71 @@ fn is_funcref(kind: RefType) -> bool
     }
 }
 
-// Whether each body is one `ref.func`.
-fn are_functions(items: &[Body]) -> bool
+// Whether each item is one `ref.func`.
+fn are_functions(items: &Items) -> bool
     ensures { result ≡ are_functions items.now }
 {
-    for item in items {
-        if function_of(item).is_none() {
+    for place in 0..items.len() {
+        if function_of(items.at(place)).is_none() {
             return false;
         }
     }
     true
 }
 
-// Writes functions by their indices, where each body is one `ref.func`.
-fn put_functions(items: &[Body], out: &mut Vec<u8>) -> Result<(), AllocError>
+// Writes an item by the index of its function, where it is one `ref.func`.
+fn put_function(item: ItemView<'_>, out: &mut Vec<u8>) -> Result<(), AllocError>
+    ensures { OnOk result (out.new.items ≡ out.old.items ++ function_written (code_of item.entry)) }
+{
+    match function_of(item) {
+        Some(function) => function.put(out),
+        None => Ok(()),
+    }
+}
+
+// Writes functions by their indices, where each item is one `ref.func`.
+fn put_functions(items: &Items, out: &mut Vec<u8>) -> Result<(), AllocError>
     ensures { OnOk result (out.new.items ≡ out.old.items ++ vec_written function_written items.now) }
 {
     put_count(items.len(), out)?;
-    for item in items {
-        if let Some(function) = function_of(item) {
-            function.put(out)?;
-        }
+    for place in 0..items.len() {
+        put_function(items.at(place), out)?;
     }
     Ok(())
 }
 
-fn put_index_form(mode: &ElemMode, items: &[Body], out: &mut Vec<u8>) -> Result<(), AllocError>
+// Writes a reference instruction as an expression.
+fn put_reference(reference: ReferenceOp, out: &mut Vec<u8>) -> Result<(), AllocError>
+    ensures { OnOk result (out.new.items ≡ out.old.items ++ expr_written (Plain (op.Reference reference) Done)) }
+{
+    reference.put(out)?;
+    out.push(0x0B)?;
+    Ok(())
+}
+
+// Writes an item as an expression.
+fn put_expression(item: ItemView<'_>, out: &mut Vec<u8>) -> Result<(), AllocError>
+    ensures { OnOk result (out.new.items ≡ out.old.items ++ expr_written (code_of item.entry)) }
+{
+    match item {
+        ItemView::Function(function) => put_reference(ReferenceOp::Func(function), out),
+        ItemView::Null(heap) => put_reference(ReferenceOp::Null(heap), out),
+        ItemView::Expression(body) => body.put(out),
+    }
+}
+
+// Writes items as expressions.
+fn put_expressions(items: &Items, out: &mut Vec<u8>) -> Result<(), AllocError>
+    ensures { OnOk result (out.new.items ≡ out.old.items ++ vec_written expr_written items.now) }
+{
+    put_count(items.len(), out)?;
+    for place in 0..items.len() {
+        put_expression(items.at(place), out)?;
+    }
+    Ok(())
+}
+
+fn put_index_form(mode: &ElemMode, items: &Items, out: &mut Vec<u8>) -> Result<(), AllocError>
     ensures { OnOk result (out.new.items ≡ out.old.items ++ index_form mode.now (vec_written function_written items.now)) }
 {
     match mode {
@@ -127,15 +180,15 @@ fn put_expression_form(elem: &Elem, out: &mut Vec<u8>) -> Result<(), AllocError>
             elem.kind.put(out)?;
         }
     }
-    put_vec(elem.items.as_slice(), out)
+    put_expressions(&elem.items, out)
 }
 
 impl Put for Elem {
     ghost written = { elem_written };
 
     fn put(&self, out: &mut Vec<u8>) -> Result<(), AllocError> {
-        if is_ref_func(self.kind) && are_functions(self.items.as_slice()) {
-            put_index_form(&self.mode, self.items.as_slice(), out)
+        if is_ref_func(self.kind) && are_functions(&self.items) {
+            put_index_form(&self.mode, &self.items, out)
         } else {
             put_expression_form(self, out)
         }

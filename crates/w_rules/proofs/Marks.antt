@@ -1,7 +1,8 @@
 -- Marks at the places that the items of a list name, one item after another.
 use Rattle.std.proofs.Common.{◌≡◌, ◌↔◌, ◌⊎◌, inl, inr, ℕ, zero, suc, ◌+◌, ◌<◌, Bool, true, false, List, [], ◌∷◌, ◌++◌, length, take, get_or, replicate, slice_set, refl, sym, ap, ◌∙◌, arith}
-use Rattle.std.specs.Prelude.{Contains, slice_index_or}
+use Rattle.std.specs.Prelude.{Contains, Some, slice_get, slice_index_or}
 use Rattle.std.proofs.lemmas.List.{take_more}
+use Rattle.std.proofs.lemmas.Option.{slice_get_within, get_or_from_slice_get}
 use Rattle.std.specs.List.{flat_map}
 use Rattle.std.proofs.lemmas.Grind.{flat_map-append}
 use Rattle.std.proofs.lemmas.List.{append-nil, length-replicate, length-set}
@@ -55,6 +56,11 @@ marked_more f s t u xs i x lt e h k =
     let split : flat_map f (take (i + 1) xs) ≡ flat_map f (take i xs) ++ f x =
     ap (flat_map f) more ∙ flat_map-append f (take i xs) (x ∷ []) ∙ ap (λ ys. flat_map f (take i xs) ++ ys) one in
     k ∙ ap (λ v. marked v (f x)) h ∙ sym (marked-append s (flat_map f (take i xs)) (f x)) ∙ ap (marked s) (sym split)
+
+-- the same, of the item that stands at a place
+pub marked_at : {X : Type 0} (f : X → List ℕ) (s t u : List Bool) (xs : List X) (i : ℕ) (x : X) → slice_get xs i ≡ Some x
+    → t ≡ marked s (flat_map f (take i xs)) → u ≡ marked t (f x) → u ≡ marked s (flat_map f (take (i + 1) xs))
+marked_at f s t u xs i x is h k = marked_more f s t u xs i x (slice_get_within xs i x is) (sym (get_or_from_slice_get xs i x x is)) h k
 
 -- the list of a sequence names the functions that the sequence names
 named_laid : (k : ℕ) (c : Code) → flat_map named_at (laid k c) ≡ named_in c

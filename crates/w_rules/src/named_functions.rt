@@ -1,5 +1,6 @@
 //! The functions that `ref.func` may name.
 ghost use Rattle.std.specs.Prelude.{◌≡◌, [], ◌∷◌, IfOk, false, flat_map, replicate};
+ghost use Rattle.w_syntax.specs.Items.{code_of};
 ghost use Rattle.w_syntax.specs.declared.module.Elem.{Elem};
 ghost use Rattle.w_syntax.specs.declared.module.Export.{Export};
 ghost use Rattle.w_syntax.specs.declared.module.GlobalVariable.{GlobalVariable};
@@ -9,7 +10,8 @@ ghost use Rattle.w_rules.specs.Spaces.{marked, named_in, named_in_some, named_of
 
 use std::alloc::{AllocError, Global};
 use w_syntax::{
-    Body, Elem, Export, ExternIndex, GlobalVariable, Instr, Module, Op, ReferenceOp, Table,
+    Body, Elem, Export, ExternIndex, GlobalVariable, Instr, ItemView, Items, Module, Op,
+    ReferenceOp, Table,
 };
 
 // Marks a function.
@@ -61,12 +63,23 @@ fn mark_exports(declared: &mut [bool], exports: &[Export])
     }
 }
 
-// Marks the functions that these bodies name.
-fn mark_bodies(declared: &mut [bool], bodies: &[Body])
-    ensures { declared.new ≡ marked declared.old (flat_map named_in bodies.now) }
+// Marks the functions that an item names.
+fn mark_item(declared: &mut [bool], item: ItemView<'_>)
+    ensures { declared.new ≡ marked declared.old (named_in (code_of item.entry)) }
 {
-    for body in bodies {
-        mark_body(declared, body);
+    match item {
+        ItemView::Function(function) => mark(declared, function),
+        ItemView::Null(_) => {}
+        ItemView::Expression(body) => mark_body(declared, body),
+    }
+}
+
+// Marks the functions that the items of an element name.
+fn mark_items(declared: &mut [bool], items: &Items)
+    ensures { declared.new ≡ marked declared.old (flat_map named_in items.now) }
+{
+    for place in 0..items.len() {
+        mark_item(declared, items.at(place));
     }
 }
 
@@ -76,7 +89,7 @@ fn mark_elements(declared: &mut [bool], elements: &[Elem])
         (λ (e : Elem). flat_map named_in e.items) elements.now) }
 {
     for element in elements {
-        mark_bodies(declared, element.items.as_slice());
+        mark_items(declared, &element.items);
     }
 }
 

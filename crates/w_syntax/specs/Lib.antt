@@ -10,6 +10,7 @@ pub mod FlatLaws
 pub mod Builds
 pub mod Locals
 pub mod LocalsLaws
+pub mod Items
 pub mod Fields
 pub mod Contents
 pub mod Sections

@@ -4,6 +4,7 @@
 mod body;
 mod builder;
 mod instructions;
+mod items;
 mod locals;
 mod memory_instructions;
 mod module;
@@ -16,6 +17,7 @@ pub use instructions::{
     BlockKind, BlockType, Clause, ControlOp, Instr, Op, ParametricOp, ReferenceOp, SwitchingOp,
     TableOp, Token, VariableOp,
 };
+pub use items::{Item, ItemView, Items};
 pub use locals::{LocalRun, Locals};
 pub use memory_instructions::{LoadOp, MemArg, MemoryOp, StoreOp};
 pub use module::{

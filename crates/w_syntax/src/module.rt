@@ -1,6 +1,7 @@
 //! Modules (Core, modules).
 
 use crate::body::Body;
+use crate::items::Items;
 use crate::locals::Locals;
 use crate::name::Name;
 use std::alloc::Global;
@@ -102,7 +103,7 @@ pub enum ElemMode {
 #[derive(Drop)]
 pub struct Elem {
     pub kind: RefType,
-    pub items: ListOf<Body>,
+    pub items: Items,
     pub mode: ElemMode,
 }
 

@@ -2,17 +2,18 @@
 ghost use Rattle.std.specs.Prelude.{◌≡◌, ◌↔◌, All, IfOk, IsTrue};
 ghost use Rattle.w_types.specs.declared.types.ValType.TheVariants as val;
 ghost use Rattle.w_syntax.specs.Code.{Code};
+ghost use Rattle.w_syntax.specs.Items.{code_of};
 ghost use Rattle.w_rules.specs.Bodies.{ConstTyped};
 ghost use Rattle.w_rules.specs.Spaces.{context_of};
 ghost use Rattle.w_rules.specs.Valid.{ElementItem, ElementValid, IsElemModeValid};
 ghost use Rattle.w_valid.specs.Firsts.{IsFirst};
 ghost use Rattle.w_valid.specs.Judged.{IsContextOf};
 
-use crate::constants::is_const_typed;
 use crate::lists::item_at;
 use std::alloc::{AllocError, Global};
+use w_bodies::{is_const_typed, is_reference_typed};
 use w_rules::Context;
-use w_syntax::{Body, ElemMode};
+use w_syntax::{ElemMode, ItemView, Items, ReferenceOp};
 use w_types::{RefType, ValType};
 
 // Whether a segment of this type fits its table, where it is active.
@@ -39,19 +40,40 @@ fn is_mode_typed(
     }
 }
 
+// Whether an item is constant and of this type.
+fn is_item_typed(
+    alloc: Global,
+    cx: &Context,
+    kind: RefType,
+    item: ItemView<'_>,
+) -> Result<bool, AllocError>
+    requires { IsContextOf cx.now }
+    ensures { IfOk result (λ typed. IsTrue typed
+        ↔ ConstTyped (context_of cx.now.owner.now) (code_of item.entry) (val.Ref kind)) }
+{
+    let kind = ValType::Ref(kind);
+    match item {
+        ItemView::Function(function) => {
+            Ok(is_reference_typed(cx, ReferenceOp::Func(function), kind))
+        }
+        ItemView::Null(heap) => Ok(is_reference_typed(cx, ReferenceOp::Null(heap), kind)),
+        ItemView::Expression(body) => is_const_typed(alloc, cx, body, kind),
+    }
+}
+
 // Whether each of these items is constant and of this type.
 fn are_items_typed(
     alloc: Global,
     cx: &Context,
     kind: RefType,
-    items: &[Body],
+    items: &Items,
 ) -> Result<bool, AllocError>
     requires { IsContextOf cx.now }
     ensures { IfOk result (λ typed. IsTrue typed
         ↔ All (λ (k : Code). ConstTyped (context_of cx.now.owner.now) k (val.Ref kind)) items.now) }
 {
-    for item in items {
-        if !is_const_typed(alloc, cx, item, ValType::Ref(kind))? {
+    for place in 0..items.len() {
+        if !is_item_typed(alloc, cx, kind, items.at(place))? {
             return Ok(false);
         }
     }
@@ -72,7 +94,7 @@ fn is_valid(alloc: Global, cx: &Context, index: usize) -> Result<bool, AllocErro
     if !is_mode_typed(alloc, cx, element.kind, &element.mode)? {
         return Ok(false);
     }
-    are_items_typed(alloc, cx, element.kind, element.items.as_slice())
+    are_items_typed(alloc, cx, element.kind, &element.items)
 }
 
 /// The first element segment that is not valid, if there is one: its type is not, an item is not constant and of this type, or it

@@ -5,10 +5,10 @@ ghost use Rattle.w_valid.specs.Firsts.{IsFirst};
 ghost use Rattle.w_valid.specs.Judged.{IsContextOf};
 ghost use Rattle.w_valid.specs.Measured.{IsFunctionMeasure, AreMeasures};
 
-use crate::bodies::check_body;
 use crate::lists::item_at;
 use crate::types::are_locals_valid;
 use std::alloc::{AllocError, Global};
+use w_bodies::check_body;
 use w_rules::{Context, function_type};
 
 /// What the bodies of functions need, by the index of the function: see `Facts`.

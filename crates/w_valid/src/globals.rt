@@ -4,9 +4,9 @@ ghost use Rattle.w_rules.specs.Valid.{GlobalItem, GlobalValid};
 ghost use Rattle.w_valid.specs.Firsts.{IsFirst};
 ghost use Rattle.w_valid.specs.Judged.{IsContextOf};
 
-use crate::constants::is_const_typed;
 use crate::lists::item_at;
 use std::alloc::{AllocError, Global};
+use w_bodies::is_const_typed;
 use w_rules::Context;
 
 // Whether the global of this index is valid.

@@ -1,8 +1,6 @@
 //! Validation of modules.
 #![tactic(auto)]
 
-mod bodies;
-mod constants;
 mod datas;
 mod elements;
 mod exports;

@@ -4,10 +4,10 @@ ghost use Rattle.w_rules.specs.Valid.{TableItem, TableValid, IsInitValid, IsTabl
 ghost use Rattle.w_valid.specs.Firsts.{IsFirst};
 ghost use Rattle.w_valid.specs.Judged.{IsContextOf};
 
-use crate::constants::is_const_typed;
 use crate::limits::{MOST_ELEMENTS, are_limits_valid};
 use crate::lists::item_at;
 use std::alloc::{AllocError, Global};
+use w_bodies::is_const_typed;
 use w_rules::Context;
 use w_syntax::{Body, TableType};
 use w_types::{RefType, ValType};

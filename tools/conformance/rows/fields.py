@@ -104,7 +104,10 @@ row('export/kind-5', MALFORMED, sec('exports', '01 0161 0505'))
 # Segments.
 for name, digits in [
         ('flag-8', '08 41070B 01 05'), ('a-kind-that-is-none', '01 01 01 05'), ('no-offset', '00 01 05'),
-        ('a-declared-kind-that-is-none', '03 01 01 05'), ('a-type-that-is-no-reference', '05 7F 00')]:
+        ('a-declared-kind-that-is-none', '03 01 01 05'), ('a-type-that-is-no-reference', '05 7F 00'),
+        ('a-reference-without-an-end', '05 70 01 D205'), ('null-without-an-end', '05 70 01 D070'),
+        ('fewer-items-than-are-counted', '05 70 02 D0700B'),
+        ('a-reference-with-a-number-that-is-too-long', '05 70 01 D2 858080808000 0B')]:
     row(f'element/{name}', MALFORMED, sec('elements', f'01 {digits}'))
 for name, digits in [('flag-3', '03 41070B 00'), ('a-byte-too-few', '01 04 010203')]:
     row(f'data/{name}', MALFORMED, sec('datas', f'01 {digits}'))

@@ -78,6 +78,15 @@ elements_row('item-a-global', VALID, passive_expressions(FUNCREF, [global_get(0)
 elements_row('item-a-variable', INVALID_ELEMENT, passive_expressions(FUNCREF, [global_get(0)]),
              globals=[global_(ref(0), ref_func(0), mutable=True)])
 elements_row('item-a-continuation', INVALID_ELEMENT, passive_expressions(CONTREF, [ref_func(0) + cont_new(1)]))
+elements_row('item-null-of-a-type-out-of-range', INVALID_ELEMENT, passive_expressions(FUNCREF, [ref_null(3)]))
+elements_row('item-a-function-out-of-range', INVALID_ELEMENT, passive_expressions(FUNCREF, [ref_func(2)]))
+elements_row('item-a-block', INVALID_ELEMENT, passive_expressions(FUNCREF, [block(FUNCREF, ref_func(0))]))
+elements_row('items-of-each-form', VALID,
+             passive_expressions(FUNCREF, [ref_func(1), ref_null(FUNC), global_get(0), ref_null(2), ref_func(0)]),
+             globals=[global_(ref(0), ref_func(0))])
+elements_row('items-of-each-form-and-one-that-does-not-fit', INVALID_ELEMENT,
+             passive_expressions(ref(FUNC), [ref_func(1), global_get(0), ref_func(0), ref_null(FUNC)]),
+             globals=[global_(ref(0), ref_func(0))])
 elements_row('type-out-of-range', INVALID_ELEMENT, passive_expressions(nullable(3), []))
 elements_row('declarative-type-out-of-range', INVALID_ELEMENT, declared_expressions(ref(3), []))
 elements_row('two-fail', 'invalid element 1', passive_functions([0]), active_functions([], b''), passive_functions([7]))

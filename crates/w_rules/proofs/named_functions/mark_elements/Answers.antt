@@ -6,4 +6,4 @@ use Rattle.w_rules.proofs.named_functions.mark_elements.Goals as goal
 
 pub loop-element-preserved : goal.loop-element-preserved
 loop-element-preserved c =
-    marked_more (λ (e : Elem). flat_map named_in e.items) c.args.declared.now c.loop-element.declared _ c.args.elements.now c.loop-element.element-index c.element-item.result c.loop-element-test.true c.element-item.is c.loop-element.invariant (rw (← c.as_slice.ensures) c.mark_bodies.ensures)
+    marked_more (λ (e : Elem). flat_map named_in e.items) c.args.declared.now c.loop-element.declared _ c.args.elements.now c.loop-element.element-index c.element-item.result c.loop-element-test.true c.element-item.is c.loop-element.invariant c.mark_items.ensures

@@ -1,0 +1,3 @@
+mod ConstantsListed
+mod BodiesMeasured
+mod OneInstruction

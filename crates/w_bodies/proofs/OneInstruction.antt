@@ -1,0 +1,144 @@
+-- A constant expression of one instruction, by the type of the instruction.
+use Rattle.std.proofs.Common.{◌≡◌, ◌↔◌, ℕ, ◌+◌, Bool, true, false, ◌&&◌, cond, List, [], ◌∷◌, ◌++◌, length, get_or, Option, Some, None, IfSome, IsTrue, Bor, refl, sym, ap, ◌∙◌, subst, arith}
+use Rattle.std.specs.Prelude.{slice_get}
+use Rattle.std.proofs.lemmas.List.{length-append}
+use Rattle.w_types.specs.Rows.{Row, ε, ◌▹◌}
+use Rattle.w_types.specs.declared.types.RecGroup.{RecGroup}
+use Rattle.w_types.specs.declared.types.ValType.{ValType}
+use Rattle.w_types.specs.declared.types.ValType.TheVariants.{I32, I64}
+use Rattle.w_syntax.specs.Code.{Code, Done, Plain, Block, If, IfElse}
+use Rattle.w_syntax.specs.Flat.{laid, size, whole}
+use Rattle.w_syntax.specs.declared.instructions.Instr.{Instr}
+use Rattle.w_syntax.specs.declared.instructions.Instr.TheVariants as flat
+use Rattle.w_syntax.specs.declared.instructions.Op.{Op}
+use Rattle.w_syntax.specs.declared.instructions.Op.TheVariants as op
+use Rattle.w_syntax.specs.declared.instructions.ReferenceOp.TheVariants as reference
+use Rattle.w_syntax.specs.declared.instructions.VariableOp.TheVariants as variable
+use Rattle.w_syntax.specs.declared.module.GlobalType.{GlobalType}
+use Rattle.w_syntax.specs.declared.numeric.NumericOp.TheVariants as numeric
+use Rattle.w_canon.specs.Matching.{ValMatches}
+use Rattle.w_rules.specs.declared.operand.Operand.{Operand}
+use Rattle.w_rules.specs.declared.operand.Operand.TheVariants.{Known}
+use Rattle.w_rules.specs.Bodies.{is_const, is_fixed, is_const_global, ConstTyped}
+use Rattle.w_rules.specs.Conditions.{Holds}
+use Rattle.w_rules.specs.Context.{Context, type_count}
+use Rattle.w_rules.specs.InstructionTypes.{InstrType, fixed, if_valid, global_get_type, ref_func_type}
+use Rattle.w_rules.specs.Matching.{RowMatches, none, more, value}
+use Rattle.w_rules.specs.Types.{has_heap}
+use Rattle.w_rules.specs.Typing.{HasInstrType}
+use Rattle.w_rules.proofs.Preorder.{row_refl, row_trans, row_size}
+use Rattle.w_bodies.specs.Constants.{given, fixed_type, type_of_one}
+
+-- ## What an instruction gives that stands alone
+
+-- an instruction of this type takes nothing to a value of type t
+abbrev Gives : List RecGroup → InstrType → ValType → Type 0
+Gives gs l t = (vs : Row Operand) × HasInstrType gs l ε vs × RowMatches gs vs (ε ▹ Known t)
+
+abbrev Fits : List RecGroup → Option ValType → ValType → Type 0
+Fits gs o t = Holds o (λ u. ValMatches gs u t)
+
+last_matches : (gs : List RecGroup) {ts us : Row Operand} {u t : ValType} → RowMatches gs (ts ▹ Known u) (us ▹ Known t) → ValMatches gs u t
+last_matches gs (more r (value v)) = v
+
+-- nothing matches a row with an operand
+none_taken : (gs : List RecGroup) {ts : Row Operand} {t : Operand} → RowMatches gs ε (ts ▹ t) → ⊥
+none_taken gs {ts} {t} h = absurd (omega (arith, row_size gs ε (ts ▹ t) h))
+
+gives_one : (gs : List RecGroup) (u t : ValType) → Gives gs (fixed ε (ε ▹ u)) t ↔ ValMatches gs u t
+gives_one gs u t = (
+  λ (vs, h, m). last_matches gs (row_trans gs (h.beneath ▹ Known u) vs (ε ▹ Known t) h.gives m),
+  λ v. (ε ▹ Known u, record { beneath = ε; takes = none; gives = row_refl gs (ε ▹ Known u) }, more none (value v)),
+)
+
+null_given : (gs : List RecGroup) (b : Bool) (u t : ValType) → Gives gs (if_valid b (fixed ε (ε ▹ u))) t ↔ Fits gs (given (if_valid b (fixed ε (ε ▹ u)))) t
+null_given gs true u t = gives_one gs u t
+null_given gs false u t = (λ (vs, h, m). h, λ h. absurd h)
+
+function_given : (gs : List RecGroup) (o : Option ℕ) (p : Option Bool) (t : ValType) → Gives gs (ref_func_type o p) t ↔ Fits gs (given (ref_func_type o p)) t
+function_given gs (Some y) (Some true) t = gives_one gs _ t
+function_given gs (Some y) (Some false) t = (λ (vs, h, m). h, λ h. absurd h)
+function_given gs (Some y) None t = (λ (vs, h, m). h, λ h. absurd h)
+function_given gs None p t = (λ (vs, h, m). h, λ h. absurd h)
+
+fixed_given : (gs : List RecGroup) (b : Bool) (u t : ValType) → (IsTrue (b && true) × Gives gs (fixed ε (ε ▹ u)) t) ↔ Fits gs (cond b (Some u) None) t
+fixed_given gs true u t = (λ p. (gives_one gs u t).0 p.1, λ v. (refl, (gives_one gs u t).1 v))
+fixed_given gs false u t = (λ p. let e = p.0 in absurd (cc), λ h. absurd h)
+
+global_given : (gs : List RecGroup) (o : Option GlobalType) (t : ValType) → (IsTrue (is_const_global o && true) × Gives gs (global_get_type o) t) ↔ Fits gs (fixed_type o) t
+global_given gs (Some g) t = fixed_given gs (is_fixed g.mutability) g.kind t
+global_given gs None t = (λ p. p.1.1, λ h. absurd h)
+
+-- ## One instruction is a constant expression exactly where it has a type that matches
+
+not_const : (c : Context) (o : Op) (t : ValType) → is_const c o ≡ false → type_of_one c o ≡ None → ConstTyped c (Plain o Done) t ↔ Fits c.types (type_of_one c o) t
+not_const c o t e f = (
+  λ k. let h = k.constant in let n : (false && true) ≡ true = subst (λ (b : Bool). (b && true) ≡ true) e h in absurd (cc),
+  λ h. absurd (subst (λ (p : Option ValType). Fits c.types p t) f h),
+)
+
+pub one_typed : (c : Context) (o : Op) (t : ValType) → ConstTyped c (Plain o Done) t ↔ Fits c.types (type_of_one c o) t
+one_typed c (op.Numeric (numeric.I32Const z)) t = let g = gives_one c.types I32 t in (λ k. g.0 k.typed.1, λ v. record { constant = refl; typed = (tt, g.1 v) })
+one_typed c (op.Numeric (numeric.I64Const z)) t = let g = gives_one c.types I64 t in (λ k. g.0 k.typed.1, λ v. record { constant = refl; typed = (tt, g.1 v) })
+one_typed c (op.Numeric (numeric.Binary i o)) t = (λ k. let h = k.typed.1.1 in none_taken c.types h.takes, λ h. absurd h)
+one_typed c (op.Numeric (numeric.Eqz i)) t = not_const c _ t refl refl
+one_typed c (op.Numeric (numeric.Compare i o)) t = not_const c _ t refl refl
+one_typed c (op.Numeric (numeric.Unary i o)) t = not_const c _ t refl refl
+one_typed c (op.Numeric (numeric.Convert o)) t = not_const c _ t refl refl
+one_typed c (op.Reference (reference.Null h)) t = let g = null_given c.types (has_heap (type_count c) h) _ t in (λ k. g.0 k.typed.1, λ v. record { constant = refl; typed = (tt, g.1 v) })
+one_typed c (op.Reference (reference.Func x)) t =
+    let g = function_given c.types (slice_get c.functions x) (slice_get c.declared x) t in (λ k. g.0 k.typed.1, λ v. record { constant = refl; typed = (tt, g.1 v) })
+one_typed c (op.Reference reference.IsNull) t = not_const c _ t refl refl
+one_typed c (op.Reference reference.AsNonNull) t = not_const c _ t refl refl
+one_typed c (op.Variable (variable.GlobalGet x)) t =
+    let g = global_given c.types (slice_get c.globals x) t in
+    (λ k. g.0 (k.constant, k.typed.1), λ v. let p = g.1 v in record { constant = p.0; typed = (tt, p.1) })
+one_typed c (op.Variable (variable.GlobalSet x)) t = not_const c _ t refl refl
+one_typed c (op.Variable (variable.LocalGet x)) t = not_const c _ t refl refl
+one_typed c (op.Variable (variable.LocalSet x)) t = not_const c _ t refl refl
+one_typed c (op.Variable (variable.LocalTee x)) t = not_const c _ t refl refl
+one_typed c (op.Control o) t = not_const c _ t refl refl
+one_typed c (op.Parametric o) t = not_const c _ t refl refl
+one_typed c (op.Table o) t = not_const c _ t refl refl
+one_typed c (op.Memory o) t = not_const c _ t refl refl
+one_typed c (op.Switching o) t = not_const c _ t refl refl
+
+-- so it is one where the type that was found fits
+pub one_judged : (c : Context) (o : Op) (k : Code) (t : ValType) (found : Option ValType) (fits : Bool) → k ≡ Plain o Done → found ≡ type_of_one c o
+    → (IsTrue fits ↔ Holds found (λ u. ValMatches c.types u t)) → IsTrue fits ↔ ConstTyped c k t
+one_judged c o k t found fits is e h =
+    let one = one_typed c o t in (
+      λ f. subst (λ (l : Code). ConstTyped c l t) (sym is) (one.1 (subst (λ (p : Option ValType). Fits c.types p t) e (h.0 f))),
+      λ typed. h.1 (subst (λ (p : Option ValType). Fits c.types p t) (sym e) (one.0 (subst (λ (l : Code). ConstTyped c l t) is typed))),
+    )
+
+-- ## A body whose list has two instructions
+
+-- is one instruction, and its end
+two_are : (k : Code) (o : Op) (j : Instr) → whole k ≡ flat.Plain o ∷ j ∷ [] → k ≡ Plain o Done
+unfolding laid
+two_are Done o j e = absurd cc
+two_are (Plain p Done) o j e = let f : flat.Plain p ≡ flat.Plain o = cc in let g : p ≡ o = cc in ap (λ q. Plain q Done) g
+two_are (Plain p (Plain q r)) o j e = absurd (omega (arith, ap length e, length-append (laid 2 r) (flat.End ∷ [])))
+two_are (Plain p (Block k b x r)) o j e =
+    absurd (omega (arith, ap length e, length-append (laid 2 x ++ flat.End ∷ laid (3 + size x) r) (flat.End ∷ []), length-append (laid 2 x) (flat.End ∷ laid (3 + size x) r)))
+two_are (Plain p (If b x r)) o j e =
+    absurd (omega (arith, ap length e, length-append (laid 2 x ++ flat.End ∷ laid (3 + size x) r) (flat.End ∷ []), length-append (laid 2 x) (flat.End ∷ laid (3 + size x) r)))
+two_are (Plain p (IfElse b x y r)) o j e =
+    let rest = laid (3 + size x) y ++ flat.End ∷ laid (4 + size x + size y) r in
+    absurd (omega (arith, ap length e, length-append (laid 2 x ++ flat.Else ∷ rest) (flat.End ∷ []), length-append (laid 2 x) (flat.Else ∷ rest)))
+two_are (Block k b x r) o j e = absurd cc
+two_are (If b x r) o j e = absurd cc
+two_are (IfElse b x y r) o j e = absurd cc
+
+only_two : (k : Code) (is : List Instr) (i : Instr) (o : Op) → is ≡ whole k → i ≡ get_or is 0 i → length is ≡ 2 → i ≡ flat.Plain o → k ≡ Plain o Done
+only_two k [] i o e f l p = absurd (omega (arith, l))
+only_two k (j ∷ []) i o e f l p = absurd (omega (arith, l))
+only_two k (j ∷ m ∷ []) i o e f l p = two_are k o m (sym e ∙ ap (λ n. n ∷ m ∷ []) (sym f ∙ p))
+only_two k (j ∷ m ∷ n ∷ is) i o e f l p = absurd (omega (arith, l))
+
+-- the instruction that was found at its front is all of it
+pub only_found : (k : Code) (is : List Instr) (i : Instr) (o : Option (Bor Op)) → is ≡ whole k → i ≡ get_or is 0 i → length is ≡ 2
+    → IfSome o (λ p. i ≡ flat.Plain p.now) → IfSome o (λ p. k ≡ Plain p.now Done)
+only_found k is i None e f l h = tt
+only_found k is i (Some p) e f l h = only_two k is i p.now e f l h

@@ -1,0 +1,10 @@
+use Rattle.std.proofs.Common.{take}
+use Rattle.w_syntax.specs.Flat.{whole}
+use Rattle.w_rules.specs.View.{context_in}
+use Rattle.w_bodies.proofs.BodiesMeasured.{Reached}
+use Rattle.w_bodies.proofs.bodies.check_body.Given as goal
+
+-- the checker stands for the instructions so far, which the rules derive
+abbrev pub invariant-loop-instr : goal.invariant-loop-instr
+invariant-loop-instr l =
+    Reached (record { context = context_in l.cx; params = l.params; runs = l.runs; results = l.results }) l.checker (take l.instr-index (whole l.body))

@@ -1,0 +1,51 @@
+//! The type of a body, and what it needs.
+ghost use Rattle.std.specs.Prelude.{IfOk};
+ghost use Rattle.w_rules.specs.View.{context_in, HasClasses};
+ghost use Rattle.w_vplain.specs.Prefixes.{follow};
+ghost use Rattle.w_vplain.specs.Standing.{Answers, IsSameBody};
+ghost use Rattle.w_bodies.specs.Measured.{IsMeasure};
+
+use std::alloc::{AllocError, Global};
+use w_rules::Context;
+use w_syntax::{Body, Instr, LocalRun, Op};
+use w_types::ValType;
+use w_vplain::Checker;
+use w_vswitch::switching;
+
+// One instruction more: whether the rules derive the sequence with it.
+fn call(checker: &mut Checker, instr: &Instr) -> Result<bool, AllocError>
+    ensures answers { IfOk result (λ taken. Answers checker.old checker.new
+        (follow instr.now) taken) }
+    ensures body { IsSameBody checker.old checker.new }
+{
+    match instr {
+        Instr::Plain(Op::Switching(_)) => switching(checker, instr),
+        Instr::Plain(_) => checker.plain(instr),
+        Instr::Block(_, _, _) | Instr::If(_, _, _) => checker.enter(instr),
+        Instr::Else => checker.other(),
+        Instr::End => checker.end(),
+    }
+}
+
+/// Types a body (Core, validation, functions): where it has its type, the greatest number of operands at a counted place of it, and
+/// one plus the greatest number of blocks around a place. It fails only when out of memory.
+pub fn check_body(
+    alloc: Global,
+    cx: &Context,
+    params: &[ValType],
+    runs: &[LocalRun],
+    results: &[ValType],
+    body: &Body,
+) -> Result<Option<(u64, u32)>, AllocError>
+    requires { HasClasses cx.now }
+    ensures { IfOk result (λ measured. IsMeasure
+        (context_in cx.now) params.now runs.now results.now body.now measured) }
+{
+    let mut checker = Checker::begin(alloc, cx, params, runs, results)?;
+    for instr in body.instrs() {
+        if !call(&mut checker, instr)? {
+            return Ok(None);
+        }
+    }
+    Ok(Some((checker.height(), checker.depth())))
+}

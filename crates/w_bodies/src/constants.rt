@@ -1,0 +1,250 @@
+//! Constant expressions.
+ghost use Rattle.std.specs.Prelude.{◌≡◌, ◌↔◌, All, IfOk, IfSome, IsTrue, Option};
+ghost use Rattle.w_syntax.specs.Code.{Done, Plain};
+ghost use Rattle.w_syntax.specs.declared.instructions.Instr.{Instr as Flat};
+ghost use Rattle.w_syntax.specs.declared.instructions.Instr.TheVariants as flat;
+ghost use Rattle.w_syntax.specs.declared.instructions.Op.TheVariants as op;
+ghost use Rattle.w_syntax.specs.declared.instructions.ReferenceOp.TheVariants as reference;
+ghost use Rattle.w_syntax.specs.declared.module.GlobalType.{GlobalType as TheGlobal};
+ghost use Rattle.w_rules.specs.Bodies.{is_const, is_const_binary, is_const_global, all_const, ConstTyped};
+ghost use Rattle.w_canon.specs.Matching.{ValMatches};
+ghost use Rattle.w_rules.specs.Conditions.{Holds};
+ghost use Rattle.w_rules.specs.Context.{Context as TheContext};
+ghost use Rattle.w_rules.specs.InstructionTypes.{reference_op_type};
+ghost use Rattle.w_rules.specs.View.{context_in, HasClasses};
+ghost use Rattle.w_bodies.specs.Constants.{is_const_at, given, fixed_type, type_of_one};
+
+use crate::bodies::check_body;
+use std::alloc::{AllocError, Global};
+use w_rules::Context;
+use w_syntax::{
+    Binop, Body, GlobalType, Instr, Mutability, NumericOp, Op, ReferenceOp, VariableOp,
+};
+use w_types::{HeapType, RefType, ValType};
+
+fn is_const_binary(op: Binop) -> bool
+    ensures { result ≡ is_const_binary op }
+{
+    matches!(op, Binop::Add | Binop::Sub | Binop::Mul)
+}
+
+fn is_const_numeric(number: NumericOp) -> bool
+    ensures { (c : TheContext) → result ≡ is_const c (op.Numeric number) }
+{
+    match number {
+        NumericOp::I32Const(_) | NumericOp::I64Const(_) => true,
+        NumericOp::Binary(_, op) => is_const_binary(op),
+        _ => false,
+    }
+}
+
+fn is_const_reference(reference: ReferenceOp) -> bool
+    ensures { (c : TheContext) → result ≡ is_const c (op.Reference reference) }
+{
+    matches!(reference, ReferenceOp::Null(_) | ReferenceOp::Func(_))
+}
+
+fn is_const_global(global: Option<GlobalType>) -> bool
+    ensures { result ≡ is_const_global global }
+{
+    match global {
+        Some(kind) => kind.mutability == Mutability::Const,
+        None => false,
+    }
+}
+
+fn is_const_variable(cx: &Context, variable: VariableOp) -> bool
+    ensures { result ≡ is_const (context_in cx.now) (op.Variable variable) }
+{
+    match variable {
+        VariableOp::GlobalGet(global) => is_const_global(cx.global(global)),
+        VariableOp::LocalGet(_)
+        | VariableOp::LocalSet(_)
+        | VariableOp::LocalTee(_)
+        | VariableOp::GlobalSet(_) => false,
+    }
+}
+
+// Whether an instruction may stand in a constant expression.
+fn is_const(cx: &Context, op: &Op) -> bool
+    ensures { result ≡ is_const (context_in cx.now) op.now }
+{
+    match op {
+        Op::Numeric(number) => is_const_numeric(*number),
+        Op::Reference(reference) => is_const_reference(*reference),
+        Op::Variable(variable) => is_const_variable(cx, *variable),
+        Op::Control(_) | Op::Parametric(_) | Op::Table(_) | Op::Memory(_) | Op::Switching(_) => {
+            false
+        }
+    }
+}
+
+// Whether an instruction may stand in the list of a constant expression, as its end may.
+fn is_const_at(cx: &Context, instr: &Instr) -> bool
+    ensures { result ≡ is_const_at (context_in cx.now) instr.now }
+{
+    match instr {
+        Instr::Plain(op) => is_const(cx, op),
+        Instr::End => true,
+        Instr::Block(_, _, _) | Instr::If(_, _, _) | Instr::Else => false,
+    }
+}
+
+// Whether each of these may stand in such a list.
+fn are_const(cx: &Context, instrs: &[Instr]) -> bool
+    ensures { IsTrue result ↔ All (λ (i : Flat). IsTrue (is_const_at
+        (context_in cx.now) i)) instrs.now }
+{
+    instrs.iter().all(|instr| is_const_at(cx, instr))
+}
+
+// Whether each instruction of an expression may stand in a constant expression.
+fn all_const(cx: &Context, body: &Body) -> bool
+    ensures { IsTrue result ↔ IsTrue (all_const (context_in cx.now) body.now) }
+{
+    are_const(cx, body.instrs())
+}
+
+// The type that a numeric instruction alone gives, where it is constant.
+fn type_of_number(number: NumericOp) -> Option<ValType>
+    ensures { (c : TheContext) → result ≡ type_of_one c (op.Numeric number) }
+{
+    match number {
+        NumericOp::I32Const(_) => Some(ValType::I32),
+        NumericOp::I64Const(_) => Some(ValType::I64),
+        _ => None,
+    }
+}
+
+// The type of null of this heap type.
+fn type_of_null(cx: &Context, heap: HeapType) -> Option<ValType>
+    ensures { result ≡ given (reference_op_type (context_in cx.now) (reference.Null heap)) }
+{
+    if !cx.has_heap(heap) {
+        return None;
+    }
+    Some(ValType::Ref(RefType {
+        nullable: true,
+        heap,
+    }))
+}
+
+// The type of a reference to a function that is declared.
+fn type_of_function(cx: &Context, function: u32) -> Option<ValType>
+    ensures { result ≡ given (reference_op_type (context_in cx.now) (reference.Func function)) }
+{
+    let index = *cx.functions.get(function as usize)?;
+    if !*cx.declared.get(function as usize)? {
+        return None;
+    }
+    Some(ValType::Ref(RefType {
+        nullable: false,
+        heap: HeapType::Index(index),
+    }))
+}
+
+// The type that a reference instruction alone gives, where it is constant.
+fn type_of_reference(cx: &Context, reference: ReferenceOp) -> Option<ValType>
+    ensures { result ≡ type_of_one (context_in cx.now) (op.Reference reference) }
+{
+    match reference {
+        ReferenceOp::Null(heap) => type_of_null(cx, heap),
+        ReferenceOp::Func(function) => type_of_function(cx, function),
+        ReferenceOp::IsNull | ReferenceOp::AsNonNull => None,
+    }
+}
+
+// The type of a global that is never written.
+fn type_of_global(global: Option<GlobalType>) -> Option<ValType>
+    ensures { result ≡ fixed_type global }
+{
+    match global {
+        Some(found) if found.mutability == Mutability::Const => Some(found.kind),
+        _ => None,
+    }
+}
+
+// The type that an instruction alone gives, where it is constant and takes no operands.
+fn type_of_one(cx: &Context, op: &Op) -> Option<ValType>
+    ensures { result ≡ type_of_one (context_in cx.now) op.now }
+{
+    match op {
+        Op::Numeric(number) => type_of_number(*number),
+        Op::Reference(reference) => type_of_reference(cx, *reference),
+        Op::Variable(VariableOp::GlobalGet(global)) => type_of_global(cx.global(*global)),
+        _ => None,
+    }
+}
+
+// Whether there is a type, which matches another.
+fn is_matched(cx: &Context, found: Option<ValType>, kind: ValType) -> bool
+    requires { HasClasses cx.now }
+    ensures { IsTrue result ↔ Holds found (λ t. ValMatches cx.now.owner.now.types t kind) }
+{
+    match found {
+        Some(found) => cx.classes.matches_val(found, kind),
+        None => false,
+    }
+}
+
+/// Whether a reference instruction alone is a constant expression of this type (Core, validation, constant expressions).
+pub fn is_reference_typed(cx: &Context, reference: ReferenceOp, kind: ValType) -> bool
+    requires { HasClasses cx.now }
+    ensures { IsTrue result ↔ ConstTyped (context_in cx.now) (Plain (op.Reference reference) Done) kind }
+{
+    is_matched(cx, type_of_reference(cx, reference), kind)
+}
+
+// An instruction that holds no others.
+fn plain_of(instr: &Instr) -> Option<&Op>
+    ensures { IfSome result (λ op. instr.now ≡ flat.Plain op.now) }
+{
+    match instr {
+        Instr::Plain(op) => Some(op),
+        _ => None,
+    }
+}
+
+// The instruction of a body of one.
+fn only_of(body: &Body) -> Option<&Op>
+    ensures { IfSome result (λ op. body.now ≡ Plain op.now Done) }
+{
+    match body.instrs() {
+        [instr, _] => plain_of(instr),
+        _ => None,
+    }
+}
+
+// Whether an expression is constant and gives a value of this type, by checking it as a body.
+fn is_body_typed(
+    alloc: Global,
+    cx: &Context,
+    body: &Body,
+    kind: ValType,
+) -> Result<bool, AllocError>
+    requires { HasClasses cx.now }
+    ensures { IfOk result (λ typed. IsTrue typed ↔ ConstTyped (context_in cx.now) body.now kind) }
+{
+    if !all_const(cx, body) {
+        return Ok(false);
+    }
+    let measured = check_body(alloc, cx, &[], &[], &[kind], body)?;
+    Ok(measured.is_some())
+}
+
+/// Whether an expression is constant and gives a value of this type (Core, validation, constant expressions). That of one
+/// instruction is judged by its type alone.
+pub fn is_const_typed(
+    alloc: Global,
+    cx: &Context,
+    body: &Body,
+    kind: ValType,
+) -> Result<bool, AllocError>
+    requires { HasClasses cx.now }
+    ensures { IfOk result (λ typed. IsTrue typed ↔ ConstTyped (context_in cx.now) body.now kind) }
+{
+    match only_of(body) {
+        Some(op) => Ok(is_matched(cx, type_of_one(cx, op), kind)),
+        None => is_body_typed(alloc, cx, body, kind),
+    }
+}

@@ -1,0 +1,12 @@
+use Rattle.std.proofs.Common.{◌∙◌, ap, length, arith}
+use Rattle.w_encode.proofs.Written.{two_refer, others_refer}
+use Rattle.w_encode.proofs.segments.function_of_body.Goals as goal
+
+pub returns-in-len2 : goal.returns-in-len2
+returns-in-len2 c = c.function_in.ensures ∙ two_refer c.args.body.now c.instrs.result.now c.instr-item.result c.instrs.ensures c.instr-item.is (omega (arith, c.in-len2.len_at_least, c.in-len2.len_below))
+
+pub returns-in_default : goal.returns-in_default
+returns-in_default c = others_refer c.args.body.now (λ two. omega (arith, two, ap length c.instrs.ensures, c.in_default.len_below))
+
+pub returns-in_default-2 : goal.returns-in_default-2
+returns-in_default-2 c = others_refer c.args.body.now (λ two. omega (arith, two, ap length c.instrs.ensures, c.in_default.len_at_least))
