@@ -5,4 +5,5 @@ mod Selects
 mod Tables
 pub mod Exact
 pub mod RowsOfLists
+pub mod ShortTypes
 pub mod LabelsOfTables

@@ -5,6 +5,7 @@ mod flow;
 mod instruction_types;
 mod laws;
 mod operands;
+mod short_types;
 
 pub use flow::Flow;
 pub use laws::exact_step;

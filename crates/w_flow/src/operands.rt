@@ -12,17 +12,17 @@ use w_canon::Classes;
 use w_rules::Operand;
 use w_types::{HeapType, RefType, ValType};
 
-// Whether an operand stands where one of this type is wanted.
-fn matches_type(classes: &Classes, operand: Operand, wanted: ValType) -> bool
+/// Whether an operand stands where one of this type is wanted.
+pub(crate) fn matches_type(classes: &Classes, operand: Operand, wanted: ValType) -> bool
     ensures { result ≡ operand_test classes.now operand wanted }
 {
-    match operand {
-        Operand::Known(kind) => classes.matches_val(kind, wanted),
-        Operand::Bottom => true,
-        Operand::BottomRef(nullable) => match wanted {
-            ValType::Ref(wanted) => !nullable || wanted.nullable,
-            ValType::I32 | ValType::I64 => false,
-        },
+    match (operand, wanted) {
+        (Operand::Known(ValType::I32), ValType::I32)
+        | (Operand::Known(ValType::I64), ValType::I64) => true,
+        (Operand::Known(kind), _) => classes.matches_val(kind, wanted),
+        (Operand::Bottom, _) => true,
+        (Operand::BottomRef(nullable), ValType::Ref(wanted)) => !nullable || wanted.nullable,
+        (Operand::BottomRef(_), ValType::I32 | ValType::I64) => false,
     }
 }
 

@@ -9,19 +9,19 @@ use Rattle.std.proofs.lemmas.Map.Lookups.{exact_unsigned}
 use Rattle.std.specs.Option.{option_map}
 use Rattle.std.proofs.lemmas.List.{reverse-append}
 use Rattle.w_rules.specs.Spaces.{marked}
-use Rattle.w_locals.specs.Locals.{snapshots, set_in_first, first_set, outer_sets, Descends, is_logged, Places}
+use Rattle.w_locals.specs.Locals.{snapshots, set_in_first, outer_sets, Descends, is_logged, Places}
 
 -- ## Flags
 
 -- what is set stays so where it is set again
-stays_set : (s : List Bool) (x : ℕ) → (slice_get s x ≡ Some false → ⊥) → slice_set s x true ≡ s
+pub stays_set : (s : List Bool) (x : ℕ) → (slice_get s x ≡ Some false → ⊥) → slice_set s x true ≡ s
 stays_set [] x h = refl
 stays_set (true ∷ s) zero h = refl
 stays_set (false ∷ s) zero h = absurd (h refl)
 stays_set (b ∷ s) (suc x) h = ap (λ r. b ∷ r) (stays_set s x h)
 
 -- a flag that is on where it was or where this is
-abbrev with : Bool → Option Bool → Option Bool
+abbrev pub with : Bool → Option Bool → Option Bool
 with a o = option_map (λ (b : Bool). b || a) o
 
 or_false : (b : Bool) → (b || false) ≡ b
@@ -58,31 +58,6 @@ flag_told s (y ∷ log) x = flag_told (slice_set s y true) log x ∙ ap (with (i
 set_last : (s : List Bool) (log : List ℕ) (x : ℕ) → marked s (log ++ x ∷ []) ≡ slice_set (marked s log) x true
 set_last s [] x = refl
 set_last s (y ∷ log) x = set_last (slice_set s y true) log x
-
--- no flag that was put on is off
-not_off : (o : Option Bool) → with true o ≡ Some false → ⊥
-not_off None e = cc
-not_off (Some true) e = cc
-not_off (Some false) e = cc
-
--- one that the log has changes nothing
-set_again : (s : List Bool) (log : List ℕ) (x : ℕ) (ss : List (List Bool)) → is_logged log x ≡ true → marked s log ∷ ss ≡ slice_set (marked s log) x true ∷ ss
-set_again s log x ss h =
-    ap (λ (t : List Bool). t ∷ ss) (sym (stays_set (marked s log) x (λ e. not_off (slice_get s x) (ap (λ (b : Bool). with b (slice_get s x)) (sym h) ∙ sym (flag_told s log x) ∙ e))))
-
--- where the body has not been left
-pub flag_now : (left : Bool) (s : List Bool) (log marks : List ℕ) (x : ℕ) (o : Option Bool) → left ≡ false → slice_get s x ≡ o
-    → slice_get (first_set (if left then [] else snapshots s log marks)) x ≡ with (is_logged log x) o
-flag_now left s log marks x o e f =
-    ap (λ (b : Bool). slice_get (first_set (if b then [] else snapshots s log marks)) x) e ∙ flag_told s log x ∙ ap (with (is_logged log x)) f
-
--- a local that was set at first
-pub with_true : (a b : Bool) → b ≡ true → with a (Some b) ≡ Some b
-with_true a b e = ap (λ (c : Bool). Some (c || a)) e ∙ ap Some (sym e)
-
--- any other is set where the log has it
-pub with_false : (a b c : Bool) → b ≡ false → c ≡ a → with a (Some b) ≡ Some c
-with_false a b c e f = ap (λ (d : Bool). Some (d || a)) e ∙ ap Some (sym f)
 
 -- ## Marks
 
@@ -121,12 +96,6 @@ pub set_now : (gone : Bool) (s : List Bool) (log log₁ : List ℕ) (x : ℕ) (m
     → Descends (length log) ms → log₁ ≡ log ++ x ∷ [] → (if gone then [] else snapshots s log₁ ms) ≡ set_in_first x n
 set_now true s log log₁ x ms n v d e = ap (set_in_first x) v
 set_now false s log log₁ x ms n v d e = set_one s log log₁ x ms d e ∙ ap (set_in_first x) v
-
--- nothing changes where the log has the local
-pub set_nothing : (gone : Bool) (s : List Bool) (log : List ℕ) (x : ℕ) (ms : List ℕ) (n : List (List Bool)) → (if gone then [] else snapshots s log ms) ≡ n
-    → is_logged log x ≡ true → n ≡ set_in_first x n
-set_nothing true s log x ms n v h = sym v ∙ ap (set_in_first x) v
-set_nothing false s log x ms n v h = sym v ∙ set_again s log x (map (λ (m : ℕ). marked s (take m log)) ms) h ∙ ap (set_in_first x) v
 
 -- the code has the innermost mark last
 back_marks : (marks marks₁ : List ℕ) (mark : ℕ) → marks ≡ marks₁ ++ mark ∷ [] → reverse marks ≡ mark ∷ reverse marks₁

@@ -1,2 +1,3 @@
 pub mod LocalRuns
 pub mod InitLog
+pub mod FlagsOff

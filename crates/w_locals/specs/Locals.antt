@@ -1,5 +1,5 @@
 -- The locals that are set now and where each open block began, from one log of those that were set.
-use Rattle.std.specs.Prelude.{◌≡◌, ℕ, ◌+◌, ◌<◌, ◌≤◌, ◌==◌, Bool, true, List, [], ◌∷◌, ◌++◌, map, length, take, slice_index_or, slice_get, slice_set, Option, Some, None}
+use Rattle.std.specs.Prelude.{◌≡◌, ℕ, ◌+◌, ◌<◌, ◌≤◌, ◌==◌, Bool, true, false, not, List, [], ◌∷◌, ◌++◌, map, length, take, slice_index_or, slice_get, slice_set, Option, Some, None}
 use Rattle.std.specs.List.{list_any}
 use Rattle.std.specs.Ordering.{nat_cmp}
 use Rattle.std.specs.BTreeMap.{BTreeMap}
@@ -29,6 +29,10 @@ first_in d = bodies.set_first d.params d.runs
 
 abbrev pub kind_of : LocalRun → ValType
 kind_of r = r.kind
+
+-- whether the locals of a run are set where the body begins
+abbrev pub is_set_run : LocalRun → Bool
+is_set_run r = bodies.has_default r.kind
 
 -- the index behind each run, where the first one begins at this index
 abbrev pub ends_from : ℕ → List LocalRun → List ℕ
@@ -68,6 +72,11 @@ pub record LocalState : Type 0 where
 abbrev pub first_set : List (List Bool) → List Bool
 first_set [] = []
 first_set (s ∷ ss) = s
+
+-- whether a flag is there and off
+abbrev pub is_off : Option Bool → Bool
+is_off (Some b) = not b
+is_off None = false
 
 -- what was set in the blocks around
 abbrev pub outer_sets : List (List Bool) → List (List Bool)

@@ -3,7 +3,8 @@ ghost use Rattle.std.specs.Prelude.{◌≡◌, ℕ, IfOk, slice_get};
 ghost use Rattle.std.specs.List.Sorted.{IsNonDecreasingBy};
 ghost use Rattle.std.specs.Option.{option_map};
 ghost use Rattle.w_rules.specs.Bodies.{has_default as is_defaultable};
-ghost use Rattle.w_locals.specs.Locals.{SplitsAt, ends_from, kind_of};
+ghost use Rattle.w_locals.specs.Locals.{SplitsAt, ends_from, is_set_run, kind_of};
+ghost use Rattle.std.specs.List.{list_all};
 
 use crate::items::item_at;
 use std::alloc::{AllocError, Global};
@@ -18,17 +19,20 @@ pub(crate) struct LocalTypes {
     params: Vec<ValType>,
     runs: Vec<LocalRun>,
     ends: Vec<u64>,
+    // whether the locals of each run are set from the beginning
+    defaults: bool,
 }
 
 impl Model for LocalTypes {
     ghost use Rattle.std.specs.Prelude.{◌≡◌, length};
-    ghost use Rattle.w_locals.specs.Locals.{Declared, ends_from};
+    ghost use Rattle.w_locals.specs.Locals.{Declared, ends_from, is_set_run};
+    ghost use Rattle.std.specs.List.{list_all};
 
     ghost Value = { Declared };
 
     ghost view = { λ a. record { params = a.params.items; runs = a.runs.items } };
 
-    ghost invariant = { λ a. a.ends.items ≡ ends_from (length a.params.items) a.runs.items };
+    ghost invariant = { λ a. (a.ends.items ≡ ends_from (length a.params.items) a.runs.items) × (a.defaults ≡ list_all is_set_run a.runs.items) };
 }
 
 // Whether a local of this type is set from the beginning.
@@ -39,6 +43,13 @@ fn has_default(kind: ValType) -> bool
         ValType::I32 | ValType::I64 => true,
         ValType::Ref(reference) => reference.nullable,
     }
+}
+
+// Whether the locals of each run are set from the beginning.
+fn have_defaults(runs: &[LocalRun]) -> bool
+    ensures { result ≡ list_all is_set_run runs.now }
+{
+    runs.iter().all(|run| has_default(run.kind))
 }
 
 // The index behind each run. It fails where an index passes 64 bits, as when out of memory.
@@ -71,7 +82,7 @@ fn run_type(runs: &[LocalRun], run: usize) -> Option<ValType>
 
 impl LocalTypes {
     ghost use Rattle.std.specs.Prelude.{◌≡◌, IfOk, slice_get};
-    ghost use Rattle.w_locals.specs.Locals.{first_in, types_in};
+    ghost use Rattle.w_locals.specs.Locals.{first_in, is_off, types_in};
 
     /// Those of these parameters and runs.
     pub(crate) fn new(
@@ -86,6 +97,7 @@ impl LocalTypes {
             params: Vec::from_slice(alloc, params)?,
             runs: Vec::from_slice(alloc, runs)?,
             ends,
+            defaults: have_defaults(runs),
         })
     }
 
@@ -110,5 +122,18 @@ impl LocalTypes {
             return Some(true);
         }
         Some(has_default(self.get(local)?))
+    }
+
+    /// Whether a local is there and not set where the body begins.
+    pub(crate) fn is_unset_first(&self, local: u32) -> bool
+        ensures { result ≡ is_off (slice_get (first_in self.now) local) }
+    {
+        if self.defaults {
+            return false;
+        }
+        match self.is_set_first(local) {
+            Some(is_set) => !is_set,
+            None => false,
+        }
     }
 }

@@ -53,7 +53,7 @@ impl Locals {
     ghost use Rattle.std.specs.Prelude.{◌≡◌, ◌∷◌, ◌++◌, [], OnOk, IfOk, slice_get};
     ghost use Rattle.w_rules.specs.Bodies.{types_of_runs, set_first};
     ghost use Rattle.w_rules.specs.InstructionTypes.{get_type};
-    ghost use Rattle.w_locals.specs.Locals.{first_set, outer_sets, set_in_first, twice};
+    ghost use Rattle.w_locals.specs.Locals.{first_set, is_off, outer_sets, set_in_first, twice};
     ghost use Rattle.w_locals.specs.Locals.{gives_type};
 
     /// Where a body with these parameters and further locals begins. It fails only when out of memory.
@@ -79,15 +79,17 @@ impl Locals {
         self.types.get(local)
     }
 
-    // Whether a local is set.
-    fn is_set(&self, local: u32) -> Option<bool>
-        ensures { slice_get (first_set self.now.sets) local ≡ result }
+    // Whether a local is there and not set.
+    fn is_unset(&self, local: u32) -> bool
+        ensures { result ≡ is_off (slice_get (first_set self.now.sets) local) }
     {
-        if self.has_ended {
-            return None;
+        if !self.types.is_unset_first(local) {
+            return false;
         }
-        let first = self.types.is_set_first(local)?;
-        Some(first || is_logged(self.log.as_slice(), &self.places, local))
+        if self.has_ended {
+            return false;
+        }
+        !is_logged(self.log.as_slice(), &self.places, local)
     }
 
     /// The type of a local that is set.
@@ -95,12 +97,13 @@ impl Locals {
         ensures { get_type (slice_get self.now.types local) (slice_get
             (first_set self.now.sets) local) ≡ gives_type result }
     {
-        let kind = self.get(local)?;
-        if self.is_set(local)? {
-            Some(kind)
-        } else {
-            None
+        if self.has_ended {
+            return None;
         }
+        if self.is_unset(local) {
+            return None;
+        }
+        self.get(local)
     }
 
     /// Sets a local, where it is there.
@@ -108,7 +111,7 @@ impl Locals {
         ensures types { self.new.types ≡ self.old.types }
         ensures sets { OnOk result (self.new.sets ≡ set_in_first local self.old.sets) }
     {
-        if is_logged(self.log.as_slice(), &self.places, local) {
+        if !self.is_unset(local) {
             return Ok(());
         }
         self.places.insert(local, self.log.len())?;

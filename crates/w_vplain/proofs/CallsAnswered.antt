@@ -216,15 +216,14 @@ answers_row r old new ins top outs raise call same =
       row_exact es c k.classes s o takes gives raise (frames_of_derived old) w k.knows found taken (h.answer ∙ ap is_some leads),
     ))
 
--- what it adds to the operands of its place
-pub added_told : {E : Type 0} (r : Result ℕ E) (c : Checker) (m : Move) (ins : Bor (List ValType)) (top : Option ValType) (outs : Bor (List ValType)) (raise : Option ℕ) (taken : ℕ) (here : Option ℕ)
-    → m ≡ move.Row ins top outs raise → c.ended ≡ false → here ≡ tally (top_of c).any (top_of c).operands c.top.base → taken ≡ size (row_with (row_of ins.now) top)
-    → IfOk r (λ n. n ≡ or_none here (above taken raise)) → IfOk r (λ n. HasBases c → n ≡ added_by m (frames_of c))
-added_told r c m ins top outs raise taken here is going e f h =
+-- what a row adds to the operands of its place
+pub added_told : {E : Type 0} (r : Result ℕ E) (c : Checker) (ins : Row ValType) (raise : Option ℕ) (taken : ℕ) (here : Option ℕ)
+    → c.ended ≡ false → here ≡ tally (top_of c).any (top_of c).operands c.top.base → taken ≡ size ins
+    → IfOk r (λ n. n ≡ or_none here (above taken raise)) → IfOk r (λ n. HasBases c → n ≡ or_none (total (frames_of c)) (above (size ins) raise))
+added_told r c ins raise taken here going e f h =
     ok_with r _ _ h (λ n x bases.
     beneath_told c.ended (top_of c) c.outer.items (outer_sets c.locals.sets) c.top.base here n (above taken raise) going bases.0 e x
-    ∙ ap (λ (k : ℕ). or_none (total (frames_of c)) (above k raise)) f
-    ∙ ap (λ (d : Move). added_by d (frames_of c)) (sym is))
+    ∙ ap (λ (k : ℕ). or_none (total (frames_of c)) (above k raise)) f)
 
 -- ## A sequence that is not derived
 

@@ -280,37 +280,18 @@ impl<'a> Checker<'a> {
         }
     }
 
-    // Either, where the body has not ended.
-    fn step(&mut self, step: Move) -> Result<bool, AllocError>
-        requires { IsFalse self.old.ended }
-        ensures steps { IfOk result (λ taken. Leads (move_next (classes_for self.old)
-            (context_for self.old) step.entry (top_of self.old
-            ∷ outer_of self.old)) taken (frames_of self.new)) }
-        ensures bases { IfOk result (λ taken. IsTrue taken → HasBases self.old
-            → HasBases self.new) }
-        ensures uncounted { IsUncounted self.old self.new }
-    {
-        match step {
-            Move::Instr(instr) => self.instr(instr),
-            Move::Row { ins, top, outs, .. } => self.row(ins, top, outs),
-        }
-    }
-
-    // How many operands a call adds to those of its place, where that is counted.
-    fn added(&self, step: Move) -> Result<u64, AllocError>
+    // How many operands a row adds to those of its place, where that is counted.
+    fn added(
+        &self,
+        ins: &[ValType],
+        top: Option<ValType>,
+        raise: Option<u64>,
+    ) -> Result<u64, AllocError>
         requires { IsFalse self.now.ended }
         ensures { IfOk result (λ count. HasBases self.now → count
-            ≡ added_by step.entry (frames_of self.now)) }
+            ≡ or_none (total (frames_of self.now)) (above (size (row_with (row_of ins.now) top)) raise)) }
     {
-        match step {
-            Move::Instr(_) => Ok(0),
-            Move::Row {
-                ins,
-                top,
-                raise,
-                ..
-            } => row_top(height(&self.top)?, row_size(ins, top), raise),
-        }
+        row_top(height(&self.top)?, row_size(ins, top), raise)
     }
 
     // Counts the operands and the blocks of the place that was reached.
@@ -333,6 +314,46 @@ impl<'a> Checker<'a> {
         Ok(())
     }
 
+    // An instruction where the body has not ended, and the count of the place that it reaches.
+    fn advance_instr(&mut self, instr: &Instr) -> Result<bool, AllocError>
+        requires { IsFalse self.old.ended }
+        ensures steps { IfOk result (λ taken. Leads (next (classes_for self.old)
+            (context_for self.old) instr.now (frames_of self.old)) taken (frames_of self.new)) }
+        ensures counted { IfOk result (λ taken. IsTrue taken → IsCounted self.old self.new 0) }
+        ensures body { IsSameBody self.old self.new }
+    {
+        if !self.instr(instr)? {
+            return Ok(false);
+        }
+        self.count()?;
+        Ok(true)
+    }
+
+    // The same of a row, which may add to the operands of its place. Rows are rare: out of line, they leave the common path short.
+    #[inline(never)]
+    fn advance_row(
+        &mut self,
+        ins: &[ValType],
+        top: Option<ValType>,
+        outs: &[ValType],
+        raise: Option<u64>,
+    ) -> Result<bool, AllocError>
+        requires { IsFalse self.old.ended }
+        ensures steps { IfOk result (λ taken. Leads (row_next (classes_for self.old) (row_with
+            (row_of ins.now) top) (row_of outs.now) (frames_of self.old)) taken (frames_of self.new)) }
+        ensures counted { IfOk result (λ taken. IsTrue taken → IsCounted self.old self.new (or_none
+            (total (frames_of self.old)) (above (size (row_with (row_of ins.now) top)) raise))) }
+        ensures body { IsSameBody self.old self.new }
+    {
+        let added = self.added(ins, top, raise)?;
+        if !self.row(ins, top, outs)? {
+            return Ok(false);
+        }
+        self.peak = self.peak.max(added);
+        self.count()?;
+        Ok(true)
+    }
+
     // A call where the body has not ended, and the count of the place that it reaches.
     fn advance(&mut self, step: Move) -> Result<bool, AllocError>
         requires { IsFalse self.old.ended }
@@ -342,13 +363,15 @@ impl<'a> Checker<'a> {
             → IsCounted self.old self.new (added_by step.entry (frames_of self.old))) }
         ensures body { IsSameBody self.old self.new }
     {
-        let added = self.added(step)?;
-        if !self.step(step)? {
-            return Ok(false);
+        match step {
+            Move::Instr(instr) => self.advance_instr(instr),
+            Move::Row {
+                ins,
+                top,
+                outs,
+                raise,
+            } => self.advance_row(ins, top, outs, raise),
         }
-        self.peak = self.peak.max(added);
-        self.count()?;
-        Ok(true)
     }
 
     // A call.

@@ -1,6 +1,6 @@
 //! Types that stand only where a test holds.
 ghost use Rattle.std.specs.Prelude.{◌≡◌, IfOk};
-ghost use Rattle.w_types.specs.Rows.{row_of};
+ghost use Rattle.w_types.specs.Rows.{ε, ◌▹◌, row_of};
 ghost use Rattle.w_flow.specs.Flow.{step};
 ghost use Rattle.w_flow.specs.View.{flow_view, flow_if};
 ghost use Rattle.w_rules.specs.InstructionTypes.{fixed, if_valid};
@@ -26,4 +26,38 @@ pub(crate) fn fixed_if_valid(
         return Ok(false);
     }
     flow.fixed(classes, ins, outs)
+}
+
+/// Takes an operand and gives one of these types, where the test holds.
+pub(crate) fn turns_if_valid(
+    classes: &Classes,
+    flow: &mut Flow,
+    test: bool,
+    from: ValType,
+    to: ValType,
+) -> Result<bool, AllocError>
+    ensures { IfOk result (λ taken. step classes.now (if_valid test (fixed (ε ▹ from) (ε ▹ to)))
+        (flow_view flow.old).any (flow_view flow.old).operands ≡ flow_if taken flow.new) }
+{
+    if !test {
+        return Ok(false);
+    }
+    flow.turns(classes, from, to)
+}
+
+/// Takes two operands of these types, where the test holds.
+pub(crate) fn takes_two_if_valid(
+    classes: &Classes,
+    flow: &mut Flow,
+    test: bool,
+    below: ValType,
+    top: ValType,
+) -> bool
+    ensures { step classes.now (if_valid test (fixed (ε ▹ below ▹ top) ε))
+        (flow_view flow.old).any (flow_view flow.old).operands ≡ flow_if result flow.new }
+{
+    if !test {
+        return false;
+    }
+    flow.takes_two(classes, below, top)
 }

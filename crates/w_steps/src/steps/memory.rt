@@ -5,7 +5,7 @@ ghost use Rattle.w_flow.specs.View.{flow_view, flow_if};
 ghost use Rattle.w_rules.specs.InstructionTypes.{load_type as the_load_type, load_width as the_load_width, store_type as the_store_type, store_width as the_store_width, is_access as the_access, memory_op_type};
 ghost use Rattle.w_rules.specs.View.{context_in};
 
-use crate::steps::if_valid::fixed_if_valid;
+use crate::steps::if_valid::{fixed_if_valid, takes_two_if_valid, turns_if_valid};
 use std::alloc::AllocError;
 use w_flow::Flow;
 use w_rules::Context;
@@ -77,36 +77,29 @@ pub(crate) fn memory_step(cx: &Context, flow: &mut Flow, op: MemoryOp) -> Result
     ensures { IfOk result (λ taken. step cx.now.classes.now (memory_op_type (context_in cx.now) op)
         (flow_view flow.old).any (flow_view flow.old).operands ≡ flow_if taken flow.new) }
 {
-    let one = [ValType::I32];
     let three = [ValType::I32, ValType::I32, ValType::I32];
     match op {
         MemoryOp::Load(load, argument) => {
             let access = is_access(cx, load_width(load), argument);
-            fixed_if_valid(cx.classes, flow, access, &one, &[load_type(load)])
+            turns_if_valid(cx.classes, flow, access, ValType::I32, load_type(load))
         }
         MemoryOp::Store(store, argument) => {
             let access = is_access(cx, store_width(store), argument);
-            fixed_if_valid(
-                cx.classes,
-                flow,
-                access,
-                &[ValType::I32, store_type(store)],
-                &[],
-            )
+            Ok(takes_two_if_valid(cx.classes, flow, access, ValType::I32, store_type(store)))
         }
-        MemoryOp::Size(memory) => fixed_if_valid(
+        MemoryOp::Size(memory) => {
+            if cx.has_memory(memory) {
+                flow.gives(ValType::I32)
+            } else {
+                Ok(false)
+            }
+        }
+        MemoryOp::Grow(memory) => turns_if_valid(
             cx.classes,
             flow,
             cx.has_memory(memory),
-            &[],
-            &one,
-        ),
-        MemoryOp::Grow(memory) => fixed_if_valid(
-            cx.classes,
-            flow,
-            cx.has_memory(memory),
-            &one,
-            &one,
+            ValType::I32,
+            ValType::I32,
         ),
         MemoryOp::Init(segment, memory) => {
             let there = cx.has_memory(memory) && cx.has_data(segment);

@@ -44,23 +44,15 @@ pub(crate) fn numeric_step(
         (flow_view flow.old).operands ≡ flow_if taken flow.new) }
 {
     match op {
-        NumericOp::I32Const(_) => flow.fixed(classes, &[], &[ValType::I32]),
-        NumericOp::I64Const(_) => flow.fixed(classes, &[], &[ValType::I64]),
-        NumericOp::Eqz(kind) => flow.fixed(classes, &[of_int(kind)], &[ValType::I32]),
-        NumericOp::Compare(kind, _) => flow.fixed(
-            classes,
-            &[of_int(kind), of_int(kind)],
-            &[ValType::I32],
-        ),
-        NumericOp::Unary(kind, _) => flow.fixed(classes, &[of_int(kind)], &[of_int(kind)]),
-        NumericOp::Binary(kind, _) => flow.fixed(
-            classes,
-            &[of_int(kind), of_int(kind)],
-            &[of_int(kind)],
-        ),
+        NumericOp::I32Const(_) => flow.gives(ValType::I32),
+        NumericOp::I64Const(_) => flow.gives(ValType::I64),
+        NumericOp::Eqz(kind) => flow.turns(classes, of_int(kind), ValType::I32),
+        NumericOp::Compare(kind, _) => flow.joins(classes, of_int(kind), ValType::I32),
+        NumericOp::Unary(kind, _) => flow.turns(classes, of_int(kind), of_int(kind)),
+        NumericOp::Binary(kind, _) => flow.joins(classes, of_int(kind), of_int(kind)),
         NumericOp::Convert(convert) => {
             let (from, to) = converted(convert);
-            flow.fixed(classes, &[from], &[to])
+            flow.turns(classes, from, to)
         }
     }
 }

@@ -49,7 +49,7 @@ pub(crate) fn reference_step(
         }
         ReferenceOp::IsNull => flow.tests_null(),
         ReferenceOp::Func(function) => match function_reference(cx, function) {
-            Some(kind) => flow.fixed(cx.classes, &[], &[kind]),
+            Some(kind) => flow.gives(kind),
             None => Ok(false),
         },
         ReferenceOp::AsNonNull => flow.as_non_null(),

@@ -96,11 +96,11 @@ pub(crate) fn table_step(cx: &Context, flow: &mut Flow, op: TableOp) -> Result<b
     let classes = cx.classes;
     match op {
         TableOp::Get(index) => match cx.table(index) {
-            Some(table) => flow.fixed(classes, &[ValType::I32], &[ValType::Ref(table.element)]),
+            Some(table) => flow.turns(classes, ValType::I32, ValType::Ref(table.element)),
             None => Ok(false),
         },
         TableOp::Set(index) => match cx.table(index) {
-            Some(table) => flow.fixed(classes, &[ValType::I32, ValType::Ref(table.element)], &[]),
+            Some(table) => Ok(flow.takes_two(classes, ValType::I32, ValType::Ref(table.element))),
             None => Ok(false),
         },
         TableOp::Init(segment, table) => init_step(cx, flow, segment, table),
@@ -111,7 +111,7 @@ pub(crate) fn table_step(cx: &Context, flow: &mut Flow, op: TableOp) -> Result<b
         TableOp::Copy(to, from) => copy_step(cx, flow, to, from),
         TableOp::Grow(index) => grow_step(cx, flow, index),
         TableOp::Size(index) => match cx.table(index) {
-            Some(_) => flow.fixed(classes, &[], &[ValType::I32]),
+            Some(_) => flow.gives(ValType::I32),
             None => Ok(false),
         },
         TableOp::Fill(index) => fill_step(cx, flow, index),

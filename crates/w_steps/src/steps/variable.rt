@@ -38,23 +38,23 @@ pub(crate) fn variable_step(
     let classes = body.cx.classes;
     match op {
         VariableOp::LocalGet(local) => match body.locals.get_set(local) {
-            Some(kind) => flow.fixed(classes, &[], &[kind]),
+            Some(kind) => flow.gives(kind),
             None => Ok(false),
         },
         VariableOp::LocalSet(local) => match body.locals.get(local) {
-            Some(kind) => flow.fixed(classes, &[kind], &[]),
+            Some(kind) => Ok(flow.takes(classes, kind)),
             None => Ok(false),
         },
         VariableOp::LocalTee(local) => match body.locals.get(local) {
-            Some(kind) => flow.fixed(classes, &[kind], &[kind]),
+            Some(kind) => flow.turns(classes, kind, kind),
             None => Ok(false),
         },
         VariableOp::GlobalGet(global) => match body.cx.global(global) {
-            Some(found) => flow.fixed(classes, &[], &[found.kind]),
+            Some(found) => flow.gives(found.kind),
             None => Ok(false),
         },
         VariableOp::GlobalSet(global) => match variable_global(body.cx, global) {
-            Some(kind) => flow.fixed(classes, &[kind], &[]),
+            Some(kind) => Ok(flow.takes(classes, kind)),
             None => Ok(false),
         },
     }

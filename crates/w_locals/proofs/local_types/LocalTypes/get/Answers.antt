@@ -9,7 +9,7 @@ use Rattle.w_locals.proofs.local_types.LocalTypes.get.Goals as goal
 
 pub runs_before-requires : goal.runs_before-requires
 runs_before-requires c =
-    subst (IsNonDecreasingBy (λ (end : ℕ). end)) (sym c.self.invariant ∙ sym c.as_slice-in-None-2.ensures.value) (ends_rise (length c.self.inside.params.items) c.self.inside.runs.items)
+    subst (IsNonDecreasingBy (λ (end : ℕ). end)) (sym c.self.invariant.0 ∙ sym c.as_slice-in-None-2.ensures.value) (ends_rise (length c.self.inside.params.items) c.self.inside.runs.items)
 
 pub returns-in-Some : goal.returns-in-Some
 returns-in-Some c =
@@ -20,7 +20,7 @@ returns-in-Some c =
 pub returns-in-None : goal.returns-in-None
 returns-in-None c =
     ap (λ (d : Declared). slice_get (types_in d) c.args.local) (sym c.self.view_is)
-    ∙ local_found c.self.inside.params.items c.self.inside.runs.items c.self.inside.ends.items c.args.local c.runs_before.result c.self.invariant
+    ∙ local_found c.self.inside.params.items c.self.inside.runs.items c.self.inside.ends.items c.args.local c.runs_before.result c.self.invariant.0
     (ap (λ (ps : List ValType). slice_get ps c.args.local) (sym c.as_slice.ensures.value) ∙ c.item_at.ensures ∙ c.in-None.is)
     (subst (λ (es : List ℕ). SplitsAt es c.args.local c.runs_before.result) c.as_slice-in-None-2.ensures.value c.runs_before.ensures)
     ∙ ap (λ (rs : List LocalRun). option_map kind_of (slice_get rs c.runs_before.result)) (sym c.as_slice-in-None.ensures.value) ∙ c.run_type.ensures

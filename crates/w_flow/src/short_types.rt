@@ -1,0 +1,80 @@
+//! The types of instructions that take at most two operands and give at most one, each a step of a flow in place: no lists are made.
+//! Each step gives back whether its operands can be taken.
+
+use crate::flow::Flow;
+use crate::operands::{matches_type, take_type};
+use std::alloc::AllocError;
+use w_canon::Classes;
+use w_rules::Operand;
+use w_types::ValType;
+
+impl Flow {
+    ghost use Rattle.std.specs.Prelude.{◌≡◌, IfOk, []};
+    ghost use Rattle.w_types.specs.Rows.{ε, ◌▹◌, row_of};
+    ghost use Rattle.w_rules.specs.InstructionTypes.{fixed};
+    ghost use Rattle.w_flow.specs.Flow.{step};
+    ghost use Rattle.w_flow.specs.View.{flow_if};
+
+    /// The type [] to [to]. It compares no types, so the contract has no entries. It fails only when out of memory.
+    #[tactic(auto, using(crate::proofs::RowsOfLists::row_more))]
+    pub fn gives(&mut self, to: ValType) -> Result<bool, AllocError>
+        ensures { IfOk result (λ taken. step [] (fixed ε (ε ▹ to)) self.old.any
+            (row_of self.old.operands.items) ≡ flow_if taken self.new) }
+    {
+        self.operands.push(Operand::Known(to))?;
+        Ok(true)
+    }
+
+    /// The type [from] to [].
+    pub fn takes(&mut self, classes: &Classes, from: ValType) -> bool
+        ensures { step classes.now (fixed (ε ▹ from) ε) self.old.any
+            (row_of self.old.operands.items) ≡ flow_if result self.new }
+    {
+        take_type(classes, self.any, &mut self.operands, from)
+    }
+
+    /// The type [below top] to [].
+    pub fn takes_two(&mut self, classes: &Classes, below: ValType, top: ValType) -> bool
+        ensures { step classes.now (fixed (ε ▹ below ▹ top) ε) self.old.any
+            (row_of self.old.operands.items) ≡ flow_if result self.new }
+    {
+        self.takes(classes, top) && self.takes(classes, below)
+    }
+
+    /// The type [from] to [to]. It fails only when out of memory.
+    pub fn turns(
+        &mut self,
+        classes: &Classes,
+        from: ValType,
+        to: ValType,
+    ) -> Result<bool, AllocError>
+        ensures { IfOk result (λ taken. step classes.now (fixed (ε ▹ from) (ε ▹ to)) self.old.any
+            (row_of self.old.operands.items) ≡ flow_if taken self.new) }
+    {
+        let count = self.operands.len();
+        if count == 0 {
+            return if self.any { self.gives(to) } else { Ok(false) };
+        }
+        if !matches_type(classes, self.operands[count - 1], from) {
+            return Ok(false);
+        }
+        self.operands[count - 1] = Operand::Known(to);
+        Ok(true)
+    }
+
+    /// The type [from from] to [to]. It fails only when out of memory.
+    pub fn joins(
+        &mut self,
+        classes: &Classes,
+        from: ValType,
+        to: ValType,
+    ) -> Result<bool, AllocError>
+        ensures { IfOk result (λ taken. step classes.now (fixed (ε ▹ from ▹ from)
+            (ε ▹ to)) self.old.any (row_of self.old.operands.items) ≡ flow_if taken self.new) }
+    {
+        if !self.takes(classes, from) {
+            return Ok(false);
+        }
+        self.turns(classes, from, to)
+    }
+}
