@@ -6,6 +6,8 @@ use Rattle.w_syntax.specs.Code.{Code, Done, Plain, Block, If, IfElse}
 use Rattle.w_syntax.specs.Flat.{laid, whole}
 use Rattle.w_syntax.specs.declared.instructions.Instr.{Instr}
 use Rattle.w_syntax.specs.declared.instructions.Instr.TheVariants as flat
+use Rattle.w_syntax.specs.declared.packed.PackedInstr.{PackedInstr}
+use Rattle.w_syntax.specs.Packed.{unpacked, unpacked_all}
 use Rattle.w_rules.specs.Bodies.{is_const, all_const}
 use Rattle.w_rules.specs.Context.{Context}
 use Rattle.w_bodies.specs.Constants.{is_const_at}
@@ -34,9 +36,17 @@ laid_const c n (Block kind x b k) = (λ h. let e = h.0 in absurd (cc), λ h. abs
 laid_const c n (If x b k) = (λ h. let e = h.0 in absurd (cc), λ h. absurd (cc))
 laid_const c n (IfElse x b d k) = (λ h. let e = h.0 in absurd (cc), λ h. absurd (cc))
 
--- each instruction of the list may stand in it exactly where the expression is constant
-pub whole_const : (c : Context) (is : List Instr) (k : Code) → is ≡ whole k → All (MayStand c) is ↔ IsTrue (all_const c k)
-whole_const c is k e = let P : List Instr → Type 0 = λ js. All (MayStand c) js ↔ IsTrue (all_const c k) in subst P (sym e) (
-  λ h. (laid_const c 0 k).0 (recursion_from_All (MayStand c) (whole k) h),
-  λ h. All-from_recursion (MayStand c) (whole k) ((laid_const c 0 k).1 h),
+-- the packed instruction may stand in the list
+abbrev pub MayStandPacked : Context → PackedInstr → Type 0
+MayStandPacked c p = MayStand c (unpacked p)
+
+unpacked_may : (c : Context) (ps : List PackedInstr) → AllByRecursion (MayStandPacked c) ps ↔ AllByRecursion (MayStand c) (unpacked_all ps)
+unpacked_may c [] = (λ h. h, λ h. h)
+unpacked_may c (p ∷ ps) = (λ h. (h.0, (unpacked_may c ps).0 h.1), λ h. (h.0, (unpacked_may c ps).1 h.1))
+
+-- each packed instruction of the list may stand in it exactly where the expression is constant
+pub whole_const : (c : Context) (ps : List PackedInstr) (k : Code) → unpacked_all ps ≡ whole k → All (MayStandPacked c) ps ↔ IsTrue (all_const c k)
+whole_const c ps k e = (
+  λ h. (laid_const c 0 k).0 (subst (AllByRecursion (MayStand c)) e ((unpacked_may c ps).0 (recursion_from_All (MayStandPacked c) ps h))),
+  λ h. All-from_recursion (MayStandPacked c) ps ((unpacked_may c ps).1 (subst (AllByRecursion (MayStand c)) (sym e) ((laid_const c 0 k).1 h))),
 )

@@ -10,6 +10,8 @@ use Rattle.w_syntax.specs.Code.{Code, Done, Plain, Block, If, IfElse}
 use Rattle.w_syntax.specs.Flat.{laid, size, whole}
 use Rattle.w_syntax.specs.declared.instructions.Instr.{Instr}
 use Rattle.w_syntax.specs.declared.instructions.Instr.TheVariants as flat
+use Rattle.w_syntax.specs.declared.packed.PackedInstr.{PackedInstr}
+use Rattle.w_syntax.specs.Packed.{unpacked, unpacked_all}
 use Rattle.w_syntax.specs.declared.instructions.Op.{Op}
 use Rattle.w_syntax.specs.declared.instructions.Op.TheVariants as op
 use Rattle.w_syntax.specs.declared.instructions.ReferenceOp.TheVariants as reference
@@ -27,7 +29,7 @@ use Rattle.w_rules.specs.Matching.{RowMatches, none, more, value}
 use Rattle.w_rules.specs.Types.{has_heap}
 use Rattle.w_rules.specs.Typing.{HasInstrType}
 use Rattle.w_rules.proofs.Preorder.{row_refl, row_trans, row_size}
-use Rattle.w_bodies.specs.Constants.{given, fixed_type, type_of_one}
+use Rattle.w_bodies.specs.Constants.{IsOnly, given, fixed_type, type_of_one}
 
 -- ## What an instruction gives that stands alone
 
@@ -115,30 +117,27 @@ one_judged c o k t found fits is e h =
 -- ## A body whose list has two instructions
 
 -- is one instruction, and its end
-two_are : (k : Code) (o : Op) (j : Instr) → whole k ≡ flat.Plain o ∷ j ∷ [] → k ≡ Plain o Done
+two_are : (k : Code) (i j : Instr) → whole k ≡ i ∷ j ∷ [] → IsOnly k i
 unfolding laid
-two_are Done o j e = absurd cc
-two_are (Plain p Done) o j e = let f : flat.Plain p ≡ flat.Plain o = cc in let g : p ≡ o = cc in ap (λ q. Plain q Done) g
-two_are (Plain p (Plain q r)) o j e = absurd (omega (arith, ap length e, length-append (laid 2 r) (flat.End ∷ [])))
-two_are (Plain p (Block k b x r)) o j e =
+two_are Done i j e = absurd cc
+two_are (Plain p Done) i j e = let f : i ≡ flat.Plain p = cc in (p, f, refl)
+two_are (Plain p (Plain q r)) i j e = absurd (omega (arith, ap length e, length-append (laid 2 r) (flat.End ∷ [])))
+two_are (Plain p (Block k b x r)) i j e =
     absurd (omega (arith, ap length e, length-append (laid 2 x ++ flat.End ∷ laid (3 + size x) r) (flat.End ∷ []), length-append (laid 2 x) (flat.End ∷ laid (3 + size x) r)))
-two_are (Plain p (If b x r)) o j e =
+two_are (Plain p (If b x r)) i j e =
     absurd (omega (arith, ap length e, length-append (laid 2 x ++ flat.End ∷ laid (3 + size x) r) (flat.End ∷ []), length-append (laid 2 x) (flat.End ∷ laid (3 + size x) r)))
-two_are (Plain p (IfElse b x y r)) o j e =
+two_are (Plain p (IfElse b x y r)) i j e =
     let rest = laid (3 + size x) y ++ flat.End ∷ laid (4 + size x + size y) r in
     absurd (omega (arith, ap length e, length-append (laid 2 x ++ flat.Else ∷ rest) (flat.End ∷ []), length-append (laid 2 x) (flat.Else ∷ rest)))
-two_are (Block k b x r) o j e = absurd cc
-two_are (If b x r) o j e = absurd cc
-two_are (IfElse b x y r) o j e = absurd cc
+two_are (Block k b x r) i j e = absurd (omega (arith, ap length e, length-append (laid 1 x ++ flat.End ∷ laid (2 + size x) r) (flat.End ∷ []), length-append (laid 1 x) (flat.End ∷ laid (2 + size x) r)))
+two_are (If b x r) i j e = absurd (omega (arith, ap length e, length-append (laid 1 x ++ flat.End ∷ laid (2 + size x) r) (flat.End ∷ []), length-append (laid 1 x) (flat.End ∷ laid (2 + size x) r)))
+two_are (IfElse b x y r) i j e =
+    let rest = laid (2 + size x) y ++ flat.End ∷ laid (3 + size x + size y) r in
+    absurd (omega (arith, ap length e, length-append (laid 1 x ++ flat.Else ∷ rest) (flat.End ∷ []), length-append (laid 1 x) (flat.Else ∷ rest)))
 
-only_two : (k : Code) (is : List Instr) (i : Instr) (o : Op) → is ≡ whole k → i ≡ get_or is 0 i → length is ≡ 2 → i ≡ flat.Plain o → k ≡ Plain o Done
-only_two k [] i o e f l p = absurd (omega (arith, l))
-only_two k (j ∷ []) i o e f l p = absurd (omega (arith, l))
-only_two k (j ∷ m ∷ []) i o e f l p = two_are k o m (sym e ∙ ap (λ n. n ∷ m ∷ []) (sym f ∙ p))
-only_two k (j ∷ m ∷ n ∷ is) i o e f l p = absurd (omega (arith, l))
-
--- the instruction that was found at its front is all of it
-pub only_found : (k : Code) (is : List Instr) (i : Instr) (o : Option (Bor Op)) → is ≡ whole k → i ≡ get_or is 0 i → length is ≡ 2
-    → IfSome o (λ p. i ≡ flat.Plain p.now) → IfSome o (λ p. k ≡ Plain p.now Done)
-only_found k is i None e f l h = tt
-only_found k is i (Some p) e f l h = only_two k is i p.now e f l h
+-- the packed instruction at its front is all of it
+pub only_packed : (k : Code) (ps : List PackedInstr) (p : PackedInstr) → unpacked_all ps ≡ whole k → p ≡ get_or ps 0 p → length ps ≡ 2 → IsOnly k (unpacked p)
+only_packed k [] p e f l = absurd (omega (arith, l))
+only_packed k (q ∷ []) p e f l = absurd (omega (arith, l))
+only_packed k (q ∷ r ∷ []) p e f l = two_are k (unpacked p) (unpacked r) (sym e ∙ ap (λ (n : PackedInstr). unpacked n ∷ unpacked r ∷ []) (sym f))
+only_packed k (q ∷ r ∷ t ∷ ps) p e f l = absurd (omega (arith, l))

@@ -1,5 +1,6 @@
 //! The type of a body, and what it needs.
 ghost use Rattle.std.specs.Prelude.{IfOk};
+ghost use Rattle.w_syntax.specs.Packed.{unpacked};
 ghost use Rattle.w_rules.specs.View.{context_in, HasClasses};
 ghost use Rattle.w_vplain.specs.Prefixes.{follow};
 ghost use Rattle.w_vplain.specs.Standing.{Answers, IsSameBody};
@@ -7,7 +8,7 @@ ghost use Rattle.w_bodies.specs.Measured.{IsMeasure};
 
 use std::alloc::{AllocError, Global};
 use w_rules::Context;
-use w_syntax::{Body, Instr, LocalRun, Op};
+use w_syntax::{Body, Instr, LocalRun, Op, PackedInstr};
 use w_types::ValType;
 use w_vplain::Checker;
 use w_vswitch::switching;
@@ -27,6 +28,16 @@ fn call(checker: &mut Checker, instr: &Instr) -> Result<bool, AllocError>
     }
 }
 
+// One packed instruction more.
+fn call_packed(checker: &mut Checker, packed: &PackedInstr) -> Result<bool, AllocError>
+    ensures answers { IfOk result (λ taken. Answers checker.old checker.new (follow
+        (unpacked packed.now)) taken) }
+    ensures body { IsSameBody checker.old checker.new }
+{
+    let view = packed.view();
+    call(checker, view.instr())
+}
+
 /// Types a body (Core, validation, functions): where it has its type, the greatest number of operands at a counted place of it, and
 /// one plus the greatest number of blocks around a place. It fails only when out of memory.
 pub fn check_body(
@@ -42,8 +53,8 @@ pub fn check_body(
         (context_in cx.now) params.now runs.now results.now body.now measured) }
 {
     let mut checker = Checker::begin(alloc, cx, params, runs, results)?;
-    for instr in body.instrs() {
-        if !call(&mut checker, instr)? {
+    for packed in body.instrs() {
+        if !call_packed(&mut checker, packed)? {
             return Ok(None);
         }
     }

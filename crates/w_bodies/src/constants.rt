@@ -1,8 +1,10 @@
 //! Constant expressions.
 ghost use Rattle.std.specs.Prelude.{◌≡◌, ◌↔◌, All, IfOk, IfSome, IsTrue, Option};
 ghost use Rattle.w_syntax.specs.Code.{Done, Plain};
-ghost use Rattle.w_syntax.specs.declared.instructions.Instr.{Instr as Flat};
+ghost use Rattle.w_syntax.specs.declared.packed.PackedInstr.{PackedInstr as Packed};
+ghost use Rattle.w_syntax.specs.Packed.{unpacked};
 ghost use Rattle.w_syntax.specs.declared.instructions.Instr.TheVariants as flat;
+ghost use Rattle.w_syntax.specs.declared.instructions.Op.{Op as TheOp};
 ghost use Rattle.w_syntax.specs.declared.instructions.Op.TheVariants as op;
 ghost use Rattle.w_syntax.specs.declared.instructions.ReferenceOp.TheVariants as reference;
 ghost use Rattle.w_syntax.specs.declared.module.GlobalType.{GlobalType as TheGlobal};
@@ -12,13 +14,13 @@ ghost use Rattle.w_rules.specs.Conditions.{Holds};
 ghost use Rattle.w_rules.specs.Context.{Context as TheContext};
 ghost use Rattle.w_rules.specs.InstructionTypes.{reference_op_type};
 ghost use Rattle.w_rules.specs.View.{context_in, HasClasses};
-ghost use Rattle.w_bodies.specs.Constants.{is_const_at, given, fixed_type, type_of_one};
+ghost use Rattle.w_bodies.specs.Constants.{IsOnly, is_const_at, given, fixed_type, type_of_one};
 
 use crate::bodies::check_body;
 use std::alloc::{AllocError, Global};
 use w_rules::Context;
 use w_syntax::{
-    Binop, Body, GlobalType, Instr, Mutability, NumericOp, Op, ReferenceOp, VariableOp,
+    Binop, Body, GlobalType, Instr, Mutability, NumericOp, Op, PackedInstr, ReferenceOp, VariableOp,
 };
 use w_types::{HeapType, RefType, ValType};
 
@@ -90,12 +92,20 @@ fn is_const_at(cx: &Context, instr: &Instr) -> bool
     }
 }
 
-// Whether each of these may stand in such a list.
-fn are_const(cx: &Context, instrs: &[Instr]) -> bool
-    ensures { IsTrue result ↔ All (λ (i : Flat). IsTrue (is_const_at
-        (context_in cx.now) i)) instrs.now }
+// Whether a packed one may.
+fn is_packed_const(cx: &Context, packed: &PackedInstr) -> bool
+    ensures { result ≡ is_const_at (context_in cx.now) (unpacked packed.now) }
 {
-    instrs.iter().all(|instr| is_const_at(cx, instr))
+    let view = packed.view();
+    is_const_at(cx, view.instr())
+}
+
+// Whether each of these may stand in such a list.
+fn are_const(cx: &Context, instrs: &[PackedInstr]) -> bool
+    ensures { IsTrue result ↔ All (λ (p : Packed). IsTrue (is_const_at
+        (context_in cx.now) (unpacked p))) instrs.now }
+{
+    instrs.iter().all(|packed| is_packed_const(cx, packed))
 }
 
 // Whether each instruction of an expression may stand in a constant expression.
@@ -195,22 +205,37 @@ pub fn is_reference_typed(cx: &Context, reference: ReferenceOp, kind: ValType) -
     is_matched(cx, type_of_reference(cx, reference), kind)
 }
 
-// An instruction that holds no others.
-fn plain_of(instr: &Instr) -> Option<&Op>
-    ensures { IfSome result (λ op. instr.now ≡ flat.Plain op.now) }
+// The same of an instruction that may be a mark, or hold others.
+fn type_of_instr(cx: &Context, instr: &Instr) -> Option<ValType>
+    ensures { (o : TheOp) → instr.now ≡ flat.Plain o → result ≡ type_of_one (context_in cx.now) o }
 {
     match instr {
-        Instr::Plain(op) => Some(op),
+        Instr::Plain(op) => type_of_one(cx, op),
+        _ => None,
+    }
+}
+
+// The same of a packed one.
+fn type_of_packed(cx: &Context, packed: &PackedInstr) -> Option<ValType>
+    ensures { (o : TheOp) → unpacked packed.now ≡ flat.Plain o
+        → result ≡ type_of_one (context_in cx.now) o }
+{
+    match packed {
+        PackedInstr::I32Const(_) => Some(ValType::I32),
+        PackedInstr::I64Const(_) => Some(ValType::I64),
+        PackedInstr::Reference(reference) => type_of_reference(cx, *reference),
+        PackedInstr::Variable(VariableOp::GlobalGet(global)) => type_of_global(cx.global(*global)),
+        PackedInstr::Boxed(instr) => type_of_instr(cx, instr),
         _ => None,
     }
 }
 
 // The instruction of a body of one.
-fn only_of(body: &Body) -> Option<&Op>
-    ensures { IfSome result (λ op. body.now ≡ Plain op.now Done) }
+fn only_of(body: &Body) -> Option<&PackedInstr>
+    ensures { IfSome result (λ p. IsOnly body.now (unpacked p.now)) }
 {
     match body.instrs() {
-        [instr, _] => plain_of(instr),
+        [packed, _] => Some(packed),
         _ => None,
     }
 }
@@ -244,7 +269,7 @@ pub fn is_const_typed(
     ensures { IfOk result (λ typed. IsTrue typed ↔ ConstTyped (context_in cx.now) body.now kind) }
 {
     match only_of(body) {
-        Some(op) => Ok(is_matched(cx, type_of_one(cx, op), kind)),
+        Some(packed) => Ok(is_matched(cx, type_of_packed(cx, packed), kind)),
         None => is_body_typed(alloc, cx, body, kind),
     }
 }

@@ -22,7 +22,7 @@ fn body_at(alloc: Global, bytes: &[u8], at: usize) -> Result<Option<(Body, usize
         place = next;
         match builder.push(token)? {
             Progress::More => {}
-            Progress::Finished => return Ok(Some((builder.into_body(), next))),
+            Progress::Finished => return Ok(Some((builder.into_body()?, next))),
             Progress::Wrong => return Ok(None),
         }
     }

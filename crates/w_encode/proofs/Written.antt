@@ -10,7 +10,10 @@ use Rattle.w_syntax.specs.declared.instructions.Token.TheVariants as tok
 use Rattle.w_syntax.specs.Code.{Code, Done, Plain, Block, If, IfElse}
 use Rattle.w_syntax.specs.Expr.{tokens}
 use Rattle.w_syntax.specs.Flat.{laid, size, whole}
-use Rattle.w_encode.specs.FlatWritten.{instr_written, function_in}
+use Rattle.w_syntax.specs.declared.packed.PackedInstr.{PackedInstr}
+use Rattle.w_syntax.specs.Packed.{unpacked_all}
+use Rattle.w_syntax.proofs.PackedLists.{flat_map_unpacked}
+use Rattle.w_encode.specs.FlatWritten.{instr_written, packed_written, function_in}
 use Rattle.w_encode.specs.InstructionsWritten.{token_written, expr_written}
 use Rattle.w_encode.specs.FieldsWritten.{function_of}
 
@@ -39,10 +42,10 @@ written_laid k (IfElse b x y r) is ts e =
 pub written_whole : (c : Code) → flat_map instr_written (whole c) ≡ expr_written c
 written_whole c = written_laid 0 c (flat.End ∷ []) (tok.End ∷ []) refl
 
--- what writing a body's list did, it did of the body
-pub put_body : {E : Type 0} (result : Result (Unit {0}) E) (new old : List ℕ) (is : List Instr) (c : Code) → is ≡ whole c → OnOk result (new ≡ old ++ flat_map instr_written is) → OnOk result (new ≡ old ++ expr_written c)
-put_body (Ok t) new old is c e h = h ∙ ap (λ (l : List ℕ). old ++ l) (ap (flat_map instr_written) e ∙ written_whole c)
-put_body (Err x) new old is c e h = h
+-- what writing a body's packed list did, it did of the body
+pub put_body : {E : Type 0} (result : Result (Unit {0}) E) (new old : List ℕ) (ps : List PackedInstr) (c : Code) → unpacked_all ps ≡ whole c → OnOk result (new ≡ old ++ flat_map packed_written ps) → OnOk result (new ≡ old ++ expr_written c)
+put_body (Ok t) new old ps c e h = h ∙ ap (λ (l : List ℕ). old ++ l) (flat_map_unpacked instr_written ps ∙ ap (flat_map instr_written) e ∙ written_whole c)
+put_body (Err x) new old ps c e h = h
 
 -- a body of two instructions
 two_are : (c : Code) (i j : Instr) → whole c ≡ i ∷ j ∷ [] → function_in i ≡ function_of c

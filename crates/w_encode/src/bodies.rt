@@ -2,11 +2,11 @@
 ghost use Rattle.std.specs.Prelude.{◌≡◌, ◌++◌, OnOk};
 ghost use Rattle.std.specs.List.{flat_map};
 ghost use Rattle.w_encode.specs.InstructionsWritten.{kind_code, expr_written};
-ghost use Rattle.w_encode.specs.FlatWritten.{instr_written};
+ghost use Rattle.w_encode.specs.FlatWritten.{instr_written, packed_written};
 
 use crate::put::Put;
 use std::alloc::AllocError;
-use w_syntax::{BlockKind, Body, Instr};
+use w_syntax::{BlockKind, Body, Instr, PackedInstr};
 
 fn kind_code(kind: BlockKind) -> u8
     ensures { result ≡ kind_code kind }
@@ -38,8 +38,17 @@ impl Put for Instr {
     }
 }
 
-fn put_instrs(instrs: &[Instr], out: &mut Vec<u8>) -> Result<(), AllocError>
-    ensures { OnOk result (out.new.items ≡ out.old.items ++ flat_map instr_written instrs.now) }
+impl Put for PackedInstr {
+    ghost written = { packed_written };
+
+    fn put(&self, out: &mut Vec<u8>) -> Result<(), AllocError> {
+        let view = self.view();
+        view.instr().put(out)
+    }
+}
+
+fn put_instrs(instrs: &[PackedInstr], out: &mut Vec<u8>) -> Result<(), AllocError>
+    ensures { OnOk result (out.new.items ≡ out.old.items ++ flat_map packed_written instrs.now) }
 {
     for instr in instrs {
         instr.put(out)?;

@@ -4,13 +4,16 @@ ghost use Rattle.w_leb.specs.CanonicalLaws.{vec_written};
 ghost use Rattle.w_syntax.specs.Code.{Done, Plain};
 ghost use Rattle.w_syntax.specs.Items.{code_of};
 ghost use Rattle.w_syntax.specs.declared.instructions.Op.TheVariants as op;
+ghost use Rattle.w_syntax.specs.Packed.{unpacked};
 ghost use Rattle.w_encode.specs.InstructionsWritten.{expr_written};
 ghost use Rattle.w_encode.specs.FlatWritten.{function_in};
 ghost use Rattle.w_encode.specs.FieldsWritten.{referred_by, function_of, are_functions, function_written, is_ref_func, is_funcref, index_form, active_form, expression_form, elem_written, data_form, data_written};
 
 use crate::put::{Put, put_bytes, put_count};
 use std::alloc::AllocError;
-use w_syntax::{Body, Data, DataMode, Elem, ElemMode, Instr, ItemView, Items, Op, ReferenceOp};
+use w_syntax::{
+    Body, Data, DataMode, Elem, ElemMode, Instr, ItemView, Items, Op, PackedInstr, ReferenceOp,
+};
 use w_types::{HeapType, RefType};
 
 // The function that an instruction refers to.
@@ -32,12 +35,22 @@ fn function_in(instr: &Instr) -> Option<u32>
     }
 }
 
+fn packed_function(packed: &PackedInstr) -> Option<u32>
+    ensures { result ≡ function_in (unpacked packed.now) }
+{
+    match packed {
+        PackedInstr::Reference(ReferenceOp::Func(function)) => Some(*function),
+        PackedInstr::Boxed(instr) => function_in(instr),
+        _ => None,
+    }
+}
+
 // The function of a body that is one `ref.func`.
 fn function_of_body(body: &Body) -> Option<u32>
     ensures { result ≡ function_of body.now }
 {
     match body.instrs() {
-        [instr, _] => function_in(instr),
+        [packed, _] => packed_function(packed),
         _ => None,
     }
 }

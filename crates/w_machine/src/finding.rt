@@ -1,15 +1,19 @@
 //! Finding the next reduction.
 ghost use Rattle.std.specs.Prelude.{◌≡◌, ◌+◌, ◌^◌, ◌<◌, Some, option_map};
 ghost use Rattle.w_syntax.specs.declared.instructions.Op.TheVariants.{Numeric as OpNumeric, Control as OpControl, Parametric as OpParametric};
-ghost use Rattle.w_machine.specs.Functions.{instr_at as instr_of};
-ghost use Rattle.w_machine.specs.Configuration.{parts, IsSound, Finds, FindsInstruction, FindsCall, redex_within, found_within};
+ghost use Rattle.w_syntax.specs.Packed.{control_of, unpacked};
+ghost use Rattle.w_machine.specs.Functions.{IsPlain, instr_at as instr_of};
+ghost use Rattle.w_machine.specs.Configuration.{parts, IsSound, Finds, FindsInstruction, FindsPlain, FindsCall, redex_within, found_within};
 ghost use Rattle.w_machine.specs.Operands.{TakesI64};
 
 use crate::binary::apply;
 use crate::configuration::{Configuration, Found, Redex, Stage, base};
 use crate::functions::{instr_at, param_count, result_count};
 use crate::store::Store;
-use w_syntax::{Binop, ControlOp, Instr, IntType, Module, NumericOp, Op, ParametricOp};
+use w_syntax::{
+    Binop, ControlOp, Instr, IntType, Module, NumericOp, Op, PackedInstr, ParametricOp,
+    ShortControlOp,
+};
 use w_types::Value;
 
 /// The most frames of a run.
@@ -108,6 +112,54 @@ fn find_instruction(program: &Module, store: &Store, operands: &[Value], op: &Op
     }
 }
 
+// The redex that a control instruction without a list is.
+fn find_short_control(
+    program: &Module,
+    store: &Store,
+    operands: &[Value],
+    op: ShortControlOp,
+) -> Found
+    ensures { FindsInstruction program.now store.now operands.now (OpControl (control_of op)) result }
+{
+    match op {
+        ShortControlOp::Call(address) => find_call(
+            program,
+            store,
+            operands.len(),
+            address as usize,
+        ),
+        _ => Found::NoRule,
+    }
+}
+
+// The redex that a boxed instruction is, where it holds no others.
+fn find_boxed(program: &Module, store: &Store, operands: &[Value], instr: &Instr) -> Found
+    ensures { FindsPlain program.now store.now operands.now instr.now result }
+{
+    match instr {
+        Instr::Plain(op) => find_instruction(program, store, operands, op),
+        _ => Found::NoRule,
+    }
+}
+
+// The redex that an instruction is, where it holds no others.
+fn find_packed(program: &Module, store: &Store, operands: &[Value], packed: &PackedInstr) -> Found
+    ensures { FindsPlain program.now store.now operands.now (unpacked packed.now) result }
+{
+    match packed {
+        PackedInstr::Control(op) => find_short_control(program, store, operands, *op),
+        PackedInstr::Drop => find_parametric(program, store, operands, &ParametricOp::Drop),
+        PackedInstr::I64Const(number) => {
+            find_numeric(program, store, operands, NumericOp::I64Const(*number))
+        }
+        PackedInstr::Binary(kind, op) => {
+            find_numeric(program, store, operands, NumericOp::Binary(*kind, *op))
+        }
+        PackedInstr::Boxed(instr) => find_boxed(program, store, operands, instr),
+        _ => Found::NoRule,
+    }
+}
+
 // The redex, or the limit on frames where its result passes that. So many frames wait.
 fn limited_redex(redex: Redex, waiting: usize) -> Found
     requires { waiting + 1 < 2 ^ 64 }
@@ -132,34 +184,71 @@ fn limited(found: Found, waiting: usize) -> Found
 
 impl Configuration {
     // The redex of the instruction, or the limit on frames where its result passes that.
-    fn find_within(&self, program: &Module, store: &Store, place: usize, op: &Op) -> Found
+    fn find_within(
+        &self,
+        program: &Module,
+        store: &Store,
+        place: usize,
+        packed: &PackedInstr,
+    ) -> Found
         requires sound { IsSound program.now store.now (parts self.now) }
         requires at { self.now.stage ≡ Stage.Body place }
         requires next { place + 1 < 2 ^ 64 }
-        requires is { instr_of program.now self.now.function place ≡ Some (Instr.Plain op.now) }
+        requires is { instr_of program.now self.now.function place ≡ Some (unpacked packed.now) }
+        requires plain { IsPlain (unpacked packed.now) }
         ensures { Finds program.now store.now (parts self.now) result }
     {
         let own = &self.operands[base(self.callers.as_slice())..];
-        limited(
-            find_instruction(program, store, own, op),
-            self.callers.len(),
-        )
+        limited(find_packed(program, store, own, packed), self.callers.len())
     }
 
-    // The redex of what stands at a place. A block has no rule yet; a mark ends the innermost sequence.
-    fn find_instr(&self, program: &Module, store: &Store, place: usize, instr: &Instr) -> Found
+    // The redex of a boxed instruction at a place.
+    fn find_standing(
+        &self,
+        program: &Module,
+        store: &Store,
+        place: usize,
+        packed: &PackedInstr,
+        instr: &Instr,
+    ) -> Found
         requires sound { IsSound program.now store.now (parts self.now) }
         requires at { self.now.stage ≡ Stage.Body place }
         requires next { place + 1 < 2 ^ 64 }
         requires is { instr_of program.now self.now.function place ≡ Some instr.now }
+        requires same { unpacked packed.now ≡ instr.now }
         ensures { Finds program.now store.now (parts self.now) result }
     {
         match instr {
-            Instr::Plain(op) => self.find_within(program, store, place, op),
+            Instr::Plain(_) => self.find_within(program, store, place, packed),
             Instr::Block(_, _, _) => Found::NoRule,
             Instr::If(_, _, _) => Found::NoRule,
             Instr::Else => Found::Redex(Redex::LabelExit),
             Instr::End => Found::Redex(Redex::LabelExit),
+        }
+    }
+
+    // The redex of what stands at a place. A block has no rule yet; a mark ends the innermost sequence.
+    fn find_instr(
+        &self,
+        program: &Module,
+        store: &Store,
+        place: usize,
+        packed: &PackedInstr,
+    ) -> Found
+        requires sound { IsSound program.now store.now (parts self.now) }
+        requires at { self.now.stage ≡ Stage.Body place }
+        requires next { place + 1 < 2 ^ 64 }
+        requires is { instr_of program.now self.now.function place ≡ Some (unpacked packed.now) }
+        ensures { Finds program.now store.now (parts self.now) result }
+    {
+        match packed {
+            PackedInstr::Block(_, _, _) => Found::NoRule,
+            PackedInstr::If(_, _) => Found::NoRule,
+            PackedInstr::IfElse(_, _, _) => Found::NoRule,
+            PackedInstr::Else => Found::Redex(Redex::LabelExit),
+            PackedInstr::End => Found::Redex(Redex::LabelExit),
+            PackedInstr::Boxed(instr) => self.find_standing(program, store, place, packed, instr),
+            _ => self.find_within(program, store, place, packed),
         }
     }
 
@@ -183,7 +272,7 @@ impl Configuration {
         match self.stage {
             Stage::Start(address) => self.find_invoke(program, store, address),
             Stage::Body(place) => match instr_at(program, self.function, place) {
-                Some(instr) => self.find_instr(program, store, place, instr),
+                Some(packed) => self.find_instr(program, store, place, packed),
                 None => Found::Redex(Redex::LabelExit),
             },
             Stage::Frame => {

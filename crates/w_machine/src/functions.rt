@@ -1,11 +1,12 @@
 //! The functions of a module, looked up by their indices.
 ghost use Rattle.std.specs.Prelude.{◌≡◌, ◌+◌, ◌<◌, ◌^◌, IfSome, option_map, slice_get};
 ghost use Rattle.w_syntax.specs.Functions.{type_of_function, code_of_function};
+ghost use Rattle.w_syntax.specs.Packed.{unpacked};
 ghost use Rattle.w_reduce.specs.Control.{defaults};
 ghost use Rattle.w_machine.specs.Functions.{arity, params_of, defaults_of, instr_at as instr_of};
 
 use w_rules::function_type;
-use w_syntax::{Func, Instr, LocalRun, Module};
+use w_syntax::{Func, LocalRun, Module, PackedInstr};
 
 /// The code of a function.
 pub(crate) fn code_at(program: &Module, function: usize) -> Option<&Func>
@@ -36,10 +37,11 @@ pub(crate) fn param_count(program: &Module, function: usize) -> Option<usize>
 }
 
 /// The instruction at a place of a function's code.
-pub(crate) fn instr_at(program: &Module, function: usize, place: usize) -> Option<&Instr>
-    ensures is { option_map (λ i. i.now) result ≡ instr_of program.now function place }
+pub(crate) fn instr_at(program: &Module, function: usize, place: usize) -> Option<&PackedInstr>
+    ensures is { option_map (λ p. unpacked p.now) result
+        ≡ instr_of program.now function place }
     // A place with an instruction is followed by another.
-    ensures next { IfSome result (λ instr. place + 1 < 2 ^ 64) }
+    ensures next { IfSome result (λ packed. place + 1 < 2 ^ 64) }
 {
     match code_at(program, function) {
         Some(code) => code.body.instrs().get(place),

@@ -9,6 +9,8 @@ use Rattle.std.proofs.lemmas.List.{append-nil, length-replicate, length-set}
 use Rattle.w_syntax.specs.declared.instructions.Instr.TheVariants as flat
 use Rattle.w_syntax.specs.Code.{Code, Done, Plain, Block, If, IfElse}
 use Rattle.w_syntax.specs.Flat.{size, laid, whole}
+use Rattle.w_syntax.specs.declared.packed.PackedInstr.{PackedInstr}
+use Rattle.w_syntax.specs.Packed.{unpacked}
 use Rattle.w_rules.specs.Named.{named_at}
 use Rattle.w_syntax.specs.declared.module.Elem.{Elem}
 use Rattle.w_syntax.specs.declared.module.Export.{Export}
@@ -61,6 +63,10 @@ marked_more f s t u xs i x lt e h k =
 pub marked_at : {X : Type 0} (f : X → List ℕ) (s t u : List Bool) (xs : List X) (i : ℕ) (x : X) → slice_get xs i ≡ Some x
     → t ≡ marked s (flat_map f (take i xs)) → u ≡ marked t (f x) → u ≡ marked s (flat_map f (take (i + 1) xs))
 marked_at f s t u xs i x is h k = marked_more f s t u xs i x (slice_get_within xs i x is) (sym (get_or_from_slice_get xs i x x is)) h k
+
+-- the functions that a packed instruction names
+abbrev pub named_packed : PackedInstr → List ℕ
+named_packed p = named_at (unpacked p)
 
 -- the list of a sequence names the functions that the sequence names
 named_laid : (k : ℕ) (c : Code) → flat_map named_at (laid k c) ≡ named_in c

@@ -5,13 +5,14 @@ ghost use Rattle.w_syntax.specs.declared.module.Elem.{Elem};
 ghost use Rattle.w_syntax.specs.declared.module.Export.{Export};
 ghost use Rattle.w_syntax.specs.declared.module.GlobalVariable.{GlobalVariable};
 ghost use Rattle.w_syntax.specs.declared.module.Table.{Table};
+ghost use Rattle.w_syntax.specs.Packed.{unpacked};
 ghost use Rattle.w_rules.specs.Named.{named_at};
 ghost use Rattle.w_rules.specs.Spaces.{marked, named_in, named_in_some, named_of, exported};
 
 use std::alloc::{AllocError, Global};
 use w_syntax::{
     Body, Elem, Export, ExternIndex, GlobalVariable, Instr, ItemView, Items, Module, Op,
-    ReferenceOp, Table,
+    PackedInstr, ReferenceOp, Table,
 };
 
 // Marks a function.
@@ -34,13 +35,24 @@ fn mark_instr(declared: &mut [bool], instr: &Instr)
     }
 }
 
+// Marks the function that a packed instruction names.
+fn mark_packed(declared: &mut [bool], packed: &PackedInstr)
+    ensures { declared.new ≡ marked declared.old (named_at (unpacked packed.now)) }
+{
+    match packed {
+        PackedInstr::Reference(ReferenceOp::Func(function)) => mark(declared, *function),
+        PackedInstr::Boxed(instr) => mark_instr(declared, instr),
+        _ => {}
+    }
+}
+
 // Marks the functions that a body names.
 fn mark_body(declared: &mut [bool], body: &Body)
     ensures { declared.new ≡ marked declared.old (named_in body.now) }
 {
     let instrs = body.instrs();
     for instr in instrs {
-        mark_instr(declared, instr);
+        mark_packed(declared, instr);
     }
 }
 

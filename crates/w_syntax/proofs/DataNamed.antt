@@ -6,6 +6,8 @@ use Rattle.w_syntax.specs.Code.{Code, Done, Plain, Block, If, IfElse}
 use Rattle.w_syntax.specs.DataUses.{is_of_data, uses_data}
 use Rattle.w_syntax.specs.Flat.{size, laid, whole}
 use Rattle.w_syntax.specs.FlatData.{instr_of_data, some_of_data}
+use Rattle.w_syntax.specs.declared.packed.PackedInstr.{PackedInstr}
+use Rattle.w_syntax.specs.Packed.{unpacked, unpacked_all}
 
 or_assoc : (a b c : Bool) → ((a || b) || c) ≡ (a || (b || c))
 or_assoc true b c = refl
@@ -36,11 +38,18 @@ pub whole_named : (c : Code) → some_of_data (whole c) ≡ uses_data c
 unfolding some_of_data
 whole_named c = over (laid 0 c) (flat.End ∷ []) ∙ or_false (some_of_data (laid 0 c)) ∙ laid_named 0 c
 
--- one instruction, and then the others
-pub data_step : (x : Instr) (xs : List Instr) → some_of_data (x ∷ xs) ≡ (instr_of_data x || some_of_data xs)
-unfolding some_of_data
-data_step x xs = refl
+-- a packed instruction names one
+abbrev pub packed_of_data : PackedInstr → Bool
+packed_of_data p = instr_of_data (unpacked p)
 
-pub no_data : some_of_data [] ≡ false
+abbrev pub some_packed_of_data : List PackedInstr → Bool
+some_packed_of_data ps = some_of_data (unpacked_all ps)
+
+-- one packed instruction, and then the others
+pub packed_step : (p : PackedInstr) (ps : List PackedInstr) → some_packed_of_data (p ∷ ps) ≡ (packed_of_data p || some_packed_of_data ps)
 unfolding some_of_data
-no_data = refl
+packed_step p ps = refl
+
+pub no_packed : some_packed_of_data [] ≡ false
+unfolding some_of_data
+no_packed = refl

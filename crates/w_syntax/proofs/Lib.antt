@@ -8,3 +8,4 @@ mod Whole
 mod SomeOf
 mod FunctionsName
 mod LocalRows
+pub mod PackedLists

@@ -13,6 +13,9 @@ use Rattle.w_syntax.specs.Expr.{Path, Top, InBlock, InThen, InElse, More, Finish
 use Rattle.w_syntax.specs.Flat.{size, laid}
 use Rattle.w_syntax.specs.Builds.{place, open_laid, heads, closed_of, Builds}
 use Rattle.w_syntax.specs.declared.builder.BodyBuilder.{BodyBuilder}
+use Rattle.w_syntax.specs.declared.packed.PackedInstr.{PackedInstr}
+use Rattle.w_syntax.specs.Packed.{unpacked, unpacked_all}
+use Rattle.w_syntax.proofs.PackedLists.{unpacked_push}
 
 pub length-laid : (k : ℕ) (c : Code) → length (laid k c) ≡ size c
 unfolding laid size
@@ -33,15 +36,15 @@ length-laid k (IfElse b x y r) =
 pub length-open_laid : (p : Path) → length (open_laid p) ≡ place p
 unfolding open_laid place
 length-open_laid Top = refl
-length-open_laid (InBlock p d kind b) = omega (arith, length-open_laid p, length-laid (place p) d, length-append (open_laid p ++ laid (place p) d) (flat.Block kind b 0 ∷ []), length-append (open_laid p) (laid (place p) d))
-length-open_laid (InThen p d b) = omega (arith, length-open_laid p, length-laid (place p) d, length-append (open_laid p ++ laid (place p) d) (flat.If b None 0 ∷ []), length-append (open_laid p) (laid (place p) d))
+length-open_laid (InBlock p d kind b) = omega (arith, length-open_laid p, length-laid (place p) d, length-append (open_laid p ++ laid (place p) d) (flat.End ∷ []), length-append (open_laid p) (laid (place p) d))
+length-open_laid (InThen p d b) = omega (arith, length-open_laid p, length-laid (place p) d, length-append (open_laid p ++ laid (place p) d) (flat.End ∷ []), length-append (open_laid p) (laid (place p) d))
 length-open_laid (InElse p d b x) =
     omega (
       arith,
       length-open_laid p,
       length-laid (place p) d,
       length-laid (place p + size d + 1) x,
-      length-append (open_laid p ++ laid (place p) d) (flat.If b (Some (place p + size d + 1 + size x)) 0 ∷ (laid (place p + size d + 1) x ++ flat.Else ∷ [])),
+      length-append (open_laid p ++ laid (place p) d) (flat.End ∷ (laid (place p + size d + 1) x ++ flat.Else ∷ [])),
       length-append (open_laid p) (laid (place p) d),
       length-append (laid (place p + size d + 1) x) (flat.Else ∷ []),
     )
@@ -75,13 +78,13 @@ pub plain_laid : (p : Path) (c : Code) (o : Op) (is : List Instr) → is ≡ ope
 unfolding laid
 plain_laid p c o is e = ap (λ (l : List Instr). l ++ flat.Plain o ∷ []) e ∙ sym (extended p c (Plain o Done))
 
-pub block_laid : (p : Path) (c : Code) (kind : BlockKind) (b : BlockType) (is : List Instr) → is ≡ open_laid p ++ laid (place p) c → is ++ flat.Block kind b 0 ∷ [] ≡ open_laid (InBlock p c kind b) ++ laid (place (InBlock p c kind b)) Done
+pub block_laid : (p : Path) (c : Code) (kind : BlockKind) (b : BlockType) (is : List Instr) → is ≡ open_laid p ++ laid (place p) c → is ++ flat.End ∷ [] ≡ open_laid (InBlock p c kind b) ++ laid (place (InBlock p c kind b)) Done
 unfolding laid open_laid
-block_laid p c kind b is e = ap (λ (l : List Instr). l ++ flat.Block kind b 0 ∷ []) e ∙ sym (append-nil _)
+block_laid p c kind b is e = ap (λ (l : List Instr). l ++ flat.End ∷ []) e ∙ sym (append-nil _)
 
-pub if_laid : (p : Path) (c : Code) (b : BlockType) (is : List Instr) → is ≡ open_laid p ++ laid (place p) c → is ++ flat.If b None 0 ∷ [] ≡ open_laid (InThen p c b) ++ laid (place (InThen p c b)) Done
+pub if_laid : (p : Path) (c : Code) (b : BlockType) (is : List Instr) → is ≡ open_laid p ++ laid (place p) c → is ++ flat.End ∷ [] ≡ open_laid (InThen p c b) ++ laid (place (InThen p c b)) Done
 unfolding laid open_laid
-if_laid p c b is e = ap (λ (l : List Instr). l ++ flat.If b None 0 ∷ []) e ∙ sym (append-nil _)
+if_laid p c b is e = ap (λ (l : List Instr). l ++ flat.End ∷ []) e ∙ sym (append-nil _)
 
 replaced : (P : List Instr) (i j : Instr) (tail : List Instr) (h : ℕ) (is : List Instr) → is ≡ (P ++ i ∷ []) ++ tail → length P ≡ h → set is h j ≡ P ++ j ∷ tail
 replaced P i j tail h is e len = ap (λ (l : List Instr). set l h j) (e ∙ append_assoc P (i ∷ []) tail) ∙ set_at P i tail j h len
@@ -90,14 +93,14 @@ replaced P i j tail h is e len = ap (λ (l : List Instr). set l h j) (e ∙ appe
 head_is : (q : Path) (d : Code) → length (open_laid q ++ laid (place q) d) ≡ place q + size d
 head_is q d = here_is q d _ refl
 
-pub else_laid : (q : Path) (d c : Code) (b : BlockType) (is : List Instr) (h here : ℕ) → is ≡ open_laid (InThen q d b) ++ laid (place (InThen q d b)) c → h ≡ place q + size d → here ≡ length is
-    → set is h (flat.If b (Some here) 0) ++ flat.Else ∷ [] ≡ open_laid (InElse q d b c) ++ laid (place (InElse q d b c)) Done
+pub else_laid : (q : Path) (d c : Code) (b : BlockType) (is : List Instr) → is ≡ open_laid (InThen q d b) ++ laid (place (InThen q d b)) c
+    → is ++ flat.Else ∷ [] ≡ open_laid (InElse q d b c) ++ laid (place (InElse q d b c)) Done
 unfolding laid open_laid place
-else_laid q d c b is h here e k l =
-    let m : here ≡ place q + size d + 1 + size c = l ∙ here_is (InThen q d b) c is e in
-    ap (λ (r : List Instr). r ++ flat.Else ∷ []) (replaced (open_laid q ++ laid (place q) d) (flat.If b None 0) (flat.If b (Some here) 0) (laid (place q + size d + 1) c) h is e (head_is q d ∙ sym k))
-    ∙ append_assoc (open_laid q ++ laid (place q) d) (flat.If b (Some here) 0 ∷ laid (place q + size d + 1) c) (flat.Else ∷ [])
-    ∙ ap (λ (n : ℕ). (open_laid q ++ laid (place q) d) ++ flat.If b (Some n) 0 ∷ (laid (place q + size d + 1) c ++ flat.Else ∷ [])) m
+else_laid q d c b is e =
+    let P = open_laid q ++ laid (place q) d in
+    let t = laid (place q + size d + 1) c in
+    ap (λ (r : List Instr). r ++ flat.Else ∷ []) (e ∙ append_assoc P (flat.End ∷ []) t)
+    ∙ append_assoc P (flat.End ∷ t) (flat.Else ∷ [])
     ∙ sym (append-nil _)
 
 pub end_block : (q : Path) (d c : Code) (kind : BlockKind) (b : BlockType) (is : List Instr) (h here : ℕ) → is ≡ open_laid (InBlock q d kind b) ++ laid (place (InBlock q d kind b)) c → h ≡ place q + size d → here ≡ length is
@@ -105,7 +108,7 @@ pub end_block : (q : Path) (d c : Code) (kind : BlockKind) (b : BlockType) (is :
 unfolding laid open_laid place
 end_block q d c kind b is h here e k l =
     let m : here ≡ place q + size d + 1 + size c = l ∙ here_is (InBlock q d kind b) c is e in
-    ap (λ (r : List Instr). r ++ flat.End ∷ []) (replaced (open_laid q ++ laid (place q) d) (flat.Block kind b 0) (flat.Block kind b here) (laid (place q + size d + 1) c) h is e (head_is q d ∙ sym k))
+    ap (λ (r : List Instr). r ++ flat.End ∷ []) (replaced (open_laid q ++ laid (place q) d) flat.End (flat.Block kind b here) (laid (place q + size d + 1) c) h is e (head_is q d ∙ sym k))
     ∙ append_assoc (open_laid q ++ laid (place q) d) (flat.Block kind b here ∷ laid (place q + size d + 1) c) (flat.End ∷ [])
     ∙ ap (λ (n : ℕ). (open_laid q ++ laid (place q) d) ++ flat.Block kind b n ∷ (laid (place q + size d + 1) c ++ flat.End ∷ [])) m
     ∙ sym (extended q d (Block kind b c Done))
@@ -115,7 +118,7 @@ pub end_then : (q : Path) (d c : Code) (b : BlockType) (is : List Instr) (h here
 unfolding laid open_laid place
 end_then q d c b is h here e k l =
     let m : here ≡ place q + size d + 1 + size c = l ∙ here_is (InThen q d b) c is e in
-    ap (λ (r : List Instr). r ++ flat.End ∷ []) (replaced (open_laid q ++ laid (place q) d) (flat.If b None 0) (flat.If b None here) (laid (place q + size d + 1) c) h is e (head_is q d ∙ sym k))
+    ap (λ (r : List Instr). r ++ flat.End ∷ []) (replaced (open_laid q ++ laid (place q) d) flat.End (flat.If b None here) (laid (place q + size d + 1) c) h is e (head_is q d ∙ sym k))
     ∙ append_assoc (open_laid q ++ laid (place q) d) (flat.If b None here ∷ laid (place q + size d + 1) c) (flat.End ∷ [])
     ∙ ap (λ (n : ℕ). (open_laid q ++ laid (place q) d) ++ flat.If b None n ∷ (laid (place q + size d + 1) c ++ flat.End ∷ [])) m
     ∙ sym (extended q d (If b c Done))
@@ -128,8 +131,8 @@ end_else q d x c b is h o here e k n l =
     let m : here ≡ place q + size d + 2 + size x + size c = l ∙ here_is (InElse q d b x) c is e in
     let inner = laid (place q + size d + 1) x in
     let t1 = laid (place q + size d + 2 + size x) c in
-    let split : is ≡ (P ++ flat.If b (Some (place q + size d + 1 + size x)) 0 ∷ []) ++ (inner ++ flat.Else ∷ laid (place q + size d + 2 + size x) c) = e ∙ simp append_assoc in
-    ap (λ (r : List Instr). r ++ flat.End ∷ []) (replaced P (flat.If b (Some (place q + size d + 1 + size x)) 0) (flat.If b (Some o) here) (inner ++ flat.Else ∷ laid (place q + size d + 2 + size x) c) h is split (head_is q d ∙ sym k))
+    let split : is ≡ (P ++ flat.End ∷ []) ++ (inner ++ flat.Else ∷ laid (place q + size d + 2 + size x) c) = e ∙ simp append_assoc in
+    ap (λ (r : List Instr). r ++ flat.End ∷ []) (replaced P flat.End (flat.If b (Some o) here) (inner ++ flat.Else ∷ laid (place q + size d + 2 + size x) c) h is split (head_is q d ∙ sym k))
     ∙ append_assoc P (flat.If b (Some o) here ∷ (inner ++ flat.Else ∷ laid (place q + size d + 2 + size x) c)) (flat.End ∷ [])
     ∙ ap (λ (l : List Instr). P ++ flat.If b (Some o) here ∷ l) (append_assoc inner (flat.Else ∷ laid (place q + size d + 2 + size x) c) (flat.End ∷ []))
     ∙ ap (λ (j : ℕ). P ++ flat.If b (Some j) here ∷ (inner ++ flat.Else ∷ (laid (place q + size d + 2 + size x) c ++ flat.End ∷ []))) n
@@ -179,7 +182,7 @@ ended (InElse p d b x) c os o is here t =
     subst (λ (v : Open). Ended (InElse p d b x) c os v is here) same.1 (p, after d (IfElse b x c Done), refl, end_else p d x c b is (place p + size d) (place p + size d + 1 + size x) here t.0 refl refl t.2, sym same.0)
 
 abbrev Turned : Path → Code → List Open → BlockType → ℕ → List Instr → ℕ → Type 0
-Turned p c os b h is here = (q : Path) × (on_else p c ≡ More q Done) × (set is h (flat.If b (Some here) 0) ++ flat.Else ∷ [] ≡ open_laid q ++ laid (place q) Done) × (os ++ opn.Else b h here ∷ [] ≡ heads q)
+Turned p c os b h is here = (q : Path) × (on_else p c ≡ More q Done) × (is ++ flat.Else ∷ [] ≡ open_laid q ++ laid (place q) Done) × (os ++ opn.Else b h here ∷ [] ≡ heads q)
 
 then_parts : (b v : BlockType) (h k : ℕ) → opn.Then b h ≡ opn.Then v k → (b ≡ v) × (h ≡ k)
 then_parts b v h k e = (cc, cc)
@@ -192,7 +195,7 @@ turned (InThen p d v) c os b h is here t =
     let same = same_from_push (heads p) os (opn.Then v (place p + size d)) (opn.Then b h) t.1 in
     let parts = then_parts v b (place p + size d) h same.1 in
     let m : here ≡ place p + size d + 1 + size c = t.2 ∙ here_is (InThen p d v) c is t.0 in
-    let made : Turned (InThen p d v) c os v (place p + size d) is here = (InElse p d v c, refl, else_laid p d c v is (place p + size d) here t.0 refl t.2, ap (λ (l : List Open). l ++ opn.Else v (place p + size d) here ∷ []) (sym same.0) ∙ ap (λ (n : ℕ). heads p ++ opn.Else v (place p + size d) n ∷ []) m) in
+    let made : Turned (InThen p d v) c os v (place p + size d) is here = (InElse p d v c, refl, else_laid p d c v is t.0, ap (λ (l : List Open). l ++ opn.Else v (place p + size d) here ∷ []) (sym same.0) ∙ ap (λ (n : ℕ). heads p ++ opn.Else v (place p + size d) n ∷ []) m) in
     subst (λ (w : BlockType). Turned (InThen p d v) c os w h is here) parts.0 (subst (λ (k : ℕ). Turned (InThen p d v) c os v k is here) parts.1 made)
 turned (InElse p d v x) c os b h is here t = let same = same_from_push (heads p) os (opn.Else v (place p + size d) (place p + size d + 1 + size x)) (opn.Then b h) t.1 in let e = same.1 in absurd cc
 
@@ -214,7 +217,7 @@ pub end_none : (p : Path) (c : Code) → heads p ≡ [] → (on_end p c ≡ Fini
 unfolding open_laid place
 end_none p c e = (ap (λ (q : Path). on_end q c) (no_open p e), ap (λ (q : Path). open_laid q ++ laid (place q) c) (no_open p e))
 
--- a builder with one instruction more, behind one that was put in the place of another
-pub builds_after : (q : Path) (d : Code) (s : BodyBuilder) (before replaced : List Instr) (i : Instr) (opens : List Open) → s.code.items ≡ before ++ i ∷ [] → before ≡ replaced
-    → replaced ++ i ∷ [] ≡ open_laid q ++ laid (place q) d → s.opens.items ≡ opens → opens ≡ heads q → Builds q d s
-builds_after q d s before replaced i opens e f g h k = record { code = e ∙ ap (λ (l : List Instr). l ++ i ∷ []) f ∙ g; opens = h ∙ k }
+-- a builder with one instruction more
+pub builds_after : (q : Path) (d : Code) (s : BodyBuilder) (before : List PackedInstr) (packed : PackedInstr) (opens : List Open) → s.code.items ≡ before ++ packed ∷ []
+    → unpacked_all before ++ unpacked packed ∷ [] ≡ open_laid q ++ laid (place q) d → s.opens.items ≡ opens → opens ≡ heads q → Builds q d s
+builds_after q d s before packed opens e g h k = record { code = unpacked_push s.code.items before packed e ∙ g; opens = h ∙ k }

@@ -10,6 +10,7 @@ use Rattle.w_syntax.specs.declared.builder.Progress.TheVariants as stepped
 use Rattle.w_syntax.specs.Code.{Code}
 use Rattle.w_syntax.specs.Expr.{Path, Top, InBlock, InThen, InElse, Outcome, More, Finished, Wrong}
 use Rattle.w_syntax.specs.Flat.{size, laid, whole}
+use Rattle.w_syntax.specs.Packed.{unpacked_all}
 
 -- how many instructions stand before the innermost open sequence
 unfoldable pub place : Path → ℕ
@@ -18,12 +19,12 @@ place (InBlock p d kind b) = place p + size d + 1
 place (InThen p d b) = place p + size d + 1
 place (InElse p d b x) = place p + size d + 2 + size x
 
--- these instructions; an end that hasn't come is 0
+-- these instructions; in the place of a block that is open stands an end
 unfoldable pub open_laid : Path → List Instr
 open_laid Top = []
-open_laid (InBlock p d kind b) = (open_laid p ++ laid (place p) d) ++ flat.Block kind b 0 ∷ []
-open_laid (InThen p d b) = (open_laid p ++ laid (place p) d) ++ flat.If b None 0 ∷ []
-open_laid (InElse p d b x) = (open_laid p ++ laid (place p) d) ++ flat.If b (Some (place p + size d + 1 + size x)) 0 ∷ (laid (place p + size d + 1) x ++ flat.Else ∷ [])
+open_laid (InBlock p d kind b) = (open_laid p ++ laid (place p) d) ++ flat.End ∷ []
+open_laid (InThen p d b) = (open_laid p ++ laid (place p) d) ++ flat.End ∷ []
+open_laid (InElse p d b x) = (open_laid p ++ laid (place p) d) ++ flat.End ∷ (laid (place p + size d + 1) x ++ flat.Else ∷ [])
 
 unfoldable pub heads : Path → List Open
 heads Top = []
@@ -32,12 +33,12 @@ heads (InThen p d b) = heads p ++ opn.Then b (place p + size d) ∷ []
 heads (InElse p d b x) = heads p ++ opn.Else b (place p + size d) (place p + size d + 1 + size x) ∷ []
 
 pub record Builds (p : Path) (c : Code) (s : BodyBuilder) : Type 0 where
-  pub code : s.code.items ≡ open_laid p ++ laid (place p) c
+  pub code : unpacked_all s.code.items ≡ open_laid p ++ laid (place p) c
   pub opens : s.opens.items ≡ heads p
 
 -- the builder has the whole of this body
 pub record Holds (d : Code) (s : BodyBuilder) : Type 0 where
-  pub code : s.code.items ≡ whole d
+  pub code : unpacked_all s.code.items ≡ whole d
 
 abbrev pub ProgressTo : Outcome → Progress → BodyBuilder → Type 0
 ProgressTo (More p c) r s = (r ≡ stepped.More) × Builds p c s

@@ -1,6 +1,7 @@
 pub mod Code
 pub mod DataUses
 pub mod Flat
+pub mod Packed
 pub mod FlatData
 pub mod Types
 pub mod Tokens

@@ -2,17 +2,18 @@
 ghost use Rattle.std.specs.Prelude.{◌≡◌};
 ghost use Rattle.w_syntax.specs.FlatData.{instr_of_data, some_of_data};
 ghost use Rattle.w_syntax.specs.Module.{any_uses_data};
+ghost use Rattle.w_syntax.specs.Packed.{unpacked, unpacked_all};
 
 use crate::instructions::{Instr, Op};
 use crate::memory_instructions::MemoryOp;
 use crate::module::Func;
-use std::alloc::{AllocError, Global};
+use crate::packed::{PackedInstr, ShortMemoryOp};
 use std::marker::Model;
 
-/// A sequence of instructions. It is kept in one list, and contracts see the tree.
+/// A sequence of instructions. They are kept in one list, packed, and contracts see the tree.
 #[derive(Drop)]
 pub struct Body {
-    code: Vec<Instr>,
+    code: Vec<PackedInstr>,
 }
 
 // Whether an instruction names a data segment.
@@ -26,12 +27,24 @@ fn is_of_data(instr: &Instr) -> bool
     }
 }
 
+// Whether a packed one does.
+fn is_packed_of_data(packed: &PackedInstr) -> bool
+    ensures { result ≡ instr_of_data (unpacked packed.now) }
+{
+    match packed {
+        PackedInstr::Memory(ShortMemoryOp::Init(_, _)) => true,
+        PackedInstr::Memory(ShortMemoryOp::DataDrop(_)) => true,
+        PackedInstr::Boxed(instr) => is_of_data(instr),
+        _ => false,
+    }
+}
+
 // Whether some instruction of the list names a data segment.
-fn some_is_of_data(instrs: &[Instr]) -> bool
-    ensures { result ≡ some_of_data instrs.now }
+fn some_is_of_data(instrs: &[PackedInstr]) -> bool
+    ensures { result ≡ some_of_data (unpacked_all instrs.now) }
 {
     for instr in instrs {
-        if is_of_data(instr) {
+        if is_packed_of_data(instr) {
             return true;
         }
     }
@@ -43,38 +56,29 @@ impl Model for Body {
     ghost use Rattle.w_syntax.specs.Code.{Code};
     ghost use Rattle.w_syntax.specs.FlatLaws.{code_code};
     ghost use Rattle.w_syntax.specs.Flat.{tree_of, IsFlat};
+    ghost use Rattle.w_syntax.specs.Packed.{unpacked_all};
 
     ghost Value = { Code };
 
     ghost coded = { code_code };
 
-    ghost view = { λ a. tree_of a.code.items };
+    ghost view = { λ a. tree_of (unpacked_all a.code.items) };
 
-    ghost invariant = { λ a. IsFlat a.code.items };
+    ghost invariant = { λ a. IsFlat (unpacked_all a.code.items) };
 }
 
 impl Body {
-    ghost use Rattle.std.specs.Prelude.{◌≡◌, IfOk};
-    ghost use Rattle.w_syntax.specs.Code.{Plain, Done};
+    ghost use Rattle.std.specs.Prelude.{◌≡◌};
     ghost use Rattle.w_syntax.specs.Flat.{tree_of, IsFlat, whole};
     ghost use Rattle.w_syntax.specs.DataUses.{uses_data};
+    ghost use Rattle.w_syntax.specs.Packed.{unpacked_all};
 
     /// The body that this list is laid out from.
-    pub fn new(code: Vec<Instr>) -> Body
-        requires { IsFlat code.items }
-        ensures { result ≡ tree_of code.items }
+    pub fn new(code: Vec<PackedInstr>) -> Body
+        requires { IsFlat (unpacked_all code.items) }
+        ensures { result ≡ tree_of (unpacked_all code.items) }
     {
         Body { code }
-    }
-
-    /// The body of this one instruction.
-    pub fn of_one(alloc: Global, op: Op) -> Result<Body, AllocError>
-        ensures { IfOk result (λ body. body ≡ Plain op Done) }
-    {
-        let mut code = Vec::new(alloc);
-        code.push(Instr::Plain(op))?;
-        code.push(Instr::End)?;
-        Ok(Body::new(code))
     }
 
     /// Whether some instruction names a data segment.
@@ -85,8 +89,8 @@ impl Body {
     }
 
     /// The instructions in one list, with the end behind them.
-    pub fn instrs(&self) -> &[Instr]
-        ensures { result.now ≡ whole self.now }
+    pub fn instrs(&self) -> &[PackedInstr]
+        ensures { unpacked_all result.now ≡ whole self.now }
     {
         self.code.as_slice()
     }

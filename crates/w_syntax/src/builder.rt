@@ -6,7 +6,11 @@ ghost use Rattle.w_syntax.specs.Builds.{Builds, ProgressTo, Holds, closed_of};
 
 use crate::body::Body;
 use crate::instructions::{BlockKind, BlockType, Instr, Token};
+use crate::packed::PackedInstr;
 use std::alloc::{AllocError, Global};
+
+// A body of more instructions than these is not copied for room.
+const SHORT: usize = 4096;
 
 /// A block that is open: its type and its place; for a second branch also the place of the else.
 #[derive(Clone, Copy)]
@@ -16,12 +20,15 @@ pub(crate) enum Open {
     Else(BlockType, usize, usize),
 }
 
-/// The body that tokens make, as far as they have come: its instructions, and the blocks that are open.
+/// The body that tokens make, as far as they have come: its instructions, and the blocks that are open. In the place of a
+/// block that is open stands an end, until the block's end has come.
 #[derive(Drop)]
 pub struct BodyBuilder {
-    code: Vec<Instr>,
+    alloc: Global,
+    code: Vec<PackedInstr>,
     opens: Vec<Open>,
 }
+
 /// What came of a token: the body goes on, or it is finished, or no body begins with these tokens.
 #[derive(Clone, Copy)]
 pub enum Progress {
@@ -31,7 +38,7 @@ pub enum Progress {
 }
 
 // Puts an instruction in the place of another.
-fn replace(code: &mut Vec<Instr>, head: usize, instr: Instr)
+fn replace(code: &mut Vec<PackedInstr>, head: usize, instr: PackedInstr)
     requires { head < length code.old.items }
     ensures { code.new.items ≡ slice_set code.old.items head instr }
 {
@@ -49,12 +56,25 @@ fn closed(ended: Open, here: usize) -> (usize, Instr)
     }
 }
 
+// The list in no more room than it takes, where it is short.
+fn in_exact_room(alloc: Global, mut code: Vec<PackedInstr>) -> Result<Vec<PackedInstr>, AllocError>
+    ensures { IfOk result (λ v. v.items ≡ code.items) }
+{
+    if code.len() > SHORT {
+        return Ok(code);
+    }
+    let mut exact = Vec::with_capacity(alloc, code.len())?;
+    exact.append(&mut code)?;
+    Ok(exact)
+}
+
 impl BodyBuilder {
     /// No instructions yet.
     pub fn new(alloc: Global) -> BodyBuilder
         ensures { Builds Top Done result }
     {
         BodyBuilder {
+            alloc,
             code: Vec::new(alloc),
             opens: Vec::new(alloc),
         }
@@ -69,17 +89,18 @@ impl BodyBuilder {
         let here = self.code.len();
         match token {
             Token::Plain(op) => {
-                self.code.push(Instr::Plain(op))?;
+                let packed = PackedInstr::new(self.alloc, Instr::Plain(op))?;
+                self.code.push(packed)?;
                 Ok(Progress::More)
             }
             Token::Block(kind, block) => {
                 self.opens.push(Open::Block(kind, block, here))?;
-                self.code.push(Instr::Block(kind, block, 0))?;
+                self.code.push(PackedInstr::End)?;
                 Ok(Progress::More)
             }
             Token::If(block) => {
                 self.opens.push(Open::Then(block, here))?;
-                self.code.push(Instr::If(block, None, 0))?;
+                self.code.push(PackedInstr::End)?;
                 Ok(Progress::More)
             }
             Token::Else => {
@@ -89,29 +110,30 @@ impl BodyBuilder {
                 let Open::Then(block, head) = last else {
                     return Ok(Progress::Wrong);
                 };
-                replace(&mut self.code, head, Instr::If(block, Some(here), 0));
                 self.opens.push(Open::Else(block, head, here))?;
-                self.code.push(Instr::Else)?;
+                self.code.push(PackedInstr::Else)?;
                 Ok(Progress::More)
             }
             Token::End => {
                 let Some(last) = self.opens.pop() else {
-                    self.code.push(Instr::End)?;
+                    self.code.push(PackedInstr::End)?;
                     return Ok(Progress::Finished);
                 };
                 let (head, instr) = closed(last, here);
-                replace(&mut self.code, head, instr);
-                self.code.push(Instr::End)?;
+                let packed = PackedInstr::new(self.alloc, instr)?;
+                replace(&mut self.code, head, packed);
+                self.code.push(PackedInstr::End)?;
                 Ok(Progress::More)
             }
         }
     }
 
-    /// The body that is finished.
-    pub fn into_body(self) -> Body
+    /// The body that is finished, in no more room than it takes where it is short. It fails only for want of memory.
+    pub fn into_body(self) -> Result<Body, AllocError>
         requires { (d : Code) × Holds d self }
-        ensures { (d : Code) → Holds d self → result ≡ d }
+        ensures { IfOk result (λ body. (d : Code) → Holds d self → body ≡ d) }
     {
-        Body::new(self.code)
+        let code = in_exact_room(self.alloc, self.code)?;
+        Ok(Body::new(code))
     }
 }

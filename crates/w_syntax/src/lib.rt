@@ -10,6 +10,7 @@ mod memory_instructions;
 mod module;
 mod name;
 mod numeric;
+mod packed;
 
 pub use body::{Body, any_uses_data};
 pub use builder::{BodyBuilder, Progress};
@@ -26,3 +27,7 @@ pub use module::{
 };
 pub use name::Name;
 pub use numeric::{Binop, Cvtop, IntType, NumericOp, Relop, Unop};
+pub use packed::{
+    AbstractHeapType, InstrView, PackedInstr, ShortBlockType, ShortControlOp, ShortMemoryOp,
+    ShortSwitchingOp,
+};

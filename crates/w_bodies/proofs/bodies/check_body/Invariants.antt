@@ -5,6 +5,6 @@ use Rattle.w_bodies.proofs.BodiesMeasured.{Reached}
 use Rattle.w_bodies.proofs.bodies.check_body.Given as goal
 
 -- the checker stands for the instructions so far, which the rules derive
-abbrev pub invariant-loop-instr : goal.invariant-loop-instr
-invariant-loop-instr l =
-    Reached (record { context = context_in l.cx; params = l.params; runs = l.runs; results = l.results }) l.checker (take l.instr-index (whole l.body))
+abbrev pub invariant-loop-packed : goal.invariant-loop-packed
+invariant-loop-packed l =
+    Reached (record { context = context_in l.cx; params = l.params; runs = l.runs; results = l.results }) l.checker (take l.packed-index (whole l.body))

@@ -53,7 +53,7 @@ returns-in-Finished c =
     let s = rw c.in-Finished.is at (c.in_ok-push.ensures i.0 i.1 i.2.stands) in
     let m = to_finished (step i.0 i.1 c.in-Some.token) c.push.new.self s in
     let e = one_on i.0 i.1 (drop c.loop-place.place c.args.bytes.now) c.in-Some.token (drop c.in-Some.next c.args.bytes.now) h.0 in
-    let body = c.into_body.ensures m.0 m.2 in
+    let body = c.in_ok-into_body-in-Finished.ensures m.0 m.2 in
     (sym i.2.reads ∙ e ∙ ap (λ (o : _). onward (length (drop c.in-Some.next c.args.bytes.now)) o (drop c.in-Some.next c.args.bytes.now)) m.1 ∙ ap (λ (d : Code). Some (d, drop c.in-Some.next c.args.bytes.now)) (sym body), omega (arith, h.1, i.2.after), h.2)
 
 pub returns-in-Wrong : goal.returns-in-Wrong
