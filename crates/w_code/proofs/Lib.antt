@@ -1,2 +1,3 @@
 pub mod TokenSteps
 mod ShortItems
+mod CommonTokens

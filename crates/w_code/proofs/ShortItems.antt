@@ -38,7 +38,7 @@ unfolding read_expr step after
 one_read b rest o e = one_on Top Done b (tok.Plain o) (0x0B ∷ rest) e ∙ one_on Top (Plain o Done) (0x0B ∷ rest) tok.End rest (end_token rest)
 
 -- the byte in front
-in_front : (b more : List ℕ) (k : ℕ) → byte b ≡ Some (k, more) → b ≡ k ∷ more
+pub in_front : (b more : List ℕ) (k : ℕ) → byte b ≡ Some (k, more) → b ≡ k ∷ more
 in_front [] more k e = absurd cc
 in_front (j ∷ b) more k e = let s = some_parts j k b more e in cc (s.0, s.1)
 

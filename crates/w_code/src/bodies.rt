@@ -4,6 +4,7 @@ ghost use Rattle.w_leb.specs.Format.{ReadsAt, BeginsAt};
 ghost use Rattle.w_syntax.specs.Expr.{Expr, read_expr};
 ghost use Rattle.w_syntax.specs.Fields.{expr};
 
+use crate::common::common_at;
 use crate::tokens::token_at;
 use std::alloc::{AllocError, Global};
 use w_fields::{Field, field_at};
@@ -16,6 +17,11 @@ fn body_at(alloc: Global, bytes: &[u8], at: usize) -> Result<Option<(Body, usize
     let mut builder = BodyBuilder::new(alloc);
     let mut place = at;
     while place < bytes.len() {
+        if let Some((packed, next)) = common_at(bytes, place) {
+            builder.push_plain(packed)?;
+            place = next;
+            continue;
+        }
         let Some((token, next)) = token_at(alloc, bytes, place)? else {
             return Ok(None);
         };

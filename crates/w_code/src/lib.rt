@@ -3,6 +3,7 @@
 
 mod bodies;
 mod bulk;
+mod common;
 mod control;
 mod datas;
 mod elements;

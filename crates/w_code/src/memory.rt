@@ -20,6 +20,7 @@ fn memarg_at(bytes: &[u8], at: usize) -> Option<(MemArg, usize)>
     let Some((offset, next)) = read_u64(bytes, next) else {
         return None;
     };
+    let align = align as u8;
     Some((MemArg { align, offset }, next))
 }
 

@@ -44,7 +44,7 @@ impl Put for MemArg {
     ghost written = { memarg_written };
 
     fn put(&self, out: &mut Vec<u8>) -> Result<(), AllocError> {
-        self.align.put(out)?;
+        u32::from(self.align).put(out)?;
         self.offset.put(out)
     }
 }

@@ -37,13 +37,30 @@ fn unsigned_at(bytes: &[u8], at: usize, width: u32) -> Option<(u64, usize)>
     Some((byte as u64 - 128 + 128 * high, next))
 }
 
+// The same, with no call where one byte spells it.
+#[inline(always)]
+fn unsigned_from(bytes: &[u8], at: usize, width: u32) -> Option<(u64, usize)>
+    requires low { 7 ≤ width }
+    requires high { width ≤ 64 }
+    ensures reads { ReadsAt (unsigned width) bytes.now at result }
+    ensures fits { IfSome result (λ x. x.0 < 2 ^ width) }
+{
+    if let Some((byte, next)) = read_byte(bytes, at) {
+        if byte < 128 {
+            return Some((byte as u64, next));
+        }
+    }
+    unsigned_at(bytes, at, width)
+}
+
 /// The unsigned number of 32 bits that is spelled at a place, in any spelling of at most five bytes, and the place after it
 /// (Core, binary format, values). `None` exactly where no spelling begins.
+#[inline]
 pub fn read_u32(bytes: &[u8], at: usize) -> Option<(u32, usize)>
     ensures reads { ReadsAt (unsigned 32) bytes.now at result }
     ensures begins { BeginsAt (Unsigned 32) bytes.now at result }
 {
-    let Some((value, next)) = unsigned_at(bytes, at, 32) else {
+    let Some((value, next)) = unsigned_from(bytes, at, 32) else {
         return None;
     };
     Some((value as u32, next))
@@ -51,11 +68,12 @@ pub fn read_u32(bytes: &[u8], at: usize) -> Option<(u32, usize)>
 
 /// The unsigned number of 64 bits that is spelled at a place, in any spelling of at most ten bytes, and the place after it
 /// (Core, binary format, values). `None` exactly where no spelling begins.
+#[inline]
 pub fn read_u64(bytes: &[u8], at: usize) -> Option<(u64, usize)>
     ensures reads { ReadsAt (unsigned 64) bytes.now at result }
     ensures begins { BeginsAt (Unsigned 64) bytes.now at result }
 {
-    unsigned_at(bytes, at, 64)
+    unsigned_from(bytes, at, 64)
 }
 
 // A signed number of so many bits.
@@ -90,13 +108,30 @@ fn signed_at(bytes: &[u8], at: usize, width: u32) -> Option<(i64, usize)>
     Some(((byte - 128) as i64 + 128 * high, next))
 }
 
+// The same, with no call where one byte spells it and it is not negative.
+#[inline(always)]
+fn signed_from(bytes: &[u8], at: usize, width: u32) -> Option<(i64, usize)>
+    requires low { 7 ≤ width }
+    requires high { width ≤ 64 }
+    ensures reads { ReadsAt (signed width) bytes.now at result }
+    ensures fits { IfSome result (λ x. IsInBits width x.0) }
+{
+    if let Some((byte, next)) = read_byte(bytes, at) {
+        if byte < 64 {
+            return Some((byte as i64, next));
+        }
+    }
+    signed_at(bytes, at, width)
+}
+
 /// The signed number of 32 bits that is spelled at a place, in any spelling of at most five bytes, and the place after it
 /// (Core, binary format, values). `None` exactly where no spelling begins.
+#[inline]
 pub fn read_s32(bytes: &[u8], at: usize) -> Option<(i32, usize)>
     ensures reads { ReadsAt (signed 32) bytes.now at result }
     ensures begins { BeginsAt (Signed 32) bytes.now at result }
 {
-    let Some((value, next)) = signed_at(bytes, at, 32) else {
+    let Some((value, next)) = signed_from(bytes, at, 32) else {
         return None;
     };
     Some((value as i32, next))
@@ -114,9 +149,10 @@ pub fn read_s33(bytes: &[u8], at: usize) -> Option<(i64, usize)>
 
 /// The signed number of 64 bits that is spelled at a place, in any spelling of at most ten bytes, and the place after it
 /// (Core, binary format, values). `None` exactly where no spelling begins.
+#[inline]
 pub fn read_s64(bytes: &[u8], at: usize) -> Option<(i64, usize)>
     ensures reads { ReadsAt (signed 64) bytes.now at result }
     ensures begins { BeginsAt (Signed 64) bytes.now at result }
 {
-    signed_at(bytes, at, 64)
+    signed_from(bytes, at, 64)
 }

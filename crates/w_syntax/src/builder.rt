@@ -1,6 +1,9 @@
 //! Building a body token by token.
-ghost use Rattle.std.specs.Prelude.{◌≡◌, ◌<◌, IfOk, length, slice_set};
-ghost use Rattle.w_syntax.specs.Code.{Code, Done};
+ghost use Rattle.std.specs.Prelude.{◌≡◌, ◌<◌, IfOk, OnOk, length, slice_set};
+ghost use Rattle.w_syntax.specs.declared.instructions.Instr.TheVariants as Flat;
+ghost use Rattle.w_syntax.specs.declared.instructions.Op.{Op};
+ghost use Rattle.w_syntax.specs.Code.{Code, Done, Plain, after};
+ghost use Rattle.w_syntax.specs.Packed.{unpacked};
 ghost use Rattle.w_syntax.specs.Expr.{Path, Top, step};
 ghost use Rattle.w_syntax.specs.Builds.{Builds, ProgressTo, Holds, closed_of};
 
@@ -78,6 +81,15 @@ impl BodyBuilder {
             code: Vec::new(alloc),
             opens: Vec::new(alloc),
         }
+    }
+
+    /// Takes an instruction that holds no others.
+    pub fn push_plain(&mut self, packed: PackedInstr) -> Result<(), AllocError>
+        ensures { OnOk result ((p : Path) (c : Code) (o : Op) → Builds p c self.old
+            → unpacked packed ≡ Flat.Plain o → Builds p (after c (Plain o Done)) self.new) }
+    {
+        self.code.push(packed)?;
+        Ok(())
     }
 
     /// Takes the next token. After `Finished` the body is there, by `into_body`; after `Wrong` and want of memory nothing is

@@ -32,7 +32,7 @@ pub enum StoreOp {
 /// How a load or a store names its address: the exponent of the alignment, which is below 64, and the offset.
 #[derive(Clone, Copy)]
 pub struct MemArg {
-    pub align: u32,
+    pub align: u8,
     pub offset: u64,
 }
 

@@ -11,6 +11,7 @@ use crate::instructions::{
 use crate::memory_instructions::{LoadOp, MemArg, MemoryOp, StoreOp};
 use crate::numeric::{Binop, Cvtop, IntType, NumericOp, Relop, Unop};
 use std::alloc::{AllocError, Global};
+use std::mem::size_of;
 use w_types::{HeapType, RefType, ValType};
 
 /// A heap type that is no index.
@@ -72,7 +73,7 @@ pub enum ShortSwitchingOp {
 }
 
 /// An instruction of a body in 16 bytes, with the places that `Instr` has. One that takes more stands in a box: `br_table`,
-/// `resume`, a `select` with types, and those with a number that has no room here.
+/// `resume`, a `select` with types, and blocks whose type or places have no room here.
 #[derive(Drop)]
 pub enum PackedInstr {
     Control(ShortControlOp),
@@ -104,6 +105,8 @@ pub enum PackedInstr {
     End,
     Boxed(Box<Instr>),
 }
+
+const _: () = prove!(size_of::<PackedInstr>() == 16);
 
 /// An instruction of a body as it is read: made where it was short, or as it stands.
 #[derive(Drop)]
@@ -173,17 +176,15 @@ fn short_parametric(parametric: &ParametricOp) -> Option<PackedInstr>
     }
 }
 
-fn short_memory(memory: MemoryOp) -> Option<PackedInstr>
-    ensures { IfSome result (λ p. unpacked p ≡ flat.Plain (op.Memory memory)) }
+fn packed_memory(memory: MemoryOp) -> PackedInstr
+    ensures { unpacked result ≡ flat.Plain (op.Memory memory) }
 {
     let short = match memory {
         MemoryOp::Load(load, argument) => {
-            let align = u8::try_from(argument.align).ok()?;
-            return Some(PackedInstr::Load(load, align, argument.offset));
+            return PackedInstr::Load(load, argument.align, argument.offset);
         }
         MemoryOp::Store(store, argument) => {
-            let align = u8::try_from(argument.align).ok()?;
-            return Some(PackedInstr::Store(store, align, argument.offset));
+            return PackedInstr::Store(store, argument.align, argument.offset);
         }
         MemoryOp::Size(memory) => ShortMemoryOp::Size(memory),
         MemoryOp::Grow(memory) => ShortMemoryOp::Grow(memory),
@@ -192,7 +193,7 @@ fn short_memory(memory: MemoryOp) -> Option<PackedInstr>
         MemoryOp::Copy(to, from) => ShortMemoryOp::Copy(to, from),
         MemoryOp::Fill(memory) => ShortMemoryOp::Fill(memory),
     };
-    Some(PackedInstr::Memory(short))
+    PackedInstr::Memory(short)
 }
 
 fn packed_numeric(numeric: NumericOp) -> PackedInstr
@@ -229,7 +230,7 @@ fn short_op(op: &Op) -> Option<PackedInstr>
         Op::Parametric(op) => short_parametric(op),
         Op::Variable(op) => Some(PackedInstr::Variable(*op)),
         Op::Table(op) => Some(PackedInstr::Table(*op)),
-        Op::Memory(op) => short_memory(*op),
+        Op::Memory(op) => Some(packed_memory(*op)),
         Op::Numeric(op) => Some(packed_numeric(*op)),
         Op::Reference(op) => Some(PackedInstr::Reference(*op)),
         Op::Switching(op) => Some(PackedInstr::Switching(short_switching(op)?)),
@@ -342,15 +343,6 @@ fn switching(short: ShortSwitchingOp) -> Op
     })
 }
 
-fn argument(align: u8, offset: u64) -> MemArg
-    ensures { result ≡ record { align = align; offset = offset } }
-{
-    MemArg {
-        align: u32::from(align),
-        offset,
-    }
-}
-
 fn made(op: Op) -> InstrView<'static>
     ensures { seen result ≡ flat.Plain op }
 {
@@ -371,6 +363,20 @@ impl PackedInstr {
         }
     }
 
+    /// A numeric instruction.
+    pub fn numeric(numeric: NumericOp) -> PackedInstr
+        ensures { unpacked result ≡ flat.Plain (op.Numeric numeric) }
+    {
+        packed_numeric(numeric)
+    }
+
+    /// A memory instruction.
+    pub fn memory(memory: MemoryOp) -> PackedInstr
+        ensures { unpacked result ≡ flat.Plain (op.Memory memory) }
+    {
+        packed_memory(memory)
+    }
+
     /// The instruction.
     pub fn view(&self) -> InstrView<'_>
         ensures { seen result ≡ unpacked self.now }
@@ -382,11 +388,17 @@ impl PackedInstr {
             PackedInstr::Variable(op) => made(Op::Variable(*op)),
             PackedInstr::Table(op) => made(Op::Table(*op)),
             PackedInstr::Load(load, align, offset) => {
-                let argument = argument(*align, *offset);
+                let argument = MemArg {
+                    align: *align,
+                    offset: *offset,
+                };
                 made(Op::Memory(MemoryOp::Load(*load, argument)))
             }
             PackedInstr::Store(store, align, offset) => {
-                let argument = argument(*align, *offset);
+                let argument = MemArg {
+                    align: *align,
+                    offset: *offset,
+                };
                 made(Op::Memory(MemoryOp::Store(*store, argument)))
             }
             PackedInstr::Memory(op) => made(memory(*op)),

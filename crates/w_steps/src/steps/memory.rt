@@ -69,7 +69,7 @@ fn store_width(store: StoreOp) -> u32
 fn is_access(cx: &Context, width: u32, argument: MemArg) -> bool
     ensures { result ≡ the_access (context_in cx.now) width argument }
 {
-    cx.has_memory(0) && (argument.align <= width && argument.offset < 1 << 32)
+    cx.has_memory(0) && (u32::from(argument.align) <= width && argument.offset < 1 << 32)
 }
 
 /// A memory instruction.

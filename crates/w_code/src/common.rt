@@ -1,0 +1,80 @@
+//! Common instructions, each read by one look at its opcode and packed at once.
+ghost use Rattle.std.specs.Prelude.{IfSome, Some};
+ghost use Rattle.w_leb.specs.Format.{ReadsAt};
+ghost use Rattle.w_syntax.specs.declared.instructions.Op.TheVariants as op;
+ghost use Rattle.w_syntax.specs.declared.instructions.Token.TheVariants as tok;
+ghost use Rattle.w_syntax.specs.Packed.{control_of};
+ghost use Rattle.w_syntax.specs.Tokens.{token};
+ghost use Rattle.w_code.specs.Common.{IsPlainAt};
+
+use crate::memory::memory_op_at;
+use crate::numeric::numeric_at;
+use w_leb::{read_byte, read_u32};
+use w_syntax::{PackedInstr, ShortControlOp, VariableOp};
+
+// An instruction on a variable.
+#[tactic(auto, unfolding(w_syntax::specs::Tokens::token, w_syntax::specs::Tokens::instruction, w_syntax::specs::Tokens::other))]
+fn variable_at(bytes: &[u8], at: usize) -> Option<(VariableOp, usize)>
+    ensures { IfSome result (λ found. ReadsAt token.read bytes.now at (Some (
+      tok.Plain
+          (op.Variable found.0),
+      found.1,
+    ))) }
+{
+    let (tag, next) = read_byte(bytes, at)?;
+    let (index, next) = read_u32(bytes, next)?;
+    match tag {
+        0x20 => Some((VariableOp::LocalGet(index), next)),
+        0x21 => Some((VariableOp::LocalSet(index), next)),
+        0x22 => Some((VariableOp::LocalTee(index), next)),
+        0x23 => Some((VariableOp::GlobalGet(index), next)),
+        0x24 => Some((VariableOp::GlobalSet(index), next)),
+        _ => None,
+    }
+}
+
+// A branch or a call.
+#[tactic(auto, unfolding(w_syntax::specs::Tokens::token, w_syntax::specs::Tokens::instruction))]
+fn transfer_at(bytes: &[u8], at: usize) -> Option<(ShortControlOp, usize)>
+    ensures { IfSome result (λ found. ReadsAt token.read bytes.now at (Some (
+      tok.Plain (op.Control
+          (control_of found.0)),
+      found.1,
+    ))) }
+{
+    let (tag, next) = read_byte(bytes, at)?;
+    let (index, next) = read_u32(bytes, next)?;
+    match tag {
+        0x0C => Some((ShortControlOp::Br(index), next)),
+        0x0D => Some((ShortControlOp::BrIf(index), next)),
+        0x10 => Some((ShortControlOp::Call(index), next)),
+        _ => None,
+    }
+}
+
+/// A common instruction at a place, which holds no others. `None` says nothing of what stands there.
+#[inline]
+pub(crate) fn common_at(bytes: &[u8], at: usize) -> Option<(PackedInstr, usize)>
+    ensures { IfSome result (IsPlainAt bytes.now at) }
+{
+    let (tag, _) = read_byte(bytes, at)?;
+    match tag {
+        0x20..=0x24 => {
+            let (variable, next) = variable_at(bytes, at)?;
+            Some((PackedInstr::Variable(variable), next))
+        }
+        0x41..=0xC4 => {
+            let (numeric, next) = numeric_at(bytes, at)?;
+            Some((PackedInstr::numeric(numeric), next))
+        }
+        0x28..=0x40 => {
+            let (memory, next) = memory_op_at(bytes, at)?;
+            Some((PackedInstr::memory(memory), next))
+        }
+        0x0C..=0x0D | 0x10 => {
+            let (control, next) = transfer_at(bytes, at)?;
+            Some((PackedInstr::Control(control), next))
+        }
+        _ => None,
+    }
+}
