@@ -5,7 +5,9 @@ use std::test::Fail;
 use w_canon::Classes;
 use w_decode::decode;
 use w_rules::Context;
-use w_syntax::{BlockKind, BlockType, ControlOp, Instr, Module, NumericOp, Op, SwitchingOp};
+use w_syntax::{
+    BlockKind, Module, NumericOp, PackedInstr, ShortBlockType, ShortControlOp, ShortSwitchingOp,
+};
 use w_types::ValType;
 use w_vplain::Checker;
 use w_vswitch::switching;
@@ -51,31 +53,34 @@ impl Bench {
 }
 
 // The call for instructions that open or end no block.
-fn plain(checker: &mut Checker<'_>, op: Op) -> Result<bool, AllocError> {
-    let instr = Instr::Plain(op);
-    let answer = checker.plain(&instr);
-    drop(instr);
+fn plain(checker: &mut Checker<'_>, packed: PackedInstr) -> Result<bool, AllocError> {
+    let answer = checker.plain(&packed);
+    drop(packed);
     answer
 }
 
 // The call for those that open one.
-fn enter(checker: &mut Checker<'_>, kind: BlockKind, block: BlockType) -> Result<bool, AllocError> {
-    let instr = Instr::Block(kind, block, 0);
-    let answer = checker.enter(&instr);
-    drop(instr);
+fn enter(
+    checker: &mut Checker<'_>,
+    kind: BlockKind,
+    block: ShortBlockType,
+) -> Result<bool, AllocError> {
+    let packed = PackedInstr::Block(kind, block, 0);
+    let answer = checker.enter(&packed);
+    drop(packed);
     answer
 }
 
 // The call for those that switch stacks.
 fn switch_stacks(checker: &mut Checker<'_>) -> Result<bool, AllocError> {
-    let instr = Instr::Plain(Op::Switching(SwitchingOp::ContNew(0)));
-    let answer = switching(checker, &instr);
-    drop(instr);
+    let packed = PackedInstr::Switching(ShortSwitchingOp::ContNew(0));
+    let answer = switching(checker, &packed);
+    drop(packed);
     answer
 }
 
 fn number(checker: &mut Checker<'_>, number: NumericOp) -> Result<bool, AllocError> {
-    plain(checker, Op::Numeric(number))
+    plain(checker, PackedInstr::numeric(number))
 }
 
 // Whether each of these calls is true: constants of i64, i32 and i64.
@@ -98,8 +103,8 @@ fn row_leaves_one(rt: &impl Abort, checker: &mut Checker<'_>) -> Result<(), Fail
 // Behind a call that answers false, each one does.
 fn all_false(checker: &mut Checker<'_>) -> Result<bool, AllocError> {
     Ok(
-        !plain(checker, Op::Control(ControlOp::Nop))?
-            && !enter(checker, BlockKind::Block, BlockType::Empty)?
+        !plain(checker, PackedInstr::Control(ShortControlOp::Nop))?
+            && !enter(checker, BlockKind::Block, ShortBlockType::Empty)?
             && !checker.other()?
             && !checker.end()?
             && !switch_stacks(checker)?
@@ -109,7 +114,12 @@ fn all_false(checker: &mut Checker<'_>) -> Result<bool, AllocError> {
 
 // An instruction in the call of another class has no place, and nothing has behind it.
 fn plain_call_refuses_switching(rt: &impl Abort, checker: &mut Checker<'_>) -> Result<(), Fail> {
-    assert!(rt; !plain(checker, Op::Switching(SwitchingOp::ContNew(0)))?);
+    assert!(rt;
+        !plain(
+            checker,
+            PackedInstr::Switching(ShortSwitchingOp::ContNew(0))
+        )?
+    );
     assert!(rt; all_false(checker)?);
     Ok(())
 }
@@ -124,8 +134,8 @@ fn label_of(checker: &Checker<'_>, index: u32) -> Option<(usize, bool)> {
 fn open_two(checker: &mut Checker<'_>) -> Result<bool, AllocError> {
     Ok(
         number(checker, NumericOp::I32Const(7))?
-            && enter(checker, BlockKind::Loop, BlockType::Index(1))?
-            && enter(checker, BlockKind::Block, BlockType::Empty)?,
+            && enter(checker, BlockKind::Loop, ShortBlockType::Index(1))?
+            && enter(checker, BlockKind::Block, ShortBlockType::Empty)?,
     )
 }
 

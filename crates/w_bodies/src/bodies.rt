@@ -1,5 +1,5 @@
 //! The type of a body, and what it needs.
-ghost use Rattle.std.specs.Prelude.{IfOk};
+ghost use Rattle.std.specs.Prelude.{◌≡◌, IfOk};
 ghost use Rattle.w_syntax.specs.Packed.{unpacked};
 ghost use Rattle.w_rules.specs.View.{context_in, HasClasses};
 ghost use Rattle.w_vplain.specs.Prefixes.{follow};
@@ -13,29 +13,42 @@ use w_types::ValType;
 use w_vplain::Checker;
 use w_vswitch::switching;
 
-// One instruction more: whether the rules derive the sequence with it.
-fn call(checker: &mut Checker, instr: &Instr) -> Result<bool, AllocError>
-    ensures answers { IfOk result (λ taken. Answers checker.old checker.new
-        (follow instr.now) taken) }
+// One instruction more, which is boxed: whether the rules derive the sequence with it.
+fn call_boxed(
+    checker: &mut Checker,
+    packed: &PackedInstr,
+    instr: &Instr,
+) -> Result<bool, AllocError>
+    requires { unpacked packed.now ≡ instr.now }
+    ensures answers { IfOk result (λ taken. Answers checker.old checker.new (follow
+        (unpacked packed.now)) taken) }
     ensures body { IsSameBody checker.old checker.new }
 {
     match instr {
-        Instr::Plain(Op::Switching(_)) => switching(checker, instr),
-        Instr::Plain(_) => checker.plain(instr),
-        Instr::Block(_, _, _) | Instr::If(_, _, _) => checker.enter(instr),
+        Instr::Plain(Op::Switching(_)) => switching(checker, packed),
+        Instr::Plain(_) => checker.plain(packed),
+        Instr::Block(_, _, _) | Instr::If(_, _, _) => checker.enter(packed),
         Instr::Else => checker.other(),
         Instr::End => checker.end(),
     }
 }
 
-// One packed instruction more.
-fn call_packed(checker: &mut Checker, packed: &PackedInstr) -> Result<bool, AllocError>
+// One instruction more: whether the rules derive the sequence with it.
+fn call(checker: &mut Checker, packed: &PackedInstr) -> Result<bool, AllocError>
     ensures answers { IfOk result (λ taken. Answers checker.old checker.new (follow
         (unpacked packed.now)) taken) }
     ensures body { IsSameBody checker.old checker.new }
 {
-    let view = packed.view();
-    call(checker, view.instr())
+    match packed {
+        PackedInstr::Switching(_) => switching(checker, packed),
+        PackedInstr::Block(_, _, _) | PackedInstr::If(_, _) | PackedInstr::IfElse(_, _, _) => {
+            checker.enter(packed)
+        }
+        PackedInstr::Else => checker.other(),
+        PackedInstr::End => checker.end(),
+        PackedInstr::Boxed(instr) => call_boxed(checker, packed, instr),
+        _ => checker.plain(packed),
+    }
 }
 
 /// Types a body (Core, validation, functions): where it has its type, the greatest number of operands at a counted place of it, and
@@ -54,7 +67,7 @@ pub fn check_body(
 {
     let mut checker = Checker::begin(alloc, cx, params, runs, results)?;
     for packed in body.instrs() {
-        if !call_packed(&mut checker, packed)? {
+        if !call(&mut checker, packed)? {
             return Ok(None);
         }
     }

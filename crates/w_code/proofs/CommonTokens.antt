@@ -7,7 +7,6 @@ use Rattle.w_syntax.specs.Types.{entries_of}
 use Rattle.w_syntax.specs.Tokens.{accesses, controls, instruction, memory_op, numeric_op, other, others, plain, token, tokens_by_byte}
 use Rattle.w_syntax.specs.declared.instructions.Op.{Op}
 use Rattle.w_syntax.specs.declared.instructions.Op.TheVariants as op
-use Rattle.w_syntax.specs.declared.instructions.Token.{Token}
 use Rattle.w_syntax.specs.declared.instructions.Token.TheVariants as tok
 use Rattle.w_syntax.specs.declared.memory_instructions.MemoryOp.{MemoryOp}
 use Rattle.w_syntax.specs.declared.numeric.NumericOp.{NumericOp}

@@ -1,5 +1,5 @@
 -- What is left of a function's code at a place, by the instruction there.
-use Rattle.std.proofs.Common.{◌≡◌, ℕ, zero, suc, ◌+◌, [], drop, Option, Some, None, Box, Global, refl}
+use Rattle.std.proofs.Common.{◌≡◌, ℕ, zero, suc, ◌+◌, [], drop, Option, Some, None, refl}
 use Rattle.std.specs.Prelude.{slice_get}
 use Rattle.w_types.specs.Rows.{Row}
 use Rattle.w_types.specs.declared.value.Value.{Value}
@@ -7,12 +7,7 @@ use Rattle.w_syntax.specs.Code.{Done, Plain}
 use Rattle.w_syntax.specs.Flat.{laid, begun, put, tree_of, whole}
 use Rattle.w_syntax.specs.Functions.{code_of_function}
 use Rattle.w_syntax.specs.declared.instructions.Op.{Op}
-use Rattle.w_syntax.specs.declared.instructions.BlockKind.{BlockKind}
 use Rattle.w_syntax.specs.declared.instructions.Instr.{Instr}
-use Rattle.w_syntax.specs.declared.packed.PackedInstr.{PackedInstr}
-use Rattle.w_syntax.specs.declared.packed.PackedInstr.TheVariants as packed
-use Rattle.w_syntax.specs.declared.packed.ShortBlockType.{ShortBlockType}
-use Rattle.w_syntax.specs.Packed.{unpacked}
 use Rattle.w_syntax.specs.declared.instructions.Instr.TheVariants as flat
 use Rattle.w_syntax.specs.declared.module.Func.{Func}
 use Rattle.w_syntax.specs.declared.module.Module.{Module}
@@ -20,7 +15,7 @@ use Rattle.w_reduce.specs.Store.{Store}
 use Rattle.w_reduce.specs.Terms.{Context}
 use Rattle.w_reduce.specs.Reduced.{Stuck}
 use Rattle.w_reduce.specs.Reduce.{next}
-use Rattle.w_machine.specs.Functions.{IsPlain, body_in, code_from, instr_in, instr_at}
+use Rattle.w_machine.specs.Functions.{body_in, code_from, instr_in, instr_at}
 use Rattle.w_syntax.proofs.Places.{here, at_end, at_else, past}
 use Rattle.w_machine.proofs.Places.{at_block, at_if}
 
@@ -80,31 +75,3 @@ stuck_in m s e vs (Some c) place h = stuck_by m s e vs c place (slice_get (whole
 
 pub stuck_at : (m : Module) (s : Store) (e : Context) (vs : Row Value) (f place : ℕ) → IsOpening (instr_at m f place) → next m s e vs [] (code_from m f place) ≡ Stuck
 stuck_at m s e vs f place h = stuck_in m s e vs (code_of_function m f) place h
-
--- a packed instruction that is none of these holds no others, and is no mark
-pub plain_else : (p : PackedInstr) → ((k : BlockKind) (b : ShortBlockType) (e : ℕ) → p ≡ packed.Block k b e → ⊥) → ((b : ShortBlockType) (e : ℕ) → p ≡ packed.If b e → ⊥)
-    → ((b : ShortBlockType) (m e : ℕ) → p ≡ packed.IfElse b m e → ⊥) → (p ≡ packed.Else → ⊥) → (p ≡ packed.End → ⊥) → ((i : Box Instr Global) → p ≡ packed.Boxed i → ⊥)
-    → IsPlain (unpacked p)
-plain_else (packed.Control o) b i e m n x = tt
-plain_else packed.Drop b i e m n x = tt
-plain_else packed.Select b i e m n x = tt
-plain_else (packed.Variable o) b i e m n x = tt
-plain_else (packed.Table o) b i e m n x = tt
-plain_else (packed.Load o a k) b i e m n x = tt
-plain_else (packed.Store o a k) b i e m n x = tt
-plain_else (packed.Memory o) b i e m n x = tt
-plain_else (packed.I32Const k) b i e m n x = tt
-plain_else (packed.I64Const k) b i e m n x = tt
-plain_else (packed.Eqz t) b i e m n x = tt
-plain_else (packed.Compare t o) b i e m n x = tt
-plain_else (packed.Unary t o) b i e m n x = tt
-plain_else (packed.Binary t o) b i e m n x = tt
-plain_else (packed.Convert o) b i e m n x = tt
-plain_else (packed.Reference o) b i e m n x = tt
-plain_else (packed.Switching o) b i e m n x = tt
-plain_else (packed.Block k t j) b i e m n x = absurd (b k t j refl)
-plain_else (packed.If t j) b i e m n x = absurd (i t j refl)
-plain_else (packed.IfElse t k j) b i e m n x = absurd (e t k j refl)
-plain_else packed.Else b i e m n x = absurd (m refl)
-plain_else packed.End b i e m n x = absurd (n refl)
-plain_else (packed.Boxed j) b i e m n x = absurd (x j refl)

@@ -12,6 +12,7 @@ use Rattle.w_syntax.specs.declared.instructions.Op.{Op}
 use Rattle.w_syntax.specs.declared.instructions.Instr.{Instr}
 use Rattle.w_syntax.specs.declared.instructions.Instr.TheVariants as flat
 use Rattle.w_syntax.specs.declared.module.Module.{Module}
+use Rattle.w_syntax.specs.Packed.{IsPlain, OnPlain}
 use Rattle.w_reduce.specs.Store.{Store}
 use Rattle.w_reduce.specs.Terms.{Context, Rest, rest_of, Frame, most_frames}
 use Rattle.w_reduce.specs.Reduced.{Went}
@@ -22,8 +23,8 @@ use Rattle.w_machine.specs.declared.configuration.Stage.TheVariants.{Start, Body
 use Rattle.w_machine.specs.declared.configuration.Redex.TheVariants.{Operands, Invoke, Call, LabelExit, FrameExit}
 use Rattle.w_machine.specs.declared.configuration.Found.{Found}
 use Rattle.w_machine.specs.declared.configuration.Found.TheVariants as found
-use Rattle.w_machine.specs.Functions.{IsPlain, arity, params_of, body_of, code_from, instr_at, defaults_of}
-use Rattle.w_machine.specs.Configuration.{Parts, around, base, own, label_of, term_of, Ordered, IsSound, replaced, after, found_within, FindsInstruction, FindsPlain, FindsCall, Finds, invokes_next}
+use Rattle.w_machine.specs.Functions.{arity, params_of, body_of, code_from, instr_at, defaults_of}
+use Rattle.w_machine.specs.Configuration.{Parts, around, base, own, label_of, term_of, Ordered, IsSound, replaced, after, found_within, FindsInstruction, FindsCall, Finds, invokes_next}
 use Rattle.w_machine.proofs.Lists.{front_of_front, end_of_front, end_of_end, seam, front_of_replaced, end_of_replaced, length_replaced}
 use Rattle.w_machine.proofs.Around.{around_same, ordered_same, base_within, frames_around, few_frames, many_frames}
 use Rattle.w_machine.proofs.Calls.{entered, enter_is}
@@ -256,7 +257,7 @@ within_found m s st x f place k vs ls cs o y z e small is i h n r =
 -- the same of an instruction of a flat list
 pub plain_found : (m : Module) (s : Store) (st : Stage) (x : Option ℕ) (f place k : ℕ) (vs : List Value) (ls : List (Option Value)) (cs : List Caller) (i : Instr) (y z : Found)
     → st ≡ Body place → place + 1 < 2 ^ 64 → instr_at m f place ≡ Some i → IsPlain i → IsSound m s (record { stage = st; function = f; next = x; operands = vs; locals = ls; callers = cs })
-    → FindsPlain m s (own cs vs) i y → k ≡ length cs → z ≡ found_within k y
+    → OnPlain (λ o. FindsInstruction m s (own cs vs) o y) i → k ≡ length cs → z ≡ found_within k y
     → Finds m s (record { stage = st; function = f; next = x; operands = vs; locals = ls; callers = cs }) z
 plain_found m s st x f place k vs ls cs (flat.Plain o) y z e small is p i h n r = within_found m s st x f place k vs ls cs o y z e small is i h n r
 plain_found m s st x f place k vs ls cs (flat.Block kind b j) y z e small is p i h n r = absurd p

@@ -3,8 +3,6 @@ use Rattle.std.specs.Prelude.{◌≡◌, ℕ, ◌+◌, ◌-◌, ◌^◌, ◌<◌
 use Rattle.w_types.specs.Rows.{Row, ε, row_of, size}
 use Rattle.w_types.specs.declared.value.Value.{Value}
 use Rattle.w_syntax.specs.Code.{Code, Done}
-use Rattle.w_syntax.specs.declared.instructions.Instr.{Instr}
-use Rattle.w_syntax.specs.declared.instructions.Instr.TheVariants as flat
 use Rattle.w_syntax.specs.declared.instructions.Op.{Op}
 use Rattle.w_syntax.specs.declared.module.Module.{Module}
 use Rattle.w_reduce.specs.declared.limit.RunLimit.TheVariants as limit
@@ -189,11 +187,6 @@ FindsInstruction m s vs o (found.Redex r) = ⊥
 FindsInstruction m s vs o found.Limit = ⊥
 FindsInstruction m s vs o found.Values = ⊥
 FindsInstruction m s vs o found.NoRule = (e : Context) (c : Code) → instruction m s e (row_of vs) o c ≡ Stuck
-
--- the same of an instruction of a flat list, where it holds no others
-abbrev pub FindsPlain : Module → Store → List Value → Instr → Found → Type 0
-FindsPlain m s vs (flat.Plain o) f = FindsInstruction m s vs o f
-FindsPlain m s vs i f = Unit {0}
 
 -- the function at the address, with so many operands
 abbrev pub FindsCall : Module → Store → ℕ → ℕ → Found → Type 0

@@ -6,7 +6,6 @@ use Rattle.w_syntax.specs.Code.{Code, Done}
 use Rattle.w_syntax.specs.Flat.{tree_of, whole}
 use Rattle.w_syntax.specs.Functions.{type_of_function, code_of_function}
 use Rattle.w_syntax.specs.declared.instructions.Instr.{Instr}
-use Rattle.w_syntax.specs.declared.instructions.Instr.TheVariants as flat
 use Rattle.w_syntax.specs.declared.module.Func.{Func}
 use Rattle.w_syntax.specs.declared.module.Module.{Module}
 use Rattle.w_reduce.specs.Control.{defaults}
@@ -47,11 +46,6 @@ instr_in None place = None
 -- the instruction at the place
 abbrev pub instr_at : Module → ℕ → ℕ → Option Instr
 instr_at m f place = instr_in (code_of_function m f) place
-
--- the instruction holds no others, and is no mark
-abbrev pub IsPlain : Instr → Type 0
-IsPlain (flat.Plain o) = Unit {0}
-IsPlain _ = ⊥
 
 abbrev pub defaults_in : Option Func → List (Option Value)
 defaults_in (Some c) = defaults c.locals

@@ -1,9 +1,9 @@
 //! Finding the next reduction.
 ghost use Rattle.std.specs.Prelude.{◌≡◌, ◌+◌, ◌^◌, ◌<◌, Some, option_map};
 ghost use Rattle.w_syntax.specs.declared.instructions.Op.TheVariants.{Numeric as OpNumeric, Control as OpControl, Parametric as OpParametric};
-ghost use Rattle.w_syntax.specs.Packed.{control_of, unpacked};
-ghost use Rattle.w_machine.specs.Functions.{IsPlain, instr_at as instr_of};
-ghost use Rattle.w_machine.specs.Configuration.{parts, IsSound, Finds, FindsInstruction, FindsPlain, FindsCall, redex_within, found_within};
+ghost use Rattle.w_syntax.specs.Packed.{IsPlain, OnPlain, control_of, unpacked};
+ghost use Rattle.w_machine.specs.Functions.{instr_at as instr_of};
+ghost use Rattle.w_machine.specs.Configuration.{parts, IsSound, Finds, FindsInstruction, FindsCall, redex_within, found_within};
 ghost use Rattle.w_machine.specs.Operands.{TakesI64};
 
 use crate::binary::apply;
@@ -134,7 +134,7 @@ fn find_short_control(
 
 // The redex that a boxed instruction is, where it holds no others.
 fn find_boxed(program: &Module, store: &Store, operands: &[Value], instr: &Instr) -> Found
-    ensures { FindsPlain program.now store.now operands.now instr.now result }
+    ensures { OnPlain (λ o. FindsInstruction program.now store.now operands.now o result) instr.now }
 {
     match instr {
         Instr::Plain(op) => find_instruction(program, store, operands, op),
@@ -144,7 +144,8 @@ fn find_boxed(program: &Module, store: &Store, operands: &[Value], instr: &Instr
 
 // The redex that an instruction is, where it holds no others.
 fn find_packed(program: &Module, store: &Store, operands: &[Value], packed: &PackedInstr) -> Found
-    ensures { FindsPlain program.now store.now operands.now (unpacked packed.now) result }
+    ensures { OnPlain (λ o. FindsInstruction program.now store.now operands.now o result)
+        (unpacked packed.now) }
 {
     match packed {
         PackedInstr::Control(op) => find_short_control(program, store, operands, *op),

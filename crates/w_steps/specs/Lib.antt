@@ -1,3 +1,4 @@
 pub mod Labels
 pub mod PlainTests
 pub mod View
+pub mod Stepping

@@ -9,3 +9,4 @@ mod SomeOf
 mod FunctionsName
 mod LocalRows
 pub mod PackedLists
+pub mod PlainInstructions

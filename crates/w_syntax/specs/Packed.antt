@@ -13,6 +13,7 @@ use Rattle.w_syntax.specs.declared.instructions.SwitchingOp.TheVariants as switc
 use Rattle.w_syntax.specs.declared.memory_instructions.MemoryOp.{MemoryOp}
 use Rattle.w_syntax.specs.declared.memory_instructions.MemoryOp.TheVariants as memory
 use Rattle.w_syntax.specs.declared.numeric.NumericOp.TheVariants as numeric
+use Rattle.w_syntax.specs.declared.instructions.Op.{Op}
 use Rattle.w_syntax.specs.declared.instructions.Op.TheVariants as op
 use Rattle.w_syntax.specs.declared.instructions.Instr.{Instr}
 use Rattle.w_syntax.specs.declared.instructions.Instr.TheVariants as flat
@@ -104,6 +105,16 @@ unpacked (packed.Boxed i) = i.value
 -- the instructions of a list
 abbrev pub unpacked_all : List PackedInstr → List Instr
 unpacked_all ps = map unpacked ps
+
+-- the instruction holds no others, and is no mark
+abbrev pub IsPlain : Instr → Type 0
+IsPlain (flat.Plain o) = Unit {0}
+IsPlain _ = ⊥
+
+-- a fact of it, where it is such a one
+abbrev pub OnPlain : (Op → Type 0) → Instr → Type 0
+OnPlain P (flat.Plain o) = P o
+OnPlain P _ = Unit {0}
 
 -- the instruction that is seen
 abbrev pub seen : InstrView → Instr

@@ -2,7 +2,7 @@
 ghost use Rattle.std.specs.Prelude.{◌≡◌, IfOk, IfSome};
 ghost use Rattle.w_syntax.specs.declared.instructions.Instr.TheVariants as flat;
 ghost use Rattle.w_syntax.specs.declared.instructions.Op.TheVariants as op;
-ghost use Rattle.w_syntax.specs.Packed.{heap_of, reference_block, block_type_of, control_of, memory_of, switching_of, unpacked, seen};
+ghost use Rattle.w_syntax.specs.Packed.{reference_block, block_type_of, control_of, switching_of, unpacked, seen};
 
 use crate::instructions::{
     BlockKind, BlockType, ControlOp, Instr, Op, ParametricOp, ReferenceOp, SwitchingOp, TableOp,
@@ -272,75 +272,105 @@ fn short(instr: &Instr) -> Option<PackedInstr>
     }
 }
 
-fn heap_type(heap: AbstractHeapType) -> HeapType
-    ensures { result ≡ heap_of heap }
-{
-    match heap {
-        AbstractHeapType::Func => HeapType::Func,
-        AbstractHeapType::NoFunc => HeapType::NoFunc,
-        AbstractHeapType::Cont => HeapType::Cont,
-        AbstractHeapType::NoCont => HeapType::NoCont,
+impl AbstractHeapType {
+    ghost use Rattle.std.specs.Prelude.{◌≡◌};
+    ghost use Rattle.w_syntax.specs.Packed.{heap_of};
+
+    /// The heap type.
+    pub fn whole(self) -> HeapType
+        ensures { result ≡ heap_of self }
+    {
+        match self {
+            AbstractHeapType::Func => HeapType::Func,
+            AbstractHeapType::NoFunc => HeapType::NoFunc,
+            AbstractHeapType::Cont => HeapType::Cont,
+            AbstractHeapType::NoCont => HeapType::NoCont,
+        }
     }
 }
 
-fn block_type(block: ShortBlockType) -> BlockType
-    ensures { result ≡ block_type_of block }
-{
-    match block {
-        ShortBlockType::Empty => BlockType::Empty,
-        ShortBlockType::I32 => BlockType::Value(ValType::I32),
-        ShortBlockType::I64 => BlockType::Value(ValType::I64),
-        ShortBlockType::Ref(nullable, heap) => {
-            let heap = heap_type(heap);
-            BlockType::Value(ValType::Ref(RefType { nullable, heap }))
+impl ShortBlockType {
+    ghost use Rattle.std.specs.Prelude.{◌≡◌};
+    ghost use Rattle.w_syntax.specs.Packed.{block_type_of};
+
+    /// The type of the block.
+    pub fn whole(self) -> BlockType
+        ensures { result ≡ block_type_of self }
+    {
+        match self {
+            ShortBlockType::Empty => BlockType::Empty,
+            ShortBlockType::I32 => BlockType::Value(ValType::I32),
+            ShortBlockType::I64 => BlockType::Value(ValType::I64),
+            ShortBlockType::Ref(nullable, heap) => {
+                let heap = heap.whole();
+                BlockType::Value(ValType::Ref(RefType { nullable, heap }))
+            }
+            ShortBlockType::RefTo(nullable, index) => {
+                let heap = HeapType::Index(u32::from(index));
+                BlockType::Value(ValType::Ref(RefType { nullable, heap }))
+            }
+            ShortBlockType::Index(index) => BlockType::Index(u32::from(index)),
         }
-        ShortBlockType::RefTo(nullable, index) => {
-            let heap = HeapType::Index(u32::from(index));
-            BlockType::Value(ValType::Ref(RefType { nullable, heap }))
-        }
-        ShortBlockType::Index(index) => BlockType::Index(u32::from(index)),
     }
 }
 
-fn control(short: ShortControlOp) -> Op
-    ensures { result ≡ op.Control (control_of short) }
-{
-    Op::Control(match short {
-        ShortControlOp::Unreachable => ControlOp::Unreachable,
-        ShortControlOp::Nop => ControlOp::Nop,
-        ShortControlOp::Br(label) => ControlOp::Br(label),
-        ShortControlOp::BrIf(label) => ControlOp::BrIf(label),
-        ShortControlOp::Return => ControlOp::Return,
-        ShortControlOp::BrOnNull(label) => ControlOp::BrOnNull(label),
-        ShortControlOp::BrOnNonNull(label) => ControlOp::BrOnNonNull(label),
-        ShortControlOp::Call(function) => ControlOp::Call(function),
-        ShortControlOp::CallIndirect(kind, table) => ControlOp::CallIndirect(kind, table),
-        ShortControlOp::CallRef(kind) => ControlOp::CallRef(kind),
-    })
+impl ShortControlOp {
+    ghost use Rattle.std.specs.Prelude.{◌≡◌};
+    ghost use Rattle.w_syntax.specs.Packed.{control_of};
+
+    /// The instruction.
+    pub fn whole(self) -> ControlOp
+        ensures { result ≡ control_of self }
+    {
+        match self {
+            ShortControlOp::Unreachable => ControlOp::Unreachable,
+            ShortControlOp::Nop => ControlOp::Nop,
+            ShortControlOp::Br(label) => ControlOp::Br(label),
+            ShortControlOp::BrIf(label) => ControlOp::BrIf(label),
+            ShortControlOp::Return => ControlOp::Return,
+            ShortControlOp::BrOnNull(label) => ControlOp::BrOnNull(label),
+            ShortControlOp::BrOnNonNull(label) => ControlOp::BrOnNonNull(label),
+            ShortControlOp::Call(function) => ControlOp::Call(function),
+            ShortControlOp::CallIndirect(kind, table) => ControlOp::CallIndirect(kind, table),
+            ShortControlOp::CallRef(kind) => ControlOp::CallRef(kind),
+        }
+    }
 }
 
-fn memory(short: ShortMemoryOp) -> Op
-    ensures { result ≡ op.Memory (memory_of short) }
-{
-    Op::Memory(match short {
-        ShortMemoryOp::Size(memory) => MemoryOp::Size(memory),
-        ShortMemoryOp::Grow(memory) => MemoryOp::Grow(memory),
-        ShortMemoryOp::Init(segment, memory) => MemoryOp::Init(segment, memory),
-        ShortMemoryOp::DataDrop(segment) => MemoryOp::DataDrop(segment),
-        ShortMemoryOp::Copy(to, from) => MemoryOp::Copy(to, from),
-        ShortMemoryOp::Fill(memory) => MemoryOp::Fill(memory),
-    })
+impl ShortMemoryOp {
+    ghost use Rattle.std.specs.Prelude.{◌≡◌};
+    ghost use Rattle.w_syntax.specs.Packed.{memory_of};
+
+    /// The instruction.
+    pub fn whole(self) -> MemoryOp
+        ensures { result ≡ memory_of self }
+    {
+        match self {
+            ShortMemoryOp::Size(memory) => MemoryOp::Size(memory),
+            ShortMemoryOp::Grow(memory) => MemoryOp::Grow(memory),
+            ShortMemoryOp::Init(segment, memory) => MemoryOp::Init(segment, memory),
+            ShortMemoryOp::DataDrop(segment) => MemoryOp::DataDrop(segment),
+            ShortMemoryOp::Copy(to, from) => MemoryOp::Copy(to, from),
+            ShortMemoryOp::Fill(memory) => MemoryOp::Fill(memory),
+        }
+    }
 }
 
-fn switching(short: ShortSwitchingOp) -> Op
-    ensures { result ≡ op.Switching (switching_of short) }
-{
-    Op::Switching(match short {
-        ShortSwitchingOp::ContNew(kind) => SwitchingOp::ContNew(kind),
-        ShortSwitchingOp::ContBind(from, to) => SwitchingOp::ContBind(from, to),
-        ShortSwitchingOp::Suspend(tag) => SwitchingOp::Suspend(tag),
-        ShortSwitchingOp::Switch(kind, tag) => SwitchingOp::Switch(kind, tag),
-    })
+impl ShortSwitchingOp {
+    ghost use Rattle.std.specs.Prelude.{◌≡◌};
+    ghost use Rattle.w_syntax.specs.Packed.{switching_of};
+
+    /// The instruction.
+    pub fn whole(self) -> SwitchingOp
+        ensures { result ≡ switching_of self }
+    {
+        match self {
+            ShortSwitchingOp::ContNew(kind) => SwitchingOp::ContNew(kind),
+            ShortSwitchingOp::ContBind(from, to) => SwitchingOp::ContBind(from, to),
+            ShortSwitchingOp::Suspend(tag) => SwitchingOp::Suspend(tag),
+            ShortSwitchingOp::Switch(kind, tag) => SwitchingOp::Switch(kind, tag),
+        }
+    }
 }
 
 fn made(op: Op) -> InstrView<'static>
@@ -382,7 +412,7 @@ impl PackedInstr {
         ensures { seen result ≡ unpacked self.now }
     {
         match self {
-            PackedInstr::Control(op) => made(control(*op)),
+            PackedInstr::Control(op) => made(Op::Control(op.whole())),
             PackedInstr::Drop => made(Op::Parametric(ParametricOp::Drop)),
             PackedInstr::Select => made(Op::Parametric(ParametricOp::Select)),
             PackedInstr::Variable(op) => made(Op::Variable(*op)),
@@ -401,7 +431,7 @@ impl PackedInstr {
                 };
                 made(Op::Memory(MemoryOp::Store(*store, argument)))
             }
-            PackedInstr::Memory(op) => made(memory(*op)),
+            PackedInstr::Memory(op) => made(Op::Memory(op.whole())),
             PackedInstr::I32Const(number) => made(Op::Numeric(NumericOp::I32Const(*number))),
             PackedInstr::I64Const(number) => made(Op::Numeric(NumericOp::I64Const(*number))),
             PackedInstr::Eqz(kind) => made(Op::Numeric(NumericOp::Eqz(*kind))),
@@ -410,16 +440,16 @@ impl PackedInstr {
             PackedInstr::Binary(kind, op) => made(Op::Numeric(NumericOp::Binary(*kind, *op))),
             PackedInstr::Convert(op) => made(Op::Numeric(NumericOp::Convert(*op))),
             PackedInstr::Reference(op) => made(Op::Reference(*op)),
-            PackedInstr::Switching(op) => made(switching(*op)),
+            PackedInstr::Switching(op) => made(Op::Switching(op.whole())),
             PackedInstr::Block(kind, block, end) => {
-                InstrView::Made(Instr::Block(*kind, block_type(*block), *end as usize))
+                InstrView::Made(Instr::Block(*kind, block.whole(), *end as usize))
             }
             PackedInstr::If(block, end) => {
-                InstrView::Made(Instr::If(block_type(*block), None, *end as usize))
+                InstrView::Made(Instr::If(block.whole(), None, *end as usize))
             }
             PackedInstr::IfElse(block, other, end) => {
                 let other = Some(*other as usize);
-                InstrView::Made(Instr::If(block_type(*block), other, *end as usize))
+                InstrView::Made(Instr::If(block.whole(), other, *end as usize))
             }
             PackedInstr::Else => InstrView::Made(Instr::Else),
             PackedInstr::End => InstrView::Made(Instr::End),

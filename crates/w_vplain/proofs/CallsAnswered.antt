@@ -23,6 +23,8 @@ use Rattle.w_vplain.specs.Standing.{StandsFor, Answers, AnswersRow, Refuses, IsS
 use Rattle.w_locals.specs.Locals.{outer_sets}
 use Rattle.w_steps.specs.View.{outer_kinds}
 use Rattle.w_vplain.specs.View.{row_with}
+use Rattle.w_syntax.specs.declared.packed.PackedInstr.{PackedInstr}
+use Rattle.w_syntax.specs.Packed.{unpacked}
 use Rattle.w_vplain.specs.declared.moves.Move.{Move}
 use Rattle.w_vplain.specs.declared.moves.Move.TheVariants as move
 use Rattle.w_vplain.specs.declared.checker.Checker.{Checker}
@@ -120,40 +122,40 @@ module _ (old new : Checker) (m : Move) (answer : Bool) (h : IsCall old new m an
       ap (λ (o : Option (List Frame)). o >>= move_next (classes_for old) (context_for old) m) (sym (open_known old.refused (frames_of old) was_alive))
       ∙ sym h.leads ∙ now_known
 
-counts_after : (old new : Checker) (i : Bor Instr) (s : List Bool) (w : Prefix) (answer : Bool) → is_checked i.now ≡ true → IsCall old new (move.Instr i) answer
+counts_after : (old new : Checker) (p : Bor PackedInstr) (s : List Bool) (w : Prefix) (answer : Bool) → is_checked (unpacked p.now) ≡ true → IsCall old new (move.Packed p) answer
     → StandsFor old s w → new.refused ≡ false
-    → CountsFor (context_for old) s (frames_of new) (follow i.now w) × (new.peak ≡ peak_of (context_for old) s (follow i.now w)) × HasBases new × (new.depth ≡ depth_of (follow i.now w))
-counts_after old new i s w answer ch h k alive =
+    → CountsFor (context_for old) s (frames_of new) (follow (unpacked p.now) w) × (new.peak ≡ peak_of (context_for old) s (follow (unpacked p.now) w)) × HasBases new × (new.depth ≡ depth_of (follow (unpacked p.now) w))
+counts_after old new p s w answer ch h k alive =
     let c = context_for old in
     let es = classes_for old in
-    let w' = follow i.now w in
-    let was = was_alive old new (move.Instr i) answer h alive in
-    let next_is : next es c i.now (frames_of old) ≡ Some (frames_of new) = leads_on old new (move.Instr i) answer h alive in
-    let counted = is_counted old new (move.Instr i) answer h alive in
+    let w' = follow (unpacked p.now) w in
+    let was = was_alive old new (move.Packed p) answer h alive in
+    let next_is : next es c (unpacked p.now) (frames_of old) ≡ Some (frames_of new) = leads_on old new (move.Packed p) answer h alive in
+    let counted = is_counted old new (move.Packed p) answer h alive in
     let stands = frames_stand old s w k was in
     let counts = counts_stand old s w k was in
-    let r = at_whenever (next es c i.now (frames_of old)) (λ gs. CountsFor c s gs w' × Raised c s i.now (frames_of old) gs w w') (frames_of new) next_is
-    (calls_counted es c s i.now (frames_of old) w stands counts.frames) in
-    let d = at_whenever (next es c i.now (frames_of old)) (Deepens w w') (frames_of new) next_is (calls_deepen es c s i.now (frames_of old) w stands) in
+    let r = at_whenever (next es c (unpacked p.now) (frames_of old)) (λ gs. CountsFor c s gs w' × Raised c s (unpacked p.now) (frames_of old) gs w w') (frames_of new) next_is
+    (calls_counted es c s (unpacked p.now) (frames_of old) w stands counts.frames) in
+    let d = at_whenever (next es c (unpacked p.now) (frames_of old)) (Deepens w w') (frames_of new) next_is (calls_deepen es c s (unpacked p.now) (frames_of old) w stands) in
     let b = counted.peak counts.bases in (
       r.0,
       b.1 ∙ ap (λ (p : ℕ). raised_to p 0 (frames_of new)) counts.peak
-          ∙ ap (λ (x : ℕ). raised_to (peak_of c s w) x (frames_of new)) (sym (nothing_at c i.now (frame_kinds (frames_of old)) (total (frames_of old)) ch))
+          ∙ ap (λ (x : ℕ). raised_to (peak_of c s w) x (frames_of new)) (sym (nothing_at c (unpacked p.now) (frame_kinds (frames_of old)) (total (frames_of old)) ch))
           ∙ sym r.1,
       b.0,
       counted.depth ∙ ap (λ (m : ℕ). max m (length (frames_of new))) counts.depth ∙ sym d,
     )
 
 -- the call answers for the sequence with the instruction
-answered : (old new : Checker) (i : Bor Instr) (answer : Bool) → is_checked i.now ≡ true → IsCall old new (move.Instr i) answer → IsSameBody old new → Answers old new (follow i.now) answer
-answered old new i answer ch h same = λ s w k.
+answered : (old new : Checker) (p : Bor PackedInstr) (answer : Bool) → is_checked (unpacked p.now) ≡ true → IsCall old new (move.Packed p) answer → IsSameBody old new → Answers old new (follow (unpacked p.now)) answer
+answered old new p answer ch h same = λ s w k.
     let c = context_for old in
     let es = classes_for old in
-    let P : Option (List Frame) → Type 0 = λ o. Knows c s o (follow i.now w) in
-    let leads : frames_of_derived new ≡ (frames_of_derived old >>= next es c i.now) = h.leads ∙ bind_same (frames_of_derived old) (move_next es c (move.Instr i)) (next es c i.now) (λ fs. refl) in
-    let knows = step_knows es c k.classes s i.now ch (frames_of_derived old) w k.knows in (
-      stands_by old new s w (follow i.now w) same k.classes (subst P (sym leads) knows) (counts_after old new i s w answer ch h k),
-      knows_derivable c s (frames_of_derived old >>= next es c i.now) (follow i.now w) knows answer (h.answer ∙ ap is_some leads),
+    let P : Option (List Frame) → Type 0 = λ o. Knows c s o (follow (unpacked p.now) w) in
+    let leads : frames_of_derived new ≡ (frames_of_derived old >>= next es c (unpacked p.now)) = h.leads ∙ bind_same (frames_of_derived old) (move_next es c (move.Packed p)) (next es c (unpacked p.now)) (λ fs. refl) in
+    let knows = step_knows es c k.classes s (unpacked p.now) ch (frames_of_derived old) w k.knows in (
+      stands_by old new s w (follow (unpacked p.now) w) same k.classes (subst P (sym leads) knows) (counts_after old new p s w answer ch h k),
+      knows_derivable c s (frames_of_derived old >>= next es c (unpacked p.now)) (follow (unpacked p.now) w) knows answer (h.answer ∙ ap is_some leads),
     )
 
 -- and for each sequence that is that one
@@ -162,9 +164,9 @@ answers_same old new f g answer e h = λ s w k.
     let P : Prefix → Type 0 = λ v. StandsFor new s v × (IsTrue answer ↔ IsDerivable (context_for old) s v) in
     subst P (sym (e w)) (h s w k)
 
-pub answers_instr : {E : Type 0} (r : Result Bool E) (old new : Checker) (i : Bor Instr) (next : Prefix → Prefix) → IfOk r (λ taken. IsCall old new (move.Instr i) taken) → IsSameBody old new
-    → is_checked i.now ≡ true → ((w : Prefix) → next w ≡ follow i.now w) → IfOk r (λ taken. Answers old new next taken)
-answers_instr r old new i next h same ch e = ok_with r _ _ h (λ taken x. answers_same old new (follow i.now) next taken e (answered old new i taken ch x same))
+pub answers_packed : {E : Type 0} (r : Result Bool E) (old new : Checker) (p : Bor PackedInstr) (next : Prefix → Prefix) → IfOk r (λ taken. IsCall old new (move.Packed p) taken) → IsSameBody old new
+    → is_checked (unpacked p.now) ≡ true → ((w : Prefix) → next w ≡ follow (unpacked p.now) w) → IfOk r (λ taken. Answers old new next taken)
+answers_packed r old new p next h same ch e = ok_with r _ _ h (λ taken x. answers_same old new (follow (unpacked p.now)) next taken e (answered old new p taken ch x same))
 
 -- ## A call by a row
 

@@ -3,6 +3,7 @@ use Rattle.std.specs.Prelude.{◌≡◌, ◌⊎◌, ℕ, ◌+◌, ◌-◌, max, 
 use Rattle.w_types.specs.declared.types.ValType.{ValType}
 use Rattle.w_types.specs.Rows.{Row, row_of, size}
 use Rattle.w_syntax.specs.declared.instructions.Op.{Op}
+use Rattle.w_syntax.specs.Packed.{unpacked}
 use Rattle.w_canon.specs.declared.entry.Entry.{Entry}
 use Rattle.w_rules.specs.Conditions.{Condition}
 use Rattle.w_rules.specs.Context.{Context}
@@ -66,10 +67,10 @@ RaisedBy c s taken raise fs gs old new = peak_of c s new ≡ raised_to (peak_of 
 
 -- the frames after it
 abbrev pub move_next : List Entry → Context → Move → List Frame → Option (List Frame)
-move_next es c (move.Instr i) fs = next es c i.now fs
+move_next es c (move.Packed p) fs = next es c (unpacked p.now) fs
 move_next es c (move.Row ins top outs raise) fs = row_next es (row_with (row_of ins.now) top) (row_of outs.now) fs
 
 -- what it adds to the operands of its place: of a resume, what the longest label of its clauses takes
 abbrev pub added_by : Move → List Frame → ℕ
-added_by (move.Instr i) fs = 0
+added_by (move.Packed p) fs = 0
 added_by (move.Row ins top outs raise) fs = or_none (total fs) (above (size (row_with (row_of ins.now) top)) raise)

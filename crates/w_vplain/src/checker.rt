@@ -2,6 +2,7 @@
 //! `end_block` is `pop_ctrl`; the log in `locals` is `inits`.
 ghost use Rattle.std.specs.Prelude.{◌≡◌, ◌∷◌, ◌++◌, ◌+◌, max, length, slice_get, ℕ, Bool, List, IfOk, OnOk, IsFalse, IsTrue, true, Some, None, is_some, if◌then◌else◌};
 ghost use Rattle.w_syntax.specs.declared.instructions.Instr.TheVariants as Flat;
+ghost use Rattle.w_syntax.specs.Packed.{OnPlain, unpacked};
 ghost use Rattle.std.specs.Option.{option_map};
 ghost use Rattle.w_types.specs.Rows.{row_of, size};
 ghost use Rattle.w_rules.specs.Bodies.{types_of_runs, set_first};
@@ -24,8 +25,8 @@ use std::mem;
 use w_flow::Flow;
 use w_locals::Locals;
 use w_rules::Context;
-use w_steps::{BodyContext, Frame, FrameKind, label_of, plain_step};
-use w_syntax::{Instr, LocalRun, Op, VariableOp};
+use w_steps::{BodyContext, Frame, FrameKind, label_of, packed_step};
+use w_syntax::{Instr, LocalRun, Op, PackedInstr, VariableOp};
 use w_types::ValType;
 
 /// Types a body, one call for each instruction (Core, validation algorithm). It stands for sequences of instructions so far, by
@@ -45,21 +46,36 @@ pub struct Checker<'a> {
     out_of_memory: bool,
 }
 
-// Sets the local that an instruction sets.
-fn set_by(locals: &mut Locals, op: &Op) -> Result<(), AllocError>
+// Sets the local that a boxed instruction sets.
+fn set_by_boxed(locals: &mut Locals, instr: &Instr) -> Result<(), AllocError>
     ensures types { locals.new.types ≡ locals.old.types }
-    ensures first { OnOk result (first_set locals.new.sets
-        ≡ sets op.now (first_set locals.old.sets)) }
+    ensures first { OnOk result (OnPlain (λ op. first_set locals.new.sets
+        ≡ sets op (first_set locals.old.sets)) instr.now) }
     ensures outer { OnOk result (outer_sets locals.new.sets ≡ outer_sets locals.old.sets) }
 {
-    match op {
-        Op::Variable(VariableOp::LocalSet(local)) => locals.set(*local),
-        Op::Variable(VariableOp::LocalTee(local)) => locals.set(*local),
+    match instr {
+        Instr::Plain(Op::Variable(VariableOp::LocalSet(local))) => locals.set(*local),
+        Instr::Plain(Op::Variable(VariableOp::LocalTee(local))) => locals.set(*local),
         _ => Ok(()),
     }
 }
 
-// Whether the instruction has the call `plain`.
+// Sets the local that an instruction sets.
+fn set_by(locals: &mut Locals, packed: &PackedInstr) -> Result<(), AllocError>
+    ensures types { locals.new.types ≡ locals.old.types }
+    ensures first { OnOk result (OnPlain (λ op. first_set locals.new.sets
+        ≡ sets op (first_set locals.old.sets)) (unpacked packed.now)) }
+    ensures outer { OnOk result (outer_sets locals.new.sets ≡ outer_sets locals.old.sets) }
+{
+    match packed {
+        PackedInstr::Variable(VariableOp::LocalSet(local)) => locals.set(*local),
+        PackedInstr::Variable(VariableOp::LocalTee(local)) => locals.set(*local),
+        PackedInstr::Boxed(instr) => set_by_boxed(locals, instr),
+        _ => Ok(()),
+    }
+}
+
+// Whether a boxed instruction has the call `plain`.
 fn is_plain_instr(instr: &Instr) -> bool
     ensures { result ≡ is_plain instr.now }
 {
@@ -69,11 +85,38 @@ fn is_plain_instr(instr: &Instr) -> bool
     }
 }
 
-// Whether it opens a block.
+// Whether the instruction has it.
+fn is_plain_packed(packed: &PackedInstr) -> bool
+    ensures { result ≡ is_plain (unpacked packed.now) }
+{
+    match packed {
+        PackedInstr::Switching(_)
+        | PackedInstr::Block(_, _, _)
+        | PackedInstr::If(_, _)
+        | PackedInstr::IfElse(_, _, _)
+        | PackedInstr::Else
+        | PackedInstr::End => false,
+        PackedInstr::Boxed(instr) => is_plain_instr(instr),
+        _ => true,
+    }
+}
+
+// Whether a boxed instruction opens a block.
 fn opens_block(instr: &Instr) -> bool
     ensures { result ≡ opens instr.now }
 {
     matches!(instr, Instr::Block(_, _, _) | Instr::If(_, _, _))
+}
+
+// Whether the instruction does.
+fn opens_packed(packed: &PackedInstr) -> bool
+    ensures { result ≡ opens (unpacked packed.now) }
+{
+    match packed {
+        PackedInstr::Block(_, _, _) | PackedInstr::If(_, _) | PackedInstr::IfElse(_, _, _) => true,
+        PackedInstr::Boxed(instr) => opens_block(instr),
+        _ => false,
+    }
 }
 
 // How many blocks are open, with the innermost one. It fails where there are 2^32 or more, as when out of memory.
@@ -149,11 +192,12 @@ impl<'a> Checker<'a> {
         })
     }
 
-    // An instruction that holds no others and does not switch stacks.
-    fn op(&mut self, op: &Op) -> Result<bool, AllocError>
-        ensures steps { IfOk result (λ taken. op_next (classes_for self.old)
-            (context_for self.old) op.now (top_of self.old) (outer_of self.old)
-            ≡ (if taken then Some (top_of self.new ∷ outer_of self.new) else None)) }
+    // An instruction that does not switch stacks, where it holds no others.
+    fn op(&mut self, packed: &PackedInstr) -> Result<bool, AllocError>
+        ensures steps { IfOk result (λ taken. OnPlain (λ o. op_next (classes_for self.old)
+            (context_for self.old) o (top_of self.old) (outer_of self.old)
+            ≡ (if taken then Some (top_of self.new ∷ outer_of self.new) else None))
+            (unpacked packed.now)) }
         ensures bases { HasBases self.old → HasBases self.new }
         ensures uncounted { IsUncounted self.old self.new }
         ensures ended { self.new.ended ≡ self.old.ended }
@@ -165,10 +209,10 @@ impl<'a> Checker<'a> {
             kind: &self.top.kind,
             outer: self.outer.as_slice(),
         };
-        if !plain_step(&body, &mut self.top.flow, op)? {
+        if !packed_step(&body, &mut self.top.flow, packed)? {
             return Ok(false);
         }
-        set_by(&mut self.locals, op)?;
+        set_by(&mut self.locals, packed)?;
         Ok(true)
     }
 
@@ -241,9 +285,10 @@ impl<'a> Checker<'a> {
         Ok(true)
     }
 
-    // An instruction, where the body has not ended.
-    fn instr(&mut self, instr: &Instr) -> Result<bool, AllocError>
-        requires { IsFalse self.old.ended }
+    // A boxed instruction, where the body has not ended.
+    fn boxed(&mut self, packed: &PackedInstr, instr: &Instr) -> Result<bool, AllocError>
+        requires ended { IsFalse self.old.ended }
+        requires same { unpacked packed.now ≡ instr.now }
         ensures steps { IfOk result (λ taken. Leads (next (classes_for self.old)
             (context_for self.old) instr.now (top_of self.old
             ∷ outer_of self.old)) taken (frames_of self.new)) }
@@ -252,11 +297,34 @@ impl<'a> Checker<'a> {
         ensures uncounted { IsUncounted self.old self.new }
     {
         match instr {
-            Instr::Plain(op) => self.op(op),
+            Instr::Plain(_) => self.op(packed),
             Instr::Block(kind, block, _) => self.enter_block(FrameKind::Block(*kind, *block)),
             Instr::If(block, _, _) => self.enter_block(FrameKind::Then(*block)),
             Instr::Else => self.enter_else(),
             Instr::End => self.end_block(),
+        }
+    }
+
+    // An instruction, where the body has not ended.
+    fn instr(&mut self, packed: &PackedInstr) -> Result<bool, AllocError>
+        requires { IsFalse self.old.ended }
+        ensures steps { IfOk result (λ taken. Leads (next (classes_for self.old)
+            (context_for self.old) (unpacked packed.now) (top_of self.old
+            ∷ outer_of self.old)) taken (frames_of self.new)) }
+        ensures bases { IfOk result (λ taken. IsTrue taken → HasBases self.old
+            → HasBases self.new) }
+        ensures uncounted { IsUncounted self.old self.new }
+    {
+        match packed {
+            PackedInstr::Block(kind, block, _) => {
+                self.enter_block(FrameKind::Block(*kind, block.whole()))
+            }
+            PackedInstr::If(block, _) => self.enter_block(FrameKind::Then(block.whole())),
+            PackedInstr::IfElse(block, _, _) => self.enter_block(FrameKind::Then(block.whole())),
+            PackedInstr::Else => self.enter_else(),
+            PackedInstr::End => self.end_block(),
+            PackedInstr::Boxed(instr) => self.boxed(packed, instr),
+            _ => self.op(packed),
         }
     }
 
@@ -315,14 +383,15 @@ impl<'a> Checker<'a> {
     }
 
     // An instruction where the body has not ended, and the count of the place that it reaches.
-    fn advance_instr(&mut self, instr: &Instr) -> Result<bool, AllocError>
+    fn advance_instr(&mut self, packed: &PackedInstr) -> Result<bool, AllocError>
         requires { IsFalse self.old.ended }
         ensures steps { IfOk result (λ taken. Leads (next (classes_for self.old)
-            (context_for self.old) instr.now (frames_of self.old)) taken (frames_of self.new)) }
+            (context_for self.old) (unpacked packed.now) (frames_of self.old)) taken
+            (frames_of self.new)) }
         ensures counted { IfOk result (λ taken. IsTrue taken → IsCounted self.old self.new 0) }
         ensures body { IsSameBody self.old self.new }
     {
-        if !self.instr(instr)? {
+        if !self.instr(packed)? {
             return Ok(false);
         }
         self.count()?;
@@ -364,7 +433,7 @@ impl<'a> Checker<'a> {
         ensures body { IsSameBody self.old self.new }
     {
         match step {
-            Move::Instr(instr) => self.advance_instr(instr),
+            Move::Packed(packed) => self.advance_instr(packed),
             Move::Row {
                 ins,
                 top,
@@ -467,30 +536,30 @@ impl<'a> Checker<'a> {
 
     /// An instruction that opens or ends no block and does not switch stacks; one of another class begins no body there. Whether the
     /// rules derive the sequence with it. It fails only when out of memory.
-    pub fn plain(&mut self, instr: &Instr) -> Result<bool, AllocError>
-        ensures answers { IfOk result (λ taken. Answers self.old self.new
-            (follow_plain instr.now) taken) }
+    pub fn plain(&mut self, packed: &PackedInstr) -> Result<bool, AllocError>
+        ensures answers { IfOk result (λ taken. Answers self.old self.new (follow_plain
+            (unpacked packed.now)) taken) }
         ensures body { IsSameBody self.old self.new }
         ensures memory { StaysOutOfMemory self.old result self.new }
     {
-        if !is_plain_instr(instr) {
+        if !is_plain_packed(packed) {
             return self.refuse();
         }
-        self.call(Move::Instr(instr))
+        self.call(Move::Packed(packed))
     }
 
     /// A block, a loop or an if; an instruction of another class begins no body there. Whether the rules derive the sequence with it.
     /// It fails only when out of memory.
-    pub fn enter(&mut self, instr: &Instr) -> Result<bool, AllocError>
-        ensures answers { IfOk result (λ taken. Answers self.old self.new
-            (follow_enter instr.now) taken) }
+    pub fn enter(&mut self, packed: &PackedInstr) -> Result<bool, AllocError>
+        ensures answers { IfOk result (λ taken. Answers self.old self.new (follow_enter
+            (unpacked packed.now)) taken) }
         ensures body { IsSameBody self.old self.new }
         ensures memory { StaysOutOfMemory self.old result self.new }
     {
-        if !opens_block(instr) {
+        if !opens_packed(packed) {
             return self.refuse();
         }
-        self.call(Move::Instr(instr))
+        self.call(Move::Packed(packed))
     }
 
     /// The else of an if. Whether the rules derive the sequence with it. It fails only when out of memory.
@@ -500,7 +569,7 @@ impl<'a> Checker<'a> {
         ensures body { IsSameBody self.old self.new }
         ensures memory { StaysOutOfMemory self.old result self.new }
     {
-        self.call(Move::Instr(&Instr::Else))
+        self.call(Move::Packed(&PackedInstr::Else))
     }
 
     /// The end of a block, or of the body. Whether the rules derive the sequence with it. It fails only when out of memory.
@@ -509,7 +578,7 @@ impl<'a> Checker<'a> {
         ensures body { IsSameBody self.old self.new }
         ensures memory { StaysOutOfMemory self.old result self.new }
     {
-        self.call(Move::Instr(&Instr::End))
+        self.call(Move::Packed(&PackedInstr::End))
     }
 
     /// The greatest number of operands at a counted place so far, as long as the answers were true.

@@ -6,3 +6,4 @@ mod LabelSizes
 mod Bindings
 mod Switches
 mod Resumes
+mod PackedOthers

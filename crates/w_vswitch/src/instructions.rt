@@ -2,6 +2,7 @@
 ghost use Rattle.std.specs.Prelude.{IfOk, Some, None};
 ghost use Rattle.std.specs.Option.{option_map};
 ghost use Rattle.w_syntax.specs.declared.instructions.SwitchingOp.TheVariants as op;
+ghost use Rattle.w_syntax.specs.Packed.{unpacked};
 ghost use Rattle.w_vplain.specs.Prefixes.{follow};
 ghost use Rattle.w_vplain.specs.Standing.{Answers, IsSameBody, StaysOutOfMemory};
 ghost use Rattle.w_vswitch.specs.Following.{follow_switching, instr_of};
@@ -12,7 +13,7 @@ use crate::clauses::{clauses_fit, longest_label};
 use crate::continuations::{last_index, non_null, nullable};
 use std::alloc::AllocError;
 use w_rules::Context;
-use w_syntax::{Clause, Instr, Op, SwitchingOp};
+use w_syntax::{Clause, Instr, Op, PackedInstr, SwitchingOp};
 use w_types::{FuncType, ValType};
 use w_vplain::Checker;
 
@@ -141,9 +142,8 @@ fn typed(checker: &mut Checker, op: &SwitchingOp) -> Result<bool, AllocError>
     }
 }
 
-/// A stack switching instruction; another one begins no body there. Whether the rules derive the sequence with it (the explainer,
-/// validation). It fails only when out of memory.
-pub fn switching(checker: &mut Checker, instr: &Instr) -> Result<bool, AllocError>
+// A boxed instruction, where it switches stacks.
+fn boxed(checker: &mut Checker, instr: &Instr) -> Result<bool, AllocError>
     ensures answers { IfOk result (λ taken. Answers checker.old checker.new
         (follow_switching instr.now) taken) }
     ensures body { IsSameBody checker.old checker.new }
@@ -151,6 +151,21 @@ pub fn switching(checker: &mut Checker, instr: &Instr) -> Result<bool, AllocErro
 {
     match instr {
         Instr::Plain(Op::Switching(op)) => typed(checker, op),
+        _ => checker.refuse(),
+    }
+}
+
+/// A stack switching instruction; another one begins no body there. Whether the rules derive the sequence with it (the explainer,
+/// validation). It fails only when out of memory.
+pub fn switching(checker: &mut Checker, packed: &PackedInstr) -> Result<bool, AllocError>
+    ensures answers { IfOk result (λ taken. Answers checker.old checker.new (follow_switching
+        (unpacked packed.now)) taken) }
+    ensures body { IsSameBody checker.old checker.new }
+    ensures memory { StaysOutOfMemory checker.old result checker.new }
+{
+    match packed {
+        PackedInstr::Switching(op) => typed(checker, &op.whole()),
+        PackedInstr::Boxed(instr) => boxed(checker, instr),
         _ => checker.refuse(),
     }
 }

@@ -22,8 +22,8 @@ returns-then-not-branch c =
     let i : Instr = unpacked c.packed-item.result in
     let lt : n < length ps = omega arith in
     let here : i ≡ get_or is n i = subst (λ (js : List Instr). i ≡ get_or js n i) c.instrs-packed-items.ensures (unpacked_get ps n c.packed-item.result lt c.packed-item.is) in
-    refused b c.loop-packed.checker c.call_packed.new.checker is c.args.body.now n i c.in_ok-call_packed.field-0 c.if-not-branch.true refl (omega (arith, ap length c.instrs-packed-items.ensures, unpacked_length c.instrs-packed-items.result.now)) here
-    c.loop-packed.invariant c.in_ok-call_packed.ensures.answers
+    refused b c.loop-packed.checker c.call.new.checker is c.args.body.now n i c.in_ok-call.field-0 c.if-not-branch.true refl (omega (arith, ap length c.instrs-packed-items.ensures, unpacked_length c.instrs-packed-items.result.now)) here
+    c.loop-packed.invariant c.in_ok-call.ensures.answers
 
 pub loop-packed-preserved : goal.loop-packed-preserved
 loop-packed-preserved c =
@@ -34,8 +34,8 @@ loop-packed-preserved c =
     let i : Instr = unpacked c.packed-item.result in
     let lt : n < length ps = omega arith in
     let here : i ≡ get_or is n i = subst (λ (js : List Instr). i ≡ get_or js n i) c.instrs-packed-items.ensures (unpacked_get ps n c.packed-item.result lt c.packed-item.is) in
-    one_more b c.loop-packed.checker c.call_packed.new.checker is n i c.in_ok-call_packed.field-0 c.if-not-branch.false (omega (arith, ap length c.instrs-packed-items.ensures, unpacked_length c.instrs-packed-items.result.now)) here
-    c.loop-packed.invariant c.in_ok-call_packed.ensures.answers c.call_packed.ensures.body
+    one_more b c.loop-packed.checker c.call.new.checker is n i c.in_ok-call.field-0 c.if-not-branch.false (omega (arith, ap length c.instrs-packed-items.ensures, unpacked_length c.instrs-packed-items.result.now)) here
+    c.loop-packed.invariant c.in_ok-call.ensures.answers c.call.ensures.body
 
 pub returns : goal.returns
 returns c =

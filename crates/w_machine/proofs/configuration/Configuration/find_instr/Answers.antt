@@ -1,7 +1,8 @@
 use Rattle.std.proofs.Common.{Some, sym, subst, ◌∙◌, ap, reverse}
 use Rattle.w_syntax.specs.declared.packed.PackedInstr.{PackedInstr}
 use Rattle.w_syntax.specs.Packed.{unpacked}
-use Rattle.w_machine.proofs.Looking.{IsMark, IsOpening, plain_else}
+use Rattle.w_syntax.proofs.PlainInstructions.{plain_else}
+use Rattle.w_machine.proofs.Looking.{IsMark, IsOpening}
 use Rattle.w_machine.proofs.Reductions.{label_found, block_not_found}
 use Rattle.w_machine.proofs.configuration.Configuration.find_instr.Goals as goal
 
