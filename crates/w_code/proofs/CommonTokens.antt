@@ -7,6 +7,8 @@ use Rattle.w_syntax.specs.Types.{entries_of}
 use Rattle.w_syntax.specs.Tokens.{accesses, controls, instruction, memory_op, numeric_op, other, others, plain, token, tokens_by_byte}
 use Rattle.w_syntax.specs.declared.instructions.Op.{Op}
 use Rattle.w_syntax.specs.declared.instructions.Op.TheVariants as op
+use Rattle.w_syntax.specs.declared.instructions.ControlOp.TheVariants as control
+use Rattle.w_syntax.specs.declared.instructions.ParametricOp.TheVariants as parametric
 use Rattle.w_syntax.specs.declared.instructions.Token.TheVariants as tok
 use Rattle.w_syntax.specs.declared.memory_instructions.MemoryOp.{MemoryOp}
 use Rattle.w_syntax.specs.declared.numeric.NumericOp.{NumericOp}
@@ -73,8 +75,8 @@ entries_some {A} {B} f (c ∷ t) r k all rest after x e = by (nat_eq k c.0) (ent
   where
     by : (b : Bool) → (chosen t never k all rest ≡ Some (x, after) → chosen (entries_of f t) r k all rest ≡ Some (f x, after))
         → cond b (c.1.read rest) (chosen t never k all rest) ≡ Some (x, after) → cond b (image f c.1.read rest) (chosen (entries_of f t) r k all rest) ≡ Some (f x, after)
-    by true others h = ap (λ o. then o (λ (y : A) (more : List ℕ). Some (f y, more))) h
-    by false others h = others h
+    by true else_read h = ap (λ o. then o (λ (y : A) (more : List ℕ). Some (f y, more))) h
+    by false else_read h = else_read h
 
 memory_byte : (k : ℕ) (rest after : List ℕ) (o : MemoryOp) → 0x28 ≤ k → k ≤ 0x40 → memory_op.read (k ∷ rest) ≡ Some (o, after) → token.read (k ∷ rest) ≡ Some (tok.Plain (op.Memory o), after)
 unfolding plain memory_op
@@ -86,3 +88,32 @@ pub memory_token : (b rest after : List ℕ) (k : ℕ) (o : MemoryOp) → byte b
 memory_token b rest after k o s l h e =
     let f = in_front b rest k s in
     ap token.read f ∙ memory_byte k rest after o l h (sym (ap memory_op.read f) ∙ e)
+
+-- ## Instructions that are their opcode alone
+
+-- a byte that spells this instruction
+abbrev pub IsBare : ℕ → Op → Type 0
+IsBare k o = (rest : List ℕ) → token.read (k ∷ rest) ≡ Some (tok.Plain o, rest)
+
+pub bare_token : (b rest : List ℕ) (k : ℕ) (o : Op) → IsBare k o → byte b ≡ Some (k, rest) → token.read b ≡ Some (tok.Plain o, rest)
+bare_token b rest k o bare s = ap token.read (in_front b rest k s) ∙ bare rest
+
+pub bare_unreachable : IsBare 0x00 (op.Control control.Unreachable)
+unfolding token instruction
+bare_unreachable rest = refl
+
+pub bare_nop : IsBare 0x01 (op.Control control.Nop)
+unfolding token instruction
+bare_nop rest = refl
+
+pub bare_return : IsBare 0x0F (op.Control control.Return)
+unfolding token instruction
+bare_return rest = refl
+
+pub bare_drop : IsBare 0x1A (op.Parametric parametric.Drop)
+unfolding token instruction other
+bare_drop rest = refl
+
+pub bare_select : IsBare 0x1B (op.Parametric parametric.Select)
+unfolding token instruction other
+bare_select rest = refl

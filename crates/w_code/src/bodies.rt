@@ -14,7 +14,7 @@ use w_syntax::{Body, BodyBuilder, Progress};
 fn body_at(alloc: Global, bytes: &[u8], at: usize) -> Result<Option<(Body, usize)>, AllocError>
     ensures { IfOk result (ReadsAt read_expr bytes.now at) }
 {
-    let mut builder = BodyBuilder::new(alloc);
+    let mut builder = BodyBuilder::new(alloc)?;
     let mut place = at;
     while place < bytes.len() {
         if let Some((packed, next)) = common_at(bytes, place) {

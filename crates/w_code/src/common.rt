@@ -57,7 +57,7 @@ fn transfer_at(bytes: &[u8], at: usize) -> Option<(ShortControlOp, usize)>
 pub(crate) fn common_at(bytes: &[u8], at: usize) -> Option<(PackedInstr, usize)>
     ensures { IfSome result (IsPlainAt bytes.now at) }
 {
-    let (tag, _) = read_byte(bytes, at)?;
+    let (tag, next) = read_byte(bytes, at)?;
     match tag {
         0x20..=0x24 => {
             let (variable, next) = variable_at(bytes, at)?;
@@ -71,6 +71,11 @@ pub(crate) fn common_at(bytes: &[u8], at: usize) -> Option<(PackedInstr, usize)>
             let (memory, next) = memory_op_at(bytes, at)?;
             Some((PackedInstr::memory(memory), next))
         }
+        0x00 => Some((PackedInstr::Control(ShortControlOp::Unreachable), next)),
+        0x01 => Some((PackedInstr::Control(ShortControlOp::Nop), next)),
+        0x0F => Some((PackedInstr::Control(ShortControlOp::Return), next)),
+        0x1A => Some((PackedInstr::Drop, next)),
+        0x1B => Some((PackedInstr::Select, next)),
         0x0C..=0x0D | 0x10 => {
             let (control, next) = transfer_at(bytes, at)?;
             Some((PackedInstr::Control(control), next))

@@ -1,4 +1,4 @@
-//! Finding the next reduction.
+//! Finding the next reduction. What is found is many words wide, and is copied at each call that is not inlined: so each step here is.
 ghost use Rattle.std.specs.Prelude.{◌≡◌, ◌+◌, ◌^◌, ◌<◌, Some, option_map};
 ghost use Rattle.w_syntax.specs.declared.instructions.Op.TheVariants.{Numeric as OpNumeric, Control as OpControl, Parametric as OpParametric};
 ghost use Rattle.w_syntax.specs.Packed.{IsPlain, OnPlain, control_of, unpacked};
@@ -31,6 +31,7 @@ fn top_i64(operands: &[Value]) -> Option<(u64, &[Value])>
 }
 
 // The redex that a binary operation on two i64 is.
+#[inline(always)]
 fn find_binary(program: &Module, store: &Store, operands: &[Value], operation: Binop) -> Found
     ensures { FindsInstruction program.now store.now operands.now (OpNumeric (NumericOp.Binary IntType.I64 operation)) result }
 {
@@ -47,6 +48,7 @@ fn find_binary(program: &Module, store: &Store, operands: &[Value], operation: B
 }
 
 // The redex that a numeric instruction is.
+#[inline(always)]
 fn find_numeric(program: &Module, store: &Store, operands: &[Value], op: NumericOp) -> Found
     ensures { FindsInstruction program.now store.now operands.now (OpNumeric op) result }
 {
@@ -62,6 +64,7 @@ fn find_numeric(program: &Module, store: &Store, operands: &[Value], op: Numeric
 }
 
 // The call of the function of this address, with so many operands.
+#[inline(always)]
 fn find_call(program: &Module, store: &Store, operands: usize, address: usize) -> Found
     ensures { FindsCall program.now store.now operands address result }
 {
@@ -75,6 +78,7 @@ fn find_call(program: &Module, store: &Store, operands: usize, address: usize) -
 }
 
 // The redex that a control instruction is.
+#[inline(always)]
 fn find_control(program: &Module, store: &Store, operands: &[Value], op: &ControlOp) -> Found
     ensures { FindsInstruction program.now store.now operands.now (OpControl op.now) result }
 {
@@ -85,6 +89,7 @@ fn find_control(program: &Module, store: &Store, operands: &[Value], op: &Contro
 }
 
 // The redex that a parametric instruction is.
+#[inline(always)]
 fn find_parametric(program: &Module, store: &Store, operands: &[Value], op: &ParametricOp) -> Found
     ensures { FindsInstruction program.now store.now operands.now (OpParametric op.now) result }
 {
@@ -101,6 +106,7 @@ fn find_parametric(program: &Module, store: &Store, operands: &[Value], op: &Par
 }
 
 // The redex that an instruction is.
+#[inline(always)]
 fn find_instruction(program: &Module, store: &Store, operands: &[Value], op: &Op) -> Found
     ensures { FindsInstruction program.now store.now operands.now op.now result }
 {
@@ -113,6 +119,7 @@ fn find_instruction(program: &Module, store: &Store, operands: &[Value], op: &Op
 }
 
 // The redex that a control instruction without a list is.
+#[inline(always)]
 fn find_short_control(
     program: &Module,
     store: &Store,
@@ -133,6 +140,7 @@ fn find_short_control(
 }
 
 // The redex that a boxed instruction is, where it holds no others.
+#[inline(always)]
 fn find_boxed(program: &Module, store: &Store, operands: &[Value], instr: &Instr) -> Found
     ensures { OnPlain (λ o. FindsInstruction program.now store.now operands.now o result) instr.now }
 {
@@ -143,6 +151,7 @@ fn find_boxed(program: &Module, store: &Store, operands: &[Value], instr: &Instr
 }
 
 // The redex that an instruction is, where it holds no others.
+#[inline(always)]
 fn find_packed(program: &Module, store: &Store, operands: &[Value], packed: &PackedInstr) -> Found
     ensures { OnPlain (λ o. FindsInstruction program.now store.now operands.now o result)
         (unpacked packed.now) }
@@ -162,6 +171,7 @@ fn find_packed(program: &Module, store: &Store, operands: &[Value], packed: &Pac
 }
 
 // The redex, or the limit on frames where its result passes that. So many frames wait.
+#[inline(always)]
 fn limited_redex(redex: Redex, waiting: usize) -> Found
     requires { waiting + 1 < 2 ^ 64 }
     ensures { result ≡ redex_within waiting redex }
@@ -173,6 +183,7 @@ fn limited_redex(redex: Redex, waiting: usize) -> Found
 }
 
 // What was found, or the limit on frames where the result passes that.
+#[inline(always)]
 fn limited(found: Found, waiting: usize) -> Found
     requires { waiting + 1 < 2 ^ 64 }
     ensures { result ≡ found_within waiting found }
@@ -185,6 +196,7 @@ fn limited(found: Found, waiting: usize) -> Found
 
 impl Configuration {
     // The redex of the instruction, or the limit on frames where its result passes that.
+    #[inline(always)]
     fn find_within(
         &self,
         program: &Module,
@@ -204,6 +216,7 @@ impl Configuration {
     }
 
     // The redex of a boxed instruction at a place.
+    #[inline(always)]
     fn find_standing(
         &self,
         program: &Module,

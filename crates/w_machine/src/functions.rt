@@ -26,6 +26,7 @@ pub(crate) fn result_count(program: &Module, function: usize) -> usize
 }
 
 /// How many parameters a function takes. `None` where it has no type, or no code.
+#[inline(always)]
 pub(crate) fn param_count(program: &Module, function: usize) -> Option<usize>
     ensures { result ≡ params_of program.now function }
 {

@@ -12,6 +12,9 @@ use crate::instructions::{BlockKind, BlockType, Instr, Token};
 use crate::packed::PackedInstr;
 use std::alloc::{AllocError, Global};
 
+// How many instructions there is room for at first: most bodies then grow seldom.
+const ROOM: usize = 64;
+
 // A body of more instructions than these is not copied for room.
 const SHORT: usize = 4096;
 
@@ -72,15 +75,16 @@ fn in_exact_room(alloc: Global, mut code: Vec<PackedInstr>) -> Result<Vec<Packed
 }
 
 impl BodyBuilder {
-    /// No instructions yet.
-    pub fn new(alloc: Global) -> BodyBuilder
-        ensures { Builds Top Done result }
+    /// No instructions yet. It fails only for want of memory.
+    pub fn new(alloc: Global) -> Result<BodyBuilder, AllocError>
+        ensures { IfOk result (λ builder. Builds Top Done builder) }
     {
-        BodyBuilder {
+        let code = Vec::with_capacity(alloc, ROOM)?;
+        Ok(BodyBuilder {
             alloc,
-            code: Vec::new(alloc),
+            code,
             opens: Vec::new(alloc),
-        }
+        })
     }
 
     /// Takes an instruction that holds no others.

@@ -7,7 +7,7 @@ use Rattle.w_code.proofs.TokenSteps.{to_more, to_finished, to_wrong, reads_start
 use Rattle.w_code.proofs.bodies.body_at.Goals as goal
 
 pub loop-place-init : goal.loop-place-init
-loop-place-init c = (Top, Done, record { stands = c.new-builder.ensures; reads = reads_start _; after = omega arith })
+loop-place-init c = (Top, Done, record { stands = c.in_ok-builder.ensures; reads = reads_start _; after = omega arith })
 
 pub returns-in_default-2 : goal.returns-in_default-2
 returns-in_default-2 c =

@@ -2,4 +2,4 @@ use Rattle.w_syntax.proofs.Whole.{starts}
 use Rattle.w_syntax.proofs.builder.BodyBuilder.new.Goals as goal
 
 pub returns : goal.returns
-returns c = starts _ c.new.ensures.items c.new-2.ensures.items
+returns c = starts _ c.in_ok-code.ensures.items c.new.ensures.items
