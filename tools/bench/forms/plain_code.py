@@ -19,23 +19,26 @@ def _constant(random, spell, bits):
     return spell(random.getrandbits(random.randint(1, bits)) * random.choice([1, -1]))
 
 
+def _dropped_constants(size, seed, spell, bits, **layout):
+    """Constants of up to so many bits, each dropped at once."""
+    random = Random(seed)
+    rows = drawn(lambda: _constant(random, spell, bits) + DROP, 5000)
+    return module_of_rows(size, rows, [NOTHING], **layout)
+
+
 def constants_and_drops(size):
     """`i32.const n; drop`, with numbers of all lengths."""
-    random = Random(2)
-    return module_of_rows(size, drawn(lambda: _constant(random, i32_const, 31) + DROP, 5000), [NOTHING])
+    return _dropped_constants(size, 2, i32_const, 31)
 
 
 def constants_in_one_body(size):
     """The same as one function of the whole size."""
-    random = Random(2)
-    rows = drawn(lambda: _constant(random, i32_const, 31) + DROP, 5000)
-    return module_of_rows(size, rows, [NOTHING], body_size=None)
+    return _dropped_constants(size, 2, i32_const, 31, body_size=None)
 
 
 def long_constants_and_drops(size):
     """`i64.const n; drop`, with numbers of up to ten bytes."""
-    random = Random(3)
-    return module_of_rows(size, drawn(lambda: _constant(random, i64_const, 63) + DROP, 5000), [NOTHING])
+    return _dropped_constants(size, 3, i64_const, 63)
 
 
 def sums(size):
