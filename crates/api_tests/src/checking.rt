@@ -8,7 +8,7 @@ use w_rules::Context;
 use w_syntax::{
     BlockKind, Module, NumericOp, PackedInstr, ShortBlockType, ShortControlOp, ShortSwitchingOp,
 };
-use w_types::ValType;
+use w_types::{PackedType, ValType};
 use w_vplain::Checker;
 use w_vswitch::switching;
 
@@ -94,7 +94,7 @@ fn push_three(checker: &mut Checker<'_>) -> Result<bool, AllocError> {
 fn row_leaves_one(rt: &impl Abort, checker: &mut Checker<'_>) -> Result<(), Fail> {
     assert!(rt; push_three(checker)?);
     assert_eq!(rt; (checker.height(), checker.depth()), (3, 1));
-    assert!(rt; checker.apply(&[ValType::I32], Some(ValType::I64), &[], Some(5))?);
+    assert!(rt; checker.apply(&[PackedType::I32], Some(ValType::I64), &[], Some(5))?);
     assert_eq!(rt; checker.height(), 6);
     assert!(rt; checker.end()?);
     Ok(())
@@ -127,7 +127,11 @@ fn plain_call_refuses_switching(rt: &impl Abort, checker: &mut Checker<'_>) -> R
 // How many values a branch to the label takes, and whether the first is an i32; where there is such a label.
 fn label_of(checker: &Checker<'_>, index: u32) -> Option<(usize, bool)> {
     let label = checker.label(index)?;
-    Some((label.len(), matches!(label.first(), Some(ValType::I32))))
+    let begins_with_i32 = match label.first() {
+        Some(kind) => matches!(kind.whole(), ValType::I32),
+        None => false,
+    };
+    Some((label.len(), begins_with_i32))
 }
 
 // Whether each of these calls is true: a constant of i32, a loop that takes it, and a block in that.
@@ -159,7 +163,8 @@ enum Call {
 
 fn perform(alloc: Global, rt: &impl Abort, bench: &Bench, call: Call) -> Result<(), Fail> {
     let context = bench.context();
-    let mut checker = Checker::begin(alloc, &context, &[], &[], &[ValType::I64])?;
+    let results = [PackedType::I64];
+    let mut checker = Checker::begin(alloc, &context, &[], &[], &results)?;
     let told = match call {
         Call::Row => row_leaves_one(rt, &mut checker),
         Call::OtherClass => plain_call_refuses_switching(rt, &mut checker),

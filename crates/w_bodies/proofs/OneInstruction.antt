@@ -19,8 +19,8 @@ use Rattle.w_syntax.specs.declared.instructions.VariableOp.TheVariants as variab
 use Rattle.w_syntax.specs.declared.module.GlobalType.{GlobalType}
 use Rattle.w_syntax.specs.declared.numeric.NumericOp.TheVariants as numeric
 use Rattle.w_canon.specs.Matching.{ValMatches}
-use Rattle.w_rules.specs.declared.operand.Operand.{Operand}
-use Rattle.w_rules.specs.declared.operand.Operand.TheVariants.{Known}
+use Rattle.w_rules.specs.Operands.{Operand}
+use Rattle.w_rules.specs.Operands.{Known}
 use Rattle.w_rules.specs.Bodies.{is_const, is_fixed, is_const_global, ConstTyped}
 use Rattle.w_rules.specs.Conditions.{Holds}
 use Rattle.w_rules.specs.Context.{Context, type_count}

@@ -9,7 +9,7 @@ ghost use Rattle.w_bodies.specs.Measured.{IsMeasure};
 use std::alloc::{AllocError, Global};
 use w_rules::Context;
 use w_syntax::{Body, Instr, LocalRun, Op, PackedInstr};
-use w_types::ValType;
+use w_types::PackedType;
 use w_vplain::Checker;
 use w_vswitch::switching;
 
@@ -56,9 +56,9 @@ fn call(checker: &mut Checker, packed: &PackedInstr) -> Result<bool, AllocError>
 pub fn check_body(
     alloc: Global,
     cx: &Context,
-    params: &[ValType],
+    params: &[PackedType],
     runs: &[LocalRun],
-    results: &[ValType],
+    results: &[PackedType],
     body: &Body,
 ) -> Result<Option<(u64, u32)>, AllocError>
     requires { HasClasses cx.now }

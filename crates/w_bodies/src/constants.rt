@@ -22,7 +22,7 @@ use w_rules::Context;
 use w_syntax::{
     Binop, Body, GlobalType, Instr, Mutability, NumericOp, Op, PackedInstr, ReferenceOp, VariableOp,
 };
-use w_types::{HeapType, RefType, ValType};
+use w_types::{HeapType, PackedType, RefType};
 
 fn is_const_binary(op: Binop) -> bool
     ensures { result ≡ is_const_binary op }
@@ -116,45 +116,39 @@ fn all_const(cx: &Context, body: &Body) -> bool
 }
 
 // The type that a numeric instruction alone gives, where it is constant.
-fn type_of_number(number: NumericOp) -> Option<ValType>
+fn type_of_number(number: NumericOp) -> Option<PackedType>
     ensures { (c : TheContext) → result ≡ type_of_one c (op.Numeric number) }
 {
     match number {
-        NumericOp::I32Const(_) => Some(ValType::I32),
-        NumericOp::I64Const(_) => Some(ValType::I64),
+        NumericOp::I32Const(_) => Some(PackedType::I32),
+        NumericOp::I64Const(_) => Some(PackedType::I64),
         _ => None,
     }
 }
 
 // The type of null of this heap type.
-fn type_of_null(cx: &Context, heap: HeapType) -> Option<ValType>
+fn type_of_null(cx: &Context, heap: HeapType) -> Option<PackedType>
     ensures { result ≡ given (reference_op_type (context_in cx.now) (reference.Null heap)) }
 {
     if !cx.has_heap(heap) {
         return None;
     }
-    Some(ValType::Ref(RefType {
-        nullable: true,
-        heap,
-    }))
+    Some(PackedType::reference(RefType::or_null(heap)))
 }
 
 // The type of a reference to a function that is declared.
-fn type_of_function(cx: &Context, function: u32) -> Option<ValType>
+fn type_of_function(cx: &Context, function: u32) -> Option<PackedType>
     ensures { result ≡ given (reference_op_type (context_in cx.now) (reference.Func function)) }
 {
     let index = *cx.functions.get(function as usize)?;
     if !*cx.declared.get(function as usize)? {
         return None;
     }
-    Some(ValType::Ref(RefType {
-        nullable: false,
-        heap: HeapType::Index(index),
-    }))
+    Some(PackedType::reference(RefType::non_null(HeapType::Index(index))))
 }
 
 // The type that a reference instruction alone gives, where it is constant.
-fn type_of_reference(cx: &Context, reference: ReferenceOp) -> Option<ValType>
+fn type_of_reference(cx: &Context, reference: ReferenceOp) -> Option<PackedType>
     ensures { result ≡ type_of_one (context_in cx.now) (op.Reference reference) }
 {
     match reference {
@@ -165,7 +159,7 @@ fn type_of_reference(cx: &Context, reference: ReferenceOp) -> Option<ValType>
 }
 
 // The type of a global that is never written.
-fn type_of_global(global: Option<GlobalType>) -> Option<ValType>
+fn type_of_global(global: Option<GlobalType>) -> Option<PackedType>
     ensures { result ≡ fixed_type global }
 {
     match global {
@@ -175,7 +169,7 @@ fn type_of_global(global: Option<GlobalType>) -> Option<ValType>
 }
 
 // The type that an instruction alone gives, where it is constant and takes no operands.
-fn type_of_one(cx: &Context, op: &Op) -> Option<ValType>
+fn type_of_one(cx: &Context, op: &Op) -> Option<PackedType>
     ensures { result ≡ type_of_one (context_in cx.now) op.now }
 {
     match op {
@@ -187,7 +181,7 @@ fn type_of_one(cx: &Context, op: &Op) -> Option<ValType>
 }
 
 // Whether there is a type, which matches another.
-fn is_matched(cx: &Context, found: Option<ValType>, kind: ValType) -> bool
+fn is_matched(cx: &Context, found: Option<PackedType>, kind: PackedType) -> bool
     requires { HasClasses cx.now }
     ensures { IsTrue result ↔ Holds found (λ t. ValMatches cx.now.owner.now.types t kind) }
 {
@@ -198,7 +192,7 @@ fn is_matched(cx: &Context, found: Option<ValType>, kind: ValType) -> bool
 }
 
 /// Whether a reference instruction alone is a constant expression of this type (Core, validation, constant expressions).
-pub fn is_reference_typed(cx: &Context, reference: ReferenceOp, kind: ValType) -> bool
+pub fn is_reference_typed(cx: &Context, reference: ReferenceOp, kind: PackedType) -> bool
     requires { HasClasses cx.now }
     ensures { IsTrue result ↔ ConstTyped (context_in cx.now) (Plain (op.Reference reference) Done) kind }
 {
@@ -206,7 +200,7 @@ pub fn is_reference_typed(cx: &Context, reference: ReferenceOp, kind: ValType) -
 }
 
 // The same of an instruction that may be a mark, or hold others.
-fn type_of_instr(cx: &Context, instr: &Instr) -> Option<ValType>
+fn type_of_instr(cx: &Context, instr: &Instr) -> Option<PackedType>
     ensures { (o : TheOp) → instr.now ≡ flat.Plain o → result ≡ type_of_one (context_in cx.now) o }
 {
     match instr {
@@ -216,13 +210,13 @@ fn type_of_instr(cx: &Context, instr: &Instr) -> Option<ValType>
 }
 
 // The same of a packed one.
-fn type_of_packed(cx: &Context, packed: &PackedInstr) -> Option<ValType>
+fn type_of_packed(cx: &Context, packed: &PackedInstr) -> Option<PackedType>
     ensures { (o : TheOp) → unpacked packed.now ≡ flat.Plain o
         → result ≡ type_of_one (context_in cx.now) o }
 {
     match packed {
-        PackedInstr::I32Const(_) => Some(ValType::I32),
-        PackedInstr::I64Const(_) => Some(ValType::I64),
+        PackedInstr::I32Const(_) => Some(PackedType::I32),
+        PackedInstr::I64Const(_) => Some(PackedType::I64),
         PackedInstr::Reference(reference) => type_of_reference(cx, *reference),
         PackedInstr::Variable(VariableOp::GlobalGet(global)) => type_of_global(cx.global(*global)),
         PackedInstr::Boxed(instr) => type_of_instr(cx, instr),
@@ -245,7 +239,7 @@ fn is_body_typed(
     alloc: Global,
     cx: &Context,
     body: &Body,
-    kind: ValType,
+    kind: PackedType,
 ) -> Result<bool, AllocError>
     requires { HasClasses cx.now }
     ensures { IfOk result (λ typed. IsTrue typed ↔ ConstTyped (context_in cx.now) body.now kind) }
@@ -263,7 +257,7 @@ pub fn is_const_typed(
     alloc: Global,
     cx: &Context,
     body: &Body,
-    kind: ValType,
+    kind: PackedType,
 ) -> Result<bool, AllocError>
     requires { HasClasses cx.now }
     ensures { IfOk result (λ typed. IsTrue typed ↔ ConstTyped (context_in cx.now) body.now kind) }

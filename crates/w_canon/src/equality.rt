@@ -6,7 +6,7 @@ ghost use Rattle.w_canon.specs.IsClassesOf.{IsClassesOf};
 ghost use Rattle.w_canon.specs.Tests.{heap_same_test, ref_same_test, val_same_test, result_same_test};
 
 use crate::classes::Classes;
-use w_types::{HeapType, RefType, ValType};
+use w_types::{HeapType, PackedType, RefType, ValType};
 
 impl Classes {
     // Whether heap types are equal.
@@ -33,11 +33,11 @@ impl Classes {
     }
 
     /// Whether value types are equal, where indices are equal if their types are equivalent (Core, types, recursive types).
-    pub fn equals_val(&self, a: ValType, b: ValType) -> bool
+    pub fn equals_val(&self, a: PackedType, b: PackedType) -> bool
         ensures computed { result ≡ val_same_test self.now a b }
         ensures related { (gs : List RecGroup) → IsClassesOf gs self.now → (IsTrue result ↔ ValEqual gs a b) }
     {
-        match (a, b) {
+        match (a.whole(), b.whole()) {
             (ValType::I32, ValType::I32) => true,
             (ValType::I64, ValType::I64) => true,
             (ValType::Ref(a), ValType::Ref(b)) => self.equals_ref(a, b),
@@ -47,7 +47,7 @@ impl Classes {
 
     /// Whether types equal others, each the one at its place, and they are as many, where indices are equal if their types are
     /// equivalent (Core, types, recursive types).
-    pub fn equals_result(&self, a: &[ValType], b: &[ValType]) -> bool
+    pub fn equals_result(&self, a: &[PackedType], b: &[PackedType]) -> bool
         ensures computed { result ≡ result_same_test self.now a.now b.now }
         ensures related { (gs : List RecGroup) → IsClassesOf gs self.now → (IsTrue result ↔ ResultEqual gs a.now b.now) }
     {

@@ -4,7 +4,7 @@ ghost use Rattle.w_canon.specs.Keys.{index_word, heap_word, value_word, value_wo
 
 use crate::entry::{Class, Entry};
 use std::alloc::{AllocError, Global};
-use w_types::{CompType, HeapType, RecGroup, ValType};
+use w_types::{CompType, HeapType, PackedType, RecGroup, ValType};
 
 /// A heap type. An index is a position in the group of the key, or a class of a type outside.
 #[derive(Clone, Copy, Debug, PartialEq, Eq, PartialOrd, Ord)]
@@ -57,10 +57,10 @@ fn heap_word(earlier: &[Entry], heap: HeapType) -> HeapWord
     }
 }
 
-fn value_word(earlier: &[Entry], value: ValType) -> ValueWord
+fn value_word(earlier: &[Entry], value: PackedType) -> ValueWord
     ensures { result ≡ value_word earlier.now value }
 {
-    match value {
+    match value.whole() {
         ValType::I32 => ValueWord::I32,
         ValType::I64 => ValueWord::I64,
         ValType::Ref(kind) => {
@@ -77,7 +77,7 @@ fn value_word(earlier: &[Entry], value: ValType) -> ValueWord
 fn push_values(
     words: &mut Vec<Word>,
     earlier: &[Entry],
-    values: &[ValType],
+    values: &[PackedType],
 ) -> Result<(), AllocError>
     ensures { OnOk result (words.new.items ≡ words.old.items ++ value_words earlier.now values.now) }
 {

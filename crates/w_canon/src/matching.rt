@@ -8,7 +8,7 @@ ghost use Rattle.w_canon.specs.declared.entry.Kind.TheVariants as kind;
 
 use crate::classes::Classes;
 use crate::entry::Kind;
-use w_types::{FuncType, HeapType, RefType, ValType};
+use w_types::{FuncType, HeapType, PackedType, RefType, ValType};
 
 impl Classes {
     // Whether the type of this index is a function type.
@@ -63,11 +63,11 @@ impl Classes {
     }
 
     /// Whether a value type matches another (Core, validation, matching).
-    pub fn matches_val(&self, a: ValType, b: ValType) -> bool
+    pub fn matches_val(&self, a: PackedType, b: PackedType) -> bool
         ensures computed { result ≡ val_test self.now a b }
         ensures related { (gs : List RecGroup) → IsClassesOf gs self.now → (IsTrue result ↔ ValMatches gs a b) }
     {
-        match (a, b) {
+        match (a.whole(), b.whole()) {
             (ValType::I32, ValType::I32) => true,
             (ValType::I64, ValType::I64) => true,
             (ValType::Ref(a), ValType::Ref(b)) => self.matches_ref(a, b),
@@ -76,7 +76,7 @@ impl Classes {
     }
 
     /// Whether types match others, each the one at its place, and they are as many (Core, validation, matching).
-    pub fn matches_result(&self, a: &[ValType], b: &[ValType]) -> bool
+    pub fn matches_result(&self, a: &[PackedType], b: &[PackedType]) -> bool
         ensures computed { result ≡ result_test self.now a.now b.now }
         ensures related { (gs : List RecGroup) → IsClassesOf gs self.now → (IsTrue result ↔ ResultMatches gs a.now b.now) }
     {

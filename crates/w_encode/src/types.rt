@@ -4,7 +4,7 @@ ghost use Rattle.w_encode.specs.TypesWritten.{heaptype_written, reftype_written,
 use crate::put::{Put, put_index, put_vec};
 use std::alloc::AllocError;
 use w_syntax::{GlobalType, Limits, Mutability, TableType};
-use w_types::{CompType, FuncType, HeapType, RecGroup, RefType, ValType};
+use w_types::{CompType, FuncType, HeapType, PackedType, RecGroup, RefType, ValType};
 
 impl Put for HeapType {
     ghost written = { heaptype_written };
@@ -41,11 +41,11 @@ impl Put for RefType {
     }
 }
 
-impl Put for ValType {
+impl Put for PackedType {
     ghost written = { valtype_written };
 
     fn put(&self, out: &mut Vec<u8>) -> Result<(), AllocError> {
-        match self {
+        match self.whole() {
             ValType::I32 => out.push(0x7F)?,
             ValType::I64 => out.push(0x7E)?,
             ValType::Ref(reference) => reference.put(out)?,

@@ -5,7 +5,7 @@ ghost use Rattle.w_syntax.specs.Types.{index33, heaptype, reftype, valtype};
 use crate::fields::Field;
 use std::alloc::{AllocError, Global};
 use w_leb::{read_byte, read_s33};
-use w_types::{HeapType, RefType, ValType};
+use w_types::{HeapType, PackedType, RefType};
 
 // Reads the index of a type.
 #[tactic(auto, unfolding(w_syntax::specs::Types::index33))]
@@ -105,27 +105,27 @@ pub fn reftype_at(bytes: &[u8], at: usize) -> Option<(RefType, usize)>
 
 // Reads a value type.
 #[tactic(auto, unfolding(w_syntax::specs::Types::reftype, w_syntax::specs::Types::valtype))]
-fn read_valtype(bytes: &[u8], at: usize) -> Option<(ValType, usize)>
+fn read_valtype(bytes: &[u8], at: usize) -> Option<(PackedType, usize)>
     ensures { ReadsAt valtype.read bytes.now at result }
 {
     let Some((tag, next)) = read_byte(bytes, at) else {
         return None;
     };
     match tag {
-        0x7F => Some((ValType::I32, next)),
-        0x7E => Some((ValType::I64, next)),
+        0x7F => Some((PackedType::I32, next)),
+        0x7E => Some((PackedType::I64, next)),
         _ => {
             let Some((kind, next)) = reftype_at(bytes, at) else {
                 return None;
             };
-            Some((ValType::Ref(kind), next))
+            Some((PackedType::reference(kind), next))
         }
     }
 }
 
 /// The value type at a place. `None` exactly where no spelling of one begins.
 #[tactic(auto, using(w_leb::specs::ReadingLaws::begins_at))]
-pub fn valtype_at(bytes: &[u8], at: usize) -> Option<(ValType, usize)>
+pub fn valtype_at(bytes: &[u8], at: usize) -> Option<(PackedType, usize)>
     ensures reads { ReadsAt valtype.read bytes.now at result }
     ensures begins { BeginsAt valtype.Spells bytes.now at result }
 {
@@ -136,7 +136,7 @@ pub fn valtype_at(bytes: &[u8], at: usize) -> Option<(ValType, usize)>
 pub struct ValTypeField;
 
 impl Field for ValTypeField {
-    type Item = ValType;
+    type Item = PackedType;
 
     ghost format = { valtype };
 
@@ -144,7 +144,7 @@ impl Field for ValTypeField {
         _alloc: Global,
         bytes: &[u8],
         at: usize,
-    ) -> Result<Option<(ValType, usize)>, AllocError> {
+    ) -> Result<Option<(PackedType, usize)>, AllocError> {
         Ok(valtype_at(bytes, at))
     }
 }

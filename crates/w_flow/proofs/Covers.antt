@@ -7,8 +7,8 @@ use Rattle.w_types.specs.Rows.{Row, ε, ◌▹◌, ◌⧺◌}
 use Rattle.w_canon.specs.declared.entry.Entry.{Entry}
 use Rattle.w_canon.specs.IsClassesOf.{IsClassesOf}
 use Rattle.w_canon.proofs.MatchingTests.{val_told}
-use Rattle.w_rules.specs.declared.operand.Operand.{Operand}
-use Rattle.w_rules.specs.declared.operand.Operand.TheVariants.{Known, Bottom, BottomRef}
+use Rattle.w_rules.specs.Operands.{Operand}
+use Rattle.w_rules.specs.Operands.{Known, Bottom, BottomRef}
 use Rattle.w_rules.specs.Conditions.{Holds}
 use Rattle.w_rules.specs.Matching.{OperandMatches, value, bottom, bottom_ref, RowMatches, none, more, known}
 use Rattle.w_rules.specs.Typing.{HasType}

@@ -4,7 +4,7 @@ use Rattle.w_types.specs.declared.types.ValType.{ValType}
 use Rattle.w_types.specs.declared.types.ValType.TheVariants.{I32}
 use Rattle.w_types.specs.Rows.{Row, ε, ◌▹◌, size}
 use Rattle.w_canon.specs.declared.entry.Entry.{Entry}
-use Rattle.w_rules.specs.declared.operand.Operand.{Operand}
+use Rattle.w_rules.specs.Operands.{Operand}
 use Rattle.w_rules.specs.InstructionTypes.{with_label, labels_at, br_table_type}
 use Rattle.w_flow.specs.Flow.{◌>>=◌, pops, is_popped, pops_each, all_long, fits_one, fit_each, step}
 use Rattle.w_flow.specs.View.{anything}

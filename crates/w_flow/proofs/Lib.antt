@@ -6,4 +6,5 @@ mod Tables
 pub mod Exact
 pub mod RowsOfLists
 pub mod ShortTypes
+mod SameTypes
 pub mod LabelsOfTables

@@ -5,8 +5,8 @@ use Rattle.w_types.specs.declared.types.RecGroup.{RecGroup}
 use Rattle.w_types.specs.declared.types.ValType.TheVariants.{I32, I64, Ref}
 use Rattle.w_types.specs.Rows.{Row, ◌▹◌}
 use Rattle.w_canon.specs.Matching.{ref}
-use Rattle.w_rules.specs.declared.operand.Operand.{Operand}
-use Rattle.w_rules.specs.declared.operand.Operand.TheVariants.{Known, Bottom, BottomRef}
+use Rattle.w_rules.specs.Operands.{Operand}
+use Rattle.w_rules.specs.Operands.{Known, Bottom, BottomRef}
 use Rattle.w_rules.specs.Conditions.{Holds}
 use Rattle.w_rules.specs.Matching.{OperandMatches, value, bottom, bottom_ref, bottom_refs}
 use Rattle.w_rules.specs.Typing.{ref_to}

@@ -3,8 +3,8 @@ use Rattle.std.proofs.Common.{List, inl, inr}
 use Rattle.w_types.specs.declared.types.RecGroup.{RecGroup}
 use Rattle.w_types.specs.declared.types.ValType.TheVariants.{I32, I64}
 use Rattle.w_canon.specs.Matching.{i32, i64}
-use Rattle.w_rules.specs.declared.operand.Operand.{Operand}
-use Rattle.w_rules.specs.declared.operand.Operand.TheVariants.{Known, Bottom}
+use Rattle.w_rules.specs.Operands.{Operand}
+use Rattle.w_rules.specs.Operands.{Known, Bottom}
 use Rattle.w_rules.specs.Conditions.{Holds}
 use Rattle.w_rules.specs.Matching.{OperandMatches, value, bottom}
 use Rattle.w_rules.specs.Typing.{IsNumeric}

@@ -6,8 +6,8 @@ use Rattle.w_types.specs.declared.types.ValType.{ValType}
 use Rattle.w_types.specs.Rows.{Row, ε, ◌▹◌, ◌⧺◌, row_of}
 use Rattle.w_types.proofs.Rows.{row_of-more}
 use Rattle.w_canon.specs.declared.entry.Entry.{Entry}
-use Rattle.w_rules.specs.declared.operand.Operand.{Operand}
-use Rattle.w_rules.specs.declared.operand.Operand.TheVariants.{Known}
+use Rattle.w_rules.specs.Operands.{Operand}
+use Rattle.w_rules.specs.Operands.{Known}
 use Rattle.w_rules.specs.InstructionTypes.{fixed}
 use Rattle.w_rules.specs.Matching.{known}
 use Rattle.w_flow.specs.Flow.{Flow, ◌>>=◌, operand_test, pops, step}

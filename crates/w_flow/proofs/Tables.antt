@@ -5,8 +5,8 @@ use Rattle.w_types.specs.declared.types.ValType.{ValType}
 use Rattle.w_types.specs.Rows.{Row, ε, ◌▹◌, ◌⧺◌, size}
 use Rattle.w_canon.specs.declared.entry.Entry.{Entry}
 use Rattle.w_canon.specs.IsClassesOf.{IsClassesOf}
-use Rattle.w_rules.specs.declared.operand.Operand.{Operand}
-use Rattle.w_rules.specs.declared.operand.Operand.TheVariants.{Bottom}
+use Rattle.w_rules.specs.Operands.{Operand}
+use Rattle.w_rules.specs.Operands.{Bottom}
 use Rattle.w_rules.specs.Conditions.{Holds}
 use Rattle.w_rules.specs.Matching.{RowMatches, none, more, bottom, known}
 use Rattle.w_rules.specs.Typing.{MatchesEach}

@@ -1,7 +1,7 @@
 -- What a flow of the program stands for.
 use Rattle.std.specs.Prelude.{Bool, true, false, Option, Some, None, if◌then◌else◌}
 use Rattle.w_types.specs.Rows.{Row, ε, row_of}
-use Rattle.w_rules.specs.declared.operand.Operand.{Operand}
+use Rattle.w_rules.specs.Operands.{Operand}
 use Rattle.w_flow.specs.declared.flow.Flow as program
 use Rattle.w_flow.specs.Flow.{Flow}
 

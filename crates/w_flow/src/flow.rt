@@ -5,7 +5,7 @@ use crate::operands::{can_take, end_with, give_types, take_types};
 use std::alloc::{AllocError, Global};
 use w_canon::Classes;
 use w_rules::Operand;
-use w_types::ValType;
+use w_types::PackedType;
 
 /// The operands that stand at a place of a block, the topmost last, and whether more of any type may lie beneath them, since the
 /// place cannot be reached (Core, validation algorithm). Contracts see it as what `flow_view` gives. Where a method gives back
@@ -34,7 +34,7 @@ impl Flow {
     }
 
     /// Operands of these types, at a place that can be reached. It fails only when out of memory.
-    pub fn of_types(alloc: Global, types: &[ValType]) -> Result<Flow, AllocError>
+    pub fn of_types(alloc: Global, types: &[PackedType]) -> Result<Flow, AllocError>
         ensures { IfOk result (λ f. flow_view f ≡ reached (known (row_of types.now))) }
     {
         let mut operands = Vec::new(alloc);
@@ -61,7 +61,7 @@ impl Flow {
     }
 
     /// Whether operands of these types can be taken. It compares no more types than there are operands.
-    pub fn can_take(&self, classes: &Classes, ins: &[ValType]) -> bool
+    pub fn can_take(&self, classes: &Classes, ins: &[PackedType]) -> bool
         ensures { result ≡ is_popped (pops classes.now self.now.any (row_of self.now.operands.items)
             (row_of ins.now)) }
     {
@@ -69,7 +69,7 @@ impl Flow {
     }
 
     /// Whether the operands are just of these types, as at the end of a block.
-    pub fn ends_with(&self, classes: &Classes, outs: &[ValType]) -> bool
+    pub fn ends_with(&self, classes: &Classes, outs: &[PackedType]) -> bool
         ensures { result ≡ ends classes.now self.now.any (row_of self.now.operands.items)
             (row_of outs.now) }
     {
@@ -77,7 +77,7 @@ impl Flow {
     }
 
     /// Takes operands of these types, as where a block begins, or gives back false.
-    pub fn take(&mut self, classes: &Classes, ins: &[ValType]) -> bool
+    pub fn take(&mut self, classes: &Classes, ins: &[PackedType]) -> bool
         ensures left { pops classes.now self.old.any (row_of self.old.operands.items)
             (row_of ins.now) ≡ (if result then Some (row_of self.new.operands.items) else None) }
         ensures any { self.new.any ≡ self.old.any }
@@ -86,7 +86,7 @@ impl Flow {
     }
 
     /// Gives operands of these types, as where a block has ended. It fails only when out of memory.
-    pub fn give(&mut self, outs: &[ValType]) -> Result<(), AllocError>
+    pub fn give(&mut self, outs: &[PackedType]) -> Result<(), AllocError>
         ensures operands { IfOk result (λ _. row_of self.new.operands.items
             ≡ row_of self.old.operands.items ⧺ known (row_of outs.now)) }
         ensures any { self.new.any ≡ self.old.any }

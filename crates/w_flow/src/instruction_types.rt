@@ -7,7 +7,7 @@ use crate::operands::{
 use std::alloc::AllocError;
 use w_canon::Classes;
 use w_rules::Operand;
-use w_types::ValType;
+use w_types::PackedType;
 
 impl Flow {
     ghost use Rattle.std.specs.Prelude.{◌≡◌, if◌then◌else◌, IfOk, [], Some, None};
@@ -21,8 +21,8 @@ impl Flow {
     pub fn fixed(
         &mut self,
         classes: &Classes,
-        ins: &[ValType],
-        outs: &[ValType],
+        ins: &[PackedType],
+        outs: &[PackedType],
     ) -> Result<bool, AllocError>
         ensures { IfOk result (λ taken. step classes.now (fixed (row_of ins.now)
             (row_of outs.now)) self.old.any (row_of self.old.operands.items)
@@ -39,9 +39,9 @@ impl Flow {
     pub fn fixed_below(
         &mut self,
         classes: &Classes,
-        ins: &[ValType],
-        top: ValType,
-        outs: &[ValType],
+        ins: &[PackedType],
+        top: PackedType,
+        outs: &[PackedType],
     ) -> Result<bool, AllocError>
         ensures { IfOk result (λ taken. step classes.now (fixed (row_of ins.now ▹ top)
             (row_of outs.now)) self.old.any (row_of self.old.operands.items)
@@ -54,7 +54,7 @@ impl Flow {
     }
 
     /// The type [t* ins] to any.
-    pub fn polymorphic(&mut self, classes: &Classes, ins: &[ValType]) -> bool
+    pub fn polymorphic(&mut self, classes: &Classes, ins: &[PackedType]) -> bool
         ensures { step classes.now (polymorphic (row_of ins.now)) self.old.any
             (row_of self.old.operands.items) ≡ flow_if result self.new }
     {
@@ -71,7 +71,7 @@ impl Flow {
             ≡ (if result then Some (row_of self.new.operands.items) else None) }
         ensures any { self.new.any ≡ self.old.any }
     {
-        take_type(classes, self.any, &mut self.operands, ValType::I32)
+        take_type(classes, self.any, &mut self.operands, PackedType::I32)
     }
 
     /// Goes on at a place that cannot be reached.
@@ -96,7 +96,7 @@ impl Flow {
         ensures { IfOk result (λ taken. step classes.now selects self.old.any
             (row_of self.old.operands.items) ≡ flow_if taken self.new) }
     {
-        if !take_type(classes, self.any, &mut self.operands, ValType::I32) {
+        if !take_type(classes, self.any, &mut self.operands, PackedType::I32) {
             return Ok(false);
         }
         let Some(other) = take_any(self.any, &mut self.operands) else {
@@ -121,7 +121,7 @@ impl Flow {
         if take_reference(self.any, &mut self.operands).is_none() {
             return Ok(false);
         }
-        self.operands.push(Operand::Known(ValType::I32))?;
+        self.operands.push(Operand::known(PackedType::I32))?;
         Ok(true)
     }
 
@@ -140,7 +140,7 @@ impl Flow {
 
     /// The type of a `br_on_null` to a label that takes these types. It fails only when out of memory.
     #[tactic(auto, using(crate::proofs::RowsOfLists::row_more))]
-    pub fn on_null(&mut self, classes: &Classes, label: &[ValType]) -> Result<bool, AllocError>
+    pub fn on_null(&mut self, classes: &Classes, label: &[PackedType]) -> Result<bool, AllocError>
         ensures { IfOk result (λ taken. step classes.now (on_null (row_of label.now)) self.old.any
             (row_of self.old.operands.items) ≡ flow_if taken self.new) }
     {

@@ -1,51 +1,139 @@
 //! Operands that are taken and given, the topmost last.
-ghost use Rattle.std.specs.Prelude.{◌≡◌, ◌≤◌, length, take, Bool, if◌then◌else◌, IfOk, IfSome, Some, None};
+ghost use Rattle.std.specs.Prelude.{◌≡◌, ◌≤◌, ◌+◌, ◌++◌, length, map, take, Bool, IsTrue, if◌then◌else◌, IfOk, IfSome, Some, None};
 ghost use Rattle.std.specs.Option.{option_map};
 ghost use Rattle.w_types.specs.Rows.{ε, ◌▹◌, ◌⧺◌, row_of};
 ghost use Rattle.w_rules.specs.Matching.{known};
+ghost use Rattle.w_rules.specs.Operands.{Known, Bottom};
 ghost use Rattle.w_rules.specs.Typing.{ref_to};
 ghost use Rattle.w_flow.specs.Flow.{operand_test, pops, is_popped, ends, pop, pop_ref, select_of, heap_of};
 ghost use Rattle.w_flow.specs.View.{with_rest};
 
 use std::alloc::AllocError;
 use w_canon::Classes;
-use w_rules::Operand;
-use w_types::{HeapType, RefType, ValType};
+use w_rules::{Operand, OperandView};
+use w_types::{HeapType, PackedType, RefType, ValType};
 
-/// Whether an operand stands where one of this type is wanted.
-pub(crate) fn matches_type(classes: &Classes, operand: Operand, wanted: ValType) -> bool
+// Rows of so many types are compared and given whole.
+const WIDE: usize = 8;
+
+// Whether an operand that is not just of this type stands where one of the type is wanted.
+fn matches_unlike(classes: &Classes, operand: Operand, wanted: PackedType) -> bool
     ensures { result ≡ operand_test classes.now operand wanted }
 {
-    match (operand, wanted) {
-        (Operand::Known(ValType::I32), ValType::I32)
-        | (Operand::Known(ValType::I64), ValType::I64) => true,
-        (Operand::Known(kind), _) => classes.matches_val(kind, wanted),
-        (Operand::Bottom, _) => true,
-        (Operand::BottomRef(nullable), ValType::Ref(wanted)) => !nullable || wanted.nullable,
-        (Operand::BottomRef(_), ValType::I32 | ValType::I64) => false,
+    match operand.view() {
+        OperandView::Known(kind) => classes.matches_val(kind, wanted),
+        OperandView::Bottom => true,
+        OperandView::BottomRef(nullable) => match wanted.whole() {
+            ValType::Ref(wanted) => !nullable || wanted.nullable,
+            ValType::I32 | ValType::I64 => false,
+        },
     }
 }
 
-// How many operands are left when these types are taken, or `None` where they can't be. It compares no more types than there are
-// operands.
-fn left(classes: &Classes, any: bool, operands: &[Operand], wanted: &[ValType]) -> Option<usize>
+/// Whether an operand stands where one of this type is wanted.
+#[tactic(auto, using(crate::proofs::SameTypes::known_matches))]
+pub(crate) fn matches_type(classes: &Classes, operand: Operand, wanted: PackedType) -> bool
+    ensures { result ≡ operand_test classes.now operand wanted }
+{
+    if operand.is(wanted) {
+        return true;
+    }
+    matches_unlike(classes, operand, wanted)
+}
+
+// Whether operands are just of these types. It goes through all, so that the comparison has no branches.
+fn are_known(operands: &[Operand], types: &[PackedType]) -> bool
+    requires { length operands.now ≡ length types.now }
+    ensures { IsTrue result → operands.now ≡ map Known types.now }
+{
+    let mut alike = true;
+    for i in 0..types.len() {
+        let operand = operands[i];
+        let kind = types[i];
+        alike &= operand.is(kind);
+    }
+    alike
+}
+
+// An operand that stands where one of a type is wanted.
+#[derive(Clone, Copy)]
+struct Match {
+    operand: Operand,
+    kind: PackedType,
+}
+
+// Whether an operand and a type are those of a match.
+fn is_match(found: Match, operand: Operand, kind: PackedType) -> bool
+    ensures { IsTrue result → (operand ≡ found.operand) × (kind ≡ found.kind) }
+{
+    operand == found.operand && kind == found.kind
+}
+
+// Whether an operand stands where one of this type is wanted; the last match that was looked up is not looked up again, since in rows
+// that match by subtyping alone the next one is mostly the same.
+#[inline(always)]
+fn matches_again(classes: &Classes, found: &mut Match, operand: Operand, wanted: PackedType) -> bool
+    requires { IsTrue (operand_test classes.now found.old.operand found.old.kind) }
+    ensures told { result ≡ operand_test classes.now operand wanted }
+    ensures found { IsTrue (operand_test classes.now found.new.operand found.new.kind) }
+{
+    if operand.is(wanted) || is_match(*found, operand, wanted) {
+        return true;
+    }
+    if !matches_unlike(classes, operand, wanted) {
+        return false;
+    }
+    *found = Match {
+        operand,
+        kind: wanted,
+    };
+    true
+}
+
+// How many operands are left when these types are taken one by one, or `None` where they can't be. It compares no more types than
+// there are operands.
+fn left_by_each(
+    classes: &Classes,
+    any: bool,
+    operands: &[Operand],
+    wanted: &[PackedType],
+) -> Option<usize>
     ensures what { pops classes.now any (row_of operands.now) (row_of wanted.now)
         ≡ option_map (λ n. row_of (take n operands.now)) result }
     ensures within { IfSome result (λ n. n ≤ length operands.now) }
 {
     let mut i = wanted.len();
     let mut n = operands.len();
+    let mut found = Match {
+        operand: Operand::BOTTOM,
+        kind: PackedType::I32,
+    };
     while i > 0 {
         if n == 0 {
             return if any { Some(0) } else { None };
         }
         i -= 1;
         n -= 1;
-        if !matches_type(classes, operands[n], wanted[i]) {
+        if !matches_again(classes, &mut found, operands[n], wanted[i]) {
             return None;
         }
     }
     Some(n)
+}
+
+// How many operands are left when these types are taken, or `None` where they can't be.
+fn left(classes: &Classes, any: bool, operands: &[Operand], wanted: &[PackedType]) -> Option<usize>
+    ensures what { pops classes.now any (row_of operands.now) (row_of wanted.now)
+        ≡ option_map (λ n. row_of (take n operands.now)) result }
+    ensures within { IfSome result (λ n. n ≤ length operands.now) }
+{
+    if wanted.len() >= WIDE && wanted.len() <= operands.len() {
+        let beneath = operands.len() - wanted.len();
+        if are_known(&operands[beneath..], wanted) {
+            return Some(beneath);
+        }
+    }
+    left_by_each(classes, any, operands, wanted)
 }
 
 /// Whether these types can be taken.
@@ -53,7 +141,7 @@ pub(crate) fn can_take(
     classes: &Classes,
     any: bool,
     operands: &[Operand],
-    wanted: &[ValType],
+    wanted: &[PackedType],
 ) -> bool
     ensures { result ≡ is_popped (pops classes.now any (row_of operands.now) (row_of wanted.now)) }
 {
@@ -65,7 +153,7 @@ pub(crate) fn end_with(
     classes: &Classes,
     any: bool,
     operands: &[Operand],
-    wanted: &[ValType],
+    wanted: &[PackedType],
 ) -> bool
     ensures { result ≡ ends classes.now any (row_of operands.now) (row_of wanted.now) }
 {
@@ -80,7 +168,7 @@ pub(crate) fn take_types(
     classes: &Classes,
     any: bool,
     operands: &mut Vec<Operand>,
-    wanted: &[ValType],
+    wanted: &[PackedType],
 ) -> bool
     ensures { pops classes.now any (row_of operands.old.items) (row_of wanted.now)
         ≡ (if result then Some (row_of operands.new.items) else None) }
@@ -100,7 +188,7 @@ pub(crate) fn take_type(
     classes: &Classes,
     any: bool,
     operands: &mut Vec<Operand>,
-    wanted: ValType,
+    wanted: PackedType,
 ) -> bool
     ensures { pops classes.now any (row_of operands.old.items) (ε ▹ wanted)
         ≡ (if result then Some (row_of operands.new.items) else None) }
@@ -118,7 +206,7 @@ pub(crate) fn take_any(any: bool, operands: &mut Vec<Operand>) -> Option<Operand
 {
     match operands.pop() {
         Some(operand) => Some(operand),
-        None if any => Some(Operand::Bottom),
+        None if any => Some(Operand::BOTTOM),
         None => None,
     }
 }
@@ -127,10 +215,12 @@ pub(crate) fn take_any(any: bool, operands: &mut Vec<Operand>) -> Option<Operand
 fn heap_type(operand: Operand) -> Option<Option<HeapType>>
     ensures { result ≡ heap_of operand }
 {
-    match operand {
-        Operand::Bottom | Operand::BottomRef(_) => Some(None),
-        Operand::Known(ValType::Ref(kind)) => Some(Some(kind.heap)),
-        Operand::Known(ValType::I32 | ValType::I64) => None,
+    match operand.view() {
+        OperandView::Bottom | OperandView::BottomRef(_) => Some(None),
+        OperandView::Known(kind) => match kind.whole() {
+            ValType::Ref(kind) => Some(Some(kind.heap)),
+            ValType::I32 | ValType::I64 => None,
+        },
     }
 }
 
@@ -148,11 +238,29 @@ pub(crate) fn non_null(heap: Option<HeapType>) -> Operand
     ensures { result ≡ ref_to Bool.false heap }
 {
     match heap {
-        Some(heap) => Operand::Known(ValType::Ref(RefType {
-            nullable: false,
-            heap,
-        })),
-        None => Operand::BottomRef(false),
+        Some(heap) => Operand::known(PackedType::reference(RefType::non_null(heap))),
+        None => Operand::bottom_ref(false),
+    }
+}
+
+// The type of a number that a select takes beside one of any type.
+fn selected_alone(kind: PackedType) -> Option<Operand>
+    ensures alone { result ≡ select_of Bottom (Known kind) }
+    ensures below { result ≡ select_of (Known kind) Bottom }
+{
+    match kind.whole() {
+        ValType::I32 | ValType::I64 => Some(Operand::known(kind)),
+        ValType::Ref(_) => None,
+    }
+}
+
+// The type of two numbers that a select takes.
+fn selected_both(one: PackedType, other: PackedType) -> Option<Operand>
+    ensures { result ≡ select_of (Known one) (Known other) }
+{
+    match (one.whole(), other.whole()) {
+        (ValType::I32, ValType::I32) | (ValType::I64, ValType::I64) => Some(Operand::known(one)),
+        _ => None,
     }
 }
 
@@ -160,27 +268,56 @@ pub(crate) fn non_null(heap: Option<HeapType>) -> Operand
 pub(crate) fn selected(one: Operand, other: Operand) -> Option<Operand>
     ensures { result ≡ select_of one other }
 {
-    match (one, other) {
-        (Operand::Bottom, Operand::Bottom) => Some(Operand::Bottom),
-        (Operand::Bottom, Operand::Known(ValType::I32))
-        | (Operand::Known(ValType::I32), Operand::Bottom | Operand::Known(ValType::I32)) => {
-            Some(Operand::Known(ValType::I32))
-        }
-        (Operand::Bottom, Operand::Known(ValType::I64))
-        | (Operand::Known(ValType::I64), Operand::Bottom | Operand::Known(ValType::I64)) => {
-            Some(Operand::Known(ValType::I64))
-        }
-        _ => None,
+    match one.view() {
+        OperandView::Bottom => match other.view() {
+            OperandView::Bottom => Some(Operand::BOTTOM),
+            OperandView::Known(kind) => selected_alone(kind),
+            OperandView::BottomRef(_) => None,
+        },
+        OperandView::Known(one) => match other.view() {
+            OperandView::Bottom => selected_alone(one),
+            OperandView::Known(other) => selected_both(one, other),
+            OperandView::BottomRef(_) => None,
+        },
+        OperandView::BottomRef(_) => None,
     }
 }
 
-/// Gives operands of these types.
-pub(crate) fn give_types(operands: &mut Vec<Operand>, types: &[ValType]) -> Result<(), AllocError>
+// Puts operands of these types into the places from one on.
+fn put_types(operands: &mut Vec<Operand>, from: usize, types: &[PackedType])
+    requires { length operands.old.items ≡ from + length types.now }
+    ensures { operands.new.items ≡ take from operands.old.items ++ map Known types.now }
+{
+    for i in 0..types.len() {
+        let kind = types[i];
+        operands[from + i] = Operand::known(kind);
+    }
+}
+
+// Gives operands of these types, one by one.
+fn give_each(operands: &mut Vec<Operand>, types: &[PackedType]) -> Result<(), AllocError>
     ensures { IfOk result (λ _. row_of operands.new.items
         ≡ row_of operands.old.items ⧺ known (row_of types.now)) }
 {
     for kind in types {
-        operands.push(Operand::Known(*kind))?;
+        operands.push(Operand::known(*kind))?;
     }
+    Ok(())
+}
+
+/// Gives operands of these types.
+pub(crate) fn give_types(
+    operands: &mut Vec<Operand>,
+    types: &[PackedType],
+) -> Result<(), AllocError>
+    ensures { IfOk result (λ _. row_of operands.new.items
+        ≡ row_of operands.old.items ⧺ known (row_of types.now)) }
+{
+    if types.len() < WIDE {
+        return give_each(operands, types);
+    }
+    let from = operands.len();
+    operands.resize(from + types.len(), Operand::BOTTOM)?;
+    put_types(operands, from, types);
     Ok(())
 }

@@ -6,7 +6,7 @@ use crate::operands::{matches_type, take_type};
 use std::alloc::AllocError;
 use w_canon::Classes;
 use w_rules::Operand;
-use w_types::ValType;
+use w_types::PackedType;
 
 impl Flow {
     ghost use Rattle.std.specs.Prelude.{◌≡◌, IfOk, []};
@@ -17,16 +17,16 @@ impl Flow {
 
     /// The type [] to [to]. It compares no types, so the contract has no entries. It fails only when out of memory.
     #[tactic(auto, using(crate::proofs::RowsOfLists::row_more))]
-    pub fn gives(&mut self, to: ValType) -> Result<bool, AllocError>
+    pub fn gives(&mut self, to: PackedType) -> Result<bool, AllocError>
         ensures { IfOk result (λ taken. step [] (fixed ε (ε ▹ to)) self.old.any
             (row_of self.old.operands.items) ≡ flow_if taken self.new) }
     {
-        self.operands.push(Operand::Known(to))?;
+        self.operands.push(Operand::known(to))?;
         Ok(true)
     }
 
     /// The type [from] to [].
-    pub fn takes(&mut self, classes: &Classes, from: ValType) -> bool
+    pub fn takes(&mut self, classes: &Classes, from: PackedType) -> bool
         ensures { step classes.now (fixed (ε ▹ from) ε) self.old.any
             (row_of self.old.operands.items) ≡ flow_if result self.new }
     {
@@ -34,7 +34,7 @@ impl Flow {
     }
 
     /// The type [below top] to [].
-    pub fn takes_two(&mut self, classes: &Classes, below: ValType, top: ValType) -> bool
+    pub fn takes_two(&mut self, classes: &Classes, below: PackedType, top: PackedType) -> bool
         ensures { step classes.now (fixed (ε ▹ below ▹ top) ε) self.old.any
             (row_of self.old.operands.items) ≡ flow_if result self.new }
     {
@@ -45,8 +45,8 @@ impl Flow {
     pub fn turns(
         &mut self,
         classes: &Classes,
-        from: ValType,
-        to: ValType,
+        from: PackedType,
+        to: PackedType,
     ) -> Result<bool, AllocError>
         ensures { IfOk result (λ taken. step classes.now (fixed (ε ▹ from) (ε ▹ to)) self.old.any
             (row_of self.old.operands.items) ≡ flow_if taken self.new) }
@@ -58,7 +58,7 @@ impl Flow {
         if !matches_type(classes, self.operands[count - 1], from) {
             return Ok(false);
         }
-        self.operands[count - 1] = Operand::Known(to);
+        self.operands[count - 1] = Operand::known(to);
         Ok(true)
     }
 
@@ -66,8 +66,8 @@ impl Flow {
     pub fn joins(
         &mut self,
         classes: &Classes,
-        from: ValType,
-        to: ValType,
+        from: PackedType,
+        to: PackedType,
     ) -> Result<bool, AllocError>
         ensures { IfOk result (λ taken. step classes.now (fixed (ε ▹ from ▹ from)
             (ε ▹ to)) self.old.any (row_of self.old.operands.items) ≡ flow_if taken self.new) }

@@ -108,7 +108,7 @@ fn signed_at(bytes: &[u8], at: usize, width: u32) -> Option<(i64, usize)>
     Some(((byte - 128) as i64 + 128 * high, next))
 }
 
-// The same, with no call where one byte spells it and it is not negative.
+// The same, with no call where one byte spells it.
 #[inline(always)]
 fn signed_from(bytes: &[u8], at: usize, width: u32) -> Option<(i64, usize)>
     requires low { 7 ≤ width }
@@ -119,6 +119,10 @@ fn signed_from(bytes: &[u8], at: usize, width: u32) -> Option<(i64, usize)>
     if let Some((byte, next)) = read_byte(bytes, at) {
         if byte < 64 {
             return Some((byte as i64, next));
+        }
+        if byte < 128 {
+            let below = 128 - byte;
+            return Some((-(below as i64), next));
         }
     }
     signed_at(bytes, at, width)

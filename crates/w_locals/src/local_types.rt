@@ -10,36 +10,36 @@ use crate::items::item_at;
 use std::alloc::{AllocError, Global};
 use std::marker::Model;
 use w_syntax::LocalRun;
-use w_types::ValType;
+use w_types::{PackedType, ValType};
 
 /// A body's parameters and the runs of its other locals, with the index behind each run, so that a type is found without writing the
 /// runs out. Contracts see the parameters and the runs.
 #[derive(Drop)]
-pub(crate) struct LocalTypes {
-    params: Vec<ValType>,
-    runs: Vec<LocalRun>,
+pub(crate) struct LocalTypes<'a> {
+    params: &'a [PackedType],
+    runs: &'a [LocalRun],
     ends: Vec<u64>,
     // whether the locals of each run are set from the beginning
     defaults: bool,
 }
 
-impl Model for LocalTypes {
+impl<'a> Model for LocalTypes<'a> {
     ghost use Rattle.std.specs.Prelude.{◌≡◌, length};
     ghost use Rattle.w_locals.specs.Locals.{Declared, ends_from, is_set_run};
     ghost use Rattle.std.specs.List.{list_all};
 
     ghost Value = { Declared };
 
-    ghost view = { λ a. record { params = a.params.items; runs = a.runs.items } };
+    ghost view = { λ a. record { params = a.params.now; runs = a.runs.now } };
 
-    ghost invariant = { λ a. (a.ends.items ≡ ends_from (length a.params.items) a.runs.items) × (a.defaults ≡ list_all is_set_run a.runs.items) };
+    ghost invariant = { λ a. (a.ends.items ≡ ends_from (length a.params.now) a.runs.now) × (a.defaults ≡ list_all is_set_run a.runs.now) };
 }
 
 // Whether a local of this type is set from the beginning.
-fn has_default(kind: ValType) -> bool
+fn has_default(kind: PackedType) -> bool
     ensures { result ≡ is_defaultable kind }
 {
-    match kind {
+    match kind.whole() {
         ValType::I32 | ValType::I64 => true,
         ValType::Ref(reference) => reference.nullable,
     }
@@ -74,43 +74,40 @@ fn runs_before(ends: &[u64], local: u32) -> usize
 }
 
 // The type of the locals of a run.
-fn run_type(runs: &[LocalRun], run: usize) -> Option<ValType>
+fn run_type(runs: &[LocalRun], run: usize) -> Option<PackedType>
     ensures { option_map kind_of (slice_get runs.now run) ≡ result }
 {
     Some(item_at(runs, run)?.kind)
 }
 
-impl LocalTypes {
+impl<'a> LocalTypes<'a> {
     ghost use Rattle.std.specs.Prelude.{◌≡◌, IfOk, slice_get};
     ghost use Rattle.w_locals.specs.Locals.{first_in, is_off, types_in};
 
     /// Those of these parameters and runs.
     pub(crate) fn new(
         alloc: Global,
-        params: &[ValType],
-        runs: &[LocalRun],
-    ) -> Result<LocalTypes, AllocError>
+        params: &'a [PackedType],
+        runs: &'a [LocalRun],
+    ) -> Result<LocalTypes<'a>, AllocError>
         ensures { IfOk result (λ types. types ≡ record { params = params.now; runs = runs.now }) }
     {
         let ends = run_ends(alloc, params.len() as u64, runs)?;
         Ok(LocalTypes {
-            params: Vec::from_slice(alloc, params)?,
-            runs: Vec::from_slice(alloc, runs)?,
+            params,
+            runs,
             ends,
             defaults: have_defaults(runs),
         })
     }
 
     /// The type of a local.
-    pub(crate) fn get(&self, local: u32) -> Option<ValType>
+    pub(crate) fn get(&self, local: u32) -> Option<PackedType>
         ensures { slice_get (types_in self.now) local ≡ result }
     {
-        match item_at(self.params.as_slice(), local as usize) {
+        match item_at(self.params, local as usize) {
             Some(kind) => Some(kind),
-            None => run_type(
-                self.runs.as_slice(),
-                runs_before(self.ends.as_slice(), local),
-            ),
+            None => run_type(self.runs, runs_before(self.ends.as_slice(), local)),
         }
     }
 

@@ -8,13 +8,13 @@ use std::alloc::{AllocError, Global};
 use std::collections::BTreeMap;
 use std::marker::Model;
 use w_syntax::LocalRun;
-use w_types::ValType;
+use w_types::PackedType;
 
 /// The types of a body's locals, and which of them are set: now, and where each open block began. Contracts see the types and one list
 /// of flags for each block, the innermost first.
 #[derive(Drop)]
-pub struct Locals {
-    types: LocalTypes,
+pub struct Locals<'a> {
+    types: LocalTypes<'a>,
     // the locals that were set, and where a local stands in this log, as long as it does
     log: Vec<u32>,
     places: BTreeMap<u32, usize>,
@@ -24,7 +24,7 @@ pub struct Locals {
     has_ended: bool,
 }
 
-impl Model for Locals {
+impl<'a> Model for Locals<'a> {
     ghost use Rattle.std.specs.Prelude.{[], length, reverse, if◌then◌else◌};
     ghost use Rattle.w_locals.specs.Locals.{LocalState, types_in, first_in, snapshots, Descends, Places};
 
@@ -49,7 +49,7 @@ fn is_logged(log: &[u32], places: &BTreeMap<u32, usize>, local: u32) -> bool
     }
 }
 
-impl Locals {
+impl<'a> Locals<'a> {
     ghost use Rattle.std.specs.Prelude.{◌≡◌, ◌∷◌, ◌++◌, [], OnOk, IfOk, slice_get};
     ghost use Rattle.w_rules.specs.Bodies.{types_of_runs, set_first};
     ghost use Rattle.w_rules.specs.InstructionTypes.{get_type};
@@ -57,7 +57,11 @@ impl Locals {
     ghost use Rattle.w_locals.specs.Locals.{gives_type};
 
     /// Where a body with these parameters and further locals begins. It fails only when out of memory.
-    pub fn begin(alloc: Global, params: &[ValType], runs: &[LocalRun]) -> Result<Locals, AllocError>
+    pub fn begin(
+        alloc: Global,
+        params: &'a [PackedType],
+        runs: &'a [LocalRun],
+    ) -> Result<Locals<'a>, AllocError>
         ensures types { IfOk result (λ locals. locals.types
             ≡ params.now ++ types_of_runs runs.now) }
         ensures sets { IfOk result (λ locals. locals.sets ≡ set_first params.now runs.now ∷ []) }
@@ -73,7 +77,7 @@ impl Locals {
     }
 
     /// The type of a local.
-    pub fn get(&self, local: u32) -> Option<ValType>
+    pub fn get(&self, local: u32) -> Option<PackedType>
         ensures { slice_get self.now.types local ≡ result }
     {
         self.types.get(local)
@@ -93,7 +97,7 @@ impl Locals {
     }
 
     /// The type of a local that is set.
-    pub fn get_set(&self, local: u32) -> Option<ValType>
+    pub fn get_set(&self, local: u32) -> Option<PackedType>
         ensures { get_type (slice_get self.now.types local) (slice_get
             (first_set self.now.sets) local) ≡ gives_type result }
     {

@@ -97,8 +97,9 @@ fn push_run(locals: &mut Vec<Option<Value>>, run: LocalRun) -> Result<(), AllocE
     ensures ok { OnOk result (locals.new.items ≡ locals.old.items ++ replicate run.count (default_of run.kind)) }
     ensures keeps { take (vec_len locals.old) locals.new.items ≡ locals.old.items }
 {
+    let value = Value::default_of(run.kind);
     for _ in 0..run.count {
-        locals.push(Value::default_of(run.kind))?;
+        locals.push(value)?;
     }
     Ok(())
 }

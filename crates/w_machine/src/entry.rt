@@ -5,14 +5,14 @@ ghost use Rattle.w_syntax.specs.Functions.{type_of_function};
 
 use w_rules::function_type;
 use w_syntax::{ExternIndex, Module};
-use w_types::{FuncType, ValType};
+use w_types::{FuncType, PackedType, ValType};
 
 // Whether the types are those of integers.
-fn are_integers(types: &[ValType]) -> bool
+fn are_integers(types: &[PackedType]) -> bool
     ensures { result ≡ all_integers types.now }
 {
     for kind in types {
-        if matches!(kind, ValType::Ref(_)) {
+        if matches!(kind.whole(), ValType::Ref(_)) {
             return false;
         }
     }

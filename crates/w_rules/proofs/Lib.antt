@@ -6,3 +6,4 @@ mod SpacesSoFar
 pub mod Marks
 pub mod Contexts
 mod JoinedTypes
+mod PackedOperands

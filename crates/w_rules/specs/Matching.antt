@@ -6,8 +6,8 @@ use Rattle.w_types.specs.declared.types.ValType.{ValType}
 use Rattle.w_types.specs.declared.types.ValType.TheVariants.{Ref}
 use Rattle.w_types.specs.Rows.{Row, ε, ◌▹◌}
 use Rattle.w_canon.specs.Matching.{ValMatches}
-use Rattle.w_rules.specs.declared.operand.Operand.{Operand}
-use Rattle.w_rules.specs.declared.operand.Operand.TheVariants.{Known, Bottom, BottomRef}
+use Rattle.w_rules.specs.Operands.{Operand}
+use Rattle.w_rules.specs.Operands.{Known, Bottom, BottomRef}
 
 -- an operand of the first type stands where one of the second is wanted
 pub data OperandMatches (gs : List RecGroup) : Operand → Operand → Type 0 where

@@ -6,8 +6,8 @@ use Rattle.w_types.specs.declared.types.ValType.TheVariants.{I32, I64, Ref}
 use Rattle.w_types.specs.declared.types.ValType.{ValType}
 use Rattle.w_types.specs.Rows.{Row, ε, ◌▹◌, ◌⧺◌}
 use Rattle.w_syntax.specs.Code.{Code, Done, Plain, Block, If, IfElse}
-use Rattle.w_rules.specs.declared.operand.Operand.{Operand}
-use Rattle.w_rules.specs.declared.operand.Operand.TheVariants.{Known, BottomRef}
+use Rattle.w_rules.specs.Operands.{Operand}
+use Rattle.w_rules.specs.Operands.{Known, BottomRef}
 use Rattle.w_rules.specs.Conditions.{Condition, Holds}
 use Rattle.w_rules.specs.Context.{Context, Arrow, arrow_of, label_of, labelled}
 use Rattle.w_rules.specs.InstructionTypes.{InstrType, fixed, polymorphic, table_polymorphic, drops, selects, tests_null, as_non_null, on_null, untyped, instr_type, sets}

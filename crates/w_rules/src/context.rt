@@ -10,7 +10,7 @@ use crate::functions::func_type;
 use crate::types;
 use w_canon::Classes;
 use w_syntax::{GlobalType, Limits, Module, TableType, Tag};
-use w_types::{CompType, FuncType, HeapType, RefType, ValType};
+use w_types::{CompType, FuncType, HeapType, PackedType, RefType};
 
 /// A module, and what its instructions name by an index (Core, validation, contexts). What is imported stands in front of what the
 /// module defines, as in `Spaces`.
@@ -130,7 +130,7 @@ impl<'a> Context<'a> {
     }
 
     /// Whether the types that a value type names are there (Core, validation, value types).
-    pub fn has_type(&self, kind: ValType) -> bool
+    pub fn has_type(&self, kind: PackedType) -> bool
         ensures { result ≡ has_type (type_count (context_in self.now)) kind }
     {
         types::has_type(self.owner.types.type_count(), kind)

@@ -1,13 +1,95 @@
 //! The types of operands.
+ghost use Rattle.std.specs.Prelude.{◌≡◌};
+ghost use Rattle.w_rules.specs.OperandView.{seen};
 
-use w_types::ValType;
+use std::marker::Model;
+use w_types::PackedType;
 
-/// The type of an operand (Core, validation, value types): a value type, or one that only code which cannot be reached makes. Bottom
-/// is below all types, and a reference to the bottom heap type is below all references that may be null where it may.
+/// The type of an operand (Core, validation, value types), in 8 bytes: a value type, or one that only code which cannot be reached
+/// makes. Equal types are equal numbers. Contracts see the type, an `Operand` of `specs/Operands.antt`.
+#[derive(Clone, Copy, PartialEq, Eq)]
+pub struct Operand {
+    // those of a packed type, where it is a value type
+    kind: u32,
+    index: u32,
+}
+
+impl Model for Operand {
+    ghost use Rattle.w_rules.specs.Operands.{Operand as TheType};
+
+    ghost Value = { TheType };
+
+    ghost use Rattle.w_rules.specs.PackedOperand.{whole, IsPackedInside, packed, packed_whole};
+
+    ghost view = { whole };
+
+    ghost invariant = { IsPackedInside };
+
+    ghost inverse = { packed };
+
+    ghost inverse_ok = { packed_whole };
+}
+
+/// The type of an operand as it is read.
 #[derive(Clone, Copy)]
-pub enum Operand {
-    Known(ValType),
+pub enum OperandView {
+    Known(PackedType),
+    /// Below all types.
     Bottom,
-    /// A reference to the bottom heap type, with whether it may be null.
+    /// A reference to the bottom heap type, below all references that may be null where it may.
     BottomRef(bool),
+}
+
+impl Operand {
+    ghost use Rattle.std.specs.Prelude.{◌≡◌, ◌↔◌, IsTrue};
+    ghost use Rattle.w_rules.specs.Operands.{Known, Bottom, BottomRef};
+    ghost use Rattle.w_rules.specs.OperandView.{seen};
+
+    /// The type below all types.
+    pub const BOTTOM: Operand = Operand { kind: 0, index: 0 };
+
+    /// A value type.
+    #[tactic(auto, using(crate::proofs::PackedOperands::known_at))]
+    pub fn known(kind: PackedType) -> Operand
+        ensures { result ≡ Known kind }
+    {
+        Operand {
+            kind: kind.kind(),
+            index: kind.index(),
+        }
+    }
+
+    /// A reference to the bottom heap type, with whether it may be null.
+    pub fn bottom_ref(nullable: bool) -> Operand
+        ensures { result ≡ BottomRef nullable }
+    {
+        if nullable {
+            Operand { kind: 2, index: 0 }
+        } else {
+            Operand { kind: 1, index: 0 }
+        }
+    }
+
+    /// Whether it is just this value type.
+    #[tactic(auto, using(crate::proofs::PackedOperands::known_at))]
+    pub fn is(self, kind: PackedType) -> bool
+        ensures { IsTrue result ↔ (self ≡ Known kind) }
+    {
+        self == Operand::known(kind)
+    }
+
+    /// The type, as it is read.
+    #[tactic(auto, using(crate::proofs::PackedOperands::value_type_at))]
+    pub fn view(self) -> OperandView
+        ensures { seen result ≡ self }
+    {
+        if self.kind > 2 {
+            return OperandView::Known(PackedType::of_numbers(self.kind, self.index));
+        }
+        match self.kind {
+            0 => OperandView::Bottom,
+            1 => OperandView::BottomRef(false),
+            _ => OperandView::BottomRef(true),
+        }
+    }
 }

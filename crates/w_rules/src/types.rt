@@ -2,7 +2,7 @@
 ghost use Rattle.std.specs.Prelude.{◌≡◌};
 ghost use Rattle.w_rules.specs.Types.{has_heap, has_type};
 
-use w_types::{HeapType, ValType};
+use w_types::{HeapType, PackedType, ValType};
 
 /// Whether the type that a heap type names is there, among so many types.
 pub fn has_heap(count: usize, heap: HeapType) -> bool
@@ -15,10 +15,10 @@ pub fn has_heap(count: usize, heap: HeapType) -> bool
 }
 
 /// Whether the type that a value type names is there, among so many types.
-pub fn has_type(count: usize, ty: ValType) -> bool
+pub fn has_type(count: usize, ty: PackedType) -> bool
     ensures { result ≡ has_type count ty }
 {
-    match ty {
+    match ty.whole() {
         ValType::I32 | ValType::I64 => true,
         ValType::Ref(reference) => has_heap(count, reference.heap),
     }

@@ -6,7 +6,7 @@ use Rattle.w_types.specs.declared.types.ValType.TheVariants.{I32}
 use Rattle.w_types.specs.Rows.{Row, ε, ◌▹◌, row_of, size}
 use Rattle.w_types.proofs.Rows.{row_of-more, size-row_of}
 use Rattle.w_canon.specs.declared.entry.Entry.{Entry}
-use Rattle.w_rules.specs.declared.operand.Operand.{Operand}
+use Rattle.w_rules.specs.Operands.{Operand}
 use Rattle.w_rules.specs.InstructionTypes.{labels_at, br_table_type, br_on_non_null_type}
 use Rattle.w_flow.specs.Flow.{pops, is_popped, fits_one, fit_each, step}
 use Rattle.w_flow.specs.View.{anything}

@@ -1,17 +1,54 @@
 -- What a plain instruction does to the operands of the block that it stands in.
-use Rattle.std.specs.Prelude.{◌≡◌, Bool}
+use Rattle.std.specs.Prelude.{◌≡◌, Bool, true, false, List}
+use Rattle.w_types.specs.declared.types.ValType.{ValType}
 use Rattle.w_syntax.specs.declared.instructions.Op.{Op}
+use Rattle.w_syntax.specs.declared.packed.PackedInstr.{PackedInstr}
+use Rattle.w_syntax.specs.declared.packed.PackedInstr.TheVariants as packed
+use Rattle.w_syntax.specs.Packed.{OnPlain, unpacked}
+use Rattle.w_canon.specs.declared.entry.Entry.{Entry}
 use Rattle.w_flow.specs.Flow.{step}
 use Rattle.w_flow.specs.View.{flow_view, flow_if}
 use Rattle.w_flow.specs.declared.flow.Flow.{Flow}
+use Rattle.w_rules.specs.Context.{Context}
 use Rattle.w_rules.specs.InstructionTypes.{instr_type}
-use Rattle.w_locals.specs.Locals.{first_set}
+use Rattle.w_rules.specs.Spaces.{in_body}
+use Rattle.w_rules.specs.View.{context_in}
+use Rattle.w_rules.specs.declared.context.Context as program
+use Rattle.w_locals.specs.Locals.{LocalState, first_set}
+use Rattle.w_steps.specs.Labels.{within}
 use Rattle.w_steps.specs.PlainTests.{plain_test}
 use Rattle.w_steps.specs.View.{context_at, gated}
 use Rattle.w_steps.specs.declared.body_context.BodyContext.{BodyContext}
+use Rattle.w_steps.specs.declared.frame_kind.FrameKind.{FrameKind}
 
--- the step of its type, where it passes its test
+-- the step of its type in this context, where it passes its test
+abbrev pub StepsIn : List Entry → Context → List Bool → Op → Flow → Flow → Bool → Type 0
+StepsIn es c s o old new taken =
+    gated (plain_test es c o) (step es (instr_type c s o) (flow_view old).any (flow_view old).operands) ≡ flow_if taken new
+
+-- the same where it stands
 abbrev pub StepsTo : BodyContext → Op → Flow → Flow → Bool → Type 0
-StepsTo b o old new taken =
-    gated (plain_test b.cx.now.classes.now (context_at b) o)
-    (step b.cx.now.classes.now (instr_type (context_at b) (first_set b.locals.now.sets) o) (flow_view old).any (flow_view old).operands) ≡ flow_if taken new
+StepsTo b o old new taken = StepsIn b.cx.now.classes.now (context_at b) (first_set b.locals.now.sets) o old new taken
+
+-- the same of a packed instruction in a body of these locals and results, inside these blocks
+abbrev pub PackedSteps : program.Context → LocalState → List ValType → List FrameKind → PackedInstr → Flow → Flow → Bool → Type 0
+PackedSteps cx locals results ks p old new taken =
+    OnPlain (λ (o : Op). StepsIn cx.classes.now (within (in_body (context_in cx) locals.types results) ks) (first_set locals.sets) o old new taken) (unpacked p)
+
+-- the same whatever the results and the blocks are
+abbrev pub StepsAnywhere : program.Context → LocalState → PackedInstr → Flow → Flow → Bool → Type 0
+StepsAnywhere cx locals p old new taken = (results : List ValType) (ks : List FrameKind) → PackedSteps cx locals results ks p old new taken
+
+-- the packed instruction is none of those that are judged first
+abbrev pub is_rare : PackedInstr → Bool
+is_rare (packed.Variable o) = false
+is_rare (packed.I32Const n) = false
+is_rare (packed.I64Const n) = false
+is_rare (packed.Eqz k) = false
+is_rare (packed.Compare k o) = false
+is_rare (packed.Unary k o) = false
+is_rare (packed.Binary k o) = false
+is_rare packed.Drop = false
+is_rare (packed.Load l a o) = false
+is_rare (packed.Store s a o) = false
+is_rare p = true

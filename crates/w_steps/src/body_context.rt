@@ -14,15 +14,15 @@ use std::slice::from_ref;
 use w_locals::Locals;
 use w_rules::Context;
 use w_syntax::{BlockKind, BlockType};
-use w_types::ValType;
+use w_types::PackedType;
 
 /// What the typing of an instruction goes by, but for the operands: the module, the function's locals and those of them that are
 /// set, its results, the innermost block's kind, and the blocks around it.
 #[derive(Clone, Copy)]
 pub struct BodyContext<'c> {
     pub cx: &'c Context<'c>,
-    pub locals: &'c Locals,
-    pub results: &'c [ValType],
+    pub locals: &'c Locals<'c>,
+    pub results: &'c [PackedType],
     pub kind: &'c FrameKind,
     pub outer: &'c [Frame],
 }
@@ -31,7 +31,7 @@ pub struct BodyContext<'c> {
 fn block_arrow<'c>(
     cx: &'c Context<'c>,
     block: &'c BlockType,
-) -> Option<(&'c [ValType], &'c [ValType])>
+) -> Option<(&'c [PackedType], &'c [PackedType])>
     ensures { arrow_of (context_in cx.now) block.now ≡ option_map arrow_view result }
 {
     match block {
@@ -53,9 +53,9 @@ fn block_arrow<'c>(
 /// What a block of this kind takes and gives, in a function of these results.
 pub fn arrow<'c>(
     cx: &'c Context<'c>,
-    results: &'c [ValType],
+    results: &'c [PackedType],
     kind: &'c FrameKind,
-) -> Option<(&'c [ValType], &'c [ValType])>
+) -> Option<(&'c [PackedType], &'c [PackedType])>
     ensures { arrow_at (in_body (context_in cx.now) [] results.now) kind.now
         ≡ option_map arrow_view result }
 {
@@ -68,7 +68,11 @@ pub fn arrow<'c>(
 }
 
 // What a branch to the label of a block of this kind takes.
-fn label<'c>(cx: &'c Context<'c>, results: &'c [ValType], kind: &'c FrameKind) -> &'c [ValType]
+fn label<'c>(
+    cx: &'c Context<'c>,
+    results: &'c [PackedType],
+    kind: &'c FrameKind,
+) -> &'c [PackedType]
     ensures { label_at (in_body (context_in cx.now) [] results.now) kind.now ≡ row_of result.now }
 {
     match arrow(cx, results, kind) {
@@ -86,11 +90,11 @@ fn label<'c>(cx: &'c Context<'c>, results: &'c [ValType], kind: &'c FrameKind) -
 /// What a branch to a label takes, in a block of this kind with others around it. Labels are counted from the innermost block.
 pub fn label_of<'c>(
     cx: &'c Context<'c>,
-    results: &'c [ValType],
+    results: &'c [PackedType],
     kind: &'c FrameKind,
     outer: &'c [Frame],
     index: u32,
-) -> Option<&'c [ValType]>
+) -> Option<&'c [PackedType]>
     ensures { slice_get (labels_of (in_body (context_in cx.now) [] results.now) (kind.now
         ∷ outer_kinds outer.now)) index
         ≡ option_map (λ v. row_of v.now) result }
@@ -112,7 +116,7 @@ impl<'c> BodyContext<'c> {
     ghost use Rattle.w_steps.specs.View.{context_at};
 
     /// What a branch to a label takes.
-    pub fn label(&self, index: u32) -> Option<&'c [ValType]>
+    pub fn label(&self, index: u32) -> Option<&'c [PackedType]>
         ensures { slice_get (context_at self.now).labels index
             ≡ option_map (λ v. row_of v.now) result }
     {

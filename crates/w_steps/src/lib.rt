@@ -9,4 +9,4 @@ mod steps;
 pub use body_context::{BodyContext, arrow, label_of};
 pub use frame::Frame;
 pub use frame_kind::FrameKind;
-pub use steps::{packed_step, plain_step};
+pub use steps::packed_step;

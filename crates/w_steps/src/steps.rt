@@ -1,12 +1,13 @@
 //! What instructions do to the operands.
-ghost use Rattle.std.specs.Prelude.{◌≡◌, IfOk};
+ghost use Rattle.std.specs.Prelude.{◌≡◌, ◌∷◌, IfOk, IfSome, IfNone, IsTrue};
 ghost use Rattle.w_flow.specs.Flow.{step};
 ghost use Rattle.w_flow.specs.View.{flow_view, flow_if};
 ghost use Rattle.w_rules.specs.InstructionTypes.{instr_type};
 ghost use Rattle.w_locals.specs.Locals.{first_set};
 ghost use Rattle.w_steps.specs.PlainTests.{plain_test};
 ghost use Rattle.w_syntax.specs.Packed.{OnPlain, unpacked};
-ghost use Rattle.w_steps.specs.Stepping.{StepsTo};
+ghost use Rattle.w_steps.specs.Stepping.{StepsTo, PackedSteps, StepsAnywhere, is_rare};
+ghost use Rattle.w_steps.specs.View.{outer_kinds};
 ghost use Rattle.w_steps.specs.View.{context_at, gated};
 
 mod control;
@@ -19,29 +20,30 @@ mod table;
 mod variable;
 
 use crate::body_context::BodyContext;
+use crate::frame::Frame;
+use crate::frame_kind::FrameKind;
 use control::control_step;
-use memory::memory_step;
-use numeric::numeric_step;
+use memory::{load_step, memory_step, store_step};
+use numeric::{numeric_step, of_int};
 use parametric::parametric_step;
 use reference::reference_step;
 use std::alloc::AllocError;
 use table::table_step;
 use variable::variable_step;
 use w_flow::Flow;
-use w_syntax::{Instr, MemArg, MemoryOp, NumericOp, Op, PackedInstr};
+use w_locals::Locals;
+use w_rules::Context;
+use w_syntax::{Instr, NumericOp, Op, PackedInstr};
+use w_types::PackedType;
 
-/// An instruction that holds no others and does not switch stacks.
-pub fn plain_step(body: &BodyContext, flow: &mut Flow, op: &Op) -> Result<bool, AllocError>
-    ensures { IfOk result (λ taken. gated (plain_test body.now.cx.now.classes.now
-        (context_at body.now) op.now)
-        (step body.now.cx.now.classes.now (instr_type (context_at body.now)
-        (first_set body.now.locals.now.sets) op.now) (flow_view flow.old).any
-        (flow_view flow.old).operands) ≡ flow_if taken flow.new) }
+// An instruction that holds no others and does not switch stacks.
+fn plain_step(body: &BodyContext, flow: &mut Flow, op: &Op) -> Result<bool, AllocError>
+    ensures { IfOk result (λ taken. StepsTo body.now op.now flow.old flow.new taken) }
 {
     match op {
         Op::Control(op) => control_step(body, flow, op),
         Op::Parametric(op) => parametric_step(body.cx, flow, op),
-        Op::Variable(op) => variable_step(body, flow, *op),
+        Op::Variable(op) => variable_step(body.cx, body.locals, flow, *op),
         Op::Table(op) => table_step(body.cx, flow, *op),
         Op::Memory(op) => memory_step(body.cx, flow, *op),
         Op::Numeric(op) => numeric_step(body.cx.classes, flow, *op),
@@ -62,62 +64,88 @@ fn boxed_step(body: &BodyContext, flow: &mut Flow, instr: &Instr) -> Result<bool
     }
 }
 
-/// An instruction that does not switch stacks, where it holds no others.
-pub fn packed_step(
-    body: &BodyContext,
+// A common instruction; `None`, and nothing is done, where it is none.
+fn common_step(
+    cx: &Context,
+    locals: &Locals,
+    flow: &mut Flow,
+    packed: &PackedInstr,
+) -> Result<Option<bool>, AllocError>
+    ensures steps { IfOk result (λ told. IfSome told (λ taken. StepsAnywhere
+        cx.now locals.now packed.now flow.old flow.new taken)) }
+    ensures rare { IfOk result (λ told. IfNone told (IsTrue (is_rare packed.now))) }
+    ensures nothing { IfOk result (λ told. IfNone told (flow.new ≡ flow.old)) }
+{
+    let classes = cx.classes;
+    let taken = match packed {
+        PackedInstr::Variable(op) => variable_step(cx, locals, flow, *op)?,
+        PackedInstr::I32Const(_) => flow.gives(PackedType::I32)?,
+        PackedInstr::I64Const(_) => flow.gives(PackedType::I64)?,
+        PackedInstr::Eqz(kind) => flow.turns(classes, of_int(*kind), PackedType::I32)?,
+        PackedInstr::Compare(kind, _) => flow.joins(classes, of_int(*kind), PackedType::I32)?,
+        PackedInstr::Unary(kind, _) => flow.turns(classes, of_int(*kind), of_int(*kind))?,
+        PackedInstr::Binary(kind, _) => flow.joins(classes, of_int(*kind), of_int(*kind))?,
+        PackedInstr::Drop => flow.drops(),
+        PackedInstr::Load(load, align, offset) => load_step(cx, flow, *load, *align, *offset)?,
+        PackedInstr::Store(store, align, offset) => {
+            store_step(cx, flow, *store, *align, *offset)
+        }
+        _ => return Ok(None),
+    };
+    Ok(Some(taken))
+}
+
+// Another instruction.
+#[inline(never)]
+fn rare_step(
+    cx: &Context,
+    locals: &Locals,
+    results: &[PackedType],
+    kind: &FrameKind,
+    outer: &[Frame],
     flow: &mut Flow,
     packed: &PackedInstr,
 ) -> Result<bool, AllocError>
-    ensures { IfOk result (λ taken. OnPlain (λ op. StepsTo body.now op flow.old flow.new taken)
-        (unpacked packed.now)) }
+    requires { IsTrue (is_rare packed.now) }
+    ensures { IfOk result (λ taken. PackedSteps cx.now locals.now results.now (kind.now
+        ∷ outer_kinds outer.now) packed.now flow.old flow.new taken) }
 {
-    let cx = body.cx;
-    let classes = body.cx.classes;
+    let body = BodyContext {
+        cx,
+        locals,
+        results,
+        kind,
+        outer,
+    };
     match packed {
-        PackedInstr::Variable(op) => variable_step(body, flow, *op),
-        PackedInstr::I32Const(number) => {
-            numeric_step(classes, flow, NumericOp::I32Const(*number))
-        }
-        PackedInstr::I64Const(number) => {
-            numeric_step(classes, flow, NumericOp::I64Const(*number))
-        }
-        PackedInstr::Eqz(kind) => numeric_step(classes, flow, NumericOp::Eqz(*kind)),
-        PackedInstr::Compare(kind, op) => {
-            numeric_step(classes, flow, NumericOp::Compare(*kind, *op))
-        }
-        PackedInstr::Unary(kind, op) => numeric_step(classes, flow, NumericOp::Unary(*kind, *op)),
-        PackedInstr::Binary(kind, op) => {
-            numeric_step(classes, flow, NumericOp::Binary(*kind, *op))
-        }
-        PackedInstr::Convert(op) => numeric_step(classes, flow, NumericOp::Convert(*op)),
-        PackedInstr::Load(load, align, offset) => {
-            let argument = MemArg {
-                align: *align,
-                offset: *offset,
-            };
-            memory_step(cx, flow, MemoryOp::Load(*load, argument))
-        }
-        PackedInstr::Store(store, align, offset) => {
-            let argument = MemArg {
-                align: *align,
-                offset: *offset,
-            };
-            memory_step(cx, flow, MemoryOp::Store(*store, argument))
-        }
+        PackedInstr::Convert(op) => numeric_step(cx.classes, flow, NumericOp::Convert(*op)),
         PackedInstr::Memory(op) => memory_step(cx, flow, op.whole()),
-        PackedInstr::Control(op) => control_step(body, flow, &op.whole()),
-        PackedInstr::Drop => Ok(flow.drops()),
-        PackedInstr::Select => flow.selects(classes),
+        PackedInstr::Control(op) => control_step(&body, flow, &op.whole()),
+        PackedInstr::Select => flow.selects(cx.classes),
         PackedInstr::Table(op) => table_step(cx, flow, *op),
         PackedInstr::Reference(op) => reference_step(cx, flow, *op),
-        PackedInstr::Boxed(instr) => boxed_step(body, flow, instr),
-        // it has no test here
-        PackedInstr::Switching(_) => Ok(false),
-        // they are not plain
-        PackedInstr::Block(_, _, _)
-        | PackedInstr::If(_, _)
-        | PackedInstr::IfElse(_, _, _)
-        | PackedInstr::Else
-        | PackedInstr::End => Ok(false),
+        PackedInstr::Boxed(instr) => boxed_step(&body, flow, instr),
+        // switching has no test here, and the others are not plain
+        _ => Ok(false),
+    }
+}
+
+/// An instruction that does not switch stacks, where it holds no others. What its typing goes by are the module, the function's locals
+/// and those of them that are set, its results, the innermost block's kind, and the blocks around it.
+pub fn packed_step(
+    cx: &Context,
+    locals: &Locals,
+    results: &[PackedType],
+    kind: &FrameKind,
+    outer: &[Frame],
+    flow: &mut Flow,
+    packed: &PackedInstr,
+) -> Result<bool, AllocError>
+    ensures { IfOk result (λ taken. PackedSteps cx.now locals.now results.now (kind.now
+        ∷ outer_kinds outer.now) packed.now flow.old flow.new taken) }
+{
+    match common_step(cx, locals, flow, packed)? {
+        Some(taken) => Ok(taken),
+        None => rare_step(cx, locals, results, kind, outer, flow, packed),
     }
 }

@@ -2,7 +2,7 @@
 
 use crate::memory_instructions::MemoryOp;
 use crate::numeric::NumericOp;
-use w_types::{HeapType, ListOf, ValType};
+use w_types::{HeapType, ListOf, PackedType};
 
 /// A control instruction that holds no others (Core, instructions, control instructions). A label is counted from the
 /// innermost one outwards.
@@ -32,7 +32,7 @@ pub enum ParametricOp {
     /// `select` of integers.
     Select,
     /// `select` with the types that it names.
-    SelectOf(ListOf<ValType>),
+    SelectOf(ListOf<PackedType>),
 }
 
 /// A variable instruction (Core, instructions, variable instructions), with the local or the global.
@@ -113,7 +113,7 @@ pub enum Op {
 #[derive(Clone, Copy)]
 pub enum BlockType {
     Empty,
-    Value(ValType),
+    Value(PackedType),
     Index(u32),
 }
 

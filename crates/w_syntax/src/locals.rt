@@ -1,16 +1,16 @@
 //! The locals of a function.
 ghost use Rattle.std.specs.Prelude.{◌≡◌, ◌<◌, ◌^◌, ◌+◌, ◌↔◌, IfOk, OnOk, IsTrue, reverse};
-ghost use Rattle.w_syntax.specs.Locals.{join, joined, total};
+ghost use Rattle.w_syntax.specs.Locals.{join, joined, same_kind, total};
 
 use std::alloc::{AllocError, Global};
 use std::marker::Model;
-use w_types::ValType;
+use w_types::PackedType;
 
 /// So many locals of one type, one behind the other.
 #[derive(Clone, Copy)]
 pub struct LocalRun {
     pub count: u32,
-    pub kind: ValType,
+    pub kind: PackedType,
 }
 
 /// The locals of a function behind its parameters, as runs: neighbours of one type are joined, there are no runs of none, and
@@ -46,6 +46,14 @@ fn are_few(runs: &[LocalRun]) -> bool
     true
 }
 
+// Whether the types are one.
+#[tactic(auto, using(crate::proofs::SameKind::kinds_alike))]
+fn are_one_type(one: PackedType, other: PackedType) -> bool
+    ensures { result ≡ same_kind one other }
+{
+    one.whole() == other.whole()
+}
+
 // Puts a run before the runs, which stand from the last to the first.
 fn prepend_run(run: LocalRun, backwards: &mut Vec<LocalRun>) -> Result<(), AllocError>
     requires { run.count + total (reverse backwards.old.items) < 2 ^ 32 }
@@ -58,7 +66,7 @@ fn prepend_run(run: LocalRun, backwards: &mut Vec<LocalRun>) -> Result<(), Alloc
         backwards.push(run)?;
         return Ok(());
     };
-    if run.kind == next.kind {
+    if are_one_type(run.kind, next.kind) {
         backwards.push(LocalRun {
             count: run.count + next.count,
             kind: next.kind,

@@ -5,7 +5,7 @@ use crate::items::Items;
 use crate::locals::Locals;
 use crate::name::Name;
 use std::alloc::Global;
-use w_types::{ListOf, RecGroups, RefType, ValType};
+use w_types::{ListOf, PackedType, RecGroups, RefType};
 
 /// The least and the greatest size of a table or a memory (Core, types, limits).
 #[derive(Clone, Copy)]
@@ -31,7 +31,7 @@ pub enum Mutability {
 /// The type of a global (Core, types, global types).
 #[derive(Clone, Copy)]
 pub struct GlobalType {
-    pub kind: ValType,
+    pub kind: PackedType,
     pub mutability: Mutability,
 }
 

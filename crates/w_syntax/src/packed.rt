@@ -12,7 +12,7 @@ use crate::memory_instructions::{LoadOp, MemArg, MemoryOp, StoreOp};
 use crate::numeric::{Binop, Cvtop, IntType, NumericOp, Relop, Unop};
 use std::alloc::{AllocError, Global};
 use std::mem::size_of;
-use w_types::{HeapType, RefType, ValType};
+use w_types::{HeapType, PackedType, RefType, ValType};
 
 /// A heap type that is no index.
 #[derive(Clone, Copy)]
@@ -138,9 +138,11 @@ fn short_block_type(block: BlockType) -> Option<ShortBlockType>
 {
     match block {
         BlockType::Empty => Some(ShortBlockType::Empty),
-        BlockType::Value(ValType::I32) => Some(ShortBlockType::I32),
-        BlockType::Value(ValType::I64) => Some(ShortBlockType::I64),
-        BlockType::Value(ValType::Ref(kind)) => short_reference(kind),
+        BlockType::Value(kind) => match kind.whole() {
+            ValType::I32 => Some(ShortBlockType::I32),
+            ValType::I64 => Some(ShortBlockType::I64),
+            ValType::Ref(kind) => short_reference(kind),
+        },
         BlockType::Index(index) => {
             let index = u16::try_from(index).ok()?;
             Some(ShortBlockType::Index(index))
@@ -299,15 +301,15 @@ impl ShortBlockType {
     {
         match self {
             ShortBlockType::Empty => BlockType::Empty,
-            ShortBlockType::I32 => BlockType::Value(ValType::I32),
-            ShortBlockType::I64 => BlockType::Value(ValType::I64),
+            ShortBlockType::I32 => BlockType::Value(PackedType::I32),
+            ShortBlockType::I64 => BlockType::Value(PackedType::I64),
             ShortBlockType::Ref(nullable, heap) => {
                 let heap = heap.whole();
-                BlockType::Value(ValType::Ref(RefType { nullable, heap }))
+                BlockType::Value(PackedType::reference(RefType { nullable, heap }))
             }
             ShortBlockType::RefTo(nullable, index) => {
                 let heap = HeapType::Index(u32::from(index));
-                BlockType::Value(ValType::Ref(RefType { nullable, heap }))
+                BlockType::Value(PackedType::reference(RefType { nullable, heap }))
             }
             ShortBlockType::Index(index) => BlockType::Index(u32::from(index)),
         }

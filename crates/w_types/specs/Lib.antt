@@ -1,3 +1,5 @@
 pub mod Rows
 pub mod Values
 pub mod Groups
+pub mod PackedTypes
+pub mod PackedType

@@ -2,6 +2,7 @@
 ghost use Rattle.std.specs.Prelude.{◌≡◌, true, false};
 
 use crate::list::ListOf;
+use crate::packed_type::PackedType;
 
 /// A heap type (Core, types, heap types; the explainer adds continuations). An index is that of a type of the module.
 #[derive(Clone, Copy, PartialEq, Eq)]
@@ -65,8 +66,8 @@ pub enum ValType {
 /// A function type (Core, types, function types): from parameters to results, each in order.
 #[derive(Drop)]
 pub struct FuncType {
-    pub params: ListOf<ValType>,
-    pub results: ListOf<ValType>,
+    pub params: ListOf<PackedType>,
+    pub results: ListOf<PackedType>,
 }
 
 /// A composite type (Core, types, composite types). A continuation type has the index of its function type (the explainer,

@@ -2,6 +2,7 @@
 ghost use Rattle.std.specs.Prelude.{◌≡◌};
 ghost use Rattle.w_types.specs.Values.{default_of};
 
+use crate::packed_type::PackedType;
 use crate::types::{RefType, ValType};
 
 /// A reference to a continuation: the place where its store keeps it, and the serial that was drawn when it was made. A place is
@@ -26,10 +27,10 @@ pub enum Value {
 impl Value {
     /// The value that a local begins with (Core, execution, default values): zero, or null for a reference that may be. `None` for
     /// any other reference.
-    pub fn default_of(kind: ValType) -> Option<Value>
+    pub fn default_of(kind: PackedType) -> Option<Value>
         ensures { result ≡ default_of kind }
     {
-        match kind {
+        match kind.whole() {
             ValType::I32 => Some(Value::I32(0)),
             ValType::I64 => Some(Value::I64(0)),
             ValType::Ref(RefType { nullable: true, .. }) => Some(Value::Null),

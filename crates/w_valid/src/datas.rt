@@ -9,7 +9,7 @@ use std::alloc::{AllocError, Global};
 use w_bodies::is_const_typed;
 use w_rules::Context;
 use w_syntax::DataMode;
-use w_types::ValType;
+use w_types::PackedType;
 
 // Whether a segment's memory is there and its offset is a constant, where it is active.
 fn is_mode_typed(alloc: Global, cx: &Context, mode: &DataMode) -> Result<bool, AllocError>
@@ -21,7 +21,7 @@ fn is_mode_typed(alloc: Global, cx: &Context, mode: &DataMode) -> Result<bool, A
             if !cx.has_memory(*memory) {
                 return Ok(false);
             }
-            is_const_typed(alloc, cx, offset, ValType::I32)
+            is_const_typed(alloc, cx, offset, PackedType::I32)
         }
         DataMode::Passive => Ok(true),
     }

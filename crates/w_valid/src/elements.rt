@@ -14,7 +14,7 @@ use std::alloc::{AllocError, Global};
 use w_bodies::{is_const_typed, is_reference_typed};
 use w_rules::Context;
 use w_syntax::{ElemMode, ItemView, Items, ReferenceOp};
-use w_types::{RefType, ValType};
+use w_types::{PackedType, RefType};
 
 // Whether a segment of this type fits its table, where it is active.
 fn is_mode_typed(
@@ -34,7 +34,7 @@ fn is_mode_typed(
             if !cx.classes.matches_ref(kind, table.element) {
                 return Ok(false);
             }
-            is_const_typed(alloc, cx, offset, ValType::I32)
+            is_const_typed(alloc, cx, offset, PackedType::I32)
         }
         ElemMode::Passive | ElemMode::Declarative => Ok(true),
     }
@@ -51,7 +51,7 @@ fn is_item_typed(
     ensures { IfOk result (λ typed. IsTrue typed
         ↔ ConstTyped (context_of cx.now.owner.now) (code_of item.entry) (val.Ref kind)) }
 {
-    let kind = ValType::Ref(kind);
+    let kind = PackedType::reference(kind);
     match item {
         ItemView::Function(function) => {
             Ok(is_reference_typed(cx, ReferenceOp::Func(function), kind))

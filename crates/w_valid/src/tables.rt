@@ -10,7 +10,7 @@ use std::alloc::{AllocError, Global};
 use w_bodies::is_const_typed;
 use w_rules::Context;
 use w_syntax::{Body, TableType};
-use w_types::{RefType, ValType};
+use w_types::{PackedType, RefType};
 
 /// Whether the type of a table is valid (Core, validation, table types).
 pub(crate) fn is_table_type_valid(cx: &Context, kind: TableType) -> bool
@@ -30,7 +30,7 @@ fn is_init_typed(
     ensures { IfOk result (λ typed. IsTrue typed ↔ IsInitValid cx.now.owner.now kind init.now) }
 {
     match init {
-        Some(body) => is_const_typed(alloc, cx, body, ValType::Ref(kind)),
+        Some(body) => is_const_typed(alloc, cx, body, PackedType::reference(kind)),
         None => Ok(kind.nullable),
     }
 }

@@ -9,10 +9,10 @@ ghost use Rattle.w_valid.specs.Firsts.{IsFirst, IsFirstFailing};
 
 use w_rules::{func_type, has_type};
 use w_syntax::{LocalRun, Module};
-use w_types::{CompType, ValType};
+use w_types::{CompType, PackedType};
 
 // Whether each of these value types is valid, among so many types.
-fn are_valid(end: usize, kinds: &[ValType]) -> bool
+fn are_valid(end: usize, kinds: &[PackedType]) -> bool
     ensures { IsTrue result ↔ All (IsValidType end) kinds.now }
 {
     kinds.iter().all(|kind| has_type(end, *kind))

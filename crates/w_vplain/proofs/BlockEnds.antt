@@ -6,7 +6,7 @@ use Rattle.w_types.specs.Rows.{Row, ε, ◌▹◌}
 use Rattle.w_types.proofs.Rows.{unit_left}
 use Rattle.w_canon.specs.declared.entry.Entry.{Entry}
 use Rattle.w_canon.specs.IsClassesOf.{IsClassesOf}
-use Rattle.w_rules.specs.declared.operand.Operand.{Operand}
+use Rattle.w_rules.specs.Operands.{Operand}
 use Rattle.w_rules.specs.Conditions.{Holds}
 use Rattle.w_rules.specs.Context.{Context, Arrow}
 use Rattle.w_rules.specs.Matching.{RowMatches, none, more, known}

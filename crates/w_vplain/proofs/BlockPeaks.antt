@@ -5,7 +5,7 @@ use Rattle.w_types.specs.Rows.{Row, ◌⧺◌, size}
 use Rattle.w_syntax.specs.Code.{Code, Done, Plain}
 use Rattle.w_syntax.specs.declared.instructions.BlockType.{BlockType}
 use Rattle.w_syntax.specs.declared.instructions.Op.{Op}
-use Rattle.w_rules.specs.declared.operand.Operand.{Operand}
+use Rattle.w_rules.specs.Operands.{Operand}
 use Rattle.w_rules.specs.Context.{Context, Arrow, arrow_of, label_of}
 use Rattle.w_rules.specs.InstructionTypes.{instr_type}
 use Rattle.w_rules.specs.Matching.{known}

@@ -25,6 +25,7 @@ use Rattle.w_steps.specs.View.{outer_kinds}
 use Rattle.w_vplain.specs.View.{row_with}
 use Rattle.w_syntax.specs.declared.packed.PackedInstr.{PackedInstr}
 use Rattle.w_syntax.specs.Packed.{unpacked}
+use Rattle.w_vplain.specs.declared.moves.InstrRow.{InstrRow}
 use Rattle.w_vplain.specs.declared.moves.Move.{Move}
 use Rattle.w_vplain.specs.declared.moves.Move.TheVariants as move
 use Rattle.w_vplain.specs.declared.checker.Checker.{Checker}
@@ -170,17 +171,17 @@ answers_packed r old new p next h same ch e = ok_with r _ _ h (λ taken x. answe
 
 -- ## A call by a row
 
-counts_by_row : (old new : Checker) (ins : Bor (List ValType)) (top : Option ValType) (outs : Bor (List ValType)) (raise : Option ℕ) (o : Op) (s : List Bool) (w : Prefix) (answer : Bool)
-    → IsCall old new (move.Row ins top outs raise) answer → StandsFor old s w
-    → (IsDerivable (context_for old) s w → IsRow (context_for old) s w o (row_with (row_of ins.now) top) (row_of outs.now) raise) → new.refused ≡ false
+counts_by_row : (old new : Checker) (b : Bor InstrRow) (o : Op) (s : List Bool) (w : Prefix) (answer : Bool)
+    → IsCall old new (move.Row b) answer → StandsFor old s w
+    → (IsDerivable (context_for old) s w → IsRow (context_for old) s w o (row_with (row_of b.now.ins.now) b.now.top) (row_of b.now.outs.now) b.now.raise) → new.refused ≡ false
     → CountsFor (context_for old) s (frames_of new) (follow (flat.Plain o) w) × (new.peak ≡ peak_of (context_for old) s (follow (flat.Plain o) w)) × HasBases new
     × (new.depth ≡ depth_of (follow (flat.Plain o) w))
-counts_by_row old new ins top outs raise o s w answer h k found alive =
+counts_by_row old new b o s w answer h k found alive =
     let c = context_for old in
     let es = classes_for old in
-    let m = move.Row ins top outs raise in
-    let takes = row_with (row_of ins.now) top in
-    let gives = row_of outs.now in
+    let m = move.Row b in
+    let takes = row_with (row_of b.now.ins.now) b.now.top in
+    let gives = row_of b.now.outs.now in
     let w' = follow (flat.Plain o) w in
     let was = was_alive old new m answer h alive in
     let next_is : row_next es takes gives (frames_of old) ≡ Some (frames_of new) = leads_on old new m answer h alive in
@@ -188,34 +189,34 @@ counts_by_row old new ins top outs raise o s w answer h k found alive =
     let stands = frames_stand old s w k was in
     let counts = counts_stand old s w k was in
     let r = found (stands_derivable c s (frames_of old) w stands) in
-    let q = at_whenever (row_next es takes gives (frames_of old)) (λ gs. CountsFor c s gs w' × RaisedBy c s (size takes) raise (frames_of old) gs w w') (frames_of new) next_is
-    (row_counted es c s o takes gives raise (frames_of old) w stands counts.frames r) in
-    let d = at_whenever (row_next es takes gives (frames_of old)) (Deepens w w') (frames_of new) next_is (row_deepens es c s o takes gives raise (frames_of old) w stands r) in
-    let b = counted.peak counts.bases in (
+    let q = at_whenever (row_next es takes gives (frames_of old)) (λ gs. CountsFor c s gs w' × RaisedBy c s (size takes) b.now.raise (frames_of old) gs w w') (frames_of new) next_is
+    (row_counted es c s o takes gives b.now.raise (frames_of old) w stands counts.frames r) in
+    let d = at_whenever (row_next es takes gives (frames_of old)) (Deepens w w') (frames_of new) next_is (row_deepens es c s o takes gives b.now.raise (frames_of old) w stands r) in
+    let bases = counted.peak counts.bases in (
       q.0,
-      b.1 ∙ ap (λ (p : ℕ). raised_to p (added_by m (frames_of old)) (frames_of new)) counts.peak ∙ sym q.1,
-      b.0,
+      bases.1 ∙ ap (λ (p : ℕ). raised_to p (added_by m (frames_of old)) (frames_of new)) counts.peak ∙ sym q.1,
+      bases.0,
       counted.depth ∙ ap (λ (n : ℕ). max n (length (frames_of new))) counts.depth ∙ sym d,
     )
 
 -- the call answers for the sequence with each instruction of the row
-pub answers_row : {E : Type 0} (r : Result Bool E) (old new : Checker) (ins : Bor (List ValType)) (top : Option ValType) (outs : Bor (List ValType)) (raise : Option ℕ)
-    → IfOk r (λ taken. IsCall old new (move.Row ins top outs raise) taken) → IsSameBody old new
-    → IfOk r (λ taken. AnswersRow old new (row_with (row_of ins.now) top) (row_of outs.now) raise taken)
-answers_row r old new ins top outs raise call same =
+pub answers_row : {E : Type 0} (r : Result Bool E) (old new : Checker) (b : Bor InstrRow)
+    → IfOk r (λ taken. IsCall old new (move.Row b) taken) → IsSameBody old new
+    → IfOk r (λ taken. AnswersRow old new (row_with (row_of b.now.ins.now) b.now.top) (row_of b.now.outs.now) b.now.raise taken)
+answers_row r old new b call same =
     ok_with r _ _ call (λ taken h s w o k found.
     let c = context_for old in
     let es = classes_for old in
-    let takes = row_with (row_of ins.now) top in
-    let gives = row_of outs.now in
+    let takes = row_with (row_of b.now.ins.now) b.now.top in
+    let gives = row_of b.now.outs.now in
     let w' = follow (flat.Plain o) w in
     let P : Option (List Frame) → Type 0 = λ x. Knows c s x w' in
     let leads : frames_of_derived new ≡ (frames_of_derived old >>= row_next es takes gives) =
-    h.leads ∙ bind_same (frames_of_derived old) (move_next es c (move.Row ins top outs raise)) (row_next es takes gives) (λ fs. refl) in (
+    h.leads ∙ bind_same (frames_of_derived old) (move_next es c (move.Row b)) (row_next es takes gives) (λ fs. refl) in (
       stands_by old new s w w' same k.classes
-          (subst P (sym leads) (row_knows es c k.classes s o takes gives raise (frames_of_derived old) w k.knows found))
-          (counts_by_row old new ins top outs raise o s w taken h k found),
-      row_exact es c k.classes s o takes gives raise (frames_of_derived old) w k.knows found taken (h.answer ∙ ap is_some leads),
+          (subst P (sym leads) (row_knows es c k.classes s o takes gives b.now.raise (frames_of_derived old) w k.knows found))
+          (counts_by_row old new b o s w taken h k found),
+      row_exact es c k.classes s o takes gives b.now.raise (frames_of_derived old) w k.knows found taken (h.answer ∙ ap is_some leads),
     ))
 
 -- what a row adds to the operands of its place

@@ -6,7 +6,7 @@ use Rattle.w_syntax.specs.Code.{Code, Done}
 use Rattle.w_syntax.specs.declared.instructions.BlockType.{BlockType}
 use Rattle.w_canon.specs.declared.entry.Entry.{Entry}
 use Rattle.w_canon.specs.IsClassesOf.{IsClassesOf}
-use Rattle.w_rules.specs.declared.operand.Operand.{Operand}
+use Rattle.w_rules.specs.Operands.{Operand}
 use Rattle.w_rules.specs.Context.{Context, Arrow, arrow_of}
 use Rattle.w_rules.specs.Matching.{known}
 use Rattle.w_flow.specs.Flow.{Covers, ◌>>=◌, ends}

@@ -5,7 +5,7 @@ use Rattle.w_types.specs.Rows.{Row, ε, ◌▹◌, listed, row_of}
 use Rattle.w_types.proofs.Rows.{listed-row_of}
 use Rattle.w_canon.specs.declared.entry.Entry.{Entry}
 use Rattle.w_canon.specs.Tests.{pairwise_test, val_test, result_test}
-use Rattle.w_rules.specs.declared.operand.Operand.{Operand}
+use Rattle.w_rules.specs.Operands.{Operand}
 use Rattle.w_rules.specs.Matching.{known}
 use Rattle.w_flow.specs.Flow.{pops, none_left, ends}
 

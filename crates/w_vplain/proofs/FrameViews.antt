@@ -11,7 +11,7 @@ use Rattle.w_syntax.specs.declared.instructions.Op.TheVariants as op
 use Rattle.w_canon.specs.declared.entry.Entry.{Entry}
 use Rattle.w_flow.specs.Flow.{Flow, ◌>>=◌, step}
 use Rattle.w_flow.specs.View.{flow_view}
-use Rattle.w_rules.specs.declared.operand.Operand.{Operand}
+use Rattle.w_rules.specs.Operands.{Operand}
 use Rattle.w_rules.specs.Context.{Context}
 use Rattle.w_rules.specs.InstructionTypes.{instr_type, sets}
 use Rattle.w_rules.specs.Matching.{known}
@@ -253,9 +253,6 @@ module _ (es : List Entry) (c : Context) where
 pub nonempty : (n : ℕ) → (n == 0) ≡ false → n ≡ 0 → ⊥
 nonempty zero e z = absurd (cc)
 nonempty (suc n) e z = absurd (omega (arith, z))
-
-pub along : {A B : Type 0} (P : A → B → Type 0) {a a' : A} {b b' : B} → a ≡ a' → b ≡ b' → P a b → P a' b'
-along P {a} {a'} {b} {b'} e f p = subst (P a') f (subst (λ x. P x b) e p)
 
 -- what the code knows of a plain step, where it reads its lists by reference
 abbrev pub PlainStep : List Entry → Context → FrameKind → Op → Bool → Row Operand → Bool → Flow → List ValType → List Bool → List ValType → List code.Frame → Type 0

@@ -5,7 +5,7 @@ use Rattle.w_syntax.specs.Code.{Code, Done, Plain}
 use Rattle.w_syntax.specs.declared.instructions.Instr.{Instr}
 use Rattle.w_syntax.specs.declared.instructions.Instr.TheVariants as flat
 use Rattle.w_syntax.specs.declared.instructions.Op.{Op}
-use Rattle.w_rules.specs.declared.operand.Operand.{Operand}
+use Rattle.w_rules.specs.Operands.{Operand}
 use Rattle.w_rules.specs.Context.{Context, Arrow, arrow_of}
 use Rattle.w_rules.specs.Matching.{known}
 use Rattle.w_rules.specs.Typing.{Derives}

@@ -5,7 +5,7 @@ use Rattle.w_types.specs.Rows.{Row}
 use Rattle.w_syntax.specs.Code.{Code}
 use Rattle.w_syntax.specs.declared.instructions.BlockKind.{BlockKind}
 use Rattle.w_syntax.specs.declared.instructions.BlockType.{BlockType}
-use Rattle.w_rules.specs.declared.operand.Operand.{Operand}
+use Rattle.w_rules.specs.Operands.{Operand}
 use Rattle.w_rules.specs.Context.{Context, Arrow, arrow_of, label_of, labelled}
 use Rattle.w_rules.specs.Matching.{known}
 use Rattle.w_rules.specs.Typing.{HasType, Derives, set_by}

@@ -5,7 +5,7 @@ use Rattle.w_syntax.specs.Code.{Done, Plain}
 use Rattle.w_syntax.specs.declared.instructions.Op.{Op}
 use Rattle.w_canon.specs.declared.entry.Entry.{Entry}
 use Rattle.w_canon.specs.IsClassesOf.{IsClassesOf}
-use Rattle.w_rules.specs.declared.operand.Operand.{Operand}
+use Rattle.w_rules.specs.Operands.{Operand}
 use Rattle.w_rules.specs.Conditions.{Condition}
 use Rattle.w_rules.specs.Context.{Context}
 use Rattle.w_rules.specs.InstructionTypes.{InstrType, instr_type, sets}

@@ -68,9 +68,9 @@ RaisedBy c s taken raise fs gs old new = peak_of c s new ≡ raised_to (peak_of 
 -- the frames after it
 abbrev pub move_next : List Entry → Context → Move → List Frame → Option (List Frame)
 move_next es c (move.Packed p) fs = next es c (unpacked p.now) fs
-move_next es c (move.Row ins top outs raise) fs = row_next es (row_with (row_of ins.now) top) (row_of outs.now) fs
+move_next es c (move.Row r) fs = row_next es (row_with (row_of r.now.ins.now) r.now.top) (row_of r.now.outs.now) fs
 
 -- what it adds to the operands of its place: of a resume, what the longest label of its clauses takes
 abbrev pub added_by : Move → List Frame → ℕ
 added_by (move.Packed p) fs = 0
-added_by (move.Row ins top outs raise) fs = or_none (total fs) (above (size (row_with (row_of ins.now) top)) raise)
+added_by (move.Row r) fs = or_none (total fs) (above (size (row_with (row_of r.now.ins.now) r.now.top)) r.now.raise)

@@ -15,10 +15,10 @@ use w_canon::Classes;
 use w_flow::Flow;
 use w_rules::Context;
 use w_steps::{Frame, FrameKind, arrow};
-use w_types::ValType;
+use w_types::PackedType;
 
 // Takes what a block with these parameters takes.
-fn take_params(classes: &Classes, kind: &FrameKind, flow: &mut Flow, from: &[ValType]) -> bool
+fn take_params(classes: &Classes, kind: &FrameKind, flow: &mut Flow, from: &[PackedType]) -> bool
     ensures left { pops classes.now (flow_view flow.old).any (flow_view flow.old).operands
         (taken_by kind.now (record { from = row_of from.now; to = row_of [] }))
         ≡ (if result then Some (flow_view flow.new).operands else None) }
@@ -26,7 +26,7 @@ fn take_params(classes: &Classes, kind: &FrameKind, flow: &mut Flow, from: &[Val
 {
     match kind {
         FrameKind::Then(_) | FrameKind::Else(_) => {
-            flow.take(classes, &[ValType::I32]) && flow.take(classes, from)
+            flow.take(classes, &[PackedType::I32]) && flow.take(classes, from)
         }
         FrameKind::Body | FrameKind::Block(_, _) => flow.take(classes, from),
     }
@@ -54,7 +54,7 @@ pub(crate) fn height(frame: &Frame) -> Result<Option<u64>, AllocError>
 pub(crate) fn inner_frame(
     alloc: Global,
     cx: &Context,
-    results: &[ValType],
+    results: &[PackedType],
     kind: FrameKind,
     around: &mut Frame,
 ) -> Result<Option<Frame>, AllocError>
@@ -83,7 +83,7 @@ pub(crate) fn inner_frame(
 pub(crate) fn else_frame(
     alloc: Global,
     cx: &Context,
-    results: &[ValType],
+    results: &[PackedType],
     first: &Frame,
 ) -> Result<Option<Frame>, AllocError>
     ensures steps { IfOk result (λ second. (g : TheFrame) (gs : List TheFrame) (s : List Bool) →
@@ -110,7 +110,7 @@ pub(crate) fn else_frame(
 
 // Whether a block without a second branch needs none.
 #[tactic(auto, using(crate::proofs::EndsListed::ends_listed))]
-fn needs_none(classes: &Classes, kind: &FrameKind, from: &[ValType], to: &[ValType]) -> bool
+fn needs_none(classes: &Classes, kind: &FrameKind, from: &[PackedType], to: &[PackedType]) -> bool
     ensures { result ≡ needs_no_branch classes.now kind.now
         (record { from = row_of from.now; to = row_of to.now }) }
 {
@@ -123,10 +123,10 @@ fn needs_none(classes: &Classes, kind: &FrameKind, from: &[ValType], to: &[ValTy
 /// What the innermost block leaves, where it ends well; a body stands alone, and every other block in one.
 pub(crate) fn end_types<'c>(
     cx: &'c Context<'c>,
-    results: &'c [ValType],
+    results: &'c [PackedType],
     top: &'c Frame,
     alone: bool,
-) -> Option<&'c [ValType]>
+) -> Option<&'c [PackedType]>
     ensures { (fs : List TheFrame) (s : List Bool) → alone ≡ no_frames fs →
         end_next cx.now.classes.now (in_body (context_in cx.now) [] results.now)
         (frame_view top.now s) fs ≡ left_with result fs }

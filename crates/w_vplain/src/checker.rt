@@ -19,15 +19,15 @@ ghost use Rattle.w_vplain.specs.Measures.{total, peak_of, depth_of};
 ghost use Rattle.w_vplain.specs.Standing.{StandsFor, HasBases, HasClasses, Leads, IsCall, Answers, AnswersRow, Refuses, IsSameBody, IsUncounted, IsCounted, StaysOutOfMemory, context_for, classes_for, top_of, outer_of, frames_of, frames_of_derived};
 
 use crate::blocks::{else_frame, end_types, height, inner_frame};
-use crate::moves::Move;
+use crate::moves::{InstrRow, Move};
 use std::alloc::{AllocError, Global};
 use std::mem;
 use w_flow::Flow;
 use w_locals::Locals;
 use w_rules::Context;
-use w_steps::{BodyContext, Frame, FrameKind, label_of, packed_step};
+use w_steps::{Frame, FrameKind, label_of, packed_step};
 use w_syntax::{Instr, LocalRun, Op, PackedInstr, VariableOp};
-use w_types::ValType;
+use w_types::{PackedType, ValType};
 
 /// Types a body, one call for each instruction (Core, validation algorithm). It stands for sequences of instructions so far, by
 /// `StandsFor`; it keeps no instructions. Once a call answered false each later call does, and once out of memory it stays so.
@@ -35,8 +35,8 @@ use w_types::ValType;
 pub struct Checker<'a> {
     alloc: Global,
     cx: &'a Context<'a>,
-    results: Vec<ValType>,
-    locals: Locals,
+    results: &'a [PackedType],
+    locals: Locals<'a>,
     outer: Vec<Frame>,
     top: Frame,
     peak: u64,
@@ -130,7 +130,7 @@ fn open_blocks(outer: &[Frame]) -> Result<u32, AllocError>
 }
 
 // How many operands a row takes.
-fn row_size(ins: &[ValType], top: Option<ValType>) -> usize
+fn row_size(ins: &[PackedType], top: Option<ValType>) -> usize
     ensures { result ≡ size (row_with (row_of ins.now) top) }
 {
     match top {
@@ -161,9 +161,9 @@ impl<'a> Checker<'a> {
     pub fn begin(
         alloc: Global,
         cx: &'a Context<'a>,
-        params: &[ValType],
-        runs: &[LocalRun],
-        results: &[ValType],
+        params: &'a [PackedType],
+        runs: &'a [LocalRun],
+        results: &'a [PackedType],
     ) -> Result<Checker<'a>, AllocError>
         ensures context { IfOk result (λ c. context_for c
             ≡ in_body (context_in cx.now) (params.now ++ types_of_runs runs.now) results.now) }
@@ -172,7 +172,6 @@ impl<'a> Checker<'a> {
             → StandsFor c (set_first params.now runs.now) empty) }
     {
         let locals = Locals::begin(alloc, params, runs)?;
-        let results = Vec::from_slice(alloc, results)?;
         Ok(Checker {
             alloc,
             cx,
@@ -202,14 +201,17 @@ impl<'a> Checker<'a> {
         ensures uncounted { IsUncounted self.old self.new }
         ensures ended { self.new.ended ≡ self.old.ended }
     {
-        let body = BodyContext {
-            cx: self.cx,
-            locals: &self.locals,
-            results: self.results.as_slice(),
-            kind: &self.top.kind,
-            outer: self.outer.as_slice(),
-        };
-        if !packed_step(&body, &mut self.top.flow, packed)? {
+        let outer = self.outer.as_slice();
+        let top = &mut self.top;
+        if !packed_step(
+            self.cx,
+            &self.locals,
+            self.results,
+            &top.kind,
+            outer,
+            &mut top.flow,
+            packed,
+        )? {
             return Ok(false);
         }
         set_by(&mut self.locals, packed)?;
@@ -226,7 +228,7 @@ impl<'a> Checker<'a> {
         ensures uncounted { IsUncounted self.old self.new }
         ensures ended { self.new.ended ≡ self.old.ended }
     {
-        let results = self.results.as_slice();
+        let results = self.results;
         let Some(inner) = inner_frame(self.alloc, self.cx, results, kind, &mut self.top)? else {
             return Ok(false);
         };
@@ -249,7 +251,7 @@ impl<'a> Checker<'a> {
         if self.outer.as_slice().is_empty() {
             return Ok(false);
         }
-        match else_frame(self.alloc, self.cx, self.results.as_slice(), &self.top)? {
+        match else_frame(self.alloc, self.cx, self.results, &self.top)? {
             Some(second) => {
                 self.top = second;
                 self.locals.leave_block();
@@ -271,7 +273,7 @@ impl<'a> Checker<'a> {
         ensures uncounted { IsUncounted self.old self.new }
     {
         let alone = self.outer.as_slice().is_empty();
-        let Some(to) = end_types(self.cx, self.results.as_slice(), &self.top, alone) else {
+        let Some(to) = end_types(self.cx, self.results, &self.top, alone) else {
             return Ok(false);
         };
         match self.outer.pop() {
@@ -306,7 +308,8 @@ impl<'a> Checker<'a> {
     }
 
     // An instruction, where the body has not ended.
-    fn instr(&mut self, packed: &PackedInstr) -> Result<bool, AllocError>
+    #[inline(never)]
+    fn block_instr(&mut self, packed: &PackedInstr) -> Result<bool, AllocError>
         requires { IsFalse self.old.ended }
         ensures steps { IfOk result (λ taken. Leads (next (classes_for self.old)
             (context_for self.old) (unpacked packed.now) (top_of self.old
@@ -328,12 +331,33 @@ impl<'a> Checker<'a> {
         }
     }
 
+    // The same: those of blocks are rare, and stand out of line.
+    fn instr(&mut self, packed: &PackedInstr) -> Result<bool, AllocError>
+        requires { IsFalse self.old.ended }
+        ensures steps { IfOk result (λ taken. Leads (next (classes_for self.old)
+            (context_for self.old) (unpacked packed.now) (top_of self.old
+            ∷ outer_of self.old)) taken (frames_of self.new)) }
+        ensures bases { IfOk result (λ taken. IsTrue taken → HasBases self.old
+            → HasBases self.new) }
+        ensures uncounted { IsUncounted self.old self.new }
+    {
+        match packed {
+            PackedInstr::Block(_, _, _)
+            | PackedInstr::If(_, _)
+            | PackedInstr::IfElse(_, _, _)
+            | PackedInstr::Else
+            | PackedInstr::End
+            | PackedInstr::Boxed(_) => self.block_instr(packed),
+            _ => self.op(packed),
+        }
+    }
+
     // Operands of these types, the topmost of this one, are taken, and those given.
     fn row(
         &mut self,
-        ins: &[ValType],
+        ins: &[PackedType],
         top: Option<ValType>,
-        outs: &[ValType],
+        outs: &[PackedType],
     ) -> Result<bool, AllocError>
         requires { IsFalse self.old.ended }
         ensures steps { IfOk result (λ taken. Leads (row_next (classes_for self.old) (row_with
@@ -343,7 +367,10 @@ impl<'a> Checker<'a> {
         ensures uncounted { IsUncounted self.old self.new }
     {
         match top {
-            Some(top) => self.top.flow.fixed_below(self.cx.classes, ins, top, outs),
+            Some(top) => self
+                .top
+                .flow
+                .fixed_below(self.cx.classes, ins, PackedType::new(top), outs),
             None => self.top.flow.fixed(self.cx.classes, ins, outs),
         }
     }
@@ -351,7 +378,7 @@ impl<'a> Checker<'a> {
     // How many operands a row adds to those of its place, where that is counted.
     fn added(
         &self,
-        ins: &[ValType],
+        ins: &[PackedType],
         top: Option<ValType>,
         raise: Option<u64>,
     ) -> Result<u64, AllocError>
@@ -402,9 +429,9 @@ impl<'a> Checker<'a> {
     #[inline(never)]
     fn advance_row(
         &mut self,
-        ins: &[ValType],
+        ins: &[PackedType],
         top: Option<ValType>,
-        outs: &[ValType],
+        outs: &[PackedType],
         raise: Option<u64>,
     ) -> Result<bool, AllocError>
         requires { IsFalse self.old.ended }
@@ -434,12 +461,7 @@ impl<'a> Checker<'a> {
     {
         match step {
             Move::Packed(packed) => self.advance_instr(packed),
-            Move::Row {
-                ins,
-                top,
-                outs,
-                raise,
-            } => self.advance_row(ins, top, outs, raise),
+            Move::Row(row) => self.advance_row(row.ins, row.top, row.outs, row.raise),
         }
     }
 
@@ -476,9 +498,9 @@ impl<'a> Checker<'a> {
     /// sequence so far is derived. It fails only when out of memory.
     pub fn apply(
         &mut self,
-        ins: &[ValType],
+        ins: &[PackedType],
         top: Option<ValType>,
-        outs: &[ValType],
+        outs: &[PackedType],
         raise: Option<u64>,
     ) -> Result<bool, AllocError>
         ensures answers { IfOk result (λ taken. AnswersRow self.old self.new (row_with
@@ -486,12 +508,13 @@ impl<'a> Checker<'a> {
         ensures body { IsSameBody self.old self.new }
         ensures memory { StaysOutOfMemory self.old result self.new }
     {
-        self.call(Move::Row {
+        let row = InstrRow {
             ins,
             top,
             outs,
             raise,
-        })
+        };
+        self.call(Move::Row(&row))
     }
 
     /// An instruction that the rules do not derive where it stands: false, and it stands for each sequence that is not derived. It fails
@@ -516,7 +539,7 @@ impl<'a> Checker<'a> {
     }
 
     /// What a branch to a label takes, where the rules derive the sequence so far. Labels are counted from the innermost block.
-    pub fn label(&self, index: u32) -> Option<&[ValType]>
+    pub fn label(&self, index: u32) -> Option<&[PackedType]>
         ensures { (s : List Bool) (w : Prefix) → StandsFor self.now s w
             → IsDerivable (context_for self.now) s w
             → slice_get (labels_in (context_for self.now) w) index
@@ -527,7 +550,7 @@ impl<'a> Checker<'a> {
         }
         label_of(
             self.cx,
-            self.results.as_slice(),
+            self.results,
             &self.top.kind,
             self.outer.as_slice(),
             index,

@@ -11,15 +11,15 @@ use crate::continuations::last_index;
 use w_canon::Classes;
 use w_rules::Context;
 use w_syntax::Clause;
-use w_types::{FuncType, ValType};
+use w_types::{FuncType, PackedType};
 use w_vplain::Checker;
 
 // Whether a tag, what a label takes beneath a continuation, and the continuation's type fit in a resume with these results.
 fn label_matches(
     classes: &Classes,
-    results: &[ValType],
+    results: &[PackedType],
     tag: &FuncType,
-    beneath: &[ValType],
+    beneath: &[PackedType],
     target: &FuncType,
 ) -> bool
     ensures { result ≡ label_test classes.now results.now tag.now beneath.now target.now }
@@ -30,7 +30,7 @@ fn label_matches(
 }
 
 // Whether the rules type a clause with a label, which takes these types.
-fn label_clause_fits(cx: &Context, results: &[ValType], tag: u32, label: &[ValType]) -> bool
+fn label_clause_fits(cx: &Context, results: &[PackedType], tag: u32, label: &[PackedType]) -> bool
     ensures { Anywhere cx.now (λ c. (l : ℕ) → slice_get c.labels l ≡ Some (row_of label.now)
         → IsTrue result ↔ LabelClauseTyped c results.now tag l) }
 {
@@ -47,7 +47,7 @@ fn label_clause_fits(cx: &Context, results: &[ValType], tag: u32, label: &[ValTy
 }
 
 // Whether the rules type a clause with `switch`.
-fn switch_clause_fits(cx: &Context, results: &[ValType], tag: u32) -> bool
+fn switch_clause_fits(cx: &Context, results: &[PackedType], tag: u32) -> bool
     ensures { Anywhere cx.now (λ c. IsTrue result ↔ SwitchClauseTyped c results.now tag) }
 {
     match cx.type_of_tag(tag) {
@@ -59,7 +59,7 @@ fn switch_clause_fits(cx: &Context, results: &[ValType], tag: u32) -> bool
 }
 
 // Whether the rules type a clause of a resume with these results, where the checker stands.
-fn clause_fits(checker: &Checker, results: &[ValType], clause: &Clause) -> bool
+fn clause_fits(checker: &Checker, results: &[PackedType], clause: &Clause) -> bool
     ensures { AtEnds checker.now (λ c. IsTrue result ↔ ClauseTyped c results.now clause.now) }
 {
     match clause {
@@ -72,7 +72,7 @@ fn clause_fits(checker: &Checker, results: &[ValType], clause: &Clause) -> bool
 }
 
 /// Whether the rules type each clause of a resume with these results, where the checker stands.
-pub(crate) fn clauses_fit(checker: &Checker, results: &[ValType], clauses: &[Clause]) -> bool
+pub(crate) fn clauses_fit(checker: &Checker, results: &[PackedType], clauses: &[Clause]) -> bool
     ensures { AtEnds checker.now (λ c. IsTrue result
         ↔ All (ClauseTyped c results.now) clauses.now) }
 {

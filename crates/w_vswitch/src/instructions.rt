@@ -14,7 +14,7 @@ use crate::continuations::{last_index, non_null, nullable};
 use std::alloc::AllocError;
 use w_rules::Context;
 use w_syntax::{Clause, Instr, Op, PackedInstr, SwitchingOp};
-use w_types::{FuncType, ValType};
+use w_types::{FuncType, PackedType};
 use w_vplain::Checker;
 
 // A continuation of a function.
@@ -31,7 +31,7 @@ fn cont_new(checker: &mut Checker, index: u32) -> Result<bool, AllocError>
 }
 
 // The parameters of a continuation that a `cont.bind` of two types binds, where its condition holds.
-fn bound<'a>(cx: &'a Context<'a>, before: u32, after: u32) -> Option<&'a [ValType]>
+fn bound<'a>(cx: &'a Context<'a>, before: u32, after: u32) -> Option<&'a [PackedType]>
     ensures { Anywhere cx.now (BoundBy before after (option_map (λ v. v.now) result)) }
 {
     let one = cx.cont_of(before)?;
@@ -95,7 +95,11 @@ fn resume(checker: &mut Checker, index: u32, clauses: &[Clause]) -> Result<bool,
 }
 
 // What a `switch` to a continuation of this type takes beneath it, and what it gives back, where its condition holds.
-fn switched<'a>(cx: &'a Context<'a>, index: u32, tag: u32) -> Option<(&'a [ValType], &'a [ValType])>
+fn switched<'a>(
+    cx: &'a Context<'a>,
+    index: u32,
+    tag: u32,
+) -> Option<(&'a [PackedType], &'a [PackedType])>
     ensures { Anywhere cx.now (SwitchedBy index tag (option_map (λ p. (p.0.now, p.1.now)) result)) }
 {
     let one = cx.cont_of(index)?;

@@ -27,12 +27,17 @@ def _dropped_constants(size, seed, spell, bits, **layout):
 
 
 def constants_and_drops(size):
-    """`i32.const n; drop`, with numbers of all lengths."""
+    """`i32.const n; drop`, with numbers of one byte: two instructions in three bytes."""
+    return _dropped_constants(size, 31, i32_const, 6)
+
+
+def constants_of_all_lengths_and_drops(size):
+    """The same with numbers of up to five bytes."""
     return _dropped_constants(size, 2, i32_const, 31)
 
 
 def constants_in_one_body(size):
-    """The same as one function of the whole size."""
+    """Those of all lengths as one function of the whole size."""
     return _dropped_constants(size, 2, i32_const, 31, body_size=None)
 
 
@@ -152,7 +157,7 @@ def runs_of_no_local(size):
 
 
 FORMS = [
-    constants_and_drops, constants_in_one_body, long_constants_and_drops, sums, operands_that_pile_up,
-    one_byte_instructions, locals_got_and_dropped, many_locals_got_and_set, locals_set_in_blocks, locals_set_once,
+    constants_and_drops, constants_of_all_lengths_and_drops, constants_in_one_body, long_constants_and_drops, sums,
+    operands_that_pile_up, one_byte_instructions, locals_got_and_dropped, many_locals_got_and_set, locals_set_in_blocks, locals_set_once,
     globals_got_and_set, functions_that_do_nothing, functions_of_many_parameters, functions_of_many_locals,
     functions_of_many_unset_locals, runs_of_one_local, runs_of_no_local]

@@ -14,7 +14,7 @@ use std::alloc::AllocError;
 use w_flow::Flow;
 use w_rules::Context;
 use w_syntax::ControlOp;
-use w_types::{HeapType, RefType, ValType};
+use w_types::{HeapType, PackedType, RefType, ValType};
 
 // Whether each of these labels takes n types that can be taken.
 fn labels_fit(body: &BodyContext, flow: &Flow, labels: &[u32], count: usize) -> bool
@@ -61,7 +61,7 @@ fn br_if_step(body: &BodyContext, flow: &mut Flow, index: u32) -> Result<bool, A
         ≡ flow_if taken flow.new) }
 {
     match body.label(index) {
-        Some(label) => flow.fixed_below(body.cx.classes, label, ValType::I32, label),
+        Some(label) => flow.fixed_below(body.cx.classes, label, PackedType::I32, label),
         None => Ok(false),
     }
 }
@@ -79,11 +79,11 @@ fn br_on_null_step(body: &BodyContext, flow: &mut Flow, index: u32) -> Result<bo
 }
 
 // What a label takes beneath a reference, and the reference's heap type, where it takes a reference last.
-fn reference_label(label: &[ValType]) -> Option<(&[ValType], HeapType)>
+fn reference_label(label: &[PackedType]) -> Option<(&[PackedType], HeapType)>
     ensures { br_on_non_null_type (Some (row_of label.now)) ≡ non_null_type result }
 {
     let (top, beneath) = label.split_last()?;
-    match *top {
+    match top.whole() {
         ValType::Ref(reference) => Some((beneath, reference.heap)),
         ValType::I32 | ValType::I64 => None,
     }
@@ -101,7 +101,7 @@ fn br_on_non_null_step(body: &BodyContext, flow: &mut Flow, index: u32) -> Resul
     let Some((beneath, heap)) = reference_label(label) else {
         return Ok(false);
     };
-    let reference = ValType::Ref(RefType {
+    let reference = PackedType::reference(RefType {
         nullable: true,
         heap,
     });
@@ -146,7 +146,7 @@ fn call_indirect_step(
         Some(kind) => flow.fixed_below(
             cx.classes,
             kind.params.as_slice(),
-            ValType::I32,
+            PackedType::I32,
             kind.results.as_slice(),
         ),
         None => Ok(false),
@@ -159,7 +159,7 @@ fn call_ref_step(cx: &Context, flow: &mut Flow, index: u32) -> Result<bool, Allo
         (context_in cx.now) index)) (flow_view flow.old).any (flow_view flow.old).operands
         ≡ flow_if taken flow.new) }
 {
-    let reference = ValType::Ref(RefType {
+    let reference = PackedType::reference(RefType {
         nullable: true,
         heap: HeapType::Index(index),
     });

@@ -8,15 +8,15 @@ ghost use Rattle.w_rules.specs.InstructionTypes.{fixed, if_valid};
 use std::alloc::AllocError;
 use w_canon::Classes;
 use w_flow::Flow;
-use w_types::ValType;
+use w_types::PackedType;
 
 /// Takes and gives operands of these types, where the test holds.
 pub(crate) fn fixed_if_valid(
     classes: &Classes,
     flow: &mut Flow,
     test: bool,
-    ins: &[ValType],
-    outs: &[ValType],
+    ins: &[PackedType],
+    outs: &[PackedType],
 ) -> Result<bool, AllocError>
     ensures { IfOk result (λ taken. step classes.now (if_valid test (fixed (row_of ins.now)
         (row_of outs.now))) (flow_view flow.old).any (flow_view flow.old).operands
@@ -33,8 +33,8 @@ pub(crate) fn turns_if_valid(
     classes: &Classes,
     flow: &mut Flow,
     test: bool,
-    from: ValType,
-    to: ValType,
+    from: PackedType,
+    to: PackedType,
 ) -> Result<bool, AllocError>
     ensures { IfOk result (λ taken. step classes.now (if_valid test (fixed (ε ▹ from) (ε ▹ to)))
         (flow_view flow.old).any (flow_view flow.old).operands ≡ flow_if taken flow.new) }
@@ -50,8 +50,8 @@ pub(crate) fn takes_two_if_valid(
     classes: &Classes,
     flow: &mut Flow,
     test: bool,
-    below: ValType,
-    top: ValType,
+    below: PackedType,
+    top: PackedType,
 ) -> bool
     ensures { step classes.now (if_valid test (fixed (ε ▹ below ▹ top) ε))
         (flow_view flow.old).any (flow_view flow.old).operands ≡ flow_if result flow.new }

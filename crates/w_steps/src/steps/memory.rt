@@ -1,5 +1,6 @@
 //! Memory instructions.
 ghost use Rattle.std.specs.Prelude.{◌≡◌, IfOk};
+ghost use Rattle.w_syntax.specs.declared.memory_instructions.MemoryOp.TheVariants as op;
 ghost use Rattle.w_flow.specs.Flow.{step};
 ghost use Rattle.w_flow.specs.View.{flow_view, flow_if};
 ghost use Rattle.w_rules.specs.InstructionTypes.{load_type as the_load_type, load_width as the_load_width, store_type as the_store_type, store_width as the_store_width, is_access as the_access, memory_op_type};
@@ -9,10 +10,13 @@ use crate::steps::if_valid::{fixed_if_valid, takes_two_if_valid, turns_if_valid}
 use std::alloc::AllocError;
 use w_flow::Flow;
 use w_rules::Context;
-use w_syntax::{LoadOp, MemArg, MemoryOp, StoreOp};
-use w_types::ValType;
+use w_syntax::{LoadOp, MemoryOp, StoreOp};
+use w_types::PackedType;
 
-fn load_type(load: LoadOp) -> ValType
+// What takes a place, a second one or a byte, and a length takes.
+const THREE: [PackedType; 3] = [PackedType::I32, PackedType::I32, PackedType::I32];
+
+fn load_type(load: LoadOp) -> PackedType
     ensures { result ≡ the_load_type load }
 {
     match load {
@@ -20,14 +24,14 @@ fn load_type(load: LoadOp) -> ValType
         | LoadOp::I32Load8S
         | LoadOp::I32Load8U
         | LoadOp::I32Load16S
-        | LoadOp::I32Load16U => ValType::I32,
+        | LoadOp::I32Load16U => PackedType::I32,
         LoadOp::I64Load
         | LoadOp::I64Load8S
         | LoadOp::I64Load8U
         | LoadOp::I64Load16S
         | LoadOp::I64Load16U
         | LoadOp::I64Load32S
-        | LoadOp::I64Load32U => ValType::I64,
+        | LoadOp::I64Load32U => PackedType::I64,
     }
 }
 
@@ -43,13 +47,13 @@ fn load_width(load: LoadOp) -> u32
     }
 }
 
-fn store_type(store: StoreOp) -> ValType
+fn store_type(store: StoreOp) -> PackedType
     ensures { result ≡ the_store_type store }
 {
     match store {
-        StoreOp::I32Store | StoreOp::I32Store8 | StoreOp::I32Store16 => ValType::I32,
+        StoreOp::I32Store | StoreOp::I32Store8 | StoreOp::I32Store16 => PackedType::I32,
         StoreOp::I64Store | StoreOp::I64Store8 | StoreOp::I64Store16 | StoreOp::I64Store32 =>
-            ValType::I64,
+            PackedType::I64,
     }
 }
 
@@ -66,10 +70,42 @@ fn store_width(store: StoreOp) -> u32
 }
 
 // Whether an access of this width, as a power of two, is one.
-fn is_access(cx: &Context, width: u32, argument: MemArg) -> bool
-    ensures { result ≡ the_access (context_in cx.now) width argument }
+fn is_access(cx: &Context, width: u32, align: u8, offset: u64) -> bool
+    ensures { result ≡ the_access (context_in cx.now) width (record { align = align; offset = offset }) }
 {
-    cx.has_memory(0) && (u32::from(argument.align) <= width && argument.offset < 1 << 32)
+    cx.has_memory(0) && (u32::from(align) <= width && offset < 1 << 32)
+}
+
+/// A load, with the exponent of the alignment and the offset.
+pub(crate) fn load_step(
+    cx: &Context,
+    flow: &mut Flow,
+    load: LoadOp,
+    align: u8,
+    offset: u64,
+) -> Result<bool, AllocError>
+    ensures { IfOk result (λ taken. step cx.now.classes.now (memory_op_type (context_in cx.now)
+        (op.Load load (record { align = align; offset = offset }))) (flow_view flow.old).any
+        (flow_view flow.old).operands ≡ flow_if taken flow.new) }
+{
+    let access = is_access(cx, load_width(load), align, offset);
+    turns_if_valid(cx.classes, flow, access, PackedType::I32, load_type(load))
+}
+
+/// A store, with the exponent of the alignment and the offset.
+pub(crate) fn store_step(
+    cx: &Context,
+    flow: &mut Flow,
+    store: StoreOp,
+    align: u8,
+    offset: u64,
+) -> bool
+    ensures { step cx.now.classes.now (memory_op_type (context_in cx.now)
+        (op.Store store (record { align = align; offset = offset }))) (flow_view flow.old).any
+        (flow_view flow.old).operands ≡ flow_if result flow.new }
+{
+    let access = is_access(cx, store_width(store), align, offset);
+    takes_two_if_valid(cx.classes, flow, access, PackedType::I32, store_type(store))
 }
 
 /// A memory instruction.
@@ -77,19 +113,16 @@ pub(crate) fn memory_step(cx: &Context, flow: &mut Flow, op: MemoryOp) -> Result
     ensures { IfOk result (λ taken. step cx.now.classes.now (memory_op_type (context_in cx.now) op)
         (flow_view flow.old).any (flow_view flow.old).operands ≡ flow_if taken flow.new) }
 {
-    let three = [ValType::I32, ValType::I32, ValType::I32];
     match op {
         MemoryOp::Load(load, argument) => {
-            let access = is_access(cx, load_width(load), argument);
-            turns_if_valid(cx.classes, flow, access, ValType::I32, load_type(load))
+            load_step(cx, flow, load, argument.align, argument.offset)
         }
         MemoryOp::Store(store, argument) => {
-            let access = is_access(cx, store_width(store), argument);
-            Ok(takes_two_if_valid(cx.classes, flow, access, ValType::I32, store_type(store)))
+            Ok(store_step(cx, flow, store, argument.align, argument.offset))
         }
         MemoryOp::Size(memory) => {
             if cx.has_memory(memory) {
-                flow.gives(ValType::I32)
+                flow.gives(PackedType::I32)
             } else {
                 Ok(false)
             }
@@ -98,22 +131,22 @@ pub(crate) fn memory_step(cx: &Context, flow: &mut Flow, op: MemoryOp) -> Result
             cx.classes,
             flow,
             cx.has_memory(memory),
-            ValType::I32,
-            ValType::I32,
+            PackedType::I32,
+            PackedType::I32,
         ),
         MemoryOp::Init(segment, memory) => {
             let there = cx.has_memory(memory) && cx.has_data(segment);
-            fixed_if_valid(cx.classes, flow, there, &three, &[])
+            fixed_if_valid(cx.classes, flow, there, &THREE, &[])
         }
         MemoryOp::DataDrop(segment) => {
             fixed_if_valid(cx.classes, flow, cx.has_data(segment), &[], &[])
         }
         MemoryOp::Copy(to, from) => {
             let there = cx.has_memory(to) && cx.has_memory(from);
-            fixed_if_valid(cx.classes, flow, there, &three, &[])
+            fixed_if_valid(cx.classes, flow, there, &THREE, &[])
         }
         MemoryOp::Fill(memory) => {
-            fixed_if_valid(cx.classes, flow, cx.has_memory(memory), &three, &[])
+            fixed_if_valid(cx.classes, flow, cx.has_memory(memory), &THREE, &[])
         }
     }
 }

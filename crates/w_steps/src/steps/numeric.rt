@@ -9,27 +9,28 @@ use std::alloc::AllocError;
 use w_canon::Classes;
 use w_flow::Flow;
 use w_syntax::{Cvtop, IntType, NumericOp};
-use w_types::ValType;
+use w_types::PackedType;
 
-fn of_int(kind: IntType) -> ValType
+/// The type of integers of a size.
+pub(crate) fn of_int(kind: IntType) -> PackedType
     ensures { result ≡ the_type kind }
 {
     match kind {
-        IntType::I32 => ValType::I32,
-        IntType::I64 => ValType::I64,
+        IntType::I32 => PackedType::I32,
+        IntType::I64 => PackedType::I64,
     }
 }
 
 // What a conversion takes and gives.
-fn converted(convert: Cvtop) -> (ValType, ValType)
+fn converted(convert: Cvtop) -> (PackedType, PackedType)
     ensures { convert_type convert ≡ fixed (ε ▹ result.0) (ε ▹ result.1) }
 {
     match convert {
-        Cvtop::I32WrapI64 => (ValType::I64, ValType::I32),
-        Cvtop::I64ExtendI32S | Cvtop::I64ExtendI32U => (ValType::I32, ValType::I64),
-        Cvtop::I32Extend8S | Cvtop::I32Extend16S => (ValType::I32, ValType::I32),
+        Cvtop::I32WrapI64 => (PackedType::I64, PackedType::I32),
+        Cvtop::I64ExtendI32S | Cvtop::I64ExtendI32U => (PackedType::I32, PackedType::I64),
+        Cvtop::I32Extend8S | Cvtop::I32Extend16S => (PackedType::I32, PackedType::I32),
         Cvtop::I64Extend8S | Cvtop::I64Extend16S | Cvtop::I64Extend32S => {
-            (ValType::I64, ValType::I64)
+            (PackedType::I64, PackedType::I64)
         }
     }
 }
@@ -44,10 +45,10 @@ pub(crate) fn numeric_step(
         (flow_view flow.old).operands ≡ flow_if taken flow.new) }
 {
     match op {
-        NumericOp::I32Const(_) => flow.gives(ValType::I32),
-        NumericOp::I64Const(_) => flow.gives(ValType::I64),
-        NumericOp::Eqz(kind) => flow.turns(classes, of_int(kind), ValType::I32),
-        NumericOp::Compare(kind, _) => flow.joins(classes, of_int(kind), ValType::I32),
+        NumericOp::I32Const(_) => flow.gives(PackedType::I32),
+        NumericOp::I64Const(_) => flow.gives(PackedType::I64),
+        NumericOp::Eqz(kind) => flow.turns(classes, of_int(kind), PackedType::I32),
+        NumericOp::Compare(kind, _) => flow.joins(classes, of_int(kind), PackedType::I32),
         NumericOp::Unary(kind, _) => flow.turns(classes, of_int(kind), of_int(kind)),
         NumericOp::Binary(kind, _) => flow.joins(classes, of_int(kind), of_int(kind)),
         NumericOp::Convert(convert) => {

@@ -10,10 +10,10 @@ use std::alloc::AllocError;
 use w_flow::Flow;
 use w_rules::Context;
 use w_syntax::ParametricOp;
-use w_types::ValType;
+use w_types::PackedType;
 
 // A select with the types that it names.
-fn select_step(cx: &Context, flow: &mut Flow, types: &[ValType]) -> Result<bool, AllocError>
+fn select_step(cx: &Context, flow: &mut Flow, types: &[PackedType]) -> Result<bool, AllocError>
     ensures { IfOk result (λ taken. step cx.now.classes.now (select_type
         (context_in cx.now) types.now) (flow_view flow.old).any (flow_view flow.old).operands
         ≡ flow_if taken flow.new) }
@@ -23,7 +23,7 @@ fn select_step(cx: &Context, flow: &mut Flow, types: &[ValType]) -> Result<bool,
             cx.classes,
             flow,
             cx.has_type(*kind),
-            &[*kind, *kind, ValType::I32],
+            &[*kind, *kind, PackedType::I32],
             &[*kind],
         ),
         _ => Ok(false),

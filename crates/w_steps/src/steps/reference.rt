@@ -11,16 +11,16 @@ use std::alloc::AllocError;
 use w_flow::Flow;
 use w_rules::Context;
 use w_syntax::ReferenceOp;
-use w_types::{HeapType, RefType, ValType};
+use w_types::{HeapType, PackedType, RefType};
 
 // The type of a reference to a function that is declared.
-fn function_reference(cx: &Context, function: u32) -> Option<ValType>
+fn function_reference(cx: &Context, function: u32) -> Option<PackedType>
     ensures { ref_func_type (slice_get (context_in cx.now).functions function) (slice_get
         (context_in cx.now).declared function) ≡ gives_type result }
 {
     let index = *cx.functions.get(function as usize)?;
     if *cx.declared.get(function as usize)? {
-        Some(ValType::Ref(RefType {
+        Some(PackedType::reference(RefType {
             nullable: false,
             heap: HeapType::Index(index),
         }))
@@ -41,7 +41,7 @@ pub(crate) fn reference_step(
 {
     match op {
         ReferenceOp::Null(heap) => {
-            let null = ValType::Ref(RefType {
+            let null = PackedType::reference(RefType {
                 nullable: true,
                 heap,
             });

@@ -11,10 +11,10 @@ use std::alloc::AllocError;
 use w_flow::Flow;
 use w_rules::Context;
 use w_syntax::TableOp;
-use w_types::ValType;
+use w_types::PackedType;
 
 // What copies so many elements from a place to a place takes.
-const THREE: [ValType; 3] = [ValType::I32, ValType::I32, ValType::I32];
+const THREE: [PackedType; 3] = [PackedType::I32, PackedType::I32, PackedType::I32];
 
 // A copy of an element segment into a table.
 fn init_step(cx: &Context, flow: &mut Flow, segment: u32, table: u32) -> Result<bool, AllocError>
@@ -65,8 +65,8 @@ fn grow_step(cx: &Context, flow: &mut Flow, index: u32) -> Result<bool, AllocErr
 {
     match cx.table(index) {
         Some(table) => {
-            let taken = [ValType::Ref(table.element), ValType::I32];
-            flow.fixed(cx.classes, &taken, &[ValType::I32])
+            let taken = [PackedType::reference(table.element), PackedType::I32];
+            flow.fixed(cx.classes, &taken, &[PackedType::I32])
         }
         None => Ok(false),
     }
@@ -80,7 +80,11 @@ fn fill_step(cx: &Context, flow: &mut Flow, index: u32) -> Result<bool, AllocErr
 {
     match cx.table(index) {
         Some(table) => {
-            let taken = [ValType::I32, ValType::Ref(table.element), ValType::I32];
+            let taken = [
+                PackedType::I32,
+                PackedType::reference(table.element),
+                PackedType::I32,
+            ];
             flow.fixed(cx.classes, &taken, &[])
         }
         None => Ok(false),
@@ -96,11 +100,19 @@ pub(crate) fn table_step(cx: &Context, flow: &mut Flow, op: TableOp) -> Result<b
     let classes = cx.classes;
     match op {
         TableOp::Get(index) => match cx.table(index) {
-            Some(table) => flow.turns(classes, ValType::I32, ValType::Ref(table.element)),
+            Some(table) => flow.turns(
+                classes,
+                PackedType::I32,
+                PackedType::reference(table.element),
+            ),
             None => Ok(false),
         },
         TableOp::Set(index) => match cx.table(index) {
-            Some(table) => Ok(flow.takes_two(classes, ValType::I32, ValType::Ref(table.element))),
+            Some(table) => Ok(flow.takes_two(
+                classes,
+                PackedType::I32,
+                PackedType::reference(table.element),
+            )),
             None => Ok(false),
         },
         TableOp::Init(segment, table) => init_step(cx, flow, segment, table),
@@ -111,7 +123,7 @@ pub(crate) fn table_step(cx: &Context, flow: &mut Flow, op: TableOp) -> Result<b
         TableOp::Copy(to, from) => copy_step(cx, flow, to, from),
         TableOp::Grow(index) => grow_step(cx, flow, index),
         TableOp::Size(index) => match cx.table(index) {
-            Some(_) => flow.gives(ValType::I32),
+            Some(_) => flow.gives(PackedType::I32),
             None => Ok(false),
         },
         TableOp::Fill(index) => fill_step(cx, flow, index),

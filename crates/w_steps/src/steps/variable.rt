@@ -1,21 +1,23 @@
 //! Variable instructions.
-ghost use Rattle.std.specs.Prelude.{◌≡◌, IfOk, slice_get};
+ghost use Rattle.std.specs.Prelude.{◌≡◌, [], IfOk, slice_get};
 ghost use Rattle.w_types.specs.Rows.{ε, ◌▹◌};
 ghost use Rattle.w_flow.specs.Flow.{step};
 ghost use Rattle.w_flow.specs.View.{flow_view, flow_if};
 ghost use Rattle.w_rules.specs.InstructionTypes.{global_set_type, variable_op_type};
 ghost use Rattle.w_locals.specs.Locals.{first_set};
-ghost use Rattle.w_steps.specs.View.{context_at, takes_type};
+ghost use Rattle.w_rules.specs.Spaces.{in_body};
+ghost use Rattle.w_rules.specs.View.{context_in};
+ghost use Rattle.w_steps.specs.View.{takes_type};
 
-use crate::body_context::BodyContext;
 use std::alloc::AllocError;
 use w_flow::Flow;
+use w_locals::Locals;
 use w_rules::Context;
 use w_syntax::{Mutability, VariableOp};
-use w_types::ValType;
+use w_types::PackedType;
 
 // The type of a global that may be written.
-fn variable_global(cx: &Context, global: u32) -> Option<ValType>
+fn variable_global(cx: &Context, global: u32) -> Option<PackedType>
     ensures { global_set_type (slice_get cx.now.globals.now global) ≡ takes_type result }
 {
     let found = cx.global(global)?;
@@ -27,33 +29,34 @@ fn variable_global(cx: &Context, global: u32) -> Option<ValType>
 
 /// A variable instruction.
 pub(crate) fn variable_step(
-    body: &BodyContext,
+    cx: &Context,
+    locals: &Locals,
     flow: &mut Flow,
     op: VariableOp,
 ) -> Result<bool, AllocError>
-    ensures { IfOk result (λ taken. step body.now.cx.now.classes.now (variable_op_type
-        (context_at body.now) (first_set body.now.locals.now.sets) op) (flow_view flow.old).any
-        (flow_view flow.old).operands ≡ flow_if taken flow.new) }
+    ensures { IfOk result (λ taken. step cx.now.classes.now (variable_op_type
+        (in_body (context_in cx.now) locals.now.types []) (first_set locals.now.sets) op)
+        (flow_view flow.old).any (flow_view flow.old).operands ≡ flow_if taken flow.new) }
 {
-    let classes = body.cx.classes;
+    let classes = cx.classes;
     match op {
-        VariableOp::LocalGet(local) => match body.locals.get_set(local) {
+        VariableOp::LocalGet(local) => match locals.get_set(local) {
             Some(kind) => flow.gives(kind),
             None => Ok(false),
         },
-        VariableOp::LocalSet(local) => match body.locals.get(local) {
+        VariableOp::LocalSet(local) => match locals.get(local) {
             Some(kind) => Ok(flow.takes(classes, kind)),
             None => Ok(false),
         },
-        VariableOp::LocalTee(local) => match body.locals.get(local) {
+        VariableOp::LocalTee(local) => match locals.get(local) {
             Some(kind) => flow.turns(classes, kind, kind),
             None => Ok(false),
         },
-        VariableOp::GlobalGet(global) => match body.cx.global(global) {
+        VariableOp::GlobalGet(global) => match cx.global(global) {
             Some(found) => flow.gives(found.kind),
             None => Ok(false),
         },
-        VariableOp::GlobalSet(global) => match variable_global(body.cx, global) {
+        VariableOp::GlobalSet(global) => match variable_global(cx, global) {
             Some(kind) => Ok(flow.takes(classes, kind)),
             None => Ok(false),
         },

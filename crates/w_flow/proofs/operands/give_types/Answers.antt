@@ -1,9 +1,8 @@
-use Rattle.std.proofs.Common.{◌∙◌, ap, arith}
-use Rattle.w_types.specs.Rows.{row_of}
-use Rattle.w_types.specs.declared.types.ValType.TheVariants.{I32}
-use Rattle.w_flow.proofs.RowsOfLists.{given_more}
+use Rattle.std.proofs.Common.{rules}
+use Rattle.w_rules.specs.Operands.{Bottom}
+use Rattle.w_flow.proofs.SameTypes.{given_whole}
 use Rattle.w_flow.proofs.operands.give_types.Goals as goal
 
-pub loop-kind-preserved : goal.loop-kind-preserved
-loop-kind-preserved c =
-    ap row_of c.in_ok-push.ensures.items ∙ given_more (row_of c.args.operands.now.items) c.loop-kind.operands.items c.args.types.now c.loop-kind.kind-index I32 (omega arith) c.loop-kind.invariant
+pub returns : goal.returns
+returns c =
+    given_whole c.args.operands.now.items c.resize.new.self.items _ c.args.types.now Bottom c.len-from.result _ (search rules) c.in_ok-resize.ensures.items c.put_types.ensures

@@ -1,5 +1,5 @@
-use Rattle.std.proofs.Common.{◌^◌, ◌<◌, ◌-◌, drop, arith, ap, ◌∙◌, Some, ℤ}
-use Rattle.w_leb.proofs.Places.{signed_low, half_wide, low_is}
+use Rattle.std.proofs.Common.{◌^◌, ◌<◌, ◌≤◌, ◌-◌, drop, arith, ap, ◌∙◌, Some, ℤ}
+use Rattle.w_leb.proofs.Places.{signed_low, signed_up, half_wide, low_is, up_is}
 use Rattle.w_leb.proofs.reading.signed_from.Goals as goal
 
 pub returns-then-byte-lt64-clause-reads : goal.returns-then-byte-lt64-clause-reads
@@ -11,3 +11,13 @@ pub returns-then-byte-lt64-clause-fits : goal.returns-then-byte-lt64-clause-fits
 returns-then-byte-lt64-clause-fits c =
     let f : c.in-Some.byte < 2 ^ (c.args.width - 1) = omega (arith, half_wide c.args.width c.requires.low) in
     (low_is c.in-Some.byte c.args.width c.if-byte-lt64.true f).1
+
+pub returns-then-byte-lt128-clause-reads : goal.returns-then-byte-lt128-clause-reads
+returns-then-byte-lt128-clause-reads c =
+    let f : 128 - c.in-Some.byte ≤ 2 ^ (c.args.width - 1) = omega (arith, half_wide c.args.width c.requires.low) in
+    (signed_up _ _ _ _ c.in-Some.ensures.0 c.if-byte-lt64.false c.if-byte-lt128.true f ∙ ap (λ (z : ℤ). Some (z, drop c.in-Some.next c.args.bytes.now)) (up_is c.in-Some.byte c.args.width c.if-byte-lt128.true f).0, c.in-Some.ensures.1, c.in-Some.ensures.2)
+
+pub returns-then-byte-lt128-clause-fits : goal.returns-then-byte-lt128-clause-fits
+returns-then-byte-lt128-clause-fits c =
+    let f : 128 - c.in-Some.byte ≤ 2 ^ (c.args.width - 1) = omega (arith, half_wide c.args.width c.requires.low) in
+    (up_is c.in-Some.byte c.args.width c.if-byte-lt128.true f).1

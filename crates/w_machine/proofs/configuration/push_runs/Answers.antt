@@ -1,6 +1,7 @@
-use Rattle.std.proofs.Common.{◌≡◌, length, sym, ap, ◌∙◌, arith, append-nil, replicate, ◌++◌, [], List, Option, drop, refl}
+use Rattle.std.proofs.Common.{◌≡◌, ◌+◌, subst, length, sym, ap, ◌∙◌, arith, append-nil, replicate, ◌++◌, [], List, Option, drop, refl}
 use Rattle.std.specs.Vec.{vec_len}
 use Rattle.std.proofs.lemmas.List.{drop_all}
+use Rattle.w_types.specs.Values.{default_of}
 use Rattle.w_types.specs.declared.value.Value.{Value}
 use Rattle.w_syntax.specs.declared.locals.LocalRun.{LocalRun}
 use Rattle.w_reduce.specs.Control.{defaults}
@@ -18,9 +19,11 @@ returns-in_err-push_run-clause-keeps c =
 
 pub loop-run-preserved : goal.loop-run-preserved
 loop-run-preserved c =
-    let part = c.loop-run.invariant.0 in (
-      part ++ replicate _ _,
-      runs_more c.args.runs.now c.loop-run.run-index _ part (defaults c.args.runs.now) c.loop-run-test.true c.loop-run.invariant.1,
+    let part = c.loop-run.invariant.0 in
+    let run = c.run-item.result in (
+      part ++ replicate run.count (default_of run.kind),
+      subst (λ (r : LocalRun). (part ++ replicate r.count (default_of r.kind)) ++ defaults (drop (c.loop-run.run-index + 1) c.args.runs.now) ≡ defaults c.args.runs.now) (sym c.run-item.is)
+          (runs_more c.args.runs.now c.loop-run.run-index run part (defaults c.args.runs.now) c.loop-run-test.true c.loop-run.invariant.1),
       runs_joined c.args.locals.now.items c.loop-run.locals.items c.push_run.new.locals.items part _ c.loop-run.invariant.2 c.in_ok-push_run.ensures.ok,
     )
 

@@ -1,18 +1,20 @@
 use Rattle.std.proofs.Common.{arith, ap, refl}
 use Rattle.std.proofs.lemmas.List.{drop_all}
-use Rattle.w_types.specs.declared.types.ValType.TheVariants.{I32}
+use Rattle.w_syntax.specs.declared.locals.LocalRun.{LocalRun}
 use Rattle.w_syntax.specs.Locals.{total}
 use Rattle.w_syntax.proofs.Totals.{total_none, total_more}
 use Rattle.w_rules.proofs.limits.fits_within.Goals as goal
 
 pub returns-then-count-left : goal.returns-then-count-left
 returns-then-count-left c =
-    let e = total_more c.args.runs.now c.loop-run.run-index (record { count = 0; kind = I32 }) c.loop-run-test.true in
-    (λ f. absurd (cc), λ le. absurd (omega arith))
+    let e = total_more c.args.runs.now c.loop-run.run-index c.run-item.result c.loop-run-test.true in
+    let f = ap (λ (r : LocalRun). r.count) c.run-item.is in
+    (λ no. absurd (cc), λ le. absurd (omega arith))
 
 pub loop-run-preserved : goal.loop-run-preserved
 loop-run-preserved c =
-    let e = total_more c.args.runs.now c.loop-run.run-index (record { count = 0; kind = I32 }) c.loop-run-test.true in
+    let e = total_more c.args.runs.now c.loop-run.run-index c.run-item.result c.loop-run-test.true in
+    let f = ap (λ (r : LocalRun). r.count) c.run-item.is in
     omega arith
 
 pub returns : goal.returns

@@ -5,7 +5,6 @@ use Rattle.w_syntax.specs.Locals.{join}
 use Rattle.w_syntax.specs.Locals.{total}
 use Rattle.w_syntax.proofs.Joining.{rev_last, join_none, join_first, join_same, join_other}
 use Rattle.w_syntax.proofs.Totals.{total_first}
-use Rattle.w_syntax.proofs.SameKind.{kinds_alike}
 use Rattle.w_syntax.proofs.locals.prepend_run.Goals as goal
 
 pub returns-then-run-eq0 : goal.returns-then-run-eq0
@@ -23,13 +22,13 @@ overflow_add-run c =
     let e : reverse c.args.backwards.now.items ≡ c.in-Some.next ∷ reverse c.pop.new.self.items = ap reverse c.in-Some.ensures.items ∙ rev_last c.pop.new.self.items c.in-Some.next in
     omega (arith, c.requires, ap total e, total_first c.in-Some.next (reverse c.pop.new.self.items))
 
-pub returns-then-eq : goal.returns-then-eq
-returns-then-eq c =
+pub returns-then-are_one_type : goal.returns-then-are_one_type
+returns-then-are_one_type c =
     let e : reverse c.args.backwards.now.items ≡ c.in-Some.next ∷ reverse c.pop.new.self.items = ap reverse c.in-Some.ensures.items ∙ rev_last c.pop.new.self.items c.in-Some.next in
-    ap reverse c.in_ok-push-2.ensures.items ∙ rev_last c.pop.new.self.items _ ∙ join_same c.args.run c.in-Some.next (reverse c.pop.new.self.items) c.if-run-eq0.false (sym (kinds_alike c.args.run.kind c.in-Some.next.kind) ∙ (sym c.eq.ensures ∙ c.if-eq.true)) ∙ ap (join c.args.run) (sym e)
+    ap reverse c.in_ok-push-2.ensures.items ∙ rev_last c.pop.new.self.items _ ∙ join_same c.args.run c.in-Some.next (reverse c.pop.new.self.items) c.if-run-eq0.false (sym c.are_one_type.ensures ∙ c.if-are_one_type.true) ∙ ap (join c.args.run) (sym e)
 
 pub returns : goal.returns
 returns c =
     let e : reverse c.args.backwards.now.items ≡ c.in-Some.next ∷ reverse c.pop.new.self.items = ap reverse c.in-Some.ensures.items ∙ rev_last c.pop.new.self.items c.in-Some.next in
     ap reverse (c.in_ok-push-4.ensures.items) ∙ rev_last c.push-2.new.self.items c.args.run ∙ ap (λ (l : List LocalRun). c.args.run ∷ l) (ap reverse c.in_ok-push-3.ensures.items ∙ rev_last c.pop.new.self.items c.in-Some.next)
-    ∙ join_other c.args.run c.in-Some.next (reverse c.pop.new.self.items) c.if-run-eq0.false (sym (kinds_alike c.args.run.kind c.in-Some.next.kind) ∙ (sym c.eq.ensures ∙ c.if-eq.false)) ∙ ap (join c.args.run) (sym e)
+    ∙ join_other c.args.run c.in-Some.next (reverse c.pop.new.self.items) c.if-run-eq0.false (sym c.are_one_type.ensures ∙ c.if-are_one_type.false) ∙ ap (join c.args.run) (sym e)

@@ -1,5 +1,5 @@
-use Rattle.std.proofs.Common.{false, true}
-use Rattle.w_types.specs.declared.types.ValType.TheVariants.{I32}
+use Rattle.std.proofs.Common.{false, true, get_or, ap, sym, ◌∙◌}
+use Rattle.w_types.specs.declared.types.ValType.{ValType}
 use Rattle.w_canon.specs.Tests.{val_same_test}
 use Rattle.w_types.proofs.Tests.{told_by}
 use Rattle.w_canon.proofs.MatchingTests.{result_same_told}
@@ -13,13 +13,15 @@ returns-then-a-b c =
 
 pub returns-then-not-equals_val : goal.returns-then-not-equals_val
 returns-then-not-equals_val c =
-    let e = differ_here (val_same_test c.args.self.now) c.args.a.now c.args.b.now c.loop-index.index c.loop-index.invariant.0 c.loop-index.invariant.1 I32 I32 c.loop-index-test.true (cc) in
+    let e = differ_here (val_same_test c.args.self.now) c.args.a.now c.args.b.now c.loop-index.index c.loop-index.invariant.0 c.loop-index.invariant.1 c.index-a-index.result c.index-b-index.result c.loop-index-test.true (ap (λ (t : ValType). val_same_test c.args.self.now t (get_or c.args.b.now c.loop-index.index c.index-b-index.result)) (sym c.index-a-index.is)
+    ∙ ap (val_same_test c.args.self.now c.index-a-index.result) (sym c.index-b-index.is) ∙ sym c.equals_val.ensures.computed ∙ c.if-not-equals_val.true) in
     record { computed = e; related = λ gs h. told_by false _ e (result_same_told gs c.args.self.now h c.args.a.now c.args.b.now) }
 
 pub loop-index-preserved : goal.loop-index-preserved
 loop-index-preserved c = (
   c.loop-index.invariant.0,
-  agree_here (val_same_test c.args.self.now) c.args.a.now c.args.b.now c.loop-index.index c.loop-index.invariant.0 c.loop-index.invariant.1 I32 I32 c.loop-index-test.true (cc),
+  agree_here (val_same_test c.args.self.now) c.args.a.now c.args.b.now c.loop-index.index c.loop-index.invariant.0 c.loop-index.invariant.1 c.index-a-index.result c.index-b-index.result c.loop-index-test.true (ap (λ (t : ValType). val_same_test c.args.self.now t (get_or c.args.b.now c.loop-index.index c.index-b-index.result)) (sym c.index-a-index.is)
+      ∙ ap (val_same_test c.args.self.now c.index-a-index.result) (sym c.index-b-index.is) ∙ sym c.equals_val.ensures.computed ∙ c.if-not-equals_val.false),
 )
 
 pub returns : goal.returns

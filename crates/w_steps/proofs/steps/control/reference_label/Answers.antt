@@ -1,14 +1,14 @@
 use Rattle.w_types.specs.declared.types.ValType.TheVariants.{I32, I64, Ref}
-use Rattle.std.proofs.Common.{inl, inr}
+use Rattle.std.proofs.Common.{inl, inr, sym, ◌∙◌}
 use Rattle.w_steps.proofs.TablesTaken.{top_taken}
 use Rattle.w_steps.proofs.steps.control.reference_label.Goals as goal
 
 pub returns-in-Ref : goal.returns-in-Ref
 returns-in-Ref c =
-    top_taken c.args.label.now c.in_ok-top.beneath.now c.in_ok-top.top.now (Ref c.in-Ref.reference) c.in_ok-top.ensures.cases.0 c.in-Ref.is
+    top_taken c.args.label.now c.in_ok-top.beneath.now c.in_ok-top.top.now (Ref c.in-Ref.reference) c.in_ok-top.ensures.cases.0 (sym c.whole.ensures ∙ c.in-Ref.is)
 
 pub returns-in-I32 : goal.returns-in-I32
 returns-in-I32 c = elim c.in-I32.is [
-  | inl e ↦ top_taken c.args.label.now c.in_ok-top.beneath.now c.in_ok-top.top.now I32 c.in_ok-top.ensures.cases.0 e
-  | inr e ↦ top_taken c.args.label.now c.in_ok-top.beneath.now c.in_ok-top.top.now I64 c.in_ok-top.ensures.cases.0 e
+  | inl e ↦ top_taken c.args.label.now c.in_ok-top.beneath.now c.in_ok-top.top.now I32 c.in_ok-top.ensures.cases.0 (sym c.whole.ensures ∙ e)
+  | inr e ↦ top_taken c.args.label.now c.in_ok-top.beneath.now c.in_ok-top.top.now I64 c.in_ok-top.ensures.cases.0 (sym c.whole.ensures ∙ e)
 ]

@@ -1,12 +1,7 @@
-use Rattle.std.proofs.Common.{◌≡◌, ◌==◌, ◌∙◌, ◌∷◌, [], ap, sym, subst, length, List}
-use Rattle.w_types.specs.declared.types.ValType.{ValType}
-use Rattle.w_rules.specs.Spaces.{in_body}
-use Rattle.w_rules.specs.View.{context_in}
-use Rattle.w_vplain.specs.Frames.{Frame, other_next}
+use Rattle.std.proofs.Common.{◌==◌, ◌∙◌, ap, sym, length, List}
 use Rattle.w_steps.specs.declared.frame.Frame.{Frame as Around}
 use Rattle.w_vplain.specs.Standing.{classes_for, context_for, top_of}
 use Rattle.w_locals.specs.Locals.{first_set}
-use Rattle.w_vplain.specs.View.{else_with}
 use Rattle.w_vplain.proofs.FrameViews.{turn_some, turn_none, nonempty}
 use Rattle.w_vplain.proofs.checker.Checker.enter_else.Goals as goal
 
@@ -16,8 +11,7 @@ returns-in_ok-enter_block-in-Some-clause-steps c =
     turn_some (classes_for here) (context_for here) here.top.kind (top_of here) here.outer.items here.locals.sets c.leave_block.new.self.sets c.enter_block.new.self.sets c.in_ok-second.field-0 c.in-Some.second
     (nonempty (length here.outer.items) (ap (λ (xs : List Around). length xs == 0) (sym c.as_slice.ensures.value) ∙ sym c.is_empty.ensures ∙ c.if-is_empty.false))
     c.in-Some.is c.leave_block.ensures.sets c.in_ok-enter_block-in-Some.ensures.sets
-    (subst (λ (rs : List ValType). (g : Frame) (gs : List Frame) → other_next (classes_for here) (in_body (context_in here.cx.now) [] rs) here.top.kind (top_of here) (g ∷ gs) ≡ else_with c.in_ok-second.field-0 g gs)
-    c.as_slice-2.ensures.value (λ g gs. c.in_ok-second.ensures.steps g gs (first_set here.locals.sets)))
+    (λ g gs. c.in_ok-second.ensures.steps g gs (first_set here.locals.sets))
 
 pub returns-in-None-clause-steps : goal.returns-in-None-clause-steps
 returns-in-None-clause-steps c =
@@ -25,5 +19,4 @@ returns-in-None-clause-steps c =
     turn_none (classes_for here) (context_for here) here.top.kind (top_of here) here.outer.items here.locals.sets c.in_ok-second.field-0
     (nonempty (length here.outer.items) (ap (λ (xs : List Around). length xs == 0) (sym c.as_slice.ensures.value) ∙ sym c.is_empty.ensures ∙ c.if-is_empty.false))
     c.in-None.is
-    (subst (λ (rs : List ValType). (g : Frame) (gs : List Frame) → other_next (classes_for here) (in_body (context_in here.cx.now) [] rs) here.top.kind (top_of here) (g ∷ gs) ≡ else_with c.in_ok-second.field-0 g gs)
-    c.as_slice-2.ensures.value (λ g gs. c.in_ok-second.ensures.steps g gs (first_set here.locals.sets)))
+    (λ g gs. c.in_ok-second.ensures.steps g gs (first_set here.locals.sets))

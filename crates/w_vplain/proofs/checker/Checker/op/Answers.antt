@@ -1,11 +1,11 @@
-use Rattle.std.proofs.Common.{reverse}
+use Rattle.std.proofs.Common.{reverse, subst}
 use Rattle.w_flow.specs.View.{flow_view}
 use Rattle.w_syntax.specs.Packed.{unpacked}
 use Rattle.w_syntax.proofs.PlainInstructions.{on_plain, on_plain_two}
 use Rattle.w_rules.specs.View.{context_in}
 use Rattle.w_vplain.specs.Standing.{classes_for, context_for, top_of}
 use Rattle.w_locals.specs.Locals.{outer_sets, first_set}
-use Rattle.w_vplain.proofs.FrameViews.{op_taken, op_refused, along, PlainStep}
+use Rattle.w_vplain.proofs.FrameViews.{op_taken, op_refused, PlainStep}
 use Rattle.w_vplain.proofs.checker.Checker.op.Goals as goal
 
 pub returns-then-not-branch-clause-steps : goal.returns-then-not-branch-clause-steps
@@ -14,8 +14,8 @@ returns-then-not-branch-clause-steps c =
     on_plain _ _ (unpacked c.args.packed.now)
     (λ o step. op_refused (classes_for here) (context_for here) o (top_of here) (reverse here.outer.items) (outer_sets here.locals.sets) c.in_ok-packed_step.field-0 (flow_view c.packed_step.new.flow)
     c.if-not-branch.true
-    (along (PlainStep (classes_for here) (context_in here.cx.now) here.top.kind o (flow_view here.top.flow).any (flow_view here.top.flow).operands c.in_ok-packed_step.field-0 (flow_view c.packed_step.new.flow) here.locals.types (first_set here.locals.sets))
-    c.as_slice.ensures.value c.as_slice-2.ensures.value step))
+    (subst (PlainStep (classes_for here) (context_in here.cx.now) here.top.kind o (flow_view here.top.flow).any (flow_view here.top.flow).operands c.in_ok-packed_step.field-0 (flow_view c.packed_step.new.flow) here.locals.types (first_set here.locals.sets) here.results.now)
+    c.as_slice-outer.ensures.value step))
     c.in_ok-packed_step.ensures
 
 pub returns-clause-steps : goal.returns-clause-steps
@@ -24,6 +24,6 @@ returns-clause-steps c =
     on_plain_two _ _ _ (unpacked c.args.packed.now)
     (λ o step first. op_taken (classes_for here) (context_for here) o (top_of here) (reverse here.outer.items) (outer_sets here.locals.sets) c.in_ok-packed_step.field-0 (flow_view c.packed_step.new.flow)
     (first_set c.set_by.new.locals.sets) (outer_sets c.set_by.new.locals.sets) c.if-not-branch.false first c.in_ok-set_by.ensures.outer
-    (along (PlainStep (classes_for here) (context_in here.cx.now) here.top.kind o (flow_view here.top.flow).any (flow_view here.top.flow).operands c.in_ok-packed_step.field-0 (flow_view c.packed_step.new.flow) here.locals.types (first_set here.locals.sets))
-    c.as_slice.ensures.value c.as_slice-2.ensures.value step))
+    (subst (PlainStep (classes_for here) (context_in here.cx.now) here.top.kind o (flow_view here.top.flow).any (flow_view here.top.flow).operands c.in_ok-packed_step.field-0 (flow_view c.packed_step.new.flow) here.locals.types (first_set here.locals.sets) here.results.now)
+    c.as_slice-outer.ensures.value step))
     c.in_ok-packed_step.ensures c.in_ok-set_by.ensures.first

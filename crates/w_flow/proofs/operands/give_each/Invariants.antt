@@ -1,7 +1,7 @@
 use Rattle.std.proofs.Common.{◌≡◌, take}
 use Rattle.w_types.specs.Rows.{row_of, ◌⧺◌}
 use Rattle.w_rules.specs.Matching.{known}
-use Rattle.w_flow.proofs.operands.give_types.Given as goal
+use Rattle.w_flow.proofs.operands.give_each.Given as goal
 
 -- the first types are given
 abbrev pub invariant-loop-kind : goal.invariant-loop-kind

@@ -1,0 +1,114 @@
+-- Operands that are just of the types that are wanted.
+use Rattle.std.proofs.Common.{◌≡◌, ℕ, ◌+◌, ◌-◌, ◌<◌, ◌≤◌, Bool, true, false, not, ◌&&◌, ◌||◌, List, [], ◌∷◌, ◌++◌, length, length-drop, map, append_assoc, take, drop, get_or, set, replicate, Some, None, if◌then◌else◌, slice_get, refl, sym, ◌∙◌, ap, arith, eq-eqb}
+use Rattle.std.proofs.lemmas.List.{map-append, take_more, take_more_set, take_all, take-append-drop}
+use Rattle.std.proofs.Math.Seq.{take-append_seam}
+use Rattle.w_types.specs.declared.types.HeapType.{HeapType}
+use Rattle.w_types.specs.declared.types.HeapType.TheVariants as heap
+use Rattle.w_types.specs.declared.types.ValType.{ValType}
+use Rattle.w_types.specs.declared.types.ValType.TheVariants.{I32, I64, Ref}
+use Rattle.w_types.specs.Rows.{Row, ε, ◌▹◌, ◌⧺◌, onto, row_of}
+use Rattle.w_types.proofs.Rows.{row_of-append}
+use Rattle.w_canon.specs.declared.entry.Entry.{Entry}
+use Rattle.w_canon.specs.Tests.{heap_test, val_test, one_class_test}
+use Rattle.w_rules.specs.Operands.{Operand, Known}
+use Rattle.w_rules.specs.Matching.{known}
+use Rattle.w_flow.specs.Flow.{operand_test, pops}
+
+-- ## One operand
+
+heap_matches : (es : List Entry) (h : HeapType) → heap_test es h h ≡ true
+heap_matches es heap.Func = refl
+heap_matches es heap.NoFunc = refl
+heap_matches es heap.Cont = refl
+heap_matches es heap.NoCont = refl
+heap_matches es (heap.Index x) = ap (λ (b : Bool). b || one_class_test (slice_get es x) (slice_get es x)) (eq-eqb x x refl)
+
+may_be_null : (n b : Bool) → b ≡ true → (not n || n) && b ≡ true
+may_be_null true b e = e
+may_be_null false b e = e
+
+-- a type matches itself
+pub type_matches : (es : List Entry) (t : ValType) → val_test es t t ≡ true
+type_matches es I32 = refl
+type_matches es I64 = refl
+type_matches es (Ref r) = may_be_null r.nullable (heap_test es r.heap r.heap) (heap_matches es r.heap)
+
+-- an operand that is of the type stands where one is wanted
+pub known_matches : (es : List Entry) (o : Operand) (t : ValType) → o ≡ Known t → operand_test es o t ≡ true
+known_matches es o t e = ap (λ (u : Operand). operand_test es u t) e ∙ type_matches es t
+
+-- ## Rows
+
+onto_known : (r : Row ValType) (ts : List ValType) → onto (known r) (map Known ts) ≡ known (onto r ts)
+onto_known r [] = refl
+onto_known r (t ∷ ts) = onto_known (r ▹ t) ts
+
+-- the operands of a list of types
+pub row_of_known : (ts : List ValType) → row_of (map Known ts) ≡ known (row_of ts)
+row_of_known ts = onto_known ε ts
+
+-- they can be taken, and what stands beneath them is left
+pub pops_known : (es : List Entry) (p : Bool) (ts : Row Operand) (us : Row ValType) → pops es p (ts ⧺ known us) us ≡ Some ts
+pops_known es p ts ε = refl
+pops_known es p ts (us ▹ u) =
+    ap (λ (b : Bool). if b then pops es p (ts ⧺ known us) us else None) (type_matches es u) ∙ pops_known es p ts us
+
+-- behind so many operands there are just these
+pub taken_whole : (es : List Entry) (p : Bool) (xs : List Operand) (n : ℕ) (us : List ValType) → take (length xs - n) (drop n xs) ≡ map Known us →
+    pops es p (row_of xs) (row_of us) ≡ Some (row_of (take n xs))
+taken_whole es p xs n us h =
+    let e : drop n xs ≡ map Known us = sym (take_all (length xs - n) (drop n xs) (omega (arith, length-drop n xs))) ∙ h in
+    let whole : row_of xs ≡ row_of (take n xs) ⧺ known (row_of us) =
+    ap row_of (sym (take-append-drop n xs)) ∙ row_of-append (take n xs) (drop n xs)
+    ∙ ap (λ (ys : List Operand). row_of (take n xs) ⧺ row_of ys) e ∙ ap (λ (r : Row Operand). row_of (take n xs) ⧺ r) (row_of_known us) in
+    ap (λ (r : Row Operand). pops es p r (row_of us)) whole ∙ pops_known es p (row_of (take n xs)) (row_of us)
+
+-- ## Loops over lists of types
+
+-- one more type of a list
+known_more : (ts : List ValType) (i : ℕ) (t : ValType) → i < length ts → t ≡ get_or ts i t →
+    map Known (take (i + 1) ts) ≡ map Known (take i ts) ++ Known t ∷ []
+known_more ts i t h e =
+    ap (map Known) (take_more ts i t h) ∙ map-append Known (take i ts) (get_or ts i t ∷ [])
+    ∙ ap (λ (u : ValType). map Known (take i ts) ++ Known u ∷ []) (sym e)
+
+-- the operands up to the next one are just of the types
+pub alike_more : (xs : List Operand) (ts : List ValType) (i : ℕ) (o : Operand) (t : ValType) → i < length xs → i < length ts →
+    o ≡ get_or xs i o → t ≡ get_or ts i t → o ≡ Known t → take i xs ≡ map Known (take i ts) →
+    take (i + 1) xs ≡ map Known (take (i + 1) ts)
+alike_more xs ts i o t h k a b e same =
+    take_more xs i o h ∙ ap (λ (u : Operand). take i xs ++ u ∷ []) (sym a ∙ e)
+    ∙ ap (λ (ys : List Operand). ys ++ Known t ∷ []) same ∙ sym (known_more ts i t k b)
+
+-- all are, behind the last
+pub alike_all : (xs : List Operand) (ts : List ValType) (i : ℕ) → length xs ≡ length ts → length ts ≤ i →
+    take i xs ≡ map Known (take i ts) → xs ≡ map Known ts
+alike_all xs ts i same h e =
+    sym (take_all i xs (omega arith)) ∙ e ∙ ap (map Known) (take_all i ts h)
+
+-- one more type is put behind those that were
+pub put_more : (before xs : List Operand) (ts : List ValType) (n i : ℕ) (t : ValType) → n + i < length xs → i < length ts →
+    t ≡ get_or ts i t → take (n + i) xs ≡ before ++ map Known (take i ts) →
+    take (n + (i + 1)) (set xs (n + i) (Known t)) ≡ before ++ map Known (take (i + 1) ts)
+put_more before xs ts n i t h k b same =
+    ap (λ (m : ℕ). take m (set xs (n + i) (Known t))) (omega arith) ∙ take_more_set xs (n + i) (Known t) h
+    ∙ ap (λ (ys : List Operand). ys ++ Known t ∷ []) same ∙ append_assoc before (map Known (take i ts)) (Known t ∷ [])
+    ∙ ap (λ (ys : List Operand). before ++ ys) (sym (known_more ts i t k b))
+
+-- all are put
+pub put_all : (before xs : List Operand) (ts : List ValType) (n i : ℕ) → length xs ≡ n + length ts → length ts ≤ i →
+    take (n + i) xs ≡ before ++ map Known (take i ts) → xs ≡ before ++ map Known ts
+put_all before xs ts n i same h e =
+    sym (take_all (n + i) xs (omega arith)) ∙ e ∙ ap (λ (us : List ValType). before ++ map Known us) (take_all i ts h)
+
+-- so many places are made behind the operands, and the types put there
+pub given_whole : (old room new : List Operand) (ts : List ValType) (o : Operand) (m r : ℕ) → m ≡ length old →
+    room ≡ take (m + length ts) old ++ replicate r o →
+    new ≡ take m room ++ map Known ts → row_of new ≡ row_of old ⧺ known (row_of ts)
+given_whole old room new ts o m r l e h =
+    let made : room ≡ old ++ replicate r o =
+    e ∙ ap (λ (xs : List Operand). xs ++ replicate r o) (take_all (m + length ts) old (omega arith)) in
+    let kept : take m room ≡ old =
+    ap (λ (k : ℕ). take k room) l ∙ ap (take (length old)) made ∙ take-append_seam old (replicate r o) in
+    ap row_of (h ∙ ap (λ (xs : List Operand). xs ++ map Known ts) kept) ∙ row_of-append old (map Known ts)
+    ∙ ap (λ (r : Row Operand). row_of old ⧺ r) (row_of_known ts)

@@ -1,0 +1,7 @@
+use Rattle.std.proofs.Common.{◌≡◌, IsTrue, map, take}
+use Rattle.w_rules.specs.Operands.{Known}
+use Rattle.w_flow.proofs.operands.are_known.Given as goal
+
+-- where those so far are alike, they are just of the types so far
+abbrev pub invariant-loop-i : goal.invariant-loop-i
+invariant-loop-i l = IsTrue l.alike → take l.i l.operands ≡ map Known (take l.i l.types)

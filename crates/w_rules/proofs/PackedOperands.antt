@@ -1,0 +1,34 @@
+-- The two numbers of a value type, as an operand's.
+use Rattle.std.proofs.Common.{◌≡◌, ◌<◌, ℕ, zero, suc, Bool, true, false, refl, arith}
+use Rattle.w_types.specs.declared.types.HeapType.{HeapType}
+use Rattle.w_types.specs.declared.types.HeapType.TheVariants as heap
+use Rattle.w_types.specs.declared.types.ValType.{ValType}
+use Rattle.w_types.specs.declared.types.ValType.TheVariants.{I32, I64, Ref}
+use Rattle.w_types.specs.PackedTypes.{type_at, kind_of, index_of}
+use Rattle.w_rules.specs.Operands.{Known}
+use Rattle.w_rules.specs.PackedOperands.{operand_at}
+
+reference_known : (n : Bool) (h : HeapType) → let r = Ref (record { nullable = n; heap = h }) in operand_at (kind_of r) (index_of r) ≡ Known r
+reference_known true heap.Func = refl
+reference_known true heap.NoFunc = refl
+reference_known true heap.Cont = refl
+reference_known true heap.NoCont = refl
+reference_known true (heap.Index x) = refl
+reference_known false heap.Func = refl
+reference_known false heap.NoFunc = refl
+reference_known false heap.Cont = refl
+reference_known false heap.NoCont = refl
+reference_known false (heap.Index x) = refl
+
+-- they are the operand of that value type
+pub known_at : (t : ValType) → operand_at (kind_of t) (index_of t) ≡ Known t
+known_at I32 = refl
+known_at I64 = refl
+known_at (Ref r) = reference_known r.nullable r.heap
+
+-- a kind above 2 is the operand of a value type
+pub value_type_at : (k x : ℕ) → 2 < k → operand_at k x ≡ Known (type_at k x)
+value_type_at zero x h = absurd (omega arith)
+value_type_at (suc zero) x h = absurd (omega arith)
+value_type_at (suc (suc zero)) x h = absurd (omega arith)
+value_type_at (suc (suc (suc k))) x h = refl
