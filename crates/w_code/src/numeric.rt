@@ -1,4 +1,5 @@
-//! Numeric instructions (Core, binary format, numeric instructions).
+//! Numeric instructions (Core, binary format, numeric instructions). They are read inline, so that one look at the opcode leads from
+//! the byte to the packed instruction.
 ghost use Rattle.w_leb.specs.Format.{ReadsAt};
 ghost use Rattle.w_leb.specs.Formats.{table};
 ghost use Rattle.w_syntax.specs.Tokens.{arithmetic, comparison, numeric_op};
@@ -8,6 +9,7 @@ use w_leb::{read_byte, read_s32, read_s64};
 use w_syntax::{Binop, Cvtop, IntType, NumericOp, Relop, Unop};
 
 // Operations on one or two integers of 64 bits.
+#[inline(always)]
 fn i64_arithmetic_at(bytes: &[u8], at: usize) -> Option<(NumericOp, usize)>
     ensures { ReadsAt (table i64_arithmetics).read bytes.now at result }
 {
@@ -39,6 +41,7 @@ fn i64_arithmetic_at(bytes: &[u8], at: usize) -> Option<(NumericOp, usize)>
 }
 
 // Operations on one or two integers.
+#[inline(always)]
 #[tactic(auto, unfolding(w_syntax::specs::Tokens::arithmetic))]
 fn arithmetic_at(bytes: &[u8], at: usize) -> Option<(NumericOp, usize)>
     ensures { ReadsAt arithmetic.read bytes.now at result }
@@ -71,6 +74,7 @@ fn arithmetic_at(bytes: &[u8], at: usize) -> Option<(NumericOp, usize)>
 }
 
 // Comparisons of two integers, and what `arithmetic_at` reads.
+#[inline(always)]
 #[tactic(auto, unfolding(w_syntax::specs::Tokens::comparison))]
 fn comparison_at(bytes: &[u8], at: usize) -> Option<(NumericOp, usize)>
     ensures { ReadsAt comparison.read bytes.now at result }
@@ -105,6 +109,7 @@ fn comparison_at(bytes: &[u8], at: usize) -> Option<(NumericOp, usize)>
 }
 
 /// The numeric instruction at a place.
+#[inline(always)]
 #[tactic(auto, unfolding(w_syntax::specs::Tokens::numeric_op))]
 pub(crate) fn numeric_at(bytes: &[u8], at: usize) -> Option<(NumericOp, usize)>
     ensures { ReadsAt numeric_op.read bytes.now at result }

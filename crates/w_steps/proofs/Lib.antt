@@ -1,2 +1,3 @@
 mod LabelsBack
 mod TablesTaken
+mod LocalsSet

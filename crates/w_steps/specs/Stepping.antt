@@ -10,15 +10,14 @@ use Rattle.w_flow.specs.Flow.{step}
 use Rattle.w_flow.specs.View.{flow_view, flow_if}
 use Rattle.w_flow.specs.declared.flow.Flow.{Flow}
 use Rattle.w_rules.specs.Context.{Context}
-use Rattle.w_rules.specs.InstructionTypes.{instr_type}
+use Rattle.w_rules.specs.InstructionTypes.{instr_type, sets}
 use Rattle.w_rules.specs.Spaces.{in_body}
 use Rattle.w_rules.specs.View.{context_in}
 use Rattle.w_rules.specs.declared.context.Context as program
 use Rattle.w_locals.specs.Locals.{LocalState, first_set}
 use Rattle.w_steps.specs.Labels.{within}
 use Rattle.w_steps.specs.PlainTests.{plain_test}
-use Rattle.w_steps.specs.View.{context_at, gated}
-use Rattle.w_steps.specs.declared.body_context.BodyContext.{BodyContext}
+use Rattle.w_steps.specs.View.{gated}
 use Rattle.w_steps.specs.declared.frame_kind.FrameKind.{FrameKind}
 
 -- the step of its type in this context, where it passes its test
@@ -26,18 +25,27 @@ abbrev pub StepsIn : List Entry → Context → List Bool → Op → Flow → Fl
 StepsIn es c s o old new taken =
     gated (plain_test es c o) (step es (instr_type c s o) (flow_view old).any (flow_view old).operands) ≡ flow_if taken new
 
--- the same where it stands
-abbrev pub StepsTo : BodyContext → Op → Flow → Flow → Bool → Type 0
-StepsTo b o old new taken = StepsIn b.cx.now.classes.now (context_at b) (first_set b.locals.now.sets) o old new taken
+-- the same in a body of these locals and results, inside these blocks
+abbrev pub StepsTo : program.Context → LocalState → List ValType → List FrameKind → Op → Flow → Flow → Bool → Type 0
+StepsTo cx locals results ks o old new taken =
+    StepsIn cx.classes.now (within (in_body (context_in cx) locals.types results) ks) (first_set locals.sets) o old new taken
 
--- the same of a packed instruction in a body of these locals and results, inside these blocks
+-- the same of a packed instruction
 abbrev pub PackedSteps : program.Context → LocalState → List ValType → List FrameKind → PackedInstr → Flow → Flow → Bool → Type 0
 PackedSteps cx locals results ks p old new taken =
-    OnPlain (λ (o : Op). StepsIn cx.classes.now (within (in_body (context_in cx) locals.types results) ks) (first_set locals.sets) o old new taken) (unpacked p)
+    OnPlain (λ (o : Op). StepsTo cx locals results ks o old new taken) (unpacked p)
 
 -- the same whatever the results and the blocks are
 abbrev pub StepsAnywhere : program.Context → LocalState → PackedInstr → Flow → Flow → Bool → Type 0
 StepsAnywhere cx locals p old new taken = (results : List ValType) (ks : List FrameKind) → PackedSteps cx locals results ks p old new taken
+
+-- the locals are set as the instruction sets them
+abbrev pub SetsBy : Op → LocalState → LocalState → Type 0
+SetsBy o old new = first_set new.sets ≡ sets o (first_set old.sets)
+
+-- and as a packed one does
+abbrev pub PackedSets : PackedInstr → LocalState → LocalState → Type 0
+PackedSets p old new = OnPlain (λ (o : Op). SetsBy o old new) (unpacked p)
 
 -- the packed instruction is none of those that are judged first
 abbrev pub is_rare : PackedInstr → Bool

@@ -1,12 +1,12 @@
 //! What instructions do to the operands.
-ghost use Rattle.std.specs.Prelude.{◌≡◌, ◌∷◌, IfOk, IfSome, IfNone, IsTrue};
+ghost use Rattle.std.specs.Prelude.{◌≡◌, ◌∷◌, IfOk, IfSome, IfNone, OnOk, IsTrue};
 ghost use Rattle.w_flow.specs.Flow.{step};
 ghost use Rattle.w_flow.specs.View.{flow_view, flow_if};
 ghost use Rattle.w_rules.specs.InstructionTypes.{instr_type};
-ghost use Rattle.w_locals.specs.Locals.{first_set};
+ghost use Rattle.w_locals.specs.Locals.{outer_sets};
 ghost use Rattle.w_steps.specs.PlainTests.{plain_test};
 ghost use Rattle.w_syntax.specs.Packed.{OnPlain, unpacked};
-ghost use Rattle.w_steps.specs.Stepping.{StepsTo, PackedSteps, StepsAnywhere, is_rare};
+ghost use Rattle.w_steps.specs.Stepping.{StepsTo, SetsBy, PackedSteps, PackedSets, StepsAnywhere, is_rare};
 ghost use Rattle.w_steps.specs.View.{outer_kinds};
 ghost use Rattle.w_steps.specs.View.{context_at, gated};
 
@@ -37,44 +37,59 @@ use w_syntax::{Instr, NumericOp, Op, PackedInstr};
 use w_types::PackedType;
 
 // An instruction that holds no others and does not switch stacks.
-fn plain_step(body: &BodyContext, flow: &mut Flow, op: &Op) -> Result<bool, AllocError>
-    ensures { IfOk result (λ taken. StepsTo body.now op.now flow.old flow.new taken) }
+fn plain_step(
+    cx: &Context,
+    locals: &mut Locals,
+    results: &[PackedType],
+    kind: &FrameKind,
+    outer: &[Frame],
+    flow: &mut Flow,
+    op: &Op,
+) -> Result<bool, AllocError>
+    ensures steps { IfOk result (λ taken. StepsTo cx.now locals.old results.now (kind.now
+        ∷ outer_kinds outer.now) op.now flow.old flow.new taken) }
+    ensures types { locals.new.types ≡ locals.old.types }
+    ensures sets { IfOk result (λ taken. IsTrue taken → SetsBy op.now locals.old locals.new) }
+    ensures outer { OnOk result (outer_sets locals.new.sets ≡ outer_sets locals.old.sets) }
 {
     match op {
-        Op::Control(op) => control_step(body, flow, op),
-        Op::Parametric(op) => parametric_step(body.cx, flow, op),
-        Op::Variable(op) => variable_step(body.cx, body.locals, flow, *op),
-        Op::Table(op) => table_step(body.cx, flow, *op),
-        Op::Memory(op) => memory_step(body.cx, flow, *op),
-        Op::Numeric(op) => numeric_step(body.cx.classes, flow, *op),
-        Op::Reference(op) => reference_step(body.cx, flow, *op),
+        Op::Control(op) => {
+            let body = BodyContext {
+                cx,
+                locals,
+                results,
+                kind,
+                outer,
+            };
+            control_step(&body, flow, op)
+        }
+        Op::Parametric(op) => parametric_step(cx, flow, op),
+        Op::Variable(op) => variable_step(cx, locals, flow, *op),
+        Op::Table(op) => table_step(cx, flow, *op),
+        Op::Memory(op) => memory_step(cx, flow, *op),
+        Op::Numeric(op) => numeric_step(cx.classes, flow, *op),
+        Op::Reference(op) => reference_step(cx, flow, *op),
         // it has no test here
         Op::Switching(_) => Ok(false),
-    }
-}
-
-// A boxed instruction, where it holds no others.
-fn boxed_step(body: &BodyContext, flow: &mut Flow, instr: &Instr) -> Result<bool, AllocError>
-    ensures { IfOk result (λ taken. OnPlain (λ op. StepsTo body.now op flow.old flow.new taken)
-        instr.now) }
-{
-    match instr {
-        Instr::Plain(op) => plain_step(body, flow, op),
-        _ => Ok(false),
     }
 }
 
 // A common instruction; `None`, and nothing is done, where it is none.
 fn common_step(
     cx: &Context,
-    locals: &Locals,
+    locals: &mut Locals,
     flow: &mut Flow,
     packed: &PackedInstr,
 ) -> Result<Option<bool>, AllocError>
     ensures steps { IfOk result (λ told. IfSome told (λ taken. StepsAnywhere
-        cx.now locals.now packed.now flow.old flow.new taken)) }
+        cx.now locals.old packed.now flow.old flow.new taken)) }
+    ensures types { locals.new.types ≡ locals.old.types }
+    ensures sets { IfOk result (λ told. IfSome told (λ taken. IsTrue taken
+        → PackedSets packed.now locals.old locals.new)) }
+    ensures outer { OnOk result (outer_sets locals.new.sets ≡ outer_sets locals.old.sets) }
     ensures rare { IfOk result (λ told. IfNone told (IsTrue (is_rare packed.now))) }
-    ensures nothing { IfOk result (λ told. IfNone told (flow.new ≡ flow.old)) }
+    ensures nothing { IfOk result (λ told. IfNone told ((flow.new ≡ flow.old)
+        × (locals.new ≡ locals.old))) }
 {
     let classes = cx.classes;
     let taken = match packed {
@@ -95,11 +110,11 @@ fn common_step(
     Ok(Some(taken))
 }
 
-// Another instruction.
+// Another instruction, where it holds no others and does not switch stacks.
 #[inline(never)]
 fn rare_step(
     cx: &Context,
-    locals: &Locals,
+    locals: &mut Locals,
     results: &[PackedType],
     kind: &FrameKind,
     outer: &[Frame],
@@ -107,42 +122,56 @@ fn rare_step(
     packed: &PackedInstr,
 ) -> Result<bool, AllocError>
     requires { IsTrue (is_rare packed.now) }
-    ensures { IfOk result (λ taken. PackedSteps cx.now locals.now results.now (kind.now
+    ensures steps { IfOk result (λ taken. PackedSteps cx.now locals.old results.now (kind.now
         ∷ outer_kinds outer.now) packed.now flow.old flow.new taken) }
+    ensures types { locals.new.types ≡ locals.old.types }
+    ensures sets { IfOk result (λ taken. IsTrue taken
+        → PackedSets packed.now locals.old locals.new) }
+    ensures outer { OnOk result (outer_sets locals.new.sets ≡ outer_sets locals.old.sets) }
 {
-    let body = BodyContext {
-        cx,
-        locals,
-        results,
-        kind,
-        outer,
-    };
     match packed {
         PackedInstr::Convert(op) => numeric_step(cx.classes, flow, NumericOp::Convert(*op)),
         PackedInstr::Memory(op) => memory_step(cx, flow, op.whole()),
-        PackedInstr::Control(op) => control_step(&body, flow, &op.whole()),
+        PackedInstr::Control(op) => {
+            let body = BodyContext {
+                cx,
+                locals,
+                results,
+                kind,
+                outer,
+            };
+            control_step(&body, flow, &op.whole())
+        }
         PackedInstr::Select => flow.selects(cx.classes),
         PackedInstr::Table(op) => table_step(cx, flow, *op),
         PackedInstr::Reference(op) => reference_step(cx, flow, *op),
-        PackedInstr::Boxed(instr) => boxed_step(&body, flow, instr),
+        PackedInstr::Boxed(instr) => match &**instr {
+            Instr::Plain(op) => plain_step(cx, locals, results, kind, outer, flow, op),
+            _ => Ok(false),
+        },
         // switching has no test here, and the others are not plain
         _ => Ok(false),
     }
 }
 
-/// An instruction that does not switch stacks, where it holds no others. What its typing goes by are the module, the function's locals
-/// and those of them that are set, its results, the innermost block's kind, and the blocks around it.
+/// An instruction that does not switch stacks, where it holds no others: what it does to the operands of its block, and the local
+/// that it sets. Its typing goes by the module, the function's locals and those of them that are set, its results, the innermost
+/// block's kind, and the blocks around it.
 pub fn packed_step(
     cx: &Context,
-    locals: &Locals,
+    locals: &mut Locals,
     results: &[PackedType],
     kind: &FrameKind,
     outer: &[Frame],
     flow: &mut Flow,
     packed: &PackedInstr,
 ) -> Result<bool, AllocError>
-    ensures { IfOk result (λ taken. PackedSteps cx.now locals.now results.now (kind.now
+    ensures steps { IfOk result (λ taken. PackedSteps cx.now locals.old results.now (kind.now
         ∷ outer_kinds outer.now) packed.now flow.old flow.new taken) }
+    ensures types { locals.new.types ≡ locals.old.types }
+    ensures sets { IfOk result (λ taken. IsTrue taken
+        → PackedSets packed.now locals.old locals.new) }
+    ensures outer { OnOk result (outer_sets locals.new.sets ≡ outer_sets locals.old.sets) }
 {
     match common_step(cx, locals, flow, packed)? {
         Some(taken) => Ok(taken),

@@ -23,7 +23,7 @@ use Rattle.w_steps.specs.Labels.{arrow_at, within}
 use Rattle.w_vplain.specs.Measures.{total, tally}
 use Rattle.w_vplain.specs.Row.{raised_to}
 use Rattle.w_vplain.specs.Standing.{total_of}
-use Rattle.w_locals.specs.Locals.{first_set, outer_sets, set_in_first, twice}
+use Rattle.w_locals.specs.Locals.{first_set, outer_sets, twice}
 use Rattle.w_steps.specs.PlainTests.{plain_test}
 use Rattle.w_steps.specs.View.{outer_kinds, gated}
 use Rattle.w_vplain.specs.View.{frame_view, frames_with, inner_with, else_with, left_with}
@@ -32,14 +32,6 @@ use Rattle.w_steps.specs.declared.frame_kind.FrameKind.TheVariants as kind
 use Rattle.w_steps.specs.declared.frame.Frame as code
 
 -- ## Lists of what is set
-
-pub set_now : (x : ℕ) (ss : List (List Bool)) → first_set (set_in_first x ss) ≡ slice_set (first_set ss) x true
-set_now x [] = refl
-set_now x (s ∷ ss) = refl
-
-pub set_around : (x : ℕ) (ss : List (List Bool)) → outer_sets (set_in_first x ss) ≡ outer_sets ss
-set_around x [] = refl
-set_around x (s ∷ ss) = refl
 
 pub twice_now : (ss : List (List Bool)) → first_set (twice ss) ≡ first_set ss
 twice_now [] = refl

@@ -26,7 +26,7 @@ use w_flow::Flow;
 use w_locals::Locals;
 use w_rules::Context;
 use w_steps::{Frame, FrameKind, label_of, packed_step};
-use w_syntax::{Instr, LocalRun, Op, PackedInstr, VariableOp};
+use w_syntax::{Instr, LocalRun, Op, PackedInstr};
 use w_types::{PackedType, ValType};
 
 /// Types a body, one call for each instruction (Core, validation algorithm). It stands for sequences of instructions so far, by
@@ -44,35 +44,6 @@ pub struct Checker<'a> {
     ended: bool,
     refused: bool,
     out_of_memory: bool,
-}
-
-// Sets the local that a boxed instruction sets.
-fn set_by_boxed(locals: &mut Locals, instr: &Instr) -> Result<(), AllocError>
-    ensures types { locals.new.types ≡ locals.old.types }
-    ensures first { OnOk result (OnPlain (λ op. first_set locals.new.sets
-        ≡ sets op (first_set locals.old.sets)) instr.now) }
-    ensures outer { OnOk result (outer_sets locals.new.sets ≡ outer_sets locals.old.sets) }
-{
-    match instr {
-        Instr::Plain(Op::Variable(VariableOp::LocalSet(local))) => locals.set(*local),
-        Instr::Plain(Op::Variable(VariableOp::LocalTee(local))) => locals.set(*local),
-        _ => Ok(()),
-    }
-}
-
-// Sets the local that an instruction sets.
-fn set_by(locals: &mut Locals, packed: &PackedInstr) -> Result<(), AllocError>
-    ensures types { locals.new.types ≡ locals.old.types }
-    ensures first { OnOk result (OnPlain (λ op. first_set locals.new.sets
-        ≡ sets op (first_set locals.old.sets)) (unpacked packed.now)) }
-    ensures outer { OnOk result (outer_sets locals.new.sets ≡ outer_sets locals.old.sets) }
-{
-    match packed {
-        PackedInstr::Variable(VariableOp::LocalSet(local)) => locals.set(*local),
-        PackedInstr::Variable(VariableOp::LocalTee(local)) => locals.set(*local),
-        PackedInstr::Boxed(instr) => set_by_boxed(locals, instr),
-        _ => Ok(()),
-    }
 }
 
 // Whether a boxed instruction has the call `plain`.
@@ -205,7 +176,7 @@ impl<'a> Checker<'a> {
         let top = &mut self.top;
         if !packed_step(
             self.cx,
-            &self.locals,
+            &mut self.locals,
             self.results,
             &top.kind,
             outer,
@@ -214,7 +185,6 @@ impl<'a> Checker<'a> {
         )? {
             return Ok(false);
         }
-        set_by(&mut self.locals, packed)?;
         Ok(true)
     }
 

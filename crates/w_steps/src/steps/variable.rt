@@ -1,10 +1,12 @@
 //! Variable instructions.
-ghost use Rattle.std.specs.Prelude.{◌≡◌, [], IfOk, slice_get};
+ghost use Rattle.std.specs.Prelude.{◌≡◌, [], IfOk, OnOk, IsTrue, slice_get, slice_set, true};
 ghost use Rattle.w_types.specs.Rows.{ε, ◌▹◌};
 ghost use Rattle.w_flow.specs.Flow.{step};
 ghost use Rattle.w_flow.specs.View.{flow_view, flow_if};
 ghost use Rattle.w_rules.specs.InstructionTypes.{global_set_type, variable_op_type};
-ghost use Rattle.w_locals.specs.Locals.{first_set};
+ghost use Rattle.w_syntax.specs.declared.instructions.Op.TheVariants as plain;
+ghost use Rattle.w_locals.specs.Locals.{first_set, outer_sets};
+ghost use Rattle.w_steps.specs.Stepping.{SetsBy};
 ghost use Rattle.w_rules.specs.Spaces.{in_body};
 ghost use Rattle.w_rules.specs.View.{context_in};
 ghost use Rattle.w_steps.specs.View.{takes_type};
@@ -27,16 +29,35 @@ fn variable_global(cx: &Context, global: u32) -> Option<PackedType>
     }
 }
 
-/// A variable instruction.
+// Sets a local where its value was taken.
+#[tactic(auto, using(crate::proofs::LocalsSet::set_now, crate::proofs::LocalsSet::set_around))]
+fn set_if(locals: &mut Locals, local: u32, taken: bool) -> Result<bool, AllocError>
+    ensures told { IfOk result (λ told. told ≡ taken) }
+    ensures types { locals.new.types ≡ locals.old.types }
+    ensures sets { IfOk result (λ told. IsTrue told → first_set locals.new.sets
+        ≡ slice_set (first_set locals.old.sets) local true) }
+    ensures outer { OnOk result (outer_sets locals.new.sets ≡ outer_sets locals.old.sets) }
+{
+    if taken {
+        locals.set(local)?;
+    }
+    Ok(taken)
+}
+
+/// A variable instruction, which may set a local.
 pub(crate) fn variable_step(
     cx: &Context,
-    locals: &Locals,
+    locals: &mut Locals,
     flow: &mut Flow,
     op: VariableOp,
 ) -> Result<bool, AllocError>
-    ensures { IfOk result (λ taken. step cx.now.classes.now (variable_op_type
-        (in_body (context_in cx.now) locals.now.types []) (first_set locals.now.sets) op)
+    ensures steps { IfOk result (λ taken. step cx.now.classes.now (variable_op_type
+        (in_body (context_in cx.now) locals.old.types []) (first_set locals.old.sets) op)
         (flow_view flow.old).any (flow_view flow.old).operands ≡ flow_if taken flow.new) }
+    ensures types { locals.new.types ≡ locals.old.types }
+    ensures sets { IfOk result (λ taken. IsTrue taken
+        → SetsBy (plain.Variable op) locals.old locals.new) }
+    ensures outer { OnOk result (outer_sets locals.new.sets ≡ outer_sets locals.old.sets) }
 {
     let classes = cx.classes;
     match op {
@@ -45,11 +66,17 @@ pub(crate) fn variable_step(
             None => Ok(false),
         },
         VariableOp::LocalSet(local) => match locals.get(local) {
-            Some(kind) => Ok(flow.takes(classes, kind)),
+            Some(kind) => {
+                let taken = flow.takes(classes, kind);
+                set_if(locals, local, taken)
+            }
             None => Ok(false),
         },
         VariableOp::LocalTee(local) => match locals.get(local) {
-            Some(kind) => flow.turns(classes, kind, kind),
+            Some(kind) => {
+                let taken = flow.turns(classes, kind, kind)?;
+                set_if(locals, local, taken)
+            }
             None => Ok(false),
         },
         VariableOp::GlobalGet(global) => match cx.global(global) {
