@@ -1,0 +1,4 @@
+mod NumRows
+mod WideRows
+mod Counts
+mod Rotations
