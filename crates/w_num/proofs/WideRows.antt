@@ -8,7 +8,7 @@ use Rattle.w_num.specs.Division.{idiv_u, idiv_s, irem_u, irem_s}
 use Rattle.w_num.specs.Bits.{ibits, leading, iclz, ictz, ipopcnt, iand, ior, ixor}
 use Rattle.w_num.specs.Shifts.{ishl, ishr_u, ishr_s, irotl, irotr}
 use Rattle.w_num.specs.Comparisons.{ieqz, ieq, ine, ilt_u, ilt_s, igt_u, igt_s, ile_u, ile_s, ige_u, ige_s}
-use Rattle.w_num.specs.Conversions.{wrap, extend_u, extend_s, iextend_s}
+use Rattle.w_num.specs.Conversions.{iextend_s}
 
 signed_zero_of_64 : signed 64 0 ≡ pos 0
 signed_zero_of_64 = refl
