@@ -1,0 +1,56 @@
+-- The reduction rules (Core, execution). A chapter has its rules in a file of its own, each with the rule as the standard
+-- writes it; here they are one reduction of a term.
+use Rattle.std.specs.Prelude.{ℕ, nat_le, if◌then◌else◌, List, [], ◌∷◌}
+use Rattle.w_types.specs.Rows.{Row}
+use Rattle.w_syntax.specs.Code.{Code, Done, Plain, Block, If, IfElse}
+use Rattle.w_syntax.specs.declared.instructions.Op.{Op}
+use Rattle.w_syntax.specs.declared.instructions.Op.TheVariants as op
+use Rattle.w_reductions.specs.declared.limit.RunLimit.TheVariants.{Frames}
+use Rattle.w_reductions.specs.Values.{Val}
+use Rattle.w_reductions.specs.Store.{Store}
+use Rattle.w_reductions.specs.Terms.{Administrative, Invoke, Context, Term, frames, most_frames}
+use Rattle.w_reductions.specs.Program.{Program}
+use Rattle.w_reductions.specs.Reduced.{Reduced, Went, Trapped, Limited, Ended, Stuck}
+use Rattle.w_reductions.specs.Numeric.{numeric_op}
+use Rattle.w_reductions.specs.Parametric.{parametric_op}
+use Rattle.w_reductions.specs.Variable.{variable_op}
+use Rattle.w_reductions.specs.Reference.{reference_op}
+use Rattle.w_reductions.specs.Memories.{memory_op}
+use Rattle.w_reductions.specs.Tables.{table_op}
+use Rattle.w_reductions.specs.Branches.{block, choice}
+use Rattle.w_reductions.specs.Calls.{invoke}
+use Rattle.w_reductions.specs.Control.{control_op}
+use Rattle.w_reductions.specs.Exits.{leave}
+
+-- an instruction that holds no others, with the code behind it
+abbrev pub instruction : Program → Store → Context → Row Val → Op → Code → Reduced
+instruction p s e vs (op.Control o) c = control_op p s e vs o c
+instruction p s e vs (op.Parametric o) c = parametric_op s e vs o c
+instruction p s e vs (op.Variable o) c = variable_op s e vs o c
+instruction p s e vs (op.Memory o) c = memory_op s e vs o c
+instruction p s e vs (op.Table o) c = table_op s e vs o c
+instruction p s e vs (op.Numeric o) c = numeric_op s e vs o c
+instruction p s e vs (op.Reference o) c = reference_op s e vs o c
+-- no rule yet
+instruction p s e vs o c = Stuck
+
+-- what comes next at the hole of a context
+abbrev pub next : Program → Store → Context → Row Val → List Administrative → Code → Reduced
+next p s e vs (Invoke a ∷ ahead) c = invoke p s e vs a (record { ahead = ahead; code = c })
+next p s e vs [] (Plain o c) = instruction p s e vs o c
+next p s e vs [] (Block k b x c) = block p s e vs k b x c
+next p s e vs [] (If b x c) = choice p s e vs b x Done c
+next p s e vs [] (IfElse b x y c) = choice p s e vs b x y c
+next p s e vs [] Done = leave s e vs
+
+-- a result with more frames than the most is none
+abbrev pub limited : Reduced → Reduced
+limited (Went out s t) = if nat_le (frames t.around) most_frames then Went out s t else Limited Frames
+limited (Trapped t) = Trapped t
+limited (Limited name) = Limited name
+limited (Ended vs) = Ended vs
+limited Stuck = Stuck
+
+-- one reduction of a term
+abbrev pub reduce : Program → Store → Term → Reduced
+reduce p s t = limited (next p s t.around t.operands t.rest.ahead t.rest.code)

@@ -1,0 +1,12 @@
+//! Terms, contexts and the reduction rules (`specs/`), with their laws.
+#![tactic(auto)]
+
+mod laws;
+mod limit;
+mod printer;
+mod trap;
+
+pub use laws::{decomposes, deterministic};
+pub use limit::{RunLimit, StartLimit};
+pub use printer::Printer;
+pub use trap::Trap;

@@ -1,0 +1,19 @@
+//! The traps of plain instructions.
+
+/// Why a reduction trapped (Core, execution).
+#[derive(Clone, Copy, Debug, PartialEq, Eq)]
+pub enum Trap {
+    /// `unreachable` was reached.
+    Unreachable,
+    DivideByZero,
+    IntegerOverflow,
+    MemoryOutOfBounds,
+    TableOutOfBounds,
+    /// `call_indirect` past the end of its table.
+    UndefinedElement,
+    /// `call_indirect` of an element that is null.
+    NullElement,
+    /// `call_indirect` of a function of another type.
+    CallTypeMismatch,
+    NullReference,
+}
