@@ -6,10 +6,12 @@ use Rattle.w_syntax.specs.Code.{Done}
 use Rattle.w_syntax.specs.Functions.{type_of_function, code_of_function}
 use Rattle.w_syntax.specs.declared.locals.LocalRun.{LocalRun}
 use Rattle.w_syntax.specs.declared.module.Func.{Func}
-use Rattle.w_reductions.specs.declared.printer.Printer.{Printer}
-use Rattle.w_reductions.specs.declared.printer.Printer.TheVariants as printer
+use Rattle.w_tables.specs.declared.entries.FuncEntry.{FuncEntry}
+use Rattle.w_tables.specs.declared.entries.FuncEntry.TheVariants as entry
+use Rattle.w_tables.specs.declared.entries.Printer.{Printer}
+use Rattle.w_tables.specs.declared.entries.Printer.TheVariants as printer
 use Rattle.w_reductions.specs.Values.{Val, default_of}
-use Rattle.w_reductions.specs.Store.{Function, Own, Prints, Store}
+use Rattle.w_reductions.specs.Store.{Store}
 use Rattle.w_reductions.specs.Terms.{Rest, rest_of, Label, Frame, Context}
 use Rattle.w_reductions.specs.Program.{Program}
 use Rattle.w_reductions.specs.Printed.{printed_i32, printed_i64, printed_byte}
@@ -41,9 +43,9 @@ print s e vs printer.Byte rest = do
   (vs, n) ← take_i32 vs
   Went (printed_byte n) s (record { around = e; operands = vs; rest = rest })
 
-abbrev pub invoked : Program → Store → Context → Row Val → Function → Rest → Reduced
-invoked p s e vs (Own i) rest = enter p s e vs i rest
-invoked p s e vs (Prints out) rest = print s e vs out rest
+abbrev pub invoked : Program → Store → Context → Row Val → FuncEntry → Rest → Reduced
+invoked p s e vs (entry.Own i) rest = enter p s e vs i rest
+invoked p s e vs (entry.Printer out) rest = print s e vs out rest
 
 -- (invoke a)
 abbrev pub invoke : Program → Store → Context → Row Val → ℕ → Rest → Reduced

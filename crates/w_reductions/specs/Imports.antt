@@ -9,8 +9,8 @@ use Rattle.w_syntax.specs.declared.module.ExternType.{ExternType}
 use Rattle.w_syntax.specs.declared.module.ExternType.TheVariants as imported
 use Rattle.w_syntax.specs.declared.module.Import.{Import}
 use Rattle.w_syntax.specs.declared.module.Module.{Module}
-use Rattle.w_reductions.specs.declared.printer.Printer.{Printer}
-use Rattle.w_reductions.specs.declared.printer.Printer.TheVariants as printer
+use Rattle.w_tables.specs.declared.entries.Printer.{Printer}
+use Rattle.w_tables.specs.declared.entries.Printer.TheVariants as printer
 
 -- the host's function of this name
 abbrev pub printer_named : List ℕ → Option Printer

@@ -25,14 +25,16 @@ use Rattle.w_syntax.specs.declared.module.Table as syntax_table
 use Rattle.w_syntax.specs.declared.module.Tag.{Tag}
 use Rattle.w_memory.specs.Memory.{Memory, fresh, page_limit, init}
 use Rattle.w_tables.specs.Elements.{table_limit, copied}
+use Rattle.w_tables.specs.declared.entries.FuncEntry.{FuncEntry}
+use Rattle.w_tables.specs.declared.entries.FuncEntry.TheVariants as function
+use Rattle.w_tables.specs.declared.entries.Printer.{Printer}
 use Rattle.w_rules.specs.Spaces.{functions_of}
 use Rattle.w_reductions.specs.declared.limit.StartLimit.{StartLimit}
 use Rattle.w_reductions.specs.declared.limit.StartLimit.TheVariants as limit
-use Rattle.w_reductions.specs.declared.printer.Printer.{Printer}
 use Rattle.w_reductions.specs.declared.trap.Trap.{Trap}
 use Rattle.w_reductions.specs.declared.trap.Trap.TheVariants as trap
 use Rattle.w_reductions.specs.Values.{Val, Null}
-use Rattle.w_reductions.specs.Store.{Function, Own, Prints, Store, Table}
+use Rattle.w_reductions.specs.Store.{Store, Table}
 use Rattle.w_reductions.specs.Terms.{Administrative, Invoke, Term}
 use Rattle.w_reductions.specs.Program.{Program}
 use Rattle.w_reductions.specs.Imports.{Found, All, Missing, printers_of}
@@ -96,14 +98,14 @@ exceeded m =
 -- ## The first store
 
 -- the module's own functions, the first n of them
-abbrev pub own : ℕ → List Function
+abbrev pub own : ℕ → List FuncEntry
 own zero = []
-own (suc n) = own n ++ Own n ∷ []
+own (suc n) = own n ++ function.Own n ∷ []
 
 -- functions, memories, tags and data segments, which ask for no value
 abbrev pub bare : Module → List Printer → Store
 bare m ps = record {
-  functions = map (λ (p : Printer). Prints p) ps ++ own (length m.functions);
+  functions = map (λ (p : Printer). function.Printer p) ps ++ own (length m.functions);
   tables = [];
   memories = map (λ (l : Limits). fresh l.min l.max) m.memories;
   globals = [];

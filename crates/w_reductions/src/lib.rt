@@ -3,10 +3,8 @@
 
 mod laws;
 mod limit;
-mod printer;
 mod trap;
 
 pub use laws::{decomposes, deterministic};
 pub use limit::{RunLimit, StartLimit};
-pub use printer::Printer;
 pub use trap::Trap;

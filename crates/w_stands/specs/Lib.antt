@@ -1,0 +1,5 @@
+pub mod Values
+pub mod Code
+pub mod Stands
+pub mod Steps
+pub mod Keeps
