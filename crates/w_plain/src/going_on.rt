@@ -1,0 +1,33 @@
+//! Going on behind an instruction.
+ghost use Rattle.std.specs.Prelude.{◌≡◌, ◌+◌, ◌<◌, ◌≤◌, ◌^◌, length, OnErr, OnOk};
+ghost use Rattle.w_segment.specs.Shape.{SameParts};
+ghost use Rattle.w_plain.specs.GoingOn.{replaced, IsPushedNext};
+
+use std::alloc::AllocError;
+use w_segment::Stack;
+use w_types::Value;
+
+/// Puts a value in place of the topmost operands, so many, and goes on behind the instruction.
+#[inline(always)]
+pub(crate) fn replace(stack: &mut Stack, count: usize, value: Value)
+    requires some { 0 < count }
+    requires there { count ≤ length stack.old.operands }
+    requires place { stack.old.place + 1 < 2 ^ 32 }
+    ensures after { stack.new ≡ replaced count value stack.old }
+{
+    stack.discard(count);
+    stack.push(value);
+    stack.go(stack.place() + 1);
+}
+
+/// Pushes a value, and goes on behind the instruction. It fails only when out of memory, and then all is as before but for room.
+pub(crate) fn push_next(stack: &mut Stack, value: Value) -> Result<(), AllocError>
+    requires place { stack.old.place + 1 < 2 ^ 32 }
+    ensures after { OnOk result (IsPushedNext value stack.old stack.new) }
+    ensures err { OnErr result (SameParts stack.old stack.new) }
+{
+    stack.reserve(1, 0, 0)?;
+    stack.push(value);
+    stack.go(stack.place() + 1);
+    Ok(())
+}

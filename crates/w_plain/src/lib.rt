@@ -1,0 +1,8 @@
+//! Plain reductions: each call takes just the one of the configuration in which a segment's stack stands.
+#![tactic(auto)]
+
+mod going_on;
+mod numbers;
+mod numeric;
+
+pub use numeric::{eqz, unary};
