@@ -1,2 +1,5 @@
 mod Operands
 mod Turning
+mod Joining
+mod Giving
+mod Keeping

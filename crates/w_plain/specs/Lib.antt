@@ -1,2 +1,3 @@
 pub mod GoingOn
 pub mod Numbers
+pub mod Rules

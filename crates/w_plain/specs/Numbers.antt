@@ -1,7 +1,8 @@
 -- Values that are numbers.
-use Rattle.std.specs.Prelude.{◌≡◌, ℕ, List, ◌∷◌, ⊤}
+use Rattle.std.specs.Prelude.{◌≡◌, ℕ, List, ◌∷◌, ⊤, Result, Ok, Err}
 use Rattle.w_types.specs.declared.value.Value.{Value}
 use Rattle.w_types.specs.declared.value.Value.TheVariants as value
+use Rattle.w_num.specs.declared.fault.NumFault.{NumFault}
 use Rattle.w_syntax.specs.declared.numeric.IntType.{IntType}
 use Rattle.w_syntax.specs.declared.numeric.IntType.TheVariants as int
 
@@ -37,3 +38,8 @@ pub record TakesTwo (t : IntType) (vs : List Value) : Type 0 where
   pub is : vs ≡ top ∷ below ∷ rest
   pub one : IsNumber t below
   pub other : IsNumber t top
+
+-- the value that an operation gives, where it doesn't fault
+abbrev pub given : IntType → Result ℕ NumFault → Result Value NumFault
+given t (Ok n) = Ok (value_of t n)
+given t (Err f) = Err f

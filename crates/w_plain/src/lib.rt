@@ -3,6 +3,6 @@
 
 mod going_on;
 mod numbers;
-mod numeric;
+mod numeric_steps;
 
-pub use numeric::{eqz, unary};
+pub use numeric_steps::numeric;

@@ -3,7 +3,7 @@ ghost use Rattle.std.specs.Prelude.{◌≡◌};
 ghost use Rattle.w_syntax.specs.declared.numeric.IntType.TheVariants as int;
 ghost use Rattle.w_num.specs.Comparisons.{ieqz};
 ghost use Rattle.w_reductions.specs.Numeric.{width, unop, binop, relop, cvtop, taken_by, given_by};
-ghost use Rattle.w_plain.specs.Numbers.{IsNumber, bits_in, value_of};
+ghost use Rattle.w_plain.specs.Numbers.{IsNumber, bits_in, given, value_of};
 
 use w_num::{
     NumFault, i32_add, i32_and, i32_clz, i32_ctz, i32_div_s, i32_div_u, i32_eq, i32_eqz,
@@ -204,5 +204,24 @@ pub(crate) fn compared(kind: IntType, op: Relop, a: Value, b: Value) -> Value
     match kind {
         IntType::I32 => Value::I32(compare_i32(op, i32_of(a), i32_of(b))),
         IntType::I64 => Value::I32(compare_i64(op, i64_of(a), i64_of(b))),
+    }
+}
+
+/// A binary operator.
+#[inline(always)]
+pub(crate) fn joined(kind: IntType, op: Binop, a: Value, b: Value) -> Result<Value, NumFault>
+    requires one { IsNumber kind a }
+    requires other { IsNumber kind b }
+    ensures { result ≡ given kind (binop op (width kind) (bits_in a) (bits_in b)) }
+{
+    match kind {
+        IntType::I32 => match binary_i32(op, i32_of(a), i32_of(b)) {
+            Ok(bits) => Ok(Value::I32(bits)),
+            Err(fault) => Err(fault),
+        },
+        IntType::I64 => match binary_i64(op, i64_of(a), i64_of(b)) {
+            Ok(bits) => Ok(Value::I64(bits)),
+            Err(fault) => Err(fault),
+        },
     }
 }

@@ -5,7 +5,7 @@ use Rattle.w_num.specs.Comparisons.{ieqz}
 use Rattle.w_reductions.specs.Numeric.{width}
 use Rattle.w_syntax.specs.declared.numeric.IntType.TheVariants as int
 use Rattle.w_plain.proofs.Turning.{turn_needs, turn_follows}
-use Rattle.w_plain.proofs.numeric.eqz.Goals as goal
+use Rattle.w_plain.proofs.numeric_steps.eqz.Goals as goal
 
 pub peek-requires : goal.peek-requires
 peek-requires c = record { some = (turn_needs c.args.module.now c.args.stack.now (op.Numeric (numeric.Eqz c.args.kind)) c.args.kind int.I32 (ieqz (width c.args.kind)) (λ p u e vs d. refl) c.requires.moves).some }

@@ -3,7 +3,7 @@ use Rattle.w_syntax.specs.declared.instructions.Op.TheVariants as op
 use Rattle.w_syntax.specs.declared.numeric.NumericOp.TheVariants as numeric
 use Rattle.w_reductions.specs.Numeric.{width, unop}
 use Rattle.w_plain.proofs.Turning.{turn_needs, turn_follows}
-use Rattle.w_plain.proofs.numeric.unary.Goals as goal
+use Rattle.w_plain.proofs.numeric_steps.unary.Goals as goal
 
 pub peek-requires : goal.peek-requires
 peek-requires c = record { some = (turn_needs c.args.module.now c.args.stack.now (op.Numeric (numeric.Unary c.args.kind c.args.operation)) c.args.kind c.args.kind (unop c.args.operation (width c.args.kind)) (λ p u e vs d. refl) c.requires.moves).some }
