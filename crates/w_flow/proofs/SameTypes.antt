@@ -1,18 +1,19 @@
 -- Operands that are just of the types that are wanted.
-use Rattle.std.proofs.Common.{◌≡◌, ℕ, ◌+◌, ◌-◌, ◌<◌, ◌≤◌, Bool, true, false, not, ◌&&◌, ◌||◌, List, [], ◌∷◌, ◌++◌, length, length-drop, map, append_assoc, take, drop, get_or, set, replicate, Some, None, if◌then◌else◌, slice_get, refl, sym, ◌∙◌, ap, arith, eq-eqb}
+use Rattle.std.proofs.Common.{◌≡◌, ℕ, ◌+◌, ◌-◌, ◌<◌, ◌≤◌, Bool, true, false, not, ◌&&◌, ◌||◌, List, [], ◌∷◌, ◌++◌, length, length-drop, map, append_assoc, take, drop, get_or, set, replicate, Option, Some, None, if◌then◌else◌, slice_get, refl, sym, ◌∙◌, ap, arith, eq-eqb}
 use Rattle.std.proofs.lemmas.List.{map-append, take_more, take_more_set, take_all, take-append-drop}
 use Rattle.std.proofs.Math.Seq.{take-append_seam}
 use Rattle.w_types.specs.declared.types.HeapType.{HeapType}
 use Rattle.w_types.specs.declared.types.HeapType.TheVariants as heap
 use Rattle.w_types.specs.declared.types.ValType.{ValType}
 use Rattle.w_types.specs.declared.types.ValType.TheVariants.{I32, I64, Ref}
-use Rattle.w_types.specs.Rows.{Row, ε, ◌▹◌, ◌⧺◌, onto, row_of}
-use Rattle.w_types.proofs.Rows.{row_of-append}
+use Rattle.w_types.specs.Rows.{Row, ε, ◌▹◌, ◌⧺◌, onto, row_of, size}
+use Rattle.w_types.proofs.Rows.{row_of-append, size-row_of, unit_left}
 use Rattle.w_canon.specs.declared.entry.Entry.{Entry}
 use Rattle.w_canon.specs.Tests.{heap_test, val_test, one_class_test}
 use Rattle.w_rules.specs.Operands.{Operand, Known}
 use Rattle.w_rules.specs.Matching.{known}
 use Rattle.w_flow.specs.Flow.{operand_test, pops}
+use Rattle.w_flow.proofs.RowsOfLists.{row_front}
 
 -- ## One operand
 
@@ -53,15 +54,47 @@ pops_known es p ts ε = refl
 pops_known es p ts (us ▹ u) =
     ap (λ (b : Bool). if b then pops es p (ts ⧺ known us) us else None) (type_matches es u) ∙ pops_known es p ts us
 
--- behind so many operands there are just these
-pub taken_whole : (es : List Entry) (p : Bool) (xs : List Operand) (n : ℕ) (us : List ValType) → take (length xs - n) (drop n xs) ≡ map Known us →
-    pops es p (row_of xs) (row_of us) ≡ Some (row_of (take n xs))
-taken_whole es p xs n us h =
-    let e : drop n xs ≡ map Known us = sym (take_all (length xs - n) (drop n xs) (omega (arith, length-drop n xs))) ∙ h in
-    let whole : row_of xs ≡ row_of (take n xs) ⧺ known (row_of us) =
-    ap row_of (sym (take-append-drop n xs)) ∙ row_of-append (take n xs) (drop n xs)
-    ∙ ap (λ (ys : List Operand). row_of (take n xs) ⧺ row_of ys) e ∙ ap (λ (r : Row Operand). row_of (take n xs) ⧺ r) (row_of_known us) in
-    ap (λ (r : Row Operand). pops es p r (row_of us)) whole ∙ pops_known es p (row_of (take n xs)) (row_of us)
+-- as many operands as are wanted stand for them, whatever stands beneath
+pub pops_above : (es : List Entry) (p : Bool) (ts us : Row Operand) (r : Row ValType) → size us ≡ size r → pops es p us r ≡ Some ε → pops es p (ts ⧺ us) r ≡ Some ts
+pops_above es p ts ε ε h e = refl
+pops_above es p ts ε (r ▹ u) h e = absurd (omega arith)
+pops_above es p ts (us ▹ t) ε h e = absurd (omega arith)
+pops_above es p ts (us ▹ t) (r ▹ u) h e = above_one (operand_test es t u) (pops es p us r) (pops es p (ts ⧺ us) r) ts e (pops_above es p ts us r (omega arith))
+  where
+    above_one : (b : Bool) (o q : Option (Row Operand)) (xs : Row Operand) → (if b then o else None) ≡ Some ε → (o ≡ Some ε → q ≡ Some xs) → (if b then q else None) ≡ Some xs
+    above_one true o q xs e f = f e
+    above_one false o q xs e f = absurd (cc)
+
+-- behind so many operands there are just as many that stand for the types
+pub taken_whole : (es : List Entry) (p : Bool) (xs : List Operand) (n : ℕ) (us : List ValType) → length xs - n ≡ length us →
+    pops es p (row_of (take (length xs - n) (drop n xs))) (row_of us) ≡ Some ε → pops es p (row_of xs) (row_of us) ≡ Some (row_of (take n xs))
+taken_whole es p xs n us long h =
+    let e : take (length xs - n) (drop n xs) ≡ drop n xs = take_all (length xs - n) (drop n xs) (omega (arith, length-drop n xs)) in
+    let whole : row_of xs ≡ row_of (take n xs) ⧺ row_of (drop n xs) = ap row_of (sym (take-append-drop n xs)) ∙ row_of-append (take n xs) (drop n xs) in
+    let as_long : size (row_of (drop n xs)) ≡ size (row_of us) = size-row_of (drop n xs) ∙ length-drop n xs ∙ long ∙ sym (size-row_of us) in
+    ap (λ (r : Row Operand). pops es p r (row_of us)) whole
+    ∙ pops_above es p (row_of (take n xs)) (row_of (drop n xs)) (row_of us) as_long (sym (ap (λ (ys : List Operand). pops es p (row_of ys) (row_of us)) e) ∙ h)
+
+-- operands that are just of the types stand for them
+pub known_whole : (es : List Entry) (p : Bool) (xs : List Operand) (us : List ValType) → xs ≡ map Known us → pops es p (row_of xs) (row_of us) ≡ Some ε
+known_whole es p xs us e =
+    ap (λ (r : Row Operand). pops es p r (row_of us)) (ap row_of e ∙ row_of_known us ∙ sym (unit_left (known (row_of us)))) ∙ pops_known es p ε (row_of us)
+
+-- one more stands for the type at its place
+pub match_more : (es : List Entry) (xs : List Operand) (us : List ValType) (i : ℕ) (o : Operand) (t : ValType) → i < length xs → i < length us →
+    o ≡ get_or xs i o → t ≡ get_or us i t → operand_test es o t ≡ true → ((p : Bool) → pops es p (row_of (take i xs)) (row_of (take i us)) ≡ Some ε) →
+    (p : Bool) → pops es p (row_of (take (i + 1) xs)) (row_of (take (i + 1) us)) ≡ Some ε
+match_more es xs us i o t h k a b e same = λ p.
+    ap (λ (r : Row Operand). pops es p r (row_of (take (i + 1) us))) (row_front xs i o h ∙ ap (λ (x : Operand). row_of (take i xs) ▹ x) (sym a))
+    ∙ ap (λ (r : Row ValType). pops es p (row_of (take i xs) ▹ o) r) (row_front us i t k ∙ ap (λ (u : ValType). row_of (take i us) ▹ u) (sym b))
+    ∙ ap (λ (c : Bool). if c then pops es p (row_of (take i xs)) (row_of (take i us)) else None) e ∙ same p
+
+-- all do, behind the last
+pub match_all : (es : List Entry) (xs : List Operand) (us : List ValType) (i : ℕ) → length xs ≡ length us → length us ≤ i →
+    ((p : Bool) → pops es p (row_of (take i xs)) (row_of (take i us)) ≡ Some ε) → (p : Bool) → pops es p (row_of xs) (row_of us) ≡ Some ε
+match_all es xs us i same h e = λ p.
+    sym (ap (λ (ys : List Operand). pops es p (row_of ys) (row_of (take i us))) (take_all i xs (omega arith))
+    ∙ ap (λ (vs : List ValType). pops es p (row_of xs) (row_of vs)) (take_all i us h)) ∙ e p
 
 -- ## Loops over lists of types
 
@@ -112,3 +145,7 @@ given_whole old room new ts o m r l e h =
     ap (λ (k : ℕ). take k room) l ∙ ap (take (length old)) made ∙ take-append_seam old (replicate r o) in
     ap row_of (h ∙ ap (λ (xs : List Operand). xs ++ map Known ts) kept) ∙ row_of-append old (map Known ts)
     ∙ ap (λ (r : Row Operand). row_of old ⧺ r) (row_of_known ts)
+
+-- where all of a list is written through a slice, the list is what the slice has
+pub written_whole : {A : Type 0} (n : ℕ) (xs ys : List A) → n ≡ length ys → take n (ys ++ drop (length ys) xs) ≡ ys
+written_whole n xs ys e = ap (λ (m : ℕ). take m (ys ++ drop (length ys) xs)) e ∙ take-append_seam ys (drop (length ys) xs)

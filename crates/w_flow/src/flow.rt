@@ -1,7 +1,7 @@
 //! The operands of a block: of the standard's validation algorithm, the part of `vals` above the `val_height` of a `ctrl_frame`, and its
 //! `unreachable`. `take` is `pop_vals`, `give` is `push_vals`, and `leave` is `unreachable()`.
 
-use crate::operands::{can_take, end_with, give_types, take_types};
+use crate::operands::{WIDE, can_take, end_with, give_types, take_types};
 use std::alloc::{AllocError, Global};
 use w_canon::Classes;
 use w_rules::Operand;
@@ -76,13 +76,18 @@ impl Flow {
         end_with(classes, self.any, &self.operands, outs)
     }
 
-    /// Takes operands of these types, as where a block begins, or gives back false.
+    /// Takes operands of these types, as where a block begins, or gives back false. Where many were all that there were, their room is
+    /// given back, since blocks within may take as much.
     pub fn take(&mut self, classes: &Classes, ins: &[PackedType]) -> bool
         ensures left { pops classes.now self.old.any (row_of self.old.operands.items)
             (row_of ins.now) ≡ (if result then Some (row_of self.new.operands.items) else None) }
         ensures any { self.new.any ≡ self.old.any }
     {
-        take_types(classes, self.any, &mut self.operands, ins)
+        let taken = take_types(classes, self.any, &mut self.operands, ins);
+        if ins.len() >= WIDE && self.operands.is_empty() {
+            self.operands.shrink_to(0);
+        }
+        taken
     }
 
     /// Gives operands of these types, as where a block has ended. It fails only when out of memory.

@@ -1,5 +1,5 @@
 //! Operands that are taken and given, the topmost last.
-ghost use Rattle.std.specs.Prelude.{◌≡◌, ◌≤◌, ◌+◌, ◌++◌, length, map, take, Bool, IsTrue, if◌then◌else◌, IfOk, IfSome, Some, None};
+ghost use Rattle.std.specs.Prelude.{◌≡◌, ◌≤◌, ◌<◌, ◌+◌, ◌++◌, length, map, take, Bool, IsTrue, if◌then◌else◌, IfOk, IfSome, Some, None};
 ghost use Rattle.std.specs.Option.{option_map};
 ghost use Rattle.w_types.specs.Rows.{ε, ◌▹◌, ◌⧺◌, row_of};
 ghost use Rattle.w_rules.specs.Matching.{known};
@@ -13,8 +13,8 @@ use w_canon::Classes;
 use w_rules::{Operand, OperandView};
 use w_types::{HeapType, PackedType, RefType, ValType};
 
-// Rows of so many types are compared and given whole.
-const WIDE: usize = 8;
+/// Rows of so many types are compared and given whole.
+pub(crate) const WIDE: usize = 8;
 
 // Whether an operand that is not just of this type stands where one of the type is wanted.
 fn matches_unlike(classes: &Classes, operand: Operand, wanted: PackedType) -> bool
@@ -63,10 +63,20 @@ struct Match {
 }
 
 // Whether an operand and a type are those of a match.
-fn is_match(found: Match, operand: Operand, kind: PackedType) -> bool
-    ensures { IsTrue result → (operand ≡ found.operand) × (kind ≡ found.kind) }
+fn is_match(found: (Operand, PackedType), operand: Operand, kind: PackedType) -> bool
+    ensures { IsTrue result → (operand ≡ found.0) × (kind ≡ found.1) }
 {
-    operand == found.operand && kind == found.kind
+    operand == found.0 && kind == found.1
+}
+
+// Whether an operand is just of this type, or the two are those of a match.
+#[tactic(auto, using(crate::proofs::SameTypes::known_matches))]
+#[inline(always)]
+fn is_alike(classes: &Classes, found: &Match, operand: Operand, kind: PackedType) -> bool
+    requires { IsTrue (operand_test classes.now found.now.operand found.now.kind) }
+    ensures { IsTrue result → IsTrue (operand_test classes.now operand kind) }
+{
+    operand.is(kind) | is_match((found.operand, found.kind), operand, kind)
 }
 
 // Whether an operand stands where one of this type is wanted; the last match that was looked up is not looked up again, since in rows
@@ -77,7 +87,7 @@ fn matches_again(classes: &Classes, found: &mut Match, operand: Operand, wanted:
     ensures told { result ≡ operand_test classes.now operand wanted }
     ensures found { IsTrue (operand_test classes.now found.new.operand found.new.kind) }
 {
-    if operand.is(wanted) || is_match(*found, operand, wanted) {
+    if operand.is(wanted) || is_match((found.operand, found.kind), operand, wanted) {
         return true;
     }
     if !matches_unlike(classes, operand, wanted) {
@@ -121,6 +131,59 @@ fn left_by_each(
     Some(n)
 }
 
+// The last operand that is not just of the type at its place, with that type, where it stands for one.
+fn last_match(classes: &Classes, operands: &[Operand], types: &[PackedType]) -> Option<Match>
+    requires { length operands.now ≡ length types.now }
+    ensures { IfSome result (λ found. IsTrue (operand_test classes.now found.operand found.kind)) }
+{
+    let mut i = types.len();
+    while i > 0 {
+        i -= 1;
+        let operand = operands[i];
+        let kind = types[i];
+        if !operand.is(kind) {
+            return if matches_unlike(classes, operand, kind) {
+                Some(Match { operand, kind })
+            } else {
+                None
+            };
+        }
+    }
+    None
+}
+
+// Whether operands are just of these types, or match as those of a match do. It goes through all, so that the comparison has no
+// branches.
+fn match_alike(classes: &Classes, found: &Match, operands: &[Operand], types: &[PackedType]) -> bool
+    requires long { length operands.now ≡ length types.now }
+    requires found { IsTrue (operand_test classes.now found.now.operand found.now.kind) }
+    ensures { IsTrue result → (p : Bool) → pops classes.now p (row_of operands.now) (row_of types.now) ≡ Some ε }
+{
+    let mut alike = true;
+    for i in 0..types.len() {
+        let operand = operands[i];
+        let kind = types[i];
+        alike &= is_alike(classes, found, operand, kind);
+    }
+    alike
+}
+
+// Whether operands stand where these types are wanted, and those that are not just of their types match alike.
+fn match_whole(classes: &Classes, operands: &[Operand], types: &[PackedType]) -> bool
+    requires long { length operands.now ≡ length types.now }
+    requires some { 0 < length types.now }
+    ensures { IsTrue result → (p : Bool) → pops classes.now p (row_of operands.now) (row_of types.now) ≡ Some ε }
+{
+    let last = types.len() - 1;
+    if operands[last].is(types[last]) && are_known(operands, types) {
+        return true;
+    }
+    match last_match(classes, operands, types) {
+        Some(found) => match_alike(classes, &found, operands, types),
+        None => false,
+    }
+}
+
 // How many operands are left when these types are taken, or `None` where they can't be.
 fn left(classes: &Classes, any: bool, operands: &[Operand], wanted: &[PackedType]) -> Option<usize>
     ensures what { pops classes.now any (row_of operands.now) (row_of wanted.now)
@@ -129,7 +192,7 @@ fn left(classes: &Classes, any: bool, operands: &[Operand], wanted: &[PackedType
 {
     if wanted.len() >= WIDE && wanted.len() <= operands.len() {
         let beneath = operands.len() - wanted.len();
-        if are_known(&operands[beneath..], wanted) {
+        if match_whole(classes, &operands[beneath..], wanted) {
             return Some(beneath);
         }
     }
@@ -283,10 +346,11 @@ pub(crate) fn selected(one: Operand, other: Operand) -> Option<Operand>
     }
 }
 
-// Puts operands of these types into the places from one on.
-fn put_types(operands: &mut Vec<Operand>, from: usize, types: &[PackedType])
-    requires { length operands.old.items ≡ from + length types.now }
-    ensures { operands.new.items ≡ take from operands.old.items ++ map Known types.now }
+// Puts operands of these types into the places from one on. It takes a slice, so that the types are copied some at a time.
+fn put_types(operands: &mut [Operand], from: usize, types: &[PackedType])
+    requires { length operands.old ≡ from + length types.now }
+    ensures put { operands.new ≡ take from operands.old ++ map Known types.now }
+    ensures long { length operands.new ≡ length operands.old }
 {
     for i in 0..types.len() {
         let kind = types[i];
@@ -318,6 +382,6 @@ pub(crate) fn give_types(
     }
     let from = operands.len();
     operands.resize(from + types.len(), Operand::BOTTOM)?;
-    put_types(operands, from, types);
+    put_types(operands.as_mut_slice(), from, types);
     Ok(())
 }

@@ -1,5 +1,5 @@
 -- What branches need of the rows of labels.
-use Rattle.std.proofs.Common.{◌≡◌, ℕ, ◌+◌, ◌<◌, Bool, true, false, ◌&&◌, List, [], ◌∷◌, ◌++◌, length, get_or, drop, nat_eq, slice_get, Option, Some, None, if◌then◌else◌, refl, sym, ◌∙◌, ap, eq-eqb, eqb-true}
+use Rattle.std.proofs.Common.{◌≡◌, ℕ, ◌+◌, ◌<◌, Bool, true, false, ◌&&◌, List, [], ◌∷◌, ◌++◌, length, get_or, drop, slice_get, Option, Some, None, if◌then◌else◌, refl, sym, ◌∙◌, ap, eq-eqb, eqb-true}
 use Rattle.std.proofs.lemmas.List.{drop_more}
 use Rattle.w_types.specs.declared.types.ValType.{ValType}
 use Rattle.w_types.specs.declared.types.ValType.TheVariants.{I32}
@@ -36,41 +36,25 @@ not_true : (b : Bool) → (b ≡ true → ⊥) → b ≡ false
 not_true true h = absurd (h refl)
 not_true false h = refl
 
--- ## A label of a br_table, by the index that stands at a place of the list
+-- ## A label of a br_table
 
-module _ (es : List Entry) (labels : List (Row ValType)) (p : Bool) (ts : Row Operand) (n : ℕ) (xs : List ℕ) (k d : ℕ) (label : List ValType) where
-  -- whether this label fits
-  abbrev fits : Bool
-  fits = nat_eq (size (row_of label)) n && is_popped (pops es p ts (row_of label))
+module _ (es : List Entry) (labels : List (Row ValType)) (p : Bool) (ts : Row Operand) (n : ℕ) where
+  -- a label that there is fits where it has so many types and can be taken
+  pub label_here : (o : Option (Row ValType)) (label : List ValType) → o ≡ Some (row_of label) → length label ≡ n →
+      is_popped (pops es p ts (row_of label)) ≡ fits_one es p ts n o
+  label_here o label e long =
+      sym (ap (fits_one es p ts n) e ∙ ap (λ (b : Bool). b && is_popped (pops es p ts (row_of label))) (eq-eqb (size (row_of label)) n (size-row_of label ∙ long)))
 
-  -- those left fit where this label does and those behind it
-  one_more : k < length xs → slice_get labels (get_or xs k d) ≡ Some (row_of label) →
-      fit_each es labels p ts n (drop k xs) ≡ fits && fit_each es labels p ts n (drop (k + 1) xs)
-  one_more h l =
-      ap (fit_each es labels p ts n) (drop_more xs k d h)
-      ∙ ap (λ (o : Option (Row ValType)). fits_one es p ts n o && fit_each es labels p ts n (drop (k + 1) xs)) l
+  -- and does not where it has another number of types
+  pub not_equal : (o : Option (Row ValType)) (label : List ValType) → o ≡ Some (row_of label) → (length label ≡ n → ⊥) → false ≡ fits_one es p ts n o
+  not_equal o label e differs =
+      sym (ap (fits_one es p ts n) e ∙ ap (λ (b : Bool). b && is_popped (pops es p ts (row_of label)))
+      (not_true _ (λ t. differs (sym (size-row_of label) ∙ eqb-true (size (row_of label)) n t))))
 
-  -- where it fits, all fit that are left where those behind it do
-  pub label_fits : k < length xs → slice_get labels (get_or xs k d) ≡ Some (row_of label) → length label ≡ n → is_popped (pops es p ts (row_of label)) ≡ true →
-      fit_each es labels p ts n (drop k xs) ≡ fit_each es labels p ts n (drop (k + 1) xs)
-  label_fits h l long can =
-      one_more h l ∙ ap (λ (b : Bool). b && fit_each es labels p ts n (drop (k + 1) xs))
-      (both_true _ _ (eq-eqb (size (row_of label)) n (size-row_of label ∙ long)) can)
-
-  -- where it does not fit, not all do
-  not_taken : k < length xs → slice_get labels (get_or xs k d) ≡ Some (row_of label) → fits ≡ false → fit_each es labels p ts n (drop k xs) ≡ false
-  not_taken h l e = one_more h l ∙ ap (λ (b : Bool). b && fit_each es labels p ts n (drop (k + 1) xs)) e
-
-  -- it does not where it has another number of types
-  pub label_differs : k < length xs → slice_get labels (get_or xs k d) ≡ Some (row_of label) → (length label ≡ n → ⊥) → fit_each es labels p ts n (drop k xs) ≡ false
-  label_differs h l differs =
-      not_taken h l (ap (λ (b : Bool). b && is_popped (pops es p ts (row_of label)))
-      (not_true _ (λ e. differs (sym (size-row_of label) ∙ eqb-true (size (row_of label)) n e))))
-
-  -- nor where it cannot be taken
-  pub label_fails : k < length xs → slice_get labels (get_or xs k d) ≡ Some (row_of label) → is_popped (pops es p ts (row_of label)) ≡ false →
-      fit_each es labels p ts n (drop k xs) ≡ false
-  label_fails h l cannot = not_taken h l (right_false _ _ cannot)
+  -- those left, by the next one
+  pub label_next : (xs : List ℕ) (k d : ℕ) → k < length xs →
+      fit_each es labels p ts n (drop k xs) ≡ fits_one es p ts n (slice_get labels (get_or xs k d)) && fit_each es labels p ts n (drop (k + 1) xs)
+  label_next xs k d h = ap (fit_each es labels p ts n) (drop_more xs k d h)
 
 -- ## The step of a br_table
 

@@ -1,5 +1,5 @@
 -- What the calls of the checker answer, from what its data says.
-use Rattle.std.proofs.Common.{◌≡◌, ◌↔◌, ℕ, max, Bool, true, false, List, [], ◌∷◌, length, reverse, Result, Ok, Err, Option, Some, None, if◌then◌else◌, refl, sym, ap, subst, ◌∙◌}
+use Rattle.std.proofs.Common.{◌≡◌, ◌≤◌, ◌↔◌, ℕ, max, Bool, true, false, List, [], ◌∷◌, length, reverse, Result, Ok, Err, Option, Some, None, if◌then◌else◌, refl, sym, ap, subst, ◌∙◌, arith}
 use Rattle.std.specs.Prelude.{IfOk, IsTrue, is_some, slice_get}
 use Rattle.std.specs.Borrow.{Bor}
 use Rattle.std.proofs.lemmas.Bool.{false≢true}
@@ -19,7 +19,7 @@ use Rattle.w_steps.specs.Labels.{labels_of, within}
 use Rattle.w_vplain.specs.Prefixes.{Prefix, IsDerivable, empty, follow, is_checked, malformed}
 use Rattle.w_vplain.specs.Measures.{CountsFor, Raised, extra_in, extra_at, peak_of, depth_of, tally, total}
 use Rattle.w_vplain.specs.Row.{IsRow, RaisedBy, above, added_by, labels_in, move_next, raised_to, row_next}
-use Rattle.w_vplain.specs.Standing.{StandsFor, Answers, AnswersRow, Refuses, IsSameBody, IsCall, IsCounted, Counts, counts_if, HasBases, HasClasses, context_for, classes_for, top_of, outer_of, frames_of, frames_of_derived}
+use Rattle.w_vplain.specs.Standing.{StandsFor, Answers, AnswersRow, Refuses, IsSameBody, IsCall, IsCounted, Counts, counts_if, HasBases, HasClasses, IsDeep, context_for, classes_for, top_of, outer_of, frames_of, frames_of_derived}
 use Rattle.w_locals.specs.Locals.{outer_sets}
 use Rattle.w_steps.specs.View.{outer_kinds}
 use Rattle.w_vplain.specs.View.{row_with}
@@ -68,7 +68,7 @@ counts_stand c s w k alive = counts_given c.refused (Counts c s w) alive k.count
 
 -- the checker after a call
 pub stands_by : (old new : Checker) (s : List Bool) (w w' : Prefix) → IsSameBody old new → HasClasses old → Knows (context_for old) s (frames_of_derived new) w'
-    → (new.refused ≡ false → CountsFor (context_for old) s (frames_of new) w' × (new.peak ≡ peak_of (context_for old) s w') × HasBases new × (new.depth ≡ depth_of w'))
+    → (new.refused ≡ false → CountsFor (context_for old) s (frames_of new) w' × (new.peak ≡ peak_of (context_for old) s w') × HasBases new × IsDeep new × (new.depth ≡ depth_of w'))
     → StandsFor new s w'
 stands_by old new s w w' same types k counts = record {
   classes = (let P : Context → List Entry → Type 0 = λ d es. IsClassesOf d.types es in
@@ -82,7 +82,8 @@ stands_by old new s w w' same types k counts = record {
         frames = subst P (sym same.context) r.0;
         peak = r.1 ∙ ap (λ d. peak_of d s w') (sym same.context);
         bases = r.2;
-        depth = r.3;
+        deep = r.3;
+        depth = r.4;
       }));
 }
 
@@ -125,7 +126,7 @@ module _ (old new : Checker) (m : Move) (answer : Bool) (h : IsCall old new m an
 
 counts_after : (old new : Checker) (p : Bor PackedInstr) (s : List Bool) (w : Prefix) (answer : Bool) → is_checked (unpacked p.now) ≡ true → IsCall old new (move.Packed p) answer
     → StandsFor old s w → new.refused ≡ false
-    → CountsFor (context_for old) s (frames_of new) (follow (unpacked p.now) w) × (new.peak ≡ peak_of (context_for old) s (follow (unpacked p.now) w)) × HasBases new × (new.depth ≡ depth_of (follow (unpacked p.now) w))
+    → CountsFor (context_for old) s (frames_of new) (follow (unpacked p.now) w) × (new.peak ≡ peak_of (context_for old) s (follow (unpacked p.now) w)) × HasBases new × IsDeep new × (new.depth ≡ depth_of (follow (unpacked p.now) w))
 counts_after old new p s w answer ch h k alive =
     let c = context_for old in
     let es = classes_for old in
@@ -138,13 +139,15 @@ counts_after old new p s w answer ch h k alive =
     let r = at_whenever (next es c (unpacked p.now) (frames_of old)) (λ gs. CountsFor c s gs w' × Raised c s (unpacked p.now) (frames_of old) gs w w') (frames_of new) next_is
     (calls_counted es c s (unpacked p.now) (frames_of old) w stands counts.frames) in
     let d = at_whenever (next es c (unpacked p.now) (frames_of old)) (Deepens w w') (frames_of new) next_is (calls_deepen es c s (unpacked p.now) (frames_of old) w stands) in
-    let b = counted.peak counts.bases in (
+    let b = counted.peak counts.bases in
+    let e = counted.depth counts.deep in (
       r.0,
       b.1 ∙ ap (λ (p : ℕ). raised_to p 0 (frames_of new)) counts.peak
           ∙ ap (λ (x : ℕ). raised_to (peak_of c s w) x (frames_of new)) (sym (nothing_at c (unpacked p.now) (frame_kinds (frames_of old)) (total (frames_of old)) ch))
           ∙ sym r.1,
       b.0,
-      counted.depth ∙ ap (λ (m : ℕ). max m (length (frames_of new))) counts.depth ∙ sym d,
+      e.0,
+      e.1 ∙ ap (λ (m : ℕ). max m (length (frames_of new))) counts.depth ∙ sym d,
     )
 
 -- the call answers for the sequence with the instruction
@@ -174,7 +177,7 @@ answers_packed r old new p next h same ch e = ok_with r _ _ h (λ taken x. answe
 counts_by_row : (old new : Checker) (b : Bor InstrRow) (o : Op) (s : List Bool) (w : Prefix) (answer : Bool)
     → IsCall old new (move.Row b) answer → StandsFor old s w
     → (IsDerivable (context_for old) s w → IsRow (context_for old) s w o (row_with (row_of b.now.ins.now) b.now.top) (row_of b.now.outs.now) b.now.raise) → new.refused ≡ false
-    → CountsFor (context_for old) s (frames_of new) (follow (flat.Plain o) w) × (new.peak ≡ peak_of (context_for old) s (follow (flat.Plain o) w)) × HasBases new
+    → CountsFor (context_for old) s (frames_of new) (follow (flat.Plain o) w) × (new.peak ≡ peak_of (context_for old) s (follow (flat.Plain o) w)) × HasBases new × IsDeep new
     × (new.depth ≡ depth_of (follow (flat.Plain o) w))
 counts_by_row old new b o s w answer h k found alive =
     let c = context_for old in
@@ -192,11 +195,13 @@ counts_by_row old new b o s w answer h k found alive =
     let q = at_whenever (row_next es takes gives (frames_of old)) (λ gs. CountsFor c s gs w' × RaisedBy c s (size takes) b.now.raise (frames_of old) gs w w') (frames_of new) next_is
     (row_counted es c s o takes gives b.now.raise (frames_of old) w stands counts.frames r) in
     let d = at_whenever (row_next es takes gives (frames_of old)) (Deepens w w') (frames_of new) next_is (row_deepens es c s o takes gives b.now.raise (frames_of old) w stands r) in
-    let bases = counted.peak counts.bases in (
+    let bases = counted.peak counts.bases in
+    let deep = counted.depth counts.deep in (
       q.0,
       bases.1 ∙ ap (λ (p : ℕ). raised_to p (added_by m (frames_of old)) (frames_of new)) counts.peak ∙ sym q.1,
       bases.0,
-      counted.depth ∙ ap (λ (n : ℕ). max n (length (frames_of new))) counts.depth ∙ sym d,
+      deep.0,
+      deep.1 ∙ ap (λ (n : ℕ). max n (length (frames_of new))) counts.depth ∙ sym d,
     )
 
 -- the call answers for the sequence with each instruction of the row
@@ -260,6 +265,7 @@ begins c s types e f p d b = record {
     peak = p;
     bases = b;
     depth = d;
+    deep = subst (λ (n : ℕ). n ≤ c.depth) (sym (ap length f)) (subst (λ (n : ℕ). 1 ≤ n) (sym d) (omega arith));
   });
 }
 

@@ -1,8 +1,9 @@
 -- The frames of a checker, from its data.
-use Rattle.std.proofs.Common.{◌≡◌, ℕ, zero, suc, ◌+◌, max, ◌==◌, Bool, true, false, List, [], ◌∷◌, ◌++◌, map, length, reverse, slice_set, Option, Some, None, if◌then◌else◌, refl, sym, ap, subst, ◌∙◌, arith}
+use Rattle.std.proofs.Common.{◌≡◌, ◌≤◌, ℕ, zero, suc, ◌+◌, max, ◌==◌, Bool, true, false, List, [], ◌∷◌, ◌++◌, map, length, reverse, Option, Some, None, if◌then◌else◌, refl, sym, ap, subst, ◌∙◌, arith}
 use Rattle.std.specs.Borrow.{Bor}
 use Rattle.std.proofs.lemmas.Bool.Decides.{nat_tests}
 use Rattle.std.proofs.lemmas.List.{length-reverse, reverse-append}
+use Rattle.std.proofs.Math.Nat.{max-eq_left, le-max_right}
 use Rattle.w_types.specs.declared.types.ValType.{ValType}
 use Rattle.w_types.specs.Rows.{Row, ◌▹◌, ◌⧺◌, size, row_of}
 use Rattle.w_types.proofs.Rows.{size-row_of}
@@ -260,7 +261,23 @@ pub count_with : (fs : List code.Frame) (ss : List (List Bool)) → length (fram
 count_with [] ss = refl
 count_with (f ∷ fs) ss = ap suc (count_with fs (outer_sets ss))
 
+-- the same blocks around are as many frames
+pub as_many : (b d : Bool) (f g : Frame) (xs ys : List code.Frame) (ss ts : List (List Bool)) → b ≡ d → xs ≡ ys
+    → length (if b then [] else f ∷ frames_with (reverse xs) ss) ≡ length (if d then [] else g ∷ frames_with (reverse ys) ts)
+as_many b true f g xs ys ss ts e h = ap (λ (c : Bool). length (if c then [] else f ∷ frames_with (reverse xs) ss)) e
+as_many b false f g xs ys ss ts e h =
+    ap (λ (c : Bool). length (if c then [] else f ∷ frames_with (reverse xs) ss)) e
+    ∙ ap suc (count_with (reverse xs) ss ∙ ap (λ (zs : List code.Frame). length (reverse zs)) h ∙ sym (count_with (reverse ys) ts))
+
 -- ## Counting the place that was reached
+
+-- where no more blocks are open than were counted, there are none to count
+pub none_deeper : (old new m n : ℕ) → m ≡ n → new ≡ old → n ≤ old → (m ≤ new) × (new ≡ max old m)
+none_deeper old new m n e f h = (omega arith, f ∙ sym (max-eq_left (omega arith)))
+
+-- no more are open than are counted now
+pub counted_deep : (old new m : ℕ) → new ≡ max old m → (m ≤ new) × (new ≡ max old m)
+counted_deep old new m e = (subst (λ (k : ℕ). m ≤ k) (sym e) (le-max_right old m), e)
 
 -- one block is open for each frame
 pub depth_told : (b : Bool) (f : Frame) (xs xs' : List code.Frame) (ss : List (List Bool)) (old n : ℕ) → b ≡ false → xs' ≡ xs → n ≡ length xs' + 1

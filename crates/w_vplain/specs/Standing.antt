@@ -1,5 +1,5 @@
 -- What a checker stands for.
-use Rattle.std.specs.Prelude.{◌≡◌, ◌↔◌, ℕ, max, length, Bool, true, false, IsTrue, IsFalse, List, [], ◌∷◌, reverse, Option, Some, None, Result, IsErr, OnErr, is_some, if◌then◌else◌}
+use Rattle.std.specs.Prelude.{◌≡◌, ◌≤◌, ◌↔◌, ℕ, max, length, Bool, true, false, IsTrue, IsFalse, List, [], ◌∷◌, reverse, Option, Some, None, Result, IsErr, OnErr, is_some, if◌then◌else◌}
 use Rattle.w_types.specs.declared.types.ValType.{ValType}
 use Rattle.w_types.specs.Rows.{Row}
 use Rattle.w_syntax.specs.declared.instructions.Instr.TheVariants as flat
@@ -61,12 +61,17 @@ bases_from (f ∷ fs) = (f.base ≡ total_of fs) × bases_from fs
 abbrev pub HasBases : Checker → Type 0
 HasBases c = bases_from (c.top ∷ reverse c.outer.items)
 
+-- no more blocks are open than were counted
+abbrev pub IsDeep : Checker → Type 0
+IsDeep c = length (frames_of c) ≤ c.depth
+
 -- what is counted, as long as the answer was true
 pub record Counts (c : Checker) (s : List Bool) (w : Prefix) : Type 0 where
   pub frames : CountsFor (context_for c) s (frames_of c) w
   pub peak : c.peak ≡ peak_of (context_for c) s w
   pub bases : HasBases c
   pub depth : c.depth ≡ depth_of w
+  pub deep : IsDeep c
 
 abbrev pub counts_if : Bool → Type 0 → Type 0
 counts_if true P = Unit {0}
@@ -122,7 +127,7 @@ Leads o taken fs = o ≡ (if taken then Some fs else None)
 
 -- the place that was reached is counted, and what the call added there
 pub record IsCounted (old new : Checker) (added : ℕ) : Type 0 where
-  pub depth : new.depth ≡ max old.depth (length (frames_of new))
+  pub depth : IsDeep old → IsDeep new × (new.depth ≡ max old.depth (length (frames_of new)))
   pub peak : HasBases old → HasBases new × (new.peak ≡ raised_to old.peak added (frames_of new))
 
 -- what a call came to

@@ -168,6 +168,7 @@ impl<'a> Checker<'a> {
             (context_for self.old) o (top_of self.old) (outer_of self.old)
             ≡ (if taken then Some (top_of self.new ∷ outer_of self.new) else None))
             (unpacked packed.now)) }
+        ensures outer { self.new.outer.items ≡ self.old.outer.items }
         ensures bases { HasBases self.old → HasBases self.new }
         ensures uncounted { IsUncounted self.old self.new }
         ensures ended { self.new.ended ≡ self.old.ended }
@@ -278,7 +279,6 @@ impl<'a> Checker<'a> {
     }
 
     // An instruction, where the body has not ended.
-    #[inline(never)]
     fn block_instr(&mut self, packed: &PackedInstr) -> Result<bool, AllocError>
         requires { IsFalse self.old.ended }
         ensures steps { IfOk result (λ taken. Leads (next (classes_for self.old)
@@ -297,27 +297,6 @@ impl<'a> Checker<'a> {
             PackedInstr::Else => self.enter_else(),
             PackedInstr::End => self.end_block(),
             PackedInstr::Boxed(instr) => self.boxed(packed, instr),
-            _ => self.op(packed),
-        }
-    }
-
-    // The same: those of blocks are rare, and stand out of line.
-    fn instr(&mut self, packed: &PackedInstr) -> Result<bool, AllocError>
-        requires { IsFalse self.old.ended }
-        ensures steps { IfOk result (λ taken. Leads (next (classes_for self.old)
-            (context_for self.old) (unpacked packed.now) (top_of self.old
-            ∷ outer_of self.old)) taken (frames_of self.new)) }
-        ensures bases { IfOk result (λ taken. IsTrue taken → HasBases self.old
-            → HasBases self.new) }
-        ensures uncounted { IsUncounted self.old self.new }
-    {
-        match packed {
-            PackedInstr::Block(_, _, _)
-            | PackedInstr::If(_, _)
-            | PackedInstr::IfElse(_, _, _)
-            | PackedInstr::Else
-            | PackedInstr::End
-            | PackedInstr::Boxed(_) => self.block_instr(packed),
             _ => self.op(packed),
         }
     }
@@ -359,6 +338,23 @@ impl<'a> Checker<'a> {
         row_top(height(&self.top)?, row_size(ins, top), raise)
     }
 
+    // Counts the operands of the place that was reached.
+    fn count_operands(&mut self) -> Result<(), AllocError>
+        ensures raises { OnOk result (HasBases self.old → self.new.peak
+            ≡ max self.old.peak (or_none (total (frames_of self.old)) (λ (h : ℕ). h))) }
+        ensures depth { self.new.depth ≡ self.old.depth }
+        ensures frames { frames_of self.new ≡ frames_of self.old }
+        ensures bases { HasBases self.old → HasBases self.new }
+        ensures body { IsSameBody self.old self.new }
+    {
+        if self.ended {
+            return Ok(());
+        }
+        let here = height(&self.top)?;
+        self.peak = self.peak.max(here.unwrap_or(0));
+        Ok(())
+    }
+
     // Counts the operands and the blocks of the place that was reached.
     fn count(&mut self) -> Result<(), AllocError>
         ensures deepens { OnOk result (self.new.depth
@@ -372,14 +368,47 @@ impl<'a> Checker<'a> {
         if self.ended {
             return Ok(());
         }
-        let here = height(&self.top)?;
         let open = open_blocks(self.outer.as_slice())?;
-        self.peak = self.peak.max(here.unwrap_or(0));
         self.depth = self.depth.max(open);
+        self.count_operands()?;
         Ok(())
     }
 
-    // An instruction where the body has not ended, and the count of the place that it reaches.
+    // An instruction where the body has not ended, and the count of the place that it reaches. Those of blocks are rare, and stand out
+    // of line.
+    #[inline(never)]
+    fn advance_block(&mut self, packed: &PackedInstr) -> Result<bool, AllocError>
+        requires { IsFalse self.old.ended }
+        ensures steps { IfOk result (λ taken. Leads (next (classes_for self.old)
+            (context_for self.old) (unpacked packed.now) (frames_of self.old)) taken
+            (frames_of self.new)) }
+        ensures counted { IfOk result (λ taken. IsTrue taken → IsCounted self.old self.new 0) }
+        ensures body { IsSameBody self.old self.new }
+    {
+        if !self.block_instr(packed)? {
+            return Ok(false);
+        }
+        self.count()?;
+        Ok(true)
+    }
+
+    // The same of one that holds no others. It opens no block, so that there are none to count.
+    fn advance_op(&mut self, packed: &PackedInstr) -> Result<bool, AllocError>
+        requires { IsFalse self.old.ended }
+        ensures steps { IfOk result (λ taken. OnPlain (λ o. Leads (op_next (classes_for self.old)
+            (context_for self.old) o (top_of self.old) (outer_of self.old)) taken
+            (frames_of self.new)) (unpacked packed.now)) }
+        ensures counted { IfOk result (λ taken. IsTrue taken → IsCounted self.old self.new 0) }
+        ensures body { IsSameBody self.old self.new }
+    {
+        if !self.op(packed)? {
+            return Ok(false);
+        }
+        self.count_operands()?;
+        Ok(true)
+    }
+
+    // An instruction, where the body has not ended.
     fn advance_instr(&mut self, packed: &PackedInstr) -> Result<bool, AllocError>
         requires { IsFalse self.old.ended }
         ensures steps { IfOk result (λ taken. Leads (next (classes_for self.old)
@@ -388,11 +417,15 @@ impl<'a> Checker<'a> {
         ensures counted { IfOk result (λ taken. IsTrue taken → IsCounted self.old self.new 0) }
         ensures body { IsSameBody self.old self.new }
     {
-        if !self.instr(packed)? {
-            return Ok(false);
+        match packed {
+            PackedInstr::Block(_, _, _)
+            | PackedInstr::If(_, _)
+            | PackedInstr::IfElse(_, _, _)
+            | PackedInstr::Else
+            | PackedInstr::End
+            | PackedInstr::Boxed(_) => self.advance_block(packed),
+            _ => self.advance_op(packed),
         }
-        self.count()?;
-        Ok(true)
     }
 
     // The same of a row, which may add to the operands of its place. Rows are rare: out of line, they leave the common path short.

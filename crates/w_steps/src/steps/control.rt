@@ -1,7 +1,7 @@
 //! Control instructions that hold no others.
-ghost use Rattle.std.specs.Prelude.{◌≡◌, IfOk, slice_get};
+ghost use Rattle.std.specs.Prelude.{◌≡◌, IfOk, IsTrue, Some, slice_get};
 ghost use Rattle.w_types.specs.Rows.{row_of};
-ghost use Rattle.w_flow.specs.Flow.{step, fit_each};
+ghost use Rattle.w_flow.specs.Flow.{step, fits_one, fit_each};
 ghost use Rattle.w_flow.specs.View.{flow_view, flow_if};
 ghost use Rattle.w_rules.specs.InstructionTypes.{br_if_type, br_on_null_type, br_on_non_null_type, br_table_type, labels_at, call_type, call_indirect_type, call_ref_type, control_op_type};
 ghost use Rattle.w_rules.specs.Context.{func_of, type_of_func};
@@ -16,18 +16,39 @@ use w_rules::Context;
 use w_syntax::ControlOp;
 use w_types::{HeapType, PackedType, RefType, ValType};
 
-// Whether each of these labels takes n types that can be taken.
+// Whether an index is the last one that was judged.
+fn is_last(last: Option<u32>, index: u32) -> bool
+    ensures { IsTrue result → last ≡ Some index }
+{
+    match last {
+        Some(last) => last == index,
+        None => false,
+    }
+}
+
+// Whether a label takes n types that can be taken.
+#[tactic(auto, using(crate::proofs::TablesTaken::label_here, crate::proofs::TablesTaken::not_equal))]
+fn label_fits(body: &BodyContext, flow: &Flow, index: u32, count: usize) -> bool
+    ensures { result ≡ fits_one body.now.cx.now.classes.now (flow_view flow.now).any
+        (flow_view flow.now).operands count (slice_get (context_at body.now).labels index) }
+{
+    match body.label(index) {
+        Some(label) => label.len() == count && flow.can_take(body.cx.classes, label),
+        None => false,
+    }
+}
+
+// Whether each of these labels takes n types that can be taken. One that was judged is not judged again right behind.
 fn labels_fit(body: &BodyContext, flow: &Flow, labels: &[u32], count: usize) -> bool
     ensures { result ≡ fit_each body.now.cx.now.classes.now (context_at body.now).labels
         (flow_view flow.now).any (flow_view flow.now).operands count labels.now }
 {
+    let mut fitting = None;
     for index in labels {
-        let Some(label) = body.label(*index) else {
-            return false;
-        };
-        if label.len() != count || !flow.can_take(body.cx.classes, label) {
+        if !is_last(fitting, *index) && !label_fits(body, flow, *index, count) {
             return false;
         }
+        fitting = Some(*index);
     }
     true
 }

@@ -5,6 +5,6 @@ use Rattle.w_flow.proofs.operands.put_types.Given as goal
 -- the types so far stand behind what was there
 abbrev pub invariant-loop-i : goal.invariant-loop-i
 invariant-loop-i l = record {
-  long : length l.operands.items ≡ length l.initial.operands.items;
-  put : take (l.from + l.i) l.operands.items ≡ take l.from l.initial.operands.items ++ map Known (take l.i l.types);
+  long : length l.operands ≡ length l.initial.operands;
+  put : take (l.from + l.i) l.operands ≡ take l.from l.initial.operands ++ map Known (take l.i l.types);
 }
