@@ -1,4 +1,5 @@
 mod NumRows
 mod WideRows
+mod SignedReadings
 mod Counts
 mod Rotations

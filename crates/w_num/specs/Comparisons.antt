@@ -2,7 +2,7 @@
 use Rattle.std.specs.Prelude.{ℕ, Bool, not, ◌==◌, nat_lt, nat_le, int_lt, int_le, if◌then◌else◌}
 use Rattle.w_num.specs.Signed.{signed}
 
--- bool (Core, numerics, representations)
+-- bool (Core, numerics, integer operations, boolean interpretation)
 abbrev pub truth : Bool → ℕ
 truth b = if b then 1 else 0
 

@@ -1,4 +1,4 @@
--- Quotients and remainders: a divisor of 0 has none, and 2 ^ (N - 1) is no signed number of N bits.
+-- Quotients and remainders. A divisor of 0 has none.
 use Rattle.std.specs.Prelude.{ℕ, ◌-◌, ◌/◌, ◌%◌, ◌^◌, ◌==◌, ℤ, pos, negsuc, int_div, int_rem, if◌then◌else◌, Result, Ok, Err}
 use Rattle.w_num.specs.declared.fault.NumFault.{NumFault}
 use Rattle.w_num.specs.declared.fault.NumFault.TheVariants.{DivZero, Overflow}
@@ -12,7 +12,7 @@ idiv_u N a b = if b == 0 then Err DivZero else Ok (a / b)
 abbrev pub irem_u : ℕ → ℕ → ℕ → Result ℕ NumFault
 irem_u N a b = if b == 0 then Err DivZero else Ok (a % b)
 
--- the N bits of a signed quotient
+-- the N bits of a signed quotient, but for 2 ^ (N - 1), which passes them
 abbrev pub quotient_bits : ℕ → ℤ → Result ℕ NumFault
 quotient_bits N (pos q) = if q == 2 ^ (N - 1) then Err Overflow else Ok q
 quotient_bits N (negsuc q) = Ok (inverse N (negsuc q))

@@ -1,0 +1,12 @@
+mod PartsOfLists
+mod OwnOperands
+mod LabelsOfMarks
+mod LocalsOfMarks
+mod CountsOfMarks
+mod SameShapes
+mod LeftLevels
+mod FramedLevels
+mod KeptOperands
+mod ReturnedFrames
+pub mod Holding
+mod StackRows

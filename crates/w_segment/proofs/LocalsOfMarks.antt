@@ -1,0 +1,23 @@
+-- The locals of the innermost frame.
+use Rattle.std.proofs.Common.{◌≡◌, ℕ, ◌+◌, ◌<◌, List, [], ◌∷◌, length, take, drop, Option, Some, refl, ap, ◌∙◌, arith}
+use Rattle.std.specs.Prelude.{slice_set}
+use Rattle.std.proofs.lemmas.List.{drop-set-add, take-set-le}
+use Rattle.w_types.specs.declared.value.Value.{Value}
+use Rattle.w_segment.specs.declared.stack.Mark.{Mark}
+use Rattle.w_segment.specs.Shape.{Label, Frame, locals_of}
+use Rattle.w_segment.specs.Changes.{with_local}
+use Rattle.w_segment.specs.Flat.{own, levels_of}
+use Rattle.w_segment.specs.declared.stack.Mark.TheVariants as mark
+
+pub locals_are : (es : List Mark) (vs : List Value) (ls : List (Option Value)) (k x : ℕ) → x < length (locals_of (levels_of es vs ls k)) → locals_of (levels_of es vs ls k) ≡ drop k ls
+locals_are [] vs ls k x h = absurd (omega arith)
+locals_are (mark.Label n t b ∷ es) vs ls k x h = locals_are es (take b vs) ls k x h
+locals_are (mark.Frame n f p b j ∷ es) vs ls k x h = refl
+
+pub locals_set : (es : List Mark) (vs : List Value) (ls : List (Option Value)) (k x : ℕ) (v : Value)
+    → levels_of es vs (slice_set ls (k + x) (Some v)) k ≡ with_local x v (levels_of es vs ls k)
+locals_set [] vs ls k x v = refl
+locals_set (mark.Label n t b ∷ es) vs ls k x v = ap (λ l. Label (own es (take b vs)) n t ∷ l) (locals_set es (take b vs) ls k x v)
+locals_set (mark.Frame n f p b j ∷ es) vs ls k x v =
+    ap (λ (l : List (Option Value)). Frame (own es (take b vs)) n l f p ∷ levels_of es (take b vs) (take k (slice_set ls (k + x) (Some v))) j) (drop-set-add k ls x (Some v))
+    ∙ ap (λ (l : List (Option Value)). Frame (own es (take b vs)) n (slice_set (drop k ls) x (Some v)) f p ∷ levels_of es (take b vs) l j) (take-set-le k ls (k + x) (Some v) (omega arith))

@@ -1,0 +1,37 @@
+-- The flat lists of a stack, read as its shape. Marks stand innermost first here.
+use Rattle.std.specs.Prelude.{◌≡◌, ℕ, suc, ◌≤◌, List, [], ◌∷◌, take, drop, reverse, Option}
+use Rattle.w_types.specs.declared.value.Value.{Value}
+use Rattle.w_segment.specs.declared.stack.Mark.{Mark}
+use Rattle.w_segment.specs.declared.stack.Mark.TheVariants as mark
+use Rattle.w_segment.specs.Shape.{Level, Label, Frame}
+
+-- so many levels at most
+abbrev pub MOST : ℕ
+MOST = 0xffff_ffff
+
+-- how many operands stand below those inside
+abbrev pub base : List Mark → ℕ
+base [] = 0
+base (mark.Label n t b ∷ es) = b
+base (mark.Frame n f p b k ∷ es) = b
+
+-- the operands inside, the topmost first
+abbrev pub own : List Mark → List Value → List Value
+own es vs = reverse (drop (base es) vs)
+
+-- the levels of marks with all operands and locals, where the locals of the innermost frame begin at k
+abbrev pub levels_of : List Mark → List Value → List (Option Value) → ℕ → List Level
+levels_of [] vs ls k = []
+levels_of (mark.Label n t b ∷ es) vs ls k = Label (own es (take b vs)) n t ∷ levels_of es (take b vs) ls k
+levels_of (mark.Frame n f p b j ∷ es) vs ls k = Frame (own es (take b vs)) n (drop k ls) f p ∷ levels_of es (take b vs) (take k ls) j
+
+-- no level's operands or locals end below where they begin, and there are none outside
+abbrev pub Ordered : List Mark → ℕ → ℕ → ℕ → Type 0
+Ordered [] v l k = l ≡ 0
+Ordered (mark.Label n t b ∷ es) v l k = (b ≤ v) × (base es ≤ b) × Ordered es b l k
+Ordered (mark.Frame n f p b j ∷ es) v l k = (b ≤ v) × (base es ≤ b) × (k ≤ l) × Ordered es b k j
+
+abbrev pub frames_in : List Mark → ℕ
+frames_in [] = 0
+frames_in (mark.Label n t b ∷ es) = frames_in es
+frames_in (mark.Frame n f p b k ∷ es) = suc (frames_in es)

@@ -1,0 +1,9 @@
+pub mod Shape
+pub mod Changes
+pub mod Entered
+pub mod Flat
+pub mod Holds
+pub mod Link
+pub mod Parents
+pub mod Lending
+pub mod Falls
