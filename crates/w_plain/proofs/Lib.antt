@@ -3,3 +3,4 @@ mod Turning
 mod Joining
 mod Giving
 mod Keeping
+mod Selecting

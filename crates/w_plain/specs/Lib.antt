@@ -1,3 +1,4 @@
 pub mod GoingOn
 pub mod Numbers
 pub mod Rules
+pub mod Selects

@@ -4,5 +4,7 @@
 mod going_on;
 mod numbers;
 mod numeric_steps;
+mod parametric_steps;
 
 pub use numeric_steps::numeric;
+pub use parametric_steps::{drop_operand, select};

@@ -1,0 +1,57 @@
+//! Parametric instructions (Core, execution, parametric instructions).
+ghost use Rattle.std.specs.Prelude.{◌≡◌, ◌≤◌, ◌∷◌, drop, length};
+ghost use Rattle.w_syntax.specs.declared.instructions.Instr.TheVariants as flat;
+ghost use Rattle.w_syntax.specs.declared.instructions.Op.TheVariants as op;
+ghost use Rattle.w_syntax.specs.declared.instructions.ParametricOp.TheVariants as parametric;
+ghost use Rattle.w_reductions.specs.Parametric.{selected};
+ghost use Rattle.w_stands.specs.Keeps.{Keeps};
+ghost use Rattle.w_plain.specs.Selects.{IsSelect};
+ghost use Rattle.w_stands.specs.Steps.{MovesAlone, FollowsAlone};
+ghost use Rattle.w_stands.specs.declared.did.Did.TheVariants as did;
+
+use crate::going_on::replace;
+use crate::numbers::i32_of;
+use w_segment::Stack;
+use w_syntax::{Module, ParametricOp};
+use w_types::Value;
+
+/// `drop`.
+pub fn drop_operand(module: &Module, stack: &mut Stack)
+    requires moves { MovesAlone (flat.Plain (op.Parametric parametric.Drop)) module.now stack.old }
+    ensures goes { FollowsAlone did.Went module.now stack.old stack.new }
+    ensures keeps { Keeps stack.old stack.new }
+{
+    let _module = module;
+    stack.discard(1);
+    stack.go(stack.place() + 1);
+}
+
+// The first where the number isn't 0, and else the second.
+fn chosen(number: u32, one: Value, other: Value) -> Value
+    ensures { result ≡ selected number one other }
+{
+    if number != 0 { one } else { other }
+}
+
+// The three topmost operands.
+fn three(stack: &Stack) -> (Value, Value, Value)
+    requires { 3 ≤ length stack.now.operands }
+    ensures { stack.now.operands ≡ result.2 ∷ result.1 ∷ result.0 ∷ drop 3 stack.now.operands }
+{
+    let tops = stack.tops(3);
+    (tops[0], tops[1], tops[2])
+}
+
+/// `select`, with or without the type that it names.
+pub fn select(module: &Module, stack: &mut Stack, operation: &ParametricOp)
+    requires moves { MovesAlone (flat.Plain (op.Parametric operation.now)) module.now stack.old }
+    requires select { IsSelect operation.now }
+    ensures goes { FollowsAlone did.Went module.now stack.old stack.new }
+    ensures keeps { Keeps stack.old stack.new }
+{
+    let _module = module;
+    let _operation = operation;
+    let (one, other, number) = three(stack);
+    let value = chosen(i32_of(number), one, other);
+    replace(stack, 3, value);
+}
