@@ -4,3 +4,4 @@ mod Joining
 mod Giving
 mod Keeping
 mod Selecting
+mod LocalsRead

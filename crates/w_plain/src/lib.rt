@@ -2,9 +2,11 @@
 #![tactic(auto)]
 
 mod going_on;
+mod local_steps;
 mod numbers;
 mod numeric_steps;
 mod parametric_steps;
 
+pub use local_steps::{local_get, local_set, local_tee};
 pub use numeric_steps::numeric;
 pub use parametric_steps::{drop_operand, select};

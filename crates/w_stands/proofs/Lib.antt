@@ -1,3 +1,4 @@
 pub mod Bodies
 pub mod Reading
 pub mod Stepping
+pub mod Locals

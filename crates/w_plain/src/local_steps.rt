@@ -1,0 +1,52 @@
+//! Instructions on locals (Core, execution, variable instructions).
+ghost use Rattle.std.specs.Prelude.{OnErr, OnOk};
+ghost use Rattle.w_syntax.specs.declared.instructions.Instr.TheVariants as flat;
+ghost use Rattle.w_syntax.specs.declared.instructions.Op.TheVariants as op;
+ghost use Rattle.w_syntax.specs.declared.instructions.VariableOp.TheVariants as variable;
+ghost use Rattle.w_segment.specs.Shape.{SameParts};
+ghost use Rattle.w_stands.specs.Keeps.{Keeps};
+ghost use Rattle.w_stands.specs.Steps.{MovesAlone, FollowsAlone};
+ghost use Rattle.w_stands.specs.declared.did.Did.TheVariants as did;
+
+use crate::going_on::push_next;
+use std::alloc::AllocError;
+use w_segment::Stack;
+use w_syntax::Module;
+
+/// `local.get`. It fails only when out of memory, and then the stack is as it was but for room.
+pub fn local_get(module: &Module, stack: &mut Stack, index: u32) -> Result<(), AllocError>
+    requires moves { MovesAlone (flat.Plain (op.Variable (variable.LocalGet index))) module.now stack.old }
+    ensures goes { OnOk result (FollowsAlone did.Went module.now stack.old stack.new) }
+    ensures keeps { OnOk result (Keeps stack.old stack.new) }
+    ensures err { OnErr result (SameParts stack.old stack.new) }
+{
+    let _module = module;
+    match stack.local_get(index) {
+        Some(value) => push_next(stack, value),
+        None => unreachable!(),
+    }
+}
+
+/// `local.set`.
+pub fn local_set(module: &Module, stack: &mut Stack, index: u32)
+    requires moves { MovesAlone (flat.Plain (op.Variable (variable.LocalSet index))) module.now stack.old }
+    ensures goes { FollowsAlone did.Went module.now stack.old stack.new }
+    ensures keeps { Keeps stack.old stack.new }
+{
+    let _module = module;
+    let value = stack.pop();
+    stack.local_set(index, value);
+    stack.go(stack.place() + 1);
+}
+
+/// `local.tee`.
+pub fn local_tee(module: &Module, stack: &mut Stack, index: u32)
+    requires moves { MovesAlone (flat.Plain (op.Variable (variable.LocalTee index))) module.now stack.old }
+    ensures goes { FollowsAlone did.Went module.now stack.old stack.new }
+    ensures keeps { Keeps stack.old stack.new }
+{
+    let _module = module;
+    let value = stack.peek();
+    stack.local_set(index, value);
+    stack.go(stack.place() + 1);
+}
