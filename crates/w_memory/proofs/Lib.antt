@@ -1,1 +1,2 @@
+mod LittleEndian
 mod MemoryRows

@@ -1,16 +1,14 @@
--- Small memories, and what the definitions make of them.
+-- Small memories, and what the definitions make of them. The values were computed by hand or by another program.
 use Rattle.std.proofs.Common.{◌≡◌, ℕ, List, [], ◌∷◌, Option, Some, None, refl}
 use Rattle.std.specs.Prelude.{pos, negsuc}
 use Rattle.w_memory.specs.Bytes.{bytes_of}
 use Rattle.w_memory.specs.Memory.{Memory, fresh, load, store, fill, copy, init, grown, grow}
 
-memory : List ℕ → Memory
-memory bs = record { bytes = bs; max = None }
-
--- ten bytes, and six
+-- ten bytes
 abbrev ten : Memory
 ten = record { bytes = 1 ∷ 2 ∷ 3 ∷ 4 ∷ 5 ∷ 6 ∷ 7 ∷ 8 ∷ 9 ∷ 250 ∷ []; max = None }
 
+-- a memory of six bytes, and one
 abbrev six : List ℕ → Memory
 six bs = record { bytes = bs; max = Some 3 }
 
@@ -182,6 +180,7 @@ no_init_past_the_end = refl
 
 -- ## Growing
 
+-- a memory of no bytes
 abbrev nothing : Option ℕ → Memory
 nothing max = record { bytes = []; max = max }
 

@@ -1,4 +1,4 @@
--- Numbers as bytes (Core, execution, numerics, storage).
+-- Numbers as bytes (Core, execution, numerics, representations).
 use Rattle.std.specs.Prelude.{ℕ, ◌+◌, ◌*◌, List, [], ◌∷◌}
 use Rattle.std.specs.Int.{bytes_low_first}
 

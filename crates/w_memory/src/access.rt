@@ -61,7 +61,7 @@ fn write(bytes: &mut [u8], at: usize, size: u32, v: u64)
 {
     let low = v.to_le_bytes();
     match size {
-        1 => bytes[at] = low[0],
+        1 => bytes[at..at + 1].copy_from_slice(&low[..1]),
         2 => bytes[at..at + 2].copy_from_slice(&low[..2]),
         4 => bytes[at..at + 4].copy_from_slice(&low[..4]),
         _ => bytes[at..at + 8].copy_from_slice(&low),
@@ -69,8 +69,8 @@ fn write(bytes: &mut [u8], at: usize, size: u32, v: u64)
 }
 
 impl Mem {
-    /// The number whose 1, 2, 4 or 8 bytes begin at `at`, the lowest first (Core, execution, `t.load`). `None`, a trap, exactly where
-    /// they pass the end.
+    /// The number that `size` bytes, 1, 2, 4 or 8, spell from byte `at` on, the lowest first (Core, execution, `t.load`). `None`, a trap,
+    /// exactly where `at + size` passes the end; the sum doesn't wrap.
     #[inline]
     #[tactic(auto, unfolding(crate::specs::Memory::load))]
     pub fn load(&self, at: u64, size: u32) -> Option<u64>
@@ -85,8 +85,8 @@ impl Mem {
         Some(read(bytes, at as usize, size))
     }
 
-    /// Writes the low 1, 2, 4 or 8 bytes of `v` from `at` on, the lowest first (Core, execution, `t.store`). `None`, a trap, exactly where
-    /// they pass the end, and then nothing changed.
+    /// Writes the low `size` bytes of `v`, 1, 2, 4 or 8, from byte `at` on, the lowest first (Core, execution, `t.store`). `None`, a trap,
+    /// exactly where `at + size` passes the end, and then nothing changed; the sum doesn't wrap.
     #[inline]
     #[tactic(auto, unfolding(crate::specs::Memory::store))]
     pub fn store(&mut self, at: u64, size: u32, v: u64) -> Option<()>

@@ -36,8 +36,8 @@ impl Mem {
         at as u64 + n as u64 <= self.bytes.len() as u64
     }
 
-    /// Writes one byte `n` times from `to` on (Core, execution, `memory.fill`). `None`, a trap, exactly where they pass the end, also for
-    /// `n` = 0, and then nothing changed.
+    /// Writes a byte `n` times, from byte `to` on (Core, execution, `memory.fill`). `None`, a trap, exactly where `to + n` passes the end,
+    /// also for `n` = 0, and then nothing changed.
     #[tactic(auto, unfolding(crate::specs::Memory::fill))]
     pub fn fill(&mut self, to: u32, byte: u8, n: u32) -> Option<()>
         ensures outcome { fill self.old to byte n ≡ left_by result self.new }
@@ -50,8 +50,8 @@ impl Mem {
         Some(())
     }
 
-    /// Copies the `n` bytes that stand from `from` on, as they were before, to `to` (Core, execution, `memory.copy`). `None`, a trap,
-    /// exactly where either range passes the end, also for `n` = 0, and then nothing changed.
+    /// Writes the `n` bytes from `from` on, as they were before, from byte `to` on (Core, execution, `memory.copy`). `None`, a trap,
+    /// exactly where `from + n` or `to + n` passes the end, also for `n` = 0, and then nothing changed.
     #[tactic(auto, unfolding(crate::specs::Memory::copy))]
     pub fn copy(&mut self, to: u32, from: u32, n: u32) -> Option<()>
         ensures outcome { copy self.old to from n ≡ left_by result self.new }
@@ -69,8 +69,8 @@ impl Mem {
         Some(())
     }
 
-    /// Copies the `n` bytes of a data segment that stand from `from` on to `to` (Core, execution, `memory.init`). `None`, a trap, exactly
-    /// where they pass the segment's end or the memory's, also for `n` = 0, and then nothing changed.
+    /// Writes the `n` bytes of a data segment from `from` on, from byte `to` of the memory on (Core, execution, `memory.init`). `None`, a
+    /// trap, exactly where `from + n` passes the segment's end or `to + n` the memory's, also for `n` = 0, and then nothing changed.
     #[tactic(auto, unfolding(crate::specs::Memory::init))]
     pub fn init(&mut self, source: &[u8], to: u32, from: u32, n: u32) -> Option<()>
         ensures outcome { init self.old source.now to from n ≡ left_by result self.new }

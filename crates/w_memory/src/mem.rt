@@ -40,7 +40,8 @@ fn most_pages(max: Option<u32>) -> u32
 }
 
 impl Mem {
-    /// A memory of `min` pages of zeros (Core, execution, allocation of memories). It fails only for want of memory.
+    /// A memory of `min` pages of zeros, and this maximum in pages (Core, execution, allocation of memories). It fails only for want of
+    /// memory.
     #[tactic(auto, unfolding(crate::specs::Memory::fresh))]
     pub fn new(alloc: Global, min: u32, max: Option<u32>) -> Result<Mem, AllocError>
         requires { min ≤ page_limit }
@@ -51,7 +52,7 @@ impl Mem {
         Ok(Mem { bytes, max })
     }
 
-    /// The size in pages (Core, execution, `memory.size`).
+    /// The size in pages, at most 256 (Core, execution, `memory.size`).
     pub fn size(&self) -> u32
         ensures pages { result ≡ page_count self.now }
         ensures whole { length self.now.bytes ≡ page_size * result }

@@ -42,6 +42,7 @@ reaches k n le h = leading_unique (suc k) n 0 (suc k) (omega arith) h (omega (ar
 top_bit : (k n : ℕ) → 2 ^ k ≤ n → n < 2 ^ suc k → n / 2 ^ k % 2 ≡ 1
 top_bit k n le h = let q : n / 2 ^ k ≡ 1 = omega (arith, le-div 1 n (2 ^ k) (pow_pos k) (omega arith), div_below n (2 ^ k) 2 (pow_pos k) (omega (arith, pow-suc 2 k))) in ap (λ (d : ℕ). d % 2) q
 
+-- the machine's count of leading zeros
 pub iclz_is : (N n : ℕ) → n < 2 ^ N → count_leading_zeros N n ≡ iclz N n
 unfolding ibits leading count_leading_zeros
 iclz_is zero n h = refl
@@ -57,6 +58,7 @@ unfolding leading
 leading_under zero ds = refl
 leading_under (suc d) ds = refl
 
+-- the machine's count of trailing zeros
 pub ictz_is : (N n : ℕ) → count_trailing_zeros N n ≡ ictz N n
 unfolding count_trailing_zeros leading ibits
 ictz_is zero n = refl
@@ -66,6 +68,7 @@ ictz_is (suc k) n =
 
 -- ## Ones
 
+-- the machine's count of ones
 pub ipopcnt_is : (N n : ℕ) → n < 2 ^ N → ones n ≡ ipopcnt N n
 unfolding ibits ones ones_in
 ipopcnt_is zero n h = let e : n ≡ 0 = omega arith in ap ones e

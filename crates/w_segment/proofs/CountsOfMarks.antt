@@ -8,16 +8,19 @@ use Rattle.w_segment.specs.Flat.{own, levels_of, Ordered, frames_in}
 use Rattle.w_segment.proofs.OwnOperands.{own_long}
 use Rattle.w_segment.specs.declared.stack.Mark.TheVariants as mark
 
+-- each frame has its mark
 pub frames_are : (es : List Mark) (vs : List Value) (ls : List (Option Value)) (k : ℕ) → frames_of (levels_of es vs ls k) ≡ frames_in es
 frames_are [] vs ls k = refl
 frames_are (mark.Label n t b ∷ es) vs ls k = frames_are es (take b vs) ls k
 frames_are (mark.Frame n f p b j ∷ es) vs ls k = ap suc (frames_are es (take b vs) (take k ls) j)
 
+-- there are no more frames than marks
 pub frames_few : (es : List Mark) → frames_in es ≤ length es
 frames_few [] = omega arith
 frames_few (mark.Label n t b ∷ es) = let h = frames_few es in omega arith
 frames_few (mark.Frame n f p b j ∷ es) = let h = frames_few es in omega arith
 
+-- operands inside and below are all operands
 pub high : (es : List Mark) (vs : List Value) (ls : List (Option Value)) (k : ℕ) → Ordered es (length vs) (length ls) k → length (own es vs) + below_all (levels_of es vs ls k) ≡ length vs
 high [] vs ls k o = let l = own_long [] vs in omega (arith, l)
 high (mark.Label n t b ∷ es) vs ls k o =
@@ -32,11 +35,13 @@ high (mark.Frame n f p b j ∷ es) vs ls k o =
     let l = own_long (mark.Frame n f p b j ∷ es) vs in
     let g = o.0 in omega (arith, l, h, q, g)
 
+-- there are as many levels as marks
 pub long : (es : List Mark) (vs : List Value) (ls : List (Option Value)) (k : ℕ) → length (levels_of es vs ls k) ≡ length es
 long [] vs ls k = refl
 long (mark.Label n t b ∷ es) vs ls k = ap suc (long es (take b vs) ls k)
 long (mark.Frame n f p b j ∷ es) vs ls k = ap suc (long es (take b vs) (take k ls) j)
 
+-- the locals of all frames are all locals
 pub wide : (es : List Mark) (vs : List Value) (ls : List (Option Value)) (v k : ℕ) → Ordered es v (length ls) k → locals_all (levels_of es vs ls k) ≡ length ls
 wide [] vs ls v k o = sym o
 wide (mark.Label n t b ∷ es) vs ls v k o = wide es (take b vs) ls b k o.2

@@ -9,11 +9,13 @@ use Rattle.w_segment.specs.Changes.{with_local}
 use Rattle.w_segment.specs.Flat.{own, levels_of}
 use Rattle.w_segment.specs.declared.stack.Mark.TheVariants as mark
 
+-- the locals of the innermost frame stand from k on
 pub locals_are : (es : List Mark) (vs : List Value) (ls : List (Option Value)) (k x : ℕ) → x < length (locals_of (levels_of es vs ls k)) → locals_of (levels_of es vs ls k) ≡ drop k ls
 locals_are [] vs ls k x h = absurd (omega arith)
 locals_are (mark.Label n t b ∷ es) vs ls k x h = locals_are es (take b vs) ls k x h
 locals_are (mark.Frame n f p b j ∷ es) vs ls k x h = refl
 
+-- a local that is set in the flat list is set in its frame
 pub locals_set : (es : List Mark) (vs : List Value) (ls : List (Option Value)) (k x : ℕ) (v : Value)
     → levels_of es vs (slice_set ls (k + x) (Some v)) k ≡ with_local x v (levels_of es vs ls k)
 locals_set [] vs ls k x v = refl

@@ -8,6 +8,7 @@ use Rattle.w_segment.specs.Flat.{base, own, levels_of, Ordered}
 use Rattle.w_segment.proofs.PartsOfLists.{take_of, drop_of}
 use Rattle.w_segment.specs.declared.stack.Mark.TheVariants as mark
 
+-- what stands below is no more than there is
 pub base_le : (es : List Mark) (v l k : ℕ) → Ordered es v l k → base es ≤ v
 base_le [] v l k h = omega arith
 base_le (mark.Label n t b ∷ es) v l k h = h.0
@@ -36,6 +37,7 @@ levels_split es vs ls k b h g =
     let l = length-take-le b vs g in
     ap (λ (ws : List Value). levels_of es ws ls k) (sym (take-append-drop b vs)) ∙ levels_over es (take b vs) (drop b vs) ls k (omega arith)
 
+-- how many operands stand inside
 pub own_long : (es : List Mark) (vs : List Value) → length (own es vs) ≡ length vs - base es
 own_long es vs = length-reverse (drop (base es) vs) ∙ length-drop (base es) vs
 
@@ -60,17 +62,20 @@ kept_top es es' vs ws n b h g le fits e =
     let l = length-take-le b vs (omega arith) in
     ap (own es') e ∙ own_over es' (take b vs) (drop (length vs - n) vs) (omega arith) ∙ ap (λ (xs : List Value). xs ++ own es' (take b vs)) (sym t.0)
 
+-- new operands above b change no level
 pub kept_levels : (es : List Mark) (vs ws high : List Value) (ls : List (Option Value)) (k b : ℕ) → base es ≤ b → b ≤ length vs → ws ≡ take b vs ++ high
     → levels_of es ws ls k ≡ levels_of es (take b vs) ls k
 kept_levels es vs ws high ls k b h g e =
     let l = length-take-le b vs g in
     ap (λ (xs : List Value). levels_of es xs ls k) e ∙ levels_over es (take b vs) high ls k (omega arith)
 
+-- marks stay ordered under more operands
 pub ordered_more : (es : List Mark) (v w l k : ℕ) → v ≤ w → Ordered es v l k → Ordered es w l k
 ordered_more [] v w l k h o = o
 ordered_more (mark.Label n t b ∷ es) v w l k h o = let a = o.0 in (omega arith, o.1, o.2)
 ordered_more (mark.Frame n f p b j ∷ es) v w l k h o = let a = o.0 in (omega arith, o.1, o.2, o.3)
 
+-- and with fewer, down to what stands below those inside
 pub ordered_less : (es : List Mark) (v w l k : ℕ) → base es ≤ w → Ordered es v l k → Ordered es w l k
 ordered_less [] v w l k h o = o
 ordered_less (mark.Label n t b ∷ es) v w l k h o = (h, o.1, o.2)

@@ -5,9 +5,11 @@ use Rattle.std.proofs.lemmas.Bool.{cases_lt}
 use Rattle.std.proofs.lemmas.Option.{slice_get_within, get_or_from_slice_get, slice_get_read}
 use Rattle.std.proofs.Math.Seq.{take-append_seam, drop-append_seam, take-length}
 
+-- an item at the end comes first in the other order
 pub reverse_push : {A : Type 0} (xs : List A) (x : A) → reverse (xs ++ x ∷ []) ≡ x ∷ reverse xs
 reverse_push xs x = reverse-append xs (x ∷ [])
 
+-- a first part of a longer first part
 pub take_take : {A : Type 0} (n m : ℕ) (xs : List A) → n ≤ m → take n (take m xs) ≡ take n xs
 take_take zero m xs h = refl
 take_take (suc n) zero xs h = absurd (omega arith)
@@ -18,9 +20,11 @@ take_take (suc n) (suc m) (x ∷ xs) h = ap (λ l. x ∷ l) (take_take n m xs (o
 pub take_of : {A : Type 0} (xs ys : List A) (n : ℕ) → n ≡ length xs → take n (xs ++ ys) ≡ xs
 take_of xs ys n e = ap (λ k. take k (xs ++ ys)) e ∙ take-append_seam xs ys
 
+-- the second part, from the length of the first
 pub drop_of : {A : Type 0} (xs ys : List A) (n : ℕ) → n ≡ length xs → drop n (xs ++ ys) ≡ ys
 drop_of xs ys n e = ap (λ k. drop k (xs ++ ys)) e ∙ drop-append_seam xs ys
 
+-- a first part, reversed, is what stands behind the rest of the reversed list
 pub reverse_take : {A : Type 0} (k n : ℕ) (xs : List A) → n + k ≡ length xs → reverse (take k xs) ≡ drop n (reverse xs)
 reverse_take k n xs h =
     let e : reverse xs ≡ reverse (drop k xs) ++ reverse (take k xs) = ap reverse (sym (take-append-drop k xs)) ∙ reverse-append (take k xs) (drop k xs) in
@@ -35,9 +39,11 @@ reverse_get xs l x d h =
     let r : l < length xs = subst (λ n. l < n) (length-reverse xs) (slice_get_within (reverse xs) l x h) in
     (r, sym (get_or-reverse xs l d r) ∙ get_or_from_slice_get (reverse xs) l x d h)
 
+-- two values that are there are the same
 pub some_is : {A : Type 0} {x y : A} → Some x ≡ Some y → x ≡ y
 some_is e = cc
 
+-- the item x of what stands from k on
 pub slice_get_drop : {A : Type 0} (xs : List A) (k x : ℕ) (a : A) → k + x < length xs → get_or xs (k + x) a ≡ a → slice_get (drop k xs) x ≡ Some a
 slice_get_drop xs k x a h e = slice_get_read (drop k xs) (length (drop k xs)) x a refl (let l = length-drop k xs in omega arith) (sym e ∙ sym (get_or-drop k xs x a))
 
@@ -45,12 +51,14 @@ slice_get_drop xs k x a h e = slice_get_read (drop k xs) (length (drop k xs)) x 
 pub slice_rest : {A : Type 0} (xs : List A) (b : ℕ) → take (length xs - b) (drop b xs) ≡ drop b xs
 slice_rest xs b = ap (λ n. take n (drop b xs)) (sym (length-drop b xs)) ∙ take-length (drop b xs)
 
+-- lists with the same items at each place are the same
 kept_list_get : {A : Type 0} (xs ys : List A) → length xs ≡ length ys → ((k : ℕ) (d : A) → k < length xs → get_or xs k d ≡ get_or ys k d) → xs ≡ ys
 kept_list_get [] [] h g = refl
 kept_list_get [] (y ∷ ys) h g = absurd (omega arith)
 kept_list_get (x ∷ xs) [] h g = absurd (omega arith)
 kept_list_get (x ∷ xs) (y ∷ ys) h g = ap (λ z. z ∷ xs) (g 0 x (omega arith)) ∙ ap (λ l. y ∷ l) (kept_list_get xs ys (omega arith) (λ k d l. g (suc k) d (omega arith)))
 
+-- items from the end that were moved down onto the first b
 pub kept_list : {A : Type 0} (xs ys : List A) (b n : ℕ) → b + n ≤ length xs → length ys ≡ length xs → ((k : ℕ) (d : A) → k < b → get_or ys k d ≡ get_or xs k d)
     → ((k : ℕ) (d : A) → k < n → get_or ys (b + k) d ≡ get_or xs (length xs - n + k) d) → take (b + n) ys ≡ take b xs ++ drop (length xs - n) xs
 kept_list xs ys b n h l low moved =

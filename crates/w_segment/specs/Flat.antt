@@ -5,10 +5,6 @@ use Rattle.w_segment.specs.declared.stack.Mark.{Mark}
 use Rattle.w_segment.specs.declared.stack.Mark.TheVariants as mark
 use Rattle.w_segment.specs.Shape.{Level, Label, Frame}
 
--- so many levels at most
-abbrev pub MOST : ℕ
-MOST = 0xffff_ffff
-
 -- how many operands stand below those inside
 abbrev pub base : List Mark → ℕ
 base [] = 0

@@ -3,6 +3,7 @@ use Rattle.std.specs.Prelude.{List, [], ◌∷◌, Option, Some, None, ⊤}
 use Rattle.w_types.specs.declared.value.Value.{Value}
 use Rattle.w_segment.specs.Shape.{Shape, Level, Label, Frame}
 
+-- a fact P, of operands, of the locals that are set, and of all that levels and a shape hold
 module _ (P : Value → Type 0) where
   abbrev pub AllOf : List Value → Type 0
   AllOf [] = ⊤

@@ -1,4 +1,4 @@
--- How a segment's stack is lent (docs of `Lends`): what is written through the reference is the segment's own shape.
+-- How a segment lends its stack: what is written through the reference becomes its own shape, and its parents stay.
 use Rattle.std.specs.Borrow.{Lends, MutBor, Fml}
 use Rattle.w_segment.specs.Link.{with_top}
 use Rattle.w_segment.specs.declared.segment.Segment.{Segment}

@@ -1,7 +1,7 @@
 -- A segment as contracts see it (stack-switching explainer, continuations): itself and the segments that wait for it, the innermost
 -- first, each with the place of the clause list at which it waits.
-use Rattle.std.specs.Prelude.{◌≡◌, ◌≤◌, ℕ, ◌+◌, List, [], ◌∷◌, Option, Some, None}
-use Rattle.w_segment.specs.Shape.{Shape, Capacity, fresh_shape, no_capacity, frames_of}
+use Rattle.std.specs.Prelude.{◌≡◌, ◌≤◌, ℕ, List, [], ◌∷◌, Option, Some, None}
+use Rattle.w_segment.specs.Shape.{Shape, Capacity, fresh_shape, no_capacity}
 
 pub record Link : Type 0 where
   pub shape : Shape
@@ -39,7 +39,3 @@ with_clauses n (x ∷ xs) = record x { clauses = n } ∷ xs
 abbrev pub with_top : Shape → List Link → List Link
 with_top s [] = []
 with_top s (x ∷ xs) = record x { shape = s } ∷ xs
-
-abbrev pub frames_in_all : List Link → ℕ
-frames_in_all [] = 0
-frames_in_all (x ∷ xs) = frames_of x.shape.levels + frames_in_all xs

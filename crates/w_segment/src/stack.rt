@@ -66,7 +66,8 @@ impl Model for Stack {
 
     ghost Value = { Shape };
 
-    ghost use Rattle.w_segment.specs.Flat.{own, levels_of, Ordered, frames_in, MOST};
+    ghost use Rattle.w_segment.specs.Flat.{own, levels_of, Ordered, frames_in};
+    ghost use Rattle.w_segment.specs.declared.stack.TheConstants.{MOST_LEVELS};
 
     ghost view = { λ a. record {
       levels = levels_of (reverse a.marks.items) a.operands.items a.locals.items a.first;
@@ -74,7 +75,7 @@ impl Model for Stack {
       func = a.func;
       place = a.place;
       stage = a.stage;
-      capacity = record { operands = vec_capacity a.operands; levels = min (vec_capacity a.marks) MOST; locals = vec_capacity a.locals };
+      capacity = record { operands = vec_capacity a.operands; levels = min (vec_capacity a.marks) MOST_LEVELS; locals = vec_capacity a.locals };
     } };
 
     ghost invariant = { λ a. Ordered (reverse a.marks.items) (length a.operands.items) (length a.locals.items) a.first × (a.frames ≡ frames_in (reverse a.marks.items)) };

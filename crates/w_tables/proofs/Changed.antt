@@ -6,7 +6,7 @@ use Rattle.std.proofs.lemmas.List.{get_or_default, set-get_or, set-append_left, 
 use Rattle.w_types.specs.declared.value.Value.{Value}
 use Rattle.w_tables.specs.Outcomes.{outcome}
 use Rattle.w_tables.specs.Elements.{copied}
-use Rattle.w_tables.specs.Instances.{Table}
+use Rattle.w_tables.specs.Store.{Table}
 use Rattle.w_tables.specs.Operations.{table_at, elements_at, with_elements_at}
 
 -- an answer, and what an operation leaves
@@ -31,8 +31,8 @@ between : (tables : List Table) (dst src to from n : ℕ) (x y : Table) (result 
     → outcome tables (with_elements_at tables dst) (copied (elements_at tables dst) (elements_at tables src) to from n) ≡ (result, slice_set tables dst (record x { elements = new }))
 between tables dst src to from n x y result new a b e =
     let here : outcome (elements_at tables dst) (λ xs. xs) (copied (elements_at tables dst) (elements_at tables src) to from n) ≡ (result, new) =
-        subst (λ (z : Table). outcome z.elements (λ xs. xs) (copied z.elements (elements_at tables src) to from n) ≡ (result, new)) (sym a)
-        (subst (λ (z : Table). outcome x.elements (λ xs. xs) (copied x.elements z.elements to from n) ≡ (result, new)) (sym b) e) in
+    subst (λ (z : Table). outcome z.elements (λ xs. xs) (copied z.elements (elements_at tables src) to from n) ≡ (result, new)) (sym a)
+    (subst (λ (z : Table). outcome x.elements (λ xs. xs) (copied x.elements z.elements to from n) ≡ (result, new)) (sym b) e) in
     changed tables dst _ result new here ∙ ap (λ (z : Table). let p : Left (List Table) = (result, slice_set tables dst (record z { elements = new })) in p) a
 
 -- an element that was read, as it is seen

@@ -4,7 +4,7 @@ use Rattle.std.specs.Prelude.{pos, negsuc}
 use Rattle.w_types.specs.declared.value.Value.{Value}
 use Rattle.w_types.specs.declared.value.Value.TheVariants.{I32, I64, Null, Func}
 use Rattle.w_tables.specs.Elements.{get, replaced, filled, copied, most_elements, grown}
-use Rattle.w_tables.specs.Instances.{Store, Table}
+use Rattle.w_tables.specs.Store.{Store, Table}
 use Rattle.w_tables.specs.Operations.{add_table, add_global, table_size, table_get, table_set, table_fill, table_copy, table_init, table_grow, elem_drop, data_drop, bytes_at, global_set}
 
 -- six elements, and three

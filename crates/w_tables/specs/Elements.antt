@@ -1,7 +1,6 @@
 -- What the table instructions do to the elements of a table (Core, execution, table instructions), whatever an element is.
 -- An operation that may trap gives `None` there.
 use Rattle.std.specs.Prelude.{ℕ, ◌+◌, min, nat_lt, nat_le, if◌then◌else◌, List, ◌++◌, length, replicate, Option, Some, None, slice_get, slice_set}
-
 -- table.fill is `filled`; table.copy and table.init are `copied`, from a table or a segment; a trap where a range passes an end
 pub use Rattle.w_memory.specs.Parts.{filled, copied}
 

@@ -2,7 +2,7 @@
 use Rattle.std.specs.Borrow.{follows, MutBor, Fml}
 use Rattle.w_memory.specs.Memory.{Memory}
 use Rattle.w_memory.specs.contracts.mem.Mem as mem
-use Rattle.w_tables.specs.Instances.{Store}
+use Rattle.w_tables.specs.Store.{Store}
 use Rattle.w_tables.specs.Operations.{with_memory}
 use Rattle.w_tables.specs.contracts.store.Store.{the_row}
 

@@ -1,5 +1,5 @@
 pub mod Outcomes
 pub mod Elements
-pub mod Instances
+pub mod Store
 pub mod Operations
 pub mod Lending

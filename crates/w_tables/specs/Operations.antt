@@ -5,7 +5,7 @@ use Rattle.w_memory.specs.Memory.{Memory}
 use Rattle.w_tables.specs.declared.entries.FuncEntry.{FuncEntry}
 use Rattle.w_tables.specs.Outcomes.{outcome, growth}
 use Rattle.w_tables.specs.Elements.{get, replaced, filled, copied, grown}
-use Rattle.w_tables.specs.Instances.{Store, Table}
+use Rattle.w_tables.specs.Store.{Store, Table}
 
 -- a store of nothing
 abbrev pub empty : Store

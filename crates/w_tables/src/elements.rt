@@ -11,8 +11,8 @@ use w_types::Value;
 const TABLE_LIMIT: u32 = 1048576;
 
 fn fill_part(elements: &mut [Value], to: usize, v: Value, n: usize)
-    requires { to + n ≤ length elements.old }
-    ensures { elements.new ≡ written elements.old to (replicate n v) }
+    requires within { to + n ≤ length elements.old }
+    ensures written { elements.new ≡ written elements.old to (replicate n v) }
 {
     elements[to..to + n].fill(v);
 }
@@ -20,7 +20,7 @@ fn fill_part(elements: &mut [Value], to: usize, v: Value, n: usize)
 fn move_part(elements: &mut [Value], to: usize, from: usize, n: usize)
     requires within { to + n ≤ length elements.old }
     requires source { from + n ≤ length elements.old }
-    ensures { elements.new ≡ written elements.old to (part elements.old from n) }
+    ensures written { elements.new ≡ written elements.old to (part elements.old from n) }
 {
     elements.copy_within(from..from + n, to);
 }
@@ -28,14 +28,14 @@ fn move_part(elements: &mut [Value], to: usize, from: usize, n: usize)
 fn copy_part(elements: &mut [Value], source: &[Value], to: usize, from: usize, n: usize)
     requires within { to + n ≤ length elements.old }
     requires source { from + n ≤ length source.now }
-    ensures { elements.new ≡ written elements.old to (part source.now from n) }
+    ensures written { elements.new ≡ written elements.old to (part source.now from n) }
 {
     elements[to..to + n].copy_from_slice(&source[from..from + n]);
 }
 
 // Whether so many elements from a place on don't pass the end of so many.
 fn is_within(count: usize, at: u32, n: u32) -> bool
-    ensures { result ≡ nat_le (at + n) count }
+    ensures within { result ≡ nat_le (at + n) count }
 {
     at as u64 + n as u64 <= count as u64
 }
@@ -43,7 +43,7 @@ fn is_within(count: usize, at: u32, n: u32) -> bool
 // Sets an element.
 #[inline]
 pub(crate) fn replace(elements: &mut [Value], at: u32, v: Value) -> Option<()>
-    ensures { outcome elements.old (λ xs. xs) (on.replaced elements.old at v) ≡ (result, elements.new) }
+    ensures left { outcome elements.old (λ xs. xs) (on.replaced elements.old at v) ≡ (result, elements.new) }
 {
     let at = at as usize;
     if at >= elements.len() {
@@ -55,7 +55,7 @@ pub(crate) fn replace(elements: &mut [Value], at: u32, v: Value) -> Option<()>
 
 // Writes one value n times.
 pub(crate) fn fill(elements: &mut [Value], to: u32, v: Value, n: u32) -> Option<()>
-    ensures { outcome elements.old (λ xs. xs) (on.filled elements.old to v n) ≡ (result, elements.new) }
+    ensures left { outcome elements.old (λ xs. xs) (on.filled elements.old to v n) ≡ (result, elements.new) }
 {
     if !is_within(elements.len(), to, n) {
         return None;
@@ -66,7 +66,7 @@ pub(crate) fn fill(elements: &mut [Value], to: u32, v: Value, n: u32) -> Option<
 
 // Copies elements to another place among them.
 pub(crate) fn copy_within(elements: &mut [Value], to: u32, from: u32, n: u32) -> Option<()>
-    ensures { outcome elements.old (λ xs. xs) (on.copied elements.old elements.old to from n) ≡ (result, elements.new) }
+    ensures left { outcome elements.old (λ xs. xs) (on.copied elements.old elements.old to from n) ≡ (result, elements.new) }
 {
     if !is_within(elements.len(), to, n) || !is_within(elements.len(), from, n) {
         return None;
@@ -83,7 +83,7 @@ pub(crate) fn copy_from(
     from: u32,
     n: u32,
 ) -> Option<()>
-    ensures { outcome elements.old (λ xs. xs) (on.copied elements.old source.now to from n) ≡ (result, elements.new) }
+    ensures left { outcome elements.old (λ xs. xs) (on.copied elements.old source.now to from n) ≡ (result, elements.new) }
 {
     if !is_within(elements.len(), to, n) || !is_within(source.len(), from, n) {
         return None;
@@ -94,7 +94,7 @@ pub(crate) fn copy_from(
 
 // How many elements a table with this maximum may come to.
 fn most_elements(max: Option<u32>) -> u32
-    ensures { result ≡ on.most_elements max }
+    ensures most { result ≡ on.most_elements max }
 {
     match max {
         Some(max) => max.min(TABLE_LIMIT),
@@ -109,7 +109,7 @@ pub(crate) fn grow(
     v: Value,
     n: u32,
 ) -> Result<i32, AllocError>
-    requires { vec_len elements.old ≤ on.table_limit }
+    requires bounded { vec_len elements.old ≤ on.table_limit }
     ensures grown { IfOk result (λ answer. growth (vec_len elements.old) elements.old.items (λ xs. xs) (on.grown elements.old.items max v n) ≡ (answer, elements.new.items)) }
     ensures bounded { vec_len elements.new ≤ on.table_limit }
     ensures err { OnErr result (elements.new.items ≡ elements.old.items) }

@@ -9,8 +9,8 @@ impl Store {
     /// The value of the global at an address (Core, execution, `global.get`).
     #[inline]
     pub fn global_get(&self, g: u32) -> Value
-        requires { g < length self.now.globals }
-        ensures { slice_get self.now.globals g ≡ Some result }
+        requires global { g < length self.now.globals }
+        ensures value { slice_get self.now.globals g ≡ Some result }
     {
         self.globals[g as usize]
     }
@@ -18,8 +18,8 @@ impl Store {
     /// Sets the value of the global at an address (Core, execution, `global.set`).
     #[inline]
     pub fn global_set(&mut self, g: u32, v: Value)
-        requires { g < length self.old.globals }
-        ensures { self.new ≡ global_set self.old g v }
+        requires global { g < length self.old.globals }
+        ensures set { self.new ≡ global_set self.old g v }
     {
         self.globals[g as usize] = v;
     }

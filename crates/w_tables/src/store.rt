@@ -15,9 +15,9 @@ pub(crate) struct Table {
 impl Model for Table {
     ghost use Rattle.std.specs.Prelude.{◌≤◌, length};
     ghost use Rattle.w_tables.specs.Elements.{table_limit};
-    ghost use Rattle.w_tables.specs.Instances as instances;
+    ghost use Rattle.w_tables.specs.Store as store;
 
-    ghost Value = { instances.Table };
+    ghost Value = { store.Table };
 
     ghost view = { λ a. record { elements = a.elements.items; max = a.max } };
 
@@ -53,8 +53,8 @@ impl Model for DataSegment {
     ghost view = { λ a. a.bytes.items };
 }
 
-/// The store of a run (Core, execution, runtime structure): its instances, each named by its place among those of its kind.
-/// Contracts see them as lists.
+/// The store of a run (Core, execution, runtime structure, store): lists of functions, tables, memories, globals, tags, and element and
+/// data segments. An address is a place in its list.
 #[derive(Drop)]
 pub struct Store {
     pub(crate) functions: Vec<FuncEntry>,
@@ -67,9 +67,9 @@ pub struct Store {
 }
 
 impl Model for Store {
-    ghost use Rattle.w_tables.specs.Instances as instances;
+    ghost use Rattle.w_tables.specs.Store as store;
 
-    ghost Value = { instances.Store };
+    ghost Value = { store.Store };
 
     ghost view = { λ a. record { functions = a.functions.items; tables = a.tables.items; memories = a.memories.items; globals = a.globals.items; tags = a.tags.items; elems = a.elems.items; datas = a.datas.items } };
 }
@@ -78,9 +78,9 @@ impl Store {
     ghost use Rattle.std.specs.Prelude.{◌≡◌, ◌<◌, length, IfOk, slice_get};
     ghost use Rattle.w_tables.specs.Operations.{empty};
 
-    /// A store of nothing.
+    /// A store of nothing (Core, execution, runtime structure, store).
     pub fn new(alloc: Global) -> Result<Store, AllocError>
-        ensures { IfOk result (λ s. s ≡ empty) }
+        ensures nothing { IfOk result (λ s. s ≡ empty) }
     {
         Ok(Store {
             functions: Vec::new(alloc),
@@ -93,11 +93,11 @@ impl Store {
         })
     }
 
-    /// What the function at an address is.
+    /// The function at an address (Core, execution, runtime structure, function instances).
     #[inline]
     pub fn function(&self, f: u32) -> FuncEntry
-        requires { f < length self.now.functions }
-        ensures { slice_get self.now.functions f ≡ Some result }
+        requires function { f < length self.now.functions }
+        ensures entry { slice_get self.now.functions f ≡ Some result }
     {
         self.functions[f as usize]
     }

@@ -22,7 +22,7 @@ fn copy_between(
     requires target { dst < length tables.old }
     requires source { src < length tables.old }
     requires apart { dst ≢ src }
-    ensures { outcome tables.old (with_elements_at tables.old dst) (copied (elements_at tables.old dst) (elements_at tables.old src) to from n) ≡ (result, tables.new) }
+    ensures left { outcome tables.old (with_elements_at tables.old dst) (copied (elements_at tables.old dst) (elements_at tables.old src) to from n) ≡ (result, tables.new) }
 {
     if dst < src {
         let (front, back) = tables.split_at_mut(src);
@@ -49,10 +49,10 @@ fn copy_between(
 }
 
 impl Store {
-    /// How many elements the table at an address has (Core, execution, `table.size`).
+    /// How many elements the table at an address has, at most 1,048,576 (Core, execution, `table.size`).
     #[inline]
     pub fn table_size(&self, t: u32) -> u32
-        requires { t < length self.now.tables }
+        requires table { t < length self.now.tables }
         ensures size { result ≡ op.table_size self.now t }
         ensures bounded { result ≤ table_limit }
     {
@@ -63,20 +63,20 @@ impl Store {
     /// An element of the table at an address (Core, execution, `table.get`). `None`, a trap, exactly past the end.
     #[inline]
     pub fn table_get(&self, t: u32, at: u32) -> Option<Value>
-        requires { t < length self.now.tables }
-        ensures { result ≡ op.table_get self.now t at }
+        requires table { t < length self.now.tables }
+        ensures element { result ≡ op.table_get self.now t at }
     {
         let table = &self.tables[t as usize];
         table.elements.get(at as usize).copied()
     }
 
-    /// Sets an element of the table at an address (Core, execution, `table.set`). `None`, a trap, exactly past the end, and then
-    /// nothing changed.
+    /// Sets an element of the table at an address (Core, execution, `table.set`). `None`, a trap, exactly past the end, and then nothing
+    /// changed.
     #[inline]
     #[tactic(auto, unfolding(crate::specs::Operations::table_set))]
     pub fn table_set(&mut self, t: u32, at: u32, v: Value) -> Option<()>
-        requires { t < length self.old.tables }
-        ensures { op.table_set self.old t at v ≡ (result, self.new) }
+        requires table { t < length self.old.tables }
+        ensures outcome { op.table_set self.old t at v ≡ (result, self.new) }
     {
         let table = &mut self.tables[t as usize];
         replace(table.elements.as_mut_slice(), at, v)
@@ -86,8 +86,8 @@ impl Store {
     /// for `n` = 0, and then nothing changed.
     #[tactic(auto, unfolding(crate::specs::Operations::table_fill))]
     pub fn table_fill(&mut self, t: u32, at: u32, v: Value, n: u32) -> Option<()>
-        requires { t < length self.old.tables }
-        ensures { op.table_fill self.old t at v n ≡ (result, self.new) }
+        requires table { t < length self.old.tables }
+        ensures outcome { op.table_fill self.old t at v n ≡ (result, self.new) }
     {
         let table = &mut self.tables[t as usize];
         fill(table.elements.as_mut_slice(), at, v, n)
@@ -100,7 +100,7 @@ impl Store {
     pub fn table_copy(&mut self, dst: u32, src: u32, to: u32, from: u32, n: u32) -> Option<()>
         requires target { dst < length self.old.tables }
         requires source { src < length self.old.tables }
-        ensures { op.table_copy self.old dst src to from n ≡ (result, self.new) }
+        ensures outcome { op.table_copy self.old dst src to from n ≡ (result, self.new) }
     {
         if dst == src {
             let table = &mut self.tables[dst as usize];
@@ -122,7 +122,7 @@ impl Store {
     pub fn table_init(&mut self, t: u32, elem: u32, to: u32, from: u32, n: u32) -> Option<()>
         requires table { t < length self.old.tables }
         requires segment { elem < length self.old.elems }
-        ensures { op.table_init self.old t elem to from n ≡ (result, self.new) }
+        ensures outcome { op.table_init self.old t elem to from n ≡ (result, self.new) }
     {
         let segment = &self.elems[elem as usize];
         let table = &mut self.tables[t as usize];
@@ -139,7 +139,7 @@ impl Store {
     /// maximum or 1,048,576 (Core, execution, `table.grow`). For want of memory it fails and changes nothing.
     #[tactic(auto, unfolding(crate::specs::Operations::table_grow))]
     pub fn table_grow(&mut self, t: u32, v: Value, n: u32) -> Result<i32, AllocError>
-        requires { t < length self.old.tables }
+        requires table { t < length self.old.tables }
         ensures grown { IfOk result (λ answer. op.table_grow self.old t v n ≡ (answer, self.new)) }
         ensures err { OnErr result (self.new ≡ self.old) }
     {
