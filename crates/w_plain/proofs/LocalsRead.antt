@@ -14,7 +14,7 @@ use Rattle.w_syntax.specs.declared.module.Module.{Module}
 use Rattle.w_segment.specs.declared.entry.Stage.TheVariants.{Body}
 use Rattle.w_segment.specs.Shape.{Shape, Level, locals_of}
 use Rattle.w_segment.specs.Changes.{with_local}
-use Rattle.w_tables.specs.Instances as instances
+use Rattle.w_tables.specs.Store as instances
 use Rattle.w_reductions.specs.Values.{Val, val}
 use Rattle.w_reductions.specs.Terms.{Rest, rest_of, Context, locals_of as locals_in, with_local as with_local_in}
 use Rattle.w_reductions.specs.Program.{Program}

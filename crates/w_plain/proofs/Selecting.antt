@@ -13,7 +13,7 @@ use Rattle.w_syntax.specs.declared.module.Module.{Module}
 use Rattle.w_segment.specs.declared.entry.Stage.TheVariants.{Body}
 use Rattle.w_segment.specs.Shape.{Shape}
 use Rattle.w_segment.specs.Changes.{moved, discarded}
-use Rattle.w_tables.specs.Instances as instances
+use Rattle.w_tables.specs.Store as instances
 use Rattle.w_reductions.specs.Values.{Val, val}
 use Rattle.w_reductions.specs.Terms.{Rest, rest_of, Context}
 use Rattle.w_reductions.specs.Program.{Program}

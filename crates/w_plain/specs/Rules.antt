@@ -4,7 +4,7 @@ use Rattle.w_types.specs.Rows.{Row, ◌▹◌}
 use Rattle.w_types.specs.declared.value.Value.{Value}
 use Rattle.w_syntax.specs.Code.{Code}
 use Rattle.w_syntax.specs.declared.instructions.Op.{Op}
-use Rattle.w_tables.specs.Instances as instances
+use Rattle.w_tables.specs.Store as instances
 use Rattle.w_reductions.specs.Values.{val}
 use Rattle.w_reductions.specs.Terms.{rest_of, Context}
 use Rattle.w_reductions.specs.Program.{Program}

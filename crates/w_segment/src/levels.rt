@@ -107,6 +107,7 @@ impl Stack {
     /// Branches to the label so many levels out, where the innermost frame has one and its arity of operands is there: the topmost
     /// `arity` operands stand on those below it, the levels inside it are gone and so is it, and the place is its target (Core,
     /// execution: br).
+    #[inline]
     pub fn branch(&mut self, label: u32)
         requires there { IsAt label self.old }
         ensures after { (t : Target) → label_at label self.old.levels ≡ Some t → self.new ≡ branched t self.old }

@@ -39,6 +39,7 @@ impl Stack {
     }
 
     /// How many operands stand inside the innermost label or frame.
+    #[inline]
     pub fn count(&self) -> usize
         ensures value { result ≡ length self.now.operands }
     {
@@ -46,6 +47,7 @@ impl Stack {
     }
 
     /// The operands inside the innermost label or frame, the topmost last.
+    #[inline]
     pub fn operands(&self) -> &[Value]
         ensures value { result.now ≡ reverse self.now.operands }
     {
@@ -53,6 +55,7 @@ impl Stack {
     }
 
     /// The topmost operands, so many, the topmost last, where there are so many.
+    #[inline]
     pub fn tops(&self, count: usize) -> &[Value]
         requires some { count ≤ length self.now.operands }
         ensures value { result.now ≡ reverse (take count self.now.operands) }
@@ -61,6 +64,7 @@ impl Stack {
     }
 
     /// Takes so many operands off, where there are so many.
+    #[inline]
     pub fn discard(&mut self, count: usize)
         requires some { count ≤ length self.old.operands }
         ensures after { self.new ≡ discarded count self.old }

@@ -75,6 +75,7 @@ impl Segment {
     }
 
     /// Whether its function is invoked next, and nothing of it has run.
+    #[inline]
     pub fn is_fresh(&self) -> bool
         ensures answer { IsTrue result ↔ ((top self.now).shape.stage ≡ Fresh) }
     {
@@ -82,6 +83,7 @@ impl Segment {
     }
 
     /// The place of the clause list at which it waits.
+    #[inline]
     pub fn clauses(&self) -> u32
         ensures some { 0 < length self.now }
         ensures place { result ≡ (top self.now).clauses }
@@ -90,6 +92,7 @@ impl Segment {
     }
 
     /// Sets the place of the clause list at which it waits.
+    #[inline]
     pub fn handled_at(&mut self, clauses: u32)
         ensures after { self.new ≡ with_clauses clauses self.old }
     {
@@ -97,6 +100,7 @@ impl Segment {
     }
 
     /// The segment that waits for it.
+    #[inline]
     pub fn parent(&self) -> Option<&Segment>
         ensures some { 0 < length self.now }
         ensures outer { option_copied result ≡ parent_of self.now }
@@ -112,6 +116,7 @@ impl Segment {
     }
 
     /// Sets the segment that waits for it, and answers the one before; all else stays.
+    #[inline]
     pub fn set_parent(&mut self, parent: Option<Box<Segment>>) -> Option<Box<Segment>>
         ensures some { 0 < length self.old }
         ensures before { parents result ≡ rest self.old }

@@ -103,7 +103,8 @@ impl Stack {
         }
     }
 
-    /// Takes room for so many more operands, levels and locals. It fails only when out of memory, or of numbers for frames.
+    /// Takes room for so many more operands, levels and locals. It fails only when out of memory, or where there would be 2^32 levels, and
+    /// not where there is that room; also then nothing else changes.
     pub fn reserve(
         &mut self,
         operands: usize,
@@ -125,7 +126,7 @@ impl Stack {
     }
 
     /// Takes room for one frame more: with so many locals, parameters included, so many operands (`height`) and so many labels (`depth`).
-    /// It fails only when out of memory, and not where there is that room; also then nothing else changes.
+    /// It fails as `reserve` does.
     pub fn reserve_frame(&mut self, locals: u32, height: u64, depth: u32) -> Result<(), AllocError>
         ensures same { SameParts self.old self.new }
         ensures grown { Grown self.old.capacity self.new.capacity }
@@ -136,6 +137,7 @@ impl Stack {
     }
 
     /// How many frames there are.
+    #[inline]
     pub fn frames(&self) -> u32
         ensures count { result ≡ frames_of self.now.levels }
     {
@@ -143,6 +145,7 @@ impl Stack {
     }
 
     /// How many labels there are, in all frames.
+    #[inline]
     pub fn labels(&self) -> u64
         ensures count { result ≡ labels_of self.now.levels }
     {
@@ -150,6 +153,7 @@ impl Stack {
     }
 
     /// Whether no label and no frame is left.
+    #[inline]
     pub fn is_outside(&self) -> bool
         ensures answer { result ≡ is_none self.now.levels }
     {
@@ -157,6 +161,7 @@ impl Stack {
     }
 
     /// The function of the innermost frame, by its address; of a fresh segment the function that is invoked next.
+    #[inline]
     pub fn func(&self) -> u32
         ensures value { result ≡ self.now.func }
     {
@@ -188,6 +193,7 @@ impl Stack {
     }
 
     /// Sets where the segment stands.
+    #[inline]
     pub fn set_stage(&mut self, stage: Stage)
         ensures after { self.new ≡ staged stage self.old }
     {
@@ -195,6 +201,7 @@ impl Stack {
     }
 
     /// Whether a function is invoked next, and nothing of it has run.
+    #[inline]
     pub fn is_fresh(&self) -> bool
         ensures answer { IsTrue result ↔ (self.now.stage ≡ Fresh) }
     {

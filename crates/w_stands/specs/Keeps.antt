@@ -4,7 +4,7 @@ use Rattle.w_types.specs.declared.value.Value.{Value}
 use Rattle.w_types.specs.declared.value.Value.TheVariants as value
 use Rattle.w_segment.specs.Shape.{Shape}
 use Rattle.w_segment.specs.Holds.{AllOf, Holds}
-use Rattle.w_tables.specs.Instances as instances
+use Rattle.w_tables.specs.Store as instances
 
 -- a test that every value passes which is no reference to a continuation
 pub record OnPlain (test : Value → Bool) : Type 0 where

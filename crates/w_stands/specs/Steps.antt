@@ -4,7 +4,7 @@ use Rattle.w_syntax.specs.declared.instructions.Instr.{Instr}
 use Rattle.w_syntax.specs.declared.module.Module.{Module}
 use Rattle.w_segment.specs.declared.entry.Stage.TheVariants.{Body}
 use Rattle.w_segment.specs.Shape.{Shape}
-use Rattle.w_tables.specs.Instances as instances
+use Rattle.w_tables.specs.Store as instances
 use Rattle.w_reductions.specs.Terms.{Rest, Context}
 use Rattle.w_reductions.specs.Store.{Store}
 use Rattle.w_reductions.specs.Program.{Program, IsProgram}

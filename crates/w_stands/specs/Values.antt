@@ -3,7 +3,7 @@ use Rattle.std.specs.Prelude.{ℕ, List, [], ◌∷◌, map, Option}
 use Rattle.std.specs.Option.{option_map}
 use Rattle.w_types.specs.Rows.{Row, ε, ◌▹◌}
 use Rattle.w_types.specs.declared.value.Value.{Value}
-use Rattle.w_tables.specs.Instances as instances
+use Rattle.w_tables.specs.Store as instances
 use Rattle.w_reductions.specs.Values.{Val, val}
 use Rattle.w_reductions.specs.Store.{Table, Store}
 
