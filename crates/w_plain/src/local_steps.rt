@@ -14,13 +14,13 @@ use w_segment::Stack;
 use w_syntax::Module;
 
 /// `local.get`. It fails only when out of memory, and then the stack is as it was but for room.
-pub fn local_get(module: &Module, stack: &mut Stack, index: u32) -> Result<(), AllocError>
-    requires moves { MovesAlone (flat.Plain (op.Variable (variable.LocalGet index))) module.now stack.old }
-    ensures goes { OnOk result (FollowsAlone did.Went module.now stack.old stack.new) }
+pub fn local_get(program: &Module, stack: &mut Stack, index: u32) -> Result<(), AllocError>
+    requires moves { MovesAlone (flat.Plain (op.Variable (variable.LocalGet index))) program.now stack.old }
+    ensures goes { OnOk result (FollowsAlone did.Went program.now stack.old stack.new) }
     ensures keeps { OnOk result (Keeps stack.old stack.new) }
     ensures err { OnErr result (SameParts stack.old stack.new) }
 {
-    let _module = module;
+    let _program = program;
     match stack.local_get(index) {
         Some(value) => push_next(stack, value),
         None => unreachable!(),
@@ -28,24 +28,24 @@ pub fn local_get(module: &Module, stack: &mut Stack, index: u32) -> Result<(), A
 }
 
 /// `local.set`.
-pub fn local_set(module: &Module, stack: &mut Stack, index: u32)
-    requires moves { MovesAlone (flat.Plain (op.Variable (variable.LocalSet index))) module.now stack.old }
-    ensures goes { FollowsAlone did.Went module.now stack.old stack.new }
+pub fn local_set(program: &Module, stack: &mut Stack, index: u32)
+    requires moves { MovesAlone (flat.Plain (op.Variable (variable.LocalSet index))) program.now stack.old }
+    ensures goes { FollowsAlone did.Went program.now stack.old stack.new }
     ensures keeps { Keeps stack.old stack.new }
 {
-    let _module = module;
+    let _program = program;
     let value = stack.pop();
     stack.local_set(index, value);
     stack.go(stack.place() + 1);
 }
 
 /// `local.tee`.
-pub fn local_tee(module: &Module, stack: &mut Stack, index: u32)
-    requires moves { MovesAlone (flat.Plain (op.Variable (variable.LocalTee index))) module.now stack.old }
-    ensures goes { FollowsAlone did.Went module.now stack.old stack.new }
+pub fn local_tee(program: &Module, stack: &mut Stack, index: u32)
+    requires moves { MovesAlone (flat.Plain (op.Variable (variable.LocalTee index))) program.now stack.old }
+    ensures goes { FollowsAlone did.Went program.now stack.old stack.new }
     ensures keeps { Keeps stack.old stack.new }
 {
-    let _module = module;
+    let _program = program;
     let value = stack.peek();
     stack.local_set(index, value);
     stack.go(stack.place() + 1);

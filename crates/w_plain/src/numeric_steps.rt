@@ -22,34 +22,34 @@ use w_syntax::{Binop, Cvtop, IntType, Module, NumericOp, Relop, Unop};
 use w_types::Value;
 
 // A unary operator.
-fn unary(module: &Module, stack: &mut Stack, kind: IntType, operation: Unop)
-    requires moves { MovesAlone (flat.Plain (op.Numeric (numeric.Unary kind operation))) module.now stack.old }
-    ensures goes { FollowsAlone did.Went module.now stack.old stack.new }
+fn unary(program: &Module, stack: &mut Stack, kind: IntType, operation: Unop)
+    requires moves { MovesAlone (flat.Plain (op.Numeric (numeric.Unary kind operation))) program.now stack.old }
+    ensures goes { FollowsAlone did.Went program.now stack.old stack.new }
     ensures keeps { Keeps stack.old stack.new }
 {
-    let _module = module;
+    let _program = program;
     let value = unary_of(kind, operation, stack.peek());
     replace(stack, 1, value);
 }
 
 // The test whether a number is 0.
-fn eqz(module: &Module, stack: &mut Stack, kind: IntType)
-    requires moves { MovesAlone (flat.Plain (op.Numeric (numeric.Eqz kind))) module.now stack.old }
-    ensures goes { FollowsAlone did.Went module.now stack.old stack.new }
+fn eqz(program: &Module, stack: &mut Stack, kind: IntType)
+    requires moves { MovesAlone (flat.Plain (op.Numeric (numeric.Eqz kind))) program.now stack.old }
+    ensures goes { FollowsAlone did.Went program.now stack.old stack.new }
     ensures keeps { Keeps stack.old stack.new }
 {
-    let _module = module;
+    let _program = program;
     let value = eqz_of(kind, stack.peek());
     replace(stack, 1, value);
 }
 
 // A conversion.
-fn convert(module: &Module, stack: &mut Stack, operation: Cvtop)
-    requires moves { MovesAlone (flat.Plain (op.Numeric (numeric.Convert operation))) module.now stack.old }
-    ensures goes { FollowsAlone did.Went module.now stack.old stack.new }
+fn convert(program: &Module, stack: &mut Stack, operation: Cvtop)
+    requires moves { MovesAlone (flat.Plain (op.Numeric (numeric.Convert operation))) program.now stack.old }
+    ensures goes { FollowsAlone did.Went program.now stack.old stack.new }
     ensures keeps { Keeps stack.old stack.new }
 {
-    let _module = module;
+    let _program = program;
     let value = converted(operation, stack.peek());
     replace(stack, 1, value);
 }
@@ -64,24 +64,24 @@ fn two(stack: &Stack) -> (Value, Value)
 }
 
 // A comparison.
-fn compare(module: &Module, stack: &mut Stack, kind: IntType, operation: Relop)
-    requires moves { MovesAlone (flat.Plain (op.Numeric (numeric.Compare kind operation))) module.now stack.old }
-    ensures goes { FollowsAlone did.Went module.now stack.old stack.new }
+fn compare(program: &Module, stack: &mut Stack, kind: IntType, operation: Relop)
+    requires moves { MovesAlone (flat.Plain (op.Numeric (numeric.Compare kind operation))) program.now stack.old }
+    ensures goes { FollowsAlone did.Went program.now stack.old stack.new }
     ensures keeps { Keeps stack.old stack.new }
 {
-    let _module = module;
+    let _program = program;
     let (below, top) = two(stack);
     let value = compared(kind, operation, below, top);
     replace(stack, 2, value);
 }
 
 // A binary operator, or its trap.
-fn binary(module: &Module, stack: &mut Stack, kind: IntType, operation: Binop) -> Did
-    requires moves { MovesAlone (flat.Plain (op.Numeric (numeric.Binary kind operation))) module.now stack.old }
-    ensures goes { FollowsAlone result module.now stack.old stack.new }
+fn binary(program: &Module, stack: &mut Stack, kind: IntType, operation: Binop) -> Did
+    requires moves { MovesAlone (flat.Plain (op.Numeric (numeric.Binary kind operation))) program.now stack.old }
+    ensures goes { FollowsAlone result program.now stack.old stack.new }
     ensures keeps { Keeps stack.old stack.new }
 {
-    let _module = module;
+    let _program = program;
     let (below, top) = two(stack);
     match joined(kind, operation, below, top) {
         Ok(value) => {
@@ -94,19 +94,19 @@ fn binary(module: &Module, stack: &mut Stack, kind: IntType, operation: Binop) -
 
 // A constant.
 fn constant(
-    module: &Module,
+    program: &Module,
     stack: &mut Stack,
     operation: NumericOp,
     value: Value,
 ) -> Result<Did, AllocError>
-    requires moves { MovesAlone (flat.Plain (op.Numeric operation)) module.now stack.old }
+    requires moves { MovesAlone (flat.Plain (op.Numeric operation)) program.now stack.old }
     requires gives { IsGiving (op.Numeric operation) value }
     requires plain { (test : TheValue → Bool) → OnPlain test → test value ≡ true }
-    ensures goes { IfOk result (λ did. FollowsAlone did module.now stack.old stack.new) }
+    ensures goes { IfOk result (λ did. FollowsAlone did program.now stack.old stack.new) }
     ensures keeps { OnOk result (Keeps stack.old stack.new) }
     ensures err { OnErr result (SameParts stack.old stack.new) }
 {
-    let _module = module;
+    let _program = program;
     let _operation = operation;
     push_next(stack, value)?;
     Ok(Did::Went)
@@ -123,34 +123,44 @@ fn trap_of(fault: NumFault) -> Trap
 }
 
 /// One reduction of a numeric instruction, or its trap. It fails only when out of memory, and then the stack is as it was but for room.
-pub fn numeric(module: &Module, stack: &mut Stack, operation: NumericOp) -> Result<Did, AllocError>
-    requires moves { MovesAlone (flat.Plain (op.Numeric operation)) module.now stack.old }
-    ensures goes { IfOk result (λ did. FollowsAlone did module.now stack.old stack.new) }
+pub fn numeric(program: &Module, stack: &mut Stack, operation: NumericOp) -> Result<Did, AllocError>
+    requires moves { MovesAlone (flat.Plain (op.Numeric operation)) program.now stack.old }
+    ensures goes { IfOk result (λ did. FollowsAlone did program.now stack.old stack.new) }
     ensures keeps { OnOk result (Keeps stack.old stack.new) }
     ensures err { OnErr result (SameParts stack.old stack.new) }
 {
     match operation {
         NumericOp::I32Const(number) => {
-            constant(module, stack, operation, Value::I32(number.cast_unsigned()))
+            constant(
+                program,
+                stack,
+                operation,
+                Value::I32(number.cast_unsigned()),
+            )
         }
         NumericOp::I64Const(number) => {
-            constant(module, stack, operation, Value::I64(number.cast_unsigned()))
+            constant(
+                program,
+                stack,
+                operation,
+                Value::I64(number.cast_unsigned()),
+            )
         }
         NumericOp::Eqz(kind) => {
-            eqz(module, stack, kind);
+            eqz(program, stack, kind);
             Ok(Did::Went)
         }
         NumericOp::Compare(kind, operation) => {
-            compare(module, stack, kind, operation);
+            compare(program, stack, kind, operation);
             Ok(Did::Went)
         }
         NumericOp::Unary(kind, operation) => {
-            unary(module, stack, kind, operation);
+            unary(program, stack, kind, operation);
             Ok(Did::Went)
         }
-        NumericOp::Binary(kind, operation) => Ok(binary(module, stack, kind, operation)),
+        NumericOp::Binary(kind, operation) => Ok(binary(program, stack, kind, operation)),
         NumericOp::Convert(operation) => {
-            convert(module, stack, operation);
+            convert(program, stack, operation);
             Ok(Did::Went)
         }
     }

@@ -16,12 +16,12 @@ use w_syntax::{Module, ParametricOp};
 use w_types::Value;
 
 /// `drop`.
-pub fn drop_operand(module: &Module, stack: &mut Stack)
-    requires moves { MovesAlone (flat.Plain (op.Parametric parametric.Drop)) module.now stack.old }
-    ensures goes { FollowsAlone did.Went module.now stack.old stack.new }
+pub fn drop_operand(program: &Module, stack: &mut Stack)
+    requires moves { MovesAlone (flat.Plain (op.Parametric parametric.Drop)) program.now stack.old }
+    ensures goes { FollowsAlone did.Went program.now stack.old stack.new }
     ensures keeps { Keeps stack.old stack.new }
 {
-    let _module = module;
+    let _program = program;
     stack.discard(1);
     stack.go(stack.place() + 1);
 }
@@ -43,13 +43,13 @@ fn three(stack: &Stack) -> (Value, Value, Value)
 }
 
 /// `select`, with or without the type that it names.
-pub fn select(module: &Module, stack: &mut Stack, operation: &ParametricOp)
-    requires moves { MovesAlone (flat.Plain (op.Parametric operation.now)) module.now stack.old }
+pub fn select(program: &Module, stack: &mut Stack, operation: &ParametricOp)
+    requires moves { MovesAlone (flat.Plain (op.Parametric operation.now)) program.now stack.old }
     requires select { IsSelect operation.now }
-    ensures goes { FollowsAlone did.Went module.now stack.old stack.new }
+    ensures goes { FollowsAlone did.Went program.now stack.old stack.new }
     ensures keeps { Keeps stack.old stack.new }
 {
-    let _module = module;
+    let _program = program;
     let _operation = operation;
     let (one, other, number) = three(stack);
     let value = chosen(i32_of(number), one, other);

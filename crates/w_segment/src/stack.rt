@@ -160,7 +160,8 @@ impl Stack {
         self.marks.is_empty()
     }
 
-    /// The function of the innermost frame, by its address; of a fresh segment the function that is invoked next.
+    /// The function of the innermost frame, by the number that it was entered with; of a fresh segment the address of the function that
+    /// is invoked next.
     #[inline]
     pub fn func(&self) -> u32
         ensures value { result ≡ self.now.func }

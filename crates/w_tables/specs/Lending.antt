@@ -1,5 +1,5 @@
 -- What a store ends as once its memory was changed.
-use Rattle.std.specs.Borrow.{follows, MutBor, Fml}
+use Rattle.std.specs.Borrow.{Lends, MutBor, Fml}
 use Rattle.w_memory.specs.Memory.{Memory}
 use Rattle.w_memory.specs.contracts.mem.Mem as mem
 use Rattle.w_tables.specs.Store.{Store}
@@ -8,4 +8,4 @@ use Rattle.w_tables.specs.contracts.store.Store.{the_row}
 
 -- s ends with its first memory as r leaves it
 abbrev pub LendsMemory : MutBor Store → MutBor Memory → Fml
-LendsMemory s r = follows the_row mem.the_row s.ghost_name r.ghost_name (with_memory s.now)
+LendsMemory s r = Lends the_row mem.the_row s r (with_memory s.now)

@@ -7,14 +7,14 @@ use Rattle.w_segment.proofs.Holding.{local_is}
 use Rattle.w_plain.proofs.local_steps.local_get.Goals as goal
 
 pub local_get-requires : goal.local_get-requires
-local_get-requires c = record { there = get_within c.args.module.now c.args.stack.now c.args.index c.requires.moves }
+local_get-requires c = record { there = get_within c.args.program.now c.args.stack.now c.args.index c.requires.moves }
 
 pub push_next-requires : goal.push_next-requires
-push_next-requires c = record { place = get_place c.args.module.now c.args.stack.now c.args.index c.requires.moves }
+push_next-requires c = record { place = get_place c.args.program.now c.args.stack.now c.args.index c.requires.moves }
 
 pub unreachable-requires : goal.unreachable-requires
 unreachable-requires c =
-    let there = get_there c.args.module.now c.args.stack.now c.args.index c.requires.moves in
+    let there = get_there c.args.program.now c.args.stack.now c.args.index c.requires.moves in
     let e = sym c.local_get.ensures.value ∙ there.1 in
     let n = c.in-None.is in
     absurd (cc)
@@ -22,7 +22,7 @@ unreachable-requires c =
 pub returns-clause-goes : goal.returns-clause-goes
 returns-clause-goes c =
     on_ok_weaker c.push_next.result
-    (λ n. get_follows c.args.module.now c.args.stack.now c.args.index c.requires.moves c.push_next.new.stack c.in-Some.value (c.local_get.ensures.value ∙ ap (λ (o : Option Value). Some o) c.in-Some.is) n)
+    (λ n. get_follows c.args.program.now c.args.stack.now c.args.index c.requires.moves c.push_next.new.stack c.in-Some.value (c.local_get.ensures.value ∙ ap (λ (o : Option Value). Some o) c.in-Some.is) n)
     c.push_next.ensures.after
 
 pub returns-clause-keeps : goal.returns-clause-keeps

@@ -20,16 +20,16 @@ rule x = λ p u e vs c. refl
 
 pub pop-value-requires : goal.pop-value-requires
 pop-value-requires c =
-    record { some = (set_needs c.args.module.now c.args.stack.now (op.Variable (variable.LocalSet c.args.index)) c.args.index left (rule c.args.index) c.requires.moves).2 }
+    record { some = (set_needs c.args.program.now c.args.stack.now (op.Variable (variable.LocalSet c.args.index)) c.args.index left (rule c.args.index) c.requires.moves).2 }
 
 pub local_set-requires : goal.local_set-requires
 local_set-requires c =
-    let h = set_within c.args.module.now c.args.stack.now (op.Variable (variable.LocalSet c.args.index)) c.args.index left (rule c.args.index) c.requires.moves in
+    let h = set_within c.args.program.now c.args.stack.now (op.Variable (variable.LocalSet c.args.index)) c.args.index left (rule c.args.index) c.requires.moves in
     record { there = subst (λ (y : Shape). c.args.index < length (locals_of y.levels)) (sym c.pop-value.ensures.after) h }
 
 pub overflow_add-place : goal.overflow_add-place
 overflow_add-place c =
-    let h = set_place c.args.module.now c.args.stack.now (op.Variable (variable.LocalSet c.args.index)) c.args.index left (rule c.args.index) c.requires.moves in
+    let h = set_place c.args.program.now c.args.stack.now (op.Variable (variable.LocalSet c.args.index)) c.args.index left (rule c.args.index) c.requires.moves in
     let at = c.place.ensures.value in
     let after = ap (λ (s : Shape). s.place) c.local_set.ensures.after in
     let before = ap (λ (s : Shape). s.place) c.pop-value.ensures.after in
@@ -43,7 +43,7 @@ returns-clause-goes c =
     let at = c.place.ensures.value ∙ ap (λ (y : Shape). y.place) set in
     let e : c.go.new.self ≡ moved (s.place + 1) (with_locals c.args.index v (popped s)) =
     c.go.ensures.after ∙ ap (λ (n : ℕ). moved (n + 1) c.local_set.new.self) at ∙ ap (moved (s.place + 1)) set in
-    set_follows c.args.module.now s (op.Variable (variable.LocalSet c.args.index)) c.args.index left (rule c.args.index) c.requires.moves c.go.new.self v c.pop-value.ensures.value
+    set_follows c.args.program.now s (op.Variable (variable.LocalSet c.args.index)) c.args.index left (rule c.args.index) c.requires.moves c.go.new.self v c.pop-value.ensures.value
     (ap (λ (y : Shape). y.levels) e) (ap (λ (y : Shape). y.func) e) (ap (λ (y : Shape). y.place) e) (ap (λ (y : Shape). y.stage) e)
     (sym (ap (λ (y : Shape). stack y.operands) e))
 

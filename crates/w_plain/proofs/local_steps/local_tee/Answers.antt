@@ -20,15 +20,15 @@ rule x = λ p u e vs c. refl
 
 pub peek-value-requires : goal.peek-value-requires
 peek-value-requires c =
-    record { some = (set_needs c.args.module.now c.args.stack.now (op.Variable (variable.LocalTee c.args.index)) c.args.index left (rule c.args.index) c.requires.moves).2 }
+    record { some = (set_needs c.args.program.now c.args.stack.now (op.Variable (variable.LocalTee c.args.index)) c.args.index left (rule c.args.index) c.requires.moves).2 }
 
 pub local_set-requires : goal.local_set-requires
 local_set-requires c =
-    record { there = set_within c.args.module.now c.args.stack.now (op.Variable (variable.LocalTee c.args.index)) c.args.index left (rule c.args.index) c.requires.moves }
+    record { there = set_within c.args.program.now c.args.stack.now (op.Variable (variable.LocalTee c.args.index)) c.args.index left (rule c.args.index) c.requires.moves }
 
 pub overflow_add-place : goal.overflow_add-place
 overflow_add-place c =
-    let h = set_place c.args.module.now c.args.stack.now (op.Variable (variable.LocalTee c.args.index)) c.args.index left (rule c.args.index) c.requires.moves in
+    let h = set_place c.args.program.now c.args.stack.now (op.Variable (variable.LocalTee c.args.index)) c.args.index left (rule c.args.index) c.requires.moves in
     let at = c.place.ensures.value in
     let after = ap (λ (s : Shape). s.place) c.local_set.ensures.after in
     omega (arith, h, at, after)
@@ -40,7 +40,7 @@ returns-clause-goes c =
     let at = c.place.ensures.value ∙ ap (λ (y : Shape). y.place) c.local_set.ensures.after in
     let e : c.go.new.self ≡ moved (s.place + 1) (with_locals c.args.index v s) =
     c.go.ensures.after ∙ ap (λ (n : ℕ). moved (n + 1) c.local_set.new.self) at ∙ ap (moved (s.place + 1)) c.local_set.ensures.after in
-    set_follows c.args.module.now s (op.Variable (variable.LocalTee c.args.index)) c.args.index left (rule c.args.index) c.requires.moves c.go.new.self v c.peek-value.ensures.value
+    set_follows c.args.program.now s (op.Variable (variable.LocalTee c.args.index)) c.args.index left (rule c.args.index) c.requires.moves c.go.new.self v c.peek-value.ensures.value
     (ap (λ (y : Shape). y.levels) e) (ap (λ (y : Shape). y.func) e) (ap (λ (y : Shape). y.place) e) (ap (λ (y : Shape). y.stage) e)
     (sym (ap (λ (y : Shape). stack y.operands) e ∙ ap stack c.peek-value.ensures.value))
 

@@ -5,11 +5,11 @@ use Rattle.w_plain.proofs.Giving.{give_place, give_follows}
 use Rattle.w_plain.proofs.numeric_steps.constant.Goals as goal
 
 pub push_next-requires : goal.push_next-requires
-push_next-requires c = record { place = give_place c.args.module.now c.args.stack.now (op.Numeric c.args.operation) c.requires.moves }
+push_next-requires c = record { place = give_place c.args.program.now c.args.stack.now (op.Numeric c.args.operation) c.requires.moves }
 
 pub returns-clause-goes : goal.returns-clause-goes
 returns-clause-goes c =
-    give_follows c.args.module.now c.args.stack.now c.push_next.new.stack (op.Numeric c.args.operation) c.args.value c.requires.gives c.requires.moves c.in_ok-push_next.ensures.after
+    give_follows c.args.program.now c.args.stack.now c.push_next.new.stack (op.Numeric c.args.operation) c.args.value c.requires.gives c.requires.moves c.in_ok-push_next.ensures.after
 
 pub returns-clause-keeps : goal.returns-clause-keeps
 returns-clause-keeps c = λ test on h.

@@ -6,17 +6,17 @@ use Rattle.w_plain.proofs.Turning.{turn_needs, turn_follows}
 use Rattle.w_plain.proofs.numeric_steps.convert.Goals as goal
 
 pub peek-requires : goal.peek-requires
-peek-requires c = record { some = (turn_needs c.args.module.now c.args.stack.now (op.Numeric (numeric.Convert c.args.operation)) (taken_by c.args.operation) (given_by c.args.operation) (cvtop c.args.operation) (λ p u e vs d. refl) c.requires.moves).some }
+peek-requires c = record { some = (turn_needs c.args.program.now c.args.stack.now (op.Numeric (numeric.Convert c.args.operation)) (taken_by c.args.operation) (given_by c.args.operation) (cvtop c.args.operation) (λ p u e vs d. refl) c.requires.moves).some }
 
 pub converted-value-requires : goal.converted-value-requires
 converted-value-requires c =
-    (turn_needs c.args.module.now c.args.stack.now (op.Numeric (numeric.Convert c.args.operation)) (taken_by c.args.operation) (given_by c.args.operation) (cvtop c.args.operation) (λ p u e vs d. refl) c.requires.moves).number c.peek.result c.peek.ensures.value
+    (turn_needs c.args.program.now c.args.stack.now (op.Numeric (numeric.Convert c.args.operation)) (taken_by c.args.operation) (given_by c.args.operation) (cvtop c.args.operation) (λ p u e vs d. refl) c.requires.moves).number c.peek.result c.peek.ensures.value
 
 pub replace-requires-clause-place : goal.replace-requires-clause-place
 replace-requires-clause-place c =
-    (turn_needs c.args.module.now c.args.stack.now (op.Numeric (numeric.Convert c.args.operation)) (taken_by c.args.operation) (given_by c.args.operation) (cvtop c.args.operation) (λ p u e vs d. refl) c.requires.moves).place
+    (turn_needs c.args.program.now c.args.stack.now (op.Numeric (numeric.Convert c.args.operation)) (taken_by c.args.operation) (given_by c.args.operation) (cvtop c.args.operation) (λ p u e vs d. refl) c.requires.moves).place
 
 pub returns-clause-goes : goal.returns-clause-goes
 returns-clause-goes c =
-    turn_follows c.args.module.now c.args.stack.now c.replace.new.stack (op.Numeric (numeric.Convert c.args.operation)) (taken_by c.args.operation) (given_by c.args.operation) (cvtop c.args.operation) c.peek.result _ (λ p u e vs d. refl) c.requires.moves
+    turn_follows c.args.program.now c.args.stack.now c.replace.new.stack (op.Numeric (numeric.Convert c.args.operation)) (taken_by c.args.operation) (given_by c.args.operation) (cvtop c.args.operation) c.peek.result _ (λ p u e vs d. refl) c.requires.moves
     c.peek.ensures.value c.converted-value.ensures c.replace.ensures.after

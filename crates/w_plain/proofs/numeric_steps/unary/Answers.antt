@@ -6,17 +6,17 @@ use Rattle.w_plain.proofs.Turning.{turn_needs, turn_follows}
 use Rattle.w_plain.proofs.numeric_steps.unary.Goals as goal
 
 pub peek-requires : goal.peek-requires
-peek-requires c = record { some = (turn_needs c.args.module.now c.args.stack.now (op.Numeric (numeric.Unary c.args.kind c.args.operation)) c.args.kind c.args.kind (unop c.args.operation (width c.args.kind)) (λ p u e vs d. refl) c.requires.moves).some }
+peek-requires c = record { some = (turn_needs c.args.program.now c.args.stack.now (op.Numeric (numeric.Unary c.args.kind c.args.operation)) c.args.kind c.args.kind (unop c.args.operation (width c.args.kind)) (λ p u e vs d. refl) c.requires.moves).some }
 
 pub unary_of-value-requires : goal.unary_of-value-requires
 unary_of-value-requires c =
-    (turn_needs c.args.module.now c.args.stack.now (op.Numeric (numeric.Unary c.args.kind c.args.operation)) c.args.kind c.args.kind (unop c.args.operation (width c.args.kind)) (λ p u e vs d. refl) c.requires.moves).number c.peek.result c.peek.ensures.value
+    (turn_needs c.args.program.now c.args.stack.now (op.Numeric (numeric.Unary c.args.kind c.args.operation)) c.args.kind c.args.kind (unop c.args.operation (width c.args.kind)) (λ p u e vs d. refl) c.requires.moves).number c.peek.result c.peek.ensures.value
 
 pub replace-requires-clause-place : goal.replace-requires-clause-place
 replace-requires-clause-place c =
-    (turn_needs c.args.module.now c.args.stack.now (op.Numeric (numeric.Unary c.args.kind c.args.operation)) c.args.kind c.args.kind (unop c.args.operation (width c.args.kind)) (λ p u e vs d. refl) c.requires.moves).place
+    (turn_needs c.args.program.now c.args.stack.now (op.Numeric (numeric.Unary c.args.kind c.args.operation)) c.args.kind c.args.kind (unop c.args.operation (width c.args.kind)) (λ p u e vs d. refl) c.requires.moves).place
 
 pub returns-clause-goes : goal.returns-clause-goes
 returns-clause-goes c =
-    turn_follows c.args.module.now c.args.stack.now c.replace.new.stack (op.Numeric (numeric.Unary c.args.kind c.args.operation)) c.args.kind c.args.kind (unop c.args.operation (width c.args.kind)) c.peek.result _ (λ p u e vs d. refl) c.requires.moves
+    turn_follows c.args.program.now c.args.stack.now c.replace.new.stack (op.Numeric (numeric.Unary c.args.kind c.args.operation)) c.args.kind c.args.kind (unop c.args.operation (width c.args.kind)) c.peek.result _ (λ p u e vs d. refl) c.requires.moves
     c.peek.ensures.value c.unary_of-value.ensures c.replace.ensures.after

@@ -5,17 +5,17 @@ use Rattle.w_plain.proofs.Selecting.{select_there, select_number, select_place, 
 use Rattle.w_plain.proofs.parametric_steps.select.Goals as goal
 
 pub three-one-requires : goal.three-one-requires
-three-one-requires c = select_there c.args.module.now c.args.stack.now c.args.operation.now c.requires.select c.requires.moves
+three-one-requires c = select_there c.args.program.now c.args.stack.now c.args.operation.now c.requires.select c.requires.moves
 
 pub i32_of-requires : goal.i32_of-requires
 i32_of-requires c =
-    select_number c.args.module.now c.args.stack.now c.args.operation.now c.requires.select c.requires.moves c.three-one.result.0 c.three-one.result.1 c.three-one.result.2 c.three-one.ensures
+    select_number c.args.program.now c.args.stack.now c.args.operation.now c.requires.select c.requires.moves c.three-one.result.0 c.three-one.result.1 c.three-one.result.2 c.three-one.ensures
 
 pub replace-requires-clause-place : goal.replace-requires-clause-place
-replace-requires-clause-place c = select_place c.args.module.now c.args.stack.now c.args.operation.now c.requires.select c.requires.moves
+replace-requires-clause-place c = select_place c.args.program.now c.args.stack.now c.args.operation.now c.requires.select c.requires.moves
 
 pub returns-clause-goes : goal.returns-clause-goes
 returns-clause-goes c =
-    select_follows c.args.module.now c.args.stack.now c.args.operation.now c.requires.select c.requires.moves c.replace.new.stack
+    select_follows c.args.program.now c.args.stack.now c.args.operation.now c.requires.select c.requires.moves c.replace.new.stack
     c.three-one.result.0 c.three-one.result.1 c.three-one.result.2 c.chosen-value.result c.three-one.ensures
     (c.chosen-value.ensures ∙ ap (λ (n : ℕ). selected n c.three-one.result.0 c.three-one.result.1) c.i32_of.ensures) c.replace.ensures.after
