@@ -1,19 +1,13 @@
 -- What instructions need that give a value and take none, and where they go.
-use Rattle.std.proofs.Common.{◌≡◌, ℕ, ◌+◌, ◌<◌, List, [], ◌∷◌, Some, refl, sym, ap, ◌∙◌}
+use Rattle.std.proofs.Common.{◌+◌, ◌<◌, List, [], sym, ap, ◌∙◌}
 use Rattle.std.specs.Prelude.{◌^◌}
-use Rattle.w_types.specs.Rows.{Row, ◌▹◌}
 use Rattle.w_types.specs.declared.value.Value.{Value}
-use Rattle.w_syntax.specs.Code.{Code}
 use Rattle.w_syntax.specs.declared.instructions.Instr.TheVariants as flat
 use Rattle.w_syntax.specs.declared.instructions.Op.{Op}
 use Rattle.w_syntax.specs.declared.module.Module.{Module}
 use Rattle.w_segment.specs.Shape.{Shape}
-use Rattle.w_tables.specs.Store as instances
-use Rattle.w_reductions.specs.Values.{Val, val}
-use Rattle.w_reductions.specs.Terms.{rest_of, Context}
-use Rattle.w_reductions.specs.Program.{Program}
+use Rattle.w_reductions.specs.Terms.{rest_of}
 use Rattle.w_reductions.specs.Reduced.{steps_to}
-use Rattle.w_reductions.specs.Reduce.{instruction}
 use Rattle.w_stands.specs.Values.{stack, store_of}
 use Rattle.w_stands.specs.declared.did.Did.TheVariants as did
 use Rattle.w_stands.specs.Steps.{MovesAlone, FollowsAlone}

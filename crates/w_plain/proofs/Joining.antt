@@ -1,6 +1,6 @@
 -- What instructions need that join two numbers to one, and where they go.
 use Rattle.std.proofs.Common.{◌≡◌, ℕ, ◌+◌, ◌<◌, ◌≤◌, List, [], ◌∷◌, Some, length, drop, refl, sym, ap, ◌∙◌, arith, subst}
-use Rattle.std.specs.Prelude.{◌^◌, ◌≢◌, Result, Ok, Err}
+use Rattle.std.specs.Prelude.{◌^◌, Result, Ok, Err}
 use Rattle.w_types.specs.Rows.{Row, ◌▹◌}
 use Rattle.w_types.specs.declared.value.Value.{Value}
 use Rattle.w_num.specs.declared.fault.NumFault.{NumFault}
@@ -20,11 +20,12 @@ use Rattle.w_reductions.specs.Reduce.{instruction}
 use Rattle.w_stands.specs.Values.{stack, store_of}
 use Rattle.w_stands.specs.declared.did.Did.TheVariants as did
 use Rattle.w_stands.specs.Code.{instr_of}
-use Rattle.w_stands.specs.Steps.{Outside, next_of, At, MovesAlone, FollowsAlone}
+use Rattle.w_stands.specs.Steps.{Outside, At, MovesAlone, FollowsAlone}
 use Rattle.w_stands.proofs.Stepping.{following, applies, next_is, went, place_fits}
 use Rattle.w_plain.specs.GoingOn.{replaced}
 use Rattle.w_plain.specs.Numbers.{IsNumber, bits_in, value_of, TakesTwo, given}
-use Rattle.w_plain.proofs.Operands.{two_there, two_taken, number_val}
+use Rattle.w_plain.proofs.Behind.{replaced_next}
+use Rattle.w_plain.proofs.Operands.{same_top, two_there, two_taken, number_val}
 
 -- the rule of an instruction that joins numbers of type t to one of type w, or traps
 abbrev pub joining : instances.Store → Context → IntType → (ℕ → ℕ → Result ℕ NumFault) → Code → Row Val × ℕ → ℕ → Reduced
@@ -42,14 +43,6 @@ pub record NeedsTwo (t : IntType) (s : Shape) : Type 0 where
   pub other : (a b : Value) → s.operands ≡ b ∷ a ∷ drop 2 s.operands → IsNumber t b
   pub place : s.place + 1 < 2 ^ 32
 
-pub record SameTwo (a b c d : Value) (xs ys : List Value) : Type 0 where
-  pub tops : a ≡ c
-  pub belows : b ≡ d
-  pub rests : xs ≡ ys
-
-same_two : (vs : List Value) (a b c d : Value) (xs ys : List Value) → vs ≡ a ∷ b ∷ xs → vs ≡ c ∷ d ∷ ys → SameTwo a b c d xs ys
-same_two vs a b c d xs ys e g = let h : a ∷ b ∷ xs ≡ c ∷ d ∷ ys = sym e ∙ g in record { tops = cc h; belows = cc h; rests = cc h }
-
 module _ (m : Module) (s : Shape) (i : Op) (t w : IntType) (f : ℕ → ℕ → Result ℕ NumFault) (rule : IsJoining i t w f) where
   two_of : (u : instances.Store) (p : Program) (o : Outside) (e : Context) (r : Rest) (a : At m u s p o e r) (stage : s.stage ≡ Body) →
       instr_of m s.func s.place ≡ Some (flat.Plain i) → TakesTwo t s.operands
@@ -64,8 +57,8 @@ module _ (m : Module) (s : Shape) (i : Op) (t w : IntType) (f : ℕ → ℕ → 
       let long = ap (λ (l : List Value). length l) h.is in
       record {
         some = omega (arith, long);
-        one = λ a b whole. subst (IsNumber t) (same_two s.operands h.top h.below b a h.rest (drop 2 s.operands) h.is whole).belows h.one;
-        other = λ a b whole. subst (IsNumber t) (same_two s.operands h.top h.below b a h.rest (drop 2 s.operands) h.is whole).tops h.other;
+        one = λ a b whole. subst (IsNumber t) (same_top (h.below ∷ h.rest) h.below a h.rest (drop 2 s.operands) refl (same_top s.operands h.top b (h.below ∷ h.rest) (a ∷ drop 2 s.operands) h.is whole).1).0 h.one;
+        other = λ a b whole. subst (IsNumber t) (same_top s.operands h.top b (h.below ∷ h.rest) (a ∷ drop 2 s.operands) h.is whole).0 h.other;
         place = place_fits m s.func s.place (flat.Plain i) (mv.at.short s.func) mv.here;
       }
 
@@ -77,11 +70,12 @@ module _ (m : Module) (s : Shape) (i : Op) (t w : IntType) (f : ℕ → ℕ → 
   joined_is u p o e r x stage at a b whole =
       let c = following m u s p o e r i x stage at in
       let h = two_of u p o e r x stage at in
-      let same = same_two s.operands h.top h.below b a h.rest (drop 2 s.operands) h.is whole in
+      let top = same_top s.operands h.top b (h.below ∷ h.rest) (a ∷ drop 2 s.operands) h.is whole in
+      let beneath = same_top (h.below ∷ h.rest) h.below a h.rest (drop 2 s.operands) refl top.1 in
       rule p u e s.operands c ∙ two_taken t s.operands (joining u e w f c) h
-      ∙ ap (λ (l : List Value). joining u e w f c (stack l, bits_in h.below) (bits_in h.top)) same.rests
-      ∙ ap (λ (y : Value). joining u e w f c (stack (drop 2 s.operands), bits_in y) (bits_in h.top)) same.belows
-      ∙ ap (λ (y : Value). joining u e w f c (stack (drop 2 s.operands), bits_in a) (bits_in y)) same.tops
+      ∙ ap (λ (l : List Value). joining u e w f c (stack l, bits_in h.below) (bits_in h.top)) beneath.1
+      ∙ ap (λ (y : Value). joining u e w f c (stack (drop 2 s.operands), bits_in y) (bits_in h.top)) beneath.0
+      ∙ ap (λ (y : Value). joining u e w f c (stack (drop 2 s.operands), bits_in a) (bits_in y)) top.0
 
   gives : (o : Result ℕ NumFault) (v : Value) → Ok v ≡ given w o → (n : ℕ) × (o ≡ Ok n) × (v ≡ value_of w n)
   gives (Ok n) v e = (n, refl, cc)
@@ -99,7 +93,7 @@ module _ (m : Module) (s : Shape) (i : Op) (t w : IntType) (f : ℕ → ℕ → 
       let row : stack (drop 2 s.operands) ▹ number w g.0 ≡ stack s'.operands =
       sym (ap (λ (y : Shape). stack y.operands) after ∙ ap (λ (y : Value). stack (y ∷ drop 2 s.operands)) g.2 ∙ ap (λ (y : Val). stack (drop 2 s.operands) ▹ y) (number_val w g.0)) in
       went m u s p o e r i x k.moves.stage k.moves.here [] u s'
-      (record { levels = ap (λ (y : Shape). y.levels) after; func = ap (λ (y : Shape). y.func) after; place = ap (λ (y : Shape). y.place) after; stage = ap (λ (y : Shape). y.stage) after ∙ k.moves.stage })
+      (replaced_next 2 v s s' after k.moves.stage)
       (joined_is u p o e r x k.moves.stage k.moves.here a b whole
       ∙ ap (λ (y : Result ℕ NumFault). unless_fault y (λ n. steps_to (store_of u) e (stack (drop 2 s.operands) ▹ number w n) (rest_of c))) g.1
       ∙ ap (λ (l : Row Val). steps_to (store_of u) e l (rest_of c)) row)

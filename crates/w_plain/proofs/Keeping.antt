@@ -1,7 +1,7 @@
 -- What holds of all values still holds behind an instruction.
-use Rattle.std.proofs.Common.{◌≡◌, ℕ, ◌+◌, List, ◌∷◌, drop, sym, subst}
+use Rattle.std.proofs.Common.{◌≡◌, ℕ, ◌+◌, ◌∷◌, drop, sym, subst}
 use Rattle.w_types.specs.declared.value.Value.{Value}
-use Rattle.w_segment.specs.Shape.{Shape, Level}
+use Rattle.w_segment.specs.Shape.{Shape}
 use Rattle.w_segment.specs.Changes.{moved, popped, with_locals}
 use Rattle.w_segment.specs.Holds.{AllOf, LevelsHold, Holds}
 use Rattle.w_segment.proofs.Holding.{moved_holds, popped_holds, set_holds}

@@ -1,3 +1,4 @@
+mod Behind
 mod Operands
 mod Turning
 mod Joining

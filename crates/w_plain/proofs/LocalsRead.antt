@@ -11,8 +11,7 @@ use Rattle.w_syntax.specs.declared.instructions.Op.{Op}
 use Rattle.w_syntax.specs.declared.instructions.Op.TheVariants as op
 use Rattle.w_syntax.specs.declared.instructions.VariableOp.TheVariants as variable
 use Rattle.w_syntax.specs.declared.module.Module.{Module}
-use Rattle.w_segment.specs.declared.entry.Stage.TheVariants.{Body}
-use Rattle.w_segment.specs.Shape.{Shape, Level, locals_of}
+use Rattle.w_segment.specs.Shape.{Shape, locals_of}
 use Rattle.w_segment.specs.Changes.{with_local}
 use Rattle.w_tables.specs.Store as instances
 use Rattle.w_reductions.specs.Values.{Val, val}
@@ -20,11 +19,10 @@ use Rattle.w_reductions.specs.Terms.{Rest, rest_of, Context, locals_of as locals
 use Rattle.w_reductions.specs.Program.{Program}
 use Rattle.w_reductions.specs.Reduced.{Reduced, Stuck, steps_to, or_stuck, take_value}
 use Rattle.w_reductions.specs.Reduce.{instruction}
-use Rattle.w_stands.specs.Values.{stack, store_of, local_vals}
+use Rattle.w_stands.specs.Values.{stack, store_of}
 use Rattle.w_stands.specs.declared.did.Did.TheVariants as did
-use Rattle.w_stands.specs.Code.{instr_of}
-use Rattle.w_stands.specs.Steps.{Outside, next_of, At, To, MovesAlone, FollowsAlone}
-use Rattle.w_stands.proofs.Locals.{local_seen, around_set, around_locals, mapped_get}
+use Rattle.w_stands.specs.Steps.{Outside, At, MovesAlone, FollowsAlone}
+use Rattle.w_stands.proofs.Locals.{local_seen, around_set}
 use Rattle.w_stands.proofs.Reading.{onward}
 use Rattle.w_stands.proofs.Stepping.{there, shown, following, next_is, applies, went, place_fits}
 use Rattle.w_plain.specs.GoingOn.{IsPushedNext}

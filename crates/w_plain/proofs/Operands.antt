@@ -1,15 +1,19 @@
 -- Operands that a rule takes.
 use Rattle.std.proofs.Common.{◌≡◌, ℕ, List, [], ◌∷◌, refl, sym, ap, ◌∙◌}
-use Rattle.std.specs.Prelude.{◌≢◌, ⊤}
-use Rattle.w_types.specs.Rows.{Row, ε, ◌▹◌}
+use Rattle.std.specs.Prelude.{◌≢◌}
+use Rattle.w_types.specs.Rows.{Row}
 use Rattle.w_types.specs.declared.value.Value.{Value}
 use Rattle.w_types.specs.declared.value.Value.TheVariants as value
 use Rattle.w_syntax.specs.declared.numeric.IntType.{IntType}
 use Rattle.w_syntax.specs.declared.numeric.IntType.TheVariants as int
 use Rattle.w_reductions.specs.Values.{Val, val}
-use Rattle.w_reductions.specs.Reduced.{Reduced, Stuck, take_number, take_value, number}
+use Rattle.w_reductions.specs.Reduced.{Reduced, Stuck, take_number, number}
 use Rattle.w_stands.specs.Values.{stack}
 use Rattle.w_plain.specs.Numbers.{IsNumber, bits_in, value_of, TakesNumber, TakesTwo}
+
+-- a list has one first item, and one rest
+pub same_top : (vs : List Value) (a b : Value) (xs ys : List Value) → vs ≡ a ∷ xs → vs ≡ b ∷ ys → (a ≡ b) × (xs ≡ ys)
+same_top vs a b xs ys e g = let h : a ∷ xs ≡ b ∷ ys = sym e ∙ g in (cc h, cc h)
 
 -- where a rule takes a number, there is one
 pub number_there : (t : IntType) (vs : List Value) (go : Row Val × ℕ → Reduced) → take_number t (stack vs) go ≢ Stuck → TakesNumber t vs

@@ -1,5 +1,5 @@
 -- What drop and select need, and where they go.
-use Rattle.std.proofs.Common.{◌≡◌, ℕ, ◌+◌, ◌<◌, ◌≤◌, List, [], ◌∷◌, Some, length, drop, refl, sym, ap, ◌∙◌, arith, subst}
+use Rattle.std.proofs.Common.{◌≡◌, ℕ, ◌+◌, ◌<◌, ◌≤◌, List, [], ◌∷◌, length, drop, refl, sym, ap, ◌∙◌, arith, subst}
 use Rattle.std.specs.Prelude.{◌^◌, ◌≢◌, zero, suc}
 use Rattle.w_types.specs.Rows.{Row, ◌▹◌}
 use Rattle.w_types.specs.declared.value.Value.{Value}
@@ -10,25 +10,24 @@ use Rattle.w_syntax.specs.declared.instructions.ParametricOp.{ParametricOp}
 use Rattle.w_syntax.specs.declared.instructions.ParametricOp.TheVariants as parametric
 use Rattle.w_syntax.specs.declared.numeric.IntType.TheVariants as int
 use Rattle.w_syntax.specs.declared.module.Module.{Module}
-use Rattle.w_segment.specs.declared.entry.Stage.TheVariants.{Body}
 use Rattle.w_segment.specs.Shape.{Shape}
 use Rattle.w_segment.specs.Changes.{moved, discarded}
 use Rattle.w_tables.specs.Store as instances
 use Rattle.w_reductions.specs.Values.{Val, val}
 use Rattle.w_reductions.specs.Terms.{Rest, rest_of, Context}
 use Rattle.w_reductions.specs.Program.{Program}
-use Rattle.w_reductions.specs.Reduced.{Reduced, Stuck, steps_to, take_value, take_i32, take_number}
+use Rattle.w_reductions.specs.Reduced.{Reduced, Stuck, steps_to, take_value}
 use Rattle.w_reductions.specs.Reduce.{instruction}
 use Rattle.w_reductions.specs.Parametric.{selected, select}
 use Rattle.w_stands.specs.Values.{stack, store_of}
 use Rattle.w_stands.specs.declared.did.Did.TheVariants as did
-use Rattle.w_stands.specs.Code.{instr_of}
 use Rattle.w_stands.specs.Steps.{Outside, At, MovesAlone, FollowsAlone}
 use Rattle.w_stands.proofs.Stepping.{following, applies, went, place_fits}
 use Rattle.w_plain.specs.GoingOn.{replaced}
 use Rattle.w_plain.specs.Numbers.{IsNumber, bits_in}
 use Rattle.w_plain.specs.Selects.{IsSelect}
-use Rattle.w_plain.proofs.Operands.{number_there, number_taken}
+use Rattle.w_plain.proofs.Behind.{replaced_next, discarded_next}
+use Rattle.w_plain.proofs.Operands.{same_top, number_there, number_taken}
 
 -- ## drop
 
@@ -56,7 +55,7 @@ module _ (m : Module) (s : Shape) (k : MovesAlone (flat.Plain (op.Parametric par
       let i = op.Parametric parametric.Drop in
       let c = following m u s p o e r i a k.moves.stage k.moves.here in
       went m u s p o e r i a k.moves.stage k.moves.here [] u s'
-      (record { levels = ap (λ (y : Shape). y.levels) after; func = ap (λ (y : Shape). y.func) after; place = ap (λ (y : Shape). y.place) after; stage = ap (λ (y : Shape). y.stage) after ∙ k.moves.stage })
+      (discarded_next 1 s s' after k.moves.stage)
       (dropped u e c s.operands drop_there ∙ ap (λ (y : Shape). steps_to (store_of u) e (stack y.operands) (rest_of c)) (sym after))
 
 -- ## select
@@ -98,16 +97,6 @@ one_rule parametric.Drop h p u e vs c = absurd h
 one_rule parametric.Select h p u e vs c = refl
 one_rule (parametric.SelectOf ts) h p u e vs c = refl
 
-pub record SameThree (a b c d x y : Value) (us vs : List Value) : Type 0 where
-  pub tops : a ≡ d
-  pub others : b ≡ x
-  pub ones : c ≡ y
-  pub rests : us ≡ vs
-
-same_three : (vs : List Value) (a b c d x y : Value) (us ws : List Value) → vs ≡ a ∷ b ∷ c ∷ us → vs ≡ d ∷ x ∷ y ∷ ws → SameThree a b c d x y us ws
-same_three vs a b c d x y us ws e g =
-    let h : a ∷ b ∷ c ∷ us ≡ d ∷ x ∷ y ∷ ws = sym e ∙ g in record { tops = cc h; others = cc h; ones = cc h; rests = cc h }
-
 module _ (m : Module) (s : Shape) (i : ParametricOp) (is : IsSelect i) (k : MovesAlone (flat.Plain (op.Parametric i)) m s) where
   three_of : (u : instances.Store) (p : Program) (o : Outside) (e : Context) (r : Rest) → At m u s p o e r → TakesThree s.operands
   three_of u p o e r a =
@@ -125,7 +114,7 @@ module _ (m : Module) (s : Shape) (i : ParametricOp) (is : IsSelect i) (k : Move
   select_number a b c whole =
       let mv = k.moves in
       let h = three_of k.u mv.p mv.o mv.e mv.r mv.at in
-      subst (IsNumber int.I32) (same_three s.operands h.top h.other h.one c b a h.rest (drop 3 s.operands) h.is whole).tops h.number
+      subst (IsNumber int.I32) (same_top s.operands h.top c (h.other ∷ h.one ∷ h.rest) (b ∷ a ∷ drop 3 s.operands) h.is whole).0 h.number
 
   pub select_place : s.place + 1 < 2 ^ 32
   select_place = place_fits m s.func s.place (flat.Plain (op.Parametric i)) (k.moves.at.short s.func) k.moves.here
@@ -134,15 +123,12 @@ module _ (m : Module) (s : Shape) (i : ParametricOp) (is : IsSelect i) (k : Move
       FollowsAlone did.Went m s s'
   select_follows s' a b c v whole made after = λ u p o e r x.
       let d = following m u s p o e r (op.Parametric i) x k.moves.stage k.moves.here in
-      let h = three_of u p o e r x in
-      let same = same_three s.operands h.top h.other h.one c b a h.rest (drop 3 s.operands) h.is whole in
       let t = number_there int.I32 s.operands (λ q. selecting u e d q.1 q.0) (λ q. applies m u s p o e r (op.Parametric i) x k.moves.stage k.moves.here (one_rule i is p u e s.operands d ∙ q)) in
-      let top : t.top ≡ c = let g : t.top ∷ t.rest ≡ c ∷ b ∷ a ∷ drop 3 s.operands = sym t.is ∙ whole in cc g in
-      let beneath : t.rest ≡ b ∷ a ∷ drop 3 s.operands = let g : t.top ∷ t.rest ≡ c ∷ b ∷ a ∷ drop 3 s.operands = sym t.is ∙ whole in cc g in
+      let same = same_top s.operands t.top c t.rest (b ∷ a ∷ drop 3 s.operands) t.is whole in
       went m u s p o e r (op.Parametric i) x k.moves.stage k.moves.here [] u s'
-      (record { levels = ap (λ (y : Shape). y.levels) after; func = ap (λ (y : Shape). y.func) after; place = ap (λ (y : Shape). y.place) after; stage = ap (λ (y : Shape). y.stage) after ∙ k.moves.stage })
+      (replaced_next 3 v s s' after k.moves.stage)
       (one_rule i is p u e s.operands d ∙ number_taken int.I32 s.operands (λ q. selecting u e d q.1 q.0) t
-      ∙ ap (λ (l : List Value). selecting u e d (bits_in t.top) (stack l)) beneath
-      ∙ ap (λ (y : Value). selecting u e d (bits_in y) (stack (b ∷ a ∷ drop 3 s.operands))) top
+      ∙ ap (λ (l : List Value). selecting u e d (bits_in t.top) (stack l)) same.1
+      ∙ ap (λ (y : Value). selecting u e d (bits_in y) (stack (b ∷ a ∷ drop 3 s.operands))) same.0
       ∙ ap (λ (y : Val). steps_to (store_of u) e (stack (drop 3 s.operands) ▹ y) (rest_of d)) (chosen_val (bits_in c) a b ∙ ap val (sym made))
       ∙ ap (λ (y : Shape). steps_to (store_of u) e (stack y.operands) (rest_of d)) (sym after))

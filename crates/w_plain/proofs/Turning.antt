@@ -1,27 +1,21 @@
 -- What numeric instructions need, and where they go.
-use Rattle.std.proofs.Common.{◌≡◌, ℕ, ◌+◌, ◌<◌, ◌≤◌, List, [], ◌∷◌, Some, length, drop, refl, sym, ap, ◌∙◌, arith, subst}
+use Rattle.std.proofs.Common.{◌≡◌, ℕ, ◌+◌, ◌<◌, List, [], ◌∷◌, Some, length, drop, sym, ap, ◌∙◌, arith, subst}
 use Rattle.std.specs.Prelude.{◌^◌}
 use Rattle.w_types.specs.Rows.{Row, ◌▹◌}
 use Rattle.w_types.specs.declared.value.Value.{Value}
 use Rattle.w_syntax.specs.Code.{Code}
 use Rattle.w_syntax.specs.declared.instructions.Instr.TheVariants as flat
 use Rattle.w_syntax.specs.declared.instructions.Op.{Op}
-use Rattle.w_syntax.specs.declared.instructions.Op.TheVariants as op
 use Rattle.w_syntax.specs.declared.numeric.IntType.{IntType}
-use Rattle.w_syntax.specs.declared.numeric.IntType.TheVariants as int
-use Rattle.w_syntax.specs.declared.numeric.NumericOp.TheVariants as numeric
-use Rattle.w_syntax.specs.declared.numeric.Unop.{Unop}
 use Rattle.w_syntax.specs.declared.module.Module.{Module}
-use Rattle.w_num.specs.Comparisons.{ieqz}
 use Rattle.w_segment.specs.declared.entry.Stage.TheVariants.{Body}
 use Rattle.w_segment.specs.Shape.{Shape}
 use Rattle.w_tables.specs.Store as instances
-use Rattle.w_reductions.specs.Values.{Val, I32}
+use Rattle.w_reductions.specs.Values.{Val}
 use Rattle.w_reductions.specs.Terms.{Rest, rest_of, Context}
 use Rattle.w_reductions.specs.Program.{Program}
 use Rattle.w_reductions.specs.Reduced.{Reduced, steps_to, take_number, number}
 use Rattle.w_reductions.specs.Reduce.{instruction}
-use Rattle.w_reductions.specs.Numeric.{width, unop}
 use Rattle.w_stands.specs.Values.{stack, store_of}
 use Rattle.w_stands.specs.Code.{instr_of}
 use Rattle.w_stands.specs.declared.did.Did.TheVariants as did
@@ -29,7 +23,8 @@ use Rattle.w_stands.specs.Steps.{Outside, next_of, At, To, MovesAlone, FollowsAl
 use Rattle.w_stands.proofs.Stepping.{following, applies, went, place_fits}
 use Rattle.w_plain.specs.GoingOn.{replaced}
 use Rattle.w_plain.specs.Numbers.{IsNumber, bits_in, value_of, TakesNumber}
-use Rattle.w_plain.proofs.Operands.{number_there, number_taken, number_val}
+use Rattle.w_plain.proofs.Behind.{replaced_next}
+use Rattle.w_plain.proofs.Operands.{same_top, number_there, number_taken, number_val}
 
 -- the rule of an instruction that turns a number of type t into one of type w
 abbrev pub turning : instances.Store → Context → IntType → IntType → (ℕ → ℕ) → Code → Row Val × ℕ → Reduced
@@ -40,9 +35,6 @@ turned_row : (w : IntType) (f : ℕ → ℕ) (v top : Value) (rest vs : List Val
     stack rest ▹ number w (f (bits_in top)) ≡ stack vs
 turned_row w f v top rest vs e g =
     sym (ap stack e ∙ ap (λ (x : Value). stack (x ∷ rest)) g ∙ ap (λ (x : Val). stack rest ▹ x) (number_val w (f (bits_in top))))
-
-same_top : (vs : List Value) (a b : Value) (xs ys : List Value) → vs ≡ a ∷ xs → vs ≡ b ∷ ys → (a ≡ b) × (xs ≡ ys)
-same_top vs a b xs ys e g = let h : a ∷ xs ≡ b ∷ ys = sym e ∙ g in (cc h, cc h)
 
 module _ (m : Module) (u : instances.Store) (s : Shape) (p : Program) (o : Outside) (e : Context) (r : Rest) (a : At m u s p o e r) (stage : s.stage ≡ Body) where
   -- an instruction that turns the topmost number
@@ -62,7 +54,7 @@ module _ (m : Module) (u : instances.Store) (s : Shape) (p : Program) (o : Outsi
       let made' : v ≡ value_of w (f (bits_in h.top)) = made ∙ ap (λ (x : Value). value_of w (f (bits_in x))) (sym same.0) in
       let ops : s'.operands ≡ v ∷ h.rest = ap (λ (x : Shape). x.operands) e' ∙ ap (λ (l : List Value). v ∷ l) (sym same.1) in
       went m u s p o e r i a stage at [] u s'
-      (record { levels = ap (λ (x : Shape). x.levels) e'; func = ap (λ (x : Shape). x.func) e'; place = ap (λ (x : Shape). x.place) e'; stage = ap (λ (x : Shape). x.stage) e' ∙ stage })
+      (replaced_next 1 v s s' e' stage)
       (rule s.operands c ∙ number_taken t s.operands (turning u e t w f c) h
       ∙ ap (λ (l : Row Val). steps_to (store_of u) e l (rest_of c)) (turned_row w f v h.top h.rest s'.operands ops made'))
 

@@ -3,7 +3,7 @@ use Rattle.std.specs.Prelude.{ℕ, [], Option, Some, None}
 use Rattle.std.specs.Option.{option_and_then}
 use Rattle.w_types.specs.Rows.{Row, ε, ◌▹◌}
 use Rattle.w_syntax.specs.Code.{Code, Done, Plain, Block, If, IfElse}
-use Rattle.w_reductions.specs.Values.{Val, I32, I64, Null, Func, Cont}
+use Rattle.w_reductions.specs.Values.{Val, I32, Null}
 use Rattle.w_reductions.specs.Store.{Store}
 use Rattle.w_reductions.specs.Program.{Program}
 use Rattle.w_reductions.specs.Reduced.{Reduced, Went, Trapped, Limited, Ended, Stuck}

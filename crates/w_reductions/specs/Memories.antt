@@ -1,8 +1,8 @@
 -- Memory instructions (Core, execution, memory instructions). A module has at most one memory.
-use Rattle.std.specs.Prelude.{ℕ, zero, suc, ◌+◌, ◌*◌, ◌^◌, ◌%◌, nat_eq, if◌then◌else◌, ℤ, List, [], Option, slice_get, slice_set}
+use Rattle.std.specs.Prelude.{ℕ, ◌+◌, ◌%◌, nat_eq, if◌then◌else◌, [], slice_get, slice_set}
 use Rattle.w_types.specs.Rows.{Row, ◌▹◌}
 use Rattle.w_num.specs.Signed.{inverse}
-use Rattle.w_num.specs.Conversions.{extend_s, extend_u}
+use Rattle.w_num.specs.Conversions.{extend_s}
 use Rattle.w_memory.specs.Memory.{Memory, page_count, load, store, fill, copy, init, grow}
 use Rattle.w_syntax.specs.Code.{Code}
 use Rattle.w_syntax.specs.declared.numeric.IntType.{IntType}

@@ -1,5 +1,5 @@
 -- What the rules know of a module: its parts, and which of its types are equivalent.
-use Rattle.std.specs.Prelude.{◌↔◌, ℕ, Bool, IsTrue, List, length, Option, Some, None}
+use Rattle.std.specs.Prelude.{◌↔◌, ℕ, Bool, IsTrue, length, Option, Some, None}
 use Rattle.w_types.specs.declared.types.FuncType.{FuncType}
 use Rattle.w_syntax.specs.Functions.{func_type}
 use Rattle.w_syntax.specs.declared.instructions.BlockType.{BlockType}

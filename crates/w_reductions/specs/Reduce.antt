@@ -1,6 +1,6 @@
 -- The reduction rules (Core, execution). A chapter has its rules in a file of its own, each with the rule as the standard
 -- writes it; here they are one reduction of a term.
-use Rattle.std.specs.Prelude.{ℕ, nat_le, if◌then◌else◌, List, [], ◌∷◌}
+use Rattle.std.specs.Prelude.{nat_le, if◌then◌else◌, List, [], ◌∷◌}
 use Rattle.w_types.specs.Rows.{Row}
 use Rattle.w_syntax.specs.Code.{Code, Done, Plain, Block, If, IfElse}
 use Rattle.w_syntax.specs.declared.instructions.Op.{Op}

@@ -8,7 +8,7 @@ use Rattle.w_syntax.specs.declared.numeric.IntType.TheVariants as int
 use Rattle.w_reductions.specs.declared.limit.RunLimit.{RunLimit}
 use Rattle.w_reductions.specs.declared.trap.Trap.{Trap}
 use Rattle.w_reductions.specs.declared.trap.Trap.TheVariants as trap
-use Rattle.w_reductions.specs.Values.{Val, I32, I64, Null, Func, Cont}
+use Rattle.w_reductions.specs.Values.{Val, I32, I64, Null, Func}
 use Rattle.w_reductions.specs.Store.{Store}
 use Rattle.w_reductions.specs.Terms.{Rest, Context, Term}
 

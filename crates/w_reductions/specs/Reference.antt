@@ -1,5 +1,5 @@
 -- Reference instructions (Core, execution, reference instructions).
-use Rattle.std.specs.Prelude.{ℕ, slice_get}
+use Rattle.std.specs.Prelude.{slice_get}
 use Rattle.w_types.specs.Rows.{Row, ◌▹◌}
 use Rattle.w_syntax.specs.Code.{Code}
 use Rattle.w_syntax.specs.declared.instructions.ReferenceOp.{ReferenceOp}

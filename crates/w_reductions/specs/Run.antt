@@ -1,5 +1,5 @@
 -- Runs: what at most n reductions come to.
-use Rattle.std.specs.Prelude.{◌≡◌, ℕ, zero, suc, List, [], ◌++◌}
+use Rattle.std.specs.Prelude.{ℕ, zero, suc, List, [], ◌++◌}
 use Rattle.w_types.specs.Rows.{Row, listed}
 use Rattle.w_reductions.specs.declared.limit.RunLimit.{RunLimit}
 use Rattle.w_reductions.specs.declared.trap.Trap.{Trap}

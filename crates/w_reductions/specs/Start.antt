@@ -1,8 +1,7 @@
 -- Where a run begins (Core, execution, instantiation): its store and its term, or the first reason why there are none.
 -- Instantiation takes no reduction.
-use Rattle.std.specs.Prelude.{ℕ, zero, suc, nat_eq, nat_le, Bool, true, false, ◌&&◌, List, [], ◌∷◌, ◌++◌, length, map, codes, replicate, if◌then◌else◌, Option, Some, None, slice_get, slice_set}
+use Rattle.std.specs.Prelude.{ℕ, zero, suc, nat_eq, nat_le, Bool, true, false, ◌&&◌, List, [], ◌∷◌, ◌++◌, length, map, codes, replicate, if◌then◌else◌, Option, Some, None, slice_get}
 use Rattle.std.specs.Str.{bytes_eq}
-use Rattle.std.specs.Option.{option_map}
 use Rattle.w_types.specs.declared.types.FuncType.{FuncType}
 use Rattle.w_types.specs.declared.types.ValType.{ValType}
 use Rattle.w_types.specs.declared.types.ValType.TheVariants as val

@@ -1,7 +1,9 @@
 -- Table instructions (Core, execution, table instructions).
-use Rattle.std.specs.Prelude.{ℕ, ◌^◌, ◌-◌, List, [], length, Option, Some, None, slice_get, slice_set}
+use Rattle.std.specs.Prelude.{ℕ, List, [], length, slice_get, slice_set}
 use Rattle.w_types.specs.Rows.{Row, ◌▹◌}
+use Rattle.w_num.specs.Signed.{inverse}
 use Rattle.w_tables.specs.Elements.{get, replaced, filled, copied, grown}
+use Rattle.w_tables.specs.Outcomes.{growth}
 use Rattle.w_syntax.specs.Code.{Code}
 use Rattle.w_syntax.specs.declared.instructions.TableOp.{TableOp}
 use Rattle.w_syntax.specs.declared.instructions.TableOp.TheVariants as table
@@ -18,15 +20,6 @@ with_elements s x t vs = record s { tables = slice_set s.tables x (record t { el
 -- what is left of an element segment that was dropped
 abbrev pub without_elements : Store → ℕ → Store
 without_elements s y = record s { elements = slice_set s.elements y [] }
-
--- the number -1
-abbrev pub minus_one : ℕ
-minus_one = 2 ^ 32 - 1
-
--- what a table that was to grow leads to: its size before where it did, and else -1 and nothing changed
-abbrev pub grown_to : Store → ℕ → Table → Option (List Val) → (ℕ × Store → Reduced) → Reduced
-grown_to s x t (Some vs) go = go (length t.elements, with_elements s x t vs)
-grown_to s x t None go = go (minus_one, s)
 
 abbrev pub table_op : Store → Context → Row Val → TableOp → Code → Reduced
 -- S; (i32.const i) (table.get x)  ↪  S; v   where element i of table x is v
@@ -69,8 +62,8 @@ table_op s e vs (table.Grow x) c = do
   (vs, n) ← take_i32 vs
   (vs, v) ← take_value vs
   t ← or_stuck (slice_get s.tables x)
-  (k, s) ← grown_to s x t (grown t.elements t.max v n)
-  steps_to s e (vs ▹ I32 k) (rest_of c)
+  let g = growth (length t.elements) s (with_elements s x t) (grown t.elements t.max v n) in
+      steps_to g.1 e (vs ▹ I32 (inverse 32 g.0)) (rest_of c)
 -- S; (table.size x)  ↪  S; (i32.const n)   where table x has n elements
 table_op s e vs (table.Size x) c = do
   t ← or_stuck (slice_get s.tables x)

@@ -1,5 +1,5 @@
 -- Variable instructions (Core, execution, variable instructions).
-use Rattle.std.specs.Prelude.{ℕ, Option, slice_get, slice_set}
+use Rattle.std.specs.Prelude.{ℕ, slice_get, slice_set}
 use Rattle.w_types.specs.Rows.{Row, ◌▹◌}
 use Rattle.w_syntax.specs.Code.{Code}
 use Rattle.w_syntax.specs.declared.instructions.VariableOp.{VariableOp}

@@ -1,5 +1,5 @@
 -- The locals of the innermost frame, in levels and in the context that they stand for.
-use Rattle.std.proofs.Common.{◌≡◌, ℕ, zero, suc, List, [], ◌∷◌, Some, None, slice_get, refl, ap, ◌∙◌, subst, map, Option}
+use Rattle.std.proofs.Common.{◌≡◌, ℕ, zero, suc, List, [], ◌∷◌, Some, slice_get, refl, ap, ◌∙◌, subst, map, Option}
 use Rattle.std.specs.Prelude.{slice_set}
 use Rattle.std.specs.Option.{option_map}
 use Rattle.w_types.specs.declared.value.Value.{Value}

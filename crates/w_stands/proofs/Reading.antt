@@ -1,6 +1,6 @@
 -- What stands at a place where an instruction is, and how a stack goes on from there.
-use Rattle.std.proofs.Common.{◌≡◌, ℕ, suc, ◌+◌, List, [], ◌∷◌, Some, None, slice_get, refl, sym, ap, ◌∙◌, subst}
-use Rattle.w_syntax.specs.Code.{Code, Done, Plain, Block, If, IfElse}
+use Rattle.std.proofs.Common.{◌≡◌, ℕ, suc, List, Some, slice_get, refl, sym, ap, subst}
+use Rattle.w_syntax.specs.Code.{Code, Plain}
 use Rattle.w_syntax.specs.declared.instructions.Instr.{Instr}
 use Rattle.w_syntax.specs.declared.instructions.Instr.TheVariants as flat
 use Rattle.w_syntax.specs.declared.instructions.Op.{Op}

@@ -1,9 +1,8 @@
 -- Reductions of an instruction that holds no others, and goes on to the next one.
-use Rattle.std.proofs.Common.{◌≡◌, ℕ, suc, ◌+◌, ◌<◌, List, [], Some, slice_get, length, refl, sym, ap, ◌∙◌, arith, add-one}
+use Rattle.std.proofs.Common.{◌≡◌, ℕ, suc, ◌+◌, ◌<◌, List, [], Some, length, ap, ◌∙◌, arith, add-one}
 use Rattle.std.specs.Prelude.{◌≢◌, ◌^◌}
 use Rattle.std.proofs.lemmas.Option.{slice_get_within}
-use Rattle.w_types.specs.declared.value.Value.{Value}
-use Rattle.w_syntax.specs.Code.{Code, Plain}
+use Rattle.w_syntax.specs.Code.{Code}
 use Rattle.w_syntax.specs.declared.instructions.Instr.{Instr}
 use Rattle.w_syntax.specs.declared.instructions.Instr.TheVariants as flat
 use Rattle.w_syntax.specs.declared.instructions.Op.{Op}
@@ -13,10 +12,10 @@ use Rattle.w_segment.specs.Shape.{Shape}
 use Rattle.w_tables.specs.Store as instances
 use Rattle.w_reductions.specs.Terms.{Rest, rest_of, Context}
 use Rattle.w_reductions.specs.Program.{Program}
-use Rattle.w_reductions.specs.Reduced.{Reduced, Went, Stuck}
+use Rattle.w_reductions.specs.Reduced.{Went, Stuck}
 use Rattle.w_reductions.specs.Reduce.{next, instruction}
 use Rattle.w_stands.specs.Values.{stack, store_of}
-use Rattle.w_stands.specs.Code.{instrs, instr_of, Reads}
+use Rattle.w_stands.specs.Code.{instrs, instr_of}
 use Rattle.w_stands.specs.Steps.{Outside, next_of, At, To}
 use Rattle.w_stands.proofs.Reading.{Here, here, ShowsPlain, shows_plain, onward}
 

@@ -1,7 +1,7 @@
 -- A segment's stack over code that is kept in lists, read as a part of a term.
 use Rattle.std.specs.Prelude.{◌≡◌, ℕ, List, [], ◌∷◌, Option, None, slice_get}
 use Rattle.w_types.specs.declared.value.Value.{Value}
-use Rattle.w_syntax.specs.Code.{Code, Done, after}
+use Rattle.w_syntax.specs.Code.{Code, after}
 use Rattle.w_syntax.specs.declared.module.Module.{Module}
 use Rattle.w_segment.specs.declared.entry.Stage.TheVariants.{Fresh, Body, Values}
 use Rattle.w_segment.specs.Shape.{Shape, Level, Label, Frame}

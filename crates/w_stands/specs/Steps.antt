@@ -6,7 +6,6 @@ use Rattle.w_segment.specs.declared.entry.Stage.TheVariants.{Body}
 use Rattle.w_segment.specs.Shape.{Shape}
 use Rattle.w_tables.specs.Store as instances
 use Rattle.w_reductions.specs.Terms.{Rest, Context}
-use Rattle.w_reductions.specs.Store.{Store}
 use Rattle.w_reductions.specs.Program.{Program, IsProgram}
 use Rattle.w_reductions.specs.Reduced.{Reduced, Went, Trapped, Stuck}
 use Rattle.w_reductions.specs.Reduce.{next}

@@ -1,5 +1,5 @@
 -- Values of the program, read as those of the definitions.
-use Rattle.std.specs.Prelude.{ℕ, List, [], ◌∷◌, map, Option}
+use Rattle.std.specs.Prelude.{List, [], ◌∷◌, map, Option}
 use Rattle.std.specs.Option.{option_map}
 use Rattle.w_types.specs.Rows.{Row, ε, ◌▹◌}
 use Rattle.w_types.specs.declared.value.Value.{Value}

@@ -1,5 +1,5 @@
 use Rattle.std.proofs.lemmas.Result.{on_ok_weaker}
-use Rattle.std.proofs.Common.{◌≡◌, Option, Some, None, sym, ◌∙◌, ap, true}
+use Rattle.std.proofs.Common.{◌≡◌, Option, Some, sym, ◌∙◌, ap, true}
 use Rattle.w_types.specs.declared.value.Value.{Value}
 use Rattle.w_plain.proofs.Keeping.{pushed_next_holds}
 use Rattle.w_plain.proofs.LocalsRead.{get_there, get_within, get_place, get_follows}

@@ -1,12 +1,11 @@
-use Rattle.std.proofs.Common.{◌≡◌, ℕ, ◌+◌, List, ap, ◌∙◌, sym, arith, refl, true}
+use Rattle.std.proofs.Common.{◌≡◌, ℕ, ◌+◌, ap, ◌∙◌, sym, arith, refl, true}
 use Rattle.w_types.specs.Rows.{Row, ◌▹◌}
-use Rattle.w_types.specs.declared.value.Value.{Value}
 use Rattle.w_syntax.specs.declared.instructions.Op.TheVariants as op
 use Rattle.w_syntax.specs.declared.instructions.VariableOp.TheVariants as variable
 use Rattle.w_segment.specs.Shape.{Shape}
 use Rattle.w_segment.specs.Changes.{moved, with_locals}
 use Rattle.w_plain.proofs.Keeping.{kept}
-use Rattle.w_reductions.specs.Values.{Val, val}
+use Rattle.w_reductions.specs.Values.{Val}
 use Rattle.w_stands.specs.Values.{stack}
 use Rattle.w_plain.proofs.LocalsRead.{IsSetting, set_needs, set_within, set_place, set_follows}
 use Rattle.w_plain.proofs.local_steps.local_tee.Goals as goal

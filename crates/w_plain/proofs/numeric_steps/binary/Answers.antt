@@ -1,11 +1,9 @@
-use Rattle.std.proofs.Common.{refl, sym, ap, ◌∙◌, subst}
-use Rattle.w_num.specs.declared.fault.NumFault.{NumFault}
+use Rattle.std.proofs.Common.{refl, sym, ◌∙◌, subst}
 use Rattle.w_syntax.specs.declared.instructions.Op.TheVariants as op
 use Rattle.w_syntax.specs.declared.numeric.NumericOp.TheVariants as numeric
 use Rattle.w_syntax.specs.declared.numeric.IntType.{IntType}
 use Rattle.w_syntax.specs.declared.numeric.Binop.{Binop}
 use Rattle.w_reductions.specs.Numeric.{width, binop}
-use Rattle.w_reductions.specs.Reduced.{trap_of}
 use Rattle.w_reductions.specs.declared.trap.Trap.{Trap}
 use Rattle.w_stands.specs.declared.did.Did.TheVariants as did
 use Rattle.w_stands.specs.Steps.{FollowsAlone}

@@ -1,4 +1,4 @@
-use Rattle.std.proofs.Common.{ap, ◌∙◌, sym}
+use Rattle.std.proofs.Common.{ap, ◌∙◌}
 use Rattle.std.specs.Prelude.{ℕ}
 use Rattle.w_reductions.specs.Parametric.{selected}
 use Rattle.w_plain.proofs.Selecting.{select_there, select_number, select_place, select_follows}
