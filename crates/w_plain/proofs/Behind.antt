@@ -5,7 +5,7 @@ use Rattle.w_segment.specs.declared.entry.Stage.TheVariants.{Body}
 use Rattle.w_segment.specs.Shape.{Shape}
 use Rattle.w_segment.specs.Changes.{moved, discarded}
 use Rattle.w_stands.proofs.Stepping.{Next}
-use Rattle.w_plain.specs.GoingOn.{replaced}
+use Rattle.w_stands.specs.GoingOn.{replaced}
 
 -- with a value in place of operands
 pub replaced_next : (n : ℕ) (v : Value) (s s' : Shape) → s' ≡ replaced n v s → s.stage ≡ Body → Next s s'

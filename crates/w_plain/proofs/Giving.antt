@@ -12,7 +12,7 @@ use Rattle.w_stands.specs.Values.{stack, store_of}
 use Rattle.w_stands.specs.declared.did.Did.TheVariants as did
 use Rattle.w_stands.specs.Steps.{MovesAlone, FollowsAlone}
 use Rattle.w_stands.proofs.Stepping.{following, went, place_fits}
-use Rattle.w_plain.specs.GoingOn.{IsPushedNext}
+use Rattle.w_stands.specs.GoingOn.{IsPushedNext}
 use Rattle.w_plain.specs.Rules.{IsGiving}
 
 -- there is a place behind it

@@ -22,10 +22,12 @@ use Rattle.w_stands.specs.declared.did.Did.TheVariants as did
 use Rattle.w_stands.specs.Code.{instr_of}
 use Rattle.w_stands.specs.Steps.{Outside, At, MovesAlone, FollowsAlone}
 use Rattle.w_stands.proofs.Stepping.{following, applies, next_is, went, place_fits}
-use Rattle.w_plain.specs.GoingOn.{replaced}
-use Rattle.w_plain.specs.Numbers.{IsNumber, bits_in, value_of, TakesTwo, given}
+use Rattle.w_stands.specs.GoingOn.{replaced}
+use Rattle.w_stands.specs.Numbers.{IsNumber, bits_in, value_of}
+use Rattle.w_plain.specs.Numbers.{given}
 use Rattle.w_plain.proofs.Behind.{replaced_next}
-use Rattle.w_plain.proofs.Operands.{same_top, two_there, two_taken, number_val}
+use Rattle.w_stands.proofs.Numbers.{number_val}
+use Rattle.w_plain.proofs.Operands.{TakesTwo, same_top, two_there, two_taken}
 
 -- the rule of an instruction that joins numbers of type t to one of type w, or traps
 abbrev pub joining : instances.Store → Context → IntType → (ℕ → ℕ → Result ℕ NumFault) → Code → Row Val × ℕ → ℕ → Reduced

@@ -5,7 +5,7 @@ use Rattle.w_segment.specs.Shape.{Shape}
 use Rattle.w_segment.specs.Changes.{moved, popped, with_locals}
 use Rattle.w_segment.specs.Holds.{AllOf, LevelsHold, Holds}
 use Rattle.w_segment.proofs.Holding.{moved_holds, popped_holds, set_holds}
-use Rattle.w_plain.specs.GoingOn.{IsPushedNext}
+use Rattle.w_stands.specs.GoingOn.{IsPushedNext}
 
 -- also of a value that was pushed
 pub pushed_next_holds : (P : Value → Type 0) (v : Value) (s s' : Shape) → IsPushedNext v s s' → P v → Holds P s → Holds P s'

@@ -25,7 +25,7 @@ use Rattle.w_stands.specs.Steps.{Outside, At, MovesAlone, FollowsAlone}
 use Rattle.w_stands.proofs.Locals.{local_seen, around_set}
 use Rattle.w_stands.proofs.Reading.{onward}
 use Rattle.w_stands.proofs.Stepping.{there, shown, following, next_is, applies, went, place_fits}
-use Rattle.w_plain.specs.GoingOn.{IsPushedNext}
+use Rattle.w_stands.specs.GoingOn.{IsPushedNext}
 
 -- a local that is read, as a value of the definitions
 abbrev seen : Option (Option Value) → Option (Option Val)

@@ -23,11 +23,12 @@ use Rattle.w_stands.specs.Values.{stack, store_of}
 use Rattle.w_stands.specs.declared.did.Did.TheVariants as did
 use Rattle.w_stands.specs.Steps.{Outside, At, MovesAlone, FollowsAlone}
 use Rattle.w_stands.proofs.Stepping.{following, applies, went, place_fits}
-use Rattle.w_plain.specs.GoingOn.{replaced}
-use Rattle.w_plain.specs.Numbers.{IsNumber, bits_in}
+use Rattle.w_stands.specs.GoingOn.{replaced}
+use Rattle.w_stands.specs.Numbers.{IsNumber, bits_in}
 use Rattle.w_plain.specs.Selects.{IsSelect}
 use Rattle.w_plain.proofs.Behind.{replaced_next, discarded_next}
-use Rattle.w_plain.proofs.Operands.{same_top, number_there, number_taken}
+use Rattle.w_stands.proofs.Numbers.{number_there, number_taken}
+use Rattle.w_plain.proofs.Operands.{same_top}
 
 -- ## drop
 

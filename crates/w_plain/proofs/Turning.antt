@@ -21,10 +21,11 @@ use Rattle.w_stands.specs.Code.{instr_of}
 use Rattle.w_stands.specs.declared.did.Did.TheVariants as did
 use Rattle.w_stands.specs.Steps.{Outside, next_of, At, To, MovesAlone, FollowsAlone}
 use Rattle.w_stands.proofs.Stepping.{following, applies, went, place_fits}
-use Rattle.w_plain.specs.GoingOn.{replaced}
-use Rattle.w_plain.specs.Numbers.{IsNumber, bits_in, value_of, TakesNumber}
+use Rattle.w_stands.specs.GoingOn.{replaced}
+use Rattle.w_stands.specs.Numbers.{IsNumber, bits_in, value_of}
 use Rattle.w_plain.proofs.Behind.{replaced_next}
-use Rattle.w_plain.proofs.Operands.{same_top, number_there, number_taken, number_val}
+use Rattle.w_stands.proofs.Numbers.{TakesNumber, number_there, number_taken, number_val}
+use Rattle.w_plain.proofs.Operands.{same_top}
 
 -- the rule of an instruction that turns a number of type t into one of type w
 abbrev pub turning : instances.Store → Context → IntType → IntType → (ℕ → ℕ) → Code → Row Val × ℕ → Reduced

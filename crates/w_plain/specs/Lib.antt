@@ -1,4 +1,3 @@
-pub mod GoingOn
 pub mod Numbers
 pub mod Rules
 pub mod Selects

@@ -1,7 +1,6 @@
 //! Plain reductions: each call takes just the one of the configuration in which a segment's stack stands.
 #![tactic(auto)]
 
-mod going_on;
 mod local_steps;
 mod numbers;
 mod numeric_steps;

@@ -8,9 +8,9 @@ ghost use Rattle.w_stands.specs.Keeps.{Keeps};
 ghost use Rattle.w_stands.specs.Steps.{MovesAlone, FollowsAlone};
 ghost use Rattle.w_stands.specs.declared.did.Did.TheVariants as did;
 
-use crate::going_on::push_next;
 use std::alloc::AllocError;
 use w_segment::Stack;
+use w_stands::push_next;
 use w_syntax::Module;
 
 /// `local.get`. It fails only when out of memory, and then the stack is as it was but for room.

@@ -3,7 +3,8 @@ ghost use Rattle.std.specs.Prelude.{◌≡◌};
 ghost use Rattle.w_syntax.specs.declared.numeric.IntType.TheVariants as int;
 ghost use Rattle.w_num.specs.Comparisons.{ieqz};
 ghost use Rattle.w_reductions.specs.Numeric.{width, unop, binop, relop, cvtop, taken_by, given_by};
-ghost use Rattle.w_plain.specs.Numbers.{IsNumber, bits_in, given, value_of};
+ghost use Rattle.w_stands.specs.Numbers.{IsNumber, bits_in, value_of};
+ghost use Rattle.w_plain.specs.Numbers.{given};
 
 use w_num::{
     NumFault, i32_add, i32_and, i32_clz, i32_ctz, i32_div_s, i32_div_u, i32_eq, i32_eqz,
@@ -15,32 +16,9 @@ use w_num::{
     i64_le_s, i64_le_u, i64_lt_s, i64_lt_u, i64_mul, i64_ne, i64_or, i64_popcnt, i64_rem_s,
     i64_rem_u, i64_rotl, i64_rotr, i64_shl, i64_shr_s, i64_shr_u, i64_sub, i64_xor,
 };
+use w_stands::{i32_of, i64_of};
 use w_syntax::{Binop, Cvtop, IntType, Relop, Unop};
 use w_types::Value;
-
-/// The bits of an i32.
-#[inline(always)]
-pub(crate) fn i32_of(value: Value) -> u32
-    requires { IsNumber int.I32 value }
-    ensures { result ≡ bits_in value }
-{
-    match value {
-        Value::I32(bits) => bits,
-        _ => unreachable!(),
-    }
-}
-
-/// The bits of an i64.
-#[inline(always)]
-pub(crate) fn i64_of(value: Value) -> u64
-    requires { IsNumber int.I64 value }
-    ensures { result ≡ bits_in value }
-{
-    match value {
-        Value::I64(bits) => bits,
-        _ => unreachable!(),
-    }
-}
 
 /// A unary operator of i32.
 #[inline(always)]

@@ -1,5 +1,5 @@
 //! Numeric instructions (Core, execution, numeric instructions).
-ghost use Rattle.std.specs.Prelude.{◌≡◌, ◌≤◌, ◌∷◌, drop, length, Bool, true, IfOk, OnErr, OnOk};
+ghost use Rattle.std.specs.Prelude.{◌≡◌, Bool, true, IfOk, OnErr, OnOk};
 ghost use Rattle.w_syntax.specs.declared.instructions.Instr.TheVariants as flat;
 ghost use Rattle.w_syntax.specs.declared.instructions.Op.TheVariants as op;
 ghost use Rattle.w_syntax.specs.declared.numeric.NumericOp.TheVariants as numeric;
@@ -11,13 +11,12 @@ ghost use Rattle.w_plain.specs.Rules.{IsGiving};
 ghost use Rattle.w_stands.specs.Steps.{MovesAlone, FollowsAlone};
 ghost use Rattle.w_stands.specs.declared.did.Did.TheVariants as did;
 
-use crate::going_on::{push_next, replace};
 use crate::numbers::{compared, converted, eqz_of, joined, unary_of};
 use std::alloc::AllocError;
 use w_num::NumFault;
 use w_reductions::Trap;
 use w_segment::Stack;
-use w_stands::Did;
+use w_stands::{Did, push_next, replace, top_two};
 use w_syntax::{Binop, Cvtop, IntType, Module, NumericOp, Relop, Unop};
 use w_types::Value;
 
@@ -54,15 +53,6 @@ fn convert(program: &Module, stack: &mut Stack, operation: Cvtop)
     replace(stack, 1, value);
 }
 
-// The two topmost operands.
-fn two(stack: &Stack) -> (Value, Value)
-    requires { 2 ≤ length stack.now.operands }
-    ensures { stack.now.operands ≡ result.1 ∷ result.0 ∷ drop 2 stack.now.operands }
-{
-    let tops = stack.tops(2);
-    (tops[0], tops[1])
-}
-
 // A comparison.
 fn compare(program: &Module, stack: &mut Stack, kind: IntType, operation: Relop)
     requires moves { MovesAlone (flat.Plain (op.Numeric (numeric.Compare kind operation))) program.now stack.old }
@@ -70,7 +60,7 @@ fn compare(program: &Module, stack: &mut Stack, kind: IntType, operation: Relop)
     ensures keeps { Keeps stack.old stack.new }
 {
     let _program = program;
-    let (below, top) = two(stack);
+    let (below, top) = top_two(stack);
     let value = compared(kind, operation, below, top);
     replace(stack, 2, value);
 }
@@ -82,7 +72,7 @@ fn binary(program: &Module, stack: &mut Stack, kind: IntType, operation: Binop) 
     ensures keeps { Keeps stack.old stack.new }
 {
     let _program = program;
-    let (below, top) = two(stack);
+    let (below, top) = top_two(stack);
     match joined(kind, operation, below, top) {
         Ok(value) => {
             replace(stack, 2, value);

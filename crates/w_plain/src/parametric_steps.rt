@@ -1,5 +1,5 @@
 //! Parametric instructions (Core, execution, parametric instructions).
-ghost use Rattle.std.specs.Prelude.{◌≡◌, ◌≤◌, ◌∷◌, drop, length};
+ghost use Rattle.std.specs.Prelude.{◌≡◌};
 ghost use Rattle.w_syntax.specs.declared.instructions.Instr.TheVariants as flat;
 ghost use Rattle.w_syntax.specs.declared.instructions.Op.TheVariants as op;
 ghost use Rattle.w_syntax.specs.declared.instructions.ParametricOp.TheVariants as parametric;
@@ -9,9 +9,8 @@ ghost use Rattle.w_plain.specs.Selects.{IsSelect};
 ghost use Rattle.w_stands.specs.Steps.{MovesAlone, FollowsAlone};
 ghost use Rattle.w_stands.specs.declared.did.Did.TheVariants as did;
 
-use crate::going_on::replace;
-use crate::numbers::i32_of;
 use w_segment::Stack;
+use w_stands::{drop_next, i32_of, replace, top_three};
 use w_syntax::{Module, ParametricOp};
 use w_types::Value;
 
@@ -22,8 +21,7 @@ pub fn drop_operand(program: &Module, stack: &mut Stack)
     ensures keeps { Keeps stack.old stack.new }
 {
     let _program = program;
-    stack.discard(1);
-    stack.go(stack.place() + 1);
+    drop_next(stack, 1);
 }
 
 // The first where the number isn't 0, and else the second.
@@ -31,15 +29,6 @@ fn chosen(number: u32, one: Value, other: Value) -> Value
     ensures { result ≡ selected number one other }
 {
     if number != 0 { one } else { other }
-}
-
-// The three topmost operands.
-fn three(stack: &Stack) -> (Value, Value, Value)
-    requires { 3 ≤ length stack.now.operands }
-    ensures { stack.now.operands ≡ result.2 ∷ result.1 ∷ result.0 ∷ drop 3 stack.now.operands }
-{
-    let tops = stack.tops(3);
-    (tops[0], tops[1], tops[2])
 }
 
 /// `select`, with or without the type that it names.
@@ -51,7 +40,7 @@ pub fn select(program: &Module, stack: &mut Stack, operation: &ParametricOp)
 {
     let _program = program;
     let _operation = operation;
-    let (one, other, number) = three(stack);
+    let (one, other, number) = top_three(stack);
     let value = chosen(i32_of(number), one, other);
     replace(stack, 3, value);
 }

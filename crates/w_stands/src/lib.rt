@@ -1,8 +1,12 @@
-//! How the stack of a segment stands for a part of a term (`specs/`), with the laws of it.
+//! How the stack of a segment stands for a part of a term, and how it goes on behind an instruction (`specs/`).
 #![tactic(auto)]
 
 mod did;
+mod going_on;
 mod laws;
+mod operands;
 
 pub use did::Did;
+pub use going_on::{drop_next, push_next, replace};
 pub use laws::bodies_are_read;
+pub use operands::{i32_of, i64_of, top_three, top_two};

@@ -23,6 +23,15 @@ fn bytes_at(datas: &[DataSegment], segment: Option<u32>) -> &[u8]
 }
 
 impl Store {
+    /// The first memory (Core, execution, memory instructions).
+    #[inline]
+    pub fn memory(&self) -> &Mem
+        requires memory { 0 < length self.now.memories }
+        ensures memory { slice_get self.now.memories 0 ≡ Some result.now }
+    {
+        &self.memories[0]
+    }
+
     /// The first memory, to be changed, and the bytes of the data segment at an address, or no bytes where none is given (Core, execution,
     /// `memory.init`, which takes both).
     #[inline]

@@ -13,16 +13,16 @@ use Rattle.w_plain.proofs.numeric_steps.binary.Goals as goal
 rule : (t : IntType) (o : Binop) → IsJoining (op.Numeric (numeric.Binary t o)) t t (binop o (width t))
 rule t o = λ p u e vs c. refl
 
-pub two-below-requires : goal.two-below-requires
-two-below-requires c = (join_needs c.args.program.now c.args.stack.now _ c.args.kind c.args.kind _ (rule c.args.kind c.args.operation) c.requires.moves).some
+pub top_two-below-requires : goal.top_two-below-requires
+top_two-below-requires c = (join_needs c.args.program.now c.args.stack.now _ c.args.kind c.args.kind _ (rule c.args.kind c.args.operation) c.requires.moves).some
 
 pub joined-requires-clause-one : goal.joined-requires-clause-one
 joined-requires-clause-one c =
-    (join_needs c.args.program.now c.args.stack.now _ c.args.kind c.args.kind _ (rule c.args.kind c.args.operation) c.requires.moves).one c.two-below.result.0 c.two-below.result.1 c.two-below.ensures
+    (join_needs c.args.program.now c.args.stack.now _ c.args.kind c.args.kind _ (rule c.args.kind c.args.operation) c.requires.moves).one c.top_two-below.result.0 c.top_two-below.result.1 c.top_two-below.ensures
 
 pub joined-requires-clause-other : goal.joined-requires-clause-other
 joined-requires-clause-other c =
-    (join_needs c.args.program.now c.args.stack.now _ c.args.kind c.args.kind _ (rule c.args.kind c.args.operation) c.requires.moves).other c.two-below.result.0 c.two-below.result.1 c.two-below.ensures
+    (join_needs c.args.program.now c.args.stack.now _ c.args.kind c.args.kind _ (rule c.args.kind c.args.operation) c.requires.moves).other c.top_two-below.result.0 c.top_two-below.result.1 c.top_two-below.ensures
 
 pub replace-requires-clause-place : goal.replace-requires-clause-place
 replace-requires-clause-place c =
@@ -30,11 +30,11 @@ replace-requires-clause-place c =
 
 pub returns-in-Ok-clause-goes : goal.returns-in-Ok-clause-goes
 returns-in-Ok-clause-goes c =
-    join_follows c.args.program.now c.args.stack.now _ c.args.kind c.args.kind _ (rule c.args.kind c.args.operation) c.replace.new.stack c.two-below.result.0 c.two-below.result.1
-    c.in-Ok.value c.requires.moves c.two-below.ensures (sym c.in-Ok.is ∙ c.joined.ensures) c.replace.ensures.after
+    join_follows c.args.program.now c.args.stack.now _ c.args.kind c.args.kind _ (rule c.args.kind c.args.operation) c.replace.new.stack c.top_two-below.result.0 c.top_two-below.result.1
+    c.in-Ok.value c.requires.moves c.top_two-below.ensures (sym c.in-Ok.is ∙ c.joined.ensures) c.replace.ensures.after
 
 pub returns-in-Err-clause-goes : goal.returns-in-Err-clause-goes
 returns-in-Err-clause-goes c =
     subst (λ (t : Trap). FollowsAlone (did.Trapped t) c.args.program.now c.args.stack.now c.args.stack.now) (sym c.trap_of.ensures)
-    (join_traps c.args.program.now c.args.stack.now _ c.args.kind c.args.kind _ (rule c.args.kind c.args.operation) c.args.stack.now c.two-below.result.0 c.two-below.result.1
-    c.in-Err.fault c.requires.moves c.two-below.ensures (sym c.in-Err.is ∙ c.joined.ensures) refl)
+    (join_traps c.args.program.now c.args.stack.now _ c.args.kind c.args.kind _ (rule c.args.kind c.args.operation) c.args.stack.now c.top_two-below.result.0 c.top_two-below.result.1
+    c.in-Err.fault c.requires.moves c.top_two-below.ensures (sym c.in-Err.is ∙ c.joined.ensures) refl)

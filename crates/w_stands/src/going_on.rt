@@ -1,7 +1,7 @@
 //! Going on behind an instruction.
 ghost use Rattle.std.specs.Prelude.{◌≡◌, ◌+◌, ◌<◌, ◌≤◌, ◌^◌, length, OnErr, OnOk};
 ghost use Rattle.w_segment.specs.Shape.{SameParts};
-ghost use Rattle.w_plain.specs.GoingOn.{replaced, IsPushedNext};
+ghost use Rattle.w_stands.specs.GoingOn.{replaced, dropped, IsPushedNext};
 
 use std::alloc::AllocError;
 use w_segment::Stack;
@@ -9,7 +9,7 @@ use w_types::Value;
 
 /// Puts a value in place of the topmost operands, so many, and goes on behind the instruction.
 #[inline(always)]
-pub(crate) fn replace(stack: &mut Stack, count: usize, value: Value)
+pub fn replace(stack: &mut Stack, count: usize, value: Value)
     requires some { 0 < count }
     requires there { count ≤ length stack.old.operands }
     requires place { stack.old.place + 1 < 2 ^ 32 }
@@ -20,8 +20,19 @@ pub(crate) fn replace(stack: &mut Stack, count: usize, value: Value)
     stack.go(stack.place() + 1);
 }
 
+/// Takes the topmost operands off, so many, and goes on behind the instruction.
+#[inline(always)]
+pub fn drop_next(stack: &mut Stack, count: usize)
+    requires there { count ≤ length stack.old.operands }
+    requires place { stack.old.place + 1 < 2 ^ 32 }
+    ensures after { stack.new ≡ dropped count stack.old }
+{
+    stack.discard(count);
+    stack.go(stack.place() + 1);
+}
+
 /// Pushes a value, and goes on behind the instruction. It fails only when out of memory, and then all is as before but for room.
-pub(crate) fn push_next(stack: &mut Stack, value: Value) -> Result<(), AllocError>
+pub fn push_next(stack: &mut Stack, value: Value) -> Result<(), AllocError>
     requires place { stack.old.place + 1 < 2 ^ 32 }
     ensures after { OnOk result (IsPushedNext value stack.old stack.new) }
     ensures err { OnErr result (SameParts stack.old stack.new) }
