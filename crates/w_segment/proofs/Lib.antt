@@ -9,4 +9,5 @@ mod FramedLevels
 mod KeptOperands
 mod ReturnedFrames
 pub mod Holding
+pub mod MoreLocals
 mod StackRows

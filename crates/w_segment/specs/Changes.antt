@@ -74,6 +74,15 @@ with_local x v (Frame below n locals f p ∷ ls) = Frame below n (slice_set loca
 abbrev pub with_locals : ℕ → Value → Shape → Shape
 with_locals x v s = record s { levels = with_local x v s.levels }
 
+-- more locals behind those of the innermost frame
+abbrev pub with_more_in : List (Option Value) → List Level → List Level
+with_more_in ks [] = []
+with_more_in ks (Label below n t ∷ ls) = Label below n t ∷ with_more_in ks ls
+with_more_in ks (Frame below n locals f p ∷ ls) = Frame below n (locals ++ ks) f p ∷ ls
+
+abbrev pub with_more : List (Option Value) → Shape → Shape
+with_more ks s = record s { levels = with_more_in ks s.levels }
+
 abbrev pub moved : ℕ → Shape → Shape
 moved p s = record s { place = p }
 

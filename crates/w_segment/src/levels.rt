@@ -1,7 +1,7 @@
 //! Labels and frames: entering and leaving them, branches and returns.
 
 use crate::entry::{Entry, Stage};
-use crate::lists::{keep_top, push_arguments, push_unset};
+use crate::lists::{keep_top, push_arguments, push_copies};
 use crate::stack::{Mark, Stack};
 
 impl Stack {
@@ -37,7 +37,7 @@ impl Stack {
         let below = self.operands.len() - params as usize;
         let first = self.locals.len();
         push_arguments(&mut self.locals, &self.operands[below..]);
-        push_unset(&mut self.locals, (locals - params) as usize);
+        push_copies(&mut self.locals, (locals - params) as usize, None);
         self.operands.truncate(below);
         self.marks.push_reserved(Mark::Frame {
             arity,

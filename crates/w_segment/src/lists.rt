@@ -39,13 +39,13 @@ pub(crate) fn push_arguments(locals: &mut Vec<Option<Value>>, arguments: &[Value
     }
 }
 
-/// Adds so many locals that are not set.
-pub(crate) fn push_unset(locals: &mut Vec<Option<Value>>, count: usize)
+/// Adds so many locals with one value, or not set.
+pub(crate) fn push_copies(locals: &mut Vec<Option<Value>>, count: usize, local: Option<Value>)
     requires room { vec_len locals.old + count ≤ vec_capacity locals.old }
-    ensures items { locals.new.items ≡ locals.old.items ++ replicate count None }
+    ensures items { locals.new.items ≡ locals.old.items ++ replicate count local }
     ensures capacity { vec_capacity locals.new ≡ vec_capacity locals.old }
 {
     for _ in 0..count {
-        locals.push_reserved(None);
+        locals.push_reserved(local);
     }
 }

@@ -1,12 +1,13 @@
 //! The locals of the innermost frame.
 
+use crate::lists::push_copies;
 use crate::stack::Stack;
 use w_types::Value;
 
 impl Stack {
-    ghost use Rattle.std.specs.Prelude.{◌≡◌, ◌<◌, length, slice_get};
-    ghost use Rattle.w_segment.specs.Shape.{locals_of};
-    ghost use Rattle.w_segment.specs.Changes.{with_locals};
+    ghost use Rattle.std.specs.Prelude.{◌≡◌, ◌+◌, ◌<◌, ◌≤◌, length, replicate, slice_get};
+    ghost use Rattle.w_segment.specs.Shape.{frames_of, locals_all, locals_of};
+    ghost use Rattle.w_segment.specs.Changes.{with_locals, with_more};
 
     /// A local of the innermost frame, where it has one of this index; `None`: it was never set.
     #[inline]
@@ -24,5 +25,15 @@ impl Stack {
         ensures after { self.new ≡ with_locals x value self.old }
     {
         self.locals[self.first + x as usize] = Some(value);
+    }
+
+    /// Adds locals behind those of the innermost frame, so many, each with this value, or not set, where there is a frame, and room: no
+    /// memory is taken (Core, execution, function calls: the locals of the declared types).
+    pub fn add_locals(&mut self, count: u32, local: Option<Value>)
+        requires frame { 0 < frames_of self.old.levels }
+        requires room { locals_all self.old.levels + count ≤ self.old.capacity.locals }
+        ensures after { self.new ≡ with_more (replicate count local) self.old }
+    {
+        push_copies(&mut self.locals, count as usize, local);
     }
 }

@@ -42,8 +42,8 @@ push_arguments-requires c =
     let w = ap (λ (l : List Value). length l) c.deref.ensures.value in
     omega (arith, h, v, k, a, d, w, c.len.ensures, c.requires.locals)
 
-pub push_unset-requires : goal.push_unset-requires
-push_unset-requires c =
+pub push_copies-requires : goal.push_copies-requires
+push_copies-requires c =
     let i = c.self.inside in
     let h = wide (reverse i.marks.items) i.operands.items i.locals.items (length i.operands.items) i.first c.self.invariant.0 in
     let v = ap (λ (s : Shape). locals_all s.levels) c.self.view_is in
@@ -66,12 +66,12 @@ invariant_of-self c =
     let b = c.len.result - c.args.params in
     let e : reverse c.push_reserved.new.self.items ≡ mark.Frame c.args.arity i.func i.place b i.first ∷ es = ap reverse c.push_reserved.ensures.items ∙ reverse_push i.marks.items _ in
     let fits : c.args.params ≤ length (own es vs) = (let v = ap (λ s. length s.operands) c.self.view_is in let p = c.requires.params in omega (arith, v, p)) in
-    let f = framed_levels es vs i.locals.items c.push_unset.new.locals.items c.args.arity i.func i.place i.first c.len-first.result b c.args.params (c.args.locals - c.args.params) c.self.invariant.0 fits
+    let f = framed_levels es vs i.locals.items c.push_copies.new.locals.items c.args.arity i.func i.place i.first c.len-first.result b c.args.params (c.args.locals - c.args.params) c.self.invariant.0 fits
     (let l = c.len.ensures in omega (arith, l)) (let l = c.len-first.ensures in omega (arith, l))
-    (c.push_unset.ensures.items ∙ ap (λ (l : List (Option Value)). l ++ replicate (c.args.locals - c.args.params) None) (c.push_arguments.ensures.items
+    (c.push_copies.ensures.items ∙ ap (λ (l : List (Option Value)). l ++ replicate (c.args.locals - c.args.params) None) (c.push_arguments.ensures.items
     ∙ ap (λ (l : List Value). i.locals.items ++ map (λ (v : Value). Some v) l) (slice_rest c.deref.result.now b) ∙ ap (λ (l : List Value). i.locals.items ++ map (λ (v : Value). Some v) (drop b l)) c.deref.ensures.value)) in (
-      subst (λ (l : List Mark). Ordered l (length c.truncate.new.self.items) (length c.push_unset.new.locals.items) c.len-first.result) (sym e)
-          (subst (λ (l : List Value). Ordered (mark.Frame c.args.arity i.func i.place b i.first ∷ es) (length l) (length c.push_unset.new.locals.items) c.len-first.result) (sym c.truncate.ensures.items) f.2),
+      subst (λ (l : List Mark). Ordered l (length c.truncate.new.self.items) (length c.push_copies.new.locals.items) c.len-first.result) (sym e)
+          (subst (λ (l : List Value). Ordered (mark.Frame c.args.arity i.func i.place b i.first ∷ es) (length l) (length c.push_copies.new.locals.items) c.len-first.result) (sym c.truncate.ensures.items) f.2),
       omega (arith, c.self.invariant.1, ap frames_in e),
     )
 
@@ -83,15 +83,15 @@ returns c = record {
       let b = c.len.result - c.args.params in
       let e : reverse c.push_reserved.new.self.items ≡ mark.Frame c.args.arity i.func i.place b i.first ∷ es = ap reverse c.push_reserved.ensures.items ∙ reverse_push i.marks.items _ in
       let fits : c.args.params ≤ length (own es vs) = (let v = ap (λ s. length s.operands) c.self.view_is in let p = c.requires.params in omega (arith, v, p)) in
-      let f = framed_levels es vs i.locals.items c.push_unset.new.locals.items c.args.arity i.func i.place i.first c.len-first.result b c.args.params (c.args.locals - c.args.params) c.self.invariant.0 fits
+      let f = framed_levels es vs i.locals.items c.push_copies.new.locals.items c.args.arity i.func i.place i.first c.len-first.result b c.args.params (c.args.locals - c.args.params) c.self.invariant.0 fits
       (let l = c.len.ensures in omega (arith, l)) (let l = c.len-first.ensures in omega (arith, l))
-      (c.push_unset.ensures.items ∙ ap (λ (l : List (Option Value)). l ++ replicate (c.args.locals - c.args.params) None) (c.push_arguments.ensures.items
+      (c.push_copies.ensures.items ∙ ap (λ (l : List (Option Value)). l ++ replicate (c.args.locals - c.args.params) None) (c.push_arguments.ensures.items
       ∙ ap (λ (l : List Value). i.locals.items ++ map (λ (v : Value). Some v) l) (slice_rest c.deref.result.now b) ∙ ap (λ (l : List Value). i.locals.items ++ map (λ (v : Value). Some v) (drop b l)) c.deref.ensures.value)) in
       same_shape _ _
-      (ap (λ (l : List Mark). levels_of l c.truncate.new.self.items c.push_unset.new.locals.items c.len-first.result) e
-      ∙ ap (λ (l : List Value). levels_of (mark.Frame c.args.arity i.func i.place b i.first ∷ es) l c.push_unset.new.locals.items c.len-first.result) c.truncate.ensures.items ∙ f.0)
+      (ap (λ (l : List Mark). levels_of l c.truncate.new.self.items c.push_copies.new.locals.items c.len-first.result) e
+      ∙ ap (λ (l : List Value). levels_of (mark.Frame c.args.arity i.func i.place b i.first ∷ es) l c.push_copies.new.locals.items c.len-first.result) c.truncate.ensures.items ∙ f.0)
       (ap (λ (l : List Mark). own l c.truncate.new.self.items) e ∙ ap (λ (l : List Value). own (mark.Frame c.args.arity i.func i.place b i.first ∷ es) l) c.truncate.ensures.items ∙ f.1)
       refl refl refl
-      (same_capacity _ _ _ _ _ _ c.truncate.ensures.capacity c.push_reserved.ensures.capacity (c.push_unset.ensures.capacity ∙ c.push_arguments.ensures.capacity))
+      (same_capacity _ _ _ _ _ _ c.truncate.ensures.capacity c.push_reserved.ensures.capacity (c.push_copies.ensures.capacity ∙ c.push_arguments.ensures.capacity))
       ∙ ap (framed c.args.func c.args.params c.args.locals c.args.arity) c.self.view_is);
 }
