@@ -1,5 +1,5 @@
 -- More locals behind those of the innermost frame: how many there then are, and that what holds of all values still holds.
-use Rattle.std.proofs.Common.{◌≡◌, ℕ, zero, suc, ◌+◌, ◌<◌, List, [], ◌∷◌, ◌++◌, length, Option, Some, None, refl, ap, ◌∙◌, arith, length-append}
+use Rattle.std.proofs.Common.{◌≡◌, ℕ, zero, suc, ◌+◌, ◌<◌, List, [], ◌∷◌, ◌++◌, length, Option, Some, None, refl, ap, ◌∙◌, arith, length-append, append_assoc, append-nil}
 use Rattle.std.specs.Prelude.{replicate}
 use Rattle.w_types.specs.declared.value.Value.{Value}
 use Rattle.w_segment.specs.Shape.{Shape, Level, Label, Frame, frames_of, locals_all}
@@ -21,8 +21,26 @@ levels_more ks [] = refl
 levels_more ks (Label below n t ∷ ls) = ap suc (levels_more ks ls)
 levels_more ks (Frame below n locals f p ∷ ls) = refl
 
+-- no more
+more_none_in : (ls : List Level) → with_more_in [] ls ≡ ls
+more_none_in [] = refl
+more_none_in (Label below n t ∷ ls) = ap (λ (l : List Level). Label below n t ∷ l) (more_none_in ls)
+more_none_in (Frame below n locals f p ∷ ls) = ap (λ (l : List (Option Value)). Frame below n l f p ∷ ls) (append-nil locals)
+
+pub more_none : (s : Shape) → with_more [] s ≡ s
+more_none s = ap (λ (l : List Level). let r : Shape = record s { levels = l } in r) (more_none_in s.levels)
+
+-- more again
+more_twice_in : (js ks : List (Option Value)) (ls : List Level) → with_more_in ks (with_more_in js ls) ≡ with_more_in (js ++ ks) ls
+more_twice_in js ks [] = refl
+more_twice_in js ks (Label below n t ∷ ls) = ap (λ (l : List Level). Label below n t ∷ l) (more_twice_in js ks ls)
+more_twice_in js ks (Frame below n locals f p ∷ ls) = ap (λ (l : List (Option Value)). Frame below n l f p ∷ ls) (append_assoc locals js ks)
+
+pub more_twice : (js ks : List (Option Value)) (s : Shape) → with_more ks (with_more js s) ≡ with_more (js ++ ks) s
+more_twice js ks s = ap (λ (l : List Level). let r : Shape = record s { levels = l } in r) (more_twice_in js ks s.levels)
+
 module _ (P : Value → Type 0) where
-  set_append : (ls ks : List (Option Value)) → AllSet P ls → AllSet P ks → AllSet P (ls ++ ks)
+  pub set_append : (ls ks : List (Option Value)) → AllSet P ls → AllSet P ks → AllSet P (ls ++ ks)
   set_append [] ks h g = g
   set_append (None ∷ ls) ks h g = set_append ls ks h g
   set_append (Some v ∷ ls) ks h g = (h.0, set_append ls ks h.1 g)

@@ -1,0 +1,7 @@
+mod Runs
+mod FirstValues
+mod Arguments
+mod InFunctions
+mod Calling
+mod Invoking
+mod FindingCallees

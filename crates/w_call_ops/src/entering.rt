@@ -1,0 +1,95 @@
+//! Entering a function of the module (Core, execution, function calls).
+ghost use Rattle.std.specs.Prelude.{◌≡◌, ◌+◌, ◌<◌, ◌≤◌, ◌^◌, length, drop, OnErr, OnOk};
+ghost use Rattle.w_syntax.specs.Locals.{total};
+ghost use Rattle.w_segment.specs.Shape.{SameParts, frames_of, locals_all};
+ghost use Rattle.w_segment.specs.Changes.{with_more};
+ghost use Rattle.w_stands.specs.Code.{instrs};
+ghost use Rattle.w_stands.specs.Keeps.{Keeps};
+ghost use Rattle.w_types.specs.declared.types.FuncType.{FuncType as FuncKind};
+ghost use Rattle.w_syntax.specs.declared.module.Func.{Func as FuncCode};
+ghost use Rattle.w_call_ops.specs.Entering.{CanEnter, IsEntered, IsFunction, first_values};
+
+use std::alloc::AllocError;
+use w_rules::function_type;
+use w_segment::{Entry, Stack};
+use w_syntax::{Func, LocalRun, Module};
+use w_types::{FuncType, Value};
+
+// The type and the code of a function of the module, which are there.
+fn find(program: &Module, function: u32) -> (&FuncType, &Func)
+    requires there { (t : FuncKind) × (f : FuncCode) × IsFunction program.now function t f }
+    ensures { IsFunction program.now function result.0.now result.1.now }
+{
+    let kind = function_type(program, function as usize);
+    let code = program.codes.as_slice().get(function as usize);
+    match (kind, code) {
+        (Some(kind), Some(code)) => (kind, code),
+        _ => unreachable!(),
+    }
+}
+
+// How many locals these runs are.
+fn count_locals(runs: &[LocalRun]) -> usize
+    requires few { total runs.now < 2 ^ 32 }
+    ensures count { result ≡ total runs.now }
+{
+    let mut count = 0;
+    for run in runs {
+        count += run.count as usize;
+    }
+    count
+}
+
+// Adds the locals of these runs, as they begin, to the innermost frame.
+fn add_runs(stack: &mut Stack, runs: &[LocalRun])
+    requires frame { 0 < frames_of stack.old.levels }
+    requires room { locals_all stack.old.levels + total runs.now ≤ stack.old.capacity.locals }
+    ensures after { stack.new ≡ with_more (first_values runs.now) stack.old }
+{
+    for run in runs {
+        stack.add_locals(run.count, Value::default_of(run.kind));
+    }
+}
+
+/// Enters a function of the module, by its index among the module's own, once so many operands are gone; its arguments stand beneath
+/// them. The function that ran before goes on at `back`. It fails only when out of memory, and then the stack is as it was but for room.
+pub(crate) fn enter(
+    program: &Module,
+    stack: &mut Stack,
+    function: u32,
+    taken: usize,
+    back: u32,
+) -> Result<(), AllocError>
+    requires taken { taken ≤ length stack.old.operands }
+    requires there { CanEnter program.now function (drop taken stack.old.operands) }
+    requires short { length (instrs program.now function) < 2 ^ 32 }
+    ensures after { OnOk result (IsEntered program.now function back (drop taken stack.old.operands) stack.old stack.new) }
+    ensures keeps { OnOk result (Keeps stack.old stack.new) }
+    ensures err { OnErr result (SameParts stack.old stack.new) }
+{
+    let (kind, code) = find(program, function);
+    let Ok(params) = u32::try_from(kind.params.len()) else {
+        return Err(AllocError);
+    };
+    let Ok(arity) = u32::try_from(kind.results.len()) else {
+        return Err(AllocError);
+    };
+    let runs = code.locals.as_slice();
+    let target = code.body.instrs().len() as u32;
+    stack.reserve(0, 2, params as usize + count_locals(runs))?;
+    stack.discard(taken);
+    stack.go(back);
+    stack.enter(Entry::Frame {
+        func: function,
+        params,
+        locals: params,
+        arity,
+    });
+    add_runs(stack, runs);
+    stack.enter(Entry::Label {
+        params: 0,
+        arity,
+        target,
+    });
+    Ok(())
+}
