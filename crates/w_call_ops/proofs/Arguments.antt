@@ -1,9 +1,9 @@
--- Arguments that an invoke takes, and the locals that they become.
-use Rattle.std.proofs.Common.{◌≡◌, ℕ, zero, suc, ◌≤◌, List, [], ◌∷◌, ◌++◌, length, take, drop, reverse, map, Option, Some, None, Bool, true, false, refl, sym, ap, ◌∙◌, arith}
-use Rattle.std.specs.Prelude.{replicate, ◌≢◌, if◌then◌else◌}
+-- The locals that arguments become.
+use Rattle.std.proofs.Common.{◌≡◌, ℕ, zero, suc, List, [], ◌∷◌, ◌++◌, reverse, map, Option, Some, None, Bool, true, false, refl, sym, ap, ◌∙◌}
+use Rattle.std.specs.Prelude.{replicate, if◌then◌else◌}
 use Rattle.std.specs.Option.{option_map}
 use Rattle.std.proofs.lemmas.List.{map-append, reverse-append}
-use Rattle.w_types.specs.Rows.{Row, ε, ◌▹◌, listed}
+use Rattle.w_types.specs.Rows.{listed}
 use Rattle.w_types.specs.Values.{default_of}
 use Rattle.w_types.specs.declared.types.ValType.{ValType}
 use Rattle.w_types.specs.declared.types.ValType.TheVariants as type
@@ -11,22 +11,9 @@ use Rattle.w_types.specs.declared.value.Value.{Value}
 use Rattle.w_types.specs.declared.value.Value.TheVariants as value
 use Rattle.w_syntax.specs.declared.locals.LocalRun.{LocalRun}
 use Rattle.w_reductions.specs.Values.{Val, val, Null, default_of as default_in}
-use Rattle.w_reductions.specs.Reduced.{Reduced, Stuck, take_values}
 use Rattle.w_reductions.specs.Calls.{defaults}
 use Rattle.w_stands.specs.Values.{stack, vals, local_vals}
 use Rattle.w_call_ops.specs.Entering.{first_values}
-
--- so many operands are taken, in one row
-pub values_taken : (n : ℕ) (vs : List Value) (go : Row Val × Row Val → Reduced) → n ≤ length vs → take_values n (stack vs) go ≡ go (stack (drop n vs), stack (take n vs))
-values_taken zero vs go h = refl
-values_taken (suc n) [] go h = absurd (omega arith)
-values_taken (suc n) (v ∷ vs) go h = values_taken n vs (λ p. go (p.0, p.1 ▹ val v)) (omega arith)
-
--- where a rule takes so many, there are so many
-pub values_there : (n : ℕ) (vs : List Value) (go : Row Val × Row Val → Reduced) → take_values n (stack vs) go ≢ Stuck → n ≤ length vs
-values_there zero vs go h = omega arith
-values_there (suc n) [] go h = absurd (h refl)
-values_there (suc n) (v ∷ vs) go h = let g = values_there n vs (λ p. go (p.0, p.1 ▹ val v)) h in omega (arith, g)
 
 -- from the left, they are those of the list from its end
 pub listed_stack : (vs : List Value) → listed (stack vs) ≡ vals (reverse vs)

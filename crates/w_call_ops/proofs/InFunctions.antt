@@ -27,7 +27,8 @@ use Rattle.w_stands.specs.Code.{instrs, instrs_in, IsMark, Reads, stop, at_end}
 use Rattle.w_stands.specs.Stands.{Around, In, body, label}
 use Rattle.w_stands.proofs.Bodies.{read_whole}
 use Rattle.w_call_ops.specs.Entering.{IsFunction, CanEnter, IsEntered, first_values}
-use Rattle.w_call_ops.proofs.Arguments.{values_taken, values_there, entered_locals}
+use Rattle.w_stands.proofs.TakingMany.{stack_take, stack_enough}
+use Rattle.w_call_ops.proofs.Arguments.{entered_locals}
 
 -- ## The rule
 
@@ -48,7 +49,7 @@ pub enter_is : (p : Program) (u : instances.Store) (e : Context) (vs : List Valu
 enter_is p u e vs i rest t c f h =
     ap (λ (o : Option FuncType). or_stuck o (λ x. or_stuck (code_of_function p.source i) (λ y. take_values (length x.params) (stack vs) (entering p u e rest x y)))) f.type_is
     ∙ ap (λ (o : Option Func). or_stuck o (λ y. take_values (length t.params) (stack vs) (entering p u e rest t y))) f.code_is
-    ∙ values_taken (length t.params) vs (entering p u e rest t c) h
+    ∙ stack_take (length t.params) vs (entering p u e rest t c) h
     ∙ ap (λ (l : List (Option Val)). steps_to (store_of u)
     (InLabel ε (length t.results) Done Done ∷ InFrame (stack (drop (length t.params) vs)) (length t.results) l rest ∷ e) ε (rest_of c.body))
     (entered_locals (take (length t.params) vs) c.locals)
@@ -62,7 +63,7 @@ code_there p u e vs i rest t (Some c) f g h = record {
   kind = t;
   code = c;
   there = record { type_is = f; code_is = g };
-  some = values_there (length t.params) vs (entering p u e rest t c) h;
+  some = stack_enough (length t.params) vs (entering p u e rest t c) h;
 }
 
 type_there : (p : Program) (u : instances.Store) (e : Context) (vs : List Value) (i : ℕ) (rest : Rest) (o : Option FuncType) → type_of_function p.source i ≡ o →

@@ -5,3 +5,4 @@ mod InFunctions
 mod Calling
 mod Invoking
 mod FindingCallees
+mod Printing

@@ -4,6 +4,8 @@
 mod callees;
 mod calls;
 mod entering;
+mod printers;
 
 pub use callees::{callee_by_reference, callee_by_table};
 pub use calls::{call_own, invoke_own};
+pub use printers::{call_printer, invoke_printer};

@@ -52,6 +52,12 @@ arity_of [] = 0
 arity_of (Label below n t ∷ ls) = n
 arity_of (Frame below n locals f p ∷ ls) = n
 
+-- where a branch to the innermost level leads, where that is a label
+abbrev pub target_of : List Level → ℕ
+target_of [] = 0
+target_of (Label below n t ∷ ls) = t
+target_of (Frame below n locals f p ∷ ls) = 0
+
 abbrev pub frames_of : List Level → ℕ
 frames_of [] = 0
 frames_of (Label below n t ∷ ls) = frames_of ls

@@ -6,7 +6,7 @@ use crate::stack::{Mark, Stack};
 
 impl Stack {
     ghost use Rattle.std.specs.Prelude.{◌≡◌, ◌+◌, ◌<◌, ◌≤◌, Some, length};
-    ghost use Rattle.w_segment.specs.Shape.{locals_all, label_at, frame_at, is_in_label, arity_of, Target, Caller, IsAt, IsIn};
+    ghost use Rattle.w_segment.specs.Shape.{locals_all, label_at, frame_at, is_in_label, arity_of, target_of, Target, Caller, IsAt, IsIn};
     ghost use Rattle.w_segment.specs.Changes.{labelled, framed, left, branched, returned};
     ghost use Rattle.w_segment.specs.Entered.{params_of, LocalsFit, entered};
 
@@ -124,6 +124,17 @@ impl Stack {
                 self.place = target;
             }
             Mark::Frame { .. } => unreachable!(),
+        }
+    }
+
+    /// Where a branch to the innermost level leads, where that is a label, and else 0.
+    #[inline]
+    pub fn target(&self) -> u32
+        ensures value { result ≡ target_of self.now.levels }
+    {
+        match self.marks.last() {
+            Some(Mark::Label { target, .. }) => *target,
+            Some(Mark::Frame { .. }) | None => 0,
         }
     }
 

@@ -4,4 +4,5 @@ pub mod Stepping
 pub mod Locals
 pub mod Numbers
 pub mod Taking
+pub mod TakingMany
 pub mod Following

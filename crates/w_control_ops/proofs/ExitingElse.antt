@@ -1,0 +1,62 @@
+-- Exits at an else: where a stack stands behind the label of an if that is left there.
+use Rattle.std.proofs.Common.{◌≡◌, ℕ, suc, ◌+◌, ◌<◌, List, [], ◌∷◌, ◌++◌, Option, Some, None, Bool, true, false, length, slice_get, refl, sym, ap, ◌∙◌, subst, arith, add-one, if◌then◌else◌, nat_eq}
+use Rattle.std.specs.Prelude.{◌≢◌, ◌^◌}
+use Rattle.w_types.specs.Rows.{Row, ◌⧺◌, size}
+use Rattle.w_types.specs.declared.value.Value.{Value}
+use Rattle.w_syntax.specs.Code.{Code, Done}
+use Rattle.w_syntax.specs.declared.instructions.Instr.{Instr}
+use Rattle.w_syntax.specs.declared.instructions.Instr.TheVariants as flat
+use Rattle.w_syntax.specs.declared.module.Module.{Module}
+use Rattle.w_segment.specs.declared.entry.Stage.TheVariants.{Body}
+use Rattle.w_segment.specs.Shape.{Shape, Level, Label, Frame, is_in_label}
+use Rattle.w_segment.specs.Changes.{left, left_at, moved}
+use Rattle.w_segment.specs.Holds.{Holds}
+use Rattle.w_segment.proofs.Holding.{left_holds, moved_holds}
+use Rattle.w_tables.specs.Store as instances
+use Rattle.w_reductions.specs.Values.{Val}
+use Rattle.w_reductions.specs.Store.{Store}
+use Rattle.w_reductions.specs.Terms.{Rest, rest_of, Context}
+use Rattle.w_reductions.specs.Program.{Program}
+use Rattle.w_reductions.specs.Reduced.{Reduced, Stuck, steps_to}
+use Rattle.w_reductions.specs.Reduce.{next}
+use Rattle.w_reductions.specs.Exits.{leave}
+use Rattle.w_stands.specs.Values.{stack, store_of}
+use Rattle.w_stands.specs.declared.did.Did.TheVariants as did
+use Rattle.w_stands.specs.Code.{instrs, instr_of, IsMark, Reads, stop, plain, block, choice, choices, Behind, at_end, at_else}
+use Rattle.w_stands.specs.Keeps.{Keeps}
+use Rattle.w_stands.specs.Stands.{Around, label, frame, outermost, In, values}
+use Rattle.w_stands.specs.Steps.{Outside, next_of, At, To, FollowsAlone}
+use Rattle.w_stands.proofs.Reading.{here, onward}
+use Rattle.w_stands.proofs.Stepping.{place_fits}
+use Rattle.w_control_ops.specs.Ended.{stage_in, ended}
+use Rattle.w_control_ops.specs.Exits.{ExitsAlone, IsEnd}
+use Rattle.w_stands.proofs.TakingMany.{stack_append}
+use Rattle.w_control_ops.proofs.Exiting.{Left, left_there, to_left}
+
+-- contents that end at an else go on where the label leads
+behind_else : {is : List Instr} {q t z : ℕ} → Behind is q t z → slice_get is q ≡ Some flat.Else → z ≡ t
+behind_else (at_end g) h = absurd cc
+behind_else (at_else g) h = refl
+
+-- a label, at an else
+else_label : {m : Module} {outer : Context} {behind : Rest} {q : ℕ} {ls : List Level} {e : Context} (u : Store) (s s' : Shape) → Around m outer behind s.func q ls e → s.levels ≡ ls →
+    slice_get (instrs m s.func) q ≡ Some flat.Else → s.stage ≡ Body → ((below : List Value) (n t : ℕ) (outside : List Level) → ls ≡ Label below n t ∷ outside → s' ≡ moved t (left s)) →
+    Left m outer behind u s' (leave u e (stack s.operands))
+else_label u s s' (label {q = q} {n = n} {target = t} {below = below} {rest = rest} {ls = ls} {e = e} b k g w) l mark stage after =
+    let z = behind_else b mark in
+    let is = after below n t ls refl ∙ ap (λ (x : List Level). moved t (left_at x s)) l in
+    record {
+      around = e;
+      rest = rest_of rest;
+      is = ap (λ (x : Row Val). steps_to u e x (rest_of rest)) (sym (stack_append s.operands below)) ∙ ap (λ (x : Shape). steps_to u e (stack x.operands) (rest_of rest)) (sym is);
+      stands = onward s.func _ ls k w (ap (λ (x : Shape). x.stage) is ∙ stage) (ap (λ (x : Shape). x.func) is) (ap (λ (x : Shape). x.place) is ∙ sym z) (ap (λ (x : Shape). x.levels) is);
+    }
+else_label u s s' (frame n k w) l mark stage after = absurd cc
+else_label u s s' (outermost n) l mark stage after = absurd cc
+
+module _ (m : Module) (s : Shape) (k : ExitsAlone m s) where
+  pub exit_else : (s' : Shape) → instr_of m s.func s.place ≡ Some flat.Else → ((below : List Value) (n t : ℕ) (outside : List Level) → s.levels ≡ Label below n t ∷ outside → s' ≡ moved t (left s)) →
+      FollowsAlone did.Went m s s'
+  exit_else s' mark after = λ u p o e r a.
+      let w = left_there m s k u p o e r a in
+      to_left m s k u p o e r s' w.0 (else_label (store_of u) s s' w.1.2 refl (subst (λ (q : ℕ). instr_of m s.func q ≡ Some flat.Else) (sym w.1.1) mark) k.stage after)

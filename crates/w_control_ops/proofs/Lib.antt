@@ -1,0 +1,10 @@
+pub mod Arriving
+pub mod Branching
+pub mod Returning
+pub mod Conditions
+pub mod Staying
+pub mod Exiting
+pub mod ExitingElse
+pub mod Entering
+pub mod Blocks
+pub mod Choices

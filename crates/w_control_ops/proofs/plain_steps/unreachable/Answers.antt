@@ -1,0 +1,5 @@
+use Rattle.w_control_ops.proofs.Staying.{unreachable_follows}
+use Rattle.w_control_ops.proofs.plain_steps.unreachable.Goals as goal
+
+pub returns : goal.returns
+returns c = record { goes = unreachable_follows c.args.program.now c.args.stack.now c.requires.moves }

@@ -1,0 +1,4 @@
+pub mod Nulls
+pub mod Ended
+pub mod Exits
+pub mod Entering

@@ -1,0 +1,8 @@
+mod Parts
+mod Addresses
+mod Rules
+mod Operands
+mod Changes
+mod Loading
+mod Sizing
+mod Dropping

@@ -1,0 +1,10 @@
+mod Found
+mod Mapped
+mod Rules
+mod Kept
+mod Writing
+mod Written
+mod Elements
+mod Growing
+mod Segments
+mod Globals
