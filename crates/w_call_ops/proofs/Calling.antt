@@ -1,10 +1,9 @@
 -- What an instruction needs that invokes a function of the module, and where it goes.
-use Rattle.std.proofs.Common.{◌≡◌, ℕ, suc, ◌+◌, ◌<◌, ◌≤◌, List, [], ◌∷◌, length, drop, Option, Some, slice_get, sym, ap, ◌∙◌, subst, add-one}
-use Rattle.std.specs.Prelude.{◌≢◌, ◌^◌}
+use Rattle.std.proofs.Common.{◌≡◌, ℕ, ◌+◌, ◌<◌, ◌≤◌, List, [], ◌∷◌, length, drop, Option, Some, slice_get, sym, ap, ◌∙◌, subst, add-one}
+use Rattle.std.specs.Prelude.{◌^◌}
 use Rattle.w_types.specs.Rows.{ε}
 use Rattle.w_types.specs.declared.value.Value.{Value}
-use Rattle.w_syntax.specs.Code.{Code, Done}
-use Rattle.w_syntax.specs.Flat.{size}
+use Rattle.w_syntax.specs.Code.{Done}
 use Rattle.w_syntax.specs.declared.instructions.Instr.TheVariants as flat
 use Rattle.w_syntax.specs.declared.module.Module.{Module}
 use Rattle.w_types.specs.declared.types.FuncType.{FuncType}
@@ -14,12 +13,12 @@ use Rattle.w_tables.specs.declared.entries.FuncEntry.{FuncEntry}
 use Rattle.w_tables.specs.declared.entries.FuncEntry.TheVariants as entry
 use Rattle.w_reductions.specs.Terms.{Rest, rest_of, Label as InLabel, Frame as InFrame, Context}
 use Rattle.w_reductions.specs.Program.{Program}
-use Rattle.w_reductions.specs.Reduced.{Stuck, steps_to, or_stuck}
+use Rattle.w_reductions.specs.Reduced.{steps_to, or_stuck}
 use Rattle.w_reductions.specs.Calls.{enter, invoke, invoked}
 use Rattle.w_stands.specs.Values.{stack, local_vals, store_of}
 use Rattle.w_stands.specs.Code.{instrs, Reads}
 use Rattle.w_stands.specs.Stands.{frame}
-use Rattle.w_stands.specs.Steps.{Outside, next_of, At, To, Follows}
+use Rattle.w_stands.specs.Steps.{Follows}
 use Rattle.w_stands.specs.declared.did.Did.TheVariants as did
 use Rattle.w_stands.proofs.Stepping.{there, shown, following, next_is, applies, place_fits}
 use Rattle.w_call_ops.specs.Entering.{IsFunction, CanEnter, IsEntered}

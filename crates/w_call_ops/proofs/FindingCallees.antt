@@ -1,8 +1,7 @@
 -- What call_ref and call_indirect need, and what they come to.
-use Rattle.std.proofs.Common.{◌≡◌, ℕ, zero, suc, ◌+◌, ◌⊎◌, inl, inr, ◌<◌, ◌≤◌, List, [], ◌∷◌, ◌++◌, length, drop, map, Option, Some, None, Bool, true, false, slice_get, refl, sym, ap, ◌∙◌, subst, arith}
-use Rattle.std.specs.Prelude.{◌≢◌, ◌↔◌, IsTrue, if◌then◌else◌, slice_index_or}
+use Rattle.std.proofs.Common.{◌≡◌, ℕ, zero, suc, ◌⊎◌, inl, inr, ◌<◌, List, [], ◌∷◌, length, drop, map, Option, Some, None, Bool, true, false, slice_get, refl, sym, ap, ◌∙◌, subst, arith}
+use Rattle.std.specs.Prelude.{◌≢◌, ◌↔◌, IsTrue}
 use Rattle.std.specs.Option.{option_map}
-use Rattle.std.proofs.lemmas.Option.{slice_get_within}
 use Rattle.w_types.specs.Rows.{Row}
 use Rattle.w_types.specs.declared.value.Value.{Value}
 use Rattle.w_types.specs.declared.value.Value.TheVariants as value
@@ -27,10 +26,9 @@ use Rattle.w_reductions.specs.Program.{Program, IsProgram}
 use Rattle.w_reductions.specs.Reduced.{Reduced, Trapped, Stuck, or_stuck, or_trap, as_function}
 use Rattle.w_reductions.specs.Calls.{invoke}
 use Rattle.w_reductions.specs.Control.{unless_mismatch}
-use Rattle.w_reductions.specs.Reduce.{instruction}
-use Rattle.w_stands.specs.Values.{stack, vals, store_of, table_of}
+use Rattle.w_stands.specs.Values.{stack, store_of, table_of}
 use Rattle.w_stands.specs.Numbers.{IsNumber, bits_in}
-use Rattle.w_stands.specs.Taking.{Kind, Number, Any, Taken, Bits, Is, taking, Going, IsTaking, AreOf, taken_of}
+use Rattle.w_stands.specs.Taking.{Kind, Number, Any, Bits, Is, taking, Going, IsTaking, AreOf, taken_of}
 use Rattle.w_stands.specs.Steps.{MovesAt, Follows}
 use Rattle.w_stands.specs.declared.did.Did.TheVariants as did
 use Rattle.w_stands.proofs.Locals.{mapped_get}
@@ -46,7 +44,6 @@ one v = v ∷ []
 
 module _ (m : Module) (u : instances.Store) (s : Shape) (i : Op) (k : Kind) (go : Going) (rule : IsTaking i (k ∷ []) go) (mv : MovesAt (flat.Plain i) m u s)
     (v : Value) (whole : s.operands ≡ v ∷ drop 1 s.operands) where
-
   pub one_needed : Needs m u s (k ∷ []) go
   one_needed = take_needs m u s i (k ∷ []) go rule mv
 

@@ -1,5 +1,5 @@
 -- What locals begin with is no reference to a continuation.
-use Rattle.std.proofs.Common.{◌≡◌, ℕ, zero, suc, List, [], ◌∷◌, ◌++◌, Option, Some, None, Bool, true, false}
+use Rattle.std.proofs.Common.{◌≡◌, ℕ, zero, suc, List, [], ◌∷◌, Option, Some, None, Bool, true, false}
 use Rattle.std.specs.Prelude.{replicate, if◌then◌else◌}
 use Rattle.w_types.specs.Values.{default_of}
 use Rattle.w_types.specs.declared.types.ValType.{ValType}

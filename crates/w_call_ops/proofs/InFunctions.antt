@@ -1,10 +1,10 @@
 -- A stack that entered a function stands where its rule leads.
-use Rattle.std.proofs.Common.{◌≡◌, ℕ, suc, ◌+◌, ◌≤◌, List, [], ◌∷◌, ◌++◌, length, take, drop, reverse, map, Option, Some, None, slice_get, refl, sym, ap, ◌∙◌, subst, arith, add-one, length-append}
+use Rattle.std.proofs.Common.{◌≡◌, ℕ, suc, ◌≤◌, List, [], ◌∷◌, ◌++◌, length, take, drop, reverse, map, Option, Some, None, slice_get, refl, sym, ap, ◌∙◌, subst, arith, length-append}
 use Rattle.std.specs.Prelude.{◌≢◌}
 use Rattle.w_types.specs.Rows.{Row, ε, listed}
 use Rattle.w_types.specs.declared.types.FuncType.{FuncType}
 use Rattle.w_types.specs.declared.value.Value.{Value}
-use Rattle.w_syntax.specs.Code.{Code, Done, after}
+use Rattle.w_syntax.specs.Code.{Done, after}
 use Rattle.w_syntax.specs.Flat.{size, whole, laid}
 use Rattle.w_syntax.specs.Functions.{type_of_function, code_of_function}
 use Rattle.w_syntax.proofs.Steps.{length-laid}
@@ -13,20 +13,18 @@ use Rattle.w_syntax.specs.declared.instructions.Instr.TheVariants as flat
 use Rattle.w_syntax.specs.declared.module.Func.{Func}
 use Rattle.w_syntax.specs.declared.module.Module.{Module}
 use Rattle.w_segment.specs.declared.entry.Stage.TheVariants.{Body}
-use Rattle.w_segment.specs.Shape.{Shape, Level, Label, Frame}
+use Rattle.w_segment.specs.Shape.{Shape, Level, Label}
 use Rattle.w_tables.specs.Store as instances
-use Rattle.w_tables.specs.declared.entries.FuncEntry.{FuncEntry}
-use Rattle.w_tables.specs.declared.entries.FuncEntry.TheVariants as entry
 use Rattle.w_reductions.specs.Values.{Val}
 use Rattle.w_reductions.specs.Terms.{Rest, rest_of, Label as InLabel, Frame as InFrame, Context}
 use Rattle.w_reductions.specs.Program.{Program}
 use Rattle.w_reductions.specs.Reduced.{Reduced, Stuck, steps_to, or_stuck, take_values}
-use Rattle.w_reductions.specs.Calls.{defaults, enter, invoke, invoked}
+use Rattle.w_reductions.specs.Calls.{defaults, enter}
 use Rattle.w_stands.specs.Values.{stack, local_vals, store_of}
 use Rattle.w_stands.specs.Code.{instrs, instrs_in, IsMark, Reads, stop, at_end}
 use Rattle.w_stands.specs.Stands.{Around, In, body, label}
 use Rattle.w_stands.proofs.Bodies.{read_whole}
-use Rattle.w_call_ops.specs.Entering.{IsFunction, CanEnter, IsEntered, first_values}
+use Rattle.w_call_ops.specs.Entering.{IsFunction, CanEnter, first_values}
 use Rattle.w_stands.proofs.TakingMany.{stack_take, stack_enough}
 use Rattle.w_call_ops.proofs.Arguments.{entered_locals}
 

@@ -1,5 +1,5 @@
 -- What a fresh segment needs that invokes a function of the module, and where it goes.
-use Rattle.std.proofs.Common.{◌≡◌, ℕ, suc, ◌<◌, ◌≤◌, List, [], ◌∷◌, length, drop, Some, slice_get, refl, sym, ap, ◌∙◌, subst}
+use Rattle.std.proofs.Common.{◌≡◌, ℕ, ◌<◌, ◌≤◌, List, [], ◌∷◌, length, drop, Some, slice_get, refl, sym, ap, ◌∙◌, subst}
 use Rattle.std.specs.Prelude.{◌^◌}
 use Rattle.w_types.specs.Rows.{ε}
 use Rattle.w_types.specs.declared.types.FuncType.{FuncType}
@@ -16,7 +16,7 @@ use Rattle.w_reductions.specs.Reduced.{steps_to}
 use Rattle.w_reductions.specs.Reduce.{next}
 use Rattle.w_stands.specs.Values.{stack, local_vals, store_of}
 use Rattle.w_stands.specs.Code.{instrs}
-use Rattle.w_stands.specs.Stands.{Around, In, body, fresh, values, outermost}
+use Rattle.w_stands.specs.Stands.{In, body, fresh, values, outermost}
 use Rattle.w_stands.specs.Steps.{Follows}
 use Rattle.w_stands.specs.declared.did.Did.TheVariants as did
 use Rattle.w_call_ops.specs.Entering.{IsFunction, CanEnter, IsEntered}

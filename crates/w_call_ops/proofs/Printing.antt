@@ -1,15 +1,12 @@
 -- What a call of a function of the host needs, and where it goes.
-use Rattle.std.proofs.Common.{◌≡◌, ℕ, zero, suc, ◌+◌, ◌<◌, ◌≤◌, List, [], ◌∷◌, ◌++◌, length, take, drop, reverse, get_or, Option, Some, slice_get, refl, sym, ap, ◌∙◌, subst, arith, add-one}
+use Rattle.std.proofs.Common.{◌≡◌, ℕ, zero, suc, ◌+◌, ◌<◌, ◌≤◌, List, [], ◌∷◌, ◌++◌, length, take, drop, reverse, get_or, Option, Some, slice_get, refl, sym, ap, ◌∙◌, subst, arith}
 use Rattle.std.specs.Prelude.{◌≢◌, ◌^◌}
 use Rattle.std.proofs.lemmas.List.{length-drop, drop-drop, reverse-append, length-reverse, length-take-le}
-use Rattle.w_types.specs.Rows.{Row}
 use Rattle.w_types.specs.declared.value.Value.{Value}
-use Rattle.w_syntax.specs.Code.{Code}
-use Rattle.w_syntax.specs.declared.numeric.IntType.{IntType}
 use Rattle.w_syntax.specs.declared.numeric.IntType.TheVariants as int
 use Rattle.w_syntax.specs.declared.instructions.Instr.TheVariants as flat
 use Rattle.w_syntax.specs.declared.module.Module.{Module}
-use Rattle.w_segment.specs.declared.entry.Stage.TheVariants.{Values, Fresh}
+use Rattle.w_segment.specs.declared.entry.Stage.TheVariants.{Values}
 use Rattle.w_segment.specs.Shape.{Shape}
 use Rattle.w_segment.specs.Changes.{discarded, staged}
 use Rattle.w_tables.specs.Store as instances
@@ -25,8 +22,8 @@ use Rattle.w_reductions.specs.Calls.{print, invoke, invoked}
 use Rattle.w_stands.specs.Values.{stack, store_of}
 use Rattle.w_stands.specs.Numbers.{IsNumber, bits_in}
 use Rattle.w_stands.specs.GoingOn.{dropped}
-use Rattle.w_stands.specs.Stands.{In, values}
-use Rattle.w_stands.specs.Steps.{Outside, At, To, Follows}
+use Rattle.w_stands.specs.Stands.{values}
+use Rattle.w_stands.specs.Steps.{Follows}
 use Rattle.w_stands.specs.declared.did.Did.TheVariants as did
 use Rattle.w_stands.proofs.Numbers.{TakesNumber, number_there, number_top}
 use Rattle.w_stands.proofs.Stepping.{Next, following, applies, went, place_fits}

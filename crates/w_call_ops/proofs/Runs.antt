@@ -1,19 +1,11 @@
 -- Runs of locals: how many locals they are, and what these begin with.
-use Rattle.std.proofs.Common.{◌≡◌, ℕ, zero, suc, ◌+◌, ◌<◌, ◌≤◌, List, [], ◌∷◌, ◌++◌, length, take, drop, get_or, map, Option, Some, None, refl, sym, ap, ◌∙◌, arith, add-one, append_assoc, append-nil, length-append}
-use Rattle.std.specs.Prelude.{replicate, flat_map}
-use Rattle.std.specs.Option.{option_map}
+use Rattle.std.proofs.Common.{◌≡◌, ℕ, zero, suc, ◌+◌, ◌<◌, ◌≤◌, List, [], ◌∷◌, ◌++◌, length, take, drop, get_or, Option, refl, sym, ap, ◌∙◌, arith, add-one, append_assoc, append-nil, length-append}
+use Rattle.std.specs.Prelude.{replicate}
 use Rattle.std.proofs.lemmas.List.{length-replicate}
 use Rattle.w_types.specs.Values.{default_of}
-use Rattle.w_types.specs.declared.types.ValType.{ValType}
-use Rattle.w_types.specs.declared.types.ValType.TheVariants as type
 use Rattle.w_types.specs.declared.value.Value.{Value}
 use Rattle.w_syntax.specs.Locals.{total}
 use Rattle.w_syntax.specs.declared.locals.LocalRun.{LocalRun}
-use Rattle.w_segment.specs.Shape.{Shape, Level, Label, Frame}
-use Rattle.w_segment.specs.Changes.{with_more_in, with_more}
-use Rattle.w_reductions.specs.Values.{Val, val, default_of as default_in}
-use Rattle.w_reductions.specs.Calls.{defaults}
-use Rattle.w_stands.specs.Values.{local_vals}
 use Rattle.w_call_ops.specs.Entering.{first_values}
 
 -- one run more

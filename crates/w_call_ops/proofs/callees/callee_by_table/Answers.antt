@@ -1,10 +1,10 @@
-use Rattle.std.proofs.Common.{◌≡◌, ℕ, List, Option, Some, None, inl, inr, sym, ap, ◌∙◌, subst, slice_get, get_or, length}
+use Rattle.std.proofs.Common.{◌≡◌, ℕ, List, Some, inl, inr, sym, ap, ◌∙◌, subst, get_or, length}
 use Rattle.std.specs.Prelude.{◌<◌, ◌↔◌, IsTrue}
 use Rattle.std.proofs.lemmas.Option.{get_or_from_slice_get, slice_get_within}
 use Rattle.w_types.specs.declared.value.Value.{Value}
 use Rattle.w_canon.specs.Equivalence.{SameIndex}
 use Rattle.w_rules.specs.Spaces.{functions_of}
-use Rattle.w_tables.specs.Operations.{table_at, table_get}
+use Rattle.w_tables.specs.Operations.{table_get}
 use Rattle.w_call_ops.proofs.FindingCallees.{indirect_some, indirect_number, indirect_table, indirect_past, indirect_null, indirect_kind, indirect_function, indirect_calls, indirect_mismatch, kinds_agree}
 use Rattle.w_call_ops.proofs.callees.callee_by_table.Goals as goal
 

@@ -1,4 +1,4 @@
-use Rattle.std.proofs.Common.{◌≡◌, List, Option, arith, ◌∙◌, sym, ap, subst, ◌++◌, take}
+use Rattle.std.proofs.Common.{List, Option, arith, ◌∙◌, sym, ap, take}
 use Rattle.std.specs.Prelude.{replicate}
 use Rattle.w_types.specs.Values.{default_of}
 use Rattle.w_types.specs.declared.value.Value.{Value}

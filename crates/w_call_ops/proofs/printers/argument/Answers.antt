@@ -1,4 +1,4 @@
-use Rattle.std.proofs.Common.{◌≡◌, ℕ, suc, List, reverse, take, get_or, ap, ◌∙◌, arith, add-one}
+use Rattle.std.proofs.Common.{ℕ, List, reverse, take, get_or, ap, ◌∙◌, arith, add-one}
 use Rattle.w_types.specs.declared.value.Value.{Value}
 use Rattle.w_types.specs.declared.value.Value.TheVariants.{I32}
 use Rattle.w_call_ops.proofs.Printing.{lowest}

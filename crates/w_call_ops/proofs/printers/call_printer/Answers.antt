@@ -1,5 +1,4 @@
-use Rattle.std.proofs.Common.{arith, subst, sym, ap, ◌∙◌}
-use Rattle.w_types.specs.declared.value.Value.{Value}
+use Rattle.std.proofs.Common.{arith, subst, sym}
 use Rattle.w_stands.specs.Numbers.{IsNumber}
 use Rattle.w_call_ops.specs.Printing.{taken_by}
 use Rattle.w_call_ops.proofs.Printing.{print_some, print_number, print_place, print_follows}
