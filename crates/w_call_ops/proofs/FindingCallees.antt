@@ -32,6 +32,7 @@ use Rattle.w_stands.specs.Taking.{Kind, Number, Any, Bits, Is, taking, Going, Is
 use Rattle.w_stands.specs.Steps.{MovesAt, Follows}
 use Rattle.w_stands.specs.declared.did.Did.TheVariants as did
 use Rattle.w_stands.proofs.Locals.{mapped_get}
+use Rattle.w_stands.proofs.LookedUp.{found, mapped_found}
 use Rattle.w_stands.proofs.Taking.{all_taken}
 use Rattle.w_stands.proofs.Following.{Needs, take_needs, take_traps}
 use Rattle.w_call_ops.specs.Calling.{Calls}
@@ -128,20 +129,10 @@ by_table : (y x : ℕ) → IsTaking (op.Control (control.CallIndirect y x)) (Num
 by_table y x = λ p s e vs c. refl
 
 -- the table, as the definitions see it
-table_there : (ts : List instances.Table) (x : ℕ) (go : Table → Reduced) → or_stuck (slice_get (map table_of ts) x) go ≢ Stuck → x < length ts
-table_there [] x go h = absurd (h refl)
-table_there (t ∷ ts) zero go h = omega arith
-table_there (t ∷ ts) (suc x) go h = let g = table_there ts x go h in omega (arith, g)
-
 table_found : (ts : List instances.Table) (x : ℕ) (go : Table → Reduced) → x < length ts → or_stuck (slice_get (map table_of ts) x) go ≡ go (table_of (table_at ts x))
 table_found [] x go h = absurd (omega arith)
 table_found (t ∷ ts) zero go h = refl
 table_found (t ∷ ts) (suc x) go h = table_found ts x go (omega arith)
-
--- the index of a type is there
-kind_there : (p : Program) (s : Store) (e : Context) (c : Code) (vs : Row Val) (y a : ℕ) (o : Option ℕ) → typed p s e c vs y a o ≢ Stuck → (z : ℕ) × (o ≡ Some z)
-kind_there p s e c vs y a None h = absurd (h refl)
-kind_there p s e c vs y a (Some z) h = (z, refl)
 
 module _ (m : Module) (u : instances.Store) (s : Shape) (y x : ℕ) (mv : MovesAt (flat.Plain (op.Control (control.CallIndirect y x))) m u s) where
   indirect_needs : Needs m u s (Number int.I32 ∷ []) (indirect y x)
@@ -160,7 +151,7 @@ module _ (m : Module) (u : instances.Store) (s : Shape) (y x : ℕ) (mv : MovesA
     pub indirect_table : x < length u.tables
     indirect_table =
         let n = indirect_needs in
-        table_there u.tables x (λ (t : Table). finding n.p (store_of u) n.e n.c (stack (drop 1 s.operands)) y (slice_get t.elements (bits_in v))) there_at
+        mapped_found table_of u.tables x (λ (t : Table). finding n.p (store_of u) n.e n.c (stack (drop 1 s.operands)) y (slice_get t.elements (bits_in v))) there_at
 
     -- the element, as the definitions see it
     element_is : (o : Option Value) → slice_get (table_at u.tables x).elements (bits_in v) ≡ o → slice_get (table_of (table_at u.tables x)).elements (bits_in v) ≡ option_map val o
@@ -189,9 +180,9 @@ module _ (m : Module) (u : instances.Store) (s : Shape) (y x : ℕ) (mv : MovesA
       pub indirect_function : (z : ℕ) × (slice_get (functions_of m) a ≡ Some z)
       indirect_function =
           let n = indirect_needs in
-          let k = kind_there n.p (store_of u) n.e n.c (stack (drop 1 s.operands)) y a (slice_get (functions_of n.p.source) a)
+          let k = found (slice_get (functions_of n.p.source) a) (λ z. unless_mismatch (n.p.same z y) (invoke n.p (store_of u) n.e (stack (drop 1 s.operands)) a (rest_of n.c)))
           (λ q. indirect_needs.applies (v ∷ []) (drop 1 s.operands) whole (indirect_number, tt) (comes_to (Some (value.Func a)) h n.p n.e n.c ∙ q)) in
-          subst (λ (x : Module). (z : ℕ) × (slice_get (functions_of x) a ≡ Some z)) n.source k
+          subst (λ (x : Module). (z : ℕ) × (slice_get (functions_of x) a ≡ Some z)) n.source (k.item, k.is)
 
       -- with the index of its type
       with_kind : (z : ℕ) → slice_get (functions_of m) a ≡ Some z → (p : Program) (e : Context) (c : Code) → p.source ≡ m →

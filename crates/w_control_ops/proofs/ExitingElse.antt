@@ -1,35 +1,25 @@
 -- Exits at an else: where a stack stands behind the label of an if that is left there.
-use Rattle.std.proofs.Common.{◌≡◌, ℕ, suc, ◌+◌, ◌<◌, List, [], ◌∷◌, ◌++◌, Option, Some, None, Bool, true, false, length, slice_get, refl, sym, ap, ◌∙◌, subst, arith, add-one, if◌then◌else◌, nat_eq}
-use Rattle.std.specs.Prelude.{◌≢◌, ◌^◌}
-use Rattle.w_types.specs.Rows.{Row, ◌⧺◌, size}
+use Rattle.std.proofs.Common.{◌≡◌, ℕ, List, ◌∷◌, Some, slice_get, refl, sym, ap, ◌∙◌, subst}
+use Rattle.w_types.specs.Rows.{Row}
 use Rattle.w_types.specs.declared.value.Value.{Value}
-use Rattle.w_syntax.specs.Code.{Code, Done}
 use Rattle.w_syntax.specs.declared.instructions.Instr.{Instr}
 use Rattle.w_syntax.specs.declared.instructions.Instr.TheVariants as flat
 use Rattle.w_syntax.specs.declared.module.Module.{Module}
 use Rattle.w_segment.specs.declared.entry.Stage.TheVariants.{Body}
-use Rattle.w_segment.specs.Shape.{Shape, Level, Label, Frame, is_in_label}
+use Rattle.w_segment.specs.Shape.{Shape, Level, Label}
 use Rattle.w_segment.specs.Changes.{left, left_at, moved}
-use Rattle.w_segment.specs.Holds.{Holds}
-use Rattle.w_segment.proofs.Holding.{left_holds, moved_holds}
-use Rattle.w_tables.specs.Store as instances
 use Rattle.w_reductions.specs.Values.{Val}
 use Rattle.w_reductions.specs.Store.{Store}
 use Rattle.w_reductions.specs.Terms.{Rest, rest_of, Context}
-use Rattle.w_reductions.specs.Program.{Program}
-use Rattle.w_reductions.specs.Reduced.{Reduced, Stuck, steps_to}
-use Rattle.w_reductions.specs.Reduce.{next}
+use Rattle.w_reductions.specs.Reduced.{steps_to}
 use Rattle.w_reductions.specs.Exits.{leave}
 use Rattle.w_stands.specs.Values.{stack, store_of}
 use Rattle.w_stands.specs.declared.did.Did.TheVariants as did
-use Rattle.w_stands.specs.Code.{instrs, instr_of, IsMark, Reads, stop, plain, block, choice, choices, Behind, at_end, at_else}
-use Rattle.w_stands.specs.Keeps.{Keeps}
-use Rattle.w_stands.specs.Stands.{Around, label, frame, outermost, In, values}
-use Rattle.w_stands.specs.Steps.{Outside, next_of, At, To, FollowsAlone}
-use Rattle.w_stands.proofs.Reading.{here, onward}
-use Rattle.w_stands.proofs.Stepping.{place_fits}
-use Rattle.w_control_ops.specs.Ended.{stage_in, ended}
-use Rattle.w_control_ops.specs.Exits.{ExitsAlone, IsEnd}
+use Rattle.w_stands.specs.Code.{instrs, instr_of, Behind, at_end, at_else}
+use Rattle.w_stands.specs.Stands.{Around, label, frame, outermost}
+use Rattle.w_stands.specs.Steps.{FollowsAlone}
+use Rattle.w_stands.proofs.Reading.{onward}
+use Rattle.w_control_ops.specs.Exits.{ExitsAlone}
 use Rattle.w_stands.proofs.TakingMany.{stack_append}
 use Rattle.w_control_ops.proofs.Exiting.{Left, left_there, to_left}
 

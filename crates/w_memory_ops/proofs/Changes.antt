@@ -25,7 +25,8 @@ use Rattle.w_stands.specs.Steps.{MovesAt, Follows}
 use Rattle.w_stands.specs.Taking.{Kind, Taken, Going, IsTaking, AreOf, taken_of}
 use Rattle.w_stands.proofs.Following.{Needs, take_needs, take_follows, take_traps, dropped_behind}
 use Rattle.w_memory_ops.specs.Changing.{source_of, Change, changing, did_of, finished}
-use Rattle.w_memory_ops.proofs.Parts.{found, is_true, is_first, some_there, source_is, source_within, same_memory}
+use Rattle.w_stands.proofs.LookedUp.{found}
+use Rattle.w_memory_ops.proofs.Parts.{is_true, is_first, some_there, source_is, source_within, same_memory}
 use Rattle.w_memory_ops.proofs.Operands.{on_operands}
 
 -- ## The rule, from its end on

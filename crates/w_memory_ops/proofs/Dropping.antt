@@ -15,7 +15,7 @@ use Rattle.w_stands.specs.declared.did.Did.TheVariants as did
 use Rattle.w_stands.specs.Steps.{MovesAt, Follows}
 use Rattle.w_stands.specs.GoingOn.{dropped}
 use Rattle.w_stands.proofs.Following.{Needs, take_needs, take_follows, dropped_behind}
-use Rattle.w_memory_ops.proofs.Parts.{found}
+use Rattle.w_stands.proofs.LookedUp.{found}
 use Rattle.std.proofs.lemmas.Option.{slice_get_within}
 use Rattle.w_memory_ops.proofs.Rules.{dropping, drop_rule}
 

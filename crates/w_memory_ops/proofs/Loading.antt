@@ -23,7 +23,8 @@ use Rattle.w_stands.specs.Steps.{MovesAt, Follows}
 use Rattle.w_stands.specs.GoingOn.{replaced}
 use Rattle.w_stands.proofs.Numbers.{number_val}
 use Rattle.w_stands.proofs.Following.{Needs, take_needs, take_follows, take_traps, replaced_behind}
-use Rattle.w_memory_ops.proofs.Parts.{Found, found, some_there}
+use Rattle.w_stands.proofs.LookedUp.{Found, found}
+use Rattle.w_memory_ops.proofs.Parts.{some_there}
 use Rattle.w_memory_ops.proofs.Operands.{on_operands}
 use Rattle.w_memory_ops.proofs.Rules.{one, loading, load_rule}
 

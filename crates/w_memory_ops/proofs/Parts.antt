@@ -5,19 +5,8 @@ use Rattle.std.proofs.lemmas.Option.{slice_get_within, get_or_from_slice_get}
 use Rattle.w_memory.specs.Memory.{Memory}
 use Rattle.w_tables.specs.Store as instances
 use Rattle.w_tables.specs.Operations.{bytes_at, with_memory}
-use Rattle.w_reductions.specs.Reduced.{Reduced, Stuck, or_stuck}
+use Rattle.w_reductions.specs.Reduced.{Reduced, Stuck}
 use Rattle.w_memory_ops.specs.Changing.{source_of}
-
--- what is looked up where a rule applies is there
-pub record Found {A : Type 0} (o : Option A) (go : A → Reduced) : Type 0 where
-  pub item : A
-  pub is : o ≡ Some item
-  pub applies : go item ≢ Stuck
-
--- it is
-pub found : {A : Type 0} (o : Option A) (go : A → Reduced) → or_stuck o go ≢ Stuck → Found o go
-found None go h = absurd (h refl)
-found (Some a) go h = record { item = a; is = refl; applies = h }
 
 -- what a rule asks for is true where it applies
 pub is_true : (b : Bool) (r : Reduced) → (if b then r else Stuck) ≢ Stuck → b ≡ true

@@ -23,7 +23,8 @@ use Rattle.w_stands.specs.declared.did.Did.TheVariants as did
 use Rattle.w_stands.specs.Steps.{MovesAt, Follows}
 use Rattle.w_stands.specs.GoingOn.{replaced, IsPushedNext}
 use Rattle.w_stands.proofs.Following.{Needs, take_needs, take_follows, replaced_behind, pushed_behind}
-use Rattle.w_memory_ops.proofs.Parts.{Found, found, is_first, some_there}
+use Rattle.w_stands.proofs.LookedUp.{Found, found}
+use Rattle.w_memory_ops.proofs.Parts.{is_first, some_there}
 use Rattle.w_memory_ops.proofs.Operands.{on_operands}
 use Rattle.w_memory_ops.proofs.Rules.{one, sizing, size_rule, growing, grow_rule}
 

@@ -9,6 +9,7 @@ use Rattle.w_syntax.specs.declared.instructions.Op.{Op}
 use Rattle.w_syntax.specs.declared.module.Module.{Module}
 use Rattle.w_segment.specs.declared.entry.Stage.TheVariants.{Body}
 use Rattle.w_segment.specs.Shape.{Shape}
+use Rattle.w_segment.specs.Changes.{moved}
 use Rattle.w_segment.specs.Holds.{AllOf, LevelsHold, Holds}
 use Rattle.w_segment.proofs.Holding.{all_append, all_drop}
 use Rattle.w_tables.specs.Store as instances
@@ -23,7 +24,7 @@ use Rattle.w_stands.specs.Steps.{MovesAt, Follows}
 use Rattle.w_stands.specs.Taking.{Kind, Number, Any, taking, Going, IsTaking, AreOf, taken_of}
 use Rattle.w_stands.specs.GoingOn.{replaced, dropped, IsPushedNext, IsBehind}
 use Rattle.w_stands.proofs.Stepping.{following, next_is, applies, went, place_fits}
-use Rattle.w_stands.proofs.Taking.{TakesAll, all_there, all_taken, all_of}
+use Rattle.w_stands.proofs.Taking.{all_there, all_taken, all_of}
 
 -- ## Behind an instruction
 
@@ -35,6 +36,10 @@ dropped_behind n s s' after = subst (IsBehind n [] s) (sym after) (record { leve
 
 pub pushed_behind : (v : Value) (s s' : Shape) → IsPushedNext v s s' → IsBehind 0 (v ∷ []) s s'
 pushed_behind v s s' n = record { levels = n.levels; operands = n.operands; func = n.func; place = n.place; stage = n.stage }
+
+-- one that takes no operand and gives none
+pub moved_behind : (s s' : Shape) → s' ≡ moved (s.place + 1) s → IsBehind 0 [] s s'
+moved_behind s s' after = subst (IsBehind 0 [] s) (sym after) (record { levels = refl; operands = refl; func = refl; place = refl; stage = refl })
 
 -- what holds of all values holds of all behind it
 pub behind_holds : (P : Value → Type 0) (n : ℕ) (given : List Value) (s s' : Shape) → IsBehind n given s s' → AllOf P given → Holds P s → Holds P s'
@@ -89,7 +94,6 @@ take_needs m u s i ks go rule k =
 
 module _ (m : Module) (u : instances.Store) (s : Shape) (i : Op) (ks : List Kind) (go : Going) (rule : IsTaking i ks go) (stage : s.stage ≡ Body)
     (at : instr_of m s.func s.place ≡ Some (flat.Plain i)) (args rest : List Value) (is : s.operands ≡ args ++ rest) (of : AreOf ks args) where
-
   -- it gives these in place of what it took, and leaves this store
   pub take_follows : (out : List ℕ) (u' : instances.Store) (s' : Shape) (given : List Value) → IsBehind (length args) given s s' →
       ((p : Program) (e : Context) (c : Code) → p.source ≡ m → IsProgram p →

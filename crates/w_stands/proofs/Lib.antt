@@ -6,3 +6,4 @@ pub mod Numbers
 pub mod Taking
 pub mod TakingMany
 pub mod Following
+pub mod LookedUp

@@ -1,5 +1,5 @@
 -- Operands of some kinds that a rule takes: they are there, and it goes on with them.
-use Rattle.std.proofs.Common.{◌≡◌, ℕ, suc, List, [], ◌∷◌, ◌++◌, length, refl, sym, ap, ◌∙◌, subst}
+use Rattle.std.proofs.Common.{◌≡◌, List, [], ◌∷◌, ◌++◌, length, refl, ap, ◌∙◌, subst}
 use Rattle.std.specs.Prelude.{◌≢◌}
 use Rattle.w_types.specs.Rows.{Row}
 use Rattle.w_types.specs.declared.value.Value.{Value}

@@ -1,11 +1,21 @@
 //! Going on behind an instruction.
 ghost use Rattle.std.specs.Prelude.{◌≡◌, ◌+◌, ◌<◌, ◌≤◌, ◌^◌, length, OnErr, OnOk};
+ghost use Rattle.w_segment.specs.Changes.{moved};
 ghost use Rattle.w_segment.specs.Shape.{SameParts};
 ghost use Rattle.w_stands.specs.GoingOn.{replaced, dropped, IsPushedNext};
 
 use std::alloc::AllocError;
 use w_segment::Stack;
 use w_types::Value;
+
+/// Goes on behind the instruction.
+#[inline(always)]
+pub fn next(stack: &mut Stack)
+    requires place { stack.old.place + 1 < 2 ^ 32 }
+    ensures after { stack.new ≡ moved (stack.old.place + 1) stack.old }
+{
+    stack.go(stack.place() + 1);
+}
 
 /// Puts a value in place of the topmost operands, so many, and goes on behind the instruction.
 #[inline(always)]

@@ -7,6 +7,6 @@ mod laws;
 mod operands;
 
 pub use did::Did;
-pub use going_on::{drop_next, push_next, replace};
+pub use going_on::{drop_next, next, push_next, replace};
 pub use laws::bodies_are_read;
 pub use operands::{i32_of, i64_of, top_three, top_two};

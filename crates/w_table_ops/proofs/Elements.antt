@@ -28,7 +28,7 @@ use Rattle.w_stands.specs.Steps.{MovesAt, Follows}
 use Rattle.w_stands.specs.Taking.{Kind, Number, Bits, AreOf}
 use Rattle.w_stands.specs.GoingOn.{replaced, IsPushedNext}
 use Rattle.w_stands.proofs.Following.{Needs, take_needs, take_follows, take_traps, replaced_behind, pushed_behind}
-use Rattle.w_table_ops.proofs.Found.{mapped_found, goes_on}
+use Rattle.w_stands.proofs.LookedUp.{mapped_found, goes_on}
 use Rattle.w_table_ops.proofs.Mapped.{table_there}
 use Rattle.w_stands.proofs.Locals.{mapped_get}
 use Rattle.w_table_ops.proofs.Rules.{getting, get_rule, sizing, size_rule}

@@ -26,7 +26,7 @@ use Rattle.w_stands.specs.Steps.{MovesAt, Follows}
 use Rattle.w_stands.specs.Taking.{Any}
 use Rattle.w_stands.specs.GoingOn.{dropped, IsPushedNext}
 use Rattle.w_stands.proofs.Following.{Needs, take_needs, take_follows, dropped_behind, pushed_behind}
-use Rattle.w_table_ops.proofs.Found.{mapped_found, goes_on}
+use Rattle.w_stands.proofs.LookedUp.{mapped_found, goes_on}
 use Rattle.w_table_ops.proofs.Mapped.{store_set}
 use Rattle.w_stands.proofs.Locals.{mapped_get}
 use Rattle.std.proofs.lemmas.Option.{slice_get-get_or}

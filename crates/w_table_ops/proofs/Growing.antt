@@ -35,7 +35,7 @@ use Rattle.w_stands.specs.Steps.{MovesAt, Follows}
 use Rattle.w_stands.specs.Taking.{Kind, Number, Any, AreOf}
 use Rattle.w_stands.specs.GoingOn.{replaced}
 use Rattle.w_stands.proofs.Following.{Needs, take_needs, take_follows, replaced_behind}
-use Rattle.w_table_ops.proofs.Found.{mapped_found, goes_on}
+use Rattle.w_stands.proofs.LookedUp.{mapped_found, goes_on}
 use Rattle.w_table_ops.proofs.Mapped.{mapped_grown, store_written, table_there}
 use Rattle.w_table_ops.proofs.Rules.{growing, grow_rule}
 use Rattle.w_table_ops.proofs.Kept.{table_holds, tops_hold, keeps_behind, grown_made, growth_holds}

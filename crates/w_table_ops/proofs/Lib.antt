@@ -1,4 +1,3 @@
-mod Found
 mod Mapped
 mod Rules
 mod Kept

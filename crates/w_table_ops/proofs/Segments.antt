@@ -1,11 +1,10 @@
 -- elem.drop: what it needs, where it goes, and that what holds of all values still holds.
-use Rattle.std.proofs.Common.{◌≡◌, ℕ, ◌+◌, ◌<◌, [], length, map, slice_get, refl, sym, ap, ◌∙◌, subst, true}
+use Rattle.std.proofs.Common.{◌≡◌, ℕ, ◌<◌, [], length, map, slice_get, refl, ap, ◌∙◌, true}
 use Rattle.w_syntax.specs.declared.instructions.Instr.TheVariants as flat
 use Rattle.w_syntax.specs.declared.instructions.Op.TheVariants as op
 use Rattle.w_syntax.specs.declared.instructions.TableOp.TheVariants as table
 use Rattle.w_syntax.specs.declared.module.Module.{Module}
 use Rattle.w_segment.specs.Shape.{Shape}
-use Rattle.w_segment.specs.Changes.{moved}
 use Rattle.w_tables.specs.Operations as on
 use Rattle.w_tables.specs.Operations.{table_grow}
 use Rattle.w_tables.specs.Store as instances
@@ -19,14 +18,10 @@ use Rattle.w_stands.specs.Keeps.{KeepsAll}
 use Rattle.w_stands.specs.Steps.{MovesAt, Follows}
 use Rattle.w_stands.specs.GoingOn.{IsBehind}
 use Rattle.w_stands.proofs.Following.{Needs, take_needs, take_follows}
-use Rattle.w_table_ops.proofs.Found.{mapped_found, goes_on}
+use Rattle.w_stands.proofs.LookedUp.{mapped_found, goes_on}
 use Rattle.w_table_ops.proofs.Mapped.{store_dropped, segment_there}
 use Rattle.w_table_ops.proofs.Rules.{dropping, drop_rule}
 use Rattle.w_table_ops.proofs.Kept.{keeps_behind, dropped_holds}
-
--- it takes no operand, and the next instruction comes
-pub moved_behind : (s s' : Shape) → s' ≡ moved (s.place + 1) s → IsBehind 0 [] s s'
-moved_behind s s' after = subst (IsBehind 0 [] s) (sym after) (record { levels = refl; operands = refl; func = refl; place = refl; stage = refl })
 
 module _ (m : Module) (u : instances.Store) (s : Shape) (y : ℕ) (k : MovesAt (flat.Plain (op.Table (table.ElemDrop y))) m u s) where
   -- what it needs

@@ -26,7 +26,7 @@ use Rattle.w_stands.specs.Steps.{MovesAt, Follows}
 use Rattle.w_stands.specs.Taking.{Kind, Going, IsTaking, AreOf, taken_of}
 use Rattle.w_stands.specs.GoingOn.{dropped}
 use Rattle.w_stands.proofs.Following.{take_needs, take_follows, take_traps, dropped_behind}
-use Rattle.w_table_ops.proofs.Found.{found, goes_on, mapped_found}
+use Rattle.w_stands.proofs.LookedUp.{found, goes_on, mapped_found}
 use Rattle.w_table_ops.proofs.Mapped.{table_there, store_written}
 use Rattle.w_table_ops.proofs.Kept.{MadeOf, outcome_holds, tops_hold, keeps_behind}
 use Rattle.w_table_ops.proofs.Rules.{writing}
@@ -94,7 +94,8 @@ module _ (m : Module) (u : instances.Store) (s : Shape) (i : Op) (ks : List Kind
   pub write_source : (a : A) × (o ≡ Some a)
   write_source =
       let n = take_needs m u s i ks go rule k in
-      found o (λ a. with_made n.e n.c a (table_of (on.table_at u.tables x))) (λ q. n.applies args rest is of (rule_writes n.p n.e n.c ∙ to_source n.e n.c ∙ q))
+      let f = found o (λ a. with_made n.e n.c a (table_of (on.table_at u.tables x))) (λ q. n.applies args rest is of (rule_writes n.p n.e n.c ∙ to_source n.e n.c ∙ q)) in
+      (f.item, f.is)
 
   -- what it comes to
   module _ (a : A) (here : o ≡ Some a) (made : Option (List Value)) (makes : make a (table_of (on.table_at u.tables x)) ≡ option_map vals made) where

@@ -19,7 +19,7 @@ use Rattle.w_stands.specs.Numbers.{bits_in}
 use Rattle.w_stands.specs.Steps.{MovesAt}
 use Rattle.w_stands.specs.Taking.{Kind, Number, Any, AreOf}
 use Rattle.w_stands.proofs.Following.{Needs, take_needs}
-use Rattle.w_table_ops.proofs.Found.{within_mapped}
+use Rattle.w_stands.proofs.LookedUp.{within_mapped}
 use Rattle.w_table_ops.proofs.Mapped.{mapped_replaced, mapped_filled, mapped_copied, table_there, segment_there}
 use Rattle.w_table_ops.proofs.Rules.{setting, set_rule, filling, fill_rule, three, copying, copy_rule, initializing, init_rule}
 use Rattle.w_table_ops.proofs.Writing.{Writes, write_table, write_source, writes}

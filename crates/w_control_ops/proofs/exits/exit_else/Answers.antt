@@ -1,4 +1,4 @@
-use Rattle.std.proofs.Common.{◌≡◌, ℕ, ap, ◌∙◌}
+use Rattle.std.proofs.Common.{ℕ, ap, ◌∙◌}
 use Rattle.w_segment.specs.Changes.{left, moved}
 use Rattle.w_segment.specs.Shape.{target_of}
 use Rattle.w_control_ops.proofs.Exiting.{exit_there}

@@ -1,9 +1,9 @@
-use Rattle.std.proofs.Common.{◌≡◌, ◌++◌, ◌≤◌, List, Option, Some, ap, ◌∙◌, refl, reverse, length, arith, subst, sym, length-append}
+use Rattle.std.proofs.Common.{List, Option, ap, ◌∙◌, refl, reverse, length, arith, length-append}
 use Rattle.std.specs.Prelude.{replicate}
 use Rattle.w_types.specs.declared.value.Value.{Value}
 use Rattle.w_segment.specs.Shape.{Shape, frames_of, locals_all}
 use Rattle.w_segment.specs.Changes.{with_more}
-use Rattle.w_segment.specs.Flat.{levels_of, Ordered, frames_in}
+use Rattle.w_segment.specs.Flat.{levels_of}
 use Rattle.w_segment.proofs.CountsOfMarks.{wide, frames_are}
 use Rattle.w_segment.proofs.LocalsOfMarks.{locals_more, ordered_more}
 use Rattle.w_segment.proofs.SameShapes.{same_shape, same_capacity}

@@ -1,0 +1,9 @@
+mod Behind
+mod Operands
+mod Turning
+mod Joining
+mod Giving
+mod Keeping
+mod Selecting
+mod LocalsRead
+mod Referring

@@ -1,0 +1,22 @@
+use Rattle.std.proofs.Common.{refl}
+use Rattle.w_syntax.specs.declared.instructions.Op.TheVariants as op
+use Rattle.w_syntax.specs.declared.numeric.NumericOp.TheVariants as numeric
+use Rattle.w_reductions.specs.Numeric.{width, unop}
+use Rattle.w_value_ops.proofs.Turning.{turn_needs, turn_follows}
+use Rattle.w_value_ops.proofs.numeric_steps.unary.Goals as goal
+
+pub peek-requires : goal.peek-requires
+peek-requires c = record { some = (turn_needs c.args.program.now c.args.stack.now (op.Numeric (numeric.Unary c.args.kind c.args.operation)) c.args.kind c.args.kind (unop c.args.operation (width c.args.kind)) (λ p u e vs d. refl) c.requires.moves).some }
+
+pub unary_of-value-requires : goal.unary_of-value-requires
+unary_of-value-requires c =
+    (turn_needs c.args.program.now c.args.stack.now (op.Numeric (numeric.Unary c.args.kind c.args.operation)) c.args.kind c.args.kind (unop c.args.operation (width c.args.kind)) (λ p u e vs d. refl) c.requires.moves).number c.peek.result c.peek.ensures.value
+
+pub replace-requires-clause-place : goal.replace-requires-clause-place
+replace-requires-clause-place c =
+    (turn_needs c.args.program.now c.args.stack.now (op.Numeric (numeric.Unary c.args.kind c.args.operation)) c.args.kind c.args.kind (unop c.args.operation (width c.args.kind)) (λ p u e vs d. refl) c.requires.moves).place
+
+pub returns-clause-goes : goal.returns-clause-goes
+returns-clause-goes c =
+    turn_follows c.args.program.now c.args.stack.now c.replace.new.stack (op.Numeric (numeric.Unary c.args.kind c.args.operation)) c.args.kind c.args.kind (unop c.args.operation (width c.args.kind)) c.peek.result _ (λ p u e vs d. refl) c.requires.moves
+    c.peek.ensures.value c.unary_of-value.ensures c.replace.ensures.after

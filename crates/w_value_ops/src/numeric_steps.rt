@@ -1,0 +1,157 @@
+//! Numeric instructions (Core, execution, numeric instructions).
+ghost use Rattle.std.specs.Prelude.{◌≡◌, Bool, true, IfOk, OnErr, OnOk};
+ghost use Rattle.w_syntax.specs.declared.instructions.Instr.TheVariants as flat;
+ghost use Rattle.w_syntax.specs.declared.instructions.Op.TheVariants as op;
+ghost use Rattle.w_syntax.specs.declared.numeric.NumericOp.TheVariants as numeric;
+ghost use Rattle.w_reductions.specs.Reduced.{trap_of};
+ghost use Rattle.w_segment.specs.Shape.{SameParts};
+ghost use Rattle.w_stands.specs.Keeps.{Keeps, OnPlain};
+ghost use Rattle.w_types.specs.declared.value.Value.{Value as TheValue};
+ghost use Rattle.w_value_ops.specs.Rules.{IsGiving};
+ghost use Rattle.w_stands.specs.Steps.{MovesAlone, FollowsAlone};
+ghost use Rattle.w_stands.specs.declared.did.Did.TheVariants as did;
+
+use crate::numbers::{compared, converted, eqz_of, joined, unary_of};
+use std::alloc::AllocError;
+use w_num::NumFault;
+use w_reductions::Trap;
+use w_segment::Stack;
+use w_stands::{Did, push_next, replace, top_two};
+use w_syntax::{Binop, Cvtop, IntType, Module, NumericOp, Relop, Unop};
+use w_types::Value;
+
+// A unary operator.
+fn unary(program: &Module, stack: &mut Stack, kind: IntType, operation: Unop)
+    requires moves { MovesAlone (flat.Plain (op.Numeric (numeric.Unary kind operation))) program.now stack.old }
+    ensures goes { FollowsAlone did.Went program.now stack.old stack.new }
+    ensures keeps { Keeps stack.old stack.new }
+{
+    let _program = program;
+    let value = unary_of(kind, operation, stack.peek());
+    replace(stack, 1, value);
+}
+
+// The test whether a number is 0.
+fn eqz(program: &Module, stack: &mut Stack, kind: IntType)
+    requires moves { MovesAlone (flat.Plain (op.Numeric (numeric.Eqz kind))) program.now stack.old }
+    ensures goes { FollowsAlone did.Went program.now stack.old stack.new }
+    ensures keeps { Keeps stack.old stack.new }
+{
+    let _program = program;
+    let value = eqz_of(kind, stack.peek());
+    replace(stack, 1, value);
+}
+
+// A conversion.
+fn convert(program: &Module, stack: &mut Stack, operation: Cvtop)
+    requires moves { MovesAlone (flat.Plain (op.Numeric (numeric.Convert operation))) program.now stack.old }
+    ensures goes { FollowsAlone did.Went program.now stack.old stack.new }
+    ensures keeps { Keeps stack.old stack.new }
+{
+    let _program = program;
+    let value = converted(operation, stack.peek());
+    replace(stack, 1, value);
+}
+
+// A comparison.
+fn compare(program: &Module, stack: &mut Stack, kind: IntType, operation: Relop)
+    requires moves { MovesAlone (flat.Plain (op.Numeric (numeric.Compare kind operation))) program.now stack.old }
+    ensures goes { FollowsAlone did.Went program.now stack.old stack.new }
+    ensures keeps { Keeps stack.old stack.new }
+{
+    let _program = program;
+    let (below, top) = top_two(stack);
+    let value = compared(kind, operation, below, top);
+    replace(stack, 2, value);
+}
+
+// A binary operator, or its trap.
+fn binary(program: &Module, stack: &mut Stack, kind: IntType, operation: Binop) -> Did
+    requires moves { MovesAlone (flat.Plain (op.Numeric (numeric.Binary kind operation))) program.now stack.old }
+    ensures goes { FollowsAlone result program.now stack.old stack.new }
+    ensures keeps { Keeps stack.old stack.new }
+{
+    let _program = program;
+    let (below, top) = top_two(stack);
+    match joined(kind, operation, below, top) {
+        Ok(value) => {
+            replace(stack, 2, value);
+            Did::Went
+        }
+        Err(fault) => Did::Trapped(trap_of(fault)),
+    }
+}
+
+// A constant.
+fn constant(
+    program: &Module,
+    stack: &mut Stack,
+    operation: NumericOp,
+    value: Value,
+) -> Result<Did, AllocError>
+    requires moves { MovesAlone (flat.Plain (op.Numeric operation)) program.now stack.old }
+    requires gives { IsGiving (op.Numeric operation) value }
+    requires plain { (test : TheValue → Bool) → OnPlain test → test value ≡ true }
+    ensures goes { IfOk result (λ did. FollowsAlone did program.now stack.old stack.new) }
+    ensures keeps { OnOk result (Keeps stack.old stack.new) }
+    ensures err { OnErr result (SameParts stack.old stack.new) }
+{
+    let _program = program;
+    let _operation = operation;
+    push_next(stack, value)?;
+    Ok(Did::Went)
+}
+
+// The trap of a fault.
+fn trap_of(fault: NumFault) -> Trap
+    ensures { result ≡ trap_of fault }
+{
+    match fault {
+        NumFault::DivZero => Trap::DivideByZero,
+        NumFault::Overflow => Trap::IntegerOverflow,
+    }
+}
+
+/// One reduction of a numeric instruction, or its trap. It fails only when out of memory, and then the stack is as it was but for room.
+pub fn numeric(program: &Module, stack: &mut Stack, operation: NumericOp) -> Result<Did, AllocError>
+    requires moves { MovesAlone (flat.Plain (op.Numeric operation)) program.now stack.old }
+    ensures goes { IfOk result (λ did. FollowsAlone did program.now stack.old stack.new) }
+    ensures keeps { OnOk result (Keeps stack.old stack.new) }
+    ensures err { OnErr result (SameParts stack.old stack.new) }
+{
+    match operation {
+        NumericOp::I32Const(number) => {
+            constant(
+                program,
+                stack,
+                operation,
+                Value::I32(number.cast_unsigned()),
+            )
+        }
+        NumericOp::I64Const(number) => {
+            constant(
+                program,
+                stack,
+                operation,
+                Value::I64(number.cast_unsigned()),
+            )
+        }
+        NumericOp::Eqz(kind) => {
+            eqz(program, stack, kind);
+            Ok(Did::Went)
+        }
+        NumericOp::Compare(kind, operation) => {
+            compare(program, stack, kind, operation);
+            Ok(Did::Went)
+        }
+        NumericOp::Unary(kind, operation) => {
+            unary(program, stack, kind, operation);
+            Ok(Did::Went)
+        }
+        NumericOp::Binary(kind, operation) => Ok(binary(program, stack, kind, operation)),
+        NumericOp::Convert(operation) => {
+            convert(program, stack, operation);
+            Ok(Did::Went)
+        }
+    }
+}
