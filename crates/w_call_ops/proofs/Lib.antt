@@ -2,7 +2,7 @@ mod Runs
 mod FirstValues
 mod Arguments
 mod InFunctions
-mod Calling
-mod Invoking
+pub mod Calling
+pub mod Invoking
 mod FindingCallees
-mod Printing
+pub mod Printing

@@ -1,0 +1,4 @@
+mod Steps
+mod Prints
+mod Ends
+mod Applying

@@ -1,0 +1,4 @@
+pub mod Stepped
+pub mod Printing
+pub mod Known
+pub mod Meets

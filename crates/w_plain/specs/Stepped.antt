@@ -1,0 +1,20 @@
+-- What a call comes to that takes one reduction.
+use Rattle.std.specs.Prelude.{◌≡◌, ℕ, List, [], length, Result, Ok, Err}
+use Rattle.std.specs.declared.alloc.AllocError.{AllocError}
+use Rattle.w_syntax.specs.declared.module.Module.{Module}
+use Rattle.w_segment.specs.Shape.{Shape, SameParts}
+use Rattle.w_tables.specs.Store as instances
+use Rattle.w_stands.specs.declared.did.Did.{Did}
+use Rattle.w_stands.specs.Keeps.{KeepsAll}
+use Rattle.w_stands.specs.Steps.{Follows}
+
+-- It did what the rules do, printing these bytes; what held of every value still holds, and there are as many memories.
+pub record Takes (d : Did) (m : Module) (text : List ℕ) (u : instances.Store) (s : Shape) (u' : instances.Store) (s' : Shape) : Type 0 where
+  pub goes : Follows d m text u s u' s'
+  pub keeps : KeepsAll u s u' s'
+  pub memories : length u'.memories ≡ length u.memories
+
+-- it took its reduction, which prints nothing, or memory ran out and all is as it was but for room
+abbrev pub Stepped : Result Did AllocError → Module → instances.Store → Shape → instances.Store → Shape → Type 0
+Stepped (Ok d) m u s u' s' = Takes d m [] u s u' s'
+Stepped (Err e) m u s u' s' = (u' ≡ u) × SameParts s s'

@@ -1,0 +1,83 @@
+//! Control instructions that hold no others.
+ghost use Rattle.std.specs.Prelude.{◌≡◌, Err};
+ghost use Rattle.w_syntax.specs.declared.instructions.Instr.TheVariants as flat;
+ghost use Rattle.w_syntax.specs.declared.instructions.Op.TheVariants as op;
+ghost use Rattle.w_syntax.specs.Packed.{control_of};
+ghost use Rattle.w_outside.specs.Outside.{Rose};
+ghost use Rattle.w_stands.specs.Steps.{MovesAt};
+ghost use Rattle.w_plain.specs.Known.{IsKnown};
+ghost use Rattle.w_plain.specs.Printing.{Printed};
+
+use crate::calls::call;
+use crate::program::Program;
+use crate::stop::Stop;
+use w_call_ops::{callee_by_reference, callee_by_table};
+use w_control_ops::{br, br_if, br_on_non_null, br_on_null, nop, return_, unreachable};
+use w_outside::Sink;
+use w_segment::Stack;
+use w_stands::Did;
+use w_syntax::ShortControlOp;
+use w_tables::Store;
+
+/// A control instruction that holds no list.
+#[tactic(auto, using(crate::proofs::Steps::alone, crate::proofs::Prints::printed_alone, crate::proofs::Prints::printed_trap, crate::proofs::Prints::call_calls))]
+pub(crate) fn control<O: Sink>(
+    program: Program,
+    store: &mut Store,
+    stack: &mut Stack,
+    out: &mut O,
+    operation: ShortControlOp,
+) -> Result<Did, Stop>
+    requires known { IsKnown program.source.now program.classes.now program.functions.now }
+    requires moves { MovesAt (flat.Plain (op.Control (control_of operation))) program.source.now store.old stack.old }
+    ensures step { Printed result (O.held out.old) (O.held out.new) program.entry.source.now store.old stack.old store.new stack.new }
+    ensures cause { result ≡ Err Stop.WriteFault → Rose (O.faults out.old) (O.faults out.new) }
+{
+    let source = program.source;
+    match operation {
+        ShortControlOp::Unreachable => Ok(unreachable(source, stack)),
+        ShortControlOp::Nop => {
+            nop(source, stack);
+            Ok(Did::Went)
+        }
+        ShortControlOp::Br(label) => {
+            br(source, stack, label);
+            Ok(Did::Went)
+        }
+        ShortControlOp::BrIf(label) => {
+            br_if(source, stack, label);
+            Ok(Did::Went)
+        }
+        ShortControlOp::Return => {
+            return_(source, stack);
+            Ok(Did::Went)
+        }
+        ShortControlOp::BrOnNull(label) => {
+            br_on_null(source, stack, label);
+            Ok(Did::Went)
+        }
+        ShortControlOp::BrOnNonNull(label) => {
+            br_on_non_null(source, stack, label);
+            Ok(Did::Went)
+        }
+        ShortControlOp::Call(function) => call(source, store, stack, out, function, 0),
+        ShortControlOp::CallIndirect(kind, table) => {
+            match callee_by_table(
+                source,
+                program.classes,
+                program.functions,
+                store,
+                stack,
+                kind,
+                table,
+            ) {
+                Ok(address) => call(source, store, stack, out, address, 1),
+                Err(trap) => Ok(Did::Trapped(trap)),
+            }
+        }
+        ShortControlOp::CallRef(kind) => match callee_by_reference(source, store, stack, kind) {
+            Ok(address) => call(source, store, stack, out, address, 1),
+            Err(trap) => Ok(Did::Trapped(trap)),
+        },
+    }
+}

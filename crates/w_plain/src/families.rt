@@ -1,0 +1,79 @@
+//! Families of instructions that print nothing, each told in one way.
+ghost use Rattle.std.specs.Prelude.{◌≤◌, [], length};
+ghost use Rattle.w_syntax.specs.declared.instructions.Instr.TheVariants as flat;
+ghost use Rattle.w_syntax.specs.declared.instructions.Op.TheVariants as op;
+ghost use Rattle.w_stands.specs.Steps.{MovesAt};
+ghost use Rattle.w_plain.specs.Stepped.{Stepped, Takes};
+
+use std::alloc::AllocError;
+use w_memory_ops::memory;
+use w_segment::Stack;
+use w_stands::Did;
+use w_syntax::{MemoryOp, Module, NumericOp, ParametricOp, TableOp};
+use w_table_ops::table;
+use w_tables::Store;
+use w_value_ops::{drop_operand, numeric, select};
+
+/// A numeric instruction.
+#[tactic(auto, using(crate::proofs::Steps::alone))]
+pub(crate) fn number(
+    program: &Module,
+    store: &mut Store,
+    stack: &mut Stack,
+    operation: NumericOp,
+) -> Result<Did, AllocError>
+    requires moves { MovesAt (flat.Plain (op.Numeric operation)) program.now store.old stack.old }
+    ensures step { Stepped result program.now store.old stack.old store.new stack.new }
+{
+    let _store = store;
+    numeric(program, stack, operation)
+}
+
+/// A memory instruction.
+pub(crate) fn in_memory(
+    program: &Module,
+    store: &mut Store,
+    stack: &mut Stack,
+    operation: MemoryOp,
+) -> Result<Did, AllocError>
+    requires moves { MovesAt (flat.Plain (op.Memory operation)) program.now store.old stack.old }
+    requires one { length store.old.memories ≤ 1 }
+    ensures step { Stepped result program.now store.old stack.old store.new stack.new }
+{
+    memory(program, store, stack, operation)
+}
+
+/// A table instruction.
+pub(crate) fn in_table(
+    program: &Module,
+    store: &mut Store,
+    stack: &mut Stack,
+    operation: TableOp,
+) -> Result<Did, AllocError>
+    requires moves { MovesAt (flat.Plain (op.Table operation)) program.now store.old stack.old }
+    ensures step { Stepped result program.now store.old stack.old store.new stack.new }
+{
+    table(program, store, stack, operation)
+}
+
+/// A parametric instruction.
+#[tactic(auto, using(crate::proofs::Steps::alone, crate::proofs::Steps::takes_alone))]
+pub(crate) fn parametric(
+    program: &Module,
+    store: &mut Store,
+    stack: &mut Stack,
+    operation: &ParametricOp,
+) -> Did
+    requires moves { MovesAt (flat.Plain (op.Parametric operation.now)) program.now store.old stack.old }
+    ensures step { Takes result program.now [] store.old stack.old store.new stack.new }
+{
+    let _store = store;
+    match operation {
+        ParametricOp::Drop => {
+            drop_operand(program, stack);
+            return Did::Went;
+        }
+        ParametricOp::Select | ParametricOp::SelectOf(_) => select(program, stack, operation),
+    }
+    Did::Went
+}

@@ -1,0 +1,18 @@
+//! One plain reduction: that of the configuration in which a segment's stack stands, with the store, and what it prints (`specs/`).
+#![tactic(auto)]
+
+mod blocks;
+mod calls;
+mod controls;
+mod exits;
+mod families;
+mod instructions;
+mod packed_steps;
+mod program;
+mod reduction;
+mod stop;
+mod values;
+
+pub use program::Program;
+pub use reduction::plain;
+pub use stop::Stop;

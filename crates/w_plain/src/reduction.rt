@@ -1,0 +1,63 @@
+//! One plain reduction of a segment's stack.
+ghost use Rattle.std.specs.Prelude.{◌≡◌, ◌≢◌, ◌≤◌, length, Err};
+ghost use Rattle.w_segment.specs.declared.entry.Stage.TheVariants.{Body, Values};
+ghost use Rattle.w_outside.specs.Outside.{Rose};
+ghost use Rattle.w_plain.specs.Known.{IsKnown};
+ghost use Rattle.w_plain.specs.Meets.{Applies};
+ghost use Rattle.w_plain.specs.Printing.{Printed};
+
+use crate::calls::invoke;
+use crate::exits::leave_end;
+use crate::instructions::instr_at;
+use crate::packed_steps::instruction;
+use crate::program::Program;
+use crate::stop::Stop;
+use w_outside::Sink;
+use w_segment::{Stack, Stage};
+use w_stands::Did;
+use w_tables::Store;
+
+/// One reduction in the body where the stack stands.
+#[tactic(auto, using(crate::proofs::Applying::at_instruction, crate::proofs::Applying::behind_all, crate::proofs::Prints::printed_takes))]
+fn in_body<O: Sink>(
+    program: Program,
+    store: &mut Store,
+    stack: &mut Stack,
+    out: &mut O,
+) -> Result<Did, Stop>
+    requires known { IsKnown program.source.now program.classes.now program.functions.now }
+    requires applies { Applies program.source.now store.old stack.old }
+    requires body { stack.old.stage ≡ Body }
+    requires one { length store.old.memories ≤ 1 }
+    ensures step { Printed result (O.held out.old) (O.held out.new) program.entry.source.now store.old stack.old store.new stack.new }
+    ensures cause { result ≡ Err Stop.WriteFault → Rose (O.faults out.old) (O.faults out.new) }
+{
+    match instr_at(program.source, stack.func(), stack.place()) {
+        Some(packed) => instruction(program, store, stack, out, packed),
+        None => Ok(leave_end(program.source, store, stack)),
+    }
+}
+
+/// One plain reduction (Core, execution): of the configuration in which the stack stands, whatever stands around it, with the store, and
+/// with what it prints. It traps as the rules do, and then nothing changed. It stops where the sink fails or memory runs out: then no
+/// reduction was taken, all is as it was but for room, and the sink has a first part of what the reduction prints, or nothing more.
+#[tactic(auto, using(crate::proofs::Applying::invokes))]
+pub fn plain<O: Sink>(
+    program: Program,
+    store: &mut Store,
+    stack: &mut Stack,
+    out: &mut O,
+) -> Result<Did, Stop>
+    requires known { IsKnown program.source.now program.classes.now program.functions.now }
+    requires applies { Applies program.source.now store.old stack.old }
+    requires inside { stack.old.stage ≢ Values }
+    requires one { length store.old.memories ≤ 1 }
+    ensures step { Printed result (O.held out.old) (O.held out.new) program.entry.source.now store.old stack.old store.new stack.new }
+    ensures cause { result ≡ Err Stop.WriteFault → Rose (O.faults out.old) (O.faults out.new) }
+{
+    match stack.stage() {
+        Stage::Body => in_body(program, store, stack, out),
+        Stage::Fresh => invoke(program.source, store, stack, out),
+        Stage::Branch(_) | Stage::Values => unreachable!(),
+    }
+}
