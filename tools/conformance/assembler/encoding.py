@@ -32,6 +32,6 @@ def indices(numbers):
 
 
 def name(text):
-    """A name, or the bytes of a data segment."""
-    spelling = text.encode()
+    """A name, or the bytes of a data segment, which are given as text or as they are."""
+    spelling = text if isinstance(text, bytes) else text.encode()
     return unsigned(len(spelling)) + spelling

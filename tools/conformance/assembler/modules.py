@@ -38,9 +38,9 @@ def module(**sections):
         section(kind, _contents(kind, sections[kind])) for kind in SECTION_IDS if kind in sections)
 
 
-def imported(extern_type, item='x'):
-    """An import, from a module `m`."""
-    return name('m') + name(item) + extern_type
+def imported(extern_type, item='x', source='m'):
+    """An import of an item from a module."""
+    return name(source) + name(item) + extern_type
 
 
 def as_func(function_type):

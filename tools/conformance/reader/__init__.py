@@ -53,7 +53,7 @@ def _passed_limit(module, types):
 def _context(module):
     """The context of a module, whose imports stand in front."""
     def imported(kind):
-        return [described for name, *described in module.imports if name == kind]
+        return [described for name, *described in (each.type for each in module.imports) if name == kind]
 
     def firsts(kind):
         return [first for first, *_ in imported(kind)]

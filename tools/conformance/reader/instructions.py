@@ -129,34 +129,51 @@ PREFIXED = {
 }
 
 
+class _Open:
+    """A sequence of instructions whose end is not read yet: of an expression, or of a block with this opcode."""
+
+    def __init__(self, opcode=None, shape=None):
+        self.opcode = opcode
+        self.shape = shape
+        self.then = None            # what stands before the else, once this is read
+        self.sequence = []
+
+    def begin_else(self):
+        if self.opcode != IF or self.then is not None:
+            raise Malformed('else')
+        self.then, self.sequence = self.sequence, []
+
+    def block(self):
+        """The block, whose end is read."""
+        if self.opcode != IF:
+            return Instruction(BLOCKS[self.opcode], (self.shape, self.sequence))
+        if self.then is None:
+            return Instruction('if', (self.shape, self.sequence, None))
+        return Instruction('if', (self.shape, self.then, self.sequence))
+
+
 def expression(source):
-    """The instructions up to the end of an expression."""
-    return _sequence(source)[0]
-
-
-def _sequence(source, in_if=False):
-    """The instructions up to an end, or to an else where they stand in an if; and which of these it was."""
-    sequence = []
+    """The instructions up to the end of an expression. Blocks may stand in one another to any depth."""
+    around = []
+    inner = _Open()
     while True:
         opcode = source.byte()
         if opcode == END:
-            return sequence, END
-        if opcode == ELSE:
-            if not in_if:
-                raise Malformed('else')
-            return sequence, ELSE
-        sequence.append(_instruction(source, opcode))
+            if not around:
+                return inner.sequence
+            ended, inner = inner, around.pop()
+            inner.sequence.append(ended.block())
+        elif opcode == ELSE:
+            inner.begin_else()
+        elif opcode in BLOCKS or opcode == IF:
+            around.append(inner)
+            inner = _Open(opcode, block_type(source))
+        else:
+            inner.sequence.append(_instruction(source, opcode))
 
 
 def _instruction(source, opcode):
-    """The instruction with this opcode, whose immediates are read."""
-    if opcode in BLOCKS:
-        return Instruction(BLOCKS[opcode], (block_type(source), expression(source)))
-    if opcode == IF:
-        shape = block_type(source)
-        then, end = _sequence(source, in_if=True)
-        otherwise = expression(source) if end == ELSE else None
-        return Instruction('if', (shape, then, otherwise))
+    """The instruction with this opcode, whose immediates are read. It holds no others."""
     if opcode == PREFIX:
         number = source.unsigned()
         if number not in PREFIXED:
@@ -171,8 +188,9 @@ def _instruction(source, opcode):
 
 def all_instructions(instructions):
     """These instructions, and those in their blocks."""
-    for instruction in instructions:
-        yield instruction
-        if instruction.name in ('block', 'loop', 'if'):
-            for body in instruction.immediates[1:]:
-                yield from all_instructions(body or [])
+    left = [instructions]
+    while left:
+        for instruction in left.pop():
+            yield instruction
+            if instruction.name in ('block', 'loop', 'if'):
+                left += [body for body in instruction.immediates[1:] if body]

@@ -22,8 +22,8 @@ def items(module, context):
     """
     yield from _type_items(module, context)
     context.type_keys = type_keys(module.groups)
-    for number, extern_type in enumerate(module.imports):
-        yield f'import {number}', partial(_check_import, context, *extern_type)
+    for number, each in enumerate(module.imports):
+        yield f'import {number}', partial(_check_import, context, *each.type)
     for number, table in enumerate(module.tables):
         yield f'table {number}', partial(_check_table, context, table)
     yield 'memory', partial(_check_memories, context, module.memories)
@@ -32,8 +32,8 @@ def items(module, context):
     yield from _global_items(module, context)
     for number, element in enumerate(module.elements):
         yield f'element {number}', partial(_check_element, context, element)
-    for number, active in enumerate(module.datas):
-        yield f'data {number}', partial(_check_data, context, active)
+    for number, data in enumerate(module.datas):
+        yield f'data {number}', partial(_check_data, context, data.active)
     if module.start is not None:
         yield 'start', partial(_check_start, context, module.start)
     names = set()

@@ -13,6 +13,14 @@ HEADER = b'\x00asm\x01\x00\x00\x00'
 GREATEST_KIND = 4       # of exports
 
 
+class Import(NamedTuple):
+    """An import: the names of a module and of an item, and its type, whose kind stands in front."""
+
+    module: bytes
+    item: bytes
+    type: tuple
+
+
 class Table(NamedTuple):
     """A table, with its initial expression where there is one."""
 
@@ -49,7 +57,15 @@ class Element(NamedTuple):
 
     type: Ref
     active: Active | None
+    declarative: bool
     items: list
+
+
+class Data(NamedTuple):
+    """A data segment."""
+
+    active: Active | None
+    bytes: bytes
 
 
 class Code(NamedTuple):
@@ -61,7 +77,7 @@ class Code(NamedTuple):
 
 @dataclass
 class Module:
-    """A module. Functions and tags stand for the indices of their types, data segments for where they go."""
+    """A module. Functions and tags stand for the indices of their types."""
 
     groups: list = field(default_factory=list)
     imports: list = field(default_factory=list)
@@ -79,10 +95,7 @@ class Module:
 
 
 def _import(source):
-    """The type of an import, whose names are left out."""
-    source.name()
-    source.name()
-    return extern_type(source)
+    return Import(source.name(), source.name(), extern_type(source))
 
 
 def _table(source):
@@ -112,14 +125,15 @@ def _element(source):
     active = None
     if not flag & 1:
         active = Active(index(source) if flag & 2 else 0, expression(source))
+    declarative = flag & 3 == 3
     tells_type = flag & 3
     if flag & 4:
         segment_type = ref_type(source) if tells_type else FUNCREF
-        return Element(segment_type, active, source.vector(expression))
+        return Element(segment_type, active, declarative, source.vector(expression))
     if tells_type and source.byte():
         raise Malformed('elemkind')
     items = [[Instruction('ref.func', (function,))] for function in source.vector(index)]
-    return Element(Ref(False, 'func'), active, items)
+    return Element(Ref(False, 'func'), active, declarative, items)
 
 
 def _data(source):
@@ -129,8 +143,7 @@ def _data(source):
     active = None
     if flag != 1:
         active = Active(index(source) if flag == 2 else 0, expression(source))
-    source.bytes()
-    return active
+    return Data(active, source.bytes())
 
 
 def _run(source):

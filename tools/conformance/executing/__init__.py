@@ -1,0 +1,69 @@
+"""A second reader of execution: it runs modules that don't switch stacks, and counts their reductions.
+
+It rests on the standard, and shares nothing with the assembler. Modules are read and judged by `reader`.
+"""
+
+from executing.ends import Exceeded, Trap
+from executing.instantiating import Refused, instantiated
+from executing.numbers import WIDTHS, signed
+from executing.running import run
+from reader import answer
+from reader.byte_source import Malformed
+from reader.module_decoding import decode
+
+USUAL_STEPS = 100000000
+GREATEST_FILE = 16777216        # bytes
+GREATEST_JUDGED = 100000        # bytes; a module that is larger is taken for valid
+VALID = 'ok module'
+STATUSES = {'malformed': 3, 'invalid': 4, 'limit': 9}
+
+
+def outcome_of(module_bytes, steps=USUAL_STEPS):
+    """What running these bytes for so many reductions is to come to: out, err and the status."""
+    said = _said_before_a_run(module_bytes)
+    if said != VALID:
+        return _refusal(said, STATUSES[said.split()[0]])
+    module = decode(module_bytes)
+    try:
+        store, main = instantiated(module)
+    except Refused as refusal:
+        return _refusal(refusal, 4)
+    except Exceeded as limit:
+        return _refusal(f'limit {limit}', 9)
+    except Trap as trap:
+        return _refusal(f'trap {trap}', 1)
+    return _told(module, main, run(module, store, main, steps))
+
+
+def _said_before_a_run(module_bytes):
+    """What is said of the bytes where they aren't a module that may be run."""
+    if len(module_bytes) > GREATEST_FILE:
+        return 'limit input'
+    if len(module_bytes) <= GREATEST_JUDGED:
+        return answer(module_bytes)
+    try:
+        decode(module_bytes)
+    except Malformed as fault:
+        return f'malformed {fault}'
+    return VALID
+
+
+def steps_of(module_bytes):
+    """How many reductions the run of a module takes that can be run."""
+    module = decode(module_bytes)
+    return run(module, *instantiated(module), USUAL_STEPS).taken
+
+
+def _refusal(line, status):
+    return b'', f'{line}\n'.encode(), status
+
+
+def _told(module, main, outcome):
+    """What is written of an outcome: what was printed, and then each value, signed, or the line."""
+    if outcome.values is None:
+        return outcome.printed, f'{outcome.line}\n'.encode(), outcome.status
+    types = [comp_type for group in module.groups for comp_type in group]
+    results = types[module.functions[main - len(module.imports)]].results
+    lines = ''.join(
+        f'= {signed(WIDTHS[value_type], value)}\n' for value_type, value in zip(results, outcome.values, strict=True))
+    return outcome.printed + lines.encode(), b'', outcome.status
