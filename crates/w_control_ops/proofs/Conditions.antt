@@ -30,7 +30,7 @@ use Rattle.w_stands.specs.GoingOn.{dropped, IsBehind}
 use Rattle.w_stands.specs.Steps.{MovesAlone, FollowsAlone}
 use Rattle.w_stands.specs.Taking.{Kind, Number, Any, Bits, Is, Going, IsTaking, AreOf, taken_of}
 use Rattle.w_stands.proofs.Following.{dropped_behind, take_needs, take_follows}
-use Rattle.w_control_ops.specs.Nulls.{is_null}
+use Rattle.w_stands.specs.References.{is_null}
 use Rattle.w_control_ops.proofs.Branching.{Beneath, IsBranched, IsBranching, taken_there, taken_follows, branch_keeps}
 
 -- ## The rules, by the operand that they take

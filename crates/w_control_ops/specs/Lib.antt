@@ -1,4 +1,3 @@
-pub mod Nulls
 pub mod Ended
 pub mod Exits
 pub mod Entering

@@ -1,26 +1,15 @@
 //! Branches by whether a reference is null (Core, execution, control instructions).
-ghost use Rattle.std.specs.Prelude.{◌≡◌};
 ghost use Rattle.w_syntax.specs.declared.instructions.Instr.TheVariants as flat;
 ghost use Rattle.w_syntax.specs.declared.instructions.Op.TheVariants as op;
 ghost use Rattle.w_syntax.specs.declared.instructions.ControlOp.TheVariants as control;
 ghost use Rattle.w_stands.specs.Keeps.{Keeps};
 ghost use Rattle.w_stands.specs.Steps.{MovesAlone, FollowsAlone};
 ghost use Rattle.w_stands.specs.declared.did.Did.TheVariants as did;
-ghost use Rattle.w_control_ops.specs.Nulls.{is_null};
 
 use crate::branch_steps::drop_and_branch;
 use w_segment::Stack;
-use w_stands::drop_next;
+use w_stands::{drop_next, is_null};
 use w_syntax::Module;
-use w_types::Value;
-
-// Whether a reference is null.
-#[inline(always)]
-fn is_null(value: Value) -> bool
-    ensures { result ≡ is_null value }
-{
-    matches!(&value, Value::Null)
-}
 
 /// `br_on_null` (Core, execution, control instructions: br_on_null): the branch leaves the null.
 pub fn br_on_null(program: &Module, stack: &mut Stack, label: u32)

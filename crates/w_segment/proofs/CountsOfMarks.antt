@@ -12,13 +12,13 @@ use Rattle.w_segment.specs.declared.stack.Mark.TheVariants as mark
 pub frames_are : (es : List Mark) (vs : List Value) (ls : List (Option Value)) (k : ℕ) → frames_of (levels_of es vs ls k) ≡ frames_in es
 frames_are [] vs ls k = refl
 frames_are (mark.Label n t b ∷ es) vs ls k = frames_are es (take b vs) ls k
-frames_are (mark.Frame n f p b j ∷ es) vs ls k = ap suc (frames_are es (take b vs) (take k ls) j)
+frames_are (mark.Frame n f p b j outer ∷ es) vs ls k = ap suc (frames_are es (take b vs) (take k ls) j)
 
 -- there are no more frames than marks
 pub frames_few : (es : List Mark) → frames_in es ≤ length es
 frames_few [] = omega arith
 frames_few (mark.Label n t b ∷ es) = let h = frames_few es in omega arith
-frames_few (mark.Frame n f p b j ∷ es) = let h = frames_few es in omega arith
+frames_few (mark.Frame n f p b j outer ∷ es) = let h = frames_few es in omega arith
 
 -- operands inside and below are all operands
 pub high : (es : List Mark) (vs : List Value) (ls : List (Option Value)) (k : ℕ) → Ordered es (length vs) (length ls) k → length (own es vs) + below_all (levels_of es vs ls k) ≡ length vs
@@ -28,24 +28,24 @@ high (mark.Label n t b ∷ es) vs ls k o =
     let h = high es (take b vs) ls k (subst (λ (v : ℕ). Ordered es v (length ls) k) (sym q) o.2) in
     let l = own_long (mark.Label n t b ∷ es) vs in
     let g = o.0 in omega (arith, l, h, q, g)
-high (mark.Frame n f p b j ∷ es) vs ls k o =
+high (mark.Frame n f p b j outer ∷ es) vs ls k o =
     let q = length-take-le b vs o.0 in
     let u = length-take-le k ls o.2 in
     let h = high es (take b vs) (take k ls) j (subst (λ (v : ℕ). Ordered es v (length (take k ls)) j) (sym q) (subst (λ (l : ℕ). Ordered es b l j) (sym u) o.3)) in
-    let l = own_long (mark.Frame n f p b j ∷ es) vs in
+    let l = own_long (mark.Frame n f p b j outer ∷ es) vs in
     let g = o.0 in omega (arith, l, h, q, g)
 
 -- there are as many levels as marks
 pub long : (es : List Mark) (vs : List Value) (ls : List (Option Value)) (k : ℕ) → length (levels_of es vs ls k) ≡ length es
 long [] vs ls k = refl
 long (mark.Label n t b ∷ es) vs ls k = ap suc (long es (take b vs) ls k)
-long (mark.Frame n f p b j ∷ es) vs ls k = ap suc (long es (take b vs) (take k ls) j)
+long (mark.Frame n f p b j outer ∷ es) vs ls k = ap suc (long es (take b vs) (take k ls) j)
 
 -- the locals of all frames are all locals
 pub wide : (es : List Mark) (vs : List Value) (ls : List (Option Value)) (v k : ℕ) → Ordered es v (length ls) k → locals_all (levels_of es vs ls k) ≡ length ls
 wide [] vs ls v k o = sym o
 wide (mark.Label n t b ∷ es) vs ls v k o = wide es (take b vs) ls b k o.2
-wide (mark.Frame n f p b j ∷ es) vs ls v k o =
+wide (mark.Frame n f p b j outer ∷ es) vs ls v k o =
     let u = length-take-le k ls o.2 in
     let h = wide es (take b vs) (take k ls) b j (subst (λ (l : ℕ). Ordered es b l j) (sym u) o.3) in
     let d = length-drop k ls in
@@ -55,7 +55,7 @@ wide (mark.Frame n f p b j ∷ es) vs ls v k o =
 pub labels_are : (es : List Mark) (vs : List Value) (ls : List (Option Value)) (k : ℕ) → labels_of (levels_of es vs ls k) + frames_in es ≡ length es
 labels_are [] vs ls k = refl
 labels_are (mark.Label n t b ∷ es) vs ls k = let h = labels_are es (take b vs) ls k in omega (arith, h)
-labels_are (mark.Frame n f p b j ∷ es) vs ls k = let h = labels_are es (take b vs) (take k ls) j in omega (arith, h)
+labels_are (mark.Frame n f p b j outer ∷ es) vs ls k = let h = labels_are es (take b vs) (take k ls) j in omega (arith, h)
 
 -- what fits a shape fits its flat lists
 pub fits_flat : (es : List Mark) (vs : List Value) (ls : List (Option Value)) (k v l n : ℕ) (s t : Shape) → s ≡ t → s.levels ≡ levels_of es vs ls k → s.operands ≡ own es vs

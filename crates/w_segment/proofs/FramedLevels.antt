@@ -11,11 +11,11 @@ use Rattle.w_segment.proofs.OwnOperands.{base_le, levels_split, own_long, top_of
 use Rattle.w_segment.specs.declared.stack.Mark.TheVariants as mark
 
 -- the frame of the operands from b on
-pub framed_levels : (es : List Mark) (vs : List Value) (ls ls' : List (Option Value)) (n f p j k b params count : ℕ) → Ordered es (length vs) (length ls) j
+pub framed_levels : (es : List Mark) (vs : List Value) (ls ls' : List (Option Value)) (n f p j outer k b params count : ℕ) → Ordered es (length vs) (length ls) j
     → params ≤ length (own es vs) → b ≡ length vs - params → k ≡ length ls → ls' ≡ (ls ++ map (λ (v : Value). Some v) (drop b vs)) ++ replicate count None
-    → (levels_of (mark.Frame n f p b j ∷ es) (take b vs) ls' k ≡ Frame (drop params (own es vs)) n (map (λ (v : Value). Some v) (reverse (take params (own es vs))) ++ replicate count None) f p ∷ levels_of es vs ls j)
-    × (own (mark.Frame n f p b j ∷ es) (take b vs) ≡ []) × Ordered (mark.Frame n f p b j ∷ es) (length (take b vs)) (length ls') k × (length ls' ≡ length ls + (params + count)) × (b + params ≡ length vs)
-framed_levels es vs ls ls' n f p j k b params count o fits be ke e =
+    → (levels_of (mark.Frame n f p b j outer ∷ es) (take b vs) ls' k ≡ Frame (drop params (own es vs)) n (map (λ (v : Value). Some v) (reverse (take params (own es vs))) ++ replicate count None) f p ∷ levels_of es vs ls j)
+    × (own (mark.Frame n f p b j outer ∷ es) (take b vs) ≡ []) × Ordered (mark.Frame n f p b j outer ∷ es) (length (take b vs)) (length ls') k × (length ls' ≡ length ls + (params + count)) × (b + params ≡ length vs)
+framed_levels es vs ls ls' n f p j outer k b params count o fits be ke e =
     let le = base_le es (length vs) (length ls) j o in
     let t = top_of es vs params b fits le be in
     let long = length-take-le b vs t.3 in

@@ -5,7 +5,7 @@ use Rattle.std.proofs.lemmas.Option.{slice_get_within}
 use Rattle.w_types.specs.declared.value.Value.{Value}
 use Rattle.w_segment.specs.declared.stack.Mark.{Mark}
 use Rattle.w_segment.specs.Shape.{Target, label_at}
-use Rattle.w_segment.specs.Flat.{base, own, levels_of, Ordered, frames_in}
+use Rattle.w_segment.specs.Flat.{base, own, levels_of, Ordered, frames_in, inner_in, Nested}
 use Rattle.w_segment.proofs.PartsOfLists.{take_take, reverse_take, reverse_get, some_is}
 use Rattle.w_segment.proofs.OwnOperands.{kept_top, kept_levels, ordered_more}
 use Rattle.w_segment.specs.declared.stack.Mark.TheVariants as mark
@@ -20,13 +20,15 @@ pub record Reached (es : List Mark) (vs : List Value) (ls : List (Option Value))
   pub under : base (drop (suc l) es) ≤ at
   pub ordered : Ordered (drop (suc l) es) at (length ls) k
   pub frames : frames_in (drop (suc l) es) ≡ frames_in es
+  pub frame : inner_in (drop (suc l) es) ≡ inner_in es
+  pub nested : Nested es → Nested (drop (suc l) es)
 
 -- a label that is there has its mark so many places before the last
 pub reached : (es : List Mark) (vs : List Value) (ls : List (Option Value)) (k l : ℕ) (t : Target) → Ordered es (length vs) (length ls) k
     → label_at l (levels_of es vs ls k) ≡ Some t → Reached es vs ls k l t
 reached [] vs ls k l t o h = absurd cc
-reached (mark.Frame n f p b j ∷ es) vs ls k zero t o h = absurd cc
-reached (mark.Frame n f p b j ∷ es) vs ls k (suc l) t o h = absurd cc
+reached (mark.Frame n f p b j outer ∷ es) vs ls k zero t o h = absurd cc
+reached (mark.Frame n f p b j outer ∷ es) vs ls k (suc l) t o h = absurd cc
 reached (mark.Label n u b ∷ es) vs ls k zero t o h =
     let e : record { below = own es (take b vs); arity = n; target = u; outer = levels_of es (take b vs) ls k } ≡ t = some_is h in
     record {
@@ -38,6 +40,8 @@ reached (mark.Label n u b ∷ es) vs ls k zero t o h =
       under = o.1;
       ordered = o.2;
       frames = refl;
+      frame = refl;
+      nested = λ g. g;
     }
 reached (mark.Label n u b ∷ es) vs ls k (suc l) t o h =
     let m = length-take-le b vs o.0 in
@@ -54,6 +58,8 @@ reached (mark.Label n u b ∷ es) vs ls k (suc l) t o h =
       under = r.under;
       ordered = r.ordered;
       frames = r.frames;
+      frame = r.frame;
+      nested = r.nested;
     }
 
 -- the mark at place p, with this arity, target and count of operands below, is that of the label l, which leads to t; marks stand
@@ -67,10 +73,12 @@ pub record IsLabel (xs : List Mark) (vs : List Value) (ls : List (Option Value))
   pub under : base (drop (suc l) (reverse xs)) ≤ b
   pub ordered : Ordered (drop (suc l) (reverse xs)) b (length ls) k
   pub frames : frames_in (drop (suc l) (reverse xs)) ≡ frames_in (reverse xs)
+  pub frame : inner_in (drop (suc l) (reverse xs)) ≡ inner_in (reverse xs)
+  pub nested : Nested (reverse xs) → Nested (drop (suc l) (reverse xs))
   pub marks : reverse (take p xs) ≡ drop (suc l) (reverse xs)
 
 -- the item so many places before the last one is the mark of a label that is there
-mark_at : (xs : List Mark) (l p : ℕ) (d e : Mark) → slice_get (reverse xs) l ≡ Some d → p ≡ length xs - 1 - l → e ≡ get_or xs p e → (l < length xs) × (e ≡ d)
+pub mark_at : (xs : List Mark) (l p : ℕ) (d e : Mark) → slice_get (reverse xs) l ≡ Some d → p ≡ length xs - 1 - l → e ≡ get_or xs p e → (l < length xs) × (e ≡ d)
 mark_at xs l p d e r q h = let g = reverse_get xs l d e r in (g.0, h ∙ ap (λ (j : ℕ). get_or xs j e) q ∙ g.1)
 
 pub label_within : (es : List Mark) (vs : List Value) (ls : List (Option Value)) (k l : ℕ) (t : Target) → Ordered es (length vs) (length ls) k
@@ -94,16 +102,18 @@ label_is xs vs ls k l p t e n u b o h q i m =
       under = (let z = r.under in omega (arith, z, at));
       ordered = subst (λ (j : ℕ). Ordered (drop (suc l) (reverse xs)) j (length ls) k) at r.ordered;
       frames = r.frames;
+      frame = r.frame;
+      nested = r.nested;
       marks = reverse_take p (suc l) xs (omega (arith, w, q));
     }
 
 -- and not that of a frame
-pub label_is_no_frame : (xs : List Mark) (vs : List Value) (ls : List (Option Value)) (k l p : ℕ) (t : Target) (e : Mark) (n f j b first : ℕ) → Ordered (reverse xs) (length vs) (length ls) k
-    → label_at l (levels_of (reverse xs) vs ls k) ≡ Some t → p ≡ length xs - 1 - l → e ≡ get_or xs p e → e ≡ mark.Frame n f j b first → ⊥
-label_is_no_frame xs vs ls k l p t e n f j b first o h q i m =
+pub label_is_no_frame : (xs : List Mark) (vs : List Value) (ls : List (Option Value)) (k l p : ℕ) (t : Target) (e : Mark) (n f j b first out : ℕ) → Ordered (reverse xs) (length vs) (length ls) k
+    → label_at l (levels_of (reverse xs) vs ls k) ≡ Some t → p ≡ length xs - 1 - l → e ≡ get_or xs p e → e ≡ mark.Frame n f j b first out → ⊥
+label_is_no_frame xs vs ls k l p t e n f j b first out o h q i m =
     let r = reached (reverse xs) vs ls k l t o h in
     let g = mark_at xs l p (mark.Label t.arity t.target r.at) e r.is q i in
-    let same : mark.Frame n f j b first ≡ mark.Label t.arity t.target r.at = sym m ∙ g.1 in
+    let same : mark.Frame n f j b first out ≡ mark.Label t.arity t.target r.at = sym m ∙ g.1 in
     cc
 
 -- ## The flat lists after the branch
@@ -111,6 +121,15 @@ label_is_no_frame xs vs ls k l p t e n f j b first o h q i m =
 pub branched_frames : {xs ys : List Mark} {vs : List Value} {ls : List (Option Value)} {k l p n u b : ℕ} {t : Target} → IsLabel xs vs ls k l p t n u b → ys ≡ take p xs
     → frames_in (reverse ys) ≡ frames_in (reverse xs)
 branched_frames f e = ap (λ (zs : List Mark). frames_in (reverse zs)) e ∙ ap frames_in f.marks ∙ f.frames
+
+-- labels alone are gone, so that the innermost frame is the same
+pub branched_inner : {xs ys : List Mark} {vs : List Value} {ls : List (Option Value)} {k l p n u b : ℕ} {t : Target} → IsLabel xs vs ls k l p t n u b → ys ≡ take p xs
+    → inner_in (reverse ys) ≡ inner_in (reverse xs)
+branched_inner f e = ap (λ (zs : List Mark). inner_in (reverse zs)) e ∙ ap inner_in f.marks ∙ f.frame
+
+pub branched_nested : {xs ys : List Mark} {vs : List Value} {ls : List (Option Value)} {k l p n u b : ℕ} {t : Target} → IsLabel xs vs ls k l p t n u b → ys ≡ take p xs
+    → Nested (reverse xs) → Nested (reverse ys)
+branched_nested f e g = subst Nested (sym (ap reverse e ∙ f.marks)) (f.nested g)
 
 module _ {xs ys : List Mark} {vs ws : List Value} {ls : List (Option Value)} {k l p n u b : ℕ} {t : Target} where
   pub branched_levels : IsLabel xs vs ls k l p t n u b → ys ≡ take p xs → base (reverse xs) ≤ length vs → ws ≡ take b vs ++ drop (length vs - n) vs

@@ -21,10 +21,10 @@ left_label xs es b n t vs ls k s e o l p =
     ∙ same_shape _ _ (sym (levels_split es vs ls k b q.1 q.0)) op refl refl refl refl
 
 -- without a frame
-pub left_frame : (xs es : List Mark) (b n f p j : ℕ) (vs : List Value) (ls : List (Option Value)) (k : ℕ) (s : Shape) → xs ≡ mark.Frame n f p b j ∷ es
+pub left_frame : (xs es : List Mark) (b n f p j outer : ℕ) (vs : List Value) (ls : List (Option Value)) (k : ℕ) (s : Shape) → xs ≡ mark.Frame n f p b j outer ∷ es
     → Ordered xs (length vs) (length ls) k → s.levels ≡ levels_of xs vs ls k → s.operands ≡ own xs vs
     → left s ≡ record s { levels = levels_of es vs (take k ls) j; operands = own es vs; func = f; place = p }
-left_frame xs es b n f p j vs ls k s e o l q =
+left_frame xs es b n f p j outer vs ls k s e o l q =
     let r = subst (λ (ys : List Mark). Ordered ys (length vs) (length ls) k) e o in
     let lv : s.levels ≡ Frame (own es (take b vs)) n (drop k ls) f p ∷ levels_of es (take b vs) (take k ls) j = l ∙ ap (λ (ys : List Mark). levels_of ys vs ls k) e in
     let op : s.operands ++ own es (take b vs) ≡ own es vs = ap (λ (ws : List Value). ws ++ own es (take b vs)) (q ∙ ap (λ (ys : List Mark). own ys vs) e) ∙ sym (own_split es vs b r.1 r.0) in

@@ -6,7 +6,6 @@ mod CountsOfMarks
 mod SameShapes
 mod LeftLevels
 mod FramedLevels
-mod KeptOperands
 mod ReturnedFrames
 pub mod Holding
 pub mod MoreLocals

@@ -12,7 +12,7 @@ use Rattle.w_segment.specs.declared.stack.Mark.TheVariants as mark
 pub base_le : (es : List Mark) (v l k : ℕ) → Ordered es v l k → base es ≤ v
 base_le [] v l k h = omega arith
 base_le (mark.Label n t b ∷ es) v l k h = h.0
-base_le (mark.Frame n f p b j ∷ es) v l k h = h.0
+base_le (mark.Frame n f p b j outer ∷ es) v l k h = h.0
 
 -- operands on top stand inside
 pub own_over : (es : List Mark) (low high : List Value) → base es ≤ length low → own es (low ++ high) ≡ reverse high ++ own es low
@@ -23,7 +23,7 @@ pub levels_over : (es : List Mark) (low high : List Value) (ls : List (Option Va
 levels_over [] low high ls k h = refl
 levels_over (mark.Label n t b ∷ es) low high ls k h =
     ap (λ (vs : List Value). Label (own es vs) n t ∷ levels_of es vs ls k) (take-append-le b low high h)
-levels_over (mark.Frame n f p b j ∷ es) low high ls k h =
+levels_over (mark.Frame n f p b j outer ∷ es) low high ls k h =
     ap (λ (vs : List Value). Frame (own es vs) n (drop k ls) f p ∷ levels_of es vs (take k ls) j) (take-append-le b low high h)
 
 -- the same, where the operands are split at b
@@ -73,10 +73,10 @@ kept_levels es vs ws high ls k b h g e =
 pub ordered_more : (es : List Mark) (v w l k : ℕ) → v ≤ w → Ordered es v l k → Ordered es w l k
 ordered_more [] v w l k h o = o
 ordered_more (mark.Label n t b ∷ es) v w l k h o = let a = o.0 in (omega arith, o.1, o.2)
-ordered_more (mark.Frame n f p b j ∷ es) v w l k h o = let a = o.0 in (omega arith, o.1, o.2, o.3)
+ordered_more (mark.Frame n f p b j outer ∷ es) v w l k h o = let a = o.0 in (omega arith, o.1, o.2, o.3)
 
 -- and with fewer, down to what stands below those inside
 pub ordered_less : (es : List Mark) (v w l k : ℕ) → base es ≤ w → Ordered es v l k → Ordered es w l k
 ordered_less [] v w l k h o = o
 ordered_less (mark.Label n t b ∷ es) v w l k h o = (h, o.1, o.2)
-ordered_less (mark.Frame n f p b j ∷ es) v w l k h o = (h, o.1, o.2, o.3)
+ordered_less (mark.Frame n f p b j outer ∷ es) v w l k h o = (h, o.1, o.2, o.3)

@@ -20,10 +20,6 @@ popped s = record s { operands = drop 1 s.operands }
 abbrev pub discarded : ℕ → Shape → Shape
 discarded n s = record s { operands = drop n s.operands }
 
--- only the topmost n stay
-abbrev pub kept : ℕ → Shape → Shape
-kept n s = record s { operands = take n s.operands }
-
 -- ## Levels
 
 -- a label around the topmost operands

@@ -46,12 +46,6 @@ is_in_label [] = false
 is_in_label (Label below n t ∷ ls) = true
 is_in_label (Frame below n locals f p ∷ ls) = false
 
--- the arity of the innermost level
-abbrev pub arity_of : List Level → ℕ
-arity_of [] = 0
-arity_of (Label below n t ∷ ls) = n
-arity_of (Frame below n locals f p ∷ ls) = n
-
 -- where a branch to the innermost level leads, where that is a label
 abbrev pub target_of : List Level → ℕ
 target_of [] = 0

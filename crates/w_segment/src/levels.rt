@@ -6,7 +6,7 @@ use crate::stack::{Mark, Stack};
 
 impl Stack {
     ghost use Rattle.std.specs.Prelude.{◌≡◌, ◌+◌, ◌<◌, ◌≤◌, Some, length};
-    ghost use Rattle.w_segment.specs.Shape.{locals_all, label_at, frame_at, is_in_label, arity_of, target_of, Target, Caller, IsAt, IsIn};
+    ghost use Rattle.w_segment.specs.Shape.{locals_all, label_at, frame_at, is_in_label, target_of, Target, Caller, IsAt, IsIn};
     ghost use Rattle.w_segment.specs.Changes.{labelled, framed, left, branched, returned};
     ghost use Rattle.w_segment.specs.Entered.{params_of, LocalsFit, entered};
 
@@ -45,9 +45,11 @@ impl Stack {
             back: self.place,
             below,
             first: self.first,
+            outer: self.inner,
         });
         self.frames += 1;
         self.first = first;
+        self.inner = self.marks.len();
         self.func = func;
         self.place = 0;
         self.stage = Stage::Body;
@@ -92,11 +94,13 @@ impl Stack {
                 caller,
                 back,
                 first,
+                outer,
                 ..
             } => {
                 self.frames -= 1;
                 self.locals.truncate(self.first);
                 self.first = first;
+                self.inner = outer;
                 self.func = caller;
                 self.place = back;
                 false
@@ -138,35 +142,32 @@ impl Stack {
         }
     }
 
-    // Whether the innermost level is a label.
-    fn is_in_label(&self) -> bool
-        ensures answer { result ≡ is_in_label self.now.levels }
-    {
-        matches!(self.marks.last(), Some(Mark::Label { .. }))
-    }
-
-    // The arity of the innermost level.
-    fn arity(&self) -> u32
-        ensures value { result ≡ arity_of self.now.levels }
-    {
-        match self.marks.last() {
-            None => 0,
-            Some(Mark::Label { arity, .. }) => *arity,
-            Some(Mark::Frame { arity, .. }) => *arity,
-        }
-    }
-
     /// Leaves the innermost frame, whatever labels stand in it, where there is one and its arity of operands is there: the topmost
     /// `arity` operands stand on those below it, and the place is where its caller goes on (Core, execution: return).
     pub fn returns(&mut self)
         requires there { IsIn self.old }
         ensures after { (c : Caller) → frame_at self.old.levels ≡ Some c → self.new ≡ returned c self.old }
     {
-        while self.is_in_label() {
-            let _label = self.leave();
+        let frame = self.inner - 1;
+        match self.marks[frame] {
+            Mark::Frame {
+                arity: results,
+                caller,
+                back,
+                below,
+                first,
+                outer,
+            } => {
+                keep_top(&mut self.operands, below, results as usize);
+                self.marks.truncate(frame);
+                self.locals.truncate(self.first);
+                self.frames -= 1;
+                self.first = first;
+                self.inner = outer;
+                self.func = caller;
+                self.place = back;
+            }
+            Mark::Label { .. } => unreachable!(),
         }
-        let arity = self.arity();
-        self.keep(arity as usize);
-        let _frame = self.leave();
     }
 }

@@ -1,13 +1,13 @@
 //! The operands inside the innermost label or frame.
 
-use crate::lists::{keep_top, push_values};
+use crate::lists::push_values;
 use crate::stack::{Stack, below};
 use w_types::Value;
 
 impl Stack {
     ghost use Rattle.std.specs.Prelude.{◌≡◌, ◌+◌, ◌<◌, ◌≤◌, ◌∷◌, length, drop, take, reverse};
     ghost use Rattle.w_segment.specs.Shape.{height};
-    ghost use Rattle.w_segment.specs.Changes.{pushed, popped, discarded, kept, pushed_all};
+    ghost use Rattle.w_segment.specs.Changes.{pushed, popped, discarded, pushed_all};
 
     /// Puts an operand on top, where there is room: no memory is taken.
     #[inline]
@@ -71,15 +71,6 @@ impl Stack {
         ensures room { height self.new + count ≤ self.new.capacity.operands }
     {
         self.operands.truncate(self.operands.len() - count);
-    }
-
-    // Keeps only so many of the operands inside, the topmost ones.
-    pub(crate) fn keep(&mut self, count: usize)
-        requires some { count ≤ length self.old.operands }
-        ensures after { self.new ≡ kept count self.old }
-    {
-        let base = below(&self.marks);
-        keep_top(&mut self.operands, base, count);
     }
 
     /// Puts operands on top, the first one first, where there is room: no memory is taken.

@@ -14,14 +14,15 @@ pub(crate) enum Mark {
         target: u32,
         below: usize,
     },
-    /// How many results the frame gives, which function called and at which place that goes on, how many operands stand below, and
-    /// where the caller's locals begin.
+    /// How many results the frame gives, which function called and at which place that goes on, how many operands stand below, where
+    /// the caller's locals begin, and how many marks there are up to and with the caller's frame.
     Frame {
         arity: u32,
         caller: u32,
         back: u32,
         below: usize,
         first: usize,
+        outer: usize,
     },
 }
 
@@ -53,6 +54,8 @@ pub struct Stack {
     pub(crate) locals: Vec<Option<Value>>,
     // where the locals of the innermost frame begin
     pub(crate) first: usize,
+    // how many marks there are up to and with the innermost frame's, 0 where there is none
+    pub(crate) inner: usize,
     // how many frames there are
     pub(crate) frames: u32,
     pub(crate) func: u32,
@@ -66,7 +69,7 @@ impl Model for Stack {
 
     ghost Value = { Shape };
 
-    ghost use Rattle.w_segment.specs.Flat.{own, levels_of, Ordered, frames_in};
+    ghost use Rattle.w_segment.specs.Flat.{own, levels_of, Ordered, frames_in, inner_in, Nested};
     ghost use Rattle.w_segment.specs.declared.stack.TheConstants.{MOST_LEVELS};
 
     ghost view = { λ a. record {
@@ -78,7 +81,7 @@ impl Model for Stack {
       capacity = record { operands = vec_capacity a.operands; levels = min (vec_capacity a.marks) MOST_LEVELS; locals = vec_capacity a.locals };
     } };
 
-    ghost invariant = { λ a. Ordered (reverse a.marks.items) (length a.operands.items) (length a.locals.items) a.first × (a.frames ≡ frames_in (reverse a.marks.items)) };
+    ghost invariant = { λ a. Ordered (reverse a.marks.items) (length a.operands.items) (length a.locals.items) a.first × (a.frames ≡ frames_in (reverse a.marks.items)) × (a.inner ≡ inner_in (reverse a.marks.items)) × Nested (reverse a.marks.items) };
 }
 
 impl Stack {
@@ -96,6 +99,7 @@ impl Stack {
             marks: Vec::new(alloc),
             locals: Vec::new(alloc),
             first: 0,
+            inner: 0,
             frames: 0,
             func,
             place: 0,

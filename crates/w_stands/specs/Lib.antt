@@ -1,5 +1,6 @@
 pub mod Values
 pub mod Numbers
+pub mod References
 pub mod Code
 pub mod Stands
 pub mod Steps

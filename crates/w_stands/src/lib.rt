@@ -9,4 +9,4 @@ mod operands;
 pub use did::Did;
 pub use going_on::{drop_next, next, push_next, replace};
 pub use laws::bodies_are_read;
-pub use operands::{i32_of, i64_of, top_three, top_two};
+pub use operands::{i32_of, i64_of, is_null, top_three, top_two};

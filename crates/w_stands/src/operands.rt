@@ -2,6 +2,7 @@
 ghost use Rattle.std.specs.Prelude.{◌≡◌, ◌≤◌, ◌∷◌, drop, length};
 ghost use Rattle.w_syntax.specs.declared.numeric.IntType.TheVariants as int;
 ghost use Rattle.w_stands.specs.Numbers.{IsNumber, bits_in};
+ghost use Rattle.w_stands.specs.References.{is_null};
 
 use w_segment::Stack;
 use w_types::Value;
@@ -28,6 +29,14 @@ pub fn i64_of(value: Value) -> u64
         Value::I64(bits) => bits,
         _ => unreachable!(),
     }
+}
+
+/// Whether it is the null reference.
+#[inline(always)]
+pub fn is_null(value: Value) -> bool
+    ensures { result ≡ is_null value }
+{
+    matches!(value, Value::Null)
 }
 
 /// The two topmost operands, the topmost last.

@@ -26,7 +26,7 @@ use Rattle.w_stands.specs.declared.did.Did.TheVariants as did
 use Rattle.w_stands.specs.Steps.{MovesAt, MovesAlone, Follows, FollowsAlone}
 use Rattle.w_stands.proofs.LookedUp.{Found, found, goes_on}
 use Rattle.w_stands.proofs.Following.{Needs, take_needs, take_follows, take_traps, replaced_behind, pushed_behind}
-use Rattle.w_value_ops.specs.References.{is_null, IsReference}
+use Rattle.w_stands.specs.References.{is_null, IsReference}
 use Rattle.w_value_ops.specs.Rules.{IsGiving}
 
 -- ## Null or not

@@ -1,4 +1,3 @@
 pub mod Numbers
-pub mod References
 pub mod Rules
 pub mod Selects

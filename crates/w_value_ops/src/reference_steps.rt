@@ -5,25 +5,16 @@ ghost use Rattle.w_syntax.specs.declared.instructions.Op.TheVariants as op;
 ghost use Rattle.w_syntax.specs.declared.instructions.ReferenceOp.TheVariants as reference;
 ghost use Rattle.w_segment.specs.Shape.{SameParts};
 ghost use Rattle.w_stands.specs.Keeps.{Keeps};
-ghost use Rattle.w_value_ops.specs.References.{is_null};
 ghost use Rattle.w_stands.specs.Steps.{MovesAt, MovesAlone, Follows, FollowsAlone};
 ghost use Rattle.w_stands.specs.declared.did.Did.TheVariants as did;
 
 use std::alloc::AllocError;
 use w_reductions::Trap;
 use w_segment::Stack;
-use w_stands::{Did, next, push_next, replace};
+use w_stands::{Did, is_null, next, push_next, replace};
 use w_syntax::Module;
 use w_tables::Store;
 use w_types::{HeapType, Value};
-
-// Whether it is the null reference.
-#[inline(always)]
-fn is_null(value: Value) -> bool
-    ensures { result ≡ is_null value }
-{
-    matches!(value, Value::Null)
-}
 
 /// `ref.null` (Core, execution, `ref.null`). It fails only when out of memory, and then the stack is as it was but for room.
 pub fn ref_null(program: &Module, stack: &mut Stack, heap: HeapType) -> Result<(), AllocError>

@@ -27,6 +27,8 @@ invariant_of-self c =
     let a = length-append i.locals.items (replicate c.args.count c.args.local) in (
       ordered_more es (length i.operands.items) (length i.locals.items) (length c.push_copies.new.locals.items) i.first (omega (arith, f, v, c.requires.frame)) (omega (arith, l, a)) c.self.invariant.0,
       c.self.invariant.1,
+      c.self.invariant.2,
+      c.self.invariant.3,
     )
 
 pub returns : goal.returns

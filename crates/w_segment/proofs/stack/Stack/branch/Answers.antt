@@ -3,7 +3,7 @@ use Rattle.std.proofs.lemmas.List.{length-reverse}
 use Rattle.w_types.specs.declared.value.Value.{Value}
 use Rattle.w_segment.specs.Shape.{Target, label_at}
 use Rattle.w_segment.specs.Flat.{own}
-use Rattle.w_segment.proofs.LabelsOfMarks.{label_within, label_is, label_is_no_frame, branched_levels, branched_own, branched_ordered, branched_frames}
+use Rattle.w_segment.proofs.LabelsOfMarks.{label_within, label_is, label_is_no_frame, branched_levels, branched_own, branched_ordered, branched_frames, branched_inner, branched_nested}
 use Rattle.w_segment.proofs.OwnOperands.{own_long, base_le}
 use Rattle.w_segment.proofs.SameShapes.{same_shape, same_capacity}
 use Rattle.w_segment.proofs.stack.Stack.branch.Goals as goal
@@ -36,7 +36,7 @@ unreachable-requires c =
     let i = c.self.inside in
     let (t, h, n) = c.requires.there in
     label_is_no_frame i.marks.items i.operands.items i.locals.items i.first c.args.label (c.len.result - 1 - c.args.label) t c.index.result.now
-    c.in-Frame.arity c.in-Frame.caller c.in-Frame.back c.in-Frame.below c.in-Frame.first
+    c.in-Frame.arity c.in-Frame.caller c.in-Frame.back c.in-Frame.below c.in-Frame.first c.in-Frame.outer
     c.self.invariant.0 (ap (λ s. label_at c.args.label s.levels) c.self.view_is ∙ h) (omega (arith, c.len.ensures)) c.index.ensures c.in-Frame.is
 
 pub invariant_of-self : goal.invariant_of-self
@@ -51,7 +51,7 @@ invariant_of-self c =
     let ln : vec_len i.operands ≡ length vs = omega arith in
     let ws : c.keep_top.new.items.items ≡ take c.in-Label.below vs ++ drop (length vs - c.in-Label.arity) vs =
     c.keep_top.ensures.items ∙ ap (λ (k : ℕ). take c.in-Label.below vs ++ drop (k - c.in-Label.arity) vs) ln in
-    (branched_ordered f c.truncate.ensures.items le ws, c.self.invariant.1 ∙ sym (branched_frames f c.truncate.ensures.items))
+    (branched_ordered f c.truncate.ensures.items le ws, c.self.invariant.1 ∙ sym (branched_frames f c.truncate.ensures.items), c.self.invariant.2 ∙ sym (branched_inner f c.truncate.ensures.items), branched_nested f c.truncate.ensures.items c.self.invariant.3)
 
 pub returns : goal.returns
 returns c = record {

@@ -23,10 +23,10 @@ pub returns-in-Frame-clause-after : goal.returns-in-Frame-clause-after
 returns-in-Frame-clause-after c =
     let i = c.self.inside in
     let es = reverse c.take_last.new.self.items in
-    let e : reverse i.marks.items ≡ mark.Frame c.in-Frame.arity c.in-Frame.caller c.in-Frame.back c.in-Frame.below c.in-Frame.first ∷ es =
+    let e : reverse i.marks.items ≡ mark.Frame c.in-Frame.arity c.in-Frame.caller c.in-Frame.back c.in-Frame.below c.in-Frame.first c.in-Frame.outer ∷ es =
     ap reverse c.take_last.ensures.items ∙ reverse_push c.take_last.new.self.items c.take_last.result ∙ ap (λ (x : Mark). x ∷ es) c.in-Frame.is in
     same_shape _ _ (ap (λ (l : List (Option Value)). levels_of es i.operands.items l c.in-Frame.first) c.truncate.ensures.items) refl refl refl refl
     (same_capacity _ _ _ _ _ _ refl c.take_last.ensures.capacity c.truncate.ensures.capacity)
-    ∙ sym (left_frame (reverse i.marks.items) es c.in-Frame.below c.in-Frame.arity c.in-Frame.caller c.in-Frame.back c.in-Frame.first
+    ∙ sym (left_frame (reverse i.marks.items) es c.in-Frame.below c.in-Frame.arity c.in-Frame.caller c.in-Frame.back c.in-Frame.first c.in-Frame.outer
     i.operands.items i.locals.items i.first _ e c.self.invariant.0 refl refl)
     ∙ ap left c.self.view_is

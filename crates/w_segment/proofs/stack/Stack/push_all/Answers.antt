@@ -20,7 +20,7 @@ invariant_of-self c =
     let i = c.self.inside in
     let l = ap (λ (l : List Value). length l) c.push_values.ensures.items in
     let a = length-append i.operands.items c.args.values.now in
-    (ordered_more (reverse i.marks.items) (length i.operands.items) (length c.push_values.new.operands.items) (length i.locals.items) i.first (omega (arith, l, a)) c.self.invariant.0, c.self.invariant.1)
+    (ordered_more (reverse i.marks.items) (length i.operands.items) (length c.push_values.new.operands.items) (length i.locals.items) i.first (omega (arith, l, a)) c.self.invariant.0, c.self.invariant.1, c.self.invariant.2, c.self.invariant.3)
 
 pub returns : goal.returns
 returns c = record {

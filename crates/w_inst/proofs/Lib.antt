@@ -1,0 +1,11 @@
+pub mod Entries
+pub mod Naming
+pub mod Operands
+pub mod ConstantCode
+pub mod Adding
+pub mod Fitting
+pub mod Valued
+pub mod Allocated
+pub mod Copying
+pub mod InOrder
+pub mod Beginning

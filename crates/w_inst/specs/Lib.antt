@@ -1,0 +1,5 @@
+pub mod Imports
+pub mod Constants
+pub mod Adding
+pub mod Segments
+pub mod Instances
