@@ -1,91 +1,120 @@
 #!/usr/bin/env python3
-"""Makes modules, and times the program on them beside wasm-validate; or times how fast it runs programs.
+"""Makes modules, and times the program on them: checks beside wasm-validate, or runs beside wasm-interp.
 
 Modules are made in a process of their own, so that this one stays small: a child begins as a copy of it, and the
 system counts the copy as the child's peak.
 """
 
 import argparse
+import re
 import resource
 import shutil
 import sys
 import tempfile
-from multiprocessing import Process
+from dataclasses import replace
+from functools import partial
+from multiprocessing import Pipe, Process
 from pathlib import Path
 
 ROOT = Path(__file__).resolve().parents[2]
-sys.path.append(str(ROOT / 'tools' / 'conformance'))        # the assembler of the rows makes these modules too
+# The assembler of the rows makes these modules too, and the reader of execution counts their reductions. Both stand in
+# front of packages of the machine, which may have the same names.
+sys.path.insert(1, str(ROOT / 'tools' / 'conformance'))
 
 import tables                                               # noqa: E402
+from counting import counted                                # noqa: E402
+from executing.numbers import WIDTHS, signed                # noqa: E402
 from forms import FORMS, STRAIGHT                           # noqa: E402
 from measuring import best_of                               # noqa: E402
-from runs import RUNS                                       # noqa: E402
+from runs import RUNS, returning_at_once                    # noqa: E402
 
 PROGRAM = ROOT / 'crates' / 'stackwasm' / 'out' / 'stackwasm'
 MEBI = 1 << 20
 STRAIGHT_NAME = next(name for name, form in FORMS.items() if form is STRAIGHT)
-RUNNING = 10            # the status of a run whose steps are used up
+INTERPRETED = re.compile(r'main\(\) => (i32|i64):(\d+)')     # what wasm-interp says of a result
 
 
 def arguments():
     parser = argparse.ArgumentParser(description=__doc__, formatter_class=argparse.RawDescriptionHelpFormatter)
     parser.add_argument('--program', default=PROGRAM, type=Path, help='the program to time')
     parser.add_argument('--size', default=16, type=float, help='MiB of each module (16, the most that it reads)')
-    parser.add_argument('--forms', nargs='+', metavar='WORDS', help='only forms whose names have one of these words')
+    parser.add_argument('--forms', nargs='+', metavar='WORDS',
+                        help='only forms, or programs to run, whose names have one of these words')
     parser.add_argument('--rounds', default=3, type=int, help='each figure is the best of so many (3)')
     parser.add_argument('--limit', default=60, type=int, help='seconds after which a call is ended (60)')
     parser.add_argument('--memory', default=8, type=int, help='GiB that a call may take (8)')
     parser.add_argument('--build', action='store_true', help='time build too')
     parser.add_argument('--keep', type=Path, metavar='FOLDER', help='keep the modules there')
-    parser.add_argument('--list', action='store_true', help='name the forms, and what they are')
-    parser.add_argument('--run', action='store_true', help='time run, on programs that go on and on')
-    parser.add_argument('--steps', default=20000000, type=int, help='reductions of each run (20,000,000)')
+    parser.add_argument('--list', action='store_true', help='name the forms, or the programs, and what they are')
+    parser.add_argument('--run', action='store_true', help='time run, on programs that run long')
+    parser.add_argument('--steps', default=100000000, type=int, help='about so many reductions a run (100,000,000)')
     return parser.parse_args()
 
 
-def write(path, make, *given):
-    """Make a module in a process of its own, and write it."""
-    maker = Process(target=lambda: path.write_bytes(make(*given)))
-    maker.start()
-    maker.join()
-    if maker.exitcode:
-        sys.exit(f'{path.stem} was not made')
+def apart(what, work):
+    """What some work comes to in a process of its own."""
+    answer, told = Pipe(duplex=False)
+    worker = Process(target=lambda: told.send(work()))
+    worker.start()
+    told.close()
+    try:
+        return answer.recv()
+    except EOFError:
+        sys.exit(f'{what} failed')
+    finally:
+        worker.join()
 
 
-def calls_of(given, path):
-    """The calls to time on a module: the words, and whether out is listened to."""
-    calls = {'check': ([str(given.program), 'check', str(path)], True)}
-    validator = shutil.which('wasm-validate')
-    if validator:
-        calls['wasm-validate'] = ([validator, '--enable-all', str(path)], True)
+def timed(given, folder, name, make, calls_of):
+    """Make a module, and time calls on it: its size in bytes, and the best call of each program."""
+    path = folder / f'{name.replace(" ", "_")}.wasm'
+    size = apart(f'making {name}', lambda: path.write_bytes(make()))
+    best = best_of(calls_of(path), given.rounds, given.limit)
+    if not given.keep:
+        path.unlink()
+    return size, best
+
+
+def calls_with(other, words, calls):
+    """These calls, and that of another program where it is on the path."""
+    program = shutil.which(other)
+    return calls | {other: ([program, *words], True)} if program else calls
+
+
+def check_calls(given, path):
+    """The calls to time on a form: the words, and whether out is listened to."""
+    calls = calls_with('wasm-validate', ['--enable-all', str(path)], {
+        'check': ([str(given.program), 'check', str(path)], True)})
     if given.build:
         calls['build'] = ([str(given.program), 'build', str(path)], False)
     return calls
 
 
-def chosen_forms(words):
-    """The forms that have one of these words, and the straight one in front of them."""
-    return [name for name in FORMS
-            if not words or name == STRAIGHT_NAME or any(word in name for word in words)]
+def run_calls(given, steps, path):
+    """The calls to time on a program that takes so many reductions."""
+    return calls_with('wasm-interp', ['--run-all-exports', str(path)], {
+        'run': ([str(given.program), 'run', str(path), '--steps', str(steps)], True)})
+
+
+def chosen(names, words, always=None):
+    """The names that have one of these words, and one that is wanted always."""
+    return [name for name in names if not words or name == always or any(word in name for word in words)]
 
 
 def time_forms(given, folder):
     """Print the table of forms, and give what is odd in it."""
-    print(tables.heading(), flush=True)
+    print(tables.heading(tables.FORM_HEADINGS), flush=True)
     straight_rate, odd = None, []
-    for name in chosen_forms(given.forms):
-        path = folder / f'{name.replace(" ", "_")}.wasm'
-        write(path, FORMS[name], int(given.size * MEBI))
-        size, best = path.stat().st_size, best_of(calls_of(given, path), given.rounds, given.limit)
-        if not given.keep:
-            path.unlink()
+    for name in chosen(FORMS, given.forms, STRAIGHT_NAME):
+        make = partial(FORMS[name], int(given.size * MEBI))
+        size, best = timed(given, folder, name, make, partial(check_calls, given))
         straight_rate = straight_rate or tables.rate(best['check'], size)
-        print(tables.row(name, size, best, straight_rate), flush=True)
-        odd += oddities(name, best, straight_rate / tables.rate(best['check'], size))
+        print(tables.form_row(name, size, best, straight_rate), flush=True)
+        odd += form_oddities(name, best, straight_rate / tables.rate(best['check'], size))
     return odd
 
 
-def oddities(name, best, times):
+def form_oddities(name, best, times):
     """What a reader is to look at: a module that isn't accepted, and a form that takes too long."""
     check, build = best['check'], best.get('build')
     if check.ended:
@@ -99,28 +128,68 @@ def oddities(name, best, times):
 
 
 def time_runs(given, folder):
-    """Print the table of runs, and give those that didn't run on to the last step."""
-    print('| Program | Reductions | Seconds | Reductions a second | Peak bytes |')
-    print('| --- | ---: | ---: | ---: | ---: |')
+    """Print the table of runs, and give what is odd in it."""
+    names = chosen(RUNS, given.forms)
+    counts = {name: apart(f'counting {name}', partial(counted, RUNS[name])) for name in names}
+    print(tables.heading(tables.RUN_HEADINGS), flush=True)
     odd = []
-    for name, make in RUNS.items():
-        path = folder / f'{name.replace(" ", "_")}.wasm'
-        write(path, make)
-        call = ([str(given.program), 'run', str(path), '--steps', str(given.steps)], True)
-        run = best_of({'run': call}, 1, given.limit)['run']
-        if run.ended or run.status != RUNNING:
-            odd.append(f'{name}: run said {run.said!r}, with status {run.status}')
-            continue
-        rate = given.steps / max(run.seconds, 0.0001)
-        print(f'| {name} | {given.steps:,} | {run.seconds:.2f} | {rate:,.0f} | {run.peak:,} |', flush=True)
+    for name, count in counts.items():
+        odd += small_oddities(given, folder, name, count)
+        repeats = count.repeats_within(given.steps)
+        steps = count.reductions(repeats)
+        best = timed_run(given, folder, name, partial(RUNS[name], repeats), steps)
+        print(tables.run_row(name, steps, best), flush=True)
+        odd += run_oddities(name, best)
+    at_once = timed_run(given, folder, 'returning at once', returning_at_once, given.steps)
+    print('\nWhere main returns at once: ' + ', '.join(
+        f'{program} {call.seconds:.3f} seconds' for program, call in at_once.items()))
+    return odd + run_oddities('returning at once', at_once)
+
+
+def timed_run(given, folder, name, make, steps):
+    """The best call of each program on a module to run, that of wasm-interp as run would have ended it."""
+    _, best = timed(given, folder, name, make, partial(run_calls, given, steps))
+    return {program: as_run_ends(call) if program == 'wasm-interp' else call for program, call in best.items()}
+
+
+def as_run_ends(call):
+    """A call of wasm-interp with its result as run says it. One without a result has failed, whatever its status is."""
+    result = INTERPRETED.fullmatch(call.said)
+    if result:
+        return replace(call, said=f'= {signed(WIDTHS[result[1]], int(result[2]))}')
+    return replace(call, status=call.status or 1)
+
+
+def run_oddities(name, best):
+    """What a reader is to look at: a run that didn't end with a result, and results that aren't the same."""
+    odd, results = [], {}
+    for program, call in best.items():
+        if call.ended:
+            odd.append(f'{name}: {program} took longer than {call.seconds:.0f} seconds')
+        elif call.status:
+            odd.append(f'{name}: {program} said {call.said!r}, with status {call.status}')
+        else:
+            results[program] = call.said
+    if len(set(results.values())) > 1:
+        odd.append(f'{name}: ' + ', '.join(f'{program} said {said!r}' for program, said in results.items()))
+    return odd
+
+
+def small_oddities(given, folder, name, count):
+    """Results of small runs that aren't those of the reader of execution."""
+    odd = []
+    for repeats, printed in count.printed.items():
+        best = timed_run(given, folder, name, partial(RUNS[name], repeats), count.reductions(repeats))
+        odd += [f'{name}: {program} said {call.said!r} of {repeats} repeats, and not {printed!r}'
+                for program, call in best.items() if call.status == 0 and call.said != printed]
     return odd
 
 
 def main():
     given = arguments()
     if given.list:
-        for name, form in FORMS.items():
-            print(f'{name}: {form.__doc__.strip().splitlines()[0]}')
+        for name, listed in (RUNS if given.run else FORMS).items():
+            print(f'{name}: {listed.__doc__.strip().splitlines()[0]}')
         return 0
     resource.setrlimit(resource.RLIMIT_AS, (given.memory << 30, given.memory << 30))    # children have it too
     with tempfile.TemporaryDirectory() as temporary:

@@ -1,47 +1,63 @@
-"""Tables in Markdown: a line for each form, with rates beside those of the straight form."""
+"""Tables in Markdown: a line for each form, with rates beside those of the straight form, or for each program."""
 
 MEGA = 1000000
 MOST_TIMES = 10         # no form is to take longer than so many times the straight one
 
-HEADINGS = [
+FORM_HEADINGS = [
     'Form', 'Bytes', 'check MB/s', 'B/B', 'build MB/s', 'B/B', 'wasm-validate MB/s', 'B/B', 'check / wasm-validate',
     'time / mixed code']
+RUN_HEADINGS = ['Program', 'Reductions', 'run M/s', 'MB', 'wasm-interp M/s', 'MB', 'run / wasm-interp']
 
 
-def heading():
-    """The first two lines of the table of forms."""
-    return _line(HEADINGS) + '\n' + _line(['---'] + ['---:'] * (len(HEADINGS) - 1))
+def heading(headings):
+    """The first two lines of a table."""
+    return _line(headings) + '\n' + _line(['---'] + ['---:'] * (len(headings) - 1))
 
 
-def row(name, size, best, straight_rate):
+def form_row(name, size, best, straight_rate):
     """The line of a form, from the best call of each program."""
-    check, wabt = best['check'], best.get('wasm-validate')
+    check = best['check']
     cells = [name, f'{size:,}']
     for program in ('check', 'build', 'wasm-validate'):
-        cells += _rate_and_peak(best.get(program), size)
-    both_done = _counts(check) and _counts(wabt) and not check.ended and not wabt.ended
-    cells.append(_ratio(rate(check, size), rate(wabt, size)) if both_done else '')
+        cells += _rate_and_peak(best.get(program), size, size, 'refused')
+    cells.append(_ratio_of_rates(check, best.get('wasm-validate'), size))
     above = '> ' if check.ended else ''
     cells.append(above + _ratio(straight_rate, rate(check, size)) if _counts(check) else '')
     return _line(cells)
 
 
-def rate(call, size):
-    """Bytes a second. The clock of the system may count nothing for what is very short."""
-    return size / max(call.seconds, 0.0001) if call else None
+def run_row(name, reductions, best):
+    """The line of a program. What was said instead of a result stands in place of the rate."""
+    cells = [name, f'{reductions:,}']
+    for program in ('run', 'wasm-interp'):
+        cells += _rate_and_peak(best.get(program), reductions, MEGA)
+    cells.append(_ratio_of_rates(best['run'], best.get('wasm-interp'), reductions))
+    return _line(cells)
+
+
+def rate(call, amount):
+    """Bytes or reductions a second. The clock of the system may count nothing for what is very short."""
+    return amount / max(call.seconds, 0.0001) if call else None
 
 
 def _counts(call):
     return call is not None and (call.ended or call.status == 0)
 
 
-def _rate_and_peak(call, size):
+def _rate_and_peak(call, amount, peak_unit, refusal=None):
+    """Millions a second, and the peak; or why there are none, by what the program said where no word is given."""
     if call is None:
         return ['', '']
     if not _counts(call):
-        return ['died' if call.status < 0 else 'refused', '']
+        return ['died' if call.status < 0 else refusal or ' '.join(call.said.split()), '']
     below = '< ' if call.ended else ''
-    return [f'{below}{_figure(rate(call, size) / MEGA)}', _figure(call.peak / size)]
+    return [f'{below}{_figure(rate(call, amount) / MEGA)}', _figure(call.peak / peak_unit)]
+
+
+def _ratio_of_rates(ours, theirs, amount):
+    """The ratio of two rates, where both calls were done."""
+    both_done = _counts(ours) and _counts(theirs) and not ours.ended and not theirs.ended
+    return _ratio(rate(ours, amount), rate(theirs, amount)) if both_done else ''
 
 
 def _ratio(one, other):

@@ -1,5 +1,5 @@
 //! Calls, whatever the function is.
-ghost use Rattle.std.specs.Prelude.{◌≡◌, Err};
+ghost use Rattle.std.specs.Prelude.{◌≡◌, ◌≤◌, Err};
 ghost use Rattle.w_outside.specs.Outside.{Rose};
 ghost use Rattle.w_call_ops.specs.Calling.{Calls, Invokes};
 ghost use Rattle.w_plain.specs.Printing.{Printed};
@@ -24,6 +24,7 @@ pub(crate) fn call<O: Sink>(
     requires call { Calls address taken program.now store.old stack.old }
     ensures step { Printed result (O.held out.old) (O.held out.new) program.now store.old stack.old store.new stack.new }
     ensures cause { result ≡ Err Stop.WriteFault → Rose (O.faults out.old) (O.faults out.new) }
+    ensures later { O.faults out.old ≤ O.faults out.new }
 {
     match store.function(address) {
         FuncEntry::Own(function) => {
@@ -51,6 +52,7 @@ pub(crate) fn invoke<O: Sink>(
     requires invoke { Invokes program.now store.old stack.old }
     ensures step { Printed result (O.held out.old) (O.held out.new) program.now store.old stack.old store.new stack.new }
     ensures cause { result ≡ Err Stop.WriteFault → Rose (O.faults out.old) (O.faults out.new) }
+    ensures later { O.faults out.old ≤ O.faults out.new }
 {
     match store.function(stack.func()) {
         FuncEntry::Own(function) => match invoke_own(program, store, stack, function) {

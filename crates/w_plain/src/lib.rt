@@ -13,6 +13,7 @@ mod reduction;
 mod stop;
 mod values;
 
+pub use instructions::instr_at;
 pub use program::Program;
 pub use reduction::plain;
 pub use stop::Stop;

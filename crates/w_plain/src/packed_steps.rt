@@ -48,6 +48,7 @@ fn control_op<O: Sink>(
     requires moves { MovesAt (flat.Plain (op.Control operation.now)) program.source.now store.old stack.old }
     ensures step { Printed result (O.held out.old) (O.held out.new) program.entry.source.now store.old stack.old store.new stack.new }
     ensures cause { result ≡ Err Stop.WriteFault → Rose (O.faults out.old) (O.faults out.new) }
+    ensures later { O.faults out.old ≤ O.faults out.new }
 {
     let short = match operation {
         ControlOp::BrTable(labels, last) => {
@@ -82,6 +83,7 @@ fn plain_op<O: Sink>(
     requires one { length store.old.memories ≤ 1 }
     ensures step { Printed result (O.held out.old) (O.held out.new) program.entry.source.now store.old stack.old store.new stack.new }
     ensures cause { result ≡ Err Stop.WriteFault → Rose (O.faults out.old) (O.faults out.new) }
+    ensures later { O.faults out.old ≤ O.faults out.new }
 {
     let source = program.source;
     match operation {
@@ -110,6 +112,7 @@ fn standing<O: Sink>(
     requires one { length store.old.memories ≤ 1 }
     ensures step { Printed result (O.held out.old) (O.held out.new) program.entry.source.now store.old stack.old store.new stack.new }
     ensures cause { result ≡ Err Stop.WriteFault → Rose (O.faults out.old) (O.faults out.new) }
+    ensures later { O.faults out.old ≤ O.faults out.new }
 {
     let source = program.source;
     match instr {
@@ -150,6 +153,7 @@ pub(crate) fn instruction<O: Sink>(
     requires one { length store.old.memories ≤ 1 }
     ensures step { Printed result (O.held out.old) (O.held out.new) program.entry.source.now store.old stack.old store.new stack.new }
     ensures cause { result ≡ Err Stop.WriteFault → Rose (O.faults out.old) (O.faults out.new) }
+    ensures later { O.faults out.old ≤ O.faults out.new }
 {
     let source = program.source;
     match packed {

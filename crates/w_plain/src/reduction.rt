@@ -1,5 +1,7 @@
 //! One plain reduction of a segment's stack.
-ghost use Rattle.std.specs.Prelude.{◌≡◌, ◌≢◌, ◌≤◌, length, Err};
+ghost use Rattle.std.specs.Prelude.{◌≡◌, ◌≢◌, ◌≤◌, length, Err, option_map};
+ghost use Rattle.w_syntax.specs.Packed.{unpacked};
+ghost use Rattle.w_stands.specs.Code.{instr_of};
 ghost use Rattle.w_segment.specs.declared.entry.Stage.TheVariants.{Body, Values};
 ghost use Rattle.w_outside.specs.Outside.{Rose};
 ghost use Rattle.w_plain.specs.Known.{IsKnown};
@@ -8,13 +10,13 @@ ghost use Rattle.w_plain.specs.Printing.{Printed};
 
 use crate::calls::invoke;
 use crate::exits::leave_end;
-use crate::instructions::instr_at;
 use crate::packed_steps::instruction;
 use crate::program::Program;
 use crate::stop::Stop;
 use w_outside::Sink;
 use w_segment::{Stack, Stage};
 use w_stands::Did;
+use w_syntax::PackedInstr;
 use w_tables::Store;
 
 /// One reduction in the body where the stack stands.
@@ -24,15 +26,18 @@ fn in_body<O: Sink>(
     store: &mut Store,
     stack: &mut Stack,
     out: &mut O,
+    found: Option<&PackedInstr>,
 ) -> Result<Did, Stop>
     requires known { IsKnown program.source.now program.classes.now program.functions.now }
     requires applies { Applies program.source.now store.old stack.old }
     requires body { stack.old.stage ≡ Body }
+    requires found { option_map (λ p. unpacked p.now) found ≡ instr_of program.source.now stack.old.func stack.old.place }
     requires one { length store.old.memories ≤ 1 }
     ensures step { Printed result (O.held out.old) (O.held out.new) program.entry.source.now store.old stack.old store.new stack.new }
     ensures cause { result ≡ Err Stop.WriteFault → Rose (O.faults out.old) (O.faults out.new) }
+    ensures later { O.faults out.old ≤ O.faults out.new }
 {
-    match instr_at(program.source, stack.func(), stack.place()) {
+    match found {
         Some(packed) => instruction(program, store, stack, out, packed),
         None => Ok(leave_end(program.source, store, stack)),
     }
@@ -41,22 +46,26 @@ fn in_body<O: Sink>(
 /// One plain reduction (Core, execution): of the configuration in which the stack stands, whatever stands around it, with the store, and
 /// with what it prints. It traps as the rules do, and then nothing changed. It stops where the sink fails or memory runs out: then no
 /// reduction was taken, all is as it was but for room, and the sink has a first part of what the reduction prints, or nothing more.
+/// `found` is what `instr_at` finds where the stack stands in a body.
 #[tactic(auto, using(crate::proofs::Applying::invokes))]
 pub fn plain<O: Sink>(
     program: Program,
     store: &mut Store,
     stack: &mut Stack,
     out: &mut O,
+    found: Option<&PackedInstr>,
 ) -> Result<Did, Stop>
     requires known { IsKnown program.source.now program.classes.now program.functions.now }
     requires applies { Applies program.source.now store.old stack.old }
     requires inside { stack.old.stage ≢ Values }
+    requires found { stack.old.stage ≡ Body → option_map (λ p. unpacked p.now) found ≡ instr_of program.source.now stack.old.func stack.old.place }
     requires one { length store.old.memories ≤ 1 }
     ensures step { Printed result (O.held out.old) (O.held out.new) program.entry.source.now store.old stack.old store.new stack.new }
     ensures cause { result ≡ Err Stop.WriteFault → Rose (O.faults out.old) (O.faults out.new) }
+    ensures later { O.faults out.old ≤ O.faults out.new }
 {
     match stack.stage() {
-        Stage::Body => in_body(program, store, stack, out),
+        Stage::Body => in_body(program, store, stack, out, found),
         Stage::Fresh => invoke(program.source, store, stack, out),
         Stage::Branch(_) | Stage::Values => unreachable!(),
     }

@@ -145,6 +145,12 @@ def _segment_rows():
         'offset-of-a-global', [I32], i32_const(4) + access('i32.load8_u', 0, 0),
         globals=[global_(I32, i32_const(2)), global_(I32, global_get(0) + i32_const(2) + I32_ADD)],
         datas=[active_data('q', global_get(1))], **one_page)
+    SEGMENTS.main(
+        '10000-data-segments', [I32], i32_const(9999) + access('i32.load8_u', 0, 0),
+        datas=[active_data(bytes([number % 251]), i32_const(number)) for number in range(10000)], **one_page)
+    SEGMENTS.main(
+        '10000-data-segments-and-the-last-past-the-end', [], b'',
+        datas=[*[active_data('a', i32_const(number)) for number in range(9999)], active_data('b', i32_const(PAGE))], **one_page)
     SEGMENTS.row('no-reductions', main_module([], b'', datas=[active_data('a', i32_const(-1))], **one_page), 0)
 
 

@@ -1,0 +1,11 @@
+pub mod Standing
+pub mod Reducing
+pub mod Advancing
+pub mod GoingOn
+pub mod Stopping
+pub mod Machines
+pub mod FirstStep
+pub mod ShortBodies
+pub mod Telling
+pub mod GoingFar
+pub mod Results

@@ -1,0 +1,138 @@
+-- The machine as contracts see it: the module that it runs, how many reductions it took, and the outcome that it keeps. It
+-- stands for the run of the module after so many reductions.
+use Rattle.std.specs.Prelude.{◌≡◌, ◌+◌, ◌^◌, ◌≤◌, ℕ, List, ◌++◌, Bool, true, false, ⊤, Option, Some, None, refl}
+use Rattle.std.specs.Coded.{Coded, code_by, coded×, coded_ℕ, coded_option}
+use Rattle.w_types.specs.Rows.{Row}
+use Rattle.w_outside.specs.Outside.{Grew, GrewByFront}
+use Rattle.w_syntax.specs.declared.module.Module.{Module}
+use Rattle.w_syntax.specs.contracts.module.Module as module_contract
+use Rattle.w_reductions.specs.Values.{Val}
+use Rattle.w_reductions.specs.Store.{Store}
+use Rattle.w_reductions.specs.Terms.{Term}
+use Rattle.w_reductions.specs.Program.{Program}
+use Rattle.w_reductions.specs.Run.{Outcome, Running, Values, Traps, Limit, NoRule, RunState, Run}
+use Rattle.w_runs.specs.declared.outcome.Kept.{Kept}
+use Rattle.w_runs.specs.declared.outcome.Kept.TheVariants as kept
+use Rattle.w_runs.specs.contracts.outcome.Kept as kept_contract
+use Rattle.w_runs.specs.Beginning.{Begins}
+
+pub record Position : Type 0 where
+  pub program : Module
+  pub taken : ℕ
+  pub kept : Option Kept
+
+-- a position is stored as the tuple of its fields
+abbrev pub position_code : Coded Position
+position_code = code_by (Module × (ℕ × Option Kept)) (coded× module_contract.the_row.coded (coded× coded_ℕ (coded_option kept_contract.the_row.coded)))
+    (λ p. (p.program, (p.taken, p.kept))) (λ q. record { program = q.0; taken = q.1.0; kept = q.1.1 }) (λ _. refl)
+
+-- the most reductions that a machine takes
+abbrev pub most_reductions : ℕ
+most_reductions = 2 ^ 40
+
+-- ## What stops a machine
+
+-- what is told of a run that stopped so
+abbrev pub Tells : Kept → Outcome → Type 0
+Tells kept.Ended o = (vs : Row Val) × (o ≡ Values vs)
+Tells kept.Stuck o = o ≡ NoRule
+Tells (kept.Limit name) o = o ≡ Limit name
+Tells (kept.Trapped t) o = o ≡ Traps t
+Tells kept.WriteFault o = ⊤
+Tells kept.OutOfMemory o = ⊤
+
+-- a reduction that passes a limit or traps counts
+abbrev pub counted : Kept → ℕ
+counted (kept.Limit name) = 1
+counted (kept.Trapped t) = 1
+counted k = 0
+
+-- the sink failed, or memory ran out
+abbrev pub is_fault : Kept → Bool
+is_fault kept.WriteFault = true
+is_fault kept.OutOfMemory = true
+is_fault k = false
+
+-- ## What was printed
+
+-- from one state of a run to a later one: the sink grew by it
+pub record Printed (r r' : RunState) (before now : Option (List ℕ)) : Type 0 where
+  pub text : List ℕ
+  pub is : r'.output ≡ r.output ++ text
+  pub grew : Grew before now text
+
+-- or by a first part of it
+pub record PrintedAtMost (r r' : RunState) (before now : Option (List ℕ)) : Type 0 where
+  pub text : List ℕ
+  pub is : r'.output ≡ r.output ++ text
+  pub grew : GrewByFront before now text
+
+abbrev pub PrintedIf : Bool → RunState → RunState → Option (List ℕ) → Option (List ℕ) → Type 0
+PrintedIf true r r' before now = PrintedAtMost r r' before now
+PrintedIf false r r' before now = Printed r r' before now
+
+abbrev pub PrintedBy : Kept → RunState → RunState → Option (List ℕ) → Option (List ℕ) → Type 0
+PrintedBy k r r' before now = PrintedIf (is_fault k) r r' before now
+
+-- ## One step, where no outcome is kept
+
+abbrev pub after_step : Position → Option Kept → Position
+after_step old None = record old { taken = old.taken + 1 }
+after_step old (Some k) = record old { taken = old.taken + counted k; kept = Some k }
+
+-- of a run: it was running, or what is told of it; and what was printed
+abbrev pub StepsOn : (ℕ → RunState) → ℕ → Option Kept → Option (List ℕ) → Option (List ℕ) → Type 0
+StepsOn run n None before now = ((run n).outcome ≡ Running) × Printed (run n) (run (n + 1)) before now
+StepsOn run n (Some k) before now = Tells k (run (n + counted k)).outcome × PrintedBy k (run n) (run (n + 1)) before now
+
+-- an outcome that is kept is told again, and nothing changes
+abbrev pub StepsFrom : Option Kept → Position → Option Kept → Position → Option (List ℕ) → Option (List ℕ) → Type 0
+StepsFrom (Some k) old result new before now = (result ≡ Some k) × (new ≡ old) × (now ≡ before)
+StepsFrom None old result new before now =
+    (new ≡ after_step old result) × ((p : Program) (s : Store) (t : Term) → Begins old.program p s t → StepsOn (Run p s t) old.taken result before now)
+
+abbrev pub Steps : Position → Option Kept → Position → Option (List ℕ) → Option (List ℕ) → Type 0
+Steps old result new before now = StepsFrom old.kept old result new before now
+
+-- ## What is told with no reduction taken, where no outcome is kept
+
+abbrev pub after_telling : Position → Option Kept → Position
+after_telling old None = old
+after_telling old (Some k) = record old { kept = Some k }
+
+abbrev pub TellsOn : RunState → Option Kept → Type 0
+TellsOn r None = r.outcome ≡ Running
+TellsOn r (Some k) = Tells k r.outcome
+
+abbrev pub IsNoFault : Option Kept → Type 0
+IsNoFault None = ⊤
+IsNoFault (Some k) = is_fault k ≡ false
+
+abbrev pub ToldBy : Position → Option Kept → Position → Type 0
+ToldBy old result new =
+    (new ≡ after_telling old result) × IsNoFault result × ((p : Program) (s : Store) (t : Term) → Begins old.program p s t → TellsOn (Run p s t old.taken) result)
+
+-- ## A run of so many reductions at most
+
+-- where n of them were taken
+abbrev pub after_run : Position → ℕ → Option Kept → Position
+after_run old n None = record old { taken = old.taken + n }
+after_run old n (Some k) = record old { taken = old.taken + n; kept = Some k }
+
+abbrev pub RunsOn : (ℕ → RunState) → ℕ → ℕ → Option Kept → Option (List ℕ) → Option (List ℕ) → Type 0
+RunsOn run n steps None before now = ((run (n + steps)).outcome ≡ Running) × Printed (run n) (run (n + steps)) before now
+RunsOn run n steps (Some k) before now = Tells k (run (n + steps)).outcome × PrintedBy k (run n) (run (n + steps)) before now
+
+-- all of them, or at most these
+abbrev pub HasTaken : ℕ → ℕ → Option Kept → Type 0
+HasTaken n steps None = n ≡ steps
+HasTaken n steps (Some k) = n ≤ steps
+
+abbrev pub RunsFrom : Option Kept → Position → ℕ → Option Kept → Position → Option (List ℕ) → Option (List ℕ) → Type 0
+RunsFrom (Some k) old steps result new before now = (result ≡ Some k) × (new ≡ old) × (now ≡ before)
+RunsFrom None old steps result new before now =
+    (n : ℕ) × HasTaken n steps result × (new ≡ after_run old n result)
+    × ((p : Program) (s : Store) (t : Term) → Begins old.program p s t → RunsOn (Run p s t) old.taken steps result before now)
+
+abbrev pub Runs : Position → ℕ → Option Kept → Position → Option (List ℕ) → Option (List ℕ) → Type 0
+Runs old steps result new before now = RunsFrom old.kept old steps result new before now

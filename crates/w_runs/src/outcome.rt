@@ -1,0 +1,97 @@
+//! How steps and runs end.
+ghost use Rattle.std.specs.Prelude.{◌≡◌};
+ghost use Rattle.w_runs.specs.Kept.{stepped_of, outcome_of, is_ended};
+
+use w_reductions::{RunLimit, Trap};
+
+/// An outcome that a machine keeps: it answers the same ever after, and changes nothing.
+#[derive(Clone, Copy)]
+pub enum Kept {
+    /// The term is values.
+    Ended,
+    /// No rule applies to a term that isn't values.
+    Stuck,
+    /// The result of the last reduction passed this limit.
+    Limit(RunLimit),
+    /// The last reduction trapped.
+    Trapped(Trap),
+    /// The sink failed.
+    WriteFault,
+    /// Memory ran out.
+    OutOfMemory,
+}
+
+/// What a step comes to.
+#[derive(Clone, Copy)]
+pub enum Stepped {
+    /// One reduction was taken.
+    Went,
+    /// The term is values; none was taken.
+    Ended,
+    /// No rule applies; none was taken.
+    Stuck,
+    /// One reduction was taken, and its result passed this limit.
+    Limit(RunLimit),
+    /// One reduction was taken, and it trapped.
+    Trapped(Trap),
+    /// The sink failed; none was taken.
+    WriteFault,
+    /// Memory ran out; none was taken.
+    OutOfMemory,
+}
+
+/// What a run comes to.
+#[derive(Clone, Copy)]
+pub enum Outcome {
+    /// The reductions asked for were taken, and a rule still applies.
+    Running,
+    /// The term is values.
+    Ended,
+    /// No rule applies.
+    Stuck,
+    /// The result of the last reduction passed this limit.
+    Limit(RunLimit),
+    /// The last reduction trapped.
+    Trapped(Trap),
+    /// The sink failed.
+    WriteFault,
+    /// Memory ran out.
+    OutOfMemory,
+}
+
+/// Whether the outcome that is kept, if one is, is that the term is values.
+pub(crate) fn has_ended(kept: Option<Kept>) -> bool
+    ensures { result ≡ is_ended kept }
+{
+    matches!(kept, Some(Kept::Ended))
+}
+
+/// What a step answers that stopped so, or took a reduction.
+pub(crate) fn as_stepped(stopped: Option<Kept>) -> Stepped
+    ensures { result ≡ stepped_of stopped }
+{
+    match stopped {
+        None => Stepped::Went,
+        Some(Kept::Ended) => Stepped::Ended,
+        Some(Kept::Stuck) => Stepped::Stuck,
+        Some(Kept::Limit(name)) => Stepped::Limit(name),
+        Some(Kept::Trapped(trap)) => Stepped::Trapped(trap),
+        Some(Kept::WriteFault) => Stepped::WriteFault,
+        Some(Kept::OutOfMemory) => Stepped::OutOfMemory,
+    }
+}
+
+/// What a run answers that stopped so, or took its reductions.
+pub(crate) fn as_outcome(stopped: Option<Kept>) -> Outcome
+    ensures { result ≡ outcome_of stopped }
+{
+    match stopped {
+        None => Outcome::Running,
+        Some(Kept::Ended) => Outcome::Ended,
+        Some(Kept::Stuck) => Outcome::Stuck,
+        Some(Kept::Limit(name)) => Outcome::Limit(name),
+        Some(Kept::Trapped(trap)) => Outcome::Trapped(trap),
+        Some(Kept::WriteFault) => Outcome::WriteFault,
+        Some(Kept::OutOfMemory) => Outcome::OutOfMemory,
+    }
+}

@@ -1,0 +1,98 @@
+-- Blocks of typed configurations.
+use Rattle.std.proofs.Common.{◌≡◌, Bool, true, false, cond, List, Option, Some, None, option_map, refl, sym, ap}
+use Rattle.w_types.specs.declared.types.FuncType.{FuncType}
+use Rattle.w_types.specs.declared.types.ValType.{ValType}
+use Rattle.w_types.specs.Rows.{Row, ε, ◌▹◌, ◌⧺◌, size}
+use Rattle.w_types.proofs.Rows.{size-row_of}
+use Rattle.w_syntax.specs.Code.{Code, Done, Block, after}
+use Rattle.w_syntax.specs.Functions.{func_type}
+use Rattle.w_syntax.specs.declared.instructions.BlockKind.{BlockKind}
+use Rattle.w_syntax.specs.declared.instructions.BlockKind.TheVariants as kind
+use Rattle.w_syntax.specs.declared.instructions.BlockType.{BlockType}
+use Rattle.w_syntax.specs.declared.instructions.BlockType.TheVariants as blocktype
+use Rattle.w_syntax.specs.declared.module.Module.{Module}
+use Rattle.w_rules.specs.Context as rules
+use Rattle.w_rules.specs.Context.{Arrow, arrow_of, arrow_at, arrow_of_type, type_count, labelled}
+use Rattle.w_rules.specs.Matching.{known}
+use Rattle.w_rules.specs.Operands.{Operand}
+use Rattle.w_rules.specs.Types.{has_type}
+use Rattle.w_rules.specs.Typing.{HasType, Derives}
+use Rattle.w_rules.proofs.Preorder.{row_refl}
+use Rattle.w_reductions.specs.Values.{Val}
+use Rattle.w_reductions.specs.Store.{Store}
+use Rattle.w_reductions.specs.Terms.{rest_of, Context}
+use Rattle.w_reductions.specs.Program.{Program, Arity, arity_of, function_arity}
+use Rattle.w_reductions.specs.Reduced.{steps_to}
+use Rattle.w_reductions.specs.Branches.{block, label_of}
+use Rattle.w_typed.specs.Values.{ValuesTyped}
+use Rattle.w_typed.specs.Stores.{StoreTyped}
+use Rattle.w_typed.specs.Contexts.{Scope, in_scope, CodeTyped, code_alone, Subset, Within, label}
+use Rattle.w_typed.specs.Configurations.{IsSafe}
+use Rattle.w_typed.proofs.Subsumed.{values_sub}
+use Rattle.w_typed.proofs.Taken.{values_taken}
+use Rattle.w_typed.proofs.Holes.{code_left}
+use Rattle.w_typed.proofs.Branches.{size_known}
+use Rattle.w_typed.proofs.Onward.{goes_on}
+
+-- how many operands a block of this type takes and gives
+abbrev sizes : Arrow → Arity
+sizes a = record { params = size a.from; results = size a.to }
+
+arity_of_value : (b : Bool) (t : ValType) (a : Arrow) → cond b (Some (record { from = ε; to = ε ▹ t })) None ≡ Some a → Some (record { params = 0; results = 1 }) ≡ Some (sizes a)
+arity_of_value true t a is = ap (option_map sizes) is
+arity_of_value false t a is = absurd (cc)
+
+arity_of_function : (t : Option FuncType) (a : Arrow) → arrow_at t ≡ Some a → function_arity t ≡ Some (sizes a)
+arity_of_function None a is = absurd (cc)
+arity_of_function (Some t) a is = rw (sym (size-row_of t.params), sym (size-row_of t.results)) (ap (option_map sizes) is)
+
+-- a block of a type takes and gives as many operands as that has
+arity_typed : (m : Module) (c : Scope) (b : BlockType) (a : Arrow) → arrow_of (in_scope m c) b ≡ Some a → arity_of m b ≡ Some (sizes a)
+arity_typed m c blocktype.Empty a is = ap (option_map sizes) is
+arity_typed m c (blocktype.Value t) a is = arity_of_value (has_type (type_count (in_scope m c)) t) t a is
+arity_typed m c (blocktype.Index x) a is = arity_of_function (func_type m x) a is
+
+-- nothing before a sequence
+pub after_done : (k : Code) → after Done k ≡ k
+unfolding after
+after_done k = refl
+
+after_block : (kind : BlockKind) (b : BlockType) (x k : Code) → after (Block kind b x Done) k ≡ Block kind b x k
+unfolding after
+after_block kind b x k = refl
+
+-- the arrow is there
+pub record BlockTyped (m : Module) (c : Scope) (set : List Bool) (kind : BlockKind) (b : BlockType) (x k : Code) (ts ws out : Row Operand) : Type 0 where
+  pub arrow : Arrow
+  pub is : arrow_of (in_scope m c) b ≡ Some arrow
+  pub inside : Derives (labelled (in_scope m c) (rules.label_of kind arrow)) set x (known arrow.from) (known arrow.to)
+  pub has_type : HasType m.types (known arrow.from) (known arrow.to) ts ws
+  pub behind : CodeTyped m c set k ws out
+
+module _ (p : Program) (us : Row Operand) where
+  block_goes : (kind : BlockKind) {b : BlockType} {x k : Code} {s : Store} {e : Context} {vs : Row Val} {c : Scope} {set now : List Bool} {ts ws out : Row Operand}
+      → StoreTyped p.source s → Subset set now → ValuesTyped p.source vs ts → (h : BlockTyped p.source c set kind b x k ts ws out) → (c.results ≡ None → ⊥)
+      → Within p.source us e c now out → (below args : Row Val) → ValuesTyped p.source below h.has_type.beneath → ValuesTyped p.source args (known h.arrow.from)
+      → IsSafe p.source us (steps_to s (label_of kind b (sizes h.arrow) x below k e) args (rest_of x))
+  block_goes kind.Block {k = k} u still v h n w below args lower taken =
+      let m = p.source in
+      let gives = code_left m h.has_type.gives h.behind in
+      goes_on m us u still taken (code_alone (record { derives = h.inside; none = λ e. absurd (n e) }))
+      (label h.has_type.beneath (row_refl m.types (known h.arrow.to)) refl lower (rw (after_done k) gives) gives still w)
+  block_goes kind.Loop {b = b} {x = x} {k = k} {c = c} {set = set} {ws = ws} {out = out} u still v h n w below args lower taken =
+      let m = p.source in
+      let from = h.has_type.beneath ⧺ known h.arrow.from in
+      let again : Derives (in_scope m c) set (Block kind.Loop b x k) from out = rw h.is (h.inside, (ws, record { beneath = h.has_type.beneath; takes = row_refl m.types from; gives = h.has_type.gives }, h.behind.derives)) in
+      goes_on m us u still taken (code_alone (record { derives = h.inside; none = λ e. absurd (n e) }))
+      (label h.has_type.beneath (row_refl m.types (known h.arrow.to)) refl lower
+      (rw (after_block kind.Loop b x k) (record { derives = again; none = λ e. absurd (n e) })) (code_left m h.has_type.gives h.behind) still w)
+
+  -- a block is entered, with the operands that it takes
+  pub block_safe : (kind : BlockKind) {b : BlockType} {x k : Code} {s : Store} {e : Context} {vs : Row Val} {c : Scope} {set now : List Bool} {ts ws out : Row Operand}
+      → StoreTyped p.source s → Subset set now → ValuesTyped p.source vs ts → BlockTyped p.source c set kind b x k ts ws out → (c.results ≡ None → ⊥)
+      → Within p.source us e c now out → IsSafe p.source us (block p s e vs kind b x k)
+  block_safe kind {b = b} {vs = vs} {c = c} u still v h n w =
+      let m = p.source in
+      rw (arity_typed m c b h.arrow h.is)
+      (values_taken m us (size h.arrow.from) vs h.has_type.beneath (known h.arrow.from) _ (sym (size_known h.arrow.from)) (values_sub m h.has_type.takes v)
+      (block_goes kind u still v h n w))

@@ -1,0 +1,163 @@
+-- Control instructions of typed configurations.
+use Rattle.std.proofs.Common.{◌≡◌, ℕ, zero, suc, Bool, false, List, [], ◌∷◌, Option, Some, None, slice_get, refl}
+use Rattle.w_types.specs.declared.types.FuncType.{FuncType}
+use Rattle.w_types.specs.declared.types.RefType.{RefType}
+use Rattle.w_types.specs.declared.types.ValType.{ValType}
+use Rattle.w_types.specs.declared.types.ValType.TheVariants.{I32, I64, Ref}
+use Rattle.w_types.specs.Rows.{Row, ε, ◌▹◌, ◌⧺◌}
+use Rattle.w_syntax.specs.Code.{Code}
+use Rattle.w_syntax.specs.declared.instructions.ControlOp.{ControlOp}
+use Rattle.w_syntax.specs.declared.instructions.ControlOp.TheVariants as control
+use Rattle.w_syntax.specs.declared.module.Module.{Module}
+use Rattle.w_syntax.specs.declared.numeric.IntType.TheVariants as int
+use Rattle.w_canon.specs.Matching.{ref}
+use Rattle.w_canon.proofs.Preorder.{heap_refl}
+use Rattle.w_rules.specs.Context.{type_of_func}
+use Rattle.w_rules.specs.InstructionTypes.{br_type, br_if_type, br_table_type, br_on_null_type, br_on_non_null_type, call_type, labels_at, with_label, control_op_type}
+use Rattle.w_rules.specs.Matching.{RowMatches, known, value}
+use Rattle.w_rules.specs.Operands.{Operand}
+use Rattle.w_rules.specs.Operands.{Known}
+use Rattle.w_rules.specs.Spaces.{context_of}
+use Rattle.w_rules.specs.Typing.{Polymorphic, MatchesEach, HasInstrType, ref_to}
+use Rattle.w_rules.specs.Valid.{Valid}
+use Rattle.w_rules.proofs.Preorder.{row_refl, row_beside}
+use Rattle.w_reductions.specs.Values.{Val}
+use Rattle.w_reductions.specs.Store.{Store}
+use Rattle.w_reductions.specs.Terms.{Context}
+use Rattle.w_reductions.specs.Program.{Program, IsProgram}
+use Rattle.w_reductions.specs.Reduced.{Reduced}
+use Rattle.w_reductions.specs.Control.{control_op, unless_zero, label_in}
+use Rattle.w_typed.specs.Values.{OperandTyped, ValuesTyped, values}
+use Rattle.w_typed.specs.Stores.{StoreTyped}
+use Rattle.w_typed.specs.Contexts.{Scope, returned, in_scope, CodeTyped, code_alone, Subset, Within}
+use Rattle.w_typed.specs.Configurations.{IsSafe, traps}
+use Rattle.w_typed.proofs.Subsumed.{values_sub, operand_sub}
+use Rattle.w_typed.proofs.Taken.{number_taken}
+use Rattle.w_typed.proofs.Holes.{code_left}
+use Rattle.w_typed.proofs.Branches.{branch_safe, returns_safe}
+use Rattle.w_typed.proofs.Calls.{invoke_safe}
+use Rattle.w_typed.proofs.Indirect.{call_indirect_safe, call_ref_safe}
+use Rattle.w_typed.proofs.Onward.{onward}
+use Rattle.w_typed.proofs.References.{by_null_safe}
+
+-- ## The labels of a table
+
+-- what the label that a table leads to takes
+pub record LabelOf (m : Module) (labels : List (Row ValType)) (l : ℕ) (ins : Row Operand) : Type 0 where
+  pub taken : Row ValType
+  pub is : slice_get labels l ≡ Some taken
+  pub matches : RowMatches m.types ins (known taken)
+
+module _ (m : Module) (labels : List (Row ValType)) (ins : Row Operand) where
+  next_label : (x : ℕ) (t : Option (Row ValType)) (ts : Option (List (Row ValType))) (ls : List ℕ) (l i : ℕ) (others : List (Row ValType))
+      → slice_get labels x ≡ t → labels_at labels ls ≡ ts → with_label t ts ≡ Some others → MatchesEach m.types ins others
+      → ((j : ℕ) (us : List (Row ValType)) → labels_at labels ls ≡ Some us → MatchesEach m.types ins us → LabelOf m labels (label_in (slice_get ls j) l) ins)
+      → LabelOf m labels (label_in (slice_get (x ∷ ls) i) l) ins
+  next_label x None ts ls l i others there at e k go = absurd (cc)
+  next_label x (Some t) None ls l i others there at e k go = absurd (cc)
+  next_label x (Some t) (Some ts) ls l i [] there at e k go = absurd (cc)
+  next_label x (Some t) (Some ts) ls l zero (u ∷ us) there at e k go = record { taken = u; is = cc; matches = k.0 }
+  next_label x (Some t) (Some ts) ls l (suc i) (u ∷ us) there at e k go = go i us (cc) k.1
+
+  table_label : (ls : List ℕ) (l i : ℕ) (one : Row ValType) (others : List (Row ValType)) → slice_get labels l ≡ Some one → labels_at labels ls ≡ Some others
+      → RowMatches m.types ins (known one) → MatchesEach m.types ins others → LabelOf m labels (label_in (slice_get ls i) l) ins
+  table_label [] l i one others is at h k = record { taken = one; is = is; matches = h }
+  table_label (x ∷ ls) l i one others is at h k =
+      next_label x (slice_get labels x) (labels_at labels ls) ls l i others refl refl at k (λ j us a b. table_label ls l j one us is a h b)
+
+-- ## Instructions
+
+module _ (p : Program) (us : Row Operand) where
+  zero_or_not : (n : ℕ) (taken passed : Reduced) → IsSafe p.source us taken → IsSafe p.source us passed → IsSafe p.source us (unless_zero n taken passed)
+  zero_or_not zero taken passed h k = k
+  zero_or_not (suc n) taken passed h k = h
+
+  -- a typed configuration at an instruction that gives operands of types ws
+  pub record Here (s : Store) (e : Context) (k : Code) (ws : Row Operand) : Type 0 where
+    pub scope : Scope
+    pub set : List Bool
+    pub now : List Bool
+    pub out : Row Operand
+    pub still : Subset set now
+    pub store : StoreTyped p.source s
+    pub behind : CodeTyped p.source scope set k ws out
+    pub around : Within p.source us e scope now out
+    pub inside : scope.results ≡ None → ⊥
+
+  -- a reference that may not be null is of each type of references to its heap type
+  there : {r : RefType} {v : Val} → OperandTyped p.source v (ref_to false (Some r.heap)) → OperandTyped p.source v (Known (Ref r))
+  there {r = r} q = operand_sub p.source (value (ref (record { nullable = λ f. absurd (cc); heap = heap_refl p.source.types r.heap }))) q
+
+  module _ {s : Store} {e : Context} {k : Code} {ts ws : Row Operand} {vs : Row Val} where
+    br_here : (l : ℕ) (h : Here s e k ws) (taken : Option (Row ValType)) → slice_get h.scope.labels l ≡ taken → HasInstrType p.source.types (br_type taken) ts ws
+        → ValuesTyped p.source vs ts → IsSafe p.source us (control_op p s e vs (control.Br l) k)
+    br_here l h None is t v = absurd t
+    br_here l h (Some taken) is t v = branch_safe p.source us l t.beneath taken h.store is (values_sub p.source t.takes v) h.around
+
+    br_if_here : (l : ℕ) (h : Here s e k ws) (taken : Option (Row ValType)) → slice_get h.scope.labels l ≡ taken → HasInstrType p.source.types (br_if_type taken) ts ws
+        → ValuesTyped p.source vs ts → IsSafe p.source us (control_op p s e vs (control.BrIf l) k)
+    br_if_here l h None is t v = absurd t
+    br_if_here l h (Some taken) is t v =
+        let m = p.source in
+        number_taken m us int.I32 vs (t.beneath ⧺ known taken) _ (values_sub m t.takes v) (λ below n b.
+        zero_or_not n _ _ (branch_safe m us l t.beneath taken h.store is b h.around)
+        (onward m us h.still h.behind h.around s below h.store (values_sub m t.gives b)))
+
+    br_table_here : (ls : List ℕ) (l : ℕ) (h : Here s e k ws) (one : Option (Row ValType)) (others : Option (List (Row ValType))) → slice_get h.scope.labels l ≡ one
+        → labels_at h.scope.labels ls ≡ others → HasInstrType p.source.types (br_table_type one others) ts ws
+        → ValuesTyped p.source vs ts → IsSafe p.source us (control_op p s e vs (control.BrTable ls l) k)
+    br_table_here ls l h None others is at t v = absurd t
+    br_table_here ls l h (Some one) None is at t v = absurd t
+    br_table_here ls l h (Some one) (Some others) is at t v =
+        let m = p.source in
+        number_taken m us int.I32 vs (t.polymorphic.beneath ⧺ t.ins) _ (values_sub m t.polymorphic.takes v) (λ below i b.
+        let f = table_label m h.scope.labels t.ins ls l i one others is at t.each.0 t.each.1 in
+        branch_safe m us (label_in (slice_get ls i) l) t.polymorphic.beneath f.taken h.store f.is
+        (values_sub m (row_beside m.types t.polymorphic.beneath t.polymorphic.beneath t.ins (known f.taken) (row_refl m.types t.polymorphic.beneath) f.matches) b) h.around)
+
+    return_here : (h : Here s e k ws) (taken : Option (Row ValType)) → h.scope.results ≡ taken → Polymorphic p.source.types (known (returned taken)) ts
+        → ValuesTyped p.source vs ts → IsSafe p.source us (control_op p s e vs control.Return k)
+    return_here h None is t v = absurd (h.inside is)
+    return_here h (Some taken) is t v = returns_safe p.source us t.beneath taken h.store is (values_sub p.source t.takes v) h.around
+
+    br_on_null_here : (l : ℕ) (h : Here s e k ws) (taken : Option (Row ValType)) → slice_get h.scope.labels l ≡ taken → HasInstrType p.source.types (br_on_null_type taken) ts ws
+        → ValuesTyped p.source vs ts → IsSafe p.source us (control_op p s e vs (control.BrOnNull l) k)
+    br_on_null_here l h None is t v = absurd t
+    br_on_null_here l h (Some taken) is (heap, t) v =
+        let m = p.source in
+        by_null_safe m us heap vs (t.beneath ⧺ known taken) _ _ (values_sub m t.takes v)
+        (λ below b. branch_safe m us l t.beneath taken h.store is b h.around)
+        (λ below r b q. onward m us h.still h.behind h.around s (below ▹ r) h.store (values_sub m t.gives (values b q)))
+
+    br_on_non_null_here : (l : ℕ) (h : Here s e k ws) (taken : Option (Row ValType)) → slice_get h.scope.labels l ≡ taken
+        → HasInstrType p.source.types (br_on_non_null_type taken) ts ws → ValuesTyped p.source vs ts → IsSafe p.source us (control_op p s e vs (control.BrOnNonNull l) k)
+    br_on_non_null_here l h None is t v = absurd t
+    br_on_non_null_here l h (Some ε) is t v = absurd t
+    br_on_non_null_here l h (Some (taken ▹ I32)) is t v = absurd t
+    br_on_non_null_here l h (Some (taken ▹ I64)) is t v = absurd t
+    br_on_non_null_here l h (Some (taken ▹ Ref r)) is t v =
+        let m = p.source in
+        by_null_safe m us (Some r.heap) vs (t.beneath ⧺ known taken) _ _ (values_sub m t.takes v)
+        (λ below b. onward m us h.still h.behind h.around s below h.store (values_sub m t.gives b))
+        (λ below w b q. branch_safe m us l t.beneath (taken ▹ Ref r) h.store is (values b (there q)) h.around)
+
+    call_here : (x : ℕ) (h : Here s e k ws) → Valid p.source → (t : Option FuncType) → type_of_func (context_of p.source) x ≡ t
+        → HasInstrType p.source.types (call_type t) ts ws → ValuesTyped p.source vs ts → IsSafe p.source us (control_op p s e vs (control.Call x) k)
+    call_here x h valid None is t v = absurd t
+    call_here x h valid (Some f) is t v =
+        invoke_safe p us x f t.beneath valid h.store is (values_sub p.source t.takes v) (code_alone (code_left p.source t.gives h.behind)) h.still h.around
+
+    -- a control instruction goes on, or traps
+    pub control_safe : (o : ControlOp) (h : Here s e k ws) → IsProgram p → Valid p.source → HasInstrType p.source.types (control_op_type (in_scope p.source h.scope) o) ts ws
+        → ValuesTyped p.source vs ts → IsSafe p.source us (control_op p s e vs o k)
+    control_safe control.Unreachable h prog valid t v = traps
+    control_safe control.Nop h prog valid t v = onward p.source us h.still h.behind h.around s vs h.store (values_sub p.source t.gives (values_sub p.source t.takes v))
+    control_safe (control.Br l) h prog valid t v = br_here l h (slice_get h.scope.labels l) refl t v
+    control_safe (control.BrIf l) h prog valid t v = br_if_here l h (slice_get h.scope.labels l) refl t v
+    control_safe (control.BrTable ls l) h prog valid t v = br_table_here ls l h (slice_get h.scope.labels l) (labels_at h.scope.labels ls) refl refl t v
+    control_safe control.Return h prog valid t v = return_here h h.scope.results refl t v
+    control_safe (control.BrOnNull l) h prog valid t v = br_on_null_here l h (slice_get h.scope.labels l) refl t v
+    control_safe (control.BrOnNonNull l) h prog valid t v = br_on_non_null_here l h (slice_get h.scope.labels l) refl t v
+    control_safe (control.Call x) h prog valid t v = call_here x h valid (type_of_func (context_of p.source) x) refl t v
+    control_safe (control.CallIndirect y x) h prog valid t v = call_indirect_safe p us y x prog valid h.store t v h.behind h.still h.around
+    control_safe (control.CallRef y) h prog valid t v = call_ref_safe p us y valid h.store t v h.behind h.still h.around

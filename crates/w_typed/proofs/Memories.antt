@@ -1,0 +1,209 @@
+-- Memory instructions of typed configurations.
+use Rattle.std.proofs.Common.{◌≡◌, ℕ, zero, suc, ◌+◌, ◌%◌, ◌<◌, ◌≤◌, ◌^◌, IsTrue, List, [], ◌∷◌, length, refl, sym, ◌∙◌, subst, arith}
+use Rattle.std.specs.Prelude.{◌&&◌, nat_eq, nat_lt, nat_le, if◌then◌else◌, slice_get}
+use Rattle.std.proofs.lemmas.Bool.{eq-eqb, ltb-true}
+use Rattle.std.proofs.lemmas.List.{length-set}
+use Rattle.w_types.specs.declared.types.ValType.TheVariants.{I32}
+use Rattle.w_types.specs.Rows.{Row, ε, ◌▹◌}
+use Rattle.w_types.proofs.Tests.{each_of}
+use Rattle.w_syntax.specs.Code.{Code}
+use Rattle.w_syntax.specs.declared.memory_instructions.LoadOp.{LoadOp}
+use Rattle.w_syntax.specs.declared.memory_instructions.LoadOp.TheVariants as load_op
+use Rattle.w_syntax.specs.declared.memory_instructions.MemoryOp.{MemoryOp}
+use Rattle.w_syntax.specs.declared.memory_instructions.MemoryOp.TheVariants as memory
+use Rattle.w_syntax.specs.declared.memory_instructions.StoreOp.{StoreOp}
+use Rattle.w_syntax.specs.declared.memory_instructions.StoreOp.TheVariants as store_op
+use Rattle.w_syntax.specs.declared.module.Module.{Module}
+use Rattle.w_syntax.specs.declared.numeric.IntType.TheVariants as int
+use Rattle.w_memory.specs.Memory.{Memory, load, store, fill, copy, init}
+use Rattle.w_rules.specs.InstructionTypes.{fixed, of_int, load_type, load_width, store_type, store_width, has_memory, is_access, memory_op_type}
+use Rattle.w_rules.specs.Operands.{Operand}
+use Rattle.w_rules.specs.Operands.{Known}
+use Rattle.w_rules.specs.Spaces.{memories_of}
+use Rattle.w_rules.specs.Typing.{HasInstrType}
+use Rattle.w_rules.specs.Valid.{Valid, MemoryItem}
+use Rattle.w_reductions.specs.declared.trap.Trap.TheVariants as trap
+use Rattle.w_reductions.specs.Values.{Val}
+use Rattle.w_reductions.specs.Store.{Store}
+use Rattle.w_reductions.specs.Terms.{Context}
+use Rattle.w_reductions.specs.Reduced.{Reduced, Stuck, take_i32, number, or_stuck}
+use Rattle.w_reductions.specs.Memories.{loaded_type, loaded_size, loaded, stored_type, stored_size, with_memory, without_data, memory_op}
+use Rattle.w_typed.specs.Values.{an_i32, OperandTyped, a_value, ValuesTyped, values}
+use Rattle.w_typed.specs.Stores.{StoreTyped}
+use Rattle.w_typed.specs.Contexts.{Scope, in_scope}
+use Rattle.w_typed.specs.Configurations.{IsSafe}
+use Rattle.w_typed.proofs.Subsumed.{values_sub}
+use Rattle.w_typed.proofs.Taken.{number_taken, number_typed, trapped_or}
+use Rattle.w_typed.proofs.Onward.{Onward}
+use Rattle.w_typed.proofs.References.{if_valid_has, if_valid_holds}
+
+-- ## Types
+
+-- a load gives its type
+pub as_loaded : (o : LoadOp) → of_int (loaded_type o) ≡ load_type o
+as_loaded load_op.I32Load = refl
+as_loaded load_op.I64Load = refl
+as_loaded load_op.I32Load8S = refl
+as_loaded load_op.I32Load8U = refl
+as_loaded load_op.I32Load16S = refl
+as_loaded load_op.I32Load16U = refl
+as_loaded load_op.I64Load8S = refl
+as_loaded load_op.I64Load8U = refl
+as_loaded load_op.I64Load16S = refl
+as_loaded load_op.I64Load16U = refl
+as_loaded load_op.I64Load32S = refl
+as_loaded load_op.I64Load32U = refl
+
+-- what it gives is of its type
+pub loaded_typed : (m : Module) (o : LoadOp) (n : ℕ) → OperandTyped m (number (loaded_type o) n) (Known (load_type o))
+loaded_typed m o n = subst (λ t. OperandTyped m (number (loaded_type o) n) (Known t)) (as_loaded o) (number_typed m (loaded_type o) n)
+
+-- a store takes its type
+pub as_stored : (o : StoreOp) → of_int (stored_type o) ≡ store_type o
+as_stored store_op.I32Store = refl
+as_stored store_op.I64Store = refl
+as_stored store_op.I32Store8 = refl
+as_stored store_op.I32Store16 = refl
+as_stored store_op.I64Store8 = refl
+as_stored store_op.I64Store16 = refl
+as_stored store_op.I64Store32 = refl
+
+-- ## Stores
+
+-- another memory may stand in one's place
+pub memory_put : (m : Module) (x : ℕ) (n : Memory) (s : Store) → StoreTyped m s → StoreTyped m (with_memory s x n)
+memory_put m x n s u = record {
+  functions = u.functions;
+  tables = u.tables;
+  memories = length-set s.memories x n ∙ u.memories;
+  globals = u.globals;
+  elements = u.elements;
+  datas = u.datas;
+}
+
+-- a data segment may be dropped
+pub data_dropped : (m : Module) (y : ℕ) (s : Store) → StoreTyped m s → StoreTyped m (without_data s y)
+data_dropped m y s u = record {
+  functions = u.functions;
+  tables = u.tables;
+  memories = u.memories;
+  globals = u.globals;
+  elements = u.elements;
+  datas = length-set s.datas y [] ∙ u.datas;
+}
+
+module _ (m : Module) (us : Row Operand) where
+  -- ## What a rule takes and looks up
+
+  -- an item below the length is there
+  pub item_found : {A : Type 0} (x : ℕ) (xs : List A) (go : A → Reduced) → x < length xs → ((a : A) → IsSafe m us (go a))
+      → IsSafe m us (or_stuck (slice_get xs x) go)
+  item_found x [] go h k = absurd (omega (arith, h))
+  item_found zero (a ∷ xs) go h k = k a
+  item_found (suc x) (a ∷ xs) go h k = item_found x xs go (omega (arith, h)) k
+
+  -- three numbers are taken
+  pub three_taken : (vs : Row Val) (beneath : Row Operand) (go : Row Val → ℕ → ℕ → ℕ → Reduced)
+      → ValuesTyped m vs (beneath ▹ Known I32 ▹ Known I32 ▹ Known I32)
+      → ((below : Row Val) (d j n : ℕ) → ValuesTyped m below beneath → IsSafe m us (go below d j n))
+      → IsSafe m us (take_i32 vs (λ p. take_i32 p.0 (λ q. take_i32 q.0 (λ r. go r.0 r.1 q.1 p.1))))
+  three_taken vs beneath go h k =
+      number_taken m us int.I32 vs (beneath ▹ Known I32 ▹ Known I32) _ h (λ above n a.
+      number_taken m us int.I32 above (beneath ▹ Known I32) _ a (λ middle j b.
+      number_taken m us int.I32 middle beneath _ b (λ below d c. k below d j n c)))
+
+  -- a memory of the module is there
+  pub memory_found : (c : Scope) (x : ℕ) (s : Store) (go : Memory → Reduced) → StoreTyped m s → IsTrue (has_memory (in_scope m c) x)
+      → ((n : Memory) → IsSafe m us (go n)) → IsSafe m us (or_stuck (slice_get s.memories x) go)
+  memory_found c x s go u h k =
+      let below : x < length (memories_of m) = ltb-true x (length (memories_of m)) h in
+      item_found x s.memories go (omega (arith, below, u.memories)) k
+
+  -- a data segment of the module is there
+  pub data_found : (y : ℕ) (s : Store) (go : List ℕ → Reduced) → StoreTyped m s → IsTrue (nat_lt y (length m.datas))
+      → ((bytes : List ℕ) → IsSafe m us (go bytes)) → IsSafe m us (or_stuck (slice_get s.datas y) go)
+  data_found y s go u h k =
+      let below : y < length m.datas = ltb-true y (length m.datas) h in
+      item_found y s.datas go (omega (arith, below, u.datas)) k
+
+  -- there is at most one memory, so two are the same
+  pub memory_same : (c : Scope) (x y : ℕ) (go : Reduced) → Valid m → IsTrue (has_memory (in_scope m c) x) → IsTrue (has_memory (in_scope m c) y)
+      → IsSafe m us go → IsSafe m us (if nat_eq x y then go else Stuck)
+  memory_same c x y go valid h k safe =
+      let first : x < length (memories_of m) = ltb-true x (length (memories_of m)) h in
+      let second : y < length (memories_of m) = ltb-true y (length (memories_of m)) k in
+      let one : length (memories_of m) ≤ 1 = (valid MemoryItem tt).one in
+      rw (eq-eqb x y (omega (arith, first, second, one))) safe
+
+  -- ## The rules
+
+  -- a memory instruction goes on, or traps
+  pub memory_safe : (c : Scope) (o : MemoryOp) (ts ws : Row Operand) (s : Store) (e : Context) (vs : Row Val) (k : Code) → Valid m → StoreTyped m s
+      → HasInstrType m.types (memory_op_type (in_scope m c) o) ts ws → ValuesTyped m vs ts → Onward m us e ws k → IsSafe m us (memory_op s e vs o k)
+  memory_safe c (memory.Load o a) ts ws s e vs k valid u h v go =
+      let test = is_access (in_scope m c) (load_width o) a in
+      let type = fixed (ε ▹ I32) (ε ▹ load_type o) in
+      let fits = nat_le a.align (load_width o) && nat_lt a.offset (2 ^ 32) in
+      let there = each_of (has_memory (in_scope m c) 0) fits (if_valid_holds m test type ts ws h) in
+      let g = if_valid_has m test type ts ws h in
+      number_taken m us int.I32 vs g.beneath _ (values_sub m g.takes v) (λ below i b.
+      memory_found c 0 s _ u there.0 (λ mem.
+      trapped_or m us trap.MemoryOutOfBounds (load mem (i + a.offset) (loaded_size o)) _ (λ n is.
+      go s _ u (values_sub m g.gives (values b (loaded_typed m o (loaded o n)))))))
+  memory_safe c (memory.Store o a) ts ws s e vs k valid u h v go =
+      let test = is_access (in_scope m c) (store_width o) a in
+      let type = fixed (ε ▹ I32 ▹ store_type o) ε in
+      let fits = nat_le a.align (store_width o) && nat_lt a.offset (2 ^ 32) in
+      let there = each_of (has_memory (in_scope m c) 0) fits (if_valid_holds m test type ts ws h) in
+      let g = if_valid_has m test type ts ws h in
+      let typed = subst (λ t. ValuesTyped m vs (g.beneath ▹ Known I32 ▹ Known t)) (sym (as_stored o)) (values_sub m g.takes v) in
+      number_taken m us (stored_type o) vs (g.beneath ▹ Known I32) _ typed (λ above n b.
+      number_taken m us int.I32 above g.beneath _ b (λ below i d.
+      memory_found c 0 s _ u there.0 (λ mem.
+      trapped_or m us trap.MemoryOutOfBounds (store mem (i + a.offset) (stored_size o) n) _ (λ new is.
+      go _ _ (memory_put m 0 new s u) (values_sub m g.gives d)))))
+  memory_safe c (memory.Size x) ts ws s e vs k valid u h v go =
+      let test = has_memory (in_scope m c) x in
+      let type = fixed ε (ε ▹ I32) in
+      let g = if_valid_has m test type ts ws h in
+      memory_found c x s _ u (if_valid_holds m test type ts ws h) (λ mem.
+      go s _ u (values_sub m g.gives (values (values_sub m g.takes v) (a_value an_i32))))
+  memory_safe c (memory.Grow x) ts ws s e vs k valid u h v go =
+      let test = has_memory (in_scope m c) x in
+      let type = fixed (ε ▹ I32) (ε ▹ I32) in
+      let g = if_valid_has m test type ts ws h in
+      number_taken m us int.I32 vs g.beneath _ (values_sub m g.takes v) (λ below n b.
+      memory_found c x s _ u (if_valid_holds m test type ts ws h) (λ mem.
+      go _ _ (memory_put m x _ s u) (values_sub m g.gives (values b (a_value an_i32)))))
+  memory_safe c (memory.Init y x) ts ws s e vs k valid u h v go =
+      let test = has_memory (in_scope m c) x && nat_lt y (length m.datas) in
+      let type = fixed (ε ▹ I32 ▹ I32 ▹ I32) ε in
+      let there = each_of (has_memory (in_scope m c) x) (nat_lt y (length m.datas)) (if_valid_holds m test type ts ws h) in
+      let g = if_valid_has m test type ts ws h in
+      three_taken vs g.beneath _ (values_sub m g.takes v) (λ below d j n b.
+      memory_found c x s _ u there.0 (λ mem.
+      data_found y s _ u there.1 (λ bytes.
+      trapped_or m us trap.MemoryOutOfBounds (init mem bytes d j n) _ (λ new is.
+      go _ _ (memory_put m x new s u) (values_sub m g.gives b)))))
+  memory_safe c (memory.DataDrop y) ts ws s e vs k valid u h v go =
+      let test = nat_lt y (length m.datas) in
+      let g = if_valid_has m test (fixed ε ε) ts ws h in
+      data_found y s _ u (if_valid_holds m test (fixed ε ε) ts ws h) (λ bytes.
+      go _ _ (data_dropped m y s u) (values_sub m g.gives (values_sub m g.takes v)))
+  memory_safe c (memory.Copy x y) ts ws s e vs k valid u h v go =
+      let test = has_memory (in_scope m c) x && has_memory (in_scope m c) y in
+      let type = fixed (ε ▹ I32 ▹ I32 ▹ I32) ε in
+      let there = each_of (has_memory (in_scope m c) x) (has_memory (in_scope m c) y) (if_valid_holds m test type ts ws h) in
+      let g = if_valid_has m test type ts ws h in
+      three_taken vs g.beneath _ (values_sub m g.takes v) (λ below d j n b.
+      memory_found c x s _ u there.0 (λ mem.
+      trapped_or m us trap.MemoryOutOfBounds (copy mem d j n) _ (λ new is.
+      memory_same c x y _ valid there.0 there.1 (go _ _ (memory_put m x new s u) (values_sub m g.gives b)))))
+  memory_safe c (memory.Fill x) ts ws s e vs k valid u h v go =
+      let test = has_memory (in_scope m c) x in
+      let type = fixed (ε ▹ I32 ▹ I32 ▹ I32) ε in
+      let g = if_valid_has m test type ts ws h in
+      three_taken vs g.beneath _ (values_sub m g.takes v) (λ below d j n b.
+      memory_found c x s _ u (if_valid_holds m test type ts ws h) (λ mem.
+      trapped_or m us trap.MemoryOutOfBounds (fill mem d (j % 256) n) _ (λ new is.
+      go _ _ (memory_put m x new s u) (values_sub m g.gives b))))

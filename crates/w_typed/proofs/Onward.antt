@@ -1,0 +1,37 @@
+-- How a typed configuration goes on.
+use Rattle.std.proofs.Common.{ℕ, Bool, List, []}
+use Rattle.w_types.specs.Rows.{Row}
+use Rattle.w_syntax.specs.Code.{Code}
+use Rattle.w_syntax.specs.declared.module.Module.{Module}
+use Rattle.w_rules.specs.Operands.{Operand}
+use Rattle.w_reductions.specs.Values.{Val}
+use Rattle.w_reductions.specs.Store.{Store}
+use Rattle.w_reductions.specs.Terms.{Rest, rest_of, Context}
+use Rattle.w_reductions.specs.Reduced.{Went, steps_to}
+use Rattle.w_typed.specs.Values.{ValuesTyped}
+use Rattle.w_typed.specs.Stores.{StoreTyped}
+use Rattle.w_typed.specs.Contexts.{Scope, CodeTyped, RestTyped, code_alone, Subset, Within}
+use Rattle.w_typed.specs.Configurations.{IsSafe, goes}
+
+-- with any typed store and operands of these types, it goes on there
+abbrev pub Onward : Module → Row Operand → Context → Row Operand → Code → Type 0
+Onward m us e ws k = (s : Store) (vs : Row Val) → StoreTyped m s → ValuesTyped m vs ws → IsSafe m us (steps_to s e vs (rest_of k))
+
+module _ (m : Module) (us : Row Operand) where
+  -- the rest of a sequence comes next in a context, where this was printed
+  pub goes_printing : (text : List ℕ) {s : Store} {e : Context} {vs : Row Val} {r : Rest} {c : Scope} {set now : List Bool} {ts out : Row Operand} → StoreTyped m s
+      → Subset set now → ValuesTyped m vs ts → RestTyped m c set r.ahead r.code ts out → Within m us e c now out
+      → IsSafe m us (Went text s (record { around = e; operands = vs; rest = r }))
+  goes_printing text {c = c} {set = set} {now = now} {ts = ts} {out = out} u still h k w = goes (record {
+    store = u;
+    term = record { scope = c; set = set; now = now; still = still; before = ts; after = out; operands = h; rest = k; around = w };
+  })
+
+  -- or nothing was
+  pub goes_on : {s : Store} {e : Context} {vs : Row Val} {r : Rest} {c : Scope} {set now : List Bool} {ts out : Row Operand} → StoreTyped m s → Subset set now
+      → ValuesTyped m vs ts → RestTyped m c set r.ahead r.code ts out → Within m us e c now out → IsSafe m us (steps_to s e vs r)
+  goes_on u still h k w = goes_printing [] u still h k w
+
+  pub onward : {e : Context} {k : Code} {c : Scope} {set now : List Bool} {ws out : Row Operand} → Subset set now → CodeTyped m c set k ws out
+      → Within m us e c now out → Onward m us e ws k
+  onward still h w = λ s vs u v. goes_on u still v (code_alone h) w

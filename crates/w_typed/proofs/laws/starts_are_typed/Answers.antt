@@ -1,0 +1,5 @@
+use Rattle.w_typed.proofs.Starting.{starts_typed}
+use Rattle.w_typed.proofs.laws.starts_are_typed.Goals as goal
+
+pub returns : goal.returns
+returns c = starts_typed

@@ -1,0 +1,4 @@
+pub mod Values
+pub mod Stores
+pub mod Contexts
+pub mod Configurations
