@@ -1,8 +1,9 @@
 //! What errors say, which no command prints.
 use std::test::Fail;
 use w_decode::DecodeFault;
-use w_machine::InstFault;
+use w_inst::InstFault;
 use w_outside::Fault;
+use w_reduce::{StartLimit, Trap};
 use w_rules::SizeLimit;
 use w_valid::ValidFault;
 
@@ -57,8 +58,19 @@ fn faults_of_modules_are_told_with_their_item(rt: HostRuntime) -> Result<(), Fai
 fn faults_of_runs_and_of_the_outside_are_told(rt: HostRuntime) -> Result<(), Fail> {
     let alloc = rt.alloc();
     let rows = [
-        (InstFault::Import(2), "nothing is there for import 2"),
+        (
+            InstFault::Import(2),
+            "no function of the host is there for import 2",
+        ),
         (InstFault::NoEntry, "there is no entry"),
+        (
+            InstFault::Limit(StartLimit::Memory),
+            "a memory or a table is too large at first",
+        ),
+        (
+            InstFault::Trap(Trap::MemoryOutOfBounds),
+            "an active segment passes an end",
+        ),
         (InstFault::OutOfMemory, "out of memory"),
     ];
     for (fault, text) in rows {

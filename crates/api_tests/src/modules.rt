@@ -6,7 +6,9 @@ use std::process::Abort;
 use std::test::Fail;
 use w_decode::decode;
 use w_encode::encode;
-use w_machine::{Machine, Outcome, instantiate};
+use w_inst::instantiate;
+use w_machine::{Machine, Outcome, Stepped};
+use w_outside::SureSink;
 use w_rules::Checked;
 use w_valid::validate;
 
@@ -68,24 +70,36 @@ fn what_validation_found_is_known(rt: HostRuntime) -> Result<(), Fail> {
     Ok(())
 }
 
-// The product takes six reductions: the call, two constants, the product, and the exits of the label and of the frame.
-fn takes_three(rt: &impl Abort, machine: &mut Machine)
+// The product takes six reductions: main's invoke, two constants, the product, and the exits of the label and of the frame.
+fn takes_three(rt: &impl Abort, machine: &mut Machine, out: &mut SureSink)
     requires { machine.old.taken ≡ 0 }
 {
-    assert!(rt; matches!(machine.run(3), Outcome::Running));
+    assert!(rt; matches!(machine.run(3, out), Outcome::Running));
     assert_eq!(rt; machine.taken(), 3);
     assert_eq!(rt; machine.results().len(), 0);
+}
+
+// One more, by itself.
+fn takes_one(rt: &impl Abort, machine: &mut Machine, out: &mut SureSink) {
+    if machine.taken() == 3 {
+        assert!(rt; matches!(machine.step(out), Stepped::Went));
+        assert_eq!(rt; machine.taken(), 4);
+    }
+    assert_eq!(rt; machine.taken(), 4);
 }
 
 #[test]
 fn reductions_are_counted(rt: HostRuntime) -> Result<(), Fail> {
     let checked = checked(rt.alloc())?;
-    let Ok(store) = instantiate(rt.alloc(), &checked) else {
+    let Ok(instance) = instantiate(rt.alloc(), &checked) else {
         drop(checked);
-        return Err(Fail::from("no store"));
+        return Err(Fail::from("no instance"));
     };
-    let mut machine = Machine::new(rt.alloc(), checked, store);
-    takes_three(&rt, &mut machine);
+    let mut out = SureSink::new(rt.alloc())?;
+    let mut machine = Machine::new(rt.alloc(), checked, instance)?;
+    takes_three(&rt, &mut machine, &mut out);
+    takes_one(&rt, &mut machine, &mut out);
     drop(machine);
+    assert_eq!(rt; out.held().len(), 0);
     Ok(())
 }

@@ -13,7 +13,8 @@ use Rattle.w_valid.specs.declared.fault.ValidFault.{ValidFault}
 use Rattle.w_valid.specs.declared.fault.ValidFault.TheVariants as valid
 use Rattle.w_encode.specs.Canon.{Canon}
 use Rattle.w_encode.proofs.Canonical.{canon_spells}
-use Rattle.drive.specs.Answer.{Reply, OnFile, BytesGive, built, input_limit, HasModuleFault}
+use Rattle.words.specs.declared.request.Action.TheVariants.{Build}
+use Rattle.drive.specs.Answer.{Reply, OnFile, BytesGive, gives, built, input_limit, HasModuleFault}
 use Rattle.drive.specs.Idempotent.{BuildIsIdempotent}
 
 no_item : (m : Module) (x : Item) → Valid m → IsInvalidAt m x → ⊥
@@ -41,12 +42,12 @@ no_fault m valid.OutOfMemory w v h = h.0 refl
 spelled_or_not : (b : List ℕ) (m : Module) (f : DecodeFault) → Spells b m → HasFault b f → ⊥
 spelled_or_not b m f s h = let e : ◌≡◌ {A = Result Module DecodeFault} (Ok m) (Err f) = sym ((spelled_exactly b m).1 s) ∙ (fault_exactly b f).1 h in absurd cc
 
-only_built : (m : Module) (reply : Reply) → Spells (Canon m) m → Within m → Valid m → BytesGive built (Canon m) reply → reply ≡ built m
+only_built : (m : Module) (reply : Reply) → Spells (Canon m) m → Within m → Valid m → BytesGive (gives Build) (Canon m) reply → reply ≡ built m
 only_built m reply s w v (inl h) = h.4 ∙ ap built (one_module (Canon m) h.0 m h.1 s)
 only_built m reply s w v (inr (inl h)) = absurd (no_fault m h.2.0 w v (subst (λ (n : Module). HasModuleFault n h.2.0) (one_module (Canon m) h.0 m h.1 s) h.2.1))
 only_built m reply s w v (inr (inr h)) = absurd (spelled_or_not (Canon m) m h.0 s h.1)
 
-on_file : (m : Module) (reply : Reply) → Spells (Canon m) m → Within m → Valid m → length (Canon m) ≤ input_limit → OnFile (holds (Canon m)) (BytesGive built) reply → reply ≡ built m
+on_file : (m : Module) (reply : Reply) → Spells (Canon m) m → Within m → Valid m → length (Canon m) ≤ input_limit → OnFile (holds (Canon m)) (BytesGive (gives Build)) reply → reply ≡ built m
 on_file m reply s w v le (inl h) = only_built m reply s w v h.1
 on_file m reply s w v le (inr h) = absurd (omega (arith, le, h.0))
 

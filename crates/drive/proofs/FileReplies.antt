@@ -51,5 +51,5 @@ module _ (line : Line) (name : List ℕ) (action : Action) (files : List ℕ →
     pub refused : (r : Reply) → BytesRefusal slice r → MayFail failed (Answer line files) r
     refused r h = of_bytes r (inr h)
 
-    pub accepted : (m : Module) → Spells slice m → Within m → Valid m → (r : Reply) → r ≡ gives action m → MayFail failed (Answer line files) r
+    pub accepted : (m : Module) → Spells slice m → Within m → Valid m → (r : Reply) → gives action m r → MayFail failed (Answer line files) r
     accepted m spells within valid r is = of_bytes r (inl (m, spells, within, valid, is))

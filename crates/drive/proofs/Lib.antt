@@ -4,6 +4,7 @@ pub mod Refusals
 pub mod Joined
 pub mod Runs
 pub mod Replies
+pub mod Programs
 pub mod OneAnswer
 pub mod SomeAnswer
 pub mod BuiltAgain

@@ -15,9 +15,12 @@ use Rattle.w_rules.specs.declared.limits.SizeLimit.TheVariants.{Types, Params, L
 use Rattle.w_valid.specs.Faults.{IsRefusedAt, fault_of}
 use Rattle.w_valid.specs.declared.fault.ValidFault.{ValidFault}
 use Rattle.w_valid.specs.declared.fault.ValidFault.TheVariants as valid
+use Rattle.words.specs.declared.request.Action.{Action}
+use Rattle.words.specs.declared.request.Action.TheVariants.{Check, Run as RunFor, Build}
 use Rattle.words.specs.Line.{on_file as line_on_file, bad}
-use Rattle.drive.specs.Answer.{Reply, HasModuleFault, OnFile, OnBytes, BytesGive, gives, malformed, invalid}
+use Rattle.drive.specs.Answer.{Reply, HasModuleFault, OnFile, OnBytes, BytesGive, gives, run_gives, malformed, invalid}
 use Rattle.drive.specs.Laws.{OneAnswer}
+use Rattle.drive.proofs.Programs.{one_program}
 
 -- ## The least item without a derivation
 
@@ -130,21 +133,30 @@ not_both b m f s h = let e : ◌≡◌ {A = Result Module DecodeFault} (Ok m) (E
 moved : (b : List ℕ) (m n : Module) (f : ValidFault) → Spells b m → Spells b n → HasModuleFault n f → HasModuleFault m f
 moved b m n f s t h = subst (λ (k : Module). HasModuleFault k f) (one_module b n m t s) h
 
-one_reply : (accepted : Module → Reply) (b : List ℕ) (r s : Reply) → BytesGive accepted b r → BytesGive accepted b s → r ≡ s
-one_reply accepted b r s (inl h) (inl k) = h.4 ∙ ap accepted (one_module b h.0 k.0 h.1 k.1) ∙ sym k.4
-one_reply accepted b r s (inl h) (inr (inl k)) = absurd (no_name h.0 k.2.0 h.2 h.3 (names h.0 k.2.0 (moved b h.0 k.0 k.2.0 h.1 k.1 k.2.1)))
-one_reply accepted b r s (inl h) (inr (inr k)) = absurd (not_both b h.0 k.0 h.1 k.1)
-one_reply accepted b r s (inr (inl h)) (inl k) = absurd (no_name k.0 h.2.0 k.2 k.3 (names k.0 h.2.0 (moved b k.0 h.0 h.2.0 k.1 h.1 h.2.1)))
-one_reply accepted b r s (inr (inl h)) (inr (inl k)) = h.2.2 ∙ ap invalid (one_module_fault h.0 h.2.0 k.2.0 h.2.1 (moved b h.0 k.0 k.2.0 h.1 k.1 k.2.1)) ∙ sym k.2.2
-one_reply accepted b r s (inr (inl h)) (inr (inr k)) = absurd (not_both b h.0 k.0 h.1 k.1)
-one_reply accepted b r s (inr (inr h)) (inl k) = absurd (not_both b k.0 h.0 k.1 h.1)
-one_reply accepted b r s (inr (inr h)) (inr (inl k)) = absurd (not_both b k.0 h.0 k.1 h.1)
-one_reply accepted b r s (inr (inr h)) (inr (inr k)) = h.2 ∙ ap malformed (one_fault b h.0 k.0 h.1 k.1) ∙ sym k.2
-
--- ## Files
-
+-- what a module gives is one
 abbrev IsOne : (Reply → Type 0) → Type 0
 IsOne Due = (r s : Reply) → Due r → Due s → r ≡ s
+
+accepted_once : (Accepted : Module → Reply → Type 0) → ((m : Module) → IsOne (Accepted m)) → (m n : Module) (r s : Reply) → m ≡ n → Accepted m r → Accepted n s → r ≡ s
+accepted_once Accepted one m n r s e h k = one m r s h (subst (λ (x : Module). Accepted x s) (sym e) k)
+
+one_reply : (Accepted : Module → Reply → Type 0) → ((m : Module) → IsOne (Accepted m)) → (b : List ℕ) → IsOne (BytesGive Accepted b)
+one_reply Accepted one b r s (inl h) (inl k) = accepted_once Accepted one h.0 k.0 r s (one_module b h.0 k.0 h.1 k.1) h.4 k.4
+one_reply Accepted one b r s (inl h) (inr (inl k)) = absurd (no_name h.0 k.2.0 h.2 h.3 (names h.0 k.2.0 (moved b h.0 k.0 k.2.0 h.1 k.1 k.2.1)))
+one_reply Accepted one b r s (inl h) (inr (inr k)) = absurd (not_both b h.0 k.0 h.1 k.1)
+one_reply Accepted one b r s (inr (inl h)) (inl k) = absurd (no_name k.0 h.2.0 k.2 k.3 (names k.0 h.2.0 (moved b k.0 h.0 h.2.0 k.1 h.1 h.2.1)))
+one_reply Accepted one b r s (inr (inl h)) (inr (inl k)) = h.2.2 ∙ ap invalid (one_module_fault h.0 h.2.0 k.2.0 h.2.1 (moved b h.0 k.0 k.2.0 h.1 k.1 k.2.1)) ∙ sym k.2.2
+one_reply Accepted one b r s (inr (inl h)) (inr (inr k)) = absurd (not_both b h.0 k.0 h.1 k.1)
+one_reply Accepted one b r s (inr (inr h)) (inl k) = absurd (not_both b k.0 h.0 k.1 h.1)
+one_reply Accepted one b r s (inr (inr h)) (inr (inl k)) = absurd (not_both b k.0 h.0 k.1 h.1)
+one_reply Accepted one b r s (inr (inr h)) (inr (inr k)) = h.2 ∙ ap malformed (one_fault b h.0 k.0 h.1 k.1) ∙ sym k.2
+
+one_given : (action : Action) (m : Module) → IsOne (gives action m)
+one_given Check m r s h k = h ∙ sym k
+one_given (RunFor steps) m r s h k = h.3 ∙ ap (run_gives steps) (one_program m h.0 k.0 h.1 k.1 h.2 k.2) ∙ sym k.3
+one_given Build m r s h k = h ∙ sym k
+
+-- ## Files
 
 on_bytes : (Gives : List ℕ → Reply → Type 0) (b : List ℕ) → IsOne (Gives b) → IsOne (OnBytes Gives b)
 on_bytes Gives b one r s (inl h) (inl k) = one r s h.1 k.1
@@ -159,5 +171,5 @@ on_file (holds b) Gives told one r s h k = on_bytes Gives b (one b) r s h k
 
 pub one_answer : OneAnswer
 one_answer (line_on_file name action) files told r s h k =
-    on_file (files name) (BytesGive (gives action)) (told name) (λ b. one_reply _ b) r s h k
+    on_file (files name) (BytesGive (gives action)) (told name) (λ b. one_reply (gives action) (one_given action) b) r s h k
 one_answer bad files told r s h k = h ∙ sym k

@@ -7,7 +7,7 @@ use Rattle.w_valid.specs.declared.fault.ValidFault.{ValidFault}
 use Rattle.w_valid.specs.declared.fault.ValidFault.TheVariants as valid
 use Rattle.drive.specs.declared.output.Output.{Output}
 use Rattle.drive.specs.declared.stop.Stop.{Stop}
-use Rattle.drive.specs.declared.stop.Stop.TheVariants.{Refused, OutOfMemory}
+use Rattle.drive.specs.declared.stop.Stop.TheVariants.{Refused, WriteFault, OutOfMemory}
 use Rattle.drive.specs.Answer.{Reply, invalid}
 use Rattle.drive.specs.Stop.{Refuses, Gives}
 
@@ -42,6 +42,7 @@ module _ {Due Due' : Reply → Type 0} (due : (r : Reply) → Due r → Due' r) 
   -- what is refused by a reply that is due is refused by one that is due of more
   pub refuses_as : (stop : Stop) → Refuses Due stop → Refuses Due' stop
   refuses_as (Refused refusal) h = (h.0, due _ h.1)
+  refuses_as WriteFault h = absurd h
   refuses_as OutOfMemory h = tt
 
   pub gives_as : (answer : Result Output Stop) → Gives Due answer → Gives Due' answer
@@ -60,6 +61,7 @@ module _ {Due Due' : Reply → Type 0} (due : (r : Reply) → Due r → Due' r) 
 -- two replies that are the same
 pub refuses_same : {one other : Reply} (stop : Stop) → one ≡ other → Refuses (λ reply. reply ≡ one) stop → Refuses (λ reply. reply ≡ other) stop
 refuses_same (Refused refusal) e h = (h.0, h.1 ∙ e)
+refuses_same WriteFault e h = absurd h
 refuses_same OutOfMemory e h = tt
 
 pub gives_same : {one other : Reply} (answer : Result Output Stop) → one ≡ other → Gives (λ reply. reply ≡ one) answer → Gives (λ reply. reply ≡ other) answer

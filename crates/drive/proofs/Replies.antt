@@ -1,11 +1,12 @@
 -- What a part of a call did, from what its own parts did.
-use Rattle.std.proofs.Common.{◌≡◌, inl, inr, ℕ, List, [], ◌++◌, Option, Result, Ok, Err, Vec, Global, refl, sym, ap, subst, append_assoc}
+use Rattle.std.proofs.Common.{◌≡◌, ◌⊎◌, ◌≤◌, inl, inr, ℕ, List, [], ◌++◌, Option, Result, Ok, Err, Vec, Global, refl, sym, ap, subst, append_assoc, append-nil, arith}
 use Rattle.std.specs.Prelude.{IsErrAnd}
-use Rattle.w_outside.specs.Outside.{Grew, GrewByFront, IsFront}
+use Rattle.w_outside.specs.Outside.{Grew, GrewByFront, IsFront, Rose}
+use Rattle.w_outside.proofs.Growth.{grew_more, grew_nothing}
 use Rattle.w_outside.specs.declared.traits.Fault.{Fault}
 use Rattle.w_outside.specs.declared.traits.Fault.TheVariants.{Failed, OutOfMemory}
 use Rattle.drive.specs.declared.status.Status.{Status}
-use Rattle.drive.specs.Answer.{Reply}
+use Rattle.drive.specs.Answer.{Reply, behind}
 use Rattle.drive.specs.declared.output.Output.{Output}
 use Rattle.drive.specs.declared.stop.Refusal.{Refusal}
 use Rattle.drive.specs.declared.stop.Stop.{Stop}
@@ -13,8 +14,9 @@ use Rattle.drive.specs.declared.stop.Stop.TheVariants.{Refused}
 use Rattle.drive.specs.declared.stop.Stop.TheVariants as stop
 use Rattle.drive.specs.Pieces.{joined}
 use Rattle.drive.specs.Status.{code_of}
-use Rattle.drive.specs.Stop.{Ends, EndsByItself, Gives, IsReplyOf}
+use Rattle.drive.specs.Stop.{Ends, EndsByItself, Gives, Refuses, reply_with, reply_of_refusal}
 use Rattle.drive.specs.Delivery.{WroteFront, WrotePart, Begins, BeginsAtMost, Replies}
+use Rattle.drive.specs.Leaving.{IsBegun, Leaves, Delivers}
 
 -- ---- fronts
 
@@ -48,58 +50,116 @@ module _ {Due : Reply → Type 0} {OutGrew ErrGrew : List ℕ → Type 0} where
   memory_replies rose (Err Failed) is begins = absurd (cc)
   memory_replies rose (Err OutOfMemory) is begins = begins
 
--- ---- a call that does what a part of it did
+-- ---- answers of which nothing was written
 
-module _ {Due Due' : Reply → Type 0} {OutGrew OutGrew' ErrGrew ErrGrew' : List ℕ → Type 0} {rose rose' : Type 0}
-    (due : (r : Reply) → Due r → Due' r) (out : (t : List ℕ) → OutGrew t → OutGrew' t) (err : (t : List ℕ) → ErrGrew t → ErrGrew' t)
-    (cause : rose → rose') where
-  part_as : (r : Reply) → WrotePart r OutGrew ErrGrew → WrotePart r OutGrew' ErrGrew'
-  part_as r (inl h) = inl ((h.0.0, h.0.1, out _ h.0.2), err _ h.1)
-  part_as r (inr h) = inr (out _ h.0, (h.1.0, h.1.1, err _ h.1.2))
+-- an answer that is due ends a call by itself
+pub leaves_ends : (Due : Reply → Type 0) (answer : Result Output Stop) (OutGrew : List ℕ → Type 0) (rose : Type 0) → Leaves Due answer OutGrew rose → EndsByItself answer
+leaves_ends Due (Ok output) OutGrew rose h = tt
+leaves_ends Due (Err (Refused refusal)) OutGrew rose h = h.0
+leaves_ends Due (Err stop.WriteFault) OutGrew rose h = tt
+leaves_ends Due (Err stop.OutOfMemory) OutGrew rose h = tt
 
-  begins_as : Begins Due OutGrew ErrGrew → Begins Due' OutGrew' ErrGrew'
-  begins_as b = (b.0, due _ b.1, part_as b.0 b.2)
+module _ (Due : Reply → Type 0) (a : Option (List ℕ)) (rose : Type 0) where
+  -- a refusal leaves its line to write
+  pub refusal_left : (s : Stop) → Refuses Due s → Leaves Due (Err s) (Grew a a) rose
+  refusal_left (Refused refusal) h = (h.0, ([], grew_nothing a, h.1))
+  refusal_left stop.WriteFault h = absurd h
+  refusal_left stop.OutOfMemory h = inl (grew_nothing a)
 
-  most_as : BeginsAtMost Due OutGrew ErrGrew → BeginsAtMost Due' OutGrew' ErrGrew'
-  most_as (inl h) = inl (out _ h.0, err _ h.1)
-  most_as (inr h) = inr (begins_as h)
+  -- all of an answer is left
+  pub all_left : (answer : Result Output Stop) → Gives Due answer → Leaves Due answer (Grew a a) rose
+  all_left (Ok output) h = ([], grew_nothing a, h)
+  all_left (Err s) h = refusal_left s h
 
-  pub replies_as : (result : Result Status Fault) → Replies Due result OutGrew ErrGrew rose → Replies Due' result OutGrew' ErrGrew' rose'
-  replies_as (Ok status) h = (h.0, (h.1.0, due _ h.1.1, (out _ h.1.2.0, err _ h.1.2.1), h.1.3))
-  replies_as (Err Failed) h = (begins_as h.0, cause h.1)
-  replies_as (Err OutOfMemory) h = most_as h
+  -- a call stops where a part of it does
+  pub stop_left : (answer : Result Output Stop) (s : Stop) → IsErrAnd answer (λ e. e ≡ s) → Refuses Due s → Leaves Due answer (Grew a a) rose
+  stop_left (Ok output) s is h = absurd is
+  stop_left (Err other) s is h = refusal_left other (subst (Refuses Due) (sym is) h)
 
--- ---- answers
+-- ---- what is due of a part of a call
 
--- what is written of an output, or of a refusal, is the reply that the answer is
-pub output_is : (answer : Result Output Stop) (output : Output) (pieces : List (Vec ℕ Global)) → answer ≡ Ok output → pieces ≡ output.pieces.items
-    → IsReplyOf answer (record { out = joined pieces; err = []; status = 0 })
-output_is answer output pieces is same =
-    subst (λ (a : Result Output Stop). IsReplyOf a (record { out = joined pieces; err = []; status = 0 })) (sym is)
-    (ap (λ (p : List (Vec ℕ Global)). let reply : Reply = record { out = joined p; err = []; status = 0 } in reply) same)
+module _ {Due Due' : Reply → Type 0} (due : (r : Reply) → Due r → Due' r) (OutGrew : List ℕ → Type 0) (rose : Type 0) where
+  begun_as : IsBegun Due OutGrew → IsBegun Due' OutGrew
+  begun_as h = (h.0, due h.0 h.1, h.2)
 
-pub refusal_is : (answer : Result Output Stop) (refusal : Refusal) (line : List ℕ) → answer ≡ Err (Refused refusal) → line ≡ refusal.line.items
-    → IsReplyOf answer (record { out = []; err = line; status = code_of refusal.status })
-refusal_is answer refusal line is same =
-    subst (λ (a : Result Output Stop). IsReplyOf a (record { out = []; err = line; status = code_of refusal.status })) (sym is)
-    (ap (λ (l : List ℕ). let reply : Reply = record { out = []; err = l; status = code_of refusal.status } in reply) same)
+  pub leaves_as : (answer : Result Output Stop) → Leaves Due answer OutGrew rose → Leaves Due' answer OutGrew rose
+  leaves_as (Ok output) h = (h.0, h.1, due _ h.2)
+  leaves_as (Err (Refused refusal)) h = (h.0, (h.1.0, h.1.1, due _ h.1.2))
+  leaves_as (Err stop.WriteFault) h = (begun_as h.0, h.1)
+  leaves_as (Err stop.OutOfMemory) (inl h) = inl h
+  leaves_as (Err stop.OutOfMemory) (inr h) = inr (begun_as h)
+
+-- ---- writing what is left
+
+-- an answer is delivered by what is written of its output, or of its refusal
+module _ (OutGrew ErrGrew : List ℕ → Type 0) (rose : Type 0) (answer : Result Output Stop) (result : Result Status Fault) where
+  pub output_delivered : (output : Output) → answer ≡ Ok output → Replies (λ reply. reply ≡ reply_with output) result OutGrew ErrGrew rose → Delivers answer result OutGrew ErrGrew rose
+  output_delivered output is h = subst (λ (a : Result Output Stop). Delivers a result OutGrew ErrGrew rose) (sym is) h
+
+  pub refusal_delivered : (refusal : Refusal) → answer ≡ Err (Refused refusal) → Replies (λ reply. reply ≡ reply_of_refusal refusal) result OutGrew ErrGrew rose
+      → Delivers answer result OutGrew ErrGrew rose
+  refusal_delivered refusal is h = subst (λ (a : Result Output Stop). Delivers a result OutGrew ErrGrew rose) (sym is) h
+
+-- what is written is the reply
+pub output_is : (output : Output) (pieces : List (Vec ℕ Global)) → pieces ≡ output.pieces.items
+    → ◌≡◌ {A = Reply} (record { out = joined pieces; err = []; status = 0 }) (reply_with output)
+output_is output pieces same = ap (λ (p : List (Vec ℕ Global)). let reply : Reply = record { out = joined p; err = []; status = 0 } in reply) same
+
+pub refusal_is : (refusal : Refusal) (line : List ℕ) → line ≡ refusal.line.items
+    → ◌≡◌ {A = Reply} (record { out = []; err = line; status = code_of refusal.status }) (reply_of_refusal refusal)
+refusal_is refusal line same = ap (λ (l : List ℕ). let reply : Reply = record { out = []; err = l; status = code_of refusal.status } in reply) same
 
 pub refusal_ends : (answer : Result Output Stop) (refusal : Refusal) → answer ≡ Err (Refused refusal) → EndsByItself answer → Ends refusal.status
 refusal_ends answer refusal is h = subst EndsByItself is h
 
--- an answer that is due ends a call by itself
-pub gives_ends : (Due : Reply → Type 0) (answer : Result Output Stop) → Gives Due answer → EndsByItself answer
-gives_ends Due (Ok output) h = tt
-gives_ends Due (Err (Refused refusal)) h = h.0
-gives_ends Due (Err stop.OutOfMemory) h = tt
+module _ (Due : Reply → Type 0) (a b c : Option (List ℕ)) (ErrGrew : List ℕ → Type 0) {one two rose : Type 0} (first : one → rose) (second : two → rose) where
+  -- out grew by a text, and then by nothing
+  same_growth : (text : List ℕ) → Grew a b text → Grew b c [] → Grew a c text
+  same_growth text g n = subst (Grew a c) (append-nil text) (grew_more a b c text [] g n)
 
-is_due : (Due : Reply → Type 0) (answer : Result Output Stop) → Gives Due answer → (r : Reply) → IsReplyOf answer r → Due r
-is_due Due (Ok output) h r is = subst Due (sym is) h
-is_due Due (Err (Refused refusal)) h r is = subst Due (sym is) h.1
-is_due Due (Err stop.OutOfMemory) h r is = absurd is
+  begun_before : IsBegun Due (Grew a b) → Grew b c [] → ErrGrew [] → Begins Due (Grew a c) ErrGrew
+  begun_before h n e = (h.0, h.1, inl ((h.2.0, h.2.1, same_growth h.2.0 h.2.2 n), e))
 
--- what was written of an answer that is due was due
-pub due_replies : (Due : Reply → Type 0) (OutGrew ErrGrew : List ℕ → Type 0) (rose : Type 0) (answer : Result Output Stop) (result : Result Status Fault)
-    → Gives Due answer → Replies (IsReplyOf answer) result OutGrew ErrGrew rose → Replies Due result OutGrew ErrGrew rose
-due_replies Due OutGrew ErrGrew rose answer result gives h =
-    replies_as {rose = rose} {rose' = rose} (is_due Due answer gives) (λ _ g. g) (λ _ g. g) (λ g. g) result h
+  -- what is left is written behind the text that was printed
+  module _ (text : List ℕ) (left : Reply) (grew : Grew a b text) (due : Due (behind text left)) where
+    due_behind : (r : Reply) → r ≡ left → Due (behind text r)
+    due_behind r is = subst (λ (x : Reply). Due (behind text x)) (sym is) due
+
+    part_behind : (r : Reply) → WrotePart r (Grew b c) ErrGrew → WrotePart (behind text r) (Grew a c) ErrGrew
+    part_behind r (inl h) = inl ((text ++ h.0.0, front_next text h.0.0 r.out h.0.1, grew_more a b c text h.0.0 grew h.0.2), h.1)
+    part_behind r (inr h) = inr (grew_more a b c text r.out grew h.0, h.1)
+
+    begins_behind : Begins (λ r. r ≡ left) (Grew b c) ErrGrew → Begins Due (Grew a c) ErrGrew
+    begins_behind h = (behind text h.0, due_behind h.0 h.1, part_behind h.0 h.2)
+
+    most_behind : BeginsAtMost (λ r. r ≡ left) (Grew b c) ErrGrew → BeginsAtMost Due (Grew a c) ErrGrew
+    most_behind (inl h) = inr (behind text left, due, inl ((text, front_first text left.out, same_growth text grew h.0), h.1))
+    most_behind (inr h) = inr (begins_behind h)
+
+    replies_behind : (result : Result Status Fault) → Replies (λ r. r ≡ left) result (Grew b c) ErrGrew two → Replies Due result (Grew a c) ErrGrew rose
+    replies_behind (Ok status) h =
+        (h.0, (behind text h.1.0, due_behind h.1.0 h.1.1, (grew_more a b c text h.1.0.out grew h.1.2.0, h.1.2.1), h.1.3))
+    replies_behind (Err Failed) h = (begins_behind h.0, second h.1)
+    replies_behind (Err OutOfMemory) h = most_behind h
+
+  -- so what is due is written, or a first part of it
+  pub delivered : (answer : Result Output Stop) (result : Result Status Fault) → Leaves Due answer (Grew a b) one → Delivers answer result (Grew b c) ErrGrew two
+      → Replies Due result (Grew a c) ErrGrew rose
+  delivered (Ok output) result h d = replies_behind h.0 (reply_with output) h.1 h.2 result d
+  delivered (Err (Refused refusal)) result h d = replies_behind h.1.0 (reply_of_refusal refusal) h.1.1 h.1.2 result d
+  delivered (Err stop.WriteFault) result h d =
+      subst (λ (r : Result Status Fault). Replies Due r (Grew a c) ErrGrew rose) (sym d.0) (begun_before h.0 d.1 d.2, first h.1)
+  delivered (Err stop.OutOfMemory) result h d =
+      subst (λ (r : Result Status Fault). Replies Due r (Grew a c) ErrGrew rose) (sym d.0) (at_most h)
+    where
+      at_most : Grew a b [] ⊎ IsBegun Due (Grew a b) → BeginsAtMost Due (Grew a c) ErrGrew
+      at_most (inl g) = inl (same_growth [] g d.1, d.2)
+      at_most (inr g) = inr (begun_before g d.1 d.2)
+
+-- a count rose in the one part, or in the other
+pub rose_first : (before between now : ℕ) → between ≤ now → Rose before between → Rose before now
+rose_first before between now later h = omega (arith, later, h)
+
+pub rose_either : (before between now : ℕ) {P : Type 0} → before ≤ between → Rose between now ⊎ P → Rose before now ⊎ P
+rose_either before between now later (inl h) = inl (omega (arith, later, h))
+rose_either before between now later (inr p) = inr p

@@ -1,90 +1,149 @@
 -- What a run gives, from what the machine came to.
-use Rattle.std.proofs.Common.{◌≡◌, ◌≢◌, Option, Some, refl, ◌+◌, ℕ, List, [], flat_map, None, sym, ap, subst, ◌∙◌, zero-add}
+use Rattle.std.proofs.Common.{◌≡◌, ◌≤◌, ◌+◌, ◌⊎◌, ℕ, List, [], ◌∷◌, ◌++◌, flat_map, Option, Some, None, Result, Ok, Err, inl, inr, refl, sym, ap, subst, ◌∙◌, zero-add, append_assoc, arith}
+use Rattle.std.specs.Prelude.{IsErrAnd}
+use Rattle.w_outside.specs.Outside.{Grew, GrewByFront, IsFront}
 use Rattle.w_syntax.specs.declared.module.Module.{Module}
+use Rattle.w_types.specs.Rows.{Row, listed}
+use Rattle.w_canon.specs.IsClassesOf.{IsClassesOf}
 use Rattle.w_types.specs.declared.value.Value.{Value}
-use Rattle.w_machine.specs.declared.outcome.Outcome.TheVariants as outcome
-use Rattle.w_reduce.specs.declared.limit.RunLimit.{RunLimit}
-use Rattle.w_reduce.specs.Run.{Outcome, Running, Limit, NoRule, RunState, Run, HasEnded, results_of}
-use Rattle.w_machine.specs.Position.{Position, Runs}
-use Rattle.w_machine.specs.declared.instantiation.InstFault.{InstFault}
-use Rattle.w_machine.specs.declared.instantiation.InstFault.TheVariants as inst
-use Rattle.w_reduce.specs.Start.{first_import, entry}
+use Rattle.w_reduce.specs.Values.{Val, val}
+use Rattle.w_reduce.specs.Store.{Store}
+use Rattle.w_reduce.specs.Terms.{Term}
+use Rattle.w_reduce.specs.Program.{Program, IsProgram}
+use Rattle.w_reduce.specs.Run.{Outcome, Values, RunState, Run}
+use Rattle.w_reduce.specs.Start.{Started, Start, Ready, NoPrinter, NoEntry, Exceeds, StartTraps}
+use Rattle.w_stands.specs.Values.{vals}
+use Rattle.w_inst.specs.Instances.{BeginsAs}
+use Rattle.w_inst.specs.declared.instantiation.InstFault.{InstFault}
+use Rattle.w_machine.specs.declared.outcome.Kept.{Kept}
+use Rattle.w_machine.specs.declared.outcome.Kept.TheVariants as kept
+use Rattle.w_machine.specs.Beginning.{Begins}
+use Rattle.w_machine.specs.Position.{Position, Printed, PrintedAtMost, RunsFrom, RunsOn, Runs}
+use Rattle.w_machine.specs.Results.{HasResults}
+use Rattle.drive.specs.declared.output.Output.{Output}
 use Rattle.drive.specs.declared.stop.Stop.{Stop}
-use Rattle.drive.specs.declared.stop.Stop.TheVariants.{OutOfMemory}
-use Rattle.drive.specs.Stop.{Refuses}
+use Rattle.drive.specs.declared.stop.Stop.TheVariants.{Refused, WriteFault, OutOfMemory}
+use Rattle.drive.specs.Answer.{Reply, result_line, behind, end_reply, run_reply, start_reply, run_gives, RunGives}
+use Rattle.drive.specs.Leaving.{IsBegun, Leaves}
+use Rattle.drive.specs.Pieces.{joined}
+use Rattle.drive.specs.Stop.{Refuses, reply_with, reply_of_refusal}
 use Rattle.drive.proofs.Refusals.{refuses_same}
-use Rattle.drive.specs.Answer.{run_gives, Reply, result_line, run_reply, no_printer, no_entry, from_entry, from_import}
+use Rattle.drive.proofs.Replies.{front_next, front_first}
 
 -- ## Runs from the start
 
-abbrev pub Fresh : Module → Position → Type 0
-Fresh m p = p ≡ record { program = m; taken = 0; kept = None }
+abbrev First : Module → Position
+First m = record { program = m; taken = 0; kept = None }
 
-pub ran_ended : (m : Module) (steps : ℕ) (p q : Position) → Fresh m p → Runs p steps outcome.Ended q
-    → HasEnded (Run m steps).outcome × (results_of (Run q.program q.taken).outcome ≡ results_of (Run m steps).outcome)
-ran_ended m steps p q fresh runs =
-    let r = subst (λ (z : Position). Runs z steps outcome.Ended q) fresh runs in
-    let n = zero-add steps in
-    let stands : Run q.program q.taken ≡ Run m (0 + steps) = ap (λ (z : Position). Run z.program q.taken) r.1.0 ∙ r.1.1 in (
-      subst (λ (k : ℕ). HasEnded (Run m k).outcome) n r.0,
-      ap (λ (x : RunState). results_of x.outcome) (stands ∙ ap (Run m) n),
-    )
+-- what is told of a run from its first reduction on
+pub from_first : (m : Module) (p : Program) (s : Store) (t : Term) (steps : ℕ) (q new : Position) (k : Option Kept) (before now : Option (List ℕ)) → q ≡ First m
+    → Begins q.program p s t → Runs q steps k new before now → RunsOn (Run p s t) 0 steps k before now
+from_first m p s t steps q new k before now first begins runs =
+    let h = subst (λ (z : Position). Runs z steps k new before now) first runs in
+    h.3 p s t (subst (λ (z : Position). Begins z.program p s t) first begins)
 
-pub ran_running : (m : Module) (steps : ℕ) (p q : Position) → Fresh m p → Runs p steps outcome.Running q → (Run m steps).outcome ≡ Running
-ran_running m steps p q fresh runs =
-    let r = subst (λ (z : Position). Runs z steps outcome.Running q) fresh runs in
-    subst (λ (k : ℕ). (Run m k).outcome ≡ Running) (zero-add steps) r.0
+-- a run that ended keeps that, and took no more reductions than were asked for
+pub record IsDone (p : Program) (s : Store) (t : Term) (steps : ℕ) (new : Position) : Type 0 where
+  pub kept : new.kept ≡ Some kept.Ended
+  pub begins : Begins new.program p s t
+  pub within : new.taken ≤ steps
 
-pub ran_stuck : (m : Module) (steps : ℕ) (p q : Position) → Fresh m p → Runs p steps outcome.Stuck q → (Run m steps).outcome ≡ NoRule
-ran_stuck m steps p q fresh runs =
-    let r = subst (λ (z : Position). Runs z steps outcome.Stuck q) fresh runs in
-    subst (λ (k : ℕ). (Run m k).outcome ≡ NoRule) (zero-add steps) r.0
+pub first_ended : (m : Module) (p : Program) (s : Store) (t : Term) (steps : ℕ) (q new : Position) (before now : Option (List ℕ)) → q ≡ First m
+    → Begins q.program p s t → Runs q steps (Some kept.Ended) new before now → IsDone p s t steps new
+first_ended m p s t steps q new before now first begins runs =
+    let h = subst (λ (z : Position). Runs z steps (Some kept.Ended) new before now) first runs in
+    let there = ap (λ (z : Position). z.taken) h.2 in
+    record {
+      kept = ap (λ (z : Position). z.kept) h.2;
+      begins = subst (λ (n : Module). Begins n p s t) (ap (λ (z : Position). z.program) first ∙ sym (ap (λ (z : Position). z.program) h.2)) begins;
+      within = omega (arith, there, h.1);
+    }
 
-pub ran_limited : (m : Module) (steps : ℕ) (name : RunLimit) (p q : Position) → Fresh m p → Runs p steps (outcome.Limit name) q → (Run m steps).outcome ≡ Limit name
-ran_limited m steps name p q fresh runs =
-    let r = subst (λ (z : Position). Runs z steps (outcome.Limit name) q) fresh runs in
-    subst (λ (k : ℕ). (Run m k).outcome ≡ Limit name) (zero-add steps) r.0
+-- ## What is left to write behind what was printed
 
--- ## What a run that ended gives
+module _ (p : Program) (s : Store) (t : Term) (steps : ℕ) (before now : Option (List ℕ)) (rose : Type 0) where
+  abbrev IsDue : Reply → Type 0
+  IsDue reply = reply ≡ run_reply (Run p s t steps)
 
-abbrev results_reply : List Value → Reply
-results_reply vs = record { out = flat_map result_line vs; err = []; status = 0 }
+  from_zero : Run p s t (0 + steps) ≡ Run p s t steps
+  from_zero = ap (Run p s t) (zero-add steps)
 
-ended_reply : (o : Outcome) → HasEnded o → run_reply o ≡ results_reply (results_of o)
-ended_reply o h = ap run_reply h.1 ∙ ap (λ (x : Outcome). results_reply (results_of x)) (sym h.1)
+  -- what was printed is the run's output
+  is_output : (text : List ℕ) → (Run p s t (0 + steps)).output ≡ (Run p s t 0).output ++ text → text ≡ (Run p s t steps).output
+  is_output text e = sym e ∙ ap (λ (r : RunState). r.output) from_zero
 
--- the lines of the results are the reply of the run
-pub results_are : (m : Module) (steps : ℕ) (text : List ℕ) (vs : List Value) → HasEnded (Run m steps).outcome → text ≡ flat_map result_line vs
-    → vs ≡ results_of (Run m steps).outcome → ◌≡◌ {A = Reply} (record { out = text; err = []; status = 0 }) (run_reply (Run m steps).outcome)
-results_are m steps text vs h t e =
-    ap (λ (l : List ℕ). let reply : Reply = record { out = l; err = []; status = 0 } in reply) t
-    ∙ ap results_reply e ∙ sym (ended_reply (Run m steps).outcome h)
+  behind_same : (text : List ℕ) (left : Reply) → text ≡ (Run p s t steps).output → left ≡ end_reply (Run p s t steps).outcome → IsDue (behind text left)
+  behind_same text left e f = ap (λ (l : List ℕ). behind l left) e ∙ ap (behind (Run p s t steps).output) f
 
--- where nothing is missing and there is an entry, the run gives the reply
-pub from_both : (i e : Option ℕ) (r : Reply) → i ≡ None → e ≢ None → from_import i (from_entry e r) ≡ r
-from_both None (Some a) r none h = refl
-from_both None None r none h = absurd (h refl)
-from_both (Some i) e r none h = absurd cc
+  part_begun : (text : List ℕ) → text ≡ (Run p s t steps).output → GrewByFront before now text → IsBegun IsDue (Grew before now)
+  part_begun text e h = (
+    run_reply (Run p s t steps),
+    refl,
+    (
+      h.part,
+      record {
+        rest = h.front.rest ++ (end_reply (Run p s t steps).outcome).out;
+        joined = longer h.part h.front.rest text (end_reply (Run p s t steps).outcome).out h.front.joined ∙ ap (λ (l : List ℕ). l ++ (end_reply (Run p s t steps).outcome).out) e;
+      },
+      h.grew,
+    ),
+  )
+    where
+      longer : (a b whole more : List ℕ) → a ++ b ≡ whole → a ++ (b ++ more) ≡ whole ++ more
+      longer a b whole more j = sym (append_assoc a b more) ∙ ap (λ (l : List ℕ). l ++ more) j
 
--- where an import is missing, that is told
-pub import_told : (i : Option ℕ) (n : ℕ) (r : Reply) → i ≡ Some n → from_import i r ≡ no_printer n
-import_told i n r is = ap (λ (o : Option ℕ). from_import o r) is
+  all_begun : (text : List ℕ) → text ≡ (Run p s t steps).output → Grew before now text → IsBegun IsDue (Grew before now)
+  all_begun text e grew = (run_reply (Run p s t steps), refl, (text, subst (λ (l : List ℕ). IsFront text (l ++ (end_reply (Run p s t steps).outcome).out)) e (front_first text _), grew))
 
--- nothing is imported, and there is no entry
-pub entry_told : (i e : Option ℕ) (r : Reply) → i ≡ None → e ≡ None → from_import i (from_entry e r) ≡ no_entry
-entry_told i e r none missing = ap (λ (o : Option ℕ). from_import o (from_entry e r)) none ∙ ap (λ (o : Option ℕ). from_entry o r) missing
+  -- a run that stops leaves a line on it
+  pub run_refused : (o : Outcome) (stop : Stop) → Printed (Run p s t 0) (Run p s t (0 + steps)) before now → (Run p s t (0 + steps)).outcome ≡ o
+      → Refuses (λ reply. reply ≡ end_reply o) stop → Leaves IsDue (Err stop) (Grew before now) rose
+  run_refused o (Refused refusal) print told h =
+      (h.0, (print.text, print.grew, behind_same print.text (reply_of_refusal refusal) (is_output print.text print.is) (h.1 ∙ ap end_reply (sym told ∙ ap (λ (r : RunState). r.outcome) from_zero))))
+  run_refused o WriteFault print told h = absurd h
+  run_refused o OutOfMemory print told h = inr (all_begun print.text (is_output print.text print.is) print.grew)
 
--- a module without a run is refused, by why it has none
-pub no_run_refuses : (m : Module) (steps : ℕ) (fault : InstFault) (stop : Stop)
-    → ((i : ℕ) → fault ≡ inst.Import i → Refuses (λ reply. reply ≡ no_printer i) stop)
-    → (fault ≡ inst.NoEntry → Refuses (λ reply. reply ≡ no_entry) stop)
-    → (fault ≡ inst.OutOfMemory → stop ≡ OutOfMemory)
-    → ((i : ℕ) → fault ≡ inst.Import i → first_import m ≡ Some i)
-    → (fault ≡ inst.NoEntry → (first_import m ≡ None) × (entry m ≡ None))
-    → Refuses (λ reply. reply ≡ run_gives steps m) stop
-no_run_refuses m steps (inst.Import i) stop import no_way memory missing none =
-    refuses_same stop (sym (import_told (first_import m) i (from_entry (entry m) (run_reply (Run m steps).outcome)) (missing i refl))) (import i refl)
-no_run_refuses m steps inst.NoEntry stop import no_way memory missing none =
-    refuses_same stop (sym (entry_told (first_import m) (entry m) (run_reply (Run m steps).outcome) (none refl).0 (none refl).1)) (no_way refl)
-no_run_refuses m steps inst.OutOfMemory stop import no_way memory missing none =
-    subst (Refuses (λ reply. reply ≡ run_gives steps m)) (sym (memory refl)) tt
+  -- one that ended leaves its results, a line each
+  pub run_ended : (output : Output) (vs : List Val) → Printed (Run p s t 0) (Run p s t (0 + steps)) before now → HasResults (Run p s t steps).outcome vs
+      → joined output.pieces.items ≡ flat_map result_line vs → Leaves IsDue (Ok output) (Grew before now) rose
+  run_ended output vs print h lines = (
+    print.text,
+    print.grew,
+    behind_same print.text (reply_with output) (is_output print.text print.is)
+        (ap results_reply (lines ∙ ap (flat_map result_line) h.2) ∙ ap end_reply (sym h.1)),
+  )
+    where
+      results_reply : List ℕ → Reply
+      results_reply text = record { out = text; err = []; status = 0 }
+
+  -- where memory ran out behind it, all that it printed was written
+  pub run_unlisted : (answer : Result Output Stop) → Printed (Run p s t 0) (Run p s t (0 + steps)) before now → IsErrAnd answer (λ e. e ≡ OutOfMemory)
+      → Leaves IsDue answer (Grew before now) rose
+  run_unlisted (Ok output) print is = absurd is
+  run_unlisted (Err stop) print is =
+      subst (λ (e : Stop). Leaves IsDue (Err e) (Grew before now) rose) (sym is) (inr (all_begun print.text (is_output print.text print.is) print.grew))
+
+  -- a fault leaves nothing
+  pub run_failed : PrintedAtMost (Run p s t 0) (Run p s t (0 + steps)) before now → rose → Leaves IsDue (Err WriteFault) (Grew before now) rose
+  run_failed print r = (part_begun print.text (is_output print.text print.is) print.grew, r)
+
+  pub run_out : PrintedAtMost (Run p s t 0) (Run p s t (0 + steps)) before now → Leaves IsDue (Err OutOfMemory) (Grew before now) rose
+  run_out print = inr (part_begun print.text (is_output print.text print.is) print.grew)
+
+-- ## The lines of results
+
+-- lines are told of values as the definitions see them
+pub lines_of_vals : (vs : List Value) → flat_map (λ v. result_line (val v)) vs ≡ flat_map result_line (vals vs)
+lines_of_vals [] = refl
+lines_of_vals (v ∷ vs) = ap (λ (l : List ℕ). result_line (val v) ++ l) (lines_of_vals vs)
+
+-- ## What a module gives
+
+-- where its run begins, what the run gives
+pub ready_gives : (m : Module) (steps : ℕ) (p : Program) (s : Store) (t : Term) → p.source ≡ m → IsProgram p → Start p ≡ Ready s t → (reply : Reply)
+    → reply ≡ run_reply (Run p s t steps) → RunGives steps m reply
+ready_gives m steps p s t source told start reply is = (p, source, told, is ∙ sym (ap (start_reply steps p) start))
+
+-- and else its refusal
+pub refused_gives : (m : Module) (steps : ℕ) (p : Program) → p.source ≡ m → IsProgram p → (reply : Reply) → reply ≡ run_gives steps p → RunGives steps m reply
+refused_gives m steps p source told reply is = (p, source, told, is)

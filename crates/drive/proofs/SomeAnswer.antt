@@ -15,9 +15,12 @@ use Rattle.std.specs.Prelude.{nat_eq, cond}
 use Rattle.std.proofs.lemmas.Bool.{cases_lt}
 use Rattle.w_valid.specs.declared.fault.ValidFault.{ValidFault}
 use Rattle.w_valid.specs.declared.fault.ValidFault.TheVariants as valid
+use Rattle.words.specs.declared.request.Action.{Action}
+use Rattle.words.specs.declared.request.Action.TheVariants.{Check, Run as RunFor, Build}
 use Rattle.words.specs.Line.{on_file as line_on_file, bad}
 use Rattle.drive.specs.Answer.{Reply, HasModuleFault, OnFile, OnBytes, BytesGive, gives, input_limit}
 use Rattle.drive.specs.Laws.{SomeAnswer}
+use Rattle.drive.proofs.Programs.{some_program}
 
 -- there can't be no reply of which it holds
 abbrev IsTotal : (Reply → Type 0) → Type 0
@@ -213,12 +216,17 @@ spelled_or_not bytes = by_reading (decoded bytes) refl
     by_reading (Ok m) e = inl (m, (spelled_exactly bytes m).0 e)
     by_reading (Err fault) e = inr (fault, (fault_exactly bytes fault).0 e)
 
-bytes_total : (accepted : Module → Reply) (bytes : List ℕ) → IsTotal (BytesGive accepted bytes)
-bytes_total accepted bytes none = elim (spelled_or_not bytes) [
-  | inl h ↦ module_total h.0 (λ ok. none _ (inl (h.0, h.1, ok.0, ok.1, refl))) (λ fault has. none _ (inr (inl (h.0, h.1, (fault, has, refl)))))
+bytes_total : (Accepted : Module → Reply → Type 0) → ((m : Module) → IsTotal (Accepted m)) → (bytes : List ℕ) → IsTotal (BytesGive Accepted bytes)
+bytes_total Accepted total bytes none = elim (spelled_or_not bytes) [
+  | inl h ↦ module_total h.0 (λ ok. total h.0 (λ r gives. none r (inl (h.0, h.1, ok.0, ok.1, gives)))) (λ fault has. none _ (inr (inl (h.0, h.1, (fault, has, refl)))))
   | inr h ↦ none _ (inr (inr (h.0, h.1, refl)))
 ]
 
+some_given : (action : Action) (m : Module) → IsTotal (gives action m)
+some_given Check m none = none _ refl
+some_given (RunFor steps) m none = some_program m (λ p source is. none _ (p, source, is, refl))
+some_given Build m none = none _ refl
+
 pub some_answer : SomeAnswer
-some_answer (line_on_file name action) files none = on_file (files name) (BytesGive (gives action)) (bytes_total _) none
+some_answer (line_on_file name action) files none = on_file (files name) (BytesGive (gives action)) (bytes_total (gives action) (some_given action)) none
 some_answer bad files none = none _ refl

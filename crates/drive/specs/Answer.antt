@@ -1,13 +1,11 @@
 -- What the program answers to a line, given what is told of the files.
-use Rattle.std.specs.Prelude.{◌≡◌, ◌≢◌, ◌⊎◌, ◌<◌, ◌≤◌, ℕ, List, [], ◌∷◌, ◌++◌, codes, decimal, length, flat_map, Option, Some, None}
+use Rattle.std.specs.Prelude.{◌≡◌, ◌≢◌, ◌⊎◌, ◌<◌, ◌≤◌, ℕ, List, [], ◌∷◌, ◌++◌, codes, decimal, length, flat_map}
 use Rattle.std.specs.Int.{w32, w64, cast_signed}
 use Rattle.std.specs.Fmt.{signed_decimal}
 use Rattle.w_outside.specs.Outside.{Known, untold, missing, holds}
 use Rattle.w_syntax.specs.declared.module.Module.{Module}
 use Rattle.w_syntax.specs.Spells.{Spells}
 use Rattle.w_types.specs.Rows.{listed}
-use Rattle.w_types.specs.declared.value.Value.{Value}
-use Rattle.w_types.specs.declared.value.Value.TheVariants.{I32, I64, Null, Func, Cont}
 use Rattle.w_decode.specs.Faults.{HasFault}
 use Rattle.w_decode.specs.declared.fault.DecodeFault.{DecodeFault}
 use Rattle.w_decode.specs.declared.fault.DecodeFault.TheVariants as decode
@@ -15,13 +13,19 @@ use Rattle.w_rules.specs.Limits.{Within}
 use Rattle.w_rules.specs.Valid.{Valid}
 use Rattle.w_rules.specs.declared.limits.SizeLimit.{SizeLimit}
 use Rattle.w_rules.specs.declared.limits.SizeLimit.TheVariants.{Types, Params, Locals}
-use Rattle.w_reduce.specs.declared.limit.RunLimit.{RunLimit}
-use Rattle.w_reduce.specs.declared.limit.RunLimit.TheVariants.{Frames}
 use Rattle.w_valid.specs.Faults.{IsFaultOf}
 use Rattle.w_valid.specs.declared.fault.ValidFault.{ValidFault}
 use Rattle.w_valid.specs.declared.fault.ValidFault.TheVariants as valid
-use Rattle.w_reduce.specs.Start.{first_import, entry}
-use Rattle.w_reduce.specs.Run.{Outcome, Running, Values, Limit, NoRule, Run}
+use Rattle.w_reduce.specs.declared.limit.RunLimit.{RunLimit}
+use Rattle.w_reduce.specs.declared.limit.RunLimit.TheVariants.{Frames}
+use Rattle.w_reduce.specs.declared.limit.StartLimit.{StartLimit}
+use Rattle.w_reduce.specs.declared.limit.StartLimit.TheVariants.{Memory, Table}
+use Rattle.w_reduce.specs.declared.trap.Trap.{Trap}
+use Rattle.w_reduce.specs.declared.trap.Trap.TheVariants as trap
+use Rattle.w_reduce.specs.Values.{Val, I32, I64, Null, Func, Cont}
+use Rattle.w_reduce.specs.Program.{Program, IsProgram}
+use Rattle.w_reduce.specs.Start.{Started, Ready, NoPrinter, NoEntry, Exceeds, StartTraps, Start}
+use Rattle.w_reduce.specs.Run.{Outcome, Running, Values, Traps, Limit, NoRule, RunState, Run}
 use Rattle.w_encode.specs.Canon.{Canon}
 use Rattle.words.specs.declared.request.Action.{Action}
 use Rattle.words.specs.declared.request.Action.TheVariants.{Check, Run as RunFor, Build}
@@ -66,6 +70,11 @@ size_limit_text Locals = codes "limit locals"
 abbrev pub run_limit_text : RunLimit → List ℕ
 run_limit_text Frames = codes "limit frames"
 
+-- and of where a run begins
+abbrev pub start_limit_text : StartLimit → List ℕ
+start_limit_text Memory = codes "limit memory"
+start_limit_text Table = codes "limit table"
+
 -- a limit that is passed
 abbrev pub limit : List ℕ → Reply
 limit text = refusal text 9
@@ -99,6 +108,20 @@ read_fault = refusal (codes "read fault") 6
 abbrev pub limit_input : Reply
 limit_input = refusal (codes "limit input") 9
 
+abbrev pub trap_text : Trap → List ℕ
+trap_text trap.Unreachable = codes "trap unreachable"
+trap_text trap.DivideByZero = codes "trap divide by zero"
+trap_text trap.IntegerOverflow = codes "trap integer overflow"
+trap_text trap.MemoryOutOfBounds = codes "trap memory out of bounds"
+trap_text trap.TableOutOfBounds = codes "trap table out of bounds"
+trap_text trap.UndefinedElement = codes "trap undefined element"
+trap_text trap.NullElement = codes "trap null element"
+trap_text trap.CallTypeMismatch = codes "trap call type mismatch"
+trap_text trap.NullReference = codes "trap null reference"
+
+abbrev pub trapped : Trap → Reply
+trapped t = refusal (trap_text t) 1
+
 abbrev pub running : Reply
 running = refusal (codes "running") 10
 
@@ -116,45 +139,55 @@ abbrev pub ok_module : Reply
 ok_module = record { out = line (codes "ok module"); err = []; status = 0 }
 
 -- an integer, signed; a reference, by its address
-abbrev pub value_text : Value → List ℕ
+abbrev pub value_text : Val → List ℕ
 value_text (I32 n) = signed_decimal (cast_signed w32 n)
 value_text (I64 n) = signed_decimal (cast_signed w64 n)
 value_text Null = codes "null"
 value_text (Func a) = codes "func " ++ decimal a
-value_text (Cont r) = codes "cont " ++ decimal r.serial
+value_text (Cont a) = codes "cont " ++ decimal a
 
-abbrev pub result_line : Value → List ℕ
+abbrev pub result_line : Val → List ℕ
 result_line v = line (codes "= " ++ value_text v)
 
 -- what the end of a run gives
-abbrev pub run_reply : Outcome → Reply
-run_reply (Values vs) = record { out = flat_map result_line (listed vs); err = []; status = 0 }
-run_reply Running = running
-run_reply (Limit name) = limit (run_limit_text name)
-run_reply NoRule = stuck
+abbrev pub end_reply : Outcome → Reply
+end_reply (Values vs) = record { out = flat_map result_line (listed vs); err = []; status = 0 }
+end_reply Running = running
+end_reply (Traps t) = trapped t
+end_reply (Limit name) = limit (run_limit_text name)
+end_reply NoRule = stuck
 
--- what a run gives, where there is an entry to begin with
-abbrev pub from_entry : Option ℕ → Reply → Reply
-from_entry (Some a) reply = reply
-from_entry None reply = no_entry
+-- a reply that comes behind a text that was printed
+abbrev pub behind : List ℕ → Reply → Reply
+behind printed reply = record reply { out = printed ++ reply.out }
 
--- what a module gives, where nothing is missing for its imports
-abbrev pub from_import : Option ℕ → Reply → Reply
-from_import (Some i) reply = no_printer i
-from_import None reply = reply
+abbrev pub run_reply : RunState → Reply
+run_reply r = behind r.output (end_reply r.outcome)
 
-abbrev pub run_gives : ℕ → Module → Reply
-run_gives steps m = from_import (first_import m) (from_entry (entry m) (run_reply (Run m steps).outcome))
+-- what a run gives of at most so many steps, by where it begins
+abbrev pub start_reply : ℕ → Program → Started → Reply
+start_reply steps p (Ready s t) = run_reply (Run p s t steps)
+start_reply steps p (NoPrinter i) = no_printer i
+start_reply steps p NoEntry = no_entry
+start_reply steps p (Exceeds name) = limit (start_limit_text name)
+start_reply steps p (StartTraps t) = trapped t
+
+abbrev pub run_gives : ℕ → Program → Reply
+run_gives steps p = start_reply steps p (Start p)
+
+-- so a module gives, by which of its types are equivalent
+abbrev pub RunGives : ℕ → Module → Reply → Type 0
+RunGives steps m reply = (p : Program) × (p.source ≡ m) × IsProgram p × (reply ≡ run_gives steps p)
 
 -- a module that is valid, written again
 abbrev pub built : Module → Reply
 built m = record { out = Canon m; err = []; status = 0 }
 
 -- what an action gives of a valid module
-abbrev pub gives : Action → Module → Reply
-gives Check m = ok_module
-gives (RunFor steps) m = run_gives steps m
-gives Build m = built m
+abbrev pub gives : Action → Module → Reply → Type 0
+gives Check m reply = reply ≡ ok_module
+gives (RunFor steps) m reply = RunGives steps m reply
+gives Build m reply = reply ≡ built m
 
 -- the module has this fault
 abbrev pub HasModuleFault : Module → ValidFault → Type 0
@@ -170,8 +203,8 @@ BytesRefusal bytes reply = ((m : Module) × Spells bytes m × ModuleRefusal m re
     ⊎ ((fault : DecodeFault) × HasFault bytes fault × (reply ≡ malformed fault))
 
 -- what bytes give, where a valid module gives this
-abbrev pub BytesGive : (Module → Reply) → List ℕ → Reply → Type 0
-BytesGive accepted bytes reply = ((m : Module) × Spells bytes m × Within m × Valid m × (reply ≡ accepted m)) ⊎ BytesRefusal bytes reply
+abbrev pub BytesGive : (Module → Reply → Type 0) → List ℕ → Reply → Type 0
+BytesGive Accepted bytes reply = ((m : Module) × Spells bytes m × Within m × Valid m × Accepted m reply) ⊎ BytesRefusal bytes reply
 
 -- ## Files
 

@@ -6,5 +6,6 @@ pub mod Idempotent
 pub mod Laws
 pub mod Delivery
 pub mod Stop
+pub mod Leaving
 pub mod Reading
 pub mod Running

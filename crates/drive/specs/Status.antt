@@ -1,10 +1,11 @@
 -- The exit codes.
 use Rattle.std.specs.Prelude.{ℕ}
 use Rattle.drive.specs.declared.status.Status.{Status}
-use Rattle.drive.specs.declared.status.Status.TheVariants.{Done, Usage, Malformed, Invalid, ReadFault, WriteFault, OutOfMemory, Limit, Running, Stuck}
+use Rattle.drive.specs.declared.status.Status.TheVariants.{Done, Trap, Usage, Malformed, Invalid, ReadFault, WriteFault, OutOfMemory, Limit, Running, Stuck}
 
 abbrev pub code_of : Status → ℕ
 code_of Done = 0
+code_of Trap = 1
 code_of Usage = 2
 code_of Malformed = 3
 code_of Invalid = 4

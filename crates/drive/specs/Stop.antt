@@ -5,7 +5,7 @@ use Rattle.drive.specs.declared.status.Status.{Status}
 use Rattle.drive.specs.declared.status.Status.TheVariants as status
 use Rattle.drive.specs.declared.stop.Refusal.{Refusal}
 use Rattle.drive.specs.declared.stop.Stop.{Stop}
-use Rattle.drive.specs.declared.stop.Stop.TheVariants.{Refused, OutOfMemory}
+use Rattle.drive.specs.declared.stop.Stop.TheVariants.{Refused, WriteFault, OutOfMemory}
 use Rattle.drive.specs.Answer.{Reply}
 use Rattle.drive.specs.Pieces.{joined}
 use Rattle.drive.specs.Status.{code_of}
@@ -22,9 +22,10 @@ Ends status.WriteFault = ⊥
 Ends status.OutOfMemory = ⊥
 Ends _ = ⊤
 
--- what is refused is so by a reply that is due
+-- what is refused is so by a reply that is due; nothing was written yet
 abbrev pub Refuses : (Reply → Type 0) → Stop → Type 0
 Refuses Due (Refused refusal) = Ends refusal.status × Due (reply_of_refusal refusal)
+Refuses Due WriteFault = ⊥
 Refuses Due OutOfMemory = ⊤
 
 -- an answer is a reply that is due
@@ -32,14 +33,9 @@ abbrev pub Gives : (Reply → Type 0) → Result Output Stop → Type 0
 Gives Due (Ok output) = Due (reply_with output)
 Gives Due (Err stop) = Refuses Due stop
 
--- an answer is this reply
-abbrev pub IsReplyOf : Result Output Stop → Reply → Type 0
-IsReplyOf (Ok output) reply = reply ≡ reply_with output
-IsReplyOf (Err (Refused refusal)) reply = reply ≡ reply_of_refusal refusal
-IsReplyOf (Err OutOfMemory) reply = ⊥
-
 -- an answer comes with a status by which a call ends by itself
 abbrev pub EndsByItself : Result Output Stop → Type 0
 EndsByItself (Ok output) = ⊤
 EndsByItself (Err (Refused refusal)) = Ends refusal.status
+EndsByItself (Err WriteFault) = ⊤
 EndsByItself (Err OutOfMemory) = ⊤

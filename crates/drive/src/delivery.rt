@@ -1,9 +1,9 @@
 //! Writing an answer.
 ghost use Rattle.std.specs.Prelude.{◌≡◌, ◌⊎◌, ◌≤◌, ℕ, List, OnOk, OnErr};
 ghost use Rattle.w_outside.specs.Outside.{Grew, GrewByFront, HasCause, Rose};
-ghost use Rattle.drive.specs.Delivery.{Replies};
+ghost use Rattle.drive.specs.Leaving.{Delivers};
 ghost use Rattle.drive.specs.Pieces.{joined};
-ghost use Rattle.drive.specs.Stop.{EndsByItself, IsReplyOf};
+ghost use Rattle.drive.specs.Stop.{EndsByItself};
 
 use crate::output::Output;
 use crate::status::Status;
@@ -22,14 +22,14 @@ fn write_pieces<O: Sink>(pieces: &[Vec<u8>], out: &mut O) -> Result<(), Fault>
     Ok(())
 }
 
-/// Writes an answer, and gives its status.
+/// Writes what is left of an answer, and gives its status.
 pub(crate) fn deliver<O: Sink, E: Sink>(
     answer: Result<Output, Stop>,
     out: &mut O,
     err: &mut E,
 ) -> Result<Status, Fault>
     requires { EndsByItself answer }
-    ensures replies { Replies (IsReplyOf answer) result
+    ensures delivers { Delivers answer result
         (Grew (O.held out.old) (O.held out.new)) (Grew (E.held err.old) (E.held err.new))
         (Rose (O.faults out.old) (O.faults out.new) ⊎ Rose (E.faults err.old) (E.faults err.new)) }
     ensures later { (O.faults out.old ≤ O.faults out.new) × (E.faults err.old ≤ E.faults err.new) }
@@ -43,6 +43,7 @@ pub(crate) fn deliver<O: Sink, E: Sink>(
             put(err, refusal.line.as_slice())?;
             Ok(refusal.status)
         }
+        Err(Stop::WriteFault) => Err(Fault::Failed),
         Err(Stop::OutOfMemory) => Err(Fault::OutOfMemory),
     }
 }

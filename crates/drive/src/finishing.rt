@@ -1,7 +1,9 @@
 //! What an action gives of a module.
-ghost use Rattle.std.specs.Prelude.{◌≡◌};
+ghost use Rattle.std.specs.Prelude.{◌≡◌, ◌≤◌};
+ghost use Rattle.w_outside.specs.Outside.{Grew, Rose};
 ghost use Rattle.words.specs.Request.{IsWithinSteps};
 ghost use Rattle.drive.specs.Answer.{gives, ok_module, built};
+ghost use Rattle.drive.specs.Leaving.{Leaves};
 ghost use Rattle.drive.specs.Stop.{Gives};
 
 use crate::output::Output;
@@ -9,6 +11,7 @@ use crate::running::run;
 use crate::stop::Stop;
 use std::alloc::Global;
 use w_encode::encode;
+use w_outside::Sink;
 use w_rules::Checked;
 use w_syntax::Module;
 use words::Action;
@@ -29,17 +32,24 @@ fn build(alloc: Global, program: &Module) -> Result<Output, Stop>
     Ok(Output::of_piece(alloc, spelling)?)
 }
 
-/// Does with a module what is asked for.
-pub(crate) fn finish(alloc: Global, action: Action, checked: Checked) -> Result<Output, Stop>
+/// Does with a module what is asked for. What a run prints goes to out; the answer is what is left to write.
+pub(crate) fn finish<O: Sink>(
+    alloc: Global,
+    action: Action,
+    checked: Checked,
+    out: &mut O,
+) -> Result<Output, Stop>
     requires { IsWithinSteps action }
-    ensures { Gives (λ reply. reply ≡ gives action checked) result }
+    ensures leaves { Leaves (gives action checked) result
+        (Grew (O.held out.old) (O.held out.new)) (Rose (O.faults out.old) (O.faults out.new)) }
+    ensures later { O.faults out.old ≤ O.faults out.new }
 {
     match action {
         Action::Check => {
             drop(checked);
             tell(alloc)
         }
-        Action::Run { steps } => run(alloc, checked, steps),
+        Action::Run { steps } => run(alloc, checked, steps, out),
         Action::Build => {
             let output = build(alloc, checked.module());
             drop(checked);

@@ -1,11 +1,12 @@
 //! The lines that the program writes.
 ghost use Rattle.std.specs.Prelude.{◌≡◌, ◌++◌, IfOk};
-ghost use Rattle.drive.specs.Answer.{line, result_line, malformed, limit, size_limit_text, run_limit_text, invalid, no_printer};
+ghost use Rattle.w_reduce.specs.Values.{val};
+ghost use Rattle.drive.specs.Answer.{line, result_line, malformed, limit, size_limit_text, run_limit_text, start_limit_text, trapped, invalid, no_printer};
 
 use itoa::{Buffer, Integer};
 use std::alloc::{AllocError, Global};
 use w_decode::DecodeFault;
-use w_reduce::RunLimit;
+use w_reduce::{RunLimit, StartLimit, Trap};
 use w_rules::SizeLimit;
 use w_types::Value;
 use w_valid::ValidFault;
@@ -23,7 +24,7 @@ fn number_line<I: Integer>(alloc: Global, text: &[u8], number: I) -> Result<Vec<
 
 /// The line of a result: an integer, signed, or a reference by its address.
 pub(crate) fn value_line(alloc: Global, value: Value) -> Result<Vec<u8>, AllocError>
-    ensures { IfOk result (λ v. v.items ≡ result_line value) }
+    ensures { IfOk result (λ v. v.items ≡ result_line (val value)) }
 {
     match value {
         Value::I32(bits) => number_line(alloc, b"= ", bits.cast_signed()),
@@ -64,6 +65,33 @@ pub(crate) fn run_limit_line(name: RunLimit) -> &'static [u8]
 {
     match name {
         RunLimit::Frames => b"limit frames\n",
+    }
+}
+
+/// The line of a limit that is passed where a run begins.
+pub(crate) fn start_limit_line(name: StartLimit) -> &'static [u8]
+    ensures { result.now ≡ (limit (start_limit_text name)).err }
+{
+    match name {
+        StartLimit::Memory => b"limit memory\n",
+        StartLimit::Table => b"limit table\n",
+    }
+}
+
+/// The line of a trap.
+pub(crate) fn trap_line(trap: Trap) -> &'static [u8]
+    ensures { result.now ≡ (trapped trap).err }
+{
+    match trap {
+        Trap::Unreachable => b"trap unreachable\n",
+        Trap::DivideByZero => b"trap divide by zero\n",
+        Trap::IntegerOverflow => b"trap integer overflow\n",
+        Trap::MemoryOutOfBounds => b"trap memory out of bounds\n",
+        Trap::TableOutOfBounds => b"trap table out of bounds\n",
+        Trap::UndefinedElement => b"trap undefined element\n",
+        Trap::NullElement => b"trap null element\n",
+        Trap::CallTypeMismatch => b"trap call type mismatch\n",
+        Trap::NullReference => b"trap null reference\n",
     }
 }
 

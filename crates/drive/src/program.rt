@@ -3,8 +3,8 @@ ghost use Rattle.std.specs.Prelude.{◌≡◌, ◌≢◌, ◌⊎◌, ◌≤◌, 
 ghost use Rattle.w_outside.specs.Outside.{Grew, Rose};
 ghost use Rattle.words.specs.Line.{line_of};
 ghost use Rattle.drive.specs.Answer.{Answer, HasStatus};
-ghost use Rattle.drive.specs.Delivery.{Answers, Answered, Stopped, MayFail};
-ghost use Rattle.drive.specs.Stop.{Gives};
+ghost use Rattle.drive.specs.Delivery.{Answers, Answered, Stopped, MayFail, Replies};
+ghost use Rattle.drive.specs.Leaving.{Leaves};
 
 use crate::delivery::deliver;
 use crate::files::open;
@@ -20,22 +20,48 @@ use words::{WordsFault, request_of};
 static USAGE: &[u8] =
     b"usage: stackwasm check FILE | run FILE [--steps N] [--stats] | build FILE | gen N\n";
 
-// The answer to the words.
-fn answer<F: Inputs>(alloc: Global, words: &[String], files: &mut F) -> Result<Output, Stop>
-    ensures gives { Gives (MayFail (Rose (F.faults files.old) (F.faults files.new))
-        (Answer (line_of (map string_bytes words.now)) (F.file files.old))) result }
-    ensures later { F.faults files.old ≤ F.faults files.new }
+// The answer to the words. What a run prints goes to out; the answer is what is left to write.
+fn answer<F: Inputs, O: Sink>(
+    alloc: Global,
+    words: &[String],
+    files: &mut F,
+    out: &mut O,
+) -> Result<Output, Stop>
+    ensures leaves { Leaves (MayFail (Rose (F.faults files.old) (F.faults files.new))
+        (Answer (line_of (map string_bytes words.now)) (F.file files.old))) result
+        (Grew (O.held out.old) (O.held out.new)) (Rose (O.faults out.old) (O.faults out.new)) }
+    ensures later { (F.faults files.old ≤ F.faults files.new) × (O.faults out.old ≤ O.faults out.new) }
     ensures names { (n : List ℕ) → F.file files.new n ≡ F.file files.old n }
 {
     match request_of(alloc, words) {
         Ok(request) => {
             let bytes = open(alloc, files, request.file)?;
             let checked = judge(alloc, bytes.as_slice())?;
-            finish(alloc, request.action, checked)
+            finish(alloc, request.action, checked, out)
         }
         Err(WordsFault::Bad) => Err(refuse(alloc, USAGE, Status::Usage)),
         Err(WordsFault::OutOfMemory) => Err(Stop::OutOfMemory),
     }
+}
+
+// Answers the words.
+fn respond<F: Inputs, O: Sink, E: Sink>(
+    alloc: Global,
+    words: &[String],
+    files: &mut F,
+    out: &mut O,
+    err: &mut E,
+) -> Result<Status, Fault>
+    ensures replies { Replies (MayFail (Rose (F.faults files.old) (F.faults files.new))
+        (Answer (line_of (map string_bytes words.now)) (F.file files.old))) result
+        (Grew (O.held out.old) (O.held out.new)) (Grew (E.held err.old) (E.held err.new))
+        (Rose (O.faults out.old) (O.faults out.new) ⊎ Rose (E.faults err.old) (E.faults err.new)) }
+    ensures names { (n : List ℕ) → F.file files.new n ≡ F.file files.old n }
+    ensures later { (F.faults files.old ≤ F.faults files.new) × (O.faults out.old ≤ O.faults out.new)
+        × (E.faults err.old ≤ E.faults err.new) }
+{
+    let left = answer(alloc, words, files, out);
+    deliver(left, out, err)
 }
 
 /// The program: does what the words ask for with the files, and says how it ended.
@@ -72,7 +98,7 @@ pub fn command<F: Inputs, O: Sink, E: Sink>(
     ensures later { (F.faults files.old ≤ F.faults files.new) × (O.faults out.old ≤ O.faults out.new)
         × (E.faults err.old ≤ E.faults err.new) }
 {
-    match deliver(answer(alloc, words, files), out, err) {
+    match respond(alloc, words, files, out, err) {
         Ok(status) => status,
         Err(Fault::Failed) => Status::WriteFault,
         Err(Fault::OutOfMemory) => Status::OutOfMemory,

@@ -1,25 +1,34 @@
 //! Runs.
-ghost use Rattle.std.specs.Prelude.{◌≡◌, ◌≤◌, ℕ, flat_map, IfOk};
+ghost use Rattle.std.specs.Prelude.{◌≡◌, ◌≢◌, ◌≤◌, ℕ, flat_map, Err, IfOk};
+ghost use Rattle.w_outside.specs.Outside.{Grew, Rose};
+ghost use Rattle.w_reduce.specs.Program.{Program};
 ghost use Rattle.w_reduce.specs.Run.{Run};
-ghost use Rattle.w_machine.specs.Beginning.{Begins};
+ghost use Rattle.w_reduce.specs.Store.{Store};
+ghost use Rattle.w_reduce.specs.Terms.{Term};
+ghost use Rattle.w_reduce.specs.Values.{val};
+ghost use Rattle.w_inst.specs.Instances.{BeginsAs};
+ghost use Rattle.w_machine.specs.Beginning.{Begins, BeginsWith};
 ghost use Rattle.w_machine.specs.Position.{most_reductions};
-ghost use Rattle.drive.specs.Answer.{result_line, run_reply, no_printer, no_entry, run_gives};
+ghost use Rattle.drive.specs.Answer.{result_line, run_reply, run_gives, RunGives};
+ghost use Rattle.drive.specs.Leaving.{Leaves};
 ghost use Rattle.drive.specs.Pieces.{joined};
 ghost use Rattle.drive.specs.Running.{IsFirst};
-ghost use Rattle.drive.specs.Stop.{Gives, Refuses};
+ghost use Rattle.drive.specs.Stop.{Refuses};
 
-use crate::lines::{printer_line, run_limit_line, value_line};
+use crate::lines::{printer_line, run_limit_line, start_limit_line, trap_line, value_line};
 use crate::output::Output;
 use crate::status::Status;
 use crate::stop::{Refusal, Stop, refuse};
 use std::alloc::{AllocError, Global};
-use w_machine::{InstFault, Machine, Outcome, Store, instantiate};
+use w_inst::{InstFault, Instance, instantiate};
+use w_machine::{Machine, Outcome};
+use w_outside::Sink;
 use w_rules::Checked;
 use w_types::Value;
 
 // A line for each result.
 fn result_lines(alloc: Global, values: &[Value]) -> Result<Vec<Vec<u8>>, AllocError>
-    ensures { IfOk result (λ lines. joined lines.items ≡ flat_map result_line values.now) }
+    ensures { IfOk result (λ lines. joined lines.items ≡ flat_map (λ v. result_line (val v)) values.now) }
 {
     let mut lines = Vec::new(alloc);
     for value in values {
@@ -28,13 +37,21 @@ fn result_lines(alloc: Global, values: &[Value]) -> Result<Vec<Vec<u8>>, AllocEr
     Ok(lines)
 }
 
-// Runs a machine that has taken no reduction.
-fn run_machine(alloc: Global, machine: &mut Machine, steps: u64) -> Result<Output, Stop>
+// Runs a machine that has taken no reduction. What is printed goes to out; the answer is what is left to write.
+fn run_machine<O: Sink>(
+    alloc: Global,
+    machine: &mut Machine,
+    steps: u64,
+    out: &mut O,
+) -> Result<Output, Stop>
     requires within { steps ≤ most_reductions }
     requires first { IsFirst machine.old }
-    ensures { Gives (λ reply. reply ≡ run_reply (Run machine.old.program steps).outcome) result }
+    ensures leaves { (p : Program) (s : Store) (t : Term) → Begins machine.old.program p s t
+        → Leaves (λ reply. reply ≡ run_reply (Run p s t steps)) result
+        (Grew (O.held out.old) (O.held out.new)) (Rose (O.faults out.old) (O.faults out.new)) }
+    ensures later { O.faults out.old ≤ O.faults out.new }
 {
-    match machine.run(steps) {
+    match machine.run(steps, out) {
         Outcome::Ended => {
             let pieces = result_lines(alloc, machine.results())?;
             Ok(Output { pieces })
@@ -42,27 +59,36 @@ fn run_machine(alloc: Global, machine: &mut Machine, steps: u64) -> Result<Outpu
         Outcome::Running => Err(refuse(alloc, b"running\n", Status::Running)),
         Outcome::Stuck => Err(refuse(alloc, b"stuck\n", Status::Stuck)),
         Outcome::Limit(name) => Err(refuse(alloc, run_limit_line(name), Status::Limit)),
+        Outcome::Trapped(trap) => Err(refuse(alloc, trap_line(trap), Status::Trap)),
+        Outcome::WriteFault => Err(Stop::WriteFault),
         Outcome::OutOfMemory => Err(Stop::OutOfMemory),
     }
 }
 
 // Runs a module from its first store. The machine is let go in one place, since each such place is proved anew.
-fn run_from(alloc: Global, checked: Checked, store: Store, steps: u64) -> Result<Output, Stop>
+fn run_from<O: Sink>(
+    alloc: Global,
+    checked: Checked,
+    instance: Instance,
+    steps: u64,
+    out: &mut O,
+) -> Result<Output, Stop>
     requires within { steps ≤ most_reductions }
-    requires first { Begins checked store }
-    ensures { Gives (λ reply. reply ≡ run_reply (Run checked steps).outcome) result }
+    requires first { BeginsWith checked instance.store instance.main }
+    ensures leaves { (p : Program) (s : Store) (t : Term) → Begins checked p s t
+        → Leaves (λ reply. reply ≡ run_reply (Run p s t steps)) result
+        (Grew (O.held out.old) (O.held out.new)) (Rose (O.faults out.old) (O.faults out.new)) }
+    ensures later { O.faults out.old ≤ O.faults out.new }
 {
-    let mut machine = Machine::new(alloc, checked, store);
-    let output = run_machine(alloc, &mut machine, steps);
+    let mut machine = Machine::new(alloc, checked, instance)?;
+    let output = run_machine(alloc, &mut machine, steps, out);
     drop(machine);
     output
 }
 
 // Why a module has no run.
 fn no_run(alloc: Global, fault: InstFault) -> Stop
-    ensures import { (i : ℕ) → fault ≡ InstFault.Import i → Refuses (λ reply. reply ≡ no_printer i) result }
-    ensures entry { fault ≡ InstFault.NoEntry → Refuses (λ reply. reply ≡ no_entry) result }
-    ensures memory { fault ≡ InstFault.OutOfMemory → result ≡ Stop.OutOfMemory }
+    ensures { (p : Program) (steps : ℕ) → BeginsAs p (Err fault) → Refuses (λ reply. reply ≡ run_gives steps p) result }
 {
     match fault {
         InstFault::Import(index) => match printer_line(alloc, index) {
@@ -73,17 +99,28 @@ fn no_run(alloc: Global, fault: InstFault) -> Stop
             Err(_) => Stop::OutOfMemory,
         },
         InstFault::NoEntry => refuse(alloc, b"no entry\n", Status::Invalid),
+        InstFault::Limit(name) => refuse(alloc, start_limit_line(name), Status::Limit),
+        InstFault::Trap(trap) => refuse(alloc, trap_line(trap), Status::Trap),
         InstFault::OutOfMemory => Stop::OutOfMemory,
     }
 }
 
-/// Runs a module, where nothing is missing for its imports and it has an entry.
-pub(crate) fn run(alloc: Global, checked: Checked, steps: u64) -> Result<Output, Stop>
+/// Runs a module, where it has a run. What is printed goes to out; the answer is what is left to write.
+pub(crate) fn run<O: Sink>(
+    alloc: Global,
+    checked: Checked,
+    steps: u64,
+    out: &mut O,
+) -> Result<Output, Stop>
     requires { steps ≤ most_reductions }
-    ensures { Gives (λ reply. reply ≡ run_gives steps checked) result }
+    ensures leaves { Leaves (RunGives steps checked) result
+        (Grew (O.held out.old) (O.held out.new)) (Rose (O.faults out.old) (O.faults out.new)) }
+    ensures later { O.faults out.old ≤ O.faults out.new }
 {
+    // Which types are equivalent is known.
+    let _classes = checked.classes();
     match instantiate(alloc, &checked) {
-        Ok(store) => run_from(alloc, checked, store, steps),
+        Ok(instance) => run_from(alloc, checked, instance, steps, out),
         Err(fault) => {
             drop(checked);
             Err(no_run(alloc, fault))

@@ -7,6 +7,8 @@ ghost use Rattle.drive.specs.Status.{code_of};
 pub enum Status {
     /// The answer was written to out.
     Done,
+    /// The run trapped.
+    Trap,
     /// The words ask for nothing that is there.
     Usage,
     /// The file is no spelling of a module.
@@ -34,6 +36,7 @@ impl Status {
     {
         match self {
             Status::Done => 0,
+            Status::Trap => 1,
             Status::Usage => 2,
             Status::Malformed => 3,
             Status::Invalid => 4,

@@ -19,6 +19,8 @@ pub(crate) struct Refusal {
 pub(crate) enum Stop {
     /// It is refused.
     Refused(Refusal),
+    /// Out could not be written.
+    WriteFault,
     /// Memory ran out.
     OutOfMemory,
 }

@@ -10,8 +10,8 @@ use Rattle.w_types.specs.declared.types.ValType.TheVariants as type
 use Rattle.w_types.specs.declared.value.Value.{Value}
 use Rattle.w_types.specs.declared.value.Value.TheVariants as value
 use Rattle.w_syntax.specs.declared.locals.LocalRun.{LocalRun}
-use Rattle.w_reductions.specs.Values.{Val, val, Null, default_of as default_in}
-use Rattle.w_reductions.specs.Calls.{defaults}
+use Rattle.w_reduce.specs.Values.{Val, val, Null, default_of as default_in}
+use Rattle.w_reduce.specs.Calls.{defaults}
 use Rattle.w_stands.specs.Values.{stack, vals, local_vals}
 use Rattle.w_call_ops.specs.Entering.{first_values}
 

@@ -11,10 +11,10 @@ use Rattle.w_segment.specs.Shape.{Shape, Frame}
 use Rattle.w_tables.specs.Store as instances
 use Rattle.w_tables.specs.declared.entries.FuncEntry.{FuncEntry}
 use Rattle.w_tables.specs.declared.entries.FuncEntry.TheVariants as entry
-use Rattle.w_reductions.specs.Terms.{Rest, rest_of, Label as InLabel, Frame as InFrame, Context}
-use Rattle.w_reductions.specs.Program.{Program}
-use Rattle.w_reductions.specs.Reduced.{steps_to, or_stuck}
-use Rattle.w_reductions.specs.Calls.{enter, invoke, invoked}
+use Rattle.w_reduce.specs.Terms.{Rest, rest_of, Label as InLabel, Frame as InFrame, Context}
+use Rattle.w_reduce.specs.Program.{Program}
+use Rattle.w_reduce.specs.Reduced.{steps_to, or_stuck}
+use Rattle.w_reduce.specs.Calls.{enter, invoke, invoked}
 use Rattle.w_stands.specs.Values.{stack, local_vals, store_of}
 use Rattle.w_stands.specs.Code.{instrs, Reads}
 use Rattle.w_stands.specs.Stands.{frame}

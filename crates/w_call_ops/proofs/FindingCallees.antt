@@ -17,15 +17,15 @@ use Rattle.w_tables.specs.Store as instances
 use Rattle.w_tables.specs.Operations.{table_at}
 use Rattle.w_canon.specs.Equivalence.{SameIndex}
 use Rattle.w_rules.specs.Spaces.{functions_of}
-use Rattle.w_reductions.specs.declared.trap.Trap.{Trap}
-use Rattle.w_reductions.specs.declared.trap.Trap.TheVariants as trap
-use Rattle.w_reductions.specs.Values.{Val, val}
-use Rattle.w_reductions.specs.Store.{Store, Table}
-use Rattle.w_reductions.specs.Terms.{rest_of, Context}
-use Rattle.w_reductions.specs.Program.{Program, IsProgram}
-use Rattle.w_reductions.specs.Reduced.{Reduced, Trapped, Stuck, or_stuck, or_trap, as_function}
-use Rattle.w_reductions.specs.Calls.{invoke}
-use Rattle.w_reductions.specs.Control.{unless_mismatch}
+use Rattle.w_reduce.specs.declared.trap.Trap.{Trap}
+use Rattle.w_reduce.specs.declared.trap.Trap.TheVariants as trap
+use Rattle.w_reduce.specs.Values.{Val, val}
+use Rattle.w_reduce.specs.Store.{Store, Table}
+use Rattle.w_reduce.specs.Terms.{rest_of, Context}
+use Rattle.w_reduce.specs.Program.{Program, IsProgram}
+use Rattle.w_reduce.specs.Reduced.{Reduced, Trapped, Stuck, or_stuck, or_trap, as_function}
+use Rattle.w_reduce.specs.Calls.{invoke}
+use Rattle.w_reduce.specs.Control.{unless_mismatch}
 use Rattle.w_stands.specs.Values.{stack, store_of, table_of}
 use Rattle.w_stands.specs.Numbers.{IsNumber, bits_in}
 use Rattle.w_stands.specs.Taking.{Kind, Number, Any, Bits, Is, taking, Going, IsTaking, AreOf, taken_of}

@@ -15,11 +15,11 @@ use Rattle.w_syntax.specs.declared.module.Module.{Module}
 use Rattle.w_segment.specs.declared.entry.Stage.TheVariants.{Body}
 use Rattle.w_segment.specs.Shape.{Shape, Level, Label}
 use Rattle.w_tables.specs.Store as instances
-use Rattle.w_reductions.specs.Values.{Val}
-use Rattle.w_reductions.specs.Terms.{Rest, rest_of, Label as InLabel, Frame as InFrame, Context}
-use Rattle.w_reductions.specs.Program.{Program}
-use Rattle.w_reductions.specs.Reduced.{Reduced, Stuck, steps_to, or_stuck, take_values}
-use Rattle.w_reductions.specs.Calls.{defaults, enter}
+use Rattle.w_reduce.specs.Values.{Val}
+use Rattle.w_reduce.specs.Terms.{Rest, rest_of, Label as InLabel, Frame as InFrame, Context}
+use Rattle.w_reduce.specs.Program.{Program}
+use Rattle.w_reduce.specs.Reduced.{Reduced, Stuck, steps_to, or_stuck, take_values}
+use Rattle.w_reduce.specs.Calls.{defaults, enter}
 use Rattle.w_stands.specs.Values.{stack, local_vals, store_of}
 use Rattle.w_stands.specs.Code.{instrs, instrs_in, IsMark, Reads, stop, at_end}
 use Rattle.w_stands.specs.Stands.{Around, In, body, label}

@@ -11,9 +11,9 @@ use Rattle.w_segment.specs.declared.entry.Stage.TheVariants.{Fresh}
 use Rattle.w_segment.specs.Shape.{Shape, Level, Label, Frame}
 use Rattle.w_tables.specs.Store as instances
 use Rattle.w_tables.specs.declared.entries.FuncEntry.TheVariants as entry
-use Rattle.w_reductions.specs.Terms.{Invoke, Rest, rest_of, Label as InLabel, Frame as InFrame, Context}
-use Rattle.w_reductions.specs.Reduced.{steps_to}
-use Rattle.w_reductions.specs.Reduce.{next}
+use Rattle.w_reduce.specs.Terms.{Invoke, Rest, rest_of, Label as InLabel, Frame as InFrame, Context}
+use Rattle.w_reduce.specs.Reduced.{steps_to}
+use Rattle.w_reduce.specs.Reduce.{next}
 use Rattle.w_stands.specs.Values.{stack, local_vals, store_of}
 use Rattle.w_stands.specs.Code.{instrs}
 use Rattle.w_stands.specs.Stands.{In, body, fresh, values, outermost}

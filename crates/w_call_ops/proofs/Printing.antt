@@ -14,11 +14,11 @@ use Rattle.w_tables.specs.declared.entries.FuncEntry.{FuncEntry}
 use Rattle.w_tables.specs.declared.entries.FuncEntry.TheVariants as entry
 use Rattle.w_tables.specs.declared.entries.Printer.{Printer}
 use Rattle.w_tables.specs.declared.entries.Printer.TheVariants as printer
-use Rattle.w_reductions.specs.Terms.{Invoke, Rest, rest_of, Context}
-use Rattle.w_reductions.specs.Program.{Program}
-use Rattle.w_reductions.specs.Reduced.{Went, Stuck, or_stuck}
-use Rattle.w_reductions.specs.Reduce.{next}
-use Rattle.w_reductions.specs.Calls.{print, invoke, invoked}
+use Rattle.w_reduce.specs.Terms.{Invoke, Rest, rest_of, Context}
+use Rattle.w_reduce.specs.Program.{Program}
+use Rattle.w_reduce.specs.Reduced.{Went, Stuck, or_stuck}
+use Rattle.w_reduce.specs.Reduce.{next}
+use Rattle.w_reduce.specs.Calls.{print, invoke, invoked}
 use Rattle.w_stands.specs.Values.{stack, store_of}
 use Rattle.w_stands.specs.Numbers.{IsNumber, bits_in}
 use Rattle.w_stands.specs.GoingOn.{dropped}

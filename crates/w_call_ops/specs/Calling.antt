@@ -7,10 +7,10 @@ use Rattle.w_syntax.specs.declared.module.Module.{Module}
 use Rattle.w_segment.specs.declared.entry.Stage.TheVariants.{Fresh}
 use Rattle.w_segment.specs.Shape.{Shape}
 use Rattle.w_tables.specs.Store as instances
-use Rattle.w_reductions.specs.Terms.{Rest, rest_of, Context}
-use Rattle.w_reductions.specs.Program.{Program, IsProgram}
-use Rattle.w_reductions.specs.Calls.{invoke}
-use Rattle.w_reductions.specs.Reduce.{instruction}
+use Rattle.w_reduce.specs.Terms.{Rest, rest_of, Context}
+use Rattle.w_reduce.specs.Program.{Program, IsProgram}
+use Rattle.w_reduce.specs.Calls.{invoke}
+use Rattle.w_reduce.specs.Reduce.{instruction}
 use Rattle.w_stands.specs.Values.{stack, store_of}
 use Rattle.w_stands.specs.Steps.{Outside, At, MovesAt}
 

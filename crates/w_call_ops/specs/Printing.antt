@@ -6,7 +6,7 @@ use Rattle.w_syntax.specs.declared.numeric.IntType.{IntType}
 use Rattle.w_syntax.specs.declared.numeric.IntType.TheVariants as int
 use Rattle.w_tables.specs.declared.entries.Printer.{Printer}
 use Rattle.w_tables.specs.declared.entries.Printer.TheVariants as printer
-use Rattle.w_reductions.specs.Printed.{printed_i32, printed_i64, printed_byte}
+use Rattle.w_reduce.specs.Printed.{printed_i32, printed_i64, printed_byte}
 use Rattle.w_stands.specs.Numbers.{bits_in}
 
 -- the type of the number that it takes

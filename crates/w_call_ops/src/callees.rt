@@ -10,7 +10,7 @@ ghost use Rattle.w_stands.specs.declared.did.Did.TheVariants as did;
 ghost use Rattle.w_call_ops.specs.Calling.{Calls};
 
 use w_canon::Classes;
-use w_reductions::Trap;
+use w_reduce::Trap;
 use w_segment::Stack;
 use w_stands::i32_of;
 use w_syntax::Module;

@@ -12,12 +12,12 @@ use Rattle.w_segment.specs.Changes.{branched}
 use Rattle.w_segment.specs.Holds.{Holds}
 use Rattle.w_segment.proofs.Holding.{branched_holds}
 use Rattle.w_tables.specs.Store as instances
-use Rattle.w_reductions.specs.Values.{Val}
-use Rattle.w_reductions.specs.Store.{Store}
-use Rattle.w_reductions.specs.Terms.{Rest, rest_of, Context}
-use Rattle.w_reductions.specs.Program.{Program}
-use Rattle.w_reductions.specs.Reduced.{Reduced, Stuck, steps_to}
-use Rattle.w_reductions.specs.Branches.{branch}
+use Rattle.w_reduce.specs.Values.{Val}
+use Rattle.w_reduce.specs.Store.{Store}
+use Rattle.w_reduce.specs.Terms.{Rest, rest_of, Context}
+use Rattle.w_reduce.specs.Program.{Program}
+use Rattle.w_reduce.specs.Reduced.{Reduced, Stuck, steps_to}
+use Rattle.w_reduce.specs.Branches.{branch}
 use Rattle.w_stands.specs.Values.{stack, store_of}
 use Rattle.w_stands.specs.declared.did.Did.TheVariants as did
 use Rattle.w_stands.specs.Code.{instrs, Reads}

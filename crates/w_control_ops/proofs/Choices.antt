@@ -13,13 +13,13 @@ use Rattle.w_syntax.specs.declared.numeric.IntType.TheVariants as int
 use Rattle.w_syntax.specs.declared.module.Module.{Module}
 use Rattle.w_segment.specs.Shape.{Shape, Level, Label}
 use Rattle.w_tables.specs.Store as instances
-use Rattle.w_reductions.specs.Values.{Val}
-use Rattle.w_reductions.specs.Store.{Store}
-use Rattle.w_reductions.specs.Terms.{Rest, rest_of, Context}
-use Rattle.w_reductions.specs.Program.{Program, Arity, arity_of}
-use Rattle.w_reductions.specs.Reduced.{steps_to}
-use Rattle.w_reductions.specs.Reduce.{next}
-use Rattle.w_reductions.specs.Branches.{label_of, block, choice, chosen}
+use Rattle.w_reduce.specs.Values.{Val}
+use Rattle.w_reduce.specs.Store.{Store}
+use Rattle.w_reduce.specs.Terms.{Rest, rest_of, Context}
+use Rattle.w_reduce.specs.Program.{Program, Arity, arity_of}
+use Rattle.w_reduce.specs.Reduced.{steps_to}
+use Rattle.w_reduce.specs.Reduce.{next}
+use Rattle.w_reduce.specs.Branches.{label_of, block, choice, chosen}
 use Rattle.w_stands.specs.Values.{stack, store_of}
 use Rattle.w_stands.specs.Numbers.{IsNumber, bits_in}
 use Rattle.w_stands.specs.declared.did.Did.TheVariants as did

@@ -15,13 +15,13 @@ use Rattle.w_segment.specs.Shape.{Shape, IsAt}
 use Rattle.w_segment.specs.Changes.{discarded}
 use Rattle.w_segment.proofs.Holding.{discarded_holds}
 use Rattle.w_tables.specs.Store as instances
-use Rattle.w_reductions.specs.Values.{Val, val, Null, I32, I64, Func, Cont}
-use Rattle.w_reductions.specs.Terms.{rest_of, Context}
-use Rattle.w_reductions.specs.Program.{Program}
-use Rattle.w_reductions.specs.Reduced.{Reduced, Stuck, steps_to}
-use Rattle.w_reductions.specs.Reference.{by_null}
-use Rattle.w_reductions.specs.Control.{unless_zero, label_in}
-use Rattle.w_reductions.specs.Branches.{branch}
+use Rattle.w_reduce.specs.Values.{Val, val, Null, I32, I64, Func, Cont}
+use Rattle.w_reduce.specs.Terms.{rest_of, Context}
+use Rattle.w_reduce.specs.Program.{Program}
+use Rattle.w_reduce.specs.Reduced.{Reduced, Stuck, steps_to}
+use Rattle.w_reduce.specs.Reference.{by_null}
+use Rattle.w_reduce.specs.Control.{unless_zero, label_in}
+use Rattle.w_reduce.specs.Branches.{branch}
 use Rattle.w_stands.specs.Values.{stack, store_of}
 use Rattle.w_stands.specs.Numbers.{bits_in}
 use Rattle.w_stands.specs.declared.did.Did.TheVariants as did

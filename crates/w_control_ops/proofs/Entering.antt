@@ -8,12 +8,12 @@ use Rattle.w_syntax.specs.declared.instructions.BlockKind.{BlockKind}
 use Rattle.w_syntax.specs.declared.instructions.BlockType.{BlockType}
 use Rattle.w_syntax.specs.declared.module.Module.{Module}
 use Rattle.w_segment.specs.Shape.{Shape}
-use Rattle.w_reductions.specs.Values.{Val}
-use Rattle.w_reductions.specs.Store.{Store}
-use Rattle.w_reductions.specs.Terms.{rest_of, Context}
-use Rattle.w_reductions.specs.Program.{Program, Arity, arity_of}
-use Rattle.w_reductions.specs.Reduced.{Reduced, Stuck, steps_to, or_stuck, take_values}
-use Rattle.w_reductions.specs.Branches.{label_of, block}
+use Rattle.w_reduce.specs.Values.{Val}
+use Rattle.w_reduce.specs.Store.{Store}
+use Rattle.w_reduce.specs.Terms.{rest_of, Context}
+use Rattle.w_reduce.specs.Program.{Program, Arity, arity_of}
+use Rattle.w_reduce.specs.Reduced.{Reduced, Stuck, steps_to, or_stuck, take_values}
+use Rattle.w_reduce.specs.Branches.{label_of, block}
 use Rattle.w_stands.specs.Values.{stack}
 use Rattle.w_control_ops.specs.Entering.{IsLabelled}
 use Rattle.w_stands.proofs.TakingMany.{stack_take, stack_enough}

@@ -11,13 +11,13 @@ use Rattle.w_segment.specs.declared.entry.Stage.TheVariants.{Body}
 use Rattle.w_segment.specs.Shape.{Shape, Level, is_in_label}
 use Rattle.w_segment.specs.Changes.{left, left_at, moved}
 use Rattle.w_tables.specs.Store as instances
-use Rattle.w_reductions.specs.Values.{Val}
-use Rattle.w_reductions.specs.Store.{Store}
-use Rattle.w_reductions.specs.Terms.{Rest, rest_of, Context}
-use Rattle.w_reductions.specs.Program.{Program}
-use Rattle.w_reductions.specs.Reduced.{Reduced, Stuck, steps_to}
-use Rattle.w_reductions.specs.Reduce.{next}
-use Rattle.w_reductions.specs.Exits.{leave}
+use Rattle.w_reduce.specs.Values.{Val}
+use Rattle.w_reduce.specs.Store.{Store}
+use Rattle.w_reduce.specs.Terms.{Rest, rest_of, Context}
+use Rattle.w_reduce.specs.Program.{Program}
+use Rattle.w_reduce.specs.Reduced.{Reduced, Stuck, steps_to}
+use Rattle.w_reduce.specs.Reduce.{next}
+use Rattle.w_reduce.specs.Exits.{leave}
 use Rattle.w_stands.specs.Values.{stack, store_of}
 use Rattle.w_stands.specs.declared.did.Did.TheVariants as did
 use Rattle.w_stands.specs.Code.{instrs, instr_of, IsMark, Reads, stop, plain, block, choice, choices, Behind, at_end, at_else}

@@ -5,9 +5,9 @@ use Rattle.w_syntax.specs.declared.instructions.Op.TheVariants as op
 use Rattle.w_syntax.specs.declared.instructions.ControlOp.TheVariants as control
 use Rattle.w_syntax.specs.declared.module.Module.{Module}
 use Rattle.w_segment.specs.Shape.{Shape}
-use Rattle.w_reductions.specs.declared.trap.Trap.TheVariants as trap
-use Rattle.w_reductions.specs.Terms.{rest_of}
-use Rattle.w_reductions.specs.Reduced.{Trapped, steps_to}
+use Rattle.w_reduce.specs.declared.trap.Trap.TheVariants as trap
+use Rattle.w_reduce.specs.Terms.{rest_of}
+use Rattle.w_reduce.specs.Reduced.{Trapped, steps_to}
 use Rattle.w_stands.specs.GoingOn.{dropped}
 use Rattle.w_stands.specs.declared.did.Did.TheVariants as did
 use Rattle.w_stands.specs.Steps.{MovesAlone, FollowsAlone}

@@ -5,7 +5,7 @@ ghost use Rattle.w_syntax.specs.declared.instructions.Op.TheVariants as op;
 ghost use Rattle.w_syntax.specs.declared.instructions.ControlOp.TheVariants as control;
 ghost use Rattle.w_segment.specs.Shape.{Target, IsAt, label_at};
 ghost use Rattle.w_segment.specs.Changes.{branched, discarded};
-ghost use Rattle.w_reductions.specs.Control.{label_in};
+ghost use Rattle.w_reduce.specs.Control.{label_in};
 ghost use Rattle.w_stands.specs.Keeps.{Keeps};
 ghost use Rattle.w_stands.specs.Steps.{MovesAlone, FollowsAlone};
 ghost use Rattle.w_stands.specs.declared.did.Did.TheVariants as did;

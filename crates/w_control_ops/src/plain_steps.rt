@@ -6,7 +6,7 @@ ghost use Rattle.w_stands.specs.Keeps.{Keeps};
 ghost use Rattle.w_stands.specs.Steps.{MovesAlone, FollowsAlone};
 ghost use Rattle.w_stands.specs.declared.did.Did.TheVariants as did;
 
-use w_reductions::Trap;
+use w_reduce::Trap;
 use w_segment::Stack;
 use w_stands::{Did, drop_next};
 use w_syntax::Module;

@@ -8,9 +8,9 @@ use Rattle.w_tables.specs.declared.entries.FuncEntry.{FuncEntry}
 use Rattle.w_tables.specs.declared.entries.FuncEntry.TheVariants as function
 use Rattle.w_tables.specs.Store as instances
 use Rattle.w_tables.specs.Operations.{add_function, add_table, add_memory, add_global, add_tag, add_elem, add_bytes}
-use Rattle.w_reductions.specs.Values.{Val, val}
-use Rattle.w_reductions.specs.Store.{Store, Table}
-use Rattle.w_reductions.specs.Start.{own}
+use Rattle.w_reduce.specs.Values.{Val, val}
+use Rattle.w_reduce.specs.Store.{Store, Table}
+use Rattle.w_reduce.specs.Start.{own}
 use Rattle.w_stands.specs.Values.{vals, table_of, store_of}
 use Rattle.w_inst.specs.Adding.{with_functions, with_tables, with_memories, with_globals, with_tags, with_elements, with_datas}
 

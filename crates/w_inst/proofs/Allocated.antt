@@ -9,12 +9,12 @@ use Rattle.w_syntax.specs.declared.module.Module.{Module}
 use Rattle.w_tables.specs.declared.entries.FuncEntry.TheVariants as function
 use Rattle.w_tables.specs.declared.entries.Printer.{Printer}
 use Rattle.w_tables.specs.Store as instances
-use Rattle.w_reductions.specs.Values.{val}
-use Rattle.w_reductions.specs.Store.{Store}
-use Rattle.w_reductions.specs.Program.{Program}
-use Rattle.w_reductions.specs.Constants.{value_of}
-use Rattle.w_reductions.specs.Start as start
-use Rattle.w_reductions.specs.Start.{own, bare, table_of, allocated}
+use Rattle.w_reduce.specs.Values.{val}
+use Rattle.w_reduce.specs.Store.{Store}
+use Rattle.w_reduce.specs.Program.{Program}
+use Rattle.w_reduce.specs.Constants.{value_of}
+use Rattle.w_reduce.specs.Start as start
+use Rattle.w_reduce.specs.Start.{own, bare, table_of, allocated}
 use Rattle.w_stands.specs.Values.{vals, store_of}
 use Rattle.w_inst.specs.Adding.{with_tables, with_globals, with_elements}
 use Rattle.w_inst.specs.Constants.{Sees}

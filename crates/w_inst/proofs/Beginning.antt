@@ -5,12 +5,12 @@ use Rattle.w_syntax.specs.declared.module.Data.{Data}
 use Rattle.w_syntax.specs.declared.module.Elem.{Elem}
 use Rattle.w_syntax.specs.declared.module.Module.{Module}
 use Rattle.w_tables.specs.declared.entries.Printer.{Printer}
-use Rattle.w_reductions.specs.declared.limit.StartLimit.{StartLimit}
-use Rattle.w_reductions.specs.declared.trap.Trap.TheVariants as trap
-use Rattle.w_reductions.specs.Store.{Store}
-use Rattle.w_reductions.specs.Program.{Program}
-use Rattle.w_reductions.specs.Imports.{Found, All, Missing, printers_of}
-use Rattle.w_reductions.specs.Start.{Start, Ready, NoPrinter, NoEntry, Exceeds, StartTraps, start_term, entry, exceeded, allocated, in_order, element_started, data_started, with_imports, with_entry, within_limits, with_elements_in, with_datas}
+use Rattle.w_reduce.specs.declared.limit.StartLimit.{StartLimit}
+use Rattle.w_reduce.specs.declared.trap.Trap.TheVariants as trap
+use Rattle.w_reduce.specs.Store.{Store}
+use Rattle.w_reduce.specs.Program.{Program}
+use Rattle.w_reduce.specs.Imports.{Found, All, Missing, printers_of}
+use Rattle.w_reduce.specs.Start.{Start, Ready, NoPrinter, NoEntry, Exceeds, StartTraps, start_term, entry, exceeded, allocated, in_order, element_started, data_started, with_imports, with_entry, within_limits, with_elements_in, with_datas}
 
 -- the program's module, as it is at hand
 module _ (p : Program) (m : Module) (e : p.source ≡ m) where

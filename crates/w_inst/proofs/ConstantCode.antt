@@ -14,10 +14,10 @@ use Rattle.w_syntax.specs.declared.packed.PackedInstr.{PackedInstr}
 use Rattle.w_syntax.specs.Packed.{OnPlain, unpacked, unpacked_all}
 use Rattle.w_rules.specs.Bodies.{is_const, all_const}
 use Rattle.w_rules.specs.Context.{Context}
-use Rattle.w_reductions.specs.Values.{Val, Null, val}
-use Rattle.w_reductions.specs.Store.{Store}
-use Rattle.w_reductions.specs.Program.{Program}
-use Rattle.w_reductions.specs.Constants.{evaluated, value_of, topmost}
+use Rattle.w_reduce.specs.Values.{Val, Null, val}
+use Rattle.w_reduce.specs.Store.{Store}
+use Rattle.w_reduce.specs.Program.{Program}
+use Rattle.w_reduce.specs.Constants.{evaluated, value_of, topmost}
 use Rattle.w_inst.specs.Constants.{MayBeConstant, IsConstant, Sees, Leaves, LeavesAt, row}
 
 -- an instruction in front of code; a mark is left out

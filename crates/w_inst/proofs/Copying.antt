@@ -10,15 +10,15 @@ use Rattle.w_memory.specs.Parts.{part, written, copied}
 use Rattle.w_tables.specs.Store as instances
 use Rattle.w_tables.specs.Outcomes.{outcome}
 use Rattle.w_tables.specs.Operations as op
-use Rattle.w_reductions.specs.Values.{Val, val}
-use Rattle.w_reductions.specs.Store.{Store, Table}
-use Rattle.w_reductions.specs.Program.{Program}
+use Rattle.w_reduce.specs.Values.{Val, val}
+use Rattle.w_reduce.specs.Store.{Store, Table}
+use Rattle.w_reduce.specs.Program.{Program}
 use Rattle.w_syntax.specs.declared.module.ElemMode.{ElemMode}
 use Rattle.w_syntax.specs.declared.module.ElemMode.TheVariants as elem_mode
 use Rattle.w_stands.specs.Values.{vals, table_of, store_of}
 use Rattle.w_stands.proofs.Locals.{mapped_set}
-use Rattle.w_reductions.specs.Tables.{with_elements, without_elements}
-use Rattle.w_reductions.specs.Start.{element_started, elements_copied, elements_put}
+use Rattle.w_reduce.specs.Tables.{with_elements, without_elements}
+use Rattle.w_reduce.specs.Start.{element_started, elements_copied, elements_put}
 use Rattle.w_inst.specs.Segments.{element_length, KeepsSizes}
 
 -- a test that is not passed fails

@@ -5,7 +5,7 @@ use Rattle.std.specs.Str.{bytes_eq}
 use Rattle.std.proofs.lemmas.List.{at_drop_more}
 use Rattle.w_syntax.specs.declared.module.Export.{Export}
 use Rattle.w_syntax.specs.declared.module.Module.{Module}
-use Rattle.w_reductions.specs.Start.{entry_in, entry_of}
+use Rattle.w_reduce.specs.Start.{entry_in, entry_of}
 
 -- this export has the name
 pub entry_here : (m : Module) (xs : List Export) (i : ℕ) (d : Export) → i < length xs → bytes_eq (get_or xs i d).name (codes "main") ≡ true

@@ -23,8 +23,8 @@ use Rattle.w_types.specs.declared.types.RefType.{RefType}
 use Rattle.w_types.specs.declared.types.ValType.TheVariants.{Ref}
 use Rattle.w_rules.specs.Spaces.{context_of}
 use Rattle.w_rules.specs.Valid.{Valid, IsInitValid, IsElemModeValid, IsDataModeValid, IsMaxValid, AreLimitsValid, most_pages, most_elements, MemoryItem, TableItem, GlobalItem, ElementItem, DataItem}
-use Rattle.w_reductions.specs.declared.limit.StartLimit.TheVariants as limit
-use Rattle.w_reductions.specs.Start.{none_above, exceeded}
+use Rattle.w_reduce.specs.declared.limit.StartLimit.TheVariants as limit
+use Rattle.w_reduce.specs.Start.{none_above, exceeded}
 use Rattle.w_inst.specs.Constants.{IsConstant}
 use Rattle.w_inst.proofs.ConstantCode.{each}
 use Rattle.w_inst.specs.Segments.{IsElemConstant, IsDataConstant}

@@ -9,9 +9,9 @@ use Rattle.w_syntax.specs.declared.module.Module.{Module}
 use Rattle.w_rules.specs.Spaces.{imports_by, as_memory}
 use Rattle.w_rules.specs.Valid.{Valid, MemoryItem}
 use Rattle.w_tables.specs.Store as instances
-use Rattle.w_reductions.specs.Store.{Store}
-use Rattle.w_reductions.specs.Program.{Program}
-use Rattle.w_reductions.specs.Start.{in_order, element_started, data_started}
+use Rattle.w_reduce.specs.Store.{Store}
+use Rattle.w_reduce.specs.Program.{Program}
+use Rattle.w_reduce.specs.Start.{in_order, element_started, data_started}
 use Rattle.w_stands.specs.Values.{store_of}
 use Rattle.w_inst.specs.Segments.{element_length}
 use Rattle.w_inst.specs.Instances.{StandsFor, SegmentsFrom}

@@ -5,7 +5,7 @@ use Rattle.std.proofs.lemmas.List.{at_drop_more}
 use Rattle.w_tables.specs.declared.entries.Printer.{Printer}
 use Rattle.w_syntax.specs.declared.module.Import.{Import}
 use Rattle.w_syntax.specs.declared.module.Module.{Module}
-use Rattle.w_reductions.specs.Imports.{Found, All, Missing, and_first, printer_of, printers_of}
+use Rattle.w_reduce.specs.Imports.{Found, All, Missing, and_first, printer_of, printers_of}
 
 -- what was found behind these
 abbrev pub behind : List Printer → Found → Found

@@ -21,14 +21,14 @@ use Rattle.w_syntax.specs.declared.numeric.NumericOp.TheVariants as numeric
 use Rattle.w_num.specs.Signed.{inverse}
 use Rattle.w_num.specs.declared.fault.NumFault.{NumFault}
 use Rattle.w_tables.specs.declared.entries.FuncEntry.{FuncEntry}
-use Rattle.w_reductions.specs.Values.{Val, I32, I64, val}
-use Rattle.w_reductions.specs.Store.{Store}
-use Rattle.w_reductions.specs.Reduced.{Reduced, Stuck, as_number, take_number, or_stuck, unless_fault, number, steps_to}
-use Rattle.w_reductions.specs.Terms.{rest_of}
-use Rattle.w_reductions.specs.Numeric.{binop, width, numeric_op}
-use Rattle.w_reductions.specs.Constants.{operands_after}
-use Rattle.w_reductions.specs.Reference.{reference_op}
-use Rattle.w_reductions.specs.Variable.{variable_op}
+use Rattle.w_reduce.specs.Values.{Val, I32, I64, val}
+use Rattle.w_reduce.specs.Store.{Store}
+use Rattle.w_reduce.specs.Reduced.{Reduced, Stuck, as_number, take_number, or_stuck, unless_fault, number, steps_to}
+use Rattle.w_reduce.specs.Terms.{rest_of}
+use Rattle.w_reduce.specs.Numeric.{binop, width, numeric_op}
+use Rattle.w_reduce.specs.Constants.{operands_after}
+use Rattle.w_reduce.specs.Reference.{reference_op}
+use Rattle.w_reduce.specs.Variable.{variable_op}
 use Rattle.w_stands.specs.Values.{vals}
 use Rattle.w_stands.proofs.Locals.{mapped_get}
 use Rattle.w_stands.specs.Numbers.{value_of}

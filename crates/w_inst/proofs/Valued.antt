@@ -10,11 +10,11 @@ use Rattle.w_syntax.specs.Items.{reference_to, null_of}
 use Rattle.w_syntax.specs.declared.module.GlobalVariable.{GlobalVariable}
 use Rattle.w_syntax.specs.declared.module.Table as syntax_table
 use Rattle.w_tables.specs.declared.entries.FuncEntry.{FuncEntry}
-use Rattle.w_reductions.specs.Values.{Val, Null, Func, val}
-use Rattle.w_reductions.specs.Store.{Store, Table}
-use Rattle.w_reductions.specs.Program.{Program}
-use Rattle.w_reductions.specs.Constants.{evaluated, value_of}
-use Rattle.w_reductions.specs.Start.{with_globals, filling, table_of}
+use Rattle.w_reduce.specs.Values.{Val, Null, Func, val}
+use Rattle.w_reduce.specs.Store.{Store, Table}
+use Rattle.w_reduce.specs.Program.{Program}
+use Rattle.w_reduce.specs.Constants.{evaluated, value_of}
+use Rattle.w_reduce.specs.Start.{with_globals, filling, table_of}
 use Rattle.w_stands.specs.Values.{vals}
 use Rattle.w_inst.specs.Constants.{Sees}
 use Rattle.w_inst.proofs.Operands.{there}

@@ -2,8 +2,8 @@
 use Rattle.std.specs.Prelude.{ℕ, List, ◌++◌}
 use Rattle.w_memory.specs.Memory.{Memory}
 use Rattle.w_tables.specs.declared.entries.FuncEntry.{FuncEntry}
-use Rattle.w_reductions.specs.Values.{Val}
-use Rattle.w_reductions.specs.Store.{Store, Table}
+use Rattle.w_reduce.specs.Values.{Val}
+use Rattle.w_reduce.specs.Store.{Store, Table}
 
 abbrev pub with_functions : Store → List FuncEntry → Store
 with_functions s fs = record s { functions = s.functions ++ fs }

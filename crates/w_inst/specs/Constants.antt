@@ -8,11 +8,11 @@ use Rattle.w_syntax.specs.declared.instructions.Instr.TheVariants as flat
 use Rattle.w_syntax.specs.declared.instructions.Op.{Op}
 use Rattle.w_rules.specs.Bodies.{is_const, all_const}
 use Rattle.w_rules.specs.Context.{Context}
-use Rattle.w_reductions.specs.Values.{Val}
-use Rattle.w_reductions.specs.Store.{Store}
-use Rattle.w_reductions.specs.Program.{Program}
-use Rattle.w_reductions.specs.Reduce.{instruction}
-use Rattle.w_reductions.specs.Constants.{operands_after}
+use Rattle.w_reduce.specs.Values.{Val}
+use Rattle.w_reduce.specs.Store.{Store}
+use Rattle.w_reduce.specs.Program.{Program}
+use Rattle.w_reduce.specs.Reduce.{instruction}
+use Rattle.w_reduce.specs.Constants.{operands_after}
 use Rattle.w_stands.specs.Values.{vals}
 
 -- in some context the instruction may stand in a constant expression

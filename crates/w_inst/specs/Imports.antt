@@ -1,5 +1,5 @@
 -- What the search for the imports comes to, read as that of the definitions.
-use Rattle.w_reductions.specs.Imports.{Found, All, Missing}
+use Rattle.w_reduce.specs.Imports.{Found, All, Missing}
 use Rattle.w_inst.specs.declared.printers.Imports.{Imports}
 use Rattle.w_inst.specs.declared.printers.Imports.TheVariants as imports
 

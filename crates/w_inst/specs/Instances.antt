@@ -4,8 +4,8 @@ use Rattle.w_types.specs.declared.value.Value.{Value}
 use Rattle.w_syntax.specs.declared.module.Elem.{Elem}
 use Rattle.w_syntax.specs.declared.module.Module.{Module}
 use Rattle.w_tables.specs.Store as instances
-use Rattle.w_reductions.specs.Program.{Program}
-use Rattle.w_reductions.specs.Start.{Start, Ready, NoPrinter, NoEntry, Exceeds, StartTraps, start_term}
+use Rattle.w_reduce.specs.Program.{Program}
+use Rattle.w_reduce.specs.Start.{Start, Ready, NoPrinter, NoEntry, Exceeds, StartTraps, start_term}
 use Rattle.w_stands.specs.Values.{store_of}
 use Rattle.w_inst.specs.declared.instantiation.Instance.{Instance}
 use Rattle.w_inst.specs.declared.instantiation.InstFault.{InstFault}

@@ -7,8 +7,8 @@ use Rattle.w_syntax.specs.declared.module.ElemMode.{ElemMode}
 use Rattle.w_syntax.specs.declared.module.ElemMode.TheVariants as elem_mode
 use Rattle.w_tables.specs.Store as instances
 use Rattle.w_tables.specs.Operations.{with_memory}
-use Rattle.w_reductions.specs.Store.{Store}
-use Rattle.w_reductions.specs.Start as start
+use Rattle.w_reduce.specs.Store.{Store}
+use Rattle.w_reduce.specs.Start as start
 use Rattle.w_stands.specs.Values.{store_of}
 use Rattle.w_inst.specs.Constants.{IsConstant}
 

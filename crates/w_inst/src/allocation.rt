@@ -6,7 +6,7 @@ ghost use Rattle.w_syntax.specs.declared.module.Data.{Data as TheData};
 ghost use Rattle.w_syntax.specs.declared.module.Limits.{Limits as TheLimits};
 ghost use Rattle.w_syntax.specs.declared.module.Tag.{Tag as TheTag};
 ghost use Rattle.w_rules.specs.Valid.{Valid};
-ghost use Rattle.w_reductions.specs.Start.{own, exceeded};
+ghost use Rattle.w_reduce.specs.Start.{own, exceeded};
 ghost use Rattle.w_stands.specs.Values.{store_of};
 ghost use Rattle.w_inst.specs.Adding.{with_functions, with_memories, with_tags, with_datas};
 

@@ -8,12 +8,12 @@ ghost use Rattle.w_syntax.specs.declared.numeric.NumericOp.TheVariants as numeri
 ghost use Rattle.w_syntax.specs.Packed.{OnPlain, unpacked};
 ghost use Rattle.w_rules.specs.Bodies.{is_const_binary};
 ghost use Rattle.w_num.specs.Signed.{inverse};
-ghost use Rattle.w_reductions.specs.Values.{Val, val};
-ghost use Rattle.w_reductions.specs.Store.{Store as TheStore};
-ghost use Rattle.w_reductions.specs.Program.{Program};
-ghost use Rattle.w_reductions.specs.Reduced.{Reduced, as_number, take_number, or_stuck};
-ghost use Rattle.w_reductions.specs.Numeric.{binop};
-ghost use Rattle.w_reductions.specs.Constants.{value_of, topmost as topmost_of};
+ghost use Rattle.w_reduce.specs.Values.{Val, val};
+ghost use Rattle.w_reduce.specs.Store.{Store as TheStore};
+ghost use Rattle.w_reduce.specs.Program.{Program};
+ghost use Rattle.w_reduce.specs.Reduced.{Reduced, as_number, take_number, or_stuck};
+ghost use Rattle.w_reduce.specs.Numeric.{binop};
+ghost use Rattle.w_reduce.specs.Constants.{value_of, topmost as topmost_of};
 ghost use Rattle.w_inst.specs.Constants.{MayBeConstant, IsConstant, Sees, AlwaysLeaves, Leaves, LeavesAt, row};
 
 use std::alloc::{AllocError, Global};

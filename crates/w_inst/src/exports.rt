@@ -2,7 +2,7 @@
 ghost use Rattle.std.specs.Prelude.{◌≡◌, slice_get};
 ghost use Rattle.w_rules.specs.Spaces.{functions_of};
 ghost use Rattle.w_syntax.specs.Functions.{type_at};
-ghost use Rattle.w_reductions.specs.Start as start;
+ghost use Rattle.w_reduce.specs.Start as start;
 
 use w_rules::func_type;
 use w_syntax::{ExternIndex, ExternType, Module};

@@ -1,8 +1,8 @@
 //! The store that a run begins with (Core, execution, instantiation).
 ghost use Rattle.std.specs.Prelude.{◌≡◌, IfOk, None};
 ghost use Rattle.w_rules.specs.Valid.{Valid};
-ghost use Rattle.w_reductions.specs.Program.{Program};
-ghost use Rattle.w_reductions.specs.Start as start;
+ghost use Rattle.w_reduce.specs.Program.{Program};
+ghost use Rattle.w_reduce.specs.Start as start;
 ghost use Rattle.w_stands.specs.Values.{store_of};
 ghost use Rattle.w_inst.specs.Instances.{StandsFor, SegmentsFrom};
 

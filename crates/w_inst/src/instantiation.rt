@@ -1,6 +1,6 @@
 //! Instantiation (Core, execution, instantiation).
 ghost use Rattle.std.specs.Prelude.{◌≡◌};
-ghost use Rattle.w_reductions.specs.Program.{Program};
+ghost use Rattle.w_reduce.specs.Program.{Program};
 ghost use Rattle.w_inst.specs.declared.instantiation.InstFault.TheVariants.{OutOfMemory};
 ghost use Rattle.w_inst.specs.Instances.{BeginsAs};
 
@@ -11,7 +11,7 @@ use crate::printers::{Imports, find_printers};
 use crate::starting::{start_datas, start_elements};
 use std::alloc::{AllocError, Global};
 use thiserror::Error;
-use w_reductions::{StartLimit, Trap};
+use w_reduce::{StartLimit, Trap};
 use w_rules::Checked;
 use w_tables::Store;
 

@@ -4,9 +4,9 @@ ghost use Rattle.w_memory.specs.Memory.{page_limit};
 ghost use Rattle.w_tables.specs.Elements.{table_limit};
 ghost use Rattle.w_syntax.specs.declared.module.Limits.{Limits as TheLimits};
 ghost use Rattle.w_syntax.specs.declared.module.Table.{Table as TheTable};
-ghost use Rattle.w_reductions.specs.Start as start;
+ghost use Rattle.w_reduce.specs.Start as start;
 
-use w_reductions::StartLimit;
+use w_reduce::StartLimit;
 use w_syntax::{Limits, Module, Table};
 
 // No memory has more pages.

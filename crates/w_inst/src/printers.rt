@@ -1,7 +1,7 @@
 //! The functions of the host that imports name.
 ghost use Rattle.std.specs.Prelude.{◌≡◌, IfOk};
 ghost use Rattle.std.specs.Option.{option_copied};
-ghost use Rattle.w_reductions.specs.Imports as imports;
+ghost use Rattle.w_reduce.specs.Imports as imports;
 ghost use Rattle.w_inst.specs.Imports.{found_of};
 
 use std::alloc::{AllocError, Global};

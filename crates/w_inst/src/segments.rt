@@ -2,10 +2,10 @@
 ghost use Rattle.std.specs.Prelude.{◌≡◌, ◌<◌, ◌≤◌, ℕ, Some, length, IfNone, IfOk};
 ghost use Rattle.w_memory.specs.Memory.{init, left_by};
 ghost use Rattle.w_tables.specs.Operations as op;
-ghost use Rattle.w_reductions.specs.Values.{val};
-ghost use Rattle.w_reductions.specs.Constants.{number_in as number_of};
-ghost use Rattle.w_reductions.specs.Program.{Program};
-ghost use Rattle.w_reductions.specs.Start as start;
+ghost use Rattle.w_reduce.specs.Values.{val};
+ghost use Rattle.w_reduce.specs.Constants.{number_in as number_of};
+ghost use Rattle.w_reduce.specs.Program.{Program};
+ghost use Rattle.w_reduce.specs.Start as start;
 ghost use Rattle.w_stands.specs.Values.{store_of};
 ghost use Rattle.w_inst.specs.Constants.{Sees};
 ghost use Rattle.w_inst.specs.Segments.{left_by_copy, CopiesData, ElementsCopied, DataCopied, IfWent, KeepsSizes, element_length, IsElemConstant, IsDataConstant};

@@ -1,11 +1,19 @@
--- Where a run may begin.
-use Rattle.std.specs.Prelude.{◌≡◌, ◌≢◌, None}
+-- Where a run begins.
+use Rattle.std.specs.Prelude.{◌≡◌, ℕ}
 use Rattle.w_syntax.specs.declared.module.Module.{Module}
-use Rattle.w_reduce.specs.Start.{first_import, entry}
-use Rattle.w_reduce.specs.Store.{Store, start_store}
+use Rattle.w_tables.specs.Store as instances
+use Rattle.w_reduce.specs.Store.{Store}
+use Rattle.w_reduce.specs.Terms.{Term}
+use Rattle.w_reduce.specs.Program.{Program, IsProgram}
+use Rattle.w_reduce.specs.Start.{Start, Ready, start_term}
+use Rattle.w_stands.specs.Values.{store_of}
 
--- a run of the module begins with this store: no import is missing, there is an entry, and the store is its first
-pub record Begins (m : Module) (s : Store) : Type 0 where
-  pub complete : first_import m ≡ None
-  pub enters : entry m ≢ None
-  pub store : s ≡ start_store m
+-- the run of the module begins with this store and this term; p tells which of its types are equivalent
+pub record Begins (m : Module) (p : Program) (s : Store) (t : Term) : Type 0 where
+  pub source : p.source ≡ m
+  pub program : IsProgram p
+  pub start : Start p ≡ Ready s t
+
+-- it begins with this store and the invoke of main, behind that of the start function
+abbrev pub BeginsWith : Module → instances.Store → ℕ → Type 0
+BeginsWith m u main = (p : Program) → p.source ≡ m → Start p ≡ Ready (store_of u) (start_term m main)

@@ -1,7 +1,7 @@
-pub mod StoreCode
-pub mod Functions
-pub mod Operands
-pub mod Configuration
+pub mod Standing
+pub mod Reducing
 pub mod Kept
-pub mod Position
 pub mod Beginning
+pub mod Position
+pub mod Reached
+pub mod Results

@@ -1,21 +1,20 @@
 -- The machine as contracts see it: the module that it runs, how many reductions it took, and the outcome that it keeps. It
 -- stands for the run of the module after so many reductions.
-use Rattle.std.specs.Prelude.{◌≡◌, ◌+◌, ◌^◌, ◌≤◌, ℕ, Option, Some, None, refl}
+use Rattle.std.specs.Prelude.{◌≡◌, ◌+◌, ◌^◌, ◌≤◌, ℕ, List, ◌++◌, Bool, true, false, ⊤, Option, Some, None, refl}
 use Rattle.std.specs.Coded.{Coded, code_by, coded×, coded_ℕ, coded_option}
+use Rattle.w_types.specs.Rows.{Row}
+use Rattle.w_outside.specs.Outside.{Grew, GrewByFront}
 use Rattle.w_syntax.specs.declared.module.Module.{Module}
 use Rattle.w_syntax.specs.contracts.module.Module as module_contract
-use Rattle.w_reduce.specs.Store.{Store, start_store}
+use Rattle.w_reduce.specs.Values.{Val}
+use Rattle.w_reduce.specs.Store.{Store}
+use Rattle.w_reduce.specs.Terms.{Term}
+use Rattle.w_reduce.specs.Program.{Program}
+use Rattle.w_reduce.specs.Run.{Outcome, Running, Values, Traps, Limit, NoRule, RunState, Run}
 use Rattle.w_machine.specs.declared.outcome.Kept.{Kept}
 use Rattle.w_machine.specs.declared.outcome.Kept.TheVariants as kept
 use Rattle.w_machine.specs.contracts.outcome.Kept as kept_contract
-use Rattle.w_machine.specs.declared.outcome.Stepped.{Stepped}
-use Rattle.w_machine.specs.declared.outcome.Stepped.TheVariants as stepped
-use Rattle.w_machine.specs.declared.outcome.Outcome.{Outcome}
-use Rattle.w_machine.specs.declared.outcome.Outcome.TheVariants as outcome
-use Rattle.w_machine.specs.Kept.{stepped_of, outcome_of}
-use Rattle.w_reduce.specs.Terms.{Term}
-use Rattle.w_reduce.specs.Run.{Running, Limit, NoRule, RunState, state_at, Run, HasEnded}
-use Rattle.w_machine.specs.Configuration.{Parts, term_of, IsSound}
+use Rattle.w_machine.specs.Beginning.{Begins}
 
 pub record Position : Type 0 where
   pub program : Module
@@ -31,62 +30,109 @@ position_code = code_by (Module × (ℕ × Option Kept)) (coded× module_contrac
 abbrev pub most_reductions : ℕ
 most_reductions = 2 ^ 40
 
--- what a run came to, where this outcome is kept
-abbrev pub ran_kept : Kept → Module → ℕ → Store → Term → RunState
-ran_kept (kept.Limit name) m n s t = record { taken = n; store = s; term = t; outcome = Limit name }
-ran_kept kept.Ended m n s t = state_at m n s t
-ran_kept kept.Stuck m n s t = state_at m n s t
-ran_kept kept.OutOfMemory m n s t = state_at m n s t
+-- ## What stops a machine
 
-abbrev pub ran : Option Kept → Module → ℕ → Store → Term → RunState
-ran (Some k) m n s t = ran_kept k m n s t
-ran None m n s t = state_at m n s t
+-- what is told of a run that stopped so
+abbrev pub Tells : Kept → Outcome → Type 0
+Tells kept.Ended o = (vs : Row Val) × (o ≡ Values vs)
+Tells kept.Stuck o = o ≡ NoRule
+Tells (kept.Limit name) o = o ≡ Limit name
+Tells (kept.Trapped t) o = o ≡ Traps t
+Tells kept.WriteFault o = ⊤
+Tells kept.OutOfMemory o = ⊤
 
--- after n reductions the run of m came to the store and to the term that the parts stand for
-pub record IsReached (m : Module) (s : Store) (p : Parts) (k : Option Kept) (n : ℕ) : Type 0 where
-  pub store : s ≡ start_store m
-  pub sound : IsSound m s p
-  pub run : Run m n ≡ ran k m n (start_store m) (term_of m p)
-  pub bound : n ≤ most_reductions
+-- a reduction that passes a limit or traps counts
+abbrev pub counted : Kept → ℕ
+counted (kept.Limit name) = 1
+counted (kept.Trapped t) = 1
+counted k = 0
 
--- ## One step
+-- the sink failed, or memory ran out
+abbrev pub is_fault : Kept → Bool
+is_fault kept.WriteFault = true
+is_fault kept.OutOfMemory = true
+is_fault k = false
 
--- where no outcome is kept
-abbrev pub StepsOn : Position → Stepped → Position → Type 0
-StepsOn old stepped.Went new = ((Run old.program old.taken).outcome ≡ Running) × (new ≡ record old { taken = old.taken + 1 })
-StepsOn old stepped.Ended new = HasEnded (Run old.program old.taken).outcome × (new ≡ record old { kept = Some kept.Ended })
-StepsOn old stepped.Stuck new = ((Run old.program old.taken).outcome ≡ NoRule) × (new ≡ record old { kept = Some kept.Stuck })
-StepsOn old (stepped.Limit name) new =
-    ((Run old.program (old.taken + 1)).outcome ≡ Limit name) × (new ≡ record old { taken = old.taken + 1; kept = Some (kept.Limit name) })
-StepsOn old stepped.OutOfMemory new = new ≡ record old { kept = Some kept.OutOfMemory }
+-- ## What was printed
 
-abbrev pub StepsFrom : Option Kept → Position → Stepped → Position → Type 0
-StepsFrom (Some k) old result new = (result ≡ stepped_of k) × (new ≡ old)
-StepsFrom None old result new = StepsOn old result new
+-- from one state of a run to a later one: the sink grew by it
+pub record Printed (r r' : RunState) (before now : Option (List ℕ)) : Type 0 where
+  pub text : List ℕ
+  pub is : r'.output ≡ r.output ++ text
+  pub grew : Grew before now text
 
-abbrev pub Steps : Position → Stepped → Position → Type 0
-Steps old result new = StepsFrom old.kept old result new
+-- or by a first part of it
+pub record PrintedAtMost (r r' : RunState) (before now : Option (List ℕ)) : Type 0 where
+  pub text : List ℕ
+  pub is : r'.output ≡ r.output ++ text
+  pub grew : GrewByFront before now text
+
+abbrev pub PrintedIf : Bool → RunState → RunState → Option (List ℕ) → Option (List ℕ) → Type 0
+PrintedIf true r r' before now = PrintedAtMost r r' before now
+PrintedIf false r r' before now = Printed r r' before now
+
+abbrev pub PrintedBy : Kept → RunState → RunState → Option (List ℕ) → Option (List ℕ) → Type 0
+PrintedBy k r r' before now = PrintedIf (is_fault k) r r' before now
+
+-- ## One step, where no outcome is kept
+
+abbrev pub after_step : Position → Option Kept → Position
+after_step old None = record old { taken = old.taken + 1 }
+after_step old (Some k) = record old { taken = old.taken + counted k; kept = Some k }
+
+-- of a run: it was running, or what is told of it; and what was printed
+abbrev pub StepsOn : (ℕ → RunState) → ℕ → Option Kept → Option (List ℕ) → Option (List ℕ) → Type 0
+StepsOn run n None before now = ((run n).outcome ≡ Running) × Printed (run n) (run (n + 1)) before now
+StepsOn run n (Some k) before now = Tells k (run (n + counted k)).outcome × PrintedBy k (run n) (run (n + 1)) before now
+
+-- an outcome that is kept is told again, and nothing changes
+abbrev pub StepsFrom : Option Kept → Position → Option Kept → Position → Option (List ℕ) → Option (List ℕ) → Type 0
+StepsFrom (Some k) old result new before now = (result ≡ Some k) × (new ≡ old) × (now ≡ before)
+StepsFrom None old result new before now =
+    (new ≡ after_step old result) × ((p : Program) (s : Store) (t : Term) → Begins old.program p s t → StepsOn (Run p s t) old.taken result before now)
+
+abbrev pub Steps : Position → Option Kept → Position → Option (List ℕ) → Option (List ℕ) → Type 0
+Steps old result new before now = StepsFrom old.kept old result new before now
+
+-- ## What is told with no reduction taken, where no outcome is kept
+
+abbrev pub after_telling : Position → Option Kept → Position
+after_telling old None = old
+after_telling old (Some k) = record old { kept = Some k }
+
+abbrev pub TellsOn : RunState → Option Kept → Type 0
+TellsOn r None = r.outcome ≡ Running
+TellsOn r (Some k) = Tells k r.outcome
+
+abbrev pub IsNoFault : Option Kept → Type 0
+IsNoFault None = ⊤
+IsNoFault (Some k) = is_fault k ≡ false
+
+abbrev pub ToldBy : Position → Option Kept → Position → Type 0
+ToldBy old result new =
+    (new ≡ after_telling old result) × IsNoFault result × ((p : Program) (s : Store) (t : Term) → Begins old.program p s t → TellsOn (Run p s t old.taken) result)
 
 -- ## A run of so many reductions at most
 
--- the run asked for had been told before its last reduction: the machine stands for it, and keeps the outcome
-abbrev pub Stops : Position → ℕ → Kept → Position → Type 0
-Stops old steps k new = (new ≡ record old { taken = (Run old.program (old.taken + steps)).taken; kept = Some k })
-    × (Run old.program new.taken ≡ Run old.program (old.taken + steps))
+-- where n of them were taken
+abbrev pub after_run : Position → ℕ → Option Kept → Position
+after_run old n None = record old { taken = old.taken + n }
+after_run old n (Some k) = record old { taken = old.taken + n; kept = Some k }
 
--- where no outcome is kept
-abbrev pub RunsOn : Position → ℕ → Outcome → Position → Type 0
-RunsOn old steps outcome.Running new =
-    ((Run old.program (old.taken + steps)).outcome ≡ Running) × (new ≡ record old { taken = old.taken + steps })
-RunsOn old steps outcome.Ended new = HasEnded (Run old.program (old.taken + steps)).outcome × Stops old steps kept.Ended new
-RunsOn old steps outcome.Stuck new = ((Run old.program (old.taken + steps)).outcome ≡ NoRule) × Stops old steps kept.Stuck new
-RunsOn old steps (outcome.Limit name) new = ((Run old.program (old.taken + steps)).outcome ≡ Limit name) × Stops old steps (kept.Limit name) new
-RunsOn old steps outcome.OutOfMemory new =
-    (n : ℕ) × (n ≤ steps) × (new ≡ record old { taken = old.taken + n; kept = Some kept.OutOfMemory })
+abbrev pub RunsOn : (ℕ → RunState) → ℕ → ℕ → Option Kept → Option (List ℕ) → Option (List ℕ) → Type 0
+RunsOn run n steps None before now = ((run (n + steps)).outcome ≡ Running) × Printed (run n) (run (n + steps)) before now
+RunsOn run n steps (Some k) before now = Tells k (run (n + steps)).outcome × PrintedBy k (run n) (run (n + steps)) before now
 
-abbrev pub RunsFrom : Option Kept → Position → ℕ → Outcome → Position → Type 0
-RunsFrom (Some k) old steps result new = (result ≡ outcome_of k) × (new ≡ old)
-RunsFrom None old steps result new = RunsOn old steps result new
+-- all of them, or at most these
+abbrev pub HasTaken : ℕ → ℕ → Option Kept → Type 0
+HasTaken n steps None = n ≡ steps
+HasTaken n steps (Some k) = n ≤ steps
 
-abbrev pub Runs : Position → ℕ → Outcome → Position → Type 0
-Runs old steps result new = RunsFrom old.kept old steps result new
+abbrev pub RunsFrom : Option Kept → Position → ℕ → Option Kept → Position → Option (List ℕ) → Option (List ℕ) → Type 0
+RunsFrom (Some k) old steps result new before now = (result ≡ Some k) × (new ≡ old) × (now ≡ before)
+RunsFrom None old steps result new before now =
+    (n : ℕ) × HasTaken n steps result × (new ≡ after_run old n result)
+    × ((p : Program) (s : Store) (t : Term) → Begins old.program p s t → RunsOn (Run p s t) old.taken steps result before now)
+
+abbrev pub Runs : Position → ℕ → Option Kept → Position → Option (List ℕ) → Option (List ℕ) → Type 0
+Runs old steps result new before now = RunsFrom old.kept old steps result new before now

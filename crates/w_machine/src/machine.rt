@@ -1,32 +1,51 @@
 //! The machine.
-ghost use Rattle.std.specs.Prelude.{◌≡◌, ◌+◌, ◌<◌, ◌≤◌, None};
-ghost use Rattle.w_reduce.specs.Run.{Run, results_of};
-ghost use Rattle.w_machine.specs.Beginning.{Begins};
-ghost use Rattle.w_machine.specs.Position.{Steps, Runs, most_reductions};
+ghost use Rattle.std.specs.Prelude.{◌≡◌, ◌≢◌, ◌+◌, ◌<◌, ◌≤◌, ℕ, true, [], Some, None, IfOk};
+ghost use Rattle.w_outside.specs.Outside.{Rose};
+ghost use Rattle.w_segment.specs.declared.entry.Stage.TheVariants.{Values};
+ghost use Rattle.w_segment.specs.Link.{top};
+ghost use Rattle.w_reduce.specs.Store.{Store as TheStore};
+ghost use Rattle.w_reduce.specs.Terms.{Term};
+ghost use Rattle.w_reduce.specs.Program.{Program as TheProgram};
+ghost use Rattle.w_reduce.specs.Run.{Run};
+ghost use Rattle.w_stands.specs.Code.{AllShort};
+ghost use Rattle.w_stands.specs.Values.{vals};
+ghost use Rattle.w_machine.specs.Beginning.{Begins, BeginsWith};
+ghost use Rattle.w_machine.specs.Kept.{stopped_at, stopped_in};
+ghost use Rattle.w_machine.specs.Position.{Steps, ToldBy, Runs, counted, most_reductions};
+ghost use Rattle.w_machine.specs.Results.{HasResults};
+ghost use Rattle.w_machine.specs.Reached.{AreFirst, IsTurned};
 
-use crate::configuration::{Configuration, Found, Stage};
-use crate::entry::entry;
-use crate::outcome::{Kept, Outcome, Stepped, passed_limit};
-use crate::store::Store;
-use std::alloc::Global;
+use crate::outcome::{Kept, Outcome, Stepped, as_outcome, as_stepped, has_ended};
+use crate::reduction::{outlook, reduce};
+use std::alloc::{AllocError, Global};
 use std::marker::Model;
-use w_reduce::RunLimit;
-use w_rules::Checked;
+use w_inst::Instance;
+use w_outside::Sink;
+use w_plain::Program;
+use w_rules::{Checked, Spaces};
+use w_segment::{Segment, Stage};
+use w_syntax::Module;
+use w_tables::Store;
 use w_types::Value;
 
 /// A run of a module. After so many steps it stands for the run of so many reductions.
 #[derive(Drop)]
 pub struct Machine {
     checked: Checked,
+    /// The index of each function's type, imported functions in front.
+    functions: Vec<u32>,
     store: Store,
-    configuration: Configuration,
+    /// The segment that runs.
+    segment: Box<Segment>,
+    /// That of main, while the start function runs.
+    waiting: Option<Box<Segment>>,
     taken: u64,
     kept: Option<Kept>,
 }
 
 impl Model for Machine {
-    ghost use Rattle.w_machine.specs.Configuration.{parts};
-    ghost use Rattle.w_machine.specs.Position.{Position, IsReached, position_code};
+    ghost use Rattle.w_machine.specs.Position.{Position, position_code};
+    ghost use Rattle.w_machine.specs.Reached.{IsReached};
 
     ghost Value = { Position };
 
@@ -34,120 +53,181 @@ impl Model for Machine {
 
     ghost view = { λ a. record { program = a.checked; taken = a.taken; kept = a.kept } };
 
-    ghost invariant = { λ a. IsReached a.checked a.store (parts a.configuration) a.kept a.taken };
+    ghost invariant = { λ a. IsReached a.checked a.functions.items a.store a.segment.value a.waiting a.kept a.taken };
+}
+
+// Whether each body has fewer than 2^32 instructions, so that their places are numbers of 32 bits.
+fn are_short(program: &Module) -> bool
+    ensures { result ≡ true → AllShort program.now }
+{
+    for code in program.codes.as_slice() {
+        if code.body.instrs().len() > u32::MAX as usize {
+            return false;
+        }
+    }
+    true
+}
+
+// The segments that a run begins with: that of main, or that of the start function, for which main's waits.
+fn first_segments(
+    alloc: Global,
+    start: Option<u32>,
+    main: u32,
+) -> Result<(Box<Segment>, Option<Box<Segment>>), AllocError>
+    ensures { IfOk result (λ r. AreFirst start main r.0 r.1) }
+{
+    let main = Segment::fresh(alloc, main, 0)?;
+    match start {
+        Some(function) => Ok((Segment::fresh(alloc, function, 0)?, Some(main))),
+        None => Ok((main, None)),
+    }
+}
+
+// Where the segment is left, the one that waits runs next.
+fn turn(segment: &mut Box<Segment>, waiting: &mut Option<Box<Segment>>)
+    ensures stays { (top segment.old.value).shape.stage ≢ Values → (segment.new ≡ segment.old) × (waiting.new ≡ waiting.old) }
+    ensures turns { (top segment.old.value).shape.stage ≡ Values → IsTurned waiting.old segment.old segment.new × (waiting.new ≡ None) }
+{
+    if let Stage::Values = segment.stack().stage() {
+        if let Some(next) = waiting.take() {
+            *segment = next;
+        }
+    }
+}
+
+// How many reductions an outcome counts that stops a machine.
+fn count(kept: Kept) -> u64
+    ensures { result ≡ counted kept }
+{
+    match kept {
+        Kept::Limit(_) | Kept::Trapped(_) => 1,
+        _ => 0,
+    }
 }
 
 impl Machine {
-    /// The run of a module from its first store, with no reduction taken.
-    pub fn new(alloc: Global, checked: Checked, store: Store) -> Machine
-        requires { Begins checked store }
-        ensures { result ≡ record { program = checked; taken = 0; kept = None } }
+    /// The run of a module from its first store, with no reduction taken. It fails only for want of memory, as where a body has 2^32
+    /// instructions or more.
+    pub fn new(alloc: Global, checked: Checked, instance: Instance) -> Result<Machine, AllocError>
+        requires { BeginsWith checked instance.store instance.main }
+        ensures { IfOk result (λ machine. machine ≡ record { program = checked; taken = 0; kept = None }) }
     {
         let module = checked.module();
-        let main = entry(module).unwrap_or(0);
-        let configuration = Configuration::new(alloc, module.start, main);
-        Machine {
+        if !are_short(module) {
+            return Err(AllocError);
+        }
+        let functions = Spaces::of_module(alloc, module)?.functions;
+        let (segment, waiting) = first_segments(alloc, module.start, instance.main)?;
+        Ok(Machine {
             checked,
-            store,
-            configuration,
+            functions,
+            store: instance.store,
+            segment,
+            waiting,
             taken: 0,
             kept: None,
-        }
+        })
     }
 
     /// How many reductions were taken.
     pub fn taken(&self) -> u64
         ensures value { result ≡ self.now.taken }
-        ensures run { (Run self.now.program self.now.taken).taken ≡ self.now.taken }
+        // So many the run counts itself.
+        ensures counts { (p : TheProgram) (s : TheStore) (t : Term) → Begins self.now.program p s t → (Run p s t result).taken ≡ result }
     {
         self.taken
     }
 
-    /// The values that the run ended with, in order; none before.
-    pub fn results(&self) -> &[Value]
-        ensures { result.now ≡ results_of (Run self.now.program self.now.taken).outcome }
-    {
-        if passed_limit(self.kept) {
-            return &[];
-        }
-        match self.configuration.stage {
-            Stage::Values => self.configuration.operands.as_slice(),
-            _ => &[],
-        }
-    }
-
-    /// Takes one reduction, or says why none is taken.
-    pub fn step(&mut self) -> Stepped
+    // Takes one reduction, or says what stops it.
+    fn advance<O: Sink>(&mut self, out: &mut O) -> Option<Kept>
         requires { self.old.taken < most_reductions }
-        ensures steps { Steps self.old result self.new }
-        ensures run { (Run self.old.program self.old.taken).taken ≡ self.old.taken }
-        ensures ran { (Run self.new.program self.new.taken).taken ≡ self.new.taken }
+        ensures steps { Steps self.old result self.new (O.held out.old) (O.held out.new) }
+        ensures cause { self.old.kept ≡ None → result ≡ Some Kept.WriteFault → Rose (O.faults out.old) (O.faults out.new) }
+        ensures later { O.faults out.old ≤ O.faults out.new }
     {
-        if let Some(kept) = self.kept {
-            return kept.stepped();
+        if self.kept.is_some() {
+            return self.kept;
         }
-        match self.configuration.find(self.checked.module(), &self.store) {
-            Found::Redex(redex) => match self.configuration.contract(self.checked.module(), redex) {
-                Ok(()) => {
-                    self.taken += 1;
-                    Stepped::Went
-                }
-                Err(_) => {
-                    self.kept = Some(Kept::OutOfMemory);
-                    Stepped::OutOfMemory
-                }
-            },
-            Found::Limit => {
+        let program = Program {
+            source: self.checked.module(),
+            classes: self.checked.classes(),
+            functions: self.functions.as_slice(),
+        };
+        let stopped = reduce(program, &mut self.store, self.segment.stack_mut(), out);
+        match stopped {
+            None => {
+                turn(&mut self.segment, &mut self.waiting);
                 self.taken += 1;
-                self.kept = Some(Kept::Limit(RunLimit::Frames));
-                Stepped::Limit(RunLimit::Frames)
             }
-            Found::Values => {
-                self.kept = Some(Kept::Ended);
-                Stepped::Ended
-            }
-            Found::NoRule => {
-                self.kept = Some(Kept::Stuck);
-                Stepped::Stuck
+            Some(kept) => {
+                self.taken += count(kept);
+                self.kept = Some(kept);
             }
         }
+        stopped
     }
 
-    // Says how the run stands, with no reduction left to take.
-    fn tell(&mut self) -> Outcome
-        ensures { Runs self.old 0 result self.new }
+    // Says what stops the run, with no reduction taken.
+    fn tell(&mut self) -> Option<Kept>
+        requires { self.old.kept ≡ None }
+        ensures { ToldBy self.old result self.new }
     {
-        if let Some(kept) = self.kept {
-            return kept.outcome();
+        let stopped = outlook(self.checked.module(), self.segment.stack());
+        if stopped.is_some() {
+            self.kept = stopped;
         }
-        match self.configuration.find(self.checked.module(), &self.store) {
-            Found::Redex(_) => Outcome::Running,
-            Found::Limit => Outcome::Running,
-            Found::Values => {
-                self.kept = Some(Kept::Ended);
-                Outcome::Ended
-            }
-            Found::NoRule => {
-                self.kept = Some(Kept::Stuck);
-                Outcome::Stuck
-            }
-        }
+        stopped
     }
 
-    /// Takes at most so many reductions.
-    pub fn run(&mut self, steps: u64) -> Outcome
+    // Takes so many reductions at most, or says what stops it.
+    fn go<O: Sink>(&mut self, steps: u64, out: &mut O) -> Option<Kept>
         requires { self.old.taken + steps ≤ most_reductions }
-        ensures { Runs self.old steps result self.new }
+        ensures runs { Runs self.old steps result self.new (O.held out.old) (O.held out.new) }
+        ensures cause { self.old.kept ≡ None → result ≡ Some Kept.WriteFault → Rose (O.faults out.old) (O.faults out.new) }
+        ensures later { O.faults out.old ≤ O.faults out.new }
     {
+        if self.kept.is_some() {
+            return self.kept;
+        }
         for _ in 0..steps {
-            match self.step() {
-                Stepped::Went => {}
-                Stepped::Ended => return Outcome::Ended,
-                Stepped::Stuck => return Outcome::Stuck,
-                Stepped::Limit(name) => return Outcome::Limit(name),
-                Stepped::OutOfMemory => return Outcome::OutOfMemory,
+            let stopped = self.advance(out);
+            if stopped.is_some() {
+                return stopped;
             }
         }
         self.tell()
+    }
+
+    /// The values that the run ended with, in order; none before.
+    pub fn results(&self) -> &[Value]
+        ensures ended { self.now.kept ≡ Some Kept.Ended → (p : TheProgram) (s : TheStore) (t : Term) → Begins self.now.program p s t
+            → (n : ℕ) → self.now.taken ≤ n → HasResults (Run p s t n).outcome (vals result.now) }
+        ensures none { self.now.kept ≢ Some Kept.Ended → result.now ≡ [] }
+    {
+        if has_ended(self.kept) {
+            self.segment.stack().operands()
+        } else {
+            &[]
+        }
+    }
+
+    /// Takes so many reductions at most. What they print goes into the sink.
+    pub fn run<O: Sink>(&mut self, steps: u64, out: &mut O) -> Outcome
+        requires { self.old.taken + steps ≤ most_reductions }
+        ensures runs { Runs self.old steps (stopped_in result) self.new (O.held out.old) (O.held out.new) }
+        ensures cause { self.old.kept ≡ None → result ≡ Outcome.WriteFault → Rose (O.faults out.old) (O.faults out.new) }
+        ensures later { O.faults out.old ≤ O.faults out.new }
+    {
+        as_outcome(self.go(steps, out))
+    }
+
+    /// Takes one reduction, or says why none is taken, or that it traps or passes a limit. What it prints goes into the sink.
+    pub fn step<O: Sink>(&mut self, out: &mut O) -> Stepped
+        requires { self.old.taken < most_reductions }
+        ensures steps { Steps self.old (stopped_at result) self.new (O.held out.old) (O.held out.new) }
+        ensures cause { self.old.kept ≡ None → result ≡ Stepped.WriteFault → Rose (O.faults out.old) (O.faults out.new) }
+        ensures later { O.faults out.old ≤ O.faults out.new }
+    {
+        as_stepped(self.advance(out))
     }
 }

@@ -1,8 +1,8 @@
 //! How steps and runs end.
 ghost use Rattle.std.specs.Prelude.{◌≡◌};
-ghost use Rattle.w_machine.specs.Kept.{stepped_of, outcome_of, is_limit, has_passed};
+ghost use Rattle.w_machine.specs.Kept.{stepped_of, outcome_of, is_ended};
 
-use w_reduce::RunLimit;
+use w_reduce::{RunLimit, Trap};
 
 /// An outcome that a machine keeps: it answers the same ever after, and changes nothing.
 #[derive(Clone, Copy)]
@@ -13,6 +13,10 @@ pub enum Kept {
     Stuck,
     /// The result of the last reduction passed this limit.
     Limit(RunLimit),
+    /// The last reduction trapped.
+    Trapped(Trap),
+    /// The sink failed.
+    WriteFault,
     /// Memory ran out.
     OutOfMemory,
 }
@@ -28,6 +32,10 @@ pub enum Stepped {
     Stuck,
     /// One reduction was taken, and its result passed this limit.
     Limit(RunLimit),
+    /// One reduction was taken, and it trapped.
+    Trapped(Trap),
+    /// The sink failed; none was taken.
+    WriteFault,
     /// Memory ran out; none was taken.
     OutOfMemory,
 }
@@ -43,52 +51,47 @@ pub enum Outcome {
     Stuck,
     /// The result of the last reduction passed this limit.
     Limit(RunLimit),
+    /// The last reduction trapped.
+    Trapped(Trap),
+    /// The sink failed.
+    WriteFault,
     /// Memory ran out.
     OutOfMemory,
 }
 
-/// Whether the outcome that is kept, if one is, is that a limit was passed.
-pub(crate) fn passed_limit(kept: Option<Kept>) -> bool
-    ensures { result ≡ has_passed kept }
+/// Whether the outcome that is kept, if one is, is that the term is values.
+pub(crate) fn has_ended(kept: Option<Kept>) -> bool
+    ensures { result ≡ is_ended kept }
 {
-    match kept {
-        Some(kept) => kept.is_limit(),
-        None => false,
+    matches!(kept, Some(Kept::Ended))
+}
+
+/// What a step answers that stopped so, or took a reduction.
+pub(crate) fn as_stepped(stopped: Option<Kept>) -> Stepped
+    ensures { result ≡ stepped_of stopped }
+{
+    match stopped {
+        None => Stepped::Went,
+        Some(Kept::Ended) => Stepped::Ended,
+        Some(Kept::Stuck) => Stepped::Stuck,
+        Some(Kept::Limit(name)) => Stepped::Limit(name),
+        Some(Kept::Trapped(trap)) => Stepped::Trapped(trap),
+        Some(Kept::WriteFault) => Stepped::WriteFault,
+        Some(Kept::OutOfMemory) => Stepped::OutOfMemory,
     }
 }
 
-impl Kept {
-    /// Whether a limit was passed.
-    pub(crate) fn is_limit(self) -> bool
-        ensures { result ≡ is_limit self }
-    {
-        match self {
-            Kept::Limit(_) => true,
-            _ => false,
-        }
-    }
-
-    /// What a step answers.
-    pub(crate) fn stepped(self) -> Stepped
-        ensures { result ≡ stepped_of self }
-    {
-        match self {
-            Kept::Ended => Stepped::Ended,
-            Kept::Stuck => Stepped::Stuck,
-            Kept::Limit(name) => Stepped::Limit(name),
-            Kept::OutOfMemory => Stepped::OutOfMemory,
-        }
-    }
-
-    /// What a run answers.
-    pub(crate) fn outcome(self) -> Outcome
-        ensures { result ≡ outcome_of self }
-    {
-        match self {
-            Kept::Ended => Outcome::Ended,
-            Kept::Stuck => Outcome::Stuck,
-            Kept::Limit(name) => Outcome::Limit(name),
-            Kept::OutOfMemory => Outcome::OutOfMemory,
-        }
+/// What a run answers that stopped so, or took its reductions.
+pub(crate) fn as_outcome(stopped: Option<Kept>) -> Outcome
+    ensures { result ≡ outcome_of stopped }
+{
+    match stopped {
+        None => Outcome::Running,
+        Some(Kept::Ended) => Outcome::Ended,
+        Some(Kept::Stuck) => Outcome::Stuck,
+        Some(Kept::Limit(name)) => Outcome::Limit(name),
+        Some(Kept::Trapped(trap)) => Outcome::Trapped(trap),
+        Some(Kept::WriteFault) => Outcome::WriteFault,
+        Some(Kept::OutOfMemory) => Outcome::OutOfMemory,
     }
 }

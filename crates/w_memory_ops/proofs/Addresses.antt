@@ -9,7 +9,7 @@ use Rattle.w_syntax.specs.declared.memory_instructions.LoadOp.{LoadOp}
 use Rattle.w_syntax.specs.declared.memory_instructions.LoadOp.TheVariants as load_op
 use Rattle.w_syntax.specs.declared.memory_instructions.StoreOp.{StoreOp}
 use Rattle.w_syntax.specs.declared.memory_instructions.StoreOp.TheVariants as store_op
-use Rattle.w_reductions.specs.Memories.{loaded_size, stored_size}
+use Rattle.w_reduce.specs.Memories.{loaded_size, stored_size}
 
 -- two addresses are one, or both lie past the end
 data Cases (a b n l : ℕ) : Type 0 where

@@ -7,9 +7,9 @@ use Rattle.w_syntax.specs.declared.module.Module.{Module}
 use Rattle.w_segment.specs.Shape.{Shape}
 use Rattle.w_tables.specs.Store as instances
 use Rattle.w_tables.specs.Operations.{data_drop}
-use Rattle.w_reductions.specs.Terms.{rest_of}
-use Rattle.w_reductions.specs.Reduced.{steps_to, or_stuck}
-use Rattle.w_reductions.specs.Memories.{without_data}
+use Rattle.w_reduce.specs.Terms.{rest_of}
+use Rattle.w_reduce.specs.Reduced.{steps_to, or_stuck}
+use Rattle.w_reduce.specs.Memories.{without_data}
 use Rattle.w_stands.specs.Values.{stack, store_of}
 use Rattle.w_stands.specs.declared.did.Did.TheVariants as did
 use Rattle.w_stands.specs.Steps.{MovesAt, Follows}

@@ -11,11 +11,11 @@ use Rattle.w_syntax.specs.declared.memory_instructions.MemoryOp.TheVariants as m
 use Rattle.w_syntax.specs.declared.module.Module.{Module}
 use Rattle.w_segment.specs.Shape.{Shape}
 use Rattle.w_tables.specs.Store as instances
-use Rattle.w_reductions.specs.Values.{Val, val}
-use Rattle.w_reductions.specs.Terms.{rest_of}
-use Rattle.w_reductions.specs.Reduced.{steps_to, or_stuck, or_trap, number}
-use Rattle.w_reductions.specs.Memories.{loaded, loaded_size, loaded_type}
-use Rattle.w_reductions.specs.declared.trap.Trap.TheVariants as trap
+use Rattle.w_reduce.specs.Values.{Val, val}
+use Rattle.w_reduce.specs.Terms.{rest_of}
+use Rattle.w_reduce.specs.Reduced.{steps_to, or_stuck, or_trap, number}
+use Rattle.w_reduce.specs.Memories.{loaded, loaded_size, loaded_type}
+use Rattle.w_reduce.specs.declared.trap.Trap.TheVariants as trap
 use Rattle.w_stands.specs.Numbers.{bits_in, value_of}
 use Rattle.w_stands.specs.Values.{stack, store_of}
 use Rattle.w_stands.specs.declared.did.Did.TheVariants as did

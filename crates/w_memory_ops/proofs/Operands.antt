@@ -6,7 +6,7 @@ use Rattle.w_types.specs.declared.value.Value.{Value}
 use Rattle.w_syntax.specs.declared.module.Module.{Module}
 use Rattle.w_segment.specs.Shape.{Shape}
 use Rattle.w_tables.specs.Store as instances
-use Rattle.w_reductions.specs.Reduced.{Stuck}
+use Rattle.w_reduce.specs.Reduced.{Stuck}
 use Rattle.w_stands.specs.Values.{stack, store_of}
 use Rattle.w_stands.specs.Taking.{Kind, Going, Taken, taken_of}
 use Rattle.w_stands.proofs.Following.{Needs}

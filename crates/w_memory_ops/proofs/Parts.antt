@@ -5,7 +5,7 @@ use Rattle.std.proofs.lemmas.Option.{slice_get_within, get_or_from_slice_get}
 use Rattle.w_memory.specs.Memory.{Memory}
 use Rattle.w_tables.specs.Store as instances
 use Rattle.w_tables.specs.Operations.{bytes_at, with_memory}
-use Rattle.w_reductions.specs.Reduced.{Reduced, Stuck}
+use Rattle.w_reduce.specs.Reduced.{Reduced, Stuck}
 use Rattle.w_memory_ops.specs.Changing.{source_of}
 
 -- what a rule asks for is true where it applies

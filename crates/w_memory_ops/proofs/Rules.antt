@@ -9,11 +9,11 @@ use Rattle.w_syntax.specs.declared.memory_instructions.LoadOp.{LoadOp}
 use Rattle.w_syntax.specs.declared.memory_instructions.StoreOp.{StoreOp}
 use Rattle.w_syntax.specs.declared.memory_instructions.MemArg.{MemArg}
 use Rattle.w_syntax.specs.declared.memory_instructions.MemoryOp.TheVariants as memory
-use Rattle.w_reductions.specs.declared.trap.Trap.TheVariants as trap
-use Rattle.w_reductions.specs.Values.{I32}
-use Rattle.w_reductions.specs.Terms.{rest_of}
-use Rattle.w_reductions.specs.Reduced.{steps_to, or_stuck, or_trap, number, ◌>>=◌}
-use Rattle.w_reductions.specs.Memories.{loaded, loaded_size, loaded_type, stored_size, stored_type, with_memory, without_data}
+use Rattle.w_reduce.specs.declared.trap.Trap.TheVariants as trap
+use Rattle.w_reduce.specs.Values.{I32}
+use Rattle.w_reduce.specs.Terms.{rest_of}
+use Rattle.w_reduce.specs.Reduced.{steps_to, or_stuck, or_trap, number, ◌>>=◌}
+use Rattle.w_reduce.specs.Memories.{loaded, loaded_size, loaded_type, stored_size, stored_type, with_memory, without_data}
 use Rattle.w_stands.specs.Taking.{Kind, Number, Going, IsTaking}
 use Rattle.w_memory_ops.specs.Changing.{bits_at, Change, changing}
 

@@ -13,10 +13,10 @@ use Rattle.w_syntax.specs.declared.module.Module.{Module}
 use Rattle.w_segment.specs.Shape.{Shape}
 use Rattle.w_tables.specs.Store as instances
 use Rattle.w_tables.specs.Operations.{with_memory}
-use Rattle.w_reductions.specs.Values.{I32}
-use Rattle.w_reductions.specs.Terms.{rest_of}
-use Rattle.w_reductions.specs.Reduced.{steps_to, or_stuck}
-use Rattle.w_reductions.specs.Memories.{with_memory as with_memory_in}
+use Rattle.w_reduce.specs.Values.{I32}
+use Rattle.w_reduce.specs.Terms.{rest_of}
+use Rattle.w_reduce.specs.Reduced.{steps_to, or_stuck}
+use Rattle.w_reduce.specs.Memories.{with_memory as with_memory_in}
 use Rattle.w_stands.specs.Numbers.{bits_in}
 use Rattle.w_stands.specs.Values.{stack, store_of}
 use Rattle.w_stands.specs.declared.did.Did.TheVariants as did

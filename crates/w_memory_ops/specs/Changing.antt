@@ -2,10 +2,10 @@
 use Rattle.std.specs.Prelude.{ℕ, zero, suc, Bool, if◌then◌else◌, List, [], ◌∷◌, Option, Some, None, slice_get}
 use Rattle.w_memory.specs.Memory.{Memory}
 use Rattle.w_segment.specs.Shape.{Shape}
-use Rattle.w_reductions.specs.declared.trap.Trap.TheVariants as trap
-use Rattle.w_reductions.specs.Terms.{rest_of}
-use Rattle.w_reductions.specs.Reduced.{Stuck, steps_to, or_stuck, or_trap, ◌>>=◌}
-use Rattle.w_reductions.specs.Memories.{with_memory}
+use Rattle.w_reduce.specs.declared.trap.Trap.TheVariants as trap
+use Rattle.w_reduce.specs.Terms.{rest_of}
+use Rattle.w_reduce.specs.Reduced.{Stuck, steps_to, or_stuck, or_trap, ◌>>=◌}
+use Rattle.w_reduce.specs.Memories.{with_memory}
 use Rattle.w_stands.specs.declared.did.Did.{Did}
 use Rattle.w_stands.specs.declared.did.Did.TheVariants as did
 use Rattle.w_stands.specs.GoingOn.{dropped}

@@ -8,7 +8,7 @@ ghost use Rattle.w_stands.specs.Steps.{MovesAt, Follows};
 
 use crate::finishing::finish;
 use crate::numbers::{address, extended, loaded_size, stored_bits, stored_size};
-use w_reductions::Trap;
+use w_reduce::Trap;
 use w_segment::Stack;
 use w_stands::{Did, i32_of, replace, top_two};
 use w_syntax::{LoadOp, MemArg, Module, StoreOp};

@@ -2,7 +2,7 @@
 ghost use Rattle.std.specs.Prelude.{◌≡◌, ◌+◌, ◌<◌, ◌≤◌, ◌^◌, length};
 ghost use Rattle.w_memory_ops.specs.Changing.{did_of, finished};
 
-use w_reductions::Trap;
+use w_reduce::Trap;
 use w_segment::Stack;
 use w_stands::{Did, drop_next};
 

@@ -1,6 +1,6 @@
 //! What loads and stores move, and where.
 ghost use Rattle.std.specs.Prelude.{◌≡◌, ◌+◌, ◌^◌, ◌<◌, length, min};
-ghost use Rattle.w_reductions.specs.Memories.{loaded, loaded_size, loaded_type, stored_size, stored_type};
+ghost use Rattle.w_reduce.specs.Memories.{loaded, loaded_size, loaded_type, stored_size, stored_type};
 ghost use Rattle.w_stands.specs.Numbers.{IsNumber, bits_in, value_of};
 
 use w_memory::Mem;

@@ -5,7 +5,7 @@ use Rattle.w_syntax.specs.declared.module.Module.{Module}
 use Rattle.w_segment.specs.declared.entry.Stage.TheVariants.{Fresh, Body, Branch}
 use Rattle.w_segment.specs.Shape.{Shape}
 use Rattle.w_tables.specs.Store as instances
-use Rattle.w_reductions.specs.Terms.{Rest, Context}
+use Rattle.w_reduce.specs.Terms.{Rest, Context}
 use Rattle.w_stands.specs.Code.{instr_of}
 use Rattle.w_stands.specs.Stands.{In, body, fresh, values}
 use Rattle.w_stands.specs.Steps.{MovesAt}

@@ -10,9 +10,9 @@ use Rattle.w_segment.specs.Changes.{discarded, staged}
 use Rattle.w_tables.specs.Store as instances
 use Rattle.w_tables.specs.declared.entries.FuncEntry.TheVariants as entry
 use Rattle.w_tables.specs.declared.entries.Printer.{Printer}
-use Rattle.w_reductions.specs.Terms.{Rest, rest_of}
-use Rattle.w_reductions.specs.Calls.{invoked}
-use Rattle.w_reductions.specs.Reduce.{next}
+use Rattle.w_reduce.specs.Terms.{Rest, rest_of}
+use Rattle.w_reduce.specs.Calls.{invoked}
+use Rattle.w_reduce.specs.Reduce.{next}
 use Rattle.w_stands.specs.Values.{stack, store_of}
 use Rattle.w_stands.specs.GoingOn.{dropped}
 use Rattle.w_stands.proofs.LookedUp.{found}
@@ -26,7 +26,7 @@ use Rattle.w_syntax.specs.declared.instructions.Op.TheVariants as op
 use Rattle.w_syntax.specs.declared.instructions.SwitchingOp.{SwitchingOp}
 use Rattle.w_syntax.specs.declared.instructions.ControlOp.TheVariants as control
 use Rattle.std.specs.declared.alloc.AllocError.{AllocError}
-use Rattle.w_reductions.specs.declared.trap.Trap.{Trap}
+use Rattle.w_reduce.specs.declared.trap.Trap.{Trap}
 use Rattle.w_stands.specs.declared.did.Did.{Did}
 use Rattle.w_stands.specs.declared.did.Did.TheVariants as did
 use Rattle.w_stands.specs.Keeps.{Keeps}

@@ -4,10 +4,10 @@ use Rattle.w_outside.specs.Outside.{Grew, GrewByFront}
 use Rattle.w_syntax.specs.declared.module.Module.{Module}
 use Rattle.w_segment.specs.Shape.{Shape, SameParts}
 use Rattle.w_tables.specs.Store as instances
-use Rattle.w_reductions.specs.Store.{Store}
-use Rattle.w_reductions.specs.Terms.{Rest, Context, Term}
-use Rattle.w_reductions.specs.Program.{Program}
-use Rattle.w_reductions.specs.Reduced.{Went}
+use Rattle.w_reduce.specs.Store.{Store}
+use Rattle.w_reduce.specs.Terms.{Rest, Context, Term}
+use Rattle.w_reduce.specs.Program.{Program}
+use Rattle.w_reduce.specs.Reduced.{Went}
 use Rattle.w_stands.specs.declared.did.Did.{Did}
 use Rattle.w_stands.specs.Steps.{Outside, At, next_of}
 use Rattle.std.specs.declared.alloc.AllocError.{AllocError}

@@ -2,7 +2,7 @@
 use Rattle.std.proofs.Common.{◌≡◌, List, [], ◌∷◌, refl, sym, ap, ◌∙◌}
 use Rattle.w_syntax.specs.Code.{Code, Done, Plain, Block, If, IfElse}
 use Rattle.w_types.specs.Rows.{Row, ε, ◌▹◌, ◌⧺◌}
-use Rattle.w_types.specs.declared.value.Value.{Value}
+use Rattle.w_reduce.specs.Values.{Val}
 use Rattle.w_reduce.specs.Terms.{Administrative, Rest, Label, Frame, Context, Term}
 use Rattle.w_reduce.specs.Reduced.{Went}
 use Rattle.w_reduce.specs.Reduce.{reduce}
@@ -36,7 +36,7 @@ rest_in (InLabel n again y ∙∙ x) = record { ahead = []; code = Done }
 rest_in (InFrame n ls y ∙∙ x) = record { ahead = []; code = Done }
 
 -- a sequence, at the hole of e and after vs, taken apart
-apart : Context → Row Value → Sequence → Term
+apart : Context → Row Val → Sequence → Term
 apart e vs Nil = record { around = e; operands = vs; rest = record { ahead = []; code = Done } }
 apart e vs (Const v ∙∙ x) = apart e (vs ▹ v) x
 apart e vs (Admin a ∙∙ x) = record { around = e; operands = vs; rest = with_ahead a (rest_in x) }
@@ -44,7 +44,7 @@ apart e vs (Instr o ∙∙ x) = record { around = e; operands = vs; rest = recor
 apart e vs (InstrBlock kind b y ∙∙ x) = record { around = e; operands = vs; rest = record { ahead = []; code = Block kind b y (code_in x) } }
 apart e vs (InstrIf b y ∙∙ x) = record { around = e; operands = vs; rest = record { ahead = []; code = If b y (code_in x) } }
 apart e vs (InstrIfElse b y z ∙∙ x) = record { around = e; operands = vs; rest = record { ahead = []; code = IfElse b y z (code_in x) } }
-apart e vs (InLabel n again y ∙∙ x) = apart (Label vs n again (rest_in x) ∷ e) ε y
+apart e vs (InLabel n again y ∙∙ x) = apart (Label vs n again (code_in x) ∷ e) ε y
 apart e vs (InFrame n ls y ∙∙ x) = apart (Frame vs n ls (rest_in x) ∷ e) ε y
 
 code_written : (c : Code) → code_in (instructions_of c) ≡ c
@@ -68,7 +68,7 @@ unfolding rest_in with_ahead
 rest_written [] c = only_code c
 rest_written (a ∷ as2) c = ap (with_ahead a) (rest_written as2 c)
 
-apart_rest : (e : Context) (vs : Row Value) (ahead : List Administrative) (c : Code) → apart e vs (admin_then ahead (instructions_of c)) ≡ record { around = e; operands = vs; rest = record { ahead = ahead; code = c } }
+apart_rest : (e : Context) (vs : Row Val) (ahead : List Administrative) (c : Code) → apart e vs (admin_then ahead (instructions_of c)) ≡ record { around = e; operands = vs; rest = record { ahead = ahead; code = c } }
 unfolding apart with_ahead
 apart_rest e vs [] Done = refl
 apart_rest e vs [] (Plain o c) = ap (λ (d : Code). let t : Term = record { around = e; operands = vs; rest = record { ahead = []; code = Plain o d } } in t) (code_written c)
@@ -77,7 +77,7 @@ apart_rest e vs [] (If b x c) = ap (λ (d : Code). let t : Term = record { aroun
 apart_rest e vs [] (IfElse b x y c) = ap (λ (d : Code). let t : Term = record { around = e; operands = vs; rest = record { ahead = []; code = IfElse b x y d } } in t) (code_written c)
 apart_rest e vs (a ∷ as2) c = ap (λ (r : Rest). let t : Term = record { around = e; operands = vs; rest = with_ahead a r } in t) (rest_written as2 c)
 
-apart_values : (e : Context) (vs : Row Value) (ws : Row Value) (x : Sequence) → apart e vs (values_then ws x) ≡ apart e (vs ⧺ ws) x
+apart_values : (e : Context) (vs : Row Val) (ws : Row Val) (x : Sequence) → apart e vs (values_then ws x) ≡ apart e (vs ⧺ ws) x
 unfolding apart
 apart_values e vs ε x = refl
 apart_values e vs (ws ▹ w) x = apart_values e vs ws (Const w ∙∙ x)
@@ -86,9 +86,9 @@ apart_filled : (e : Context) (x : Sequence) → apart [] ε (plugged e x) ≡ ap
 unfolding apart
 apart_filled [] x = refl
 apart_filled (Label below n again rest ∷ e) x =
-    apart_filled e (values_then below (InLabel n again x ∙∙ sequence_of rest))
-    ∙ apart_values e ε below (InLabel n again x ∙∙ sequence_of rest)
-    ∙ rw (unit_left below, rest_written rest.ahead rest.code) refl
+    apart_filled e (values_then below (InLabel n again x ∙∙ instructions_of rest))
+    ∙ apart_values e ε below (InLabel n again x ∙∙ instructions_of rest)
+    ∙ rw (unit_left below, code_written rest) refl
 apart_filled (Frame below n ls rest ∷ e) x =
     apart_filled e (values_then below (InFrame n ls x ∙∙ sequence_of rest))
     ∙ apart_values e ε below (InFrame n ls x ∙∙ sequence_of rest)
@@ -105,8 +105,8 @@ pub decomposes : Decomposes
 decomposes t t' p = sym (apart_tree t) ∙ ap (λ x. apart [] ε x) p ∙ apart_tree t'
 
 pub deterministic : Deterministic
-deterministic m s s' s'' T T' T'' r r' =
+deterministic p s s' s'' T T' T'' out out' r r' =
     let e : r.before ≡ r'.before = decomposes r.before r'.before (sym r.from ∙ r'.from) in
-    let q : Went s' r.after ≡ Went s'' r'.after = sym r.rule ∙ ap (λ t. reduce m s t) e ∙ r'.rule in
+    let q : Went out s' r.after ≡ Went out' s'' r'.after = sym r.rule ∙ ap (λ t. reduce p s t) e ∙ r'.rule in
     let after : r.after ≡ r'.after = cc q in
-    (cc q, r.to ∙ ap tree after ∙ sym r'.to)
+    (cc q, cc q, r.to ∙ ap tree after ∙ sym r'.to)

@@ -1,48 +1,73 @@
--- Control instructions, and function calls (Core, execution, control instructions and function calls).
-use Rattle.std.specs.Prelude.{ℕ, List, ◌∷◌, ◌++◌, length, map, flat_map, replicate, Option, Some, slice_get}
-use Rattle.w_types.specs.Rows.{Row, ε, listed}
-use Rattle.w_types.specs.Values.{default_of}
-use Rattle.w_types.specs.declared.types.FuncType.{FuncType}
-use Rattle.w_types.specs.declared.value.Value.{Value}
-use Rattle.w_syntax.specs.Code.{Code, Done}
-use Rattle.w_syntax.specs.Functions.{type_of_function, code_of_function}
+-- Control instructions that hold no others (Core, execution, control instructions).
+use Rattle.std.specs.Prelude.{ℕ, zero, suc, Bool, if◌then◌else◌, Option, Some, None, slice_get}
+use Rattle.w_types.specs.Rows.{Row, ◌▹◌}
+use Rattle.w_syntax.specs.Code.{Code}
 use Rattle.w_syntax.specs.declared.instructions.ControlOp.{ControlOp}
 use Rattle.w_syntax.specs.declared.instructions.ControlOp.TheVariants as control
-use Rattle.w_syntax.specs.declared.module.Func.{Func}
-use Rattle.w_syntax.specs.declared.locals.LocalRun.{LocalRun}
-use Rattle.w_syntax.specs.declared.module.Module.{Module}
-use Rattle.w_reduce.specs.Store.{Function, Defined, Store}
-use Rattle.w_reduce.specs.Terms.{Rest, rest_of, Label, Frame, Context}
-use Rattle.w_reduce.specs.Reduced.{Reduced, Stuck, steps_to, ◌>>=◌, or_stuck, take_values}
+use Rattle.w_rules.specs.Spaces.{functions_of}
+use Rattle.w_reduce.specs.declared.trap.Trap.TheVariants as trap
+use Rattle.w_reduce.specs.Values.{Val}
+use Rattle.w_reduce.specs.Store.{Store}
+use Rattle.w_reduce.specs.Terms.{rest_of, Context}
+use Rattle.w_reduce.specs.Program.{Program}
+use Rattle.w_reduce.specs.Branches.{branch, returns}
+use Rattle.w_reduce.specs.Calls.{invoke}
+use Rattle.w_reduce.specs.Reference.{by_null}
+use Rattle.w_reduce.specs.Reduced.{Reduced, Trapped, steps_to, ◌>>=◌, or_stuck, or_trap, take_value, take_i32, as_function}
 
--- what the locals of these runs begin with; a local without a default value is not set
-abbrev pub defaults : List LocalRun → List (Option Value)
-defaults = flat_map (λ (r : LocalRun). replicate r.count (default_of r.kind))
+-- the first where the number isn't 0, and else the second
+abbrev pub unless_zero : ℕ → Reduced → Reduced → Reduced
+unless_zero zero taken passed = passed
+unless_zero (suc n) taken passed = taken
 
-abbrev pub type_of : Module → Function → Option FuncType
-type_of m (Defined i) = type_of_function m i
+-- the label of this number, and the last one where there are fewer
+abbrev pub label_in : Option ℕ → ℕ → ℕ
+label_in (Some l) last = l
+label_in None last = last
 
-abbrev pub code_of : Module → Function → Option Func
-code_of m (Defined i) = code_of_function m i
+-- the function of address a is of a type equivalent to type y
+abbrev pub unless_mismatch : Bool → Reduced → Reduced
+unless_mismatch fits go = if fits then go else Trapped trap.CallTypeMismatch
 
--- v^n (invoke f)  ↪  frame_k{v^n, default^t} label_k{} body end end
--- where f has n parameters, k results, and locals of types t
-abbrev pub enter : Module → Store → Context → Row Value → Function → Rest → Reduced
-enter m s e vs f rest = do
-  t ← or_stuck (type_of m f)
-  code ← or_stuck (code_of m f)
-  (below, args) ← take_values (length t.params) vs
-  let k = length t.results in
-      steps_to s (Label ε k Done (rest_of Done) ∷ Frame below k (map (λ (v : Value). Some v) (listed args) ++ defaults code.locals) rest ∷ e) ε (rest_of code.body)
+-- v^n (i32.const i) (call_indirect x y)  ↪  v^n (invoke a), and that is reduced at once
+-- where element i of table x is a function of address a, whose type is equivalent to y
+abbrev pub call_indirect : Program → Store → Context → Row Val → ℕ → ℕ → Code → Reduced
+call_indirect p s e vs y x c = do
+  (vs, i) ← take_i32 vs
+  table ← or_stuck (slice_get s.tables x)
+  r ← or_trap trap.UndefinedElement (slice_get table.elements i)
+  a ← as_function trap.NullElement r
+  z ← or_stuck (slice_get (functions_of p.source) a)
+  unless_mismatch (p.same z y) (invoke p s e vs a (rest_of c))
 
--- (invoke a), where the function of this address is f
-abbrev pub invoke : Module → Store → Context → Row Value → ℕ → Rest → Reduced
-invoke m s e vs a rest = do
-  f ← or_stuck (slice_get s.functions a)
-  enter m s e vs f rest
-
-abbrev pub control_op : Module → Store → Context → Row Value → ControlOp → Code → Reduced
--- v^n (call x)  ↪  v^n (invoke x), and that is reduced at once
-control_op m s e vs (control.Call x) c = invoke m s e vs x (rest_of c)
--- no rule yet
-control_op m s e vs o c = Stuck
+abbrev pub control_op : Program → Store → Context → Row Val → ControlOp → Code → Reduced
+-- unreachable  ↪  trap
+control_op p s e vs control.Unreachable c = Trapped trap.Unreachable
+-- nop  ↪  ε
+control_op p s e vs control.Nop c = steps_to s e vs (rest_of c)
+control_op p s e vs (control.Br l) c = branch s l e vs
+-- (i32.const n) (br_if l)  ↪  (br l) where n isn't 0, and that is reduced at once; else ε
+control_op p s e vs (control.BrIf l) c = do
+  (vs, n) ← take_i32 vs
+  unless_zero n (branch s l e vs) (steps_to s e vs (rest_of c))
+-- (i32.const i) (br_table l* l)  ↪  (br l*[i]), and (br l) where there is no such label
+control_op p s e vs (control.BrTable ls l) c = do
+  (vs, i) ← take_i32 vs
+  branch s (label_in (slice_get ls i) l) e vs
+control_op p s e vs control.Return c = returns s e vs
+-- ref (br_on_null l)  ↪  (br l) where it is null, and that is reduced at once; else ref
+control_op p s e vs (control.BrOnNull l) c = do
+  (vs, r) ← take_value vs
+  by_null r (branch s l e vs) (steps_to s e (vs ▹ r) (rest_of c))
+-- ref (br_on_non_null l)  ↪  ε where it is null; else ref (br l), and that is reduced at once
+control_op p s e vs (control.BrOnNonNull l) c = do
+  (vs, r) ← take_value vs
+  by_null r (steps_to s e vs (rest_of c)) (branch s l e (vs ▹ r))
+-- v^n (call x)  ↪  v^n (invoke a), and that is reduced at once; a is the address of function x, its index
+control_op p s e vs (control.Call x) c = invoke p s e vs x (rest_of c)
+control_op p s e vs (control.CallIndirect y x) c = call_indirect p s e vs y x c
+-- v^n (ref.func a) (call_ref y)  ↪  v^n (invoke a), and that is reduced at once; a trap at null
+control_op p s e vs (control.CallRef y) c = do
+  (vs, r) ← take_value vs
+  a ← as_function trap.NullReference r
+  invoke p s e vs a (rest_of c)

@@ -1,14 +1,14 @@
 -- Exits of labels and frames (Core, execution, control instructions and function calls).
 use Rattle.std.specs.Prelude.{nat_eq, if◌then◌else◌, [], ◌∷◌}
 use Rattle.w_types.specs.Rows.{Row, ◌⧺◌, size}
-use Rattle.w_types.specs.declared.value.Value.{Value}
+use Rattle.w_reduce.specs.Values.{Val}
 use Rattle.w_reduce.specs.Store.{Store}
-use Rattle.w_reduce.specs.Terms.{Label, Frame, Context}
+use Rattle.w_reduce.specs.Terms.{rest_of, Label, Frame, Context}
 use Rattle.w_reduce.specs.Reduced.{Reduced, Ended, Stuck, steps_to}
 
-abbrev pub leave : Store → Context → Row Value → Reduced
+abbrev pub leave : Store → Context → Row Val → Reduced
 leave s [] vs = Ended vs
 -- label_n{again} v* end  ↪  v*
-leave s (Label below n again rest ∷ e) vs = steps_to s e (below ⧺ vs) rest
+leave s (Label below n again rest ∷ e) vs = steps_to s e (below ⧺ vs) (rest_of rest)
 -- frame_n{} v^n end  ↪  v^n
 leave s (Frame below n locals rest ∷ e) vs = if nat_eq (size vs) n then steps_to s e (below ⧺ vs) rest else Stuck

@@ -2,43 +2,55 @@
 -- writes it; here they are one reduction of a term.
 use Rattle.std.specs.Prelude.{nat_le, if◌then◌else◌, List, [], ◌∷◌}
 use Rattle.w_types.specs.Rows.{Row}
-use Rattle.w_types.specs.declared.value.Value.{Value}
-use Rattle.w_syntax.specs.Code.{Code, Done, Plain}
+use Rattle.w_syntax.specs.Code.{Code, Done, Plain, Block, If, IfElse}
 use Rattle.w_syntax.specs.declared.instructions.Op.{Op}
 use Rattle.w_syntax.specs.declared.instructions.Op.TheVariants as op
-use Rattle.w_syntax.specs.declared.module.Module.{Module}
 use Rattle.w_reduce.specs.declared.limit.RunLimit.TheVariants.{Frames}
+use Rattle.w_reduce.specs.Values.{Val}
 use Rattle.w_reduce.specs.Store.{Store}
 use Rattle.w_reduce.specs.Terms.{Administrative, Invoke, Context, Term, frames, most_frames}
-use Rattle.w_reduce.specs.Reduced.{Reduced, Went, Limited, Ended, Stuck}
+use Rattle.w_reduce.specs.Program.{Program}
+use Rattle.w_reduce.specs.Reduced.{Reduced, Went, Trapped, Limited, Ended, Stuck}
 use Rattle.w_reduce.specs.Numeric.{numeric_op}
 use Rattle.w_reduce.specs.Parametric.{parametric_op}
-use Rattle.w_reduce.specs.Control.{control_op, invoke}
+use Rattle.w_reduce.specs.Variable.{variable_op}
+use Rattle.w_reduce.specs.Reference.{reference_op}
+use Rattle.w_reduce.specs.Memories.{memory_op}
+use Rattle.w_reduce.specs.Tables.{table_op}
+use Rattle.w_reduce.specs.Branches.{block, choice}
+use Rattle.w_reduce.specs.Calls.{invoke}
+use Rattle.w_reduce.specs.Control.{control_op}
 use Rattle.w_reduce.specs.Exits.{leave}
 
--- an instruction, with the code behind it
-abbrev pub instruction : Module → Store → Context → Row Value → Op → Code → Reduced
-instruction m s e vs (op.Control o) c = control_op m s e vs o c
-instruction m s e vs (op.Parametric o) c = parametric_op s e vs o c
-instruction m s e vs (op.Numeric o) c = numeric_op s e vs o c
+-- an instruction that holds no others, with the code behind it
+abbrev pub instruction : Program → Store → Context → Row Val → Op → Code → Reduced
+instruction p s e vs (op.Control o) c = control_op p s e vs o c
+instruction p s e vs (op.Parametric o) c = parametric_op s e vs o c
+instruction p s e vs (op.Variable o) c = variable_op s e vs o c
+instruction p s e vs (op.Memory o) c = memory_op s e vs o c
+instruction p s e vs (op.Table o) c = table_op s e vs o c
+instruction p s e vs (op.Numeric o) c = numeric_op s e vs o c
+instruction p s e vs (op.Reference o) c = reference_op s e vs o c
 -- no rule yet
-instruction m s e vs o c = Stuck
+instruction p s e vs o c = Stuck
 
 -- what comes next at the hole of a context
-abbrev pub next : Module → Store → Context → Row Value → List Administrative → Code → Reduced
-next m s e vs (Invoke a ∷ ahead) c = invoke m s e vs a (record { ahead = ahead; code = c })
-next m s e vs [] (Plain o c) = instruction m s e vs o c
-next m s e vs [] Done = leave s e vs
--- no rule yet
-next m s e vs [] c = Stuck
+abbrev pub next : Program → Store → Context → Row Val → List Administrative → Code → Reduced
+next p s e vs (Invoke a ∷ ahead) c = invoke p s e vs a (record { ahead = ahead; code = c })
+next p s e vs [] (Plain o c) = instruction p s e vs o c
+next p s e vs [] (Block k b x c) = block p s e vs k b x c
+next p s e vs [] (If b x c) = choice p s e vs b x Done c
+next p s e vs [] (IfElse b x y c) = choice p s e vs b x y c
+next p s e vs [] Done = leave s e vs
 
 -- a result with more frames than the most is none
 abbrev pub limited : Reduced → Reduced
-limited (Went s t) = if nat_le (frames t.around) most_frames then Went s t else Limited Frames
+limited (Went out s t) = if nat_le (frames t.around) most_frames then Went out s t else Limited Frames
+limited (Trapped t) = Trapped t
 limited (Limited name) = Limited name
 limited (Ended vs) = Ended vs
 limited Stuck = Stuck
 
 -- one reduction of a term
-abbrev pub reduce : Module → Store → Term → Reduced
-reduce m s t = limited (next m s t.around t.operands t.rest.ahead t.rest.code)
+abbrev pub reduce : Program → Store → Term → Reduced
+reduce p s t = limited (next p s t.around t.operands t.rest.ahead t.rest.code)

@@ -1,20 +1,21 @@
 -- The store (Core, execution, store).
-use Rattle.std.specs.Prelude.{ℕ, zero, suc, List, [], ◌∷◌, ◌++◌, length}
-use Rattle.w_syntax.specs.declared.module.Module.{Module}
+use Rattle.std.specs.Prelude.{ℕ, List, Option}
+use Rattle.w_memory.specs.Memory.{Memory}
+use Rattle.w_tables.specs.declared.entries.FuncEntry.{FuncEntry}
+use Rattle.w_reduce.specs.Values.{Val}
 
--- A function of the store: that of the module with this index.
-pub data Function : Type 0 where
-  Defined : ℕ → Function
+-- A table instance: its elements, and the maximum of its type.
+pub record Table : Type 0 where
+  pub elements : List Val
+  pub max : Option ℕ
 
--- What a program shares while it runs. An address is a place of its list.
+-- What a program shares while it runs. An address is a place of its list. A segment that was dropped has nothing left.
 pub record Store : Type 0 where
-  pub functions : List Function
-
--- the first n functions of the module, in order
-abbrev pub defined : ℕ → List Function
-defined zero = []
-defined (suc n) = defined n ++ Defined n ∷ []
-
--- the first store: the module's functions
-abbrev pub start_store : Module → Store
-start_store m = record { functions = defined (length m.functions) }
+  pub functions : List FuncEntry
+  pub tables : List Table
+  pub memories : List Memory
+  pub globals : List Val
+  -- the indices of the tags' types
+  pub tags : List ℕ
+  pub elements : List (List Val)
+  pub datas : List (List ℕ)

@@ -5,9 +5,9 @@ use Rattle.w_syntax.specs.Code.{Code, Done, Plain, Block, If, IfElse}
 use Rattle.w_syntax.specs.declared.instructions.Op.{Op}
 use Rattle.w_syntax.specs.declared.instructions.BlockKind.{BlockKind}
 use Rattle.w_syntax.specs.declared.instructions.BlockType.{BlockType}
-use Rattle.w_syntax.specs.declared.module.Module.{Module}
+use Rattle.w_reduce.specs.Program.{Program}
 use Rattle.w_types.specs.Rows.{Row, ε, ◌▹◌}
-use Rattle.w_types.specs.declared.value.Value.{Value}
+use Rattle.w_reduce.specs.Values.{Val}
 use Rattle.w_reduce.specs.Store.{Store}
 use Rattle.w_reduce.specs.Terms.{Administrative, Rest, Label, Frame, Context, Term}
 use Rattle.w_reduce.specs.Reduced.{Went}
@@ -16,21 +16,21 @@ use Rattle.w_reduce.specs.Reduce.{reduce}
 infixr 50 ◌∙∙◌
 mutual
   pub data AdminInstr : Type 0 where
-    Const : Value → AdminInstr
+    Const : Val → AdminInstr
     Admin : Administrative → AdminInstr
     Instr : Op → AdminInstr
     InstrBlock : BlockKind → BlockType → (inside : Code) → AdminInstr
     InstrIf : BlockType → (inside : Code) → AdminInstr
     InstrIfElse : BlockType → (first second : Code) → AdminInstr
     InLabel : (arity : ℕ) (again : Code) (body : Sequence) → AdminInstr
-    InFrame : (arity : ℕ) (locals : List (Option Value)) (body : Sequence) → AdminInstr
+    InFrame : (arity : ℕ) (locals : List (Option Val)) (body : Sequence) → AdminInstr
 
   pub data Sequence : Type 0 where
     Nil : Sequence
     ◌∙∙◌ : AdminInstr → Sequence → Sequence
 
 -- values in front of a sequence
-abbrev pub values_then : Row Value → Sequence → Sequence
+abbrev pub values_then : Row Val → Sequence → Sequence
 values_then ε x = x
 values_then (vs ▹ v) x = values_then vs (Const v ∙∙ x)
 
@@ -51,19 +51,19 @@ sequence_of r = admin_then r.ahead (instructions_of r.code)
 -- E[x], a sequence put at the hole of a context
 abbrev pub plugged : Context → Sequence → Sequence
 plugged [] x = x
-plugged (Label below n again rest ∷ e) x = plugged e (values_then below (InLabel n again x ∙∙ sequence_of rest))
+plugged (Label below n again rest ∷ e) x = plugged e (values_then below (InLabel n again x ∙∙ instructions_of rest))
 plugged (Frame below n locals rest ∷ e) x = plugged e (values_then below (InFrame n locals x ∙∙ sequence_of rest))
 
 abbrev pub tree : Term → Sequence
 tree t = plugged t.around (values_then t.operands (sequence_of t.rest))
 
--- one reduction, on terms as the standard writes them: T = E[r], T' = E[r'], and r goes to r'
-pub record Reduces (m : Module) (s : Store) (T : Sequence) (s' : Store) (T' : Sequence) : Type 0 where
+-- one reduction, on terms as the standard writes them: T = E[r], T' = E[r'], and r goes to r', printing these bytes
+pub record Reduces (p : Program) (s : Store) (T : Sequence) (printed : List ℕ) (s' : Store) (T' : Sequence) : Type 0 where
   pub before : Term
   pub after : Term
   pub from : T ≡ tree before
   pub to : T' ≡ tree after
-  pub rule : reduce m s before ≡ Went s' after
+  pub rule : reduce p s before ≡ Went printed s' after
 
 -- a term is E[r] in one way only
 abbrev pub Decomposes : Type 0
@@ -71,4 +71,4 @@ Decomposes = (t t' : Term) → tree t ≡ tree t' → t ≡ t'
 
 -- so at most one rule applies, with one result
 abbrev pub Deterministic : Type 0
-Deterministic = (m : Module) (s s' s'' : Store) (T T' T'' : Sequence) → Reduces m s T s' T' → Reduces m s T s'' T'' → (s' ≡ s'') × (T' ≡ T'')
+Deterministic = (p : Program) (s s' s'' : Store) (T T' T'' : Sequence) (out out' : List ℕ) → Reduces p s T out s' T' → Reduces p s T out' s'' T'' → (out ≡ out') × (s' ≡ s'') × (T' ≡ T'')

@@ -3,6 +3,8 @@
 
 mod laws;
 mod limit;
+mod trap;
 
 pub use laws::{decomposes, deterministic};
-pub use limit::RunLimit;
+pub use limit::{RunLimit, StartLimit};
+pub use trap::Trap;

@@ -6,3 +6,12 @@ pub enum RunLimit {
     /// Frames of a term: 20,000.
     Frames,
 }
+
+/// A quantity that has a limit where a run begins.
+#[derive(Clone, Copy, Debug, PartialEq, Eq)]
+pub enum StartLimit {
+    /// Pages of a memory: 256.
+    Memory,
+    /// Elements of a table: 1,048,576.
+    Table,
+}

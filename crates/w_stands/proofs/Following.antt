@@ -13,10 +13,10 @@ use Rattle.w_segment.specs.Changes.{moved}
 use Rattle.w_segment.specs.Holds.{AllOf, LevelsHold, Holds}
 use Rattle.w_segment.proofs.Holding.{all_append, all_drop}
 use Rattle.w_tables.specs.Store as instances
-use Rattle.w_reductions.specs.Terms.{rest_of, Context}
-use Rattle.w_reductions.specs.Program.{Program, IsProgram}
-use Rattle.w_reductions.specs.Reduced.{Went, Trapped, Stuck}
-use Rattle.w_reductions.specs.declared.trap.Trap.{Trap}
+use Rattle.w_reduce.specs.Terms.{rest_of, Context}
+use Rattle.w_reduce.specs.Program.{Program, IsProgram}
+use Rattle.w_reduce.specs.Reduced.{Went, Trapped, Stuck}
+use Rattle.w_reduce.specs.declared.trap.Trap.{Trap}
 use Rattle.w_stands.specs.Values.{stack, store_of}
 use Rattle.w_stands.specs.Code.{instr_of}
 use Rattle.w_stands.specs.declared.did.Did.TheVariants as did

@@ -6,8 +6,8 @@ use Rattle.w_types.specs.declared.value.Value.{Value}
 use Rattle.w_syntax.specs.declared.module.Module.{Module}
 use Rattle.w_segment.specs.Shape.{Level, Frame, locals_of}
 use Rattle.w_segment.specs.Changes.{with_local}
-use Rattle.w_reductions.specs.Values.{Val, val}
-use Rattle.w_reductions.specs.Terms.{Rest, rest_of, Frame as InFrame, Context, locals_of as locals_in, with_local as with_local_in}
+use Rattle.w_reduce.specs.Values.{Val, val}
+use Rattle.w_reduce.specs.Terms.{Rest, rest_of, Frame as InFrame, Context, locals_of as locals_in, with_local as with_local_in}
 use Rattle.w_stands.specs.Values.{stack, local_vals}
 use Rattle.w_stands.specs.Stands.{Around, label, frame, outermost}
 

@@ -3,7 +3,7 @@ use Rattle.std.proofs.Common.{◌≡◌, ℕ, ◌<◌, List, length, map, Option
 use Rattle.std.specs.Prelude.{◌≢◌}
 use Rattle.std.proofs.lemmas.List.{length-map}
 use Rattle.std.proofs.lemmas.Option.{slice_get_within}
-use Rattle.w_reductions.specs.Reduced.{Reduced, Stuck, or_stuck}
+use Rattle.w_reduce.specs.Reduced.{Reduced, Stuck, or_stuck}
 
 -- it is there, and with it a rule applies
 pub record Found {A : Type 0} (o : Option A) (go : A → Reduced) : Type 0 where

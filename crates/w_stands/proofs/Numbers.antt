@@ -6,8 +6,8 @@ use Rattle.w_types.specs.declared.value.Value.{Value}
 use Rattle.w_types.specs.declared.value.Value.TheVariants as value
 use Rattle.w_syntax.specs.declared.numeric.IntType.{IntType}
 use Rattle.w_syntax.specs.declared.numeric.IntType.TheVariants as int
-use Rattle.w_reductions.specs.Values.{Val, val}
-use Rattle.w_reductions.specs.Reduced.{Reduced, Stuck, take_number, number}
+use Rattle.w_reduce.specs.Values.{Val, val}
+use Rattle.w_reduce.specs.Reduced.{Reduced, Stuck, take_number, number}
 use Rattle.w_stands.specs.Values.{stack}
 use Rattle.w_stands.specs.Numbers.{IsNumber, bits_in, value_of}
 

@@ -7,7 +7,7 @@ use Rattle.w_syntax.specs.declared.instructions.Op.{Op}
 use Rattle.w_syntax.specs.declared.module.Module.{Module}
 use Rattle.w_segment.specs.declared.entry.Stage.TheVariants.{Body}
 use Rattle.w_segment.specs.Shape.{Shape, Level}
-use Rattle.w_reductions.specs.Terms.{Rest, rest_of, Context}
+use Rattle.w_reduce.specs.Terms.{Rest, rest_of, Context}
 use Rattle.w_stands.specs.Code.{instrs, IsMark, Reads, stop, plain, block, choice, choices}
 use Rattle.w_stands.specs.Stands.{Around, In, body, fresh, values}
 

@@ -3,8 +3,8 @@ use Rattle.std.proofs.Common.{◌≡◌, List, [], ◌∷◌, ◌++◌, length, 
 use Rattle.std.specs.Prelude.{◌≢◌}
 use Rattle.w_types.specs.Rows.{Row}
 use Rattle.w_types.specs.declared.value.Value.{Value}
-use Rattle.w_reductions.specs.Values.{Val, val}
-use Rattle.w_reductions.specs.Reduced.{Reduced, Stuck}
+use Rattle.w_reduce.specs.Values.{Val, val}
+use Rattle.w_reduce.specs.Reduced.{Reduced, Stuck}
 use Rattle.w_stands.specs.Numbers.{IsNumber, bits_in}
 use Rattle.w_stands.specs.Values.{stack}
 use Rattle.w_stands.specs.Taking.{Kind, Number, Any, Taken, Bits, Is, taking, AreOf, taken_of}

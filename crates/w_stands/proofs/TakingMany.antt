@@ -3,8 +3,8 @@ use Rattle.std.proofs.Common.{◌≡◌, ℕ, zero, suc, ◌≤◌, List, [], �
 use Rattle.std.specs.Prelude.{◌≢◌}
 use Rattle.w_types.specs.Rows.{Row, ◌▹◌, ◌⧺◌}
 use Rattle.w_types.specs.declared.value.Value.{Value}
-use Rattle.w_reductions.specs.Values.{Val, val}
-use Rattle.w_reductions.specs.Reduced.{Reduced, Stuck, take_values}
+use Rattle.w_reduce.specs.Values.{Val, val}
+use Rattle.w_reduce.specs.Reduced.{Reduced, Stuck, take_values}
 use Rattle.w_stands.specs.Values.{stack}
 
 -- where there are so many, a rule goes on with them and those beneath

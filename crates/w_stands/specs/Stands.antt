@@ -5,7 +5,7 @@ use Rattle.w_syntax.specs.Code.{Code, after}
 use Rattle.w_syntax.specs.declared.module.Module.{Module}
 use Rattle.w_segment.specs.declared.entry.Stage.TheVariants.{Fresh, Body, Values}
 use Rattle.w_segment.specs.Shape.{Shape, Level, Label, Frame}
-use Rattle.w_reductions.specs.Terms.{Invoke, Rest, rest_of, Label as InLabel, Frame as InFrame, Context}
+use Rattle.w_reduce.specs.Terms.{Invoke, Rest, rest_of, Label as InLabel, Frame as InFrame, Context}
 use Rattle.w_stands.specs.Values.{stack, local_vals}
 use Rattle.w_stands.specs.Code.{instrs, Reads, Behind}
 

@@ -5,10 +5,10 @@ use Rattle.w_syntax.specs.declared.module.Module.{Module}
 use Rattle.w_segment.specs.declared.entry.Stage.TheVariants.{Body}
 use Rattle.w_segment.specs.Shape.{Shape}
 use Rattle.w_tables.specs.Store as instances
-use Rattle.w_reductions.specs.Terms.{Rest, Context}
-use Rattle.w_reductions.specs.Program.{Program, IsProgram}
-use Rattle.w_reductions.specs.Reduced.{Reduced, Went, Trapped, Stuck}
-use Rattle.w_reductions.specs.Reduce.{next}
+use Rattle.w_reduce.specs.Terms.{Rest, Context}
+use Rattle.w_reduce.specs.Program.{Program, IsProgram}
+use Rattle.w_reduce.specs.Reduced.{Reduced, Went, Trapped, Stuck}
+use Rattle.w_reduce.specs.Reduce.{next}
 use Rattle.w_stands.specs.declared.did.Did.{Did}
 use Rattle.w_stands.specs.declared.did.Did.TheVariants as did
 use Rattle.w_stands.specs.Values.{stack, store_of}

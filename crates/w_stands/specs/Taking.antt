@@ -5,12 +5,12 @@ use Rattle.w_types.specs.declared.value.Value.{Value}
 use Rattle.w_syntax.specs.Code.{Code}
 use Rattle.w_syntax.specs.declared.numeric.IntType.{IntType}
 use Rattle.w_syntax.specs.declared.instructions.Op.{Op}
-use Rattle.w_reductions.specs.Values.{Val, val}
-use Rattle.w_reductions.specs.Store.{Store}
-use Rattle.w_reductions.specs.Terms.{Context}
-use Rattle.w_reductions.specs.Program.{Program}
-use Rattle.w_reductions.specs.Reduced.{Reduced, take_number, take_value}
-use Rattle.w_reductions.specs.Reduce.{instruction}
+use Rattle.w_reduce.specs.Values.{Val, val}
+use Rattle.w_reduce.specs.Store.{Store}
+use Rattle.w_reduce.specs.Terms.{Context}
+use Rattle.w_reduce.specs.Program.{Program}
+use Rattle.w_reduce.specs.Reduced.{Reduced, take_number, take_value}
+use Rattle.w_reduce.specs.Reduce.{instruction}
 use Rattle.w_stands.specs.Numbers.{IsNumber, bits_in}
 
 -- which operand a rule takes: a number of a type, or any value

@@ -4,8 +4,8 @@ use Rattle.std.specs.Option.{option_map}
 use Rattle.w_types.specs.Rows.{Row, ε, ◌▹◌}
 use Rattle.w_types.specs.declared.value.Value.{Value}
 use Rattle.w_tables.specs.Store as instances
-use Rattle.w_reductions.specs.Values.{Val, val}
-use Rattle.w_reductions.specs.Store.{Table, Store}
+use Rattle.w_reduce.specs.Values.{Val, val}
+use Rattle.w_reduce.specs.Store.{Table, Store}
 
 -- operands, the topmost first, as a row
 abbrev pub stack : List Value → Row Val

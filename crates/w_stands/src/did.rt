@@ -1,6 +1,6 @@
 //! What taking a reduction came to.
 
-use w_reductions::Trap;
+use w_reduce::Trap;
 
 /// What a call that takes a reduction came to: it was taken, or it traps, and then nothing was changed.
 #[derive(Clone, Copy, Debug, PartialEq, Eq)]

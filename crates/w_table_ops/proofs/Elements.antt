@@ -16,10 +16,10 @@ use Rattle.w_tables.specs.Elements.{get}
 use Rattle.w_tables.specs.Operations as on
 use Rattle.w_tables.specs.Operations.{table_grow}
 use Rattle.w_tables.specs.Store as instances
-use Rattle.w_reductions.specs.Values.{Val, I32, val}
-use Rattle.w_reductions.specs.Terms.{rest_of, Context}
-use Rattle.w_reductions.specs.Reduced.{Reduced, steps_to, or_trap}
-use Rattle.w_reductions.specs.declared.trap.Trap.TheVariants as trap
+use Rattle.w_reduce.specs.Values.{Val, I32, val}
+use Rattle.w_reduce.specs.Terms.{rest_of, Context}
+use Rattle.w_reduce.specs.Reduced.{Reduced, steps_to, or_trap}
+use Rattle.w_reduce.specs.declared.trap.Trap.TheVariants as trap
 use Rattle.w_stands.specs.Values.{stack, vals, table_of, store_of}
 use Rattle.w_stands.specs.Numbers.{bits_in}
 use Rattle.w_stands.specs.declared.did.Did.TheVariants as did

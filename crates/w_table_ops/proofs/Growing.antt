@@ -22,11 +22,11 @@ use Rattle.w_tables.specs.Outcomes.{growth}
 use Rattle.w_tables.specs.Operations as on
 use Rattle.w_tables.specs.Operations.{table_grow}
 use Rattle.w_tables.specs.Store as instances
-use Rattle.w_reductions.specs.Values.{Val, I32, val}
-use Rattle.w_reductions.specs.Store.{Store, Table}
-use Rattle.w_reductions.specs.Terms.{rest_of, Context}
-use Rattle.w_reductions.specs.Tables.{with_elements}
-use Rattle.w_reductions.specs.Reduced.{Reduced, steps_to}
+use Rattle.w_reduce.specs.Values.{Val, I32, val}
+use Rattle.w_reduce.specs.Store.{Store, Table}
+use Rattle.w_reduce.specs.Terms.{rest_of, Context}
+use Rattle.w_reduce.specs.Tables.{with_elements}
+use Rattle.w_reduce.specs.Reduced.{Reduced, steps_to}
 use Rattle.w_stands.specs.Values.{stack, vals, table_of, store_of}
 use Rattle.w_stands.specs.Numbers.{bits_in}
 use Rattle.w_stands.specs.declared.did.Did.TheVariants as did

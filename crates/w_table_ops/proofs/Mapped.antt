@@ -9,10 +9,10 @@ use Rattle.w_types.specs.declared.value.Value.{Value}
 use Rattle.w_tables.specs.Elements.{replaced, filled, copied, most_elements, grown}
 use Rattle.w_tables.specs.Operations as on
 use Rattle.w_tables.specs.Store as instances
-use Rattle.w_reductions.specs.Values.{Val, val}
-use Rattle.w_reductions.specs.Store.{Store, Table}
-use Rattle.w_reductions.specs.Tables.{with_elements, without_elements}
-use Rattle.w_reductions.specs.Variable.{with_global}
+use Rattle.w_reduce.specs.Values.{Val, val}
+use Rattle.w_reduce.specs.Store.{Store, Table}
+use Rattle.w_reduce.specs.Tables.{with_elements, without_elements}
+use Rattle.w_reduce.specs.Variable.{with_global}
 use Rattle.w_stands.specs.Values.{vals, table_of, store_of}
 use Rattle.w_stands.proofs.Locals.{mapped_get, mapped_set}
 

@@ -9,13 +9,13 @@ use Rattle.w_syntax.specs.declared.instructions.Op.TheVariants as op
 use Rattle.w_syntax.specs.declared.instructions.TableOp.TheVariants as table
 use Rattle.w_syntax.specs.declared.instructions.VariableOp.TheVariants as variable
 use Rattle.w_syntax.specs.declared.numeric.IntType.TheVariants as int
-use Rattle.w_reductions.specs.declared.trap.Trap.TheVariants as trap
-use Rattle.w_reductions.specs.Values.{Val, I32}
-use Rattle.w_reductions.specs.Store.{Store, Table}
-use Rattle.w_reductions.specs.Terms.{rest_of, Context}
-use Rattle.w_reductions.specs.Reduced.{Reduced, Stuck, steps_to, or_stuck, or_trap, take_value}
-use Rattle.w_reductions.specs.Tables.{with_elements, without_elements}
-use Rattle.w_reductions.specs.Variable.{with_global}
+use Rattle.w_reduce.specs.declared.trap.Trap.TheVariants as trap
+use Rattle.w_reduce.specs.Values.{Val, I32}
+use Rattle.w_reduce.specs.Store.{Store, Table}
+use Rattle.w_reduce.specs.Terms.{rest_of, Context}
+use Rattle.w_reduce.specs.Reduced.{Reduced, Stuck, steps_to, or_stuck, or_trap, take_value}
+use Rattle.w_reduce.specs.Tables.{with_elements, without_elements}
+use Rattle.w_reduce.specs.Variable.{with_global}
 use Rattle.w_stands.specs.Taking.{Kind, Number, Any, Bits, Is, Going, IsTaking}
 
 -- ## Writing to a table

@@ -8,10 +8,10 @@ use Rattle.w_segment.specs.Shape.{Shape}
 use Rattle.w_tables.specs.Operations as on
 use Rattle.w_tables.specs.Operations.{table_grow}
 use Rattle.w_tables.specs.Store as instances
-use Rattle.w_reductions.specs.Store.{Store}
-use Rattle.w_reductions.specs.Terms.{rest_of}
-use Rattle.w_reductions.specs.Tables.{without_elements}
-use Rattle.w_reductions.specs.Reduced.{steps_to}
+use Rattle.w_reduce.specs.Store.{Store}
+use Rattle.w_reduce.specs.Terms.{rest_of}
+use Rattle.w_reduce.specs.Tables.{without_elements}
+use Rattle.w_reduce.specs.Reduced.{steps_to}
 use Rattle.w_stands.specs.Values.{stack, vals, store_of}
 use Rattle.w_stands.specs.declared.did.Did.TheVariants as did
 use Rattle.w_stands.specs.Keeps.{KeepsAll}

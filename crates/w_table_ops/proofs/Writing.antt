@@ -12,13 +12,13 @@ use Rattle.w_segment.specs.Holds.{AllOf}
 use Rattle.w_tables.specs.Outcomes.{outcome}
 use Rattle.w_tables.specs.Operations as on
 use Rattle.w_tables.specs.Store as instances
-use Rattle.w_reductions.specs.Values.{Val}
-use Rattle.w_reductions.specs.Store.{Table}
-use Rattle.w_reductions.specs.Terms.{rest_of, Context}
-use Rattle.w_reductions.specs.Tables.{with_elements}
-use Rattle.w_reductions.specs.Program.{Program}
-use Rattle.w_reductions.specs.Reduced.{Reduced, Trapped, steps_to, or_stuck, or_trap}
-use Rattle.w_reductions.specs.declared.trap.Trap.TheVariants as trap
+use Rattle.w_reduce.specs.Values.{Val}
+use Rattle.w_reduce.specs.Store.{Table}
+use Rattle.w_reduce.specs.Terms.{rest_of, Context}
+use Rattle.w_reduce.specs.Tables.{with_elements}
+use Rattle.w_reduce.specs.Program.{Program}
+use Rattle.w_reduce.specs.Reduced.{Reduced, Trapped, steps_to, or_stuck, or_trap}
+use Rattle.w_reduce.specs.declared.trap.Trap.TheVariants as trap
 use Rattle.w_stands.specs.Values.{stack, vals, table_of, store_of}
 use Rattle.w_stands.specs.declared.did.Did.TheVariants as did
 use Rattle.w_stands.specs.Keeps.{StoreHolds, KeepsAll}

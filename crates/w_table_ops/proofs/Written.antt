@@ -12,8 +12,8 @@ use Rattle.w_tables.specs.Elements.{replaced, filled, copied}
 use Rattle.w_tables.specs.Operations as on
 use Rattle.w_tables.specs.Operations.{table_set, table_fill, table_copy, table_init}
 use Rattle.w_tables.specs.Store as instances
-use Rattle.w_reductions.specs.Values.{Val, val}
-use Rattle.w_reductions.specs.Store.{Table}
+use Rattle.w_reduce.specs.Values.{Val, val}
+use Rattle.w_reduce.specs.Store.{Table}
 use Rattle.w_stands.specs.Values.{vals, table_of}
 use Rattle.w_stands.specs.Numbers.{bits_in}
 use Rattle.w_stands.specs.Steps.{MovesAt}

@@ -9,7 +9,7 @@ ghost use Rattle.w_stands.specs.Steps.{MovesAt, Follows};
 ghost use Rattle.w_stands.specs.declared.did.Did.TheVariants as did;
 
 use std::alloc::AllocError;
-use w_reductions::Trap;
+use w_reduce::Trap;
 use w_segment::Stack;
 use w_stands::{Did, drop_next, i32_of, push_next, replace, top_three, top_two};
 use w_syntax::{Module, TableOp};

@@ -16,13 +16,13 @@ use Rattle.w_canon.specs.Matching.{RefMatches, ref}
 use Rattle.w_rules.specs.Conditions.{Holds}
 use Rattle.w_rules.specs.Spaces.{tables_of}
 use Rattle.w_rules.specs.Valid.{Valid, ElementItem, ElementValid, IsElemModeValid}
-use Rattle.w_reductions.specs.Values.{Val}
-use Rattle.w_reductions.specs.Store.{Store, Table}
-use Rattle.w_reductions.specs.Program.{Program}
-use Rattle.w_reductions.specs.Constants.{value_of, number_in}
-use Rattle.w_reductions.specs.Memories.{with_memory, without_data}
-use Rattle.w_reductions.specs.Tables.{with_elements, without_elements}
-use Rattle.w_reductions.specs.Start.{elements_put, elements_copied, element_started, data_put, data_copied, data_started, in_order}
+use Rattle.w_reduce.specs.Values.{Val}
+use Rattle.w_reduce.specs.Store.{Store, Table}
+use Rattle.w_reduce.specs.Program.{Program}
+use Rattle.w_reduce.specs.Constants.{value_of, number_in}
+use Rattle.w_reduce.specs.Memories.{with_memory, without_data}
+use Rattle.w_reduce.specs.Tables.{with_elements, without_elements}
+use Rattle.w_reduce.specs.Start.{elements_put, elements_copied, element_started, data_put, data_copied, data_started, in_order}
 use Rattle.w_typed.specs.Values.{AllTyped}
 use Rattle.w_typed.specs.Stores.{TableTyped, SegmentTyped, StoreTyped}
 use Rattle.w_typed.proofs.Elements.{all_copied, all_sub}

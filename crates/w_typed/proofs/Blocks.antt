@@ -18,12 +18,12 @@ use Rattle.w_rules.specs.Operands.{Operand}
 use Rattle.w_rules.specs.Types.{has_type}
 use Rattle.w_rules.specs.Typing.{HasType, Derives}
 use Rattle.w_rules.proofs.Preorder.{row_refl}
-use Rattle.w_reductions.specs.Values.{Val}
-use Rattle.w_reductions.specs.Store.{Store}
-use Rattle.w_reductions.specs.Terms.{rest_of, Context}
-use Rattle.w_reductions.specs.Program.{Program, Arity, arity_of, function_arity}
-use Rattle.w_reductions.specs.Reduced.{steps_to}
-use Rattle.w_reductions.specs.Branches.{block, label_of}
+use Rattle.w_reduce.specs.Values.{Val}
+use Rattle.w_reduce.specs.Store.{Store}
+use Rattle.w_reduce.specs.Terms.{rest_of, Context}
+use Rattle.w_reduce.specs.Program.{Program, Arity, arity_of, function_arity}
+use Rattle.w_reduce.specs.Reduced.{steps_to}
+use Rattle.w_reduce.specs.Branches.{block, label_of}
 use Rattle.w_typed.specs.Values.{ValuesTyped}
 use Rattle.w_typed.specs.Stores.{StoreTyped}
 use Rattle.w_typed.specs.Contexts.{Scope, in_scope, CodeTyped, code_alone, Subset, Within, label}

@@ -7,11 +7,11 @@ use Rattle.w_syntax.specs.declared.module.Module.{Module}
 use Rattle.w_rules.specs.Matching.{known}
 use Rattle.w_rules.specs.Operands.{Operand}
 use Rattle.w_rules.proofs.Preorder.{row_size}
-use Rattle.w_reductions.specs.Values.{Val}
-use Rattle.w_reductions.specs.Store.{Store}
-use Rattle.w_reductions.specs.Terms.{Context}
-use Rattle.w_reductions.specs.Branches.{branch, returns}
-use Rattle.w_reductions.specs.Exits.{leave}
+use Rattle.w_reduce.specs.Values.{Val}
+use Rattle.w_reduce.specs.Store.{Store}
+use Rattle.w_reduce.specs.Terms.{Context}
+use Rattle.w_reduce.specs.Branches.{branch, returns}
+use Rattle.w_reduce.specs.Exits.{leave}
 use Rattle.w_typed.specs.Values.{ValuesTyped, no_values, values}
 use Rattle.w_typed.specs.Stores.{StoreTyped}
 use Rattle.w_typed.specs.Contexts.{Scope, code_alone, Within, outside, label, frame}

@@ -23,12 +23,12 @@ use Rattle.w_rules.proofs.Preorder.{row_refl}
 use Rattle.w_tables.specs.declared.entries.FuncEntry.{FuncEntry}
 use Rattle.w_tables.specs.declared.entries.Printer.{Printer}
 use Rattle.w_tables.specs.declared.entries.Printer.TheVariants as printer
-use Rattle.w_reductions.specs.Values.{Val, Null, default_of}
-use Rattle.w_reductions.specs.Store.{Store}
-use Rattle.w_reductions.specs.Terms.{Rest, Context}
-use Rattle.w_reductions.specs.Program.{Program}
-use Rattle.w_reductions.specs.Printed.{printed_i32, printed_i64, printed_byte}
-use Rattle.w_reductions.specs.Calls.{defaults, enter, print, invoked, invoke}
+use Rattle.w_reduce.specs.Values.{Val, Null, default_of}
+use Rattle.w_reduce.specs.Store.{Store}
+use Rattle.w_reduce.specs.Terms.{Rest, Context}
+use Rattle.w_reduce.specs.Program.{Program}
+use Rattle.w_reduce.specs.Printed.{printed_i32, printed_i64, printed_byte}
+use Rattle.w_reduce.specs.Calls.{defaults, enter, print, invoked, invoke}
 use Rattle.w_typed.specs.Values.{ValueTyped, an_i32, an_i64, a_null, a_value, ValuesTyped, no_values, values}
 use Rattle.w_typed.specs.Stores.{StoreTyped, EntryTyped, own, host, printed_type}
 use Rattle.w_typed.specs.Contexts.{Scope, inside, CodeTyped, code_alone, RestTyped, Subset, LocalTyped, unset, held, LocalsTyped, no_locals, locals, Within, label, frame}

@@ -29,15 +29,15 @@ use Rattle.w_rules.specs.Operands.{Known}
 use Rattle.w_rules.specs.Spaces.{context_of, functions_of, in_body}
 use Rattle.w_rules.specs.Types.{has_heap}
 use Rattle.w_rules.specs.Typing.{HasInstrType, Derives}
-use Rattle.w_reductions.specs.Values.{Val}
-use Rattle.w_reductions.specs.Store.{Store}
-use Rattle.w_reductions.specs.Program.{Program}
-use Rattle.w_reductions.specs.Reduced.{Reduced, take_number}
-use Rattle.w_reductions.specs.Reduce.{instruction}
-use Rattle.w_reductions.specs.Numeric.{numeric_op, width, binop}
-use Rattle.w_reductions.specs.Reference.{reference_op}
-use Rattle.w_reductions.specs.Variable.{variable_op}
-use Rattle.w_reductions.specs.Constants.{operands_after, evaluated, topmost, value_of}
+use Rattle.w_reduce.specs.Values.{Val}
+use Rattle.w_reduce.specs.Store.{Store}
+use Rattle.w_reduce.specs.Program.{Program}
+use Rattle.w_reduce.specs.Reduced.{Reduced, take_number}
+use Rattle.w_reduce.specs.Reduce.{instruction}
+use Rattle.w_reduce.specs.Numeric.{numeric_op, width, binop}
+use Rattle.w_reduce.specs.Reference.{reference_op}
+use Rattle.w_reduce.specs.Variable.{variable_op}
+use Rattle.w_reduce.specs.Constants.{operands_after, evaluated, topmost, value_of}
 use Rattle.w_typed.specs.Values.{ValueTyped, an_i32, an_i64, a_null, a_function, a_value, ValuesTyped, no_values, values}
 use Rattle.w_typed.specs.Stores.{Instances, EntryTyped, GlobalTyped}
 use Rattle.w_typed.proofs.Chosen.{both_hold}

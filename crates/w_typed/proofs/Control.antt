@@ -21,12 +21,12 @@ use Rattle.w_rules.specs.Spaces.{context_of}
 use Rattle.w_rules.specs.Typing.{Polymorphic, MatchesEach, HasInstrType, ref_to}
 use Rattle.w_rules.specs.Valid.{Valid}
 use Rattle.w_rules.proofs.Preorder.{row_refl, row_beside}
-use Rattle.w_reductions.specs.Values.{Val}
-use Rattle.w_reductions.specs.Store.{Store}
-use Rattle.w_reductions.specs.Terms.{Context}
-use Rattle.w_reductions.specs.Program.{Program, IsProgram}
-use Rattle.w_reductions.specs.Reduced.{Reduced}
-use Rattle.w_reductions.specs.Control.{control_op, unless_zero, label_in}
+use Rattle.w_reduce.specs.Values.{Val}
+use Rattle.w_reduce.specs.Store.{Store}
+use Rattle.w_reduce.specs.Terms.{Context}
+use Rattle.w_reduce.specs.Program.{Program, IsProgram}
+use Rattle.w_reduce.specs.Reduced.{Reduced}
+use Rattle.w_reduce.specs.Control.{control_op, unless_zero, label_in}
 use Rattle.w_typed.specs.Values.{OperandTyped, ValuesTyped, values}
 use Rattle.w_typed.specs.Stores.{StoreTyped}
 use Rattle.w_typed.specs.Contexts.{Scope, returned, in_scope, CodeTyped, code_alone, Subset, Within}

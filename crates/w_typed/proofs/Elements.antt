@@ -6,7 +6,7 @@ use Rattle.w_syntax.specs.declared.module.Module.{Module}
 use Rattle.w_canon.specs.Matching.{ValMatches}
 use Rattle.w_memory.specs.Parts.{is_within, part, written}
 use Rattle.w_tables.specs.Elements.{filled, copied, replaced, grown, most_elements}
-use Rattle.w_reductions.specs.Values.{Val}
+use Rattle.w_reduce.specs.Values.{Val}
 use Rattle.w_typed.specs.Values.{ValueTyped, AllTyped}
 use Rattle.w_typed.proofs.Subsumed.{value_sub}
 

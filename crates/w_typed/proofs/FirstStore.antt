@@ -18,11 +18,11 @@ use Rattle.w_rules.specs.Bodies.{ConstTyped}
 use Rattle.w_rules.specs.Spaces.{as_global, imports_by, context_of, globals_of, globals_below}
 use Rattle.w_rules.specs.Valid.{Valid, GlobalItem, TableItem, ElementItem, GlobalValid, TableValid, ElementValid, IsInitValid}
 use Rattle.w_tables.specs.declared.entries.Printer.{Printer}
-use Rattle.w_reductions.specs.Values.{Val}
-use Rattle.w_reductions.specs.Store.{Store}
-use Rattle.w_reductions.specs.Program.{Program}
-use Rattle.w_reductions.specs.Constants.{value_of}
-use Rattle.w_reductions.specs.Start.{bare, with_globals, filling, table_of, with_tables, allocated}
+use Rattle.w_reduce.specs.Values.{Val}
+use Rattle.w_reduce.specs.Store.{Store}
+use Rattle.w_reduce.specs.Program.{Program}
+use Rattle.w_reduce.specs.Constants.{value_of}
+use Rattle.w_reduce.specs.Start.{bare, with_globals, filling, table_of, with_tables, allocated}
 use Rattle.w_typed.specs.Values.{ValueTyped, a_null, AllTyped}
 use Rattle.w_typed.specs.Stores.{Instances, no_instance, instances, TableTyped, GlobalTyped, SegmentTyped, StoreTyped}
 use Rattle.w_typed.proofs.ConstantValues.{knowing, Holding, value_typed}

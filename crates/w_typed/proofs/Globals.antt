@@ -13,11 +13,11 @@ use Rattle.w_rules.specs.Operands.{Operand}
 use Rattle.w_rules.specs.Operands.{Known}
 use Rattle.w_rules.specs.Spaces.{globals_of}
 use Rattle.w_rules.specs.Typing.{HasInstrType}
-use Rattle.w_reductions.specs.Values.{Val}
-use Rattle.w_reductions.specs.Store.{Store}
-use Rattle.w_reductions.specs.Terms.{Context}
-use Rattle.w_reductions.specs.Reduced.{Reduced, or_stuck, take_value}
-use Rattle.w_reductions.specs.Variable.{variable_op, with_global}
+use Rattle.w_reduce.specs.Values.{Val}
+use Rattle.w_reduce.specs.Store.{Store}
+use Rattle.w_reduce.specs.Terms.{Context}
+use Rattle.w_reduce.specs.Reduced.{Reduced, or_stuck, take_value}
+use Rattle.w_reduce.specs.Variable.{variable_op, with_global}
 use Rattle.w_typed.specs.Values.{ValueTyped, a_value, ValuesTyped, values}
 use Rattle.w_typed.specs.Stores.{Instances, StoreTyped}
 use Rattle.w_typed.specs.Contexts.{Scope}

@@ -8,8 +8,8 @@ use Rattle.w_rules.specs.Matching.{RowMatches, known}
 use Rattle.w_rules.specs.Operands.{Operand}
 use Rattle.w_rules.proofs.Derive.{derives_left}
 use Rattle.w_rules.proofs.Preorder.{row_trans}
-use Rattle.w_reductions.specs.Values.{Val}
-use Rattle.w_reductions.specs.Terms.{Administrative, Context, locals_of, with_local}
+use Rattle.w_reduce.specs.Values.{Val}
+use Rattle.w_reduce.specs.Terms.{Administrative, Context, locals_of, with_local}
 use Rattle.w_typed.specs.Values.{ValueTyped}
 use Rattle.w_typed.specs.Contexts.{Scope, in_scope, CodeTyped, RestTyped, code_alone, invoke_first, Subset, LocalTyped, held, LocalsTyped, no_locals, locals, Within, outside, label, frame}
 

@@ -14,8 +14,8 @@ use Rattle.w_rules.specs.Spaces.{as_function, as_table, as_memory, as_global, fu
 use Rattle.w_tables.specs.declared.entries.FuncEntry.TheVariants as function
 use Rattle.w_tables.specs.declared.entries.Printer.{Printer}
 use Rattle.w_tables.specs.declared.entries.Printer.TheVariants as printer
-use Rattle.w_reductions.specs.Imports.{is_i32, is_i64, are_none, are_taken_by, of_type, printer_named, printer_as, printer_of, Found, All, Missing, and_first, printers_of}
-use Rattle.w_reductions.specs.Start.{own}
+use Rattle.w_reduce.specs.Imports.{is_i32, is_i64, are_none, are_taken_by, of_type, printer_named, printer_as, printer_of, Found, All, Missing, and_first, printers_of}
+use Rattle.w_reduce.specs.Start.{own}
 use Rattle.w_typed.specs.Stores.{Instances, no_instance, instances, printed_type, EntryTyped, own as of_module, host}
 use Rattle.w_typed.proofs.ManyInstances.{instances_beside}
 use Rattle.w_typed.proofs.Chosen.{both_hold, chosen}

@@ -21,15 +21,15 @@ use Rattle.w_rules.specs.Spaces.{context_of, functions_of, tables_of}
 use Rattle.w_rules.specs.Typing.{HasInstrType}
 use Rattle.w_rules.specs.Valid.{Valid}
 use Rattle.w_rules.proofs.Preorder.{row_refl, row_beside}
-use Rattle.w_reductions.specs.declared.trap.Trap.{Trap}
-use Rattle.w_reductions.specs.declared.trap.Trap.TheVariants as trap
-use Rattle.w_reductions.specs.Values.{Val}
-use Rattle.w_reductions.specs.Store.{Store}
-use Rattle.w_reductions.specs.Terms.{rest_of, Context}
-use Rattle.w_reductions.specs.Program.{Program, IsProgram}
-use Rattle.w_reductions.specs.Reduced.{Reduced, as_function}
-use Rattle.w_reductions.specs.Control.{control_op, call_indirect, unless_mismatch}
-use Rattle.w_reductions.specs.Calls.{invoke}
+use Rattle.w_reduce.specs.declared.trap.Trap.{Trap}
+use Rattle.w_reduce.specs.declared.trap.Trap.TheVariants as trap
+use Rattle.w_reduce.specs.Values.{Val}
+use Rattle.w_reduce.specs.Store.{Store}
+use Rattle.w_reduce.specs.Terms.{rest_of, Context}
+use Rattle.w_reduce.specs.Program.{Program, IsProgram}
+use Rattle.w_reduce.specs.Reduced.{Reduced, as_function}
+use Rattle.w_reduce.specs.Control.{control_op, call_indirect, unless_mismatch}
+use Rattle.w_reduce.specs.Calls.{invoke}
 use Rattle.w_typed.specs.Values.{ValueTyped, a_null, a_function, a_value, ValuesTyped, values}
 use Rattle.w_typed.specs.Stores.{StoreTyped}
 use Rattle.w_typed.specs.Contexts.{Scope, CodeTyped, code_alone, Subset, Within}

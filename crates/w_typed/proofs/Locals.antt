@@ -9,11 +9,11 @@ use Rattle.w_rules.specs.InstructionTypes.{get_type, set_type, tee_type}
 use Rattle.w_rules.specs.Operands.{Operand}
 use Rattle.w_rules.specs.Operands.{Known}
 use Rattle.w_rules.specs.Typing.{HasInstrType}
-use Rattle.w_reductions.specs.Values.{Val}
-use Rattle.w_reductions.specs.Store.{Store}
-use Rattle.w_reductions.specs.Terms.{rest_of, Context, locals_of, with_local}
-use Rattle.w_reductions.specs.Reduced.{Reduced, or_stuck, take_value, steps_to}
-use Rattle.w_reductions.specs.Variable.{variable_op}
+use Rattle.w_reduce.specs.Values.{Val}
+use Rattle.w_reduce.specs.Store.{Store}
+use Rattle.w_reduce.specs.Terms.{rest_of, Context, locals_of, with_local}
+use Rattle.w_reduce.specs.Reduced.{Reduced, or_stuck, take_value, steps_to}
+use Rattle.w_reduce.specs.Variable.{variable_op}
 use Rattle.w_typed.specs.Values.{ValueTyped, a_value, ValuesTyped, values}
 use Rattle.w_typed.specs.Stores.{StoreTyped}
 use Rattle.w_typed.specs.Contexts.{Scope, Subset, LocalTyped, unset, held, CodeTyped, code_alone, Within}

@@ -22,12 +22,12 @@ use Rattle.w_rules.specs.Operands.{Known}
 use Rattle.w_rules.specs.Spaces.{memories_of}
 use Rattle.w_rules.specs.Typing.{HasInstrType}
 use Rattle.w_rules.specs.Valid.{Valid, MemoryItem}
-use Rattle.w_reductions.specs.declared.trap.Trap.TheVariants as trap
-use Rattle.w_reductions.specs.Values.{Val}
-use Rattle.w_reductions.specs.Store.{Store}
-use Rattle.w_reductions.specs.Terms.{Context}
-use Rattle.w_reductions.specs.Reduced.{Reduced, Stuck, take_i32, number, or_stuck}
-use Rattle.w_reductions.specs.Memories.{loaded_type, loaded_size, loaded, stored_type, stored_size, with_memory, without_data, memory_op}
+use Rattle.w_reduce.specs.declared.trap.Trap.TheVariants as trap
+use Rattle.w_reduce.specs.Values.{Val}
+use Rattle.w_reduce.specs.Store.{Store}
+use Rattle.w_reduce.specs.Terms.{Context}
+use Rattle.w_reduce.specs.Reduced.{Reduced, Stuck, take_i32, number, or_stuck}
+use Rattle.w_reduce.specs.Memories.{loaded_type, loaded_size, loaded, stored_type, stored_size, with_memory, without_data, memory_op}
 use Rattle.w_typed.specs.Values.{an_i32, OperandTyped, a_value, ValuesTyped, values}
 use Rattle.w_typed.specs.Stores.{StoreTyped}
 use Rattle.w_typed.specs.Contexts.{Scope, in_scope}

@@ -12,11 +12,11 @@ use Rattle.w_rules.specs.InstructionTypes.{of_int, numeric_op_type, convert_type
 use Rattle.w_rules.specs.Operands.{Operand}
 use Rattle.w_rules.specs.Operands.{Known}
 use Rattle.w_rules.specs.Typing.{HasInstrType}
-use Rattle.w_reductions.specs.Values.{Val}
-use Rattle.w_reductions.specs.Store.{Store}
-use Rattle.w_reductions.specs.Terms.{Context}
-use Rattle.w_reductions.specs.Reduced.{Reduced, unless_fault}
-use Rattle.w_reductions.specs.Numeric.{numeric_op, taken_by, given_by, cvtop, width, unop, binop}
+use Rattle.w_reduce.specs.Values.{Val}
+use Rattle.w_reduce.specs.Store.{Store}
+use Rattle.w_reduce.specs.Terms.{Context}
+use Rattle.w_reduce.specs.Reduced.{Reduced, unless_fault}
+use Rattle.w_reduce.specs.Numeric.{numeric_op, taken_by, given_by, cvtop, width, unop, binop}
 use Rattle.w_typed.specs.Values.{ValuesTyped, values, a_value, an_i32, an_i64}
 use Rattle.w_typed.specs.Stores.{StoreTyped}
 use Rattle.w_typed.specs.Configurations.{IsSafe, traps}

@@ -4,10 +4,10 @@ use Rattle.w_types.specs.Rows.{Row}
 use Rattle.w_syntax.specs.Code.{Code}
 use Rattle.w_syntax.specs.declared.module.Module.{Module}
 use Rattle.w_rules.specs.Operands.{Operand}
-use Rattle.w_reductions.specs.Values.{Val}
-use Rattle.w_reductions.specs.Store.{Store}
-use Rattle.w_reductions.specs.Terms.{Rest, rest_of, Context}
-use Rattle.w_reductions.specs.Reduced.{Went, steps_to}
+use Rattle.w_reduce.specs.Values.{Val}
+use Rattle.w_reduce.specs.Store.{Store}
+use Rattle.w_reduce.specs.Terms.{Rest, rest_of, Context}
+use Rattle.w_reduce.specs.Reduced.{Went, steps_to}
 use Rattle.w_typed.specs.Values.{ValuesTyped}
 use Rattle.w_typed.specs.Stores.{StoreTyped}
 use Rattle.w_typed.specs.Contexts.{Scope, CodeTyped, RestTyped, code_alone, Subset, Within}

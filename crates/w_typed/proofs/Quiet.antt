@@ -33,25 +33,25 @@ use Rattle.w_tables.specs.declared.entries.Printer.{Printer}
 use Rattle.w_tables.specs.declared.entries.Printer.TheVariants as printer
 use Rattle.w_tables.specs.Elements.{get, replaced, filled, copied}
 use Rattle.w_rules.specs.Spaces.{functions_of}
-use Rattle.w_reductions.specs.declared.limit.RunLimit.{RunLimit}
-use Rattle.w_reductions.specs.declared.trap.Trap.{Trap}
-use Rattle.w_reductions.specs.Values.{Val, I32, I64, Null, Func, Cont}
-use Rattle.w_reductions.specs.Store.{Store}
-use Rattle.w_reductions.specs.Terms.{Administrative, Invoke, Rest, rest_of, Label, Frame, Context, Term, locals_of}
-use Rattle.w_reductions.specs.Program.{Program, arity_of}
-use Rattle.w_reductions.specs.Reduced.{Reduced, Went, Trapped, Limited, Ended, Stuck}
-use Rattle.w_reductions.specs.Reduced.{or_stuck, or_trap, take_value, take_values, take_number, unless_fault, as_function}
-use Rattle.w_reductions.specs.Numeric.{numeric_op, width, binop, taken_by}
-use Rattle.w_reductions.specs.Parametric.{parametric_op, select}
-use Rattle.w_reductions.specs.Variable.{variable_op}
-use Rattle.w_reductions.specs.Memories.{memory_op, loaded_size, stored_type, stored_size}
-use Rattle.w_reductions.specs.Tables.{table_op}
-use Rattle.w_reductions.specs.Reference.{reference_op, by_null}
-use Rattle.w_reductions.specs.Branches.{block, chosen, choice, branch, returns}
-use Rattle.w_reductions.specs.Calls.{enter, print, invoked, invoke}
-use Rattle.w_reductions.specs.Control.{control_op, unless_zero, call_indirect, label_in}
-use Rattle.w_reductions.specs.Exits.{leave}
-use Rattle.w_reductions.specs.Reduce.{instruction, next}
+use Rattle.w_reduce.specs.declared.limit.RunLimit.{RunLimit}
+use Rattle.w_reduce.specs.declared.trap.Trap.{Trap}
+use Rattle.w_reduce.specs.Values.{Val, I32, I64, Null, Func, Cont}
+use Rattle.w_reduce.specs.Store.{Store}
+use Rattle.w_reduce.specs.Terms.{Administrative, Invoke, Rest, rest_of, Label, Frame, Context, Term, locals_of}
+use Rattle.w_reduce.specs.Program.{Program, arity_of}
+use Rattle.w_reduce.specs.Reduced.{Reduced, Went, Trapped, Limited, Ended, Stuck}
+use Rattle.w_reduce.specs.Reduced.{or_stuck, or_trap, take_value, take_values, take_number, unless_fault, as_function}
+use Rattle.w_reduce.specs.Numeric.{numeric_op, width, binop, taken_by}
+use Rattle.w_reduce.specs.Parametric.{parametric_op, select}
+use Rattle.w_reduce.specs.Variable.{variable_op}
+use Rattle.w_reduce.specs.Memories.{memory_op, loaded_size, stored_type, stored_size}
+use Rattle.w_reduce.specs.Tables.{table_op}
+use Rattle.w_reduce.specs.Reference.{reference_op, by_null}
+use Rattle.w_reduce.specs.Branches.{block, chosen, choice, branch, returns}
+use Rattle.w_reduce.specs.Calls.{enter, print, invoked, invoke}
+use Rattle.w_reduce.specs.Control.{control_op, unless_zero, call_indirect, label_in}
+use Rattle.w_reduce.specs.Exits.{leave}
+use Rattle.w_reduce.specs.Reduce.{instruction, next}
 
 -- a reduction prints nothing, or its context stays as it was; it may be the end where that is said
 pub data IsQuiet (e : Context) (last : Bool) : Reduced → Type 0 where

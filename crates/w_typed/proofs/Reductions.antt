@@ -22,15 +22,15 @@ use Rattle.w_rules.specs.Operands.{Known}
 use Rattle.w_rules.specs.Typing.{HasType, HasInstrType, Derives}
 use Rattle.w_rules.specs.Valid.{Valid}
 use Rattle.w_rules.proofs.Preorder.{row_refl}
-use Rattle.w_reductions.specs.Values.{Val}
-use Rattle.w_reductions.specs.Store.{Store}
-use Rattle.w_reductions.specs.declared.limit.RunLimit.TheVariants.{Frames}
-use Rattle.w_reductions.specs.Terms.{Administrative, Context, frames, most_frames}
-use Rattle.w_reductions.specs.Program.{Program, IsProgram}
-use Rattle.w_reductions.specs.Reduced.{Reduced, Went, Limited}
-use Rattle.w_reductions.specs.Branches.{choice, chosen}
-use Rattle.w_reductions.specs.Variable.{variable_op}
-use Rattle.w_reductions.specs.Reduce.{instruction, next, limited}
+use Rattle.w_reduce.specs.Values.{Val}
+use Rattle.w_reduce.specs.Store.{Store}
+use Rattle.w_reduce.specs.declared.limit.RunLimit.TheVariants.{Frames}
+use Rattle.w_reduce.specs.Terms.{Administrative, Context, frames, most_frames}
+use Rattle.w_reduce.specs.Program.{Program, IsProgram}
+use Rattle.w_reduce.specs.Reduced.{Reduced, Went, Limited}
+use Rattle.w_reduce.specs.Branches.{choice, chosen}
+use Rattle.w_reduce.specs.Variable.{variable_op}
+use Rattle.w_reduce.specs.Reduce.{instruction, next, limited}
 use Rattle.w_typed.specs.Values.{ValuesTyped}
 use Rattle.w_typed.specs.Stores.{StoreTyped}
 use Rattle.w_typed.specs.Contexts.{Scope, in_scope, RestTyped, code_alone, invoke_first, Subset, Within}

@@ -18,12 +18,12 @@ use Rattle.w_rules.specs.Spaces.{functions_of, declared_of}
 use Rattle.w_rules.specs.Typing.{HasInstrType, ref_to}
 use Rattle.w_rules.specs.Context.{type_count}
 use Rattle.w_rules.specs.Types.{has_type, has_heap}
-use Rattle.w_reductions.specs.Values.{Val, Null, Func}
-use Rattle.w_reductions.specs.Store.{Store}
-use Rattle.w_reductions.specs.Terms.{Context}
-use Rattle.w_reductions.specs.Reduced.{Reduced, take_value}
-use Rattle.w_reductions.specs.Parametric.{parametric_op, select}
-use Rattle.w_reductions.specs.Reference.{reference_op, by_null}
+use Rattle.w_reduce.specs.Values.{Val, Null, Func}
+use Rattle.w_reduce.specs.Store.{Store}
+use Rattle.w_reduce.specs.Terms.{Context}
+use Rattle.w_reduce.specs.Reduced.{Reduced, take_value}
+use Rattle.w_reduce.specs.Parametric.{parametric_op, select}
+use Rattle.w_reduce.specs.Reference.{reference_op, by_null}
 use Rattle.w_typed.specs.Values.{a_null, a_function, an_i32, OperandTyped, a_value, a_bottom, ValuesTyped, values}
 use Rattle.w_typed.specs.Stores.{StoreTyped}
 use Rattle.w_typed.specs.Contexts.{Scope, in_scope}

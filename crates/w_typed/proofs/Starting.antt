@@ -19,12 +19,12 @@ use Rattle.w_rules.specs.Spaces.{context_of, functions_of}
 use Rattle.w_rules.specs.Valid.{Valid, StartItem, StartValid}
 use Rattle.w_rules.proofs.Preorder.{row_refl}
 use Rattle.w_tables.specs.declared.entries.Printer.{Printer}
-use Rattle.w_reductions.specs.declared.limit.StartLimit.{StartLimit}
-use Rattle.w_reductions.specs.Store.{Store}
-use Rattle.w_reductions.specs.Terms.{Administrative, Invoke, Term}
-use Rattle.w_reductions.specs.Program.{Program, IsProgram}
-use Rattle.w_reductions.specs.Imports.{Found, All, Missing, printers_of}
-use Rattle.w_reductions.specs.Start.{Ready, are_integers, is_entry_type, entry_at, entry_of, entry_in, entry, exceeded, allocated, element_started, data_started, in_order, invokes, start_term, with_datas, with_elements_in, within_limits, with_entry, with_imports, Start}
+use Rattle.w_reduce.specs.declared.limit.StartLimit.{StartLimit}
+use Rattle.w_reduce.specs.Store.{Store}
+use Rattle.w_reduce.specs.Terms.{Administrative, Invoke, Term}
+use Rattle.w_reduce.specs.Program.{Program, IsProgram}
+use Rattle.w_reduce.specs.Imports.{Found, All, Missing, printers_of}
+use Rattle.w_reduce.specs.Start.{Ready, are_integers, is_entry_type, entry_at, entry_of, entry_in, entry, exceeded, allocated, element_started, data_started, in_order, invokes, start_term, with_datas, with_elements_in, within_limits, with_entry, with_imports, Start}
 use Rattle.w_typed.specs.Values.{no_values}
 use Rattle.w_typed.specs.Stores.{StoreTyped}
 use Rattle.w_typed.specs.Contexts.{closed, RestTyped, code_alone, invoke_first, outside}

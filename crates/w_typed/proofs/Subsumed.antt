@@ -7,7 +7,7 @@ use Rattle.w_canon.specs.Matching.{ValMatches, i32, i64, ref}
 use Rattle.w_canon.proofs.Preorder.{heap_trans}
 use Rattle.w_rules.specs.Operands.{Operand}
 use Rattle.w_rules.specs.Matching.{OperandMatches, value, bottom, bottom_ref, bottom_refs, RowMatches, none, more}
-use Rattle.w_reductions.specs.Values.{Val}
+use Rattle.w_reduce.specs.Values.{Val}
 use Rattle.w_typed.specs.Values.{ValueTyped, a_null, a_function, OperandTyped, a_value, a_bottom, ValuesTyped, no_values, values}
 
 module _ (m : Module) where

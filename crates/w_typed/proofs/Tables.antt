@@ -20,11 +20,11 @@ use Rattle.w_rules.specs.Operands.{Operand}
 use Rattle.w_rules.specs.Operands.{Known}
 use Rattle.w_rules.specs.Spaces.{tables_of}
 use Rattle.w_rules.specs.Typing.{HasInstrType}
-use Rattle.w_reductions.specs.declared.trap.Trap.TheVariants as trap
-use Rattle.w_reductions.specs.Values.{Val}
-use Rattle.w_reductions.specs.Store.{Store, Table}
-use Rattle.w_reductions.specs.Terms.{Context}
-use Rattle.w_reductions.specs.Tables.{with_elements, without_elements, table_op}
+use Rattle.w_reduce.specs.declared.trap.Trap.TheVariants as trap
+use Rattle.w_reduce.specs.Values.{Val}
+use Rattle.w_reduce.specs.Store.{Store, Table}
+use Rattle.w_reduce.specs.Terms.{Context}
+use Rattle.w_reduce.specs.Tables.{with_elements, without_elements, table_op}
 use Rattle.w_typed.specs.Values.{an_i32, a_value, ValuesTyped, values, AllTyped}
 use Rattle.w_typed.specs.Stores.{StoreTyped}
 use Rattle.w_typed.specs.Contexts.{Scope, in_scope}

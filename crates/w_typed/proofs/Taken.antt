@@ -7,9 +7,9 @@ use Rattle.w_syntax.specs.declared.module.Module.{Module}
 use Rattle.w_rules.specs.InstructionTypes.{of_int}
 use Rattle.w_rules.specs.Operands.{Operand}
 use Rattle.w_rules.specs.Operands.{Known}
-use Rattle.w_reductions.specs.Values.{Val}
-use Rattle.w_reductions.specs.Reduced.{Reduced, take_values, take_number, number, or_trap}
-use Rattle.w_reductions.specs.declared.trap.Trap.{Trap}
+use Rattle.w_reduce.specs.Values.{Val}
+use Rattle.w_reduce.specs.Reduced.{Reduced, take_values, take_number, number, or_trap}
+use Rattle.w_reduce.specs.declared.trap.Trap.{Trap}
 use Rattle.w_typed.specs.Values.{an_i32, an_i64, OperandTyped, a_value, ValuesTyped, no_values, values}
 use Rattle.w_typed.specs.Configurations.{IsSafe, traps}
 

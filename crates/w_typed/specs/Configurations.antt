@@ -11,16 +11,16 @@ use Rattle.w_rules.specs.Matching.{known}
 use Rattle.w_rules.specs.Operands.{Operand}
 use Rattle.w_rules.specs.Spaces.{context_of}
 use Rattle.w_rules.specs.Valid.{Valid}
-use Rattle.w_reductions.specs.declared.limit.RunLimit.{RunLimit}
-use Rattle.w_reductions.specs.declared.trap.Trap.{Trap}
-use Rattle.w_reductions.specs.Values.{Val}
-use Rattle.w_reductions.specs.Store.{Store}
-use Rattle.w_reductions.specs.Terms.{Administrative, Term}
-use Rattle.w_reductions.specs.Program.{Program, IsProgram}
-use Rattle.w_reductions.specs.Reduced.{Reduced, Went, Trapped, Limited, Ended}
-use Rattle.w_reductions.specs.Reduce.{reduce}
-use Rattle.w_reductions.specs.Run.{RunState, NoRule, Run}
-use Rattle.w_reductions.specs.Start.{Start, Ready, start_term}
+use Rattle.w_reduce.specs.declared.limit.RunLimit.{RunLimit}
+use Rattle.w_reduce.specs.declared.trap.Trap.{Trap}
+use Rattle.w_reduce.specs.Values.{Val}
+use Rattle.w_reduce.specs.Store.{Store}
+use Rattle.w_reduce.specs.Terms.{Administrative, Term}
+use Rattle.w_reduce.specs.Program.{Program, IsProgram}
+use Rattle.w_reduce.specs.Reduced.{Reduced, Went, Trapped, Limited, Ended}
+use Rattle.w_reduce.specs.Reduce.{reduce}
+use Rattle.w_reduce.specs.Run.{RunState, NoRule, Run}
+use Rattle.w_reduce.specs.Start.{Start, Ready, start_term}
 use Rattle.w_typed.specs.Values.{ValuesTyped}
 use Rattle.w_typed.specs.Stores.{StoreTyped}
 use Rattle.w_typed.specs.Contexts.{Scope, Subset, RestTyped, Within}

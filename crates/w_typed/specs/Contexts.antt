@@ -11,8 +11,8 @@ use Rattle.w_rules.specs.Matching.{RowMatches, known}
 use Rattle.w_rules.specs.Operands.{Operand}
 use Rattle.w_rules.specs.Spaces.{context_of}
 use Rattle.w_rules.specs.Typing.{Derives}
-use Rattle.w_reductions.specs.Values.{Val}
-use Rattle.w_reductions.specs.Terms.{Administrative, Invoke, Rest, Label, Frame, Context}
+use Rattle.w_reduce.specs.Values.{Val}
+use Rattle.w_reduce.specs.Terms.{Administrative, Invoke, Rest, Label, Frame, Context}
 use Rattle.w_typed.specs.Values.{ValueTyped, ValuesTyped}
 
 -- ## Scopes

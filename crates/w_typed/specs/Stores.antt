@@ -14,8 +14,8 @@ use Rattle.w_tables.specs.declared.entries.FuncEntry.{FuncEntry}
 use Rattle.w_tables.specs.declared.entries.FuncEntry.TheVariants as entry
 use Rattle.w_tables.specs.declared.entries.Printer.{Printer}
 use Rattle.w_tables.specs.declared.entries.Printer.TheVariants as printer
-use Rattle.w_reductions.specs.Values.{Val}
-use Rattle.w_reductions.specs.Store.{Store, Table}
+use Rattle.w_reduce.specs.Values.{Val}
+use Rattle.w_reduce.specs.Store.{Store, Table}
 use Rattle.w_typed.specs.Values.{ValueTyped, AllTyped}
 
 -- instances of declarations, each related to its own

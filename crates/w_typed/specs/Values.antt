@@ -9,7 +9,7 @@ use Rattle.w_syntax.specs.declared.module.Module.{Module}
 use Rattle.w_canon.specs.Matching.{HeapMatches}
 use Rattle.w_rules.specs.Operands.{Operand, Known, BottomRef}
 use Rattle.w_rules.specs.Spaces.{functions_of}
-use Rattle.w_reductions.specs.Values.{Val, I32, I64, Null, Func}
+use Rattle.w_reduce.specs.Values.{Val, I32, I64, Null, Func}
 
 -- A number is of its type. Null is of each reference type that may be null, and a function of each that its own type matches.
 pub data ValueTyped (m : Module) : Val → ValType → Type 0 where

@@ -14,11 +14,11 @@ use Rattle.w_syntax.specs.declared.module.Module.{Module}
 use Rattle.w_segment.specs.Shape.{Shape, locals_of}
 use Rattle.w_segment.specs.Changes.{with_local}
 use Rattle.w_tables.specs.Store as instances
-use Rattle.w_reductions.specs.Values.{Val, val}
-use Rattle.w_reductions.specs.Terms.{Rest, rest_of, Context, locals_of as locals_in, with_local as with_local_in}
-use Rattle.w_reductions.specs.Program.{Program}
-use Rattle.w_reductions.specs.Reduced.{Reduced, Stuck, steps_to, or_stuck, take_value}
-use Rattle.w_reductions.specs.Reduce.{instruction}
+use Rattle.w_reduce.specs.Values.{Val, val}
+use Rattle.w_reduce.specs.Terms.{Rest, rest_of, Context, locals_of as locals_in, with_local as with_local_in}
+use Rattle.w_reduce.specs.Program.{Program}
+use Rattle.w_reduce.specs.Reduced.{Reduced, Stuck, steps_to, or_stuck, take_value}
+use Rattle.w_reduce.specs.Reduce.{instruction}
 use Rattle.w_stands.specs.Values.{stack, store_of}
 use Rattle.w_stands.specs.declared.did.Did.TheVariants as did
 use Rattle.w_stands.specs.Steps.{Outside, At, MovesAlone, FollowsAlone}

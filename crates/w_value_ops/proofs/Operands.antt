@@ -4,8 +4,8 @@ use Rattle.std.specs.Prelude.{◌≢◌}
 use Rattle.w_types.specs.Rows.{Row}
 use Rattle.w_types.specs.declared.value.Value.{Value}
 use Rattle.w_syntax.specs.declared.numeric.IntType.{IntType}
-use Rattle.w_reductions.specs.Values.{Val}
-use Rattle.w_reductions.specs.Reduced.{Reduced, Stuck, take_number}
+use Rattle.w_reduce.specs.Values.{Val}
+use Rattle.w_reduce.specs.Reduced.{Reduced, Stuck, take_number}
 use Rattle.w_stands.specs.Values.{stack}
 use Rattle.w_stands.specs.Numbers.{IsNumber, bits_in}
 use Rattle.w_stands.proofs.Numbers.{number_there, number_taken, number_top}

@@ -13,12 +13,12 @@ use Rattle.w_syntax.specs.declared.module.Module.{Module}
 use Rattle.w_segment.specs.Shape.{Shape}
 use Rattle.w_segment.specs.Changes.{moved}
 use Rattle.w_tables.specs.Store as instances
-use Rattle.w_reductions.specs.Values.{val, I32, Func}
-use Rattle.w_reductions.specs.declared.trap.Trap.TheVariants as trap
-use Rattle.w_reductions.specs.Terms.{rest_of, Context}
-use Rattle.w_reductions.specs.Reduced.{Reduced, Trapped, Stuck, steps_to, or_stuck}
+use Rattle.w_reduce.specs.Values.{val, I32, Func}
+use Rattle.w_reduce.specs.declared.trap.Trap.TheVariants as trap
+use Rattle.w_reduce.specs.Terms.{rest_of, Context}
+use Rattle.w_reduce.specs.Reduced.{Reduced, Trapped, Stuck, steps_to, or_stuck}
 use Rattle.w_num.specs.Comparisons.{truth}
-use Rattle.w_reductions.specs.Reference.{by_null}
+use Rattle.w_reduce.specs.Reference.{by_null}
 use Rattle.w_stands.specs.Values.{stack, store_of}
 use Rattle.w_stands.specs.Taking.{Any, Is, Going, IsTaking}
 use Rattle.w_stands.specs.GoingOn.{replaced, IsPushedNext, IsBehind}

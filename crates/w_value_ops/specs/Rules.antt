@@ -5,11 +5,11 @@ use Rattle.w_types.specs.declared.value.Value.{Value}
 use Rattle.w_syntax.specs.Code.{Code}
 use Rattle.w_syntax.specs.declared.instructions.Op.{Op}
 use Rattle.w_tables.specs.Store as instances
-use Rattle.w_reductions.specs.Values.{val}
-use Rattle.w_reductions.specs.Terms.{rest_of, Context}
-use Rattle.w_reductions.specs.Program.{Program}
-use Rattle.w_reductions.specs.Reduced.{steps_to}
-use Rattle.w_reductions.specs.Reduce.{instruction}
+use Rattle.w_reduce.specs.Values.{val}
+use Rattle.w_reduce.specs.Terms.{rest_of, Context}
+use Rattle.w_reduce.specs.Program.{Program}
+use Rattle.w_reduce.specs.Reduced.{steps_to}
+use Rattle.w_reduce.specs.Reduce.{instruction}
 use Rattle.w_stands.specs.Values.{stack, store_of}
 
 -- the rule of an instruction that gives this value, in any configuration

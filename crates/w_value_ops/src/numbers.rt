@@ -2,7 +2,7 @@
 ghost use Rattle.std.specs.Prelude.{◌≡◌};
 ghost use Rattle.w_syntax.specs.declared.numeric.IntType.TheVariants as int;
 ghost use Rattle.w_num.specs.Comparisons.{ieqz};
-ghost use Rattle.w_reductions.specs.Numeric.{width, unop, binop, relop, cvtop, taken_by, given_by};
+ghost use Rattle.w_reduce.specs.Numeric.{width, unop, binop, relop, cvtop, taken_by, given_by};
 ghost use Rattle.w_stands.specs.Numbers.{IsNumber, bits_in, value_of};
 ghost use Rattle.w_value_ops.specs.Numbers.{given};
 

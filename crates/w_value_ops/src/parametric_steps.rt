@@ -3,7 +3,7 @@ ghost use Rattle.std.specs.Prelude.{◌≡◌};
 ghost use Rattle.w_syntax.specs.declared.instructions.Instr.TheVariants as flat;
 ghost use Rattle.w_syntax.specs.declared.instructions.Op.TheVariants as op;
 ghost use Rattle.w_syntax.specs.declared.instructions.ParametricOp.TheVariants as parametric;
-ghost use Rattle.w_reductions.specs.Parametric.{selected};
+ghost use Rattle.w_reduce.specs.Parametric.{selected};
 ghost use Rattle.w_stands.specs.Keeps.{Keeps};
 ghost use Rattle.w_value_ops.specs.Selects.{IsSelect};
 ghost use Rattle.w_stands.specs.Steps.{MovesAlone, FollowsAlone};

@@ -9,7 +9,7 @@ ghost use Rattle.w_stands.specs.Steps.{MovesAt, MovesAlone, Follows, FollowsAlon
 ghost use Rattle.w_stands.specs.declared.did.Did.TheVariants as did;
 
 use std::alloc::AllocError;
-use w_reductions::Trap;
+use w_reduce::Trap;
 use w_segment::Stack;
 use w_stands::{Did, is_null, next, push_next, replace};
 use w_syntax::Module;

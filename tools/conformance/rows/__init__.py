@@ -10,7 +10,8 @@ from rows import (
     numeric, memory, tables, variables, references, control, branches, calls, making, suspending, handling, switching,
     whole_modules, without_a_memory, types_and_imports, tables_and_memories, constant_expressions, segments,
     starts_exports_and_functions, orders, decoding, framing, fields, spellings, instructions,
-    equivalence, matching, limits, arithmetic, sizes, long_runs)
+    equivalence, matching, limits, arithmetic, sizes, long_runs, running_numbers, running_memory, running_tables,
+    running_control, running_instances)
 from surroundings import pieces
 
 
@@ -65,6 +66,22 @@ _FILES = [
     lambda: RowFile(
         'sizes', 'Modules as large as a file may be, or nested deeply.', sizes.PIECES, [sizes.SECTION]),
     _modules('long_runs', 'Runs of ten million reductions.', long_runs.SECTION),
+    _modules(
+        'running_numbers', 'Runs of each operation of integers.', running_numbers.CONSTANTS,
+        running_numbers.ONE_OPERAND, running_numbers.TWO_OPERANDS, running_numbers.DIVISIONS),
+    _modules(
+        'running_memory', 'Runs of instructions of the memory and of data segments.', running_memory.LOADING,
+        running_memory.STORING, running_memory.GROWING, running_memory.BULK),
+    _modules(
+        'running_tables', 'Runs of instructions of tables and of element segments.', running_tables.ELEMENTS,
+        running_tables.GROWING, running_tables.BULK),
+    _modules(
+        'running_control', 'Runs of blocks, branches, calls and traps.', running_control.BLOCKS,
+        running_control.BRANCHES, running_control.CALLS, running_control.TRAPS),
+    _modules(
+        'running_instances', 'Where runs begin: imports, entries, limits, segments, start functions and globals.',
+        running_instances.IMPORTS, running_instances.ENTRIES, running_instances.LIMITS, running_instances.SEGMENTS,
+        running_instances.ORDER, running_instances.STARTS, running_instances.GLOBALS),
 ]
 
 # All rows are made by now, and with them the module in which functions are judged.

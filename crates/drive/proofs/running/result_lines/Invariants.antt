@@ -1,4 +1,5 @@
 use Rattle.std.proofs.Common.{◌≡◌, ◌++◌, drop, flat_map}
+use Rattle.w_reduce.specs.Values.{val}
 use Rattle.drive.specs.Answer.{result_line}
 use Rattle.drive.specs.Pieces.{joined}
 use Rattle.drive.proofs.running.result_lines.Given as goal
@@ -6,4 +7,4 @@ use Rattle.drive.proofs.running.result_lines.Given as goal
 -- the lines that were collected, and those of the values that are left, are the lines of all
 abbrev pub invariant-loop-value : goal.invariant-loop-value
 invariant-loop-value l =
-    joined l.lines.items ++ flat_map result_line (drop l.value-index l.values) ≡ flat_map result_line l.values
+    joined l.lines.items ++ flat_map (λ v. result_line (val v)) (drop l.value-index l.values) ≡ flat_map (λ v. result_line (val v)) l.values

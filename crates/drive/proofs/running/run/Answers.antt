@@ -1,19 +1,33 @@
-use Rattle.std.proofs.Common.{Err, sym, ap}
-use Rattle.w_reduce.specs.Run.{Run}
-use Rattle.w_reduce.specs.Start.{first_import, entry}
-use Rattle.drive.specs.Answer.{run_reply}
-use Rattle.drive.proofs.Refusals.{gives_same}
-use Rattle.drive.proofs.Runs.{from_both, no_run_refuses}
+use Rattle.std.proofs.Common.{refl, sym, ap, ◌∙◌}
+use Rattle.w_outside.specs.Outside.{Grew, Rose}
+use Rattle.w_syntax.specs.declared.module.Module.{Module}
+use Rattle.w_reduce.specs.Start.{Ready, start_term}
+use Rattle.w_stands.specs.Values.{store_of}
+use Rattle.w_machine.proofs.Advancing.{program_by, is_program}
+use Rattle.drive.specs.Answer.{RunGives, start_reply}
+use Rattle.drive.proofs.Refusals.{refuses_as}
+use Rattle.drive.proofs.Replies.{leaves_as, refusal_left}
+use Rattle.drive.proofs.Runs.{ready_gives, refused_gives}
 use Rattle.drive.proofs.running.run.Goals as goal
 
-pub returns-in-Ok : goal.returns-in-Ok
-returns-in-Ok c =
-    let m = c.args.checked in
-    let begins = c.in-Ok.ensures.ok in
-    gives_same c.run_from.result (sym (from_both (first_import m) (entry m) (run_reply (Run m c.args.steps).outcome) begins.complete begins.enters)) c.run_from.ensures
+pub run_from-requires-clause-first : goal.run_from-requires-clause-first
+run_from-requires-clause-first g c =
+    λ p source. c.in-Ok.ensures.begins p source ∙ ap (λ (m : Module). Ready (store_of c.in-Ok.instance.store) (start_term m c.in-Ok.instance.main)) source
 
-pub returns-in-Err : goal.returns-in-Err
-returns-in-Err c =
+pub returns-in-Ok-clause-leaves : goal.returns-in-Ok-clause-leaves
+returns-in-Ok-clause-leaves g c =
     let m = c.args.checked in
-    no_run_refuses m c.args.steps c.in-Err.fault c.no_run.result c.no_run.ensures.import c.no_run.ensures.entry c.no_run.ensures.memory
-    (λ i is. c.in-Err.ensures.import i (ap Err is)) (λ is. c.in-Err.ensures.no_entry (ap Err is))
+    let p = program_by m c.classes-classes.result.now in
+    let told = is_program m c.classes-classes.result.now c.classes-classes.ensures in
+    let start = c.in-Ok.ensures.begins p refl in
+    leaves_as (ready_gives m c.args.steps p _ _ refl told start)
+    (Grew (g.O.Sink.held c.args.out.now) (g.O.Sink.held c.run_from.new.out)) (Rose (g.O.Sink.faults c.args.out.now) (g.O.Sink.faults c.run_from.new.out)) c.run_from.result
+    (c.run_from.ensures.leaves p _ _ (record { source = refl; program = told; start = start }))
+
+pub returns-in-Err-clause-leaves : goal.returns-in-Err-clause-leaves
+returns-in-Err-clause-leaves g c =
+    let m = c.args.checked in
+    let p = program_by m c.classes-classes.result.now in
+    let told = is_program m c.classes-classes.result.now c.classes-classes.ensures in
+    refusal_left (RunGives c.args.steps m) (g.O.Sink.held c.args.out.now) (Rose (g.O.Sink.faults c.args.out.now) (g.O.Sink.faults c.args.out.now)) c.no_run.result
+    (refuses_as (refused_gives m c.args.steps p refl told) c.no_run.result (c.no_run.ensures p c.args.steps (c.in-Err.ensures.begins p refl)))

@@ -1,25 +1,54 @@
-use Rattle.std.proofs.Common.{◌∙◌, refl, sym, ap}
-use Rattle.drive.specs.Answer.{run_reply}
+use Rattle.std.proofs.Common.{◌≤◌, Some, List, ◌∙◌, refl, sym, ap, subst, arith}
+use Rattle.w_outside.specs.Outside.{Rose}
+use Rattle.w_reduce.specs.Run.{Running, Traps, Limit, NoRule}
+use Rattle.w_stands.specs.Values.{vals}
+use Rattle.w_machine.specs.declared.outcome.Kept.TheVariants.{Ended}
+use Rattle.w_machine.specs.Position.{Position}
 use Rattle.drive.proofs.Refusals.{refuses_same, same_refusal}
-use Rattle.drive.proofs.Runs.{ran_ended, ran_running, ran_stuck, ran_limited, results_are}
+use Rattle.drive.proofs.Runs.{from_first, first_ended, lines_of_vals, run_refused, run_ended, run_unlisted, run_failed, run_out}
 use Rattle.drive.proofs.running.run_machine.Goals as goal
 
-pub returns-in_ok-pieces-in-Ended : goal.returns-in_ok-pieces-in-Ended
-returns-in_ok-pieces-in-Ended c =
-    let ran = ran_ended c.args.machine.now.program c.args.steps c.args.machine.now c.run.new.self c.requires.first c.in-Ended.ensures in
-    results_are c.args.machine.now.program c.args.steps _ c.results.result.now ran.0 c.in_ok-pieces-in-Ended.ensures (c.results.ensures ∙ ran.1)
+pub returns-in_err-pieces-in-Ended-clause-leaves : goal.returns-in_err-pieces-in-Ended-clause-leaves
+returns-in_err-pieces-in-Ended-clause-leaves g c = λ p s t begins.
+    let h = from_first _ p s t c.args.steps c.args.machine.now c.run.new.self _ (g.O.Sink.held c.args.out.now) (g.O.Sink.held c.run.new.out) c.requires.first begins c.in-Ended.ensures.runs in
+    run_unlisted p s t c.args.steps (g.O.Sink.held c.args.out.now) (g.O.Sink.held c.run.new.out) (Rose (g.O.Sink.faults c.args.out.now) (g.O.Sink.faults c.run.new.out)) c.from_residual.result h.1 c.from_residual.ensures.1
 
-pub returns-in-Running : goal.returns-in-Running
-returns-in-Running c =
-    let told = ran_running c.args.machine.now.program c.args.steps c.args.machine.now c.run.new.self c.requires.first c.in-Running.ensures in
-    refuses_same c.refuse.result (sym (ap run_reply told)) c.refuse.ensures
+pub returns-in_ok-pieces-in-Ended-clause-leaves : goal.returns-in_ok-pieces-in-Ended-clause-leaves
+returns-in_ok-pieces-in-Ended-clause-leaves g c = λ p s t begins.
+    let h = from_first _ p s t c.args.steps c.args.machine.now c.run.new.self _ (g.O.Sink.held c.args.out.now) (g.O.Sink.held c.run.new.out) c.requires.first begins c.in-Ended.ensures.runs in
+    let done = first_ended _ p s t c.args.steps c.args.machine.now c.run.new.self (g.O.Sink.held c.args.out.now) (g.O.Sink.held c.run.new.out) c.requires.first begins c.in-Ended.ensures.runs in
+    run_ended p s t c.args.steps (g.O.Sink.held c.args.out.now) (g.O.Sink.held c.run.new.out) (Rose (g.O.Sink.faults c.args.out.now) (g.O.Sink.faults c.run.new.out)) (record { pieces = c.in_ok-pieces-in-Ended.pieces }) (vals c.results.result.now) h.1
+    (c.results.ensures.ended done.kept p s t done.begins c.args.steps done.within) (c.in_ok-pieces-in-Ended.ensures ∙ lines_of_vals c.results.result.now)
 
-pub returns-in-Stuck : goal.returns-in-Stuck
-returns-in-Stuck c =
-    let told = ran_stuck c.args.machine.now.program c.args.steps c.args.machine.now c.run.new.self c.requires.first c.in-Stuck.ensures in
-    refuses_same c.refuse-in-Stuck.result (sym (ap run_reply told)) c.refuse-in-Stuck.ensures
+pub returns-in-Running-clause-leaves : goal.returns-in-Running-clause-leaves
+returns-in-Running-clause-leaves g c = λ p s t begins.
+    let h = from_first _ p s t c.args.steps c.args.machine.now c.run.new.self _ (g.O.Sink.held c.args.out.now) (g.O.Sink.held c.run.new.out) c.requires.first begins c.in-Running.ensures.runs in
+    run_refused p s t c.args.steps (g.O.Sink.held c.args.out.now) (g.O.Sink.held c.run.new.out) (Rose (g.O.Sink.faults c.args.out.now) (g.O.Sink.faults c.run.new.out)) Running c.refuse.result h.1 h.0 c.refuse.ensures
 
-pub returns-in-Limit : goal.returns-in-Limit
-returns-in-Limit c =
-    let told = ran_limited c.args.machine.now.program c.args.steps c.in-Limit.name c.args.machine.now c.run.new.self c.requires.first c.in-Limit.ensures in
-    refuses_same c.refuse-in-Limit.result (same_refusal _ _ 9 9 c.run_limit_line.ensures refl ∙ sym (ap run_reply told)) c.refuse-in-Limit.ensures
+pub returns-in-Stuck-clause-leaves : goal.returns-in-Stuck-clause-leaves
+returns-in-Stuck-clause-leaves g c = λ p s t begins.
+    let h = from_first _ p s t c.args.steps c.args.machine.now c.run.new.self _ (g.O.Sink.held c.args.out.now) (g.O.Sink.held c.run.new.out) c.requires.first begins c.in-Stuck.ensures.runs in
+    run_refused p s t c.args.steps (g.O.Sink.held c.args.out.now) (g.O.Sink.held c.run.new.out) (Rose (g.O.Sink.faults c.args.out.now) (g.O.Sink.faults c.run.new.out)) NoRule c.refuse-in-Stuck.result h.1 h.0 c.refuse-in-Stuck.ensures
+
+pub returns-in-Limit-clause-leaves : goal.returns-in-Limit-clause-leaves
+returns-in-Limit-clause-leaves g c = λ p s t begins.
+    let h = from_first _ p s t c.args.steps c.args.machine.now c.run.new.self _ (g.O.Sink.held c.args.out.now) (g.O.Sink.held c.run.new.out) c.requires.first begins c.in-Limit.ensures.runs in
+    run_refused p s t c.args.steps (g.O.Sink.held c.args.out.now) (g.O.Sink.held c.run.new.out) (Rose (g.O.Sink.faults c.args.out.now) (g.O.Sink.faults c.run.new.out)) (Limit c.in-Limit.name) c.refuse-in-Limit.result h.1 h.0
+    (refuses_same c.refuse-in-Limit.result (same_refusal _ _ 9 9 c.run_limit_line.ensures refl) c.refuse-in-Limit.ensures)
+
+pub returns-in-Trapped-clause-leaves : goal.returns-in-Trapped-clause-leaves
+returns-in-Trapped-clause-leaves g c = λ p s t begins.
+    let h = from_first _ p s t c.args.steps c.args.machine.now c.run.new.self _ (g.O.Sink.held c.args.out.now) (g.O.Sink.held c.run.new.out) c.requires.first begins c.in-Trapped.ensures.runs in
+    run_refused p s t c.args.steps (g.O.Sink.held c.args.out.now) (g.O.Sink.held c.run.new.out) (Rose (g.O.Sink.faults c.args.out.now) (g.O.Sink.faults c.run.new.out)) (Traps c.in-Trapped.trap) c.refuse-in-Trapped.result h.1 h.0
+    (refuses_same c.refuse-in-Trapped.result (same_refusal _ _ 1 1 c.trap_line.ensures refl) c.refuse-in-Trapped.ensures)
+
+pub returns-in-WriteFault-clause-leaves : goal.returns-in-WriteFault-clause-leaves
+returns-in-WriteFault-clause-leaves g c = λ p s t begins.
+    let h = from_first _ p s t c.args.steps c.args.machine.now c.run.new.self _ (g.O.Sink.held c.args.out.now) (g.O.Sink.held c.run.new.out) c.requires.first begins c.in-WriteFault.ensures.runs in
+    run_failed p s t c.args.steps (g.O.Sink.held c.args.out.now) (g.O.Sink.held c.run.new.out) (Rose (g.O.Sink.faults c.args.out.now) (g.O.Sink.faults c.run.new.out)) h.1
+    (c.in-WriteFault.ensures.cause (ap (λ (q : Position). q.kept) c.requires.first) refl)
+
+pub returns-in-OutOfMemory-clause-leaves : goal.returns-in-OutOfMemory-clause-leaves
+returns-in-OutOfMemory-clause-leaves g c = λ p s t begins.
+    let h = from_first _ p s t c.args.steps c.args.machine.now c.run.new.self _ (g.O.Sink.held c.args.out.now) (g.O.Sink.held c.run.new.out) c.requires.first begins c.in-OutOfMemory.ensures.runs in
+    run_out p s t c.args.steps (g.O.Sink.held c.args.out.now) (g.O.Sink.held c.run.new.out) (Rose (g.O.Sink.faults c.args.out.now) (g.O.Sink.faults c.run.new.out)) h.1

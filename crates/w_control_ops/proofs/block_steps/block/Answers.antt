@@ -1,6 +1,6 @@
 use Rattle.std.proofs.Common.{ℕ, ◌+◌, ◌∙◌, ap, arith}
 use Rattle.std.proofs.lemmas.Result.{on_ok_weaker}
-use Rattle.w_reductions.specs.Program.{Arity}
+use Rattle.w_reduce.specs.Program.{Arity}
 use Rattle.w_control_ops.specs.Entering.{target_of}
 use Rattle.w_control_ops.proofs.Entering.{same_label}
 use Rattle.w_control_ops.proofs.Blocks.{block_known, block_fits, block_place, block_end, block_follows}

@@ -2,7 +2,7 @@ use Rattle.std.proofs.Common.{ℕ, List, ap, ◌∙◌, slice_get}
 use Rattle.w_syntax.specs.declared.instructions.Op.TheVariants as op
 use Rattle.w_syntax.specs.declared.instructions.ControlOp.TheVariants as control
 use Rattle.w_syntax.specs.declared.numeric.IntType.TheVariants as int
-use Rattle.w_reductions.specs.Control.{label_in}
+use Rattle.w_reduce.specs.Control.{label_in}
 use Rattle.w_stands.specs.Taking.{Number}
 use Rattle.w_control_ops.proofs.Conditions.{table_branching, table_rule, one_there, one_of, table_there, table_follows, dropped_keeps}
 use Rattle.w_control_ops.proofs.branch_steps.br_table.Goals as goal

@@ -1,5 +1,5 @@
 use Rattle.std.proofs.Common.{◌≡◌}
-use Rattle.w_reductions.specs.Start.{own}
+use Rattle.w_reduce.specs.Start.{own}
 use Rattle.w_stands.specs.Values.{store_of}
 use Rattle.w_inst.specs.Adding.{with_functions}
 use Rattle.w_inst.proofs.allocation.add_own.Given as goal

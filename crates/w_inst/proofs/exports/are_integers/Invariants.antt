@@ -1,5 +1,5 @@
 use Rattle.std.proofs.Common.{◌≡◌, drop}
-use Rattle.w_reductions.specs.Start.{are_integers}
+use Rattle.w_reduce.specs.Start.{are_integers}
 use Rattle.w_inst.proofs.exports.are_integers.Given as goal
 
 abbrev pub invariant-loop-kind : goal.invariant-loop-kind

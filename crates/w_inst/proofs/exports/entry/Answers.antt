@@ -3,7 +3,7 @@ use Rattle.std.specs.Prelude.{true, false, codes}
 use Rattle.std.specs.Str.{bytes_eq}
 use Rattle.std.proofs.lemmas.List.{drop_all}
 use Rattle.w_syntax.specs.declared.module.Export.{Export}
-use Rattle.w_reductions.specs.Start.{entry_in, entry_of}
+use Rattle.w_reduce.specs.Start.{entry_in, entry_of}
 use Rattle.w_inst.proofs.Entries.{entry_here, entry_later}
 use Rattle.w_inst.proofs.exports.entry.Goals as goal
 

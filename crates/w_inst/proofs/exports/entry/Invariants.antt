@@ -1,5 +1,5 @@
 use Rattle.std.proofs.Common.{◌≡◌, drop}
-use Rattle.w_reductions.specs.Start.{entry_in}
+use Rattle.w_reduce.specs.Start.{entry_in}
 use Rattle.w_inst.proofs.exports.entry.Given as goal
 
 -- none of the exports so far has the name

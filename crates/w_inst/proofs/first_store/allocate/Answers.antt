@@ -1,10 +1,10 @@
 use Rattle.std.proofs.Common.{◌≡◌, ◌+◌, List, length, map, refl, sym, ap, ◌∙◌, subst, arith}
 use Rattle.std.specs.Prelude.{true}
 use Rattle.w_types.specs.declared.value.Value.{Value}
-use Rattle.w_reductions.specs.Values.{val}
-use Rattle.w_reductions.specs.Store.{Store}
-use Rattle.w_reductions.specs.Program.{Program}
-use Rattle.w_reductions.specs.Start.{bare}
+use Rattle.w_reduce.specs.Values.{val}
+use Rattle.w_reduce.specs.Store.{Store}
+use Rattle.w_reduce.specs.Program.{Program}
+use Rattle.w_reduce.specs.Start.{bare}
 use Rattle.w_stands.specs.Values.{store_of}
 use Rattle.w_inst.specs.Adding.{with_globals}
 use Rattle.w_inst.specs.Constants.{Sees}

@@ -1,6 +1,6 @@
 use Rattle.std.proofs.Common.{sym, ap, ◌∙◌}
 use Rattle.std.specs.Prelude.{Bool}
-use Rattle.w_reductions.specs.Start.{allocated}
+use Rattle.w_reduce.specs.Start.{allocated}
 use Rattle.w_stands.specs.Values.{store_of}
 use Rattle.w_inst.specs.Imports.{found_of}
 use Rattle.w_inst.specs.Segments.{left_by_copy}

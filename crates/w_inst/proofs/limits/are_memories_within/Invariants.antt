@@ -2,7 +2,7 @@ use Rattle.std.proofs.Common.{◌≡◌, drop}
 use Rattle.std.specs.Prelude.{map}
 use Rattle.w_memory.specs.Memory.{page_limit}
 use Rattle.w_syntax.specs.declared.module.Limits.{Limits}
-use Rattle.w_reductions.specs.Start.{none_above}
+use Rattle.w_reduce.specs.Start.{none_above}
 use Rattle.w_inst.proofs.limits.are_memories_within.Given as goal
 
 -- none so far is above

@@ -1,7 +1,7 @@
 use Rattle.std.proofs.Common.{sym, ap, ◌∙◌, arith, map, List}
 use Rattle.std.proofs.lemmas.List.{drop_all}
 use Rattle.w_syntax.specs.declared.module.Elem.{Elem}
-use Rattle.w_reductions.specs.Constants.{value_of}
+use Rattle.w_reduce.specs.Constants.{value_of}
 use Rattle.w_stands.specs.Values.{store_of}
 use Rattle.w_inst.specs.Adding.{with_elements}
 use Rattle.w_inst.proofs.Adding.{added_more, added_all, elements_kind, elements_added}

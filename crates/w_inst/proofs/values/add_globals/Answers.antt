@@ -1,6 +1,6 @@
 use Rattle.std.proofs.Common.{refl}
 use Rattle.w_types.specs.declared.value.Value.TheVariants as value
-use Rattle.w_reductions.specs.Values.{val}
+use Rattle.w_reduce.specs.Values.{val}
 use Rattle.w_stands.specs.Values.{store_of}
 use Rattle.w_inst.specs.Adding.{with_globals}
 use Rattle.w_inst.proofs.Adding.{added_more, globals_kind, global_added}

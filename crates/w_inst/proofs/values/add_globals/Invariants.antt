@@ -1,5 +1,5 @@
 use Rattle.std.proofs.Common.{◌≡◌, drop, map}
-use Rattle.w_reductions.specs.Values.{val}
+use Rattle.w_reduce.specs.Values.{val}
 use Rattle.w_stands.specs.Values.{store_of}
 use Rattle.w_inst.specs.Adding.{with_globals}
 use Rattle.w_inst.proofs.values.add_globals.Given as goal

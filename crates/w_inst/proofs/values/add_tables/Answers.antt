@@ -1,7 +1,7 @@
 use Rattle.std.proofs.Common.{ap, ◌∙◌, arith, map, List}
 use Rattle.std.proofs.lemmas.List.{drop_all}
 use Rattle.w_syntax.specs.declared.module.Table.{Table}
-use Rattle.w_reductions.specs.Start as start
+use Rattle.w_reduce.specs.Start as start
 use Rattle.w_stands.specs.Values.{store_of}
 use Rattle.w_inst.specs.Adding.{with_tables}
 use Rattle.w_inst.proofs.Adding.{added_more, added_all, tables_kind, table_added}

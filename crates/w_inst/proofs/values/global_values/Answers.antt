@@ -1,10 +1,10 @@
 use Rattle.std.proofs.Common.{◌≡◌, sym, subst, arith, List}
 use Rattle.std.proofs.lemmas.List.{drop_all}
 use Rattle.w_types.specs.declared.value.Value.{Value}
-use Rattle.w_reductions.specs.Values.{val}
-use Rattle.w_reductions.specs.Store.{Store}
-use Rattle.w_reductions.specs.Program.{Program}
-use Rattle.w_reductions.specs.Constants.{value_of}
+use Rattle.w_reduce.specs.Values.{val}
+use Rattle.w_reduce.specs.Store.{Store}
+use Rattle.w_reduce.specs.Program.{Program}
+use Rattle.w_reduce.specs.Constants.{value_of}
 use Rattle.w_inst.specs.Constants.{Sees}
 use Rattle.w_inst.proofs.Fitting.{global_constant}
 use Rattle.w_inst.proofs.Valued.{GlobalsFound, globals_first, globals_more, globals_all}

@@ -5,7 +5,7 @@ use Rattle.w_syntax.specs.declared.instructions.VariableOp.TheVariants as variab
 use Rattle.w_segment.specs.Shape.{Shape, locals_of}
 use Rattle.w_segment.specs.Changes.{moved, with_locals, popped}
 use Rattle.w_value_ops.proofs.Keeping.{kept_popped}
-use Rattle.w_reductions.specs.Values.{Val}
+use Rattle.w_reduce.specs.Values.{Val}
 use Rattle.w_stands.specs.Values.{stack}
 use Rattle.w_value_ops.proofs.LocalsRead.{IsSetting, set_needs, set_within, set_place, set_follows}
 use Rattle.w_value_ops.proofs.local_steps.local_set.Goals as goal

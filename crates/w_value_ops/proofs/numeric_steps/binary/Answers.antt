@@ -3,8 +3,8 @@ use Rattle.w_syntax.specs.declared.instructions.Op.TheVariants as op
 use Rattle.w_syntax.specs.declared.numeric.NumericOp.TheVariants as numeric
 use Rattle.w_syntax.specs.declared.numeric.IntType.{IntType}
 use Rattle.w_syntax.specs.declared.numeric.Binop.{Binop}
-use Rattle.w_reductions.specs.Numeric.{width, binop}
-use Rattle.w_reductions.specs.declared.trap.Trap.{Trap}
+use Rattle.w_reduce.specs.Numeric.{width, binop}
+use Rattle.w_reduce.specs.declared.trap.Trap.{Trap}
 use Rattle.w_stands.specs.declared.did.Did.TheVariants as did
 use Rattle.w_stands.specs.Steps.{FollowsAlone}
 use Rattle.w_value_ops.proofs.Joining.{join_needs, join_follows, join_traps, IsJoining}

@@ -1,6 +1,6 @@
 use Rattle.std.proofs.Common.{ap, ◌∙◌}
 use Rattle.std.specs.Prelude.{ℕ}
-use Rattle.w_reductions.specs.Parametric.{selected}
+use Rattle.w_reduce.specs.Parametric.{selected}
 use Rattle.w_value_ops.proofs.Selecting.{select_there, select_number, select_place, select_follows}
 use Rattle.w_value_ops.proofs.parametric_steps.select.Goals as goal
 

@@ -1,8 +1,7 @@
-use Rattle.w_machine.specs.Configuration.{parts}
-use Rattle.w_machine.proofs.Beginnings.{reached_first}
+use Rattle.w_machine.proofs.FirstStep.{begun_with}
 use Rattle.w_machine.proofs.machine.Machine.new.Goals as goal
 
 pub invariant_of-result : goal.invariant_of-result
 invariant_of-result c =
-    reached_first c.args.checked c.module-module.result.now c.args.store (parts c.new-configuration.result) c.entry.result c.unwrap_or-main.result c.requires c.module-module.ensures.valid
-    c.module-module.ensures.same c.entry.ensures c.unwrap_or-main.ensures c.new-configuration.ensures
+    begun_with c.args.instance.main c.in_ok-segment.segment c.module-module.ensures.same c.module-module.ensures.valid
+    (c.are_short.ensures c.if-not-are_short.false) c.requires c.in_ok-functions.ensures.functions c.in_ok-segment.ensures

@@ -1,0 +1,22 @@
+use Rattle.std.proofs.Common.{◌≡◌, sym, ap, subst}
+use Rattle.w_outside.specs.Outside.{Grew, Rose}
+use Rattle.words.specs.declared.request.Action.{Action}
+use Rattle.drive.specs.Answer.{gives, ok_module, built}
+use Rattle.drive.specs.Leaving.{Leaves}
+use Rattle.drive.proofs.Refusals.{gives_same}
+use Rattle.drive.proofs.Replies.{all_left}
+use Rattle.drive.proofs.finishing.finish.Goals as goal
+
+pub returns-in-Check-clause-leaves : goal.returns-in-Check-clause-leaves
+returns-in-Check-clause-leaves g c =
+    let held = g.O.Sink.held c.args.out.now in
+    let rose = Rose (g.O.Sink.faults c.args.out.now) (g.O.Sink.faults c.args.out.now) in
+    subst (λ (a : Action). Leaves (gives a c.args.checked) c.tell.result (Grew held held) rose) (sym c.in-Check.is)
+    (all_left (λ reply. reply ≡ ok_module) held rose c.tell.result c.tell.ensures)
+
+pub returns-in-Build-clause-leaves : goal.returns-in-Build-clause-leaves
+returns-in-Build-clause-leaves g c =
+    let held = g.O.Sink.held c.args.out.now in
+    let rose = Rose (g.O.Sink.faults c.args.out.now) (g.O.Sink.faults c.args.out.now) in
+    subst (λ (a : Action). Leaves (gives a c.args.checked) c.build-output.result (Grew held held) rose) (sym c.in-Build.is)
+    (all_left (λ reply. reply ≡ built c.args.checked) held rose c.build-output.result (gives_same c.build-output.result (ap built c.module.ensures.same) c.build-output.ensures))

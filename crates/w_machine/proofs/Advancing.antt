@@ -1,0 +1,170 @@
+-- A machine that takes a reduction, or is stopped.
+use Rattle.std.proofs.Common.{◌≡◌, ℕ, suc, ◌+◌, ◌≤◌, Bool, true, false, nat_le, if◌then◌else◌, List, [], ◌∷◌, ◌++◌, Option, Some, None, refl, sym, ap, subst, subst₂, ◌∙◌, arith}
+use Rattle.std.specs.Prelude.{Box}
+use Rattle.std.specs.declared.alloc.Global.{Global}
+use Rattle.w_types.specs.Rows.{Row, ε, ◌▹◌, ◌⧺◌, size, row_of}
+use Rattle.w_types.specs.declared.value.Value.{Value}
+use Rattle.w_syntax.specs.Code.{Done}
+use Rattle.w_syntax.specs.declared.module.Module.{Module}
+use Rattle.w_canon.specs.declared.entry.Entry.{Entry}
+use Rattle.w_canon.specs.IsClassesOf.{IsClassesOf}
+use Rattle.w_canon.specs.Tests.{same_test}
+use Rattle.w_canon.proofs.MatchingTests.{same_told}
+use Rattle.w_rules.specs.Matching.{known}
+use Rattle.w_rules.specs.Operands.{Operand}
+use Rattle.w_rules.specs.Valid.{Valid}
+use Rattle.w_rules.proofs.Preorder.{row_size}
+use Rattle.w_tables.specs.Store as instances
+use Rattle.w_segment.specs.declared.segment.Segment.{Segment}
+use Rattle.w_segment.specs.declared.entry.Stage.TheVariants.{Values as AtValues}
+use Rattle.w_segment.specs.Link.{Link, top}
+use Rattle.w_segment.specs.Shape.{Shape, Capacity, fresh_shape}
+use Rattle.w_reduce.specs.declared.limit.RunLimit.TheVariants.{Frames}
+use Rattle.w_reduce.specs.Values.{Val}
+use Rattle.w_reduce.specs.Store.{Store}
+use Rattle.w_reduce.specs.Terms.{Invoke, Rest, Context, Term, frames, most_frames}
+use Rattle.w_reduce.specs.Program.{Program, IsProgram}
+use Rattle.w_reduce.specs.Reduced.{Reduced, Went, Trapped, Limited, Ended, Stuck}
+use Rattle.w_reduce.specs.Reduce.{limited, reduce}
+use Rattle.w_reduce.specs.Run.{Running, RunState, outcome_by, state_at, after_reduction, continued, Run}
+use Rattle.w_stands.specs.Stands.{In, body, fresh, values}
+use Rattle.w_stands.specs.Values.{stack, store_of}
+use Rattle.w_typed.specs.Values.{ValuesTyped, no_values, values as more_values}
+use Rattle.w_types.specs.declared.types.FuncType.{FuncType}
+use Rattle.w_types.specs.declared.types.ValType.{ValType}
+use Rattle.w_typed.specs.Contexts.{Scope, RestTyped, code_alone, invoke_first, Within, outside}
+use Rattle.w_typed.specs.Configurations.{Typed, IsSafe, goes, traps, is_limited, ends, switches}
+use Rattle.w_typed.proofs.Reductions.{reductions_are_safe}
+use Rattle.w_typed.proofs.TypedRuns.{switching_stuck}
+use Rattle.w_machine.specs.Standing.{behind_of, term_at, EndsWith, Stands, StandsSomewhere}
+use Rattle.w_machine.specs.Reducing.{reduced}
+use Rattle.w_machine.specs.Reached.{waiting_of, IsReached}
+use Rattle.w_machine.proofs.Standing.{typed_by}
+
+-- ## Where a machine stands
+
+-- what tells of the module's types
+abbrev pub program_by : (m : Module) → List Entry → Program
+program_by m es = record { source = m; same = same_test es }
+
+pub is_program : (m : Module) (es : List Entry) → IsClassesOf m.types es → IsProgram (program_by m es)
+is_program m es h i j = same_told m.types es h i j
+
+-- a machine that keeps no outcome stands for a configuration
+pub stands_somewhere : {m : Module} {functions : List ℕ} {u : instances.Store} {segment : List Link} {waiting : Option (Box Segment Global)} {n : ℕ} (es : List Entry) → IsClassesOf m.types es
+    → IsReached m functions u segment waiting None n → StandsSomewhere m u (top segment).shape
+stands_somewhere {m = m} {waiting = waiting} es classes h =
+    let p = program_by m es in
+    let start = h.started p refl in
+    let at = h.reached p start.0 start.1 (record { source = refl; program = is_program m es classes; start = start.2 }) in
+    record { waiting = waiting_of waiting; p = p; e = at.around; r = at.rest; stands = at.stands }
+
+-- ## What a reduction that was taken leaves
+
+safe_went : {m : Module} {us : Row Operand} {d : Reduced} {text : List ℕ} {v : Store} {t : Term} → IsSafe m us d → d ≡ Went text v t → Typed m us v t
+safe_went {m = m} {us = us} {v = v} {t = t} (goes {s = old_store} {t = old} h) is =
+    let one : old ≡ t = cc in
+    let store : old_store ≡ v = cc in
+    subst (λ (x : Term). Typed m us v x) one (subst (λ (w : Store). Typed m us w old) store h)
+safe_went traps is = absurd (cc)
+safe_went is_limited is = absurd (cc)
+safe_went (ends h) is = absurd (cc)
+
+pub limited_few : (d : Reduced) (text : List ℕ) (v : Store) (t : Term) → limited d ≡ Went text v t → frames t.around ≤ most_frames
+limited_few (Went out s u) text v t is = few (nat_le (frames u.around) most_frames) refl is
+  where
+    few : (b : Bool) → nat_le (frames u.around) most_frames ≡ b → (if b then Went out s u else Limited Frames) ≡ Went text v t → frames t.around ≤ most_frames
+    few true e is = let same : u ≡ t = cc in subst (λ (x : Term). frames x.around ≤ most_frames) same (grind (arith, e))
+    few false e is = absurd (cc)
+limited_few (Trapped x) text v t is = absurd (cc)
+limited_few (Limited l) text v t is = absurd (cc)
+limited_few (Ended vs) text v t is = absurd (cc)
+limited_few Stuck text v t is = absurd (cc)
+
+module _ {m : Module} {waiting : Option ℕ} {u : instances.Store} {s : Shape} {p : Program} {e : Context} {r : Rest} (valid : Valid m) (h : Stands m waiting u s p e r) where
+  went_if : {text : List ℕ} {v : Store} {t : Term} (b : Bool) → switches r.ahead r.code ≡ b → reduced p e r u s ≡ Went text v t → Typed p.source h.results v t
+  went_if true is went = let stuck = ap limited (switching_stuck p (store_of u) e (stack s.operands) r.ahead r.code is) in absurd (cc)
+  went_if false is went = safe_went (reductions_are_safe p h.results (store_of u) (term_at s e r) h.program (subst Valid (sym h.source) valid) (typed_by h) is) went
+
+  -- it is typed again
+  pub went_typed : {text : List ℕ} {v : Store} {t : Term} → reduced p e r u s ≡ Went text v t → Typed m h.results v t
+  went_typed {v = v} {t = t} went = subst (λ (n : Module). Typed n h.results v t) h.source (went_if (switches r.ahead r.code) refl went)
+
+-- ## Main's turn
+
+size_nothing : (xs : Row Operand) → size xs ≡ 0 → xs ≡ ε
+size_nothing ε e = refl
+size_nothing (xs ▹ x) e = absurd (cc)
+
+size_beside : (xs ys : Row Operand) → size (xs ⧺ ys) ≡ size xs + size ys
+size_beside xs ε = omega arith
+size_beside xs (ys ▹ y) = omega (arith, size_beside xs ys)
+
+no_operand : (m : Module) {vs : Row Val} {ts : Row Operand} → ValuesTyped m vs ts → size ts ≡ 0 → vs ≡ ε
+no_operand m no_values e = refl
+no_operand m (more_values h v) e = absurd (cc)
+
+outside_size : (m : Module) {us : Row Operand} {c : Scope} {now : List Bool} {out : Row Operand} → Within m us [] c now out → size out ≡ size us
+outside_size m {us = us} {out = out} (outside r) = row_size m.types out us r
+
+done_size : (m : Module) {c : Scope} {set : List Bool} {ts out : Row Operand} → RestTyped m c set [] Done ts out → size ts ≡ size out
+done_size m {ts = ts} {out = out} (code_alone h) = row_size m.types ts out h.derives
+
+-- before main's invoke, with nothing around it, there are no operands
+invoke_alone : (m : Module) {us : Row Operand} {main : ℕ} {vs : Row Val} {c : Scope} {set now : List Bool} {ts out : Row Operand} → EndsWith m us main → ValuesTyped m vs ts
+    → RestTyped m c set (Invoke main ∷ []) Done ts out → Within m us [] c now out → vs ≡ ε
+invoke_alone m {us = us} {ts = ts} {out = out} last v (invoke_first {t = t} beneath is takes h) w =
+    let same : t ≡ last.type = (let one = is in let two = last.has_type in cc) in
+    let results : size (known (row_of t.results)) ≡ size us = ap (λ (f : FuncType). size (known (row_of f.results))) same ∙ sym (ap size last.is) in
+    let whole = size_beside beneath (known (row_of t.results)) in
+    let ended = done_size m h ∙ outside_size m w in
+    let nothing : size beneath ≡ 0 = omega (arith, results, whole, ended) in
+    let params : t.params ≡ [] = ap (λ (f : FuncType). f.params) same ∙ last.no_params in
+    let taken : size (known (row_of t.params)) ≡ 0 = ap (λ (l : List ValType). size (known (row_of l))) params in
+    let all = row_size m.types ts (beneath ⧺ known (row_of t.params)) takes in
+    let split = size_beside beneath (known (row_of t.params)) in
+    no_operand m v (omega (arith, nothing, taken, all, split))
+
+empty_stack : (vs : List Value) → stack vs ≡ ε → vs ≡ []
+empty_stack [] e = refl
+empty_stack (v ∷ vs) e = absurd (cc)
+
+-- ## The run goes on
+
+-- the reduction of the configuration that the run is at
+pub state_went : (p : Program) {n : ℕ} {r : RunState} {v : Store} {t : Term} {text : List ℕ} {w : Store} {x : Term} → r ≡ state_at p n r.output v t → reduce p v t ≡ Went text w x
+    → (r.outcome ≡ Running) × (continued p r r.outcome ≡ state_at p (n + 1) (r.output ++ text) w x)
+state_went p {n = n} {r = r} {v = v} {t = t} {text = text} {w = w} {x = x} at went =
+    let running : r.outcome ≡ Running = ap (λ (q : RunState). q.outcome) at ∙ ap outcome_by went in
+    let store : r.store ≡ v = ap (λ (q : RunState). q.store) at in
+    let term : r.term ≡ t = ap (λ (q : RunState). q.term) at in
+    let taken : suc r.taken ≡ n + 1 = (let k : r.taken ≡ n = ap (λ (q : RunState). q.taken) at in omega (arith, k)) in (
+      running,
+      ap (continued p r) running
+          ∙ ap (λ (s : Store). after_reduction p r (reduce p s r.term)) store
+          ∙ ap (λ (u : Term). after_reduction p r (reduce p v u)) term
+          ∙ ap (after_reduction p r) went
+          ∙ ap (λ (k : ℕ). state_at p k (r.output ++ text) w x) taken,
+    )
+
+pub next_run : (p : Program) (s₀ : Store) (t₀ : Term) (n : ℕ) → Run p s₀ t₀ (n + 1) ≡ continued p (Run p s₀ t₀ n) (Run p s₀ t₀ n).outcome
+next_run p s₀ t₀ n = ap (Run p s₀ t₀) (let e : n + 1 ≡ suc n = omega arith in e)
+
+-- ## The segment that runs next
+
+pub fresh_in : {m : Module} (main : ℕ) (c : Capacity) {e : Context} {r : Rest} → e ≡ [] → r ≡ behind_of (Some main) → In m [] (behind_of None) (fresh_shape main c) e r
+fresh_in {m = m} main c {e = e} {r = r} outer behind =
+    subst (λ (x : Context). In m [] (behind_of None) (fresh_shape main c) x r) (sym outer)
+    (subst (λ (x : Rest). In m [] (behind_of None) (fresh_shape main c) [] x) (sym behind) (fresh refl refl))
+
+pub left_there : {m : Module} {outer : Context} {behind : Rest} {s : Shape} {e : Context} {r : Rest} → In m outer behind s e r → s.stage ≡ AtValues → (e ≡ outer) × (r ≡ behind)
+left_there (body h k w) b = absurd (cc)
+left_there (fresh h k) b = absurd (cc)
+left_there (values h k) b = (refl, refl)
+
+-- where main's turn comes there are no operands
+pub turn_empty : {m : Module} {us : Row Operand} {v : Store} (s : Shape) {e : Context} {r : Rest} {main : ℕ} → EndsWith m us main → Typed m us v (term_at s e r) → e ≡ []
+    → r ≡ behind_of (Some main) → s.operands ≡ []
+turn_empty {m = m} {us = us} {v = v} s {main = main} last h outer behind =
+    let at = subst₂ (λ (x : Context) (y : Rest). Typed m us v (term_at s x y)) outer behind h in
+    empty_stack s.operands (invoke_alone m last at.term.operands at.term.rest at.term.around)

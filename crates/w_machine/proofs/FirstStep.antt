@@ -1,0 +1,111 @@
+-- Where a machine begins.
+use Rattle.std.proofs.Common.{◌≡◌, ℕ, List, [], ◌∷◌, ◌++◌, Option, Some, None, refl, sym, ap, subst, subst₂, ◌∙◌, arith}
+use Rattle.std.specs.Prelude.{Box}
+use Rattle.std.specs.declared.alloc.Global.{Global}
+use Rattle.w_types.specs.Rows.{ε, row_of}
+use Rattle.w_syntax.specs.Code.{Done}
+use Rattle.w_syntax.specs.declared.module.Module.{Module}
+use Rattle.w_rules.specs.Matching.{known}
+use Rattle.w_rules.specs.Spaces.{functions_of, context_of}
+use Rattle.w_rules.specs.Context.{type_of_func}
+use Rattle.w_rules.specs.Valid.{Valid}
+use Rattle.w_tables.specs.Store as instances
+use Rattle.w_segment.specs.declared.segment.Segment.{Segment}
+use Rattle.w_segment.specs.Link.{Link, top, one}
+use Rattle.w_segment.specs.Shape.{Capacity, fresh_shape}
+use Rattle.w_reduce.specs.Store.{Store}
+use Rattle.w_reduce.specs.Terms.{Invoke, Term}
+use Rattle.w_reduce.specs.Program.{Program}
+use Rattle.w_reduce.specs.Run.{state_at, Run}
+use Rattle.w_reduce.specs.Start.{Ready, invokes, start_term}
+use Rattle.w_stands.specs.Code.{AllShort}
+use Rattle.w_stands.specs.Stands.{fresh}
+use Rattle.w_stands.specs.Values.{store_of}
+use Rattle.w_typed.specs.Configurations.{Typed, StartsTyped}
+use Rattle.w_typed.proofs.Starting.{starts_typed}
+use Rattle.w_machine.specs.Standing.{term_at, EndsWith}
+use Rattle.w_machine.specs.Beginning.{Begins, BeginsWith}
+use Rattle.w_machine.specs.Reached.{waiting_of, IsFresh, IsAt, AreFirst, IsReached}
+
+-- which function runs first, and which waits
+pub data First (m : Module) (main : ℕ) : ℕ → Option ℕ → Type 0 where
+  main_alone : m.start ≡ None → First m main main None
+  start_first : {f : ℕ} → m.start ≡ Some f → First m main f (Some main)
+
+-- the first term
+first_term : {m : Module} {main f : ℕ} {waiting : Option ℕ} (c : Capacity) → First m main f waiting
+    → start_term m main ≡ term_at (fresh_shape f c) [] (record { ahead = Invoke f ∷ invokes waiting; code = Done })
+first_term {main = main} c (main_alone is) = ap (λ (o : Option ℕ). let t : Term = record { around = []; operands = ε; rest = record { ahead = invokes o ++ Invoke main ∷ []; code = Done } } in t) is
+first_term {main = main} c (start_first is) = ap (λ (o : Option ℕ). let t : Term = record { around = []; operands = ε; rest = record { ahead = invokes o ++ Invoke main ∷ []; code = Done } } in t) is
+
+one_main : (m : Module) {main other f : ℕ} → m.start ≡ Some f → start_term m main ≡ start_term m other → main ≡ other
+one_main m {main = main} {other = other} {f = f} is e =
+    let lists : invokes m.start ++ Invoke main ∷ [] ≡ invokes m.start ++ Invoke other ∷ [] = ap (λ (t : Term). t.rest.ahead) e in
+    let ends : Invoke f ∷ Invoke main ∷ [] ≡ Invoke f ∷ Invoke other ∷ [] =
+    subst (λ (o : Option ℕ). invokes o ++ Invoke main ∷ [] ≡ invokes o ++ Invoke other ∷ []) is lists in
+    cc
+
+ends_with : {m : Module} {main f : ℕ} {waiting : Option ℕ} {t : Term} {s : Store} → First m main f waiting → t ≡ start_term m main → (h : StartsTyped m s t) → (g : ℕ) → waiting ≡ Some g
+    → EndsWith m (known (row_of h.type.results)) g
+ends_with (main_alone is) e h g waits = absurd (cc)
+ends_with {m = m} {main = main} (start_first is) e h g waits =
+    let same : h.main ≡ main = one_main m is (sym h.begins ∙ e) in
+    let here : h.main ≡ g = same ∙ (let k : main ≡ g = cc in k) in
+    record { type = h.type; has_type = subst (λ (x : ℕ). type_of_func (context_of m) x ≡ Some h.type) here h.has_type; no_params = h.no_params; is = refl }
+
+-- the run begins where store and stack stand
+first_at : {m : Module} {u : instances.Store} {main f : ℕ} {waiting : Option ℕ} (c : Capacity) → Valid m → AllShort m → BeginsWith m u main → First m main f waiting
+    → (p : Program) (s₀ : Store) (t₀ : Term) → Begins m p s₀ t₀ → IsAt m waiting u (fresh_shape f c) 0 p (Run p s₀ t₀ 0)
+first_at {m = m} {u = u} {main = main} {f = f} {waiting = waiting} c valid short with_this first p s₀ t₀ begins =
+    let one : Ready s₀ t₀ ≡ Ready (store_of u) (start_term m main) = sym begins.start ∙ with_this p begins.source in
+    let store : s₀ ≡ store_of u = cc in
+    let term : t₀ ≡ start_term m main = cc in
+    let typed = subst (λ (n : Module). StartsTyped n s₀ t₀) begins.source (starts_typed p s₀ t₀ begins.program (subst Valid (sym begins.source) valid) begins.start) in
+    let there = term ∙ first_term c first in
+    record {
+      around = [];
+      rest = record { ahead = Invoke f ∷ invokes waiting; code = Done };
+      stands = record {
+        source = begins.source;
+        program = begins.program;
+        short = short;
+        stands = fresh refl refl;
+        results = known (row_of typed.type.results);
+        typed = subst₂ (λ (s : Store) (t : Term). Typed m (known (row_of typed.type.results)) s t) store there typed.typed;
+        ends = ends_with first term typed;
+        few = omega arith;
+        done = λ e. absurd (cc);
+      };
+      is = ap (λ (s : Store). state_at p 0 [] s t₀) store ∙ ap (λ (t : Term). state_at p 0 [] (store_of u) t) there;
+    }
+
+-- a machine begins
+begun : {m : Module} {functions : List ℕ} {u : instances.Store} {main f : ℕ} {segment : List Link} {waiting : Option (Box Segment Global)} (c : Capacity) → Valid m → AllShort m
+    → BeginsWith m u main → functions ≡ functions_of m → First m main f (waiting_of waiting) → segment ≡ one (fresh_shape f c) 0 → IsFresh waiting
+    → IsReached m functions u segment waiting None 0
+begun {m = m} {functions = functions} {u = u} {main = main} {f = f} {waiting = waiting} c valid short with_this functions_are first is fresh_one =
+    subst (λ (l : List Link). IsReached m functions u l waiting None 0) (sym is) (record {
+      functions_are = functions_are;
+      some = omega arith;
+      fresh = fresh_one;
+      bound = omega arith;
+      started = λ p e. (store_of u, start_term m main, with_this p e);
+      reached = first_at c valid short with_this first;
+    })
+
+-- by the segments that it begins with
+begun_by : {m : Module} {functions : List ℕ} {u : instances.Store} (main : ℕ) (segment : Box Segment Global) {waiting : Option (Box Segment Global)} (start : Option ℕ) → Valid m
+    → AllShort m → BeginsWith m u main → functions ≡ functions_of m → m.start ≡ start → AreFirst start main segment waiting → IsReached m functions u segment.value waiting None 0
+begun_by {m = m} {functions = functions} {u = u} main segment None valid short with_this functions_are is (new, alone) =
+    subst (λ (w : Option (Box Segment Global)). IsReached m functions u segment.value w None 0) (sym alone)
+    (begun new.capacity valid short with_this functions_are (main_alone is) new.is tt)
+begun_by {m = m} {functions = functions} {u = u} main segment (Some f) valid short with_this functions_are is (new, (b, waits, other)) =
+    let shape : (top b.value).shape.func ≡ main = ap (λ (l : List Link). (top l).shape.func) other.is in
+    subst (λ (w : Option (Box Segment Global)). IsReached m functions u segment.value w None 0) (sym waits)
+    (begun new.capacity valid short with_this functions_are (subst (λ (x : ℕ). First m main f (Some x)) (sym shape) (start_first is)) new.is (main, other.capacity, other.is))
+
+pub begun_with : {m n : Module} {functions : List ℕ} {u : instances.Store} (main : ℕ) (segment : Box Segment Global) {waiting : Option (Box Segment Global)} → n ≡ m → Valid m
+    → AllShort n → BeginsWith m u main → functions ≡ functions_of n → AreFirst n.start main segment waiting → IsReached m functions u segment.value waiting None 0
+begun_with {m = m} {n = n} {functions = functions} {u = u} main segment {waiting = waiting} same valid short with_this functions_are first =
+    subst (λ (x : Module). IsReached x functions u segment.value waiting None 0) same
+    (begun_by main segment n.start (subst Valid (sym same) valid) short (subst (λ (x : Module). BeginsWith x u main) (sym same) with_this) functions_are refl first)

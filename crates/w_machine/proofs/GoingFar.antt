@@ -1,0 +1,189 @@
+-- Runs of many reductions.
+use Rattle.std.proofs.Common.{◌≡◌, ℕ, zero, suc, ◌+◌, ◌-◌, ◌<◌, ◌≤◌, Bool, true, false, is_some, List, [], ◌++◌, Option, Some, None, refl, sym, ap, subst, ◌∙◌, arith, append-nil, append_assoc}
+use Rattle.w_outside.proofs.Growth.{grew_more}
+use Rattle.w_reduce.specs.Store.{Store}
+use Rattle.w_reduce.specs.Terms.{Term}
+use Rattle.w_reduce.specs.Program.{Program}
+use Rattle.w_reduce.specs.Run.{Outcome, Running, Values, Traps, Limit, NoRule, RunState, continued, Run}
+use Rattle.w_machine.specs.declared.outcome.Kept.{Kept}
+use Rattle.w_machine.specs.declared.outcome.Kept.TheVariants as kept
+use Rattle.w_machine.specs.Beginning.{Begins}
+use Rattle.w_machine.specs.Position.{Position, Tells, counted, is_fault, Printed, PrintedAtMost, PrintedIf, StepsFrom, Steps, ToldBy, RunsFrom, Runs}
+use Rattle.w_machine.proofs.Stopping.{counts_one, output_grows}
+
+-- ## A run that doesn't go on stays
+
+stays : (p : Program) (r : RunState) (o : Outcome) → (o ≡ Running → ⊥) → continued p r o ≡ r
+stays p r Running h = absurd (h refl)
+stays p r (Values vs) h = refl
+stays p r (Traps t) h = refl
+stays p r (Limit name) h = refl
+stays p r NoRule h = refl
+
+module _ (p : Program) (s : Store) (t : Term) where
+  settled : (n k : ℕ) → ((Run p s t n).outcome ≡ Running → ⊥) → Run p s t (k + n) ≡ Run p s t n
+  settled n zero h = ap (Run p s t) (let e : 0 + n ≡ n = omega arith in e)
+  settled n (suc k) h =
+      let e : suc k + n ≡ suc (k + n) = omega arith in
+      ap (Run p s t) e ∙ ap (λ (r : RunState). continued p r r.outcome) (settled n k h) ∙ stays p (Run p s t n) (Run p s t n).outcome h
+
+  -- as far as one likes
+  pub settled_at : (n m : ℕ) → n ≤ m → ((Run p s t n).outcome ≡ Running → ⊥) → Run p s t m ≡ Run p s t n
+  settled_at n m le h = ap (Run p s t) (let e : m ≡ (m - n) + n = omega (arith, le) in e) ∙ settled n (m - n) h
+
+  -- ## What is printed
+
+  output_far : (n k : ℕ) → (text : List ℕ) × ((Run p s t (k + n)).output ≡ (Run p s t n).output ++ text)
+  output_far n zero = ([], ap (λ (x : ℕ). (Run p s t x).output) (let e : 0 + n ≡ n = omega arith in e) ∙ sym (append-nil (Run p s t n).output))
+  output_far n (suc k) =
+      let far = output_far n k in
+      let one = output_grows p s t (k + n) in (
+        far.0 ++ one.0,
+        ap (λ (x : ℕ). (Run p s t x).output) (let e : suc k + n ≡ (k + n) + 1 = omega arith in e) ∙ one.1 ∙ ap (λ (l : List ℕ). l ++ one.0) far.1
+            ∙ append_assoc (Run p s t n).output far.0 one.0,
+      )
+
+-- one print after another
+printed_more : {q r u : RunState} {a b c : Option (List ℕ)} → Printed q r a b → Printed r u b c → Printed q u a c
+printed_more {q = q} {a = a} {b = b} {c = c} h k = record {
+  text = h.text ++ k.text;
+  is = k.is ∙ ap (λ (l : List ℕ). l ++ k.text) h.is ∙ append_assoc q.output h.text k.text;
+  grew = grew_more a b c h.text k.text h.grew k.grew;
+}
+
+part_more : {q r u : RunState} {a b c : Option (List ℕ)} (rest : List ℕ) → Printed q r a b → (k : PrintedAtMost r u b c) → (v : RunState) → v.output ≡ u.output ++ rest → PrintedAtMost q v a c
+part_more {q = q} {r = r} {u = u} {a = a} {b = b} {c = c} rest h k v far = record {
+  text = h.text ++ (k.text ++ rest);
+  is = far ∙ ap (λ (l : List ℕ). l ++ rest) (k.is ∙ ap (λ (l : List ℕ). l ++ k.text) h.is ∙ append_assoc q.output h.text k.text)
+      ∙ append_assoc q.output (h.text ++ k.text) rest ∙ ap (λ (l : List ℕ). q.output ++ l) (append_assoc h.text k.text rest);
+  grew = record {
+    part = h.text ++ k.grew.part;
+    front = record {
+      rest = k.grew.front.rest ++ rest;
+      joined = append_assoc h.text k.grew.part (k.grew.front.rest ++ rest)
+          ∙ ap (λ (l : List ℕ). h.text ++ l) (sym (append_assoc k.grew.part k.grew.front.rest rest) ∙ ap (λ (l : List ℕ). l ++ rest) k.grew.front.joined);
+    };
+    grew = grew_more a b c h.text k.grew.part h.grew k.grew.grew;
+  };
+}
+
+-- ## The steps of a run
+
+-- p is where the run began, and i steps took a reduction
+abbrev At : Position → ℕ → Position
+At old i = record old { taken = old.taken + i }
+
+step_from : (old l new : Position) (i : ℕ) (r : Option Kept) (b a : Option (List ℕ)) → l ≡ At old i → old.kept ≡ None → Steps l r new b a → StepsFrom None (At old i) r new b a
+step_from old l new i r b a at none h =
+    subst (λ (o : Option Kept). StepsFrom o (At old i) r new b a) none (subst (λ (x : Position). Steps x r new b a) at h)
+
+module _ (old l new : Position) (i steps : ℕ) (first b a : Option (List ℕ)) (at : l ≡ At old i) (none : old.kept ≡ None)
+    (printed : (p : Program) (s : Store) (t : Term) → Begins old.program p s t → Printed (Run p s t old.taken) (Run p s t (old.taken + i)) first b) where
+  one_further : old.taken + i + 1 ≡ old.taken + (i + 1)
+  one_further = omega arith
+
+  -- it took one more
+  pub took_more : (r : Option Kept) → false ≡ is_some r → Steps l r new b a → new ≡ At old (i + 1)
+  took_more None e h = (step_from old l new i None b a at none h).0 ∙ ap (λ (n : ℕ). let q : Position = record old { taken = n } in q) one_further
+  took_more (Some k) e h = absurd (cc)
+
+  pub printed_further : (r : Option Kept) → false ≡ is_some r → Steps l r new b a
+      → (p : Program) (s : Store) (t : Term) → Begins old.program p s t → Printed (Run p s t old.taken) (Run p s t (old.taken + (i + 1))) first a
+  printed_further None e h p s t begins =
+      subst (λ (n : ℕ). Printed (Run p s t old.taken) (Run p s t n) first a) one_further
+      (printed_more (printed p s t begins) ((step_from old l new i None b a at none h).1 p s t begins).1)
+  printed_further (Some k) e h p s t begins = absurd (cc)
+
+  -- ## It was stopped
+
+  not_running : (k : Kept) (o : Outcome) → is_fault k ≡ false → Tells k o → o ≡ Running → ⊥
+  not_running kept.Ended o f h e = let g = h.1 in absurd (cc)
+  not_running kept.Stuck o f h e = absurd (cc)
+  not_running (kept.Limit name) o f h e = absurd (cc)
+  not_running (kept.Trapped t) o f h e = absurd (cc)
+  not_running kept.WriteFault o f h e = absurd (cc)
+  not_running kept.OutOfMemory o f h e = absurd (cc)
+
+  fault_told : (k : Kept) (o : Outcome) → is_fault k ≡ true → Tells k o
+  fault_told kept.Ended o f = absurd (cc)
+  fault_told kept.Stuck o f = absurd (cc)
+  fault_told (kept.Limit name) o f = absurd (cc)
+  fault_told (kept.Trapped t) o f = absurd (cc)
+  fault_told kept.WriteFault o f = tt
+  fault_told kept.OutOfMemory o f = tt
+
+  stop_told : (k : Kept) (f : Bool) → is_fault k ≡ f → (c : ℕ) → c ≡ counted k → c ≤ 1 → i < steps → (p : Program) (s : Store) (t : Term) → Begins old.program p s t
+      → Tells k (Run p s t (old.taken + i + c)).outcome → PrintedIf f (Run p s t (old.taken + i)) (Run p s t (old.taken + i + 1)) b a
+      → Tells k (Run p s t (old.taken + steps)).outcome × PrintedIf f (Run p s t old.taken) (Run p s t (old.taken + steps)) first a
+  stop_told k true f c count one lt p s t begins tells print =
+      let far = output_far p s t (old.taken + i + 1) (old.taken + steps - (old.taken + i + 1)) in
+      let e : old.taken + steps - (old.taken + i + 1) + (old.taken + i + 1) ≡ old.taken + steps = omega (arith, lt) in (
+        fault_told k (Run p s t (old.taken + steps)).outcome f,
+        part_more far.0 (printed p s t begins) print (Run p s t (old.taken + steps)) (ap (λ (n : ℕ). (Run p s t n).output) (sym e) ∙ far.1),
+      )
+  stop_told k false f c count one lt p s t begins tells print =
+      let apart = not_running k (Run p s t (old.taken + i + c)).outcome f tells in
+      let last = settled_at p s t (old.taken + i + c) (old.taken + steps) (omega (arith, lt, one)) apart in
+      let next = settled_at p s t (old.taken + i + c) (old.taken + i + 1) (omega (arith, lt, one)) apart in (
+        subst (λ (q : RunState). Tells k q.outcome) (sym last) tells,
+        subst (λ (q : RunState). Printed (Run p s t old.taken) q first a) (next ∙ sym last) (printed_more (printed p s t begins) print),
+      )
+
+  run_from : (r : Option Kept) → true ≡ is_some r → i < steps → StepsFrom None (At old i) r new b a → RunsFrom None old steps r new first a
+  run_from None e lt h = absurd (cc)
+  run_from (Some k) e lt h =
+      let one = counts_one k in
+      let n : old.taken + i + counted k ≡ old.taken + (i + counted k) = omega arith in (
+        i + counted k,
+        omega (arith, lt, one),
+        h.0 ∙ ap (λ (x : ℕ). let q : Position = record old { taken = x; kept = Some k } in q) n,
+        λ p s t begins.
+            stop_told k (is_fault k) refl (counted k) refl one lt p s t begins (h.1 p s t begins).0 (h.1 p s t begins).1,
+      )
+
+  -- a step that stopped stops the run
+  pub run_stopped : (r : Option Kept) → true ≡ is_some r → i < steps → Steps l r new b a → Runs old steps r new first a
+  run_stopped r e lt h = subst (λ (o : Option Kept). RunsFrom o old steps r new first a) (sym none) (run_from r e lt (step_from old l new i r b a at none h))
+
+  -- ## All steps were taken
+
+  told_from : (r : Option Kept) → i ≡ steps → ToldBy (At old i) r new → RunsFrom None old steps r new first b
+  told_from None e h = (
+    i,
+    e,
+    h.0,
+    λ p s t begins. (
+      subst (λ (n : ℕ). (Run p s t (old.taken + n)).outcome ≡ Running) e (h.2 p s t begins),
+      subst (λ (n : ℕ). Printed (Run p s t old.taken) (Run p s t (old.taken + n)) first b) e (printed p s t begins),
+    ),
+  )
+  told_from (Some k) e h = (
+    i,
+    omega (arith, e),
+    h.0,
+    λ p s t begins. (
+      subst (λ (n : ℕ). Tells k (Run p s t (old.taken + n)).outcome) e (h.2 p s t begins),
+      subst (λ (f : Bool). PrintedIf f (Run p s t old.taken) (Run p s t (old.taken + steps)) first b) (sym h.1)
+          (subst (λ (n : ℕ). Printed (Run p s t old.taken) (Run p s t (old.taken + n)) first b) e (printed p s t begins)),
+    ),
+  )
+
+  -- and what is told then is told of the run
+  pub run_told : (r : Option Kept) → i ≡ steps → ToldBy l r new → Runs old steps r new first b
+  run_told r e h =
+      subst (λ (o : Option Kept). RunsFrom o old steps r new first b) (sym none) (told_from r e (subst (λ (x : Position). ToldBy x r new) at h))
+
+-- ## Where an outcome is kept
+
+kept_runs : (old : Position) (steps : ℕ) (k : Option Kept) (b : Option (List ℕ)) → true ≡ is_some k → RunsFrom k old steps k old b b
+kept_runs old steps None b e = absurd (cc)
+kept_runs old steps (Some k) b e = (refl, refl, refl)
+
+-- it is told again
+pub runs_kept : (old : Position) (steps : ℕ) (k : Option Kept) (b : Option (List ℕ)) → k ≡ old.kept → true ≡ is_some k → Runs old steps k old b b
+runs_kept old steps k b same e = subst (λ (o : Option Kept). RunsFrom o old steps k old b b) same (kept_runs old steps k b e)
+
+-- what is told is no fault
+pub no_write_fault : (old new : Position) (r : Option Kept) → ToldBy old r new → r ≡ Some kept.WriteFault → ⊥
+no_write_fault old new None h e = absurd (cc)
+no_write_fault old new (Some k) h e = let same : k ≡ kept.WriteFault = cc in let f : is_fault k ≡ false = h.1 in let g = ap is_fault same in absurd (cc)

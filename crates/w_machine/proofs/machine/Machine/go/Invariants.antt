@@ -1,0 +1,18 @@
+use Rattle.std.proofs.Common.{◌≡◌, ◌+◌, ◌≤◌, None}
+use Rattle.w_reduce.specs.Store.{Store}
+use Rattle.w_reduce.specs.Terms.{Term}
+use Rattle.w_reduce.specs.Program.{Program}
+use Rattle.w_reduce.specs.Run.{Run}
+use Rattle.w_machine.specs.Beginning.{Begins}
+use Rattle.w_machine.specs.Position.{Printed}
+use Rattle.w_machine.proofs.machine.Machine.go.Given as goal
+
+-- each step so far took a reduction, and the sink grew by what it printed
+abbrev pub invariant-loop : goal.invariant-loop
+invariant-loop g l = record {
+  taken : l.self ≡ record l.fn.self { taken = l.fn.self.taken + l.counter };
+  none_kept : l.fn.self.kept ≡ None;
+  printed : (p : Program) (s : Store) (t : Term) → Begins l.fn.self.program p s t
+      → Printed (Run p s t l.fn.self.taken) (Run p s t (l.fn.self.taken + l.counter)) (g.O.Sink.held l.fn.out) (g.O.Sink.held l.out);
+  later : g.O.Sink.faults l.fn.out ≤ g.O.Sink.faults l.out;
+}

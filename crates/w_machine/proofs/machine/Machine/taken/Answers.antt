@@ -1,0 +1,5 @@
+use Rattle.w_machine.proofs.Results.{machine_counts}
+use Rattle.w_machine.proofs.machine.Machine.taken.Goals as goal
+
+pub returns-clause-counts : goal.returns-clause-counts
+returns-clause-counts c = machine_counts c.args.self.now c.self.invariant c.self.view_is

@@ -1,7 +1,0 @@
-use Rattle.w_runs.proofs.FirstStep.{begun_with}
-use Rattle.w_runs.proofs.machine.Machine.new.Goals as goal
-
-pub invariant_of-result : goal.invariant_of-result
-invariant_of-result c =
-    begun_with c.args.instance.main c.in_ok-segment.segment c.module-module.ensures.same c.module-module.ensures.valid
-    (c.are_short.ensures c.if-not-are_short.false) c.requires c.in_ok-functions.ensures.functions c.in_ok-segment.ensures

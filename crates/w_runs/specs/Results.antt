@@ -1,9 +1,0 @@
--- The results of a run.
-use Rattle.std.specs.Prelude.{◌≡◌, List}
-use Rattle.w_types.specs.Rows.{Row, listed}
-use Rattle.w_reductions.specs.Values.{Val}
-use Rattle.w_reductions.specs.Run.{Outcome, Values}
-
--- the run ended with these
-abbrev pub HasResults : Outcome → List Val → Type 0
-HasResults o vs = (row : Row Val) × (o ≡ Values row) × (vs ≡ listed row)

@@ -1,9 +1,0 @@
-//! The machine: a store, and a run of a module that does what the reduction rules say.
-#![tactic(auto)]
-
-mod machine;
-mod outcome;
-mod reduction;
-
-pub use machine::Machine;
-pub use outcome::{Kept, Outcome, Stepped};
