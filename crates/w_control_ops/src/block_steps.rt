@@ -44,6 +44,7 @@ fn function_arity(kind: &FuncType) -> Result<Arity, AllocError>
 }
 
 // The arity of a block type, where it has one.
+#[inline(always)]
 fn block_arity(program: &Module, block_type: BlockType) -> Result<Arity, AllocError>
     requires known { IsSome (arity_of program.now block_type) }
     ensures ok { IfOk result (λ a. arity_of program.now block_type ≡ Some (record { params = a.params; results = a.results })) }
@@ -66,6 +67,7 @@ fn block_arity(program: &Module, block_type: BlockType) -> Result<Arity, AllocEr
 
 // Takes operands off, enters a label around those beneath, and goes to a place. It fails only when out of memory, and then all is as
 // before but for room.
+#[inline(always)]
 fn enter(stack: &mut Stack, taken: usize, label: Label, place: u32) -> Result<(), AllocError>
     requires there { taken + label.params ≤ length stack.old.operands }
     ensures after { OnOk result (IsLabelled taken label.params label.arity label.target place stack.old stack.new) }
@@ -83,6 +85,7 @@ fn enter(stack: &mut Stack, taken: usize, label: Label, place: u32) -> Result<()
 }
 
 // The label of a block at a place: it leads behind the block's end with the results, and that of a loop back to it with the parameters.
+#[inline(always)]
 fn label_of(kind: BlockKind, arity: Arity, place: u32, end: u32) -> Label
     requires end { end + 1 < 2 ^ 32 }
     ensures params { result.params ≡ arity.params }
@@ -105,6 +108,7 @@ fn label_of(kind: BlockKind, arity: Arity, place: u32, end: u32) -> Label
 
 /// `block` and `loop`, by the place of the end (Core, execution, control instructions: block, loop). It fails only when out of memory,
 /// and then the stack is as it was but for room.
+#[inline(always)]
 pub fn block(
     program: &Module,
     stack: &mut Stack,
@@ -124,7 +128,7 @@ pub fn block(
 }
 
 // Where the contents of an if begin that a number chooses; an if without an else has none for 0, and these stand at its end.
-#[inline]
+#[inline(always)]
 fn start_of(number: u32, place: u32, otherwise: Option<u32>, end: u32) -> u32
     requires fits { start number place otherwise end < 2 ^ 32 }
     ensures { result ≡ start number place otherwise end }
@@ -140,6 +144,7 @@ fn start_of(number: u32, place: u32, otherwise: Option<u32>, end: u32) -> u32
 
 /// `if`, by the places of the else, if it has one, and the end (Core, execution, control instructions: if). It fails only when out of
 /// memory, and then the stack is as it was but for room.
+#[inline(always)]
 pub fn choice(
     program: &Module,
     stack: &mut Stack,

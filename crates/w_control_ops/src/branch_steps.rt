@@ -17,6 +17,7 @@ use w_syntax::Module;
 use w_types::ListOf;
 
 /// `br` (Core, execution, control instructions: br).
+#[inline(always)]
 pub fn br(program: &Module, stack: &mut Stack, label: u32)
     requires moves { MovesAlone (flat.Plain (op.Control (control.Br label))) program.now stack.old }
     ensures goes { FollowsAlone did.Went program.now stack.old stack.new }
@@ -38,6 +39,7 @@ pub(crate) fn drop_and_branch(stack: &mut Stack, label: u32)
 }
 
 /// `br_if` (Core, execution, control instructions: br_if).
+#[inline(always)]
 pub fn br_if(program: &Module, stack: &mut Stack, label: u32)
     requires moves { MovesAlone (flat.Plain (op.Control (control.BrIf label))) program.now stack.old }
     ensures goes { FollowsAlone did.Went program.now stack.old stack.new }
@@ -52,7 +54,7 @@ pub fn br_if(program: &Module, stack: &mut Stack, label: u32)
 }
 
 // The label that an index chooses, and the last one where there are fewer.
-#[inline]
+#[inline(always)]
 fn label_of(labels: &[u32], index: u32, last: u32) -> u32
     ensures { result ≡ label_in (slice_get labels.now index) last }
 {
@@ -63,6 +65,7 @@ fn label_of(labels: &[u32], index: u32, last: u32) -> u32
 }
 
 /// `br_table` (Core, execution, control instructions: br_table).
+#[inline(always)]
 pub fn br_table(program: &Module, stack: &mut Stack, labels: &ListOf<u32>, last: u32)
     requires moves { MovesAlone (flat.Plain (op.Control (control.BrTable labels.now last))) program.now stack.old }
     ensures goes { FollowsAlone did.Went program.now stack.old stack.new }
@@ -74,6 +77,7 @@ pub fn br_table(program: &Module, stack: &mut Stack, labels: &ListOf<u32>, last:
 }
 
 /// `return` (Core, execution, control instructions: return).
+#[inline(always)]
 pub fn return_(program: &Module, stack: &mut Stack)
     requires moves { MovesAlone (flat.Plain (op.Control control.Return)) program.now stack.old }
     ensures goes { FollowsAlone did.Went program.now stack.old stack.new }

@@ -13,6 +13,7 @@ use w_syntax::Module;
 
 /// Leaves the innermost label or frame at an `end`, or behind the last instruction: a label for the place behind its end, a frame for
 /// where its caller goes on (Core, execution, exiting a block; returning from a function).
+#[inline(always)]
 pub fn exit_end(program: &Module, stack: &mut Stack)
     requires exits { ExitsAlone program.now stack.old }
     requires end { IsEnd (instr_of program.now stack.old.func stack.old.place) }
@@ -29,6 +30,7 @@ pub fn exit_end(program: &Module, stack: &mut Stack)
 }
 
 /// Leaves the innermost label at an `else`: for the place where it leads, behind the if (Core, execution, exiting a block).
+#[inline(always)]
 pub fn exit_else(program: &Module, stack: &mut Stack)
     requires exits { ExitsAlone program.now stack.old }
     requires otherwise { instr_of program.now stack.old.func stack.old.place ≡ Some flat.Else }

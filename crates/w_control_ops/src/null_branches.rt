@@ -12,6 +12,7 @@ use w_stands::{drop_next, is_null};
 use w_syntax::Module;
 
 /// `br_on_null` (Core, execution, control instructions: br_on_null): the branch leaves the null.
+#[inline(always)]
 pub fn br_on_null(program: &Module, stack: &mut Stack, label: u32)
     requires moves { MovesAlone (flat.Plain (op.Control (control.BrOnNull label))) program.now stack.old }
     ensures goes { FollowsAlone did.Went program.now stack.old stack.new }
@@ -26,6 +27,7 @@ pub fn br_on_null(program: &Module, stack: &mut Stack, label: u32)
 }
 
 /// `br_on_non_null` (Core, execution, control instructions: br_on_non_null): the branch takes the reference along.
+#[inline(always)]
 pub fn br_on_non_null(program: &Module, stack: &mut Stack, label: u32)
     requires moves { MovesAlone (flat.Plain (op.Control (control.BrOnNonNull label))) program.now stack.old }
     ensures goes { FollowsAlone did.Went program.now stack.old stack.new }

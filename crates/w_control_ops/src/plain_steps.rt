@@ -12,6 +12,7 @@ use w_stands::{Did, drop_next};
 use w_syntax::Module;
 
 /// `nop` (Core, execution, control instructions: nop).
+#[inline(always)]
 pub fn nop(program: &Module, stack: &mut Stack)
     requires moves { MovesAlone (flat.Plain (op.Control control.Nop)) program.now stack.old }
     ensures goes { FollowsAlone did.Went program.now stack.old stack.new }
@@ -22,6 +23,7 @@ pub fn nop(program: &Module, stack: &mut Stack)
 }
 
 /// `unreachable` (Core, execution, control instructions: unreachable): it traps, and changes nothing.
+#[inline(always)]
 pub fn unreachable(program: &Module, stack: &Stack) -> Did
     requires moves { MovesAlone (flat.Plain (op.Control control.Unreachable)) program.now stack.now }
     ensures goes { FollowsAlone result program.now stack.now stack.now }

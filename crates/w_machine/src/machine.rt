@@ -84,6 +84,7 @@ fn first_segments(
 }
 
 // Where the segment is left, the one that waits runs next.
+#[inline(always)]
 fn turn(segment: &mut Box<Segment>, waiting: &mut Option<Box<Segment>>)
     ensures stays { (top segment.old.value).shape.stage ≢ Values → (segment.new ≡ segment.old) × (waiting.new ≡ waiting.old) }
     ensures turns { (top segment.old.value).shape.stage ≡ Values → IsTurned waiting.old segment.old segment.new × (waiting.new ≡ None) }
@@ -139,6 +140,7 @@ impl Machine {
     }
 
     // Takes one reduction, or says what stops it.
+    #[inline(always)]
     fn advance<O: Sink>(&mut self, out: &mut O) -> Option<Kept>
         requires { self.old.taken < most_reductions }
         ensures steps { Steps self.old result self.new (O.held out.old) (O.held out.new) }

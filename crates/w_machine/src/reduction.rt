@@ -21,6 +21,7 @@ use w_tables::Store;
 const MOST_FRAMES: u32 = 20_000;
 
 // Whether an instruction switches stacks. No rule speaks of these yet.
+#[inline(always)]
 fn switches(found: Option<&PackedInstr>) -> bool
     ensures { result ≡ switches_at (option_map (λ p. unpacked p.now) found.entry) }
 {
@@ -52,6 +53,7 @@ pub(crate) fn outlook(program: &Module, stack: &Stack) -> Option<Kept>
 }
 
 // What a reduction that was taken, or wasn't, comes to, where its result has so many frames.
+#[inline(always)]
 fn told(taken: Result<Did, Stop>, frames: u32) -> Option<Kept>
     ensures { result ≡ told_of taken frames }
 {
@@ -70,6 +72,7 @@ fn told(taken: Result<Did, Stop>, frames: u32) -> Option<Kept>
 }
 
 // One reduction in the body where the stack stands.
+#[inline(always)]
 fn in_body<O: Sink>(
     program: Program,
     store: &mut Store,
@@ -93,6 +96,7 @@ fn in_body<O: Sink>(
 }
 
 /// Takes one reduction, or says why none is taken, or that it traps or passes a limit.
+#[inline(always)]
 pub(crate) fn reduce<O: Sink>(
     program: Program,
     store: &mut Store,

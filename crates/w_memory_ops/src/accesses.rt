@@ -15,6 +15,7 @@ use w_syntax::{LoadOp, MemArg, Module, StoreOp};
 use w_tables::Store;
 
 /// A load, or its trap.
+#[inline(always)]
 pub(crate) fn load(
     program: &Module,
     store: &Store,
@@ -39,6 +40,7 @@ pub(crate) fn load(
 }
 
 /// A store, or its trap.
+#[inline(always)]
 pub(crate) fn store_number(
     program: &Module,
     store: &mut Store,

@@ -17,6 +17,7 @@ use w_tables::Store;
 
 /// One reduction of a memory instruction, or its trap (Core, execution, memory instructions). It fails only when out of memory, and then
 /// all is as it was but for room.
+#[inline(always)]
 pub fn memory(
     program: &Module,
     store: &mut Store,

@@ -12,6 +12,7 @@ use w_syntax::{BlockKind, BlockType, Module};
 use w_tables::Store;
 
 /// A block or a loop, with the place of its end.
+#[inline(always)]
 #[tactic(auto, using(crate::proofs::Steps::alone))]
 pub(crate) fn enter_block(
     program: &Module,
@@ -30,6 +31,7 @@ pub(crate) fn enter_block(
 }
 
 /// An if, with the places of its else, where it has one, and of its end.
+#[inline(always)]
 #[tactic(auto, using(crate::proofs::Steps::alone))]
 pub(crate) fn enter_choice(
     program: &Module,

@@ -20,6 +20,7 @@ use w_syntax::ShortControlOp;
 use w_tables::Store;
 
 /// A control instruction that holds no list.
+#[inline(always)]
 #[tactic(auto, using(crate::proofs::Steps::alone, crate::proofs::Prints::printed_alone, crate::proofs::Prints::printed_trap, crate::proofs::Prints::call_calls))]
 pub(crate) fn control<O: Sink>(
     program: Program,

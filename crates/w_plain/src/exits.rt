@@ -13,6 +13,7 @@ use w_syntax::Module;
 use w_tables::Store;
 
 /// An exit at an end, or behind the last instruction.
+#[inline(always)]
 #[tactic(auto, using(crate::proofs::Ends::exits_alone, crate::proofs::Ends::at_end, crate::proofs::Steps::takes_alone))]
 pub(crate) fn leave_end(program: &Module, store: &mut Store, stack: &mut Stack) -> Did
     requires exits { Meets IsEnd program.now store.old stack.old }
@@ -24,6 +25,7 @@ pub(crate) fn leave_end(program: &Module, store: &mut Store, stack: &mut Stack) 
 }
 
 /// An exit at an else.
+#[inline(always)]
 #[tactic(auto, using(crate::proofs::Ends::else_alone, crate::proofs::Steps::takes_alone))]
 pub(crate) fn leave_else(program: &Module, store: &mut Store, stack: &mut Stack) -> Did
     requires moves { MovesAt flat.Else program.now store.old stack.old }

@@ -15,6 +15,7 @@ use w_tables::Store;
 use w_value_ops::{drop_operand, numeric, select};
 
 /// A numeric instruction.
+#[inline(always)]
 #[tactic(auto, using(crate::proofs::Steps::alone))]
 pub(crate) fn number(
     program: &Module,
@@ -30,6 +31,7 @@ pub(crate) fn number(
 }
 
 /// A memory instruction.
+#[inline(always)]
 pub(crate) fn in_memory(
     program: &Module,
     store: &mut Store,
@@ -44,6 +46,7 @@ pub(crate) fn in_memory(
 }
 
 /// A table instruction.
+#[inline(never)]
 pub(crate) fn in_table(
     program: &Module,
     store: &mut Store,
@@ -57,6 +60,7 @@ pub(crate) fn in_table(
 }
 
 /// A parametric instruction.
+#[inline(always)]
 #[tactic(auto, using(crate::proofs::Steps::alone, crate::proofs::Steps::takes_alone))]
 pub(crate) fn parametric(
     program: &Module,

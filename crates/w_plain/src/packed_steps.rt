@@ -26,6 +26,7 @@ use w_syntax::{
 use w_tables::Store;
 
 // What a call that prints nothing came to, told with the others.
+#[inline(always)]
 fn widen(outcome: Result<Did, AllocError>) -> Result<Did, Stop>
     ensures { result ≡ widened outcome }
 {
@@ -99,6 +100,7 @@ fn plain_op<O: Sink>(
 }
 
 // An instruction that stands in a box.
+#[inline(never)]
 #[tactic(auto, using(crate::proofs::Prints::printed_step, crate::proofs::Prints::printed_takes, crate::proofs::Prints::none_switches, crate::proofs::Ends::end_meets))]
 fn standing<O: Sink>(
     program: Program,
@@ -140,6 +142,7 @@ fn standing<O: Sink>(
 }
 
 /// One reduction at the instruction where the stack stands, as a body keeps it.
+#[inline(always)]
 #[tactic(auto, using(crate::proofs::Prints::printed_step, crate::proofs::Prints::printed_takes, crate::proofs::Prints::none_switches, crate::proofs::Ends::end_meets))]
 pub(crate) fn instruction<O: Sink>(
     program: Program,

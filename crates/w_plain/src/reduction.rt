@@ -20,6 +20,7 @@ use w_syntax::PackedInstr;
 use w_tables::Store;
 
 /// One reduction in the body where the stack stands.
+#[inline(always)]
 #[tactic(auto, using(crate::proofs::Applying::at_instruction, crate::proofs::Applying::behind_all, crate::proofs::Prints::printed_takes))]
 fn in_body<O: Sink>(
     program: Program,
@@ -47,6 +48,7 @@ fn in_body<O: Sink>(
 /// with what it prints. It traps as the rules do, and then nothing changed. It stops where the sink fails or memory runs out: then no
 /// reduction was taken, all is as it was but for room, and the sink has a first part of what the reduction prints, or nothing more.
 /// `found` is what `instr_at` finds where the stack stands in a body.
+#[inline(always)]
 #[tactic(auto, using(crate::proofs::Applying::invokes))]
 pub fn plain<O: Sink>(
     program: Program,

@@ -15,6 +15,7 @@ use w_value_ops::{
 };
 
 /// An instruction on a local or a global.
+#[inline(always)]
 #[tactic(auto, using(crate::proofs::Steps::alone, crate::proofs::Steps::takes_alone, crate::proofs::Steps::same_count))]
 pub(crate) fn variable(
     program: &Module,
@@ -50,6 +51,7 @@ pub(crate) fn variable(
 }
 
 /// A reference instruction.
+#[inline(never)]
 #[tactic(auto, using(crate::proofs::Steps::alone, crate::proofs::Steps::takes_alone))]
 pub(crate) fn reference(
     program: &Module,

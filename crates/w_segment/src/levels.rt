@@ -11,7 +11,7 @@ impl Stack {
     ghost use Rattle.w_segment.specs.Entered.{params_of, LocalsFit, entered};
 
     // Enters a label, inside which the topmost `params` operands then stand.
-    #[inline]
+    #[inline(always)]
     fn enter_label(&mut self, params: u32, arity: u32, target: u32)
         requires params { params ≤ length self.old.operands }
         requires levels { length self.old.levels < self.old.capacity.levels }
@@ -58,7 +58,7 @@ impl Stack {
     /// Enters a label or a frame, where there is room (`reserve_frame`) and its `params` operands are there: no memory is taken. They
     /// then stand inside the label, or become, in their order, the frame's first locals, which are `params` or more; those after them
     /// are not set (Core, execution: entering a block, function invocation).
-    #[inline]
+    #[inline(always)]
     pub fn enter(&mut self, entry: Entry)
         requires params { params_of entry ≤ length self.old.operands }
         requires levels { length self.old.levels < self.old.capacity.levels }
@@ -82,7 +82,7 @@ impl Stack {
 
     /// Leaves the innermost label, or the frame where it has none: its operands stand on those below it, and where it was a frame the
     /// place is where its caller goes on (Core, execution: exiting a block, returning from a function). Says whether it was a label.
-    #[inline]
+    #[inline(always)]
     pub fn leave(&mut self) -> bool
         requires some { 0 < length self.old.levels }
         ensures label { result ≡ is_in_label self.old.levels }
@@ -111,7 +111,7 @@ impl Stack {
     /// Branches to the label so many levels out, where the innermost frame has one and its arity of operands is there: the topmost
     /// `arity` operands stand on those below it, the levels inside it are gone and so is it, and the place is its target (Core,
     /// execution: br).
-    #[inline]
+    #[inline(always)]
     pub fn branch(&mut self, label: u32)
         requires there { IsAt label self.old }
         ensures after { (t : Target) → label_at label self.old.levels ≡ Some t → self.new ≡ branched t self.old }

@@ -42,6 +42,7 @@ pub fn drop_next(stack: &mut Stack, count: usize)
 }
 
 /// Pushes a value, and goes on behind the instruction. It fails only when out of memory, and then all is as before but for room.
+#[inline(always)]
 pub fn push_next(stack: &mut Stack, value: Value) -> Result<(), AllocError>
     requires place { stack.old.place + 1 < 2 ^ 32 }
     ensures after { OnOk result (IsPushedNext value stack.old stack.new) }

@@ -40,7 +40,7 @@ pub fn is_null(value: Value) -> bool
 }
 
 /// The two topmost operands, the topmost last.
-#[inline]
+#[inline(always)]
 pub fn top_two(stack: &Stack) -> (Value, Value)
     requires { 2 ≤ length stack.now.operands }
     ensures { stack.now.operands ≡ result.1 ∷ result.0 ∷ drop 2 stack.now.operands }
@@ -50,7 +50,7 @@ pub fn top_two(stack: &Stack) -> (Value, Value)
 }
 
 /// The three topmost operands, the topmost last.
-#[inline]
+#[inline(always)]
 pub fn top_three(stack: &Stack) -> (Value, Value, Value)
     requires { 3 ≤ length stack.now.operands }
     ensures { stack.now.operands ≡ result.2 ∷ result.1 ∷ result.0 ∷ drop 3 stack.now.operands }

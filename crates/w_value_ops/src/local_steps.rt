@@ -14,6 +14,7 @@ use w_stands::push_next;
 use w_syntax::Module;
 
 /// `local.get`. It fails only when out of memory, and then the stack is as it was but for room.
+#[inline(always)]
 pub fn local_get(program: &Module, stack: &mut Stack, index: u32) -> Result<(), AllocError>
     requires moves { MovesAlone (flat.Plain (op.Variable (variable.LocalGet index))) program.now stack.old }
     ensures goes { OnOk result (FollowsAlone did.Went program.now stack.old stack.new) }
@@ -28,6 +29,7 @@ pub fn local_get(program: &Module, stack: &mut Stack, index: u32) -> Result<(), 
 }
 
 /// `local.set`.
+#[inline(always)]
 pub fn local_set(program: &Module, stack: &mut Stack, index: u32)
     requires moves { MovesAlone (flat.Plain (op.Variable (variable.LocalSet index))) program.now stack.old }
     ensures goes { FollowsAlone did.Went program.now stack.old stack.new }
@@ -40,6 +42,7 @@ pub fn local_set(program: &Module, stack: &mut Stack, index: u32)
 }
 
 /// `local.tee`.
+#[inline(always)]
 pub fn local_tee(program: &Module, stack: &mut Stack, index: u32)
     requires moves { MovesAlone (flat.Plain (op.Variable (variable.LocalTee index))) program.now stack.old }
     ensures goes { FollowsAlone did.Went program.now stack.old stack.new }

@@ -21,6 +21,7 @@ use w_syntax::{Binop, Cvtop, IntType, Module, NumericOp, Relop, Unop};
 use w_types::Value;
 
 // A unary operator.
+#[inline(always)]
 fn unary(program: &Module, stack: &mut Stack, kind: IntType, operation: Unop)
     requires moves { MovesAlone (flat.Plain (op.Numeric (numeric.Unary kind operation))) program.now stack.old }
     ensures goes { FollowsAlone did.Went program.now stack.old stack.new }
@@ -32,6 +33,7 @@ fn unary(program: &Module, stack: &mut Stack, kind: IntType, operation: Unop)
 }
 
 // The test whether a number is 0.
+#[inline(always)]
 fn eqz(program: &Module, stack: &mut Stack, kind: IntType)
     requires moves { MovesAlone (flat.Plain (op.Numeric (numeric.Eqz kind))) program.now stack.old }
     ensures goes { FollowsAlone did.Went program.now stack.old stack.new }
@@ -43,6 +45,7 @@ fn eqz(program: &Module, stack: &mut Stack, kind: IntType)
 }
 
 // A conversion.
+#[inline(always)]
 fn convert(program: &Module, stack: &mut Stack, operation: Cvtop)
     requires moves { MovesAlone (flat.Plain (op.Numeric (numeric.Convert operation))) program.now stack.old }
     ensures goes { FollowsAlone did.Went program.now stack.old stack.new }
@@ -54,6 +57,7 @@ fn convert(program: &Module, stack: &mut Stack, operation: Cvtop)
 }
 
 // A comparison.
+#[inline(always)]
 fn compare(program: &Module, stack: &mut Stack, kind: IntType, operation: Relop)
     requires moves { MovesAlone (flat.Plain (op.Numeric (numeric.Compare kind operation))) program.now stack.old }
     ensures goes { FollowsAlone did.Went program.now stack.old stack.new }
@@ -66,6 +70,7 @@ fn compare(program: &Module, stack: &mut Stack, kind: IntType, operation: Relop)
 }
 
 // A binary operator, or its trap.
+#[inline(always)]
 fn binary(program: &Module, stack: &mut Stack, kind: IntType, operation: Binop) -> Did
     requires moves { MovesAlone (flat.Plain (op.Numeric (numeric.Binary kind operation))) program.now stack.old }
     ensures goes { FollowsAlone result program.now stack.old stack.new }
@@ -83,6 +88,7 @@ fn binary(program: &Module, stack: &mut Stack, kind: IntType, operation: Binop) 
 }
 
 // A constant.
+#[inline(always)]
 fn constant(
     program: &Module,
     stack: &mut Stack,
@@ -103,6 +109,7 @@ fn constant(
 }
 
 // The trap of a fault.
+#[inline(always)]
 fn trap_of(fault: NumFault) -> Trap
     ensures { result ≡ trap_of fault }
 {
@@ -113,6 +120,7 @@ fn trap_of(fault: NumFault) -> Trap
 }
 
 /// One reduction of a numeric instruction, or its trap. It fails only when out of memory, and then the stack is as it was but for room.
+#[inline(always)]
 pub fn numeric(program: &Module, stack: &mut Stack, operation: NumericOp) -> Result<Did, AllocError>
     requires moves { MovesAlone (flat.Plain (op.Numeric operation)) program.now stack.old }
     ensures goes { IfOk result (λ did. FollowsAlone did program.now stack.old stack.new) }

@@ -15,6 +15,7 @@ use w_syntax::{Module, ParametricOp};
 use w_types::Value;
 
 /// `drop`.
+#[inline(always)]
 pub fn drop_operand(program: &Module, stack: &mut Stack)
     requires moves { MovesAlone (flat.Plain (op.Parametric parametric.Drop)) program.now stack.old }
     ensures goes { FollowsAlone did.Went program.now stack.old stack.new }
@@ -25,6 +26,7 @@ pub fn drop_operand(program: &Module, stack: &mut Stack)
 }
 
 // The first where the number isn't 0, and else the second.
+#[inline(always)]
 fn chosen(number: u32, one: Value, other: Value) -> Value
     ensures { result ≡ selected number one other }
 {
@@ -32,6 +34,7 @@ fn chosen(number: u32, one: Value, other: Value) -> Value
 }
 
 /// `select`, with or without the type that it names.
+#[inline(always)]
 pub fn select(program: &Module, stack: &mut Stack, operation: &ParametricOp)
     requires moves { MovesAlone (flat.Plain (op.Parametric operation.now)) program.now stack.old }
     requires select { IsSelect operation.now }
