@@ -10,3 +10,4 @@ pub mod TestsOfLists
 pub mod Equivalent
 pub mod Preorder
 pub mod EqualTypes
+pub mod ComparedRows

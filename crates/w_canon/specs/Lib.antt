@@ -7,3 +7,4 @@ pub mod Entries
 pub mod IsClassesOf
 pub mod Tests
 pub mod Numbers
+pub mod Compared

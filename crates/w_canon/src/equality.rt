@@ -6,6 +6,7 @@ ghost use Rattle.w_canon.specs.IsClassesOf.{IsClassesOf};
 ghost use Rattle.w_canon.specs.Tests.{heap_same_test, ref_same_test, val_same_test, result_same_test};
 
 use crate::classes::Classes;
+use crate::rows::Comparison;
 use w_types::{HeapType, PackedType, RefType, ValType};
 
 impl Classes {
@@ -51,14 +52,6 @@ impl Classes {
         ensures computed { result ≡ result_same_test self.now a.now b.now }
         ensures related { (gs : List RecGroup) → IsClassesOf gs self.now → (IsTrue result ↔ ResultEqual gs a.now b.now) }
     {
-        if a.len() != b.len() {
-            return false;
-        }
-        for (index, kind) in a.iter().enumerate() {
-            if !self.equals_val(*kind, b[index]) {
-                return false;
-            }
-        }
-        true
+        self.compare_rows(Comparison::Equality, a, b)
     }
 }

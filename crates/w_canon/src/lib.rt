@@ -7,6 +7,7 @@ mod equality;
 mod key;
 mod laws;
 mod matching;
+mod rows;
 
 pub use classes::Classes;
 pub use laws::{

@@ -8,6 +8,7 @@ ghost use Rattle.w_canon.specs.declared.entry.Kind.TheVariants as kind;
 
 use crate::classes::Classes;
 use crate::entry::Kind;
+use crate::rows::Comparison;
 use w_types::{FuncType, HeapType, PackedType, RefType, ValType};
 
 impl Classes {
@@ -80,15 +81,7 @@ impl Classes {
         ensures computed { result ≡ result_test self.now a.now b.now }
         ensures related { (gs : List RecGroup) → IsClassesOf gs self.now → (IsTrue result ↔ ResultMatches gs a.now b.now) }
     {
-        if a.len() != b.len() {
-            return false;
-        }
-        for (index, kind) in a.iter().enumerate() {
-            if !self.matches_val(*kind, b[index]) {
-                return false;
-            }
-        }
-        true
+        self.compare_rows(Comparison::Matching, a, b)
     }
 
     /// Whether a function type matches another: it takes what the other takes, and gives what the other gives (Core,

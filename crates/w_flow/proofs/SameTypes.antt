@@ -1,38 +1,18 @@
 -- Operands that are just of the types that are wanted.
-use Rattle.std.proofs.Common.{◌≡◌, ℕ, ◌+◌, ◌-◌, ◌<◌, ◌≤◌, Bool, true, false, not, ◌&&◌, ◌||◌, List, [], ◌∷◌, ◌++◌, length, length-drop, map, append_assoc, take, drop, get_or, set, replicate, Option, Some, None, if◌then◌else◌, slice_get, refl, sym, ◌∙◌, ap, arith, eq-eqb}
+use Rattle.std.proofs.Common.{◌≡◌, ℕ, ◌+◌, ◌-◌, ◌<◌, ◌≤◌, Bool, true, false, List, [], ◌∷◌, ◌++◌, length, length-drop, map, append_assoc, take, drop, get_or, set, replicate, Option, Some, None, if◌then◌else◌, refl, sym, ◌∙◌, ap, arith}
 use Rattle.std.proofs.lemmas.List.{map-append, take_more, take_more_set, take_all, take-append-drop}
 use Rattle.std.proofs.Math.Seq.{take-append_seam}
-use Rattle.w_types.specs.declared.types.HeapType.{HeapType}
-use Rattle.w_types.specs.declared.types.HeapType.TheVariants as heap
 use Rattle.w_types.specs.declared.types.ValType.{ValType}
-use Rattle.w_types.specs.declared.types.ValType.TheVariants.{I32, I64, Ref}
 use Rattle.w_types.specs.Rows.{Row, ε, ◌▹◌, ◌⧺◌, onto, row_of, size}
 use Rattle.w_types.proofs.Rows.{row_of-append, size-row_of, unit_left}
 use Rattle.w_canon.specs.declared.entry.Entry.{Entry}
-use Rattle.w_canon.specs.Tests.{heap_test, val_test, one_class_test}
+use Rattle.w_canon.proofs.ComparedRows.{type_matches}
 use Rattle.w_rules.specs.Operands.{Operand, Known}
 use Rattle.w_rules.specs.Matching.{known}
 use Rattle.w_flow.specs.Flow.{operand_test, pops}
 use Rattle.w_flow.proofs.RowsOfLists.{row_front}
 
 -- ## One operand
-
-heap_matches : (es : List Entry) (h : HeapType) → heap_test es h h ≡ true
-heap_matches es heap.Func = refl
-heap_matches es heap.NoFunc = refl
-heap_matches es heap.Cont = refl
-heap_matches es heap.NoCont = refl
-heap_matches es (heap.Index x) = ap (λ (b : Bool). b || one_class_test (slice_get es x) (slice_get es x)) (eq-eqb x x refl)
-
-may_be_null : (n b : Bool) → b ≡ true → (not n || n) && b ≡ true
-may_be_null true b e = e
-may_be_null false b e = e
-
--- a type matches itself
-pub type_matches : (es : List Entry) (t : ValType) → val_test es t t ≡ true
-type_matches es I32 = refl
-type_matches es I64 = refl
-type_matches es (Ref r) = may_be_null r.nullable (heap_test es r.heap r.heap) (heap_matches es r.heap)
 
 -- an operand that is of the type stands where one is wanted
 pub known_matches : (es : List Entry) (o : Operand) (t : ValType) → o ≡ Known t → operand_test es o t ≡ true
