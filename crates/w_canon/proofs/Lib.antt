@@ -11,3 +11,4 @@ pub mod Equivalent
 pub mod Preorder
 pub mod EqualTypes
 pub mod ComparedRows
+pub mod ShapesOfTypes

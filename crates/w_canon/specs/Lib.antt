@@ -8,3 +8,4 @@ pub mod IsClassesOf
 pub mod Tests
 pub mod Numbers
 pub mod Compared
+pub mod Shapes

@@ -8,6 +8,7 @@ mod key;
 mod laws;
 mod matching;
 mod rows;
+mod shape;
 
 pub use classes::Classes;
 pub use laws::{

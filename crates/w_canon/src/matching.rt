@@ -4,12 +4,14 @@ ghost use Rattle.w_types.specs.declared.types.RecGroup.{RecGroup};
 ghost use Rattle.w_canon.specs.Matching.{IsFunc, IsCont, HeapMatches, RefMatches, ValMatches, ResultMatches, FuncMatches};
 ghost use Rattle.w_canon.specs.IsClassesOf.{IsClassesOf};
 ghost use Rattle.w_canon.specs.Tests.{kind_test, heap_test, ref_test, val_test, result_test, func_test};
+ghost use Rattle.w_canon.specs.Shapes.{shapes_test};
 ghost use Rattle.w_canon.specs.declared.entry.Kind.TheVariants as kind;
 
 use crate::classes::Classes;
 use crate::entry::Kind;
 use crate::rows::Comparison;
-use w_types::{FuncType, HeapType, PackedType, RefType, ValType};
+use crate::shape::{Shape, keeps_null, shape_of};
+use w_types::{FuncType, HeapType, PackedType, RefType};
 
 impl Classes {
     // Whether the type of this index is a function type.
@@ -28,31 +30,41 @@ impl Classes {
         self.is_of_kind(index, Kind::Cont)
     }
 
-    /// Whether a heap type matches another (Core, validation, matching; the explainer adds continuations).
-    pub fn matches_heap(&self, a: HeapType, b: HeapType) -> bool
-        ensures computed { result ≡ heap_test self.now a b }
-        ensures related { (gs : List RecGroup) → IsClassesOf gs self.now → (IsTrue result ↔ HeapMatches gs a b) }
+    // Whether types of these shapes and indices match, where null is no matter.
+    #[inline(always)]
+    fn matches_shape(&self, one: Shape, x: u32, other: Shape, y: u32) -> bool
+        ensures { result ≡ shapes_test self.now one x other y }
     {
-        match a {
-            HeapType::Func => matches!(b, HeapType::Func),
-            HeapType::NoFunc => match b {
-                HeapType::Func | HeapType::NoFunc => true,
-                HeapType::Index(y) => self.is_func(y),
-                HeapType::Cont | HeapType::NoCont => false,
+        match one {
+            Shape::I32 => matches!(other, Shape::I32),
+            Shape::I64 => matches!(other, Shape::I64),
+            Shape::Func => matches!(other, Shape::Func),
+            Shape::NoFunc => match other {
+                Shape::Func | Shape::NoFunc => true,
+                Shape::Index => self.is_func(y),
+                Shape::I32 | Shape::I64 | Shape::Cont | Shape::NoCont => false,
             },
-            HeapType::Cont => matches!(b, HeapType::Cont),
-            HeapType::NoCont => match b {
-                HeapType::Cont | HeapType::NoCont => true,
-                HeapType::Index(y) => self.is_cont(y),
-                HeapType::Func | HeapType::NoFunc => false,
+            Shape::Cont => matches!(other, Shape::Cont),
+            Shape::NoCont => match other {
+                Shape::Cont | Shape::NoCont => true,
+                Shape::Index => self.is_cont(y),
+                Shape::I32 | Shape::I64 | Shape::Func | Shape::NoFunc => false,
             },
-            HeapType::Index(x) => match b {
-                HeapType::Func => self.is_func(x),
-                HeapType::Cont => self.is_cont(x),
-                HeapType::Index(y) => self.same(x, y),
-                HeapType::NoFunc | HeapType::NoCont => false,
+            Shape::Index => match other {
+                Shape::Func => self.is_func(x),
+                Shape::Cont => self.is_cont(x),
+                Shape::Index => self.same(x, y),
+                Shape::I32 | Shape::I64 | Shape::NoFunc | Shape::NoCont => false,
             },
         }
+    }
+
+    /// Whether a value type matches another (Core, validation, matching). It goes by the numbers of both.
+    pub fn matches_val(&self, a: PackedType, b: PackedType) -> bool
+        ensures computed { result ≡ val_test self.now a b }
+        ensures related { (gs : List RecGroup) → IsClassesOf gs self.now → (IsTrue result ↔ ValMatches gs a b) }
+    {
+        keeps_null(a, b) && self.matches_shape(shape_of(a), a.index(), shape_of(b), b.index())
     }
 
     /// Whether a reference type matches another (Core, validation, matching): one that may be null matches none that may not.
@@ -60,20 +72,15 @@ impl Classes {
         ensures computed { result ≡ ref_test self.now a b }
         ensures related { (gs : List RecGroup) → IsClassesOf gs self.now → (IsTrue result ↔ RefMatches gs a b) }
     {
-        (!a.nullable || b.nullable) && self.matches_heap(a.heap, b.heap)
+        self.matches_val(PackedType::reference(a), PackedType::reference(b))
     }
 
-    /// Whether a value type matches another (Core, validation, matching).
-    pub fn matches_val(&self, a: PackedType, b: PackedType) -> bool
-        ensures computed { result ≡ val_test self.now a b }
-        ensures related { (gs : List RecGroup) → IsClassesOf gs self.now → (IsTrue result ↔ ValMatches gs a b) }
+    /// Whether a heap type matches another (Core, validation, matching; the explainer adds continuations).
+    pub fn matches_heap(&self, a: HeapType, b: HeapType) -> bool
+        ensures computed { result ≡ heap_test self.now a b }
+        ensures related { (gs : List RecGroup) → IsClassesOf gs self.now → (IsTrue result ↔ HeapMatches gs a b) }
     {
-        match (a.whole(), b.whole()) {
-            (ValType::I32, ValType::I32) => true,
-            (ValType::I64, ValType::I64) => true,
-            (ValType::Ref(a), ValType::Ref(b)) => self.matches_ref(a, b),
-            _ => false,
-        }
+        self.matches_ref(RefType::non_null(a), RefType::non_null(b))
     }
 
     /// Whether types match others, each the one at its place, and they are as many (Core, validation, matching).
