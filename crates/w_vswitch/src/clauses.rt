@@ -71,13 +71,40 @@ fn clause_fits(checker: &Checker, results: &[PackedType], clause: &Clause) -> bo
     }
 }
 
+// Whether two clauses are the same.
+fn is_same(one: &Clause, other: &Clause) -> bool
+    ensures { IsTrue result → one.now ≡ other.now }
+{
+    match (one, other) {
+        (Clause::Label(one_tag, one_label), Clause::Label(other_tag, other_label)) => {
+            one_tag == other_tag && one_label == other_label
+        }
+        (Clause::Switch(one_tag), Clause::Switch(other_tag)) => one_tag == other_tag,
+        _ => false,
+    }
+}
+
+// Whether the rules type a clause, where they type the last one, which is not judged again if it is the same.
+fn fits_again(checker: &Checker, results: &[PackedType], last: &Clause, clause: &Clause) -> bool
+    ensures { AtEnds checker.now (λ c. ClauseTyped c results.now last.now
+        → IsTrue result ↔ ClauseTyped c results.now clause.now) }
+{
+    is_same(last, clause) || clause_fits(checker, results, clause)
+}
+
 /// Whether the rules type each clause of a resume with these results, where the checker stands.
 pub(crate) fn clauses_fit(checker: &Checker, results: &[PackedType], clauses: &[Clause]) -> bool
     ensures { AtEnds checker.now (λ c. IsTrue result
         ↔ All (ClauseTyped c results.now) clauses.now) }
 {
-    for clause in clauses {
-        if !clause_fits(checker, results, clause) {
+    if clauses.is_empty() {
+        return true;
+    }
+    if !clause_fits(checker, results, &clauses[0]) {
+        return false;
+    }
+    for index in 1..clauses.len() {
+        if !fits_again(checker, results, &clauses[index - 1], &clauses[index]) {
             return false;
         }
     }

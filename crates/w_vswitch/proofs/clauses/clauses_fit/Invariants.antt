@@ -5,5 +5,5 @@ use Rattle.w_vswitch.specs.Places.{AtEnds}
 use Rattle.w_vswitch.proofs.clauses.clauses_fit.Given as goal
 
 -- the clauses before this one are typed
-abbrev pub invariant-loop-clause : goal.invariant-loop-clause
-invariant-loop-clause l = AtEnds l.checker (λ c. All (ClauseTyped c l.results) (take l.clause-index l.clauses))
+abbrev pub invariant-loop-index : goal.invariant-loop-index
+invariant-loop-index l = AtEnds l.checker (λ c. All (ClauseTyped c l.results) (take l.index l.clauses))
