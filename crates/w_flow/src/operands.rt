@@ -184,16 +184,23 @@ fn match_whole(classes: &Classes, operands: &[Operand], types: &[PackedType]) ->
     }
 }
 
-// How many operands are left when these types are taken, or `None` where they can't be.
+// How many operands are left when these types are taken, or `None` where they can't be. Where the place cannot be reached there may be
+// fewer operands than types, and those are compared whole too.
 fn left(classes: &Classes, any: bool, operands: &[Operand], wanted: &[PackedType]) -> Option<usize>
     ensures what { pops classes.now any (row_of operands.now) (row_of wanted.now)
         ≡ option_map (λ n. row_of (take n operands.now)) result }
     ensures within { IfSome result (λ n. n ≤ length operands.now) }
 {
-    if wanted.len() >= WIDE && wanted.len() <= operands.len() {
-        let beneath = operands.len() - wanted.len();
-        if match_whole(classes, &operands[beneath..], wanted) {
-            return Some(beneath);
+    let common = operands.len().min(wanted.len());
+    if common >= WIDE {
+        let beneath = operands.len() - common;
+        let made_up = wanted.len() - common;
+        if match_whole(classes, &operands[beneath..], &wanted[made_up..]) {
+            return if made_up == 0 || any {
+                Some(beneath)
+            } else {
+                None
+            };
         }
     }
     left_by_each(classes, any, operands, wanted)
