@@ -1,13 +1,15 @@
 -- The tests of types, told of their numbers.
-use Rattle.std.proofs.Common.{◌≡◌, ℕ, ◌+◌, ◌%◌, Bool, true, false, not, ◌&&◌, ◌||◌, List, if◌then◌else◌, refl, sym, ap, ◌∙◌}
+use Rattle.std.proofs.Common.{◌≡◌, ℕ, ◌+◌, ◌*◌, ◌%◌, ◌<◌, Bool, true, false, not, ◌&&◌, ◌||◌, List, get_or, if◌then◌else◌, refl, sym, ap, ◌∙◌, arith}
 use Rattle.std.specs.Prelude.{◌==◌}
 use Rattle.std.specs.Bool.{beq}
 use Rattle.w_types.specs.declared.types.HeapType.{HeapType}
 use Rattle.w_types.specs.declared.types.HeapType.TheVariants as heap
 use Rattle.w_types.specs.declared.types.ValType.{ValType}
 use Rattle.w_types.specs.declared.types.ValType.TheVariants as val
-use Rattle.w_types.specs.PackedTypes.{heap_kind, kind_of, heap_index, index_of}
+use Rattle.w_types.specs.PackedTypes.{type_at, heap_kind, kind_of, heap_index, index_of}
 use Rattle.w_canon.specs.declared.entry.Entry.{Entry}
+use Rattle.w_canon.specs.declared.shape.TheConstants.{SHAPES}
+use Rattle.w_canon.specs.declared.shape.Shape.{Shape}
 use Rattle.w_canon.specs.declared.shape.Shape.TheVariants.{I32, I64}
 use Rattle.w_canon.specs.Tests.{same_test, heap_test, val_test, heap_same_test, val_same_test}
 use Rattle.w_canon.specs.Shapes.{heap_shape, shape_of, null_test, shapes_test}
@@ -213,3 +215,68 @@ second_decides false s t r k e f g h = absurd (cc)
 pub both_decided : (n s t r : Bool) → t ≡ n && s → r ≡ n → r ≡ false → r ≡ t
 both_decided true s t r e f g = absurd (cc)
 both_decided false s t r e f g = g ∙ sym e
+
+-- ## The numbers of types
+
+kind_below_15 : (h : HeapType) (n : Bool) → heap_kind h + (if n then 1 else 0) < 15
+kind_below_15 heap.Func true = omega arith
+kind_below_15 heap.Func false = omega arith
+kind_below_15 heap.NoFunc true = omega arith
+kind_below_15 heap.NoFunc false = omega arith
+kind_below_15 heap.Cont true = omega arith
+kind_below_15 heap.Cont false = omega arith
+kind_below_15 heap.NoCont true = omega arith
+kind_below_15 heap.NoCont false = omega arith
+kind_below_15 (heap.Index x) true = omega arith
+kind_below_15 (heap.Index x) false = omega arith
+
+-- there are 15 kinds
+pub kind_below : (t : ValType) → kind_of t < 15
+kind_below val.I32 = omega arith
+kind_below val.I64 = omega arith
+kind_below (val.Ref r) = kind_below_15 r.heap r.nullable
+
+reference_by_numbers : (h : HeapType) (n : Bool) → val.Ref (record { nullable = n; heap = h }) ≡ type_at (heap_kind h + (if n then 1 else 0)) (heap_index h)
+reference_by_numbers heap.Func true = refl
+reference_by_numbers heap.Func false = refl
+reference_by_numbers heap.NoFunc true = refl
+reference_by_numbers heap.NoFunc false = refl
+reference_by_numbers heap.Cont true = refl
+reference_by_numbers heap.Cont false = refl
+reference_by_numbers heap.NoCont true = refl
+reference_by_numbers heap.NoCont false = refl
+reference_by_numbers (heap.Index x) true = refl
+reference_by_numbers (heap.Index x) false = refl
+
+-- a type is that of its numbers
+by_numbers : (t : ValType) → t ≡ type_at (kind_of t) (index_of t)
+by_numbers val.I32 = refl
+by_numbers val.I64 = refl
+by_numbers (val.Ref r) = reference_by_numbers r.heap r.nullable
+
+-- types of one number are the same
+pub same_number : (t u : ValType) → index_of t * 4294967296 + kind_of t ≡ index_of u * 4294967296 + kind_of u → t ≡ u
+same_number t u e =
+    let below : kind_of t < 15 = kind_below t in
+    let other : kind_of u < 15 = kind_below u in
+    let index : index_of t ≡ index_of u = omega arith in
+    let kind : kind_of t ≡ kind_of u = omega arith in
+    by_numbers t ∙ ap (λ (k : ℕ). type_at k (index_of t)) kind ∙ ap (type_at (kind_of u)) index ∙ sym (by_numbers u)
+
+shape_of_reference : (h : HeapType) (n : Bool) (d : Shape) → get_or SHAPES (heap_kind h + (if n then 1 else 0)) d ≡ heap_shape h
+shape_of_reference heap.Func true d = refl
+shape_of_reference heap.Func false d = refl
+shape_of_reference heap.NoFunc true d = refl
+shape_of_reference heap.NoFunc false d = refl
+shape_of_reference heap.Cont true d = refl
+shape_of_reference heap.Cont false d = refl
+shape_of_reference heap.NoCont true d = refl
+shape_of_reference heap.NoCont false d = refl
+shape_of_reference (heap.Index x) true d = refl
+shape_of_reference (heap.Index x) false d = refl
+
+-- the shape of a type stands at its kind
+pub shape_at : (t : ValType) (d : Shape) → get_or SHAPES (kind_of t) d ≡ shape_of t
+shape_at val.I32 d = refl
+shape_at val.I64 d = refl
+shape_at (val.Ref r) d = shape_of_reference r.heap r.nullable d

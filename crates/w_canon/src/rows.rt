@@ -1,5 +1,6 @@
 //! Rows of types, each compared with the one at its place in another row.
-ghost use Rattle.std.specs.Prelude.{◌≡◌, ◌<◌, IsTrue, IfSome, length};
+ghost use Rattle.std.specs.Prelude.{◌≡◌, ◌+◌, ◌*◌, ◌<◌, IsTrue, length};
+ghost use Rattle.w_types.specs.PackedTypes.{kind_of, index_of};
 ghost use Rattle.w_canon.specs.Relations.{Pairwise};
 ghost use Rattle.w_canon.specs.Tests.{pairwise_test};
 ghost use Rattle.w_canon.specs.Compared.{IsAlike, compared};
@@ -40,11 +41,30 @@ fn are_same(ones: &[PackedType], others: &[PackedType]) -> bool
     alike
 }
 
+// A type as one number.
+#[tactic(auto, using(crate::proofs::ShapesOfTypes::kind_below))]
+#[inline(always)]
+fn number_of(kind: PackedType) -> u64
+    ensures { result ≡ index_of kind * 4294967296 + kind_of kind }
+{
+    u64::from(kind.index()) * 4294967296 + u64::from(kind.kind())
+}
+
+// Whether two types are the same. As one number a type is compared at once, also with one that a loop keeps.
+#[tactic(auto, using(crate::proofs::ShapesOfTypes::same_number))]
+#[inline(always)]
+fn is_same(one: PackedType, other: PackedType) -> bool
+    ensures { IsTrue result → one ≡ other }
+{
+    number_of(one) == number_of(other)
+}
+
 // Whether two types are those of a pair.
+#[inline(always)]
 fn is_pair(pair: Pair, one: PackedType, other: PackedType) -> bool
     ensures { IsTrue result → (one ≡ pair.one) × (other ≡ pair.other) }
 {
-    one == pair.one && other == pair.other
+    is_same(one, pair.one) && is_same(other, pair.other)
 }
 
 // Whether two types are the same, or those of a pair.
@@ -52,7 +72,7 @@ fn is_pair(pair: Pair, one: PackedType, other: PackedType) -> bool
 fn is_alike(pair: &Pair, one: PackedType, other: PackedType) -> bool
     ensures { IsTrue result → IsAlike pair.now one other }
 {
-    (one == other) | is_pair(*pair, one, other)
+    is_same(one, other) | is_pair(*pair, one, other)
 }
 
 // Whether each two types are the same, or those of a pair. It goes through all, so that the comparison has no branches.

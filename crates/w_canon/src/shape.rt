@@ -16,20 +16,32 @@ pub(crate) enum Shape {
     Index,
 }
 
-/// The shape of a type.
+// The shape of each kind; those below 3 are of no value type.
+static SHAPES: [Shape; 15] = [
+    Shape::I32,
+    Shape::I32,
+    Shape::I32,
+    Shape::I32,
+    Shape::I64,
+    Shape::Func,
+    Shape::Func,
+    Shape::NoFunc,
+    Shape::NoFunc,
+    Shape::Cont,
+    Shape::Cont,
+    Shape::NoCont,
+    Shape::NoCont,
+    Shape::Index,
+    Shape::Index,
+];
+
+/// The shape of a type. It is looked up, since a match would compare the kind again and again.
+#[tactic(auto, using(crate::proofs::ShapesOfTypes::kind_below, crate::proofs::ShapesOfTypes::shape_at))]
 #[inline(always)]
 pub(crate) fn shape_of(kind: PackedType) -> Shape
     ensures { result ≡ shape_of kind }
 {
-    match kind.kind() {
-        3 => Shape::I32,
-        4 => Shape::I64,
-        5 | 6 => Shape::Func,
-        7 | 8 => Shape::NoFunc,
-        9 | 10 => Shape::Cont,
-        11 | 12 => Shape::NoCont,
-        _ => Shape::Index,
-    }
+    SHAPES[kind.kind() as usize]
 }
 
 /// Whether a type may stand for another where null is concerned: the kinds of references that may be null are even. Of numbers it tells
