@@ -1,0 +1,8 @@
+use Rattle.std.proofs.Common.{arith}
+use Rattle.w_segment.specs.Parents.{parents}
+use Rattle.w_chain.proofs.Counting.{sum_fits}
+use Rattle.w_chain.proofs.chain.Chain.frames.Goals as goal
+
+pub overflow_add-result : goal.overflow_add-result
+overflow_add-result c =
+    let f = sum_fits c.self.inside.segments c.self.inside.below c.frames_in.result (parents c.self.inside.top) c.self.invariant c.frames_in.ensures.few in omega arith

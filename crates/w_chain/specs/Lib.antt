@@ -1,0 +1,4 @@
+pub mod ClauseLists
+pub mod Layers
+pub mod Counts
+pub mod LendingTop

@@ -1,0 +1,7 @@
+//! The running segments as one chain (`specs/`).
+#![tactic(auto)]
+
+mod chain;
+mod clauses;
+
+pub use chain::Chain;
