@@ -18,6 +18,7 @@ use w_tables::Store;
 use w_types::Value;
 
 /// The address of the function that `call_ref` calls, or its trap: the topmost operand is a reference to it, or null.
+#[inline(always)]
 pub fn callee_by_reference(
     program: &Module,
     store: &Store,
@@ -38,6 +39,7 @@ pub fn callee_by_reference(
 
 /// The address of the function that `call_indirect` calls, or its trap: the topmost operand is its place in a table, and its type is
 /// equivalent to the one named. `functions` has the index of each function's type, those that are imported in front.
+#[inline(always)]
 pub fn callee_by_table(
     program: &Module,
     classes: &Classes,

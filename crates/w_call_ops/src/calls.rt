@@ -15,6 +15,7 @@ use w_tables::Store;
 
 /// Invokes the function of the module that an instruction calls, by its address and its index among the module's own, once so many
 /// operands are gone. It fails only when out of memory, and then the stack is as it was but for room.
+#[inline(always)]
 pub fn call_own(
     program: &Module,
     store: &Store,
@@ -36,6 +37,7 @@ pub fn call_own(
 
 /// Invokes the function of the module that a fresh segment begins with, by its index among the module's own. It fails only when out of
 /// memory, and then the stack is as it was but for room.
+#[inline(always)]
 pub fn invoke_own(
     program: &Module,
     store: &Store,

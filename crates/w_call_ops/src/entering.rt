@@ -53,6 +53,7 @@ fn add_runs(stack: &mut Stack, runs: &[LocalRun])
 
 /// Enters a function of the module, by its index among the module's own, once so many operands are gone; its arguments stand beneath
 /// them. The function that ran before goes on at `back`. It fails only when out of memory, and then the stack is as it was but for room.
+#[inline(never)]
 pub(crate) fn enter(
     program: &Module,
     stack: &mut Stack,

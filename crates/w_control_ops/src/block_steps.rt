@@ -65,6 +65,18 @@ fn block_arity(program: &Module, block_type: BlockType) -> Result<Arity, AllocEr
     }
 }
 
+// Takes room for one label more, where there is none.
+#[inline(always)]
+fn room_for_label(stack: &mut Stack) -> Result<(), AllocError>
+    ensures same { SameParts stack.old stack.new }
+    ensures ok { OnOk result (length stack.new.levels < stack.new.capacity.levels) }
+{
+    if stack.has_level() {
+        return Ok(());
+    }
+    stack.reserve(0, 1, 0)
+}
+
 // Takes operands off, enters a label around those beneath, and goes to a place. It fails only when out of memory, and then all is as
 // before but for room.
 #[inline(always)]
@@ -73,7 +85,7 @@ fn enter(stack: &mut Stack, taken: usize, label: Label, place: u32) -> Result<()
     ensures after { OnOk result (IsLabelled taken label.params label.arity label.target place stack.old stack.new) }
     ensures err { OnErr result (SameParts stack.old stack.new) }
 {
-    stack.reserve(0, 1, 0)?;
+    room_for_label(stack)?;
     stack.discard(taken);
     stack.enter(Entry::Label {
         params: label.params,

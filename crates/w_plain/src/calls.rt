@@ -13,6 +13,7 @@ use w_syntax::Module;
 use w_tables::{FuncEntry, Store};
 
 /// Invokes the function that an instruction calls, by its address, once so many operands are gone.
+#[inline(always)]
 pub(crate) fn call<O: Sink>(
     program: &Module,
     store: &mut Store,
@@ -43,6 +44,7 @@ pub(crate) fn call<O: Sink>(
 }
 
 /// Invokes the function that a fresh segment begins with.
+#[inline(always)]
 pub(crate) fn invoke<O: Sink>(
     program: &Module,
     store: &mut Store,

@@ -2,7 +2,7 @@
 ghost use Rattle.std.specs.Prelude.{◌≡◌, ◌≤◌, length, Err};
 ghost use Rattle.w_syntax.specs.declared.instructions.Instr.TheVariants as flat;
 ghost use Rattle.w_syntax.specs.declared.instructions.Op.TheVariants as op;
-ghost use Rattle.w_syntax.specs.Packed.{unpacked};
+ghost use Rattle.w_syntax.specs.Packed.{memory_of, unpacked};
 ghost use Rattle.w_outside.specs.Outside.{Rose};
 ghost use Rattle.w_stands.specs.Steps.{MovesAt};
 ghost use Rattle.w_plain.specs.Known.{IsKnown};
@@ -21,7 +21,8 @@ use w_outside::Sink;
 use w_segment::Stack;
 use w_stands::Did;
 use w_syntax::{
-    ControlOp, Instr, MemArg, MemoryOp, NumericOp, Op, PackedInstr, ParametricOp, ShortControlOp,
+    ControlOp, Instr, MemArg, MemoryOp, NumericOp, Op, PackedInstr, ParametricOp, ReferenceOp,
+    ShortControlOp, ShortMemoryOp, TableOp,
 };
 use w_tables::Store;
 
@@ -141,6 +142,96 @@ fn standing<O: Sink>(
     }
 }
 
+// A function that is entered at each step writes zeros over what it keeps in memory, for all of its arms. So what a rarer instruction
+// needs there is kept by a function of its own.
+
+// A table instruction.
+#[inline(always)]
+#[tactic(auto, using(crate::proofs::Prints::printed_step))]
+fn on_table<O: Sink>(
+    program: Program,
+    store: &mut Store,
+    stack: &mut Stack,
+    out: &mut O,
+    operation: &TableOp,
+) -> Result<Did, Stop>
+    requires known { IsKnown program.source.now program.classes.now program.functions.now }
+    requires moves { MovesAt (flat.Plain (op.Table operation.now)) program.source.now store.old stack.old }
+    requires one { length store.old.memories ≤ 1 }
+    ensures step { Printed result (O.held out.old) (O.held out.new) program.entry.source.now store.old stack.old store.new stack.new }
+    ensures cause { result ≡ Err Stop.WriteFault → Rose (O.faults out.old) (O.faults out.new) }
+    ensures later { O.faults out.old ≤ O.faults out.new }
+{
+    let _out = out;
+    widen(in_table(program.source, store, stack, *operation))
+}
+
+// A memory instruction that is neither a load nor a store.
+#[inline(never)]
+#[tactic(auto, using(crate::proofs::Prints::printed_step))]
+fn on_memory<O: Sink>(
+    program: Program,
+    store: &mut Store,
+    stack: &mut Stack,
+    out: &mut O,
+    operation: &ShortMemoryOp,
+) -> Result<Did, Stop>
+    requires known { IsKnown program.source.now program.classes.now program.functions.now }
+    requires moves { MovesAt (flat.Plain (op.Memory (memory_of operation.now))) program.source.now store.old stack.old }
+    requires one { length store.old.memories ≤ 1 }
+    ensures step { Printed result (O.held out.old) (O.held out.new) program.entry.source.now store.old stack.old store.new stack.new }
+    ensures cause { result ≡ Err Stop.WriteFault → Rose (O.faults out.old) (O.faults out.new) }
+    ensures later { O.faults out.old ≤ O.faults out.new }
+{
+    let _out = out;
+    widen(in_memory(program.source, store, stack, operation.whole()))
+}
+
+// A reference instruction.
+#[inline(always)]
+#[tactic(auto, using(crate::proofs::Prints::printed_step))]
+fn on_reference<O: Sink>(
+    program: Program,
+    store: &mut Store,
+    stack: &mut Stack,
+    out: &mut O,
+    operation: &ReferenceOp,
+) -> Result<Did, Stop>
+    requires known { IsKnown program.source.now program.classes.now program.functions.now }
+    requires moves { MovesAt (flat.Plain (op.Reference operation.now)) program.source.now store.old stack.old }
+    requires one { length store.old.memories ≤ 1 }
+    ensures step { Printed result (O.held out.old) (O.held out.new) program.entry.source.now store.old stack.old store.new stack.new }
+    ensures cause { result ≡ Err Stop.WriteFault → Rose (O.faults out.old) (O.faults out.new) }
+    ensures later { O.faults out.old ≤ O.faults out.new }
+{
+    let _out = out;
+    widen(reference(program.source, store, stack, *operation))
+}
+
+// An instruction that stands in a box: a `br_table` at once, and any other one apart.
+#[inline(always)]
+#[tactic(auto, using(crate::proofs::Steps::alone, crate::proofs::Prints::printed_alone))]
+fn boxed<O: Sink>(
+    program: Program,
+    store: &mut Store,
+    stack: &mut Stack,
+    out: &mut O,
+    operation: &Instr,
+) -> Result<Did, Stop>
+    requires known { IsKnown program.source.now program.classes.now program.functions.now }
+    requires moves { MovesAt operation.now program.source.now store.old stack.old }
+    requires one { length store.old.memories ≤ 1 }
+    ensures step { Printed result (O.held out.old) (O.held out.new) program.entry.source.now store.old stack.old store.new stack.new }
+    ensures cause { result ≡ Err Stop.WriteFault → Rose (O.faults out.old) (O.faults out.new) }
+    ensures later { O.faults out.old ≤ O.faults out.new }
+{
+    if let Instr::Plain(Op::Control(ControlOp::BrTable(labels, last))) = operation {
+        br_table(program.source, stack, labels, *last);
+        return Ok(Did::Went);
+    }
+    standing(program, store, stack, out, operation)
+}
+
 /// One reduction at the instruction where the stack stands, as a body keeps it.
 #[inline(always)]
 #[tactic(auto, using(crate::proofs::Prints::printed_step, crate::proofs::Prints::printed_takes, crate::proofs::Prints::none_switches, crate::proofs::Ends::end_meets))]
@@ -164,7 +255,7 @@ pub(crate) fn instruction<O: Sink>(
         PackedInstr::Drop => Ok(parametric(source, store, stack, &ParametricOp::Drop)),
         PackedInstr::Select => Ok(parametric(source, store, stack, &ParametricOp::Select)),
         PackedInstr::Variable(operation) => widen(variable(source, store, stack, *operation)),
-        PackedInstr::Table(operation) => widen(in_table(source, store, stack, *operation)),
+        PackedInstr::Table(operation) => on_table(program, store, stack, out, operation),
         PackedInstr::Load(operation, align, offset) => {
             let (align, offset) = (*align, *offset);
             let operation = MemoryOp::Load(*operation, MemArg { align, offset });
@@ -175,9 +266,7 @@ pub(crate) fn instruction<O: Sink>(
             let operation = MemoryOp::Store(*operation, MemArg { align, offset });
             widen(in_memory(source, store, stack, operation))
         }
-        PackedInstr::Memory(operation) => {
-            widen(in_memory(source, store, stack, operation.whole()))
-        }
+        PackedInstr::Memory(operation) => on_memory(program, store, stack, out, operation),
         PackedInstr::I32Const(value) => {
             widen(number(source, store, stack, NumericOp::I32Const(*value)))
         }
@@ -200,7 +289,7 @@ pub(crate) fn instruction<O: Sink>(
         PackedInstr::Convert(operation) => {
             widen(number(source, store, stack, NumericOp::Convert(*operation)))
         }
-        PackedInstr::Reference(operation) => widen(reference(source, store, stack, *operation)),
+        PackedInstr::Reference(operation) => on_reference(program, store, stack, out, operation),
         PackedInstr::Switching(_) => unreachable!(),
         PackedInstr::Block(kind, block_type, end) => {
             widen(enter_block(source, store, stack, *kind, block_type.whole(), *end))
@@ -214,6 +303,6 @@ pub(crate) fn instruction<O: Sink>(
         }
         PackedInstr::Else => Ok(leave_else(source, store, stack)),
         PackedInstr::End => Ok(leave_end(source, store, stack)),
-        PackedInstr::Boxed(instr) => standing(program, store, stack, out, instr),
+        PackedInstr::Boxed(instr) => boxed(program, store, stack, out, instr),
     }
 }

@@ -144,6 +144,7 @@ impl Stack {
 
     /// Leaves the innermost frame, whatever labels stand in it, where there is one and its arity of operands is there: the topmost
     /// `arity` operands stand on those below it, and the place is where its caller goes on (Core, execution: return).
+    #[inline(always)]
     pub fn returns(&mut self)
         requires there { IsIn self.old }
         ensures after { (c : Caller) → frame_at self.old.levels ≡ Some c → self.new ≡ returned c self.old }

@@ -5,6 +5,7 @@ ghost use Rattle.w_types.specs.declared.value.Value.{Value};
 use w_types::Value;
 
 /// Puts the topmost `n` items onto the lowest `base`, and drops those between.
+#[inline(always)]
 pub(crate) fn keep_top(items: &mut Vec<Value>, base: usize, n: usize)
     requires fits { base + n ≤ vec_len items.old }
     ensures items { items.new.items ≡ take base items.old.items ++ drop (vec_len items.old - n) items.old.items }

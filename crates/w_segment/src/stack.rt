@@ -85,8 +85,8 @@ impl Model for Stack {
 }
 
 impl Stack {
-    ghost use Rattle.std.specs.Prelude.{◌≡◌, ◌+◌, ◌≤◌, ◌↔◌, IsTrue, IsOk, OnOk, length};
-    ghost use Rattle.w_segment.specs.Shape.{fresh_shape, no_capacity, Grown, Fits, SameParts, is_none, frames_of, labels_of};
+    ghost use Rattle.std.specs.Prelude.{◌≡◌, ◌+◌, ◌<◌, ◌≤◌, ◌↔◌, IsTrue, IsOk, OnOk, length};
+    ghost use Rattle.w_segment.specs.Shape.{fresh_shape, no_capacity, height, Grown, Fits, SameParts, is_none, frames_of, labels_of};
     ghost use Rattle.w_segment.specs.Changes.{moved, staged};
     ghost use Rattle.w_segment.specs.declared.entry.Stage.TheVariants.{Fresh};
 
@@ -107,8 +107,25 @@ impl Stack {
         }
     }
 
+    /// Whether there is room for one operand more.
+    #[inline(always)]
+    pub fn has_room(&self) -> bool
+        ensures answer { IsTrue result ↔ (height self.now < self.now.capacity.operands) }
+    {
+        self.operands.len() < self.operands.capacity()
+    }
+
+    /// Whether there is room for one label or frame more.
+    #[inline(always)]
+    pub fn has_level(&self) -> bool
+        ensures answer { IsTrue result ↔ (length self.now.levels < self.now.capacity.levels) }
+    {
+        self.marks.len() < self.marks.capacity().min(MOST_LEVELS)
+    }
+
     /// Takes room for so many more operands, levels and locals. It fails only when out of memory, or where there would be 2^32 levels, and
     /// not where there is that room; also then nothing else changes.
+    #[inline(never)]
     pub fn reserve(
         &mut self,
         operands: usize,

@@ -1,7 +1,7 @@
 //! Going on behind an instruction.
 ghost use Rattle.std.specs.Prelude.{◌≡◌, ◌+◌, ◌<◌, ◌≤◌, ◌^◌, length, OnErr, OnOk};
 ghost use Rattle.w_segment.specs.Changes.{moved};
-ghost use Rattle.w_segment.specs.Shape.{SameParts};
+ghost use Rattle.w_segment.specs.Shape.{SameParts, height};
 ghost use Rattle.w_stands.specs.GoingOn.{replaced, dropped, IsPushedNext};
 
 use std::alloc::AllocError;
@@ -41,6 +41,18 @@ pub fn drop_next(stack: &mut Stack, count: usize)
     stack.go(stack.place() + 1);
 }
 
+// Takes room for one operand more, where there is none.
+#[inline(always)]
+fn room_for_one(stack: &mut Stack) -> Result<(), AllocError>
+    ensures same { SameParts stack.old stack.new }
+    ensures ok { OnOk result (height stack.new < stack.new.capacity.operands) }
+{
+    if stack.has_room() {
+        return Ok(());
+    }
+    stack.reserve(1, 0, 0)
+}
+
 /// Pushes a value, and goes on behind the instruction. It fails only when out of memory, and then all is as before but for room.
 #[inline(always)]
 pub fn push_next(stack: &mut Stack, value: Value) -> Result<(), AllocError>
@@ -48,7 +60,7 @@ pub fn push_next(stack: &mut Stack, value: Value) -> Result<(), AllocError>
     ensures after { OnOk result (IsPushedNext value stack.old stack.new) }
     ensures err { OnErr result (SameParts stack.old stack.new) }
 {
-    stack.reserve(1, 0, 0)?;
+    room_for_one(stack)?;
     stack.push(value);
     stack.go(stack.place() + 1);
     Ok(())

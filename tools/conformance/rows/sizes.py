@@ -94,16 +94,9 @@ def ran(name, steps, words, *wanted):
     SECTION.rows.append(CallRow(name, f'run x --steps {steps}', ' '.join(words), wanted))
 
 
-# Main of type [] to [], and of type [] to [i32].
-MAIN = '070801046D61696E0000'
-NOTHING = ['0061736D0100000001040160000003020100', MAIN]
-ONE_PAGE = ['0061736D010000000105016000017F03020100', '0503010001', MAIN]
-
-# Main's invoke, two reductions for each block, and two for the exits of main.
-NESTED_BLOCKS = [*NOTHING, *section(10, sized(['00', '0240*100000', '0B*100000', '0B']))]
+# Main of type [] to []: its invoke, two reductions for each block, and two for the exits of main.
+NESTED_BLOCKS = [
+    '0061736D0100000001040160000003020100', '070801046D61696E0000',
+    *section(10, sized(['00', '0240*100000', '0B*100000', '0B']))]
 ran('a-hundred-thousand-nested-blocks-run', 200003, NESTED_BLOCKS)
 ran('a-hundred-thousand-nested-blocks-are-still-running', 200002, NESTED_BLOCKS, 'err | running', 'status 10')
-
-# Ten thousand active segments of one byte, each over the one before, the last of another byte, which main loads.
-DATAS = section(11, [shortest(10000), '0041000B0161*9999', '0041000B017A'])
-ran('ten-thousand-data-segments-are-copied-in-order', 100, [*ONE_PAGE, '0A0901070041002D00000B', *DATAS], 'out | = 122')
