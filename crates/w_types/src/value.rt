@@ -9,7 +9,7 @@ use crate::types::{RefType, ValType};
 /// used again; a serial is not.
 #[derive(Clone, Copy)]
 pub struct ContRef {
-    pub place: u32,
+    pub place: usize,
     pub serial: u64,
 }
 
