@@ -3,10 +3,10 @@ use Rattle.std.proofs.Common.{◌≡◌, List, [], ◌∷◌, refl, sym, ap, ◌
 use Rattle.w_syntax.specs.Code.{Code, Done, Plain, Block, If, IfElse}
 use Rattle.w_types.specs.Rows.{Row, ε, ◌▹◌, ◌⧺◌}
 use Rattle.w_reduce.specs.Values.{Val}
-use Rattle.w_reduce.specs.Terms.{Administrative, Rest, Label, Frame, Context, Term}
+use Rattle.w_reduce.specs.Terms.{Administrative, Rest, Label, Frame, Handle, Context, Term}
 use Rattle.w_reduce.specs.Reduced.{Went}
 use Rattle.w_reduce.specs.Reduce.{reduce}
-use Rattle.w_reduce.specs.Tree.{Const, Admin, Instr, InstrBlock, InstrIf, InstrIfElse, InLabel, InFrame, Sequence, Nil, ◌∙∙◌, values_then, instructions_of, admin_then, sequence_of, plugged, tree, Decomposes, Deterministic}
+use Rattle.w_reduce.specs.Tree.{Const, Admin, Instr, InstrBlock, InstrIf, InstrIfElse, InLabel, InFrame, InHandle, Sequence, Nil, ◌∙∙◌, values_then, instructions_of, admin_then, sequence_of, plugged, tree, Decomposes, Deterministic}
 use Rattle.w_types.proofs.Rows.{unit_left}
 
 -- the code, and the rest of a sequence, that instructions are
@@ -20,6 +20,7 @@ code_in (Const v ∙∙ x) = Done
 code_in (Admin a ∙∙ x) = Done
 code_in (InLabel n again y ∙∙ x) = Done
 code_in (InFrame n ls y ∙∙ x) = Done
+code_in (InHandle hs y ∙∙ x) = Done
 
 with_ahead : Administrative → Rest → Rest
 with_ahead a r = record r { ahead = a ∷ r.ahead }
@@ -34,6 +35,7 @@ rest_in (InstrIfElse b y z ∙∙ x) = record { ahead = []; code = IfElse b y z 
 rest_in (Const v ∙∙ x) = record { ahead = []; code = Done }
 rest_in (InLabel n again y ∙∙ x) = record { ahead = []; code = Done }
 rest_in (InFrame n ls y ∙∙ x) = record { ahead = []; code = Done }
+rest_in (InHandle hs y ∙∙ x) = record { ahead = []; code = Done }
 
 -- a sequence, at the hole of e and after vs, taken apart
 apart : Context → Row Val → Sequence → Term
@@ -46,6 +48,7 @@ apart e vs (InstrIf b y ∙∙ x) = record { around = e; operands = vs; rest = r
 apart e vs (InstrIfElse b y z ∙∙ x) = record { around = e; operands = vs; rest = record { ahead = []; code = IfElse b y z (code_in x) } }
 apart e vs (InLabel n again y ∙∙ x) = apart (Label vs n again (code_in x) ∷ e) ε y
 apart e vs (InFrame n ls y ∙∙ x) = apart (Frame vs n ls (rest_in x) ∷ e) ε y
+apart e vs (InHandle hs y ∙∙ x) = apart (Handle vs hs (code_in x) ∷ e) ε y
 
 code_written : (c : Code) → code_in (instructions_of c) ≡ c
 unfolding code_in
@@ -93,6 +96,10 @@ apart_filled (Frame below n ls rest ∷ e) x =
     apart_filled e (values_then below (InFrame n ls x ∙∙ sequence_of rest))
     ∙ apart_values e ε below (InFrame n ls x ∙∙ sequence_of rest)
     ∙ rw (unit_left below, rest_written rest.ahead rest.code) refl
+apart_filled (Handle below hs rest ∷ e) x =
+    apart_filled e (values_then below (InHandle hs x ∙∙ instructions_of rest))
+    ∙ apart_values e ε below (InHandle hs x ∙∙ instructions_of rest)
+    ∙ rw (unit_left below, code_written rest) refl
 
 apart_tree : (t : Term) → apart [] ε (tree t) ≡ t
 apart_tree t =

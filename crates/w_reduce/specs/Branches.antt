@@ -7,7 +7,7 @@ use Rattle.w_syntax.specs.declared.instructions.BlockKind.TheVariants as kind
 use Rattle.w_syntax.specs.declared.instructions.BlockType.{BlockType}
 use Rattle.w_reduce.specs.Values.{Val}
 use Rattle.w_reduce.specs.Store.{Store}
-use Rattle.w_reduce.specs.Terms.{rest_of, Label, Frame, Context}
+use Rattle.w_reduce.specs.Terms.{rest_of, Label, Frame, Handle, Context}
 use Rattle.w_reduce.specs.Program.{Program, Arity, arity_of}
 use Rattle.w_reduce.specs.Reduced.{Reduced, Stuck, steps_to, ◌>>=◌, or_stuck, take_values, take_i32}
 
@@ -46,6 +46,7 @@ branch s zero (Label below n again rest ∷ e) vs = do
   steps_to s e (below ⧺ us) (rest_of (after again rest))
 branch s (suc l) (Label below n again rest ∷ e) vs = branch s l e vs
 branch s l (Frame below n locals rest ∷ e) vs = Stuck
+branch s l (Handle below hs rest ∷ e) vs = Stuck
 
 -- frame_n{F} B*[vs v^n return] end  ↪  v^n
 abbrev pub returns : Store → Context → Row Val → Reduced
@@ -54,3 +55,4 @@ returns s (Label below n again rest ∷ e) vs = returns s e vs
 returns s (Frame below n locals rest ∷ e) vs = do
   (_, us) ← take_values n vs
   steps_to s e (below ⧺ us) rest
+returns s (Handle below hs rest ∷ e) vs = Stuck

@@ -14,6 +14,8 @@ pub mod Control
 pub mod Memories
 pub mod Tables
 pub mod Exits
+pub mod Handlers
+pub mod Switching
 pub mod Reduce
 pub mod Run
 pub mod Imports

@@ -8,7 +8,7 @@ use Rattle.w_syntax.specs.declared.instructions.Op.TheVariants as op
 use Rattle.w_reduce.specs.declared.limit.RunLimit.TheVariants.{Frames}
 use Rattle.w_reduce.specs.Values.{Val}
 use Rattle.w_reduce.specs.Store.{Store}
-use Rattle.w_reduce.specs.Terms.{Administrative, Invoke, Context, Term, frames, most_frames}
+use Rattle.w_reduce.specs.Terms.{Administrative, Invoke, Branch, Context, Term, frames, most_frames}
 use Rattle.w_reduce.specs.Program.{Program}
 use Rattle.w_reduce.specs.Reduced.{Reduced, Went, Trapped, Limited, Ended, Stuck}
 use Rattle.w_reduce.specs.Numeric.{numeric_op}
@@ -17,7 +17,7 @@ use Rattle.w_reduce.specs.Variable.{variable_op}
 use Rattle.w_reduce.specs.Reference.{reference_op}
 use Rattle.w_reduce.specs.Memories.{memory_op}
 use Rattle.w_reduce.specs.Tables.{table_op}
-use Rattle.w_reduce.specs.Branches.{block, choice}
+use Rattle.w_reduce.specs.Branches.{block, choice, branch}
 use Rattle.w_reduce.specs.Calls.{invoke}
 use Rattle.w_reduce.specs.Control.{control_op}
 use Rattle.w_reduce.specs.Exits.{leave}
@@ -31,12 +31,14 @@ instruction p s e vs (op.Memory o) c = memory_op s e vs o c
 instruction p s e vs (op.Table o) c = table_op s e vs o c
 instruction p s e vs (op.Numeric o) c = numeric_op s e vs o c
 instruction p s e vs (op.Reference o) c = reference_op s e vs o c
--- no rule yet
+-- those that switch stacks have rules (`Switching.antt`), by which no run goes yet
 instruction p s e vs o c = Stuck
 
 -- what comes next at the hole of a context
 abbrev pub next : Program → Store → Context → Row Val → List Administrative → Code → Reduced
 next p s e vs (Invoke a ∷ ahead) c = invoke p s e vs a (record { ahead = ahead; code = c })
+-- (br l)
+next p s e vs (Branch l ∷ ahead) c = branch s l e vs
 next p s e vs [] (Plain o c) = instruction p s e vs o c
 next p s e vs [] (Block k b x c) = block p s e vs k b x c
 next p s e vs [] (If b x c) = choice p s e vs b x Done c

@@ -111,6 +111,7 @@ bare m ps = record {
   tags = map (λ (t : Tag). t.type_index) m.tags;
   elements = [];
   datas = map (λ (d : syntax_data.Data). d.bytes) m.datas;
+  conts = [];
 }
 
 -- each global has its value by those before it

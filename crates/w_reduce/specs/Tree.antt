@@ -1,15 +1,16 @@
--- Terms as the standard writes them: sequences of values, instructions, labels and frames. Each term of `Terms` is read as
+-- Terms as the standard writes them: sequences of values, instructions, labels, frames and handles. Each term of `Terms` is read as
 -- one, its context around its operands and the rest of its sequence, and no two are read as the same.
 use Rattle.std.specs.Prelude.{◌≡◌, ℕ, List, [], ◌∷◌, Option}
 use Rattle.w_syntax.specs.Code.{Code, Done, Plain, Block, If, IfElse}
 use Rattle.w_syntax.specs.declared.instructions.Op.{Op}
 use Rattle.w_syntax.specs.declared.instructions.BlockKind.{BlockKind}
 use Rattle.w_syntax.specs.declared.instructions.BlockType.{BlockType}
+use Rattle.w_syntax.specs.declared.instructions.Clause.{Clause}
 use Rattle.w_reduce.specs.Program.{Program}
 use Rattle.w_types.specs.Rows.{Row, ε, ◌▹◌}
 use Rattle.w_reduce.specs.Values.{Val}
 use Rattle.w_reduce.specs.Store.{Store}
-use Rattle.w_reduce.specs.Terms.{Administrative, Rest, Label, Frame, Context, Term}
+use Rattle.w_reduce.specs.Terms.{Administrative, Rest, Label, Frame, Handle, Context, Term}
 use Rattle.w_reduce.specs.Reduced.{Went}
 use Rattle.w_reduce.specs.Reduce.{reduce}
 
@@ -24,6 +25,7 @@ mutual
     InstrIfElse : BlockType → (first second : Code) → AdminInstr
     InLabel : (arity : ℕ) (again : Code) (body : Sequence) → AdminInstr
     InFrame : (arity : ℕ) (locals : List (Option Val)) (body : Sequence) → AdminInstr
+    InHandle : (clauses : List Clause) (body : Sequence) → AdminInstr
 
   pub data Sequence : Type 0 where
     Nil : Sequence
@@ -53,6 +55,7 @@ abbrev pub plugged : Context → Sequence → Sequence
 plugged [] x = x
 plugged (Label below n again rest ∷ e) x = plugged e (values_then below (InLabel n again x ∙∙ instructions_of rest))
 plugged (Frame below n locals rest ∷ e) x = plugged e (values_then below (InFrame n locals x ∙∙ sequence_of rest))
+plugged (Handle below hs rest ∷ e) x = plugged e (values_then below (InHandle hs x ∙∙ instructions_of rest))
 
 abbrev pub tree : Term → Sequence
 tree t = plugged t.around (values_then t.operands (sequence_of t.rest))

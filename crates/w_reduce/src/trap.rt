@@ -1,6 +1,6 @@
-//! The traps of plain instructions.
+//! The traps of instructions.
 
-/// Why a reduction trapped (Core, execution).
+/// Why a reduction trapped (Core, execution; stack-switching explainer, execution).
 #[derive(Clone, Copy, Debug, PartialEq, Eq)]
 pub enum Trap {
     /// `unreachable` was reached.
@@ -16,4 +16,8 @@ pub enum Trap {
     /// `call_indirect` of a function of another type.
     CallTypeMismatch,
     NullReference,
+    /// A continuation was used that had been consumed.
+    ConsumedContinuation,
+    /// No handle around had a clause for the tag of this index.
+    Unhandled(u32),
 }

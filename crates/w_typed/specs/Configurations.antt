@@ -4,6 +4,7 @@ use Rattle.w_types.specs.declared.types.FuncType.{FuncType}
 use Rattle.w_types.specs.Rows.{Row, row_of}
 use Rattle.w_syntax.specs.Code.{Code, Plain}
 use Rattle.w_syntax.specs.declared.instructions.Op.{Op}
+use Rattle.w_syntax.specs.declared.instructions.SwitchingOp.{SwitchingOp}
 use Rattle.w_syntax.specs.declared.instructions.Op.TheVariants as op
 use Rattle.w_syntax.specs.declared.module.Module.{Module}
 use Rattle.w_rules.specs.Context.{type_of_func}
@@ -15,40 +16,29 @@ use Rattle.w_reduce.specs.declared.limit.RunLimit.{RunLimit}
 use Rattle.w_reduce.specs.declared.trap.Trap.{Trap}
 use Rattle.w_reduce.specs.Values.{Val}
 use Rattle.w_reduce.specs.Store.{Store}
-use Rattle.w_reduce.specs.Terms.{Administrative, Term}
+use Rattle.w_reduce.specs.Terms.{Administrative, Term, rest_of}
 use Rattle.w_reduce.specs.Program.{Program, IsProgram}
 use Rattle.w_reduce.specs.Reduced.{Reduced, Went, Trapped, Limited, Ended}
 use Rattle.w_reduce.specs.Reduce.{reduce}
+use Rattle.w_reduce.specs.Switching.{switching_op}
 use Rattle.w_reduce.specs.Run.{RunState, NoRule, Run}
 use Rattle.w_reduce.specs.Start.{Start, Ready, start_term}
-use Rattle.w_typed.specs.Values.{ValuesTyped}
+use Rattle.w_typed.specs.Values.{Arrows, Grows, ValuesTyped}
 use Rattle.w_typed.specs.Stores.{StoreTyped}
-use Rattle.w_typed.specs.Contexts.{Scope, Subset, RestTyped, Within}
+use Rattle.w_typed.specs.Contexts.{TermTyped}
 
--- a term of results us
-pub record TermTyped (m : Module) (us : Row Operand) (t : Term) : Type 0 where
-  pub scope : Scope
-  pub set : List Bool
-  pub now : List Bool
-  pub still : Subset set now
-  pub before : Row Operand
-  pub after : Row Operand
-  pub operands : ValuesTyped m t.operands before
-  pub rest : RestTyped m scope set t.rest.ahead t.rest.code before after
-  pub around : Within m us t.around scope now after
+-- a store of the module's types, whose continuations have the function types K, and a term of results us
+pub record Typed (m : Module) (K : Arrows) (us : Row Operand) (s : Store) (t : Term) : Type 0 where
+  pub store : StoreTyped m K s
+  pub term : TermTyped m K us t
 
--- a store of the module's types, and a term of results us
-pub record Typed (m : Module) (us : Row Operand) (s : Store) (t : Term) : Type 0 where
-  pub store : StoreTyped m s
-  pub term : TermTyped m us t
-
--- What a reduction of a typed configuration comes to: one that is typed, a trap, a limit, or values of the results' types. It is
--- never stuck.
-pub data IsSafe (m : Module) (us : Row Operand) : Reduced → Type 0 where
-  goes : {out : List ℕ} {s : Store} {t : Term} → Typed m us s t → IsSafe m us (Went out s t)
-  traps : {t : Trap} → IsSafe m us (Trapped t)
-  is_limited : {l : RunLimit} → IsSafe m us (Limited l)
-  ends : {vs : Row Val} → ValuesTyped m vs us → IsSafe m us (Ended vs)
+-- What a reduction of a typed configuration comes to: one that is typed, where the continuations may be more, a trap, a limit, or values
+-- of the results' types. It is never stuck.
+pub data IsSafe (m : Module) (K : Arrows) (us : Row Operand) : Reduced → Type 0 where
+  goes : {L : Arrows} {out : List ℕ} {s : Store} {t : Term} → Grows K L → Typed m L us s t → IsSafe m K us (Went out s t)
+  traps : {t : Trap} → IsSafe m K us (Trapped t)
+  is_limited : {l : RunLimit} → IsSafe m K us (Limited l)
+  ends : {vs : Row Val} → ValuesTyped m K vs us → IsSafe m K us (Ended vs)
 
 -- whether the instruction that comes next switches stacks
 abbrev pub is_switching : Op → Bool
@@ -63,16 +53,22 @@ switches ahead k = false
 
 -- preservation and progress
 abbrev pub ReductionsAreSafe : Type 0
-ReductionsAreSafe = (p : Program) (us : Row Operand) (s : Store) (t : Term) → IsProgram p → Valid p.source → Typed p.source us s t
-    → switches t.rest.ahead t.rest.code ≡ false → IsSafe p.source us (reduce p s t)
+ReductionsAreSafe = (p : Program) (K : Arrows) (us : Row Operand) (s : Store) (t : Term) → IsProgram p → Valid p.source → Typed p.source K us s t
+    → switches t.rest.ahead t.rest.code ≡ false → IsSafe p.source K us (reduce p s t)
+
+-- the same of an instruction that switches stacks
+abbrev pub SwitchingIsSafe : Type 0
+SwitchingIsSafe = (p : Program) (K : Arrows) (us : Row Operand) (s : Store) (t : Term) (o : SwitchingOp) (c : Code) → IsProgram p → Valid p.source
+    → Typed p.source K us s t → t.rest ≡ rest_of (Plain (op.Switching o) c) → IsSafe p.source K us (switching_op p s t.around t.operands o c)
 
 -- a run stays typed, and no rule applies only where an instruction that switches stacks comes next
 pub record RunIsTyped (p : Program) (us : Row Operand) (r : RunState) : Type 0 where
-  pub typed : Typed p.source us r.store r.term
+  pub arrows : Arrows
+  pub typed : Typed p.source arrows us r.store r.term
   pub stops : r.outcome ≡ NoRule → switches r.term.rest.ahead r.term.rest.code ≡ true
 
 abbrev pub RunsAreTyped : Type 0
-RunsAreTyped = (p : Program) (us : Row Operand) (s : Store) (t : Term) → IsProgram p → Valid p.source → Typed p.source us s t → (n : ℕ) → RunIsTyped p us (Run p s t n)
+RunsAreTyped = (p : Program) (K : Arrows) (us : Row Operand) (s : Store) (t : Term) → IsProgram p → Valid p.source → Typed p.source K us s t → (n : ℕ) → RunIsTyped p us (Run p s t n)
 
 -- where a run of a valid module begins, the configuration is typed, and its results are those of main, which takes nothing
 pub record StartsTyped (m : Module) (s : Store) (t : Term) : Type 0 where
@@ -81,7 +77,7 @@ pub record StartsTyped (m : Module) (s : Store) (t : Term) : Type 0 where
   pub has_type : type_of_func (context_of m) main ≡ Some type
   pub no_params : type.params ≡ []
   pub begins : t ≡ start_term m main
-  pub typed : Typed m (known (row_of type.results)) s t
+  pub typed : Typed m [] (known (row_of type.results)) s t
 
 abbrev pub StartsAreTyped : Type 0
 StartsAreTyped = (p : Program) (s : Store) (t : Term) → IsProgram p → Valid p.source → Start p ≡ Ready s t → StartsTyped p.source s t

@@ -1,4 +1,4 @@
 pub mod Values
-pub mod Stores
 pub mod Contexts
+pub mod Stores
 pub mod Configurations
