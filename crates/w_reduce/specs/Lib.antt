@@ -17,6 +17,7 @@ pub mod Exits
 pub mod Handlers
 pub mod Switching
 pub mod Reduce
+pub mod Apart
 pub mod Run
 pub mod Imports
 pub mod Constants

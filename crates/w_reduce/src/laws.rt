@@ -2,6 +2,7 @@
 ghost use Rattle.std.specs.Prelude.{ℕ};
 ghost use Rattle.w_reduce.specs.Tree.{Decomposes, Deterministic};
 ghost use Rattle.w_reduce.specs.Handlers.{Finds, FindsNone};
+ghost use Rattle.w_reduce.specs.Apart.{PlainReductionsGoApart};
 
 /// A term is a redex in a context in one way only.
 pub fn decomposes()
@@ -19,4 +20,9 @@ pub fn finds_innermost()
     ensures no_label { FindsNone ℕ }
     ensures switches { Finds (Unit {0}) }
     ensures no_switch { FindsNone (Unit {0}) }
+{}
+
+/// A reduction by no rule of switching neither looks at continuations nor changes them.
+pub fn plain_reductions_go_apart()
+    ensures { PlainReductionsGoApart }
 {}
