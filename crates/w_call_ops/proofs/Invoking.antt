@@ -16,7 +16,7 @@ use Rattle.w_reduce.specs.Reduced.{steps_to}
 use Rattle.w_reduce.specs.Reduce.{next}
 use Rattle.w_stands.specs.Values.{stack, local_vals, store_of}
 use Rattle.w_stands.specs.Code.{instrs}
-use Rattle.w_stands.specs.Stands.{In, body, fresh, values, outermost}
+use Rattle.w_stands.specs.Stands.{In, body, left, fresh, values, outermost}
 use Rattle.w_stands.specs.Steps.{Follows}
 use Rattle.w_stands.specs.declared.did.Did.TheVariants as did
 use Rattle.w_call_ops.specs.Entering.{IsFunction, CanEnter, IsEntered}
@@ -32,6 +32,7 @@ pub record Begins (m : Module) (outer : Context) (behind : Rest) (s : Shape) (e 
 
 pub begins : {m : Module} {outer : Context} {behind : Rest} {s : Shape} {e : Context} {r : Rest} → In m outer behind s e r → s.stage ≡ Fresh → Begins m outer behind s e r
 begins (body g k w) h = absurd cc
+begins (left g k w) h = absurd cc
 begins (fresh g k) h = record { outside = refl; rest = refl; levels = k }
 begins (values g k) h = absurd cc
 

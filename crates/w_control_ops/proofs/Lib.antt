@@ -8,3 +8,4 @@ pub mod ExitingElse
 pub mod Entering
 pub mod Blocks
 pub mod Choices
+pub mod LeavingBranch

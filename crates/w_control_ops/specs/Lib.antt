@@ -1,3 +1,4 @@
 pub mod Ended
 pub mod Exits
 pub mod Entering
+pub mod Left

@@ -9,9 +9,10 @@ ghost use Rattle.w_reduce.specs.Control.{label_in};
 ghost use Rattle.w_stands.specs.Keeps.{Keeps};
 ghost use Rattle.w_stands.specs.Steps.{MovesAlone, FollowsAlone};
 ghost use Rattle.w_stands.specs.declared.did.Did.TheVariants as did;
+ghost use Rattle.w_control_ops.specs.Left.{BranchLeft};
 
 use crate::outside::end_outside;
-use w_segment::Stack;
+use w_segment::{Stack, Stage};
 use w_stands::{drop_next, i32_of};
 use w_syntax::Module;
 use w_types::ListOf;
@@ -24,6 +25,18 @@ pub fn br(program: &Module, stack: &mut Stack, label: u32)
     ensures keeps { Keeps stack.old stack.new }
 {
     let _program = program;
+    stack.branch(label);
+}
+
+/// The branch that a caught suspend left (stack-switching explainer, suspend): the stack goes on in its body.
+#[inline]
+pub fn branch_left(program: &Module, stack: &mut Stack, label: u32)
+    requires left { BranchLeft label program.now stack.old }
+    ensures goes { FollowsAlone did.Went program.now stack.old stack.new }
+    ensures keeps { Keeps stack.old stack.new }
+{
+    let _program = program;
+    stack.set_stage(Stage::Body);
     stack.branch(label);
 }
 

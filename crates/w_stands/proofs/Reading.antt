@@ -9,7 +9,7 @@ use Rattle.w_segment.specs.declared.entry.Stage.TheVariants.{Body}
 use Rattle.w_segment.specs.Shape.{Shape, Level}
 use Rattle.w_reduce.specs.Terms.{Rest, rest_of, Context}
 use Rattle.w_stands.specs.Code.{instrs, IsMark, Reads, stop, plain, block, choice, choices}
-use Rattle.w_stands.specs.Stands.{Around, In, body, fresh, values}
+use Rattle.w_stands.specs.Stands.{Around, In, body, left, fresh, values}
 
 -- a stack in a body
 pub record Here (m : Module) (outer : Context) (behind : Rest) (s : Shape) (e : Context) (r : Rest) : Type 0 where
@@ -21,6 +21,7 @@ pub record Here (m : Module) (outer : Context) (behind : Rest) (s : Shape) (e : 
 
 pub here : {m : Module} {outer : Context} {behind : Rest} {s : Shape} {e : Context} {r : Rest} → In m outer behind s e r → s.stage ≡ Body → Here m outer behind s e r
 here (body {q = q} {c = c} g k w) h = record { end = q; code = c; rest = refl; reads = k; around = w }
+here (left g k w) h = absurd cc
 here (fresh g k) h = absurd cc
 here (values g k) h = absurd cc
 

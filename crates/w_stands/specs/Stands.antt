@@ -3,9 +3,9 @@ use Rattle.std.specs.Prelude.{◌≡◌, ℕ, List, [], ◌∷◌, Option, None,
 use Rattle.w_types.specs.declared.value.Value.{Value}
 use Rattle.w_syntax.specs.Code.{Code, after}
 use Rattle.w_syntax.specs.declared.module.Module.{Module}
-use Rattle.w_segment.specs.declared.entry.Stage.TheVariants.{Fresh, Body, Values}
+use Rattle.w_segment.specs.declared.entry.Stage.TheVariants.{Fresh, Body, Values, Branch as AtBranch}
 use Rattle.w_segment.specs.Shape.{Shape, Level, Label, Frame}
-use Rattle.w_reduce.specs.Terms.{Invoke, Rest, rest_of, Label as InLabel, Frame as InFrame, Context}
+use Rattle.w_reduce.specs.Terms.{Invoke, Branch, Rest, rest_of, Label as InLabel, Frame as InFrame, Context}
 use Rattle.w_stands.specs.Values.{stack, local_vals}
 use Rattle.w_stands.specs.Code.{instrs, Reads, Behind}
 
@@ -27,6 +27,9 @@ pub data Around (m : Module) (outer : Context) (behind : Rest) : (f q : ℕ) →
 pub data In (m : Module) (outer : Context) (behind : Rest) (s : Shape) : Context → Rest → Type 0 where
   body : {q : ℕ} {c : Code} {e : Context} → s.stage ≡ Body → Reads (instrs m s.func) s.place c q → Around m outer behind s.func q s.levels e →
       In m outer behind s e (rest_of c)
+  -- a caught suspend left a branch in front of the code behind its resume
+  left : {l q : ℕ} {c : Code} {e : Context} → s.stage ≡ AtBranch l → Reads (instrs m s.func) s.place c q → Around m outer behind s.func q s.levels e →
+      In m outer behind s e (record { ahead = Branch l ∷ []; code = c })
   -- a fresh one tells of its function by the address
   fresh : s.stage ≡ Fresh → s.levels ≡ [] → In m outer behind s outer (record { ahead = Invoke s.func ∷ behind.ahead; code = behind.code })
   values : s.stage ≡ Values → s.levels ≡ [] → In m outer behind s outer behind

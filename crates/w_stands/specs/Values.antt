@@ -21,7 +21,7 @@ vals vs = map val vs
 abbrev pub table_of : instances.Table → Table
 table_of t = record { elements = vals t.elements; max = t.max }
 
--- the store of the definitions that one of the program stands for
+-- the store of the definitions that one of the program stands for, but for its continuations, which stand in a store of their own
 abbrev pub store_of : instances.Store → Store
 store_of s = record {
   functions = s.functions;
@@ -31,4 +31,5 @@ store_of s = record {
   tags = s.tags;
   elements = map vals s.elems;
   datas = s.datas;
+  conts = [];
 }
