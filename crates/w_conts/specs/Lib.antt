@@ -1,0 +1,2 @@
+pub mod Conts
+pub mod Slots
