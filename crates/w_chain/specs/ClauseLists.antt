@@ -1,9 +1,8 @@
 -- The clauses at which a segment waits (stack-switching explainer, resume): a handle's clauses are those of its resume.
-use Rattle.std.specs.Prelude.{ℕ, Bool, false, true, nat_eq, List, [], ◌∷◌, Option, Some, None, slice_get, if◌then◌else◌}
+use Rattle.std.specs.Prelude.{ℕ, List, [], Option, Some, None, slice_get}
 use Rattle.w_syntax.specs.Flat.{whole}
 use Rattle.w_syntax.specs.Functions.{code_of_function}
 use Rattle.w_syntax.specs.declared.instructions.Clause.{Clause}
-use Rattle.w_syntax.specs.declared.instructions.Clause.TheVariants as clause
 use Rattle.w_syntax.specs.declared.instructions.Instr.{Instr}
 use Rattle.w_syntax.specs.declared.instructions.Instr.TheVariants as flat
 use Rattle.w_syntax.specs.declared.instructions.Op.TheVariants as op
@@ -12,8 +11,6 @@ use Rattle.w_syntax.specs.declared.instructions.SwitchingOp.TheVariants as switc
 use Rattle.w_syntax.specs.declared.module.Func.{Func}
 use Rattle.w_syntax.specs.declared.module.Module.{Module}
 use Rattle.w_segment.specs.Link.{Link}
-
--- ## Where they stand
 
 abbrev pub clauses_in_switching : SwitchingOp → List Clause
 clauses_in_switching (switching.Resume t hs) = hs
@@ -35,17 +32,3 @@ clauses_at m f p = clauses_in (instr_in (code_of_function m f) p)
 -- those at which a segment waits: its innermost frame is of the function whose code has the resume
 abbrev pub clauses_of : Module → Link → List Clause
 clauses_of m y = clauses_at m y.shape.func y.clauses
-
--- ## What they answer
-
--- the label of the first label clause for a tag
-abbrev pub label_clause : ℕ → List Clause → Option ℕ
-label_clause e [] = None
-label_clause e (clause.Label x l ∷ hs) = if nat_eq x e then Some l else label_clause e hs
-label_clause e (clause.Switch x ∷ hs) = label_clause e hs
-
--- whether there is a switch clause for a tag
-abbrev pub has_switch : ℕ → List Clause → Bool
-has_switch e [] = false
-has_switch e (clause.Label x l ∷ hs) = has_switch e hs
-has_switch e (clause.Switch x ∷ hs) = if nat_eq x e then true else has_switch e hs

@@ -3,7 +3,8 @@
 use Rattle.std.specs.Prelude.{◌≡◌, ℕ, ◌+◌, Bool, true, false, List, [], ◌∷◌, Option, Some, None, option_map, slice_get, take, All, if◌then◌else◌}
 use Rattle.w_syntax.specs.declared.module.Module.{Module}
 use Rattle.w_segment.specs.Link.{Link, rest}
-use Rattle.w_chain.specs.ClauseLists.{clauses_of, label_clause, has_switch}
+use Rattle.w_reduce.specs.Handlers.{label_clause, has_switch}
+use Rattle.w_chain.specs.ClauseLists.{clauses_of}
 
 -- the label of the first label clause for a tag at which a segment waits
 abbrev pub label_for : Module → ℕ → Link → Option ℕ

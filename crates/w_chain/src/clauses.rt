@@ -2,7 +2,8 @@
 ghost use Rattle.std.specs.Prelude.{◌≡◌, ◌<◌, Some, length};
 ghost use Rattle.w_syntax.specs.Packed.{unpacked};
 ghost use Rattle.w_segment.specs.Link.{top};
-ghost use Rattle.w_chain.specs.ClauseLists.{clauses_in, clauses_at, clauses_of, label_clause, has_switch};
+ghost use Rattle.w_reduce.specs.Handlers.{label_clause, has_switch};
+ghost use Rattle.w_chain.specs.ClauseLists.{clauses_in, clauses_at, clauses_of};
 
 use w_segment::Segment;
 use w_syntax::{Clause, Instr, Module, Op, PackedInstr, SwitchingOp};

@@ -1,5 +1,5 @@
 use Rattle.std.proofs.Common.{◌≡◌, drop}
-use Rattle.w_chain.specs.ClauseLists.{has_switch}
+use Rattle.w_reduce.specs.Handlers.{has_switch}
 use Rattle.w_chain.proofs.clauses.has_switch.Given as goal
 
 abbrev pub invariant-loop-clause : goal.invariant-loop-clause

@@ -1,5 +1,5 @@
 use Rattle.std.proofs.Common.{◌≡◌, drop}
-use Rattle.w_chain.specs.ClauseLists.{label_clause}
+use Rattle.w_reduce.specs.Handlers.{label_clause}
 use Rattle.w_chain.proofs.clauses.label_of.Given as goal
 
 abbrev pub invariant-loop-clause : goal.invariant-loop-clause
