@@ -1,4 +1,5 @@
 pub mod Places
+pub mod Growing
 pub mod Subsumed
 pub mod Taken
 pub mod Holes
@@ -9,6 +10,7 @@ pub mod Locals
 pub mod Branches
 pub mod Blocks
 pub mod Calls
+pub mod TypeKinds
 pub mod AlikeTypes
 pub mod SameTypes
 pub mod Indirect
