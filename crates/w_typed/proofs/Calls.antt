@@ -12,6 +12,7 @@ use Rattle.w_syntax.specs.Functions.{func_type, type_at}
 use Rattle.w_syntax.specs.declared.locals.LocalRun.{LocalRun}
 use Rattle.w_syntax.specs.declared.numeric.IntType.TheVariants as int
 use Rattle.w_syntax.specs.declared.module.Module.{Module}
+use Rattle.w_canon.specs.Matching.{IsFunc}
 use Rattle.w_rules.specs.Bodies.{types_of_runs, set_first, has_default}
 use Rattle.w_rules.specs.Context.{type_of_func, func_at}
 use Rattle.w_rules.specs.Matching.{RowMatches, known}
@@ -33,6 +34,7 @@ use Rattle.w_typed.specs.Values.{Arrows, ValueTyped, an_i32, an_i64, a_null, a_v
 use Rattle.w_typed.specs.Stores.{StoreTyped, EntryTyped, own, host, printed_type}
 use Rattle.w_typed.specs.Contexts.{Scope, inside, CodeTyped, code_alone, RestTyped, Subset, LocalTyped, unset, held, LocalsTyped, no_locals, locals, Within, label, frame}
 use Rattle.w_typed.specs.Configurations.{IsSafe}
+use Rattle.w_typed.proofs.TypeKinds.{is_func}
 use Rattle.w_typed.proofs.Places.{instance_at}
 use Rattle.w_typed.proofs.Taken.{values_taken, number_taken}
 use Rattle.w_typed.proofs.Holes.{subset_refl}
@@ -89,6 +91,16 @@ module _ (m : Module) {K : Arrows} where
       arguments_typed (subst (λ (ts : List ValType). ListTyped m K (listed args) ts) (listed-row_of params) (list_of (row_of params) h)) (runs_typed runs)
 
 -- ## Invokes
+
+-- the index of a function of the store is that of a function type
+entry_there : (m : Module) {f : FuncEntry} {x : ℕ} → Valid m → EntryTyped m f x → IsFunc m.types x
+entry_there m valid (own {i = i} {x = x} there) =
+    let f : FunctionValid m i = valid (FunctionItem i) (inl (slice_get_within m.functions i x there)) in
+    is_func m x f.type (sym (ap (type_at m) there) ∙ f.has_type)
+entry_there m valid (host {x = x} {t = t} has params results) = is_func m x t has
+
+pub function_there : (m : Module) {K : Arrows} {s : Store} (a x : ℕ) → Valid m → StoreTyped m K s → slice_get (functions_of m) a ≡ Some x → IsFunc m.types x
+function_there m a x valid u is = let f = instance_at a x u.functions is in entry_there m valid f.holds
 
 module _ (p : Program) {K : Arrows} (us : Row Operand) where
   -- a function of the module's own is entered

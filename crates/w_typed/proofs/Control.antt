@@ -85,6 +85,20 @@ module _ (p : Program) (K : Arrows) (us : Row Operand) where
     pub around : Within p.source K us e scope now out
     pub inside : scope.results ≡ None → ⊥
 
+  -- it gives operands of types that match these
+  pub here_left : {s : Store} {e : Context} {k : Code} {ts ws : Row Operand} → RowMatches p.source.types ts ws → Here s e k ws → Here s e k ts
+  here_left r h = record {
+    scope = h.scope;
+    set = h.set;
+    now = h.now;
+    out = h.out;
+    still = h.still;
+    store = h.store;
+    behind = code_left p.source r h.behind;
+    around = h.around;
+    inside = h.inside;
+  }
+
   -- a reference that may not be null is of each type of references to its heap type
   there : {r : RefType} {v : Val} → OperandTyped p.source K v (ref_to false (Some r.heap)) → OperandTyped p.source K v (Known (Ref r))
   there {r = r} q = operand_sub p.source (value (ref (record { nullable = λ f. absurd (cc); heap = heap_refl p.source.types r.heap }))) q

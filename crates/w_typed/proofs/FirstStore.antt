@@ -27,16 +27,11 @@ use Rattle.w_reduce.specs.Start.{bare, with_globals, filling, table_of, with_tab
 use Rattle.w_typed.specs.Values.{ValueTyped, a_null, AllTyped}
 use Rattle.w_typed.specs.Stores.{Instances, no_instance, instances, TableTyped, GlobalTyped, SegmentTyped, ContTyped, StoreTyped}
 use Rattle.w_typed.proofs.ConstantValues.{knowing, Holding, value_typed}
-use Rattle.w_typed.proofs.ManyInstances.{instances_beside, instances_made}
+use Rattle.w_typed.proofs.ManyInstances.{seam, instances_beside, instances_made}
 use Rattle.w_typed.proofs.Elements.{all_replicate}
 use Rattle.w_typed.proofs.HostFunctions.{Imported, functions_typed}
 
 -- ## Globals
-
--- the item behind a front
-seam : {A : Type 0} (xs : List A) (y : A) (ys : List A) → slice_get (xs ++ y ∷ ys) (length xs) ≡ Some y
-seam [] y ys = refl
-seam (x ∷ xs) y ys = seam xs y ys
 
 -- their types
 abbrev kinds : List GlobalVariable → List GlobalType

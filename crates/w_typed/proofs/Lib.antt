@@ -4,6 +4,8 @@ pub mod Subsumed
 pub mod Taken
 pub mod Holes
 pub mod Onward
+pub mod Filling
+pub mod Cutting
 pub mod Numbers
 pub mod References
 pub mod Locals
@@ -13,12 +15,15 @@ pub mod Calls
 pub mod TypeKinds
 pub mod AlikeTypes
 pub mod SameTypes
+pub mod ContTypes
+pub mod Conts
 pub mod Indirect
 pub mod Elements
 pub mod Globals
 pub mod Memories
 pub mod Tables
 pub mod Control
+pub mod ContNew
 pub mod Reductions
 pub mod Chosen
 pub mod ManyInstances

@@ -69,7 +69,7 @@ end_behind start (x ∷ front) g back p i end t at is there =
 -- ## Types of a valid module
 
 -- the indices in a type of a valid module are below the end of its group
-valid_at_place : (m : Module) → Valid m → (i : ℕ) (P : Place m.types i) (t : CompType) → slice_get P.group.types P.position ≡ Some t
+pub valid_at_place : (m : Module) → Valid m → (i : ℕ) (P : Place m.types i) (t : CompType) → slice_get P.group.types P.position ≡ Some t
     → IsValidCompType (types_of m.types) (end_of m.types i P) t
 valid_at_place m v i P t there =
     let h : TypeValid m i = v (TypeItem i) (within_all m.types i P) in

@@ -7,7 +7,10 @@ use Rattle.w_types.specs.declared.types.HeapType.TheVariants.{Func, Index}
 use Rattle.w_types.specs.Groups.{types_of}
 use Rattle.w_syntax.specs.Functions.{function_type, func_type}
 use Rattle.w_syntax.specs.declared.module.Module.{Module}
-use Rattle.w_canon.specs.Matching.{IsFunc, IsCont, HeapMatches, index_func}
+use Rattle.w_canon.specs.Equivalence.{SameIndex}
+use Rattle.w_canon.specs.Matching.{IsFunc, IsCont, HeapMatches, index, index_func}
+use Rattle.w_canon.proofs.Equivalent.{symmetric}
+use Rattle.w_canon.proofs.Preorder.{heap_trans}
 use Rattle.w_rules.specs.Context as rules
 use Rattle.w_rules.specs.Context.{func_at, index_in_cont, cont_of}
 use Rattle.w_rules.specs.Spaces.{context_of}
@@ -37,3 +40,8 @@ module _ (m : Module) where
   -- a continuation type matches none of functions
   pub cont_no_func : (x : ℕ) (f : FuncType) → cont_of (context_of m) x ≡ Some f → HeapMatches m.types (Index x) Func → ⊥
   cont_no_func x f h (index_func g) = one_of_both x g (is_cont x f h)
+
+  -- nor is a function type equivalent to a continuation type
+  pub func_no_cont : (x y : ℕ) → IsFunc m.types x → SameIndex m.types x y → (f : FuncType) → cont_of (context_of m) y ≡ Some f → ⊥
+  func_no_cont x y g same f h =
+      cont_no_func y f h (heap_trans m.types (Index y) (Index x) Func (index (symmetric m.types x y same)) (index_func g))
