@@ -86,7 +86,7 @@ module _ (p : Program) (K : Arrows) (us : Row Operand) where
     pub inside : scope.results ≡ None → ⊥
 
   -- it gives operands of types that match these
-  pub here_left : {s : Store} {e : Context} {k : Code} {ts ws : Row Operand} → RowMatches p.source.types ts ws → Here s e k ws → Here s e k ts
+  abbrev pub here_left : {s : Store} {e : Context} {k : Code} {ts ws : Row Operand} → RowMatches p.source.types ts ws → Here s e k ws → Here s e k ts
   here_left r h = record {
     scope = h.scope;
     set = h.set;

@@ -23,7 +23,11 @@ pub mod Globals
 pub mod Memories
 pub mod Tables
 pub mod Control
+pub mod ResultRows
 pub mod ContNew
+pub mod Resuming
+pub mod Clauses
+pub mod Suspending
 pub mod Reductions
 pub mod Chosen
 pub mod ManyInstances
