@@ -1,10 +1,9 @@
 -- cont.new, of typed configurations.
-use Rattle.std.proofs.Common.{◌≡◌, ℕ, Bool, List, [], ◌∷◌, ◌++◌, length, Option, Some, None, slice_get, refl, sym, ap, subst, ◌∙◌}
+use Rattle.std.proofs.Common.{◌≡◌, ℕ, [], ◌∷◌, ◌++◌, length, Option, Some, None, slice_get, refl, ap, ◌∙◌}
 use Rattle.w_types.specs.declared.types.FuncType.{FuncType}
-use Rattle.w_types.specs.declared.types.HeapType.TheVariants.{Index}
 use Rattle.w_types.specs.Rows.{Row, ε, ◌▹◌, ◌⧺◌, row_of}
 use Rattle.w_types.proofs.Rows.{unit_left}
-use Rattle.w_syntax.specs.Code.{Code, Done}
+use Rattle.w_syntax.specs.Code.{Code}
 use Rattle.w_syntax.specs.declared.instructions.SwitchingOp.TheVariants as switching
 use Rattle.w_syntax.specs.declared.module.Module.{Module}
 use Rattle.w_canon.specs.Matching.{index_func}

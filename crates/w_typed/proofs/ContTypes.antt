@@ -1,5 +1,5 @@
 -- Continuation types of a valid module: each is of a function type, and one that is equivalent to another has a function type that matches.
-use Rattle.std.proofs.Common.{◌≡◌, inl, inr, ℕ, zero, suc, ◌≤◌, List, [], ◌∷◌, length, Option, Some, None, slice_get, refl, sym, ap, subst, ◌∙◌, arith}
+use Rattle.std.proofs.Common.{◌≡◌, inl, inr, ℕ, zero, suc, ◌≤◌, List, length, Option, Some, None, slice_get, refl, sym, ap, subst, ◌∙◌, arith}
 use Rattle.std.proofs.lemmas.Option.{slice_get_within}
 use Rattle.w_types.specs.declared.types.CompType.{CompType}
 use Rattle.w_types.specs.declared.types.CompType.TheVariants as comp
@@ -10,13 +10,12 @@ use Rattle.w_syntax.specs.declared.module.Module.{Module}
 use Rattle.w_canon.specs.Relations.{Pairwise, none, more}
 use Rattle.w_canon.specs.Equivalence.{AlikeIndex, AlikeComp, Place, Same, SameIndex}
 use Rattle.w_canon.specs.Matching.{FuncMatches}
-use Rattle.w_canon.proofs.Places.{count, place, type_at_place}
+use Rattle.w_canon.proofs.Places.{place, type_at_place}
 use Rattle.w_canon.proofs.Preorder.{func_refl}
-use Rattle.w_rules.specs.Context as rules
 use Rattle.w_rules.specs.Context.{func_at, index_in_cont, func_index_of_cont, cont_of}
 use Rattle.w_rules.specs.Spaces.{context_of}
 use Rattle.w_rules.specs.Valid.{Valid}
-use Rattle.w_typed.proofs.AlikeTypes.{end_of, alike_same}
+use Rattle.w_typed.proofs.AlikeTypes.{alike_same}
 use Rattle.w_typed.proofs.TypeKinds.{is_cont}
 use Rattle.w_typed.proofs.SameTypes.{valid_at_place, SameFunction, same_function}
 

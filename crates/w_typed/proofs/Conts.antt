@@ -1,31 +1,30 @@
 -- The continuations of a typed store: consumed, made and taken.
-use Rattle.std.proofs.Common.{◌≡◌, ℕ, Bool, List, [], ◌∷◌, ◌++◌, length, Option, Some, None, slice_get, refl, sym, subst, ◌∙◌}
+use Rattle.std.proofs.Common.{◌≡◌, ℕ, Bool, List, [], ◌∷◌, ◌++◌, Option, Some, None, slice_get, sym, subst}
 use Rattle.w_types.specs.declared.types.FuncType.{FuncType}
 use Rattle.w_types.specs.declared.types.HeapType.TheVariants.{Index}
 use Rattle.w_types.specs.Rows.{Row}
-use Rattle.w_syntax.specs.Functions.{func_type}
 use Rattle.w_syntax.specs.declared.module.Module.{Module}
-use Rattle.w_canon.specs.Matching.{HeapMatches, FuncMatches, index}
+use Rattle.w_canon.specs.Matching.{FuncMatches, index}
 use Rattle.w_canon.proofs.Preorder.{func_trans}
 use Rattle.w_canon.proofs.Equivalent.{reflexive}
 use Rattle.w_rules.specs.Context.{cont_of}
 use Rattle.w_rules.specs.InstructionTypes.{nullable}
 use Rattle.w_rules.specs.Operands.{Operand}
-use Rattle.w_rules.specs.Spaces.{context_of, functions_of}
+use Rattle.w_rules.specs.Spaces.{context_of}
 use Rattle.w_rules.specs.Valid.{Valid}
-use Rattle.w_reduce.specs.Values.{Val, Cont}
+use Rattle.w_reduce.specs.Values.{Val}
 use Rattle.w_reduce.specs.Store.{Store, next_cont, with_cont, without_cont}
 use Rattle.w_reduce.specs.Terms.{Rest, Context, Kept}
 use Rattle.w_reduce.specs.Reduced.{Reduced, steps_to, unless_consumed, as_continuation}
 use Rattle.w_typed.specs.Values.{Arrows, Grows, ContinuationTyped, ValueTyped, a_null, a_function, a_continuation, ValuesTyped}
 use Rattle.w_typed.specs.Contexts.{Scope, RestTyped, Subset, Within, KeptTyped}
-use Rattle.w_typed.specs.Stores.{Instances, no_instance, instances, ContTyped, consumed, kept, StoreTyped}
+use Rattle.w_typed.specs.Stores.{no_instance, instances, ContTyped, consumed, kept, StoreTyped}
 use Rattle.w_typed.specs.Configurations.{IsSafe, goes, traps}
 use Rattle.w_typed.proofs.Places.{instance_at, instance_set, instance_count}
 use Rattle.w_typed.proofs.ManyInstances.{instances_beside, instances_each, seam}
 use Rattle.w_typed.proofs.Growing.{grows_refl, grows_more, within_grows, cont_grows, store_grows}
 use Rattle.w_typed.proofs.Indirect.{one_type}
-use Rattle.w_typed.proofs.TypeKinds.{is_cont, func_no_cont}
+use Rattle.w_typed.proofs.TypeKinds.{func_no_cont}
 use Rattle.w_typed.proofs.Calls.{function_there}
 use Rattle.w_typed.proofs.ContTypes.{SameCont, same_cont}
 

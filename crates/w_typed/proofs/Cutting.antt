@@ -1,5 +1,5 @@
 -- A typed context, cut at the handle that is found.
-use Rattle.std.proofs.Common.{◌≡◌, All, Bool, List, [], ◌∷◌, ◌++◌, Option, Some, None, subst, refl}
+use Rattle.std.proofs.Common.{◌≡◌, All, Bool, List, [], ◌∷◌, ◌++◌, Option, Some, subst}
 use Rattle.w_types.specs.declared.types.ValType.{ValType}
 use Rattle.w_types.specs.Rows.{Row, ◌⧺◌, row_of}
 use Rattle.w_syntax.specs.Code.{Code}

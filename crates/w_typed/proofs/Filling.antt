@@ -1,5 +1,5 @@
 -- Terms with a hole: filled, and put into a context.
-use Rattle.std.proofs.Common.{◌≡◌, Bool, List, ◌++◌, sym, subst}
+use Rattle.std.proofs.Common.{Bool, List, ◌++◌, sym, subst}
 use Rattle.w_types.specs.Rows.{Row, ◌⧺◌}
 use Rattle.w_types.proofs.Rows.{beside_assoc}
 use Rattle.w_syntax.specs.declared.module.Module.{Module}

@@ -15,8 +15,8 @@ use Rattle.w_reduce.specs.Values.{Val}
 use Rattle.w_reduce.specs.Store.{Store, Table, with_conts}
 use Rattle.w_reduce.specs.Terms.{Context, Term, Kept}
 use Rattle.w_typed.specs.Values.{Arrows, Grows, ContinuationTyped, ValueTyped, an_i32, an_i64, a_null, a_function, a_continuation, OperandTyped, a_value, a_bottom, ValuesTyped, no_values, values, AllTyped}
-use Rattle.w_typed.specs.Contexts.{Scope, LocalTyped, unset, held, LocalsTyped, no_locals, locals, Within, outside, label, frame, handle, HoleTyped, KeptTyped}
-use Rattle.w_typed.specs.Stores.{Instances, TableTyped, GlobalTyped, SegmentTyped, ContTyped, consumed, kept, StoreTyped}
+use Rattle.w_typed.specs.Contexts.{Scope, LocalTyped, unset, held, LocalsTyped, no_locals, locals, Within, outside, label, frame, handle, HoleTyped}
+use Rattle.w_typed.specs.Stores.{Instances, ContTyped, consumed, kept, StoreTyped}
 use Rattle.w_typed.proofs.ManyInstances.{instances_each}
 
 -- a list stays

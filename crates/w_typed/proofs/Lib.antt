@@ -28,6 +28,8 @@ pub mod ContNew
 pub mod Resuming
 pub mod Clauses
 pub mod Suspending
+pub mod SwitchingStacks
+pub mod Switches
 pub mod Reductions
 pub mod Chosen
 pub mod ManyInstances

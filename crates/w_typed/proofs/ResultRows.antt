@@ -1,5 +1,5 @@
 -- Rows of result types: of their parts, and of lists that match.
-use Rattle.std.proofs.Common.{◌≡◌, ℕ, zero, suc, List, [], ◌∷◌, ◌++◌, length, take, drop, refl, ap, ◌∙◌, subst}
+use Rattle.std.proofs.Common.{◌≡◌, ℕ, zero, suc, List, ◌++◌, length, take, drop, refl, ap, ◌∙◌, subst}
 use Rattle.std.proofs.lemmas.List.{take-append-drop}
 use Rattle.w_types.specs.declared.types.RecGroup.{RecGroup}
 use Rattle.w_types.specs.declared.types.ValType.{ValType}

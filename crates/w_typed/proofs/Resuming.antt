@@ -1,20 +1,18 @@
 -- resume and cont.bind, of typed configurations.
-use Rattle.std.proofs.Common.{◌≡◌, ℕ, ◌-◌, nat_le, All, Bool, List, [], ◌∷◌, ◌++◌, length, take, drop, Option, Some, None, refl, sym, ap, subst, ◌∙◌, arith}
+use Rattle.std.proofs.Common.{◌≡◌, ℕ, ◌-◌, nat_le, All, List, [], ◌∷◌, ◌++◌, length, take, drop, Option, Some, None, refl, sym, ◌∙◌, arith}
 use Rattle.std.proofs.lemmas.List.{length-take-le}
 use Rattle.w_types.specs.declared.types.FuncType.{FuncType}
-use Rattle.w_types.specs.declared.types.ValType.{ValType}
 use Rattle.w_types.specs.Rows.{Row, ε, ◌▹◌, ◌⧺◌, size, row_of}
 use Rattle.w_syntax.specs.Code.{Code}
 use Rattle.w_syntax.specs.declared.instructions.Clause.{Clause}
 use Rattle.w_syntax.specs.declared.instructions.SwitchingOp.TheVariants as switching
-use Rattle.w_syntax.specs.declared.module.Module.{Module}
 use Rattle.w_canon.specs.Matching.{ResultMatches, FuncMatches}
 use Rattle.w_canon.proofs.Matches.{one_length}
 use Rattle.w_canon.proofs.Preorder.{result_refl, result_trans}
 use Rattle.w_rules.specs.Conditions.{Holds, ClauseTyped, BindTyped}
 use Rattle.w_rules.specs.Context.{cont_of}
 use Rattle.w_rules.specs.InstructionTypes.{fixed, resume_type, cont_bind_type, nullable, non_null}
-use Rattle.w_rules.specs.Matching.{RowMatches, known}
+use Rattle.w_rules.specs.Matching.{known}
 use Rattle.w_rules.specs.Operands.{Operand, Known}
 use Rattle.w_rules.specs.Spaces.{context_of}
 use Rattle.w_rules.specs.Typing.{HasInstrType}
@@ -94,7 +92,7 @@ module _ (p : Program) (K : Arrows) (us : Row Operand) {s : Store} {e : Context}
       (result_rows m.types (pairwise_take n f.params))) b)
       (λ below args lower taken.
       let rest = rows_joined m.types n own.params other.params
-          (result_trans m.types other.params (drop n one.params) (drop n own.params) takes (pairwise_drop n f.params)) in
+      (result_trans m.types other.params (drop n one.params) (drop n own.params) takes (pairwise_drop n f.params)) in
       let cont : Kept = record { takes = length other.params; term = filled kept.term args } in
       let cont_typed : KeptTyped m (K ++ new ∷ []) cont new = record {
         takes = refl;

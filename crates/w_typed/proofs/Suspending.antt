@@ -1,10 +1,10 @@
 -- suspend, of typed configurations.
-use Rattle.std.proofs.Common.{◌≡◌, ℕ, Bool, List, [], ◌∷◌, ◌++◌, length, Option, Some, None, refl, sym, ap, subst, ◌∙◌}
+use Rattle.std.proofs.Common.{◌≡◌, ℕ, Bool, List, [], ◌∷◌, ◌++◌, length, Option, Some, None, refl, sym, subst}
 use Rattle.w_types.specs.declared.types.FuncType.{FuncType}
 use Rattle.w_types.specs.declared.types.HeapType.TheVariants.{Index}
 use Rattle.w_types.specs.declared.types.ValType.{ValType}
 use Rattle.w_types.specs.declared.types.ValType.TheVariants.{Ref}
-use Rattle.w_types.specs.Rows.{Row, ε, ◌▹◌, ◌⧺◌, row_of, listed}
+use Rattle.w_types.specs.Rows.{Row, ◌▹◌, ◌⧺◌, row_of, listed}
 use Rattle.w_syntax.specs.Code.{Code}
 use Rattle.w_syntax.specs.declared.instructions.SwitchingOp.TheVariants as switching
 use Rattle.w_syntax.specs.declared.module.Module.{Module}
@@ -13,13 +13,13 @@ use Rattle.w_rules.specs.Conditions.{LabelClauseTyped}
 use Rattle.w_rules.specs.Context.{type_of_tag}
 use Rattle.w_rules.specs.InstructionTypes.{call_type}
 use Rattle.w_rules.specs.Matching.{RowMatches, known}
-use Rattle.w_rules.specs.Operands.{Operand, Known}
+use Rattle.w_rules.specs.Operands.{Operand}
 use Rattle.w_rules.specs.Spaces.{context_of}
 use Rattle.w_rules.specs.Typing.{HasInstrType}
 use Rattle.w_rules.proofs.Preorder.{row_refl}
 use Rattle.w_reduce.specs.Values.{Val, Cont}
 use Rattle.w_reduce.specs.Store.{Store, next_cont, with_cont}
-use Rattle.w_reduce.specs.Terms.{Branch, Context, Kept}
+use Rattle.w_reduce.specs.Terms.{Branch, Context}
 use Rattle.w_reduce.specs.Program.{Program}
 use Rattle.w_reduce.specs.Reduced.{steps_to}
 use Rattle.w_reduce.specs.Handlers.{Handler, label_clause, find, IsInnermost}
