@@ -37,7 +37,7 @@ use Rattle.w_reduce.specs.declared.limit.RunLimit.{RunLimit}
 use Rattle.w_reduce.specs.declared.trap.Trap.{Trap}
 use Rattle.w_reduce.specs.Values.{Val, I32, I64, Null, Func, Cont}
 use Rattle.w_reduce.specs.Store.{Store}
-use Rattle.w_reduce.specs.Terms.{Administrative, Invoke, Rest, rest_of, Label, Frame, Context, Term, locals_of}
+use Rattle.w_reduce.specs.Terms.{Administrative, Invoke, Branch, Rest, rest_of, Label, Frame, Handle, Context, Term, locals_of}
 use Rattle.w_reduce.specs.Program.{Program, arity_of}
 use Rattle.w_reduce.specs.Reduced.{Reduced, Went, Trapped, Limited, Ended, Stuck}
 use Rattle.w_reduce.specs.Reduced.{or_stuck, or_trap, take_value, take_values, take_number, unless_fault, as_function}
@@ -234,12 +234,14 @@ module _ (e : Context) (last : Bool) where
   quiet_branch s zero (Label below n again rest ∷ f) vs = quiet_take_values n vs _ (λ q. silent)
   quiet_branch s (suc l) (Label below n again rest ∷ f) vs = quiet_branch s l f vs
   quiet_branch s l (Frame below n locals rest ∷ f) vs = silent_stuck
+  quiet_branch s l (Handle below hs rest ∷ f) vs = silent_stuck
 
   -- a return out of any context
   pub quiet_returns : (s : Store) (f : Context) (vs : Row Val) → IsQuiet e last (returns s f vs)
   quiet_returns s [] vs = silent_stuck
   quiet_returns s (Label below n again rest ∷ f) vs = quiet_returns s f vs
   quiet_returns s (Frame below n locals rest ∷ f) vs = quiet_take_values n vs _ (λ q. silent)
+  quiet_returns s (Handle below hs rest ∷ f) vs = silent_stuck
 
   -- ## Calls
 
@@ -301,11 +303,12 @@ abbrev pub is_last : Context → List Administrative → Code → Bool
 is_last [] [] Done = true
 is_last e ahead k = false
 
--- the exit of a label and of a frame
+-- the exit of a label, of a frame and of a handle
 quiet_leave : (s : Store) (e : Context) (vs : Row Val) → IsQuiet e (is_last e [] Done) (leave s e vs)
 quiet_leave s [] vs = silent_end refl
 quiet_leave s (Label below n again rest ∷ e) vs = silent
 quiet_leave s (Frame below n locals rest ∷ e) vs = quiet_if (Frame below n locals rest ∷ e) false (nat_eq (size vs) n) _ _ silent silent_stuck
+quiet_leave s (Handle below hs rest ∷ e) vs = silent
 
 quiet_code : (p : Program) (s : Store) (e : Context) (vs : Row Val) (k : Code) → IsQuiet e (is_last e [] k) (next p s e vs [] k)
 quiet_code p s [] vs (Plain o k) = quiet_instruction p s [] vs o k
@@ -324,7 +327,13 @@ quiet_invoked_next : (p : Program) (s : Store) (e : Context) (vs : Row Val) (a :
 quiet_invoked_next p s [] vs a ahead k = quiet_invoke [] false p s vs a (record { ahead = ahead; code = k })
 quiet_invoked_next p s (l ∷ e) vs a ahead k = quiet_invoke (l ∷ e) false p s vs a (record { ahead = ahead; code = k })
 
+quiet_branched_next : (p : Program) (s : Store) (e : Context) (vs : Row Val) (l : ℕ) (ahead : List Administrative) (k : Code)
+    → IsQuiet e (is_last e (Branch l ∷ ahead) k) (next p s e vs (Branch l ∷ ahead) k)
+quiet_branched_next p s [] vs l ahead k = quiet_branch [] false s l [] vs
+quiet_branched_next p s (n ∷ e) vs l ahead k = quiet_branch (n ∷ e) false s l (n ∷ e) vs
+
 -- what comes next prints nothing, or leaves the context as it was, and is the end only where nothing is left
 pub quiet_next : (p : Program) (s : Store) (e : Context) (vs : Row Val) (ahead : List Administrative) (k : Code) → IsQuiet e (is_last e ahead k) (next p s e vs ahead k)
 quiet_next p s e vs [] k = quiet_code p s e vs k
 quiet_next p s e vs (Invoke a ∷ ahead) k = quiet_invoked_next p s e vs a ahead k
+quiet_next p s e vs (Branch l ∷ ahead) k = quiet_branched_next p s e vs l ahead k

@@ -1,6 +1,6 @@
 -- A type that is equivalent to a function type is a function type that matches it. Result types that match are rows that match.
 use Rattle.std.proofs.Common.{◌≡◌, inl, inr, ℕ, zero, suc, ◌+◌, ◌<◌, ◌≤◌, List, [], ◌∷◌, ◌++◌, map, length, refl, sym, ap, subst, ◌∙◌, arith}
-use Rattle.std.specs.Prelude.{Option, Some, None, slice_get, option_map}
+use Rattle.std.specs.Prelude.{Some, slice_get, option_map}
 use Rattle.std.proofs.lemmas.List.{length-append}
 use Rattle.std.proofs.lemmas.Option.{slice_get-map, slice_get_within}
 use Rattle.w_types.proofs.Lists.{get-front, get-behind}
@@ -23,6 +23,7 @@ use Rattle.w_canon.proofs.Preorder.{result_refl}
 use Rattle.w_rules.specs.Matching.{value, RowMatches, known}
 use Rattle.w_rules.specs.Types.{IsValidCompType, with_ends}
 use Rattle.w_rules.specs.Valid.{Valid, TypeItem, TypeValid}
+use Rattle.w_typed.proofs.TypeKinds.{func_here}
 use Rattle.w_typed.proofs.AlikeTypes.{end_of, alike_same, alike_result_equal}
 
 -- ## The end of a type's group
@@ -68,7 +69,7 @@ end_behind start (x ∷ front) g back p i end t at is there =
 -- ## Types of a valid module
 
 -- the indices in a type of a valid module are below the end of its group
-valid_at_place : (m : Module) → Valid m → (i : ℕ) (P : Place m.types i) (t : CompType) → slice_get P.group.types P.position ≡ Some t
+pub valid_at_place : (m : Module) → Valid m → (i : ℕ) (P : Place m.types i) (t : CompType) → slice_get P.group.types P.position ≡ Some t
     → IsValidCompType (types_of m.types) (end_of m.types i P) t
 valid_at_place m v i P t there =
     let h : TypeValid m i = v (TypeItem i) (within_all m.types i P) in
@@ -86,11 +87,6 @@ pub record SameFunction (m : Module) (x : ℕ) (f : FuncType) : Type 0 where
   pub has_type : func_type m x ≡ Some type
   pub params : ResultMatches m.types f.params type.params
   pub results : ResultMatches m.types type.results f.results
-
-func_here : (o : Option CompType) (f : FuncType) → function_type o ≡ Some f → o ≡ Some (comp.Func f)
-func_here (Some (comp.Func g)) f h = let e : g ≡ f = cc in ap (λ (z : FuncType). Some (comp.Func z)) e
-func_here (Some (comp.Cont x)) f h = absurd (cc)
-func_here None f h = absurd (cc)
 
 -- the function type at a position of a group that equals one with a function type there
 record AlikeAt (S : ℕ → ℕ → Type 0) (s t : ℕ) (ts : List CompType) (p : ℕ) (f : FuncType) : Type 0 where
