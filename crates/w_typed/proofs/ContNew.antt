@@ -44,8 +44,7 @@ fresh_typed m K a x t is f =
     let to : Row Operand = known (row_of t.results) in
     let own : Row Operand = known (row_of f.type.params) in
     let given : Row Operand = known (row_of f.type.results) in
-    let takes : RowMatches m.types (ε ⧺ from) (ε ⧺ own) =
-    rw (unit_left from, unit_left own) (result_rows m.types f.params) in
+    let takes : RowMatches m.types (ε ⧺ from) (ε ⧺ own) = rw (unit_left from, unit_left own) (result_rows m.types f.params) in
     let gives : RowMatches m.types (ε ⧺ given) to = rw (unit_left given) (result_rows m.types f.results) in
     record {
       takes = refl;
@@ -63,6 +62,7 @@ fresh_typed m K a x t is f =
     }
 
 module _ (p : Program) (K : Arrows) (us : Row Operand) {s : Store} {e : Context} {k : Code} where
+  -- with the function type known
   made : {vs : Row Val} (x f : ℕ) {beneath : Row Operand} (h : Here p K us s e k (beneath ▹ Known (non_null x))) → Valid p.source → IsContOf p.source x f
       → ValuesTyped p.source K vs (beneath ▹ Known (nullable f)) → IsSafe p.source K us (switching_op p s e vs (switching.ContNew x) k)
   made x f h valid c (values b (a_value q)) =
@@ -75,6 +75,7 @@ module _ (p : Program) (K : Arrows) (us : Row Operand) {s : Store} {e : Context}
       (values (values_grow m one b) (a_value (a_continuation (made_reference m t t x s h.store c.has_cont (func_refl m.types t)))))
       (code_alone h.behind) h.around))
 
+  -- by whether there is a function type
   by_index : {ts ws : Row Operand} {vs : Row Val} (x : ℕ) (f : Option ℕ) (h : Here p K us s e k ws) → Valid p.source → func_index_of_cont (context_of p.source) x ≡ f
       → HasInstrType p.source.types (cont_new_type x f) ts ws → ValuesTyped p.source K vs ts → IsSafe p.source K us (switching_op p s e vs (switching.ContNew x) k)
   by_index x None h valid is t v = absurd t
@@ -83,6 +84,6 @@ module _ (p : Program) (K : Arrows) (us : Row Operand) {s : Store} {e : Context}
       made x f (here_left p K us t.gives h) valid (is_cont_of m valid x f is) (values_sub m t.takes v)
 
   -- cont.new makes a continuation of the function, or traps where it is null
-  pub cont_new_safe : {ts ws : Row Operand} {vs : Row Val} (x : ℕ) (h : Here p K us s e k ws) → Valid p.source → HasInstrType p.source.types (cont_new_type x (func_index_of_cont (context_of p.source) x)) ts ws
-      → ValuesTyped p.source K vs ts → IsSafe p.source K us (switching_op p s e vs (switching.ContNew x) k)
+  pub cont_new_safe : {ts ws : Row Operand} {vs : Row Val} (x : ℕ) (h : Here p K us s e k ws) → Valid p.source
+      → HasInstrType p.source.types (cont_new_type x (func_index_of_cont (context_of p.source) x)) ts ws → ValuesTyped p.source K vs ts → IsSafe p.source K us (switching_op p s e vs (switching.ContNew x) k)
   cont_new_safe x h valid t v = by_index x (func_index_of_cont (context_of p.source) x) h valid refl t v

@@ -1,5 +1,5 @@
 -- Continuation types of a valid module: each is of a function type, and one that is equivalent to another has a function type that matches.
-use Rattle.std.proofs.Common.{◌≡◌, inl, inr, ℕ, zero, suc, ◌≤◌, List, length, Option, Some, None, slice_get, refl, sym, ap, subst, ◌∙◌, arith}
+use Rattle.std.proofs.Common.{◌≡◌, inl, inr, ℕ, zero, suc, ◌≤◌, length, Option, Some, None, slice_get, refl, sym, ap, ◌∙◌, arith}
 use Rattle.std.proofs.lemmas.Option.{slice_get_within}
 use Rattle.w_types.specs.declared.types.CompType.{CompType}
 use Rattle.w_types.specs.declared.types.CompType.TheVariants as comp
@@ -7,7 +7,6 @@ use Rattle.w_types.specs.declared.types.FuncType.{FuncType}
 use Rattle.w_types.specs.Groups.{types_of}
 use Rattle.w_syntax.specs.Functions.{function_type, func_type}
 use Rattle.w_syntax.specs.declared.module.Module.{Module}
-use Rattle.w_canon.specs.Relations.{Pairwise, none, more}
 use Rattle.w_canon.specs.Equivalence.{AlikeIndex, AlikeComp, Place, Same, SameIndex}
 use Rattle.w_canon.specs.Matching.{FuncMatches}
 use Rattle.w_canon.proofs.Places.{place, type_at_place}
@@ -15,12 +14,13 @@ use Rattle.w_canon.proofs.Preorder.{func_refl}
 use Rattle.w_rules.specs.Context.{func_at, index_in_cont, func_index_of_cont, cont_of}
 use Rattle.w_rules.specs.Spaces.{context_of}
 use Rattle.w_rules.specs.Valid.{Valid}
-use Rattle.w_typed.proofs.AlikeTypes.{alike_same}
+use Rattle.w_typed.proofs.AlikeTypes.{related_at, alike_same}
 use Rattle.w_typed.proofs.TypeKinds.{is_cont}
 use Rattle.w_typed.proofs.SameTypes.{valid_at_place, SameFunction, same_function}
 
 -- ## Of a function type
 
+-- what has the index of a continuation type is a continuation type
 index_here : (o : Option CompType) (f : ℕ) → index_in_cont o ≡ Some f → o ≡ Some (comp.Cont f)
 index_here (Some (comp.Func g)) f h = absurd (cc)
 index_here (Some (comp.Cont y)) f h = let e : y ≡ f = cc in ap (λ (z : ℕ). Some (comp.Cont z)) e
@@ -49,23 +49,13 @@ module _ (m : Module) (valid : Valid m) where
 
 -- ## Equivalent ones
 
--- the item at a place of a list, related to that of another
-record Related {A : Type 0} (R : A → A → Type 0) (xs : List A) (p : ℕ) (y : A) : Type 0 where
-  item : A
-  there : slice_get xs p ≡ Some item
-  related : R item y
-
-related_at : {A : Type 0} {R : A → A → Type 0} {xs ys : List A} (p : ℕ) (y : A) → Pairwise R xs ys → slice_get ys p ≡ Some y → Related R xs p y
-related_at p y none is = absurd (cc)
-related_at {A} {R} zero y (more {x = x} h k) is = record { item = x; there = refl; related = subst (λ (z : A). R x z) (cc) h }
-related_at (suc p) y (more h k) is = let r = related_at p y k is in record { item = r.item; there = r.there; related = r.related }
-
--- a type alike a continuation type is one, of a type alike that of the other
+-- a continuation type, of a type that is alike w
 record AlikeCont (S : ℕ → ℕ → Type 0) (s t w : ℕ) (a : CompType) : Type 0 where
   index : ℕ
   is : a ≡ comp.Cont index
   alike : AlikeIndex S s t index w
 
+-- what is alike a continuation type is one
 alike_cont : {S : ℕ → ℕ → Type 0} {s t : ℕ} (w : ℕ) {a : CompType} → AlikeComp S s t a (comp.Cont w) → AlikeCont S s t w a
 alike_cont w (AlikeComp.cont {x} h) = record { index = x; is = refl; alike = h }
 
@@ -76,6 +66,7 @@ pub record SameCont (m : Module) (x : ℕ) (f : FuncType) : Type 0 where
   pub matches : FuncMatches m.types type f
 
 module _ (m : Module) (valid : Valid m) where
+  -- types at one position of equal groups
   cont_alike : (n : ℕ) → n ≤ length m.types → (x y : ℕ) → Same n m.types x y → (f : FuncType) → cont_of (context_of m) y ≡ Some f → SameCont m x f
   cont_alike zero le x y h f is = absurd h
   cont_alike (suc n) le x y h f is =

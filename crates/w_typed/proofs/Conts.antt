@@ -65,6 +65,7 @@ module _ (m : Module) {K : Arrows} where
   })
 
   module _ (us : Row Operand) where
+    -- what the store has of a continuation: it was consumed, which traps, or is kept
     kept_or_consumed : {k : Option Kept} {t : FuncType} (go : Kept → Reduced) → ContTyped m K k t → ((k : Kept) → KeptTyped m K k t → IsSafe m K us (go k))
         → IsSafe m K us (unless_consumed (Some k) go)
     kept_or_consumed go consumed f = traps

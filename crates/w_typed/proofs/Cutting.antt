@@ -1,5 +1,5 @@
 -- A typed context, cut at the handle that is found.
-use Rattle.std.proofs.Common.{◌≡◌, All, Bool, List, [], ◌∷◌, ◌++◌, Option, Some, subst}
+use Rattle.std.proofs.Common.{All, Bool, List, [], ◌∷◌, ◌++◌, Option, subst}
 use Rattle.w_types.specs.declared.types.ValType.{ValType}
 use Rattle.w_types.specs.Rows.{Row, ◌⧺◌, row_of}
 use Rattle.w_syntax.specs.Code.{Code}
@@ -10,8 +10,7 @@ use Rattle.w_rules.specs.Matching.{known}
 use Rattle.w_rules.specs.Operands.{Operand}
 use Rattle.w_reduce.specs.Values.{Val}
 use Rattle.w_reduce.specs.Terms.{Label, Frame, Handle, Context}
-use Rattle.w_reduce.specs.Handlers.{Handler, find, IsInnermost}
-use Rattle.w_reduce.proofs.Finding.{finding}
+use Rattle.w_reduce.specs.Handlers.{Handler, IsInnermost}
 use Rattle.w_typed.specs.Values.{Arrows, ValuesTyped}
 use Rattle.w_typed.specs.Contexts.{Scope, in_scope, CodeTyped, Subset, Within, outside, label, frame, handle}
 
@@ -33,9 +32,9 @@ pub record HandleTyped (m : Module) (K : Arrows) (us : Row Operand) (c : Scope) 
 
 module _ (m : Module) {K : Arrows} {us : Row Operand} (below : Row Val) (hs : List Clause) (rest : Code) (outer : Context) where
   -- a layer more inside
-  deeper : {c d : Scope} {now then : List Bool} {ts out : Row Operand} {i j : Context}
-      → ((results : List ValType) → Within m K (known (row_of results)) i d then out → Within m K (known (row_of results)) j c now ts)
-      → HandleTyped m K us d then out i below hs rest outer → HandleTyped m K us c now ts j below hs rest outer
+  deeper : {c d : Scope} {now there : List Bool} {ts out : Row Operand} {i j : Context}
+      → ((results : List ValType) → Within m K (known (row_of results)) i d there out → Within m K (known (row_of results)) j c now ts)
+      → HandleTyped m K us d there out i below hs rest outer → HandleTyped m K us c now ts j below hs rest outer
   deeper put h = record {
     results = h.results;
     inside = put h.results h.inside;
@@ -51,14 +50,15 @@ module _ (m : Module) {K : Arrows} {us : Row Operand} (below : Row Val) (hs : Li
     around = h.around;
   }
 
+  -- at the handle that stands behind these layers
   cut : {c : Scope} {now : List Bool} {ts : Row Operand} (i : Context) → Within m K us (i ++ Handle below hs rest ∷ outer) c now ts
       → HandleTyped m K us c now ts i below hs rest outer
-  cut [] (handle {s = s} {outer = then} {out = out} results beneath r clauses h k still w) = record {
+  cut [] (handle {s = s} {outer = there} {out = out} results beneath r clauses h k still w) = record {
     results = results;
     inside = outside r;
     scope = _;
     set = s;
-    now_there = then;
+    now_there = there;
     still = still;
     beneath = beneath;
     out = out;
@@ -73,8 +73,7 @@ module _ (m : Module) {K : Arrows} {us : Row Operand} (below : Row Val) (hs : Li
 
 -- a typed context is typed on both sides of the handle that is found in it
 pub cut_found : (m : Module) {K : Arrows} {us : Row Operand} {A : Type 0} (answer : List Clause → Option A) (e : Context) (h : Handler A) {c : Scope}
-    {now : List Bool} {ts : Row Operand} → find answer e ≡ Some h → Within m K us e c now ts
+    {now : List Bool} {ts : Row Operand} → IsInnermost answer e h → Within m K us e c now ts
     → HandleTyped m K us c now ts h.inner h.below h.clauses h.rest h.outer
-cut_found m {K} {us} {A} answer e h {c} {now} {ts} is w =
-    let f : IsInnermost answer e h = (finding A answer e h).0 is in
+cut_found m {K} {us} answer e h {c} {now} {ts} f w =
     cut m h.below h.clauses h.rest h.outer h.inner (subst (λ (x : Context). Within m K us x c now ts) f.context w)

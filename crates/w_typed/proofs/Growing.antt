@@ -34,6 +34,7 @@ arrow_stays {K} a t g is = ap (λ (l : Arrows). slice_get l a) g.is ∙ get-fron
 module _ (m : Module) {K L : Arrows} (g : Grows K L) where
   -- ## Values
 
+  -- continuations
   continuation_grows : {a : ℕ} {h : HeapType} → ContinuationTyped m K a h → ContinuationTyped m L a h
   continuation_grows {a = a} c =
       record { arrow = c.arrow; is = arrow_stays a c.arrow g c.is; index = c.index; type = c.type; has_type = c.has_type; matches = c.matches; heap = c.heap }
@@ -45,6 +46,7 @@ module _ (m : Module) {K L : Arrows} (g : Grows K L) where
   value_grows (a_function is h) = a_function is h
   value_grows (a_continuation c) = a_continuation (continuation_grows c)
 
+  -- operands
   operand_grows : {v : Val} {t : Operand} → OperandTyped m K v t → OperandTyped m L v t
   operand_grows (a_value h) = a_value (value_grows h)
   operand_grows (a_bottom n) = a_bottom n
@@ -53,12 +55,14 @@ module _ (m : Module) {K L : Arrows} (g : Grows K L) where
   values_grow no_values = no_values
   values_grow (values h v) = values (values_grow h) (operand_grows v)
 
+  -- values of one type
   all_grow : (t : ValType) (vs : List Val) → AllTyped m K t vs → AllTyped m L t vs
   all_grow t [] h = tt
   all_grow t (v ∷ vs) h = (value_grows h.0, all_grow t vs h.1)
 
   -- ## Contexts
 
+  -- locals
   local_grows : {l : Option Val} {t : ValType} {b : Bool} → LocalTyped m K l t b → LocalTyped m L l t b
   local_grows unset = unset
   local_grows (held h) = held (value_grows h)
@@ -67,6 +71,7 @@ module _ (m : Module) {K L : Arrows} (g : Grows K L) where
   locals_grow no_locals = no_locals
   locals_grow (locals h k) = locals (local_grows h) (locals_grow k)
 
+  -- contexts
   pub within_grows : {us : Row Operand} {e : Context} {c : Scope} {now : List Bool} {ts : Row Operand} → Within m K us e c now ts → Within m L us e c now ts
   within_grows (outside r) = outside r
   within_grows (label beneath r n h again k still w) = label beneath r n (values_grow h) again k still (within_grows w)
@@ -75,6 +80,7 @@ module _ (m : Module) {K L : Arrows} (g : Grows K L) where
 
   -- ## Terms and stores
 
+  -- terms with a hole
   pub hole_grows : {ps us : Row Operand} {t : Term} → HoleTyped m K ps us t → HoleTyped m L ps us t
   hole_grows h = record {
     scope = h.scope;
@@ -88,6 +94,7 @@ module _ (m : Module) {K L : Arrows} (g : Grows K L) where
     around = within_grows h.around;
   }
 
+  -- what the store keeps of a continuation
   pub cont_grows : (k : Option Kept) (t : FuncType) → ContTyped m K k t → ContTyped m L k t
   cont_grows _ t consumed = consumed
   cont_grows _ t (kept h) = kept (record { takes = h.takes; term = hole_grows h.term })

@@ -22,6 +22,7 @@ pub row_of-listed : (ts : Row ValType) → row_of (listed ts) ≡ ts
 row_of-listed ε = refl
 row_of-listed (ts ▹ t) = row_of-more (listed ts) t ∙ ap (λ (us : Row ValType). us ▹ t) (row_of-listed ts)
 
+-- operands of one row of types, and then of another
 known-beside : (ts us : Row ValType) → known (ts ⧺ us) ≡ known ts ⧺ known us
 known-beside ts ε = refl
 known-beside ts (us ▹ u) = ap (λ (r : Row Operand). r ▹ Known u) (known-beside ts us)

@@ -39,6 +39,7 @@ use Rattle.w_typed.proofs.Control.{Here, here_left}
 module _ (p : Program) (K : Arrows) (us : Row Operand) {s : Store} {e : Context} {k : Code} where
   -- ## resume
 
+  -- with its type known
   resumed : {vs : Row Val} (x : ℕ) (hs : List Clause) (t : FuncType) (beneath : Row Operand) (h : Here p K us s e k (beneath ⧺ known (row_of t.results)))
       → Valid p.source → cont_of (context_of p.source) x ≡ Some t → All (ClauseTyped (in_scope p.source h.scope) t.results) hs
       → ValuesTyped p.source K vs ((beneath ⧺ known (row_of t.params)) ▹ Known (nullable x))
@@ -55,6 +56,7 @@ module _ (p : Program) (K : Arrows) (us : Row Operand) {s : Store} {e : Context}
             (λ any. handle t.results beneath (result_rows m.types f.results) clauses lower h.behind h.still h.around);
       })))
 
+  -- by whether it has one
   resume_by : {ts ws : Row Operand} {vs : Row Val} (x : ℕ) (hs : List Clause) (o : Option FuncType) (h : Here p K us s e k ws) → Valid p.source
       → cont_of (context_of p.source) x ≡ o → Holds o (λ (t : FuncType). All (ClauseTyped (in_scope p.source h.scope) t.results) hs)
       → HasInstrType p.source.types (resume_type x o) ts ws → ValuesTyped p.source K vs ts
@@ -71,6 +73,7 @@ module _ (p : Program) (K : Arrows) (us : Row Operand) {s : Store} {e : Context}
 
   -- ## cont.bind
 
+  -- with operands of its type
   bound : {vs : Row Val} (x y : ℕ) (one other : FuncType) (beneath : Row Operand) (h : Here p K us s e k (beneath ▹ Known (non_null y))) → Valid p.source
       → cont_of (context_of p.source) x ≡ Some one → cont_of (context_of p.source) y ≡ Some other
       → ResultMatches p.source.types other.params (drop (length one.params - length other.params) one.params)
@@ -106,6 +109,7 @@ module _ (p : Program) (K : Arrows) (us : Row Operand) {s : Store} {e : Context}
       (values (values_grow m g lower) (a_value (a_continuation (made_reference m new other y s h.store is_other matches))))
       (code_alone h.behind) h.around)))
 
+  -- with both types known
   bind_by : {ts ws : Row Operand} {vs : Row Val} (x y : ℕ) (one other : FuncType) (h : Here p K us s e k ws) → Valid p.source
       → cont_of (context_of p.source) x ≡ Some one → cont_of (context_of p.source) y ≡ Some other
       → ResultMatches p.source.types other.params (drop (length one.params - length other.params) one.params)

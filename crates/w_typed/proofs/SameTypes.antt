@@ -13,7 +13,7 @@ use Rattle.w_types.specs.Groups.{types_of}
 use Rattle.w_types.specs.Rows.{Row, ε, ◌▹◌, onto, row_of}
 use Rattle.w_syntax.specs.Functions.{function_type, func_type}
 use Rattle.w_syntax.specs.declared.module.Module.{Module}
-use Rattle.w_canon.specs.Relations.{Pairwise, none, more}
+use Rattle.w_canon.specs.Relations.{none, more}
 use Rattle.w_canon.specs.Equality.{ResultEqual}
 use Rattle.w_canon.specs.Equivalence.{AlikeComp, AlikeFunc, Place, Same, SameIndex}
 use Rattle.w_canon.specs.Matching.{ResultMatches}
@@ -24,7 +24,7 @@ use Rattle.w_rules.specs.Matching.{value, RowMatches, known}
 use Rattle.w_rules.specs.Types.{IsValidCompType, with_ends}
 use Rattle.w_rules.specs.Valid.{Valid, TypeItem, TypeValid}
 use Rattle.w_typed.proofs.TypeKinds.{func_here}
-use Rattle.w_typed.proofs.AlikeTypes.{end_of, alike_same, alike_result_equal}
+use Rattle.w_typed.proofs.AlikeTypes.{end_of, related_at, alike_same, alike_result_equal}
 
 -- ## The end of a type's group
 
@@ -88,23 +88,15 @@ pub record SameFunction (m : Module) (x : ℕ) (f : FuncType) : Type 0 where
   pub params : ResultMatches m.types f.params type.params
   pub results : ResultMatches m.types type.results f.results
 
--- the function type at a position of a group that equals one with a function type there
-record AlikeAt (S : ℕ → ℕ → Type 0) (s t : ℕ) (ts : List CompType) (p : ℕ) (f : FuncType) : Type 0 where
+-- a function type that is alike f
+record AlikeFunction (S : ℕ → ℕ → Type 0) (s t : ℕ) (f : FuncType) (a : CompType) : Type 0 where
   type : FuncType
-  there : slice_get ts p ≡ Some (comp.Func type)
+  is : a ≡ comp.Func type
   alike : AlikeFunc S s t type f
 
-alike_head : {S : ℕ → ℕ → Type 0} {s t : ℕ} {a b : CompType} (ts : List CompType) (f : FuncType) → AlikeComp S s t a b → b ≡ comp.Func f
-    → AlikeAt S s t (a ∷ ts) zero f
-alike_head {S} {s} {t} ts f (AlikeComp.func {f = g} {g = k} h) e =
-    let same : k ≡ f = cc in record { type = g; there = refl; alike = subst (λ (z : FuncType). AlikeFunc S s t g z) same h }
-alike_head ts f (AlikeComp.cont h) e = absurd (cc)
-
-alike_at : {S : ℕ → ℕ → Type 0} {s t : ℕ} {ts us : List CompType} (p : ℕ) (f : FuncType) → Pairwise (AlikeComp S s t) ts us
-    → slice_get us p ≡ Some (comp.Func f) → AlikeAt S s t ts p f
-alike_at p f none is = absurd (cc)
-alike_at zero f (more {xs = ts} h k) is = alike_head ts f h (cc)
-alike_at (suc p) f (more h k) is = let r = alike_at p f k is in record { type = r.type; there = r.there; alike = r.alike }
+-- what is alike a function type is one
+alike_function : {S : ℕ → ℕ → Type 0} {s t : ℕ} (f : FuncType) {a : CompType} → AlikeComp S s t a (comp.Func f) → AlikeFunction S s t f a
+alike_function f (AlikeComp.func {f = g} h) = record { type = g; is = refl; alike = h }
 
 function_alike : (m : Module) → Valid m → (n : ℕ) → n ≤ length m.types → (x y : ℕ) → Same n m.types x y → (f : FuncType)
     → func_type m y ≡ Some f → SameFunction m x f
@@ -115,9 +107,10 @@ function_alike m v (suc n) le x y h f is =
     let t = count h.other.front in
     let here : slice_get h.other.group.types h.other.position ≡ Some (comp.Func f) =
     sym (type_at_place gs y h.other) ∙ func_here (slice_get (types_of gs) y) f is in
-    let a : AlikeAt (Same n gs) s t h.one.group.types h.other.position f = alike_at h.other.position f h.groups here in
+    let r = related_at h.other.position (comp.Func f) h.groups here in
+    let a : AlikeFunction (Same n gs) s t f r.item = alike_function f r.related in
     let g = a.type in
-    let there : slice_get h.one.group.types h.one.position ≡ Some (comp.Func g) = ap (slice_get h.one.group.types) h.position ∙ a.there in
+    let there : slice_get h.one.group.types h.one.position ≡ Some (comp.Func g) = ap (slice_get h.one.group.types) h.position ∙ r.there ∙ ap (λ (z : CompType). Some z) a.is in
     let one = valid_at_place m v x h.one (comp.Func g) there in
     let other = valid_at_place m v y h.other (comp.Func f) here in
     let same = alike_same n gs le x y h in

@@ -22,9 +22,8 @@ use Rattle.w_reduce.specs.Store.{Store, next_cont, with_cont}
 use Rattle.w_reduce.specs.Terms.{Branch, Context}
 use Rattle.w_reduce.specs.Program.{Program}
 use Rattle.w_reduce.specs.Reduced.{steps_to}
-use Rattle.w_reduce.specs.Handlers.{Handler, label_clause, find, IsInnermost}
+use Rattle.w_reduce.specs.Handlers.{Handler, label_clause}
 use Rattle.w_reduce.specs.Switching.{switching_op, captured}
-use Rattle.w_reduce.proofs.Finding.{finding}
 use Rattle.w_typed.specs.Values.{Arrows, a_value, a_continuation, ValuesTyped, values}
 use Rattle.w_typed.specs.Contexts.{Scope, in_scope, CodeTyped, code_alone, branch_first, Subset, Within, KeptTyped}
 use Rattle.w_typed.specs.Configurations.{IsSafe}
@@ -34,7 +33,7 @@ use Rattle.w_typed.proofs.Growing.{grows_more, values_grow, within_grows}
 use Rattle.w_typed.proofs.SameTypes.{result_rows}
 use Rattle.w_typed.proofs.ResultRows.{size_types, row_of-listed}
 use Rattle.w_typed.proofs.Cutting.{HandleTyped, cut_found}
-use Rattle.w_typed.proofs.Clauses.{label_found, handled_or}
+use Rattle.w_typed.proofs.Clauses.{label_found, handle_found}
 use Rattle.w_typed.proofs.Conts.{cont_made, made_reference, goes_with_more}
 use Rattle.w_typed.proofs.Control.{Here, here_left}
 
@@ -48,6 +47,7 @@ captured_typed m K t {c = c} {set = set} {now = now} {out = out} beneath still v
 }
 
 module _ (p : Program) (K : Arrows) (us : Row Operand) {s : Store} {e : Context} {k : Code} where
+  -- with its handle found
   suspended : {below args : Row Val} {beneath : Row Operand} (x : ℕ) (t : FuncType) (h : Here p K us s e k (beneath ⧺ known (row_of t.results))) (f : Handler ℕ)
       → type_of_tag (context_of p.source) x ≡ Some t → label_clause x f.clauses ≡ Some f.answer
       → HandleTyped p.source K us h.scope h.now h.out f.inner f.below f.clauses f.rest f.outer
@@ -74,16 +74,17 @@ module _ (p : Program) (K : Arrows) (us : Row Operand) {s : Store} {e : Context}
       (a_value (a_continuation (made_reference m new l.target l.index s h.store l.has_cont matches))))
       (branch_first {us = cut.out} cut.beneath l.has_label (row_refl m.types (cut.beneath ⧺ known taken_there))) cut.around
 
+  -- with its type known
   suspend_here : {vs : Row Val} (x : ℕ) (t : FuncType) (beneath : Row Operand) (h : Here p K us s e k (beneath ⧺ known (row_of t.results)))
       → type_of_tag (context_of p.source) x ≡ Some t → ValuesTyped p.source K vs (beneath ⧺ known (row_of t.params))
       → IsSafe p.source K us (switching_op p s e vs (switching.Suspend x) k)
   suspend_here {vs} x t beneath h is v =
       let m = p.source in
       rw is (values_taken m us (length t.params) vs beneath (known (row_of t.params)) _ (sym (size_types t.params)) v (λ below args lower taken.
-      handled_or m us x (find (label_clause x) e) _ (λ f found.
-      let i : IsInnermost (label_clause x) e f = (finding ℕ (label_clause x) e f).0 found in
-      suspended x t h f is i.answers (cut_found m (label_clause x) e f found h.around) lower taken)))
+      handle_found m us x (label_clause x) e _ (λ f found.
+      suspended x t h f is found.answers (cut_found m (label_clause x) e f found h.around) lower taken)))
 
+  -- by whether it has one
   suspend_by : {ts ws : Row Operand} {vs : Row Val} (x : ℕ) (o : Option FuncType) (h : Here p K us s e k ws) → type_of_tag (context_of p.source) x ≡ o
       → HasInstrType p.source.types (call_type o) ts ws → ValuesTyped p.source K vs ts → IsSafe p.source K us (switching_op p s e vs (switching.Suspend x) k)
   suspend_by x None h is t v = absurd t

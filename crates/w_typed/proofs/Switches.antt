@@ -26,6 +26,7 @@ use Rattle.w_typed.proofs.Suspending.{suspend_safe}
 use Rattle.w_typed.proofs.SwitchingStacks.{switch_safe}
 
 module _ (p : Program) (K : Arrows) (us : Row Operand) (valid : Valid p.source) {s : Store} {e : Context} {vs : Row Val} where
+  -- by the instruction
   each_safe : {k : Code} {ts ws : Row Operand} (o : SwitchingOp) (h : Here p K us s e k ws) → SwitchingCondition (in_scope p.source h.scope) o
       → HasInstrType p.source.types (switching_op_type (in_scope p.source h.scope) o) ts ws → ValuesTyped p.source K vs ts
       → IsSafe p.source K us (switching_op p s e vs o k)
@@ -35,6 +36,7 @@ module _ (p : Program) (K : Arrows) (us : Row Operand) (valid : Valid p.source) 
   each_safe (switching.Resume x hs) h c t v = resume_safe p K us x hs h valid c t v
   each_safe (switching.Switch x y) h c t v = switch_safe p K us x y h valid c t v
 
+  -- where it comes next
   next_safe : {c : Scope} {set now : List Bool} {ts out : Row Operand} (o : SwitchingOp) (k : Code) → StoreTyped p.source K s → ValuesTyped p.source K vs ts
       → RestTyped p.source c set [] (Plain (op.Switching o) k) ts out → Subset set now → Within p.source K us e c now out
       → IsSafe p.source K us (switching_op p s e vs o k)

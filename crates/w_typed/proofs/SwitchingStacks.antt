@@ -26,9 +26,8 @@ use Rattle.w_reduce.specs.Store.{Store, next_cont, with_cont, without_cont}
 use Rattle.w_reduce.specs.Terms.{Handle, Context, Kept, filled, in_context}
 use Rattle.w_reduce.specs.Program.{Program}
 use Rattle.w_reduce.specs.Reduced.{Went}
-use Rattle.w_reduce.specs.Handlers.{Handler, switch_clause, find, IsInnermost}
+use Rattle.w_reduce.specs.Handlers.{Handler, switch_clause}
 use Rattle.w_reduce.specs.Switching.{switching_op, captured}
-use Rattle.w_reduce.proofs.Finding.{finding}
 use Rattle.w_typed.specs.Values.{Arrows, OperandTyped, a_value, a_continuation, ValuesTyped, values}
 use Rattle.w_typed.specs.Contexts.{in_scope, CodeTyped, handle, KeptTyped}
 use Rattle.w_typed.specs.Configurations.{IsSafe, goes}
@@ -39,7 +38,7 @@ use Rattle.w_typed.proofs.SameTypes.{result_rows}
 use Rattle.w_typed.proofs.ResultRows.{size_types}
 use Rattle.w_typed.proofs.Filling.{hole_filled, hole_within}
 use Rattle.w_typed.proofs.Cutting.{HandleTyped, cut_found}
-use Rattle.w_typed.proofs.Clauses.{switch_found, handled_or}
+use Rattle.w_typed.proofs.Clauses.{switch_found, handle_found}
 use Rattle.w_typed.proofs.Conts.{cont_consumed, cont_made, made_reference, continuation_taken}
 use Rattle.w_typed.proofs.Suspending.{captured_typed}
 use Rattle.w_typed.proofs.Control.{Here, here_left}
@@ -52,10 +51,12 @@ record LastOf (gs : List RecGroup) (ts : Row Operand) (t : Operand) (us : Row Op
   others : RowMatches gs ts first
   matches : OperandMatches gs t last
 
+-- a row that others match has a last operand, which the last of them matches
 last_of : (gs : List RecGroup) {ts us : Row Operand} {t : Operand} → RowMatches gs (ts ▹ t) us → LastOf gs ts t us
 last_of gs (more {us = us} {u = u} r h) = record { first = us; last = u; is = refl; others = r; matches = h }
 
 module _ (p : Program) (K : Arrows) (us : Row Operand) {s : Store} {e : Context} {k : Code} where
+  -- with its handle found
   switched : {below args : Row Val} (x y a : ℕ) (beneath : Row Operand) (own : FuncType) (cont : Kept) (f : Handler (Unit {0})) {ws : Row Operand}
       (h : Here p K us s e k ws) (c : SwitchTyped (in_scope p.source h.scope) x y) → ws ≡ beneath ⧺ known (row_of c.other.params)
       → slice_get K a ≡ Some own → KeptTyped p.source K cont own → FuncMatches p.source.types own c.one → switch_clause y f.clauses ≡ Some f.answer
@@ -92,6 +93,7 @@ module _ (p : Program) (K : Arrows) (us : Row Operand) {s : Store} {e : Context}
             (λ any. handle cut.results cut.beneath (result_rows m.types up) cut.clauses (values_grow m g cut.values) cut.behind cut.still (within_grows m g cut.around));
       })
 
+  -- with operands of its type
   switch_here : {vs : Row Val} (x y : ℕ) (beneath : Row Operand) {ws : Row Operand} (h : Here p K us s e k ws) (c : SwitchTyped (in_scope p.source h.scope) x y)
       → ws ≡ beneath ⧺ known (row_of c.other.params) → Valid p.source
       → ValuesTyped p.source K vs ((beneath ⧺ known c.beneath) ▹ Known (nullable x))
@@ -99,8 +101,7 @@ module _ (p : Program) (K : Arrows) (us : Row Operand) {s : Store} {e : Context}
   switch_here x y beneath h c gives valid (values b (a_value q)) =
       let m = p.source in
       continuation_taken m us x c.one _ valid h.store c.has_one q (λ a cont own there kt matches.
-      handled_or m us y (find (switch_clause y) e) _ (λ f found.
-      let i : IsInnermost (switch_clause y) e f = (finding (Unit {0}) (switch_clause y) e f).0 found in
+      handle_found m us y (switch_clause y) e _ (λ f found.
       let handed : Operand = Known (Ref (record { nullable = c.is_null; heap = Index c.index })) in
       let ps : Row Operand = known (row_of own.params) in
       let rows : RowMatches m.types (known c.beneath ▹ handed) ps =
@@ -110,8 +111,9 @@ module _ (p : Program) (K : Arrows) (us : Row Operand) {s : Store} {e : Context}
       rw (c.has_one, c.params, c.has_other) (values_taken m us (cont.takes - 1) _ beneath last.first _ count
       (values_sub m (row_beside m.types beneath beneath (known c.beneath) last.first (row_refl m.types beneath) last.others) b)
       (λ below args lower taken.
-      switched x y a beneath own cont f h c gives there kt matches i.answers (cut_found m (switch_clause y) e f found h.around) last lower taken))))
+      switched x y a beneath own cont f h c gives there kt matches found.answers (cut_found m (switch_clause y) e f found h.around) last lower taken))))
 
+  -- with its type known
   switch_by : {ts ws : Row Operand} {vs : Row Val} (x y : ℕ) (h : Here p K us s e k ws) → Valid p.source → (c : SwitchTyped (in_scope p.source h.scope) x y)
       → HasInstrType p.source.types (switched_type x c.beneath (Some c.other)) ts ws → ValuesTyped p.source K vs ts
       → IsSafe p.source K us (switching_op p s e vs (switching.Switch x y) k)

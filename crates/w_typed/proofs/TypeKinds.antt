@@ -15,11 +15,13 @@ use Rattle.w_rules.specs.Context as rules
 use Rattle.w_rules.specs.Context.{func_at, index_in_cont, cont_of}
 use Rattle.w_rules.specs.Spaces.{context_of}
 
+-- what has a function type is a function type
 pub func_here : (o : Option CompType) (f : FuncType) → function_type o ≡ Some f → o ≡ Some (comp.Func f)
 func_here (Some (comp.Func g)) f h = let e : g ≡ f = cc in ap (λ (z : FuncType). Some (comp.Func z)) e
 func_here (Some (comp.Cont x)) f h = absurd (cc)
 func_here None f h = absurd (cc)
 
+-- what has the function type of a continuation type is a continuation type
 cont_here : (c : rules.Context) (o : Option CompType) (f : FuncType) → func_at c (index_in_cont o) ≡ Some f → (y : ℕ) × (o ≡ Some (comp.Cont y))
 cont_here c (Some (comp.Func g)) f h = absurd (cc)
 cont_here c (Some (comp.Cont y)) f h = (y, refl)
@@ -34,12 +36,9 @@ module _ (m : Module) where
   pub is_cont : (x : ℕ) (f : FuncType) → cont_of (context_of m) x ≡ Some f → IsCont m.types x
   is_cont x f h = cont_here (context_of m) (slice_get (types_of m.types) x) f h
 
-  one_of_both : (x : ℕ) → IsFunc m.types x → IsCont m.types x → ⊥
-  one_of_both x f c = let e = f.1 in let d = c.1 in cc
-
   -- a continuation type matches none of functions
   pub cont_no_func : (x : ℕ) (f : FuncType) → cont_of (context_of m) x ≡ Some f → HeapMatches m.types (Index x) Func → ⊥
-  cont_no_func x f h (index_func g) = one_of_both x g (is_cont x f h)
+  cont_no_func x f h (index_func g) = let e = g.1 in let c = is_cont x f h in let d = c.1 in cc
 
   -- nor is a function type equivalent to a continuation type
   pub func_no_cont : (x y : ℕ) → IsFunc m.types x → SameIndex m.types x y → (f : FuncType) → cont_of (context_of m) y ≡ Some f → ⊥
