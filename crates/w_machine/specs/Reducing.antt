@@ -21,7 +21,7 @@ use Rattle.w_stands.specs.Stands.{In}
 use Rattle.w_stands.specs.Values.{stack, store_of}
 use Rattle.w_plain.specs.declared.stop.Stop.{Stop}
 use Rattle.w_plain.specs.declared.stop.Stop.TheVariants as stop
-use Rattle.w_typed.specs.Configurations.{is_switching}
+use Rattle.w_reduce.specs.Apart.{is_switching}
 use Rattle.w_machine.specs.declared.outcome.Kept.{Kept}
 use Rattle.w_machine.specs.declared.outcome.Kept.TheVariants as kept
 use Rattle.w_machine.specs.Standing.{behind_of, term_at, Stands}

@@ -39,4 +39,3 @@ pub mod FirstStore
 pub mod ActiveSegments
 pub mod Starting
 pub mod TypedRuns
-pub mod Quiet

@@ -34,7 +34,8 @@ use Rattle.w_reduce.specs.Reduce.{instruction, next, limited}
 use Rattle.w_typed.specs.Values.{Arrows, ValuesTyped}
 use Rattle.w_typed.specs.Stores.{StoreTyped}
 use Rattle.w_typed.specs.Contexts.{Scope, in_scope, RestTyped, code_alone, invoke_first, branch_first, Subset, Within}
-use Rattle.w_typed.specs.Configurations.{IsSafe, goes, traps, is_limited, ends, is_switching, switches, ReductionsAreSafe}
+use Rattle.w_reduce.specs.Apart.{is_switching, switches}
+use Rattle.w_typed.specs.Configurations.{IsSafe, goes, traps, is_limited, ends, ReductionsAreSafe}
 use Rattle.w_typed.proofs.Subsumed.{values_sub}
 use Rattle.w_typed.proofs.Taken.{number_taken}
 use Rattle.w_typed.proofs.Onward.{onward}

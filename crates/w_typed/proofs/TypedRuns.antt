@@ -13,7 +13,8 @@ use Rattle.w_reduce.specs.Reduced.{Reduced, Stuck}
 use Rattle.w_reduce.specs.Reduce.{next, reduce}
 use Rattle.w_reduce.specs.Run.{Outcome, Running, Values, Traps, Limit, NoRule, RunState, outcome_by, state_at, after_reduction, continued, Run}
 use Rattle.w_typed.specs.Values.{Arrows}
-use Rattle.w_typed.specs.Configurations.{Typed, IsSafe, goes, traps, is_limited, ends, switches, RunIsTyped, RunsAreTyped}
+use Rattle.w_reduce.specs.Apart.{switches}
+use Rattle.w_typed.specs.Configurations.{Typed, IsSafe, goes, traps, is_limited, ends, RunIsTyped, RunsAreTyped}
 use Rattle.w_typed.proofs.Reductions.{reductions_are_safe}
 
 -- at an instruction that switches stacks no rule applies
