@@ -22,10 +22,10 @@ use Rattle.w_segment.specs.Shape.{Shape, Capacity, fresh_shape}
 use Rattle.w_reduce.specs.declared.limit.RunLimit.TheVariants.{Frames}
 use Rattle.w_reduce.specs.Values.{Val}
 use Rattle.w_reduce.specs.Store.{Store}
-use Rattle.w_reduce.specs.Terms.{Invoke, Rest, Context, Term, frames, most_frames}
+use Rattle.w_reduce.specs.Terms.{Invoke, Rest, Context, Term, frames}
 use Rattle.w_reduce.specs.Program.{Program, IsProgram}
 use Rattle.w_reduce.specs.Reduced.{Reduced, Went, Trapped, Limited, Ended, Stuck}
-use Rattle.w_reduce.specs.Reduce.{limited, reduce}
+use Rattle.w_reduce.specs.Reduce.{limited, reduce, unless_passed}
 use Rattle.w_reduce.specs.Run.{Running, RunState, outcome_by, state_at, after_reduction, continued, Run}
 use Rattle.w_stands.specs.Stands.{In, body, left, fresh, values}
 use Rattle.w_stands.specs.Values.{stack, store_of}
@@ -42,6 +42,9 @@ use Rattle.w_machine.specs.Standing.{behind_of, term_at, EndsWith, Stands, Stand
 use Rattle.w_machine.specs.Reducing.{reduced}
 use Rattle.w_machine.specs.Reached.{waiting_of, IsReached}
 use Rattle.w_machine.proofs.Standing.{typed_by}
+use Rattle.w_reduce.specs.Limits.{most_frames, passed}
+use Rattle.w_reduce.specs.declared.limit.RunLimit.{RunLimit}
+use Rattle.w_reduce.proofs.Passing.{none_within}
 
 -- ## Where a machine stands
 
@@ -78,11 +81,11 @@ safe_went is_limited is = absurd (cc)
 safe_went (ends h) is = absurd (cc)
 
 pub limited_few : (d : Reduced) (text : List ℕ) (v : Store) (t : Term) → limited d ≡ Went text v t → frames t.around ≤ most_frames
-limited_few (Went out s u) text v t is = few (nat_le (frames u.around) most_frames) refl is
+limited_few (Went out s u) text v t is = few (passed s u.around) refl is
   where
-    few : (b : Bool) → nat_le (frames u.around) most_frames ≡ b → (if b then Went out s u else Limited Frames) ≡ Went text v t → frames t.around ≤ most_frames
-    few true e is = let same : u ≡ t = cc in subst (λ (x : Term). frames x.around ≤ most_frames) same (grind (arith, e))
-    few false e is = absurd (cc)
+    few : (o : Option RunLimit) → passed s u.around ≡ o → unless_passed o (Went out s u) ≡ Went text v t → frames t.around ≤ most_frames
+    few None e is = let same : u ≡ t = cc in subst (λ (x : Term). frames x.around ≤ most_frames) same (none_within s u.around e).few_frames
+    few (Some name) e is = absurd (cc)
 limited_few (Trapped x) text v t is = absurd (cc)
 limited_few (Limited l) text v t is = absurd (cc)
 limited_few (Ended vs) text v t is = absurd (cc)

@@ -10,11 +10,11 @@ use Rattle.w_segment.specs.declared.entry.Stage.TheVariants.{Body, Values}
 use Rattle.w_segment.specs.Shape.{Shape, frames_of}
 use Rattle.w_reduce.specs.declared.limit.RunLimit.TheVariants.{Frames}
 use Rattle.w_reduce.specs.declared.trap.Trap.{Trap}
-use Rattle.w_reduce.specs.Store.{Store}
-use Rattle.w_reduce.specs.Terms.{Rest, Context, Term, Kept as TheKept, frames, most_frames}
+use Rattle.w_reduce.specs.Store.{Store, live, with_conts}
+use Rattle.w_reduce.specs.Terms.{Rest, Context, Term, Kept as TheKept, frames, Administrative}
 use Rattle.w_reduce.specs.Program.{Program}
 use Rattle.w_reduce.specs.Reduced.{Reduced, Went, Limited, Ended}
-use Rattle.w_reduce.specs.Reduce.{next, limited}
+use Rattle.w_reduce.specs.Reduce.{next, limited, unless_passed}
 use Rattle.w_stands.specs.declared.did.Did.{Did}
 use Rattle.w_stands.specs.declared.did.Did.TheVariants as did
 use Rattle.w_stands.specs.Code.{instr_of}
@@ -25,14 +25,20 @@ use Rattle.w_plain.specs.declared.stop.Stop.{Stop}
 use Rattle.w_plain.specs.declared.stop.Stop.TheVariants as stop
 use Rattle.w_plain.specs.Meets.{Applies}
 use Rattle.w_plain.specs.Printing.{Began, Printed}
-use Rattle.w_reduce.specs.Apart.{switches}
-use Rattle.w_reduce.proofs.Plainly.{Plainly, silent, stays, silent_trap, silent_limit, silent_end, silent_stuck, plainly_next}
+use Rattle.w_reduce.specs.Apart.{switches, apart}
+use Rattle.w_reduce.proofs.Plainly.{Plainly, silent, stays, silent_trap, silent_limit, silent_end, silent_stuck, plainly_next, plain_apart}
 use Rattle.w_typed.proofs.TypedRuns.{switching_stuck}
 use Rattle.w_machine.specs.declared.outcome.Kept.{Kept}
 use Rattle.w_machine.specs.declared.outcome.Kept.TheVariants as kept
 use Rattle.w_machine.specs.Standing.{behind_of, term_at, Stands, StandsSomewhere}
 use Rattle.w_machine.specs.Reducing.{switches_at, reduced, Begun, Fails, Reduces, told_of}
-use Rattle.w_machine.proofs.Standing.{frames_in, next_in, rule_applies, applies_at}
+use Rattle.w_machine.proofs.Standing.{frames_in, next_in, rule_applies, applies_at, handles_in}
+use Rattle.w_reduce.specs.Limits.{most_frames, IsWithin}
+use Rattle.w_reduce.specs.declared.limit.RunLimit.{RunLimit}
+use Rattle.w_reduce.proofs.Passing.{within_none}
+use Rattle.w_types.specs.Rows.{Row}
+use Rattle.w_syntax.specs.Code.{Code}
+use Rattle.w_reduce.specs.Values.{Val}
 
 -- ## Where none is taken
 
@@ -106,17 +112,37 @@ no_front {part = n ∷ ns} h e = let j = h.joined in absurd (cc)
 front_none : {before now : Option (List ℕ)} {text : List ℕ} → text ≡ [] → GrewByFront before now text → now ≡ before
 front_none e h = grew_none (no_front h.front e) h.grew
 
-le_true : (n : ℕ) → n ≤ most_frames → nat_le n most_frames ≡ true
-le_true n h = grind (arith, h)
-
 not_le : (n : ℕ) → nat_le n most_frames ≡ false → n ≤ most_frames → ⊥
-not_le n is h = let no = le_true n h in absurd (cc)
+not_le n is h = let no : nat_le n most_frames ≡ true = grind (arith, h) in absurd (cc)
 
-within : (text : List ℕ) (v : Store) (t : Term) → frames t.around ≤ most_frames → limited (Went text v t) ≡ Went text v t
-within text v t h = rw (le_true (frames t.around) h) refl
+few_enough : (n : ℕ) → nat_le n most_frames ≡ true → n ≤ most_frames
+few_enough n h = grind (arith, h)
+
+within : (text : List ℕ) (v : Store) (t : Term) → IsWithin v t.around → limited (Went text v t) ≡ Went text v t
+within text v t h = ap (λ (o : Option RunLimit). unless_passed o (Went text v t)) (within_none v t.around h)
 
 past : (text : List ℕ) (v : Store) (t : Term) → nat_le (frames t.around) most_frames ≡ false → limited (Went text v t) ≡ Limited Frames
 past text v t h = rw h refl
+
+-- with nothing around the segment, and no continuation, the frames alone are limited
+alone_within : {m : Module} {behind : Rest} {u : instances.Store} {s : Shape} {e : Context} {r : Rest} → In m [] behind s e r → frames e ≤ most_frames → IsWithin (store_of u) e
+alone_within h few = record { few_frames = few; few_handles = (let none = handles_in h in omega (arith, none)); few_conts = omega arith }
+
+-- a plain reduction makes no continuation
+makes_none : {p : Program} {u : instances.Store} {e : Context} {vs : Row Val} {ahead : List Administrative} {k : Code} {text : List ℕ} {v : Store} {t : Term}
+    → next p (store_of u) e vs ahead k ≡ Went text v t → switches ahead k ≡ false → live v ≡ 0
+makes_none {p = p} {u = u} {e = e} {vs = vs} {ahead = ahead} {k = k} {text = text} {v = v} {t = t} is plain =
+    let both : Went text v t ≡ Went text (with_conts [] v) t = sym is ∙ plain_apart [] p (store_of u) e vs ahead k plain ∙ ap (apart []) is in
+    let same : v ≡ with_conts [] v = cc in
+    ap live same
+
+stays_within : {m : Module} {behind : Rest} {u : instances.Store} {s : Shape} {p : Program} {e : Context} {r : Rest} {text : List ℕ} {v : Store} {t : Term} → In m [] behind s e r
+    → frames e ≤ most_frames → next p (store_of u) e (stack s.operands) r.ahead r.code ≡ Went text v t → switches r.ahead r.code ≡ false → IsWithin v e
+stays_within {u = u} h few is plain = record {
+  few_frames = few;
+  few_handles = (let none = handles_in h in omega (arith, none));
+  few_conts = (let none = makes_none {u = u} is plain in omega (arith, none));
+}
 
 -- ## Each answer
 
@@ -133,7 +159,7 @@ module _ {m : Module} {u : instances.Store} {s : Shape} (valid : Valid m) (f : I
         rest = to.rest;
         stands = to.stands;
         grew = grew;
-        is = ap limited to.is ∙ rw n refl;
+        is = ap limited to.is ∙ within text (store_of u') (term_at s' to.around to.rest) (alone_within {u = u'} to.stands (few_enough (frames to.around) n));
       }
   went u' s' before now false many (text, goes, grew) waiting p e r h =
       let to = goes.goes p (record { outer = []; behind = behind_of waiting }) e r (standing_at valid f h) in
@@ -163,7 +189,7 @@ module _ {m : Module} {u : instances.Store} {s : Shape} (valid : Valid m) (f : I
           store = at.0;
           term = at.1;
           grew = grew;
-          is = ap limited at.2 ∙ within text at.0 at.1 (subst (λ (c : Context). frames c ≤ most_frames) (sym same) h.few);
+          is = ap limited at.2 ∙ within text at.0 at.1 (subst (IsWithin at.0) (sym same) (stays_within h.stands h.few at.2 (plain_next h.stands f)));
         })
       ]
 

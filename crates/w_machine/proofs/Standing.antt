@@ -11,7 +11,7 @@ use Rattle.w_rules.specs.Valid.{Valid, MemoryItem}
 use Rattle.w_tables.specs.Store as instances
 use Rattle.w_segment.specs.declared.entry.Stage.TheVariants.{Fresh, Body}
 use Rattle.w_segment.specs.Shape.{Shape, Level, frames_of}
-use Rattle.w_reduce.specs.Terms.{Rest, Context, frames}
+use Rattle.w_reduce.specs.Terms.{Rest, Context, frames, handles}
 use Rattle.w_reduce.specs.Program.{Program}
 use Rattle.w_reduce.specs.Reduced.{Reduced, Stuck}
 use Rattle.w_reduce.specs.Reduce.{next, limited}
@@ -39,6 +39,18 @@ frames_in (body h k w) = frames_around w
 frames_in (left h k w) = frames_around w
 frames_in (fresh h k) = ap frames_of (sym k)
 frames_in (values h k) = ap frames_of (sym k)
+
+handles_around : {m : Module} {behind : Rest} {f q : ℕ} {ls : List Level} {e : Context} → Around m [] behind f q ls e → handles e ≡ 0
+handles_around (label h k j w) = handles_around w
+handles_around (frame h k w) = handles_around w
+handles_around (outermost h) = refl
+
+-- and the term has no handle
+pub handles_in : {m : Module} {behind : Rest} {s : Shape} {e : Context} {r : Rest} → In m [] behind s e r → handles e ≡ 0
+handles_in (body h k w) = handles_around w
+handles_in (left h k w) = handles_around w
+handles_in (fresh h k) = refl
+handles_in (values h k) = refl
 
 -- ## What comes next
 

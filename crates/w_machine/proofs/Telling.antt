@@ -14,11 +14,11 @@ use Rattle.w_segment.specs.Link.{Link, top}
 use Rattle.w_segment.specs.Shape.{Shape, Level}
 use Rattle.w_reduce.specs.Values.{Val}
 use Rattle.w_reduce.specs.Store.{Store}
-use Rattle.w_reduce.specs.Terms.{Rest, Context, Term, Kept as TheKept, frames, most_frames}
+use Rattle.w_reduce.specs.Terms.{Rest, Context, Term, Kept as TheKept, frames}
 use Rattle.w_reduce.specs.declared.limit.RunLimit.TheVariants.{Frames}
 use Rattle.w_reduce.specs.Program.{Program}
 use Rattle.w_reduce.specs.Reduced.{Reduced, Went, Trapped, Limited, Ended, Stuck}
-use Rattle.w_reduce.specs.Reduce.{limited}
+use Rattle.w_reduce.specs.Reduce.{limited, unless_passed}
 use Rattle.w_reduce.specs.Run.{Running, outcome_by, Run}
 use Rattle.w_stands.specs.Code.{instr_of}
 use Rattle.w_stands.specs.Stands.{Around, label, frame, outermost, In, body, left, fresh, values}
@@ -37,6 +37,8 @@ use Rattle.w_machine.specs.Reached.{waiting_of, EndsAt, IsReached}
 use Rattle.w_machine.proofs.Standing.{typed_by}
 use Rattle.w_machine.proofs.Reducing.{IsPlainAt, plain_next, reduces_ended, reduces_stuck}
 use Rattle.w_machine.proofs.Stopping.{told_by, taken_is, tells_so}
+use Rattle.w_reduce.specs.Limits.{passed}
+use Rattle.w_reduce.specs.declared.limit.RunLimit.{RunLimit}
 
 -- ## What the place tells
 
@@ -62,11 +64,11 @@ plain_by m s (stage.Branch l) b at is e = ((λ x. absurd (cc)), (λ x. absurd (c
 -- ## The run goes on
 
 limited_end : (d : Reduced) (vs : Row Val) → limited d ≡ Ended vs → d ≡ Ended vs
-limited_end (Went text v t) vs is = either (nat_le (frames t.around) most_frames) is
+limited_end (Went text v t) vs is = either (passed v t.around) is
   where
-    either : (b : Bool) → (if b then Went text v t else Limited Frames) ≡ Ended vs → Went text v t ≡ Ended vs
-    either true e = e
-    either false e = absurd (cc)
+    either : (o : Option RunLimit) → unless_passed o (Went text v t) ≡ Ended vs → Went text v t ≡ Ended vs
+    either None e = e
+    either (Some name) e = absurd (cc)
 limited_end (Trapped t) vs is = absurd (cc)
 limited_end (Limited l) vs is = absurd (cc)
 limited_end (Ended ws) vs is = is

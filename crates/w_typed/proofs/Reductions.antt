@@ -24,13 +24,12 @@ use Rattle.w_rules.specs.Valid.{Valid}
 use Rattle.w_rules.proofs.Preorder.{row_refl}
 use Rattle.w_reduce.specs.Values.{Val}
 use Rattle.w_reduce.specs.Store.{Store}
-use Rattle.w_reduce.specs.declared.limit.RunLimit.TheVariants.{Frames}
-use Rattle.w_reduce.specs.Terms.{Administrative, Context, frames, most_frames}
+use Rattle.w_reduce.specs.Terms.{Administrative, Context}
 use Rattle.w_reduce.specs.Program.{Program, IsProgram}
 use Rattle.w_reduce.specs.Reduced.{Reduced, Went, Limited}
 use Rattle.w_reduce.specs.Branches.{choice, chosen}
 use Rattle.w_reduce.specs.Variable.{variable_op}
-use Rattle.w_reduce.specs.Reduce.{instruction, next, limited}
+use Rattle.w_reduce.specs.Reduce.{instruction, next, limited, unless_passed}
 use Rattle.w_typed.specs.Values.{Arrows, ValuesTyped}
 use Rattle.w_typed.specs.Stores.{StoreTyped}
 use Rattle.w_typed.specs.Contexts.{Scope, in_scope, RestTyped, code_alone, invoke_first, branch_first, Subset, Within}
@@ -49,6 +48,8 @@ use Rattle.w_typed.proofs.Control.{control_safe}
 use Rattle.w_typed.proofs.Blocks.{BlockTyped, block_safe}
 use Rattle.w_typed.proofs.Branches.{branch_safe, leave_safe}
 use Rattle.w_typed.proofs.Calls.{invoke_safe}
+use Rattle.w_reduce.specs.Limits.{passed}
+use Rattle.w_reduce.specs.declared.limit.RunLimit.{RunLimit}
 
 module _ (m : Module) where
   -- a block's parts, where its type is there
@@ -172,11 +173,11 @@ module _ (p : Program) {K : Arrows} (us : Row Operand) (prog : IsProgram p) (val
 
 -- a limit that is passed is safe
 limited_safe : (m : Module) {K : Arrows} (us : Row Operand) (r : Reduced) → IsSafe m K us r → IsSafe m K us (limited r)
-limited_safe m {K} us _ (goes {out = out} {s = s} {t = t} g h) = within_limit (nat_le (frames t.around) most_frames)
+limited_safe m {K} us _ (goes {out = out} {s = s} {t = t} g h) = within_limit (passed s t.around)
   where
-    within_limit : (b : Bool) → IsSafe m K us (if b then Went out s t else Limited Frames)
-    within_limit true = goes g h
-    within_limit false = is_limited
+    within_limit : (o : Option RunLimit) → IsSafe m K us (unless_passed o (Went out s t))
+    within_limit None = goes g h
+    within_limit (Some name) = is_limited
 limited_safe m us _ traps = traps
 limited_safe m us _ is_limited = is_limited
 limited_safe m us _ (ends v) = ends v
