@@ -15,6 +15,7 @@ use Rattle.w_reduce.specs.Numeric.{numeric_op}
 use Rattle.w_reduce.specs.Parametric.{parametric_op}
 use Rattle.w_reduce.specs.Variable.{variable_op}
 use Rattle.w_reduce.specs.Reference.{reference_op}
+use Rattle.w_reduce.specs.Switching.{switching_op}
 use Rattle.w_reduce.specs.Memories.{memory_op}
 use Rattle.w_reduce.specs.Tables.{table_op}
 use Rattle.w_reduce.specs.Branches.{block, choice, branch}
@@ -32,8 +33,7 @@ instruction p s e vs (op.Memory o) c = memory_op s e vs o c
 instruction p s e vs (op.Table o) c = table_op s e vs o c
 instruction p s e vs (op.Numeric o) c = numeric_op s e vs o c
 instruction p s e vs (op.Reference o) c = reference_op s e vs o c
--- those that switch stacks have rules (`Switching.antt`), by which no run goes yet
-instruction p s e vs o c = Stuck
+instruction p s e vs (op.Switching o) c = switching_op p s e vs o c
 
 -- what comes next at the hole of a context
 abbrev pub next : Program → Store → Context → Row Val → List Administrative → Code → Reduced

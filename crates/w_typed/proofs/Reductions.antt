@@ -33,7 +33,7 @@ use Rattle.w_reduce.specs.Reduce.{instruction, next, limited, unless_passed}
 use Rattle.w_typed.specs.Values.{Arrows, ValuesTyped}
 use Rattle.w_typed.specs.Stores.{StoreTyped}
 use Rattle.w_typed.specs.Contexts.{Scope, in_scope, RestTyped, code_alone, invoke_first, branch_first, Subset, Within}
-use Rattle.w_reduce.specs.Apart.{is_switching, switches}
+use Rattle.w_typed.proofs.Switches.{switching_safe}
 use Rattle.w_typed.specs.Configurations.{IsSafe, goes, traps, is_limited, ends, ReductionsAreSafe}
 use Rattle.w_typed.proofs.Subsumed.{values_sub}
 use Rattle.w_typed.proofs.Taken.{number_taken}
@@ -118,9 +118,9 @@ module _ (p : Program) {K : Arrows} (us : Row Operand) (prog : IsProgram p) (val
     variable_safe ws k (variable.GlobalSet x) t d =
         global_set_safe p.source us c x ts ws s e vs k u t v (onward p.source us still (record { derives = d; none = λ e. absurd (inside e) }) w)
 
-    instruction_safe : (ws : Row Operand) (k : Code) (o : Op) → is_switching o ≡ false → Condition (in_scope p.source c) o → HasInstrType p.source.types (instr_type (in_scope p.source c) set o) ts ws
+    instruction_safe : (ws : Row Operand) (k : Code) (o : Op) → Condition (in_scope p.source c) o → HasInstrType p.source.types (instr_type (in_scope p.source c) set o) ts ws
         → Derives (in_scope p.source c) (sets o set) k ws out → IsSafe p.source K us (instruction p s e vs o k)
-    instruction_safe ws k (op.Control o) plain h t d =
+    instruction_safe ws k (op.Control o) h t d =
         control_safe p K us o (record {
           scope = c;
           set = set;
@@ -132,18 +132,29 @@ module _ (p : Program) {K : Arrows} (us : Row Operand) (prog : IsProgram p) (val
           inside = inside;
           behind = record { derives = d; none = λ e. absurd (inside e) };
         }) prog valid h t v
-    instruction_safe ws k (op.Parametric o) plain h t d =
+    instruction_safe ws k (op.Parametric o) h t d =
         parametric_safe p.source us c o ts ws s e vs k u t v (onward p.source us still (record { derives = d; none = λ e. absurd (inside e) }) w)
-    instruction_safe ws k (op.Variable o) plain h t d = variable_safe ws k o t d
-    instruction_safe ws k (op.Table o) plain h t d =
+    instruction_safe ws k (op.Variable o) h t d = variable_safe ws k o t d
+    instruction_safe ws k (op.Table o) h t d =
         table_safe p.source us c o ts ws s e vs k u h t v (onward p.source us still (record { derives = d; none = λ e. absurd (inside e) }) w)
-    instruction_safe ws k (op.Memory o) plain h t d =
+    instruction_safe ws k (op.Memory o) h t d =
         memory_safe p.source us c o ts ws s e vs k valid u t v (onward p.source us still (record { derives = d; none = λ e. absurd (inside e) }) w)
-    instruction_safe ws k (op.Numeric o) plain h t d =
+    instruction_safe ws k (op.Numeric o) h t d =
         numeric_safe p.source us o ts ws s e vs k u t v (onward p.source us still (record { derives = d; none = λ e. absurd (inside e) }) w)
-    instruction_safe ws k (op.Reference o) plain h t d =
+    instruction_safe ws k (op.Reference o) h t d =
         reference_safe p.source us c o ts ws s e vs k u t v (onward p.source us still (record { derives = d; none = λ e. absurd (inside e) }) w)
-    instruction_safe ws k (op.Switching o) plain h t d = absurd (cc)
+    instruction_safe ws k (op.Switching o) h t d =
+        switching_safe p K us valid o (record {
+          scope = c;
+          set = set;
+          now = now;
+          out = out;
+          still = still;
+          store = u;
+          around = w;
+          inside = inside;
+          behind = record { derives = d; none = λ e. absurd (inside e) };
+        }) h t v
 
   choice_safe : {s : Store} {e : Context} {vs : Row Val} {c : Scope} {set now : List Bool} {ts ws out : Row Operand} (b : BlockType) (x y k : Code)
       → StoreTyped p.source K s → ValuesTyped p.source K vs ts → Subset set now → Within p.source K us e c now out → (c.results ≡ None → ⊥)
@@ -153,21 +164,21 @@ module _ (p : Program) {K : Arrows} (us : Row Operand) (prog : IsProgram p) (val
       block_safe p us kind.Block u still lower (chosen_typed p.source n inside h) inside w)
 
   next_safe : {s : Store} {e : Context} {vs : Row Val} {c : Scope} {set now : List Bool} {ts out : Row Operand} (ahead : List Administrative) (k : Code)
-      → switches ahead k ≡ false → StoreTyped p.source K s → ValuesTyped p.source K vs ts → RestTyped p.source c set ahead k ts out → Subset set now
+      → StoreTyped p.source K s → ValuesTyped p.source K vs ts → RestTyped p.source c set ahead k ts out → Subset set now
       → Within p.source K us e c now out → IsSafe p.source K us (next p s e vs ahead k)
-  next_safe _ k plain u v (invoke_first {a = a} {t = t} beneath is r h) still w = invoke_safe p us a t beneath valid u is (values_sub p.source r v) h still w
-  next_safe _ k plain u v (branch_first {l = l} {taken = taken} beneath is r) still w = branch_safe p.source us l beneath taken u is (values_sub p.source r v) w
-  next_safe [] Done plain u v (code_alone h) still w = leave_safe p.source us u (values_sub p.source h.derives v) w
-  next_safe [] (Plain o k) plain u v (code_alone h) still w =
-      instruction_safe u v still w (λ e. let d = h.none e in absurd (cc)) h.derives.1.0 k o plain h.derives.0 h.derives.1.1 h.derives.1.2
-  next_safe {c = c} {set = set} {ts = ts} {out = out} [] (Block kind b x k) plain u v (code_alone h) still w =
+  next_safe _ k u v (invoke_first {a = a} {t = t} beneath is r h) still w = invoke_safe p us a t beneath valid u is (values_sub p.source r v) h still w
+  next_safe _ k u v (branch_first {l = l} {taken = taken} beneath is r) still w = branch_safe p.source us l beneath taken u is (values_sub p.source r v) w
+  next_safe [] Done u v (code_alone h) still w = leave_safe p.source us u (values_sub p.source h.derives v) w
+  next_safe [] (Plain o k) u v (code_alone h) still w =
+      instruction_safe u v still w (λ e. let d = h.none e in absurd (cc)) h.derives.1.0 k o h.derives.0 h.derives.1.1 h.derives.1.2
+  next_safe {c = c} {set = set} {ts = ts} {out = out} [] (Block kind b x k) u v (code_alone h) still w =
       let inside = λ (e : c.results ≡ None). (let d = h.none e in absurd (cc)) in
       let parts = block_parts p.source kind b x k c set ts out (arrow_of (in_scope p.source c) b) refl inside h.derives in
       block_safe p us kind u still v parts.1 inside w
-  next_safe {c = c} {set = set} {ts = ts} {out = out} [] (If b x k) plain u v (code_alone h) still w =
+  next_safe {c = c} {set = set} {ts = ts} {out = out} [] (If b x k) u v (code_alone h) still w =
       let parts = if_parts p.source b x k c set ts out (arrow_of (in_scope p.source c) b) refl h.derives in
       choice_safe b x Done k u v still w (λ e. let d = h.none e in absurd (cc)) parts.1
-  next_safe {c = c} {set = set} {ts = ts} {out = out} [] (IfElse b x y k) plain u v (code_alone h) still w =
+  next_safe {c = c} {set = set} {ts = ts} {out = out} [] (IfElse b x y k) u v (code_alone h) still w =
       let parts = if_else_parts p.source b x y k c set ts out (arrow_of (in_scope p.source c) b) refl h.derives in
       choice_safe b x y k u v still w (λ e. let d = h.none e in absurd (cc)) parts.1
 
@@ -184,5 +195,5 @@ limited_safe m us _ (ends v) = ends v
 
 -- preservation and progress
 pub reductions_are_safe : ReductionsAreSafe
-reductions_are_safe p K us s t prog valid h plain =
-    limited_safe p.source us _ (next_safe p us prog valid t.rest.ahead t.rest.code plain h.store h.term.operands h.term.rest h.term.still h.term.around)
+reductions_are_safe p K us s t prog valid h =
+    limited_safe p.source us _ (next_safe p us prog valid t.rest.ahead t.rest.code h.store h.term.operands h.term.rest h.term.still h.term.around)

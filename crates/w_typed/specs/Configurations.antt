@@ -1,11 +1,7 @@
 -- Typed configurations, and what one reduction makes of them (Core, appendix, soundness: configuration validity and theorems).
-use Rattle.std.specs.Prelude.{◌≡◌, ℕ, Bool, true, false, List, [], Some}
+use Rattle.std.specs.Prelude.{◌≡◌, ◌≢◌, ℕ, Bool, true, false, List, [], Some}
 use Rattle.w_types.specs.declared.types.FuncType.{FuncType}
 use Rattle.w_types.specs.Rows.{Row, row_of}
-use Rattle.w_syntax.specs.Code.{Code, Plain}
-use Rattle.w_syntax.specs.declared.instructions.Op.{Op}
-use Rattle.w_syntax.specs.declared.instructions.SwitchingOp.{SwitchingOp}
-use Rattle.w_syntax.specs.declared.instructions.Op.TheVariants as op
 use Rattle.w_syntax.specs.declared.module.Module.{Module}
 use Rattle.w_rules.specs.Context.{type_of_func}
 use Rattle.w_rules.specs.Matching.{known}
@@ -16,12 +12,10 @@ use Rattle.w_reduce.specs.declared.limit.RunLimit.{RunLimit}
 use Rattle.w_reduce.specs.declared.trap.Trap.{Trap}
 use Rattle.w_reduce.specs.Values.{Val}
 use Rattle.w_reduce.specs.Store.{Store}
-use Rattle.w_reduce.specs.Terms.{Administrative, Term, rest_of}
+use Rattle.w_reduce.specs.Terms.{Term}
 use Rattle.w_reduce.specs.Program.{Program, IsProgram}
 use Rattle.w_reduce.specs.Reduced.{Reduced, Went, Trapped, Limited, Ended}
 use Rattle.w_reduce.specs.Reduce.{reduce}
-use Rattle.w_reduce.specs.Apart.{switches}
-use Rattle.w_reduce.specs.Switching.{switching_op}
 use Rattle.w_reduce.specs.Run.{RunState, NoRule, Run}
 use Rattle.w_reduce.specs.Start.{Start, Ready, start_term}
 use Rattle.w_typed.specs.Values.{Arrows, Grows, ValuesTyped}
@@ -45,19 +39,13 @@ pub data IsSafe (m : Module) (K : Arrows) (us : Row Operand) : Reduced → Type 
 
 -- preservation and progress
 abbrev pub ReductionsAreSafe : Type 0
-ReductionsAreSafe = (p : Program) (K : Arrows) (us : Row Operand) (s : Store) (t : Term) → IsProgram p → Valid p.source → Typed p.source K us s t
-    → switches t.rest.ahead t.rest.code ≡ false → IsSafe p.source K us (reduce p s t)
+ReductionsAreSafe = (p : Program) (K : Arrows) (us : Row Operand) (s : Store) (t : Term) → IsProgram p → Valid p.source → Typed p.source K us s t → IsSafe p.source K us (reduce p s t)
 
--- the same of an instruction that switches stacks
-abbrev pub SwitchingIsSafe : Type 0
-SwitchingIsSafe = (p : Program) (K : Arrows) (us : Row Operand) (s : Store) (t : Term) (o : SwitchingOp) (c : Code) → IsProgram p → Valid p.source
-    → Typed p.source K us s t → t.rest ≡ rest_of (Plain (op.Switching o) c) → IsSafe p.source K us (switching_op p s t.around t.operands o c)
-
--- a run stays typed, and no rule applies only where an instruction that switches stacks comes next
+-- a run stays typed, and is never stuck: a rule applies wherever its term isn't values
 pub record RunIsTyped (p : Program) (us : Row Operand) (r : RunState) : Type 0 where
   pub arrows : Arrows
   pub typed : Typed p.source arrows us r.store r.term
-  pub stops : r.outcome ≡ NoRule → switches r.term.rest.ahead r.term.rest.code ≡ true
+  pub never_stuck : r.outcome ≢ NoRule
 
 abbrev pub RunsAreTyped : Type 0
 RunsAreTyped = (p : Program) (K : Arrows) (us : Row Operand) (s : Store) (t : Term) → IsProgram p → Valid p.source → Typed p.source K us s t → (n : ℕ) → RunIsTyped p us (Run p s t n)
