@@ -1,0 +1,5 @@
+pub mod Facing
+pub mod Joining
+pub mod Making
+pub mod Putting
+pub mod Sounding

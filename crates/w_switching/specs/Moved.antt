@@ -1,0 +1,22 @@
+-- Where segments and entries go as stacks are switched, told of them alone.
+use Rattle.std.specs.Prelude.{◌≡◌, ℕ, ◌+◌, ◌-◌, List, [], ◌∷◌, ◌++◌, take, drop, reverse, Some, ⊤}
+use Rattle.w_types.specs.declared.value.ContRef.{ContRef}
+use Rattle.w_types.specs.declared.value.Value.{Value}
+use Rattle.w_types.specs.declared.value.Value.TheVariants as value
+use Rattle.w_segment.specs.declared.entry.Stage.TheVariants.{Branch}
+use Rattle.w_segment.specs.Shape.{Shape, SameParts}
+use Rattle.w_segment.specs.Changes.{pushed, pushed_all, discarded, moved, staged}
+use Rattle.w_segment.specs.Link.{Link, top, with_top, with_clauses}
+use Rattle.w_conts.specs.Conts.{Conts, with_entry}
+use Rattle.w_switching.specs.declared.stored.Stored.{Stored}
+
+-- the same segments but for room
+abbrev pub SameLinks : List Link → List Link → Type 0
+SameLinks [] [] = ⊤
+SameLinks [] (y ∷ ys) = ⊥
+SameLinks (x ∷ xs) [] = ⊥
+SameLinks (x ∷ xs) (y ∷ ys) = SameParts x.shape y.shape × (y.clauses ≡ x.clauses) × SameLinks xs ys
+
+-- the reference to the next continuation, at a place
+abbrev pub next_ref : ℕ → ℕ → Value
+next_ref place serial = value.Cont (record { place = place; serial = serial })

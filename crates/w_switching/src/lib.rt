@@ -1,0 +1,10 @@
+//! The instructions that switch stacks, and the exit of a handle: each call takes just the reduction of the configurations in which the
+//! chain of running segments and the store of continuations stand (`specs/`).
+#![tactic(auto)]
+
+mod continuations;
+mod module_types;
+mod stored;
+
+pub use continuations::cont_new;
+pub use stored::Stored;
