@@ -20,3 +20,9 @@ SameLinks (x ∷ xs) (y ∷ ys) = SameParts x.shape y.shape × (y.clauses ≡ x.
 -- the reference to the next continuation, at a place
 abbrev pub next_ref : ℕ → ℕ → Value
 next_ref place serial = value.Cont (record { place = place; serial = serial })
+
+-- some segments once they took so many arguments beneath the reference, inside those that wait at the instruction and go on behind it
+abbrev pub passed : ℕ → List Link → List Link → List Link
+passed n segs chain =
+    with_top (pushed_all (reverse (take n (drop 1 (top chain).shape.operands))) (top segs).shape) segs
+    ++ with_clauses (top chain).shape.place (with_top (moved ((top chain).shape.place + 1) (discarded n (discarded 1 (top chain).shape))) chain)

@@ -3,8 +3,10 @@
 #![tactic(auto)]
 
 mod continuations;
+mod handles;
 mod module_types;
 mod stored;
 
 pub use continuations::cont_new;
+pub use handles::resume;
 pub use stored::Stored;
