@@ -1,7 +1,10 @@
+pub mod Binding
 pub mod Consuming
+pub mod Exiting
 pub mod Facing
 pub mod Joining
 pub mod Making
 pub mod Putting
 pub mod Resuming
+pub mod SameButRoom
 pub mod Sounding

@@ -1,15 +1,17 @@
 -- References, entries and slots, as segments and entries change.
-use Rattle.std.proofs.Common.{◌≡◌, ℕ, zero, suc, ◌+◌, ◌<◌, ◌≤◌, Bool, true, List, [], ◌∷◌, ◌++◌, Option, Some, None, length, refl, sym, ap, ◌∙◌, subst, arith, take, drop, nat_eq, eqb-true, eq-eqb}
+use Rattle.std.proofs.Common.{◌≡◌, ℕ, zero, suc, ◌+◌, ◌<◌, ◌≤◌, Bool, true, List, [], ◌∷◌, ◌++◌, Option, Some, None, length, refl, sym, ap, ◌∙◌, subst, arith, take, drop, reverse, length-append, nat_eq, eqb-true, eq-eqb}
+use Rattle.std.proofs.lemmas.List.{length-reverse}
 use Rattle.std.specs.Prelude.{slice_set, option_map}
 use Rattle.w_types.specs.declared.value.Value.{Value}
 use Rattle.w_types.specs.declared.value.Value.TheVariants as value
 use Rattle.w_types.specs.declared.value.ContRef.{ContRef}
 use Rattle.w_segment.specs.Holds.{AllOf, AllSet, LevelsHold, Holds}
-use Rattle.w_segment.specs.Shape.{Shape, Level, Label, Frame}
+use Rattle.w_segment.specs.Shape.{Shape, Level, Label, Frame, height}
+use Rattle.w_segment.specs.Changes.{pushed_all}
 use Rattle.w_segment.specs.Link.{Link, top, with_top, with_clauses}
 use Rattle.w_conts.specs.Conts.{Conts, IsOf, KeepsReferences, entry_at, some_count}
 use Rattle.w_switching.specs.declared.stored.Stored.{Stored}
-use Rattle.w_switching.specs.Sound.{LinksHold, Waits, IsReady, is_place, is_of, IsGood, EachStored, segments_in, Sound}
+use Rattle.w_switching.specs.Sound.{LinksHold, Waits, HasRoomFor, IsReady, is_place, is_of, IsGood, EachStored, segments_in, Sound}
 
 -- ## A test that passes more
 
@@ -216,3 +218,18 @@ top_top s (x ∷ xs) h = refl
 pub with_twice : (s s' : Shape) (xs : List Link) → with_top s (with_top s' xs) ≡ with_top s xs
 with_twice s s' [] = refl
 with_twice s s' (x ∷ xs) = refl
+
+-- ## Room
+
+-- the innermost segment has room where its new shape has
+pub room_with : (n : ℕ) (s : Shape) (xs : List Link) → 0 < length xs → height s + n ≤ s.capacity.operands → HasRoomFor n (with_top s xs)
+room_with n s [] h r = absurd (omega arith)
+room_with n s (x ∷ xs) h r = r
+
+-- arguments stand on what there is
+pub high_pushed : (us : List Value) (s : Shape) → height (pushed_all (reverse us) s) ≡ height s + length us
+high_pushed us s =
+    let a = length-append (reverse (reverse us)) s.operands in
+    let b = length-reverse (reverse us) in
+    let d = length-reverse us in
+    omega (arith, a, b, d)

@@ -1,13 +1,13 @@
 -- Where segments and entries go as stacks are switched, told of them alone.
-use Rattle.std.specs.Prelude.{◌≡◌, ℕ, ◌+◌, ◌-◌, List, [], ◌∷◌, ◌++◌, take, drop, reverse, Some, ⊤}
+use Rattle.std.specs.Prelude.{◌≡◌, ℕ, ◌+◌, ◌-◌, List, [], ◌∷◌, ◌++◌, length, take, drop, reverse, Some, ⊤}
 use Rattle.w_types.specs.declared.value.ContRef.{ContRef}
 use Rattle.w_types.specs.declared.value.Value.{Value}
 use Rattle.w_types.specs.declared.value.Value.TheVariants as value
 use Rattle.w_segment.specs.declared.entry.Stage.TheVariants.{Branch}
 use Rattle.w_segment.specs.Shape.{Shape, SameParts}
 use Rattle.w_segment.specs.Changes.{pushed, pushed_all, discarded, moved, staged}
-use Rattle.w_segment.specs.Link.{Link, top, with_top, with_clauses}
-use Rattle.w_conts.specs.Conts.{Conts, with_entry}
+use Rattle.w_segment.specs.Link.{Link, top, rest, with_top, with_clauses}
+use Rattle.w_conts.specs.Conts.{Conts, IsOf, with_entry}
 use Rattle.w_switching.specs.declared.stored.Stored.{Stored}
 
 -- the same segments but for room
@@ -26,3 +26,20 @@ abbrev pub passed : ℕ → List Link → List Link → List Link
 passed n segs chain =
     with_top (pushed_all (reverse (take n (drop 1 (top chain).shape.operands))) (top segs).shape) segs
     ++ with_clauses (top chain).shape.place (with_top (moved ((top chain).shape.place + 1) (discarded n (discarded 1 (top chain).shape))) chain)
+
+-- the operands of the innermost segment went onto those of the one that waited, which had room for them
+pub record Merged (chain chain' : List Link) : Type 0 where
+  pub waiting : Shape
+  pub same : SameParts (top (rest chain)).shape waiting
+  pub after : chain' ≡ with_top (pushed_all (reverse (top chain).shape.operands) waiting) (rest chain)
+
+-- Some segments took so many arguments beneath the reference, and are stored as a continuation of so many values; the reference to it is
+-- left on the innermost segment.
+pub record Bound (n takes : ℕ) (segs chain : List Link) (conts : Conts Stored) (chain' : List Link) (conts' : Conts Stored) : Type 0 where
+  pub b : Stored
+  pub place : ℕ
+  pub takes_is : b.takes ≡ takes
+  pub part : b.segment.value ≡ with_top (pushed_all (reverse (take n (drop 1 (top chain).shape.operands))) (top segs).shape) segs
+  pub conts_after : conts' ≡ with_entry place b conts
+  pub of : IsOf (record { place = place; serial = length conts.entries }) conts'
+  pub chain_after : chain' ≡ with_top (moved ((top chain).shape.place + 1) (pushed (next_ref place (length conts.entries)) (discarded n (discarded 1 (top chain).shape)))) chain

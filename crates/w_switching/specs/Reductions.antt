@@ -63,8 +63,8 @@ Switches o (did.Trapped x) m chain conts chain' conts' = (chain' ≡ chain) × (
     × ((behind : Rest) (p : Program) (s : Store) (t : Term) (c : Code) → At o m behind chain conts p s t c → switched o p s t c ≡ Trapped x)
 
 -- the innermost segment, which is values, left the handle around it
-abbrev pub Exits : Module → List Link → Conts Stored → List Link → Conts Stored → Type 0
-Exits m chain conts chain' conts' = (behind : Rest) (p : Program) (s : Store) (t : Term) → Stand m behind chain conts p s t →
+abbrev pub Exits : List Link → Conts Stored → List Link → Conts Stored → Type 0
+Exits chain conts chain' conts' = (m : Module) (behind : Rest) (p : Program) (s : Store) (t : Term) → Stand m behind chain conts p s t →
     (t.rest ≡ rest_of Done) × To m behind chain' conts' p s (leave s t.around t.operands)
 
 -- ## What types of continuations tell

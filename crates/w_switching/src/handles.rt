@@ -5,7 +5,7 @@ ghost use Rattle.w_syntax.specs.declared.instructions.SwitchingOp.TheVariants as
 ghost use Rattle.w_segment.specs.declared.entry.Stage.TheVariants.{Values};
 ghost use Rattle.w_segment.specs.Link.{top};
 ghost use Rattle.w_conts.specs.Conts.{KeepsReferences};
-ghost use Rattle.w_switching.specs.Moved.{passed, SameLinks};
+ghost use Rattle.w_switching.specs.Moved.{passed, Merged, SameLinks};
 ghost use Rattle.w_switching.specs.Reductions.{SwitchesAt, Switches, Exits};
 ghost use Rattle.w_switching.specs.Sound.{Sound, HasRoomFor, most_segments};
 
@@ -70,4 +70,41 @@ pub fn resume(
         }
         None => Did::Trapped(Trap::ConsumedContinuation),
     }
+}
+
+// Moves the operands of the innermost segment onto those of the one that waits, which is the innermost one then. It fails only when out of
+// memory, and then all is as it was but for room.
+fn merge(chain: &mut Chain) -> Result<(), AllocError>
+    requires two { 1 < length chain.old }
+    requires few { length chain.old ≤ most_segments }
+    ensures after { OnOk result (Merged chain.old chain.new) }
+    ensures err { OnErr result (SameLinks chain.old chain.new) }
+{
+    let done = chain.pop();
+    let count = done.stack().count();
+    if chain.stack_mut().reserve(count, 0, 0).is_err() {
+        chain.push(done);
+        return Err(AllocError);
+    }
+    chain.stack_mut().push_all(done.stack().operands());
+    Ok(())
+}
+
+/// Leaves the handle around the innermost segment, which is values: these stand on the operands of the segment that waited, which goes
+/// on, and the room for one continuation is given back (stack-switching explainer, execution: handle). It fails only when out of memory,
+/// and then all is as it was but for room.
+pub fn exit_handle(chain: &mut Chain, conts: &mut ContStore<Stored>) -> Result<(), AllocError>
+    requires two { 1 < length chain.old }
+    requires values { (top chain.old).shape.stage ≡ Values }
+    requires sound { Sound chain.old conts.old }
+    requires few { length chain.old ≤ most_segments }
+    ensures goes { OnOk result (Exits chain.old conts.old chain.new conts.new) }
+    ensures sound { Sound chain.new conts.new }
+    ensures references { KeepsReferences conts.old conts.new }
+    ensures err_chain { OnErr result (SameLinks chain.old chain.new) }
+    ensures err_conts { OnErr result (conts.new ≡ conts.old) }
+{
+    merge(chain)?;
+    conts.release_one();
+    Ok(())
 }

@@ -7,6 +7,6 @@ mod handles;
 mod module_types;
 mod stored;
 
-pub use continuations::cont_new;
-pub use handles::resume;
+pub use continuations::{cont_bind, cont_new};
+pub use handles::{exit_handle, resume};
 pub use stored::Stored;
