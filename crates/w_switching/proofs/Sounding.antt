@@ -226,10 +226,18 @@ pub room_with : (n : ℕ) (s : Shape) (xs : List Link) → 0 < length xs → hei
 room_with n s [] h r = absurd (omega arith)
 room_with n s (x ∷ xs) h r = r
 
--- arguments stand on what there is
+-- operands stand on what there is
+pub high_more : (vs : List Value) (s : Shape) → height (pushed_all vs s) ≡ height s + length vs
+high_more vs s = let a = length-append (reverse vs) s.operands in let b = length-reverse vs in omega (arith, a, b)
+
 pub high_pushed : (us : List Value) (s : Shape) → height (pushed_all (reverse us) s) ≡ height s + length us
-high_pushed us s =
-    let a = length-append (reverse (reverse us)) s.operands in
-    let b = length-reverse (reverse us) in
-    let d = length-reverse us in
-    omega (arith, a, b, d)
+high_pushed us s = let a = high_more (reverse us) s in let b = length-reverse us in omega (arith, a, b)
+
+-- the topmost n operands are n at most
+taken_few : (n : ℕ) (vs : List Value) → length (take n vs) ≤ n
+taken_few zero vs = omega arith
+taken_few (suc n) [] = omega arith
+taken_few (suc n) (v ∷ vs) = let h = taken_few n vs in omega (arith, h)
+
+pub tops_few : (n : ℕ) (vs : List Value) → length (reverse (take n vs)) ≤ n
+tops_few n vs = let a = length-reverse (take n vs) in let b = taken_few n vs in omega (arith, a, b)

@@ -2,11 +2,13 @@
 //! chain of running segments and the store of continuations stand (`specs/`).
 #![tactic(auto)]
 
+mod captures;
 mod continuations;
 mod handles;
 mod module_types;
 mod stored;
 
+pub use captures::suspend;
 pub use continuations::{cont_bind, cont_new};
 pub use handles::{exit_handle, resume};
 pub use stored::Stored;
