@@ -1,0 +1,122 @@
+-- Leaving a handle.
+use Rattle.std.proofs.Common.{◌≡◌, ℕ, ◌+◌, ◌-◌, ◌<◌, ◌≤◌, Bool, true, List, [], ◌∷◌, ◌++◌, length, refl, sym, ap, ◌∙◌, subst, arith, reverse}
+use Rattle.std.proofs.lemmas.List.{reverse-reverse}
+use Rattle.w_types.specs.Rows.{Row, ◌⧺◌}
+use Rattle.w_types.specs.declared.value.Value.{Value}
+use Rattle.w_syntax.specs.Code.{Code, Done}
+use Rattle.w_syntax.specs.declared.instructions.Clause.{Clause}
+use Rattle.w_syntax.specs.declared.module.Module.{Module}
+use Rattle.w_segment.specs.declared.entry.Stage.TheVariants.{Values}
+use Rattle.w_segment.specs.Shape.{Shape, SameParts}
+use Rattle.w_segment.specs.Changes.{pushed_all}
+use Rattle.w_segment.specs.Link.{Link, top, rest, with_top}
+use Rattle.w_segment.proofs.Holding.{pushed_all_holds, same_holds, all_reverse}
+use Rattle.w_conts.specs.Conts.{Conts, KeepsReferences, with_spare}
+use Rattle.w_reduce.specs.Values.{Val}
+use Rattle.w_reduce.specs.Terms.{Rest, rest_of, Handle, Context, Term}
+use Rattle.w_reduce.specs.Exits.{leave}
+use Rattle.w_stands.specs.Values.{stack}
+use Rattle.w_stands.specs.Stands.{In, body, left, fresh, values}
+use Rattle.w_switching.specs.declared.stored.Stored.{Stored}
+use Rattle.w_switching.specs.Moved.{SameLinks, Merged}
+use Rattle.w_switching.specs.Standing.{Chained, only, around, AllKept, Stand}
+use Rattle.w_switching.specs.Reductions.{To, Exits}
+use Rattle.w_switching.specs.Sound.{LinksHold, is_of, Sound, SoundWith}
+use Rattle.w_switching.proofs.Resuming.{given}
+use Rattle.w_switching.proofs.SameButRoom.{same_shape, same_top}
+use Rattle.w_switching.proofs.Sounding.{hold_top, hold_with, long_top, spare_slot}
+
+-- ## Where it stood
+
+record IsValues (outer e : Context) (behind r : Rest) : Type 0 where
+  context : e ≡ outer
+  rest_is : r ≡ behind
+
+values_is : {m : Module} {outer : Context} {behind : Rest} {s : Shape} {e : Context} {r : Rest} → In m outer behind s e r → s.stage ≡ Values → IsValues outer e behind r
+values_is (body a k w) h = absurd cc
+values_is (left a k w) h = absurd cc
+values_is (fresh a k) h = absurd cc
+values_is (values a k) h = record { context = refl; rest_is = refl }
+
+-- the handle around it, and the segments that wait
+record Inside (m : Module) (behind : Rest) (chain : List Link) (e : Context) (vs : Row Val) (r : Rest) : Type 0 where
+  outer : Context
+  below : Row Val
+  hs : List Clause
+  code : Code
+  context : e ≡ Handle below hs code ∷ outer
+  rest_is : r ≡ rest_of Done
+  stands : Chained m [] behind (rest chain) outer below (rest_of code)
+  operands : vs ≡ stack (top chain).shape.operands
+
+in_handle : {m : Module} {behind : Rest} {chain : List Link} {e : Context} {vs : Row Val} {r : Rest} → Chained m [] behind chain e vs r → 1 < length chain → (top chain).shape.stage ≡ Values →
+    Inside m behind chain e vs r
+in_handle (only i o) h b = absurd (omega arith)
+in_handle (around {e' = e'} {below = below} {hs = hs} {c = c} i o g w k) h b =
+    let v = values_is i b in
+    record { outer = e'; below = below; hs = hs; code = c; context = v.context; rest_is = v.rest_is; stands = k; operands = o }
+
+-- ## Where it goes
+
+rest_hold : (test : Value → Bool) (xs : List Link) → LinksHold test xs → LinksHold test (rest xs)
+rest_hold test [] h = tt
+rest_hold test (x ∷ xs) h = h.1
+
+pub rest_long : (xs : List Link) → length (rest xs) ≡ length xs - 1
+rest_long [] = refl
+rest_long (x ∷ xs) = omega arith
+
+module _ (chain chain' : List Link) (conts conts' : Conts Stored) (two : 1 < length chain) (merged : Merged chain chain') (after : conts' ≡ with_spare (conts.spare - 1) conts) where
+  pub exits : (top chain).shape.stage ≡ Values → Exits chain conts chain' conts'
+  exits b m behind p s t a =
+      let w = in_handle a.term two b in
+      let us = (top chain).shape.operands in
+      let s1 = merged.waiting in
+      let same = merged.same in
+      let k = given (pushed_all (reverse us) s1) us w.stands (record { levels = same.levels; func = same.func; place = same.place; stage = same.stage })
+      (ap (λ (l : List Value). l ++ s1.operands) (reverse-reverse us) ∙ ap (λ (l : List Value). us ++ l) same.operands) in
+      (
+        w.rest_is,
+        record {
+          conts_after = s.conts;
+          t = record { around = w.outer; operands = w.below ⧺ t.operands; rest = rest_of w.code };
+          is = ap (λ (e : Context). leave s e t.operands) w.context;
+          stand = record {
+            source = a.source;
+            program = a.program;
+            short = a.short;
+            term = subst (λ (z : List Link). Chained m [] behind z w.outer (w.below ⧺ t.operands) (rest_of w.code)) (sym merged.after)
+                (subst (λ (r : Row Val). Chained m [] behind (with_top (pushed_all (reverse us) s1) (rest chain)) w.outer (w.below ⧺ r) (rest_of w.code)) (sym w.operands) k);
+            store = subst (λ (z : Conts Stored). AllKept m z.entries s.conts) (sym after) a.store;
+          };
+        },
+      )
+
+  -- and it is sound
+  pub exit_sound : Sound chain conts → Sound chain' conts'
+  exit_sound s =
+      let us = (top chain).shape.operands in
+      let s1 = merged.waiting in
+      let same = merged.same in
+      let test = is_of conts in
+      let P : Value → Type 0 = λ v. test v ≡ true in
+      let outside = rest_hold test chain s.references in
+      let h = same_holds P (top (rest chain)).shape s1 same (hold_top test (rest chain) outside) in
+      let own = hold_top test chain s.references in
+      let held = pushed_all_holds P (reverse us) s1 (all_reverse P us own.operands) h in
+      let s' = pushed_all (reverse us) s1 in
+      let d = s.slots in
+      let l = long_top s' (rest chain) in
+      let r = rest_long chain in
+      let w = spare_slot chain conts s two in
+      let whole : Sound (with_top s' (rest chain)) (with_spare (conts.spare - 1) conts) = record {
+        references = hold_with test s' (rest chain) held outside;
+        stored = s.stored;
+        slots = omega (arith, d, l, r, w, two);
+      } in
+      subst (λ (z : List Link). Sound z conts') (sym merged.after) (subst (Sound (with_top s' (rest chain))) (sym after) whole)
+
+-- where it failed the segment stands where it stood
+pub put_back : (chain chain' : List Link) (s1 : Shape) → 0 < length chain → SameParts (top (rest chain)).shape s1 → chain' ≡ top chain ∷ with_top s1 (rest chain) → SameLinks chain chain'
+put_back [] chain' s1 h same e = absurd (omega arith)
+put_back (x ∷ xs) chain' s1 h same e = subst (SameLinks (x ∷ xs)) (sym e) (same_shape x.shape, refl, same_top s1 xs same)

@@ -1,0 +1,13 @@
+pub mod Binding
+pub mod Consuming
+pub mod Cutting
+pub mod Exiting
+pub mod Facing
+pub mod Joining
+pub mod Making
+pub mod Parting
+pub mod Putting
+pub mod Resuming
+pub mod SameButRoom
+pub mod Sounding
+pub mod Suspending

@@ -1,0 +1,246 @@
+-- Suspending.
+use Rattle.std.proofs.Common.{◌≡◌, ℕ, suc, ◌+◌, ◌<◌, ◌≤◌, Bool, true, List, [], ◌∷◌, ◌++◌, Option, Some, None, length, refl, sym, ap, ◌∙◌, subst, arith, add-one, drop, take, reverse}
+use Rattle.std.proofs.lemmas.List.{reverse-reverse}
+use Rattle.std.specs.Prelude.{◌≢◌, All}
+use Rattle.w_types.specs.Rows.{Row, ◌▹◌, ◌⧺◌}
+use Rattle.w_types.specs.declared.types.FuncType.{FuncType}
+use Rattle.w_types.specs.declared.value.Value.{Value}
+use Rattle.w_types.specs.declared.value.Value.TheVariants as value
+use Rattle.w_syntax.specs.Code.{Code, Plain, Done}
+use Rattle.w_syntax.specs.declared.instructions.Op.TheVariants as op
+use Rattle.w_syntax.specs.declared.instructions.SwitchingOp.TheVariants as switching
+use Rattle.w_syntax.specs.declared.module.Module.{Module}
+use Rattle.w_rules.specs.Context.{type_of_tag}
+use Rattle.w_rules.specs.Spaces.{context_of}
+use Rattle.w_segment.specs.declared.entry.Stage.TheVariants.{Body, Branch as AtBranch}
+use Rattle.w_segment.specs.Shape.{Shape, Level, height}
+use Rattle.w_segment.specs.Changes.{pushed, pushed_all, discarded, moved, staged}
+use Rattle.w_segment.specs.Link.{Link, top, rest, with_top}
+use Rattle.w_segment.proofs.Holding.{all_take, all_reverse, pushed_holds, pushed_all_holds, discarded_holds, moved_holds, staged_holds}
+use Rattle.w_chain.specs.Layers.{label_for, IsFirstLabel}
+use Rattle.w_conts.specs.Conts.{Conts, KeepsReferences, with_entry}
+use Rattle.w_reduce.specs.Values.{Val, Cont}
+use Rattle.w_reduce.specs.Terms.{Branch, Rest, rest_of, Context, Term, Kept}
+use Rattle.w_reduce.specs.Store.{Store, with_cont, next_cont}
+use Rattle.w_reduce.specs.Program.{Program}
+use Rattle.w_reduce.specs.Reduced.{Reduced, Trapped, Stuck, or_stuck, steps_to, take_values}
+use Rattle.w_reduce.specs.Handlers.{Handler, label_clause, find}
+use Rattle.w_reduce.specs.Switching.{switching_op, captured, or_unhandled}
+use Rattle.w_reduce.specs.declared.trap.Trap.TheVariants as trap
+use Rattle.w_stands.specs.declared.did.Did.TheVariants as did
+use Rattle.w_stands.specs.Values.{stack}
+use Rattle.w_stands.specs.Code.{instrs, Reads}
+use Rattle.w_stands.specs.Stands.{Around, In, left}
+use Rattle.w_stands.proofs.LookedUp.{found, goes_on}
+use Rattle.w_stands.proofs.Reading.{here}
+use Rattle.w_stands.proofs.TakingMany.{stack_take, stack_enough, stack_append}
+use Rattle.w_switching.specs.declared.stored.Stored.{Stored}
+use Rattle.w_switching.specs.Moved.{Captured, next_ref}
+use Rattle.w_switching.specs.Standing.{Chained, kept, AllKept}
+use Rattle.w_switching.specs.Reductions.{At, To, SwitchesAt, Switches}
+use Rattle.w_switching.specs.Sound.{LinksHold, Waits, HasRoomFor, is_of, IsGood, Sound, SoundWith, most_segments}
+use Rattle.w_switching.proofs.Joining.{SamePlace, inside_top, kept_more, kept_long}
+use Rattle.w_switching.proofs.Facing.{head, on_stack, at_term, next_top, some_chain}
+use Rattle.w_switching.proofs.Cutting.{Cuts, cuts, no_layer, layer_below}
+use Rattle.w_switching.proofs.Parting.{top_taken, some_taken, some_dropped, part_long, part_some, part_top, outside_top, part_hold, part_sound, ready_top, low_discarded}
+use Rattle.w_switching.proofs.Putting.{put_sound, top_sound}
+use Rattle.w_switching.proofs.Sounding.{More, more_of, links_more, hold_with, hold_top, is_of_it, long_top, room_with, spare_slot, with_twice}
+
+-- the segment that waited stands at a branch
+at_branch : {m : Module} {outer : Context} {behind : Rest} {e : Context} {c : Code} (l : ℕ) (s s' : Shape) → s.stage ≡ Body → s'.levels ≡ s.levels → s'.func ≡ s.func → s'.place ≡ s.place →
+    s'.stage ≡ AtBranch l → In m outer behind s e (rest_of c) → In m outer behind s' e (record { ahead = Branch l ∷ []; code = c })
+at_branch {m} {outer} {behind} {e} {c} l s s' b x f g t w =
+    let h = here w b in
+    let same : c ≡ h.code = ap (λ (r : Rest). r.code) h.rest in
+    subst (λ (y : Code). In m outer behind s' e (record { ahead = Branch l ∷ []; code = y })) (sym same)
+    (left t (subst (λ (p : ℕ). Reads (instrs m s'.func) p h.code h.end) (sym g) (subst (λ (f : ℕ). Reads (instrs m f) s.place h.code h.end) (sym f) h.reads))
+    (subst (λ (ls : List Level). Around m outer behind s'.func h.end ls e) (sym x) (subst (λ (f : ℕ). Around m outer behind f h.end s.levels e) (sym f) h.around)))
+
+-- ## The rule
+
+-- where the handle was found
+catching : Store → FuncType → List Value → Code → Handler ℕ → Reduced
+catching s f vs c h =
+    steps_to (with_cont (captured (length f.results) h.inner (stack (drop (length f.params) vs)) c) s) h.outer
+    ((h.below ⧺ stack (take (length f.params) vs)) ▹ Cont (next_cont s)) (record { ahead = Branch h.answer ∷ []; code = h.rest })
+
+module _ (m : Module) (chain : List Link) (conts : Conts Stored) (x : ℕ) where
+  record Suspends (f : FuncType) (p : Program) (s : Store) (t : Term) (c : Code) : Type 0 where
+    fits : length f.params ≤ length (top chain).shape.operands
+    goes : switching_op p s t.around t.operands (switching.Suspend x) c ≡ or_unhandled x (find (label_clause x) t.around) (catching s f (top chain).shape.operands c)
+
+  suspends : (f : FuncType) → type_of_tag (context_of m) x ≡ Some f → (behind : Rest) (p : Program) (s : Store) (t : Term) (c : Code) →
+      At (switching.Suspend x) m behind chain conts p s t c → Suspends f p s t c
+  unfolding catching
+  suspends f kind behind p s t c a =
+      let vs = (top chain).shape.operands in
+      let go : FuncType → Row Val × Row Val → Reduced = λ q (below, us).
+          or_unhandled x (find (label_clause x) t.around) (λ h. steps_to (with_cont (captured (length q.results) h.inner below c) s) h.outer
+          ((h.below ⧺ us) ▹ Cont (next_cont s)) (record { ahead = Branch h.answer ∷ []; code = h.rest })) in
+      let rule : switching_op p s t.around t.operands (switching.Suspend x) c ≡ take_values (length f.params) (stack vs) (go f) =
+      on_stack a vs refl
+      ∙ goes_on (type_of_tag (context_of p.source) x) (λ q. take_values (length q.params) (stack vs) (go q)) f (ap (λ (z : Module). type_of_tag (context_of z) x) a.stand.source ∙ kind) in
+      let fits = stack_enough (length f.params) vs (go f) (λ q. a.applies (rule ∙ q)) in
+      record { fits = fits; goes = rule ∙ stack_take (length f.params) vs (go f) fits }
+
+  -- the tag's type is there, since otherwise no rule would apply
+  record HasType : Type 0 where
+    type_is : FuncType
+    there : type_of_tag (context_of m) x ≡ Some type_is
+
+  has_type : (behind : Rest) (p : Program) (s : Store) (t : Term) (c : Code) → At (switching.Suspend x) m behind chain conts p s t c → HasType
+  has_type behind p s t c a =
+      let f = found (type_of_tag (context_of p.source) x) (λ q. take_values (length q.params) t.operands (λ (below, us).
+          or_unhandled x (find (label_clause x) t.around) (λ h. steps_to (with_cont (captured (length q.results) h.inner below c) s) h.outer
+          ((h.below ⧺ us) ▹ Cont (next_cont s)) (record { ahead = Branch h.answer ∷ []; code = h.rest })))) a.applies in
+      record { type_is = f.item; there = ap (λ (z : Module). type_of_tag (context_of z) x) (sym a.stand.source) ∙ f.is }
+
+  -- where no handle has a label clause for the tag it traps
+  pub suspend_traps : All (λ y. label_for m x y ≡ None) (rest chain) → Switches (switching.Suspend x) (did.Trapped (trap.Unhandled x)) m chain conts chain conts
+  suspend_traps none = (
+    refl,
+    refl,
+    λ behind p s t c a.
+        let f = has_type behind p s t c a in
+        (suspends f.type_is f.there behind p s t c a).goes
+        ∙ ap (λ (o : Option (Handler ℕ)). or_unhandled x o (catching s f.type_is (top chain).shape.operands c)) (no_layer (label_clause x) m a.stand.term refl none),
+  )
+
+  module _ (k : SwitchesAt (switching.Suspend x) m chain conts) (layer l : ℕ) (first : IsFirstLabel m x layer l chain) where
+    pub suspend_cuts : {behind : Rest} {p : Program} {s : Store} {t : Term} {c : Code} → At (switching.Suspend x) m behind chain conts p s t c →
+        Cuts (label_clause x) m [] behind chain t.around t.operands (rest_of (Plain (op.Switching (switching.Suspend x)) c)) layer l
+    suspend_cuts a = cuts (label_clause x) m layer l (at_term a) (record { waiting = first.waiting; stands = first.stands; answers = first.label; inside = first.inside })
+
+    pub suspend_layer : layer + 1 < length chain
+    suspend_layer = layer_below (suspend_cuts k.at)
+
+    module _ (f : FuncType) (kind : type_of_tag (context_of m) x ≡ Some f) where
+      -- its arguments are there
+      pub suspend_fits : length f.params ≤ length (top chain).shape.operands
+      suspend_fits = (suspends f kind k.behind k.p k.s k.t k.c k.at).fits
+
+      module _ (chain' : List Link) (conts' : Conts Stored) (cap : Captured (length f.params) (length f.results) layer l chain conts chain' conts') where
+        abbrev inner : Shape
+        inner = cap.parted.inner
+
+        abbrev waiting : Shape
+        waiting = cap.parted.waiting
+
+        abbrev own_ref : Value
+        own_ref = next_ref cap.place (length conts.entries)
+
+        -- the innermost segment once it is stored, and the one that waited
+        s_stored : Shape
+        s_stored = moved ((top chain).shape.place + 1) (discarded (length f.params) inner)
+
+        s_branch : Shape
+        s_branch = staged (AtBranch l) (pushed own_ref (pushed_all (reverse (take (length f.params) (top chain).shape.operands)) waiting))
+
+        stored_is : cap.b.segment.value ≡ with_top s_stored (take (layer + 1) chain)
+        unfolding s_stored
+        stored_is =
+            let n = length f.params in
+            let t = part_top cap.parted (some_chain k) in
+            cap.stored ∙ ap (λ (z : Shape). with_top (moved (z.place + 1) (discarded n z)) cap.part) t
+            ∙ ap (λ (i : ℕ). with_top (moved (i + 1) (discarded n inner)) cap.part) cap.parted.inner_same.place
+            ∙ ap (with_top s_stored) cap.parted.part_is ∙ with_twice s_stored inner (take (layer + 1) chain)
+
+        branch_is : chain' ≡ with_top s_branch (drop (layer + 1) chain)
+        unfolding s_branch
+        branch_is =
+            let n = length f.params in
+            let t : (top cap.part).shape.operands ≡ (top chain).shape.operands = ap (λ (z : Shape). z.operands) (part_top cap.parted (some_chain k)) ∙ cap.parted.inner_same.operands in
+            let w = outside_top cap.parted suspend_layer in
+            cap.chain_after ∙ ap (λ (vs : List Value). with_top (staged (AtBranch l) (pushed own_ref (pushed_all (reverse (take n vs)) (top cap.outside).shape))) cap.outside) t
+            ∙ ap (λ (z : Shape). with_top (staged (AtBranch l) (pushed own_ref (pushed_all (reverse (take n (top chain).shape.operands)) z))) cap.outside) w
+            ∙ ap (with_top s_branch) cap.parted.after ∙ with_twice s_branch waiting (drop (layer + 1) chain)
+
+        -- it went as the rule says
+        pub suspend_goes : Switches (switching.Suspend x) did.Went m chain conts chain' conts'
+        unfolding s_stored s_branch catching
+        suspend_goes behind p s t c a =
+            let n = length f.params in
+            let S = (top chain).shape in
+            let W = (top (drop (layer + 1) chain)).shape in
+            let i = cap.parted.inner_same in
+            let w = cap.parted.waiting_same in
+            let d = suspend_cuts a in
+            let h = d.handler in
+            let low : take (suc layer) chain ≡ take (layer + 1) chain = ap (λ (j : ℕ). take j chain) (sym (add-one layer)) in
+            let high : drop (suc layer) chain ≡ drop (layer + 1) chain = ap (λ (j : ℕ). drop j chain) (sym (add-one layer)) in
+            let long = kept_long a.stand.store in
+            let k1 : Kept = captured (length f.results) h.inner (stack (drop n S.operands)) c in
+            let ws = (h.below ⧺ stack (take n S.operands)) ▹ Cont (next_cont s) in
+            let r2 : Rest = record { ahead = Branch h.answer ∷ []; code = h.rest } in
+            let outside = subst (λ (z : List Link). Chained m [] behind z h.outer h.below (rest_of h.rest)) high d.outside in
+            let body : W.stage ≡ Body = ap (λ (z : List Link). (top z).shape.stage) (sym high) ∙ d.waits in
+            let inside = subst (λ (z : List Link). Chained m [] (rest_of Done) z h.inner t.operands (rest_of (Plain (op.Switching (switching.Suspend x)) c))) low d.inner in
+            let ops : ws ≡ stack s_branch.operands =
+            ap (λ (r : Row Val). (r ⧺ stack (take n S.operands)) ▹ Cont (next_cont s)) ((head outside).operands ∙ ap stack (sym w.operands))
+            ∙ ap (λ (r : Row Val). r ▹ Cont (next_cont s)) (sym (stack_append (take n S.operands) waiting.operands))
+            ∙ ap (λ (us : List Value). stack (us ++ waiting.operands) ▹ Cont (next_cont s)) (sym (reverse-reverse (take n S.operands)))
+            ∙ ap (λ (j : ℕ). stack (reverse (reverse (take n S.operands)) ++ waiting.operands) ▹ Cont j) long in
+            let term : Chained m [] behind (with_top s_branch (drop (layer + 1) chain)) h.outer ws r2 =
+            inside_top s_branch (λ o b q. at_branch h.answer W s_branch body w.levels w.func w.place (ap AtBranch (sym d.answer_is)) q) ops outside in
+            let part : Chained m [] (rest_of Done) (with_top s_stored (take (layer + 1) chain)) h.inner (stack (drop n S.operands)) (rest_of c) =
+            inside_top s_stored
+            (λ o b q. next_top k s_stored (record { levels = i.levels; func = i.func; place = refl; stage = i.stage ∙ k.stage })
+            (subst (λ (y : Link). In m o b y.shape h.inner (rest_of (Plain (op.Switching (switching.Suspend x)) c))) (top_taken layer chain) q))
+            (ap (λ (vs : List Value). stack (drop n vs)) (sym i.operands)) inside in
+            record {
+              conts_after = s.conts ++ Some k1 ∷ [];
+              t = record { around = h.outer; operands = ws; rest = r2 };
+              is = (suspends f kind behind p s t c a).goes ∙ ap (λ (o : Option (Handler ℕ)). or_unhandled x o (catching s f S.operands c)) d.found;
+              stand = record {
+                source = a.stand.source;
+                program = a.stand.program;
+                short = a.stand.short;
+                term = subst (λ (z : List Link). Chained m [] behind z h.outer ws r2) (sym branch_is) term;
+                store = subst (λ (z : Conts Stored). AllKept m z.entries (s.conts ++ Some k1 ∷ [])) (sym cap.conts_after)
+                    (kept_more (Some (cap.place, cap.b)) (Some k1) a.stand.store
+                    (kept (subst (λ (z : List Link). Chained m [] (rest_of Done) z h.inner (stack (drop n S.operands)) (rest_of c)) (sym stored_is) part) (sym cap.takes_is)));
+              };
+            }
+
+        -- and is sound
+        pub suspend_sound : Sound chain conts → length chain ≤ most_segments → KeepsReferences conts conts' → Sound chain' conts'
+        suspend_sound s few keeps =
+            let n = length f.params in
+            let part = cap.part in
+            let outside = cap.outside in
+            let free = part_sound cap.parted conts s in
+            let test = is_of conts in
+            let P : Value → Type 0 = λ v. test v ≡ true in
+            let Q : Value → Type 0 = λ v. is_of conts' v ≡ true in
+            let more : More test (is_of conts') = more_of conts conts' keeps in
+            let held = part_hold cap.parted test s.references in
+            let held' = links_more test (is_of conts') more part held in
+            let T = (top part).shape in
+            let S' = moved (T.place + 1) (discarded n T) in
+            let some = part_some cap.parted (some_chain k) in
+            let top_is = part_top cap.parted (some_chain k) in
+            let high = ap (λ (z : Shape). height z + cap.b.takes) top_is in
+            let cap_is = ap (λ (z : Shape). z.capacity.operands) top_is in
+            let room = cap.parted.inner_room in
+            let takes = cap.takes_is in
+            let lower = low_discarded n T in
+            let l1 = part_long cap.parted in
+            let l2 : length cap.b.segment.value ≡ length part = ap (λ (z : List Link). length z) cap.stored ∙ long_top S' part in
+            let body : T.stage ≡ Body = ap (λ (z : Shape). z.stage) top_is ∙ cap.parted.inner_same.stage ∙ k.stage in
+            let good : IsGood test cap.b = record {
+              references = subst (LinksHold test) (sym cap.stored) (hold_with test S' part (moved_holds P (T.place + 1) (discarded n T) (discarded_holds P n T (hold_top test part held))) held);
+              waits = subst Waits (sym cap.stored) (ready_top S' part some body);
+              room = subst (HasRoomFor cap.b.takes) (sym cap.stored) (room_with cap.b.takes S' part some (omega (arith, high, cap_is, room, takes, lower)));
+              few = omega (arith, l1, l2, few);
+            } in
+            let spare = spare_slot chain conts s (let h = suspend_layer in omega (arith, h)) in
+            let put = put_sound outside conts cap.place cap.b (subst (λ (i : ℕ). SoundWith i outside conts) (sym l2) free) spare good (subst (KeepsReferences conts) cap.conts_after keeps) in
+            let put' : Sound outside conts' = subst (Sound outside) (sym cap.conts_after) put in
+            let us = take n T.operands in
+            let W = (top outside).shape in
+            let args = all_reverse Q us (all_take Q n T.operands (hold_top (is_of conts') part held').operands) in
+            let h1 = pushed_all_holds Q (reverse us) W args (hold_top (is_of conts') outside put'.references) in
+            let h2 = pushed_holds Q own_ref (pushed_all (reverse us) W) (is_of_it conts' (record { place = cap.place; serial = length conts.entries }) cap.of) h1 in
+            let T' = staged (AtBranch l) (pushed own_ref (pushed_all (reverse us) W)) in
+            subst (λ (z : List Link). Sound z conts') (sym cap.chain_after)
+            (top_sound 0 outside conts' T' put' (staged_holds Q (AtBranch l) (pushed own_ref (pushed_all (reverse us) W)) h2))

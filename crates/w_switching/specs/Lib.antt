@@ -1,0 +1,4 @@
+pub mod Standing
+pub mod Reductions
+pub mod Sound
+pub mod Moved

@@ -1,0 +1,70 @@
+-- Where segments and entries go as stacks are switched, told of them alone.
+use Rattle.std.specs.Prelude.{◌≡◌, ℕ, ◌+◌, ◌≤◌, List, [], ◌∷◌, ◌++◌, length, take, drop, reverse, Some, ⊤}
+use Rattle.w_types.specs.declared.value.ContRef.{ContRef}
+use Rattle.w_types.specs.declared.value.Value.{Value}
+use Rattle.w_types.specs.declared.value.Value.TheVariants as value
+use Rattle.w_segment.specs.declared.entry.Stage.TheVariants.{Branch}
+use Rattle.w_segment.specs.Shape.{Shape, SameParts, height}
+use Rattle.w_segment.specs.Changes.{pushed, pushed_all, discarded, moved, staged}
+use Rattle.w_segment.specs.Link.{Link, top, rest, with_top, with_clauses}
+use Rattle.w_conts.specs.Conts.{Conts, IsOf, with_entry}
+use Rattle.w_switching.specs.declared.stored.Stored.{Stored}
+
+-- the same segments but for room
+abbrev pub SameLinks : List Link → List Link → Type 0
+SameLinks [] [] = ⊤
+SameLinks [] (y ∷ ys) = ⊥
+SameLinks (x ∷ xs) [] = ⊥
+SameLinks (x ∷ xs) (y ∷ ys) = SameParts x.shape y.shape × (y.clauses ≡ x.clauses) × SameLinks xs ys
+
+-- the reference to the next continuation, at a place
+abbrev pub next_ref : ℕ → ℕ → Value
+next_ref place serial = value.Cont (record { place = place; serial = serial })
+
+-- some segments once they took so many arguments beneath the reference, inside those that wait at the instruction and go on behind it
+abbrev pub passed : ℕ → List Link → List Link → List Link
+passed n segs chain =
+    with_top (pushed_all (reverse (take n (drop 1 (top chain).shape.operands))) (top segs).shape) segs
+    ++ with_clauses (top chain).shape.place (with_top (moved ((top chain).shape.place + 1) (discarded n (discarded 1 (top chain).shape))) chain)
+
+-- the operands of the innermost segment went onto those of the one that waited, which had room for them
+pub record Merged (chain chain' : List Link) : Type 0 where
+  pub waiting : Shape
+  pub same : SameParts (top (rest chain)).shape waiting
+  pub after : chain' ≡ with_top (pushed_all (reverse (top chain).shape.operands) waiting) (rest chain)
+
+-- Some segments took so many arguments beneath the reference, and are stored as a continuation of so many values; the reference to it is
+-- left on the innermost segment.
+pub record Bound (n takes : ℕ) (segs chain : List Link) (conts : Conts Stored) (chain' : List Link) (conts' : Conts Stored) : Type 0 where
+  pub b : Stored
+  pub place : ℕ
+  pub takes_is : b.takes ≡ takes
+  pub part : b.segment.value ≡ with_top (pushed_all (reverse (take n (drop 1 (top chain).shape.operands))) (top segs).shape) segs
+  pub conts_after : conts' ≡ with_entry place b conts
+  pub of : IsOf (record { place = place; serial = length conts.entries }) conts'
+  pub chain_after : chain' ≡ with_top (moved ((top chain).shape.place + 1) (pushed (next_ref place (length conts.entries)) (discarded n (discarded 1 (top chain).shape)))) chain
+
+-- the segments up to a layer were taken off; the innermost one, and the one that waits outside, have room for so many operands more
+pub record Parted (layer inside outside : ℕ) (chain part chain' : List Link) : Type 0 where
+  pub inner : Shape
+  pub inner_same : SameParts (top chain).shape inner
+  pub inner_room : height inner + inside ≤ inner.capacity.operands
+  pub part_is : part ≡ with_top inner (take (layer + 1) chain)
+  pub waiting : Shape
+  pub waiting_same : SameParts (top (drop (layer + 1) chain)).shape waiting
+  pub waiting_room : height waiting + outside ≤ waiting.capacity.operands
+  pub after : chain' ≡ with_top waiting (drop (layer + 1) chain)
+
+-- The segments up to a layer were taken off, and are stored behind their instruction, without their topmost n operands, as a continuation
+-- that takes so many values; these operands and the reference to it are left at a branch on the segment that waited outside.
+pub record Captured (n takes layer label : ℕ) (chain : List Link) (conts : Conts Stored) (chain' : List Link) (conts' : Conts Stored) : Type 0 where
+  pub part : List Link
+  pub outside : List Link
+  pub parted : Parted layer takes (n + 1) chain part outside
+  pub b : Stored
+  pub place : ℕ
+  pub takes_is : b.takes ≡ takes
+  pub stored : b.segment.value ≡ with_top (moved ((top part).shape.place + 1) (discarded n (top part).shape)) part
+  pub conts_after : conts' ≡ with_entry place b conts
+  pub of : IsOf (record { place = place; serial = length conts.entries }) conts'
+  pub chain_after : chain' ≡ with_top (staged (Branch label) (pushed (next_ref place (length conts.entries)) (pushed_all (reverse (take n (top part).shape.operands)) (top outside).shape))) outside
