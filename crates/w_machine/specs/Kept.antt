@@ -10,7 +10,6 @@ use Rattle.w_machine.specs.declared.outcome.Outcome.TheVariants as outcome
 abbrev pub stepped_of : Option Kept → Stepped
 stepped_of None = stepped.Went
 stepped_of (Some kept.Ended) = stepped.Ended
-stepped_of (Some kept.Stuck) = stepped.Stuck
 stepped_of (Some (kept.Limit name)) = stepped.Limit name
 stepped_of (Some (kept.Trapped t)) = stepped.Trapped t
 stepped_of (Some kept.WriteFault) = stepped.WriteFault
@@ -19,7 +18,6 @@ stepped_of (Some kept.OutOfMemory) = stepped.OutOfMemory
 abbrev pub outcome_of : Option Kept → Outcome
 outcome_of None = outcome.Running
 outcome_of (Some kept.Ended) = outcome.Ended
-outcome_of (Some kept.Stuck) = outcome.Stuck
 outcome_of (Some (kept.Limit name)) = outcome.Limit name
 outcome_of (Some (kept.Trapped t)) = outcome.Trapped t
 outcome_of (Some kept.WriteFault) = outcome.WriteFault
@@ -29,7 +27,6 @@ outcome_of (Some kept.OutOfMemory) = outcome.OutOfMemory
 abbrev pub stopped_at : Stepped → Option Kept
 stopped_at stepped.Went = None
 stopped_at stepped.Ended = Some kept.Ended
-stopped_at stepped.Stuck = Some kept.Stuck
 stopped_at (stepped.Limit name) = Some (kept.Limit name)
 stopped_at (stepped.Trapped t) = Some (kept.Trapped t)
 stopped_at stepped.WriteFault = Some kept.WriteFault
@@ -38,7 +35,6 @@ stopped_at stepped.OutOfMemory = Some kept.OutOfMemory
 abbrev pub stopped_in : Outcome → Option Kept
 stopped_in outcome.Running = None
 stopped_in outcome.Ended = Some kept.Ended
-stopped_in outcome.Stuck = Some kept.Stuck
 stopped_in (outcome.Limit name) = Some (kept.Limit name)
 stopped_in (outcome.Trapped t) = Some (kept.Trapped t)
 stopped_in outcome.WriteFault = Some kept.WriteFault

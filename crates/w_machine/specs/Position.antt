@@ -10,7 +10,7 @@ use Rattle.w_reduce.specs.Values.{Val}
 use Rattle.w_reduce.specs.Store.{Store}
 use Rattle.w_reduce.specs.Terms.{Term}
 use Rattle.w_reduce.specs.Program.{Program}
-use Rattle.w_reduce.specs.Run.{Outcome, Running, Values, Traps, Limit, NoRule, RunState, Run}
+use Rattle.w_reduce.specs.Run.{Outcome, Running, Values, Traps, Limit, RunState, Run}
 use Rattle.w_machine.specs.declared.outcome.Kept.{Kept}
 use Rattle.w_machine.specs.declared.outcome.Kept.TheVariants as kept
 use Rattle.w_machine.specs.contracts.outcome.Kept as kept_contract
@@ -35,7 +35,6 @@ most_reductions = 2 ^ 40
 -- what is told of a run that stopped so
 abbrev pub Tells : Kept → Outcome → Type 0
 Tells kept.Ended o = (vs : Row Val) × (o ≡ Values vs)
-Tells kept.Stuck o = o ≡ NoRule
 Tells (kept.Limit name) o = o ≡ Limit name
 Tells (kept.Trapped t) o = o ≡ Traps t
 Tells kept.WriteFault o = ⊤

@@ -1,54 +1,59 @@
--- What a call that takes one reduction of the run comes to.
-use Rattle.std.specs.Prelude.{◌≡◌, ◌⊎◌, ℕ, Bool, true, false, nat_le, if◌then◌else◌, List, [], Option, Some, None, Result, Ok, Err}
+-- What a call that takes one reduction of a run comes to.
+use Rattle.std.specs.Prelude.{◌≡◌, ◌≢◌, ◌⊎◌, ◌≤◌, ◌+◌, ℕ, ⊤, Bool, true, false, nat_le, if◌then◌else◌, List, [], ◌∷◌, length, Option, Some, None, option_map, Result, Ok, Err}
+use Rattle.std.specs.declared.alloc.AllocError.{AllocError}
 use Rattle.w_outside.specs.Outside.{Grew, GrewByFront}
 use Rattle.w_syntax.specs.declared.instructions.Instr.{Instr}
 use Rattle.w_syntax.specs.declared.instructions.Instr.TheVariants as flat
+use Rattle.w_syntax.specs.declared.instructions.SwitchingOp.{SwitchingOp}
+use Rattle.w_syntax.specs.declared.instructions.SwitchingOp.TheVariants as switching
 use Rattle.w_syntax.specs.declared.module.Module.{Module}
-use Rattle.w_tables.specs.Store as instances
 use Rattle.w_segment.specs.declared.entry.Stage.{Stage}
-use Rattle.w_segment.specs.declared.entry.Stage.TheVariants as stage
-use Rattle.w_segment.specs.Shape.{Shape, SameParts}
-use Rattle.w_reduce.specs.Store.{Store}
+use Rattle.w_segment.specs.declared.entry.Stage.TheVariants.{Fresh, Body, Branch, Values}
+use Rattle.w_segment.specs.Shape.{Shape}
+use Rattle.w_segment.specs.Link.{Link, top}
+use Rattle.w_conts.specs.Conts.{Conts}
+use Rattle.w_reduce.specs.declared.limit.RunLimit.{RunLimit}
 use Rattle.w_reduce.specs.declared.limit.RunLimit.TheVariants.{Frames}
-use Rattle.w_reduce.specs.Terms.{Rest, Context, Term}
+use Rattle.w_reduce.specs.Limits.{most_frames}
+use Rattle.w_reduce.specs.Apart.{is_switching}
+use Rattle.w_reduce.specs.Store.{Store}
+use Rattle.w_reduce.specs.Terms.{Term, Kept as TheKept}
 use Rattle.w_reduce.specs.Program.{Program}
-use Rattle.w_reduce.specs.Reduced.{Reduced, Went, Trapped, Limited, Ended, Stuck}
+use Rattle.w_reduce.specs.Reduced.{Reduced, Went, Trapped, Limited, Ended}
 use Rattle.w_reduce.specs.Reduce.{reduce}
 use Rattle.w_stands.specs.declared.did.Did.{Did}
 use Rattle.w_stands.specs.declared.did.Did.TheVariants as did
 use Rattle.w_stands.specs.Code.{instr_of}
-use Rattle.w_stands.specs.Stands.{In}
-use Rattle.w_stands.specs.Values.{stack, store_of}
+use Rattle.w_stands.specs.Keeps.{StoreHolds}
+use Rattle.w_stands.specs.Values.{stack}
 use Rattle.w_plain.specs.declared.stop.Stop.{Stop}
 use Rattle.w_plain.specs.declared.stop.Stop.TheVariants as stop
-use Rattle.w_reduce.specs.Apart.{is_switching}
+use Rattle.w_switching.specs.declared.stored.Stored.{Stored}
+use Rattle.w_switching.specs.Moved.{SameLinks}
+use Rattle.w_switching.specs.Reductions.{TakesAtLeast, TakesParams}
+use Rattle.w_switching.specs.Standing.{Stand}
+use Rattle.w_switching.specs.Sound.{is_of, Sound}
 use Rattle.w_machine.specs.declared.outcome.Kept.{Kept}
 use Rattle.w_machine.specs.declared.outcome.Kept.TheVariants as kept
-use Rattle.w_machine.specs.Standing.{behind_of, term_at, Stands}
-use Rattle.w_reduce.specs.Limits.{most_frames}
+use Rattle.w_machine.specs.Parts.{Parts, whole}
+use Rattle.w_machine.specs.Standing.{behind_of, Stands}
 
--- whether the instruction at a place switches stacks
-abbrev pub switches_at : Option Instr → Bool
-switches_at (Some (flat.Plain o)) = is_switching o
-switches_at i = false
-
--- the reduction of the configuration that a store and a stack stand for
-abbrev pub reduced : Program → Context → Rest → instances.Store → Shape → Reduced
-reduced p e r u s = reduce p (store_of u) (term_at s e r)
-
--- it was taken: store and stack stand for what it leads to, and the sink grew by what it prints
-pub record Takes (m : Module) (waiting : Option ℕ) (d : Reduced) (u : instances.Store) (s : Shape) (before now : Option (List ℕ)) : Type 0 where
+-- It was taken: the parts stand for what it leads to, at most one continuation more was made than the n before, and the sink grew by what
+-- it prints.
+pub record Takes (m : Module) (waiting : Option ℕ) (p : Program) (d : Reduced) (n : ℕ) (x : Parts) (before now : Option (List ℕ)) : Type 0 where
   pub text : List ℕ
-  pub around : Context
-  pub rest : Rest
-  pub is : d ≡ Went text (store_of u) (term_at s around rest)
-  pub stands : In m [] (behind_of waiting) s around rest
+  pub ks : List (Option TheKept)
+  pub t : Term
+  pub is : d ≡ Went text (whole x.store ks) t
+  pub stand : Stand m (behind_of waiting) x.chain x.conts p (whole x.store ks) t
+  pub sound : Sound x.chain x.conts
+  pub held : StoreHolds (λ v. is_of x.conts v ≡ true) x.store
+  pub made : length x.conts.entries ≤ n + 1
   pub grew : Grew before now text
 
 -- nothing was changed
-pub record Unchanged (u : instances.Store) (s : Shape) (u' : instances.Store) (s' : Shape) (before now : Option (List ℕ)) : Type 0 where
-  pub store : u' ≡ u
-  pub stack : s' ≡ s
+pub record Unchanged (x x' : Parts) (before now : Option (List ℕ)) : Type 0 where
+  pub same : x' ≡ x
   pub sink : now ≡ before
 
 -- it prints this, of which the sink has a first part
@@ -60,40 +65,66 @@ pub record Begun (d : Reduced) (before now : Option (List ℕ)) : Type 0 where
   pub grew : GrewByFront before now text
 
 -- none was taken: all is as it was but for room, and the sink has nothing more, or a first part of what it prints
-pub record Fails (d : Reduced) (u : instances.Store) (s : Shape) (u' : instances.Store) (s' : Shape) (before now : Option (List ℕ)) : Type 0 where
-  pub store : u' ≡ u
-  pub stack : SameParts s s'
+pub record Fails (d : Reduced) (x x' : Parts) (before now : Option (List ℕ)) : Type 0 where
+  pub store : x'.store ≡ x.store
+  pub chain : SameLinks x.chain x'.chain
+  pub conts : x'.conts ≡ x.conts
   pub sink : (now ≡ before) ⊎ Begun d before now
 
 -- in a configuration whose reduction comes to d
-abbrev pub ComesTo : Option Kept → Module → Option ℕ → Reduced → instances.Store → Shape → instances.Store → Shape → Option (List ℕ) → Option (List ℕ) → Type 0
-ComesTo None m waiting d u s u' s' before now = Takes m waiting d u' s' before now
-ComesTo (Some kept.Ended) m waiting d u s u' s' before now = (d ≡ Ended (stack s.operands)) × Unchanged u s u' s' before now
-ComesTo (Some kept.Stuck) m waiting d u s u' s' before now = (d ≡ Stuck) × Unchanged u s u' s' before now
-ComesTo (Some (kept.Limit name)) m waiting d u s u' s' before now = (d ≡ Limited name) × (now ≡ before)
-ComesTo (Some (kept.Trapped t)) m waiting d u s u' s' before now = (d ≡ Trapped t) × (now ≡ before)
-ComesTo (Some kept.WriteFault) m waiting d u s u' s' before now = Fails d u s u' s' before now
-ComesTo (Some kept.OutOfMemory) m waiting d u s u' s' before now = Fails d u s u' s' before now
+abbrev pub ComesTo : Option Kept → Module → Option ℕ → Program → Reduced → Parts → Parts → Option (List ℕ) → Option (List ℕ) → Type 0
+ComesTo None m waiting p d x x' before now = Takes m waiting p d (length x.conts.entries) x' before now
+ComesTo (Some kept.Ended) m waiting p d x x' before now = (d ≡ Ended (stack (top x.chain).shape.operands)) × Unchanged x x' before now
+ComesTo (Some (kept.Limit name)) m waiting p d x x' before now = (d ≡ Limited name) × (now ≡ before)
+ComesTo (Some (kept.Trapped t)) m waiting p d x x' before now = (d ≡ Trapped t) × (now ≡ before)
+ComesTo (Some kept.WriteFault) m waiting p d x x' before now = Fails d x x' before now
+ComesTo (Some kept.OutOfMemory) m waiting p d x x' before now = Fails d x x' before now
 
 -- in each configuration that they stand for
-abbrev pub Reduces : Option Kept → Module → instances.Store → Shape → instances.Store → Shape → Option (List ℕ) → Option (List ℕ) → Type 0
-Reduces result m u s u' s' before now = (waiting : Option ℕ) (p : Program) (e : Context) (r : Rest) → Stands m waiting u s p e r
-    → ComesTo result m waiting (reduced p e r u s) u s u' s' before now
+abbrev pub Reduces : Option Kept → Module → Parts → Parts → Option (List ℕ) → Option (List ℕ) → Type 0
+Reduces result m x x' before now = (waiting : Option ℕ) (p : Program) (ks : List (Option TheKept)) (t : Term) → Stands m waiting x p ks t
+    → ComesTo result m waiting p (reduce p (whole x.store ks) t) x x' before now
 
--- what is told of a run that stands here, with no reduction taken: it stops, or a rule applies
-abbrev pub outlook_by : Stage → Bool → Option Kept
-outlook_by stage.Values b = Some kept.Ended
-outlook_by stage.Body true = Some kept.Stuck
-outlook_by stage.Body false = None
-outlook_by stage.Fresh b = None
-outlook_by (stage.Branch l) b = None
+-- ## What is told
 
-abbrev pub outlook_of : Module → Shape → Option Kept
-outlook_of m s = outlook_by s.stage (switches_at (instr_of m s.func s.place))
+-- whether the instruction at a place switches stacks
+abbrev pub switches_at : Option Instr → Bool
+switches_at (Some (flat.Plain o)) = is_switching o
+switches_at i = false
 
--- what is told of a reduction that came to this, where its result has so many frames
+-- no stacks are switched next, and the segment isn't values
+abbrev pub IsPlainAt : Module → Shape → Type 0
+IsPlainAt m s = (s.stage ≡ Body → switches_at (instr_of m s.func s.place) ≡ false) × (s.stage ≢ Values)
+
+-- what is told of a run that stands here, with no reduction taken: it stops where one segment is left, and that is values
+abbrev pub outlook_by : Stage → List Link → Option Kept
+outlook_by Values [] = None
+outlook_by Values (x ∷ []) = Some kept.Ended
+outlook_by Values (x ∷ y ∷ ys) = None
+outlook_by Body xs = None
+outlook_by Fresh xs = None
+outlook_by (Branch l) xs = None
+
+abbrev pub outlook_of : List Link → Option Kept
+outlook_of xs = outlook_by (top xs).shape.stage xs
+
+-- what is told of a plain reduction that came to this, where its result has so many frames
 abbrev pub told_of : Result Did Stop → ℕ → Option Kept
 told_of (Ok did.Went) n = if nat_le n most_frames then None else Some (kept.Limit Frames)
 told_of (Ok (did.Trapped t)) n = Some (kept.Trapped t)
 told_of (Err stop.WriteFault) n = Some kept.WriteFault
 told_of (Err stop.OutOfMemory) n = Some kept.OutOfMemory
+
+-- and of one that switches stacks, where its result passes this limit, if any
+abbrev pub told_with : Result Did AllocError → Option RunLimit → Option Kept
+told_with (Ok did.Went) o = option_map (λ (l : RunLimit). kept.Limit l) o
+told_with (Ok (did.Trapped t)) o = Some (kept.Trapped t)
+told_with (Err e) o = Some kept.OutOfMemory
+
+-- what types of continuations tell of the operands of an instruction that switches stacks
+abbrev pub TakesEnough : SwitchingOp → Module → List Link → Conts Stored → Type 0
+TakesEnough (switching.ContNew x) m chain conts = ⊤
+TakesEnough (switching.ContBind x y) m chain conts = TakesParams y m chain conts
+TakesEnough (switching.Suspend e) m chain conts = ⊤
+TakesEnough (switching.Resume x hs) m chain conts = ⊤
+TakesEnough (switching.Switch x e) m chain conts = TakesAtLeast 1 chain conts

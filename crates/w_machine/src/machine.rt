@@ -1,9 +1,7 @@
 //! The machine.
-ghost use Rattle.std.specs.Prelude.{◌≡◌, ◌≢◌, ◌+◌, ◌<◌, ◌≤◌, ℕ, true, [], Some, None, IfOk};
+ghost use Rattle.std.specs.Prelude.{◌≡◌, ◌≢◌, ◌+◌, ◌<◌, ◌≤◌, ℕ, true, false, [], length, Some, None, IfOk};
 ghost use Rattle.w_outside.specs.Outside.{Rose};
-ghost use Rattle.w_segment.specs.declared.entry.Stage.TheVariants.{Values};
-ghost use Rattle.w_segment.specs.Link.{top};
-ghost use Rattle.w_reduce.specs.Store.{Store as TheStore};
+ghost use Rattle.w_reduce.specs.Store.{Store as TheStore, made, live, consumed};
 ghost use Rattle.w_reduce.specs.Terms.{Term};
 ghost use Rattle.w_reduce.specs.Program.{Program as TheProgram};
 ghost use Rattle.w_reduce.specs.Run.{Run};
@@ -13,17 +11,20 @@ ghost use Rattle.w_machine.specs.Beginning.{Begins, BeginsWith};
 ghost use Rattle.w_machine.specs.Kept.{stopped_at, stopped_in};
 ghost use Rattle.w_machine.specs.Position.{Steps, ToldBy, Runs, counted, most_reductions};
 ghost use Rattle.w_machine.specs.Results.{HasResults};
-ghost use Rattle.w_machine.specs.Reached.{AreFirst, IsTurned};
+ghost use Rattle.w_machine.specs.Reached.{AreFirst, IsTurned, IsFresh, is_last};
 
 use crate::outcome::{Kept, Outcome, Stepped, as_outcome, as_stepped, has_ended};
 use crate::reduction::{outlook, reduce};
 use std::alloc::{AllocError, Global};
 use std::marker::Model;
+use w_chain::Chain;
+use w_conts::ContStore;
 use w_inst::Instance;
 use w_outside::Sink;
 use w_plain::Program;
 use w_rules::{Checked, Spaces};
 use w_segment::{Segment, Stage};
+use w_switching::Stored;
 use w_syntax::Module;
 use w_tables::Store;
 use w_types::Value;
@@ -35,16 +36,21 @@ pub struct Machine {
     /// The index of each function's type, imported functions in front.
     functions: Vec<u32>,
     store: Store,
-    /// The segment that runs.
-    segment: Box<Segment>,
-    /// That of main, while the start function runs.
+    /// The segments that run.
+    chain: Chain,
+    conts: ContStore<Stored>,
+    /// The segment of main, while the start function runs.
     waiting: Option<Box<Segment>>,
     taken: u64,
     kept: Option<Kept>,
+    /// How many continuations were made, and weren't consumed, before what stopped it.
+    made: u64,
+    live: u64,
 }
 
 impl Model for Machine {
     ghost use Rattle.w_machine.specs.Position.{Position, position_code};
+    ghost use Rattle.w_machine.specs.Parts.{parts};
     ghost use Rattle.w_machine.specs.Reached.{IsReached};
 
     ghost Value = { Position };
@@ -53,7 +59,7 @@ impl Model for Machine {
 
     ghost view = { λ a. record { program = a.checked; taken = a.taken; kept = a.kept } };
 
-    ghost invariant = { λ a. IsReached a.checked a.functions.items a.store a.segment.value a.waiting a.kept a.taken };
+    ghost invariant = { λ a. IsReached a.checked a.functions.items (parts a.store a.chain a.conts) a.waiting a.kept a.taken a.made a.live };
 }
 
 // Whether each body has fewer than 2^32 instructions, so that their places are numbers of 32 bits.
@@ -83,15 +89,20 @@ fn first_segments(
     }
 }
 
-// Where the segment is left, the one that waits runs next.
+// Where the last segment is left, the one that waits runs next.
 #[inline(always)]
-fn turn(segment: &mut Box<Segment>, waiting: &mut Option<Box<Segment>>)
-    ensures stays { (top segment.old.value).shape.stage ≢ Values → (segment.new ≡ segment.old) × (waiting.new ≡ waiting.old) }
-    ensures turns { (top segment.old.value).shape.stage ≡ Values → IsTurned waiting.old segment.old segment.new × (waiting.new ≡ None) }
+fn turn(chain: &mut Chain, waiting: &mut Option<Box<Segment>>)
+    requires some { 0 < length chain.old }
+    requires one { IsFresh waiting.old }
+    ensures stays { is_last chain.old ≡ false → (chain.new ≡ chain.old) × (waiting.new ≡ waiting.old) }
+    ensures turns { is_last chain.old ≡ true → IsTurned waiting.old chain.old chain.new × (waiting.new ≡ None) }
 {
-    if let Stage::Values = segment.stack().stage() {
-        if let Some(next) = waiting.take() {
-            *segment = next;
+    if let Stage::Values = chain.stack().stage() {
+        if chain.handles() == 0 {
+            if let Some(next) = waiting.take() {
+                let _left = chain.pop();
+                chain.push(next);
+            }
         }
     }
 }
@@ -119,14 +130,20 @@ impl Machine {
         }
         let functions = Spaces::of_module(alloc, module)?.functions;
         let (segment, waiting) = first_segments(alloc, module.start, instance.main)?;
+        let mut chain = Chain::new();
+        chain.push(segment);
+        let conts = ContStore::new(alloc);
         Ok(Machine {
             checked,
             functions,
             store: instance.store,
-            segment,
+            chain,
+            conts,
             waiting,
             taken: 0,
             kept: None,
+            made: 0,
+            live: 0,
         })
     }
 
@@ -137,6 +154,35 @@ impl Machine {
         ensures counts { (p : TheProgram) (s : TheStore) (t : Term) → Begins self.now.program p s t → (Run p s t result).taken ≡ result }
     {
         self.taken
+    }
+
+    /// How many continuations were made.
+    pub fn made(&self) -> u64
+        ensures value { (p : TheProgram) (s : TheStore) (t : Term) → Begins self.now.program p s t → made (Run p s t self.now.taken).store ≡ result }
+    {
+        if self.kept.is_some() {
+            self.made
+        } else {
+            self.conts.made()
+        }
+    }
+
+    /// How many of them aren't consumed.
+    pub fn live(&self) -> u64
+        ensures value { (p : TheProgram) (s : TheStore) (t : Term) → Begins self.now.program p s t → live (Run p s t self.now.taken).store ≡ result }
+    {
+        if self.kept.is_some() {
+            self.live
+        } else {
+            self.conts.live()
+        }
+    }
+
+    /// How many of them are.
+    pub fn consumed(&self) -> u64
+        ensures value { (p : TheProgram) (s : TheStore) (t : Term) → Begins self.now.program p s t → consumed (Run p s t self.now.taken).store ≡ result }
+    {
+        self.made() - self.live()
     }
 
     // Takes one reduction, or says what stops it.
@@ -155,15 +201,25 @@ impl Machine {
             classes: self.checked.classes(),
             functions: self.functions.as_slice(),
         };
-        let stopped = reduce(program, &mut self.store, self.segment.stack_mut(), out);
+        let (made, live) = (self.conts.made(), self.conts.live());
+        let stopped = reduce(
+            program,
+            Global,
+            &mut self.store,
+            &mut self.chain,
+            &mut self.conts,
+            out,
+        );
         match stopped {
             None => {
-                turn(&mut self.segment, &mut self.waiting);
+                turn(&mut self.chain, &mut self.waiting);
                 self.taken += 1;
             }
             Some(kept) => {
                 self.taken += count(kept);
                 self.kept = Some(kept);
+                self.made = made;
+                self.live = live;
             }
         }
         stopped
@@ -174,9 +230,11 @@ impl Machine {
         requires { self.old.kept ≡ None }
         ensures { ToldBy self.old result self.new }
     {
-        let stopped = outlook(self.checked.module(), self.segment.stack());
+        let stopped = outlook(&self.chain);
         if stopped.is_some() {
             self.kept = stopped;
+            self.made = self.conts.made();
+            self.live = self.conts.live();
         }
         stopped
     }
@@ -207,7 +265,7 @@ impl Machine {
         ensures none { self.now.kept ≢ Some Kept.Ended → result.now ≡ [] }
     {
         if has_ended(self.kept) {
-            self.segment.stack().operands()
+            self.chain.stack().operands()
         } else {
             &[]
         }

@@ -9,8 +9,6 @@ use w_reduce::{RunLimit, Trap};
 pub enum Kept {
     /// The term is values.
     Ended,
-    /// No rule applies to a term that isn't values.
-    Stuck,
     /// The result of the last reduction passed this limit.
     Limit(RunLimit),
     /// The last reduction trapped.
@@ -28,8 +26,6 @@ pub enum Stepped {
     Went,
     /// The term is values; none was taken.
     Ended,
-    /// No rule applies; none was taken.
-    Stuck,
     /// One reduction was taken, and its result passed this limit.
     Limit(RunLimit),
     /// One reduction was taken, and it trapped.
@@ -47,8 +43,6 @@ pub enum Outcome {
     Running,
     /// The term is values.
     Ended,
-    /// No rule applies.
-    Stuck,
     /// The result of the last reduction passed this limit.
     Limit(RunLimit),
     /// The last reduction trapped.
@@ -73,7 +67,6 @@ pub(crate) fn as_stepped(stopped: Option<Kept>) -> Stepped
     match stopped {
         None => Stepped::Went,
         Some(Kept::Ended) => Stepped::Ended,
-        Some(Kept::Stuck) => Stepped::Stuck,
         Some(Kept::Limit(name)) => Stepped::Limit(name),
         Some(Kept::Trapped(trap)) => Stepped::Trapped(trap),
         Some(Kept::WriteFault) => Stepped::WriteFault,
@@ -88,7 +81,6 @@ pub(crate) fn as_outcome(stopped: Option<Kept>) -> Outcome
     match stopped {
         None => Outcome::Running,
         Some(Kept::Ended) => Outcome::Ended,
-        Some(Kept::Stuck) => Outcome::Stuck,
         Some(Kept::Limit(name)) => Outcome::Limit(name),
         Some(Kept::Trapped(trap)) => Outcome::Trapped(trap),
         Some(Kept::WriteFault) => Outcome::WriteFault,

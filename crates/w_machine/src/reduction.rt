@@ -1,60 +1,79 @@
-//! One reduction of a run, with its limit on frames.
-ghost use Rattle.std.specs.Prelude.{◌≡◌, ◌≢◌, ◌≤◌, Some, option_map};
+//! One reduction of a run, with its limits.
+ghost use Rattle.std.specs.Prelude.{◌≡◌, ◌≢◌, ◌-◌, ◌<◌, ◌≤◌, ◌^◌, ℕ, nat_le, List, length, Option, Some, option_map, IfOk, OnErr};
 ghost use Rattle.w_syntax.specs.Packed.{unpacked};
+ghost use Rattle.w_syntax.specs.declared.instructions.Instr.TheVariants as flat;
+ghost use Rattle.w_syntax.specs.declared.instructions.Op.TheVariants as op;
 ghost use Rattle.w_outside.specs.Outside.{Rose};
 ghost use Rattle.w_rules.specs.Valid.{Valid};
 ghost use Rattle.w_segment.specs.declared.entry.Stage.TheVariants.{Body, Values};
+ghost use Rattle.w_segment.specs.Link.{top};
+ghost use Rattle.w_chain.specs.Counts.{frames_in_all};
+ghost use Rattle.w_conts.specs.Conts.{live_of, KeepsReferences};
+ghost use Rattle.w_stands.specs.Code.{instr_of};
 ghost use Rattle.w_plain.specs.Known.{IsKnown};
+ghost use Rattle.w_switching.specs.Moved.{SameLinks};
+ghost use Rattle.w_switching.specs.Reductions.{SwitchesAt, Switches};
+ghost use Rattle.w_switching.specs.Sound.{Sound, most_segments};
+ghost use Rattle.w_reduce.specs.Limits.{most_frames, most_handles, most_conts, first_passed};
+ghost use Rattle.w_machine.specs.Parts.{parts};
 ghost use Rattle.w_machine.specs.Standing.{StandsSomewhere};
-ghost use Rattle.w_machine.specs.Reducing.{Reduces, switches_at, outlook_of, told_of};
+ghost use Rattle.w_machine.specs.Reducing.{Reduces, TakesEnough, IsPlainAt, outlook_of, told_of, told_with};
 
 use crate::outcome::Kept;
+use std::alloc::{AllocError, Global};
+use w_chain::Chain;
+use w_conts::ContStore;
 use w_outside::Sink;
 use w_plain::{Program, Stop, instr_at, plain};
 use w_reduce::RunLimit;
-use w_segment::{Stack, Stage};
+use w_segment::Stage;
 use w_stands::Did;
-use w_syntax::{Instr, Module, Op, PackedInstr};
+use w_switching::{Stored, cont_bind, cont_new, exit_handle, resume, suspend, switch};
+use w_syntax::{Instr, Module, Op, PackedInstr, SwitchingOp};
 use w_tables::Store;
 
-/// The most frames of a run.
-const MOST_FRAMES: u32 = 20_000;
+/// The most frames of a term.
+const MOST_FRAMES: u64 = 20_000;
+/// The most handles of a term.
+const MOST_HANDLES: u64 = 1_000;
+/// The most continuations that aren't consumed.
+const MOST_CONTS: u64 = 65_536;
 
-// Whether an instruction switches stacks. No rule speaks of these yet.
-#[inline(always)]
-fn switches(found: Option<&PackedInstr>) -> bool
-    ensures { result ≡ switches_at (option_map (λ p. unpacked p.now) found.entry) }
+// The first limit that is passed.
+fn passed(chain: &Chain, conts: &ContStore<Stored>) -> Option<RunLimit>
+    ensures { result ≡ first_passed (nat_le (frames_in_all chain.now) most_frames) (nat_le (length chain.now - 1) most_handles) (nat_le (live_of conts.now) most_conts) }
 {
-    match found {
-        Some(PackedInstr::Switching(_)) => true,
-        Some(PackedInstr::Boxed(instruction)) => matches!(
-            **instruction,
-            Instr::Plain(Op::Switching(_))
-        ),
-        _ => false,
+    if chain.frames() > MOST_FRAMES {
+        Some(RunLimit::Frames)
+    } else if chain.handles() > MOST_HANDLES {
+        Some(RunLimit::Handles)
+    } else if conts.live() > MOST_CONTS {
+        Some(RunLimit::Conts)
+    } else {
+        None
     }
 }
 
-/// What is told of a run that stands here, with no reduction taken.
-pub(crate) fn outlook(program: &Module, stack: &Stack) -> Option<Kept>
-    ensures { result ≡ outlook_of program.now stack.now }
+/// What is told of a run that stands here, with no reduction taken: it stops where one segment is left, and that is values.
+pub(crate) fn outlook(chain: &Chain) -> Option<Kept>
+    requires some { 0 < length chain.now }
+    ensures { result ≡ outlook_of chain.now }
 {
-    match stack.stage() {
-        Stage::Values => Some(Kept::Ended),
-        Stage::Body => {
-            if switches(instr_at(program, stack.func(), stack.place())) {
-                Some(Kept::Stuck)
+    match chain.stack().stage() {
+        Stage::Values => {
+            if chain.handles() == 0 {
+                Some(Kept::Ended)
             } else {
                 None
             }
         }
-        Stage::Fresh | Stage::Branch(_) => None,
+        _ => None,
     }
 }
 
-// What a reduction that was taken, or wasn't, comes to, where its result has so many frames.
+// What a plain reduction that was taken, or wasn't, comes to, where its result has so many frames.
 #[inline(always)]
-fn told(taken: Result<Did, Stop>, frames: u32) -> Option<Kept>
+fn told(taken: Result<Did, Stop>, frames: u64) -> Option<Kept>
     ensures { result ≡ told_of taken frames }
 {
     match taken {
@@ -71,70 +90,183 @@ fn told(taken: Result<Did, Stop>, frames: u32) -> Option<Kept>
     }
 }
 
-// One reduction in the body where the stack stands.
+// The same of one that switches stacks, where its result passes this limit, if any.
+fn told_switched(taken: Result<Did, AllocError>, limit: Option<RunLimit>) -> Option<Kept>
+    ensures { result ≡ told_with taken limit }
+{
+    match taken {
+        Ok(Did::Went) => match limit {
+            Some(name) => Some(Kept::Limit(name)),
+            None => None,
+        },
+        Ok(Did::Trapped(trap)) => Some(Kept::Trapped(trap)),
+        Err(_) => Some(Kept::OutOfMemory),
+    }
+}
+
+// One reduction inside the innermost segment.
+#[inline(always)]
+fn inside<O: Sink>(
+    program: Program,
+    store: &mut Store,
+    chain: &mut Chain,
+    conts: &ContStore<Stored>,
+    out: &mut O,
+    found: Option<&PackedInstr>,
+) -> Option<Kept>
+    requires known { IsKnown program.source.now program.classes.now program.functions.now }
+    requires valid { Valid program.source.now }
+    requires stands { StandsSomewhere program.source.now (parts store.old chain.old conts.now) }
+    requires plain { IsPlainAt program.source.now (top chain.old).shape }
+    requires found { (top chain.old).shape.stage ≡ Body → option_map (λ p. unpacked p.now) found ≡ instr_of program.source.now (top chain.old).shape.func (top chain.old).shape.place }
+    ensures reduces { Reduces result program.entry.source.now (parts store.old chain.old conts.now) (parts store.new chain.new conts.now) (O.held out.old) (O.held out.new) }
+    ensures cause { result ≡ Some Kept.WriteFault → Rose (O.faults out.old) (O.faults out.new) }
+    ensures later { O.faults out.old ≤ O.faults out.new }
+{
+    let _conts = conts;
+    let taken = plain(program, store, chain.stack_mut(), out, found);
+    told(taken, chain.frames())
+}
+
+// One of the five instructions that switch stacks.
+fn switch_by(
+    program: &Module,
+    alloc: Global,
+    chain: &mut Chain,
+    conts: &mut ContStore<Stored>,
+    operation: &SwitchingOp,
+) -> Result<Did, AllocError>
+    requires at { SwitchesAt operation.now program.now chain.old conts.old }
+    requires sound { Sound chain.old conts.old }
+    requires few { length chain.old ≤ most_segments }
+    requires made { length conts.old.entries < 2 ^ 40 }
+    requires takes { TakesEnough operation.now program.now chain.old conts.old }
+    ensures goes { IfOk result (λ d. Switches operation.now d program.now chain.old conts.old chain.new conts.new) }
+    ensures sound { Sound chain.new conts.new }
+    ensures references { KeepsReferences conts.old conts.new }
+    ensures err_chain { OnErr result (SameLinks chain.old chain.new) }
+    ensures err_conts { OnErr result (conts.new ≡ conts.old) }
+{
+    match operation {
+        SwitchingOp::ContNew(kind) => cont_new(program, alloc, chain, conts, *kind),
+        SwitchingOp::ContBind(from, to) => Ok(cont_bind(program, chain, conts, *from, *to)),
+        SwitchingOp::Suspend(tag) => suspend(program, chain, conts, *tag),
+        SwitchingOp::Resume(kind, clauses) => {
+            Ok(resume(program, chain, conts, *kind, clauses.as_slice()))
+        }
+        SwitchingOp::Switch(kind, tag) => switch(program, chain, conts, *kind, *tag),
+    }
+}
+
+// One reduction at an instruction that switches stacks.
+#[inline(never)]
+fn switching(
+    program: &Module,
+    alloc: Global,
+    store: &Store,
+    chain: &mut Chain,
+    conts: &mut ContStore<Stored>,
+    operation: &SwitchingOp,
+) -> Option<Kept>
+    requires valid { Valid program.now }
+    requires stands { StandsSomewhere program.now (parts store.now chain.old conts.old) }
+    requires made { length conts.old.entries < 2 ^ 40 }
+    requires body { (top chain.old).shape.stage ≡ Body }
+    requires here { instr_of program.now (top chain.old).shape.func (top chain.old).shape.place ≡ Some (flat.Plain (op.Switching operation.now)) }
+    ensures reduces { (held : Option (List ℕ)) → Reduces result program.now (parts store.now chain.old conts.old) (parts store.now chain.new conts.new) held held }
+    ensures no_fault { result ≢ Some Kept.WriteFault }
+{
+    let _store = store;
+    let taken = switch_by(program, alloc, chain, conts, operation);
+    told_switched(taken, passed(chain, conts))
+}
+
+// The exit of a handle.
+#[inline(never)]
+fn leave_handle(
+    program: &Module,
+    store: &Store,
+    chain: &mut Chain,
+    conts: &mut ContStore<Stored>,
+) -> Option<Kept>
+    requires valid { Valid program.now }
+    requires stands { StandsSomewhere program.now (parts store.now chain.old conts.old) }
+    requires values { (top chain.old).shape.stage ≡ Values }
+    requires two { 1 < length chain.old }
+    ensures reduces { (held : Option (List ℕ)) → Reduces result program.now (parts store.now chain.old conts.old) (parts store.now chain.new conts.new) held held }
+    ensures no_fault { result ≢ Some Kept.WriteFault }
+{
+    let (_program, _store) = (program, store);
+    match exit_handle(chain, conts) {
+        Ok(()) => None,
+        Err(_) => Some(Kept::OutOfMemory),
+    }
+}
+
+// One reduction in the body where the innermost segment stands.
 #[inline(always)]
 fn in_body<O: Sink>(
     program: Program,
+    alloc: Global,
     store: &mut Store,
-    stack: &mut Stack,
+    chain: &mut Chain,
+    conts: &mut ContStore<Stored>,
     out: &mut O,
 ) -> Option<Kept>
     requires known { IsKnown program.source.now program.classes.now program.functions.now }
     requires valid { Valid program.source.now }
-    requires stands { StandsSomewhere program.source.now store.old stack.old }
-    requires body { stack.old.stage ≡ Body }
-    ensures reduces { Reduces result program.entry.source.now store.old stack.old store.new stack.new (O.held out.old) (O.held out.new) }
+    requires stands { StandsSomewhere program.source.now (parts store.old chain.old conts.old) }
+    requires made { length conts.old.entries < 2 ^ 40 }
+    requires body { (top chain.old).shape.stage ≡ Body }
+    ensures reduces { Reduces result program.entry.source.now (parts store.old chain.old conts.old) (parts store.new chain.new conts.new) (O.held out.old) (O.held out.new) }
     ensures cause { result ≡ Some Kept.WriteFault → Rose (O.faults out.old) (O.faults out.new) }
     ensures later { O.faults out.old ≤ O.faults out.new }
 {
-    let found = instr_at(program.source, stack.func(), stack.place());
-    if switches(found) {
-        return Some(Kept::Stuck);
+    let source = program.source;
+    let stack = chain.stack();
+    let found = instr_at(source, stack.func(), stack.place());
+    match found {
+        Some(PackedInstr::Switching(operation)) => {
+            switching(source, alloc, store, chain, conts, &operation.whole())
+        }
+        Some(PackedInstr::Boxed(instruction)) => match &**instruction {
+            Instr::Plain(Op::Switching(operation)) => {
+                switching(source, alloc, store, chain, conts, operation)
+            }
+            _ => inside(program, store, chain, conts, out, found),
+        },
+        _ => inside(program, store, chain, conts, out, found),
     }
-    let taken = plain(program, store, stack, out, found);
-    told(taken, stack.frames())
-}
-
-// What comes ahead of code: the invoke of a fresh segment, or the branch that a caught suspend left.
-#[inline(always)]
-fn ahead<O: Sink>(
-    program: Program,
-    store: &mut Store,
-    stack: &mut Stack,
-    out: &mut O,
-) -> Option<Kept>
-    requires known { IsKnown program.source.now program.classes.now program.functions.now }
-    requires valid { Valid program.source.now }
-    requires stands { StandsSomewhere program.source.now store.old stack.old }
-    requires body { stack.old.stage ≢ Body }
-    requires values { stack.old.stage ≢ Values }
-    ensures reduces { Reduces result program.entry.source.now store.old stack.old store.new stack.new (O.held out.old) (O.held out.new) }
-    ensures cause { result ≡ Some Kept.WriteFault → Rose (O.faults out.old) (O.faults out.new) }
-    ensures later { O.faults out.old ≤ O.faults out.new }
-{
-    let taken = plain(program, store, stack, out, None);
-    told(taken, stack.frames())
 }
 
 /// Takes one reduction, or says why none is taken, or that it traps or passes a limit.
 #[inline(always)]
 pub(crate) fn reduce<O: Sink>(
     program: Program,
+    alloc: Global,
     store: &mut Store,
-    stack: &mut Stack,
+    chain: &mut Chain,
+    conts: &mut ContStore<Stored>,
     out: &mut O,
 ) -> Option<Kept>
     requires known { IsKnown program.source.now program.classes.now program.functions.now }
     requires valid { Valid program.source.now }
-    requires stands { StandsSomewhere program.source.now store.old stack.old }
-    ensures reduces { Reduces result program.entry.source.now store.old stack.old store.new stack.new (O.held out.old) (O.held out.new) }
+    requires stands { StandsSomewhere program.source.now (parts store.old chain.old conts.old) }
+    requires made { length conts.old.entries < 2 ^ 40 }
+    ensures reduces { Reduces result program.entry.source.now (parts store.old chain.old conts.old) (parts store.new chain.new conts.new) (O.held out.old) (O.held out.new) }
     ensures cause { result ≡ Some Kept.WriteFault → Rose (O.faults out.old) (O.faults out.new) }
     ensures later { O.faults out.old ≤ O.faults out.new }
 {
-    match stack.stage() {
-        Stage::Body => in_body(program, store, stack, out),
-        Stage::Fresh => ahead(program, store, stack, out),
-        Stage::Branch(_) => ahead(program, store, stack, out),
-        Stage::Values => Some(Kept::Ended),
+    match chain.stack().stage() {
+        Stage::Body => in_body(program, alloc, store, chain, conts, out),
+        Stage::Fresh => inside(program, store, chain, conts, out, None),
+        Stage::Branch(_) => inside(program, store, chain, conts, out, None),
+        Stage::Values => {
+            if chain.handles() == 0 {
+                Some(Kept::Ended)
+            } else {
+                leave_handle(program.source, store, chain, conts)
+            }
+        }
     }
 }
