@@ -1,9 +1,12 @@
 pub mod Binding
 pub mod Consuming
 pub mod Cutting
+pub mod Exchanging
 pub mod Exiting
 pub mod Facing
 pub mod Joining
+pub mod LastTypes
+pub mod MadeRoom
 pub mod Making
 pub mod Parting
 pub mod Putting

@@ -1,3 +1,4 @@
+pub mod BackTypes
 pub mod Standing
 pub mod Reductions
 pub mod Sound

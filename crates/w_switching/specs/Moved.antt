@@ -68,3 +68,16 @@ pub record Captured (n takes layer label : ℕ) (chain : List Link) (conts : Con
   pub conts_after : conts' ≡ with_entry place b conts
   pub of : IsOf (record { place = place; serial = length conts.entries }) conts'
   pub chain_after : chain' ≡ with_top (staged (Branch label) (pushed (next_ref place (length conts.entries)) (pushed_all (reverse (take n (top part).shape.operands)) (top outside).shape))) outside
+
+-- Some segments took n arguments beneath the reference. Those up to a layer are stored behind their instruction, without these and the
+-- reference, as a continuation that takes so many values. The reference to it was given last to the others, which went inside what waits
+-- outside the layer.
+pub record Exchanged (n takes layer : ℕ) (segs chain : List Link) (conts : Conts Stored) (chain' : List Link) (conts' : Conts Stored) : Type 0 where
+  pub b : Stored
+  pub place : ℕ
+  pub takes_is : b.takes ≡ takes
+  pub stored : b.segment.value ≡ with_top (moved ((top chain).shape.place + 1) (discarded n (discarded 1 (top chain).shape))) (take (layer + 1) chain)
+  pub conts_after : conts' ≡ with_entry place b conts
+  pub of : IsOf (record { place = place; serial = length conts.entries }) conts'
+  pub chain_after : chain' ≡ with_top (pushed (next_ref place (length conts.entries)) (pushed_all (reverse (take n (drop 1 (top chain).shape.operands))) (top segs).shape)) segs
+      ++ drop (layer + 1) chain

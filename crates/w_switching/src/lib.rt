@@ -7,8 +7,10 @@ mod continuations;
 mod handles;
 mod module_types;
 mod stored;
+mod switches;
 
 pub use captures::suspend;
 pub use continuations::{cont_bind, cont_new};
 pub use handles::{exit_handle, resume};
 pub use stored::Stored;
+pub use switches::switch;
