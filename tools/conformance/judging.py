@@ -6,6 +6,7 @@ from reader import answer
 from reader.module_decoding import decode
 from rows.sections import STATUSES, VALID
 
+OPTIONS = ('--steps', '--stats')
 GREATEST_FILE = 100000      # what the second reader reads in due time, and without too deep a nesting
 
 
@@ -30,7 +31,7 @@ def is_judged(row):
 def _call(row):
     """The command, and the contents of the file that is named behind it, where the call is of this form."""
     program, command, file, *more = [*row.words, None, None, None][:max(3, len(row.words))]
-    if program != 'stackwasm' or (more and (command, more[0]) != ('run', '--steps')):
+    if program != 'stackwasm' or (more and (command != 'run' or more[0] not in OPTIONS)):
         return None, None
     return command, row.files.get(file)
 

@@ -1,6 +1,7 @@
-"""A second reader of execution: it runs modules that don't switch stacks, and counts their reductions.
+"""A second reader of execution: it runs modules, and counts their reductions and their continuations.
 
-It rests on the standard, and shares nothing with the assembler. Modules are read and judged by `reader`.
+It rests on the standard and on the explainer of stack switching, and shares nothing with the assembler. Modules are
+read and judged by `reader`.
 """
 
 from executing.ends import Exceeded, Trap
@@ -18,8 +19,9 @@ VALID = 'ok module'
 STATUSES = {'malformed': 3, 'invalid': 4, 'limit': 9}
 
 
-def outcome_of(module_bytes, steps=USUAL_STEPS):
-    """What running these bytes for so many reductions is to come to: out, err and the status."""
+def outcome_of(module_bytes, steps=USUAL_STEPS, stats=False):
+    """What running these bytes for so many reductions is to come to: out, err and the status. Where statistics are
+    asked for, they are told of a run."""
     said = _said_before_a_run(module_bytes)
     if said != VALID:
         return _refusal(said, STATUSES[said.split()[0]])
@@ -32,7 +34,9 @@ def outcome_of(module_bytes, steps=USUAL_STEPS):
         return _refusal(f'limit {limit}', 9)
     except Trap as trap:
         return _refusal(f'trap {trap}', 1)
-    return _told(module, main, run(module, store, main, steps))
+    outcome = run(module, store, main, steps)
+    out, err, status = _told(module, main, outcome)
+    return out, err + _statistics(outcome) if stats else err, status
 
 
 def _said_before_a_run(module_bytes):
@@ -56,6 +60,12 @@ def steps_of(module_bytes):
 
 def _refusal(line, status):
     return b'', f'{line}\n'.encode(), status
+
+
+def _statistics(outcome):
+    """The line of how many reductions were taken, and how many continuations there are."""
+    live = outcome.made - outcome.consumed
+    return f'stats steps {outcome.taken} made {outcome.made} consumed {outcome.consumed} live {live}\n'.encode()
 
 
 def _told(module, main, outcome):

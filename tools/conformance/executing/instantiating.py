@@ -40,7 +40,7 @@ def instantiated(module):
     printers = [_printer(types, number, each) for number, each in enumerate(module.imports)]
     main = _entry(module, types)
     _check_limits(module)
-    store = Store(functions=printers + _functions(module, types))
+    store = Store(functions=printers + _functions(module, types), tags=module.tags)
     _allocate(store, module)
     _copy_elements(store, module)
     _copy_datas(store, module)

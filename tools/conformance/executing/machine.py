@@ -1,12 +1,15 @@
-"""The term of a run: operands, and the labels and frames around the place that is reduced next.
+"""The term of a run: operands, and the labels, frames and handles around the place that is reduced next.
 
-Labels and frames stand in one list, the innermost last, so that no depth is too much.
+Labels and frames of a segment stand in one list, the innermost last, so that no depth is too much.
 """
 
+from executing.contexts import Context, Handle, Segment, sequence
 from executing.ends import Exceeded
 from executing.stores import Printer
+from reader.instructions import Instruction
 
 GREATEST_FRAMES = 20000
+GREATEST_HANDLES = 1000
 
 
 class Label:
@@ -39,29 +42,46 @@ class Frame:
 
 
 class Machine:
-    """A run. Next comes an instruction at a place of a sequence, or the exit of what is innermost, at its end."""
+    """A run. Next comes an instruction at a place of a sequence, or the exit of what is innermost, at its end.
+
+    Operands, layers, frames, locals, code and place are those of the innermost segment.
+    """
 
     def __init__(self, types, type_keys, store, invokes):
         self.types = types
         self.type_keys = type_keys
         self.store = store
-        self.operands = []
-        self.layers = []
-        self.frames = 0
-        self.locals = []
-        self.code = invokes
-        self.place = 0
+        self.handles = []
+        self.frames_around = 0      # frames of the segments around
+        self._go_on_in(sequence(invokes))
         self.out = bytearray()
+
+    def _go_on_in(self, segment):
+        self.operands, self.layers, self.frames, self.locals, self.code, self.place = segment
+
+    def _segment(self):
+        return Segment(self.operands, self.layers, self.frames, self.locals, self.code, self.place)
 
     def is_ended(self):
         """Whether the term is values."""
-        return not self.layers and self.place == len(self.code)
+        return not self.layers and not self.handles and self.place == len(self.code)
 
     def pop(self):
         return self.operands.pop()
 
     def push(self, value):
         self.operands.append(value)
+
+    def take(self, count):
+        """So many operands from on top, which go away."""
+        height = len(self.operands) - count
+        taken = self.operands[height:]
+        del self.operands[height:]
+        return taken
+
+    def parameters(self, continuation_type):
+        """How many operands a continuation of this type takes."""
+        return len(self.types[self.types[continuation_type].function].parameters)
 
     def arity(self, block_type):
         """How many operands a block takes and gives."""
@@ -82,18 +102,64 @@ class Machine:
         if isinstance(function, Printer):
             self.out += function.printed(self.pop())
             return
-        if self.frames == GREATEST_FRAMES:
-            raise Exceeded('frames')
-        height = len(self.operands) - function.parameters
+        arguments = self.take(function.parameters)
+        height = len(self.operands)
         self.layers.append(Frame(function.results, height, self.code, self.place, self.locals))
-        self.locals = self.operands[height:] + function.defaults
-        del self.operands[height:]
+        self.locals = arguments + function.defaults
         self.frames += 1
+        self._check_limits()
         self.layers.append(Label(function.results, height, [], 0, 0))
         self.code, self.place = function.body, 0
 
+    def _check_limits(self):
+        """Pass the first limit that the term is above."""
+        if self.frames_around + self.frames > GREATEST_FRAMES:
+            raise Exceeded('frames')
+        if len(self.handles) > GREATEST_HANDLES:
+            raise Exceeded('handles')
+
+    def enter_handle(self, clauses):
+        """Go on in a handle, in which nothing stands yet."""
+        self.handles.append(Handle(clauses, self._segment()))
+        self.frames_around += self.frames
+        self._go_on_in(sequence([]))
+
+    def enter_context(self, context, arguments):
+        """Put a context where nothing is left of the innermost segment, and the arguments into its hole."""
+        frames = self.frames_around + context.frames
+        self.handles += context.handles
+        self._go_on_in(context.innermost)
+        self.frames_around = frames - self.frames
+        self._check_limits()
+        self.operands += arguments
+
+    def capture(self, place):
+        """The context up to the handle at this place among the handles, which then has nothing in it."""
+        inner = self.handles[place + 1:]
+        frames = self.frames + sum(handle.around.frames for handle in inner)
+        captured = Context(inner, self._segment(), frames)
+        del self.handles[place + 1:]
+        self.frames_around += self.frames - frames
+        self._go_on_in(sequence([]))
+        return captured
+
+    def _leave_handle(self):
+        """Go on in the segment around the innermost handle."""
+        self._go_on_in(self.handles.pop().around)
+        self.frames_around -= self.frames
+
+    def leave_handle_to(self, label):
+        """Put a branch to this label in place of the innermost handle."""
+        self._leave_handle()
+        self.code, self.place = [Instruction('br', (label,))], 0
+
     def leave(self):
-        """The exit of a label or of a frame. The values on top stay."""
+        """The exit of a handle, of a label or of a frame. The values on top stay."""
+        if not self.layers:
+            values = self.operands
+            self._leave_handle()
+            self.operands += values
+            return
         layer = self.layers.pop()
         if isinstance(layer, Frame):
             self._leave_frame(layer)

@@ -1,15 +1,18 @@
-"""The store: functions, tables, memories, globals and segments, and what instructions do to them (Core, execution).
+"""The store: functions, tables, memories, globals, tags, segments and continuations, and what instructions do to them
+(Core, execution).
 
-A reference is null, which is nothing, or the address of a function, which is its index.
+A reference is null, which is nothing, or the address of a function, which is its index, or a continuation.
 """
 
 from dataclasses import dataclass, field
 
-from executing.ends import Trap
+from executing.contexts import Continuation
+from executing.ends import Exceeded, Trap
 
 PAGE = 65536                    # bytes
 GREATEST_MEMORY = 256           # in pages
 GREATEST_TABLE = 1048576        # in elements
+GREATEST_LIVE = 65536           # continuations that aren't consumed
 NULL = None
 
 
@@ -127,8 +130,28 @@ class Store:
     tables: list = field(default_factory=list)
     memories: list = field(default_factory=list)
     globals: list = field(default_factory=list)
+    tags: list = field(default_factory=list)        # their types, by index
     elements: list = field(default_factory=list)
     datas: list = field(default_factory=list)
+    made: int = 0                                   # continuations so far
+    consumed: int = 0                               # those of them that are empty
+
+    @property
+    def live(self):
+        """How many continuations aren't consumed, whether or not a reference to them is left."""
+        return self.made - self.consumed
+
+    def make_continuation(self, context):
+        """A new continuation of this context."""
+        if self.live == GREATEST_LIVE:
+            raise Exceeded('conts')
+        self.made += 1
+        return Continuation(context)
+
+    def consume(self, continuation):
+        """Leave a continuation empty."""
+        continuation.context = None
+        self.consumed += 1
 
     def drop_elements(self, segment):
         self.elements[segment] = []

@@ -3,7 +3,7 @@
 from assembler.instructions import call, i32_const
 from assembler.modules import as_func, code, export, imported, module
 from assembler.types import I32, I64, functype
-from executing import outcome_of, steps_of
+from executing import USUAL_STEPS, outcome_of, steps_of
 from rows.sections import CallRow, Section, spelled
 
 # The types of modules of runs: of main, of what prints a number, and of what takes and gives nothing; then others.
@@ -39,13 +39,24 @@ def printed(*numbers):
 class RunSection(Section):
     """Rows of runs."""
 
-    def row(self, name, given, steps=None, valid=True, words=None):
-        """A run of a module, of so many reductions at most where this is told. Words that spell it may be given."""
+    def row(self, name, given, steps=None, valid=True, words=None, stats=False):
+        """A run of a module, of so many reductions at most where this is told, maybe with its statistics. Words that
+        spell the module may be given."""
         command = 'run x' if steps is None else f'run x --steps {steps}'
-        out, err, status = outcome_of(given) if steps is None else outcome_of(given, steps)
+        command += ' --stats' if stats else ''
+        out, err, status = outcome_of(given, USUAL_STEPS if steps is None else steps, stats)
         if valid == err.startswith((b'malformed', b'invalid')):
             raise ValueError(f'{name}: {err!r}')
         self.rows.append(CallRow(name, command, words or spelled(given), _wanted(out, err, status)))
+
+    def told(self, name, given, steps=None):
+        """A run of a module with its statistics."""
+        self.row(name, given, steps, stats=True)
+
+    def each_step(self, name, given):
+        """Runs of a module with their statistics, of each number of reductions up to one more than are needed."""
+        for steps in range(steps_of(given) + 2):
+            self.told(f'{name}/{steps}-reductions', given, steps)
 
     def main(self, name, results, body, *more, **sections):
         """A run of a module whose main gives these results."""
