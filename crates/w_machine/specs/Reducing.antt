@@ -2,8 +2,6 @@
 use Rattle.std.specs.Prelude.{◌≡◌, ◌≢◌, ◌⊎◌, ◌≤◌, ◌+◌, ℕ, ⊤, Bool, true, false, nat_le, if◌then◌else◌, List, [], ◌∷◌, length, Option, Some, None, option_map, Result, Ok, Err}
 use Rattle.std.specs.declared.alloc.AllocError.{AllocError}
 use Rattle.w_outside.specs.Outside.{Grew, GrewByFront}
-use Rattle.w_syntax.specs.declared.instructions.Instr.{Instr}
-use Rattle.w_syntax.specs.declared.instructions.Instr.TheVariants as flat
 use Rattle.w_syntax.specs.declared.instructions.SwitchingOp.{SwitchingOp}
 use Rattle.w_syntax.specs.declared.instructions.SwitchingOp.TheVariants as switching
 use Rattle.w_syntax.specs.declared.module.Module.{Module}
@@ -15,7 +13,6 @@ use Rattle.w_conts.specs.Conts.{Conts}
 use Rattle.w_reduce.specs.declared.limit.RunLimit.{RunLimit}
 use Rattle.w_reduce.specs.declared.limit.RunLimit.TheVariants.{Frames}
 use Rattle.w_reduce.specs.Limits.{most_frames}
-use Rattle.w_reduce.specs.Apart.{is_switching}
 use Rattle.w_reduce.specs.Store.{Store}
 use Rattle.w_reduce.specs.Terms.{Term, Kept as TheKept}
 use Rattle.w_reduce.specs.Program.{Program}
@@ -26,6 +23,7 @@ use Rattle.w_stands.specs.declared.did.Did.TheVariants as did
 use Rattle.w_stands.specs.Code.{instr_of}
 use Rattle.w_stands.specs.Keeps.{StoreHolds}
 use Rattle.w_stands.specs.Values.{stack}
+use Rattle.w_plain.specs.Plainness.{switches_at}
 use Rattle.w_plain.specs.declared.stop.Stop.{Stop}
 use Rattle.w_plain.specs.declared.stop.Stop.TheVariants as stop
 use Rattle.w_switching.specs.declared.stored.Stored.{Stored}
@@ -86,11 +84,6 @@ Reduces result m x x' before now = (waiting : Option ℕ) (p : Program) (ks : Li
     → ComesTo result m waiting p (reduce p (whole x.store ks) t) x x' before now
 
 -- ## What is told
-
--- whether the instruction at a place switches stacks
-abbrev pub switches_at : Option Instr → Bool
-switches_at (Some (flat.Plain o)) = is_switching o
-switches_at i = false
 
 -- no stacks are switched next, and the segment isn't values
 abbrev pub IsPlainAt : Module → Shape → Type 0

@@ -23,7 +23,6 @@ use Rattle.w_call_ops.proofs.Invoking.{begins}
 use Rattle.w_call_ops.proofs.Printing.{print_follows, fresh_follows}
 use Rattle.w_syntax.specs.declared.instructions.Instr.TheVariants as flat
 use Rattle.w_syntax.specs.declared.instructions.Op.TheVariants as op
-use Rattle.w_syntax.specs.declared.instructions.SwitchingOp.{SwitchingOp}
 use Rattle.w_syntax.specs.declared.instructions.ControlOp.TheVariants as control
 use Rattle.std.specs.declared.alloc.AllocError.{AllocError}
 use Rattle.w_reduce.specs.declared.trap.Trap.{Trap}
@@ -95,7 +94,3 @@ call_calls m u s x k = record { i = op.Control (control.Call x); moves = k; ther
 pub printed_takes : (d : Did) (m : Module) (u u' : instances.Store) (s s' : Shape) (held : Option (List ℕ)) → Takes d m [] u s u' s' →
     (text : List ℕ) × Takes d m text u s u' s' × Grew held held text
 printed_takes d m u u' s s' held h = ([], h, grew_nothing held)
-
--- no rule applies yet to an instruction that switches stacks
-pub none_switches : {m : Module} {u : instances.Store} {s : Shape} {o : SwitchingOp} → MovesAt (flat.Plain (op.Switching o)) m u s → ⊥
-none_switches {m} {u} {s} {o} k = applies m u s k.p k.o k.e k.r (op.Switching o) k.at k.stage k.here refl

@@ -1,4 +1,5 @@
 pub mod Stepped
 pub mod Printing
 pub mod Known
+pub mod Plainness
 pub mod Meets

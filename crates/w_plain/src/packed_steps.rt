@@ -1,11 +1,12 @@
 //! One reduction at an instruction, as a body keeps it.
-ghost use Rattle.std.specs.Prelude.{◌≡◌, ◌≤◌, length, Err};
+ghost use Rattle.std.specs.Prelude.{◌≡◌, ◌≤◌, false, length, Err, Some};
 ghost use Rattle.w_syntax.specs.declared.instructions.Instr.TheVariants as flat;
 ghost use Rattle.w_syntax.specs.declared.instructions.Op.TheVariants as op;
 ghost use Rattle.w_syntax.specs.Packed.{memory_of, unpacked};
 ghost use Rattle.w_outside.specs.Outside.{Rose};
 ghost use Rattle.w_stands.specs.Steps.{MovesAt};
 ghost use Rattle.w_plain.specs.Known.{IsKnown};
+ghost use Rattle.w_plain.specs.Plainness.{switches_at};
 ghost use Rattle.w_plain.specs.Printing.{Printed, widened};
 
 use crate::blocks::{enter_block, enter_choice};
@@ -72,7 +73,7 @@ fn control_op<O: Sink>(
 }
 
 // An instruction that holds no others.
-#[tactic(auto, using(crate::proofs::Prints::printed_step, crate::proofs::Prints::printed_takes, crate::proofs::Prints::none_switches))]
+#[tactic(auto, using(crate::proofs::Prints::printed_step, crate::proofs::Prints::printed_takes))]
 fn plain_op<O: Sink>(
     program: Program,
     store: &mut Store,
@@ -82,6 +83,7 @@ fn plain_op<O: Sink>(
 ) -> Result<Did, Stop>
     requires known { IsKnown program.source.now program.classes.now program.functions.now }
     requires moves { MovesAt (flat.Plain operation.now) program.source.now store.old stack.old }
+    requires plain { switches_at (Some (flat.Plain operation.now)) ≡ false }
     requires one { length store.old.memories ≤ 1 }
     ensures step { Printed result (O.held out.old) (O.held out.new) program.entry.source.now store.old stack.old store.new stack.new }
     ensures cause { result ≡ Err Stop.WriteFault → Rose (O.faults out.old) (O.faults out.new) }
@@ -102,7 +104,7 @@ fn plain_op<O: Sink>(
 
 // An instruction that stands in a box.
 #[inline(never)]
-#[tactic(auto, using(crate::proofs::Prints::printed_step, crate::proofs::Prints::printed_takes, crate::proofs::Prints::none_switches, crate::proofs::Ends::end_meets))]
+#[tactic(auto, using(crate::proofs::Prints::printed_step, crate::proofs::Prints::printed_takes, crate::proofs::Ends::end_meets))]
 fn standing<O: Sink>(
     program: Program,
     store: &mut Store,
@@ -112,6 +114,7 @@ fn standing<O: Sink>(
 ) -> Result<Did, Stop>
     requires known { IsKnown program.source.now program.classes.now program.functions.now }
     requires moves { MovesAt instr.now program.source.now store.old stack.old }
+    requires plain { switches_at (Some instr.now) ≡ false }
     requires one { length store.old.memories ≤ 1 }
     ensures step { Printed result (O.held out.old) (O.held out.new) program.entry.source.now store.old stack.old store.new stack.new }
     ensures cause { result ≡ Err Stop.WriteFault → Rose (O.faults out.old) (O.faults out.new) }
@@ -220,6 +223,7 @@ fn boxed<O: Sink>(
 ) -> Result<Did, Stop>
     requires known { IsKnown program.source.now program.classes.now program.functions.now }
     requires moves { MovesAt operation.now program.source.now store.old stack.old }
+    requires plain { switches_at (Some operation.now) ≡ false }
     requires one { length store.old.memories ≤ 1 }
     ensures step { Printed result (O.held out.old) (O.held out.new) program.entry.source.now store.old stack.old store.new stack.new }
     ensures cause { result ≡ Err Stop.WriteFault → Rose (O.faults out.old) (O.faults out.new) }
@@ -234,7 +238,7 @@ fn boxed<O: Sink>(
 
 /// One reduction at the instruction where the stack stands, as a body keeps it.
 #[inline(always)]
-#[tactic(auto, using(crate::proofs::Prints::printed_step, crate::proofs::Prints::printed_takes, crate::proofs::Prints::none_switches, crate::proofs::Ends::end_meets))]
+#[tactic(auto, using(crate::proofs::Prints::printed_step, crate::proofs::Prints::printed_takes, crate::proofs::Ends::end_meets))]
 pub(crate) fn instruction<O: Sink>(
     program: Program,
     store: &mut Store,
@@ -244,6 +248,7 @@ pub(crate) fn instruction<O: Sink>(
 ) -> Result<Did, Stop>
     requires known { IsKnown program.source.now program.classes.now program.functions.now }
     requires moves { MovesAt (unpacked packed.now) program.source.now store.old stack.old }
+    requires plain { switches_at (Some (unpacked packed.now)) ≡ false }
     requires one { length store.old.memories ≤ 1 }
     ensures step { Printed result (O.held out.old) (O.held out.new) program.entry.source.now store.old stack.old store.new stack.new }
     ensures cause { result ≡ Err Stop.WriteFault → Rose (O.faults out.old) (O.faults out.new) }
