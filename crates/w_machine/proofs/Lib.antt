@@ -1,6 +1,9 @@
 pub mod Standing
 pub mod Reducing
+pub mod SwitchingMoves
+pub mod KeptCounts
 pub mod Advancing
+pub mod NoReferences
 pub mod GoingOn
 pub mod Stopping
 pub mod Machines

@@ -3,5 +3,5 @@ use Rattle.w_machine.proofs.machine.Machine.new.Goals as goal
 
 pub invariant_of-result : goal.invariant_of-result
 invariant_of-result c =
-    begun_with c.args.instance.main c.in_ok-segment.segment c.module-module.ensures.same c.module-module.ensures.valid
-    (c.are_short.ensures c.if-not-are_short.false) c.requires c.in_ok-functions.ensures.functions c.in_ok-segment.ensures
+    begun_with c.classes-classes.result.now c.args.instance.main c.in_ok-segment.segment _ c.module-module.ensures.same c.classes-classes.ensures c.module-module.ensures.valid
+    (c.are_short.ensures c.if-not-are_short.false) c.requires c.in_ok-functions.ensures.functions c.in_ok-segment.ensures ?
