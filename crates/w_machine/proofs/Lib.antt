@@ -1,5 +1,11 @@
+pub mod Tops
+pub mod Counting
 pub mod Standing
 pub mod Reducing
+pub mod MadeConts
+pub mod TakingEnough
+pub mod SwitchedStacks
+pub mod Leaving
 pub mod Advancing
 pub mod GoingOn
 pub mod Stopping
