@@ -1,7 +1,6 @@
 -- Where the innermost segment is values: the handle around it is left, and where there is none the run ends.
-use Rattle.std.proofs.Common.{◌≡◌, ◌≢◌, inl, ℕ, suc, ◌+◌, ◌<◌, ◌≤◌, Bool, true, false, nat_eq, if◌then◌else◌, List, [], ◌∷◌, length, Option, Some, None, Result, Ok, Err, refl, sym, ap, subst, ◌∙◌, ⊤, arith}
-use Rattle.std.specs.Result.{OnOk, OnErr}
-use Rattle.std.specs.declared.alloc.AllocError.{AllocError}
+use Rattle.std.proofs.Common.{◌≡◌, ◌≢◌, inl, ℕ, suc, ◌+◌, ◌<◌, ◌≤◌, Bool, true, false, nat_eq, if◌then◌else◌, List, [], ◌∷◌, length, Option, Some, None, Result, Ok, Err, refl, sym, ap, subst, ◌∙◌, arith}
+use Rattle.std.specs.Prelude.{⊤}
 use Rattle.w_outside.proofs.Growth.{grew_nothing}
 use Rattle.w_types.specs.Rows.{Row, size}
 use Rattle.w_syntax.specs.declared.module.Module.{Module}
@@ -10,7 +9,7 @@ use Rattle.w_segment.specs.Shape.{Shape}
 use Rattle.w_segment.specs.Link.{Link, top}
 use Rattle.w_conts.specs.Conts.{Conts, KeepsReferences}
 use Rattle.w_reduce.specs.Exits.{leave}
-use Rattle.w_reduce.specs.Limits.{IsWithin}
+use Rattle.w_reduce.specs.Limits.{most_conts, IsWithin}
 use Rattle.w_reduce.specs.Program.{Program}
 use Rattle.w_reduce.specs.Reduced.{Reduced, Went, Trapped, Limited, Ended, Stuck}
 use Rattle.w_reduce.specs.Reduce.{next, reduce, limited}
@@ -20,7 +19,6 @@ use Rattle.w_reduce.specs.Values.{Val}
 use Rattle.w_stands.specs.Stands.{In, body, left, fresh, values}
 use Rattle.w_stands.specs.Values.{stack}
 use Rattle.w_switching.specs.declared.stored.Stored.{Stored}
-use Rattle.w_switching.specs.Moved.{SameLinks}
 use Rattle.w_switching.specs.Reductions.{Exits}
 use Rattle.w_switching.specs.Sound.{Sound}
 use Rattle.w_switching.specs.Standing.{Chained, only, around}
@@ -53,9 +51,10 @@ leave_fewer s (Frame below n locals rest ∷ e) vs = fewer_if s (Frame below n l
 leave_fewer s (Handle below hs rest ∷ e) vs = (refl, omega arith, omega arith)
 
 module _ {m : Module} {x : Parts} (chain' : List Link) (conts' : Conts Stored) where
-  left_goes : Exits x.chain x.conts chain' conts' → Sound chain' conts' → KeepsReferences x.conts conts' → (held : Option (List ℕ))
+  -- what it led to passes no limit
+  pub left_handle : Exits x.chain x.conts chain' conts' → Sound chain' conts' → KeepsReferences x.conts conts' → (held : Option (List ℕ))
       → Reduces None m x (parts x.store chain' conts') held held
-  left_goes exits sound keeps held waiting p ks t h =
+  left_handle exits sound keeps held waiting p ks t h =
       let went = exits m (behind_of waiting) p (whole x.store ks) t h.stand in
       let to = went.1 in
       let s' = whole x.store to.conts_after in
@@ -68,7 +67,7 @@ module _ {m : Module} {x : Parts} (chain' : List Link) (conts' : Conts Stored) w
       let is_within : IsWithin s' to.t.around = record {
         few_frames = omega (arith, few_frames, frames_less);
         few_handles = omega (arith, few_handles, handles_less);
-        few_conts = subst (λ (s : Store). live s ≤ 65536) (sym fewer.0) h.within.few_conts;
+        few_conts = subst (λ (s : Store). live s ≤ most_conts) (sym fewer.0) h.within.few_conts;
       } in
       let after = kept_long to.stand.store in
       let before = kept_long h.stand.store in
@@ -84,14 +83,6 @@ module _ {m : Module} {x : Parts} (chain' : List Link) (conts' : Conts Stored) w
         made = omega (arith, after, before, long);
         grew = grew_nothing held;
       }
-
-  -- it went on, or memory ran out
-  pub left_handle : Exits x.chain x.conts chain' conts' → Sound chain' conts' → KeepsReferences x.conts conts' → (held : Option (List ℕ))
-      → Reduces None m x (parts x.store chain' conts') held held
-  left_handle = left_goes
-
-  pub left_fails : SameLinks x.chain chain' → conts' ≡ x.conts → (held : Option (List ℕ)) → Reduces (Some kept.OutOfMemory) m x (parts x.store chain' conts') held held
-  left_fails links same held waiting p ks t h = record { store = refl; chain = links; conts = same; sink = inl refl }
 
 -- ## The end
 

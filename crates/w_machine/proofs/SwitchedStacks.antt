@@ -1,5 +1,5 @@
 -- What a reduction that switches stacks, or leaves a handle, comes to, by what the call that takes it came to.
-use Rattle.std.proofs.Common.{◌≡◌, ◌≢◌, ◌⊎◌, inl, inr, ℕ, suc, ◌+◌, ◌-◌, ◌<◌, ◌≤◌, Bool, true, false, nat_eq, nat_le, if◌then◌else◌, List, [], ◌∷◌, length, Option, Some, None, Result, Ok, Err, refl, sym, ap, subst, ◌∙◌, ⊤, arith}
+use Rattle.std.proofs.Common.{◌≡◌, ◌≢◌, ◌⊎◌, inl, inr, ℕ, suc, ◌+◌, ◌-◌, ◌<◌, ◌≤◌, Bool, true, false, nat_eq, nat_le, if◌then◌else◌, List, [], ◌∷◌, length, Option, Some, None, Result, Ok, Err, refl, sym, ap, subst, ◌∙◌, arith}
 use Rattle.std.specs.Result.{IfOk, OnOk, OnErr}
 use Rattle.std.specs.declared.alloc.AllocError.{AllocError}
 use Rattle.w_outside.proofs.Growth.{grew_nothing}
@@ -41,6 +41,7 @@ use Rattle.w_switching.specs.Reductions.{switched, At, SwitchesAt, To, Switches,
 use Rattle.w_switching.specs.Sound.{is_of, Sound, most_segments}
 use Rattle.w_switching.specs.Standing.{Chained, only, around}
 use Rattle.w_switching.proofs.Joining.{kept_long}
+use Rattle.w_switching.proofs.SameButRoom.{same_links}
 use Rattle.w_switching.proofs.Sounding.{More, more_of}
 use Rattle.w_machine.specs.declared.outcome.Kept.{Kept}
 use Rattle.w_machine.specs.declared.outcome.Kept.TheVariants as kept
@@ -48,7 +49,7 @@ use Rattle.w_machine.specs.Parts.{Parts, parts, whole}
 use Rattle.w_machine.specs.Standing.{behind_of, Stands, StandsSomewhere}
 use Rattle.w_machine.specs.Reducing.{Takes, ComesTo, Reduces, TakesEnough, told_with}
 use Rattle.w_machine.proofs.Counting.{passed_is}
-use Rattle.w_machine.proofs.MadeConts.{MakesOne, makes_one}
+use Rattle.w_machine.proofs.MadeConts.{MakesOne, made_one, makes_one}
 use Rattle.w_machine.proofs.Reducing.{within}
 use Rattle.w_machine.proofs.Standing.{rule_applies, few_segments, head}
 use Rattle.w_machine.proofs.TakingEnough.{takes_enough}
@@ -119,17 +120,14 @@ module _ {m : Module} {x : Parts} (valid : Valid m) (o : SwitchingOp) (b : (top 
   -- ## Its answers
 
   module _ (chain' : List Link) (conts' : Conts Stored) (sound : Sound chain' conts') (keeps : KeepsReferences x.conts conts') where
-    -- the limit that the parts pass then
-    limit : Option RunLimit
-    limit = first_passed (nat_le (frames_in_all chain') most_frames) (nat_le (length chain' - 1) most_handles) (nat_le (live_of conts') most_conts)
-
+    -- it went on
     went_by : (l : Option RunLimit) → l ≡ first_passed (nat_le (frames_in_all chain') most_frames) (nat_le (length chain' - 1) most_handles) (nat_le (live_of conts') most_conts)
         → Switches o did.Went m x.chain x.conts chain' conts' → (held : Option (List ℕ)) → Reduces (told_with (Ok did.Went) l) m x (parts x.store chain' conts') held held
     went_by None none goes held waiting p ks t h =
         let to = goes (behind_of waiting) p (whole x.store ks) t (comes h).code (at_it h) in
         let s' = whole x.store to.conts_after in
         let few : passed s' to.t.around ≡ None = passed_is to.stand ∙ sym none in
-        let one = subst (MakesOne (length ks)) to.is (makes_one o p (whole x.store ks) t.around t.operands (comes h).code) in
+        let one = made_one (subst (MakesOne (length ks)) to.is (makes_one o p (whole x.store ks) t.around t.operands (comes h).code)) in
         let after = kept_long to.stand.store in
         let before = kept_long h.stand.store in
         record {
@@ -155,9 +153,9 @@ module _ {m : Module} {x : Parts} (valid : Valid m) (o : SwitchingOp) (b : (top 
         → IfOk d (λ d. Switches o d m x.chain x.conts chain' conts') → OnErr d (SameLinks x.chain chain') → OnErr d (conts' ≡ x.conts) → (held : Option (List ℕ))
         → Reduces (told_with d l) m x (parts x.store chain' conts') held held
     switched_by (Ok did.Went) l is goes links same held = went_by l is goes held
-    switched_by (Ok (did.Trapped y)) l is goes links same held waiting p ks t h =
+    switched_by (Ok (did.Trapped y)) l is goes links same held = λ waiting p ks t h.
         (reduce_is h ∙ ap limited (goes.2 (behind_of waiting) p (whole x.store ks) t (comes h).code (at_it h)), refl)
-    switched_by (Err e) l is goes links same held waiting p ks t h = record { store = refl; chain = links; conts = same; sink = inl refl }
+    switched_by (Err e) l is goes links same held = λ waiting p ks t h. record { store = refl; chain = links; conts = same; sink = inl refl }
 
     -- the same, with the call's own words
     pub switched_told : (d : Result Did AllocError) (l : Option RunLimit) (k : Option Kept)
@@ -177,3 +175,8 @@ no_fault_told (Ok did.Went) None h = absurd (cc)
 no_fault_told (Ok did.Went) (Some name) h = absurd (cc)
 no_fault_told (Ok (did.Trapped t)) l h = absurd (cc)
 no_fault_told (Err e) l h = absurd (cc)
+
+-- where nothing was changed the segments are the same
+pub same_on_err : {T E : Type 0} (r : Result T E) (xs ys : List Link) → OnErr r (ys ≡ xs) → OnErr r (SameLinks xs ys)
+same_on_err (Ok v) xs ys h = tt
+same_on_err (Err e) xs ys h = subst (SameLinks xs) (sym h) (same_links xs)

@@ -1,5 +1,5 @@
 -- A continuation takes as many values as its type has parameters: so enough, where an instruction that switches stacks is typed.
-use Rattle.std.proofs.Common.{◌≡◌, ℕ, ◌-◌, ◌≤◌, nat_le, Bool, true, IsTrue, List, [], ◌∷◌, length, Option, Some, None, slice_get, take, refl, sym, ap, subst, ◌∙◌, ⊤, arith}
+use Rattle.std.proofs.Common.{◌≡◌, ℕ, ◌-◌, ◌≤◌, nat_le, Bool, true, IsTrue, List, [], ◌∷◌, length, Option, Some, None, slice_get, take, refl, sym, ap, subst, ◌∙◌, arith}
 use Rattle.w_types.specs.declared.types.FuncType.{FuncType}
 use Rattle.w_types.specs.declared.types.HeapType.TheVariants.{Index}
 use Rattle.w_types.specs.declared.types.ValType.{ValType}
