@@ -119,10 +119,11 @@ begun_by {m = m} {functions = functions} {u = u} main segment (Some f) valid sho
     (begun new.capacity valid short bare with_this functions_are (subst (λ (x : ℕ). First m main f (Some x)) (sym shape) (start_first is)) (main, other.capacity, other.is))
 
 pub begun_with : {m n : Module} {functions : List ℕ} {u : instances.Store} (es : List Entry) (main : ℕ) (segment : Box Segment Global) (chain : List Link)
-    {waiting : Option (Box Segment Global)} → n ≡ m → IsClassesOf m.types es → Valid m → AllShort n → BeginsWith n u main → functions ≡ functions_of n
+    {waiting : Option (Box Segment Global)} → n ≡ m → IsClassesOf m.types es → Valid m → AllShort n → BeginsWith m u main → functions ≡ functions_of n
     → AreFirst n.start main segment waiting → chain ≡ segment.value → BegunWith m functions u chain waiting
 begun_with {m = m} {n = n} {functions = functions} {u = u} es main segment chain {waiting = waiting} same classes valid short with_this functions_are first is =
     let there = subst Valid (sym same) valid in
+    let begins = subst (λ (x : Module). BeginsWith x u main) (sym same) with_this in
     subst (λ (l : List Link). BegunWith m functions u l waiting) (sym is)
     (subst (λ (x : Module). BegunWith x functions u segment.value waiting) same
-    (begun_by main segment n.start there short (begins_plain es u main (subst (λ (x : Module). IsClassesOf x.types es) (sym same) classes) there with_this) with_this functions_are refl first))
+    (begun_by main segment n.start there short (begins_plain es u main (subst (λ (x : Module). IsClassesOf x.types es) (sym same) classes) there begins) begins functions_are refl first))

@@ -13,6 +13,10 @@ pub reduce-stopped-requires-clause-made : goal.reduce-stopped-requires-clause-ma
 reduce-stopped-requires-clause-made g c =
     machine_few c.self.inside.kept c.module.ensures.same c.if-is_some.ensures c.self.invariant (subst (λ (q : Position). q.taken < most_reductions) (sym c.self.view_is) c.requires)
 
+pub turn-requires-clause-some : goal.turn-requires-clause-some
+turn-requires-clause-some g c =
+    machine_went_long c.self.inside.kept c.module.ensures.same c.if-is_some.ensures c.self.invariant _ _ _ c.classes.result.now c.classes.ensures c.in-None.ensures.reduces
+
 pub invariant_of-self : goal.invariant_of-self
 invariant_of-self g c =
     machine_advanced c.self.inside.kept c.module.ensures.same c.if-is_some.ensures c.self.invariant _ _ _ c.classes.result.now c.classes.ensures c.module.ensures.valid
