@@ -1,5 +1,5 @@
 -- Instructions that take the reference of a continuation first.
-use Rattle.std.proofs.Common.{◌≡◌, ℕ, ◌<◌, ◌≤◌, List, [], ◌∷◌, Option, Some, None, slice_get, length, refl, sym, ap, ◌∙◌, subst}
+use Rattle.std.proofs.Common.{◌≡◌, ℕ, List, [], ◌∷◌, Option, Some, None, slice_get, refl, ap, ◌∙◌, subst}
 use Rattle.std.specs.Prelude.{option_map}
 use Rattle.w_types.specs.Rows.{Row, ◌▹◌}
 use Rattle.w_types.specs.declared.value.Value.{Value}
@@ -79,11 +79,11 @@ module _ {m : Module} {behind : Rest} {chain : List Link} {conts : Conts Stored}
 -- ## The traps of a call
 
 module _ (o : SwitchingOp) (rule : Consumes o) (m : Module) (chain : List Link) (conts : Conts Stored) where
-  pub null_traps : (vs : List Value) → (top chain).shape.operands ≡ value.Null ∷ vs → Switches o (did.Trapped trap.NullReference) m chain conts chain conts
+  pub null_traps : (vs : List Value) → (top chain).shape.operands ≡ value.Null ∷ vs → Switches (did.Trapped trap.NullReference) o m chain conts chain conts
   null_traps vs on = (refl, refl, λ behind p s t c a. on_stack a (value.Null ∷ vs) on ∙ rule.null p s t.around (stack vs) c)
 
   pub consumed_traps : (conts' : Conts Stored) (r : ContRef) (vs : List Value) → (top chain).shape.operands ≡ value.Cont r ∷ vs → IsOf r conts → kept_at conts r.serial ≡ None → conts' ≡ conts →
-      Switches o (did.Trapped trap.ConsumedContinuation) m chain conts chain conts'
+      Switches (did.Trapped trap.ConsumedContinuation) o m chain conts chain conts'
   consumed_traps conts' r vs on of none same = (
     refl,
     same,

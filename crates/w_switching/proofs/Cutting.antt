@@ -1,5 +1,5 @@
 -- Cutting the running segments at the innermost handle that has an answer.
-use Rattle.std.proofs.Common.{◌≡◌, ℕ, zero, suc, ◌+◌, ◌<◌, List, [], ◌∷◌, ◌++◌, Option, Some, None, slice_get, length, refl, sym, ap, ◌∙◌, subst, arith, add-one, drop, take, length-drop}
+use Rattle.std.proofs.Common.{◌≡◌, ℕ, zero, suc, ◌+◌, ◌<◌, List, [], ◌∷◌, ◌++◌, Option, Some, None, slice_get, length, refl, sym, ap, ◌∙◌, arith, drop, take, length-drop}
 use Rattle.std.specs.Prelude.{option_map, All, ⊤}
 use Rattle.w_types.specs.Rows.{Row}
 use Rattle.w_syntax.specs.Code.{Code, Done}
@@ -9,6 +9,7 @@ use Rattle.w_segment.specs.declared.entry.Stage.TheVariants.{Body}
 use Rattle.w_segment.specs.Shape.{Shape, Level}
 use Rattle.w_segment.specs.Link.{Link, top, rest}
 use Rattle.w_chain.specs.ClauseLists.{clauses_of}
+use Rattle.w_conts.proofs.Finding.{some_is}
 use Rattle.w_reduce.specs.Values.{Val}
 use Rattle.w_reduce.specs.Terms.{Rest, rest_of, Layer, Label as InLabel, Frame as InFrame, Handle, Context}
 use Rattle.w_reduce.specs.Handlers.{Handler, one_more, here_or, find}
@@ -127,9 +128,6 @@ all_rest P x xs a = λ k d h. a (suc k) d (omega arith)
 
 all_first : (P : Link → Type 0) (x : Link) (xs : List Link) → All P (x ∷ xs) → P x
 all_first P x xs a = a 0 x (omega arith)
-
-some_is : {A : Type 0} {x y : A} → Some x ≡ Some y → x ≡ y
-some_is e = cc
 
 module _ {A : Type 0} (c : List Clause → Option A) (m : Module) where
   abbrev pub ask : Link → Option A

@@ -1,5 +1,5 @@
 -- Leaving a handle.
-use Rattle.std.proofs.Common.{◌≡◌, ℕ, ◌+◌, ◌-◌, ◌<◌, ◌≤◌, Bool, true, List, [], ◌∷◌, ◌++◌, length, refl, sym, ap, ◌∙◌, subst, arith, reverse}
+use Rattle.std.proofs.Common.{◌≡◌, ◌-◌, ◌<◌, Bool, true, List, [], ◌∷◌, ◌++◌, length, refl, sym, ap, ◌∙◌, subst, arith, reverse}
 use Rattle.std.proofs.lemmas.List.{reverse-reverse}
 use Rattle.w_types.specs.Rows.{Row, ◌⧺◌}
 use Rattle.w_types.specs.declared.value.Value.{Value}
@@ -11,17 +11,17 @@ use Rattle.w_segment.specs.Shape.{Shape, SameParts}
 use Rattle.w_segment.specs.Changes.{pushed_all}
 use Rattle.w_segment.specs.Link.{Link, top, rest, with_top}
 use Rattle.w_segment.proofs.Holding.{pushed_all_holds, same_holds, all_reverse}
-use Rattle.w_conts.specs.Conts.{Conts, KeepsReferences, with_spare}
+use Rattle.w_conts.specs.Conts.{Conts, with_spare}
 use Rattle.w_reduce.specs.Values.{Val}
-use Rattle.w_reduce.specs.Terms.{Rest, rest_of, Handle, Context, Term}
+use Rattle.w_reduce.specs.Terms.{Rest, rest_of, Handle, Context}
 use Rattle.w_reduce.specs.Exits.{leave}
 use Rattle.w_stands.specs.Values.{stack}
 use Rattle.w_stands.specs.Stands.{In, body, left, fresh, values}
 use Rattle.w_switching.specs.declared.stored.Stored.{Stored}
 use Rattle.w_switching.specs.Moved.{SameLinks, Merged}
-use Rattle.w_switching.specs.Standing.{Chained, only, around, AllKept, Stand}
-use Rattle.w_switching.specs.Reductions.{To, Exits}
-use Rattle.w_switching.specs.Sound.{LinksHold, is_of, Sound, SoundWith}
+use Rattle.w_switching.specs.Standing.{Chained, only, around, AllKept}
+use Rattle.w_switching.specs.Reductions.{Exits}
+use Rattle.w_switching.specs.Sound.{LinksHold, is_of, Sound}
 use Rattle.w_switching.proofs.Resuming.{given}
 use Rattle.w_switching.proofs.SameButRoom.{same_shape, same_top}
 use Rattle.w_switching.proofs.Sounding.{hold_top, hold_with, long_top, spare_slot}
@@ -74,8 +74,7 @@ module _ (chain chain' : List Link) (conts conts' : Conts Stored) (two : 1 < len
       let s1 = merged.waiting in
       let same = merged.same in
       let k = given (pushed_all (reverse us) s1) us w.stands (record { levels = same.levels; func = same.func; place = same.place; stage = same.stage })
-      (ap (λ (l : List Value). l ++ s1.operands) (reverse-reverse us) ∙ ap (λ (l : List Value). us ++ l) same.operands) in
-      (
+      (ap (λ (l : List Value). l ++ s1.operands) (reverse-reverse us) ∙ ap (λ (l : List Value). us ++ l) same.operands) in (
         w.rest_is,
         record {
           conts_after = s.conts;

@@ -1,5 +1,5 @@
 -- Segments inside others, and entries of the store.
-use Rattle.std.proofs.Common.{◌≡◌, ℕ, zero, suc, ◌+◌, ◌<◌, List, [], ◌∷◌, ◌++◌, Option, Some, None, slice_get, length, refl, sym, ap, ◌∙◌, subst, arith}
+use Rattle.std.proofs.Common.{◌≡◌, ℕ, zero, suc, ◌<◌, List, [], ◌∷◌, ◌++◌, Option, Some, None, slice_get, length, refl, sym, ap, ◌∙◌, subst, arith}
 use Rattle.std.specs.Prelude.{slice_set}
 use Rattle.w_types.specs.Rows.{Row}
 use Rattle.w_syntax.specs.Code.{Code, Done}
@@ -16,7 +16,7 @@ use Rattle.w_stands.specs.Values.{stack}
 use Rattle.w_stands.specs.Code.{instrs, Reads}
 use Rattle.w_stands.specs.Stands.{Around, label, frame, outermost, In, body, left, fresh, values}
 use Rattle.w_switching.specs.declared.stored.Stored.{Stored}
-use Rattle.w_switching.specs.Standing.{Chained, only, around, IsKept, gone, kept, AllKept, nil, cons}
+use Rattle.w_switching.specs.Standing.{Chained, only, around, IsKept, gone, AllKept, nil, cons}
 
 -- ## What stands around may be more
 

@@ -1,5 +1,5 @@
 -- A switch, once the innermost segment has room for what it will take.
-use Rattle.std.proofs.Common.{◌≡◌, ℕ, ◌+◌, ◌-◌, ◌<◌, ◌≤◌, List, ◌∷◌, Option, Some, length, sym, ap, ◌∙◌, subst, arith}
+use Rattle.std.proofs.Common.{◌≡◌, ℕ, ◌+◌, ◌-◌, ◌<◌, ◌≤◌, List, ◌∷◌, Some, length, sym, ap, ◌∙◌, subst, arith}
 use Rattle.std.specs.Prelude.{◌^◌}
 use Rattle.w_types.specs.declared.types.FuncType.{FuncType}
 use Rattle.w_types.specs.declared.value.Value.{Value}
@@ -7,10 +7,11 @@ use Rattle.w_types.specs.declared.value.Value.TheVariants as value
 use Rattle.w_types.specs.declared.value.ContRef.{ContRef}
 use Rattle.w_syntax.specs.declared.instructions.SwitchingOp.TheVariants as switching
 use Rattle.w_syntax.specs.declared.module.Module.{Module}
-use Rattle.w_segment.specs.Shape.{Shape, SameParts, height, Fits}
+use Rattle.w_segment.specs.Shape.{Shape, SameParts, Fits}
 use Rattle.w_segment.specs.Link.{Link, top, with_top}
 use Rattle.w_chain.specs.Layers.{IsFirstSwitch}
 use Rattle.w_conts.specs.Conts.{Conts, KeepsReferences, IsOf, kept_at, without_entry}
+use Rattle.w_conts.proofs.Finding.{some_is}
 use Rattle.w_stands.specs.declared.did.Did.TheVariants as did
 use Rattle.w_switching.specs.declared.stored.Stored.{Stored}
 use Rattle.w_switching.specs.BackTypes.{back_of}
@@ -21,9 +22,6 @@ use Rattle.w_switching.proofs.Facing.{place_behind, some_chain}
 use Rattle.w_switching.proofs.Exchanging.{at_same, switches_same, first_same, switch_layer, switch_fits, exchange_goes, exchange_sound}
 use Rattle.w_switching.proofs.SameButRoom.{same_top, same_sound}
 use Rattle.w_switching.proofs.Sounding.{each_at, long_top, room_with, top_top, reference_of}
-
-some_is : {A : Type 0} {x y : A} → Some x ≡ Some y → x ≡ y
-some_is e = cc
 
 -- what the moving needs
 pub record CanExchange (n layer : ℕ) (segs chain : List Link) : Type 0 where
@@ -79,7 +77,7 @@ module _ (m : Module) (chain : List Link) (conts : Conts Stored) (x y : ℕ) (r 
         (subst (λ (n : ℕ). Exchanged (seen.takes - 1) n layer b.segment.value roomy conts1 chain' conts') long ex)
 
     -- it went as the rule says
-    pub room_goes : Switches (switching.Switch x y) did.Went m chain conts chain' conts'
+    pub room_goes : Switches did.Went (switching.Switch x y) m chain conts chain' conts'
     room_goes behind p s t c a =
         exchange_goes m roomy conts x y r vs b on' of is k' layer first' u kind conts1 chain' conts' taken exchanged behind p s t c (at_same (switching.Switch x y) m chain conts s' same a)
 

@@ -3,7 +3,6 @@ use Rattle.std.proofs.Common.{◌≡◌, ℕ, suc, ◌+◌, ◌<◌, ◌≤◌, 
 use Rattle.std.specs.Prelude.{OnErr}
 use Rattle.w_types.specs.declared.value.Value.{Value}
 use Rattle.w_segment.specs.declared.entry.Stage.TheVariants.{Body}
-use Rattle.w_segment.specs.Holds.{Holds}
 use Rattle.w_segment.specs.Shape.{Shape, SameParts, height}
 use Rattle.w_segment.specs.Changes.{discarded}
 use Rattle.w_segment.specs.Link.{Link, top, with_top}

@@ -1,5 +1,5 @@
 -- Segments that are the same but for room.
-use Rattle.std.proofs.Common.{◌≡◌, ℕ, suc, ◌+◌, ◌<◌, Bool, true, List, [], ◌∷◌, ◌++◌, length, refl, sym, ap, ◌∙◌, subst, arith}
+use Rattle.std.proofs.Common.{◌≡◌, ℕ, suc, Bool, true, List, [], ◌∷◌, ◌++◌, length, refl, ap, arith}
 use Rattle.w_types.specs.declared.value.Value.{Value}
 use Rattle.w_segment.specs.Shape.{Shape, SameParts}
 use Rattle.w_segment.specs.Link.{Link, top, with_top}

@@ -1,5 +1,5 @@
 -- References, entries and slots, as segments and entries change.
-use Rattle.std.proofs.Common.{◌≡◌, ℕ, zero, suc, ◌+◌, ◌<◌, ◌≤◌, Bool, true, List, [], ◌∷◌, ◌++◌, Option, Some, None, length, refl, sym, ap, ◌∙◌, subst, arith, take, drop, reverse, length-append, nat_eq, eqb-true, eq-eqb}
+use Rattle.std.proofs.Common.{◌≡◌, ℕ, zero, suc, ◌+◌, ◌<◌, ◌≤◌, Bool, true, List, [], ◌∷◌, ◌++◌, Option, Some, None, length, refl, sym, ap, ◌∙◌, subst, arith, take, drop, reverse, length-append, eqb-true, eq-eqb}
 use Rattle.std.proofs.lemmas.List.{length-reverse}
 use Rattle.std.specs.Prelude.{slice_set, option_map}
 use Rattle.w_types.specs.declared.value.Value.{Value}
@@ -9,7 +9,8 @@ use Rattle.w_segment.specs.Holds.{AllOf, AllSet, LevelsHold, Holds}
 use Rattle.w_segment.specs.Shape.{Shape, Level, Label, Frame, height}
 use Rattle.w_segment.specs.Changes.{pushed_all}
 use Rattle.w_segment.specs.Link.{Link, top, with_top, with_clauses}
-use Rattle.w_conts.specs.Conts.{Conts, IsOf, KeepsReferences, entry_at, some_count}
+use Rattle.w_conts.specs.Conts.{Conts, IsOf, KeepsReferences, entry_at, kept_at, some_count}
+use Rattle.w_conts.proofs.Finding.{some_is, serial_is}
 use Rattle.w_switching.specs.declared.stored.Stored.{Stored}
 use Rattle.w_switching.specs.Sound.{LinksHold, Waits, HasRoomFor, IsReady, is_place, is_of, IsGood, EachStored, segments_in, Sound}
 
@@ -109,19 +110,34 @@ good_more a b f x h = record { references = links_more a b f x.segment.value h.r
 
 -- ## Counts
 
-pub count_without : (es : List (Option (ℕ × Stored))) (a : ℕ) (b : Stored) → option_map (λ (q : ℕ × Stored). q.1) (entry_at es a) ≡ Some b
-    → (segments_in (slice_set es a None) + length b.segment.value ≡ segments_in es) × (suc (some_count (slice_set es a None)) ≡ some_count es)
-count_without [] a b e = absurd cc
-count_without (None ∷ es) zero b e = absurd cc
-count_without (Some (p, c) ∷ es) zero b e = let q = ap (λ (x : Stored). length x.segment.value) (some_kept_is p e) in (omega (arith, q), refl)
-count_without (None ∷ es) (suc a) b e = count_without es a b e
-count_without (Some (p, c) ∷ es) (suc a) b e = let r = count_without es a b e in let x = r.0 in (omega (arith, x), ap suc r.1)
+-- the entry where something is kept
+pub record EntryAt (es : List (Option (ℕ × Stored))) (a : ℕ) (b : Stored) : Type 0 where
+  pub place : ℕ
+  pub is : entry_at es a ≡ Some (place, b)
 
-pub count_with : (es : List (Option (ℕ × Stored))) (p : ℕ) (b : Stored)
-    → (segments_in (es ++ Some (p, b) ∷ []) ≡ segments_in es + length b.segment.value) × (some_count (es ++ Some (p, b) ∷ []) ≡ suc (some_count es))
-count_with [] p b = (omega arith, refl)
-count_with (None ∷ es) p b = count_with es p b
-count_with (Some (q, c) ∷ es) p b = let r = count_with es p b in let x = r.0 in (omega (arith, x), ap suc r.1)
+entry_some : (es : List (Option (ℕ × Stored))) (a : ℕ) (b : Stored) (o : Option (ℕ × Stored)) → entry_at es a ≡ o → option_map (λ (q : ℕ × Stored). q.1) o ≡ Some b → EntryAt es a b
+entry_some es a b None e h = absurd cc
+entry_some es a b (Some (p, c)) e h = record { place = p; is = e ∙ ap (λ (x : Stored). Some (p, x)) (some_kept_is p h) }
+
+pub entry_kept : (conts : Conts Stored) (a : ℕ) (b : Stored) → kept_at conts a ≡ Some b → EntryAt conts.entries a b
+entry_kept conts a b h = entry_some conts.entries a b (entry_at conts.entries a) refl h
+
+same_entry : {p q : ℕ} {b c : Stored} → (let r : Option (ℕ × Stored) = Some (p, b) in r) ≡ Some (q, c) → b ≡ c
+same_entry {p} {q} {b} {c} e = let w : (let r : ℕ × Stored = (p, b) in r) ≡ (q, c) = some_is e in ap (λ (x : ℕ × Stored). x.1) w
+
+-- the segments of one that is consumed are stored no more
+pub segments_without : (es : List (Option (ℕ × Stored))) (a : ℕ) (p : ℕ) (b : Stored) → entry_at es a ≡ Some (p, b) → segments_in (slice_set es a None) + length b.segment.value ≡ segments_in es
+segments_without [] a p b e = absurd cc
+segments_without (None ∷ es) zero p b e = absurd cc
+segments_without (Some (q, c) ∷ es) zero p b e = let w = ap (λ (x : Stored). length x.segment.value) (same_entry e) in omega (arith, w)
+segments_without (None ∷ es) (suc a) p b e = segments_without es a p b e
+segments_without (Some (q, c) ∷ es) (suc a) p b e = let w = segments_without es a p b e in omega (arith, w)
+
+-- and those of one more are
+pub segments_with : (es : List (Option (ℕ × Stored))) (p : ℕ) (b : Stored) → segments_in (es ++ Some (p, b) ∷ []) ≡ segments_in es + length b.segment.value
+segments_with [] p b = omega arith
+segments_with (None ∷ es) p b = segments_with es p b
+segments_with (Some (q, c) ∷ es) p b = let w = segments_with es p b in omega (arith, w)
 
 some_waits : (xs : List Link) → Waits xs → 0 < length xs
 some_waits [] h = absurd h
@@ -148,12 +164,6 @@ top_wait s (x ∷ xs) h e = subst IsReady (sym e) h
 
 -- ## References
 
-same_number : (a b : ℕ) → nat_eq a b ≡ true → a ≡ b
-same_number a b e = eqb-true a b e
-
-number_same : (a b : ℕ) → a ≡ b → nat_eq a b ≡ true
-number_same a b e = eq-eqb a b e
-
 place_made : (es : List (Option (ℕ × Stored))) (a place : ℕ) → is_place es a place ≡ true → a < length es
 place_made [] a place h = absurd cc
 place_made (None ∷ es) zero place h = omega arith
@@ -161,24 +171,17 @@ place_made (Some (p, b) ∷ es) zero place h = omega arith
 place_made (None ∷ es) (suc a) place h = let r = place_made es a place h in omega (arith, r)
 place_made (Some (p, b) ∷ es) (suc a) place h = let r = place_made es a place h in omega (arith, r)
 
-some_place : {p q : ℕ} {b x : Stored} → (let r : Option (ℕ × Stored) = Some (p, b) in r) ≡ Some (q, x) → p ≡ q
-some_place {p} {q} {b} {x} e = let f : Option (ℕ × Stored) → ℕ = at_place in ap f e
-  where
-    at_place : Option (ℕ × Stored) → ℕ
-    at_place None = 0
-    at_place (Some (k, c)) = k
-
 place_is : (es : List (Option (ℕ × Stored))) (a place q : ℕ) (x : Stored) → is_place es a place ≡ true → entry_at es a ≡ Some (q, x) → q ≡ place
 place_is [] a place q x h e = absurd cc
 place_is (None ∷ es) zero place q x h e = absurd cc
-place_is (Some (p, b) ∷ es) zero place q x h e = sym (some_place e) ∙ same_number p place h
+place_is (Some (p, b) ∷ es) zero place q x h e = sym (serial_is e) ∙ eqb-true p place h
 place_is (None ∷ es) (suc a) place q x h e = place_is es a place q x h e
 place_is (Some (p, b) ∷ es) (suc a) place q x h e = place_is es a place q x h e
 
 is_placed : (es : List (Option (ℕ × Stored))) (a place : ℕ) → a < length es → ((p : ℕ) (x : Stored) → entry_at es a ≡ Some (p, x) → p ≡ place) → is_place es a place ≡ true
 is_placed [] a place l h = absurd (omega arith)
 is_placed (None ∷ es) zero place l h = refl
-is_placed (Some (p, b) ∷ es) zero place l h = number_same p place (h p b refl)
+is_placed (Some (p, b) ∷ es) zero place l h = eq-eqb p place (h p b refl)
 is_placed (None ∷ es) (suc a) place l h = is_placed es a place (omega arith) h
 is_placed (Some (p, b) ∷ es) (suc a) place l h = is_placed es a place (omega arith) h
 
