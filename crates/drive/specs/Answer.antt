@@ -17,7 +17,7 @@ use Rattle.w_valid.specs.Faults.{IsFaultOf}
 use Rattle.w_valid.specs.declared.fault.ValidFault.{ValidFault}
 use Rattle.w_valid.specs.declared.fault.ValidFault.TheVariants as valid
 use Rattle.w_reduce.specs.declared.limit.RunLimit.{RunLimit}
-use Rattle.w_reduce.specs.declared.limit.RunLimit.TheVariants.{Frames}
+use Rattle.w_reduce.specs.declared.limit.RunLimit.TheVariants.{Frames, Handles, Conts}
 use Rattle.w_reduce.specs.declared.limit.StartLimit.{StartLimit}
 use Rattle.w_reduce.specs.declared.limit.StartLimit.TheVariants.{Memory, Table}
 use Rattle.w_reduce.specs.declared.trap.Trap.{Trap}
@@ -69,6 +69,8 @@ size_limit_text Locals = codes "limit locals"
 
 abbrev pub run_limit_text : RunLimit → List ℕ
 run_limit_text Frames = codes "limit frames"
+run_limit_text Handles = codes "limit handles"
+run_limit_text Conts = codes "limit conts"
 
 -- and of where a run begins
 abbrev pub start_limit_text : StartLimit → List ℕ
@@ -118,6 +120,8 @@ trap_text trap.UndefinedElement = codes "trap undefined element"
 trap_text trap.NullElement = codes "trap null element"
 trap_text trap.CallTypeMismatch = codes "trap call type mismatch"
 trap_text trap.NullReference = codes "trap null reference"
+trap_text trap.ConsumedContinuation = codes "trap consumed continuation"
+trap_text (trap.Unhandled e) = codes "trap unhandled " ++ decimal e
 
 abbrev pub trapped : Trap → Reply
 trapped t = refusal (trap_text t) 1

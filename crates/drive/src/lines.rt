@@ -65,6 +65,8 @@ pub(crate) fn run_limit_line(name: RunLimit) -> &'static [u8]
 {
     match name {
         RunLimit::Frames => b"limit frames\n",
+        RunLimit::Handles => b"limit handles\n",
+        RunLimit::Conts => b"limit conts\n",
     }
 }
 
@@ -79,19 +81,21 @@ pub(crate) fn start_limit_line(name: StartLimit) -> &'static [u8]
 }
 
 /// The line of a trap.
-pub(crate) fn trap_line(trap: Trap) -> &'static [u8]
-    ensures { result.now ≡ (trapped trap).err }
+pub(crate) fn trap_line(alloc: Global, trap: Trap) -> Result<Vec<u8>, AllocError>
+    ensures { IfOk result (λ v. v.items ≡ (trapped trap).err) }
 {
     match trap {
-        Trap::Unreachable => b"trap unreachable\n",
-        Trap::DivideByZero => b"trap divide by zero\n",
-        Trap::IntegerOverflow => b"trap integer overflow\n",
-        Trap::MemoryOutOfBounds => b"trap memory out of bounds\n",
-        Trap::TableOutOfBounds => b"trap table out of bounds\n",
-        Trap::UndefinedElement => b"trap undefined element\n",
-        Trap::NullElement => b"trap null element\n",
-        Trap::CallTypeMismatch => b"trap call type mismatch\n",
-        Trap::NullReference => b"trap null reference\n",
+        Trap::Unreachable => Ok(Vec::from_slice(alloc, b"trap unreachable\n")?),
+        Trap::DivideByZero => Ok(Vec::from_slice(alloc, b"trap divide by zero\n")?),
+        Trap::IntegerOverflow => Ok(Vec::from_slice(alloc, b"trap integer overflow\n")?),
+        Trap::MemoryOutOfBounds => Ok(Vec::from_slice(alloc, b"trap memory out of bounds\n")?),
+        Trap::TableOutOfBounds => Ok(Vec::from_slice(alloc, b"trap table out of bounds\n")?),
+        Trap::UndefinedElement => Ok(Vec::from_slice(alloc, b"trap undefined element\n")?),
+        Trap::NullElement => Ok(Vec::from_slice(alloc, b"trap null element\n")?),
+        Trap::CallTypeMismatch => Ok(Vec::from_slice(alloc, b"trap call type mismatch\n")?),
+        Trap::NullReference => Ok(Vec::from_slice(alloc, b"trap null reference\n")?),
+        Trap::ConsumedContinuation => Ok(Vec::from_slice(alloc, b"trap consumed continuation\n")?),
+        Trap::Unhandled(tag) => number_line(alloc, b"trap unhandled ", tag),
     }
 }
 

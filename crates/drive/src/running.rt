@@ -9,7 +9,7 @@ ghost use Rattle.w_reduce.specs.Values.{val};
 ghost use Rattle.w_inst.specs.Instances.{BeginsAs};
 ghost use Rattle.w_machine.specs.Beginning.{Begins, BeginsWith};
 ghost use Rattle.w_machine.specs.Position.{most_reductions};
-ghost use Rattle.drive.specs.Answer.{result_line, run_reply, run_gives, RunGives};
+ghost use Rattle.drive.specs.Answer.{result_line, trapped, run_reply, run_gives, RunGives};
 ghost use Rattle.drive.specs.Leaving.{Leaves};
 ghost use Rattle.drive.specs.Pieces.{joined};
 ghost use Rattle.drive.specs.Running.{IsFirst};
@@ -23,8 +23,22 @@ use std::alloc::{AllocError, Global};
 use w_inst::{InstFault, Instance, instantiate};
 use w_machine::{Machine, Outcome};
 use w_outside::Sink;
+use w_reduce::Trap;
 use w_rules::Checked;
 use w_types::Value;
+
+// The refusal by a trap.
+fn trap_refusal(alloc: Global, trap: Trap) -> Stop
+    ensures { Refuses (λ reply. reply ≡ trapped trap) result }
+{
+    match trap_line(alloc, trap) {
+        Ok(line) => Stop::Refused(Refusal {
+            line,
+            status: Status::Trap,
+        }),
+        Err(_) => Stop::OutOfMemory,
+    }
+}
 
 // A line for each result.
 fn result_lines(alloc: Global, values: &[Value]) -> Result<Vec<Vec<u8>>, AllocError>
@@ -59,7 +73,7 @@ fn run_machine<O: Sink>(
         Outcome::Running => Err(refuse(alloc, b"running\n", Status::Running)),
         Outcome::Stuck => Err(refuse(alloc, b"stuck\n", Status::Stuck)),
         Outcome::Limit(name) => Err(refuse(alloc, run_limit_line(name), Status::Limit)),
-        Outcome::Trapped(trap) => Err(refuse(alloc, trap_line(trap), Status::Trap)),
+        Outcome::Trapped(trap) => Err(trap_refusal(alloc, trap)),
         Outcome::WriteFault => Err(Stop::WriteFault),
         Outcome::OutOfMemory => Err(Stop::OutOfMemory),
     }
@@ -100,7 +114,7 @@ fn no_run(alloc: Global, fault: InstFault) -> Stop
         },
         InstFault::NoEntry => refuse(alloc, b"no entry\n", Status::Invalid),
         InstFault::Limit(name) => refuse(alloc, start_limit_line(name), Status::Limit),
-        InstFault::Trap(trap) => refuse(alloc, trap_line(trap), Status::Trap),
+        InstFault::Trap(trap) => trap_refusal(alloc, trap),
         InstFault::OutOfMemory => Stop::OutOfMemory,
     }
 }

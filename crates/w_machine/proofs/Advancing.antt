@@ -22,24 +22,29 @@ use Rattle.w_segment.specs.Shape.{Shape, Capacity, fresh_shape}
 use Rattle.w_reduce.specs.declared.limit.RunLimit.TheVariants.{Frames}
 use Rattle.w_reduce.specs.Values.{Val}
 use Rattle.w_reduce.specs.Store.{Store}
-use Rattle.w_reduce.specs.Terms.{Invoke, Rest, Context, Term, frames, most_frames}
+use Rattle.w_reduce.specs.Terms.{Invoke, Rest, Context, Term, frames}
 use Rattle.w_reduce.specs.Program.{Program, IsProgram}
 use Rattle.w_reduce.specs.Reduced.{Reduced, Went, Trapped, Limited, Ended, Stuck}
-use Rattle.w_reduce.specs.Reduce.{limited, reduce}
+use Rattle.w_reduce.specs.Reduce.{limited, reduce, unless_passed}
 use Rattle.w_reduce.specs.Run.{Running, RunState, outcome_by, state_at, after_reduction, continued, Run}
-use Rattle.w_stands.specs.Stands.{In, body, fresh, values}
+use Rattle.w_stands.specs.Stands.{In, body, left, fresh, values}
 use Rattle.w_stands.specs.Values.{stack, store_of}
 use Rattle.w_typed.specs.Values.{ValuesTyped, no_values, values as more_values}
 use Rattle.w_types.specs.declared.types.FuncType.{FuncType}
 use Rattle.w_types.specs.declared.types.ValType.{ValType}
 use Rattle.w_typed.specs.Contexts.{Scope, RestTyped, code_alone, invoke_first, Within, outside}
-use Rattle.w_typed.specs.Configurations.{Typed, IsSafe, goes, traps, is_limited, ends, switches}
+use Rattle.w_reduce.specs.Apart.{switches}
+use Rattle.w_typed.specs.Values.{Arrows}
+use Rattle.w_typed.specs.Configurations.{Typed, IsSafe, goes, traps, is_limited, ends}
 use Rattle.w_typed.proofs.Reductions.{reductions_are_safe}
 use Rattle.w_typed.proofs.TypedRuns.{switching_stuck}
 use Rattle.w_machine.specs.Standing.{behind_of, term_at, EndsWith, Stands, StandsSomewhere}
 use Rattle.w_machine.specs.Reducing.{reduced}
 use Rattle.w_machine.specs.Reached.{waiting_of, IsReached}
 use Rattle.w_machine.proofs.Standing.{typed_by}
+use Rattle.w_reduce.specs.Limits.{most_frames, passed}
+use Rattle.w_reduce.specs.declared.limit.RunLimit.{RunLimit}
+use Rattle.w_reduce.proofs.Passing.{none_within}
 
 -- ## Where a machine stands
 
@@ -61,34 +66,39 @@ stands_somewhere {m = m} {waiting = waiting} es classes h =
 
 -- ## What a reduction that was taken leaves
 
-safe_went : {m : Module} {us : Row Operand} {d : Reduced} {text : List ℕ} {v : Store} {t : Term} → IsSafe m us d → d ≡ Went text v t → Typed m us v t
-safe_went {m = m} {us = us} {v = v} {t = t} (goes {s = old_store} {t = old} h) is =
+-- it is typed, with some function types of its continuations
+pub record SomehowTyped (m : Module) (us : Row Operand) (v : Store) (t : Term) : Type 0 where
+  pub arrows : Arrows
+  pub typed : Typed m arrows us v t
+
+safe_went : {m : Module} {K : Arrows} {us : Row Operand} {d : Reduced} {text : List ℕ} {v : Store} {t : Term} → IsSafe m K us d → d ≡ Went text v t → SomehowTyped m us v t
+safe_went {m = m} {us = us} {v = v} {t = t} (goes {L = L} {s = old_store} {t = old} g h) is =
     let one : old ≡ t = cc in
     let store : old_store ≡ v = cc in
-    subst (λ (x : Term). Typed m us v x) one (subst (λ (w : Store). Typed m us w old) store h)
+    record { arrows = L; typed = subst (λ (x : Term). Typed m L us v x) one (subst (λ (w : Store). Typed m L us w old) store h) }
 safe_went traps is = absurd (cc)
 safe_went is_limited is = absurd (cc)
 safe_went (ends h) is = absurd (cc)
 
 pub limited_few : (d : Reduced) (text : List ℕ) (v : Store) (t : Term) → limited d ≡ Went text v t → frames t.around ≤ most_frames
-limited_few (Went out s u) text v t is = few (nat_le (frames u.around) most_frames) refl is
+limited_few (Went out s u) text v t is = few (passed s u.around) refl is
   where
-    few : (b : Bool) → nat_le (frames u.around) most_frames ≡ b → (if b then Went out s u else Limited Frames) ≡ Went text v t → frames t.around ≤ most_frames
-    few true e is = let same : u ≡ t = cc in subst (λ (x : Term). frames x.around ≤ most_frames) same (grind (arith, e))
-    few false e is = absurd (cc)
+    few : (o : Option RunLimit) → passed s u.around ≡ o → unless_passed o (Went out s u) ≡ Went text v t → frames t.around ≤ most_frames
+    few None e is = let same : u ≡ t = cc in subst (λ (x : Term). frames x.around ≤ most_frames) same (none_within s u.around e).few_frames
+    few (Some name) e is = absurd (cc)
 limited_few (Trapped x) text v t is = absurd (cc)
 limited_few (Limited l) text v t is = absurd (cc)
 limited_few (Ended vs) text v t is = absurd (cc)
 limited_few Stuck text v t is = absurd (cc)
 
 module _ {m : Module} {waiting : Option ℕ} {u : instances.Store} {s : Shape} {p : Program} {e : Context} {r : Rest} (valid : Valid m) (h : Stands m waiting u s p e r) where
-  went_if : {text : List ℕ} {v : Store} {t : Term} (b : Bool) → switches r.ahead r.code ≡ b → reduced p e r u s ≡ Went text v t → Typed p.source h.results v t
+  went_if : {text : List ℕ} {v : Store} {t : Term} (b : Bool) → switches r.ahead r.code ≡ b → reduced p e r u s ≡ Went text v t → SomehowTyped p.source h.results v t
   went_if true is went = let stuck = ap limited (switching_stuck p (store_of u) e (stack s.operands) r.ahead r.code is) in absurd (cc)
-  went_if false is went = safe_went (reductions_are_safe p h.results (store_of u) (term_at s e r) h.program (subst Valid (sym h.source) valid) (typed_by h) is) went
+  went_if false is went = safe_went (reductions_are_safe p h.arrows h.results (store_of u) (term_at s e r) h.program (subst Valid (sym h.source) valid) (typed_by h) is) went
 
   -- it is typed again
-  pub went_typed : {text : List ℕ} {v : Store} {t : Term} → reduced p e r u s ≡ Went text v t → Typed m h.results v t
-  went_typed {v = v} {t = t} went = subst (λ (n : Module). Typed n h.results v t) h.source (went_if (switches r.ahead r.code) refl went)
+  pub went_typed : {text : List ℕ} {v : Store} {t : Term} → reduced p e r u s ≡ Went text v t → SomehowTyped m h.results v t
+  went_typed {v = v} {t = t} went = subst (λ (n : Module). SomehowTyped n h.results v t) h.source (went_if (switches r.ahead r.code) refl went)
 
 -- ## Main's turn
 
@@ -100,19 +110,19 @@ size_beside : (xs ys : Row Operand) → size (xs ⧺ ys) ≡ size xs + size ys
 size_beside xs ε = omega arith
 size_beside xs (ys ▹ y) = omega (arith, size_beside xs ys)
 
-no_operand : (m : Module) {vs : Row Val} {ts : Row Operand} → ValuesTyped m vs ts → size ts ≡ 0 → vs ≡ ε
+no_operand : (m : Module) {K : Arrows} {vs : Row Val} {ts : Row Operand} → ValuesTyped m K vs ts → size ts ≡ 0 → vs ≡ ε
 no_operand m no_values e = refl
 no_operand m (more_values h v) e = absurd (cc)
 
-outside_size : (m : Module) {us : Row Operand} {c : Scope} {now : List Bool} {out : Row Operand} → Within m us [] c now out → size out ≡ size us
+outside_size : (m : Module) {K : Arrows} {us : Row Operand} {c : Scope} {now : List Bool} {out : Row Operand} → Within m K us [] c now out → size out ≡ size us
 outside_size m {us = us} {out = out} (outside r) = row_size m.types out us r
 
 done_size : (m : Module) {c : Scope} {set : List Bool} {ts out : Row Operand} → RestTyped m c set [] Done ts out → size ts ≡ size out
 done_size m {ts = ts} {out = out} (code_alone h) = row_size m.types ts out h.derives
 
 -- before main's invoke, with nothing around it, there are no operands
-invoke_alone : (m : Module) {us : Row Operand} {main : ℕ} {vs : Row Val} {c : Scope} {set now : List Bool} {ts out : Row Operand} → EndsWith m us main → ValuesTyped m vs ts
-    → RestTyped m c set (Invoke main ∷ []) Done ts out → Within m us [] c now out → vs ≡ ε
+invoke_alone : (m : Module) {K : Arrows} {us : Row Operand} {main : ℕ} {vs : Row Val} {c : Scope} {set now : List Bool} {ts out : Row Operand} → EndsWith m us main → ValuesTyped m K vs ts
+    → RestTyped m c set (Invoke main ∷ []) Done ts out → Within m K us [] c now out → vs ≡ ε
 invoke_alone m {us = us} {ts = ts} {out = out} last v (invoke_first {t = t} beneath is takes h) w =
     let same : t ≡ last.type = (let one = is in let two = last.has_type in cc) in
     let results : size (known (row_of t.results)) ≡ size us = ap (λ (f : FuncType). size (known (row_of f.results))) same ∙ sym (ap size last.is) in
@@ -159,12 +169,13 @@ fresh_in {m = m} main c {e = e} {r = r} outer behind =
 
 pub left_there : {m : Module} {outer : Context} {behind : Rest} {s : Shape} {e : Context} {r : Rest} → In m outer behind s e r → s.stage ≡ AtValues → (e ≡ outer) × (r ≡ behind)
 left_there (body h k w) b = absurd (cc)
+left_there (left h k w) b = absurd (cc)
 left_there (fresh h k) b = absurd (cc)
 left_there (values h k) b = (refl, refl)
 
 -- where main's turn comes there are no operands
-pub turn_empty : {m : Module} {us : Row Operand} {v : Store} (s : Shape) {e : Context} {r : Rest} {main : ℕ} → EndsWith m us main → Typed m us v (term_at s e r) → e ≡ []
+pub turn_empty : {m : Module} {K : Arrows} {us : Row Operand} {v : Store} (s : Shape) {e : Context} {r : Rest} {main : ℕ} → EndsWith m us main → Typed m K us v (term_at s e r) → e ≡ []
     → r ≡ behind_of (Some main) → s.operands ≡ []
-turn_empty {m = m} {us = us} {v = v} s {main = main} last h outer behind =
-    let at = subst₂ (λ (x : Context) (y : Rest). Typed m us v (term_at s x y)) outer behind h in
+turn_empty {m = m} {K = K} {us = us} {v = v} s {main = main} last h outer behind =
+    let at = subst₂ (λ (x : Context) (y : Rest). Typed m K us v (term_at s x y)) outer behind h in
     empty_stack s.operands (invoke_alone m last at.term.operands at.term.rest at.term.around)

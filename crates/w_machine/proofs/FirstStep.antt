@@ -71,7 +71,8 @@ first_at {m = m} {u = u} {main = main} {f = f} {waiting = waiting} c valid short
         short = short;
         stands = fresh refl refl;
         results = known (row_of typed.type.results);
-        typed = subst₂ (λ (s : Store) (t : Term). Typed m (known (row_of typed.type.results)) s t) store there typed.typed;
+        arrows = [];
+        typed = subst₂ (λ (s : Store) (t : Term). Typed m [] (known (row_of typed.type.results)) s t) store there typed.typed;
         ends = ends_with first term typed;
         few = omega arith;
         done = λ e. absurd (cc);

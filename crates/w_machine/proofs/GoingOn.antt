@@ -63,7 +63,8 @@ next_at {u = u} {s = s} {p = p} {u' = u'} {s' = s'} s₀ t₀ valid at went (sta
     short = at.stands.short;
     stands = went.stands;
     results = at.stands.results;
-    typed = went_typed valid at.stands went.is;
+    arrows = (went_typed valid at.stands went.is).arrows;
+    typed = (went_typed valid at.stands went.is).typed;
     ends = at.stands.ends;
     few = limited_few (next p (store_of u) at.around (stack s.operands) at.rest.ahead at.rest.code) went.text (store_of u') (term_at s' went.around went.rest) went.is;
     done = done;
@@ -73,7 +74,7 @@ next_at {u = u} {s = s} {p = p} {u' = u'} {s' = s'} s₀ t₀ valid at went (sta
 next_at {m = m} {u = u} {s = s} {p = p} {u' = u'} {s' = s'} s₀ t₀ valid at went (takes_over {main = main} {c = c} left) =
     let there = left_there went.stands left in
     let typed = went_typed valid at.stands went.is in
-    let empty : s'.operands ≡ [] = turn_empty s' (at.stands.ends main refl) typed there.0 there.1 in
+    let empty : s'.operands ≡ [] = turn_empty s' (at.stands.ends main refl) typed.typed there.0 there.1 in
     let same : term_at (fresh_shape main c) went.around went.rest ≡ term_at s' went.around went.rest =
     ap (λ (vs : List Value). let t : Term = record { around = went.around; operands = stack vs; rest = went.rest } in t) (sym empty) in
     record {
@@ -85,7 +86,8 @@ next_at {m = m} {u = u} {s = s} {p = p} {u' = u'} {s' = s'} s₀ t₀ valid at w
         short = at.stands.short;
         stands = fresh_in main c there.0 there.1;
         results = at.stands.results;
-        typed = subst (λ (t : Term). Typed m at.stands.results (store_of u') t) (sym same) typed;
+        arrows = typed.arrows;
+        typed = subst (λ (t : Term). Typed m typed.arrows at.stands.results (store_of u') t) (sym same) typed.typed;
         ends = λ f e. absurd (cc);
         few = limited_few (next p (store_of u) at.around (stack s.operands) at.rest.ahead at.rest.code) went.text (store_of u') (term_at s' went.around went.rest) went.is;
         done = λ e. refl;

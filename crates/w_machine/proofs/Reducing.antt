@@ -1,43 +1,50 @@
 -- What a reduction comes to, by what the call that takes it came to.
-use Rattle.std.proofs.Common.{◌≡◌, ◌⊎◌, inl, inr, ℕ, ◌≤◌, Bool, true, false, nat_le, if◌then◌else◌, List, [], ◌∷◌, Option, Some, None, Result, Ok, Err, refl, sym, ap, subst, ◌∙◌, arith}
+use Rattle.std.proofs.Common.{◌≡◌, ◌≢◌, ◌⊎◌, inl, inr, ℕ, ◌≤◌, Bool, true, false, nat_le, if◌then◌else◌, List, [], ◌∷◌, Option, Some, None, Result, Ok, Err, refl, sym, ap, subst, ◌∙◌, arith}
 use Rattle.w_outside.specs.Outside.{Grew, GrewByFront, IsFront}
 use Rattle.w_outside.proofs.Growth.{grew_nothing}
 use Rattle.w_syntax.specs.declared.instructions.Instr.{Instr}
 use Rattle.w_syntax.specs.declared.module.Module.{Module}
 use Rattle.w_rules.specs.Valid.{Valid}
 use Rattle.w_tables.specs.Store as instances
-use Rattle.w_segment.specs.declared.entry.Stage.TheVariants.{Fresh, Body, Values}
+use Rattle.w_segment.specs.declared.entry.Stage.TheVariants.{Body, Values}
 use Rattle.w_segment.specs.Shape.{Shape, frames_of}
 use Rattle.w_reduce.specs.declared.limit.RunLimit.TheVariants.{Frames}
 use Rattle.w_reduce.specs.declared.trap.Trap.{Trap}
-use Rattle.w_reduce.specs.Store.{Store}
-use Rattle.w_reduce.specs.Terms.{Rest, Context, Term, frames, most_frames}
+use Rattle.w_reduce.specs.Store.{Store, live, with_conts}
+use Rattle.w_reduce.specs.Terms.{Rest, Context, Term, Kept as TheKept, frames, Administrative}
 use Rattle.w_reduce.specs.Program.{Program}
 use Rattle.w_reduce.specs.Reduced.{Reduced, Went, Limited, Ended}
-use Rattle.w_reduce.specs.Reduce.{next, limited}
+use Rattle.w_reduce.specs.Reduce.{next, limited, unless_passed}
 use Rattle.w_stands.specs.declared.did.Did.{Did}
 use Rattle.w_stands.specs.declared.did.Did.TheVariants as did
 use Rattle.w_stands.specs.Code.{instr_of}
-use Rattle.w_stands.specs.Stands.{In, body, fresh, values}
+use Rattle.w_stands.specs.Stands.{In, body, left, fresh, values}
 use Rattle.w_stands.specs.Steps.{At}
 use Rattle.w_stands.specs.Values.{stack, store_of}
 use Rattle.w_plain.specs.declared.stop.Stop.{Stop}
 use Rattle.w_plain.specs.declared.stop.Stop.TheVariants as stop
 use Rattle.w_plain.specs.Meets.{Applies}
 use Rattle.w_plain.specs.Printing.{Began, Printed}
-use Rattle.w_typed.specs.Configurations.{switches}
-use Rattle.w_typed.proofs.Quiet.{IsQuiet, silent, stays, silent_trap, silent_limit, silent_end, silent_stuck, quiet_next}
+use Rattle.w_reduce.specs.Apart.{switches, apart}
+use Rattle.w_reduce.proofs.Plainly.{Plainly, silent, stays, silent_trap, silent_limit, silent_end, silent_stuck, plainly_next, plain_apart}
 use Rattle.w_typed.proofs.TypedRuns.{switching_stuck}
 use Rattle.w_machine.specs.declared.outcome.Kept.{Kept}
 use Rattle.w_machine.specs.declared.outcome.Kept.TheVariants as kept
 use Rattle.w_machine.specs.Standing.{behind_of, term_at, Stands, StandsSomewhere}
 use Rattle.w_machine.specs.Reducing.{switches_at, reduced, Begun, Fails, Reduces, told_of}
-use Rattle.w_machine.proofs.Standing.{frames_in, next_in, rule_applies, applies_at}
+use Rattle.w_machine.proofs.Standing.{frames_in, next_in, rule_applies, applies_at, handles_in}
+use Rattle.w_reduce.specs.Limits.{most_frames, IsWithin}
+use Rattle.w_reduce.specs.declared.limit.RunLimit.{RunLimit}
+use Rattle.w_reduce.proofs.Passing.{within_none}
+use Rattle.w_types.specs.Rows.{Row}
+use Rattle.w_syntax.specs.Code.{Code}
+use Rattle.w_reduce.specs.Values.{Val}
 
 -- ## Where none is taken
 
 no_values : {m : Module} {outer : Context} {behind : Rest} {s : Shape} {e : Context} {r : Rest} → In m outer behind s e r → s.stage ≡ Values → (e ≡ outer) × (r ≡ behind)
 no_values (body h k w) b = absurd (cc)
+no_values (left h k w) b = absurd (cc)
 no_values (fresh h k) b = absurd (cc)
 no_values (values h k) b = (refl, refl)
 
@@ -71,6 +78,7 @@ IsPlainAt m s = (s.stage ≡ Body → false ≡ switches_at (instr_of m s.func s
 -- none are switched next
 pub plain_next : {m : Module} {outer : Context} {behind : Rest} {s : Shape} {e : Context} {r : Rest} → In m outer behind s e r → IsPlainAt m s → switches r.ahead r.code ≡ false
 plain_next {s = s} (body h k w) f = next_in {s = s} (body h k w) h ∙ sym (f.0 h)
+plain_next (left h k w) f = refl
 plain_next (fresh h k) f = refl
 plain_next (values h k) f = absurd (f.1 h)
 
@@ -86,7 +94,7 @@ standing_at valid f h = record { source = h.source; program = h.program; short =
 -- ## What is printed
 
 -- a reduction that goes on prints nothing, or its context stays
-quiet_text : {e : Context} {last : Bool} {d : Reduced} (text : List ℕ) (v : Store) (t : Term) → IsQuiet e last d → d ≡ Went text v t → (text ≡ []) ⊎ (t.around ≡ e)
+quiet_text : {ks : List (Option TheKept)} {e : Context} {last : Bool} {d d' : Reduced} (text : List ℕ) (v : Store) (t : Term) → Plainly ks e last d d' → d ≡ Went text v t → (text ≡ []) ⊎ (t.around ≡ e)
 quiet_text text v t silent is = inl (cc)
 quiet_text {e = e} text v t (stays {t = old} h) is = let same : t ≡ old = cc in inr (ap (λ (x : Term). x.around) same ∙ h)
 quiet_text text v t silent_trap is = absurd (cc)
@@ -104,17 +112,37 @@ no_front {part = n ∷ ns} h e = let j = h.joined in absurd (cc)
 front_none : {before now : Option (List ℕ)} {text : List ℕ} → text ≡ [] → GrewByFront before now text → now ≡ before
 front_none e h = grew_none (no_front h.front e) h.grew
 
-le_true : (n : ℕ) → n ≤ most_frames → nat_le n most_frames ≡ true
-le_true n h = grind (arith, h)
-
 not_le : (n : ℕ) → nat_le n most_frames ≡ false → n ≤ most_frames → ⊥
-not_le n is h = let no = le_true n h in absurd (cc)
+not_le n is h = let no : nat_le n most_frames ≡ true = grind (arith, h) in absurd (cc)
 
-within : (text : List ℕ) (v : Store) (t : Term) → frames t.around ≤ most_frames → limited (Went text v t) ≡ Went text v t
-within text v t h = rw (le_true (frames t.around) h) refl
+few_enough : (n : ℕ) → nat_le n most_frames ≡ true → n ≤ most_frames
+few_enough n h = grind (arith, h)
+
+within : (text : List ℕ) (v : Store) (t : Term) → IsWithin v t.around → limited (Went text v t) ≡ Went text v t
+within text v t h = ap (λ (o : Option RunLimit). unless_passed o (Went text v t)) (within_none v t.around h)
 
 past : (text : List ℕ) (v : Store) (t : Term) → nat_le (frames t.around) most_frames ≡ false → limited (Went text v t) ≡ Limited Frames
 past text v t h = rw h refl
+
+-- with nothing around the segment, and no continuation, the frames alone are limited
+alone_within : {m : Module} {behind : Rest} {u : instances.Store} {s : Shape} {e : Context} {r : Rest} → In m [] behind s e r → frames e ≤ most_frames → IsWithin (store_of u) e
+alone_within h few = record { few_frames = few; few_handles = (let none = handles_in h in omega (arith, none)); few_conts = omega arith }
+
+-- a plain reduction makes no continuation
+makes_none : {p : Program} {u : instances.Store} {e : Context} {vs : Row Val} {ahead : List Administrative} {k : Code} {text : List ℕ} {v : Store} {t : Term}
+    → next p (store_of u) e vs ahead k ≡ Went text v t → switches ahead k ≡ false → live v ≡ 0
+makes_none {p = p} {u = u} {e = e} {vs = vs} {ahead = ahead} {k = k} {text = text} {v = v} {t = t} is plain =
+    let both : Went text v t ≡ Went text (with_conts [] v) t = sym is ∙ plain_apart [] p (store_of u) e vs ahead k plain ∙ ap (apart []) is in
+    let same : v ≡ with_conts [] v = cc in
+    ap live same
+
+stays_within : {m : Module} {behind : Rest} {u : instances.Store} {s : Shape} {p : Program} {e : Context} {r : Rest} {text : List ℕ} {v : Store} {t : Term} → In m [] behind s e r
+    → frames e ≤ most_frames → next p (store_of u) e (stack s.operands) r.ahead r.code ≡ Went text v t → switches r.ahead r.code ≡ false → IsWithin v e
+stays_within {u = u} h few is plain = record {
+  few_frames = few;
+  few_handles = (let none = handles_in h in omega (arith, none));
+  few_conts = (let none = makes_none {u = u} is plain in omega (arith, none));
+}
 
 -- ## Each answer
 
@@ -131,14 +159,14 @@ module _ {m : Module} {u : instances.Store} {s : Shape} (valid : Valid m) (f : I
         rest = to.rest;
         stands = to.stands;
         grew = grew;
-        is = ap limited to.is ∙ rw n refl;
+        is = ap limited to.is ∙ within text (store_of u') (term_at s' to.around to.rest) (alone_within {u = u'} to.stands (few_enough (frames to.around) n));
       }
   went u' s' before now false many (text, goes, grew) waiting p e r h =
       let to = goes.goes p (record { outer = []; behind = behind_of waiting }) e r (standing_at valid f h) in
       let n : nat_le (frames to.around) most_frames ≡ false = ap (λ (n : ℕ). nat_le n most_frames) (frames_in to.stands) ∙ many in
       let t = term_at s' to.around to.rest in (
         ap limited to.is ∙ past text (store_of u') t n,
-        elim (quiet_text text (store_of u') t (quiet_next p (store_of u) e (stack s.operands) r.ahead r.code) to.is) [
+        elim (quiet_text text (store_of u') t (plainly_next [] p (store_of u) e (stack s.operands) r.ahead r.code (plain_next h.stands f)) to.is) [
           | inl none ↦ grew_none none grew
           | inr same ↦ absurd (not_le (frames to.around) n (subst (λ (c : Context). frames c ≤ most_frames) (sym same) h.few))
         ],
@@ -154,14 +182,14 @@ module _ {m : Module} {u : instances.Store} {s : Shape} (valid : Valid m) (f : I
   began h (inl same) = inl same
   began {waiting = waiting} {p = p} {e = e} {r = r} h (inr (text, prints, grew)) =
       let at = prints p (record { outer = []; behind = behind_of waiting }) e r (standing_at valid f h) in
-      elim (quiet_text text at.0 at.1 (quiet_next p (store_of u) e (stack s.operands) r.ahead r.code) at.2) [
+      elim (quiet_text text at.0 at.1 (plainly_next [] p (store_of u) e (stack s.operands) r.ahead r.code (plain_next h.stands f)) at.2) [
         | inl none ↦ inl (front_none none grew)
         | inr same ↦ inr (record {
           text = text;
           store = at.0;
           term = at.1;
           grew = grew;
-          is = ap limited at.2 ∙ within text at.0 at.1 (subst (λ (c : Context). frames c ≤ most_frames) (sym same) h.few);
+          is = ap limited at.2 ∙ within text at.0 at.1 (subst (IsWithin at.0) (sym same) (stays_within h.stands h.few at.2 (plain_next h.stands f)));
         })
       ]
 
@@ -195,5 +223,5 @@ found_at m s {f = f} {p = p} h is func place =
 pub body_plain : (m : Module) (s : Shape) → s.stage ≡ Body → false ≡ switches_at (instr_of m s.func s.place) → IsPlainAt m s
 body_plain m s b h = ((λ e. h), (λ e. absurd (cc)))
 
-pub fresh_plain : (m : Module) (s : Shape) → Fresh ≡ s.stage → IsPlainAt m s
-fresh_plain m s b = ((λ e. absurd (cc)), (λ e. absurd (cc)))
+pub ahead_plain : (m : Module) (s : Shape) → s.stage ≢ Body → s.stage ≢ Values → IsPlainAt m s
+ahead_plain m s b v = ((λ e. absurd (b e)), (λ e. absurd (v e)))

@@ -11,15 +11,17 @@ use Rattle.w_rules.specs.Valid.{Valid, MemoryItem}
 use Rattle.w_tables.specs.Store as instances
 use Rattle.w_segment.specs.declared.entry.Stage.TheVariants.{Fresh, Body}
 use Rattle.w_segment.specs.Shape.{Shape, Level, frames_of}
-use Rattle.w_reduce.specs.Terms.{Rest, Context, frames}
+use Rattle.w_reduce.specs.Terms.{Rest, Context, frames, handles}
 use Rattle.w_reduce.specs.Program.{Program}
 use Rattle.w_reduce.specs.Reduced.{Reduced, Stuck}
 use Rattle.w_reduce.specs.Reduce.{next, limited}
 use Rattle.w_stands.specs.Code.{instr_of, IsMark, Reads, stop, plain, block, choice, choices}
-use Rattle.w_stands.specs.Stands.{Around, label, frame, outermost, In, body, fresh, values}
+use Rattle.w_stands.specs.Stands.{Around, label, frame, outermost, In, body, left, fresh, values}
 use Rattle.w_stands.specs.Values.{stack, store_of}
 use Rattle.w_plain.specs.Meets.{Applies}
-use Rattle.w_typed.specs.Configurations.{Typed, IsSafe, goes, traps, is_limited, ends, switches}
+use Rattle.w_reduce.specs.Apart.{switches}
+use Rattle.w_typed.specs.Values.{Arrows}
+use Rattle.w_typed.specs.Configurations.{Typed, IsSafe, goes, traps, is_limited, ends}
 use Rattle.w_typed.proofs.Reductions.{reductions_are_safe}
 use Rattle.w_machine.specs.Standing.{behind_of, term_at, Stands, StandsSomewhere}
 use Rattle.w_machine.specs.Reducing.{switches_at}
@@ -34,8 +36,21 @@ frames_around (outermost h) = refl
 -- a segment with nothing around it has all frames of the term
 pub frames_in : {m : Module} {behind : Rest} {s : Shape} {e : Context} {r : Rest} → In m [] behind s e r → frames e ≡ frames_of s.levels
 frames_in (body h k w) = frames_around w
+frames_in (left h k w) = frames_around w
 frames_in (fresh h k) = ap frames_of (sym k)
 frames_in (values h k) = ap frames_of (sym k)
+
+handles_around : {m : Module} {behind : Rest} {f q : ℕ} {ls : List Level} {e : Context} → Around m [] behind f q ls e → handles e ≡ 0
+handles_around (label h k j w) = handles_around w
+handles_around (frame h k w) = handles_around w
+handles_around (outermost h) = refl
+
+-- and the term has no handle
+pub handles_in : {m : Module} {behind : Rest} {s : Shape} {e : Context} {r : Rest} → In m [] behind s e r → handles e ≡ 0
+handles_in (body h k w) = handles_around w
+handles_in (left h k w) = handles_around w
+handles_in (fresh h k) = refl
+handles_in (values h k) = refl
 
 -- ## What comes next
 
@@ -58,6 +73,7 @@ read_next (choices at h k j i l) = rw at refl
 pub next_in : {m : Module} {outer : Context} {behind : Rest} {s : Shape} {e : Context} {r : Rest} → In m outer behind s e r → s.stage ≡ Body
     → switches r.ahead r.code ≡ switches_at (instr_of m s.func s.place)
 next_in (body h k w) b = read_next k
+next_in (left h k w) b = absurd (cc)
 next_in (fresh h k) b = absurd (cc)
 next_in (values h k) b = absurd (cc)
 
@@ -65,26 +81,27 @@ next_in (values h k) b = absurd (cc)
 pub fresh_next : {m : Module} {outer : Context} {behind : Rest} {s : Shape} {e : Context} {r : Rest} → In m outer behind s e r → s.stage ≡ Fresh
     → switches r.ahead r.code ≡ false
 fresh_next (body h k w) b = absurd (cc)
+fresh_next (left h k w) b = absurd (cc)
 fresh_next (fresh h k) b = refl
 fresh_next (values h k) b = absurd (cc)
 
 -- ## A rule applies
 
-never_stuck : {m : Module} {us : Row Operand} {d : Reduced} → IsSafe m us d → d ≡ Stuck → ⊥
-never_stuck (goes h) e = absurd (cc)
+never_stuck : {m : Module} {K : Arrows} {us : Row Operand} {d : Reduced} → IsSafe m K us d → d ≡ Stuck → ⊥
+never_stuck (goes g h) e = absurd (cc)
 never_stuck traps e = absurd (cc)
 never_stuck is_limited e = absurd (cc)
 never_stuck (ends h) e = absurd (cc)
 
 module _ {m : Module} {waiting : Option ℕ} {u : instances.Store} {s : Shape} {p : Program} {e : Context} {r : Rest} where
   -- the configuration is typed by the program's module
-  pub typed_by : (h : Stands m waiting u s p e r) → Typed p.source h.results (store_of u) (term_at s e r)
-  typed_by h = subst (λ (n : Module). Typed n h.results (store_of u) (term_at s e r)) (sym h.source) h.typed
+  pub typed_by : (h : Stands m waiting u s p e r) → Typed p.source h.arrows h.results (store_of u) (term_at s e r)
+  typed_by h = subst (λ (n : Module). Typed n h.arrows h.results (store_of u) (term_at s e r)) (sym h.source) h.typed
 
   -- to a configuration that switches no stacks next a rule applies
   pub rule_applies : Valid m → (h : Stands m waiting u s p e r) → switches r.ahead r.code ≡ false → next p (store_of u) e (stack s.operands) r.ahead r.code ≢ Stuck
   rule_applies valid h none is =
-      never_stuck (reductions_are_safe p h.results (store_of u) (term_at s e r) h.program (subst Valid (sym h.source) valid) (typed_by h) none) (ap limited is)
+      never_stuck (reductions_are_safe p h.arrows h.results (store_of u) (term_at s e r) h.program (subst Valid (sym h.source) valid) (typed_by h) none) (ap limited is)
 
   -- there is at most one memory
   pub one_memory : Valid m → Stands m waiting u s p e r → length u.memories ≤ 1

@@ -14,18 +14,19 @@ use Rattle.w_segment.specs.Link.{Link, top}
 use Rattle.w_segment.specs.Shape.{Shape, Level}
 use Rattle.w_reduce.specs.Values.{Val}
 use Rattle.w_reduce.specs.Store.{Store}
-use Rattle.w_reduce.specs.Terms.{Rest, Context, Term, frames, most_frames}
+use Rattle.w_reduce.specs.Terms.{Rest, Context, Term, Kept as TheKept, frames}
 use Rattle.w_reduce.specs.declared.limit.RunLimit.TheVariants.{Frames}
 use Rattle.w_reduce.specs.Program.{Program}
 use Rattle.w_reduce.specs.Reduced.{Reduced, Went, Trapped, Limited, Ended, Stuck}
-use Rattle.w_reduce.specs.Reduce.{limited}
+use Rattle.w_reduce.specs.Reduce.{limited, unless_passed}
 use Rattle.w_reduce.specs.Run.{Running, outcome_by, Run}
 use Rattle.w_stands.specs.Code.{instr_of}
-use Rattle.w_stands.specs.Stands.{Around, label, frame, outermost, In, body, fresh, values}
+use Rattle.w_stands.specs.Stands.{Around, label, frame, outermost, In, body, left, fresh, values}
 use Rattle.w_stands.specs.Values.{stack, store_of}
+use Rattle.w_typed.specs.Values.{Arrows}
 use Rattle.w_typed.specs.Configurations.{IsSafe, goes, traps, is_limited, ends}
 use Rattle.w_typed.proofs.Reductions.{reductions_are_safe}
-use Rattle.w_typed.proofs.Quiet.{IsQuiet, silent, stays, silent_trap, silent_limit, silent_end, silent_stuck, is_last, quiet_next}
+use Rattle.w_reduce.proofs.Plainly.{Plainly, silent, stays, silent_trap, silent_limit, silent_end, silent_stuck, is_last, plainly_next}
 use Rattle.w_machine.specs.declared.outcome.Kept.{Kept}
 use Rattle.w_machine.specs.declared.outcome.Kept.TheVariants as kept
 use Rattle.w_machine.specs.Standing.{term_at, Stands}
@@ -36,6 +37,8 @@ use Rattle.w_machine.specs.Reached.{waiting_of, EndsAt, IsReached}
 use Rattle.w_machine.proofs.Standing.{typed_by}
 use Rattle.w_machine.proofs.Reducing.{IsPlainAt, plain_next, reduces_ended, reduces_stuck}
 use Rattle.w_machine.proofs.Stopping.{told_by, taken_is, tells_so}
+use Rattle.w_reduce.specs.Limits.{passed}
+use Rattle.w_reduce.specs.declared.limit.RunLimit.{RunLimit}
 
 -- ## What the place tells
 
@@ -61,17 +64,17 @@ plain_by m s (stage.Branch l) b at is e = ((λ x. absurd (cc)), (λ x. absurd (c
 -- ## The run goes on
 
 limited_end : (d : Reduced) (vs : Row Val) → limited d ≡ Ended vs → d ≡ Ended vs
-limited_end (Went text v t) vs is = either (nat_le (frames t.around) most_frames) is
+limited_end (Went text v t) vs is = either (passed v t.around) is
   where
-    either : (b : Bool) → (if b then Went text v t else Limited Frames) ≡ Ended vs → Went text v t ≡ Ended vs
-    either true e = e
-    either false e = absurd (cc)
+    either : (o : Option RunLimit) → unless_passed o (Went text v t) ≡ Ended vs → Went text v t ≡ Ended vs
+    either None e = e
+    either (Some name) e = absurd (cc)
 limited_end (Trapped t) vs is = absurd (cc)
 limited_end (Limited l) vs is = absurd (cc)
 limited_end (Ended ws) vs is = is
 limited_end Stuck vs is = absurd (cc)
 
-quiet_end : {e : Context} {last : Bool} {d : Reduced} (vs : Row Val) → IsQuiet e last d → d ≡ Ended vs → last ≡ true
+quiet_end : {ks : List (Option TheKept)} {e : Context} {last : Bool} {d d' : Reduced} (vs : Row Val) → Plainly ks e last d d' → d ≡ Ended vs → last ≡ true
 quiet_end vs silent is = absurd (cc)
 quiet_end vs (stays h) is = absurd (cc)
 quiet_end vs silent_trap is = absurd (cc)
@@ -86,12 +89,13 @@ more_around r (outermost h) = refl
 
 not_last : {m : Module} {outer : Context} {behind : Rest} {s : Shape} {e : Context} {r : Rest} → In m outer behind s e r → IsPlainAt m s → is_last e r.ahead r.code ≡ false
 not_last {r = r} (body h k w) f = more_around r w
+not_last {r = r} (left h k w) f = more_around r w
 not_last {outer = []} (fresh h k) f = refl
 not_last {outer = l ∷ outer} (fresh h k) f = refl
 not_last (values h k) f = absurd (f.1 h)
 
-safe_running : {m : Module} {us : Row Operand} {d : Reduced} → IsSafe m us d → ((vs : Row Val) → d ≡ Ended vs → ⊥) → outcome_by d ≡ Running
-safe_running (goes h) never = refl
+safe_running : {m : Module} {K : Arrows} {us : Row Operand} {d : Reduced} → IsSafe m K us d → ((vs : Row Val) → d ≡ Ended vs → ⊥) → outcome_by d ≡ Running
+safe_running (goes g h) never = refl
 safe_running traps never = refl
 safe_running is_limited never = refl
 safe_running (ends {vs = vs} h) never = absurd (never vs refl)
@@ -100,8 +104,8 @@ safe_running (ends {vs = vs} h) never = absurd (never vs refl)
 still_running : {m : Module} {waiting : Option ℕ} {u : instances.Store} {s : Shape} {p : Program} {e : Context} {r : Rest} → Valid m → Stands m waiting u s p e r → IsPlainAt m s
     → outcome_by (reduced p e r u s) ≡ Running
 still_running {u = u} {s = s} {p = p} {e = e} {r = r} valid h f =
-    safe_running (reductions_are_safe p h.results (store_of u) (term_at s e r) h.program (subst Valid (sym h.source) valid) (typed_by h) (plain_next h.stands f)) (λ vs is.
-    let last = quiet_end vs (quiet_next p (store_of u) e (stack s.operands) r.ahead r.code) (limited_end _ vs is) in
+    safe_running (reductions_are_safe p h.arrows h.results (store_of u) (term_at s e r) h.program (subst Valid (sym h.source) valid) (typed_by h) (plain_next h.stands f)) (λ vs is.
+    let last = quiet_end vs (plainly_next [] p (store_of u) e (stack s.operands) r.ahead r.code (plain_next h.stands f)) (limited_end _ vs is) in
     let not = not_last h.stands f in
     absurd (cc))
 

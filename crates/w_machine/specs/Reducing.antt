@@ -10,7 +10,7 @@ use Rattle.w_segment.specs.declared.entry.Stage.TheVariants as stage
 use Rattle.w_segment.specs.Shape.{Shape, SameParts}
 use Rattle.w_reduce.specs.Store.{Store}
 use Rattle.w_reduce.specs.declared.limit.RunLimit.TheVariants.{Frames}
-use Rattle.w_reduce.specs.Terms.{Rest, Context, Term, most_frames}
+use Rattle.w_reduce.specs.Terms.{Rest, Context, Term}
 use Rattle.w_reduce.specs.Program.{Program}
 use Rattle.w_reduce.specs.Reduced.{Reduced, Went, Trapped, Limited, Ended, Stuck}
 use Rattle.w_reduce.specs.Reduce.{reduce}
@@ -21,10 +21,11 @@ use Rattle.w_stands.specs.Stands.{In}
 use Rattle.w_stands.specs.Values.{stack, store_of}
 use Rattle.w_plain.specs.declared.stop.Stop.{Stop}
 use Rattle.w_plain.specs.declared.stop.Stop.TheVariants as stop
-use Rattle.w_typed.specs.Configurations.{is_switching}
+use Rattle.w_reduce.specs.Apart.{is_switching}
 use Rattle.w_machine.specs.declared.outcome.Kept.{Kept}
 use Rattle.w_machine.specs.declared.outcome.Kept.TheVariants as kept
 use Rattle.w_machine.specs.Standing.{behind_of, term_at, Stands}
+use Rattle.w_reduce.specs.Limits.{most_frames}
 
 -- whether the instruction at a place switches stacks
 abbrev pub switches_at : Option Instr → Bool

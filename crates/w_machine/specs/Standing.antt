@@ -11,13 +11,15 @@ use Rattle.w_rules.specs.Spaces.{context_of}
 use Rattle.w_tables.specs.Store as instances
 use Rattle.w_segment.specs.declared.entry.Stage.TheVariants.{Values}
 use Rattle.w_segment.specs.Shape.{Shape}
-use Rattle.w_reduce.specs.Terms.{Rest, Context, Term, frames, most_frames}
+use Rattle.w_reduce.specs.Terms.{Rest, Context, Term, frames}
 use Rattle.w_reduce.specs.Program.{Program, IsProgram}
 use Rattle.w_reduce.specs.Start.{invokes}
 use Rattle.w_stands.specs.Code.{AllShort}
 use Rattle.w_stands.specs.Stands.{In}
 use Rattle.w_stands.specs.Values.{stack, store_of}
+use Rattle.w_typed.specs.Values.{Arrows}
 use Rattle.w_typed.specs.Configurations.{Typed}
+use Rattle.w_reduce.specs.Limits.{most_frames}
 
 -- what comes behind the outermost frame: main's invoke, while the start function runs
 abbrev pub behind_of : Option ℕ → Rest
@@ -41,7 +43,8 @@ pub record Stands (m : Module) (waiting : Option ℕ) (u : instances.Store) (s :
   pub short : AllShort m
   pub stands : In m [] (behind_of waiting) s e r
   pub results : Row Operand
-  pub typed : Typed m results (store_of u) (term_at s e r)
+  pub arrows : Arrows
+  pub typed : Typed m arrows results (store_of u) (term_at s e r)
   pub ends : (main : ℕ) → waiting ≡ Some main → EndsWith m results main
   pub few : frames e ≤ most_frames
   pub done : s.stage ≡ Values → waiting ≡ None

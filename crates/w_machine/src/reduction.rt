@@ -1,9 +1,9 @@
 //! One reduction of a run, with its limit on frames.
-ghost use Rattle.std.specs.Prelude.{◌≡◌, ◌≤◌, Some, option_map};
+ghost use Rattle.std.specs.Prelude.{◌≡◌, ◌≢◌, ◌≤◌, Some, option_map};
 ghost use Rattle.w_syntax.specs.Packed.{unpacked};
 ghost use Rattle.w_outside.specs.Outside.{Rose};
 ghost use Rattle.w_rules.specs.Valid.{Valid};
-ghost use Rattle.w_segment.specs.declared.entry.Stage.TheVariants.{Body};
+ghost use Rattle.w_segment.specs.declared.entry.Stage.TheVariants.{Body, Values};
 ghost use Rattle.w_plain.specs.Known.{IsKnown};
 ghost use Rattle.w_machine.specs.Standing.{StandsSomewhere};
 ghost use Rattle.w_machine.specs.Reducing.{Reduces, switches_at, outlook_of, told_of};
@@ -95,6 +95,27 @@ fn in_body<O: Sink>(
     told(taken, stack.frames())
 }
 
+// What comes ahead of code: the invoke of a fresh segment, or the branch that a caught suspend left.
+#[inline(always)]
+fn ahead<O: Sink>(
+    program: Program,
+    store: &mut Store,
+    stack: &mut Stack,
+    out: &mut O,
+) -> Option<Kept>
+    requires known { IsKnown program.source.now program.classes.now program.functions.now }
+    requires valid { Valid program.source.now }
+    requires stands { StandsSomewhere program.source.now store.old stack.old }
+    requires body { stack.old.stage ≢ Body }
+    requires values { stack.old.stage ≢ Values }
+    ensures reduces { Reduces result program.entry.source.now store.old stack.old store.new stack.new (O.held out.old) (O.held out.new) }
+    ensures cause { result ≡ Some Kept.WriteFault → Rose (O.faults out.old) (O.faults out.new) }
+    ensures later { O.faults out.old ≤ O.faults out.new }
+{
+    let taken = plain(program, store, stack, out, None);
+    told(taken, stack.frames())
+}
+
 /// Takes one reduction, or says why none is taken, or that it traps or passes a limit.
 #[inline(always)]
 pub(crate) fn reduce<O: Sink>(
@@ -112,11 +133,8 @@ pub(crate) fn reduce<O: Sink>(
 {
     match stack.stage() {
         Stage::Body => in_body(program, store, stack, out),
-        Stage::Fresh => {
-            let taken = plain(program, store, stack, out, None);
-            told(taken, stack.frames())
-        }
+        Stage::Fresh => ahead(program, store, stack, out),
+        Stage::Branch(_) => ahead(program, store, stack, out),
         Stage::Values => Some(Kept::Ended),
-        Stage::Branch(_) => unreachable!(),
     }
 }

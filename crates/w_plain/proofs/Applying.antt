@@ -5,11 +5,10 @@ use Rattle.w_syntax.specs.declared.module.Module.{Module}
 use Rattle.w_segment.specs.declared.entry.Stage.TheVariants.{Fresh, Body, Branch}
 use Rattle.w_segment.specs.Shape.{Shape}
 use Rattle.w_tables.specs.Store as instances
-use Rattle.w_reduce.specs.Terms.{Rest, Context}
 use Rattle.w_stands.specs.Code.{instr_of}
-use Rattle.w_stands.specs.Stands.{In, body, fresh, values}
 use Rattle.w_stands.specs.Steps.{MovesAt}
 use Rattle.w_control_ops.specs.Exits.{IsEnd}
+use Rattle.w_control_ops.specs.Left.{BranchLeft}
 use Rattle.w_call_ops.specs.Calling.{Invokes}
 use Rattle.w_plain.specs.Meets.{Meets, Applies}
 
@@ -25,8 +24,6 @@ behind_all k b h = record { here = subst IsEnd (sym h) tt; stage = b; p = k.p; o
 pub invokes : {m : Module} {u : instances.Store} {s : Shape} → Applies m u s → s.stage ≡ Fresh → Invokes m u s
 invokes k b = record { stage = b; p = k.p; o = k.o; e = k.e; r = k.r; at = k.at }
 
--- no stack stands at a branch that a suspend left
-pub no_branch : {m : Module} {outer : Context} {behind : Rest} {s : Shape} {e : Context} {r : Rest} {l : ℕ} → In m outer behind s e r → s.stage ≡ Branch l → ⊥
-no_branch (body g k w) h = absurd cc
-no_branch (fresh g k) h = absurd cc
-no_branch (values g k) h = absurd cc
+-- where a caught suspend left a branch
+pub branches : {m : Module} {u : instances.Store} {s : Shape} {l : ℕ} → Applies m u s → s.stage ≡ Branch l → BranchLeft l m s
+branches {u = u} k b = record { stage = b; u = u; p = k.p; o = k.o; e = k.e; r = k.r; at = k.at }

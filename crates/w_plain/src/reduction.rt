@@ -13,6 +13,7 @@ use crate::exits::leave_end;
 use crate::packed_steps::instruction;
 use crate::program::Program;
 use crate::stop::Stop;
+use w_control_ops::branch_left;
 use w_outside::Sink;
 use w_segment::{Stack, Stage};
 use w_stands::Did;
@@ -49,7 +50,7 @@ fn in_body<O: Sink>(
 /// reduction was taken, all is as it was but for room, and the sink has a first part of what the reduction prints, or nothing more.
 /// `found` is what `instr_at` finds where the stack stands in a body.
 #[inline(always)]
-#[tactic(auto, using(crate::proofs::Applying::invokes))]
+#[tactic(auto, using(crate::proofs::Applying::invokes, crate::proofs::Applying::branches, crate::proofs::Prints::printed_alone))]
 pub fn plain<O: Sink>(
     program: Program,
     store: &mut Store,
@@ -69,6 +70,10 @@ pub fn plain<O: Sink>(
     match stack.stage() {
         Stage::Body => in_body(program, store, stack, out, found),
         Stage::Fresh => invoke(program.source, store, stack, out),
-        Stage::Branch(_) | Stage::Values => unreachable!(),
+        Stage::Branch(label) => {
+            branch_left(program.source, stack, label);
+            Ok(Did::Went)
+        }
+        Stage::Values => unreachable!(),
     }
 }

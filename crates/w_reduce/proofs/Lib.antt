@@ -1,3 +1,4 @@
 pub mod Trees
 pub mod Finding
 pub mod Plainly
+pub mod Passing

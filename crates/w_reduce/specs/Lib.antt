@@ -16,6 +16,7 @@ pub mod Tables
 pub mod Exits
 pub mod Handlers
 pub mod Switching
+pub mod Limits
 pub mod Reduce
 pub mod Apart
 pub mod Run

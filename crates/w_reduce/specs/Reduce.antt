@@ -1,14 +1,14 @@
 -- The reduction rules (Core, execution). A chapter has its rules in a file of its own, each with the rule as the standard
 -- writes it; here they are one reduction of a term.
-use Rattle.std.specs.Prelude.{nat_le, if◌then◌else◌, List, [], ◌∷◌}
+use Rattle.std.specs.Prelude.{List, [], ◌∷◌, Option, Some, None}
 use Rattle.w_types.specs.Rows.{Row}
 use Rattle.w_syntax.specs.Code.{Code, Done, Plain, Block, If, IfElse}
 use Rattle.w_syntax.specs.declared.instructions.Op.{Op}
 use Rattle.w_syntax.specs.declared.instructions.Op.TheVariants as op
-use Rattle.w_reduce.specs.declared.limit.RunLimit.TheVariants.{Frames}
+use Rattle.w_reduce.specs.declared.limit.RunLimit.{RunLimit}
 use Rattle.w_reduce.specs.Values.{Val}
 use Rattle.w_reduce.specs.Store.{Store}
-use Rattle.w_reduce.specs.Terms.{Administrative, Invoke, Branch, Context, Term, frames, most_frames}
+use Rattle.w_reduce.specs.Terms.{Administrative, Invoke, Branch, Context, Term}
 use Rattle.w_reduce.specs.Program.{Program}
 use Rattle.w_reduce.specs.Reduced.{Reduced, Went, Trapped, Limited, Ended, Stuck}
 use Rattle.w_reduce.specs.Numeric.{numeric_op}
@@ -21,6 +21,7 @@ use Rattle.w_reduce.specs.Branches.{block, choice, branch}
 use Rattle.w_reduce.specs.Calls.{invoke}
 use Rattle.w_reduce.specs.Control.{control_op}
 use Rattle.w_reduce.specs.Exits.{leave}
+use Rattle.w_reduce.specs.Limits.{passed}
 
 -- an instruction that holds no others, with the code behind it
 abbrev pub instruction : Program → Store → Context → Row Val → Op → Code → Reduced
@@ -45,9 +46,13 @@ next p s e vs [] (If b x c) = choice p s e vs b x Done c
 next p s e vs [] (IfElse b x y c) = choice p s e vs b x y c
 next p s e vs [] Done = leave s e vs
 
--- a result with more frames than the most is none
+abbrev pub unless_passed : Option RunLimit → Reduced → Reduced
+unless_passed None r = r
+unless_passed (Some name) r = Limited name
+
+-- a result that passes a limit is none
 abbrev pub limited : Reduced → Reduced
-limited (Went out s t) = if nat_le (frames t.around) most_frames then Went out s t else Limited Frames
+limited (Went out s t) = unless_passed (passed s t.around) (Went out s t)
 limited (Trapped t) = Trapped t
 limited (Limited name) = Limited name
 limited (Ended vs) = Ended vs

@@ -76,13 +76,15 @@ with_local x v (Handle below hs rest ∷ e) = Handle below hs rest ∷ e
 
 -- ## Counting
 
--- how many frames stand around the hole
+-- how many frames, and how many handles, stand around the hole
 abbrev pub frames : Context → ℕ
 frames [] = 0
 frames (Label below n again rest ∷ e) = frames e
 frames (Frame below n locals rest ∷ e) = suc (frames e)
 frames (Handle below hs rest ∷ e) = frames e
 
--- the most frames of a term
-abbrev pub most_frames : ℕ
-most_frames = 20000
+abbrev pub handles : Context → ℕ
+handles [] = 0
+handles (Label below n again rest ∷ e) = handles e
+handles (Frame below n locals rest ∷ e) = handles e
+handles (Handle below hs rest ∷ e) = suc (handles e)

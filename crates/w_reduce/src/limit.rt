@@ -5,6 +5,10 @@
 pub enum RunLimit {
     /// Frames of a term: 20,000.
     Frames,
+    /// Handles of a term: 1,000.
+    Handles,
+    /// Continuations that aren't consumed: 65,536.
+    Conts,
 }
 
 /// A quantity that has a limit where a run begins.

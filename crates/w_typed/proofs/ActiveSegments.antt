@@ -23,20 +23,20 @@ use Rattle.w_reduce.specs.Constants.{value_of, number_in}
 use Rattle.w_reduce.specs.Memories.{with_memory, without_data}
 use Rattle.w_reduce.specs.Tables.{with_elements, without_elements}
 use Rattle.w_reduce.specs.Start.{elements_put, elements_copied, element_started, data_put, data_copied, data_started, in_order}
-use Rattle.w_typed.specs.Values.{AllTyped}
+use Rattle.w_typed.specs.Values.{Arrows, AllTyped}
 use Rattle.w_typed.specs.Stores.{TableTyped, SegmentTyped, StoreTyped}
 use Rattle.w_typed.proofs.Elements.{all_copied, all_sub}
 use Rattle.w_typed.proofs.Places.{instance_at, instance_set}
 
 -- where there is a store, it is of the module's types
-abbrev Kept : Module → Option Store → Type 0
-Kept m o = (s : Store) → o ≡ Some s → StoreTyped m s
+abbrev Kept : Module → Arrows → Option Store → Type 0
+Kept m K o = (s : Store) → o ≡ Some s → StoreTyped m K s
 
 -- a store is itself
-kept : (m : Module) (s : Store) → StoreTyped m s → Kept m (Some s)
-kept m s u r is = subst (StoreTyped m) (cc) u
+kept : (m : Module) {K : Arrows} (s : Store) → StoreTyped m K s → Kept m K (Some s)
+kept m {K} s u r is = subst (StoreTyped m K) (cc) u
 
-none_kept : (m : Module) → Kept m None
+none_kept : (m : Module) {K : Arrows} → Kept m K None
 none_kept m r is = absurd (cc)
 
 -- ## Element segments
@@ -46,25 +46,27 @@ module _ (p : Program) (y : ℕ) (e : Elem) (there : slice_get p.source.elements
   kind_there : slice_get (map (λ (e : Elem). e.kind) p.source.elements) y ≡ Some e.kind
   kind_there = slice_get-map (λ (e : Elem). e.kind) p.source.elements y ∙ ap (option_map (λ (e : Elem). e.kind)) there
 
+module _ (p : Program) {K : Arrows} (y : ℕ) (e : Elem) (there : slice_get p.source.elements y ≡ Some e) where
   -- the segment may be dropped
-  dropped : (s : Store) → StoreTyped p.source s → StoreTyped p.source (without_elements s y)
+  dropped : (s : Store) → StoreTyped p.source K s → StoreTyped p.source K (without_elements s y)
   dropped s u = record {
     functions = u.functions;
     tables = u.tables;
     memories = u.memories;
     globals = u.globals;
-    elements = instance_set y [] e.kind u.elements kind_there tt;
+    elements = instance_set y [] e.kind u.elements (kind_there p y e there) tt;
     datas = u.datas;
+    conts = u.conts;
   }
 
   -- what was copied is of the table's type
   put_typed : (s : Store) (x : ℕ) (t : Table) (k : TableType) (segment : List Val) (d : ℕ) (o : Option (List Val))
       → copied t.elements segment d 0 (length segment) ≡ o → slice_get (tables_of p.source) x ≡ Some k → RefMatches p.source.types e.kind k.element
-      → TableTyped p.source t k → SegmentTyped p.source segment e.kind → StoreTyped p.source s → Kept p.source (elements_put s x y t segment o)
+      → TableTyped p.source K t k → SegmentTyped p.source K segment e.kind → StoreTyped p.source K s → Kept p.source K (elements_put s x y t segment o)
   put_typed s x t k segment d None is at q h w u = none_kept p.source
   put_typed s x t k segment d (Some vs) is at q h w u =
-      let all : AllTyped p.source (Ref k.element) vs =
-      all_copied p.source (Ref k.element) d 0 (length segment) t.elements segment vs h (all_sub p.source (Ref e.kind) (Ref k.element) segment (ref q) w) is in
+      let all : AllTyped p.source K (Ref k.element) vs =
+      all_copied p.source K (Ref k.element) d 0 (length segment) t.elements segment vs h (all_sub p.source K (Ref e.kind) (Ref k.element) segment (ref q) w) is in
       let new : Table = record t { elements = vs } in
       kept p.source (without_elements (with_elements s x t vs) y)
       (dropped (with_elements s x t vs) (record {
@@ -74,27 +76,28 @@ module _ (p : Program) (y : ℕ) (e : Elem) (there : slice_get p.source.elements
         globals = u.globals;
         elements = u.elements;
         datas = u.datas;
+        conts = u.conts;
       }))
 
   copied_typed : (s : Store) (x d : ℕ) (t : Option Table) (segment : Option (List Val)) (k : Option TableType) → slice_get s.tables x ≡ t
       → slice_get s.elements y ≡ segment → slice_get (tables_of p.source) x ≡ k
-      → Holds k (λ (t : TableType). RefMatches p.source.types e.kind t.element) → StoreTyped p.source s
-      → Kept p.source (elements_copied s x y d t segment)
+      → Holds k (λ (t : TableType). RefMatches p.source.types e.kind t.element) → StoreTyped p.source K s
+      → Kept p.source K (elements_copied s x y d t segment)
   copied_typed s x d None segment k a b at q u = none_kept p.source
   copied_typed s x d (Some t) None k a b at q u = none_kept p.source
   copied_typed s x d (Some t) (Some segment) None a b at q u = absurd q
   copied_typed s x d (Some t) (Some segment) (Some k) a b at q u =
       let f = instance_at x k u.tables at in
-      let g = instance_at y e.kind u.elements kind_there in
+      let g = instance_at y e.kind u.elements (kind_there p y e there) in
       let same_table : f.item ≡ t = let i = f.is in cc in
-      let table : TableTyped p.source t k = subst (λ (t : Table). TableTyped p.source t k) same_table f.holds in
+      let table : TableTyped p.source K t k = subst (λ (t : Table). TableTyped p.source K t k) same_table f.holds in
       let same_values : g.item ≡ segment = let i = g.is in cc in
-      let values : SegmentTyped p.source segment e.kind = subst (λ (vs : List Val). SegmentTyped p.source vs e.kind) same_values g.holds in
+      let values : SegmentTyped p.source K segment e.kind = subst (λ (vs : List Val). SegmentTyped p.source K vs e.kind) same_values g.holds in
       put_typed s x t k segment d (copied t.elements segment d 0 (length segment)) refl at q table values u
 
   -- what a segment's mode asks for is done
-  element_kept : (s : Store) (mode : ElemMode) → IsElemModeValid p.source e.kind mode → StoreTyped p.source s
-      → Kept p.source (element_started p s y mode)
+  element_kept : (s : Store) (mode : ElemMode) → IsElemModeValid p.source e.kind mode → StoreTyped p.source K s
+      → Kept p.source K (element_started p s y mode)
   element_kept s (elem_mode.Active x offset) q u =
       let d = number_in (value_of p s offset) in
       copied_typed s x d (slice_get s.tables x) (slice_get s.elements y) (slice_get (tables_of p.source) x) refl refl refl q.0 u
@@ -103,8 +106,8 @@ module _ (p : Program) (y : ℕ) (e : Elem) (there : slice_get p.source.elements
 
 -- ## Data segments
 
-module _ (p : Program) where
-  bytes_put : (s : Store) (x y : ℕ) (o : Option Memory) → StoreTyped p.source s → Kept p.source (data_put s x y o)
+module _ (p : Program) {K : Arrows} where
+  bytes_put : (s : Store) (x y : ℕ) (o : Option Memory) → StoreTyped p.source K s → Kept p.source K (data_put s x y o)
   bytes_put s x y None u = none_kept p.source
   bytes_put s x y (Some m) u = kept p.source (without_data (with_memory s x m) y) (record {
     functions = u.functions;
@@ -113,15 +116,16 @@ module _ (p : Program) where
     globals = u.globals;
     elements = u.elements;
     datas = length-set s.datas y [] ∙ u.datas;
+    conts = u.conts;
   })
 
-  bytes_copied : (s : Store) (x y d : ℕ) (m : Option Memory) (bytes : Option (List ℕ)) → StoreTyped p.source s
-      → Kept p.source (data_copied s x y d m bytes)
+  bytes_copied : (s : Store) (x y d : ℕ) (m : Option Memory) (bytes : Option (List ℕ)) → StoreTyped p.source K s
+      → Kept p.source K (data_copied s x y d m bytes)
   bytes_copied s x y d (Some m) (Some bytes) u = bytes_put s x y (init m bytes d 0 (length bytes)) u
   bytes_copied s x y d (Some m) None u = none_kept p.source
   bytes_copied s x y d None bytes u = none_kept p.source
 
-  data_kept : (s : Store) (y : ℕ) (mode : DataMode) → StoreTyped p.source s → Kept p.source (data_started p s y mode)
+  data_kept : (s : Store) (y : ℕ) (mode : DataMode) → StoreTyped p.source K s → Kept p.source K (data_started p s y mode)
   data_kept s y (data_mode.Active x offset) u =
       bytes_copied s x y (number_in (value_of p s offset)) (slice_get s.memories x) (slice_get s.datas y) u
   data_kept s y data_mode.Passive u = kept p.source s u
@@ -129,9 +133,9 @@ module _ (p : Program) where
 -- ## All of them
 
 -- Where each step keeps a store's types, all of them do. Q is what is known of the items by their places.
-in_order_typed : {A : Type 0} (m : Module) (Q : ℕ → A → Type 0) (f : Store → ℕ → A → Option Store)
-    → ((s : Store) (y : ℕ) (x : A) → Q y x → StoreTyped m s → Kept m (f s y x)) → (y : ℕ) (xs : List A)
-    → ((i : ℕ) (x : A) → slice_get xs i ≡ Some x → Q (y + i) x) → (o : Option Store) → Kept m o → Kept m (in_order f o y xs)
+in_order_typed : {A : Type 0} (m : Module) {K : Arrows} (Q : ℕ → A → Type 0) (f : Store → ℕ → A → Option Store)
+    → ((s : Store) (y : ℕ) (x : A) → Q y x → StoreTyped m K s → Kept m K (f s y x)) → (y : ℕ) (xs : List A)
+    → ((i : ℕ) (x : A) → slice_get xs i ≡ Some x → Q (y + i) x) → (o : Option Store) → Kept m K o → Kept m K (in_order f o y xs)
 in_order_typed m Q f k y xs q None u = none_kept m
 in_order_typed m Q f k y [] q (Some s) u = u
 in_order_typed m Q f k y (x ∷ xs) q (Some s) u =
@@ -139,10 +143,10 @@ in_order_typed m Q f k y (x ∷ xs) q (Some s) u =
     let rest : (i : ℕ) (z : _) → slice_get xs i ≡ Some z → Q (suc y + i) z = λ i z is. subst (λ n. Q n z) (omega arith) (q (suc i) z is) in
     in_order_typed m Q f k (suc y) xs rest (f s y x) (k s y x first (u s refl))
 
-module _ (p : Program) where
+module _ (p : Program) {K : Arrows} where
   -- with all active element segments put in their tables, a store keeps its types
-  pub elements_typed : Valid p.source → (s r : Store) → StoreTyped p.source s
-      → in_order (λ s y (e : Elem). element_started p s y e.mode) (Some s) 0 p.source.elements ≡ Some r → StoreTyped p.source r
+  pub elements_typed : Valid p.source → (s r : Store) → StoreTyped p.source K s
+      → in_order (λ s y (e : Elem). element_started p s y e.mode) (Some s) 0 p.source.elements ≡ Some r → StoreTyped p.source K r
   elements_typed valid s r u is =
       let here : ℕ → Elem → Type 0 = λ y e. slice_get p.source.elements y ≡ Some e in
       in_order_typed p.source here (λ s y (e : Elem). element_started p s y e.mode) (λ s y e there v.
@@ -153,8 +157,8 @@ module _ (p : Program) where
       0 p.source.elements (λ i e there. subst (λ n. here n e) (omega arith) there) (Some s) (kept p.source s u) r is
 
   -- and with all active data segments in their memories
-  pub datas_typed : (s r : Store) → StoreTyped p.source s
-      → in_order (λ s y (d : syntax_data.Data). data_started p s y d.mode) (Some s) 0 p.source.datas ≡ Some r → StoreTyped p.source r
+  pub datas_typed : (s r : Store) → StoreTyped p.source K s
+      → in_order (λ s y (d : syntax_data.Data). data_started p s y d.mode) (Some s) 0 p.source.datas ≡ Some r → StoreTyped p.source K r
   datas_typed s r u is =
       in_order_typed p.source (λ y d. Unit {0}) (λ s y (d : syntax_data.Data). data_started p s y d.mode) (λ s y d t v. data_kept p s y d.mode v)
       0 p.source.datas (λ i d there. tt) (Some s) (kept p.source s u) r is

@@ -1,5 +1,5 @@
 -- Types of equal groups: value types at one position of them are equal.
-use Rattle.std.proofs.Common.{inr, ℕ, zero, suc, ◌+◌, ◌-◌, ◌<◌, ◌≤◌, All, List, length, arith}
+use Rattle.std.proofs.Common.{◌≡◌, inr, ℕ, zero, suc, ◌+◌, ◌-◌, ◌<◌, ◌≤◌, All, List, length, Some, slice_get, refl, subst, arith}
 use Rattle.std.proofs.lemmas.Bool.{ltb-true}
 use Rattle.std.proofs.lemmas.List.Elements.{All-head, All-tail}
 use Rattle.w_types.specs.declared.types.HeapType.{HeapType}
@@ -14,11 +14,25 @@ use Rattle.w_canon.specs.Equivalence as alike
 use Rattle.w_canon.proofs.Places.{count}
 use Rattle.w_rules.specs.Types.{IsValidHeap, IsValidType}
 
--- ## Where more is equivalent, more is alike
+-- ## Related lists
 
 each : {A : Type 0} {R Q : A → A → Type 0} → ((x y : A) → R x y → Q x y) → {xs ys : List A} → Pairwise R xs ys → Pairwise Q xs ys
 each f none = none
 each f (more {x} {y} h t) = more (f x y h) (each f t)
+
+-- the item at a place of a list, related to that of another
+pub record Related {A : Type 0} (R : A → A → Type 0) (xs : List A) (p : ℕ) (y : A) : Type 0 where
+  pub item : A
+  pub there : slice_get xs p ≡ Some item
+  pub related : R item y
+
+-- related lists have related items at each place
+pub related_at : {A : Type 0} {R : A → A → Type 0} {xs ys : List A} (p : ℕ) (y : A) → Pairwise R xs ys → slice_get ys p ≡ Some y → Related R xs p y
+related_at p y none is = absurd (cc)
+related_at {A} {R} zero y (more {x = x} h k) is = record { item = x; there = refl; related = subst (λ (z : A). R x z) (cc) h }
+related_at (suc p) y (more h k) is = let r = related_at p y k is in record { item = r.item; there = r.there; related = r.related }
+
+-- ## Where more is equivalent, more is alike
 
 module _ (S T : ℕ → ℕ → Type 0) (s t : ℕ) (wider : (x y : ℕ) → S x y → T x y) where
   wider_index : {x y : ℕ} → AlikeIndex S s t x y → AlikeIndex T s t x y

@@ -24,7 +24,7 @@ use Rattle.w_reduce.specs.Terms.{rest_of, Context}
 use Rattle.w_reduce.specs.Program.{Program, Arity, arity_of, function_arity}
 use Rattle.w_reduce.specs.Reduced.{steps_to}
 use Rattle.w_reduce.specs.Branches.{block, label_of}
-use Rattle.w_typed.specs.Values.{ValuesTyped}
+use Rattle.w_typed.specs.Values.{Arrows, ValuesTyped}
 use Rattle.w_typed.specs.Stores.{StoreTyped}
 use Rattle.w_typed.specs.Contexts.{Scope, in_scope, CodeTyped, code_alone, Subset, Within, label}
 use Rattle.w_typed.specs.Configurations.{IsSafe}
@@ -69,11 +69,11 @@ pub record BlockTyped (m : Module) (c : Scope) (set : List Bool) (kind : BlockKi
   pub has_type : HasType m.types (known arrow.from) (known arrow.to) ts ws
   pub behind : CodeTyped m c set k ws out
 
-module _ (p : Program) (us : Row Operand) where
+module _ (p : Program) {K : Arrows} (us : Row Operand) where
   block_goes : (kind : BlockKind) {b : BlockType} {x k : Code} {s : Store} {e : Context} {vs : Row Val} {c : Scope} {set now : List Bool} {ts ws out : Row Operand}
-      → StoreTyped p.source s → Subset set now → ValuesTyped p.source vs ts → (h : BlockTyped p.source c set kind b x k ts ws out) → (c.results ≡ None → ⊥)
-      → Within p.source us e c now out → (below args : Row Val) → ValuesTyped p.source below h.has_type.beneath → ValuesTyped p.source args (known h.arrow.from)
-      → IsSafe p.source us (steps_to s (label_of kind b (sizes h.arrow) x below k e) args (rest_of x))
+      → StoreTyped p.source K s → Subset set now → ValuesTyped p.source K vs ts → (h : BlockTyped p.source c set kind b x k ts ws out) → (c.results ≡ None → ⊥)
+      → Within p.source K us e c now out → (below args : Row Val) → ValuesTyped p.source K below h.has_type.beneath → ValuesTyped p.source K args (known h.arrow.from)
+      → IsSafe p.source K us (steps_to s (label_of kind b (sizes h.arrow) x below k e) args (rest_of x))
   block_goes kind.Block {k = k} u still v h n w below args lower taken =
       let m = p.source in
       let gives = code_left m h.has_type.gives h.behind in
@@ -89,8 +89,8 @@ module _ (p : Program) (us : Row Operand) where
 
   -- a block is entered, with the operands that it takes
   pub block_safe : (kind : BlockKind) {b : BlockType} {x k : Code} {s : Store} {e : Context} {vs : Row Val} {c : Scope} {set now : List Bool} {ts ws out : Row Operand}
-      → StoreTyped p.source s → Subset set now → ValuesTyped p.source vs ts → BlockTyped p.source c set kind b x k ts ws out → (c.results ≡ None → ⊥)
-      → Within p.source us e c now out → IsSafe p.source us (block p s e vs kind b x k)
+      → StoreTyped p.source K s → Subset set now → ValuesTyped p.source K vs ts → BlockTyped p.source c set kind b x k ts ws out → (c.results ≡ None → ⊥)
+      → Within p.source K us e c now out → IsSafe p.source K us (block p s e vs kind b x k)
   block_safe kind {b = b} {vs = vs} {c = c} u still v h n w =
       let m = p.source in
       rw (arity_typed m c b h.arrow h.is)

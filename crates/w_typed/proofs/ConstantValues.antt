@@ -38,7 +38,7 @@ use Rattle.w_reduce.specs.Numeric.{numeric_op, width, binop}
 use Rattle.w_reduce.specs.Reference.{reference_op}
 use Rattle.w_reduce.specs.Variable.{variable_op}
 use Rattle.w_reduce.specs.Constants.{operands_after, evaluated, topmost, value_of}
-use Rattle.w_typed.specs.Values.{ValueTyped, an_i32, an_i64, a_null, a_function, a_value, ValuesTyped, no_values, values}
+use Rattle.w_typed.specs.Values.{Arrows, ValueTyped, an_i32, an_i64, a_null, a_function, a_value, ValuesTyped, no_values, values}
 use Rattle.w_typed.specs.Stores.{Instances, EntryTyped, GlobalTyped}
 use Rattle.w_typed.proofs.Chosen.{both_hold}
 use Rattle.w_typed.proofs.Places.{instance_at}
@@ -51,17 +51,17 @@ abbrev pub knowing : Module → List GlobalType → rules.Context
 knowing m gs = record (context_of m) { globals = gs }
 
 -- a store has the module's functions, and these globals
-pub record Holding (m : Module) (gs : List GlobalType) (s : Store) : Type 0 where
+pub record Holding (m : Module) (K : Arrows) (gs : List GlobalType) (s : Store) : Type 0 where
   pub functions : Instances (EntryTyped m) s.functions (functions_of m)
-  pub globals : Instances (GlobalTyped m) s.globals gs
+  pub globals : Instances (GlobalTyped m K) s.globals gs
 
 -- operands are there, of these types
-abbrev ThereTyped : Module → Row Operand → Option (Row Val) → Type 0
-ThereTyped m us None = ⊥
-ThereTyped m us (Some vs) = ValuesTyped m vs us
+abbrev ThereTyped : Module → Arrows → Row Operand → Option (Row Val) → Type 0
+ThereTyped m K us None = ⊥
+ThereTyped m K us (Some vs) = ValuesTyped m K vs us
 
 -- the topmost of one operand
-topmost_typed : (m : Module) (t : ValType) (o : Option (Row Val)) → ThereTyped m (ε ▹ Known t) o → ValueTyped m (topmost o) t
+topmost_typed : (m : Module) {K : Arrows} (t : ValType) (o : Option (Row Val)) → ThereTyped m K (ε ▹ Known t) o → ValueTyped m K (topmost o) t
 topmost_typed m t None h = absurd h
 topmost_typed m t (Some _) (values h (a_value w)) = w
 
@@ -72,23 +72,23 @@ has_value binary.Sub t N a b = (isub N a b, refl)
 has_value binary.Mul t N a b = (imul N a b, refl)
 has_value _ t N a b = absurd (cc)
 
-module _ (m : Module) (us : Row Operand) where
+module _ (m : Module) {K : Arrows} (us : Row Operand) where
   -- what follows operands that are there
-  and_then_there : (ts : Row Operand) (f : Row Val → Option (Row Val)) (o : Option (Row Val)) → ThereTyped m ts o
-      → ((vs : Row Val) → ValuesTyped m vs ts → ThereTyped m us (f vs)) → ThereTyped m us (option_and_then f o)
+  and_then_there : (ts : Row Operand) (f : Row Val → Option (Row Val)) (o : Option (Row Val)) → ThereTyped m K ts o
+      → ((vs : Row Val) → ValuesTyped m K vs ts → ThereTyped m K us (f vs)) → ThereTyped m K us (option_and_then f o)
   and_then_there ts f None h k = absurd h
   and_then_there ts f (Some vs) h k = k vs h
 
   -- the topmost operand is a number of its type
-  number_there : (i : IntType) (vs : Row Val) (beneath : Row Operand) (go : Row Val × ℕ → Reduced) → ValuesTyped m vs (beneath ▹ Known (of_int i))
-      → ((below : Row Val) (n : ℕ) → ValuesTyped m below beneath → ThereTyped m us (operands_after (go (below, n))))
-      → ThereTyped m us (operands_after (take_number i vs go))
+  number_there : (i : IntType) (vs : Row Val) (beneath : Row Operand) (go : Row Val × ℕ → Reduced) → ValuesTyped m K vs (beneath ▹ Known (of_int i))
+      → ((below : Row Val) (n : ℕ) → ValuesTyped m K below beneath → ThereTyped m K us (operands_after (go (below, n))))
+      → ThereTyped m K us (operands_after (take_number i vs go))
   number_there int.I32 _ beneath go (values {vs = vs} h (a_value (an_i32 {n}))) k = k vs n h
   number_there int.I64 _ beneath go (values {vs = vs} h (a_value (an_i64 {n}))) k = k vs n h
 
-module _ (m : Module) (gs : List GlobalType) (s : Store) (u : Holding m gs s) where
+module _ (m : Module) {K : Arrows} (gs : List GlobalType) (s : Store) (u : Holding m K gs s) where
   numeric_there : (c : rules.Context) (o : NumericOp) (ts ws : Row Operand) (vs : Row Val) → IsTrue (is_const c (op.Numeric o))
-      → HasInstrType m.types (numeric_op_type o) ts ws → ValuesTyped m vs ts → ThereTyped m ws (operands_after (numeric_op s [] vs o Done))
+      → HasInstrType m.types (numeric_op_type o) ts ws → ValuesTyped m K vs ts → ThereTyped m K ws (operands_after (numeric_op s [] vs o Done))
   numeric_there c (numeric.I32Const z) ts ws vs t h v = values_sub m h.gives (values (values_sub m h.takes v) (a_value an_i32))
   numeric_there c (numeric.I64Const z) ts ws vs t h v = values_sub m h.gives (values (values_sub m h.takes v) (a_value an_i64))
   numeric_there c (numeric.Binary i o) ts ws vs t h v =
@@ -99,8 +99,8 @@ module _ (m : Module) (gs : List GlobalType) (s : Store) (u : Holding m gs s) wh
   numeric_there c _ ts ws vs t h v = absurd (cc)
 
   func_there : (x : ℕ) (ts ws : Row Operand) (vs : Row Val) (y : Option ℕ) (d : Option Bool) → slice_get (functions_of m) x ≡ y
-      → HasInstrType m.types (ref_func_type y d) ts ws → ValuesTyped m vs ts
-      → ThereTyped m ws (operands_after (reference_op s [] vs (reference.Func x) Done))
+      → HasInstrType m.types (ref_func_type y d) ts ws → ValuesTyped m K vs ts
+      → ThereTyped m K ws (operands_after (reference_op s [] vs (reference.Func x) Done))
   func_there x ts ws vs (Some y) (Some true) is h v =
       let f = instance_at x y u.functions is in
       rw (f.is) (values_sub m h.gives (values (values_sub m h.takes v) (a_value (a_function is (index (reflexive m.types y))))))
@@ -110,8 +110,8 @@ module _ (m : Module) (gs : List GlobalType) (s : Store) (u : Holding m gs s) wh
 
   -- c says which instructions are constant, and d has the functions
   reference_there : (c d : rules.Context) (o : ReferenceOp) (ts ws : Row Operand) (vs : Row Val) → d.functions ≡ functions_of m
-      → IsTrue (is_const c (op.Reference o)) → HasInstrType m.types (reference_op_type d o) ts ws → ValuesTyped m vs ts
-      → ThereTyped m ws (operands_after (reference_op s [] vs o Done))
+      → IsTrue (is_const c (op.Reference o)) → HasInstrType m.types (reference_op_type d o) ts ws → ValuesTyped m K vs ts
+      → ThereTyped m K ws (operands_after (reference_op s [] vs o Done))
   reference_there c d (reference.Null x) ts ws vs e t h v =
       let g = if_valid_has m (has_heap (type_count d) x) (fixed ε (ε ▹ Ref (record { nullable = true; heap = x }))) ts ws h in
       values_sub m g.gives (values (values_sub m g.takes v) (a_value (a_null refl)))
@@ -119,17 +119,17 @@ module _ (m : Module) (gs : List GlobalType) (s : Store) (u : Holding m gs s) wh
   reference_there c d _ ts ws vs e t h v = absurd (cc)
 
   global_there : (x : ℕ) (ts ws : Row Operand) (vs : Row Val) (g : Option GlobalType) → slice_get gs x ≡ g
-      → HasInstrType m.types (global_get_type g) ts ws → ValuesTyped m vs ts
-      → ThereTyped m ws (operands_after (variable_op s [] vs (variable.GlobalGet x) Done))
+      → HasInstrType m.types (global_get_type g) ts ws → ValuesTyped m K vs ts
+      → ThereTyped m K ws (operands_after (variable_op s [] vs (variable.GlobalGet x) Done))
   global_there x ts ws vs (Some g) is h v =
       let f = instance_at x g u.globals is in
       rw (f.is) (values_sub m h.gives (values (values_sub m h.takes v) (a_value f.holds)))
   global_there x ts ws vs None is h v = absurd h
 
-module _ (p : Program) (gs : List GlobalType) (s : Store) (u : Holding p.source gs s) (ls rs : List ValType) where
+module _ (p : Program) {K : Arrows} (gs : List GlobalType) (s : Store) (u : Holding p.source K gs s) (ls rs : List ValType) where
   instruction_there : (set : List Bool) (o : Op) (ts ws : Row Operand) (vs : Row Val) → IsTrue (is_const (knowing p.source gs) o)
-      → HasInstrType p.source.types (instr_type (in_body (knowing p.source gs) ls rs) set o) ts ws → ValuesTyped p.source vs ts
-      → ThereTyped p.source ws (operands_after (instruction p s [] vs o Done))
+      → HasInstrType p.source.types (instr_type (in_body (knowing p.source gs) ls rs) set o) ts ws → ValuesTyped p.source K vs ts
+      → ThereTyped p.source K ws (operands_after (instruction p s [] vs o Done))
   instruction_there set (op.Numeric o) ts ws vs t h v = numeric_there p.source gs s u (knowing p.source gs) o ts ws vs t h v
   instruction_there set (op.Reference o) ts ws vs t h v =
       reference_there p.source gs s u (knowing p.source gs) (in_body (knowing p.source gs) ls rs) o ts ws vs refl t h v
@@ -138,7 +138,7 @@ module _ (p : Program) (gs : List GlobalType) (s : Store) (u : Holding p.source 
 
   -- constant code leads operands of its type to those that it gives
   code_there : (set : List Bool) (k : Code) (ts us : Row Operand) (vs : Row Val) → IsTrue (all_const (knowing p.source gs) k)
-      → Derives (in_body (knowing p.source gs) ls rs) set k ts us → ValuesTyped p.source vs ts → ThereTyped p.source us (evaluated p s vs k)
+      → Derives (in_body (knowing p.source gs) ls rs) set k ts us → ValuesTyped p.source K vs ts → ThereTyped p.source K us (evaluated p s vs k)
   unfolding evaluated
   code_there set Done ts us vs c d v = values_sub p.source d v
   code_there set (Plain o k) ts us vs c d v =
@@ -148,7 +148,7 @@ module _ (p : Program) (gs : List GlobalType) (s : Store) (u : Holding p.source 
   code_there set _ ts us vs c d v = absurd (cc)
 
 -- the value of a constant expression is of its type
-pub value_typed : (p : Program) (gs : List GlobalType) (s : Store) → Holding p.source gs s → (k : Code) (t : ValType)
-    → ConstTyped (knowing p.source gs) k t → ValueTyped p.source (value_of p s k) t
+pub value_typed : (p : Program) {K : Arrows} (gs : List GlobalType) (s : Store) → Holding p.source K gs s → (k : Code) (t : ValType)
+    → ConstTyped (knowing p.source gs) k t → ValueTyped p.source K (value_of p s k) t
 value_typed p gs s u k t h =
     topmost_typed p.source t (evaluated p s ε k) (code_there p gs s u [] (t ∷ []) [] k ε (ε ▹ Known t) ε h.constant h.typed no_values)

@@ -12,6 +12,7 @@ use Rattle.w_syntax.specs.declared.module.Module.{Module}
 use Rattle.w_syntax.specs.declared.numeric.IntType.TheVariants as int
 use Rattle.w_canon.specs.Matching.{ref}
 use Rattle.w_canon.proofs.Preorder.{heap_refl}
+use Rattle.w_rules.specs.Conditions.{ControlCondition}
 use Rattle.w_rules.specs.Context.{type_of_func}
 use Rattle.w_rules.specs.InstructionTypes.{br_type, br_if_type, br_table_type, br_on_null_type, br_on_non_null_type, call_type, labels_at, with_label, control_op_type}
 use Rattle.w_rules.specs.Matching.{RowMatches, known, value}
@@ -27,7 +28,7 @@ use Rattle.w_reduce.specs.Terms.{Context}
 use Rattle.w_reduce.specs.Program.{Program, IsProgram}
 use Rattle.w_reduce.specs.Reduced.{Reduced}
 use Rattle.w_reduce.specs.Control.{control_op, unless_zero, label_in}
-use Rattle.w_typed.specs.Values.{OperandTyped, ValuesTyped, values}
+use Rattle.w_typed.specs.Values.{Arrows, OperandTyped, ValuesTyped, values}
 use Rattle.w_typed.specs.Stores.{StoreTyped}
 use Rattle.w_typed.specs.Contexts.{Scope, returned, in_scope, CodeTyped, code_alone, Subset, Within}
 use Rattle.w_typed.specs.Configurations.{IsSafe, traps}
@@ -67,8 +68,8 @@ module _ (m : Module) (labels : List (Row ValType)) (ins : Row Operand) where
 
 -- ## Instructions
 
-module _ (p : Program) (us : Row Operand) where
-  zero_or_not : (n : ℕ) (taken passed : Reduced) → IsSafe p.source us taken → IsSafe p.source us passed → IsSafe p.source us (unless_zero n taken passed)
+module _ (p : Program) (K : Arrows) (us : Row Operand) where
+  zero_or_not : (n : ℕ) (taken passed : Reduced) → IsSafe p.source K us taken → IsSafe p.source K us passed → IsSafe p.source K us (unless_zero n taken passed)
   zero_or_not zero taken passed h k = k
   zero_or_not (suc n) taken passed h k = h
 
@@ -79,23 +80,37 @@ module _ (p : Program) (us : Row Operand) where
     pub now : List Bool
     pub out : Row Operand
     pub still : Subset set now
-    pub store : StoreTyped p.source s
+    pub store : StoreTyped p.source K s
     pub behind : CodeTyped p.source scope set k ws out
-    pub around : Within p.source us e scope now out
+    pub around : Within p.source K us e scope now out
     pub inside : scope.results ≡ None → ⊥
 
+  -- it gives operands of types that match these
+  abbrev pub here_left : {s : Store} {e : Context} {k : Code} {ts ws : Row Operand} → RowMatches p.source.types ts ws → Here s e k ws → Here s e k ts
+  here_left r h = record {
+    scope = h.scope;
+    set = h.set;
+    now = h.now;
+    out = h.out;
+    still = h.still;
+    store = h.store;
+    behind = code_left p.source r h.behind;
+    around = h.around;
+    inside = h.inside;
+  }
+
   -- a reference that may not be null is of each type of references to its heap type
-  there : {r : RefType} {v : Val} → OperandTyped p.source v (ref_to false (Some r.heap)) → OperandTyped p.source v (Known (Ref r))
+  there : {r : RefType} {v : Val} → OperandTyped p.source K v (ref_to false (Some r.heap)) → OperandTyped p.source K v (Known (Ref r))
   there {r = r} q = operand_sub p.source (value (ref (record { nullable = λ f. absurd (cc); heap = heap_refl p.source.types r.heap }))) q
 
   module _ {s : Store} {e : Context} {k : Code} {ts ws : Row Operand} {vs : Row Val} where
     br_here : (l : ℕ) (h : Here s e k ws) (taken : Option (Row ValType)) → slice_get h.scope.labels l ≡ taken → HasInstrType p.source.types (br_type taken) ts ws
-        → ValuesTyped p.source vs ts → IsSafe p.source us (control_op p s e vs (control.Br l) k)
+        → ValuesTyped p.source K vs ts → IsSafe p.source K us (control_op p s e vs (control.Br l) k)
     br_here l h None is t v = absurd t
     br_here l h (Some taken) is t v = branch_safe p.source us l t.beneath taken h.store is (values_sub p.source t.takes v) h.around
 
     br_if_here : (l : ℕ) (h : Here s e k ws) (taken : Option (Row ValType)) → slice_get h.scope.labels l ≡ taken → HasInstrType p.source.types (br_if_type taken) ts ws
-        → ValuesTyped p.source vs ts → IsSafe p.source us (control_op p s e vs (control.BrIf l) k)
+        → ValuesTyped p.source K vs ts → IsSafe p.source K us (control_op p s e vs (control.BrIf l) k)
     br_if_here l h None is t v = absurd t
     br_if_here l h (Some taken) is t v =
         let m = p.source in
@@ -105,7 +120,7 @@ module _ (p : Program) (us : Row Operand) where
 
     br_table_here : (ls : List ℕ) (l : ℕ) (h : Here s e k ws) (one : Option (Row ValType)) (others : Option (List (Row ValType))) → slice_get h.scope.labels l ≡ one
         → labels_at h.scope.labels ls ≡ others → HasInstrType p.source.types (br_table_type one others) ts ws
-        → ValuesTyped p.source vs ts → IsSafe p.source us (control_op p s e vs (control.BrTable ls l) k)
+        → ValuesTyped p.source K vs ts → IsSafe p.source K us (control_op p s e vs (control.BrTable ls l) k)
     br_table_here ls l h None others is at t v = absurd t
     br_table_here ls l h (Some one) None is at t v = absurd t
     br_table_here ls l h (Some one) (Some others) is at t v =
@@ -116,12 +131,12 @@ module _ (p : Program) (us : Row Operand) where
         (values_sub m (row_beside m.types t.polymorphic.beneath t.polymorphic.beneath t.ins (known f.taken) (row_refl m.types t.polymorphic.beneath) f.matches) b) h.around)
 
     return_here : (h : Here s e k ws) (taken : Option (Row ValType)) → h.scope.results ≡ taken → Polymorphic p.source.types (known (returned taken)) ts
-        → ValuesTyped p.source vs ts → IsSafe p.source us (control_op p s e vs control.Return k)
+        → ValuesTyped p.source K vs ts → IsSafe p.source K us (control_op p s e vs control.Return k)
     return_here h None is t v = absurd (h.inside is)
     return_here h (Some taken) is t v = returns_safe p.source us t.beneath taken h.store is (values_sub p.source t.takes v) h.around
 
     br_on_null_here : (l : ℕ) (h : Here s e k ws) (taken : Option (Row ValType)) → slice_get h.scope.labels l ≡ taken → HasInstrType p.source.types (br_on_null_type taken) ts ws
-        → ValuesTyped p.source vs ts → IsSafe p.source us (control_op p s e vs (control.BrOnNull l) k)
+        → ValuesTyped p.source K vs ts → IsSafe p.source K us (control_op p s e vs (control.BrOnNull l) k)
     br_on_null_here l h None is t v = absurd t
     br_on_null_here l h (Some taken) is (heap, t) v =
         let m = p.source in
@@ -130,7 +145,7 @@ module _ (p : Program) (us : Row Operand) where
         (λ below r b q. onward m us h.still h.behind h.around s (below ▹ r) h.store (values_sub m t.gives (values b q)))
 
     br_on_non_null_here : (l : ℕ) (h : Here s e k ws) (taken : Option (Row ValType)) → slice_get h.scope.labels l ≡ taken
-        → HasInstrType p.source.types (br_on_non_null_type taken) ts ws → ValuesTyped p.source vs ts → IsSafe p.source us (control_op p s e vs (control.BrOnNonNull l) k)
+        → HasInstrType p.source.types (br_on_non_null_type taken) ts ws → ValuesTyped p.source K vs ts → IsSafe p.source K us (control_op p s e vs (control.BrOnNonNull l) k)
     br_on_non_null_here l h None is t v = absurd t
     br_on_non_null_here l h (Some ε) is t v = absurd t
     br_on_non_null_here l h (Some (taken ▹ I32)) is t v = absurd t
@@ -142,22 +157,23 @@ module _ (p : Program) (us : Row Operand) where
         (λ below w b q. branch_safe m us l t.beneath (taken ▹ Ref r) h.store is (values b (there q)) h.around)
 
     call_here : (x : ℕ) (h : Here s e k ws) → Valid p.source → (t : Option FuncType) → type_of_func (context_of p.source) x ≡ t
-        → HasInstrType p.source.types (call_type t) ts ws → ValuesTyped p.source vs ts → IsSafe p.source us (control_op p s e vs (control.Call x) k)
+        → HasInstrType p.source.types (call_type t) ts ws → ValuesTyped p.source K vs ts → IsSafe p.source K us (control_op p s e vs (control.Call x) k)
     call_here x h valid None is t v = absurd t
     call_here x h valid (Some f) is t v =
         invoke_safe p us x f t.beneath valid h.store is (values_sub p.source t.takes v) (code_alone (code_left p.source t.gives h.behind)) h.still h.around
 
     -- a control instruction goes on, or traps
-    pub control_safe : (o : ControlOp) (h : Here s e k ws) → IsProgram p → Valid p.source → HasInstrType p.source.types (control_op_type (in_scope p.source h.scope) o) ts ws
-        → ValuesTyped p.source vs ts → IsSafe p.source us (control_op p s e vs o k)
-    control_safe control.Unreachable h prog valid t v = traps
-    control_safe control.Nop h prog valid t v = onward p.source us h.still h.behind h.around s vs h.store (values_sub p.source t.gives (values_sub p.source t.takes v))
-    control_safe (control.Br l) h prog valid t v = br_here l h (slice_get h.scope.labels l) refl t v
-    control_safe (control.BrIf l) h prog valid t v = br_if_here l h (slice_get h.scope.labels l) refl t v
-    control_safe (control.BrTable ls l) h prog valid t v = br_table_here ls l h (slice_get h.scope.labels l) (labels_at h.scope.labels ls) refl refl t v
-    control_safe control.Return h prog valid t v = return_here h h.scope.results refl t v
-    control_safe (control.BrOnNull l) h prog valid t v = br_on_null_here l h (slice_get h.scope.labels l) refl t v
-    control_safe (control.BrOnNonNull l) h prog valid t v = br_on_non_null_here l h (slice_get h.scope.labels l) refl t v
-    control_safe (control.Call x) h prog valid t v = call_here x h valid (type_of_func (context_of p.source) x) refl t v
-    control_safe (control.CallIndirect y x) h prog valid t v = call_indirect_safe p us y x prog valid h.store t v h.behind h.still h.around
-    control_safe (control.CallRef y) h prog valid t v = call_ref_safe p us y valid h.store t v h.behind h.still h.around
+    pub control_safe : (o : ControlOp) (h : Here s e k ws) → IsProgram p → Valid p.source → ControlCondition (in_scope p.source h.scope) o
+        → HasInstrType p.source.types (control_op_type (in_scope p.source h.scope) o) ts ws
+        → ValuesTyped p.source K vs ts → IsSafe p.source K us (control_op p s e vs o k)
+    control_safe control.Unreachable h prog valid q t v = traps
+    control_safe control.Nop h prog valid q t v = onward p.source us h.still h.behind h.around s vs h.store (values_sub p.source t.gives (values_sub p.source t.takes v))
+    control_safe (control.Br l) h prog valid q t v = br_here l h (slice_get h.scope.labels l) refl t v
+    control_safe (control.BrIf l) h prog valid q t v = br_if_here l h (slice_get h.scope.labels l) refl t v
+    control_safe (control.BrTable ls l) h prog valid q t v = br_table_here ls l h (slice_get h.scope.labels l) (labels_at h.scope.labels ls) refl refl t v
+    control_safe control.Return h prog valid q t v = return_here h h.scope.results refl t v
+    control_safe (control.BrOnNull l) h prog valid q t v = br_on_null_here l h (slice_get h.scope.labels l) refl t v
+    control_safe (control.BrOnNonNull l) h prog valid q t v = br_on_non_null_here l h (slice_get h.scope.labels l) refl t v
+    control_safe (control.Call x) h prog valid q t v = call_here x h valid (type_of_func (context_of p.source) x) refl t v
+    control_safe (control.CallIndirect y x) h prog valid q t v = call_indirect_safe p us y x prog valid h.store q t v h.behind h.still h.around
+    control_safe (control.CallRef y) h prog valid q t v = call_ref_safe p us y valid h.store t v h.behind h.still h.around

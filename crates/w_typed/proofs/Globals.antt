@@ -18,7 +18,7 @@ use Rattle.w_reduce.specs.Store.{Store}
 use Rattle.w_reduce.specs.Terms.{Context}
 use Rattle.w_reduce.specs.Reduced.{Reduced, or_stuck, take_value}
 use Rattle.w_reduce.specs.Variable.{variable_op, with_global}
-use Rattle.w_typed.specs.Values.{ValueTyped, a_value, ValuesTyped, values}
+use Rattle.w_typed.specs.Values.{Arrows, ValueTyped, a_value, ValuesTyped, values}
 use Rattle.w_typed.specs.Stores.{Instances, StoreTyped}
 use Rattle.w_typed.specs.Contexts.{Scope}
 use Rattle.w_typed.specs.Configurations.{IsSafe}
@@ -27,8 +27,8 @@ use Rattle.w_typed.proofs.Subsumed.{values_sub}
 use Rattle.w_typed.proofs.Onward.{Onward}
 
 -- another value of a global's type may stand in its place
-pub global_put : (m : Module) (x : ℕ) (v : Val) (g : GlobalType) (s : Store) → StoreTyped m s → slice_get (globals_of m) x ≡ Some g
-    → ValueTyped m v g.kind → StoreTyped m (with_global s x v)
+pub global_put : (m : Module) {K : Arrows} (x : ℕ) (v : Val) (g : GlobalType) (s : Store) → StoreTyped m K s → slice_get (globals_of m) x ≡ Some g
+    → ValueTyped m K v g.kind → StoreTyped m K (with_global s x v)
 global_put m x v g s u is h = record {
   functions = u.functions;
   tables = u.tables;
@@ -36,35 +36,36 @@ global_put m x v g s u is h = record {
   globals = instance_set x v g u.globals is h;
   elements = u.elements;
   datas = u.datas;
+  conts = u.conts;
 }
 
-module _ (m : Module) (us : Row Operand) where
+module _ (m : Module) {K : Arrows} (us : Row Operand) where
   -- what is declared is there, and of its type
   pub instance_found : {A B : Type 0} {R : A → B → Type 0} {xs : List A} {ys : List B} (x : ℕ) (y : B) (go : A → Reduced) → Instances R xs ys
-      → slice_get ys x ≡ Some y → ((a : A) → R a y → IsSafe m us (go a)) → IsSafe m us (or_stuck (slice_get xs x) go)
+      → slice_get ys x ≡ Some y → ((a : A) → R a y → IsSafe m K us (go a)) → IsSafe m K us (or_stuck (slice_get xs x) go)
   instance_found x y go h is k = let f = instance_at x y h is in rw (f.is) (k f.item f.holds)
 
   -- a value is taken, of its type
-  pub value_taken : (t : ValType) (vs : Row Val) (beneath : Row Operand) (go : Row Val × Val → Reduced) → ValuesTyped m vs (beneath ▹ Known t)
-      → ((below : Row Val) (v : Val) → ValuesTyped m below beneath → ValueTyped m v t → IsSafe m us (go (below, v))) → IsSafe m us (take_value vs go)
+  pub value_taken : (t : ValType) (vs : Row Val) (beneath : Row Operand) (go : Row Val × Val → Reduced) → ValuesTyped m K vs (beneath ▹ Known t)
+      → ((below : Row Val) (v : Val) → ValuesTyped m K below beneath → ValueTyped m K v t → IsSafe m K us (go (below, v))) → IsSafe m K us (take_value vs go)
   value_taken t _ beneath go (values {vs = vs} {v = v} b (a_value h)) k = k vs v b h
 
   get_safe : (x : ℕ) (ts ws : Row Operand) (s : Store) (e : Context) (vs : Row Val) (k : Code) (y : Option GlobalType)
-      → slice_get (globals_of m) x ≡ y → StoreTyped m s → HasInstrType m.types (global_get_type y) ts ws → ValuesTyped m vs ts
-      → Onward m us e ws k → IsSafe m us (variable_op s e vs (variable.GlobalGet x) k)
+      → slice_get (globals_of m) x ≡ y → StoreTyped m K s → HasInstrType m.types (global_get_type y) ts ws → ValuesTyped m K vs ts
+      → Onward m K us e ws k → IsSafe m K us (variable_op s e vs (variable.GlobalGet x) k)
   get_safe x ts ws s e vs k None is u h v go = absurd h
   get_safe x ts ws s e vs k (Some g) is u h v go =
       instance_found x g _ u.globals is (λ w q. go s _ u (values_sub m h.gives (values (values_sub m h.takes v) (a_value q))))
 
   -- a global that is read
-  pub global_get_safe : (c : Scope) (x : ℕ) (ts ws : Row Operand) (s : Store) (e : Context) (vs : Row Val) (k : Code) → StoreTyped m s
-      → HasInstrType m.types (global_get_type (slice_get (globals_of m) x)) ts ws → ValuesTyped m vs ts → Onward m us e ws k
-      → IsSafe m us (variable_op s e vs (variable.GlobalGet x) k)
+  pub global_get_safe : (c : Scope) (x : ℕ) (ts ws : Row Operand) (s : Store) (e : Context) (vs : Row Val) (k : Code) → StoreTyped m K s
+      → HasInstrType m.types (global_get_type (slice_get (globals_of m) x)) ts ws → ValuesTyped m K vs ts → Onward m K us e ws k
+      → IsSafe m K us (variable_op s e vs (variable.GlobalGet x) k)
   global_get_safe c x ts ws s e vs k u h v go = get_safe x ts ws s e vs k (slice_get (globals_of m) x) refl u h v go
 
   set_safe : (x : ℕ) (ts ws : Row Operand) (s : Store) (e : Context) (vs : Row Val) (k : Code) (g : GlobalType) (w : Mutability)
-      → slice_get (globals_of m) x ≡ Some g → StoreTyped m s → HasInstrType m.types (write_type w g.kind) ts ws → ValuesTyped m vs ts
-      → Onward m us e ws k → IsSafe m us (variable_op s e vs (variable.GlobalSet x) k)
+      → slice_get (globals_of m) x ≡ Some g → StoreTyped m K s → HasInstrType m.types (write_type w g.kind) ts ws → ValuesTyped m K vs ts
+      → Onward m K us e ws k → IsSafe m K us (variable_op s e vs (variable.GlobalSet x) k)
   set_safe x ts ws s e vs k g mutability.Const is u h v go = absurd h
   set_safe x ts ws s e vs k g mutability.Var is u h v go =
       instance_found x g _ u.globals is (λ old q.
@@ -72,13 +73,13 @@ module _ (m : Module) (us : Row Operand) where
       go _ _ (global_put m x new g s u is r) (values_sub m h.gives b)))
 
   set_if_there : (x : ℕ) (ts ws : Row Operand) (s : Store) (e : Context) (vs : Row Val) (k : Code) (y : Option GlobalType)
-      → slice_get (globals_of m) x ≡ y → StoreTyped m s → HasInstrType m.types (global_set_type y) ts ws → ValuesTyped m vs ts
-      → Onward m us e ws k → IsSafe m us (variable_op s e vs (variable.GlobalSet x) k)
+      → slice_get (globals_of m) x ≡ y → StoreTyped m K s → HasInstrType m.types (global_set_type y) ts ws → ValuesTyped m K vs ts
+      → Onward m K us e ws k → IsSafe m K us (variable_op s e vs (variable.GlobalSet x) k)
   set_if_there x ts ws s e vs k None is u h v go = absurd h
   set_if_there x ts ws s e vs k (Some g) is u h v go = set_safe x ts ws s e vs k g g.mutability is u h v go
 
   -- a global that is written
-  pub global_set_safe : (c : Scope) (x : ℕ) (ts ws : Row Operand) (s : Store) (e : Context) (vs : Row Val) (k : Code) → StoreTyped m s
-      → HasInstrType m.types (global_set_type (slice_get (globals_of m) x)) ts ws → ValuesTyped m vs ts → Onward m us e ws k
-      → IsSafe m us (variable_op s e vs (variable.GlobalSet x) k)
+  pub global_set_safe : (c : Scope) (x : ℕ) (ts ws : Row Operand) (s : Store) (e : Context) (vs : Row Val) (k : Code) → StoreTyped m K s
+      → HasInstrType m.types (global_set_type (slice_get (globals_of m) x)) ts ws → ValuesTyped m K vs ts → Onward m K us e ws k
+      → IsSafe m K us (variable_op s e vs (variable.GlobalSet x) k)
   global_set_safe c x ts ws s e vs k u h v go = set_if_there x ts ws s e vs k (slice_get (globals_of m) x) refl u h v go

@@ -1,7 +1,7 @@
 -- Calls by reference and through a table, of typed configurations.
 use Rattle.std.proofs.Common.{◌≡◌, ℕ, Bool, true, false, List, Option, Some, None, slice_get, refl, ap, ◌∙◌}
 use Rattle.w_types.specs.declared.types.FuncType.{FuncType}
-use Rattle.w_types.specs.declared.types.HeapType.TheVariants.{Index}
+use Rattle.w_types.specs.declared.types.HeapType.TheVariants.{Func, Index}
 use Rattle.w_types.specs.declared.types.RefType.{RefType}
 use Rattle.w_types.specs.declared.types.ValType.TheVariants.{Ref}
 use Rattle.w_types.specs.Rows.{Row, ◌▹◌, ◌⧺◌, row_of}
@@ -12,7 +12,9 @@ use Rattle.w_syntax.specs.declared.module.Module.{Module}
 use Rattle.w_syntax.specs.declared.module.TableType.{TableType}
 use Rattle.w_syntax.specs.declared.numeric.IntType.TheVariants as int
 use Rattle.w_canon.specs.Equivalence.{SameIndex}
-use Rattle.w_canon.specs.Matching.{HeapMatches, index}
+use Rattle.w_canon.specs.Matching.{HeapMatches, index, index_func, RefMatches}
+use Rattle.w_canon.proofs.Preorder.{heap_trans}
+use Rattle.w_rules.specs.Conditions.{Holds, funcref}
 use Rattle.w_rules.specs.Context.{func_at}
 use Rattle.w_rules.specs.InstructionTypes.{call_indirect_type, call_ref_type, nullable}
 use Rattle.w_rules.specs.Matching.{known}
@@ -30,7 +32,7 @@ use Rattle.w_reduce.specs.Program.{Program, IsProgram}
 use Rattle.w_reduce.specs.Reduced.{Reduced, as_function}
 use Rattle.w_reduce.specs.Control.{control_op, call_indirect, unless_mismatch}
 use Rattle.w_reduce.specs.Calls.{invoke}
-use Rattle.w_typed.specs.Values.{ValueTyped, a_null, a_function, a_value, ValuesTyped, values}
+use Rattle.w_typed.specs.Values.{Arrows, ValueTyped, a_null, a_function, a_continuation, a_value, ValuesTyped, values}
 use Rattle.w_typed.specs.Stores.{StoreTyped}
 use Rattle.w_typed.specs.Contexts.{Scope, CodeTyped, code_alone, Subset, Within}
 use Rattle.w_typed.specs.Configurations.{IsSafe, traps}
@@ -40,6 +42,7 @@ use Rattle.w_typed.proofs.Subsumed.{values_sub}
 use Rattle.w_typed.proofs.Taken.{number_taken, trapped_or}
 use Rattle.w_typed.proofs.Holes.{code_left}
 use Rattle.w_typed.proofs.Calls.{invoke_safe}
+use Rattle.w_typed.proofs.TypeKinds.{is_func, cont_no_func}
 use Rattle.w_typed.proofs.SameTypes.{same_function, result_rows}
 
 -- a function of this address, with its type
@@ -48,18 +51,24 @@ pub record IsFunction (m : Module) (r : RefType) (a : ℕ) : Type 0 where
   pub is : slice_get (functions_of m) a ≡ Some index
   pub matches : HeapMatches m.types (Index index) r.heap
 
-module _ (p : Program) (us : Row Operand) where
-  -- a reference is null, and traps, or it is that of a function
-  pub function_taken : (t : Trap) {v : Val} {r : RefType} (go : ℕ → Reduced) → ValueTyped p.source v (Ref r)
-      → ((a : ℕ) → IsFunction p.source r a → IsSafe p.source us (go a)) → IsSafe p.source us (as_function t v go)
-  function_taken t go (a_null n) f = traps
-  function_taken t go (a_function {a = a} {x = x} is h) f = f a (record { index = x; is = is; matches = h })
+-- an index that matches another is equivalent to it
+pub one_type : (m : Module) {x y : ℕ} → HeapMatches m.types (Index x) (Index y) → SameIndex m.types x y
+one_type m (index s) = s
+
+module _ (p : Program) {K : Arrows} (us : Row Operand) where
+  -- a reference to functions is null, and traps, or it is that of a function
+  pub function_taken : (t : Trap) {v : Val} {r : RefType} (go : ℕ → Reduced) → HeapMatches p.source.types r.heap Func → ValueTyped p.source K v (Ref r)
+      → ((a : ℕ) → IsFunction p.source r a → IsSafe p.source K us (go a)) → IsSafe p.source K us (as_function t v go)
+  function_taken t go q (a_null n) f = traps
+  function_taken t {r = r} go q (a_continuation c) f =
+      absurd (cont_no_func p.source c.index c.type c.has_type (heap_trans p.source.types (Index c.index) r.heap Func c.heap q))
+  function_taken t go q (a_function {a = a} {x = x} is h) f = f a (record { index = x; is = is; matches = h })
 
   -- the function is invoked, where its type is equivalent to this one
   equivalent_invoked : {s : Store} {e : Context} {vs : Row Val} {k : Code} {c : Scope} {set now : List Bool} {out : Row Operand} (a z y : ℕ) (t : FuncType) (beneath : Row Operand)
-      → Valid p.source → StoreTyped p.source s → slice_get (functions_of p.source) a ≡ Some z → SameIndex p.source.types z y → func_type p.source y ≡ Some t
-      → ValuesTyped p.source vs (beneath ⧺ known (row_of t.params)) → CodeTyped p.source c set k (beneath ⧺ known (row_of t.results)) out
-      → Subset set now → Within p.source us e c now out → IsSafe p.source us (invoke p s e vs a (rest_of k))
+      → Valid p.source → StoreTyped p.source K s → slice_get (functions_of p.source) a ≡ Some z → SameIndex p.source.types z y → func_type p.source y ≡ Some t
+      → ValuesTyped p.source K vs (beneath ⧺ known (row_of t.params)) → CodeTyped p.source c set k (beneath ⧺ known (row_of t.results)) out
+      → Subset set now → Within p.source K us e c now out → IsSafe p.source K us (invoke p s e vs a (rest_of k))
   equivalent_invoked a z y t beneath valid u there same is v k still w =
       let m = p.source in
       let f = same_function m valid z y same t is in
@@ -69,53 +78,52 @@ module _ (p : Program) (us : Row Operand) where
 
   unless_other : {s : Store} {e : Context} {vs : Row Val} {k : Code} {c : Scope} {set now : List Bool} {out : Row Operand} (b : Bool) (a z y : ℕ) (t : FuncType) (beneath : Row Operand)
       → p.same z y ≡ b → IsProgram p
-      → Valid p.source → StoreTyped p.source s → slice_get (functions_of p.source) a ≡ Some z → func_type p.source y ≡ Some t
-      → ValuesTyped p.source vs (beneath ⧺ known (row_of t.params)) → CodeTyped p.source c set k (beneath ⧺ known (row_of t.results)) out
-      → Subset set now → Within p.source us e c now out → IsSafe p.source us (unless_mismatch b (invoke p s e vs a (rest_of k)))
+      → Valid p.source → StoreTyped p.source K s → slice_get (functions_of p.source) a ≡ Some z → func_type p.source y ≡ Some t
+      → ValuesTyped p.source K vs (beneath ⧺ known (row_of t.params)) → CodeTyped p.source c set k (beneath ⧺ known (row_of t.results)) out
+      → Subset set now → Within p.source K us e c now out → IsSafe p.source K us (unless_mismatch b (invoke p s e vs a (rest_of k)))
   unless_other false a z y t beneath d prog valid u there is v k still w = traps
   unless_other true a z y t beneath d prog valid u there is v k still w = equivalent_invoked a z y t beneath valid u there ((prog z y).0 d) is v k still w
 
   indirect_here : {s : Store} {e : Context} {vs : Row Val} {k : Code} {c : Scope} {set now : List Bool} {ts ws out : Row Operand} (y x : ℕ) (g : Option TableType) (t : Option FuncType)
-      → IsProgram p → Valid p.source → StoreTyped p.source s → slice_get (tables_of p.source) x ≡ g → func_type p.source y ≡ t
-      → HasInstrType p.source.types (call_indirect_type g t) ts ws → ValuesTyped p.source vs ts → CodeTyped p.source c set k ws out
-      → Subset set now → Within p.source us e c now out → IsSafe p.source us (call_indirect p s e vs y x k)
-  indirect_here y x None t prog valid u there is h v k still w = absurd h
-  indirect_here y x (Some g) None prog valid u there is h v k still w = absurd h
-  indirect_here {s = s} {e = e} {vs = vs} {k = k} y x (Some g) (Some t) prog valid u there is h v d still w =
+      → IsProgram p → Valid p.source → StoreTyped p.source K s → slice_get (tables_of p.source) x ≡ g → func_type p.source y ≡ t
+      → Holds g (λ (t : TableType). RefMatches p.source.types t.element funcref)
+      → HasInstrType p.source.types (call_indirect_type g t) ts ws → ValuesTyped p.source K vs ts → CodeTyped p.source c set k ws out
+      → Subset set now → Within p.source K us e c now out → IsSafe p.source K us (call_indirect p s e vs y x k)
+  indirect_here y x None t prog valid u there is q h v k still w = absurd h
+  indirect_here y x (Some g) None prog valid u there is q h v k still w = absurd h
+  indirect_here {s = s} {e = e} {vs = vs} {k = k} y x (Some g) (Some t) prog valid u there is q h v d still w =
       let m = p.source in
       let table = instance_at x g u.tables there in
       number_taken m us int.I32 vs (h.beneath ⧺ known (row_of t.params)) _ (values_sub m h.takes v) (λ below i b.
       rw (table.is) (trapped_or m us trap.UndefinedElement (slice_get table.item.elements i) _ (λ r at.
-      function_taken trap.NullElement _ (all_get m (Ref g.element) i r table.item.elements table.holds at) (λ a f.
+      function_taken trap.NullElement _ q.heap (all_get m K (Ref g.element) i r table.item.elements table.holds at) (λ a f.
       rw (f.is) (unless_other (p.same f.index y) a f.index y t h.beneath refl prog valid u f.is is b (code_left m h.gives d) still w)))))
 
   -- call_indirect invokes a function of an equivalent type, or traps
   pub call_indirect_safe : {s : Store} {e : Context} {vs : Row Val} {k : Code} {c : Scope} {set now : List Bool} {ts ws out : Row Operand} (y x : ℕ)
-      → IsProgram p → Valid p.source → StoreTyped p.source s
-      → HasInstrType p.source.types (call_indirect_type (slice_get (tables_of p.source) x) (func_type p.source y)) ts ws → ValuesTyped p.source vs ts
-      → CodeTyped p.source c set k ws out → Subset set now → Within p.source us e c now out → IsSafe p.source us (call_indirect p s e vs y x k)
-  call_indirect_safe y x prog valid u h v d still w = indirect_here y x (slice_get (tables_of p.source) x) (func_type p.source y) prog valid u refl refl h v d still w
-
-  one_type : {x y : ℕ} → HeapMatches p.source.types (Index x) (Index y) → SameIndex p.source.types x y
-  one_type (index s) = s
+      → IsProgram p → Valid p.source → StoreTyped p.source K s
+      → Holds (slice_get (tables_of p.source) x) (λ (t : TableType). RefMatches p.source.types t.element funcref)
+      → HasInstrType p.source.types (call_indirect_type (slice_get (tables_of p.source) x) (func_type p.source y)) ts ws → ValuesTyped p.source K vs ts
+      → CodeTyped p.source c set k ws out → Subset set now → Within p.source K us e c now out → IsSafe p.source K us (call_indirect p s e vs y x k)
+  call_indirect_safe y x prog valid u q h v d still w = indirect_here y x (slice_get (tables_of p.source) x) (func_type p.source y) prog valid u refl refl q h v d still w
 
   ref_here : {s : Store} {e : Context} {vs : Row Val} {k : Code} {c : Scope} {set now : List Bool} {out : Row Operand} (y : ℕ) (t : FuncType) (beneath : Row Operand)
-      → Valid p.source → StoreTyped p.source s → func_type p.source y ≡ Some t
-      → ValuesTyped p.source vs (beneath ⧺ known (row_of t.params ▹ nullable y)) → CodeTyped p.source c set k (beneath ⧺ known (row_of t.results)) out
-      → Subset set now → Within p.source us e c now out → IsSafe p.source us (control_op p s e vs (control.CallRef y) k)
+      → Valid p.source → StoreTyped p.source K s → func_type p.source y ≡ Some t
+      → ValuesTyped p.source K vs (beneath ⧺ known (row_of t.params ▹ nullable y)) → CodeTyped p.source c set k (beneath ⧺ known (row_of t.results)) out
+      → Subset set now → Within p.source K us e c now out → IsSafe p.source K us (control_op p s e vs (control.CallRef y) k)
   ref_here y t beneath valid u is (values b (a_value q)) d still w =
-      function_taken trap.NullReference _ q (λ a f. equivalent_invoked a f.index y t beneath valid u f.is (one_type f.matches) is b d still w)
+      function_taken trap.NullReference _ (index_func (is_func p.source y t is)) q (λ a f. equivalent_invoked a f.index y t beneath valid u f.is (one_type p.source f.matches) is b d still w)
 
   by_type : {s : Store} {e : Context} {vs : Row Val} {k : Code} {c : Scope} {set now : List Bool} {ts ws out : Row Operand} (y : ℕ) (t : Option FuncType)
-      → Valid p.source → StoreTyped p.source s → func_type p.source y ≡ t → HasInstrType p.source.types (call_ref_type y t) ts ws
-      → ValuesTyped p.source vs ts → CodeTyped p.source c set k ws out
-      → Subset set now → Within p.source us e c now out → IsSafe p.source us (control_op p s e vs (control.CallRef y) k)
+      → Valid p.source → StoreTyped p.source K s → func_type p.source y ≡ t → HasInstrType p.source.types (call_ref_type y t) ts ws
+      → ValuesTyped p.source K vs ts → CodeTyped p.source c set k ws out
+      → Subset set now → Within p.source K us e c now out → IsSafe p.source K us (control_op p s e vs (control.CallRef y) k)
   by_type y None valid u is h v d still w = absurd h
   by_type y (Some t) valid u is h v d still w = ref_here y t h.beneath valid u is (values_sub p.source h.takes v) (code_left p.source h.gives d) still w
 
   -- call_ref invokes the function, or traps where it is null
   pub call_ref_safe : {s : Store} {e : Context} {vs : Row Val} {k : Code} {c : Scope} {set now : List Bool} {ts ws out : Row Operand} (y : ℕ)
-      → Valid p.source → StoreTyped p.source s → HasInstrType p.source.types (call_ref_type y (func_type p.source y)) ts ws
-      → ValuesTyped p.source vs ts → CodeTyped p.source c set k ws out
-      → Subset set now → Within p.source us e c now out → IsSafe p.source us (control_op p s e vs (control.CallRef y) k)
+      → Valid p.source → StoreTyped p.source K s → HasInstrType p.source.types (call_ref_type y (func_type p.source y)) ts ws
+      → ValuesTyped p.source K vs ts → CodeTyped p.source c set k ws out
+      → Subset set now → Within p.source K us e c now out → IsSafe p.source K us (control_op p s e vs (control.CallRef y) k)
   call_ref_safe y valid u h v d still w = by_type y (func_type p.source y) valid u refl h v d still w

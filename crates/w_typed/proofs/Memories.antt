@@ -28,7 +28,7 @@ use Rattle.w_reduce.specs.Store.{Store}
 use Rattle.w_reduce.specs.Terms.{Context}
 use Rattle.w_reduce.specs.Reduced.{Reduced, Stuck, take_i32, number, or_stuck}
 use Rattle.w_reduce.specs.Memories.{loaded_type, loaded_size, loaded, stored_type, stored_size, with_memory, without_data, memory_op}
-use Rattle.w_typed.specs.Values.{an_i32, OperandTyped, a_value, ValuesTyped, values}
+use Rattle.w_typed.specs.Values.{Arrows, an_i32, OperandTyped, a_value, ValuesTyped, values}
 use Rattle.w_typed.specs.Stores.{StoreTyped}
 use Rattle.w_typed.specs.Contexts.{Scope, in_scope}
 use Rattle.w_typed.specs.Configurations.{IsSafe}
@@ -55,8 +55,8 @@ as_loaded load_op.I64Load32S = refl
 as_loaded load_op.I64Load32U = refl
 
 -- what it gives is of its type
-pub loaded_typed : (m : Module) (o : LoadOp) (n : ℕ) → OperandTyped m (number (loaded_type o) n) (Known (load_type o))
-loaded_typed m o n = subst (λ t. OperandTyped m (number (loaded_type o) n) (Known t)) (as_loaded o) (number_typed m (loaded_type o) n)
+pub loaded_typed : (m : Module) {K : Arrows} (o : LoadOp) (n : ℕ) → OperandTyped m K (number (loaded_type o) n) (Known (load_type o))
+loaded_typed m {K} o n = subst (λ t. OperandTyped m K (number (loaded_type o) n) (Known t)) (as_loaded o) (number_typed m (loaded_type o) n)
 
 -- a store takes its type
 pub as_stored : (o : StoreOp) → of_int (stored_type o) ≡ store_type o
@@ -71,7 +71,7 @@ as_stored store_op.I64Store32 = refl
 -- ## Stores
 
 -- another memory may stand in one's place
-pub memory_put : (m : Module) (x : ℕ) (n : Memory) (s : Store) → StoreTyped m s → StoreTyped m (with_memory s x n)
+pub memory_put : (m : Module) {K : Arrows} (x : ℕ) (n : Memory) (s : Store) → StoreTyped m K s → StoreTyped m K (with_memory s x n)
 memory_put m x n s u = record {
   functions = u.functions;
   tables = u.tables;
@@ -79,10 +79,11 @@ memory_put m x n s u = record {
   globals = u.globals;
   elements = u.elements;
   datas = u.datas;
+  conts = u.conts;
 }
 
 -- a data segment may be dropped
-pub data_dropped : (m : Module) (y : ℕ) (s : Store) → StoreTyped m s → StoreTyped m (without_data s y)
+pub data_dropped : (m : Module) {K : Arrows} (y : ℕ) (s : Store) → StoreTyped m K s → StoreTyped m K (without_data s y)
 data_dropped m y s u = record {
   functions = u.functions;
   tables = u.tables;
@@ -90,45 +91,46 @@ data_dropped m y s u = record {
   globals = u.globals;
   elements = u.elements;
   datas = length-set s.datas y [] ∙ u.datas;
+  conts = u.conts;
 }
 
-module _ (m : Module) (us : Row Operand) where
+module _ (m : Module) {K : Arrows} (us : Row Operand) where
   -- ## What a rule takes and looks up
 
   -- an item below the length is there
-  pub item_found : {A : Type 0} (x : ℕ) (xs : List A) (go : A → Reduced) → x < length xs → ((a : A) → IsSafe m us (go a))
-      → IsSafe m us (or_stuck (slice_get xs x) go)
+  pub item_found : {A : Type 0} (x : ℕ) (xs : List A) (go : A → Reduced) → x < length xs → ((a : A) → IsSafe m K us (go a))
+      → IsSafe m K us (or_stuck (slice_get xs x) go)
   item_found x [] go h k = absurd (omega (arith, h))
   item_found zero (a ∷ xs) go h k = k a
   item_found (suc x) (a ∷ xs) go h k = item_found x xs go (omega (arith, h)) k
 
   -- three numbers are taken
   pub three_taken : (vs : Row Val) (beneath : Row Operand) (go : Row Val → ℕ → ℕ → ℕ → Reduced)
-      → ValuesTyped m vs (beneath ▹ Known I32 ▹ Known I32 ▹ Known I32)
-      → ((below : Row Val) (d j n : ℕ) → ValuesTyped m below beneath → IsSafe m us (go below d j n))
-      → IsSafe m us (take_i32 vs (λ p. take_i32 p.0 (λ q. take_i32 q.0 (λ r. go r.0 r.1 q.1 p.1))))
+      → ValuesTyped m K vs (beneath ▹ Known I32 ▹ Known I32 ▹ Known I32)
+      → ((below : Row Val) (d j n : ℕ) → ValuesTyped m K below beneath → IsSafe m K us (go below d j n))
+      → IsSafe m K us (take_i32 vs (λ p. take_i32 p.0 (λ q. take_i32 q.0 (λ r. go r.0 r.1 q.1 p.1))))
   three_taken vs beneath go h k =
       number_taken m us int.I32 vs (beneath ▹ Known I32 ▹ Known I32) _ h (λ above n a.
       number_taken m us int.I32 above (beneath ▹ Known I32) _ a (λ middle j b.
       number_taken m us int.I32 middle beneath _ b (λ below d c. k below d j n c)))
 
   -- a memory of the module is there
-  pub memory_found : (c : Scope) (x : ℕ) (s : Store) (go : Memory → Reduced) → StoreTyped m s → IsTrue (has_memory (in_scope m c) x)
-      → ((n : Memory) → IsSafe m us (go n)) → IsSafe m us (or_stuck (slice_get s.memories x) go)
+  pub memory_found : (c : Scope) (x : ℕ) (s : Store) (go : Memory → Reduced) → StoreTyped m K s → IsTrue (has_memory (in_scope m c) x)
+      → ((n : Memory) → IsSafe m K us (go n)) → IsSafe m K us (or_stuck (slice_get s.memories x) go)
   memory_found c x s go u h k =
       let below : x < length (memories_of m) = ltb-true x (length (memories_of m)) h in
       item_found x s.memories go (omega (arith, below, u.memories)) k
 
   -- a data segment of the module is there
-  pub data_found : (y : ℕ) (s : Store) (go : List ℕ → Reduced) → StoreTyped m s → IsTrue (nat_lt y (length m.datas))
-      → ((bytes : List ℕ) → IsSafe m us (go bytes)) → IsSafe m us (or_stuck (slice_get s.datas y) go)
+  pub data_found : (y : ℕ) (s : Store) (go : List ℕ → Reduced) → StoreTyped m K s → IsTrue (nat_lt y (length m.datas))
+      → ((bytes : List ℕ) → IsSafe m K us (go bytes)) → IsSafe m K us (or_stuck (slice_get s.datas y) go)
   data_found y s go u h k =
       let below : y < length m.datas = ltb-true y (length m.datas) h in
       item_found y s.datas go (omega (arith, below, u.datas)) k
 
   -- there is at most one memory, so two are the same
   pub memory_same : (c : Scope) (x y : ℕ) (go : Reduced) → Valid m → IsTrue (has_memory (in_scope m c) x) → IsTrue (has_memory (in_scope m c) y)
-      → IsSafe m us go → IsSafe m us (if nat_eq x y then go else Stuck)
+      → IsSafe m K us go → IsSafe m K us (if nat_eq x y then go else Stuck)
   memory_same c x y go valid h k safe =
       let first : x < length (memories_of m) = ltb-true x (length (memories_of m)) h in
       let second : y < length (memories_of m) = ltb-true y (length (memories_of m)) k in
@@ -138,8 +140,8 @@ module _ (m : Module) (us : Row Operand) where
   -- ## The rules
 
   -- a memory instruction goes on, or traps
-  pub memory_safe : (c : Scope) (o : MemoryOp) (ts ws : Row Operand) (s : Store) (e : Context) (vs : Row Val) (k : Code) → Valid m → StoreTyped m s
-      → HasInstrType m.types (memory_op_type (in_scope m c) o) ts ws → ValuesTyped m vs ts → Onward m us e ws k → IsSafe m us (memory_op s e vs o k)
+  pub memory_safe : (c : Scope) (o : MemoryOp) (ts ws : Row Operand) (s : Store) (e : Context) (vs : Row Val) (k : Code) → Valid m → StoreTyped m K s
+      → HasInstrType m.types (memory_op_type (in_scope m c) o) ts ws → ValuesTyped m K vs ts → Onward m K us e ws k → IsSafe m K us (memory_op s e vs o k)
   memory_safe c (memory.Load o a) ts ws s e vs k valid u h v go =
       let test = is_access (in_scope m c) (load_width o) a in
       let type = fixed (ε ▹ I32) (ε ▹ load_type o) in
@@ -156,7 +158,7 @@ module _ (m : Module) (us : Row Operand) where
       let fits = nat_le a.align (store_width o) && nat_lt a.offset (2 ^ 32) in
       let there = each_of (has_memory (in_scope m c) 0) fits (if_valid_holds m test type ts ws h) in
       let g = if_valid_has m test type ts ws h in
-      let typed = subst (λ t. ValuesTyped m vs (g.beneath ▹ Known I32 ▹ Known t)) (sym (as_stored o)) (values_sub m g.takes v) in
+      let typed = subst (λ t. ValuesTyped m K vs (g.beneath ▹ Known I32 ▹ Known t)) (sym (as_stored o)) (values_sub m g.takes v) in
       number_taken m us (stored_type o) vs (g.beneath ▹ Known I32) _ typed (λ above n b.
       number_taken m us int.I32 above g.beneath _ b (λ below i d.
       memory_found c 0 s _ u there.0 (λ mem.

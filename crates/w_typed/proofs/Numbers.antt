@@ -17,32 +17,32 @@ use Rattle.w_reduce.specs.Store.{Store}
 use Rattle.w_reduce.specs.Terms.{Context}
 use Rattle.w_reduce.specs.Reduced.{Reduced, unless_fault}
 use Rattle.w_reduce.specs.Numeric.{numeric_op, taken_by, given_by, cvtop, width, unop, binop}
-use Rattle.w_typed.specs.Values.{ValuesTyped, values, a_value, an_i32, an_i64}
+use Rattle.w_typed.specs.Values.{Arrows, ValuesTyped, values, a_value, an_i32, an_i64}
 use Rattle.w_typed.specs.Stores.{StoreTyped}
 use Rattle.w_typed.specs.Configurations.{IsSafe, traps}
 use Rattle.w_typed.proofs.Subsumed.{values_sub}
 use Rattle.w_typed.proofs.Taken.{number_taken, number_typed}
 use Rattle.w_typed.proofs.Onward.{Onward}
 
-module _ (m : Module) (us : Row Operand) where
-  faultless : (r : Result ℕ NumFault) (go : ℕ → Reduced) → ((n : ℕ) → IsSafe m us (go n)) → IsSafe m us (unless_fault r go)
+-- a conversion's type is that of what it takes and gives
+as_converted : (o : Cvtop) → convert_type o ≡ fixed (ε ▹ of_int (taken_by o)) (ε ▹ of_int (given_by o))
+as_converted conversion.I32WrapI64 = refl
+as_converted conversion.I64ExtendI32S = refl
+as_converted conversion.I64ExtendI32U = refl
+as_converted conversion.I32Extend8S = refl
+as_converted conversion.I32Extend16S = refl
+as_converted conversion.I64Extend8S = refl
+as_converted conversion.I64Extend16S = refl
+as_converted conversion.I64Extend32S = refl
+
+module _ (m : Module) {K : Arrows} (us : Row Operand) where
+  faultless : (r : Result ℕ NumFault) (go : ℕ → Reduced) → ((n : ℕ) → IsSafe m K us (go n)) → IsSafe m K us (unless_fault r go)
   faultless (Ok n) go h = h n
   faultless (Err f) go h = traps
 
-  -- a conversion's type is that of what it takes and gives
-  as_converted : (o : Cvtop) → convert_type o ≡ fixed (ε ▹ of_int (taken_by o)) (ε ▹ of_int (given_by o))
-  as_converted conversion.I32WrapI64 = refl
-  as_converted conversion.I64ExtendI32S = refl
-  as_converted conversion.I64ExtendI32U = refl
-  as_converted conversion.I32Extend8S = refl
-  as_converted conversion.I32Extend16S = refl
-  as_converted conversion.I64Extend8S = refl
-  as_converted conversion.I64Extend16S = refl
-  as_converted conversion.I64Extend32S = refl
-
   -- a numeric instruction goes on with its result, or traps
-  pub numeric_safe : (o : NumericOp) (ts ws : Row Operand) (s : Store) (e : Context) (vs : Row Val) (k : Code) → StoreTyped m s
-      → HasInstrType m.types (numeric_op_type o) ts ws → ValuesTyped m vs ts → Onward m us e ws k → IsSafe m us (numeric_op s e vs o k)
+  pub numeric_safe : (o : NumericOp) (ts ws : Row Operand) (s : Store) (e : Context) (vs : Row Val) (k : Code) → StoreTyped m K s
+      → HasInstrType m.types (numeric_op_type o) ts ws → ValuesTyped m K vs ts → Onward m K us e ws k → IsSafe m K us (numeric_op s e vs o k)
   numeric_safe (numeric.I32Const z) ts ws s e vs k u h v go = go s _ u (values_sub m h.gives (values (values_sub m h.takes v) (a_value an_i32)))
   numeric_safe (numeric.I64Const z) ts ws s e vs k u h v go = go s _ u (values_sub m h.gives (values (values_sub m h.takes v) (a_value an_i64)))
   numeric_safe (numeric.Eqz t) ts ws s e vs k u h v go =

@@ -1,6 +1,6 @@
 -- A type that is equivalent to a function type is a function type that matches it. Result types that match are rows that match.
 use Rattle.std.proofs.Common.{◌≡◌, inl, inr, ℕ, zero, suc, ◌+◌, ◌<◌, ◌≤◌, List, [], ◌∷◌, ◌++◌, map, length, refl, sym, ap, subst, ◌∙◌, arith}
-use Rattle.std.specs.Prelude.{Option, Some, None, slice_get, option_map}
+use Rattle.std.specs.Prelude.{Some, slice_get, option_map}
 use Rattle.std.proofs.lemmas.List.{length-append}
 use Rattle.std.proofs.lemmas.Option.{slice_get-map, slice_get_within}
 use Rattle.w_types.proofs.Lists.{get-front, get-behind}
@@ -13,7 +13,7 @@ use Rattle.w_types.specs.Groups.{types_of}
 use Rattle.w_types.specs.Rows.{Row, ε, ◌▹◌, onto, row_of}
 use Rattle.w_syntax.specs.Functions.{function_type, func_type}
 use Rattle.w_syntax.specs.declared.module.Module.{Module}
-use Rattle.w_canon.specs.Relations.{Pairwise, none, more}
+use Rattle.w_canon.specs.Relations.{none, more}
 use Rattle.w_canon.specs.Equality.{ResultEqual}
 use Rattle.w_canon.specs.Equivalence.{AlikeComp, AlikeFunc, Place, Same, SameIndex}
 use Rattle.w_canon.specs.Matching.{ResultMatches}
@@ -23,7 +23,8 @@ use Rattle.w_canon.proofs.Preorder.{result_refl}
 use Rattle.w_rules.specs.Matching.{value, RowMatches, known}
 use Rattle.w_rules.specs.Types.{IsValidCompType, with_ends}
 use Rattle.w_rules.specs.Valid.{Valid, TypeItem, TypeValid}
-use Rattle.w_typed.proofs.AlikeTypes.{end_of, alike_same, alike_result_equal}
+use Rattle.w_typed.proofs.TypeKinds.{func_here}
+use Rattle.w_typed.proofs.AlikeTypes.{end_of, related_at, alike_same, alike_result_equal}
 
 -- ## The end of a type's group
 
@@ -68,7 +69,7 @@ end_behind start (x ∷ front) g back p i end t at is there =
 -- ## Types of a valid module
 
 -- the indices in a type of a valid module are below the end of its group
-valid_at_place : (m : Module) → Valid m → (i : ℕ) (P : Place m.types i) (t : CompType) → slice_get P.group.types P.position ≡ Some t
+pub valid_at_place : (m : Module) → Valid m → (i : ℕ) (P : Place m.types i) (t : CompType) → slice_get P.group.types P.position ≡ Some t
     → IsValidCompType (types_of m.types) (end_of m.types i P) t
 valid_at_place m v i P t there =
     let h : TypeValid m i = v (TypeItem i) (within_all m.types i P) in
@@ -87,28 +88,15 @@ pub record SameFunction (m : Module) (x : ℕ) (f : FuncType) : Type 0 where
   pub params : ResultMatches m.types f.params type.params
   pub results : ResultMatches m.types type.results f.results
 
-func_here : (o : Option CompType) (f : FuncType) → function_type o ≡ Some f → o ≡ Some (comp.Func f)
-func_here (Some (comp.Func g)) f h = let e : g ≡ f = cc in ap (λ (z : FuncType). Some (comp.Func z)) e
-func_here (Some (comp.Cont x)) f h = absurd (cc)
-func_here None f h = absurd (cc)
-
--- the function type at a position of a group that equals one with a function type there
-record AlikeAt (S : ℕ → ℕ → Type 0) (s t : ℕ) (ts : List CompType) (p : ℕ) (f : FuncType) : Type 0 where
+-- a function type that is alike f
+record AlikeFunction (S : ℕ → ℕ → Type 0) (s t : ℕ) (f : FuncType) (a : CompType) : Type 0 where
   type : FuncType
-  there : slice_get ts p ≡ Some (comp.Func type)
+  is : a ≡ comp.Func type
   alike : AlikeFunc S s t type f
 
-alike_head : {S : ℕ → ℕ → Type 0} {s t : ℕ} {a b : CompType} (ts : List CompType) (f : FuncType) → AlikeComp S s t a b → b ≡ comp.Func f
-    → AlikeAt S s t (a ∷ ts) zero f
-alike_head {S} {s} {t} ts f (AlikeComp.func {f = g} {g = k} h) e =
-    let same : k ≡ f = cc in record { type = g; there = refl; alike = subst (λ (z : FuncType). AlikeFunc S s t g z) same h }
-alike_head ts f (AlikeComp.cont h) e = absurd (cc)
-
-alike_at : {S : ℕ → ℕ → Type 0} {s t : ℕ} {ts us : List CompType} (p : ℕ) (f : FuncType) → Pairwise (AlikeComp S s t) ts us
-    → slice_get us p ≡ Some (comp.Func f) → AlikeAt S s t ts p f
-alike_at p f none is = absurd (cc)
-alike_at zero f (more {xs = ts} h k) is = alike_head ts f h (cc)
-alike_at (suc p) f (more h k) is = let r = alike_at p f k is in record { type = r.type; there = r.there; alike = r.alike }
+-- what is alike a function type is one
+alike_function : {S : ℕ → ℕ → Type 0} {s t : ℕ} (f : FuncType) {a : CompType} → AlikeComp S s t a (comp.Func f) → AlikeFunction S s t f a
+alike_function f (AlikeComp.func {f = g} h) = record { type = g; is = refl; alike = h }
 
 function_alike : (m : Module) → Valid m → (n : ℕ) → n ≤ length m.types → (x y : ℕ) → Same n m.types x y → (f : FuncType)
     → func_type m y ≡ Some f → SameFunction m x f
@@ -119,9 +107,10 @@ function_alike m v (suc n) le x y h f is =
     let t = count h.other.front in
     let here : slice_get h.other.group.types h.other.position ≡ Some (comp.Func f) =
     sym (type_at_place gs y h.other) ∙ func_here (slice_get (types_of gs) y) f is in
-    let a : AlikeAt (Same n gs) s t h.one.group.types h.other.position f = alike_at h.other.position f h.groups here in
+    let r = related_at h.other.position (comp.Func f) h.groups here in
+    let a : AlikeFunction (Same n gs) s t f r.item = alike_function f r.related in
     let g = a.type in
-    let there : slice_get h.one.group.types h.one.position ≡ Some (comp.Func g) = ap (slice_get h.one.group.types) h.position ∙ a.there in
+    let there : slice_get h.one.group.types h.one.position ≡ Some (comp.Func g) = ap (slice_get h.one.group.types) h.position ∙ r.there ∙ ap (λ (z : CompType). Some z) a.is in
     let one = valid_at_place m v x h.one (comp.Func g) there in
     let other = valid_at_place m v y h.other (comp.Func f) here in
     let same = alike_same n gs le x y h in

@@ -27,8 +27,8 @@ use Rattle.w_reduce.specs.Imports.{Found, All, Missing, printers_of}
 use Rattle.w_reduce.specs.Start.{Ready, are_integers, is_entry_type, entry_at, entry_of, entry_in, entry, exceeded, allocated, element_started, data_started, in_order, invokes, start_term, with_datas, with_elements_in, within_limits, with_entry, with_imports, Start}
 use Rattle.w_typed.specs.Values.{no_values}
 use Rattle.w_typed.specs.Stores.{StoreTyped}
-use Rattle.w_typed.specs.Contexts.{closed, RestTyped, code_alone, invoke_first, outside}
-use Rattle.w_typed.specs.Configurations.{TermTyped, Typed, StartsTyped}
+use Rattle.w_typed.specs.Contexts.{TermTyped, closed, RestTyped, code_alone, invoke_first, outside}
+use Rattle.w_typed.specs.Configurations.{Typed, StartsTyped}
 use Rattle.w_typed.proofs.Chosen.{both_hold, chosen}
 use Rattle.w_typed.proofs.Holes.{subset_refl}
 use Rattle.w_typed.proofs.HostFunctions.{all_imported}
@@ -102,7 +102,7 @@ module _ (m : Module) where
       let none : known (row_of v.type.results) ≡ ε = ap (λ (l : List ValType). known (row_of l)) v.no_results in
       invoke_typed a v.type (Invoke main ∷ []) ε (known (row_of f.type.results)) has v.no_params none (main_typed main f)
 
-  first_term_typed : Valid m → (main : ℕ) (f : EntryAt m main) → TermTyped m (known (row_of f.type.results)) (start_term m main)
+  first_term_typed : Valid m → (main : ℕ) (f : EntryAt m main) → TermTyped m [] (known (row_of f.type.results)) (start_term m main)
   first_term_typed valid main f = record {
     scope = closed;
     set = [];
@@ -118,12 +118,12 @@ module _ (m : Module) where
 -- ## The start
 
 module _ (p : Program) (valid : Valid p.source) (s : Store) (t : Term) where
-  after_datas : (main : ℕ) (f : EntryAt p.source main) (o : Option Store) → ((r : Store) → o ≡ Some r → StoreTyped p.source r)
+  after_datas : (main : ℕ) (f : EntryAt p.source main) (o : Option Store) → ((r : Store) → o ≡ Some r → StoreTyped p.source [] r)
       → with_datas p main o ≡ Ready s t → StartsTyped p.source s t
   after_datas main f None k h = absurd (cc)
   after_datas main f (Some r) k h =
       let us : Row Operand = known (row_of f.type.results) in
-      let first : Typed p.source us r (start_term p.source main) = record { store = k r refl; term = first_term_typed p.source valid main f } in
+      let first : Typed p.source [] us r (start_term p.source main) = record { store = k r refl; term = first_term_typed p.source valid main f } in
       let same_store : r ≡ s = cc in
       let same_term : start_term p.source main ≡ t = cc in
       record {
@@ -132,24 +132,24 @@ module _ (p : Program) (valid : Valid p.source) (s : Store) (t : Term) where
         has_type = f.has_type;
         no_params = f.no_params;
         begins = sym same_term;
-        typed = subst₂ (λ (q : Store) (u : Term). Typed p.source us q u) same_store same_term first;
+        typed = subst₂ (λ (q : Store) (u : Term). Typed p.source [] us q u) same_store same_term first;
       }
 
-  after_elements : (main : ℕ) (f : EntryAt p.source main) (o : Option Store) → ((r : Store) → o ≡ Some r → StoreTyped p.source r)
+  after_elements : (main : ℕ) (f : EntryAt p.source main) (o : Option Store) → ((r : Store) → o ≡ Some r → StoreTyped p.source [] r)
       → with_elements_in p main o ≡ Ready s t → StartsTyped p.source s t
   after_elements main f None k h = absurd (cc)
   after_elements main f (Some r) k h =
       after_datas main f (in_order (λ s y (d : syntax_data.Data). data_started p s y d.mode) (Some r) 0 p.source.datas)
       (λ q is. datas_typed p r q (k r refl) is) h
 
-  inside_limits : (ps : List Printer) (main : ℕ) (f : EntryAt p.source main) (o : Option StartLimit) → StoreTyped p.source (allocated p ps)
+  inside_limits : (ps : List Printer) (main : ℕ) (f : EntryAt p.source main) (o : Option StartLimit) → StoreTyped p.source [] (allocated p ps)
       → within_limits p ps main o ≡ Ready s t → StartsTyped p.source s t
   inside_limits ps main f (Some l) u h = absurd (cc)
   inside_limits ps main f None u h =
       after_elements main f (in_order (λ s y (e : Elem). element_started p s y e.mode) (Some (allocated p ps)) 0 p.source.elements)
       (λ r is. elements_typed p valid (allocated p ps) r u is) h
 
-  having_entry : (ps : List Printer) (o : Option ℕ) → entry p.source ≡ o → StoreTyped p.source (allocated p ps) → with_entry p ps o ≡ Ready s t
+  having_entry : (ps : List Printer) (o : Option ℕ) → entry p.source ≡ o → StoreTyped p.source [] (allocated p ps) → with_entry p ps o ≡ Ready s t
       → StartsTyped p.source s t
   having_entry ps None is u h = absurd (cc)
   having_entry ps (Some main) is u h = inside_limits ps main (entry_in_typed p.source p.source.exports main is) (exceeded p.source) u h

@@ -25,7 +25,7 @@ use Rattle.w_reduce.specs.Values.{Val}
 use Rattle.w_reduce.specs.Store.{Store, Table}
 use Rattle.w_reduce.specs.Terms.{Context}
 use Rattle.w_reduce.specs.Tables.{with_elements, without_elements, table_op}
-use Rattle.w_typed.specs.Values.{an_i32, a_value, ValuesTyped, values, AllTyped}
+use Rattle.w_typed.specs.Values.{Arrows, an_i32, a_value, ValuesTyped, values, AllTyped}
 use Rattle.w_typed.specs.Stores.{StoreTyped}
 use Rattle.w_typed.specs.Contexts.{Scope, in_scope}
 use Rattle.w_typed.specs.Configurations.{IsSafe}
@@ -39,14 +39,14 @@ use Rattle.w_typed.proofs.Globals.{instance_found, value_taken}
 
 -- ## Stores
 
-module _ (m : Module) where
-  -- the type of each element segment
-  abbrev pub segment_types : List RefType
-  segment_types = map (λ (e : Elem). e.kind) m.elements
+-- the type of each element segment
+abbrev pub segment_types : Module → List RefType
+segment_types m = map (λ (e : Elem). e.kind) m.elements
 
+module _ (m : Module) {K : Arrows} where
   -- other elements of a table's type may stand in their place
-  pub elements_put : (x : ℕ) (t : TableType) (old : Table) (new : List Val) (s : Store) → StoreTyped m s → slice_get (tables_of m) x ≡ Some t
-      → AllTyped m (Ref t.element) new → StoreTyped m (with_elements s x old new)
+  pub elements_put : (x : ℕ) (t : TableType) (old : Table) (new : List Val) (s : Store) → StoreTyped m K s → slice_get (tables_of m) x ≡ Some t
+      → AllTyped m K (Ref t.element) new → StoreTyped m K (with_elements s x old new)
   elements_put x t old new s u is h = record {
     functions = u.functions;
     tables = instance_set x (record old { elements = new }) t u.tables is h;
@@ -54,10 +54,11 @@ module _ (m : Module) where
     globals = u.globals;
     elements = u.elements;
     datas = u.datas;
+    conts = u.conts;
   }
 
   -- an element segment may be dropped
-  pub elements_dropped : (y : ℕ) (r : RefType) (s : Store) → StoreTyped m s → slice_get segment_types y ≡ Some r → StoreTyped m (without_elements s y)
+  pub elements_dropped : (y : ℕ) (r : RefType) (s : Store) → StoreTyped m K s → slice_get (segment_types m) y ≡ Some r → StoreTyped m K (without_elements s y)
   elements_dropped y r s u is = record {
     functions = u.functions;
     tables = u.tables;
@@ -65,43 +66,44 @@ module _ (m : Module) where
     globals = u.globals;
     elements = instance_set y [] r u.elements is tt;
     datas = u.datas;
+    conts = u.conts;
   }
 
   -- a growth leaves the store, or what it makes of it
-  pub growth_typed : (n : ℕ) (s : Store) (after : List Val → Store) (o : Option (List Val)) → StoreTyped m s
-      → ((new : List Val) → o ≡ Some new → StoreTyped m (after new)) → StoreTyped m ((growth n s after o).1)
+  pub growth_typed : (n : ℕ) (s : Store) (after : List Val → Store) (o : Option (List Val)) → StoreTyped m K s
+      → ((new : List Val) → o ≡ Some new → StoreTyped m K (after new)) → StoreTyped m K ((growth n s after o).1)
   growth_typed n s after (Some new) u h = h new refl
   growth_typed n s after None u h = u
 
-module _ (m : Module) (us : Row Operand) where
+module _ (m : Module) {K : Arrows} (us : Row Operand) where
   -- ## The rules, where the tables and segments are
 
   get_safe : (x : ℕ) (ts ws : Row Operand) (s : Store) (e : Context) (vs : Row Val) (k : Code) (y : Option TableType)
-      → slice_get (tables_of m) x ≡ y → StoreTyped m s → HasInstrType m.types (table_get_type y) ts ws → ValuesTyped m vs ts
-      → Onward m us e ws k → IsSafe m us (table_op s e vs (table.Get x) k)
+      → slice_get (tables_of m) x ≡ y → StoreTyped m K s → HasInstrType m.types (table_get_type y) ts ws → ValuesTyped m K vs ts
+      → Onward m K us e ws k → IsSafe m K us (table_op s e vs (table.Get x) k)
   get_safe x ts ws s e vs k None is u h v go = absurd h
   get_safe x ts ws s e vs k (Some t) is u h v go =
       number_taken m us int.I32 vs h.beneath _ (values_sub m h.takes v) (λ below i b.
       instance_found m us x t _ u.tables is (λ old q.
       trapped_or m us trap.TableOutOfBounds (get old.elements i) _ (λ w there.
-      go s _ u (values_sub m h.gives (values b (a_value (all_get m (Ref t.element) i w old.elements q there)))))))
+      go s _ u (values_sub m h.gives (values b (a_value (all_get m K (Ref t.element) i w old.elements q there)))))))
 
   set_safe : (x : ℕ) (ts ws : Row Operand) (s : Store) (e : Context) (vs : Row Val) (k : Code) (y : Option TableType)
-      → slice_get (tables_of m) x ≡ y → StoreTyped m s → HasInstrType m.types (table_set_type y) ts ws → ValuesTyped m vs ts
-      → Onward m us e ws k → IsSafe m us (table_op s e vs (table.Set x) k)
+      → slice_get (tables_of m) x ≡ y → StoreTyped m K s → HasInstrType m.types (table_set_type y) ts ws → ValuesTyped m K vs ts
+      → Onward m K us e ws k → IsSafe m K us (table_op s e vs (table.Set x) k)
   set_safe x ts ws s e vs k None is u h v go = absurd h
   set_safe x ts ws s e vs k (Some t) is u h v go =
       value_taken m us (Ref t.element) vs (h.beneath ▹ Known I32) _ (values_sub m h.takes v) (λ above w a r.
       number_taken m us int.I32 above h.beneath _ a (λ below i b.
       instance_found m us x t _ u.tables is (λ old q.
       trapped_or m us trap.TableOutOfBounds (replaced old.elements i w) _ (λ new there.
-      let all = all_replaced m (Ref t.element) i w old.elements new q r there in
+      let all = all_replaced m K (Ref t.element) i w old.elements new q r there in
       go _ _ (elements_put m x t old new s u is all) (values_sub m h.gives b)))))
 
   init_safe : (y x : ℕ) (ts ws : Row Operand) (s : Store) (e : Context) (vs : Row Val) (k : Code) (a : Option RefType) (b : Option TableType)
-      → slice_get (segment_types m) y ≡ a → slice_get (tables_of m) x ≡ b → StoreTyped m s
+      → slice_get (segment_types m) y ≡ a → slice_get (tables_of m) x ≡ b → StoreTyped m K s
       → Holds a (λ (r : RefType). Holds b (λ (t : TableType). RefMatches m.types r t.element)) → HasInstrType m.types (table_init_type a b) ts ws
-      → ValuesTyped m vs ts → Onward m us e ws k → IsSafe m us (table_op s e vs (table.Init y x) k)
+      → ValuesTyped m K vs ts → Onward m K us e ws k → IsSafe m K us (table_op s e vs (table.Init y x) k)
   init_safe y x ts ws s e vs k None b from is u p h v go = absurd p
   init_safe y x ts ws s e vs k (Some r) None from is u p h v go = absurd p
   init_safe y x ts ws s e vs k (Some r) (Some t) from is u p h v go =
@@ -109,22 +111,22 @@ module _ (m : Module) (us : Row Operand) where
       instance_found m us x t _ u.tables is (λ old q.
       instance_found m us y r _ u.elements from (λ segment w.
       trapped_or m us trap.TableOutOfBounds (copied old.elements segment d j n) _ (λ new there.
-      let sub = all_sub m (Ref r) (Ref t.element) segment (ref p) w in
-      let all = all_copied m (Ref t.element) d j n old.elements segment new q sub there in
+      let sub = all_sub m K (Ref r) (Ref t.element) segment (ref p) w in
+      let all = all_copied m K (Ref t.element) d j n old.elements segment new q sub there in
       go _ _ (elements_put m x t old new s u is all) (values_sub m h.gives b)))))
 
   drop_safe : (y : ℕ) (ts ws : Row Operand) (s : Store) (e : Context) (vs : Row Val) (k : Code) (a : Option RefType)
-      → slice_get (segment_types m) y ≡ a → StoreTyped m s → HasInstrType m.types (elem_drop_type a) ts ws → ValuesTyped m vs ts
-      → Onward m us e ws k → IsSafe m us (table_op s e vs (table.ElemDrop y) k)
+      → slice_get (segment_types m) y ≡ a → StoreTyped m K s → HasInstrType m.types (elem_drop_type a) ts ws → ValuesTyped m K vs ts
+      → Onward m K us e ws k → IsSafe m K us (table_op s e vs (table.ElemDrop y) k)
   drop_safe y ts ws s e vs k None from u h v go = absurd h
   drop_safe y ts ws s e vs k (Some r) from u h v go =
       instance_found m us y r _ u.elements from (λ segment w.
       go _ _ (elements_dropped m y r s u from) (values_sub m h.gives (values_sub m h.takes v)))
 
   copy_safe : (x y : ℕ) (ts ws : Row Operand) (s : Store) (e : Context) (vs : Row Val) (k : Code) (a b : Option TableType)
-      → slice_get (tables_of m) x ≡ a → slice_get (tables_of m) y ≡ b → StoreTyped m s
+      → slice_get (tables_of m) x ≡ a → slice_get (tables_of m) y ≡ b → StoreTyped m K s
       → Holds a (λ (t : TableType). Holds b (λ (r : TableType). RefMatches m.types r.element t.element))
-      → HasInstrType m.types (table_copy_type a b) ts ws → ValuesTyped m vs ts → Onward m us e ws k → IsSafe m us (table_op s e vs (table.Copy x y) k)
+      → HasInstrType m.types (table_copy_type a b) ts ws → ValuesTyped m K vs ts → Onward m K us e ws k → IsSafe m K us (table_op s e vs (table.Copy x y) k)
   copy_safe x y ts ws s e vs k None b is from u p h v go = absurd p
   copy_safe x y ts ws s e vs k (Some t) None is from u p h v go = absurd p
   copy_safe x y ts ws s e vs k (Some t) (Some r) is from u p h v go =
@@ -132,32 +134,32 @@ module _ (m : Module) (us : Row Operand) where
       instance_found m us x t _ u.tables is (λ old q.
       instance_found m us y r _ u.tables from (λ source w.
       trapped_or m us trap.TableOutOfBounds (copied old.elements source.elements d j n) _ (λ new there.
-      let sub = all_sub m (Ref r.element) (Ref t.element) source.elements (ref p) w in
-      let all = all_copied m (Ref t.element) d j n old.elements source.elements new q sub there in
+      let sub = all_sub m K (Ref r.element) (Ref t.element) source.elements (ref p) w in
+      let all = all_copied m K (Ref t.element) d j n old.elements source.elements new q sub there in
       go _ _ (elements_put m x t old new s u is all) (values_sub m h.gives b)))))
 
   grow_safe : (x : ℕ) (ts ws : Row Operand) (s : Store) (e : Context) (vs : Row Val) (k : Code) (y : Option TableType)
-      → slice_get (tables_of m) x ≡ y → StoreTyped m s → HasInstrType m.types (table_grow_type y) ts ws → ValuesTyped m vs ts
-      → Onward m us e ws k → IsSafe m us (table_op s e vs (table.Grow x) k)
+      → slice_get (tables_of m) x ≡ y → StoreTyped m K s → HasInstrType m.types (table_grow_type y) ts ws → ValuesTyped m K vs ts
+      → Onward m K us e ws k → IsSafe m K us (table_op s e vs (table.Grow x) k)
   grow_safe x ts ws s e vs k None is u h v go = absurd h
   grow_safe x ts ws s e vs k (Some t) is u h v go =
       number_taken m us int.I32 vs (h.beneath ▹ Known (Ref t.element)) _ (values_sub m h.takes v) (λ above n a.
       value_taken m us (Ref t.element) above h.beneath _ a (λ below w b r.
       instance_found m us x t _ u.tables is (λ old q.
       let all = growth_typed m (length old.elements) s (with_elements s x old) (grown old.elements old.max w n) u (λ new there.
-      elements_put m x t old new s u is (all_grown m (Ref t.element) old.max w n old.elements new q r there)) in
+      elements_put m x t old new s u is (all_grown m K (Ref t.element) old.max w n old.elements new q r there)) in
       go _ _ all (values_sub m h.gives (values b (a_value an_i32))))))
 
   size_safe : (x : ℕ) (ts ws : Row Operand) (s : Store) (e : Context) (vs : Row Val) (k : Code) (y : Option TableType)
-      → slice_get (tables_of m) x ≡ y → StoreTyped m s → HasInstrType m.types (table_size_type y) ts ws → ValuesTyped m vs ts
-      → Onward m us e ws k → IsSafe m us (table_op s e vs (table.Size x) k)
+      → slice_get (tables_of m) x ≡ y → StoreTyped m K s → HasInstrType m.types (table_size_type y) ts ws → ValuesTyped m K vs ts
+      → Onward m K us e ws k → IsSafe m K us (table_op s e vs (table.Size x) k)
   size_safe x ts ws s e vs k None is u h v go = absurd h
   size_safe x ts ws s e vs k (Some t) is u h v go =
       instance_found m us x t _ u.tables is (λ old q. go s _ u (values_sub m h.gives (values (values_sub m h.takes v) (a_value an_i32))))
 
   fill_safe : (x : ℕ) (ts ws : Row Operand) (s : Store) (e : Context) (vs : Row Val) (k : Code) (y : Option TableType)
-      → slice_get (tables_of m) x ≡ y → StoreTyped m s → HasInstrType m.types (table_fill_type y) ts ws → ValuesTyped m vs ts
-      → Onward m us e ws k → IsSafe m us (table_op s e vs (table.Fill x) k)
+      → slice_get (tables_of m) x ≡ y → StoreTyped m K s → HasInstrType m.types (table_fill_type y) ts ws → ValuesTyped m K vs ts
+      → Onward m K us e ws k → IsSafe m K us (table_op s e vs (table.Fill x) k)
   fill_safe x ts ws s e vs k None is u h v go = absurd h
   fill_safe x ts ws s e vs k (Some t) is u h v go =
       number_taken m us int.I32 vs (h.beneath ▹ Known I32 ▹ Known (Ref t.element)) _ (values_sub m h.takes v) (λ above n a.
@@ -165,13 +167,13 @@ module _ (m : Module) (us : Row Operand) where
       number_taken m us int.I32 middle h.beneath _ b (λ below i d.
       instance_found m us x t _ u.tables is (λ old q.
       trapped_or m us trap.TableOutOfBounds (filled old.elements i w n) _ (λ new there.
-      let all = all_filled m (Ref t.element) i w n old.elements new q r there in
+      let all = all_filled m K (Ref t.element) i w n old.elements new q r there in
       go _ _ (elements_put m x t old new s u is all) (values_sub m h.gives d))))))
 
   -- a table instruction goes on, or traps
-  pub table_safe : (c : Scope) (o : TableOp) (ts ws : Row Operand) (s : Store) (e : Context) (vs : Row Val) (k : Code) → StoreTyped m s
-      → TableCondition (in_scope m c) o → HasInstrType m.types (table_op_type (in_scope m c) o) ts ws → ValuesTyped m vs ts → Onward m us e ws k
-      → IsSafe m us (table_op s e vs o k)
+  pub table_safe : (c : Scope) (o : TableOp) (ts ws : Row Operand) (s : Store) (e : Context) (vs : Row Val) (k : Code) → StoreTyped m K s
+      → TableCondition (in_scope m c) o → HasInstrType m.types (table_op_type (in_scope m c) o) ts ws → ValuesTyped m K vs ts → Onward m K us e ws k
+      → IsSafe m K us (table_op s e vs o k)
   table_safe c (table.Get x) ts ws s e vs k u p h v go = get_safe x ts ws s e vs k (slice_get (tables_of m) x) refl u h v go
   table_safe c (table.Set x) ts ws s e vs k u p h v go = set_safe x ts ws s e vs k (slice_get (tables_of m) x) refl u h v go
   table_safe c (table.Init y x) ts ws s e vs k u p h v go =

@@ -10,13 +10,13 @@ use Rattle.w_rules.specs.Operands.{Known}
 use Rattle.w_reduce.specs.Values.{Val}
 use Rattle.w_reduce.specs.Reduced.{Reduced, take_values, take_number, number, or_trap}
 use Rattle.w_reduce.specs.declared.trap.Trap.{Trap}
-use Rattle.w_typed.specs.Values.{an_i32, an_i64, OperandTyped, a_value, ValuesTyped, no_values, values}
+use Rattle.w_typed.specs.Values.{Arrows, an_i32, an_i64, OperandTyped, a_value, ValuesTyped, no_values, values}
 use Rattle.w_typed.specs.Configurations.{IsSafe, traps}
 
-module _ (m : Module) (us : Row Operand) where
+module _ (m : Module) {K : Arrows} (us : Row Operand) where
   -- n operands
-  pub values_taken : (n : ℕ) (vs : Row Val) (beneath ins : Row Operand) (go : Row Val × Row Val → Reduced) → n ≡ size ins → ValuesTyped m vs (beneath ⧺ ins)
-      → ((below args : Row Val) → ValuesTyped m below beneath → ValuesTyped m args ins → IsSafe m us (go (below, args))) → IsSafe m us (take_values n vs go)
+  pub values_taken : (n : ℕ) (vs : Row Val) (beneath ins : Row Operand) (go : Row Val × Row Val → Reduced) → n ≡ size ins → ValuesTyped m K vs (beneath ⧺ ins)
+      → ((below args : Row Val) → ValuesTyped m K below beneath → ValuesTyped m K args ins → IsSafe m K us (go (below, args))) → IsSafe m K us (take_values n vs go)
   values_taken zero vs beneath ε go e h k = k vs ε h no_values
   values_taken zero vs beneath (ins ▹ t) go e h k = absurd (cc)
   values_taken (suc n) vs beneath ε go e h k = absurd (cc)
@@ -25,17 +25,17 @@ module _ (m : Module) (us : Row Operand) where
       values_taken n vs beneath ins (λ p. go (p.0, p.1 ▹ v)) (cc) h (λ below args b a. k below (args ▹ v) b (values a w))
 
   -- a number
-  pub number_taken : (i : IntType) (vs : Row Val) (beneath : Row Operand) (go : Row Val × ℕ → Reduced) → ValuesTyped m vs (beneath ▹ Known (of_int i))
-      → ((below : Row Val) (n : ℕ) → ValuesTyped m below beneath → IsSafe m us (go (below, n))) → IsSafe m us (take_number i vs go)
+  pub number_taken : (i : IntType) (vs : Row Val) (beneath : Row Operand) (go : Row Val × ℕ → Reduced) → ValuesTyped m K vs (beneath ▹ Known (of_int i))
+      → ((below : Row Val) (n : ℕ) → ValuesTyped m K below beneath → IsSafe m K us (go (below, n))) → IsSafe m K us (take_number i vs go)
   number_taken int.I32 _ beneath go (values {vs = vs} h (a_value (an_i32 {n}))) k = k vs n h
   number_taken int.I64 _ beneath go (values {vs = vs} h (a_value (an_i64 {n}))) k = k vs n h
 
   -- what there may not be
-  pub trapped_or : {A : Type 0} (t : Trap) (o : Option A) (go : A → Reduced) → ((a : A) → o ≡ Some a → IsSafe m us (go a)) → IsSafe m us (or_trap t o go)
+  pub trapped_or : {A : Type 0} (t : Trap) (o : Option A) (go : A → Reduced) → ((a : A) → o ≡ Some a → IsSafe m K us (go a)) → IsSafe m K us (or_trap t o go)
   trapped_or t None go k = traps
   trapped_or t (Some a) go k = k a refl
 
 -- a number is of its type
-pub number_typed : (m : Module) (i : IntType) (n : ℕ) → OperandTyped m (number i n) (Known (of_int i))
+pub number_typed : (m : Module) {K : Arrows} (i : IntType) (n : ℕ) → OperandTyped m K (number i n) (Known (of_int i))
 number_typed m int.I32 n = a_value an_i32
 number_typed m int.I64 n = a_value an_i64

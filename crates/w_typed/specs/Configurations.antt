@@ -20,6 +20,7 @@ use Rattle.w_reduce.specs.Terms.{Administrative, Term, rest_of}
 use Rattle.w_reduce.specs.Program.{Program, IsProgram}
 use Rattle.w_reduce.specs.Reduced.{Reduced, Went, Trapped, Limited, Ended}
 use Rattle.w_reduce.specs.Reduce.{reduce}
+use Rattle.w_reduce.specs.Apart.{switches}
 use Rattle.w_reduce.specs.Switching.{switching_op}
 use Rattle.w_reduce.specs.Run.{RunState, NoRule, Run}
 use Rattle.w_reduce.specs.Start.{Start, Ready, start_term}
@@ -39,15 +40,6 @@ pub data IsSafe (m : Module) (K : Arrows) (us : Row Operand) : Reduced → Type 
   traps : {t : Trap} → IsSafe m K us (Trapped t)
   is_limited : {l : RunLimit} → IsSafe m K us (Limited l)
   ends : {vs : Row Val} → ValuesTyped m K vs us → IsSafe m K us (Ended vs)
-
--- whether the instruction that comes next switches stacks
-abbrev pub is_switching : Op → Bool
-is_switching (op.Switching o) = true
-is_switching o = false
-
-abbrev pub switches : List Administrative → Code → Bool
-switches [] (Plain o k) = is_switching o
-switches ahead k = false
 
 -- ## Laws
 

@@ -96,7 +96,7 @@ pub data Within (m : Module) (K : Arrows) (us : Row Operand) : Context → Scope
       → RestTyped m c s rest.ahead rest.code (beneath ⧺ known results) out → Subset s outer → Within m K us e c outer out
       → Within m K us (Frame below n ls rest ∷ e) (inside types results) now ts
   -- what it gives matches the results, for which each clause is typed
-  handle : {below : Row Val} {hs : List Clause} {rest : Code} {e : Context} {c : Scope} {s outer now : List Bool} {ts out : Row Operand} {results : List ValType}
+  handle : {below : Row Val} {hs : List Clause} {rest : Code} {e : Context} {c : Scope} {s outer now : List Bool} {ts out : Row Operand} (results : List ValType)
       (beneath : Row Operand)
       → RowMatches m.types ts (known (row_of results)) → All (ClauseTyped (in_scope m c) results) hs → ValuesTyped m K below beneath
       → CodeTyped m c s rest (beneath ⧺ known (row_of results)) out → Subset s outer → Within m K us e c outer out

@@ -3,4 +3,4 @@
 
 mod laws;
 
-pub use laws::{reductions_are_safe, runs_are_typed, starts_are_typed};
+pub use laws::{reductions_are_safe, runs_are_typed, starts_are_typed, switching_is_safe};

@@ -18,4 +18,4 @@ returns-in-Limit c = λ p steps begins.
 pub returns-in-Trap : goal.returns-in-Trap
 returns-in-Trap c = λ p steps begins.
     let b = subst (λ (f : InstFault). BeginsAs p (Err f)) c.in-Trap.is begins in
-    refuses_same c.refuse-in-Trap.result (same_refusal _ _ 1 1 c.trap_line.ensures refl ∙ sym (ap (start_reply steps p) b)) c.refuse-in-Trap.ensures
+    refuses_same c.trap_refusal.result (sym (ap (start_reply steps p) b)) c.trap_refusal.ensures

@@ -39,8 +39,7 @@ returns-in-Limit-clause-leaves g c = λ p s t begins.
 pub returns-in-Trapped-clause-leaves : goal.returns-in-Trapped-clause-leaves
 returns-in-Trapped-clause-leaves g c = λ p s t begins.
     let h = from_first _ p s t c.args.steps c.args.machine.now c.run.new.self _ (g.O.Sink.held c.args.out.now) (g.O.Sink.held c.run.new.out) c.requires.first begins c.in-Trapped.ensures.runs in
-    run_refused p s t c.args.steps (g.O.Sink.held c.args.out.now) (g.O.Sink.held c.run.new.out) (Rose (g.O.Sink.faults c.args.out.now) (g.O.Sink.faults c.run.new.out)) (Traps c.in-Trapped.trap) c.refuse-in-Trapped.result h.1 h.0
-    (refuses_same c.refuse-in-Trapped.result (same_refusal _ _ 1 1 c.trap_line.ensures refl) c.refuse-in-Trapped.ensures)
+    run_refused p s t c.args.steps (g.O.Sink.held c.args.out.now) (g.O.Sink.held c.run.new.out) (Rose (g.O.Sink.faults c.args.out.now) (g.O.Sink.faults c.run.new.out)) (Traps c.in-Trapped.trap) c.trap_refusal.result h.1 h.0 c.trap_refusal.ensures
 
 pub returns-in-WriteFault-clause-leaves : goal.returns-in-WriteFault-clause-leaves
 returns-in-WriteFault-clause-leaves g c = λ p s t begins.
