@@ -66,6 +66,7 @@ module _ (m : Module) (chain : List Link) (conts : Conts Stored) (x y : ℕ) (r 
         ≡ steps_to (with_cont (record { takes = length t1.params; term = filled there.k.term (stack (take bound_count vs)) }) (without_cont r.serial s)) t.around
         (stack (drop bound_count vs) ▹ Cont (next_cont s)) (rest_of c)
 
+  -- it comes to this in each configuration
   pub binds : (behind : Rest) (p : Program) (s : Store) (t : Term) (c : Code) → StandsAt (switching.ContBind x y) m behind chain conts p s t c → Binds behind p s t c
   binds behind p s t c a =
       let w = kept_there a.stand r of b is in

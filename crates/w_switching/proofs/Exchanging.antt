@@ -55,12 +55,15 @@ use Rattle.w_switching.proofs.Sounding.{top_top, More, more_of, links_more, hold
 
 -- ## Clauses
 
+-- no clause for the tag is no answer
 switch_none : (e : ℕ) (hs : List Clause) → has_switch e hs ≡ false → switch_clause e hs ≡ None
 switch_none e hs h = ap (λ (b : Bool). if b then Some tt else None) h
 
+-- and one is an answer
 switch_some : (e : ℕ) (hs : List Clause) → has_switch e hs ≡ true → switch_clause e hs ≡ Some tt
 switch_some e hs h = ap (λ (b : Bool). if b then Some tt else None) h
 
+-- the same of all layers
 none_switch : (m : Module) (e : ℕ) (ys : List Link) → All (λ y. switches_for m e y ≡ false) ys → All (λ y. switch_clause e (clauses_of m y) ≡ None) ys
 none_switch m e ys a = λ k d h. switch_none e (clauses_of m (get_or ys k d)) (a k d h)
 
@@ -71,12 +74,14 @@ joined_all : {m : Module} {outer : Context} {behind : Rest} {segs ys : List Link
 joined_all {ys = []} k h b d = elim d [ ]
 joined_all {ys = y ∷ ys} k h b d = joined k h b d
 
+-- the innermost of joined segments is that of the first ones
 with_append : (s : Shape) (xs ys : List Link) → 0 < length xs → with_top s (xs ++ ys) ≡ with_top s xs ++ ys
 with_append s [] ys h = absurd (omega arith)
 with_append s (x ∷ xs) ys h = refl
 
 -- ## With other room
 
+-- those around the innermost one stay
 rest_top : (s' : Shape) (xs : List Link) → rest (with_top s' xs) ≡ rest xs
 rest_top s' [] = refl
 rest_top s' (x ∷ xs) = refl
@@ -97,6 +102,7 @@ module _ (o : SwitchingOp) (m : Module) (chain : List Link) (conts : Conts Store
     applies = a.applies;
   }
 
+  -- so it stands at the instruction
   pub switches_same : SwitchesAt o m chain conts → SwitchesAt o m (with_top s' chain) conts
   switches_same k =
       let t = top_top s' chain (some_chain k) in
@@ -111,6 +117,7 @@ module _ (o : SwitchingOp) (m : Module) (chain : List Link) (conts : Conts Store
         at = at_same k.at;
       }
 
+  -- and the innermost layer with a switch clause is the same
   pub first_same : (e n : ℕ) → IsFirstSwitch m e n chain → IsFirstSwitch m e n (with_top s' chain)
   first_same e n f =
       let r = rest_top s' chain in
@@ -135,6 +142,7 @@ module _ (m : Module) (chain : List Link) (conts : Conts Stored) (x y : ℕ) (r 
   handling p s c q h = or_stuck (cont_of (context_of p.source) x) (λ f. or_stuck (back_type (row_of f.params)) (λ z. or_stuck (cont_of (context_of p.source) z) (λ u.
       take_values (q.takes - 1) (stack vs) (exchanging s r.serial c q h u))))
 
+  -- the rule looks for the handle once the reference led to a continuation
   rule_is : {behind : Rest} {p : Program} {s : Store} {t : Term} {c : Code} (a : StandsAt (switching.Switch x y) m behind chain conts p s t c) →
       switching_op p s t.around t.operands (switching.Switch x y) c ≡ or_unhandled y (find (switch_clause y) t.around) (handling p s c (kept_there a.stand r of b is).k)
   unfolding handling exchanging
@@ -153,6 +161,7 @@ module _ (m : Module) (chain : List Link) (conts : Conts Stored) (x y : ℕ) (r 
   )
 
   module _ (k : SwitchesAt (switching.Switch x y) m chain conts) (layer : ℕ) (first : IsFirstSwitch m y layer chain) where
+    -- the handle that is found
     switch_cuts : {behind : Rest} {p : Program} {s : Store} {t : Term} {c : Code} → StandsAt (switching.Switch x y) m behind chain conts p s t c →
         Cuts (switch_clause y) m [] behind chain t.around t.operands (rest_of (Plain (op.Switching (switching.Switch x y)) c)) layer tt
     switch_cuts a = cuts (switch_clause y) m layer tt (at_term a) (record {
@@ -162,6 +171,7 @@ module _ (m : Module) (chain : List Link) (conts : Conts Stored) (x y : ℕ) (r 
       inside = none_switch m y (take layer (rest chain)) first.inside;
     })
 
+    -- the layer is one of the chain
     pub switch_layer : layer + 1 < length chain
     switch_layer = layer_below (switch_cuts k.at)
 
@@ -191,6 +201,7 @@ module _ (m : Module) (chain : List Link) (conts : Conts Stored) (x y : ℕ) (r 
         goes : switching_op p s t.around t.operands (switching.Switch x y) c
             ≡ exchanging s r.serial c (kept_there a.stand r of b is).k (switch_cuts a).handler u (stack (drop (b.takes - 1) vs), stack (take (b.takes - 1) vs))
 
+      -- it comes to this in each configuration
       exchanges : (behind : Rest) (p : Program) (s : Store) (t : Term) (c : Code) (a : StandsAt (switching.Switch x y) m behind chain conts p s t c) → Exchanges behind p s t c a
       exchanges behind p s t c a =
           let w = kept_there a.stand r of b is in

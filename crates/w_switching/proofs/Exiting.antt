@@ -32,6 +32,7 @@ record IsValues (outer e : Context) (behind r : Rest) : Type 0 where
   context : e ≡ outer
   rest_is : r ≡ behind
 
+-- a segment that is values has no context of its own, and what comes behind it comes next
 values_is : {m : Module} {outer : Context} {behind : Rest} {s : Shape} {e : Context} {r : Rest} → In m outer behind s e r → s.stage ≡ Values → IsValues outer e behind r
 values_is (body a k w) h = absurd cc
 values_is (left a k w) h = absurd cc
@@ -49,6 +50,7 @@ record Inside (m : Module) (behind : Rest) (chain : List Link) (e : Context) (vs
   stands : Chained m [] behind (rest chain) outer below (rest_of code)
   operands : vs ≡ stack (top chain).shape.operands
 
+-- where there are two segments, the innermost one stands inside a handle
 in_handle : {m : Module} {behind : Rest} {chain : List Link} {e : Context} {vs : Row Val} {r : Rest} → Chained m [] behind chain e vs r → 1 < length chain → (top chain).shape.stage ≡ Values →
     Inside m behind chain e vs r
 in_handle (only i o) h b = absurd (omega arith)
@@ -58,15 +60,18 @@ in_handle (around {e' = e'} {below = below} {hs = hs} {c = c} i o g w k) h b =
 
 -- ## Where it goes
 
+-- a fact of all values of segments holds for those around the innermost one
 rest_hold : (test : Value → Bool) (xs : List Link) → LinksHold test xs → LinksHold test (rest xs)
 rest_hold test [] h = tt
 rest_hold test (x ∷ xs) h = h.1
 
+-- these are one fewer
 pub rest_long : (xs : List Link) → length (rest xs) ≡ length xs - 1
 rest_long [] = refl
 rest_long (x ∷ xs) = omega arith
 
 module _ (chain chain' : List Link) (conts conts' : Conts Stored) (two : 1 < length chain) (merged : Merged chain chain') (after : conts' ≡ with_spare (conts.spare - 1) conts) where
+  -- it went as the rule says
   pub exits : (top chain).shape.stage ≡ Values → Exits chain conts chain' conts'
   exits b m behind p s t a =
       let w = in_handle a.term two b in

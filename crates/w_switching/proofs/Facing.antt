@@ -38,6 +38,7 @@ pub record Head (m : Module) (chain : List Link) (e : Context) (vs : Row Val) (r
   pub stands : In m outer behind (top chain).shape e r
   pub operands : vs ≡ stack (top chain).shape.operands
 
+-- it stands for its part of the context
 pub head : {m : Module} {outer : Context} {behind : Rest} {chain : List Link} {e : Context} {vs : Row Val} {r : Rest} → Chained m outer behind chain e vs r → Head m chain e vs r
 head (only i o) = record { outer = _; behind = _; stands = i; operands = o }
 head (around i o h b c) = record { outer = _; behind = _; stands = i; operands = o }
@@ -66,6 +67,7 @@ module _ {o : SwitchingOp} {m : Module} {behind : Rest} {chain : List Link} {con
   pub on_stack : (vs : List Value) → (top chain).shape.operands ≡ vs → switched o p s t c ≡ switching_op p s t.around (stack vs) o c
   on_stack vs h = ap (λ (r : Row Val). switching_op p s t.around r o c) ((head a.stand.term).operands ∙ ap stack h)
 
+  -- so a rule applies to them
   pub applies_on : (vs : List Value) → (top chain).shape.operands ≡ vs → switching_op p s t.around (stack vs) o c ≢ Stuck
   applies_on vs h = λ q. a.applies (on_stack vs h ∙ q)
 
@@ -74,6 +76,7 @@ module _ {o : SwitchingOp} {m : Module} {behind : Rest} {chain : List Link} {con
   at_term = subst (λ (r : Rest). Chained m [] behind chain t.around t.operands r) a.comes a.stand.term
 
 module _ {o : SwitchingOp} {m : Module} {chain : List Link} {conts : Conts Stored} (k : SwitchesAt o m chain conts) where
+  -- there is a segment
   pub some_chain : 0 < length chain
   some_chain = chained_some k.at.stand.term
 

@@ -34,24 +34,31 @@ pub record CanExchange (n layer : ℕ) (segs chain : List Link) : Type 0 where
 module _ (m : Module) (chain : List Link) (conts : Conts Stored) (x y : ℕ) (r : ContRef) (vs : List Value) (seen b : Stored) (on : (top chain).shape.operands ≡ value.Cont r ∷ vs)
     (sound : Sound chain conts) (sees : kept_at conts r.serial ≡ Some seen) (is : kept_at conts r.serial ≡ Some b) (k : SwitchesAt (switching.Switch x y) m chain conts) (layer : ℕ)
     (first : IsFirstSwitch m y layer chain) (u : FuncType) (kind : back_of m x ≡ Some u) (s' : Shape) (same : SameParts (top chain).shape s') where
+  -- the chain with that room
   abbrev roomy : List Link
   roomy = with_top s' chain
 
+  -- it stands at the instruction
   k' : SwitchesAt (switching.Switch x y) m roomy conts
   k' = switches_same (switching.Switch x y) m chain conts s' same k
 
+  -- with the same operands
   on' : (top roomy).shape.operands ≡ value.Cont r ∷ vs
   on' = ap (λ (z : Shape). z.operands) (top_top s' chain (some_chain k)) ∙ same.operands ∙ on
 
+  -- and with the same innermost layer
   first' : IsFirstSwitch m y layer roomy
   first' = first_same (switching.Switch x y) m chain conts s' same y layer first
 
+  -- what was looked at is what was taken
   takes_is : seen.takes ≡ b.takes
   takes_is = ap (λ (z : Stored). z.takes) (some_is (sym sees ∙ is))
 
+  -- the reference is of the store
   of : IsOf r conts
   of = reference_of chain conts r vs sound on
 
+  -- all of it is there
   pub can_exchange : TakesAtLeast 1 chain conts → length chain ≤ most_segments → CanExchange (seen.takes - 1) layer b.segment.value roomy
   can_exchange one few =
       let t = takes_is in
@@ -71,6 +78,7 @@ module _ (m : Module) (chain : List Link) (conts : Conts Stored) (x y : ℕ) (r 
 
   module _ (takes : ℕ) (long : takes ≡ length u.params) (conts1 : Conts Stored) (chain' : List Link) (conts' : Conts Stored) (taken : conts1 ≡ without_entry r.serial conts)
       (ex : Exchanged (seen.takes - 1) takes layer b.segment.value roomy conts1 chain' conts') where
+    -- what was moved, by the numbers of the rule
     exchanged : Exchanged (b.takes - 1) (length u.params) layer b.segment.value roomy conts1 chain' conts'
     exchanged =
         subst (λ (n : ℕ). Exchanged (n - 1) (length u.params) layer b.segment.value roomy conts1 chain' conts') takes_is

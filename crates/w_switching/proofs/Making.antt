@@ -41,9 +41,11 @@ new_traps m chain conts x vs q = (refl, refl, λ behind p s t c a. on_stack a (v
 module _ (m : Module) (chain : List Link) (conts conts' : Conts Stored) (x f place : ℕ) (vs : List Value) (t1 : FuncType) (b : Stored) (k : SwitchesAt (switching.ContNew x) m chain conts)
     (on : (top chain).shape.operands ≡ value.Func f ∷ vs) (kind : cont_of (context_of m) x ≡ Some t1) (takes : b.takes ≡ length t1.params) (new : IsNew f b.takes b.segment.value)
     (after : conts' ≡ with_entry place b (with_spare (conts.spare + 1) conts)) where
+  -- the innermost segment
   abbrev s_top : Shape
   s_top = (top chain).shape
 
+  -- the same with the reference, behind the instruction
   abbrev s_new : Shape
   s_new = moved (s_top.place + 1) (pushed (next_ref place (length conts.entries)) (discarded 1 s_top))
 

@@ -59,6 +59,7 @@ pushed_given {segs = segs} us k =
 
 -- ## The clauses of the handle
 
+-- the instruction at a place, found either way
 instr_is : (f : Option Func) (place : ℕ) → instr_in f place ≡ slice_get (instrs_in f) place
 instr_is None place = refl
 instr_is (Some f) place = refl
@@ -88,6 +89,7 @@ module _ (m : Module) (chain : List Link) (conts : Conts Stored) (x : ℕ) (hs :
     pub goes : switching_op p s t.around t.operands (switching.Resume x hs) c
         ≡ Went [] (without_cont r.serial s) (in_context (Handle (stack (drop b.takes vs)) hs c ∷ t.around) (filled there.k.term (stack (take b.takes vs))))
 
+  -- it comes to this in each configuration
   pub resumed : (behind : Rest) (p : Program) (s : Store) (t : Term) (c : Code) → StandsAt (switching.Resume x hs) m behind chain conts p s t c → Resumed behind p s t c
   resumed behind p s t c a =
       let w = kept_there a.stand r of b is in

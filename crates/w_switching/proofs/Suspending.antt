@@ -68,6 +68,7 @@ module _ (m : Module) (chain : List Link) (conts : Conts Stored) (x : ℕ) where
     fits : length f.params ≤ length (top chain).shape.operands
     goes : switching_op p s t.around t.operands (switching.Suspend x) c ≡ or_unhandled x (find (label_clause x) t.around) (catching s f (top chain).shape.operands c)
 
+  -- it comes to this in each configuration
   suspends : (f : FuncType) → type_of_tag (context_of m) x ≡ Some f → (behind : Rest) (p : Program) (s : Store) (t : Term) (c : Code) →
       StandsAt (switching.Suspend x) m behind chain conts p s t c → Suspends f p s t c
   unfolding catching
@@ -87,6 +88,7 @@ module _ (m : Module) (chain : List Link) (conts : Conts Stored) (x : ℕ) where
     type_is : FuncType
     there : type_of_tag (context_of m) x ≡ Some type_is
 
+  -- so each configuration tells of it
   has_type : (behind : Rest) (p : Program) (s : Store) (t : Term) (c : Code) → StandsAt (switching.Suspend x) m behind chain conts p s t c → HasType
   has_type behind p s t c a =
       let f = found (type_of_tag (context_of p.source) x) (λ q. take_values (length q.params) t.operands (λ (below, us).
@@ -106,10 +108,12 @@ module _ (m : Module) (chain : List Link) (conts : Conts Stored) (x : ℕ) where
   )
 
   module _ (k : SwitchesAt (switching.Suspend x) m chain conts) (layer l : ℕ) (first : IsFirstLabel m x layer l chain) where
+    -- the handle that is found
     pub suspend_cuts : {behind : Rest} {p : Program} {s : Store} {t : Term} {c : Code} → StandsAt (switching.Suspend x) m behind chain conts p s t c →
         Cuts (label_clause x) m [] behind chain t.around t.operands (rest_of (Plain (op.Switching (switching.Suspend x)) c)) layer l
     suspend_cuts a = cuts (label_clause x) m layer l (at_term a) (record { waiting = first.waiting; stands = first.stands; answers = first.label; inside = first.inside })
 
+    -- the layer is one of the chain
     pub suspend_layer : layer + 1 < length chain
     suspend_layer = layer_below (suspend_cuts k.at)
 
@@ -119,12 +123,14 @@ module _ (m : Module) (chain : List Link) (conts : Conts Stored) (x : ℕ) where
       suspend_fits = (suspends f kind k.behind k.p k.s k.t k.c k.at).fits
 
       module _ (chain' : List Link) (conts' : Conts Stored) (cap : Captured (length f.params) (length f.results) layer l chain conts chain' conts') where
+        -- the innermost segment and the one that waited, with their room
         abbrev inner : Shape
         inner = cap.parted.inner
 
         abbrev waiting : Shape
         waiting = cap.parted.waiting
 
+        -- the reference to what is stored
         abbrev own_ref : Value
         own_ref = next_ref cap.place (length conts.entries)
 
@@ -135,6 +141,7 @@ module _ (m : Module) (chain : List Link) (conts : Conts Stored) (x : ℕ) where
         s_branch : Shape
         s_branch = staged (AtBranch l) (pushed own_ref (pushed_all (reverse (take (length f.params) (top chain).shape.operands)) waiting))
 
+        -- what is stored is the first segments with that one inside
         stored_is : cap.b.segment.value ≡ with_top s_stored (take (layer + 1) chain)
         unfolding s_stored
         stored_is =
@@ -144,6 +151,7 @@ module _ (m : Module) (chain : List Link) (conts : Conts Stored) (x : ℕ) where
             ∙ ap (λ (i : ℕ). with_top (moved (i + 1) (discarded n inner)) cap.part) cap.parted.inner_same.place
             ∙ ap (with_top s_stored) cap.parted.part_is ∙ with_twice s_stored inner (take (layer + 1) chain)
 
+        -- and the others with the one that waited are the chain
         branch_is : chain' ≡ with_top s_branch (drop (layer + 1) chain)
         unfolding s_branch
         branch_is =
