@@ -24,6 +24,8 @@ use Rattle.w_stands.specs.Values.{store_of}
 use Rattle.w_typed.specs.Configurations.{Typed, StartsTyped}
 use Rattle.w_typed.proofs.Starting.{starts_typed}
 use Rattle.w_machine.specs.Parts.{Parts, parts}
+use Rattle.w_conts.specs.Conts.{Conts}
+use Rattle.w_switching.specs.declared.stored.Stored.{Stored}
 use Rattle.w_machine.specs.Standing.{EndsWith}
 use Rattle.w_stands.specs.Keeps.{StoreHolds}
 use Rattle.w_switching.specs.Standing.{only, nil}
@@ -118,12 +120,20 @@ begun_by {m = m} {functions = functions} {u = u} main segment (Some f) valid sho
     subst₂ (λ (l : List Link) (w : Option (Box Segment Global)). BegunWith m functions u l w) (sym new.is) (sym waits)
     (begun new.capacity valid short bare with_this functions_are (subst (λ (x : ℕ). First m main f (Some x)) (sym shape) (start_first is)) (main, other.capacity, other.is))
 
-pub begun_with : {m n : Module} {functions : List ℕ} {u : instances.Store} (es : List Entry) (main : ℕ) (segment : Box Segment Global) (chain : List Link)
+-- they are a segment each
+first_alone : (start : Option ℕ) (main : ℕ) (segment : Box Segment Global) (waiting : Option (Box Segment Global)) → AreFirst start main segment waiting
+    → top segment.value ∷ [] ≡ segment.value
+first_alone None main segment waiting (new, alone) = ap (λ (l : List Link). top l ∷ []) new.is ∙ sym new.is
+first_alone (Some f) main segment waiting (new, waits) = ap (λ (l : List Link). top l ∷ []) new.is ∙ sym new.is
+
+pub begun_with : {m n : Module} {functions : List ℕ} {u : instances.Store} (es : List Entry) (main : ℕ) (segment : Box Segment Global) (chain : List Link) (conts : Conts Stored)
     {waiting : Option (Box Segment Global)} → n ≡ m → IsClassesOf m.types es → Valid m → AllShort n → BeginsWith m u main → functions ≡ functions_of n
-    → AreFirst n.start main segment waiting → chain ≡ segment.value → BegunWith m functions u chain waiting
-begun_with {m = m} {n = n} {functions = functions} {u = u} es main segment chain {waiting = waiting} same classes valid short with_this functions_are first is =
+    → AreFirst n.start main segment waiting → chain ≡ top segment.value ∷ [] → conts ≡ record { entries = []; spare = 0 }
+    → IsReached m functions (parts u chain conts) waiting None 0 0 0
+begun_with {m = m} {n = n} {functions = functions} {u = u} es main segment chain conts {waiting = waiting} same classes valid short with_this functions_are first is empty =
     let there = subst Valid (sym same) valid in
     let begins = subst (λ (x : Module). BeginsWith x u main) (sym same) with_this in
-    subst (λ (l : List Link). BegunWith m functions u l waiting) (sym is)
+    let plain = begins_plain es u main (subst (λ (x : Module). IsClassesOf x.types es) (sym same) classes) there begins in
+    subst₂ (λ (l : List Link) (c : Conts Stored). IsReached m functions (parts u l c) waiting None 0 0 0) (sym (is ∙ first_alone n.start main segment waiting first)) (sym empty)
     (subst (λ (x : Module). BegunWith x functions u segment.value waiting) same
-    (begun_by main segment n.start there short (begins_plain es u main (subst (λ (x : Module). IsClassesOf x.types es) (sym same) classes) there begins) begins functions_are refl first))
+    (begun_by main segment n.start there short plain begins functions_are refl first))

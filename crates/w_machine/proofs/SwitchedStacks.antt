@@ -37,7 +37,7 @@ use Rattle.w_stands.specs.Values.{stack}
 use Rattle.w_stands.proofs.Reading.{here, shows_plain}
 use Rattle.w_switching.specs.declared.stored.Stored.{Stored}
 use Rattle.w_switching.specs.Moved.{SameLinks}
-use Rattle.w_switching.specs.Reductions.{switched, At, SwitchesAt, To, Switches, Exits}
+use Rattle.w_switching.specs.Reductions.{switched, StandsAt, SwitchesAt, WentTo, Switches, Exits}
 use Rattle.w_switching.specs.Sound.{is_of, Sound, most_segments}
 use Rattle.w_switching.specs.Standing.{Chained, only, around}
 use Rattle.w_switching.proofs.Joining.{kept_long}
@@ -98,7 +98,7 @@ module _ {m : Module} {x : Parts} (valid : Valid m) (o : SwitchingOp) (b : (top 
     reduce_is : reduce p (whole x.store ks) t ≡ limited (switched o p (whole x.store ks) t comes.code)
     reduce_is = ap (λ (r : Rest). limited (next p (whole x.store ks) t.around t.operands r.ahead r.code)) comes.is
 
-    at_it : At o m (behind_of waiting) x.chain x.conts p (whole x.store ks) t comes.code
+    at_it : StandsAt o m (behind_of waiting) x.chain x.conts p (whole x.store ks) t comes.code
     at_it = record { stand = h.stand; comes = comes.is; applies = λ q. rule_applies valid h (reduce_is ∙ ap limited q) }
 
   -- wherever the parts stand
@@ -122,7 +122,7 @@ module _ {m : Module} {x : Parts} (valid : Valid m) (o : SwitchingOp) (b : (top 
   module _ (chain' : List Link) (conts' : Conts Stored) (sound : Sound chain' conts') (keeps : KeepsReferences x.conts conts') where
     -- it went on
     went_by : (l : Option RunLimit) → l ≡ first_passed (nat_le (frames_in_all chain') most_frames) (nat_le (length chain' - 1) most_handles) (nat_le (live_of conts') most_conts)
-        → Switches o did.Went m x.chain x.conts chain' conts' → (held : Option (List ℕ)) → Reduces (told_with (Ok did.Went) l) m x (parts x.store chain' conts') held held
+        → Switches did.Went o m x.chain x.conts chain' conts' → (held : Option (List ℕ)) → Reduces (told_with (Ok did.Went) l) m x (parts x.store chain' conts') held held
     went_by None none goes held waiting p ks t h =
         let to = goes (behind_of waiting) p (whole x.store ks) t (comes h).code (at_it h) in
         let s' = whole x.store to.conts_after in
@@ -150,7 +150,7 @@ module _ {m : Module} {x : Parts} (valid : Valid m) (o : SwitchingOp) (b : (top 
     -- what is told of it is what the rules do
     switched_by : (d : Result Did AllocError) (l : Option RunLimit)
         → l ≡ first_passed (nat_le (frames_in_all chain') most_frames) (nat_le (length chain' - 1) most_handles) (nat_le (live_of conts') most_conts)
-        → IfOk d (λ d. Switches o d m x.chain x.conts chain' conts') → OnErr d (SameLinks x.chain chain') → OnErr d (conts' ≡ x.conts) → (held : Option (List ℕ))
+        → IfOk d (λ d. Switches d o m x.chain x.conts chain' conts') → OnErr d (SameLinks x.chain chain') → OnErr d (conts' ≡ x.conts) → (held : Option (List ℕ))
         → Reduces (told_with d l) m x (parts x.store chain' conts') held held
     switched_by (Ok did.Went) l is goes links same held = went_by l is goes held
     switched_by (Ok (did.Trapped y)) l is goes links same held = λ waiting p ks t h.
@@ -160,7 +160,7 @@ module _ {m : Module} {x : Parts} (valid : Valid m) (o : SwitchingOp) (b : (top 
     -- the same, with the call's own words
     pub switched_told : (d : Result Did AllocError) (l : Option RunLimit) (k : Option Kept)
         → l ≡ first_passed (nat_le (frames_in_all chain') most_frames) (nat_le (length chain' - 1) most_handles) (nat_le (live_of conts') most_conts) → k ≡ told_with d l
-        → IfOk d (λ d. Switches o d m x.chain x.conts chain' conts') → OnErr d (SameLinks x.chain chain') → OnErr d (conts' ≡ x.conts) → (held : Option (List ℕ))
+        → IfOk d (λ d. Switches d o m x.chain x.conts chain' conts') → OnErr d (SameLinks x.chain chain') → OnErr d (conts' ≡ x.conts) → (held : Option (List ℕ))
         → Reduces k m x (parts x.store chain' conts') held held
     switched_told d l k is told goes links same held =
         subst (λ (y : Option Kept). Reduces y m x (parts x.store chain' conts') held held) (sym told) (switched_by d l is goes links same held)
