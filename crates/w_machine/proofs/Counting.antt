@@ -1,5 +1,5 @@
 -- How many frames, handles and continuations a configuration has, by its chain and its store of continuations.
-use Rattle.std.proofs.Common.{◌≡◌, ℕ, suc, ◌+◌, ◌-◌, ◌≤◌, nat_le, List, [], ◌∷◌, length, Option, refl, sym, ap, ◌∙◌, arith}
+use Rattle.std.proofs.Common.{◌≡◌, ℕ, suc, ◌+◌, ◌-◌, nat_le, List, [], length, Option, refl, ap, arith}
 use Rattle.w_types.specs.Rows.{Row}
 use Rattle.w_syntax.specs.declared.module.Module.{Module}
 use Rattle.w_segment.specs.Shape.{Shape, Level, frames_of}
@@ -13,7 +13,7 @@ use Rattle.w_reduce.specs.Terms.{Rest, Context, Term, Kept, frames, handles}
 use Rattle.w_reduce.specs.Values.{Val}
 use Rattle.w_stands.specs.Stands.{Around, label, frame, outermost, In, body, left, fresh, values}
 use Rattle.w_switching.specs.declared.stored.Stored.{Stored}
-use Rattle.w_switching.specs.Standing.{Chained, only, around, IsKept, gone, kept, AllKept, nil, cons, Stand}
+use Rattle.w_switching.specs.Standing.{Chained, only, around, gone, kept, AllKept, nil, cons, Stand}
 
 -- ## Frames
 

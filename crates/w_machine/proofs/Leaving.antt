@@ -1,5 +1,5 @@
 -- Where the innermost segment is values: the handle around it is left, and where there is none the run ends.
-use Rattle.std.proofs.Common.{◌≡◌, ◌≢◌, inl, ℕ, suc, ◌+◌, ◌<◌, ◌≤◌, Bool, true, false, nat_eq, if◌then◌else◌, List, [], ◌∷◌, length, Option, Some, None, Result, Ok, Err, refl, sym, ap, subst, ◌∙◌, arith}
+use Rattle.std.proofs.Common.{◌≡◌, ℕ, ◌-◌, ◌≤◌, Bool, true, false, nat_eq, if◌then◌else◌, List, [], ◌∷◌, length, Option, Some, None, refl, sym, ap, subst, ◌∙◌, arith}
 use Rattle.std.specs.Prelude.{⊤}
 use Rattle.w_outside.proofs.Growth.{grew_nothing}
 use Rattle.w_types.specs.Rows.{Row, size}
@@ -12,9 +12,9 @@ use Rattle.w_reduce.specs.Exits.{leave}
 use Rattle.w_reduce.specs.Limits.{most_conts, IsWithin}
 use Rattle.w_reduce.specs.Program.{Program}
 use Rattle.w_reduce.specs.Reduced.{Reduced, Went, Trapped, Limited, Ended, Stuck}
-use Rattle.w_reduce.specs.Reduce.{next, reduce, limited}
+use Rattle.w_reduce.specs.Reduce.{next, limited}
 use Rattle.w_reduce.specs.Store.{Store, live}
-use Rattle.w_reduce.specs.Terms.{Rest, Label, Frame, Handle, Context, Term, Kept as TheKept, frames, handles}
+use Rattle.w_reduce.specs.Terms.{Rest, Label, Frame, Handle, Context, Kept as TheKept, frames, handles}
 use Rattle.w_reduce.specs.Values.{Val}
 use Rattle.w_stands.specs.Stands.{In, body, left, fresh, values}
 use Rattle.w_stands.specs.Values.{stack}
@@ -25,8 +25,9 @@ use Rattle.w_switching.specs.Standing.{Chained, only, around}
 use Rattle.w_switching.proofs.Joining.{kept_long}
 use Rattle.w_machine.specs.declared.outcome.Kept.TheVariants as kept
 use Rattle.w_machine.specs.Parts.{Parts, parts, whole}
-use Rattle.w_machine.specs.Standing.{behind_of, Stands}
+use Rattle.w_machine.specs.Standing.{behind_of, StandsSomewhere}
 use Rattle.w_machine.specs.Reducing.{Reduces}
+use Rattle.w_machine.proofs.Counting.{all_handles}
 use Rattle.w_machine.proofs.Reducing.{within}
 use Rattle.w_machine.proofs.SwitchedStacks.{held_on}
 
@@ -108,8 +109,12 @@ reduces_ended {x = x} one b waiting p ks t h =
     let there = last_there h.stand.term one b in
     let s = whole x.store ks in (
       ap (λ (c : Context). limited (next p s c t.operands t.rest.ahead t.rest.code)) there.0
-      ∙ ap (λ (r : Rest). limited (next p s [] t.operands r.ahead r.code)) there.1
-      ∙ ap (λ (vs : Row Val). limited (next p s [] vs (behind_of waiting).ahead (behind_of waiting).code)) there.2
-      ∙ ended_there p s (stack (top x.chain).shape.operands) waiting (h.done (one, b)),
+          ∙ ap (λ (r : Rest). limited (next p s [] t.operands r.ahead r.code)) there.1
+          ∙ ap (λ (vs : Row Val). limited (next p s [] vs (behind_of waiting).ahead (behind_of waiting).code)) there.2
+          ∙ ended_there p s (stack (top x.chain).shape.operands) waiting (h.done (one, b)),
       record { same = refl; sink = refl },
     )
+
+-- where there is no handle one segment is left
+pub one_left : {m : Module} {x : Parts} → StandsSomewhere m x → (n : ℕ) → n ≡ length x.chain - 1 → n ≡ 0 → length x.chain ≡ 1
+one_left h n count none = let all = all_handles h.stands.stand in omega (arith, all, count, none)

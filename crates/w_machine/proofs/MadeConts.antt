@@ -1,5 +1,5 @@
 -- An instruction that switches stacks makes at most one continuation.
-use Rattle.std.proofs.Common.{◌≡◌, ℕ, zero, suc, ◌+◌, ◌-◌, ◌≤◌, List, [], ◌∷◌, ◌++◌, length, Option, Some, None, refl, ap, subst, arith, length-append}
+use Rattle.std.proofs.Common.{◌≡◌, ℕ, zero, suc, ◌+◌, ◌-◌, ◌≤◌, List, [], ◌∷◌, ◌++◌, length, Option, Some, None, refl, ap, arith, length-append}
 use Rattle.std.specs.Prelude.{slice_get, slice_set}
 use Rattle.w_types.specs.Rows.{Row, ε, ◌▹◌, row_of}
 use Rattle.w_syntax.specs.Code.{Code}
@@ -10,7 +10,7 @@ use Rattle.w_rules.specs.Spaces.{context_of}
 use Rattle.w_reduce.specs.declared.trap.Trap.{Trap}
 use Rattle.w_reduce.specs.Handlers.{Handler, label_clause, switch_clause, find}
 use Rattle.w_reduce.specs.Program.{Program}
-use Rattle.w_reduce.specs.Reduced.{Reduced, Went, Trapped, Limited, Ended, Stuck, or_stuck, take_value, take_values, as_function, unless_consumed, as_continuation}
+use Rattle.w_reduce.specs.Reduced.{Reduced, Went, Trapped, Stuck, or_stuck, take_value, take_values, as_function, unless_consumed, as_continuation}
 use Rattle.w_reduce.specs.Store.{Store}
 use Rattle.w_reduce.specs.Switching.{switching_op, or_unhandled, back_type}
 use Rattle.w_reduce.specs.Terms.{Context, Kept, Term}

@@ -1,8 +1,7 @@
 -- What a reduction that switches no stacks comes to, by what the call that takes it came to.
-use Rattle.std.proofs.Common.{◌≡◌, ◌≢◌, ◌⊎◌, inl, inr, ℕ, suc, ◌+◌, ◌≤◌, Bool, true, false, nat_le, if◌then◌else◌, List, [], ◌∷◌, length, Option, Some, None, Result, Ok, Err, refl, sym, ap, subst, ◌∙◌, arith}
+use Rattle.std.proofs.Common.{◌≡◌, ◌⊎◌, inl, inr, ℕ, ◌≤◌, Bool, true, false, nat_le, if◌then◌else◌, List, [], ◌∷◌, Option, Some, None, Result, Ok, Err, refl, sym, ap, subst, ◌∙◌, arith}
 use Rattle.w_outside.specs.Outside.{Grew, GrewByFront, IsFront}
 use Rattle.w_outside.proofs.Growth.{grew_nothing}
-use Rattle.w_types.specs.declared.value.Value.{Value}
 use Rattle.w_syntax.specs.declared.module.Module.{Module}
 use Rattle.w_rules.specs.Valid.{Valid}
 use Rattle.w_tables.specs.Store as instances
@@ -20,7 +19,7 @@ use Rattle.w_reduce.specs.Program.{Program}
 use Rattle.w_reduce.specs.Reduced.{Reduced, Went, Limited}
 use Rattle.w_reduce.specs.Reduce.{reduce, limited, unless_passed}
 use Rattle.w_reduce.specs.Store.{Store, with_conts}
-use Rattle.w_reduce.specs.Terms.{Rest, Context, Term, Kept as TheKept, frames}
+use Rattle.w_reduce.specs.Terms.{Context, Term, Kept as TheKept, frames}
 use Rattle.w_reduce.proofs.Passing.{within_none}
 use Rattle.w_reduce.proofs.Plainly.{Plainly, silent, stays, silent_trap, silent_limit, silent_end, silent_stuck, plainly_next}
 use Rattle.w_stands.specs.declared.did.Did.{Did}
@@ -145,10 +144,10 @@ module _ {m : Module} {x : Parts} (valid : Valid m) (f : IsPlainAt m (top x.chai
       let n : nat_le (frames to.around) most_frames ≡ false = frames_there h to false many in (
         ap limited (alone h f ∙ ap (apart ks) to.is) ∙ past text (whole u' ks) (led_to to) n,
         elim (quiet_text text (store_of u') (led_to to)
-        (plainly_next [] p (store_of x.store) t.around (stack (top x.chain).shape.operands) t.rest.ahead t.rest.code (plain_next (head h).stands f)) to.is) [
-          | inl none ↦ grew_none none grew
-          | inr same ↦ absurd (not_le (frames to.around) n (subst (λ (c : Context). frames c ≤ most_frames) (sym same) h.within.few_frames))
-        ],
+            (plainly_next [] p (store_of x.store) t.around (stack (top x.chain).shape.operands) t.rest.ahead t.rest.code (plain_next (head h).stands f)) to.is) [
+              | inl none ↦ grew_none none grew
+              | inr same ↦ absurd (not_le (frames to.around) n (subst (λ (c : Context). frames c ≤ most_frames) (sym same) h.within.few_frames))
+            ],
       )
 
   trapped : (u' : instances.Store) (s' : Shape) (before now : Option (List ℕ)) (t : Trap) → Printed (Ok (did.Trapped t)) before now m x.store (top x.chain).shape u' s'
@@ -170,8 +169,8 @@ module _ {m : Module} {x : Parts} (valid : Valid m) (f : IsPlainAt m (top x.chai
           term = at.1;
           grew = grew;
           is = ap limited (alone h f ∙ ap (apart ks) at.2) ∙ within text (with_conts ks at.0) at.1
-          (subst (IsWithin (with_conts ks at.0)) (sym same)
-          (record { few_frames = h.within.few_frames; few_handles = h.within.few_handles; few_conts = h.within.few_conts }));
+              (subst (IsWithin (with_conts ks at.0)) (sym same)
+              (record { few_frames = h.within.few_frames; few_handles = h.within.few_handles; few_conts = h.within.few_conts }));
         })
       ]
 

@@ -1,56 +1,48 @@
 -- What a reduction that switches stacks, or leaves a handle, comes to, by what the call that takes it came to.
-use Rattle.std.proofs.Common.{◌≡◌, ◌≢◌, ◌⊎◌, inl, inr, ℕ, suc, ◌+◌, ◌-◌, ◌<◌, ◌≤◌, Bool, true, false, nat_eq, nat_le, if◌then◌else◌, List, [], ◌∷◌, length, Option, Some, None, Result, Ok, Err, refl, sym, ap, subst, ◌∙◌, arith}
-use Rattle.std.specs.Result.{IfOk, OnOk, OnErr}
+use Rattle.std.proofs.Common.{◌≡◌, ◌≢◌, inl, ℕ, ◌-◌, ◌≤◌, true, nat_le, List, [], ◌∷◌, length, Option, Some, None, Result, Ok, Err, refl, sym, ap, subst, ◌∙◌, arith}
+use Rattle.std.specs.Result.{IfOk, OnErr}
 use Rattle.std.specs.declared.alloc.AllocError.{AllocError}
 use Rattle.w_outside.proofs.Growth.{grew_nothing}
 use Rattle.w_types.specs.declared.value.Value.{Value}
-use Rattle.w_types.specs.Rows.{Row, size}
-use Rattle.w_syntax.specs.Code.{Code, Plain, Done}
+use Rattle.w_syntax.specs.Code.{Code, Plain}
 use Rattle.w_syntax.specs.declared.instructions.Instr.TheVariants as flat
 use Rattle.w_syntax.specs.declared.instructions.Op.TheVariants as op
 use Rattle.w_syntax.specs.declared.instructions.SwitchingOp.{SwitchingOp}
 use Rattle.w_syntax.specs.declared.module.Module.{Module}
 use Rattle.w_rules.specs.Valid.{Valid}
 use Rattle.w_tables.specs.Store as instances
-use Rattle.w_segment.specs.declared.entry.Stage.TheVariants.{Body, Values}
+use Rattle.w_segment.specs.declared.entry.Stage.TheVariants.{Body}
 use Rattle.w_segment.specs.Holds.{AllOf}
 use Rattle.w_segment.specs.Shape.{Shape}
 use Rattle.w_segment.specs.Link.{Link, top}
 use Rattle.w_chain.specs.Counts.{frames_in_all}
 use Rattle.w_conts.specs.Conts.{Conts, live_of, KeepsReferences}
 use Rattle.w_reduce.specs.declared.limit.RunLimit.{RunLimit}
-use Rattle.w_reduce.specs.declared.trap.Trap.{Trap}
-use Rattle.w_reduce.specs.Exits.{leave}
-use Rattle.w_reduce.specs.Limits.{most_frames, most_handles, most_conts, first_passed, passed, IsWithin}
+use Rattle.w_reduce.specs.Limits.{most_frames, most_handles, most_conts, first_passed, passed}
 use Rattle.w_reduce.specs.Program.{Program}
-use Rattle.w_reduce.specs.Reduced.{Reduced, Went, Trapped, Limited, Ended, Stuck}
+use Rattle.w_reduce.specs.Reduced.{Went}
 use Rattle.w_reduce.specs.Reduce.{next, reduce, limited, unless_passed}
-use Rattle.w_reduce.specs.Store.{Store, with_conts, live}
-use Rattle.w_reduce.specs.Terms.{Rest, rest_of, Label, Frame, Handle, Context, Term, Kept as TheKept, frames, handles}
-use Rattle.w_reduce.specs.Values.{Val}
+use Rattle.w_reduce.specs.Terms.{Rest, rest_of, Context, Term, Kept as TheKept}
 use Rattle.w_stands.specs.declared.did.Did.{Did}
 use Rattle.w_stands.specs.declared.did.Did.TheVariants as did
 use Rattle.w_stands.specs.Code.{instr_of}
 use Rattle.w_stands.specs.Keeps.{TablesHold, SegmentsHold, StoreHolds}
-use Rattle.w_stands.specs.Stands.{In, body, left, fresh, values}
-use Rattle.w_stands.specs.Values.{stack}
+use Rattle.w_stands.specs.Stands.{In}
 use Rattle.w_stands.proofs.Reading.{here, shows_plain}
 use Rattle.w_switching.specs.declared.stored.Stored.{Stored}
 use Rattle.w_switching.specs.Moved.{SameLinks}
-use Rattle.w_switching.specs.Reductions.{switched, StandsAt, SwitchesAt, WentTo, Switches, Exits}
+use Rattle.w_switching.specs.Reductions.{switched, StandsAt, SwitchesAt, Switches}
 use Rattle.w_switching.specs.Sound.{is_of, Sound, most_segments}
-use Rattle.w_switching.specs.Standing.{Chained, only, around}
 use Rattle.w_switching.proofs.Joining.{kept_long}
 use Rattle.w_switching.proofs.SameButRoom.{same_links}
-use Rattle.w_switching.proofs.Sounding.{More, more_of}
+use Rattle.w_switching.proofs.Sounding.{more_of}
 use Rattle.w_machine.specs.declared.outcome.Kept.{Kept}
 use Rattle.w_machine.specs.declared.outcome.Kept.TheVariants as kept
 use Rattle.w_machine.specs.Parts.{Parts, parts, whole}
 use Rattle.w_machine.specs.Standing.{behind_of, Stands, StandsSomewhere}
-use Rattle.w_machine.specs.Reducing.{Takes, ComesTo, Reduces, TakesEnough, told_with}
+use Rattle.w_machine.specs.Reducing.{Reduces, TakesEnough, told_with}
 use Rattle.w_machine.proofs.Counting.{passed_is}
 use Rattle.w_machine.proofs.MadeConts.{MakesOne, made_one, makes_one}
-use Rattle.w_machine.proofs.Reducing.{within}
 use Rattle.w_machine.proofs.Standing.{rule_applies, few_segments, head}
 use Rattle.w_machine.proofs.TakingEnough.{takes_enough}
 

@@ -1,12 +1,12 @@
 -- A continuation takes as many values as its type has parameters: so enough, where an instruction that switches stacks is typed.
-use Rattle.std.proofs.Common.{◌≡◌, ℕ, ◌-◌, ◌≤◌, nat_le, Bool, true, IsTrue, List, [], ◌∷◌, length, Option, Some, None, slice_get, take, refl, sym, ap, subst, ◌∙◌, arith}
+use Rattle.std.proofs.Common.{◌≡◌, ℕ, ◌-◌, ◌≤◌, nat_le, Bool, true, List, [], ◌∷◌, length, Option, Some, slice_get, take, sym, ap, subst, ◌∙◌, arith}
 use Rattle.w_types.specs.declared.types.FuncType.{FuncType}
 use Rattle.w_types.specs.declared.types.HeapType.TheVariants.{Index}
 use Rattle.w_types.specs.declared.types.ValType.{ValType}
 use Rattle.w_types.specs.declared.value.ContRef.{ContRef}
 use Rattle.w_types.specs.declared.value.Value.{Value}
 use Rattle.w_types.specs.declared.value.Value.TheVariants as value
-use Rattle.w_types.specs.Rows.{Row, ε, ◌▹◌, ◌⧺◌, size, row_of}
+use Rattle.w_types.specs.Rows.{Row, ε, ◌▹◌, size, row_of}
 use Rattle.w_types.proofs.Rows.{size-row_of}
 use Rattle.w_syntax.specs.Code.{Code, Plain}
 use Rattle.w_syntax.specs.declared.instructions.Op.TheVariants as op
@@ -16,21 +16,19 @@ use Rattle.w_syntax.specs.declared.module.Module.{Module}
 use Rattle.w_canon.proofs.Matches.{one_length}
 use Rattle.w_rules.specs.Conditions.{SwitchingCondition, BindTyped, SwitchTyped}
 use Rattle.w_rules.specs.Context.{cont_of}
-use Rattle.w_rules.specs.InstructionTypes.{fixed, switching_op_type, cont_bind_type, switch_type, switched_type, params_of, nullable, non_null}
-use Rattle.w_rules.specs.Matching.{known}
+use Rattle.w_rules.specs.InstructionTypes.{InstrType, fixed, switching_op_type, cont_bind_type, switched_type, nullable, non_null}
 use Rattle.w_rules.specs.Operands.{Operand, Known}
 use Rattle.w_rules.specs.Spaces.{context_of}
 use Rattle.w_rules.specs.Typing.{HasInstrType}
 use Rattle.w_rules.specs.Valid.{Valid}
-use Rattle.w_segment.specs.Link.{Link, top}
-use Rattle.w_conts.specs.Conts.{Conts, kept_at}
+use Rattle.w_segment.specs.Link.{top}
+use Rattle.w_conts.specs.Conts.{kept_at}
 use Rattle.w_reduce.specs.Store.{Store}
 use Rattle.w_reduce.specs.Terms.{Rest, rest_of, Term, Kept}
 use Rattle.w_reduce.specs.Values.{Val, Cont}
 use Rattle.w_stands.specs.Values.{stack}
 use Rattle.w_switching.specs.declared.stored.Stored.{Stored}
-use Rattle.w_switching.specs.Reductions.{TakesAtLeast}
-use Rattle.w_typed.specs.Values.{Arrows, ContinuationTyped, ValueTyped, a_continuation, a_value, ValuesTyped, values}
+use Rattle.w_typed.specs.Values.{Arrows, ContinuationTyped, a_continuation, a_value, ValuesTyped, values}
 use Rattle.w_typed.specs.Stores.{ContTyped, kept, StoreTyped}
 use Rattle.w_typed.specs.Contexts.{Scope, in_scope, RestTyped, code_alone}
 use Rattle.w_typed.specs.Configurations.{Typed}
@@ -80,6 +78,32 @@ kept_takes (kept h) = h.takes
 on_top : {m : Module} {K : Arrows} {vs : Row Val} {a x : ℕ} {ts : Row Operand} → ValuesTyped m K (vs ▹ Cont a) (ts ▹ Known (nullable x)) → ContinuationTyped m K a (Index x)
 on_top (values b (a_value (a_continuation c))) = c
 
+-- of an instruction that takes it on other operands
+fixed_typed : {m : Module} {K : Arrows} {vs : Row Val} {a : ℕ} {ts ws : Row Operand} (x : ℕ) (ins outs : Row ValType) → HasInstrType m.types (fixed (ins ▹ nullable x) outs) ts ws
+    → ValuesTyped m K (vs ▹ Cont a) ts → ContinuationTyped m K a (Index x)
+fixed_typed {m = m} x ins outs h v = on_top (values_sub m h.takes v)
+
+-- of cont.bind, which gives one that takes no more
+record BoundTyped (m : Module) (K : Arrows) (a x : ℕ) (one other : FuncType) : Type 0 where
+  reference : ContinuationTyped m K a (Index x)
+  less : length other.params ≤ length one.params
+
+bound_typed : {m : Module} {K : Arrows} {vs : Row Val} {a : ℕ} (ts ws : Row Operand) (x y : ℕ) (one other : FuncType)
+    → HasInstrType m.types (cont_bind_type x y (Some one) (Some other)) ts ws → ValuesTyped m K (vs ▹ Cont a) ts → BoundTyped m K a x one other
+bound_typed {m = m} ts ws x y one other h v =
+    let ins : Row ValType = row_of (take (length one.params - length other.params) one.params) in
+    let test : Bool = nat_le (length other.params) (length one.params) in
+    let type : InstrType = fixed (ins ▹ nullable x) (ε ▹ non_null y) in
+    record {
+      reference = fixed_typed x ins (ε ▹ non_null y) (if_valid_has m test type ts ws h) v;
+      less = le_of (length other.params) (length one.params) (if_valid_holds m test type ts ws h);
+    }
+
+-- and of switch
+switched_typed : {m : Module} {K : Arrows} {vs : Row Val} {a : ℕ} {ts ws : Row Operand} (x : ℕ) (beneath : Row ValType) (other : FuncType)
+    → HasInstrType m.types (switched_type x beneath (Some other)) ts ws → ValuesTyped m K (vs ▹ Cont a) ts → ContinuationTyped m K a (Index x)
+switched_typed x beneath other h v = fixed_typed x beneath (row_of other.params) h v
+
 module _ {m : Module} (valid : Valid m) {K : Arrows} {s : Store} (u : StoreTyped m K s) where
   -- it takes as many values as that has parameters
   takes_params : (a x : ℕ) (type : FuncType) (k : Kept) → cont_of (context_of m) x ≡ Some type → ContinuationTyped m K a (Index x) → slice_get s.conts a ≡ Some (Some k)
@@ -99,14 +123,10 @@ module _ {m : Module} (valid : Valid m) {K : Arrows} {s : Store} (u : StoreTyped
       → cont_of (context_of m) y ≡ Some t → length t.params ≤ k.takes
   bind_takes x y a k t n there is =
       let c : BindTyped (in_scope m n.scope) x y = n.condition in
-      let d : HasInstrType m.types (cont_bind_type x y (Some c.one) (Some c.other)) n.ins n.outs = rw (c.has_one, c.has_other) at n.has_type in
-      let test : Bool = nat_le (length c.other.params) (length c.one.params) in
-      let row = row_of (take (length c.one.params - length c.other.params) c.one.params) ▹ nullable x in
-      let few : IsTrue test = if_valid_holds m test (fixed row (ε ▹ non_null y)) n.ins n.outs d in
-      let g = if_valid_has m test (fixed row (ε ▹ non_null y)) n.ins n.outs d in
-      let takes = takes_params a x c.one k c.has_one (on_top (values_sub m g.takes n.operands)) there in
+      let b = bound_typed n.ins n.outs x y c.one c.other (rw (c.has_one, c.has_other) at n.has_type) n.operands in
+      let takes = takes_params a x c.one k c.has_one b.reference there in
+      let less = b.less in
       let same : t ≡ c.other = let q = c.has_other in cc in
-      let less : length c.other.params ≤ length c.one.params = le_of (length c.other.params) (length c.one.params) few in
       let long : length t.params ≡ length c.other.params = ap (λ (f : FuncType). length f.params) same in
       omega (arith, takes, less, long)
 
@@ -114,8 +134,8 @@ module _ {m : Module} (valid : Valid m) {K : Arrows} {s : Store} (u : StoreTyped
   switch_takes : (x e a : ℕ) (k : Kept) {vs : Row Val} → TypedNext m K (vs ▹ Cont a) (switching.Switch x e) → slice_get s.conts a ≡ Some (Some k) → 1 ≤ k.takes
   switch_takes x e a k n there =
       let c : SwitchTyped (in_scope m n.scope) x e = n.condition in
-      let d : HasInstrType m.types (switched_type x c.beneath (Some c.other)) n.ins n.outs = rw (c.has_one, c.params, c.has_other) at n.has_type in
-      let takes = takes_params a x c.one k c.has_one (on_top (values_sub m d.takes n.operands)) there in
+      let top = switched_typed x c.beneath c.other (rw (c.has_one, c.params, c.has_other) at n.has_type) n.operands in
+      let takes = takes_params a x c.one k c.has_one top there in
       let long : size (row_of c.one.params) ≡ length c.one.params = size-row_of c.one.params in
       let some = ap (λ (r : Row ValType). size r) c.params in
       omega (arith, takes, long, some)
