@@ -6,3 +6,4 @@ pub mod PieceLaw
 pub mod Places
 pub mod Cutting
 pub mod TokenTexts
+mod PieceRows

@@ -23,24 +23,21 @@ unfolding value_behind
 none_left [] v h = refl
 none_left (d ∷ l) v h = absurd (omega (arith, h))
 
-value_done : (ds : List ℕ) (i v : ℕ) → length ds ≤ i → value_behind v (drop i ds) ≡ v
+-- digits that pass the greatest number on the way pass it in all
+pub too_great : (ds : List ℕ) (i v all : ℕ) → i < length ds → value_behind v (drop i ds) ≡ all → greatest < v * 10 + (get_or ds i 0 - 48) → greatest < all
+too_great ds i v all h e g = omega (arith, value_step ds i v h, value_grows (drop (i + 1) ds) (v * 10 + (get_or ds i 0 - 48)), e, g)
+
+-- the digits are through
+pub value_done : (ds : List ℕ) (i v : ℕ) → length ds ≤ i → value_behind v (drop i ds) ≡ v
 value_done ds i v h = none_left (drop i ds) v (omega (arith, length-drop i ds))
 
-not_le : (a b : ℕ) (v : Bool) → nat_le a b ≡ v → b < a → v ≡ false
-not_le a b true e h = absurd (let l : a ≤ b = leb-true a b e in omega arith)
-not_le a b false e h = refl
+-- the test, by what is known of its sides
+pub above_greatest : (n : ℕ) → greatest < n → false ≡ nat_le n greatest
+above_greatest n h = cases (nat_le n greatest) refl
+  where
+    cases : (v : Bool) → nat_le n greatest ≡ v → false ≡ v
+    cases true e = absurd (omega (arith, h, leb-true n greatest e))
+    cases false e = refl
 
--- digits that pass the greatest number on the way pass it in all
-pub too_great : (ds : List ℕ) (i v all : ℕ) → i < length ds → value_behind v (drop i ds) ≡ all → greatest < v * 10 + (get_or ds i 0 - 48) → false ≡ nat_le all greatest
-too_great ds i v all h e g =
-    let s = value_step ds i v h in
-    let w = value_grows (drop (i + 1) ds) (v * 10 + (get_or ds i 0 - 48)) in
-    let b : greatest < all = omega (arith, s, w, e, g) in
-    sym (not_le all greatest (nat_le all greatest) refl b)
-
--- and those that do not pass it until the end do not
-pub small_enough : (ds : List ℕ) (i v all : ℕ) → length ds ≤ i → value_behind v (drop i ds) ≡ all → v ≤ greatest → true ≡ nat_le all greatest
-small_enough ds i v all h e l =
-    let d = value_done ds i v h in
-    let b : all ≤ greatest = omega (arith, d, e, l) in
-    sym (le-leb all greatest b)
+pub not_above_greatest : (n m : ℕ) → n ≤ greatest → n ≡ m → true ≡ nat_le m greatest
+not_above_greatest n m h e = sym (le-leb m greatest (omega (arith, h, e)))

@@ -10,7 +10,7 @@ ghost use Rattle.s_lex.specs.declared.fault.LexFault.TheVariants.{OutOfMemory};
 use crate::bytes::{ByteClass, end_of, is_digit, is_letter, is_separator};
 use crate::fault::LexFault;
 use crate::piece::Piece;
-use crate::words::{is_small, long_symbol, short_symbol, word_kind};
+use crate::words::{long_symbol, number_of, short_symbol, word_kind};
 use s_syntax::{Kind, Token};
 use std::alloc::Global;
 use w_types::ListOf;
@@ -55,10 +55,10 @@ fn number_at(bytes: &[u8], at: usize) -> Piece
     if letter_at(bytes, end) {
         return Piece::Bad;
     }
-    if !is_small(&bytes[at..end]) {
-        return Piece::Bad;
+    match number_of(&bytes[at..end]) {
+        Some(_) => Piece::Token(Kind::Int, end - at),
+        None => Piece::Bad,
     }
-    Piece::Token(Kind::Int, end - at)
 }
 
 // What stands at the place.

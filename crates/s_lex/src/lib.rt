@@ -11,3 +11,4 @@ mod words;
 pub use fault::LexFault;
 pub use laws::{one_lexing, pieces_are_as_the_rules_say};
 pub use lexing::lex;
+pub use words::number_of;

@@ -1,8 +1,8 @@
 //! Texts of words, numbers and symbols.
-ghost use Rattle.std.specs.Prelude.{◌≡◌, ◌-◌, nat_le, [], ◌∷◌};
+ghost use Rattle.std.specs.Prelude.{◌≡◌, ◌-◌, ◌<◌, [], ◌∷◌, IfSome, IfNone};
 ghost use Rattle.s_lex.specs.Texts.{kind_in, word_kind, value, greatest, long_symbols, short_symbols};
 
-use s_syntax::Kind;
+use s_syntax::{Kind, Number};
 
 /// The kind of a word: that of a keyword, or else a name.
 #[tactic(auto, unfolding(crate::specs::Texts::word_kind))]
@@ -93,17 +93,18 @@ fn digit(byte: u8) -> u64
     u64::from(byte.saturating_sub(b'0'))
 }
 
-/// Whether digits stand for a number that is not above the greatest one.
-pub(crate) fn is_small(digits: &[u8]) -> bool
-    ensures answer { result ≡ nat_le (value digits.now) greatest }
+/// The number that digits stand for; `None` where it is above 9223372036854775807.
+pub fn number_of(digits: &[u8]) -> Option<Number>
+    ensures some { IfSome result (λ n. n.value ≡ value digits.now) }
+    ensures none { IfNone result (greatest < value digits.now) }
 {
     let mut value: u64 = 0;
     for byte in digits {
         let digit = digit(*byte);
         if value > (9223372036854775807 - digit) / 10 {
-            return false;
+            return None;
         }
         value = value * 10 + digit;
     }
-    true
+    Some(Number { value })
 }

@@ -1,6 +1,6 @@
 use Rattle.std.proofs.Common.{◌≡◌, ◌≤◌, drop}
 use Rattle.s_lex.specs.Texts.{value_behind, value, greatest}
-use Rattle.s_lex.proofs.words.is_small.Given as goal
+use Rattle.s_lex.proofs.words.number_of.Given as goal
 
 abbrev pub invariant-loop-byte : goal.invariant-loop-byte
 invariant-loop-byte l = record {
