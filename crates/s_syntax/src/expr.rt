@@ -16,9 +16,11 @@ pub struct Expr {
 #[derive(Drop)]
 #[cycle(expr)]
 pub enum Node {
+    /// A number as it is written.
     Literal(Number),
     /// The value of a name.
     Read(Name),
+    /// An operand behind its operator.
     Unary(UnaryOperator, Box<Expr>),
     /// Operands with operators of one level between them, which group from the left: the first operand, and each further one with the
     /// operator before it.

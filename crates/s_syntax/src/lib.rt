@@ -1,4 +1,4 @@
-//! Tokens and trees of scripts.
+//! Tokens and trees of scripts (`specs/`).
 #![tactic(auto)]
 
 mod expr;

@@ -9,7 +9,7 @@ pub enum UnaryOperator {
     Not,
 }
 
-/// An operator whose right operand may be left alone.
+/// An operator that may leave its right operand alone.
 #[derive(Clone, Copy, Debug, PartialEq, Eq)]
 pub enum Connective {
     /// `||`.
@@ -50,7 +50,7 @@ pub enum Arithmetic {
     Remainder,
 }
 
-/// An operator between two operands.
+/// An operator between two operands, by its family.
 #[derive(Clone, Copy, Debug, PartialEq, Eq)]
 pub enum BinaryOperator {
     Connects(Connective),

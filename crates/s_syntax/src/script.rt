@@ -5,21 +5,23 @@ use crate::number::Number;
 use crate::statement::Block;
 use w_types::ListOf;
 
-/// The type of a variable: a number, or a resumption of the handler of this name.
+/// The type of a variable.
 #[derive(Drop)]
 pub enum VariableType {
+    /// A number.
     Int,
+    /// `res handler`: a resumption of the handler of this name.
     Resumption(Name),
 }
 
-/// A parameter of a function or of a handler.
+/// A parameter of a function or of a handler, with its type.
 #[derive(Drop)]
 pub struct Parameter {
     pub name: Name,
     pub ty: VariableType,
 }
 
-/// A function.
+/// A function: its parameters, and its body.
 #[derive(Drop)]
 pub struct Function {
     pub parameters: ListOf<Parameter>,
@@ -42,7 +44,7 @@ pub struct ReturnClause {
     pub body: Block,
 }
 
-/// A handler.
+/// A handler: its parameters, and what it does on return and where effects are performed.
 #[derive(Drop)]
 pub struct Handler {
     pub parameters: ListOf<Parameter>,
@@ -50,15 +52,18 @@ pub struct Handler {
     pub clauses: ListOf<Clause>,
 }
 
-/// What is declared. An effect has a number of arguments.
+/// What a declaration declares.
 #[derive(Drop)]
 pub enum Definition {
+    /// `effect name/n;`: an effect, with the number of its arguments.
     Effect(Number),
+    /// `fn name(parameters) body`.
     Function(Function),
+    /// `handler name(parameters) { clauses }`, the return clause first.
     Handler(Handler),
 }
 
-/// A declaration.
+/// A declaration: a name, and what it stands for everywhere in the script.
 #[derive(Drop)]
 pub struct Declaration {
     pub name: Name,

@@ -25,18 +25,22 @@ pub enum Statement {
         name: Name,
         value: Expr,
     },
-    /// An `if`; one without `else` has no statements there.
+    /// `if condition then_block else else_block`; one that is written without `else` has no statements there.
     If {
         condition: Expr,
         then_block: Block,
         else_block: Block,
     },
+    /// `while condition body`.
     While {
         condition: Expr,
         body: Block,
     },
+    /// `print value;`.
     Print(Expr),
+    /// `return value;`.
     Return(Expr),
+    /// `fail;`.
     Fail,
     /// An expression whose value is dropped.
     Evaluate(Expr),
