@@ -52,7 +52,7 @@ pub(crate) fn end_of(bytes: &[u8], start: usize, class: ByteClass) -> usize
     ensures within { result ≤ length bytes.now }
 {
     let mut at = start;
-    'bytes: while at < bytes.len() && class.has(bytes[at]) {
+    while at < bytes.len() && class.has(bytes[at]) {
         at += 1;
     }
     at

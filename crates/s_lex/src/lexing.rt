@@ -99,7 +99,7 @@ pub fn lex(alloc: Global, bytes: &[u8]) -> Result<ListOf<Token>, LexFault>
 {
     let mut tokens = ListOf::new(alloc);
     let mut at = 0;
-    'pieces: while at < bytes.len() {
+    while at < bytes.len() {
         match piece_at(bytes, at) {
             Piece::Blank(count) => at += count,
             Piece::Token(kind, count) => {

@@ -3,6 +3,7 @@ use Rattle.std.specs.Prelude.{ℕ, ◌+◌, max}
 use Rattle.s_syntax.specs.declared.name.Name.{Name}
 use Rattle.s_syntax.specs.ExprTree.{ExprTree}
 
+infixr 50 ◌⨟◌
 mutual
   pub data StatementTree : Type 0 where
     Let : (x : Name) → (e : ExprTree) → StatementTree
@@ -16,9 +17,9 @@ mutual
 
   pub data BlockTree : Type 0 where
     Done : BlockTree
+    -- a statement, and those behind it
     ◌⨟◌ : StatementTree → BlockTree → BlockTree
 
-infixr 50 ◌⨟◌
 -- how deep blocks stand in one another
 abbrev mutual
   pub depth_within : StatementTree → ℕ
