@@ -18,14 +18,14 @@ use Rattle.w_stands.specs.Values.{stack, vals}
 use Rattle.w_machine.specs.declared.outcome.Kept.{Kept}
 use Rattle.w_machine.specs.declared.outcome.Kept.TheVariants as kept
 use Rattle.w_machine.specs.Beginning.{Begins}
-use Rattle.w_machine.specs.Position.{Position}
+use Rattle.w_machine.specs.Position.{Position, Tells}
 use Rattle.w_machine.specs.Reached.{waiting_of, Counts, IsReached, IsReachedBy}
 use Rattle.w_machine.specs.Results.{HasResults}
 use Rattle.w_machine.proofs.GoingFar.{settled_at}
 use Rattle.w_machine.specs.Kept.{is_ended}
 use Rattle.w_machine.specs.Parts.{Parts}
 use Rattle.w_conts.specs.Conts.{live_of}
-use Rattle.w_machine.proofs.Stopping.{counts_here}
+use Rattle.w_machine.proofs.Stopping.{counts_here, tells_so}
 
 map_end : (xs : List Value) (x : Value) → vals (xs ++ x ∷ []) ≡ vals xs ++ val x ∷ []
 map_end [] x = refl
@@ -77,6 +77,12 @@ module _ {m : Module} {functions : List ℕ} {x : Parts} {waiting : Option (Box 
   -- of reductions
   pub machine_counts : (p : Program) (s₀ : Store) (t₀ : Term) → Begins q.program p s₀ t₀ → (Run p s₀ t₀ n).taken ≡ n
   machine_counts p s₀ t₀ begins = counted_by _ _ _ n a b k p (Run p s₀ t₀ n) (here p s₀ t₀ begins)
+
+  -- an outcome that is kept is told of the run
+  pub machine_told : (j : Kept) → q.kept ≡ Some j → (p : Program) (s₀ : Store) (t₀ : Term) → Begins q.program p s₀ t₀ → Tells j (Run p s₀ t₀ n).outcome
+  machine_told j is p s₀ t₀ begins =
+      tells_so j x.chain (Run p s₀ t₀ n).outcome
+      (subst (λ (o : Option Kept). IsReachedBy o m (waiting_of waiting) x n a b p (Run p s₀ t₀ n)) (ap (λ (x : Position). x.kept) view ∙ is) (here p s₀ t₀ begins)).0
 
   -- of continuations, by whether an outcome is kept
   pub counts_kept : true ≡ is_some k → (p : Program) (s₀ : Store) (t₀ : Term) → Begins q.program p s₀ t₀ → Counts (Run p s₀ t₀ q.taken) a b

@@ -9,7 +9,7 @@ ghost use Rattle.w_stands.specs.Code.{AllShort};
 ghost use Rattle.w_stands.specs.Values.{vals};
 ghost use Rattle.w_machine.specs.Beginning.{Begins, BeginsWith};
 ghost use Rattle.w_machine.specs.Kept.{stopped_at, stopped_in};
-ghost use Rattle.w_machine.specs.Position.{Steps, ToldBy, Runs, counted, most_reductions};
+ghost use Rattle.w_machine.specs.Position.{Steps, Tells, ToldBy, Runs, counted, most_reductions};
 ghost use Rattle.w_machine.specs.Results.{HasResults};
 ghost use Rattle.w_machine.specs.Reached.{AreFirst, IsTurned, IsFresh, is_last};
 
@@ -155,6 +155,9 @@ impl Machine {
         ensures value { result ≡ self.now.taken }
         // So many the run counts itself.
         ensures counts { (p : TheProgram) (s : TheStore) (t : Term) → Begins self.now.program p s t → (Run p s t result).taken ≡ result }
+        // Where an outcome is kept, it is told of the run after so many.
+        ensures told { (k : Kept) → self.now.kept ≡ Some k → (p : TheProgram) (s : TheStore) (t : Term) → Begins self.now.program p s t
+            → Tells k (Run p s t result).outcome }
     {
         self.taken
     }
