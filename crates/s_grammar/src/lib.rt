@@ -1,0 +1,2 @@
+//! The grammar of scripts, and reading by it (`specs/`).
+#![tactic(auto)]
