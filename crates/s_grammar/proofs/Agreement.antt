@@ -4,7 +4,7 @@ use Rattle.s_syntax.specs.declared.token.Kind.{Kind}
 use Rattle.s_syntax.specs.declared.token.Token.{Token}
 use Rattle.s_grammar.specs.Kinds.{Kinds, kind_of, is}
 use Rattle.s_grammar.specs.Reading.{Answer, Reading, and_then, Got, Refused, Wrong, TooDeep, image, in_turn, maybe, many_by, cons, many, choice, behind, closed, opened, between}
-use Rattle.s_grammar.proofs.Laws.{IsDeep, Agree}
+use Rattle.s_grammar.proofs.ReadingLaws.{IsDeep, Agree}
 
 -- what stays: deep, or the same
 or_same : {A : Type 0} {P : Type 0} (a b c : A) → P ⊎ (a ≡ b) → b ≡ c → P ⊎ (a ≡ c)

@@ -7,7 +7,7 @@ use Rattle.s_grammar.specs.Grammar.{Grammar, Choice}
 use Rattle.s_grammar.specs.Kinds.{kind_of, Kinds}
 use Rattle.s_grammar.specs.Reading.{Why, Wrong, TooDeep, Reading, Answer, choice, Got, Refused}
 use Rattle.s_grammar.proofs.InTurn.{no_tokens}
-use Rattle.s_grammar.proofs.Laws.{Begins, must, Told, Laws}
+use Rattle.s_grammar.proofs.ReadingLaws.{Begins, must, Told, Laws}
 use Rattle.s_grammar.proofs.Walks.{front_kind}
 
 choice_spelled : {A : Type 0} (g : Kind → Grammar A) (front ts rest : List Token) (x : A) → ts ≡ front ++ rest → (g (kind_of ts) [] x → ⊥) → g (kind_of ts) front x → Choice g front x

@@ -17,7 +17,7 @@ use Rattle.s_grammar.proofs.ExprLaws.{name_laws, int_laws}
 use Rattle.s_grammar.proofs.ForParts.{image_of, in_turn_of, maybe_of, led_laws, paren, inside_of, listed_laws, many_of, wider_of, brace, ended_laws}
 use Rattle.s_grammar.proofs.Images.{fewer_laws, deeper_laws}
 use Rattle.s_grammar.proofs.KindSets.{any_kind}
-use Rattle.s_grammar.proofs.Laws.{Laws, Begins}
+use Rattle.s_grammar.proofs.ReadingLaws.{Laws, Begins}
 use Rattle.s_grammar.proofs.NamedStatements.{semicolon}
 use Rattle.s_grammar.proofs.OneToken.{token_of}
 use Rattle.s_grammar.proofs.StatementLaws.{block_laws}

@@ -8,7 +8,7 @@ use Rattle.s_grammar.specs.Grammar.{Grammar, Between, Inside}
 use Rattle.s_grammar.specs.Kinds.{Kinds, is, kind_of, turn, Opens, Turn, Closes}
 use Rattle.s_grammar.specs.Reading.{Reading, between, Refused, Wrong, opened, behind, TooDeep, closed, Got, Answer, and_then}
 use Rattle.s_grammar.proofs.KindSets.{Within, opening, closing, opens_is, within, closes_is, any_kind}
-use Rattle.s_grammar.proofs.Laws.{Begins, Laws, GotAt, Told, must}
+use Rattle.s_grammar.proofs.ReadingLaws.{Begins, Laws, GotAt, Told, must}
 use Rattle.s_grammar.proofs.OneToken.{token_of, one_got, one_refused}
 use Rattle.s_grammar.proofs.Walks.{walk, walk_by, walk_append}
 

@@ -20,7 +20,7 @@ use Rattle.s_grammar.proofs.Ends.{begins_expr, ends_primary, ends_expr, ends_and
 use Rattle.s_grammar.proofs.ForParts.{wider_of, image_of, in_turn_of, maybe_of, led_laws, run_laws, once_laws, run_begins, once_begins, paren, listed_laws, listed_begins}
 use Rattle.s_grammar.proofs.Images.{deeper_laws, laws_as}
 use Rattle.s_grammar.proofs.KindSets.{any_kind}
-use Rattle.s_grammar.proofs.Laws.{Laws, Begins}
+use Rattle.s_grammar.proofs.ReadingLaws.{Laws, Begins}
 use Rattle.s_grammar.proofs.OneToken.{one_laws, token_of}
 
 module _ (bytes : List ℕ) where

@@ -17,7 +17,7 @@ use Rattle.s_grammar.proofs.Ends.{begins_expr}
 use Rattle.s_grammar.proofs.Images.{image_laws, wider_laws, deeper_laws, fewer_laws, image_got}
 use Rattle.s_grammar.proofs.InTurn.{stopped, in_turn_laws, in_turn_got}
 use Rattle.s_grammar.proofs.KindSets.{Within, plain, any_kind}
-use Rattle.s_grammar.proofs.Laws.{Laws, Begins}
+use Rattle.s_grammar.proofs.ReadingLaws.{Laws, Begins}
 use Rattle.s_grammar.proofs.OneToken.{one_laws}
 use Rattle.s_grammar.proofs.Optional.{halted, maybe_laws, maybe_nothing}
 use Rattle.s_grammar.proofs.Repetitions.{many_laws, many_none}

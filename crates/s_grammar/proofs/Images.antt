@@ -5,7 +5,7 @@ use Rattle.s_grammar.specs.Grammar.{Grammar, Image}
 use Rattle.s_grammar.specs.Kinds.{Kinds, kind_of}
 use Rattle.s_grammar.specs.Reading.{Reading, Got, image, Answer, and_then, Why, Refused}
 use Rattle.s_grammar.proofs.KindSets.{Within, within}
-use Rattle.s_grammar.proofs.Laws.{Told, Laws, must}
+use Rattle.s_grammar.proofs.ReadingLaws.{Told, Laws, must}
 use Rattle.s_grammar.proofs.Walks.{front_kind}
 
 pub image_got : {A B : Type 0} (f : A → B) (r : Reading A) (ts rest : List Token) (x : A) → r ts ≡ Got x rest → image f r ts ≡ Got (f x) rest

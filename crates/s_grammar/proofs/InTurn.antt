@@ -7,7 +7,7 @@ use Rattle.s_grammar.specs.Grammar.{Grammar, InTurn}
 use Rattle.s_grammar.specs.Kinds.{kind_of, Kinds}
 use Rattle.s_grammar.specs.Reading.{Reading, Got, in_turn, Answer, and_then, Why, Refused}
 use Rattle.s_grammar.proofs.KindSets.{both, and_parts, Within, within}
-use Rattle.s_grammar.proofs.Laws.{GotAt, Told, must, Begins, Laws}
+use Rattle.s_grammar.proofs.ReadingLaws.{GotAt, Told, must, Begins, Laws}
 use Rattle.s_grammar.proofs.Walks.{front_kind, walk_append}
 
 pub in_turn_got : {A B : Type 0} (r : Reading A) (s : Reading B) (ts rest more : List Token) (x : A) (y : B) → r ts ≡ Got x rest → s rest ≡ Got y more → in_turn r s ts ≡ Got (x, y) more

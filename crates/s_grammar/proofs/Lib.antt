@@ -1,6 +1,6 @@
 pub mod KindSets
 pub mod Walks
-pub mod Laws
+pub mod ReadingLaws
 pub mod OneToken
 pub mod InTurn
 pub mod Images
@@ -16,4 +16,5 @@ pub mod NamedStatements
 pub mod StatementLaws
 pub mod DeclarationLaws
 pub mod SyntaxAgreement
+pub mod NumberTexts
 pub mod OneScript

@@ -21,7 +21,7 @@ use Rattle.s_grammar.proofs.ForParts.{image_of, in_turn_of, led_laws, ended_laws
 use Rattle.s_grammar.proofs.Images.{image_got, image_refused}
 use Rattle.s_grammar.proofs.InTurn.{in_turn_got, in_turn_second, no_tokens}
 use Rattle.s_grammar.proofs.KindSets.{any_kind, is_kind}
-use Rattle.s_grammar.proofs.Laws.{Laws, Told, must, Begins}
+use Rattle.s_grammar.proofs.ReadingLaws.{Laws, Told, must, Begins}
 use Rattle.s_grammar.proofs.OneToken.{token_of, one_got, one_refused}
 use Rattle.s_grammar.proofs.Optional.{maybe_nothing}
 use Rattle.s_grammar.proofs.Walks.{front_kind, walk, walk_by}

@@ -6,7 +6,7 @@ use Rattle.s_grammar.specs.Reading.{Answer, Got, Refused}
 use Rattle.s_grammar.specs.Reads.{script}
 use Rattle.s_grammar.specs.Syntax.{ScriptOf, Spells}
 use Rattle.s_grammar.proofs.DeclarationLaws.{script_laws}
-use Rattle.s_grammar.proofs.Laws.{IsDeep}
+use Rattle.s_grammar.proofs.ReadingLaws.{IsDeep}
 use Rattle.s_grammar.proofs.NamedStatements.{append_none}
 use Rattle.s_grammar.proofs.SyntaxAgreement.{script_agree}
 

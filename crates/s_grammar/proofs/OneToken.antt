@@ -8,7 +8,7 @@ use Rattle.s_grammar.specs.Grammar.{One}
 use Rattle.s_grammar.specs.Kinds.{Kinds, kind_of, turn, Passes, Turn, is}
 use Rattle.s_grammar.specs.Reading.{one, Got, Refused, Wrong}
 use Rattle.s_grammar.proofs.KindSets.{Within, plain, within, is_pass, passes_is, any_kind}
-use Rattle.s_grammar.proofs.Laws.{Begins, Told, Laws}
+use Rattle.s_grammar.proofs.ReadingLaws.{Begins, Told, Laws}
 use Rattle.s_grammar.proofs.Walks.{walk, walk_by}
 
 pub one_got : {A : Type 0} (ks : Kinds) (f : Token → A) (t : Token) (s : List Token) → IsTrue (ks t.kind) → one ks f (t ∷ s) ≡ Got (f t) s

@@ -8,7 +8,7 @@ use Rattle.s_grammar.specs.Reading.{Reading, maybe, Got, image}
 use Rattle.s_grammar.proofs.Images.{told_as, image_told, image_got}
 use Rattle.s_grammar.proofs.InTurn.{no_tokens}
 use Rattle.s_grammar.proofs.KindSets.{Within, within}
-use Rattle.s_grammar.proofs.Laws.{Told, Laws}
+use Rattle.s_grammar.proofs.ReadingLaws.{Told, Laws}
 
 pub maybe_nothing : {A : Type 0} (go : Kinds) (r : Reading A) (s : List Token) → go (kind_of s) ≡ false → maybe go r s ≡ Got None s
 maybe_nothing go r s e = ap (λ (v : Bool). if v then image (λ x. Some x) r s else Got None s) e

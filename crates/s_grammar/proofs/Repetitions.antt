@@ -9,7 +9,7 @@ use Rattle.s_grammar.specs.Reading.{Reading, Got, Answer, and_then, Refused, ima
 use Rattle.s_grammar.proofs.Images.{told_as, image_told, image_got}
 use Rattle.s_grammar.proofs.InTurn.{no_tokens, in_turn_told, in_turn_starts, in_turn_got, next_stops}
 use Rattle.s_grammar.proofs.KindSets.{both, Within}
-use Rattle.s_grammar.proofs.Laws.{GotAt, Laws, Told}
+use Rattle.s_grammar.proofs.ReadingLaws.{GotAt, Laws, Told}
 use Rattle.s_grammar.proofs.Optional.{halted, halted_parts, goes_on}
 use Rattle.s_grammar.proofs.Walks.{shorter}
 

@@ -17,7 +17,7 @@ use Rattle.s_grammar.proofs.ExprLaws.{expr_laws, name_laws}
 use Rattle.s_grammar.proofs.ForParts.{wider_of, image_of, led_laws, in_turn_of, maybe_of, key_laws, many_of, brace}
 use Rattle.s_grammar.proofs.Images.{deeper_laws, laws_as, fewer_laws}
 use Rattle.s_grammar.proofs.KindSets.{any_kind}
-use Rattle.s_grammar.proofs.Laws.{Begins, Laws}
+use Rattle.s_grammar.proofs.ReadingLaws.{Begins, Laws}
 use Rattle.s_grammar.proofs.NamedStatements.{NameOf, semicolon, end_laws, named, name_of_laws, semicolon_laws}
 use Rattle.s_grammar.proofs.OneToken.{token_of}
 

@@ -11,7 +11,7 @@ use Rattle.s_grammar.specs.Parts.{latter, former, or_nothing, run_of, once_of, r
 use Rattle.s_grammar.specs.Reading.{Reading, image, in_turn, maybe, many, cons, one, Refused, Wrong, inside}
 use Rattle.s_grammar.specs.Reads.{led, key, ended, listed, run, once, ahead, primary_by, name, int, unary_by, expr_by, ands, compares, sums, products, in_parentheses, expr, statement_by, assigned, evaluated, statements_by, block, parameters, parameter, names, clause, value_name, return_clause, clauses, declaration_by, script, declarations}
 use Rattle.s_grammar.proofs.Agreement.{agree_image, agree_in_turn, agree_maybe, agree_many, agree_same, agree_cond, AgreeInside, agree_choice, agree_between}
-use Rattle.s_grammar.proofs.Laws.{Agree}
+use Rattle.s_grammar.proofs.ReadingLaws.{Agree}
 
 image_agrees : {A B : Type 0} {r s : Reading A} (f : A → B) → Agree r s → Agree (image f r) (image f s)
 image_agrees {r = r} {s = s} f h = agree_image f r s h
