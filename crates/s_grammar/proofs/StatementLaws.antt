@@ -6,7 +6,7 @@ use Rattle.s_syntax.specs.declared.token.Kind.TheVariants as kind
 use Rattle.s_syntax.specs.declared.token.Token.{Token}
 use Rattle.s_grammar.specs.Grammar.{Grammar, Choice, Between, Inside}
 use Rattle.s_grammar.specs.Kinds.{kind_of, is, other_than}
-use Rattle.s_grammar.specs.Parts.{let_of, if_of, while_of, block_of}
+use Rattle.s_grammar.specs.Parts.{let_of, if_of, while_of, block_tree}
 use Rattle.s_grammar.specs.Reading.{Reading, choice}
 use Rattle.s_grammar.specs.Reads.{expr, ended, statement_by, statements_by, in_braces, block}
 use Rattle.s_grammar.specs.Syntax.{StatementBy, Expr, Ended, StatementsOf, Block}
@@ -80,7 +80,7 @@ module _ (bytes : List ℕ) where
 
     statements_laws : Laws n 0 true begins_statement (is kind.CloseBrace) (λ m. StatementsOf bytes (Expr bytes m) (B m)) (statements_by bytes (expr bytes n) b)
     unfolding statements_by
-    statements_laws = fewer_laws (is kind.CloseBrace) refl (image_of block_of (many_of (other_than (is kind.CloseBrace)) refl refl statement_laws))
+    statements_laws = fewer_laws (is kind.CloseBrace) refl (image_of block_tree (many_of (other_than (is kind.CloseBrace)) refl refl statement_laws))
 
   -- what stands in braces, with them
   BracedBlock : ℕ → Grammar BlockTree
@@ -103,7 +103,7 @@ module _ (bytes : List ℕ) where
       (between_laws n 0 true begins_statement (is kind.CloseBrace) kind.OpenBrace kind.CloseBrace brace (omega arith) (λ j. StatementsOf bytes (Expr bytes j) (Block bytes j)) r p refl)
 
   statements_begin : (m : ℕ) → Begins (StatementsOf bytes (Expr bytes m) (Block bytes m)) []
-  statements_begin m = ([], block_of [], ([], refl, refl))
+  statements_begin m = ([], block_tree [], ([], refl, refl))
 
   pub block_laws : (n : ℕ) → Laws n 1 false (is kind.OpenBrace) any_kind (Block bytes) (block bytes n)
   unfolding block

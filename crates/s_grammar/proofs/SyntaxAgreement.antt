@@ -7,7 +7,7 @@ use Rattle.s_syntax.specs.declared.token.Kind.{Kind}
 use Rattle.s_syntax.specs.declared.token.Kind.TheVariants as kind
 use Rattle.s_grammar.specs.Kinds.{Kinds, other_than, is, kind_of}
 use Rattle.s_grammar.specs.Operators.{operator_of, or_operators, and_operators, comparisons, sum_operators, product_operators}
-use Rattle.s_grammar.specs.Parts.{latter, former, or_nothing, run_of, once_of, read_or_call, do_of, handle_of, resume_of, let_of, if_of, while_of, assign_of, block_of, clause_of, return_clause_of, function_of, handler_of, effect_of, script_of}
+use Rattle.s_grammar.specs.Parts.{latter, former, or_nothing, run_of, once_of, read_or_call, do_of, handle_of, resume_of, let_of, if_of, while_of, assign_of, block_tree, clause_of, return_clause_of, function_of, handler_of, effect_of, script_of}
 use Rattle.s_grammar.specs.Reading.{Reading, image, in_turn, maybe, many, cons, one, Refused, Wrong, inside}
 use Rattle.s_grammar.specs.Reads.{led, key, ended, listed, run, once, ahead, primary_by, name, int, unary_by, expr_by, ands, compares, sums, products, in_parentheses, expr, statement_by, assigned, evaluated, statements_by, block, parameters, parameter, names, clause, value_name, return_clause, clauses, declaration_by, script, declarations}
 use Rattle.s_grammar.proofs.Agreement.{agree_image, agree_in_turn, agree_maybe, agree_many, agree_same, agree_cond, AgreeInside, agree_choice, agree_between}
@@ -98,7 +98,7 @@ module _ (bytes : List ℕ) where
 
   statements_agree : (e e' : Reading ExprTree) (b b' : Reading BlockTree) → Agree e e' → Agree b b' → Agree (statements_by bytes e b) (statements_by bytes e' b')
   unfolding statements_by
-  statements_agree e e' b b' h i = image_agrees block_of (many_agrees (other_than (is kind.CloseBrace)) (agree_choice (statement_by bytes e b) (statement_by bytes e' b') (statement_agree e e' b b' h i)))
+  statements_agree e e' b b' h i = image_agrees block_tree (many_agrees (other_than (is kind.CloseBrace)) (agree_choice (statement_by bytes e b) (statement_by bytes e' b') (statement_agree e e' b b' h i)))
 
   pub block_agree : (n m : ℕ) → n ≤ m → Agree (block bytes n) (block bytes m)
   unfolding block

@@ -78,9 +78,9 @@ if_of (c, (a, Some b)) = If c a b
 abbrev pub while_of : ExprTree × BlockTree → StatementTree
 while_of p = While p.0 p.1
 
-abbrev pub block_of : List StatementTree → BlockTree
-block_of [] = Done
-block_of (s ∷ ss) = s ⨟ block_of ss
+abbrev pub block_tree : List StatementTree → BlockTree
+block_tree [] = Done
+block_tree (s ∷ ss) = s ⨟ block_tree ss
 
 -- ## Declarations
 

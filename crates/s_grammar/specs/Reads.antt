@@ -17,7 +17,7 @@ use Rattle.s_grammar.specs.Kinds.{Kinds, kind_of, is, other_than}
 use Rattle.s_grammar.specs.Reading.{Reading, Refused, Wrong, one, in_turn, image, maybe, cons, many, choice, between, inside}
 use Rattle.s_grammar.specs.Texts.{name_of, number_of}
 use Rattle.s_grammar.specs.Operators.{or_operators, and_operators, comparisons, sum_operators, product_operators, operator_of}
-use Rattle.s_grammar.specs.Parts.{itself, former, latter, or_nothing, run_of, once_of, read_or_call, do_of, handle_of, resume_of, let_of, assign_of, if_of, while_of, block_of, parameter_of, clause_of, return_clause_of, effect_of, function_of, handler_of, script_of}
+use Rattle.s_grammar.specs.Parts.{itself, former, latter, or_nothing, run_of, once_of, read_or_call, do_of, handle_of, resume_of, let_of, assign_of, if_of, while_of, block_tree, parameter_of, clause_of, return_clause_of, effect_of, function_of, handler_of, script_of}
 
 -- ## Parts of productions
 
@@ -111,7 +111,7 @@ module _ (bytes : List ℕ) where
   statement_by e b k = evaluated e
 
   unfoldable pub statements_by : Reading ExprTree → Reading BlockTree → Reading BlockTree
-  statements_by e b = image block_of (many (other_than (is kind.CloseBrace)) (choice (statement_by e b)))
+  statements_by e b = image block_tree (many (other_than (is kind.CloseBrace)) (choice (statement_by e b)))
 
   unfoldable pub block : ℕ → Reading BlockTree
   block zero = in_braces None

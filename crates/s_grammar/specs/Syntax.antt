@@ -17,7 +17,7 @@ use Rattle.s_grammar.specs.Kinds.{Kinds, is}
 use Rattle.s_grammar.specs.Grammar.{Grammar, One, InTurn, Image, Each, Maybe, Choice, Between, Never, Inside}
 use Rattle.s_grammar.specs.Texts.{name_of, number_of}
 use Rattle.s_grammar.specs.Operators.{or_operators, and_operators, comparisons, sum_operators, product_operators, operator_of}
-use Rattle.s_grammar.specs.Parts.{itself, former, latter, or_nothing, run_of, once_of, read_or_call, do_of, handle_of, resume_of, let_of, assign_of, if_of, while_of, block_of, parameter_of, clause_of, return_clause_of, effect_of, function_of, handler_of, script_of}
+use Rattle.s_grammar.specs.Parts.{itself, former, latter, or_nothing, run_of, once_of, read_or_call, do_of, handle_of, resume_of, let_of, assign_of, if_of, while_of, block_tree, parameter_of, clause_of, return_clause_of, effect_of, function_of, handler_of, script_of}
 use Rattle.s_grammar.specs.Reading.{cons}
 
 -- ## Parts of productions
@@ -110,7 +110,7 @@ module _ (bytes : List ℕ) where
   StatementBy e b k = EvaluateOf e
 
   abbrev pub StatementsOf : Grammar ExprTree → Grammar BlockTree → Grammar BlockTree
-  StatementsOf e b = Image block_of (Each (Choice (StatementBy e b)))
+  StatementsOf e b = Image block_tree (Each (Choice (StatementBy e b)))
 
   -- '{' statement* '}'
   unfoldable pub Block : ℕ → Grammar BlockTree

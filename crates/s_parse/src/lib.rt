@@ -1,13 +1,17 @@
-// A library with one function.
+//! The parser of scripts: the script that tokens spell, or the first token with which none goes on (`specs/`).
 #![tactic(auto)]
 
-ghost use Rattle.std.specs.Prelude.{◌≡◌};
-ghost use Rattle.s_parse.specs.Echo.{echo_of};
+mod declaration;
+mod expression;
+mod fault;
+mod handler;
+mod laws;
+mod level;
+mod parameter;
+mod parsing;
+mod statement;
+mod token;
 
-// The `ensures` clause is the contract: what `echo` returns is `echo_of` of its argument, a definition
-// in `specs/Echo.antt`, which a caller's clause can cite too.
-pub fn echo(x: usize) -> usize
-    ensures { result ≡ echo_of x }
-{
-    x
-}
+pub use fault::ParseFault;
+pub use laws::one_answer;
+pub use parsing::parse;

@@ -1,0 +1,13 @@
+pub mod Tokens
+pub mod Loops
+pub mod Listed
+pub mod Enclosed
+pub mod Second
+pub mod Graded
+pub mod Blocks
+pub mod Shrinking
+pub mod Nesting
+pub mod Fronts
+pub mod Exact
+pub mod OneAnswer
+pub mod Verdicts
