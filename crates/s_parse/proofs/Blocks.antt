@@ -9,8 +9,8 @@ use Rattle.s_grammar.specs.Kinds.{other_than, is}
 use Rattle.s_grammar.specs.Parts.{block_tree}
 use Rattle.s_grammar.specs.Reading.{inside, image, many, Answer, Reading}
 use Rattle.s_grammar.specs.Reads.{block, in_braces, statements_by}
-use Rattle.s_parse.specs.Levels.{statements, statement}
-use Rattle.s_parse.proofs.Loops.{viewed}
+use Rattle.s_expr.proofs.Loops.{viewed}
+use Rattle.s_parse.specs.Items.{statements, statement}
 
 pub block_seen : (ss : List Statement) → block_tree (viewed statement_of ss) ≡ block_of ss
 block_seen [] = refl

@@ -1,9 +1,4 @@
-pub mod Tokens
-pub mod Loops
-pub mod Listed
-pub mod Enclosed
 pub mod Second
-pub mod Graded
 pub mod Blocks
 pub mod Shrinking
 pub mod Nesting

@@ -3,14 +3,13 @@ ghost use Rattle.std.specs.Prelude.{◌≡◌, ◌≤◌, length, drop};
 ghost use Rattle.s_syntax.specs.declared.token.Kind.TheVariants as kind;
 ghost use Rattle.s_lex.specs.Lexes.{AreInOrder};
 ghost use Rattle.s_grammar.specs.Reads.{declaration_by, declarations, script};
-ghost use Rattle.s_parse.specs.Places.{ReadsAt};
-ghost use Rattle.s_parse.specs.Levels.{declaration};
+ghost use Rattle.s_expr.specs.Places.{ReadsAt};
+ghost use Rattle.s_parse.specs.Items.{declaration};
 
-use crate::fault::Stop;
 use crate::handler::braced_clauses_at;
 use crate::parameter::parameters_at;
 use crate::statement::block_at;
-use crate::token::{expect, int_at, is_kind, kind_at, name_at};
+use s_expr::{Stop, expect, int_at, is_kind, kind_at, name_at};
 use s_syntax::{Declaration, Definition, Function, Handler, Kind, Script, Token};
 use std::alloc::Global;
 use w_types::ListOf;
@@ -59,7 +58,7 @@ fn function_at(
 }
 
 // A handler.
-#[tactic(auto, unfolding(s_grammar::specs::Reads::declaration_by, s_grammar::specs::Reads::led, crate::specs::Levels::braced_clauses))]
+#[tactic(auto, unfolding(s_grammar::specs::Reads::declaration_by, s_grammar::specs::Reads::led, crate::specs::Items::braced_clauses))]
 fn handler_at(
     alloc: Global,
     bytes: &[u8],
@@ -84,7 +83,7 @@ fn handler_at(
 }
 
 // A declaration.
-#[tactic(auto, unfolding(crate::specs::Levels::declaration, s_grammar::specs::Reads::declaration_by))]
+#[tactic(auto, unfolding(crate::specs::Items::declaration, s_grammar::specs::Reads::declaration_by))]
 fn declaration_at(
     alloc: Global,
     bytes: &[u8],

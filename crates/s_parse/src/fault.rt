@@ -1,6 +1,6 @@
 //! Why tokens are no script.
 
-use std::alloc::{AllocError, AllocFailed};
+use std::alloc::AllocError;
 use thiserror::Error;
 
 /// Why tokens are no script.
@@ -17,16 +17,6 @@ pub enum ParseFault {
     OutOfMemory,
 }
 
-/// Why reading stops, and at which token.
-#[derive(Clone, Copy, Debug)]
-pub(crate) enum Stop {
-    /// This token cannot stand there.
-    Wrong(usize),
-    /// This bracket can, but too many are open.
-    TooDeep(usize),
-    Memory,
-}
-
 impl From<AllocError> for ParseFault {
     ghost use Rattle.std.specs.Prelude.{◌≡◌};
     ghost use Rattle.s_parse.specs.declared.fault.ParseFault.TheVariants.{OutOfMemory};
@@ -35,27 +25,5 @@ impl From<AllocError> for ParseFault {
 
     fn from(_: AllocError) -> Self {
         ParseFault::OutOfMemory
-    }
-}
-
-impl From<AllocError> for Stop {
-    ghost use Rattle.std.specs.Prelude.{◌≡◌};
-    ghost use Rattle.s_parse.specs.declared.fault.Stop.TheVariants.{Memory};
-
-    ghost from_gives = { λ _ e. e ≡ Memory };
-
-    fn from(_: AllocError) -> Self {
-        Stop::Memory
-    }
-}
-
-impl<T: Drop> From<AllocFailed<T>> for Stop {
-    ghost use Rattle.std.specs.Prelude.{◌≡◌};
-    ghost use Rattle.s_parse.specs.declared.fault.Stop.TheVariants.{Memory};
-
-    ghost from_gives = { λ _ e. e ≡ Memory };
-
-    fn from(_: AllocFailed<T>) -> Self {
-        Stop::Memory
     }
 }

@@ -2,13 +2,12 @@
 ghost use Rattle.std.specs.Prelude.{◌≡◌, ◌≤◌, length, drop};
 ghost use Rattle.s_lex.specs.Lexes.{AreInOrder};
 ghost use Rattle.s_grammar.specs.Reads.{clause, return_clause, clauses};
-ghost use Rattle.s_parse.specs.Places.{ReadsAt};
-ghost use Rattle.s_parse.specs.Levels.{effect_clauses, braced_clauses};
+ghost use Rattle.s_expr.specs.Places.{ReadsAt};
+ghost use Rattle.s_parse.specs.Items.{effect_clauses, braced_clauses};
 
-use crate::fault::Stop;
 use crate::parameter::{names_at, value_name_at};
 use crate::statement::block_at;
-use crate::token::{expect, is_kind, kind_at, name_at};
+use s_expr::{Stop, expect, is_kind, kind_at, name_at};
 use s_syntax::{Clause, Kind, ReturnClause, Token};
 use std::alloc::Global;
 use w_types::ListOf;
@@ -84,7 +83,7 @@ fn return_clause_at(
 }
 
 // What stands in a handler's braces.
-#[tactic(auto, unfolding(s_grammar::specs::Reads::clauses, crate::specs::Levels::effect_clauses))]
+#[tactic(auto, unfolding(s_grammar::specs::Reads::clauses, crate::specs::Items::effect_clauses))]
 fn clauses_at(
     alloc: Global,
     bytes: &[u8],

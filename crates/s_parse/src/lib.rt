@@ -2,15 +2,12 @@
 #![tactic(auto)]
 
 mod declaration;
-mod expression;
 mod fault;
 mod handler;
 mod laws;
-mod level;
 mod parameter;
 mod parsing;
 mod statement;
-mod token;
 
 pub use fault::ParseFault;
 pub use laws::one_answer;

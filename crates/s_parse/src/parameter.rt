@@ -3,10 +3,9 @@ ghost use Rattle.std.specs.Prelude.{◌≡◌, ◌≤◌, length, drop};
 ghost use Rattle.s_syntax.specs.declared.token.Kind.TheVariants as kind;
 ghost use Rattle.s_lex.specs.Lexes.{AreInOrder};
 ghost use Rattle.s_grammar.specs.Reads.{name, parameter, parameters, names, value_name, listed, led};
-ghost use Rattle.s_parse.specs.Places.{ReadsAt};
+ghost use Rattle.s_expr.specs.Places.{ReadsAt};
 
-use crate::fault::Stop;
-use crate::token::{expect, is_kind, kind_at, name_at};
+use s_expr::{Stop, expect, is_kind, kind_at, name_at};
 use s_syntax::{Kind, Name, Parameter, Token, VariableType};
 use std::alloc::Global;
 use w_types::ListOf;

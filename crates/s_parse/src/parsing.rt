@@ -8,7 +8,8 @@ ghost use Rattle.s_parse.specs.Parsed.{parsed};
 ghost use Rattle.s_parse.specs.Refusal.{IsScript, HasFault, Means, IsAnswer};
 
 use crate::declaration::script_at;
-use crate::fault::{ParseFault, Stop};
+use crate::fault::ParseFault;
+use s_expr::Stop;
 use s_syntax::{Script, Token};
 use std::alloc::Global;
 use w_types::ListOf;

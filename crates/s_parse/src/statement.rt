@@ -7,12 +7,10 @@ ghost use Rattle.s_lex.specs.Lexes.{AreInOrder};
 ghost use Rattle.s_grammar.specs.Kinds.{kind_of};
 ghost use Rattle.s_grammar.specs.Reading.{image};
 ghost use Rattle.s_grammar.specs.Reads.{expr, block, statement_by, ended, led, key, assigned, evaluated};
-ghost use Rattle.s_parse.specs.Places.{ReadsAt, ReadsAs};
-ghost use Rattle.s_parse.specs.Levels.{statement, statements};
+ghost use Rattle.s_expr.specs.Places.{ReadsAt, ReadsAs};
+ghost use Rattle.s_parse.specs.Items.{statement, statements};
 
-use crate::expression::expr_at;
-use crate::fault::Stop;
-use crate::token::{expect, is_kind, kind_at, name_at};
+use s_expr::{Stop, expect, expr_at, is_kind, kind_at, name_at};
 use s_syntax::{Block, Expr, Kind, Statement, Token};
 use std::alloc::Global;
 
@@ -219,7 +217,7 @@ fn named_at(
 
 // A statement.
 #[cycle(block)]
-#[tactic(auto, unfolding(crate::specs::Levels::statement, s_grammar::specs::Reads::statement_by))]
+#[tactic(auto, unfolding(crate::specs::Items::statement, s_grammar::specs::Reads::statement_by))]
 fn statement_at(
     alloc: Global,
     bytes: &[u8],

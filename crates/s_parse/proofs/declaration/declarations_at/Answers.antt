@@ -3,10 +3,10 @@ use Rattle.std.proofs.lemmas.Result.{err_from_is_err_and}
 use Rattle.s_syntax.specs.declared.token.Kind.TheVariants as kind
 use Rattle.s_grammar.specs.Kinds.{is, kind_of, other_than}
 use Rattle.s_grammar.specs.Reads.{declarations}
-use Rattle.s_parse.specs.Levels.{declaration}
-use Rattle.s_parse.proofs.Enclosed.{passed_on, stop_as}
-use Rattle.s_parse.proofs.Listed.{negated, turned}
-use Rattle.s_parse.proofs.Loops.{loop_stops, further, Ahead, loop_goes_on, loop_ends}
+use Rattle.s_expr.proofs.Enclosed.{passed_on, stop_as}
+use Rattle.s_expr.proofs.Listed.{negated, turned}
+use Rattle.s_expr.proofs.Loops.{loop_stops, further, Ahead, loop_goes_on, loop_ends}
+use Rattle.s_parse.specs.Items.{declaration}
 use Rattle.s_parse.proofs.Shrinking.{declaration_shrinks}
 use Rattle.s_parse.proofs.declaration.declarations_at.Goals as goal
 
@@ -18,7 +18,7 @@ returns-in_err-item c =
     let g = negated (is kind.End (kind_of (drop c.items.at a.tokens.now))) k in
     record {
       reads = passed_on (λ x. x) (declarations a.bytes.now a.nest) a.tokens.now a.start c.from_residual.result _ (err_from_is_err_and c.from_residual.result c.from_residual.ensures.1)
-      (stop_as (declaration a.bytes.now a.nest) (declarations a.bytes.now a.nest) a.tokens.now c.items.at a.start (λ w rest e. loop_stops (other_than (is kind.End)) (declaration a.bytes.now a.nest) (declaration_shrinks a.bytes.now a.nest) a.tokens.now a.start c.items.items c.items.at c.items.invariant g w rest e) _ c.in_err-item.ensures.reads);
+          (stop_as (declaration a.bytes.now a.nest) (declarations a.bytes.now a.nest) a.tokens.now c.items.at a.start (λ w rest e. loop_stops (other_than (is kind.End)) (declaration a.bytes.now a.nest) (declaration_shrinks a.bytes.now a.nest) a.tokens.now a.start c.items.items c.items.at c.items.invariant g w rest e) _ c.in_err-item.ensures.reads);
     }
 
 pub items-smaller : goal.items-smaller

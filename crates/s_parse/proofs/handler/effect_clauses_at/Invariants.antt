@@ -2,7 +2,7 @@ use Rattle.std.proofs.Common.{◌-◌, length}
 use Rattle.s_syntax.specs.declared.token.Kind.TheVariants as kind
 use Rattle.s_grammar.specs.Kinds.{is}
 use Rattle.s_grammar.specs.Reads.{clause}
-use Rattle.s_parse.proofs.Loops.{Ahead}
+use Rattle.s_expr.proofs.Loops.{Ahead}
 use Rattle.s_parse.proofs.handler.effect_clauses_at.Given as goal
 
 abbrev pub invariant-items : goal.invariant-items

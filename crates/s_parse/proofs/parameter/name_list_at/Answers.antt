@@ -4,9 +4,9 @@ use Rattle.s_syntax.specs.declared.token.Kind.TheVariants as kind
 use Rattle.s_grammar.specs.Kinds.{is, kind_of}
 use Rattle.s_grammar.specs.Reading.{Got}
 use Rattle.s_grammar.specs.Reads.{name, listed, led}
-use Rattle.s_parse.proofs.Enclosed.{passed_on, stop_as}
-use Rattle.s_parse.proofs.Listed.{listed_empty, listed_first, listed_stops, listed_goes_on, listed_got}
-use Rattle.s_parse.proofs.Loops.{further}
+use Rattle.s_expr.proofs.Enclosed.{passed_on, stop_as}
+use Rattle.s_expr.proofs.Listed.{listed_empty, listed_first, listed_stops, listed_goes_on, listed_got}
+use Rattle.s_expr.proofs.Loops.{further}
 use Rattle.s_parse.proofs.Shrinking.{comma_name_shrinks}
 use Rattle.s_parse.proofs.parameter.name_list_at.Goals as goal
 
@@ -22,7 +22,7 @@ returns-in_err-first c =
     let g : is kind.CloseParenthesis (kind_of (drop a.start a.tokens.now)) ≡ false = search rules in
     record {
       reads = passed_on (λ x. x) (listed (name a.bytes.now)) a.tokens.now a.start c.from_residual.result _ (err_from_is_err_and c.from_residual.result c.from_residual.ensures.1)
-      (stop_as (name a.bytes.now) (listed (name a.bytes.now)) a.tokens.now a.start a.start (λ w rest e. listed_first (name a.bytes.now) (drop a.start a.tokens.now) rest w g e) _ c.in_err-first.ensures.reads);
+          (stop_as (name a.bytes.now) (listed (name a.bytes.now)) a.tokens.now a.start a.start (λ w rest e. listed_first (name a.bytes.now) (drop a.start a.tokens.now) rest w g e) _ c.in_err-first.ensures.reads);
     }
 
 pub returns-in_err-item : goal.returns-in_err-item
@@ -31,7 +31,7 @@ returns-in_err-item c =
     let g : is kind.Comma (kind_of (drop c.items.at a.tokens.now)) ≡ true = search rules in
     record {
       reads = passed_on (λ x. x) (listed (name a.bytes.now)) a.tokens.now a.start c.from_residual-in_err-item.result _ (err_from_is_err_and c.from_residual-in_err-item.result c.from_residual-in_err-item.ensures.1)
-      (stop_as (led kind.Comma (name a.bytes.now)) (listed (name a.bytes.now)) a.tokens.now c.items.at a.start (λ w rest e. listed_stops (name a.bytes.now) (comma_name_shrinks a.bytes.now) a.tokens.now a.start c.items.items c.items.at c.items.invariant g w rest e) _ c.in_err-item.ensures.reads);
+          (stop_as (led kind.Comma (name a.bytes.now)) (listed (name a.bytes.now)) a.tokens.now c.items.at a.start (λ w rest e. listed_stops (name a.bytes.now) (comma_name_shrinks a.bytes.now) a.tokens.now a.start c.items.items c.items.at c.items.invariant g w rest e) _ c.in_err-item.ensures.reads);
     }
 
 pub items-smaller : goal.items-smaller

@@ -8,11 +8,11 @@ use Rattle.s_grammar.specs.Parts.{block_tree}
 use Rattle.s_grammar.specs.Reading.{Refused, many, Got}
 use Rattle.s_grammar.specs.Reads.{block, key}
 use Rattle.s_grammar.proofs.Images.{image_refused, image_got}
-use Rattle.s_parse.specs.Levels.{statements, statement}
+use Rattle.s_expr.proofs.Enclosed.{passed_on, stop_as, enclosed_shut, enclosed_deep, enclosed_inner, enclosed_open, enclosed_got}
+use Rattle.s_expr.proofs.Listed.{negated, turned}
+use Rattle.s_expr.proofs.Loops.{loop_stops, viewed, further, viewed_more, Ahead, loop_goes_on, loop_ends}
+use Rattle.s_parse.specs.Items.{statements, statement}
 use Rattle.s_parse.proofs.Blocks.{by_braces, by_items, block_seen}
-use Rattle.s_parse.proofs.Enclosed.{passed_on, stop_as, enclosed_shut, enclosed_deep, enclosed_inner, enclosed_open, enclosed_got}
-use Rattle.s_parse.proofs.Listed.{negated, turned}
-use Rattle.s_parse.proofs.Loops.{loop_stops, viewed, further, viewed_more, Ahead, loop_goes_on, loop_ends}
 use Rattle.s_parse.proofs.Shrinking.{statement_shrinks}
 use Rattle.s_parse.proofs.statement.+block.Goals as goal
 
@@ -21,7 +21,7 @@ block_at-returns-in_err-inside t c =
     let a = c.args in
     record {
       reads = passed_on (λ x. x) (block a.bytes.now a.nest) a.tokens.now a.at c.from_residual.result _ (err_from_is_err_and c.from_residual.result c.from_residual.ensures.1)
-      (stop_as (key kind.OpenBrace) (block a.bytes.now a.nest) a.tokens.now a.at a.at (λ w rest e. by_braces a.bytes.now a.nest (drop a.at a.tokens.now) (Refused w rest) (enclosed_shut kind.OpenBrace kind.CloseBrace (statements a.bytes.now) a.nest (drop a.at a.tokens.now) rest w e)) _ c.in_err-inside.ensures.reads);
+          (stop_as (key kind.OpenBrace) (block a.bytes.now a.nest) a.tokens.now a.at a.at (λ w rest e. by_braces a.bytes.now a.nest (drop a.at a.tokens.now) (Refused w rest) (enclosed_shut kind.OpenBrace kind.CloseBrace (statements a.bytes.now) a.nest (drop a.at a.tokens.now) rest w e)) _ c.in_err-inside.ensures.reads);
     }
 
 pub block_at-returns-then-nest-eq0 : goal.block_at-returns-then-nest-eq0
@@ -34,7 +34,7 @@ block_at-returns-in_err-value t c =
     let a = c.args in
     record {
       reads = passed_on (λ x. x) (block a.bytes.now a.nest) a.tokens.now a.at c.from_residual-in_err-value.result _ (err_from_is_err_and c.from_residual-in_err-value.result c.from_residual-in_err-value.ensures.1)
-      (stop_as (statements a.bytes.now (a.nest - 1)) (block a.bytes.now a.nest) a.tokens.now c.in_ok-inside.inside a.at (λ w rest e. by_braces a.bytes.now a.nest (drop a.at a.tokens.now) (Refused w rest) (enclosed_inner kind.OpenBrace kind.CloseBrace (statements a.bytes.now) a.nest (drop a.at a.tokens.now) _ rest _ w c.in_ok-inside.ensures.reads.0 c.if-nest-eq0.false e)) _ c.in_err-value.ensures.reads);
+          (stop_as (statements a.bytes.now (a.nest - 1)) (block a.bytes.now a.nest) a.tokens.now c.in_ok-inside.inside a.at (λ w rest e. by_braces a.bytes.now a.nest (drop a.at a.tokens.now) (Refused w rest) (enclosed_inner kind.OpenBrace kind.CloseBrace (statements a.bytes.now) a.nest (drop a.at a.tokens.now) _ rest _ w c.in_ok-inside.ensures.reads.0 c.if-nest-eq0.false e)) _ c.in_err-value.ensures.reads);
     }
 
 pub block_at-returns-in_err-end : goal.block_at-returns-in_err-end
@@ -42,7 +42,7 @@ block_at-returns-in_err-end t c =
     let a = c.args in
     record {
       reads = passed_on (λ x. x) (block a.bytes.now a.nest) a.tokens.now a.at c.from_residual-in_err-end.result _ (err_from_is_err_and c.from_residual-in_err-end.result c.from_residual-in_err-end.ensures.1)
-      (stop_as (key kind.CloseBrace) (block a.bytes.now a.nest) a.tokens.now c.in_ok-value.end a.at (λ w rest e. by_braces a.bytes.now a.nest (drop a.at a.tokens.now) (Refused w rest) (enclosed_open kind.OpenBrace kind.CloseBrace (statements a.bytes.now) a.nest (drop a.at a.tokens.now) _ _ rest _ _ w c.in_ok-inside.ensures.reads.0 c.if-nest-eq0.false c.in_ok-value.ensures.reads.0 e)) _ c.in_err-end.ensures.reads);
+          (stop_as (key kind.CloseBrace) (block a.bytes.now a.nest) a.tokens.now c.in_ok-value.end a.at (λ w rest e. by_braces a.bytes.now a.nest (drop a.at a.tokens.now) (Refused w rest) (enclosed_open kind.OpenBrace kind.CloseBrace (statements a.bytes.now) a.nest (drop a.at a.tokens.now) _ _ rest _ _ w c.in_ok-inside.ensures.reads.0 c.if-nest-eq0.false c.in_ok-value.ensures.reads.0 e)) _ c.in_err-end.ensures.reads);
     }
 
 pub block_at-returns : goal.block_at-returns
@@ -57,9 +57,9 @@ statements_at-returns-in_err-item t c =
     let g = negated (is kind.CloseBrace (kind_of (drop c.items.at a.tokens.now))) k in
     record {
       reads = passed_on (λ x. x) (statements a.bytes.now a.nest) a.tokens.now a.start c.from_residual.result _ (err_from_is_err_and c.from_residual.result c.from_residual.ensures.1)
-      (stop_as (statement a.bytes.now a.nest) (statements a.bytes.now a.nest) a.tokens.now c.items.at a.start
-      (λ w rest e. by_items a.bytes.now a.nest (drop a.start a.tokens.now) (Refused w rest) (image_refused block_tree (many (other_than (is kind.CloseBrace)) (statement a.bytes.now a.nest)) (drop a.start a.tokens.now) rest w (loop_stops (other_than (is kind.CloseBrace)) (statement a.bytes.now a.nest) (statement_shrinks a.bytes.now a.nest) a.tokens.now a.start (viewed statement_of c.items.items.items) c.items.at c.items.invariant g w rest e)))
-      _ c.in_err-item.ensures.reads);
+          (stop_as (statement a.bytes.now a.nest) (statements a.bytes.now a.nest) a.tokens.now c.items.at a.start
+          (λ w rest e. by_items a.bytes.now a.nest (drop a.start a.tokens.now) (Refused w rest) (image_refused block_tree (many (other_than (is kind.CloseBrace)) (statement a.bytes.now a.nest)) (drop a.start a.tokens.now) rest w (loop_stops (other_than (is kind.CloseBrace)) (statement a.bytes.now a.nest) (statement_shrinks a.bytes.now a.nest) a.tokens.now a.start (viewed statement_of c.items.items.items) c.items.at c.items.invariant g w rest e)))
+          _ c.in_err-item.ensures.reads);
     }
 
 pub statements_at-items-smaller : goal.statements_at-items-smaller

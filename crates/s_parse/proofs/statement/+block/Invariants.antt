@@ -2,8 +2,8 @@ use Rattle.std.proofs.Common.{◌+◌, ◌-◌, ◌*◌, length}
 use Rattle.s_syntax.specs.BlockOf.{statement_of}
 use Rattle.s_syntax.specs.declared.token.Kind.TheVariants as kind
 use Rattle.s_grammar.specs.Kinds.{other_than, is}
-use Rattle.s_parse.specs.Levels.{statement}
-use Rattle.s_parse.proofs.Loops.{Ahead, viewed}
+use Rattle.s_expr.proofs.Loops.{Ahead, viewed}
+use Rattle.s_parse.specs.Items.{statement}
 use Rattle.s_parse.proofs.statement.+block.Given as goal
 
 abbrev pub decreases-block_at : goal.decreases-block_at

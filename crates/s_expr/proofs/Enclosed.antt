@@ -5,9 +5,9 @@ use Rattle.s_syntax.specs.declared.token.Token.{Token}
 use Rattle.s_grammar.specs.Kinds.{is}
 use Rattle.s_grammar.specs.Reading.{Reading, Why, Refused, Wrong, TooDeep, Answer, Got, behind, opened, between, inside, and_then, closed}
 use Rattle.s_grammar.specs.Reads.{key}
-use Rattle.s_parse.specs.Places.{StopsAt, ReadsAs}
-use Rattle.s_parse.specs.declared.fault.Stop.{Stop}
-use Rattle.s_parse.specs.declared.fault.Stop.TheVariants as stop
+use Rattle.s_expr.specs.Places.{StopsAt, ReadsAs}
+use Rattle.s_expr.specs.declared.stop.Stop.{Stop}
+use Rattle.s_expr.specs.declared.stop.Stop.TheVariants as stop
 
 -- a refusal passed on
 pub stop_as : {A B : Type 0} (r : Reading A) (s : Reading B) (ts : List Token) (at to : ℕ) → ((w : Why) (rest : List Token) → r (drop at ts) ≡ Refused w rest → s (drop to ts) ≡ Refused w rest) → (e : Stop) → StopsAt r ts at e → StopsAt s ts to e

@@ -1,8 +1,8 @@
 -- The loosest level is an expression.
 use Rattle.std.proofs.Common.{◌≡◌, ℕ, zero, suc, List, refl}
 use Rattle.s_grammar.specs.Reads.{expr}
-use Rattle.s_parse.specs.Levels.{graded, parenthesized_expr, arguments}
-use Rattle.s_parse.specs.declared.level.Level.TheVariants as level
+use Rattle.s_expr.specs.Levels.{graded, parenthesized_expr, arguments}
+use Rattle.s_expr.specs.declared.level.Level.TheVariants as level
 
 module _ (bytes : List ℕ) where
   pub expr_is : (n : ℕ) → graded bytes n level.Or ≡ expr bytes n

@@ -1,9 +1,9 @@
 use Rattle.std.proofs.Common.{◌+◌, ◌-◌, ◌*◌, length}
 use Rattle.s_grammar.specs.Reads.{expr}
-use Rattle.s_parse.specs.Levels.{rank, operators, operand}
-use Rattle.s_parse.proofs.Listed.{ListedAhead}
-use Rattle.s_parse.proofs.Loops.{Ahead}
-use Rattle.s_parse.proofs.expression.+expr.Given as goal
+use Rattle.s_expr.specs.Levels.{rank, operators, operand}
+use Rattle.s_expr.proofs.Listed.{ListedAhead}
+use Rattle.s_expr.proofs.Loops.{Ahead}
+use Rattle.s_expr.proofs.expression.+expr.Given as goal
 
 abbrev pub decreases-arguments_at : goal.decreases-arguments_at
 decreases-arguments_at l = l.nest * 64 + 16

@@ -1,7 +1,7 @@
 use Rattle.std.proofs.Common.{length}
 use Rattle.s_syntax.specs.declared.token.Kind.TheVariants as kind
-use Rattle.s_parse.proofs.Tokens.{key_covers}
-use Rattle.s_parse.proofs.token.int_at.Goals as goal
+use Rattle.s_expr.proofs.Tokens.{key_covers}
+use Rattle.s_expr.proofs.token.int_at.Goals as goal
 
 pub text-requires : goal.text-requires
 text-requires c =

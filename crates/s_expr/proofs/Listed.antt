@@ -10,7 +10,7 @@ use Rattle.s_grammar.proofs.Images.{image_got}
 use Rattle.s_grammar.proofs.InTurn.{in_turn_first, in_turn_second, in_turn_got}
 use Rattle.s_grammar.proofs.Optional.{maybe_nothing}
 use Rattle.s_grammar.proofs.Repetitions.{Shrinks}
-use Rattle.s_parse.proofs.Loops.{Ahead, loop_stops, loop_ends, loop_begins, loop_goes_on}
+use Rattle.s_expr.proofs.Loops.{Ahead, loop_stops, loop_ends, loop_begins, loop_goes_on}
 
 -- the first was read, and what stands behind commas so far
 pub record ListedAhead {A : Type 0} (r : Reading A) (ts : List Token) (start : ℕ) (xs : List A) (at : ℕ) : Type 0 where

@@ -2,8 +2,8 @@
 use Rattle.std.specs.Prelude.{◌≡◌, ℕ, ◌≤◌, List, length, drop, Result, Ok, Err}
 use Rattle.s_syntax.specs.declared.token.Token.{Token}
 use Rattle.s_grammar.specs.Reading.{Reading, Got, Refused, Wrong, TooDeep}
-use Rattle.s_parse.specs.declared.fault.Stop.{Stop}
-use Rattle.s_parse.specs.declared.fault.Stop.TheVariants as stop
+use Rattle.s_expr.specs.declared.stop.Stop.{Stop}
+use Rattle.s_expr.specs.declared.stop.Stop.TheVariants as stop
 
 -- reading from the place on is refused at the place that is told, unless memory ran out
 abbrev pub StopsAt : {A : Type 0} → Reading A → List Token → ℕ → Stop → Type 0

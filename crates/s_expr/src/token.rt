@@ -5,15 +5,15 @@ ghost use Rattle.s_lex.specs.Lexes.{AreInOrder};
 ghost use Rattle.s_grammar.specs.Kinds.{kind_of, is};
 ghost use Rattle.s_grammar.specs.Texts.{text_of, number};
 ghost use Rattle.s_grammar.specs.Reads.{key, name, int};
-ghost use Rattle.s_parse.specs.Places.{ReadsAt};
+ghost use Rattle.s_expr.specs.Places.{ReadsAt};
 
-use crate::fault::Stop;
+use crate::stop::Stop;
 use s_lex::number_of;
 use s_syntax::{Kind, Name, Number, Token};
 use std::alloc::Global;
 
 /// The kind of the token at the place, or that of the end.
-pub(crate) fn kind_at(tokens: &[Token], at: usize) -> Kind
+pub fn kind_at(tokens: &[Token], at: usize) -> Kind
     ensures value { result ≡ kind_of (drop at tokens.now) }
 {
     if at < tokens.len() {
@@ -24,14 +24,14 @@ pub(crate) fn kind_at(tokens: &[Token], at: usize) -> Kind
 }
 
 /// Whether the second is of the first kind.
-pub(crate) fn is_kind(kind: Kind, other: Kind) -> bool
+pub fn is_kind(kind: Kind, other: Kind) -> bool
     ensures answer { result ≡ is kind other }
 {
     kind as u8 == other as u8
 }
 
 /// A token of this kind.
-pub(crate) fn expect(tokens: &[Token], at: usize, kind: Kind) -> Result<(Token, usize), Stop>
+pub fn expect(tokens: &[Token], at: usize, kind: Kind) -> Result<(Token, usize), Stop>
     requires within { at ≤ length tokens.now }
     ensures reads { ReadsAt (key kind) tokens.now at result }
 {
@@ -67,7 +67,7 @@ fn number(digits: &[u8]) -> Number
 }
 
 /// A name.
-pub(crate) fn name_at(
+pub fn name_at(
     alloc: Global,
     bytes: &[u8],
     tokens: &[Token],
@@ -83,7 +83,7 @@ pub(crate) fn name_at(
 }
 
 /// A number.
-pub(crate) fn int_at(bytes: &[u8], tokens: &[Token], at: usize) -> Result<(Number, usize), Stop>
+pub fn int_at(bytes: &[u8], tokens: &[Token], at: usize) -> Result<(Number, usize), Stop>
     requires order { AreInOrder 0 (length bytes.now) tokens.now }
     requires within { at ≤ length tokens.now }
     ensures reads { ReadsAt (int bytes.now) tokens.now at result }

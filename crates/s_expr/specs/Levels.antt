@@ -1,18 +1,13 @@
--- Reading of the parts that have a function of their own: expressions by level, and items of repetitions.
+-- Reading of expressions by level, and of the parts that have a function of their own.
 use Rattle.std.specs.Prelude.{ℕ, List}
-use Rattle.s_syntax.specs.declared.token.Kind.TheVariants as kind
 use Rattle.s_syntax.specs.declared.operators.BinaryOperator.{BinaryOperator}
-use Rattle.s_syntax.specs.declared.script.Clause.{Clause}
-use Rattle.s_syntax.specs.declared.script.ReturnClause.{ReturnClause}
-use Rattle.s_syntax.specs.declared.script.Declaration.{Declaration}
 use Rattle.s_syntax.specs.ExprTree.{ExprTree}
-use Rattle.s_syntax.specs.BlockTree.{StatementTree, BlockTree}
-use Rattle.s_grammar.specs.Kinds.{Kinds, is, no_kind}
+use Rattle.s_grammar.specs.Kinds.{Kinds, no_kind}
 use Rattle.s_grammar.specs.Reading.{Reading, choice, inside, many, in_turn, one}
 use Rattle.s_grammar.specs.Operators.{or_operators, and_operators, comparisons, sum_operators, product_operators, operator_of}
-use Rattle.s_grammar.specs.Reads.{in_parentheses, in_braces, listed, unary_by, products, sums, compares, ands, expr_by, expr, block, statement_by, statements_by, clause, clauses, declaration_by}
-use Rattle.s_parse.specs.declared.level.Level.{Level}
-use Rattle.s_parse.specs.declared.level.Level.TheVariants as level
+use Rattle.s_grammar.specs.Reads.{in_parentheses, listed, unary_by, products, sums, compares, ands, expr_by, expr}
+use Rattle.s_expr.specs.declared.level.Level.{Level}
+use Rattle.s_expr.specs.declared.level.Level.TheVariants as level
 
 -- the level that binds tighter by one, the operators of a level, and how tightly it binds, counted from the tightest
 abbrev pub below : Level → Level
@@ -62,20 +57,3 @@ module _ (bytes : List ℕ) where
 
   unfoldable pub operands : ℕ → Level → Reading (List (BinaryOperator × ExprTree))
   operands n l = many (operators l) (operand n l)
-
-  -- a statement, and those of a block
-  unfoldable pub statement : ℕ → Reading StatementTree
-  statement n = choice (statement_by bytes (expr bytes n) (block bytes n))
-
-  unfoldable pub statements : ℕ → Reading BlockTree
-  statements n = statements_by bytes (expr bytes n) (block bytes n)
-
-  -- the clauses of a handler for effects, and all its clauses in their braces
-  unfoldable pub effect_clauses : ℕ → Reading (List Clause)
-  effect_clauses n = many (is kind.On) (clause bytes n)
-
-  unfoldable pub braced_clauses : ℕ → Reading (ReturnClause × List Clause)
-  braced_clauses n = in_braces (inside (clauses bytes) n)
-
-  unfoldable pub declaration : ℕ → Reading Declaration
-  declaration n = choice (declaration_by bytes n)

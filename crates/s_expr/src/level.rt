@@ -2,10 +2,10 @@
 ghost use Rattle.std.specs.Prelude.{◌≡◌, ◌≤◌, length};
 ghost use Rattle.s_grammar.specs.Reading.{one};
 ghost use Rattle.s_grammar.specs.Operators.{operator_of, operator_of_kind};
-ghost use Rattle.s_parse.specs.Places.{ReadsAt};
-ghost use Rattle.s_parse.specs.Levels.{below, operators};
+ghost use Rattle.s_expr.specs.Places.{ReadsAt};
+ghost use Rattle.s_expr.specs.Levels.{below, operators};
 
-use crate::fault::Stop;
+use crate::stop::Stop;
 use s_syntax::{Arithmetic, BinaryOperator, Comparison, Connective, Kind, Token};
 
 /// How tightly operators bind, the loosest first.

@@ -5,12 +5,12 @@ ghost use Rattle.s_lex.specs.Lexes.{AreInOrder};
 ghost use Rattle.s_grammar.specs.Parts.{run_of};
 ghost use Rattle.s_grammar.specs.Reading.{choice};
 ghost use Rattle.s_grammar.specs.Reads.{expr, run, primary_by, led, listed};
-ghost use Rattle.s_parse.specs.declared.level.Level.TheVariants as level;
-ghost use Rattle.s_parse.specs.Places.{ReadsAt, ReadsAs};
-ghost use Rattle.s_parse.specs.Levels.{graded, operand, operands, parenthesized_expr, arguments, below, operators, rank};
+ghost use Rattle.s_expr.specs.declared.level.Level.TheVariants as level;
+ghost use Rattle.s_expr.specs.Places.{ReadsAt, ReadsAs};
+ghost use Rattle.s_expr.specs.Levels.{graded, operand, operands, parenthesized_expr, arguments, below, operators, rank};
 
-use crate::fault::Stop;
 use crate::level::{Level, below, is_operator, operator_at};
+use crate::stop::Stop;
 use crate::token::{expect, int_at, is_kind, kind_at, name_at};
 use s_syntax::{BinaryOperator, Expr, Kind, Node, Token, UnaryOperator};
 use std::alloc::{AllocError, Global};
@@ -28,7 +28,7 @@ fn run_of(alloc: Global, first: Expr, rest: Vec<(BinaryOperator, Expr)>) -> Resu
 /// An expression, where so many brackets may be opened.
 #[cycle(expr)]
 #[tactic(auto, using(crate::proofs::Graded::expr_is))]
-pub(crate) fn expr_at(
+pub fn expr_at(
     alloc: Global,
     bytes: &[u8],
     tokens: &[Token],
