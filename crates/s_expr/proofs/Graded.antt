@@ -5,6 +5,7 @@ use Rattle.s_expr.specs.Levels.{graded, parenthesized_expr, arguments}
 use Rattle.s_expr.specs.declared.level.Level.TheVariants as level
 
 module _ (bytes : List ℕ) where
+  -- an expression is one of the loosest level
   pub expr_is : (n : ℕ) → graded bytes n level.Or ≡ expr bytes n
   unfolding graded parenthesized_expr arguments expr
   expr_is zero = refl

@@ -1,10 +1,10 @@
 -- Where tokens stand in the bytes.
-use Rattle.std.proofs.Common.{◌≡◌, ℕ, zero, suc, ◌≤◌, Bool, true, false, if◌then◌else◌, List, [], ◌∷◌, drop, refl, subst, arith}
+use Rattle.std.proofs.Common.{◌≡◌, ℕ, zero, suc, ◌≤◌, Bool, true, false, if◌then◌else◌, List, [], ◌∷◌, drop, subst, arith}
 use Rattle.s_syntax.specs.declared.token.Kind.{Kind}
 use Rattle.s_syntax.specs.declared.token.Token.{Token}
 use Rattle.s_lex.specs.Lexes.{AreInOrder}
 use Rattle.s_grammar.specs.Kinds.{is}
-use Rattle.s_grammar.specs.Reading.{Answer, Got, Refused, Wrong}
+use Rattle.s_grammar.specs.Reading.{Got, Refused, Wrong}
 use Rattle.s_grammar.specs.Reads.{key}
 
 -- tokens in order end within their bounds

@@ -150,7 +150,7 @@ fn operands_at(
 {
     let mut items = Vec::new(alloc);
     let mut at = start;
-    'operands: while is_operator(level, kind_at(tokens, at)) {
+    'items: while is_operator(level, kind_at(tokens, at)) {
         let (item, next) = operand_at(alloc, bytes, tokens, at, nest, level)?;
         items.push(item)?;
         at = next;

@@ -8,12 +8,15 @@ use Rattle.s_grammar.proofs.KindSets.{Within, within}
 use Rattle.s_grammar.proofs.ReadingLaws.{Told, Laws, must}
 use Rattle.s_grammar.proofs.Walks.{front_kind}
 
+-- what is made of a value that is read
 pub image_got : {A B : Type 0} (f : A → B) (r : Reading A) (ts rest : List Token) (x : A) → r ts ≡ Got x rest → image f r ts ≡ Got (f x) rest
 image_got f r ts rest x e = ap (λ (o : Answer _). and_then o (λ x rest. Got (f x) rest)) e
 
+-- a refusal stays
 pub image_refused : {A B : Type 0} (f : A → B) (r : Reading A) (ts rest : List Token) (w : Why) → r ts ≡ Refused w rest → image f r ts ≡ Refused w rest
 image_refused f r ts rest w e = ap (λ (o : Answer _). and_then o (λ x rest. Got (f x) rest)) e
 
+-- what reading tells, of what is made of it
 pub image_told : {A B : Type 0} (n : ℕ) (f : A → B) (G : ℕ → Grammar A) (r : Reading A) (ts : List Token) (o : Answer A) → Told n G r ts o → Told n (λ m. Image f (G m)) (image f r) ts (and_then o (λ x rest. Got (f x) rest))
 image_told n f G r ts (Got x rest) t = record {
   front = t.front;
@@ -32,6 +35,7 @@ image_told n f G r ts (Refused w rest) t = record {
   again = λ s k. image_refused f r (t.front ++ s) s w (t.again s k);
 }
 
+-- the laws of what is made of a part
 pub image_laws : {A B : Type 0} (n d : ℕ) (e : Bool) (first stops : Kinds) (f : A → B) (G : ℕ → Grammar A) (r : Reading A) → Laws n d e first stops G r → Laws n d e first stops (λ m. Image f (G m)) (image f r)
 image_laws n d e first stops f G r p = record {
   told = λ ts. image_told n f G r ts (r ts) (p.told ts);
@@ -41,6 +45,7 @@ image_laws n d e first stops f G r p = record {
   empties = λ m y g. p.empties m g.0 g.1;
 }
 
+-- what is told of a grammar holds of one that spells as much, and of a reading that is the same
 pub told_as : {A : Type 0} (n : ℕ) (G H : ℕ → Grammar A) (r s : Reading A) (ts : List Token) → ((m : ℕ) (b : List Token) (x : A) → G m b x → H m b x) → ((z : List Token) → kind_of z ≡ kind_of ts → s z ≡ r z)
     → (o : Answer A) → Told n G r ts o → Told n H s ts o
 told_as n G H r s ts f same (Got x rest) t = record {
@@ -70,6 +75,7 @@ wider_laws n d j e first stops firsts fewer G r l v w p = record {
   empties = p.empties;
 }
 
+-- fewer tokens may follow
 pub fewer_laws : {A : Type 0} {n d : ℕ} {e : Bool} {first stops : Kinds} {G : ℕ → Grammar A} {r : Reading A} (fewer : Kinds) → Within fewer stops → Laws n d e first stops G r → Laws n d e first fewer G r
 fewer_laws {stops = stops} fewer w p = record {
   told = p.told;

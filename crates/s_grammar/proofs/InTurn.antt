@@ -10,22 +10,28 @@ use Rattle.s_grammar.proofs.KindSets.{both, and_parts, Within, within}
 use Rattle.s_grammar.proofs.ReadingLaws.{GotAt, Told, must, Begins, Laws}
 use Rattle.s_grammar.proofs.Walks.{front_kind, walk_append}
 
+-- both are read
 pub in_turn_got : {A B : Type 0} (r : Reading A) (s : Reading B) (ts rest more : List Token) (x : A) (y : B) → r ts ≡ Got x rest → s rest ≡ Got y more → in_turn r s ts ≡ Got (x, y) more
 in_turn_got r s ts rest more x y e f = ap (λ (o : Answer _). and_then o (λ x rest. and_then (s rest) (λ y more. Got (x, y) more))) e ∙ ap (λ (o : Answer _). and_then o (λ y more. Got (x, y) more)) f
 
+-- the first is refused
 pub in_turn_first : {A B : Type 0} (r : Reading A) (s : Reading B) (ts rest : List Token) (w : Why) → r ts ≡ Refused w rest → in_turn r s ts ≡ Refused w rest
 in_turn_first r s ts rest w e = ap (λ (o : Answer _). and_then o (λ x rest. and_then (s rest) (λ y more. Got (x, y) more))) e
 
+-- the second is refused
 pub in_turn_second : {A B : Type 0} (r : Reading A) (s : Reading B) (ts rest more : List Token) (x : A) (w : Why) → r ts ≡ Got x rest → s rest ≡ Refused w more → in_turn r s ts ≡ Refused w more
 in_turn_second r s ts rest more x w e f = ap (λ (o : Answer _). and_then o (λ x rest. and_then (s rest) (λ y more. Got (x, y) more))) e ∙ ap (λ (o : Answer _). and_then o (λ y more. Got (x, y) more)) f
 
+-- the first is read again with other tokens behind
 again_first : {A : Type 0} (n : ℕ) (G : ℕ → Grammar A) (r : Reading A) (ts : List Token) (x : A) (rest : List Token) (t : GotAt n G r ts x rest)
     → (b more z : List Token) → rest ≡ b ++ more → kind_of z ≡ kind_of more → r ((t.front ++ b) ++ z) ≡ Got x (b ++ z)
 again_first n G r ts x rest t b more z e k = ap r (append_assoc t.front b z) ∙ t.again (b ++ z) (front_kind b z more k ∙ ap kind_of (sym e))
 
+-- lists regrouped
 regroup : (a b c d : List Token) → ((a ++ b) ++ c) ++ d ≡ a ++ ((b ++ c) ++ d)
 regroup a b c d = simp append_assoc
 
+-- what the second tells, behind what the first read
 in_turn_by : {A B : Type 0} (n : ℕ) (G : ℕ → Grammar A) (H : ℕ → Grammar B) (r : Reading A) (s : Reading B) (ts : List Token) (x : A) (rest : List Token)
     → GotAt n G r ts x rest → (p : Answer B) → Told n H s rest p → Told n (λ m. InTurn (G m) (H m)) (in_turn r s) ts (and_then p (λ y more. Got (x, y) more))
 in_turn_by n G H r s ts x rest t (Got y more) u = record {
@@ -45,6 +51,7 @@ in_turn_by n G H r s ts x rest t (Refused w more) u = record {
   again = λ z k. in_turn_second r s ((t.front ++ u.front) ++ z) (u.front ++ z) z x w (again_first n G r ts x rest t u.front more z u.parts k) (u.again z k);
 }
 
+-- what both tell
 pub in_turn_told : {A B : Type 0} (n : ℕ) (G : ℕ → Grammar A) (H : ℕ → Grammar B) (r : Reading A) (s : Reading B) → ((m : ℕ) → n + 3 ≤ m → Begins (H m) [])
     → (ts : List Token) (o : Answer A) → Told n G r ts o → ((x : A) (rest : List Token) → o ≡ Got x rest → GotAt n G r ts x rest → Told n H s rest (s rest))
     → Told n (λ m. InTurn (G m) (H m)) (in_turn r s) ts (and_then o (λ x rest. and_then (s rest) (λ y more. Got (x, y) more)))
@@ -64,13 +71,16 @@ abbrev pub stopped : Bool → Kinds → Kinds → Kinds
 stopped false a b = b
 stopped true a b = both a b
 
+-- what is of both sets is of each
 both_parts : (a b : Kinds) (k : Kind) → IsTrue (both a b k) → IsTrue (a k) × IsTrue (b k)
 both_parts a b k h = and_parts (a k) (b k) h
 
+-- what stops both stops the second
 stopped_second : (e : Bool) (a b : Kinds) (k : Kind) → IsTrue (stopped e a b k) → IsTrue (b k)
 stopped_second false a b k h = h
 stopped_second true a b k h = (both_parts a b k h).1
 
+-- and the first, where the second may be spelled by no tokens
 stopped_first : (e : Bool) (a b : Kinds) (k : Kind) → IsTrue e → IsTrue (stopped e a b k) → IsTrue (a k)
 stopped_first false a b k p h = absurd cc
 stopped_first true a b k p h = (both_parts a b k h).0
@@ -81,18 +91,22 @@ pub next_stops : {B : Type 0} (e : Bool) (a b first : Kinds) (H : Grammar B) →
 next_stops e a b first H starts empties w [] y s h p = stopped_first e a b (kind_of s) (empties y h) p
 next_stops e a b first H starts empties w (t ∷ v) y s h p = within first a w t.kind (starts t v y h)
 
+-- the first token is one of the first part
 pub in_turn_starts : {A B : Type 0} (first : Kinds) (g : Grammar A) (h : Grammar B) → ((t : Token) (v : List Token) (x : A) → g (t ∷ v) x → IsTrue (first t.kind)) → ((x : A) → g [] x → ⊥)
     → (t : Token) (b : List Token) (u v : List Token) (x : A) → t ∷ b ≡ u ++ v → g u x → IsTrue (first t.kind)
 in_turn_starts first g h starts solid t b [] v x e p = absurd (solid x p)
 in_turn_starts first g h starts solid t b (j ∷ u) v x e p = let q : j ≡ t = cc in subst (λ (i : Token). IsTrue (first i.kind)) q (starts j u x p)
 
+-- no tokens spell nothing
 in_turn_solid : {A : Type 0} (g : Grammar A) → ((x : A) → g [] x → ⊥) → (u v : List Token) (x : A) → [] ≡ u ++ v → g u x → ⊥
 in_turn_solid g solid [] v x e p = solid x p
 in_turn_solid g solid (t ∷ u) v x e p = cc (e)
 
+-- a part that takes a token is not spelled by none
 pub no_tokens : {A : Type 0} {n d : ℕ} {first stops : Kinds} {G : ℕ → Grammar A} {r : Reading A} → Laws n d false first stops G r → (m : ℕ) (x : A) → G m [] x → ⊥
 no_tokens l m x h = let p : false ≡ true = l.empties m x h in cc
 
+-- what is spelled is read
 in_turn_only : {A B : Type 0} (n : ℕ) (e : Bool) (d : ℕ) (first a second b : Kinds) (G : ℕ → Grammar A) (H : ℕ → Grammar B) (r : Reading A) (s : Reading B)
     → Laws n d false first a G r → Laws n d e second b H s → Within second a
     → (u v : List Token) (x : A) (y : B) (z : List Token) → G n u x → H n v y → IsTrue (stopped e a b (kind_of z)) → in_turn r s ((u ++ v) ++ z) ≡ Got (x, y) z
@@ -101,6 +115,7 @@ in_turn_only n e d first a second b G H r s p q w u v x y z g h k =
     (ap r (append_assoc u v z) ∙ p.only u x (v ++ z) g (next_stops e a b second (H n) (q.starts n) (q.empties n) w v y z h k))
     (q.only v y z h (stopped_second e a b (kind_of z) k))
 
+-- the laws of one part behind another
 pub in_turn_laws : {A B : Type 0} (n d : ℕ) (e : Bool) (first a second b : Kinds) (G : ℕ → Grammar A) (H : ℕ → Grammar B) (r : Reading A) (s : Reading B)
     → d ≤ 3 → Laws n d false first a G r → Laws n d e second b H s → Within second a → Laws n d false first (stopped e a b) (λ m. InTurn (G m) (H m)) (in_turn r s)
 in_turn_laws n d e first a second b G H r s small p q w = record {

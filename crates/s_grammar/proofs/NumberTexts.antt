@@ -30,10 +30,12 @@ kind_or_name : (o : Option Kind) → (o ≡ Some kind.Int → ⊥) → unwrap_or
 kind_or_name None h e = absurd cc
 kind_or_name (Some k) h e = h (ap (λ (j : Kind). Some j) e)
 
+-- a word has another kind than a number
 no_word : (t : List ℕ) → word_kind t ≡ kind.Int → ⊥
 unfolding word_kind
 no_word t e = kind_or_name (kind_in keywords t) (not_found keywords t refl) e
 
+-- the value of a number's text is no greater than the greatest
 value_fits : {k : Kind} {t : List ℕ} → IsText k t → k ≡ kind.Int → value t ≤ greatest
 value_fits (word {t = t} w) e = absurd (no_word t e)
 value_fits (number d v) e = v

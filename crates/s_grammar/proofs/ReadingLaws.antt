@@ -17,10 +17,12 @@ abbrev pub first_of : List Token → List Token
 first_of [] = []
 first_of (t ∷ ts) = t ∷ []
 
+-- the bracket that is told, if one too many is
 abbrev pub must : Why → List Token → List Token
 must Wrong rest = []
 must TooDeep rest = first_of rest
 
+-- where a bracket is one too many, no more may be opened, and it opens one
 abbrev pub Cause : Why → ℕ → Kind → Type 0
 Cause Wrong left k = Unit {0}
 Cause TooDeep left k = (left ≡ 0) × (turn k ≡ Opens)
@@ -43,6 +45,7 @@ pub record RefusedAt {A : Type 0} (n : ℕ) (G : ℕ → Grammar A) (r : Reading
   pub cause : Cause w left (kind_of rest)
   pub again : (s : List Token) → kind_of s ≡ kind_of rest → r (front ++ s) ≡ Refused w s
 
+-- what is known of an answer
 abbrev pub Told : {A : Type 0} → ℕ → (ℕ → Grammar A) → Reading A → List Token → Answer A → Type 0
 Told n G r ts (Got x rest) = GotAt n G r ts x rest
 Told n G r ts (Refused w rest) = RefusedAt n G r ts w rest
@@ -62,5 +65,6 @@ IsDeep (Got x rest) = ⊥
 IsDeep (Refused Wrong rest) = ⊥
 IsDeep (Refused TooDeep rest) = Unit {0}
 
+-- two readings agree
 abbrev pub Agree : {A : Type 0} → Reading A → Reading A → Type 0
 Agree r s = (ts : List Token) → IsDeep (r ts) ⊎ (r ts ≡ s ts)

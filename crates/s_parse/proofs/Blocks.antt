@@ -12,16 +12,19 @@ use Rattle.s_grammar.specs.Reads.{block, in_braces, statements_by}
 use Rattle.s_expr.proofs.Loops.{viewed}
 use Rattle.s_parse.specs.Items.{statements, statement}
 
+-- the tree of statements that are seen is that of the statements
 pub block_seen : (ss : List Statement) → block_tree (viewed statement_of ss) ≡ block_of ss
 block_seen [] = refl
 block_seen (s ∷ ss) = ap (λ (b : BlockTree). statement_of s ⨟ b) (block_seen ss)
 
 module _ (bytes : List ℕ) where
+  -- a block is its statements in braces
   pub block_is : (n : ℕ) → block bytes n ≡ in_braces (inside (statements bytes) n)
   unfolding block statements
   block_is zero = refl
   block_is (suc n) = refl
 
+  -- statements are a repetition
   pub statements_are : (n : ℕ) → statements bytes n ≡ image block_tree (many (other_than (is kind.CloseBrace)) (statement bytes n))
   unfolding statements statements_by statement
   statements_are n = refl

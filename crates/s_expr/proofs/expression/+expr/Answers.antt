@@ -17,34 +17,34 @@ pub operands_at-returns-in_err-item : goal.operands_at-returns-in_err-item
 unfolding operands
 operands_at-returns-in_err-item t c =
     let a = c.args in
-    let g : operators a.level (kind_of (drop c.operands.at a.tokens.now)) ≡ true = search rules in
+    let g : operators a.level (kind_of (drop c.items.at a.tokens.now)) ≡ true = search rules in
     record {
       reads = passed_on (λ v. v.items) (operands a.bytes.now a.nest a.level) a.tokens.now a.start c.from_residual.result _ (err_from_is_err_and c.from_residual.result c.from_residual.ensures.1)
-          (stop_as (operand a.bytes.now a.nest a.level) (operands a.bytes.now a.nest a.level) a.tokens.now c.operands.at a.start
-          (λ w rest e. loop_stops (operators a.level) (operand a.bytes.now a.nest a.level) (operand_shrinks a.bytes.now a.nest a.level) a.tokens.now a.start c.operands.items.items c.operands.at c.operands.invariant g w rest e)
+          (stop_as (operand a.bytes.now a.nest a.level) (operands a.bytes.now a.nest a.level) a.tokens.now c.items.at a.start
+          (λ w rest e. loop_stops (operators a.level) (operand a.bytes.now a.nest a.level) (operand_shrinks a.bytes.now a.nest a.level) a.tokens.now a.start c.items.items.items c.items.at c.items.invariant g w rest e)
           _ c.in_err-item.ensures.reads);
     }
 
-pub operands_at-operands-smaller : goal.operands_at-operands-smaller
-operands_at-operands-smaller t c =
+pub operands_at-items-smaller : goal.operands_at-items-smaller
+operands_at-items-smaller t c =
     let a = c.args in
-    let f = further (operand a.bytes.now a.nest a.level) (operand_shrinks a.bytes.now a.nest a.level) a.tokens.now c.operands.at c.in_ok-item.next c.in_ok-item.item c.in_ok-item.ensures.reads.0 c.operands.invariant.fits c.in_ok-item.ensures.reads.1 in
+    let f = further (operand a.bytes.now a.nest a.level) (operand_shrinks a.bytes.now a.nest a.level) a.tokens.now c.items.at c.in_ok-item.next c.in_ok-item.item c.in_ok-item.ensures.reads.0 c.items.invariant.fits c.in_ok-item.ensures.reads.1 in
     let l : c.in_ok-item.next ≤ length a.tokens.now = c.in_ok-item.ensures.reads.1 in
     omega (arith, f, l)
 
-pub operands_at-operands-preserved : goal.operands_at-operands-preserved
-operands_at-operands-preserved t c =
+pub operands_at-items-preserved : goal.operands_at-items-preserved
+operands_at-items-preserved t c =
     let a = c.args in
-    let g : operators a.level (kind_of (drop c.operands.at a.tokens.now)) ≡ true = search rules in
+    let g : operators a.level (kind_of (drop c.items.at a.tokens.now)) ≡ true = search rules in
     subst (λ (xs : List (BinaryOperator × ExprTree)). Ahead (operators a.level) (operand a.bytes.now a.nest a.level) a.tokens.now a.start xs c.in_ok-item.next) (sym c.in_ok-push.ensures.items)
-    (loop_goes_on (operators a.level) (operand a.bytes.now a.nest a.level) (operand_shrinks a.bytes.now a.nest a.level) a.tokens.now a.start c.operands.items.items c.operands.at c.operands.invariant g c.in_ok-item.item c.in_ok-item.next c.in_ok-item.ensures.reads.0 c.in_ok-item.ensures.reads.1)
+    (loop_goes_on (operators a.level) (operand a.bytes.now a.nest a.level) (operand_shrinks a.bytes.now a.nest a.level) a.tokens.now a.start c.items.items.items c.items.at c.items.invariant g c.in_ok-item.item c.in_ok-item.next c.in_ok-item.ensures.reads.0 c.in_ok-item.ensures.reads.1)
 
 pub operands_at-returns : goal.operands_at-returns
 unfolding operands
 operands_at-returns t c =
     let a = c.args in
-    let g : operators a.level (kind_of (drop c.operands.at a.tokens.now)) ≡ false = search rules in
-    record { reads = (loop_ends (operators a.level) (operand a.bytes.now a.nest a.level) a.tokens.now a.start c.operands.items.items c.operands.at c.operands.invariant g, c.operands.invariant.fits) }
+    let g : operators a.level (kind_of (drop c.items.at a.tokens.now)) ≡ false = search rules in
+    record { reads = (loop_ends (operators a.level) (operand a.bytes.now a.nest a.level) a.tokens.now a.start c.items.items.items c.items.at c.items.invariant g, c.items.invariant.fits) }
 
 pub parenthesized_at-returns-in_err-inside : goal.parenthesized_at-returns-in_err-inside
 unfolding parenthesized_expr

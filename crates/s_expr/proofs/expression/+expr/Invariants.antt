@@ -53,11 +53,11 @@ decreases-run_at l = l.nest * 64 + 19 + 4 * rank l.level
 abbrev pub decreases-unary_at : goal.decreases-unary_at
 decreases-unary_at l = l.nest * 64 + 19
 
-abbrev pub invariant-operands_at-operands : goal.invariant-operands_at-operands
-invariant-operands_at-operands l = Ahead (operators l.level) (operand l.bytes l.nest l.level) l.tokens l.start l.items.items l.at
+abbrev pub invariant-operands_at-items : goal.invariant-operands_at-items
+invariant-operands_at-items l = Ahead (operators l.level) (operand l.bytes l.nest l.level) l.tokens l.start l.items.items l.at
 
-abbrev pub decreases-operands_at-operands : goal.decreases-operands_at-operands
-decreases-operands_at-operands l = length l.tokens - l.at
+abbrev pub decreases-operands_at-items : goal.decreases-operands_at-items
+decreases-operands_at-items l = length l.tokens - l.at
 
 abbrev pub invariant-listed_at-items : goal.invariant-listed_at-items
 invariant-listed_at-items l = ListedAhead (expr l.bytes l.nest) l.tokens l.start l.items.items l.at

@@ -7,7 +7,7 @@ use Rattle.s_grammar.specs.Reads.{parameter, listed, led}
 use Rattle.s_expr.proofs.Enclosed.{passed_on, stop_as}
 use Rattle.s_expr.proofs.Listed.{listed_empty, listed_first, listed_stops, listed_goes_on, listed_got}
 use Rattle.s_expr.proofs.Loops.{further}
-use Rattle.s_parse.proofs.Shrinking.{comma_param_shrinks}
+use Rattle.s_parse.proofs.Shrinking.{comma_parameter_shrinks}
 use Rattle.s_parse.proofs.parameter.parameter_list_at.Goals as goal
 
 pub returns-then-is_kind : goal.returns-then-is_kind
@@ -31,13 +31,13 @@ returns-in_err-item c =
     let g : is kind.Comma (kind_of (drop c.items.at a.tokens.now)) ≡ true = search rules in
     record {
       reads = passed_on (λ x. x) (listed (parameter a.bytes.now)) a.tokens.now a.start c.from_residual-in_err-item.result _ (err_from_is_err_and c.from_residual-in_err-item.result c.from_residual-in_err-item.ensures.1)
-          (stop_as (led kind.Comma (parameter a.bytes.now)) (listed (parameter a.bytes.now)) a.tokens.now c.items.at a.start (λ w rest e. listed_stops (parameter a.bytes.now) (comma_param_shrinks a.bytes.now) a.tokens.now a.start c.items.items c.items.at c.items.invariant g w rest e) _ c.in_err-item.ensures.reads);
+          (stop_as (led kind.Comma (parameter a.bytes.now)) (listed (parameter a.bytes.now)) a.tokens.now c.items.at a.start (λ w rest e. listed_stops (parameter a.bytes.now) (comma_parameter_shrinks a.bytes.now) a.tokens.now a.start c.items.items c.items.at c.items.invariant g w rest e) _ c.in_err-item.ensures.reads);
     }
 
 pub items-smaller : goal.items-smaller
 items-smaller c =
     let a = c.args in
-    let f = further (led kind.Comma (parameter a.bytes.now)) (comma_param_shrinks a.bytes.now) a.tokens.now c.items.at c.in_ok-item.next c.in_ok-item.item c.in_ok-item.ensures.reads.0 c.items.invariant.ahead.fits c.in_ok-item.ensures.reads.1 in
+    let f = further (led kind.Comma (parameter a.bytes.now)) (comma_parameter_shrinks a.bytes.now) a.tokens.now c.items.at c.in_ok-item.next c.in_ok-item.item c.in_ok-item.ensures.reads.0 c.items.invariant.ahead.fits c.in_ok-item.ensures.reads.1 in
     let l : c.in_ok-item.next ≤ length a.tokens.now = c.in_ok-item.ensures.reads.1 in
     omega (arith, f, l)
 
@@ -45,7 +45,7 @@ pub items-preserved : goal.items-preserved
 items-preserved c =
     let a = c.args in
     let g : is kind.Comma (kind_of (drop c.items.at a.tokens.now)) ≡ true = search rules in
-    listed_goes_on (parameter a.bytes.now) (comma_param_shrinks a.bytes.now) a.tokens.now a.start c.items.items c.items.at c.items.invariant g c.in_ok-item.item c.in_ok-item.next c.in_ok-item.ensures.reads.0 c.in_ok-item.ensures.reads.1 c.push-in-items.new.self c.in_ok-push-2.ensures.ok
+    listed_goes_on (parameter a.bytes.now) (comma_parameter_shrinks a.bytes.now) a.tokens.now a.start c.items.items c.items.at c.items.invariant g c.in_ok-item.item c.in_ok-item.next c.in_ok-item.ensures.reads.0 c.in_ok-item.ensures.reads.1 c.push-in-items.new.self c.in_ok-push-2.ensures.ok
 
 pub returns : goal.returns
 returns c =
