@@ -1,0 +1,9 @@
+use Rattle.std.proofs.Common.{length}
+use Rattle.s_syntax.specs.declared.token.Kind.TheVariants as kind
+use Rattle.s_expr.proofs.Tokens.{key_covers}
+use Rattle.s_expr.proofs.token.name_at.Goals as goal
+
+pub text-requires : goal.text-requires
+text-requires c =
+    let h = key_covers c.args.tokens.now 0 (length c.args.bytes.now) c.args.at kind.Name c.in_ok-token.token _ c.requires.order c.in_ok-token.ensures.reads.0 in
+    record { forward = h.0; within = h.1 }

@@ -1,0 +1,11 @@
+//! The parser of expressions: the expression that tokens begin with, and the place behind it (`specs/`).
+#![tactic(auto)]
+
+mod expression;
+mod level;
+mod stop;
+mod token;
+
+pub use expression::expr_at;
+pub use stop::Stop;
+pub use token::{expect, int_at, is_kind, kind_at, name_at};

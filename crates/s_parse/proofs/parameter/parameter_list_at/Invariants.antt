@@ -1,0 +1,10 @@
+use Rattle.std.proofs.Common.{◌-◌, length}
+use Rattle.s_grammar.specs.Reads.{parameter}
+use Rattle.s_expr.proofs.Listed.{ListedAhead}
+use Rattle.s_parse.proofs.parameter.parameter_list_at.Given as goal
+
+abbrev pub invariant-items : goal.invariant-items
+invariant-items l = ListedAhead (parameter l.bytes) l.tokens l.start l.items l.at
+
+abbrev pub decreases-items : goal.decreases-items
+decreases-items l = length l.tokens - l.at
