@@ -79,8 +79,8 @@ module _ {m : Module} {functions : List ℕ} {x : Parts} {waiting : Option (Box 
   machine_counts p s₀ t₀ begins = counted_by _ _ _ n a b k p (Run p s₀ t₀ n) (here p s₀ t₀ begins)
 
   -- an outcome that is kept is told of the run
-  pub machine_told : (j : Kept) → q.kept ≡ Some j → (p : Program) (s₀ : Store) (t₀ : Term) → Begins q.program p s₀ t₀ → Tells j (Run p s₀ t₀ n).outcome
-  machine_told j is p s₀ t₀ begins =
+  pub machine_told : (p : Program) (s₀ : Store) (t₀ : Term) → Begins q.program p s₀ t₀ → (j : Kept) → q.kept ≡ Some j → Tells j (Run p s₀ t₀ n).outcome
+  machine_told p s₀ t₀ begins j is =
       tells_so j x.chain (Run p s₀ t₀ n).outcome
       (subst (λ (o : Option Kept). IsReachedBy o m (waiting_of waiting) x n a b p (Run p s₀ t₀ n)) (ap (λ (x : Position). x.kept) view ∙ is) (here p s₀ t₀ begins)).0
 

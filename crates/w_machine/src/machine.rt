@@ -156,8 +156,8 @@ impl Machine {
         // So many the run counts itself.
         ensures counts { (p : TheProgram) (s : TheStore) (t : Term) → Begins self.now.program p s t → (Run p s t result).taken ≡ result }
         // Where an outcome is kept, it is told of the run after so many.
-        ensures told { (k : Kept) → self.now.kept ≡ Some k → (p : TheProgram) (s : TheStore) (t : Term) → Begins self.now.program p s t
-            → Tells k (Run p s t result).outcome }
+        ensures told { (p : TheProgram) (s : TheStore) (t : Term) → Begins self.now.program p s t
+            → (k : Kept) → self.now.kept ≡ Some k → Tells k (Run p s t result).outcome }
     {
         self.taken
     }
