@@ -1,7 +1,7 @@
 //! The lines that the program writes.
 ghost use Rattle.std.specs.Prelude.{◌≡◌, ◌++◌, IfOk};
 ghost use Rattle.w_reduce.specs.Values.{val};
-ghost use Rattle.drive.specs.Answer.{line, result_line, malformed, limit, size_limit_text, run_limit_text, start_limit_text, trapped, invalid, no_printer};
+ghost use Rattle.drive.specs.Answer.{line, result_line, malformed, limit, size_limit_text, run_limit_text, start_limit_text, trapped, invalid, no_printer, counts_line};
 
 use itoa::{Buffer, Integer};
 use std::alloc::{AllocError, Global};
@@ -125,4 +125,12 @@ pub(crate) fn printer_line(alloc: Global, index: usize) -> Result<Vec<u8>, Alloc
     ensures { IfOk result (λ v. v.items ≡ (no_printer index).err) }
 {
     number_line(alloc, b"no printer ", index)
+}
+
+/// The line of statistics: how many reductions, and how many continuations were made, are consumed and live.
+pub(crate) fn stats_line(alloc: Global, steps: u64, made: u64, consumed: u64, live: u64) -> Result<Vec<u8>, AllocError>
+    ensures { IfOk result (λ v. v.items ≡ counts_line steps made consumed live) }
+{
+    let line = format!(in alloc; "stats steps {steps} made {made} consumed {consumed} live {live}\n")?;
+    Ok(line.into_bytes())
 }
