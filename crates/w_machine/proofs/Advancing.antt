@@ -3,7 +3,6 @@ use Rattle.std.proofs.Common.{◌≡◌, ℕ, suc, ◌+◌, ◌≤◌, Bool, tru
 use Rattle.std.specs.Prelude.{Box}
 use Rattle.std.specs.declared.alloc.Global.{Global}
 use Rattle.w_types.specs.Rows.{Row, ε, ◌▹◌, ◌⧺◌, size, row_of}
-use Rattle.w_types.specs.declared.value.Value.{Value}
 use Rattle.w_syntax.specs.Code.{Done}
 use Rattle.w_syntax.specs.declared.module.Module.{Module}
 use Rattle.w_canon.specs.declared.entry.Entry.{Entry}
@@ -14,37 +13,33 @@ use Rattle.w_rules.specs.Matching.{known}
 use Rattle.w_rules.specs.Operands.{Operand}
 use Rattle.w_rules.specs.Valid.{Valid}
 use Rattle.w_rules.proofs.Preorder.{row_size}
-use Rattle.w_tables.specs.Store as instances
 use Rattle.w_segment.specs.declared.segment.Segment.{Segment}
-use Rattle.w_segment.specs.declared.entry.Stage.TheVariants.{Values as AtValues}
-use Rattle.w_segment.specs.Link.{Link, top}
+use Rattle.w_segment.specs.declared.entry.Stage.{Stage}
+use Rattle.w_segment.specs.declared.entry.Stage.TheVariants.{Fresh, Body, Branch, Values as AtValues}
+use Rattle.w_segment.specs.Link.{Link}
 use Rattle.w_segment.specs.Shape.{Shape, Capacity, fresh_shape}
-use Rattle.w_reduce.specs.declared.limit.RunLimit.TheVariants.{Frames}
 use Rattle.w_reduce.specs.Values.{Val}
 use Rattle.w_reduce.specs.Store.{Store}
-use Rattle.w_reduce.specs.Terms.{Invoke, Rest, Context, Term, frames}
+use Rattle.w_reduce.specs.Terms.{Invoke, Rest, Context, Term, Kept}
 use Rattle.w_reduce.specs.Program.{Program, IsProgram}
 use Rattle.w_reduce.specs.Reduced.{Reduced, Went, Trapped, Limited, Ended, Stuck}
 use Rattle.w_reduce.specs.Reduce.{limited, reduce, unless_passed}
 use Rattle.w_reduce.specs.Run.{Running, RunState, outcome_by, state_at, after_reduction, continued, Run}
 use Rattle.w_stands.specs.Stands.{In, body, left, fresh, values}
-use Rattle.w_stands.specs.Values.{stack, store_of}
 use Rattle.w_typed.specs.Values.{ValuesTyped, no_values, values as more_values}
 use Rattle.w_types.specs.declared.types.FuncType.{FuncType}
 use Rattle.w_types.specs.declared.types.ValType.{ValType}
 use Rattle.w_typed.specs.Contexts.{Scope, RestTyped, code_alone, invoke_first, Within, outside}
-use Rattle.w_reduce.specs.Apart.{switches}
 use Rattle.w_typed.specs.Values.{Arrows}
 use Rattle.w_typed.specs.Configurations.{Typed, IsSafe, goes, traps, is_limited, ends}
 use Rattle.w_typed.proofs.Reductions.{reductions_are_safe}
-use Rattle.w_typed.proofs.TypedRuns.{switching_stuck}
-use Rattle.w_machine.specs.Standing.{behind_of, term_at, EndsWith, Stands, StandsSomewhere}
-use Rattle.w_machine.specs.Reducing.{reduced}
-use Rattle.w_machine.specs.Reached.{waiting_of, IsReached}
-use Rattle.w_machine.proofs.Standing.{typed_by}
-use Rattle.w_reduce.specs.Limits.{most_frames, passed}
+use Rattle.w_machine.specs.Parts.{Parts, whole}
+use Rattle.w_machine.specs.Standing.{behind_of, EndsWith, IsLast, Stands, StandsSomewhere}
+use Rattle.w_machine.specs.Reached.{waiting_of, is_values, is_last, IsReached}
+use Rattle.w_reduce.specs.Limits.{passed, IsWithin}
 use Rattle.w_reduce.specs.declared.limit.RunLimit.{RunLimit}
 use Rattle.w_reduce.proofs.Passing.{none_within}
+use Rattle.w_switching.specs.Standing.{Chained, only, around}
 
 -- ## Where a machine stands
 
@@ -56,13 +51,13 @@ pub is_program : (m : Module) (es : List Entry) → IsClassesOf m.types es → I
 is_program m es h i j = same_told m.types es h i j
 
 -- a machine that keeps no outcome stands for a configuration
-pub stands_somewhere : {m : Module} {functions : List ℕ} {u : instances.Store} {segment : List Link} {waiting : Option (Box Segment Global)} {n : ℕ} (es : List Entry) → IsClassesOf m.types es
-    → IsReached m functions u segment waiting None n → StandsSomewhere m u (top segment).shape
+pub stands_somewhere : {m : Module} {functions : List ℕ} {x : Parts} {waiting : Option (Box Segment Global)} {n a b : ℕ} (es : List Entry) → IsClassesOf m.types es
+    → IsReached m functions x waiting None n a b → StandsSomewhere m x
 stands_somewhere {m = m} {waiting = waiting} es classes h =
     let p = program_by m es in
     let start = h.started p refl in
     let at = h.reached p start.0 start.1 (record { source = refl; program = is_program m es classes; start = start.2 }) in
-    record { waiting = waiting_of waiting; p = p; e = at.around; r = at.rest; stands = at.stands }
+    record { waiting = waiting_of waiting; p = p; ks = at.ks; t = at.t; stands = at.stands }
 
 -- ## What a reduction that was taken leaves
 
@@ -80,25 +75,30 @@ safe_went traps is = absurd (cc)
 safe_went is_limited is = absurd (cc)
 safe_went (ends h) is = absurd (cc)
 
-pub limited_few : (d : Reduced) (text : List ℕ) (v : Store) (t : Term) → limited d ≡ Went text v t → frames t.around ≤ most_frames
-limited_few (Went out s u) text v t is = few (passed s u.around) refl is
+pub limited_within : (d : Reduced) (text : List ℕ) (v : Store) (t : Term) → limited d ≡ Went text v t → IsWithin v t.around
+limited_within (Went out s u) text v t is = within (passed s u.around) refl is
   where
-    few : (o : Option RunLimit) → passed s u.around ≡ o → unless_passed o (Went out s u) ≡ Went text v t → frames t.around ≤ most_frames
-    few None e is = let same : u ≡ t = cc in subst (λ (x : Term). frames x.around ≤ most_frames) same (none_within s u.around e).few_frames
-    few (Some name) e is = absurd (cc)
-limited_few (Trapped x) text v t is = absurd (cc)
-limited_few (Limited l) text v t is = absurd (cc)
-limited_few (Ended vs) text v t is = absurd (cc)
-limited_few Stuck text v t is = absurd (cc)
+    within : (o : Option RunLimit) → passed s u.around ≡ o → unless_passed o (Went out s u) ≡ Went text v t → IsWithin v t.around
+    within None e is =
+        let same : u ≡ t = cc in
+        let store : s ≡ v = cc in
+        subst₂ (λ (z : Store) (x : Term). IsWithin z x.around) store same (none_within s u.around e)
+    within (Some name) e is = absurd (cc)
+limited_within (Trapped x) text v t is = absurd (cc)
+limited_within (Limited l) text v t is = absurd (cc)
+limited_within (Ended vs) text v t is = absurd (cc)
+limited_within Stuck text v t is = absurd (cc)
 
-module _ {m : Module} {waiting : Option ℕ} {u : instances.Store} {s : Shape} {p : Program} {e : Context} {r : Rest} (valid : Valid m) (h : Stands m waiting u s p e r) where
-  went_if : {text : List ℕ} {v : Store} {t : Term} (b : Bool) → switches r.ahead r.code ≡ b → reduced p e r u s ≡ Went text v t → SomehowTyped p.source h.results v t
-  went_if true is went = let stuck = ap limited (switching_stuck p (store_of u) e (stack s.operands) r.ahead r.code is) in absurd (cc)
-  went_if false is went = safe_went (reductions_are_safe p h.arrows h.results (store_of u) (term_at s e r) h.program (subst Valid (sym h.source) valid) (typed_by h) is) went
+module _ {m : Module} {waiting : Option ℕ} {x : Parts} {p : Program} {ks : List (Option Kept)} {t : Term} (valid : Valid m) (h : Stands m waiting x p ks t) where
+  -- the reduction is safe
+  pub reduces_safely : IsSafe p.source h.arrows h.results (reduce p (whole x.store ks) t)
+  reduces_safely =
+      reductions_are_safe p h.arrows h.results (whole x.store ks) t h.stand.program (subst Valid (sym h.stand.source) valid)
+      (subst (λ (n : Module). Typed n h.arrows h.results (whole x.store ks) t) (sym h.stand.source) h.typed)
 
   -- it is typed again
-  pub went_typed : {text : List ℕ} {v : Store} {t : Term} → reduced p e r u s ≡ Went text v t → SomehowTyped m h.results v t
-  went_typed {v = v} {t = t} went = subst (λ (n : Module). SomehowTyped n h.results v t) h.source (went_if (switches r.ahead r.code) refl went)
+  pub went_typed : {text : List ℕ} {v : Store} {u : Term} → reduce p (whole x.store ks) t ≡ Went text v u → SomehowTyped m h.results v u
+  went_typed {v = v} {u = u} went = subst (λ (n : Module). SomehowTyped n h.results v u) h.stand.source (safe_went reduces_safely went)
 
 -- ## Main's turn
 
@@ -135,10 +135,6 @@ invoke_alone m {us = us} {ts = ts} {out = out} last v (invoke_first {t = t} bene
     let split = size_beside beneath (known (row_of t.params)) in
     no_operand m v (omega (arith, nothing, taken, all, split))
 
-empty_stack : (vs : List Value) → stack vs ≡ ε → vs ≡ []
-empty_stack [] e = refl
-empty_stack (v ∷ vs) e = absurd (cc)
-
 -- ## The run goes on
 
 -- the reduction of the configuration that the run is at
@@ -167,15 +163,39 @@ fresh_in {m = m} main c {e = e} {r = r} outer behind =
     subst (λ (x : Context). In m [] (behind_of None) (fresh_shape main c) x r) (sym outer)
     (subst (λ (x : Rest). In m [] (behind_of None) (fresh_shape main c) [] x) (sym behind) (fresh refl refl))
 
-pub left_there : {m : Module} {outer : Context} {behind : Rest} {s : Shape} {e : Context} {r : Rest} → In m outer behind s e r → s.stage ≡ AtValues → (e ≡ outer) × (r ≡ behind)
+left_there : {m : Module} {outer : Context} {behind : Rest} {s : Shape} {e : Context} {r : Rest} → In m outer behind s e r → s.stage ≡ AtValues → (e ≡ outer) × (r ≡ behind)
 left_there (body h k w) b = absurd (cc)
 left_there (left h k w) b = absurd (cc)
 left_there (fresh h k) b = absurd (cc)
 left_there (values h k) b = (refl, refl)
 
+values_stage : (g : Stage) → is_values g ≡ true → g ≡ AtValues
+values_stage AtValues e = refl
+values_stage Fresh e = absurd (cc)
+values_stage Body e = absurd (cc)
+values_stage (Branch l) e = absurd (cc)
+
+-- where one segment is left that is values, nothing stands around
+pub last_there : {m : Module} {outer : Context} {behind : Rest} {xs : List Link} {e : Context} {vs : Row Val} {r : Rest} → Chained m outer behind xs e vs r → is_last xs ≡ true
+    → (e ≡ outer) × (r ≡ behind)
+last_there (only {x = x} i v) is = left_there i (values_stage x.shape.stage is)
+last_there (around i v c g k) is = absurd (cc)
+
+-- one such segment is the last one
+pub is_last_true : (xs : List Link) → IsLast xs → is_last xs ≡ true
+is_last_true [] h = let e = h.0 in absurd (omega (arith, e))
+is_last_true (x ∷ []) h = rw (h.1) refl
+is_last_true (x ∷ y ∷ ys) h = let e = h.0 in absurd (omega (arith, e))
+
+-- and it is one
+pub is_last_one : (xs : List Link) → is_last xs ≡ true → IsLast xs
+is_last_one [] e = absurd (cc)
+is_last_one (x ∷ []) e = (refl, values_stage x.shape.stage e)
+is_last_one (x ∷ y ∷ ys) e = absurd (cc)
+
 -- where main's turn comes there are no operands
-pub turn_empty : {m : Module} {K : Arrows} {us : Row Operand} {v : Store} (s : Shape) {e : Context} {r : Rest} {main : ℕ} → EndsWith m us main → Typed m K us v (term_at s e r) → e ≡ []
-    → r ≡ behind_of (Some main) → s.operands ≡ []
-turn_empty {m = m} {K = K} {us = us} {v = v} s {main = main} last h outer behind =
-    let at = subst₂ (λ (x : Context) (y : Rest). Typed m K us v (term_at s x y)) outer behind h in
-    empty_stack s.operands (invoke_alone m last at.term.operands at.term.rest at.term.around)
+pub turn_empty : {m : Module} {K : Arrows} {us : Row Operand} {v : Store} (t : Term) {main : ℕ} → EndsWith m us main → Typed m K us v t → t.around ≡ [] → t.rest ≡ behind_of (Some main)
+    → t.operands ≡ ε
+turn_empty {m = m} {K = K} {us = us} {v = v} t {main = main} last h outer behind =
+    let at = subst₂ (λ (x : Context) (y : Rest). Typed m K us v (record { around = x; operands = t.operands; rest = y })) outer behind h in
+    invoke_alone m last at.term.operands at.term.rest at.term.around

@@ -23,7 +23,15 @@ use Rattle.w_stands.specs.Stands.{fresh}
 use Rattle.w_stands.specs.Values.{store_of}
 use Rattle.w_typed.specs.Configurations.{Typed, StartsTyped}
 use Rattle.w_typed.proofs.Starting.{starts_typed}
-use Rattle.w_machine.specs.Standing.{term_at, EndsWith}
+use Rattle.w_machine.specs.Parts.{Parts, parts}
+use Rattle.w_conts.specs.Conts.{Conts}
+use Rattle.w_switching.specs.declared.stored.Stored.{Stored}
+use Rattle.w_machine.specs.Standing.{EndsWith}
+use Rattle.w_stands.specs.Keeps.{StoreHolds}
+use Rattle.w_switching.specs.Standing.{only, nil}
+use Rattle.w_machine.proofs.NoReferences.{IsPlain, begins_plain}
+use Rattle.w_canon.specs.declared.entry.Entry.{Entry}
+use Rattle.w_canon.specs.IsClassesOf.{IsClassesOf}
 use Rattle.w_machine.specs.Beginning.{Begins, BeginsWith}
 use Rattle.w_machine.specs.Reached.{waiting_of, IsFresh, IsAt, AreFirst, IsReached}
 
@@ -33,10 +41,10 @@ pub data First (m : Module) (main : ℕ) : ℕ → Option ℕ → Type 0 where
   start_first : {f : ℕ} → m.start ≡ Some f → First m main f (Some main)
 
 -- the first term
-first_term : {m : Module} {main f : ℕ} {waiting : Option ℕ} (c : Capacity) → First m main f waiting
-    → start_term m main ≡ term_at (fresh_shape f c) [] (record { ahead = Invoke f ∷ invokes waiting; code = Done })
-first_term {main = main} c (main_alone is) = ap (λ (o : Option ℕ). let t : Term = record { around = []; operands = ε; rest = record { ahead = invokes o ++ Invoke main ∷ []; code = Done } } in t) is
-first_term {main = main} c (start_first is) = ap (λ (o : Option ℕ). let t : Term = record { around = []; operands = ε; rest = record { ahead = invokes o ++ Invoke main ∷ []; code = Done } } in t) is
+first_term : {m : Module} {main f : ℕ} {waiting : Option ℕ} → First m main f waiting
+    → start_term m main ≡ record { around = []; operands = ε; rest = record { ahead = Invoke f ∷ invokes waiting; code = Done } }
+first_term {main = main} (main_alone is) = ap (λ (o : Option ℕ). let t : Term = record { around = []; operands = ε; rest = record { ahead = invokes o ++ Invoke main ∷ []; code = Done } } in t) is
+first_term {main = main} (start_first is) = ap (λ (o : Option ℕ). let t : Term = record { around = []; operands = ε; rest = record { ahead = invokes o ++ Invoke main ∷ []; code = Done } } in t) is
 
 one_main : (m : Module) {main other f : ℕ} → m.start ≡ Some f → start_term m main ≡ start_term m other → main ≡ other
 one_main m {main = main} {other = other} {f = f} is e =
@@ -53,60 +61,79 @@ ends_with {m = m} {main = main} (start_first is) e h g waits =
     let here : h.main ≡ g = same ∙ (let k : main ≡ g = cc in k) in
     record { type = h.type; has_type = subst (λ (x : ℕ). type_of_func (context_of m) x ≡ Some h.type) here h.has_type; no_params = h.no_params; is = refl }
 
--- the run begins where store and stack stand
-first_at : {m : Module} {u : instances.Store} {main f : ℕ} {waiting : Option ℕ} (c : Capacity) → Valid m → AllShort m → BeginsWith m u main → First m main f waiting
-    → (p : Program) (s₀ : Store) (t₀ : Term) → Begins m p s₀ t₀ → IsAt m waiting u (fresh_shape f c) 0 p (Run p s₀ t₀ 0)
-first_at {m = m} {u = u} {main = main} {f = f} {waiting = waiting} c valid short with_this first p s₀ t₀ begins =
+-- the parts that a run begins with
+abbrev pub first_parts : instances.Store → ℕ → Capacity → Parts
+first_parts u f c = parts u (one (fresh_shape f c) 0) (record { entries = []; spare = 0 })
+
+-- the run begins where the parts stand
+first_at : {m : Module} {u : instances.Store} {main f : ℕ} {waiting : Option ℕ} (c : Capacity) → Valid m → AllShort m → StoreHolds IsPlain u → BeginsWith m u main → First m main f waiting
+    → (p : Program) (s₀ : Store) (t₀ : Term) → Begins m p s₀ t₀ → IsAt m waiting (first_parts u f c) 0 p (Run p s₀ t₀ 0)
+first_at {m = m} {u = u} {main = main} {f = f} {waiting = waiting} c valid short bare with_this first p s₀ t₀ begins =
     let one : Ready s₀ t₀ ≡ Ready (store_of u) (start_term m main) = sym begins.start ∙ with_this p begins.source in
     let store : s₀ ≡ store_of u = cc in
     let term : t₀ ≡ start_term m main = cc in
     let typed = subst (λ (n : Module). StartsTyped n s₀ t₀) begins.source (starts_typed p s₀ t₀ begins.program (subst Valid (sym begins.source) valid) begins.start) in
-    let there = term ∙ first_term c first in
+    let there = term ∙ first_term first in
     record {
-      around = [];
-      rest = record { ahead = Invoke f ∷ invokes waiting; code = Done };
+      ks = [];
+      t = record { around = []; operands = ε; rest = record { ahead = Invoke f ∷ invokes waiting; code = Done } };
       stands = record {
-        source = begins.source;
-        program = begins.program;
-        short = short;
-        stands = fresh refl refl;
+        stand = record { source = begins.source; program = begins.program; short = short; term = only (fresh refl refl) refl; store = nil };
         results = known (row_of typed.type.results);
         arrows = [];
         typed = subst₂ (λ (s : Store) (t : Term). Typed m [] (known (row_of typed.type.results)) s t) store there typed.typed;
         ends = ends_with first term typed;
-        few = omega arith;
-        done = λ e. absurd (cc);
+        within = record { few_frames = omega arith; few_handles = omega arith; few_conts = omega arith };
+        sound = record { references = (record { operands = tt; levels = tt }, tt); stored = tt; slots = omega arith };
+        held = bare;
+        done = λ e. let is = e.1 in absurd (cc);
       };
       is = ap (λ (s : Store). state_at p 0 [] s t₀) store ∙ ap (λ (t : Term). state_at p 0 [] (store_of u) t) there;
     }
 
 -- a machine begins
-begun : {m : Module} {functions : List ℕ} {u : instances.Store} {main f : ℕ} {segment : List Link} {waiting : Option (Box Segment Global)} (c : Capacity) → Valid m → AllShort m
-    → BeginsWith m u main → functions ≡ functions_of m → First m main f (waiting_of waiting) → segment ≡ one (fresh_shape f c) 0 → IsFresh waiting
-    → IsReached m functions u segment waiting None 0
-begun {m = m} {functions = functions} {u = u} {main = main} {f = f} {waiting = waiting} c valid short with_this functions_are first is fresh_one =
-    subst (λ (l : List Link). IsReached m functions u l waiting None 0) (sym is) (record {
-      functions_are = functions_are;
-      some = omega arith;
-      fresh = fresh_one;
-      bound = omega arith;
-      started = λ p e. (store_of u, start_term m main, with_this p e);
-      reached = first_at c valid short with_this first;
-    })
+begun : {m : Module} {functions : List ℕ} {u : instances.Store} {main f : ℕ} {waiting : Option (Box Segment Global)} (c : Capacity) → Valid m → AllShort m → StoreHolds IsPlain u
+    → BeginsWith m u main → functions ≡ functions_of m → First m main f (waiting_of waiting) → IsFresh waiting
+    → IsReached m functions (first_parts u f c) waiting None 0 0 0
+begun {m = m} {u = u} {main = main} c valid short bare with_this functions_are first fresh_one = record {
+  functions_are = functions_are;
+  fresh = fresh_one;
+  bound = omega arith;
+  usable = (omega arith, omega arith);
+  started = λ p e. (store_of u, start_term m main, with_this p e);
+  fewer = omega arith;
+  reached = first_at c valid short bare with_this first;
+}
+
+-- with these segments
+abbrev pub BegunWith : Module → List ℕ → instances.Store → List Link → Option (Box Segment Global) → Type 0
+BegunWith m functions u chain waiting = IsReached m functions (parts u chain (record { entries = []; spare = 0 })) waiting None 0 0 0
 
 -- by the segments that it begins with
 begun_by : {m : Module} {functions : List ℕ} {u : instances.Store} (main : ℕ) (segment : Box Segment Global) {waiting : Option (Box Segment Global)} (start : Option ℕ) → Valid m
-    → AllShort m → BeginsWith m u main → functions ≡ functions_of m → m.start ≡ start → AreFirst start main segment waiting → IsReached m functions u segment.value waiting None 0
-begun_by {m = m} {functions = functions} {u = u} main segment None valid short with_this functions_are is (new, alone) =
-    subst (λ (w : Option (Box Segment Global)). IsReached m functions u segment.value w None 0) (sym alone)
-    (begun new.capacity valid short with_this functions_are (main_alone is) new.is tt)
-begun_by {m = m} {functions = functions} {u = u} main segment (Some f) valid short with_this functions_are is (new, (b, waits, other)) =
+    → AllShort m → StoreHolds IsPlain u → BeginsWith m u main → functions ≡ functions_of m → m.start ≡ start → AreFirst start main segment waiting → BegunWith m functions u segment.value waiting
+begun_by {m = m} {functions = functions} {u = u} main segment None valid short bare with_this functions_are is (new, alone) =
+    subst₂ (λ (l : List Link) (w : Option (Box Segment Global)). BegunWith m functions u l w) (sym new.is) (sym alone)
+    (begun new.capacity valid short bare with_this functions_are (main_alone is) tt)
+begun_by {m = m} {functions = functions} {u = u} main segment (Some f) valid short bare with_this functions_are is (new, (b, waits, other)) =
     let shape : (top b.value).shape.func ≡ main = ap (λ (l : List Link). (top l).shape.func) other.is in
-    subst (λ (w : Option (Box Segment Global)). IsReached m functions u segment.value w None 0) (sym waits)
-    (begun new.capacity valid short with_this functions_are (subst (λ (x : ℕ). First m main f (Some x)) (sym shape) (start_first is)) new.is (main, other.capacity, other.is))
+    subst₂ (λ (l : List Link) (w : Option (Box Segment Global)). BegunWith m functions u l w) (sym new.is) (sym waits)
+    (begun new.capacity valid short bare with_this functions_are (subst (λ (x : ℕ). First m main f (Some x)) (sym shape) (start_first is)) (main, other.capacity, other.is))
 
-pub begun_with : {m n : Module} {functions : List ℕ} {u : instances.Store} (main : ℕ) (segment : Box Segment Global) {waiting : Option (Box Segment Global)} → n ≡ m → Valid m
-    → AllShort n → BeginsWith m u main → functions ≡ functions_of n → AreFirst n.start main segment waiting → IsReached m functions u segment.value waiting None 0
-begun_with {m = m} {n = n} {functions = functions} {u = u} main segment {waiting = waiting} same valid short with_this functions_are first =
-    subst (λ (x : Module). IsReached x functions u segment.value waiting None 0) same
-    (begun_by main segment n.start (subst Valid (sym same) valid) short (subst (λ (x : Module). BeginsWith x u main) (sym same) with_this) functions_are refl first)
+-- they are a segment each
+first_alone : (start : Option ℕ) (main : ℕ) (segment : Box Segment Global) (waiting : Option (Box Segment Global)) → AreFirst start main segment waiting
+    → top segment.value ∷ [] ≡ segment.value
+first_alone None main segment waiting (new, alone) = ap (λ (l : List Link). top l ∷ []) new.is ∙ sym new.is
+first_alone (Some f) main segment waiting (new, waits) = ap (λ (l : List Link). top l ∷ []) new.is ∙ sym new.is
+
+pub begun_with : {m n : Module} {functions : List ℕ} {u : instances.Store} (es : List Entry) (main : ℕ) (segment : Box Segment Global) (chain : List Link) (conts : Conts Stored)
+    {waiting : Option (Box Segment Global)} → n ≡ m → IsClassesOf m.types es → Valid m → AllShort n → BeginsWith m u main → functions ≡ functions_of n
+    → AreFirst n.start main segment waiting → chain ≡ top segment.value ∷ [] → conts ≡ record { entries = []; spare = 0 }
+    → IsReached m functions (parts u chain conts) waiting None 0 0 0
+begun_with {m = m} {n = n} {functions = functions} {u = u} es main segment chain conts {waiting = waiting} same classes valid short with_this functions_are first is empty =
+    let there = subst Valid (sym same) valid in
+    let begins = subst (λ (x : Module). BeginsWith x u main) (sym same) with_this in
+    let plain = begins_plain es u main (subst (λ (x : Module). IsClassesOf x.types es) (sym same) classes) there begins in
+    subst₂ (λ (l : List Link) (c : Conts Stored). IsReached m functions (parts u l c) waiting None 0 0 0) (sym (is ∙ first_alone n.start main segment waiting first)) (sym empty)
+    (subst (λ (x : Module). BegunWith x functions u segment.value waiting) same
+    (begun_by main segment n.start there short plain begins functions_are refl first))

@@ -98,7 +98,6 @@ module _ (old l new : Position) (i steps : ℕ) (first b a : Option (List ℕ)) 
 
   not_running : (k : Kept) (o : Outcome) → is_fault k ≡ false → Tells k o → o ≡ Running → ⊥
   not_running kept.Ended o f h e = let g = h.1 in absurd (cc)
-  not_running kept.Stuck o f h e = absurd (cc)
   not_running (kept.Limit name) o f h e = absurd (cc)
   not_running (kept.Trapped t) o f h e = absurd (cc)
   not_running kept.WriteFault o f h e = absurd (cc)
@@ -106,7 +105,6 @@ module _ (old l new : Position) (i steps : ℕ) (first b a : Option (List ℕ)) 
 
   fault_told : (k : Kept) (o : Outcome) → is_fault k ≡ true → Tells k o
   fault_told kept.Ended o f = absurd (cc)
-  fault_told kept.Stuck o f = absurd (cc)
   fault_told (kept.Limit name) o f = absurd (cc)
   fault_told (kept.Trapped t) o f = absurd (cc)
   fault_told kept.WriteFault o f = tt

@@ -1,6 +1,15 @@
+pub mod Tops
+pub mod Counting
 pub mod Standing
 pub mod Reducing
+pub mod SwitchingMoves
+pub mod KeptCounts
+pub mod MadeConts
+pub mod TakingEnough
+pub mod SwitchedStacks
+pub mod Leaving
 pub mod Advancing
+pub mod NoReferences
 pub mod GoingOn
 pub mod Stopping
 pub mod Machines

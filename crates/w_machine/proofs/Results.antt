@@ -1,18 +1,17 @@
 -- The results of a run that ended.
-use Rattle.std.proofs.Common.{◌≡◌, ◌≤◌, ℕ, List, [], ◌∷◌, ◌++◌, reverse, Option, Some, None, refl, sym, ap, subst, ◌∙◌}
+use Rattle.std.proofs.Common.{◌≡◌, ◌≤◌, ◌<◌, ◌+◌, ℕ, true, false, is_some, length, arith, List, [], ◌∷◌, ◌++◌, reverse, Option, Some, None, refl, sym, ap, subst, ◌∙◌}
 use Rattle.std.proofs.lemmas.List.{reverse-append}
 use Rattle.std.specs.Prelude.{Box}
 use Rattle.std.specs.declared.alloc.Global.{Global}
 use Rattle.w_types.specs.declared.value.Value.{Value}
 use Rattle.w_types.specs.Rows.{listed}
 use Rattle.w_syntax.specs.declared.module.Module.{Module}
-use Rattle.w_tables.specs.Store as instances
 use Rattle.w_segment.specs.declared.segment.Segment.{Segment}
-use Rattle.w_segment.specs.Link.{Link, top}
+use Rattle.w_segment.specs.Link.{top}
 use Rattle.w_segment.specs.Shape.{Shape}
 use Rattle.w_reduce.specs.Values.{Val, val}
-use Rattle.w_reduce.specs.Store.{Store}
-use Rattle.w_reduce.specs.Terms.{Term}
+use Rattle.w_reduce.specs.Store.{Store, live_in, consumed_in, consumed}
+use Rattle.w_reduce.specs.Terms.{Term, Kept as TheKept}
 use Rattle.w_reduce.specs.Program.{Program}
 use Rattle.w_reduce.specs.Run.{RunState, Run}
 use Rattle.w_stands.specs.Values.{stack, vals}
@@ -20,9 +19,13 @@ use Rattle.w_machine.specs.declared.outcome.Kept.{Kept}
 use Rattle.w_machine.specs.declared.outcome.Kept.TheVariants as kept
 use Rattle.w_machine.specs.Beginning.{Begins}
 use Rattle.w_machine.specs.Position.{Position}
-use Rattle.w_machine.specs.Reached.{IsReached, IsReachedBy}
+use Rattle.w_machine.specs.Reached.{waiting_of, Counts, IsReached, IsReachedBy}
 use Rattle.w_machine.specs.Results.{HasResults}
 use Rattle.w_machine.proofs.GoingFar.{settled_at}
+use Rattle.w_machine.specs.Kept.{is_ended}
+use Rattle.w_machine.specs.Parts.{Parts}
+use Rattle.w_conts.specs.Conts.{live_of}
+use Rattle.w_machine.proofs.Stopping.{counts_here}
 
 map_end : (xs : List Value) (x : Value) → vals (xs ++ x ∷ []) ≡ vals xs ++ val x ∷ []
 map_end [] x = refl
@@ -34,31 +37,74 @@ listed_stack [] = refl
 listed_stack (v ∷ vs) = ap vals (reverse-append (v ∷ []) vs) ∙ map_end (reverse vs) v ∙ ap (λ (l : List Val). l ++ val v ∷ []) (listed_stack vs)
 
 -- they are the run's, and stay so however long it is
-pub machine_results : {m : Module} {functions : List ℕ} {u : instances.Store} {segment : List Link} {waiting : Option (Box Segment Global)} {n : ℕ} {k : Option Kept}
-    (q : Position) (xs : List Link) (s : Shape) (values : List Value) → IsReached m functions u segment waiting k n → record { program = m; taken = n; kept = k } ≡ q
-    → xs ≡ segment → s ≡ (top xs).shape → values ≡ reverse s.operands → q.kept ≡ Some kept.Ended
+pub machine_results : {m : Module} {functions : List ℕ} {x : Parts} {waiting : Option (Box Segment Global)} {n a b : ℕ} {k : Option Kept}
+    (q : Position) (s : Shape) (values : List Value) → IsReached m functions x waiting k n a b → record { program = m; taken = n; kept = k } ≡ q
+    → s ≡ (top x.chain).shape → values ≡ reverse s.operands → q.kept ≡ Some kept.Ended
     → (p : Program) (s₀ : Store) (t₀ : Term) → Begins q.program p s₀ t₀ → (l : ℕ) → q.taken ≤ l → HasResults (Run p s₀ t₀ l).outcome (vals values)
-machine_results {m = m} {functions = functions} {u = u} {segment = segment} {waiting = waiting} {n = n} {k = k} q xs s values h view there here are ended =
+machine_results {m = m} {functions = functions} {x = x} {waiting = waiting} {n = n} {a = a} {b = b} {k = k} q s values h view here are ended =
     let kept_is : k ≡ Some kept.Ended = ap (λ (x : Position). x.kept) view ∙ ended in
-    let done = subst (λ (o : Option Kept). IsReached m functions u segment waiting o n) kept_is h in
-    subst (λ (x : Position). (p : Program) (s₀ : Store) (t₀ : Term) → Begins x.program p s₀ t₀ → (l : ℕ) → x.taken ≤ l → HasResults (Run p s₀ t₀ l).outcome (vals values)) view
+    let done = subst (λ (o : Option Kept). IsReached m functions x waiting o n a b) kept_is h in
+    subst (λ (y : Position). (p : Program) (s₀ : Store) (t₀ : Term) → Begins y.program p s₀ t₀ → (l : ℕ) → y.taken ≤ l → HasResults (Run p s₀ t₀ l).outcome (vals values)) view
     (λ p s₀ t₀ begins l le.
     let is = (done.reached p s₀ t₀ begins).0 in
     let last = settled_at p s₀ t₀ n l le (λ runs. let e = is in absurd (cc)) in (
-      stack (top segment).shape.operands,
+      stack (top x.chain).shape.operands,
       ap (λ (r : RunState). r.outcome) last ∙ is,
-      ap vals are ∙ listed_stack s.operands ∙ ap (λ (x : Shape). listed (stack x.operands)) here ∙ ap (λ (l : List Link). listed (stack (top l).shape.operands)) there,
+      ap vals are ∙ listed_stack s.operands ∙ ap (λ (y : Shape). listed (stack y.operands)) here,
     ))
 
--- ## The run's own count
+-- a machine whose run ended has a segment
+pub ended_long : {m : Module} {functions : List ℕ} {x : Parts} {waiting : Option (Box Segment Global)} {n a b : ℕ} (k : Option Kept) → true ≡ is_ended k
+    → IsReached m functions x waiting k n a b → 0 < length x.chain
+ended_long (Some kept.Ended) e h = h.usable
+ended_long None e h = absurd (cc)
+ended_long (Some (kept.Limit name)) e h = absurd (cc)
+ended_long (Some (kept.Trapped t)) e h = absurd (cc)
+ended_long (Some kept.WriteFault) e h = absurd (cc)
+ended_long (Some kept.OutOfMemory) e h = absurd (cc)
 
-counted_by : (m : Module) (waiting : Option ℕ) (u : instances.Store) (s : Shape) (n : ℕ) (k : Option Kept) (p : Program) (r : RunState) → IsReachedBy k m waiting u s n p r → r.taken ≡ n
-counted_by m waiting u s n None p r h = ap (λ (x : RunState). x.taken) h.is
-counted_by m waiting u s n (Some k) p r h = h.1
+-- ## The run's own counts
 
--- it is the machine's
-pub machine_counts : {m : Module} {functions : List ℕ} {u : instances.Store} {segment : List Link} {waiting : Option (Box Segment Global)} {n : ℕ} {k : Option Kept}
-    (q : Position) → IsReached m functions u segment waiting k n → record { program = m; taken = n; kept = k } ≡ q
-    → (p : Program) (s₀ : Store) (t₀ : Term) → Begins q.program p s₀ t₀ → (Run p s₀ t₀ n).taken ≡ n
-machine_counts {n = n} {k = k} q h view p s₀ t₀ begins =
-    counted_by _ _ _ _ n k p (Run p s₀ t₀ n) (h.reached p s₀ t₀ (subst (λ (m : Module). Begins m p s₀ t₀) (sym (ap (λ (x : Position). x.program) view)) begins))
+counted_by : (m : Module) (waiting : Option ℕ) (x : Parts) (n a b : ℕ) (k : Option Kept) (p : Program) (r : RunState) → IsReachedBy k m waiting x n a b p r → r.taken ≡ n
+counted_by m waiting x n a b None p r h = ap (λ (y : RunState). y.taken) h.is
+counted_by m waiting x n a b (Some k) p r h = h.1
+
+module _ {m : Module} {functions : List ℕ} {x : Parts} {waiting : Option (Box Segment Global)} {n a b : ℕ} {k : Option Kept} (q : Position)
+    (h : IsReached m functions x waiting k n a b) (view : record { program = m; taken = n; kept = k } ≡ q) where
+  here : (p : Program) (s₀ : Store) (t₀ : Term) → Begins q.program p s₀ t₀ → IsReachedBy k m (waiting_of waiting) x n a b p (Run p s₀ t₀ n)
+  here p s₀ t₀ begins = h.reached p s₀ t₀ (subst (λ (m : Module). Begins m p s₀ t₀) (sym (ap (λ (x : Position). x.program) view)) begins)
+
+  -- of reductions
+  pub machine_counts : (p : Program) (s₀ : Store) (t₀ : Term) → Begins q.program p s₀ t₀ → (Run p s₀ t₀ n).taken ≡ n
+  machine_counts p s₀ t₀ begins = counted_by _ _ _ n a b k p (Run p s₀ t₀ n) (here p s₀ t₀ begins)
+
+  -- of continuations, by whether an outcome is kept
+  pub counts_kept : true ≡ is_some k → (p : Program) (s₀ : Store) (t₀ : Term) → Begins q.program p s₀ t₀ → Counts (Run p s₀ t₀ q.taken) a b
+  counts_kept some p s₀ t₀ begins =
+      subst (λ (y : Position). Counts (Run p s₀ t₀ y.taken) a b) view (by k some (here p s₀ t₀ begins))
+    where
+      by : (o : Option Kept) → true ≡ is_some o → IsReachedBy o m (waiting_of waiting) x n a b p (Run p s₀ t₀ n) → Counts (Run p s₀ t₀ n) a b
+      by None e g = absurd (cc)
+      by (Some y) e g = g.2
+
+  pub counts_going : false ≡ is_some k → (p : Program) (s₀ : Store) (t₀ : Term) → Begins q.program p s₀ t₀ → Counts (Run p s₀ t₀ q.taken) (length x.conts.entries) (live_of x.conts)
+  counts_going none p s₀ t₀ begins =
+      subst (λ (y : Position). Counts (Run p s₀ t₀ y.taken) (length x.conts.entries) (live_of x.conts)) view (by k none (here p s₀ t₀ begins))
+    where
+      by : (o : Option Kept) → false ≡ is_some o → IsReachedBy o m (waiting_of waiting) x n a b p (Run p s₀ t₀ n) → Counts (Run p s₀ t₀ n) (length x.conts.entries) (live_of x.conts)
+      by None e g = counts_here p s₀ t₀ g refl
+      by (Some y) e g = absurd (cc)
+
+-- what isn't consumed and what is are all that was made
+all_made : (ks : List (Option TheKept)) → consumed_in ks + live_in ks ≡ length ks
+all_made [] = refl
+all_made (None ∷ ks) = let i = all_made ks in omega (arith, i)
+all_made (Some k ∷ ks) = let i = all_made ks in omega (arith, i)
+
+-- so many are consumed
+pub counts_consumed : {r : RunState} {a b : ℕ} (c : ℕ) → Counts r a b → c + b ≡ a → consumed r.store ≡ c
+counts_consumed {r = r} {a = a} {b = b} c h is =
+    let all = all_made r.store.conts in
+    let one = h.made in
+    let two = h.live in
+    omega (arith, all, one, two, is)

@@ -1,6 +1,5 @@
--- What holds of a store and a stack that stand for a configuration of a run.
-use Rattle.std.proofs.Common.{◌≡◌, ℕ, suc, ◌≤◌, false, List, [], length, Option, Some, None, slice_get, refl, sym, ap, subst}
-use Rattle.std.specs.Prelude.{◌≢◌}
+-- What holds of parts that stand for a configuration of a run.
+use Rattle.std.proofs.Common.{◌≡◌, ◌≢◌, ℕ, ◌≤◌, false, List, [], length, Option, Some, None, slice_get, refl, sym, ap, subst, ◌∙◌, arith}
 use Rattle.w_types.specs.Rows.{Row}
 use Rattle.w_syntax.specs.Code.{Code}
 use Rattle.w_syntax.specs.declared.instructions.Instr.{Instr}
@@ -8,49 +7,31 @@ use Rattle.w_syntax.specs.declared.instructions.Instr.TheVariants as flat
 use Rattle.w_syntax.specs.declared.module.Module.{Module}
 use Rattle.w_rules.specs.Operands.{Operand}
 use Rattle.w_rules.specs.Valid.{Valid, MemoryItem}
-use Rattle.w_tables.specs.Store as instances
 use Rattle.w_segment.specs.declared.entry.Stage.TheVariants.{Fresh, Body}
-use Rattle.w_segment.specs.Shape.{Shape, Level, frames_of}
-use Rattle.w_reduce.specs.Terms.{Rest, Context, frames, handles}
+use Rattle.w_segment.specs.Shape.{Shape}
+use Rattle.w_segment.specs.Link.{top}
+use Rattle.w_reduce.specs.Apart.{switches, apart}
 use Rattle.w_reduce.specs.Program.{Program}
 use Rattle.w_reduce.specs.Reduced.{Reduced, Stuck}
-use Rattle.w_reduce.specs.Reduce.{next, limited}
+use Rattle.w_reduce.specs.Reduce.{next, reduce, limited}
+use Rattle.w_reduce.specs.Terms.{Rest, Context, Term, Kept}
+use Rattle.w_reduce.specs.Values.{Val}
+use Rattle.w_reduce.proofs.Plainly.{plain_apart}
 use Rattle.w_stands.specs.Code.{instr_of, IsMark, Reads, stop, plain, block, choice, choices}
-use Rattle.w_stands.specs.Stands.{Around, label, frame, outermost, In, body, left, fresh, values}
+use Rattle.w_stands.specs.Stands.{In, body, left, fresh, values}
+use Rattle.w_stands.specs.Steps.{At, next_of}
 use Rattle.w_stands.specs.Values.{stack, store_of}
 use Rattle.w_plain.specs.Meets.{Applies}
-use Rattle.w_reduce.specs.Apart.{switches}
+use Rattle.w_plain.specs.Plainness.{switches_at}
+use Rattle.w_switching.specs.Sound.{most_segments}
 use Rattle.w_typed.specs.Values.{Arrows}
 use Rattle.w_typed.specs.Configurations.{Typed, IsSafe, goes, traps, is_limited, ends}
 use Rattle.w_typed.proofs.Reductions.{reductions_are_safe}
-use Rattle.w_machine.specs.Standing.{behind_of, term_at, Stands, StandsSomewhere}
-use Rattle.w_machine.specs.Reducing.{switches_at}
-
--- ## Frames
-
-frames_around : {m : Module} {behind : Rest} {f q : ℕ} {ls : List Level} {e : Context} → Around m [] behind f q ls e → frames e ≡ frames_of ls
-frames_around (label h k j w) = frames_around w
-frames_around (frame h k w) = ap suc (frames_around w)
-frames_around (outermost h) = refl
-
--- a segment with nothing around it has all frames of the term
-pub frames_in : {m : Module} {behind : Rest} {s : Shape} {e : Context} {r : Rest} → In m [] behind s e r → frames e ≡ frames_of s.levels
-frames_in (body h k w) = frames_around w
-frames_in (left h k w) = frames_around w
-frames_in (fresh h k) = ap frames_of (sym k)
-frames_in (values h k) = ap frames_of (sym k)
-
-handles_around : {m : Module} {behind : Rest} {f q : ℕ} {ls : List Level} {e : Context} → Around m [] behind f q ls e → handles e ≡ 0
-handles_around (label h k j w) = handles_around w
-handles_around (frame h k w) = handles_around w
-handles_around (outermost h) = refl
-
--- and the term has no handle
-pub handles_in : {m : Module} {behind : Rest} {s : Shape} {e : Context} {r : Rest} → In m [] behind s e r → handles e ≡ 0
-handles_in (body h k w) = handles_around w
-handles_in (left h k w) = handles_around w
-handles_in (fresh h k) = refl
-handles_in (values h k) = refl
+use Rattle.w_machine.specs.Parts.{Parts, whole}
+use Rattle.w_machine.specs.Standing.{behind_of, Stands, StandsSomewhere}
+use Rattle.w_machine.specs.Reducing.{IsPlainAt}
+use Rattle.w_machine.proofs.Tops.{Top, top_of}
+use Rattle.w_machine.proofs.Counting.{all_handles}
 
 -- ## What comes next
 
@@ -85,44 +66,63 @@ fresh_next (left h k w) b = absurd (cc)
 fresh_next (fresh h k) b = refl
 fresh_next (values h k) b = absurd (cc)
 
+-- none are switched next
+pub plain_next : {m : Module} {outer : Context} {behind : Rest} {s : Shape} {e : Context} {r : Rest} → In m outer behind s e r → IsPlainAt m s → switches r.ahead r.code ≡ false
+plain_next {s = s} (body h k w) f = next_in {s = s} (body h k w) h ∙ f.0 h
+plain_next (left h k w) f = refl
+plain_next (fresh h k) f = refl
+plain_next (values h k) f = absurd (f.1 h)
+
 -- ## A rule applies
 
-never_stuck : {m : Module} {K : Arrows} {us : Row Operand} {d : Reduced} → IsSafe m K us d → d ≡ Stuck → ⊥
+pub never_stuck : {m : Module} {K : Arrows} {us : Row Operand} {d : Reduced} → IsSafe m K us d → d ≢ Stuck
 never_stuck (goes g h) e = absurd (cc)
 never_stuck traps e = absurd (cc)
 never_stuck is_limited e = absurd (cc)
 never_stuck (ends h) e = absurd (cc)
 
-module _ {m : Module} {waiting : Option ℕ} {u : instances.Store} {s : Shape} {p : Program} {e : Context} {r : Rest} where
+module _ {m : Module} {waiting : Option ℕ} {x : Parts} {p : Program} {ks : List (Option Kept)} {t : Term} where
   -- the configuration is typed by the program's module
-  pub typed_by : (h : Stands m waiting u s p e r) → Typed p.source h.arrows h.results (store_of u) (term_at s e r)
-  typed_by h = subst (λ (n : Module). Typed n h.arrows h.results (store_of u) (term_at s e r)) (sym h.source) h.typed
+  pub typed_by : (h : Stands m waiting x p ks t) → Typed p.source h.arrows h.results (whole x.store ks) t
+  typed_by h = subst (λ (n : Module). Typed n h.arrows h.results (whole x.store ks) t) (sym h.stand.source) h.typed
 
-  -- to a configuration that switches no stacks next a rule applies
-  pub rule_applies : Valid m → (h : Stands m waiting u s p e r) → switches r.ahead r.code ≡ false → next p (store_of u) e (stack s.operands) r.ahead r.code ≢ Stuck
-  rule_applies valid h none is =
-      never_stuck (reductions_are_safe p h.arrows h.results (store_of u) (term_at s e r) h.program (subst Valid (sym h.source) valid) (typed_by h) none) (ap limited is)
+  -- to the configuration a rule applies
+  pub rule_applies : Valid m → Stands m waiting x p ks t → reduce p (whole x.store ks) t ≢ Stuck
+  rule_applies valid h is =
+      never_stuck (reductions_are_safe p h.arrows h.results (whole x.store ks) t h.stand.program (subst Valid (sym h.stand.source) valid) (typed_by h)) is
 
   -- there is at most one memory
-  pub one_memory : Valid m → Stands m waiting u s p e r → length u.memories ≤ 1
+  pub one_memory : Valid m → Stands m waiting x p ks t → length x.store.memories ≤ 1
   one_memory valid h = let one = (valid MemoryItem tt).one in let same = h.typed.store.memories in subst (λ (n : ℕ). n ≤ 1) (sym same) one
 
+  -- there are few segments
+  pub few_segments : Stands m waiting x p ks t → length x.chain ≤ most_segments
+  few_segments h = let n = all_handles h.stand in let few = h.within.few_handles in omega (arith, n, few)
+
+  -- the innermost segment, with what stands outside it
+  pub head : (h : Stands m waiting x p ks t) → Top m [] (behind_of waiting) x.chain t.around t.operands t.rest
+  head h = top_of h.stand.term
+
+  -- a reduction that switches no stacks comes to the same with no continuation in the store
+  pub alone : (h : Stands m waiting x p ks t) → IsPlainAt m (top x.chain).shape
+      → next p (whole x.store ks) t.around t.operands t.rest.ahead t.rest.code ≡ apart ks (next_of p x.store (top x.chain).shape t.around t.rest)
+  alone h f =
+      ap (λ (vs : Row Val). next p (whole x.store ks) t.around vs t.rest.ahead t.rest.code) (head h).operands
+      ∙ plain_apart ks p (store_of x.store) t.around (stack (top x.chain).shape.operands) t.rest.ahead t.rest.code (plain_next (head h).stands f)
+
+  -- so a rule applies where the innermost segment stands
+  pub standing_at : Valid m → (h : Stands m waiting x p ks t) → IsPlainAt m (top x.chain).shape → At m x.store (top x.chain).shape p (head h).o t.around t.rest
+  standing_at valid h f = record {
+    source = h.stand.source;
+    program = h.stand.program;
+    short = h.stand.short;
+    stands = (head h).stands;
+    applies = λ is. rule_applies valid h (ap limited (alone h f ∙ ap (apart ks) is));
+  }
+
 -- wherever they stand
-pub memory_there : {m : Module} {u : instances.Store} {s : Shape} → Valid m → StandsSomewhere m u s → length u.memories ≤ 1
+pub memory_there : {m : Module} {x : Parts} → Valid m → StandsSomewhere m x → length x.store.memories ≤ 1
 memory_there valid h = one_memory valid h.stands
 
--- a rule applies, where no stacks are switched next
-pub applies_at : {m : Module} {u : instances.Store} {s : Shape} → Valid m → (h : StandsSomewhere m u s) → switches h.r.ahead h.r.code ≡ false → Applies m u s
-applies_at valid h none = record {
-  p = h.p;
-  o = record { outer = []; behind = behind_of h.waiting };
-  e = h.e;
-  r = h.r;
-  at = record {
-    source = h.stands.source;
-    program = h.stands.program;
-    short = h.stands.short;
-    stands = h.stands.stands;
-    applies = rule_applies valid h.stands none;
-  };
-}
+pub plain_applies : {m : Module} {x : Parts} → Valid m → StandsSomewhere m x → IsPlainAt m (top x.chain).shape → Applies m x.store (top x.chain).shape
+plain_applies valid h f = record { p = h.p; o = (head h.stands).o; e = h.t.around; r = h.t.rest; at = standing_at valid h.stands f }

@@ -1,18 +1,16 @@
 -- A machine that is stopped keeps what stopped it, and stands for the run.
-use Rattle.std.proofs.Common.{◌≡◌, inl, inr, ℕ, suc, ◌+◌, ◌<◌, ◌≤◌, List, [], ◌++◌, Option, Some, None, refl, sym, ap, subst, ◌∙◌, arith, append-nil}
+use Rattle.std.proofs.Common.{◌≡◌, inl, inr, ℕ, suc, ◌+◌, ◌<◌, ◌≤◌, List, [], ◌++◌, Option, Some, None, refl, sym, ap, subst, ◌∙◌, arith, append-nil, length, subst₂}
 use Rattle.std.specs.Prelude.{Box}
 use Rattle.std.specs.declared.alloc.Global.{Global}
 use Rattle.w_outside.proofs.Growth.{grew_nothing}
 use Rattle.w_syntax.specs.declared.module.Module.{Module}
-use Rattle.w_tables.specs.Store as instances
 use Rattle.w_segment.specs.declared.segment.Segment.{Segment}
-use Rattle.w_segment.specs.Link.{Link, top, with_top}
-use Rattle.w_segment.specs.Shape.{Shape}
+use Rattle.w_segment.specs.Link.{Link, top}
 use Rattle.w_types.specs.Rows.{Row}
 use Rattle.w_reduce.specs.declared.limit.RunLimit.{RunLimit}
 use Rattle.w_reduce.specs.declared.trap.Trap.{Trap}
 use Rattle.w_reduce.specs.Values.{Val}
-use Rattle.w_reduce.specs.Store.{Store}
+use Rattle.w_reduce.specs.Store.{Store, made, live}
 use Rattle.w_reduce.specs.Terms.{Term}
 use Rattle.w_reduce.specs.Program.{Program}
 use Rattle.w_reduce.specs.Reduced.{Reduced, Went, Trapped, Limited, Ended, Stuck}
@@ -21,11 +19,14 @@ use Rattle.w_reduce.specs.Run.{Outcome, Running, Values, Traps, Limit, NoRule, R
 use Rattle.w_stands.specs.Values.{stack}
 use Rattle.w_machine.specs.declared.outcome.Kept.{Kept}
 use Rattle.w_machine.specs.declared.outcome.Kept.TheVariants as kept
-use Rattle.w_machine.specs.Reducing.{reduced, Fails, ComesTo, Reduces}
+use Rattle.w_machine.specs.Reducing.{Fails, ComesTo, Reduces}
 use Rattle.w_machine.specs.Position.{Position, Tells, counted, Printed, PrintedAtMost, PrintedBy, StepsFrom, most_reductions}
-use Rattle.w_machine.specs.Reached.{waiting_of, IsAt, EndsAt, IsReached}
+use Rattle.w_machine.specs.Standing.{StandsSomewhere}
+use Rattle.w_machine.specs.Reached.{waiting_of, IsAt, EndsAt, Counts, IsUsable, IsReached}
 use Rattle.w_machine.proofs.Advancing.{state_went, next_run}
-use Rattle.w_machine.proofs.GoingOn.{no_segment, as_long}
+use Rattle.w_machine.specs.Parts.{Parts, whole}
+use Rattle.w_conts.specs.Conts.{live_of}
+use Rattle.w_machine.proofs.KeptCounts.{kept_made, kept_live, live_made}
 
 -- ## The state of the run
 
@@ -55,9 +56,6 @@ module _ (p : Program) {n : ℕ} {r : RunState} {v : Store} {t : Term} (at : r �
   pub ended_next : (vs : Row Val) → reduce p v t ≡ Ended vs → continued p r r.outcome ≡ r
   ended_next vs is = next_by (Values vs) (Ended vs) refl is
 
-  pub stuck_next : reduce p v t ≡ Stuck → continued p r r.outcome ≡ r
-  stuck_next is = next_by NoRule Stuck refl is
-
 -- what is printed next, whatever comes of it
 next_text : (p : Program) (r : RunState) (d : Reduced) → (text : List ℕ) × ((after_reduction p r d).output ≡ r.output ++ text)
 next_text p r (Went text s t) = (text, refl)
@@ -81,7 +79,7 @@ output_grows p s₀ t₀ n =
 
 -- ## What stops it
 
-module _ {m : Module} {waiting : Option ℕ} {u : instances.Store} {s : Shape} {n : ℕ} (p : Program) (s₀ : Store) (t₀ : Term) (at : IsAt m waiting u s n p (Run p s₀ t₀ n)) where
+module _ {m : Module} {waiting : Option ℕ} {x : Parts} {n : ℕ} (p : Program) (s₀ : Store) (t₀ : Term) (at : IsAt m waiting x n p (Run p s₀ t₀ n)) where
   still_there : Run p s₀ t₀ (n + 0) ≡ Run p s₀ t₀ n
   still_there = ap (Run p s₀ t₀) (let e : n + 0 ≡ n = omega arith in e)
 
@@ -91,25 +89,34 @@ module _ {m : Module} {waiting : Option ℕ} {u : instances.Store} {s : Shape} {
   one_more : (Run p s₀ t₀ n).taken ≡ n → suc (Run p s₀ t₀ n).taken ≡ n + 1
   one_more e = omega (arith, e)
 
+  -- the continuations of the run are those that are kept
+  pub counts_here : {r : RunState} → r.store ≡ (Run p s₀ t₀ n).store → Counts r (length x.conts.entries) (live_of x.conts)
+  counts_here {r = r} same =
+      let store : r.store ≡ whole x.store at.ks = same ∙ ap (λ (q : RunState). q.store) at.is in
+      record { made = ap made store ∙ kept_made at.stands.stand.store; live = ap live store ∙ kept_live at.stands.stand.store }
+
   -- the run has come to what stopped the machine
-  pub ends_at : (k : Kept) (u' : instances.Store) (s' : Shape) (before now : Option (List ℕ)) → ComesTo (Some k) m waiting (reduced p at.around at.rest u s) u s u' s' before now
-      → EndsAt k s' (Run p s₀ t₀ (n + counted k)).outcome × ((Run p s₀ t₀ (n + counted k)).taken ≡ n + counted k)
-  ends_at kept.Ended u' s' before now (is, same) =
-      (ap (λ (q : RunState). q.outcome) still_there ∙ told_by p at.is ∙ ap outcome_by is ∙ ap (λ (x : Shape). Values (stack x.operands)) (sym same.stack), taken_still)
-  ends_at kept.Stuck u' s' before now (is, same) = (ap (λ (q : RunState). q.outcome) still_there ∙ told_by p at.is ∙ ap outcome_by is, taken_still)
-  ends_at (kept.Limit name) u' s' before now (is, same) =
+  pub ends_at : (k : Kept) (x' : Parts) (before now : Option (List ℕ)) → ComesTo (Some k) m waiting p (reduce p (whole x.store at.ks) at.t) x x' before now
+      → EndsAt k x'.chain (Run p s₀ t₀ (n + counted k)).outcome × ((Run p s₀ t₀ (n + counted k)).taken ≡ n + counted k)
+      × Counts (Run p s₀ t₀ (n + counted k)) (length x.conts.entries) (live_of x.conts)
+  ends_at kept.Ended x' before now (is, same) = (
+    ap (λ (q : RunState). q.outcome) still_there ∙ told_by p at.is ∙ ap outcome_by is ∙ ap (λ (y : Parts). Values (stack (top y.chain).shape.operands)) (sym same.same),
+    taken_still,
+    counts_here (ap (λ (q : RunState). q.store) still_there),
+  )
+  ends_at (kept.Limit name) x' before now (is, same) =
       let next = next_run p s₀ t₀ n ∙ limited_next p at.is name is in
-      (ap (λ (q : RunState). q.outcome) next, ap (λ (q : RunState). q.taken) next ∙ one_more (taken_is p at.is))
-  ends_at (kept.Trapped t) u' s' before now (is, same) =
+      (ap (λ (q : RunState). q.outcome) next, ap (λ (q : RunState). q.taken) next ∙ one_more (taken_is p at.is), counts_here (ap (λ (q : RunState). q.store) next))
+  ends_at (kept.Trapped t) x' before now (is, same) =
       let next = next_run p s₀ t₀ n ∙ trapped_next p at.is t is in
-      (ap (λ (q : RunState). q.outcome) next, ap (λ (q : RunState). q.taken) next ∙ one_more (taken_is p at.is))
-  ends_at kept.WriteFault u' s' before now h = (tt, taken_still)
-  ends_at kept.OutOfMemory u' s' before now h = (tt, taken_still)
+      (ap (λ (q : RunState). q.outcome) next, ap (λ (q : RunState). q.taken) next ∙ one_more (taken_is p at.is), counts_here (ap (λ (q : RunState). q.store) next))
+  ends_at kept.WriteFault x' before now h = (tt, taken_still, counts_here (ap (λ (q : RunState). q.store) still_there))
+  ends_at kept.OutOfMemory x' before now h = (tt, taken_still, counts_here (ap (λ (q : RunState). q.store) still_there))
 
   nothing_more : {before now : Option (List ℕ)} → (Run p s₀ t₀ (n + 1)).output ≡ (Run p s₀ t₀ n).output → now ≡ before → Printed (Run p s₀ t₀ n) (Run p s₀ t₀ (n + 1)) before now
   nothing_more {before = before} e same = record { text = []; is = e ∙ sym (append-nil (Run p s₀ t₀ n).output); grew = same ∙ grew_nothing before }
 
-  at_most : {u' : instances.Store} {s' : Shape} {before now : Option (List ℕ)} → Fails (reduced p at.around at.rest u s) u s u' s' before now
+  at_most : {x' : Parts} {before now : Option (List ℕ)} → Fails (reduce p (whole x.store at.ks) at.t) x x' before now
       → PrintedAtMost (Run p s₀ t₀ n) (Run p s₀ t₀ (n + 1)) before now
   at_most {before = before} h = elim h.sink [
     | inl same ↦ (
@@ -120,58 +127,69 @@ module _ {m : Module} {waiting : Option ℕ} {u : instances.Store} {s : Shape} {
   ]
 
   -- what was printed
-  pub printed_by : (k : Kept) (u' : instances.Store) (s' : Shape) (before now : Option (List ℕ)) → ComesTo (Some k) m waiting (reduced p at.around at.rest u s) u s u' s' before now
+  pub printed_by : (k : Kept) (x' : Parts) (before now : Option (List ℕ)) → ComesTo (Some k) m waiting p (reduce p (whole x.store at.ks) at.t) x x' before now
       → PrintedBy k (Run p s₀ t₀ n) (Run p s₀ t₀ (n + 1)) before now
-  printed_by kept.Ended u' s' before now (is, same) = nothing_more (ap (λ (q : RunState). q.output) (next_run p s₀ t₀ n ∙ ended_next p at.is (stack s.operands) is)) same.sink
-  printed_by kept.Stuck u' s' before now (is, same) = nothing_more (ap (λ (q : RunState). q.output) (next_run p s₀ t₀ n ∙ stuck_next p at.is is)) same.sink
-  printed_by (kept.Limit name) u' s' before now (is, same) = nothing_more (ap (λ (q : RunState). q.output) (next_run p s₀ t₀ n ∙ limited_next p at.is name is)) same
-  printed_by (kept.Trapped t) u' s' before now (is, same) = nothing_more (ap (λ (q : RunState). q.output) (next_run p s₀ t₀ n ∙ trapped_next p at.is t is)) same
-  printed_by kept.WriteFault u' s' before now h = at_most h
-  printed_by kept.OutOfMemory u' s' before now h = at_most h
+  printed_by kept.Ended x' before now (is, same) =
+      nothing_more (ap (λ (q : RunState). q.output) (next_run p s₀ t₀ n ∙ ended_next p at.is (stack (top x.chain).shape.operands) is)) same.sink
+  printed_by (kept.Limit name) x' before now (is, same) = nothing_more (ap (λ (q : RunState). q.output) (next_run p s₀ t₀ n ∙ limited_next p at.is name is)) same
+  printed_by (kept.Trapped t) x' before now (is, same) = nothing_more (ap (λ (q : RunState). q.output) (next_run p s₀ t₀ n ∙ trapped_next p at.is t is)) same
+  printed_by kept.WriteFault x' before now h = at_most h
+  printed_by kept.OutOfMemory x' before now h = at_most h
 
 -- what it tells of its end it tells of the run
-pub tells_so : (k : Kept) (s : Shape) (o : Outcome) → EndsAt k s o → Tells k o
-tells_so kept.Ended s o h = (stack s.operands, h)
-tells_so kept.Stuck s o h = h
-tells_so (kept.Limit name) s o h = h
-tells_so (kept.Trapped t) s o h = h
-tells_so kept.WriteFault s o h = h
-tells_so kept.OutOfMemory s o h = h
+pub tells_so : (k : Kept) (xs : List Link) (o : Outcome) → EndsAt k xs o → Tells k o
+tells_so kept.Ended xs o h = (stack (top xs).shape.operands, h)
+tells_so (kept.Limit name) xs o h = h
+tells_so (kept.Trapped t) xs o h = h
+tells_so kept.WriteFault xs o h = h
+tells_so kept.OutOfMemory xs o h = h
 
 pub counts_one : (k : Kept) → counted k ≤ 1
 counts_one kept.Ended = omega arith
-counts_one kept.Stuck = omega arith
 counts_one (kept.Limit name) = omega arith
 counts_one (kept.Trapped t) = omega arith
 counts_one kept.WriteFault = omega arith
 counts_one kept.OutOfMemory = omega arith
 
--- the machine keeps it
-pub stopped : {m : Module} {functions : List ℕ} {u : instances.Store} (segment : List Link) {waiting : Option (Box Segment Global)} {n : ℕ} (u' : instances.Store) (s' : Shape)
-    (before now : Option (List ℕ)) (k : Kept) (c : ℕ) → c ≡ counted k → IsReached m functions u segment waiting None n → n < most_reductions
-    → Reduces (Some k) m u (top segment).shape u' s' before now → IsReached m functions u' (with_top s' segment) waiting (Some k) (n + c)
-stopped {m = m} {functions = functions} segment {waiting = waiting} {n = n} u' s' before now k c count h lt goes =
+-- where the run ended there is a segment
+usable_after : (m : Module) (waiting : Option ℕ) (p : Program) (d : Reduced) (x x' : Parts) (before now : Option (List ℕ)) (k : Kept) (n : ℕ) → 0 < length x.chain
+    → ComesTo (Some k) m waiting p d x x' before now → IsUsable (Some k) x' n
+usable_after m waiting p d x x' before now kept.Ended n some (is, same) = subst (λ (y : Parts). 0 < length y.chain) (sym same.same) some
+usable_after m waiting p d x x' before now (kept.Limit name) n some h = tt
+usable_after m waiting p d x x' before now (kept.Trapped t) n some h = tt
+usable_after m waiting p d x x' before now kept.WriteFault n some h = tt
+usable_after m waiting p d x x' before now kept.OutOfMemory n some h = tt
+
+-- the machine keeps it, with how many continuations there were before
+pub stopped : {m : Module} {functions : List ℕ} {x : Parts} {waiting : Option (Box Segment Global)} {n a b made_then live_then : ℕ} (x' : Parts)
+    (before now : Option (List ℕ)) (k : Kept) (c : ℕ) → c ≡ counted k → made_then ≡ length x.conts.entries → live_then ≡ live_of x.conts
+    → StandsSomewhere m x → IsReached m functions x waiting None n a b → n < most_reductions
+    → Reduces (Some k) m x x' before now → IsReached m functions x' waiting (Some k) (n + c) made_then live_then
+stopped {m = m} {functions = functions} {x = x} {waiting = waiting} {n = n} {made_then = made_then} {live_then = live_then} x' before now k c count made_is live_is here h lt goes =
     let one = counts_one k in
-    subst (λ (x : ℕ). IsReached m functions u' (with_top s' segment) waiting (Some k) (n + x)) (sym count) (record {
+    record {
       functions_are = h.functions_are;
-      some = as_long s' segment h.some;
       fresh = h.fresh;
-      bound = omega (arith, lt, one);
+      bound = omega (arith, lt, one, count);
+      usable = usable_after m here.waiting here.p _ x x' before now k (n + c) h.usable.0 (goes here.waiting here.p here.ks here.t here.stands);
       started = h.started;
+      fewer = (let l = live_made x.conts.entries in omega (arith, l, made_is, live_is));
       reached = λ p s₀ t₀ begins.
           let at = h.reached p s₀ t₀ begins in
-          let ended = ends_at p s₀ t₀ at k u' s' before now (goes (waiting_of waiting) p at.around at.rest at.stands) in
-          subst (λ (x : Shape). EndsAt k x (Run p s₀ t₀ (n + counted k)).outcome × ((Run p s₀ t₀ (n + counted k)).taken ≡ n + counted k)) (sym (no_segment s' segment h.some)) ended;
-    })
+          let ended = ends_at p s₀ t₀ at k x' before now (goes (waiting_of waiting) p at.ks at.t at.stands) in
+          subst (λ (y : ℕ). EndsAt k x'.chain (Run p s₀ t₀ (n + y)).outcome × ((Run p s₀ t₀ (n + y)).taken ≡ n + y) × Counts (Run p s₀ t₀ (n + y)) made_then live_then) (sym count)
+          (subst₂ (λ (u v : ℕ). EndsAt k x'.chain (Run p s₀ t₀ (n + counted k)).outcome × ((Run p s₀ t₀ (n + counted k)).taken ≡ n + counted k) × Counts (Run p s₀ t₀ (n + counted k)) u v)
+          (sym made_is) (sym live_is) ended);
+    }
 
 -- and so its step stopped
-pub step_stopped : {functions : List ℕ} {u : instances.Store} {segment : List Link} {waiting : Option (Box Segment Global)} (u' : instances.Store) (s' : Shape)
-    (before now : Option (List ℕ)) (old : Position) (k : Kept) (c : ℕ) → c ≡ counted k → IsReached old.program functions u segment waiting None old.taken
-    → Reduces (Some k) old.program u (top segment).shape u' s' before now → StepsFrom None old (Some k) (record old { taken = old.taken + c; kept = Some k }) before now
-step_stopped {waiting = waiting} u' s' before now old k c count h goes = (
+pub step_stopped : {functions : List ℕ} {x : Parts} {waiting : Option (Box Segment Global)} {a b : ℕ} (x' : Parts)
+    (before now : Option (List ℕ)) (old : Position) (k : Kept) (c : ℕ) → c ≡ counted k → IsReached old.program functions x waiting None old.taken a b
+    → Reduces (Some k) old.program x x' before now → StepsFrom None old (Some k) (record old { taken = old.taken + c; kept = Some k }) before now
+step_stopped {waiting = waiting} x' before now old k c count h goes = (
   ap (λ (x : ℕ). let q : Position = record old { taken = old.taken + x; kept = Some k } in q) count,
   λ p s₀ t₀ begins.
       let at = h.reached p s₀ t₀ begins in
-      let came = goes (waiting_of waiting) p at.around at.rest at.stands in
-      (tells_so k s' _ (ends_at p s₀ t₀ at k u' s' before now came).0, printed_by p s₀ t₀ at k u' s' before now came),
+      let came = goes (waiting_of waiting) p at.ks at.t at.stands in
+      (tells_so k x'.chain _ (ends_at p s₀ t₀ at k x' before now came).0, printed_by p s₀ t₀ at k x' before now came),
 )

@@ -1,65 +1,76 @@
 -- What is told of a run with no reduction taken.
-use Rattle.std.proofs.Common.{◌≡◌, ℕ, Bool, true, false, nat_le, if◌then◌else◌, is_some, List, [], ◌∷◌, Option, Some, None, refl, sym, ap, subst, ◌∙◌}
+use Rattle.std.proofs.Common.{◌≡◌, ℕ, ◌+◌, Bool, true, false, is_some, List, [], ◌∷◌, length, Option, Some, None, refl, sym, ap, subst, ◌∙◌}
 use Rattle.std.specs.Prelude.{Box}
 use Rattle.std.specs.declared.alloc.Global.{Global}
 use Rattle.w_types.specs.Rows.{Row}
+use Rattle.w_syntax.specs.Code.{Code, Done, Plain, Block, If, IfElse}
+use Rattle.w_syntax.specs.declared.instructions.Op.{Op}
+use Rattle.w_syntax.specs.declared.instructions.Op.TheVariants as op
 use Rattle.w_syntax.specs.declared.module.Module.{Module}
 use Rattle.w_rules.specs.Operands.{Operand}
 use Rattle.w_rules.specs.Valid.{Valid}
-use Rattle.w_tables.specs.Store as instances
 use Rattle.w_segment.specs.declared.segment.Segment.{Segment}
 use Rattle.w_segment.specs.declared.entry.Stage.{Stage}
 use Rattle.w_segment.specs.declared.entry.Stage.TheVariants as stage
 use Rattle.w_segment.specs.Link.{Link, top}
 use Rattle.w_segment.specs.Shape.{Shape, Level}
+use Rattle.w_conts.specs.Conts.{live_of}
 use Rattle.w_reduce.specs.Values.{Val}
 use Rattle.w_reduce.specs.Store.{Store}
-use Rattle.w_reduce.specs.Terms.{Rest, Context, Term, Kept as TheKept, frames}
-use Rattle.w_reduce.specs.declared.limit.RunLimit.TheVariants.{Frames}
+use Rattle.w_reduce.specs.Terms.{Administrative, Rest, Context, Layer, Term, Kept as TheKept}
+use Rattle.w_reduce.specs.declared.limit.RunLimit.{RunLimit}
+use Rattle.w_reduce.specs.Limits.{passed}
 use Rattle.w_reduce.specs.Program.{Program}
 use Rattle.w_reduce.specs.Reduced.{Reduced, Went, Trapped, Limited, Ended, Stuck}
-use Rattle.w_reduce.specs.Reduce.{limited, unless_passed}
+use Rattle.w_reduce.specs.Reduce.{next, reduce, limited, unless_passed}
+use Rattle.w_reduce.specs.Apart.{switches}
 use Rattle.w_reduce.specs.Run.{Running, outcome_by, Run}
-use Rattle.w_stands.specs.Code.{instr_of}
+use Rattle.w_stands.specs.Values.{stack}
 use Rattle.w_stands.specs.Stands.{Around, label, frame, outermost, In, body, left, fresh, values}
-use Rattle.w_stands.specs.Values.{stack, store_of}
+use Rattle.w_switching.specs.Standing.{Chained, only, around}
 use Rattle.w_typed.specs.Values.{Arrows}
 use Rattle.w_typed.specs.Configurations.{IsSafe, goes, traps, is_limited, ends}
-use Rattle.w_typed.proofs.Reductions.{reductions_are_safe}
-use Rattle.w_reduce.proofs.Plainly.{Plainly, silent, stays, silent_trap, silent_limit, silent_end, silent_stuck, is_last, plainly_next}
+use Rattle.w_reduce.proofs.Plainly.{Plainly, silent, stays, silent_trap, silent_limit, silent_end, silent_stuck, is_last as is_end, plainly_next}
 use Rattle.w_machine.specs.declared.outcome.Kept.{Kept}
 use Rattle.w_machine.specs.declared.outcome.Kept.TheVariants as kept
-use Rattle.w_machine.specs.Standing.{term_at, Stands}
-use Rattle.w_machine.specs.Reducing.{switches_at, outlook_by, outlook_of, reduced}
+use Rattle.w_machine.specs.Parts.{Parts, whole}
+use Rattle.w_machine.specs.Standing.{behind_of, IsLast, Stands}
+use Rattle.w_machine.specs.Reducing.{outlook_by, outlook_of}
 use Rattle.w_machine.specs.Beginning.{Begins}
 use Rattle.w_machine.specs.Position.{Position, is_fault, after_telling, TellsOn, IsNoFault, ToldBy}
-use Rattle.w_machine.specs.Reached.{waiting_of, EndsAt, IsReached}
-use Rattle.w_machine.proofs.Standing.{typed_by}
-use Rattle.w_machine.proofs.Reducing.{IsPlainAt, plain_next, reduces_ended, reduces_stuck}
-use Rattle.w_machine.proofs.Stopping.{told_by, taken_is, tells_so}
-use Rattle.w_reduce.specs.Limits.{passed}
-use Rattle.w_reduce.specs.declared.limit.RunLimit.{RunLimit}
+use Rattle.w_machine.specs.Reached.{waiting_of, is_last, EndsAt, Counts, IsReached}
+use Rattle.w_machine.proofs.Advancing.{reduces_safely, last_there, is_last_true, is_last_one}
+use Rattle.w_machine.proofs.KeptCounts.{live_made}
+use Rattle.w_machine.proofs.Stopping.{told_by, taken_is, counts_here, tells_so}
+use Rattle.w_machine.proofs.SwitchingMoves.{Moves, moved, no_move, no_rule, switching_moves}
 
--- ## What the place tells
+-- ## Where the run has ended
 
--- the run has ended, or no rule applies
-pub data StopsAt (m : Module) (s : Shape) : Kept → Type 0 where
-  at_values : s.stage ≡ stage.Values → StopsAt m s kept.Ended
-  at_switch : s.stage ≡ stage.Body → true ≡ switches_at (instr_of m s.func s.place) → StopsAt m s kept.Stuck
+-- something is told exactly where one segment is left that is values
+told_last : (g : Stage) (xs : List Link) (k : Kept) → (top xs).shape.stage ≡ g → Some k ≡ outlook_by g xs → IsLast xs × (k ≡ kept.Ended)
+told_last stage.Values (x ∷ []) k at e = ((refl, at), (let same : k ≡ kept.Ended = cc in same))
+told_last stage.Values [] k at e = absurd (cc)
+told_last stage.Values (x ∷ y ∷ ys) k at e = absurd (cc)
+told_last stage.Body xs k at e = absurd (cc)
+told_last stage.Fresh xs k at e = absurd (cc)
+told_last (stage.Branch l) xs k at e = absurd (cc)
 
-stops_by : (m : Module) (s : Shape) (g : Stage) (b : Bool) (k : Kept) → s.stage ≡ g → b ≡ switches_at (instr_of m s.func s.place) → Some k ≡ outlook_by g b → StopsAt m s k
-stops_by m s stage.Values b k at is e = let same : kept.Ended ≡ k = cc in subst (StopsAt m s) same (at_values at)
-stops_by m s stage.Body true k at is e = let same : kept.Stuck ≡ k = cc in subst (StopsAt m s) same (at_switch at is)
-stops_by m s stage.Body false k at is e = absurd (cc)
-stops_by m s stage.Fresh b k at is e = absurd (cc)
-stops_by m s (stage.Branch l) b k at is e = absurd (cc)
+none_last : (g : Stage) (xs : List Link) → (top xs).shape.stage ≡ g → None ≡ outlook_by g xs → IsLast xs → ⊥
+none_last stage.Values (x ∷ []) at e h = absurd (cc)
+none_last stage.Values [] at e h = let l = h.0 in absurd (cc)
+none_last stage.Values (x ∷ y ∷ ys) at e h = let l = h.0 in absurd (cc)
+none_last stage.Body xs at e h = let s = h.1 in absurd (cc)
+none_last stage.Fresh xs at e h = let s = h.1 in absurd (cc)
+none_last (stage.Branch l) xs at e h = let s = h.1 in absurd (cc)
 
-plain_by : (m : Module) (s : Shape) (g : Stage) (b : Bool) → s.stage ≡ g → b ≡ switches_at (instr_of m s.func s.place) → None ≡ outlook_by g b → IsPlainAt m s
-plain_by m s stage.Values b at is e = absurd (cc)
-plain_by m s stage.Body true at is e = absurd (cc)
-plain_by m s stage.Body false at is e = ((λ x. is), (λ x. absurd (cc)))
-plain_by m s stage.Fresh b at is e = ((λ x. absurd (cc)), (λ x. absurd (cc)))
-plain_by m s (stage.Branch l) b at is e = ((λ x. absurd (cc)), (λ x. absurd (cc)))
+nothing_left : (p : Program) (u : Store) (t : Term) (waiting : Option ℕ) → t.around ≡ [] → t.rest ≡ behind_of waiting → waiting ≡ None → reduce p u t ≡ Ended t.operands
+nothing_left p u t waiting outer behind none =
+    ap (λ (e : Context). limited (next p u e t.operands t.rest.ahead t.rest.code)) outer
+    ∙ ap (λ (r : Rest). limited (next p u [] t.operands r.ahead r.code)) (behind ∙ ap behind_of none)
+
+top_operands : {m : Module} {outer : Context} {behind : Rest} {xs : List Link} {e : Context} {vs : Row Val} {r : Rest} → Chained m outer behind xs e vs r → vs ≡ stack (top xs).shape.operands
+top_operands (only i v) = v
+top_operands (around i v c g k) = v
 
 -- ## The run goes on
 
@@ -74,25 +85,60 @@ limited_end (Limited l) vs is = absurd (cc)
 limited_end (Ended ws) vs is = is
 limited_end Stuck vs is = absurd (cc)
 
-quiet_end : {ks : List (Option TheKept)} {e : Context} {last : Bool} {d d' : Reduced} (vs : Row Val) → Plainly ks e last d d' → d ≡ Ended vs → last ≡ true
-quiet_end vs silent is = absurd (cc)
-quiet_end vs (stays h) is = absurd (cc)
-quiet_end vs silent_trap is = absurd (cc)
-quiet_end vs silent_limit is = absurd (cc)
-quiet_end vs (silent_end h) is = h
-quiet_end vs silent_stuck is = absurd (cc)
+plain_end : {ks : List (Option TheKept)} {e : Context} {last : Bool} {d d' : Reduced} (vs : Row Val) → Plainly ks e last d d' → d ≡ Ended vs → last ≡ true
+plain_end vs silent is = absurd (cc)
+plain_end vs (stays h) is = absurd (cc)
+plain_end vs silent_trap is = absurd (cc)
+plain_end vs silent_limit is = absurd (cc)
+plain_end vs (silent_end h) is = h
+plain_end vs silent_stuck is = absurd (cc)
 
-more_around : {m : Module} {outer : Context} {behind : Rest} {f q : ℕ} {ls : List Level} {e : Context} (r : Rest) → Around m outer behind f q ls e → is_last e r.ahead r.code ≡ false
-more_around r (label h k j w) = refl
-more_around r (frame h k w) = refl
-more_around r (outermost h) = refl
+switched_end : {n : ℕ} {d : Reduced} (vs : Row Val) → Moves n d → d ≡ Ended vs → ⊥
+switched_end vs (moved h) is = absurd (cc)
+switched_end vs no_move is = absurd (cc)
+switched_end vs no_rule is = absurd (cc)
 
-not_last : {m : Module} {outer : Context} {behind : Rest} {s : Shape} {e : Context} {r : Rest} → In m outer behind s e r → IsPlainAt m s → is_last e r.ahead r.code ≡ false
-not_last {r = r} (body h k w) f = more_around r w
-not_last {r = r} (left h k w) f = more_around r w
-not_last {outer = []} (fresh h k) f = refl
-not_last {outer = l ∷ outer} (fresh h k) f = refl
-not_last (values h k) f = absurd (f.1 h)
+-- the end comes only where nothing is left
+end_by : (p : Program) (s : Store) (e : Context) (vs ws : Row Val) (ahead : List Administrative) (k : Code) (b : Bool) → switches ahead k ≡ b → next p s e vs ahead k ≡ Ended ws
+    → is_end e ahead k ≡ true
+end_by p s e vs ws ahead k false plain is = plain_end ws (plainly_next [] p s e vs ahead k plain) is
+end_by p s e vs ws [] (Plain (op.Switching o) k) true switch is = absurd (switched_end ws (switching_moves p s e vs o k) is)
+end_by p s e vs ws [] (Plain (op.Control o) k) true switch is = absurd (cc)
+end_by p s e vs ws [] (Plain (op.Parametric o) k) true switch is = absurd (cc)
+end_by p s e vs ws [] (Plain (op.Variable o) k) true switch is = absurd (cc)
+end_by p s e vs ws [] (Plain (op.Table o) k) true switch is = absurd (cc)
+end_by p s e vs ws [] (Plain (op.Memory o) k) true switch is = absurd (cc)
+end_by p s e vs ws [] (Plain (op.Numeric o) k) true switch is = absurd (cc)
+end_by p s e vs ws [] (Plain (op.Reference o) k) true switch is = absurd (cc)
+end_by p s e vs ws [] Done true switch is = absurd (cc)
+end_by p s e vs ws [] (Block b t x k) true switch is = absurd (cc)
+end_by p s e vs ws [] (If t x k) true switch is = absurd (cc)
+end_by p s e vs ws [] (IfElse t x y k) true switch is = absurd (cc)
+end_by p s e vs ws (a ∷ ahead) k true switch is = absurd (cc)
+
+around_more : {m : Module} {outer : Context} {behind : Rest} {f q : ℕ} {ls : List Level} {e : Context} (r : Rest) → Around m outer behind f q ls e → is_end e r.ahead r.code ≡ false
+around_more r (label h k j w) = refl
+around_more r (frame h k w) = refl
+around_more r (outermost h) = refl
+
+-- inside a handle something is left
+inside_more : {m : Module} {h : Layer} {outer : Context} {behind : Rest} {s : Shape} {e : Context} {r : Rest} → In m (h ∷ outer) behind s e r → is_end e r.ahead r.code ≡ false
+inside_more {r = r} (body h k w) = around_more r w
+inside_more {r = r} (left h k w) = around_more r w
+inside_more (fresh h k) = refl
+inside_more (values h k) = refl
+
+alone_more : {m : Module} (waiting : Option ℕ) {s : Shape} {e : Context} {r : Rest} → In m [] (behind_of waiting) s e r → (s.stage ≡ stage.Values → ⊥) → is_end e r.ahead r.code ≡ false
+alone_more waiting {r = r} (body h k w) not = around_more r w
+alone_more waiting {r = r} (left h k w) not = around_more r w
+alone_more waiting (fresh h k) not = refl
+alone_more waiting (values h k) not = absurd (not h)
+
+-- where more than one segment is left, or one that isn't values, something is left
+more_left : {m : Module} (waiting : Option ℕ) {xs : List Link} {e : Context} {vs : Row Val} {r : Rest} → Chained m [] (behind_of waiting) xs e vs r → (IsLast xs → ⊥)
+    → is_end e r.ahead r.code ≡ false
+more_left waiting (only i v) not = alone_more waiting i (λ h. not (refl, h))
+more_left waiting (around i v c g k) not = inside_more i
 
 safe_running : {m : Module} {K : Arrows} {us : Row Operand} {d : Reduced} → IsSafe m K us d → ((vs : Row Val) → d ≡ Ended vs → ⊥) → outcome_by d ≡ Running
 safe_running (goes g h) never = refl
@@ -101,84 +147,83 @@ safe_running is_limited never = refl
 safe_running (ends {vs = vs} h) never = absurd (never vs refl)
 
 -- a rule applies
-still_running : {m : Module} {waiting : Option ℕ} {u : instances.Store} {s : Shape} {p : Program} {e : Context} {r : Rest} → Valid m → Stands m waiting u s p e r → IsPlainAt m s
-    → outcome_by (reduced p e r u s) ≡ Running
-still_running {u = u} {s = s} {p = p} {e = e} {r = r} valid h f =
-    safe_running (reductions_are_safe p h.arrows h.results (store_of u) (term_at s e r) h.program (subst Valid (sym h.source) valid) (typed_by h) (plain_next h.stands f)) (λ vs is.
-    let last = quiet_end vs (plainly_next [] p (store_of u) e (stack s.operands) r.ahead r.code (plain_next h.stands f)) (limited_end _ vs is) in
-    let not = not_last h.stands f in
+still_running : {m : Module} {waiting : Option ℕ} {x : Parts} {p : Program} {ks : List (Option TheKept)} {t : Term} → Valid m → Stands m waiting x p ks t → (IsLast x.chain → ⊥)
+    → outcome_by (reduce p (whole x.store ks) t) ≡ Running
+still_running {waiting = waiting} {x = x} {p = p} {ks = ks} {t = t} valid h not =
+    safe_running (reduces_safely valid h) (λ vs is.
+    let last = end_by p (whole x.store ks) t.around t.operands vs t.rest.ahead t.rest.code (switches t.rest.ahead t.rest.code) refl (limited_end _ vs is) in
+    let more = more_left waiting h.stand.term not in
     absurd (cc))
 
 -- ## Of a machine
 
-module _ {m : Module} {functions : List ℕ} {u : instances.Store} {segment : List Link} {waiting : Option (Box Segment Global)} {n : ℕ} (h : IsReached m functions u segment waiting None n) where
-  stop_outcome : {k : Kept} (p : Program) (s₀ : Store) (t₀ : Term) → Begins m p s₀ t₀ → StopsAt m (top segment).shape k
-      → EndsAt k (top segment).shape (Run p s₀ t₀ n).outcome × ((Run p s₀ t₀ n).taken ≡ n)
-  stop_outcome p s₀ t₀ begins (at_values there) =
+module _ {m : Module} {functions : List ℕ} {x : Parts} {waiting : Option (Box Segment Global)} {n a b : ℕ} (h : IsReached m functions x waiting None n a b) where
+  stop_outcome : (p : Program) (s₀ : Store) (t₀ : Term) → Begins m p s₀ t₀ → IsLast x.chain
+      → EndsAt kept.Ended x.chain (Run p s₀ t₀ n).outcome × ((Run p s₀ t₀ n).taken ≡ n) × Counts (Run p s₀ t₀ n) (length x.conts.entries) (live_of x.conts)
+  stop_outcome p s₀ t₀ begins last =
       let at = h.reached p s₀ t₀ begins in
-      let ended = reduces_ended {m = m} {u = u} {s = (top segment).shape} {before = None} there (waiting_of waiting) p at.around at.rest at.stands in
-      (told_by p at.is ∙ ap outcome_by ended.0, taken_is p at.is)
-  stop_outcome p s₀ t₀ begins (at_switch there switch) =
-      let at = h.reached p s₀ t₀ begins in
-      let stuck = reduces_stuck {m = m} {u = u} {s = (top segment).shape} {before = None} there switch (waiting_of waiting) p at.around at.rest at.stands in
-      (told_by p at.is ∙ ap outcome_by stuck.0, taken_is p at.is)
+      let there = last_there at.stands.stand.term (is_last_true x.chain last) in
+      let ended = nothing_left p (whole x.store at.ks) at.t (waiting_of waiting) there.0 there.1 (at.stands.done last) in
+      (told_by p at.is ∙ ap outcome_by (ended ∙ ap Ended (top_operands at.stands.stand.term)), taken_is p at.is, counts_here p s₀ t₀ at refl)
 
   -- where it stops it keeps that
-  told_reached : {k : Kept} → StopsAt m (top segment).shape k → IsReached m functions u segment waiting (Some k) n
-  told_reached there = record {
+  told_reached : IsLast x.chain → IsReached m functions x waiting (Some kept.Ended) n (length x.conts.entries) (live_of x.conts)
+  told_reached last = record {
     functions_are = h.functions_are;
-    some = h.some;
     fresh = h.fresh;
     bound = h.bound;
+    usable = h.usable.0;
     started = h.started;
-    reached = λ p s₀ t₀ begins. stop_outcome p s₀ t₀ begins there;
+    fewer = live_made x.conts.entries;
+    reached = λ p s₀ t₀ begins. stop_outcome p s₀ t₀ begins last;
   }
 
-  -- and where none does it goes on
-  told_anyhow : (r : Option Kept) → r ≡ outlook_of m (top segment).shape → IsReached m functions u segment waiting r n
-  told_anyhow None e = h
-  told_anyhow (Some k) e = told_reached (stops_by m (top segment).shape (top segment).shape.stage _ k refl refl e)
+  -- and so it keeps what is told
+  pub told_some : (k : Kept) → Some k ≡ outlook_of x.chain → IsReached m functions x waiting (Some k) n (length x.conts.entries) (live_of x.conts)
+  told_some k e =
+      let l = told_last (top x.chain).shape.stage x.chain k refl e in
+      subst (λ (y : Kept). IsReached m functions x waiting (Some y) n (length x.conts.entries) (live_of x.conts)) (sym l.1) (told_reached l.0)
 
-  tells_there : Valid m → (r : Option Kept) → r ≡ outlook_of m (top segment).shape → (p : Program) (s₀ : Store) (t₀ : Term) → Begins m p s₀ t₀ → TellsOn (Run p s₀ t₀ n) r
+  tells_there : Valid m → (r : Option Kept) → r ≡ outlook_of x.chain → (p : Program) (s₀ : Store) (t₀ : Term) → Begins m p s₀ t₀ → TellsOn (Run p s₀ t₀ n) r
   tells_there valid None e p s₀ t₀ begins =
       let at = h.reached p s₀ t₀ begins in
-      told_by p at.is ∙ still_running valid at.stands (plain_by m (top segment).shape (top segment).shape.stage _ refl refl e)
-  tells_there valid (Some k) e p s₀ t₀ begins =
-      let there = stops_by m (top segment).shape (top segment).shape.stage _ k refl refl e in
-      tells_so k (top segment).shape _ (stop_outcome p s₀ t₀ begins there).0
+      told_by p at.is ∙ still_running valid at.stands (none_last (top x.chain).shape.stage x.chain refl e)
+  tells_there valid (Some k) e p s₀ t₀ begins = tells_so k x.chain _ ((told_some k e).reached p s₀ t₀ begins).0
 
 -- none of this is a fault
-no_fault : (g : Stage) (b : Bool) (r : Option Kept) → r ≡ outlook_by g b → IsNoFault r
-no_fault g b None e = tt
-no_fault stage.Values b (Some k) e = let same : kept.Ended ≡ k = cc in subst (λ (x : Kept). is_fault x ≡ false) same refl
-no_fault stage.Body true (Some k) e = let same : kept.Stuck ≡ k = cc in subst (λ (x : Kept). is_fault x ≡ false) same refl
-no_fault stage.Body false (Some k) e = absurd (cc)
-no_fault stage.Fresh b (Some k) e = absurd (cc)
-no_fault (stage.Branch l) b (Some k) e = absurd (cc)
+no_fault : (r : Option Kept) (xs : List Link) → r ≡ outlook_of xs → IsNoFault r
+no_fault None xs e = tt
+no_fault (Some k) xs e = let l = told_last (top xs).shape.stage xs k refl e in subst (λ (x : Kept). is_fault x ≡ false) (sym l.1) refl
 
 -- with a machine's own fields
-module _ {m m' : Module} {functions : List ℕ} {u : instances.Store} {segment : List Link} {waiting : Option (Box Segment Global)} {n : ℕ} {s : Shape}
-    (k : Option Kept) (xs : List Link) (r : Option Kept) (q : Position) (program : m' ≡ m) (there : xs ≡ segment) (here : s ≡ (top xs).shape)
-    (view : record { program = m; taken = n; kept = k } ≡ q) (none : q.kept ≡ None) (told : r ≡ outlook_of m' s) (h : IsReached m functions u segment waiting k n) where
-  outlook_here : r ≡ outlook_of m (top segment).shape
-  outlook_here = told ∙ ap (λ (x : Module). outlook_of x s) program ∙ ap (outlook_of m) here ∙ ap (λ (l : List Link). outlook_of m (top l).shape) there
-
+module _ {m : Module} {functions : List ℕ} {x : Parts} {waiting : Option (Box Segment Global)} {n a b : ℕ} (k : Option Kept) (r : Option Kept) (q : Position)
+    (view : record { program = m; taken = n; kept = k } ≡ q) (none : q.kept ≡ None) (told : r ≡ outlook_of x.chain) (h : IsReached m functions x waiting k n a b) where
   was_none : k ≡ None
   was_none = ap (λ (x : Position). x.kept) view ∙ none
 
-  none_reached : IsReached m functions u segment waiting None n
-  none_reached = subst (λ (o : Option Kept). IsReached m functions u segment waiting o n) was_none h
+  none_reached : IsReached m functions x waiting None n a b
+  none_reached = subst (λ (o : Option Kept). IsReached m functions x waiting o n a b) was_none h
 
-  -- it keeps what is told
-  pub tell_reached : IsReached m functions u segment waiting r n
-  tell_reached = told_anyhow none_reached r outlook_here
+  -- it keeps what is told, with how many continuations there are
+  pub tell_reached : (c d : ℕ) → true ≡ is_some r → c ≡ length x.conts.entries → d ≡ live_of x.conts → IsReached m functions x waiting r n c d
+  tell_reached c d some made live = by r some told
+    where
+      by : (o : Option Kept) → true ≡ is_some o → o ≡ outlook_of x.chain → IsReached m functions x waiting o n c d
+      by None e t = absurd (cc)
+      by (Some y) e t =
+          subst (λ (u : ℕ). IsReached m functions x waiting (Some y) n u d) (sym made)
+          (subst (λ (v : ℕ). IsReached m functions x waiting (Some y) n (length x.conts.entries) v) (sym live) (told_some none_reached y t))
+
+  -- and where nothing is told stays
+  pub tell_stays : IsReached m functions x waiting k n a b
+  tell_stays = h
 
   tells_all : Valid m → (p : Program) (s₀ : Store) (t₀ : Term) → Begins q.program p s₀ t₀ → TellsOn (Run p s₀ t₀ q.taken) r
-  tells_all valid = subst (λ (x : Position). (p : Program) (s₀ : Store) (t₀ : Term) → Begins x.program p s₀ t₀ → TellsOn (Run p s₀ t₀ x.taken) r) view (tells_there none_reached valid r outlook_here)
+  tells_all valid = subst (λ (x : Position). (p : Program) (s₀ : Store) (t₀ : Term) → Begins x.program p s₀ t₀ → TellsOn (Run p s₀ t₀ x.taken) r) view (tells_there none_reached valid r told)
 
   -- something is told
   pub tells_some : Valid m → true ≡ is_some r → ToldBy q r (record { program = m; taken = n; kept = r })
-  tells_some valid some = (subst (λ (x : Position). record { program = m; taken = n; kept = r } ≡ after_telling x r) view (after_some r some), no_fault s.stage _ r told, tells_all valid)
+  tells_some valid some = (subst (λ (x : Position). record { program = m; taken = n; kept = r } ≡ after_telling x r) view (after_some r some), no_fault r x.chain told, tells_all valid)
     where
       after_some : (o : Option Kept) → true ≡ is_some o → record { program = m; taken = n; kept = o } ≡ after_telling (record { program = m; taken = n; kept = k }) o
       after_some (Some x) e = refl
@@ -186,7 +231,7 @@ module _ {m m' : Module} {functions : List ℕ} {u : instances.Store} {segment :
 
   -- nothing is
   pub tells_none : Valid m → false ≡ is_some r → ToldBy q r q
-  tells_none valid e = (after_none r e, no_fault s.stage _ r told, tells_all valid)
+  tells_none valid e = (after_none r e, no_fault r x.chain told, tells_all valid)
     where
       after_none : (o : Option Kept) → false ≡ is_some o → q ≡ after_telling q o
       after_none None e = refl

@@ -83,13 +83,17 @@ IsReachedBy (Some k) m waiting x n made_then live_then p r = EndsAt k x.chain r.
 abbrev pub IsStarted : Module → Type 0
 IsStarted m = (p : Program) → p.source ≡ m → (s : Store) × (t : Term) × (Start p ≡ Ready s t)
 
+-- A machine that goes on has segments, and made no more continuations than it took reductions; one whose run ended has a segment.
+abbrev pub IsUsable : Option Kept → Parts → ℕ → Type 0
+IsUsable None x n = (0 < length x.chain) × (length x.conts.entries ≤ n)
+IsUsable (Some kept.Ended) x n = 0 < length x.chain
+IsUsable (Some k) x n = ⊤
+
 pub record IsReached (m : Module) (functions : List ℕ) (x : Parts) (waiting : Option (Box Segment Global)) (kept : Option Kept) (n made_then live_then : ℕ) : Type 0 where
   pub functions_are : functions ≡ functions_of m
-  pub some : 0 < length x.chain
   pub fresh : IsFresh waiting
   pub bound : n ≤ most_reductions
-  -- a reduction makes at most one continuation
-  pub few : length x.conts.entries ≤ n
+  pub usable : IsUsable kept x n
   pub started : IsStarted m
   pub fewer : live_then ≤ made_then
   pub reached : (p : Program) (s₀ : Store) (t₀ : Term) → Begins m p s₀ t₀ → IsReachedBy kept m (waiting_of waiting) x n made_then live_then p (Run p s₀ t₀ n)

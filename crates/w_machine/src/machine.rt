@@ -32,6 +32,7 @@ use w_types::Value;
 /// A run of a module. After so many steps it stands for the run of so many reductions.
 #[derive(Drop)]
 pub struct Machine {
+    alloc: Global,
     checked: Checked,
     /// The index of each function's type, imported functions in front.
     functions: Vec<u32>,
@@ -125,6 +126,7 @@ impl Machine {
         ensures { IfOk result (λ machine. machine ≡ record { program = checked; taken = 0; kept = None }) }
     {
         let module = checked.module();
+        let _classes = checked.classes();
         if !are_short(module) {
             return Err(AllocError);
         }
@@ -134,6 +136,7 @@ impl Machine {
         chain.push(segment);
         let conts = ContStore::new(alloc);
         Ok(Machine {
+            alloc,
             checked,
             functions,
             store: instance.store,
@@ -182,7 +185,11 @@ impl Machine {
     pub fn consumed(&self) -> u64
         ensures value { (p : TheProgram) (s : TheStore) (t : Term) → Begins self.now.program p s t → consumed (Run p s t self.now.taken).store ≡ result }
     {
-        self.made() - self.live()
+        if self.kept.is_some() {
+            self.made - self.live
+        } else {
+            self.conts.consumed()
+        }
     }
 
     // Takes one reduction, or says what stops it.
@@ -204,7 +211,7 @@ impl Machine {
         let (made, live) = (self.conts.made(), self.conts.live());
         let stopped = reduce(
             program,
-            Global,
+            self.alloc,
             &mut self.store,
             &mut self.chain,
             &mut self.conts,
@@ -230,6 +237,8 @@ impl Machine {
         requires { self.old.kept ≡ None }
         ensures { ToldBy self.old result self.new }
     {
+        // the run of a valid module is never stuck
+        let _module = self.checked.module();
         let stopped = outlook(&self.chain);
         if stopped.is_some() {
             self.kept = stopped;

@@ -141,7 +141,7 @@ fn switch_by(
     requires few { length chain.old ≤ most_segments }
     requires made { length conts.old.entries < 2 ^ 40 }
     requires takes { TakesEnough operation.now program.now chain.old conts.old }
-    ensures goes { IfOk result (λ d. Switches operation.now d program.now chain.old conts.old chain.new conts.new) }
+    ensures goes { IfOk result (λ d. Switches d operation.now program.now chain.old conts.old chain.new conts.new) }
     ensures sound { Sound chain.new conts.new }
     ensures references { KeepsReferences conts.old conts.new }
     ensures err_chain { OnErr result (SameLinks chain.old chain.new) }

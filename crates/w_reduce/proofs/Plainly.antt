@@ -119,7 +119,7 @@ module _ (ks : List (Option Kept)) (e : Context) (last : Bool) where
   pub plainly_take_three : (vs : Row Val) (go go' : Row Val × ℕ → Row Val × ℕ → Row Val × ℕ → Reduced)
       → ((p q r : Row Val × ℕ) → Plainly ks e last (go p q r) (go' p q r))
       → Plainly ks e last (take_number int.I32 vs (λ p. take_number int.I32 p.0 (λ q. take_number int.I32 q.0 (λ r. go p q r))))
-          (take_number int.I32 vs (λ p. take_number int.I32 p.0 (λ q. take_number int.I32 q.0 (λ r. go' p q r))))
+      (take_number int.I32 vs (λ p. take_number int.I32 p.0 (λ q. take_number int.I32 q.0 (λ r. go' p q r))))
   plainly_take_three vs go go' h =
       plainly_take_number int.I32 vs _ _ (λ p. plainly_take_number int.I32 p.0 _ _ (λ q. plainly_take_number int.I32 q.0 _ _ (λ r. h p q r)))
 

@@ -1,7 +1,7 @@
 -- Binding arguments of a continuation.
-use Rattle.std.proofs.Common.{◌≡◌, ℕ, suc, ◌+◌, ◌-◌, ◌<◌, ◌≤◌, Bool, true, List, [], ◌∷◌, ◌++◌, Option, Some, None, slice_get, length, refl, sym, ap, ◌∙◌, subst, arith, drop, take, reverse}
+use Rattle.std.proofs.Common.{◌≡◌, ℕ, ◌+◌, ◌-◌, ◌<◌, ◌≤◌, true, List, [], ◌∷◌, ◌++◌, Option, Some, None, length, refl, sym, ap, ◌∙◌, subst, arith, drop, take, reverse}
 use Rattle.std.proofs.lemmas.List.{length-take-le, length-set}
-use Rattle.std.specs.Prelude.{◌≢◌, slice_set}
+use Rattle.std.specs.Prelude.{slice_set}
 use Rattle.w_types.specs.Rows.{Row, ◌▹◌, ◌⧺◌}
 use Rattle.w_types.specs.declared.types.FuncType.{FuncType}
 use Rattle.w_types.specs.declared.value.Value.{Value}
@@ -12,16 +12,15 @@ use Rattle.w_syntax.specs.declared.instructions.SwitchingOp.TheVariants as switc
 use Rattle.w_syntax.specs.declared.module.Module.{Module}
 use Rattle.w_rules.specs.Context.{cont_of}
 use Rattle.w_rules.specs.Spaces.{context_of}
-use Rattle.w_segment.specs.Shape.{Shape}
 use Rattle.w_segment.specs.Changes.{pushed, pushed_all, discarded, moved}
 use Rattle.w_segment.specs.Link.{Link, top, with_top}
 use Rattle.w_segment.proofs.Holding.{all_take, all_drop, all_reverse, pushed_holds, pushed_all_holds, discarded_holds, moved_holds}
-use Rattle.w_conts.specs.Conts.{Conts, KeepsReferences, IsOf, kept_at, without_entry, with_entry}
+use Rattle.w_conts.specs.Conts.{Conts, KeepsReferences, IsOf, kept_at, without_entry}
 use Rattle.w_reduce.specs.Values.{Val, Cont}
-use Rattle.w_reduce.specs.Terms.{Rest, rest_of, Context, Term, Kept, filled}
+use Rattle.w_reduce.specs.Terms.{Rest, rest_of, Term, Kept, filled}
 use Rattle.w_reduce.specs.Store.{Store, without_cont, with_cont, next_cont}
 use Rattle.w_reduce.specs.Program.{Program}
-use Rattle.w_reduce.specs.Reduced.{Reduced, Stuck, or_stuck, steps_to, take_values, unless_consumed}
+use Rattle.w_reduce.specs.Reduced.{Reduced, or_stuck, steps_to, take_values, unless_consumed}
 use Rattle.w_reduce.specs.Switching.{switching_op}
 use Rattle.w_stands.specs.declared.did.Did.TheVariants as did
 use Rattle.w_stands.specs.Values.{stack}
@@ -30,10 +29,10 @@ use Rattle.w_stands.proofs.LookedUp.{goes_on}
 use Rattle.w_switching.specs.declared.stored.Stored.{Stored}
 use Rattle.w_switching.specs.Moved.{Bound, next_ref}
 use Rattle.w_switching.specs.Standing.{Chained, kept, AllKept}
-use Rattle.w_switching.specs.Reductions.{At, To, SwitchesAt, Switches}
+use Rattle.w_switching.specs.Reductions.{StandsAt, SwitchesAt, Switches}
 use Rattle.w_switching.specs.Sound.{LinksHold, Waits, HasRoomFor, is_of, IsGood, Sound, SoundWith}
 use Rattle.w_switching.proofs.Joining.{inside_top, kept_set, kept_more, kept_long}
-use Rattle.w_switching.proofs.Facing.{on_stack, at_term, next_top, some_chain}
+use Rattle.w_switching.proofs.Facing.{on_stack, at_term, next_top}
 use Rattle.w_switching.proofs.Consuming.{KeptThere, kept_there}
 use Rattle.w_switching.proofs.Putting.{take_sound, put_sound, top_sound}
 use Rattle.w_switching.proofs.Resuming.{pushed_given}
@@ -48,7 +47,7 @@ bind_typed m chain conts x y r vs b k on of is none =
     let a = k.at in
     let w = kept_there a.stand r of b is in
     let go : Kept → FuncType → Row Val × Row Val → Reduced = λ q f (below, us).
-        steps_to (with_cont (record { takes = length f.params; term = filled q.term us }) (without_cont r.serial s)) k.t.around (below ▹ Cont (next_cont s)) (rest_of k.c) in
+    steps_to (with_cont (record { takes = length f.params; term = filled q.term us }) (without_cont r.serial s)) k.t.around (below ▹ Cont (next_cont s)) (rest_of k.c) in
     a.applies (on_stack a (value.Cont r ∷ vs) on
     ∙ ap (λ (o : Option (Option Kept)). unless_consumed o (λ q. or_stuck (cont_of (context_of p.source) y) (λ f. take_values (q.takes - length f.params) (stack vs) (go q f)))) w.is
     ∙ ap (λ (o : Option FuncType). or_stuck o (λ f. take_values (w.k.takes - length f.params) (stack vs) (go w.k f))) (ap (λ (z : Module). cont_of (context_of z) y) a.stand.source ∙ none))
@@ -67,11 +66,12 @@ module _ (m : Module) (chain : List Link) (conts : Conts Stored) (x y : ℕ) (r 
         ≡ steps_to (with_cont (record { takes = length t1.params; term = filled there.k.term (stack (take bound_count vs)) }) (without_cont r.serial s)) t.around
         (stack (drop bound_count vs) ▹ Cont (next_cont s)) (rest_of c)
 
-  pub binds : (behind : Rest) (p : Program) (s : Store) (t : Term) (c : Code) → At (switching.ContBind x y) m behind chain conts p s t c → Binds behind p s t c
+  -- it comes to this in each configuration
+  pub binds : (behind : Rest) (p : Program) (s : Store) (t : Term) (c : Code) → StandsAt (switching.ContBind x y) m behind chain conts p s t c → Binds behind p s t c
   binds behind p s t c a =
       let w = kept_there a.stand r of b is in
       let go : Kept → FuncType → Row Val × Row Val → Reduced = λ q f (below, us).
-          steps_to (with_cont (record { takes = length f.params; term = filled q.term us }) (without_cont r.serial s)) t.around (below ▹ Cont (next_cont s)) (rest_of c) in
+      steps_to (with_cont (record { takes = length f.params; term = filled q.term us }) (without_cont r.serial s)) t.around (below ▹ Cont (next_cont s)) (rest_of c) in
       let rule : switching_op p s t.around t.operands (switching.ContBind x y) c ≡ take_values bound_count (stack vs) (go w.k t1) =
       on_stack a (value.Cont r ∷ vs) on
       ∙ ap (λ (o : Option (Option Kept)). unless_consumed o (λ q. or_stuck (cont_of (context_of p.source) y) (λ f. take_values (q.takes - length f.params) (stack vs) (go q f)))) w.is
@@ -86,7 +86,7 @@ module _ (m : Module) (chain : List Link) (conts : Conts Stored) (x y : ℕ) (r 
 
   module _ (conts1 : Conts Stored) (chain' : List Link) (conts' : Conts Stored) (taken : conts1 ≡ without_entry r.serial conts) (bound : Bound bound_count (length t1.params) b.segment.value chain conts1 chain' conts') where
     -- it went as the rule says
-    pub bind_goes : Switches (switching.ContBind x y) did.Went m chain conts chain' conts'
+    pub bind_goes : Switches did.Went (switching.ContBind x y) m chain conts chain' conts'
     bind_goes behind p s t c a =
         let w = binds behind p s t c a in
         let n = bound_count in
@@ -97,7 +97,7 @@ module _ (m : Module) (chain : List Link) (conts : Conts Stored) (x y : ℕ) (r 
         let long : next_cont s ≡ length conts1.entries = kept_long a.stand.store ∙ sym (ap (λ (l : List (Option (ℕ × Stored))). length l) es ∙ length-set conts.entries r.serial None) in
         let s' = moved (S.place + 1) (pushed (next_ref bound.place (length conts1.entries)) (discarded n (discarded 1 S))) in
         let inner = subst (λ (l : List Value). Chained m [] (rest_of Done) (with_top (pushed_all (reverse (take n (drop 1 S.operands))) (top b.segment.value).shape) b.segment.value)
-            w.there.k.term.around (w.there.k.term.operands ⧺ stack (take n l)) w.there.k.term.rest) one (pushed_given (take n (drop 1 S.operands)) w.there.stands) in
+        w.there.k.term.around (w.there.k.term.operands ⧺ stack (take n l)) w.there.k.term.rest) one (pushed_given (take n (drop 1 S.operands)) w.there.stands) in
         record {
           conts_after = slice_set s.conts r.serial None ++ Some k1 ∷ [];
           t = record { around = t.around; operands = stack (drop n vs) ▹ Cont (next_cont s); rest = rest_of c };
@@ -156,5 +156,5 @@ module _ (m : Module) (chain : List Link) (conts : Conts Stored) (x y : ℕ) (r 
         let D = discarded n (discarded 1 S) in
         let own = next_ref bound.place (length conts1.entries) in
         let h2 = moved_holds Q (S.place + 1) (pushed own D) (pushed_holds Q own D (is_of_it conts' (record { place = bound.place; serial = length conts1.entries }) bound.of)
-            (discarded_holds Q n (discarded 1 S) (discarded_holds Q 1 S (hold_top (is_of conts') chain put'.references)))) in
+        (discarded_holds Q n (discarded 1 S) (discarded_holds Q 1 S (hold_top (is_of conts') chain put'.references)))) in
         subst (λ (z : List Link). Sound z conts') (sym bound.chain_after) (top_sound 0 chain conts' (moved (S.place + 1) (pushed own D)) put' h2)

@@ -1,5 +1,5 @@
 -- Cutting the running segments at the innermost handle that has an answer.
-use Rattle.std.proofs.Common.{◌≡◌, ℕ, zero, suc, ◌+◌, ◌<◌, List, [], ◌∷◌, ◌++◌, Option, Some, None, slice_get, length, refl, sym, ap, ◌∙◌, subst, arith, add-one, drop, take, length-drop}
+use Rattle.std.proofs.Common.{◌≡◌, ℕ, zero, suc, ◌+◌, ◌<◌, List, [], ◌∷◌, ◌++◌, Option, Some, None, slice_get, length, refl, sym, ap, ◌∙◌, arith, drop, take, length-drop}
 use Rattle.std.specs.Prelude.{option_map, All, ⊤}
 use Rattle.w_types.specs.Rows.{Row}
 use Rattle.w_syntax.specs.Code.{Code, Done}
@@ -9,6 +9,7 @@ use Rattle.w_segment.specs.declared.entry.Stage.TheVariants.{Body}
 use Rattle.w_segment.specs.Shape.{Shape, Level}
 use Rattle.w_segment.specs.Link.{Link, top, rest}
 use Rattle.w_chain.specs.ClauseLists.{clauses_of}
+use Rattle.w_conts.proofs.Finding.{some_is}
 use Rattle.w_reduce.specs.Values.{Val}
 use Rattle.w_reduce.specs.Terms.{Rest, rest_of, Layer, Label as InLabel, Frame as InFrame, Handle, Context}
 use Rattle.w_reduce.specs.Handlers.{Handler, one_more, here_or, find}
@@ -32,6 +33,7 @@ record OwnAround (m : Module) (outer : Context) (behind : Rest) (f q : ℕ) (ls 
   opens : IsOpen own
   at : (o : Context) → Around m o behind f q ls (own ++ o)
 
+-- of levels
 own_around : {m : Module} {outer : Context} {behind : Rest} {f q : ℕ} {ls : List Level} {e : Context} → Around m outer behind f q ls e → OwnAround m outer behind f q ls e
 own_around (label {n = n} {below = below} {again = again} {rest = rest} b k g w) =
     let r = own_around w in
@@ -68,19 +70,23 @@ own_of (values a k) = record { own = []; is = refl; opens = tt; at = λ o. value
 -- ## Finding past it
 
 module _ {A : Type 0} where
+  -- with more layers inside
   before : Context → Handler A → Handler A
   before e h = record h { inner = e ++ h.inner }
 
+  -- no layer inside changes nothing
   none_before : (r : Option (Handler A)) → option_map (before []) r ≡ r
   unfolding before
   none_before None = refl
   none_before (Some h) = refl
 
+  -- one layer inside is as well put first
   more_before : (l : Layer) (e : Context) (r : Option (Handler A)) → option_map (one_more l) (option_map (before e) r) ≡ option_map (before (l ∷ e)) r
   unfolding before
   more_before l e None = refl
   more_before l e (Some h) = refl
 
+  -- a search goes past a segment that has no handle of its own
   past : (c : List Clause → Option A) (e o : Context) → IsOpen e → find c (e ++ o) ≡ option_map (before e) (find c o)
   past c [] o h = sym (none_before (find c o))
   past c (InLabel below n again rest ∷ e) o h =
@@ -122,19 +128,20 @@ pub record Cuts {A : Type 0} (c : List Clause → Option A) (m : Module) (outer 
   pub waits : (top (drop (suc n) chain)).shape.stage ≡ Body
   pub clauses : clauses_of m (top (drop (suc n) chain)) ≡ handler.clauses
 
+-- of all but the first
 all_rest : (P : Link → Type 0) (x : Link) (xs : List Link) → All P (x ∷ xs) → All P xs
 all_rest P x xs a = λ k d h. a (suc k) d (omega arith)
 
+-- of the first
 all_first : (P : Link → Type 0) (x : Link) (xs : List Link) → All P (x ∷ xs) → P x
 all_first P x xs a = a 0 x (omega arith)
 
-some_is : {A : Type 0} {x y : A} → Some x ≡ Some y → x ≡ y
-some_is e = cc
-
 module _ {A : Type 0} (c : List Clause → Option A) (m : Module) where
+  -- what a segment answers by the clauses at which it waits
   abbrev pub ask : Link → Option A
   ask y = c (clauses_of m y)
 
+  -- the layer that answers first is the handle that is found
   pub cuts : {outer : Context} {behind : Rest} {chain : List Link} {e : Context} {vs : Row Val} {r : Rest} (n : ℕ) (a : A) → Chained m outer behind chain e vs r → IsFirst ask n a (rest chain) →
       Cuts c m outer behind chain e vs r n a
   unfolding before

@@ -1,7 +1,7 @@
 -- Switching.
 use Rattle.std.proofs.Common.{◌≡◌, ℕ, suc, ◌+◌, ◌-◌, ◌<◌, ◌≤◌, Bool, true, false, List, [], ◌∷◌, ◌++◌, Option, Some, None, slice_get, length, refl, sym, ap, ◌∙◌, subst, arith, add-one, drop, take, reverse, length-append, get_or}
-use Rattle.std.proofs.lemmas.List.{reverse-reverse, length-set, length-take-le}
-use Rattle.std.specs.Prelude.{◌≢◌, All, slice_set, if◌then◌else◌}
+use Rattle.std.proofs.lemmas.List.{reverse-reverse, length-set}
+use Rattle.std.specs.Prelude.{All, slice_set, if◌then◌else◌}
 use Rattle.w_types.specs.Rows.{Row, ◌▹◌, ◌⧺◌, row_of}
 use Rattle.w_types.specs.declared.types.FuncType.{FuncType}
 use Rattle.w_types.specs.declared.value.Value.{Value}
@@ -16,18 +16,18 @@ use Rattle.w_syntax.specs.declared.module.Module.{Module}
 use Rattle.w_rules.specs.Context.{cont_of}
 use Rattle.w_rules.specs.Spaces.{context_of}
 use Rattle.w_segment.specs.declared.entry.Stage.TheVariants.{Body}
-use Rattle.w_segment.specs.Shape.{Shape, SameParts, height}
+use Rattle.w_segment.specs.Shape.{Shape, SameParts}
 use Rattle.w_segment.specs.Changes.{pushed, pushed_all, discarded, moved}
 use Rattle.w_segment.specs.Link.{Link, top, rest, with_top}
 use Rattle.w_segment.proofs.Holding.{all_take, all_drop, all_reverse, pushed_holds, pushed_all_holds, discarded_holds, moved_holds}
 use Rattle.w_chain.specs.ClauseLists.{clauses_of}
 use Rattle.w_chain.specs.Layers.{switches_for, IsFirstSwitch}
-use Rattle.w_conts.specs.Conts.{Conts, KeepsReferences, IsOf, kept_at, without_entry, with_entry}
+use Rattle.w_conts.specs.Conts.{Conts, KeepsReferences, IsOf, kept_at, without_entry}
 use Rattle.w_reduce.specs.Values.{Val, Cont}
 use Rattle.w_reduce.specs.Terms.{Rest, rest_of, Handle, Context, Term, Kept, filled, in_context}
 use Rattle.w_reduce.specs.Store.{Store, with_cont, without_cont, next_cont}
 use Rattle.w_reduce.specs.Program.{Program}
-use Rattle.w_reduce.specs.Reduced.{Reduced, Went, Trapped, Stuck, or_stuck, take_values, unless_consumed}
+use Rattle.w_reduce.specs.Reduced.{Reduced, Went, or_stuck, take_values, unless_consumed}
 use Rattle.w_reduce.specs.Handlers.{Handler, has_switch, switch_clause, find}
 use Rattle.w_reduce.specs.Switching.{switching_op, captured, or_unhandled, back_type}
 use Rattle.w_reduce.specs.declared.trap.Trap.TheVariants as trap
@@ -41,26 +41,29 @@ use Rattle.w_switching.specs.declared.stored.Stored.{Stored}
 use Rattle.w_switching.specs.BackTypes.{back_of}
 use Rattle.w_switching.specs.Moved.{Exchanged, next_ref}
 use Rattle.w_switching.specs.Standing.{Chained, kept, AllKept}
-use Rattle.w_switching.specs.Reductions.{At, To, SwitchesAt, Switches}
+use Rattle.w_switching.specs.Reductions.{StandsAt, SwitchesAt, Switches}
 use Rattle.w_switching.specs.Sound.{LinksHold, Waits, HasRoomFor, is_of, IsGood, Sound, SoundWith, most_segments}
 use Rattle.w_switching.proofs.Joining.{joined, in_same, inside_top, kept_set, kept_more, kept_long}
 use Rattle.w_switching.proofs.Facing.{head, on_stack, at_term, next_top, some_chain}
-use Rattle.w_switching.proofs.Consuming.{KeptThere, kept_there}
+use Rattle.w_switching.proofs.Consuming.{kept_there}
 use Rattle.w_switching.proofs.Cutting.{Cuts, cuts, no_layer, layer_below}
 use Rattle.w_switching.proofs.LastTypes.{looks_up}
-use Rattle.w_switching.proofs.Parting.{top_taken, some_taken, some_dropped, both_long, ready_top, low_discarded}
+use Rattle.w_switching.proofs.Parting.{top_taken, some_taken, both_long, ready_top, low_discarded}
 use Rattle.w_switching.proofs.Putting.{take_sound, put_sound, top_sound}
 use Rattle.w_switching.proofs.Resuming.{given}
 use Rattle.w_switching.proofs.Sounding.{top_top, More, more_of, links_more, hold_append, hold_take, hold_drop, hold_with, hold_top, each_at, is_of_it, long_top, room_with, waits_some}
 
 -- ## Clauses
 
+-- no clause for the tag is no answer
 switch_none : (e : ℕ) (hs : List Clause) → has_switch e hs ≡ false → switch_clause e hs ≡ None
 switch_none e hs h = ap (λ (b : Bool). if b then Some tt else None) h
 
+-- and one is an answer
 switch_some : (e : ℕ) (hs : List Clause) → has_switch e hs ≡ true → switch_clause e hs ≡ Some tt
 switch_some e hs h = ap (λ (b : Bool). if b then Some tt else None) h
 
+-- the same of all layers
 none_switch : (m : Module) (e : ℕ) (ys : List Link) → All (λ y. switches_for m e y ≡ false) ys → All (λ y. switch_clause e (clauses_of m y) ≡ None) ys
 none_switch m e ys a = λ k d h. switch_none e (clauses_of m (get_or ys k d)) (a k d h)
 
@@ -71,19 +74,21 @@ joined_all : {m : Module} {outer : Context} {behind : Rest} {segs ys : List Link
 joined_all {ys = []} k h b d = elim d [ ]
 joined_all {ys = y ∷ ys} k h b d = joined k h b d
 
+-- the innermost of joined segments is that of the first ones
 with_append : (s : Shape) (xs ys : List Link) → 0 < length xs → with_top s (xs ++ ys) ≡ with_top s xs ++ ys
 with_append s [] ys h = absurd (omega arith)
 with_append s (x ∷ xs) ys h = refl
 
 -- ## With other room
 
+-- those around the innermost one stay
 rest_top : (s' : Shape) (xs : List Link) → rest (with_top s' xs) ≡ rest xs
 rest_top s' [] = refl
 rest_top s' (x ∷ xs) = refl
 
 module _ (o : SwitchingOp) (m : Module) (chain : List Link) (conts : Conts Stored) (s' : Shape) (same : SameParts (top chain).shape s') where
   -- the chain stands where it stood
-  pub at_same : {behind : Rest} {p : Program} {s : Store} {t : Term} {c : Code} → At o m behind chain conts p s t c → At o m behind (with_top s' chain) conts p s t c
+  pub at_same : {behind : Rest} {p : Program} {s : Store} {t : Term} {c : Code} → StandsAt o m behind chain conts p s t c → StandsAt o m behind (with_top s' chain) conts p s t c
   at_same a = record {
     stand = record {
       source = a.stand.source;
@@ -97,6 +102,7 @@ module _ (o : SwitchingOp) (m : Module) (chain : List Link) (conts : Conts Store
     applies = a.applies;
   }
 
+  -- so it stands at the instruction
   pub switches_same : SwitchesAt o m chain conts → SwitchesAt o m (with_top s' chain) conts
   switches_same k =
       let t = top_top s' chain (some_chain k) in
@@ -111,6 +117,7 @@ module _ (o : SwitchingOp) (m : Module) (chain : List Link) (conts : Conts Store
         at = at_same k.at;
       }
 
+  -- and the innermost layer with a switch clause is the same
   pub first_same : (e n : ℕ) → IsFirstSwitch m e n chain → IsFirstSwitch m e n (with_top s' chain)
   first_same e n f =
       let r = rest_top s' chain in
@@ -130,13 +137,13 @@ exchanging s a c q h u (below, us) =
 
 module _ (m : Module) (chain : List Link) (conts : Conts Stored) (x y : ℕ) (r : ContRef) (vs : List Value) (b : Stored) (on : (top chain).shape.operands ≡ value.Cont r ∷ vs) (of : IsOf r conts)
     (is : kept_at conts r.serial ≡ Some b) where
-
   -- where the handle was found
   handling : Program → Store → Code → Kept → Handler (Unit {0}) → Reduced
   handling p s c q h = or_stuck (cont_of (context_of p.source) x) (λ f. or_stuck (back_type (row_of f.params)) (λ z. or_stuck (cont_of (context_of p.source) z) (λ u.
       take_values (q.takes - 1) (stack vs) (exchanging s r.serial c q h u))))
 
-  rule_is : {behind : Rest} {p : Program} {s : Store} {t : Term} {c : Code} (a : At (switching.Switch x y) m behind chain conts p s t c) →
+  -- the rule looks for the handle once the reference led to a continuation
+  rule_is : {behind : Rest} {p : Program} {s : Store} {t : Term} {c : Code} (a : StandsAt (switching.Switch x y) m behind chain conts p s t c) →
       switching_op p s t.around t.operands (switching.Switch x y) c ≡ or_unhandled y (find (switch_clause y) t.around) (handling p s c (kept_there a.stand r of b is).k)
   unfolding handling exchanging
   rule_is {p = p} {s = s} {t = t} {c = c} a =
@@ -144,7 +151,7 @@ module _ (m : Module) (chain : List Link) (conts : Conts Stored) (x y : ℕ) (r 
       ∙ ap (λ (o : Option (Option Kept)). unless_consumed o (λ q. or_unhandled y (find (switch_clause y) t.around) (handling p s c q))) (kept_there a.stand r of b is).is
 
   -- where no handle has a switch clause for the tag it traps
-  pub switch_traps : All (λ z. switches_for m y z ≡ false) (rest chain) → Switches (switching.Switch x y) (did.Trapped (trap.Unhandled y)) m chain conts chain conts
+  pub switch_traps : All (λ z. switches_for m y z ≡ false) (rest chain) → Switches (did.Trapped (trap.Unhandled y)) (switching.Switch x y) m chain conts chain conts
   switch_traps none = (
     refl,
     refl,
@@ -154,7 +161,8 @@ module _ (m : Module) (chain : List Link) (conts : Conts Stored) (x y : ℕ) (r 
   )
 
   module _ (k : SwitchesAt (switching.Switch x y) m chain conts) (layer : ℕ) (first : IsFirstSwitch m y layer chain) where
-    switch_cuts : {behind : Rest} {p : Program} {s : Store} {t : Term} {c : Code} → At (switching.Switch x y) m behind chain conts p s t c →
+    -- the handle that is found
+    switch_cuts : {behind : Rest} {p : Program} {s : Store} {t : Term} {c : Code} → StandsAt (switching.Switch x y) m behind chain conts p s t c →
         Cuts (switch_clause y) m [] behind chain t.around t.operands (rest_of (Plain (op.Switching (switching.Switch x y)) c)) layer tt
     switch_cuts a = cuts (switch_clause y) m layer tt (at_term a) (record {
       waiting = first.waiting;
@@ -163,11 +171,12 @@ module _ (m : Module) (chain : List Link) (conts : Conts Stored) (x y : ℕ) (r 
       inside = none_switch m y (take layer (rest chain)) first.inside;
     })
 
+    -- the layer is one of the chain
     pub switch_layer : layer + 1 < length chain
     switch_layer = layer_below (switch_cuts k.at)
 
     -- what the rule comes to, by the type that is looked up
-    handled_is : {behind : Rest} {p : Program} {s : Store} {t : Term} {c : Code} (a : At (switching.Switch x y) m behind chain conts p s t c) →
+    handled_is : {behind : Rest} {p : Program} {s : Store} {t : Term} {c : Code} (a : StandsAt (switching.Switch x y) m behind chain conts p s t c) →
         switching_op p s t.around t.operands (switching.Switch x y) c
         ≡ or_stuck (back_of m x) (λ u. take_values (b.takes - 1) (stack vs) (exchanging s r.serial c (kept_there a.stand r of b is).k (switch_cuts a).handler u))
     unfolding handling
@@ -187,12 +196,13 @@ module _ (m : Module) (chain : List Link) (conts : Conts Stored) (x y : ℕ) (r 
         k.at.applies (handled_is k.at ∙ ap (λ (o : Option FuncType). or_stuck o (λ u. take_values (b.takes - 1) (stack vs) (exchanging k.s r.serial k.c w.k d.handler u))) none)
 
     module _ (u : FuncType) (kind : back_of m x ≡ Some u) where
-      record Exchanges (behind : Rest) (p : Program) (s : Store) (t : Term) (c : Code) (a : At (switching.Switch x y) m behind chain conts p s t c) : Type 0 where
+      record Exchanges (behind : Rest) (p : Program) (s : Store) (t : Term) (c : Code) (a : StandsAt (switching.Switch x y) m behind chain conts p s t c) : Type 0 where
         fits : b.takes - 1 ≤ length vs
         goes : switching_op p s t.around t.operands (switching.Switch x y) c
             ≡ exchanging s r.serial c (kept_there a.stand r of b is).k (switch_cuts a).handler u (stack (drop (b.takes - 1) vs), stack (take (b.takes - 1) vs))
 
-      exchanges : (behind : Rest) (p : Program) (s : Store) (t : Term) (c : Code) (a : At (switching.Switch x y) m behind chain conts p s t c) → Exchanges behind p s t c a
+      -- it comes to this in each configuration
+      exchanges : (behind : Rest) (p : Program) (s : Store) (t : Term) (c : Code) (a : StandsAt (switching.Switch x y) m behind chain conts p s t c) → Exchanges behind p s t c a
       exchanges behind p s t c a =
           let w = kept_there a.stand r of b is in
           let d = switch_cuts a in
@@ -208,7 +218,7 @@ module _ (m : Module) (chain : List Link) (conts : Conts Stored) (x y : ℕ) (r 
       module _ (conts1 : Conts Stored) (chain' : List Link) (conts' : Conts Stored) (taken : conts1 ≡ without_entry r.serial conts)
           (ex : Exchanged (b.takes - 1) (length u.params) layer b.segment.value chain conts1 chain' conts') where
         -- it went as the rule says
-        pub exchange_goes : Switches (switching.Switch x y) did.Went m chain conts chain' conts'
+        pub exchange_goes : Switches did.Went (switching.Switch x y) m chain conts chain' conts'
         unfolding exchanging
         exchange_goes behind p s t c a =
             let w = kept_there a.stand r of b is in

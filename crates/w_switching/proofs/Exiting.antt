@@ -1,5 +1,5 @@
 -- Leaving a handle.
-use Rattle.std.proofs.Common.{◌≡◌, ℕ, ◌+◌, ◌-◌, ◌<◌, ◌≤◌, Bool, true, List, [], ◌∷◌, ◌++◌, length, refl, sym, ap, ◌∙◌, subst, arith, reverse}
+use Rattle.std.proofs.Common.{◌≡◌, ◌-◌, ◌<◌, Bool, true, List, [], ◌∷◌, ◌++◌, length, refl, sym, ap, ◌∙◌, subst, arith, reverse}
 use Rattle.std.proofs.lemmas.List.{reverse-reverse}
 use Rattle.w_types.specs.Rows.{Row, ◌⧺◌}
 use Rattle.w_types.specs.declared.value.Value.{Value}
@@ -11,17 +11,17 @@ use Rattle.w_segment.specs.Shape.{Shape, SameParts}
 use Rattle.w_segment.specs.Changes.{pushed_all}
 use Rattle.w_segment.specs.Link.{Link, top, rest, with_top}
 use Rattle.w_segment.proofs.Holding.{pushed_all_holds, same_holds, all_reverse}
-use Rattle.w_conts.specs.Conts.{Conts, KeepsReferences, with_spare}
+use Rattle.w_conts.specs.Conts.{Conts, with_spare}
 use Rattle.w_reduce.specs.Values.{Val}
-use Rattle.w_reduce.specs.Terms.{Rest, rest_of, Handle, Context, Term}
+use Rattle.w_reduce.specs.Terms.{Rest, rest_of, Handle, Context}
 use Rattle.w_reduce.specs.Exits.{leave}
 use Rattle.w_stands.specs.Values.{stack}
 use Rattle.w_stands.specs.Stands.{In, body, left, fresh, values}
 use Rattle.w_switching.specs.declared.stored.Stored.{Stored}
 use Rattle.w_switching.specs.Moved.{SameLinks, Merged}
-use Rattle.w_switching.specs.Standing.{Chained, only, around, AllKept, Stand}
-use Rattle.w_switching.specs.Reductions.{To, Exits}
-use Rattle.w_switching.specs.Sound.{LinksHold, is_of, Sound, SoundWith}
+use Rattle.w_switching.specs.Standing.{Chained, only, around, AllKept}
+use Rattle.w_switching.specs.Reductions.{Exits}
+use Rattle.w_switching.specs.Sound.{LinksHold, is_of, Sound}
 use Rattle.w_switching.proofs.Resuming.{given}
 use Rattle.w_switching.proofs.SameButRoom.{same_shape, same_top}
 use Rattle.w_switching.proofs.Sounding.{hold_top, hold_with, long_top, spare_slot}
@@ -32,6 +32,7 @@ record IsValues (outer e : Context) (behind r : Rest) : Type 0 where
   context : e ≡ outer
   rest_is : r ≡ behind
 
+-- a segment that is values has no context of its own, and what comes behind it comes next
 values_is : {m : Module} {outer : Context} {behind : Rest} {s : Shape} {e : Context} {r : Rest} → In m outer behind s e r → s.stage ≡ Values → IsValues outer e behind r
 values_is (body a k w) h = absurd cc
 values_is (left a k w) h = absurd cc
@@ -49,6 +50,7 @@ record Inside (m : Module) (behind : Rest) (chain : List Link) (e : Context) (vs
   stands : Chained m [] behind (rest chain) outer below (rest_of code)
   operands : vs ≡ stack (top chain).shape.operands
 
+-- where there are two segments, the innermost one stands inside a handle
 in_handle : {m : Module} {behind : Rest} {chain : List Link} {e : Context} {vs : Row Val} {r : Rest} → Chained m [] behind chain e vs r → 1 < length chain → (top chain).shape.stage ≡ Values →
     Inside m behind chain e vs r
 in_handle (only i o) h b = absurd (omega arith)
@@ -58,15 +60,18 @@ in_handle (around {e' = e'} {below = below} {hs = hs} {c = c} i o g w k) h b =
 
 -- ## Where it goes
 
+-- a fact of all values of segments holds for those around the innermost one
 rest_hold : (test : Value → Bool) (xs : List Link) → LinksHold test xs → LinksHold test (rest xs)
 rest_hold test [] h = tt
 rest_hold test (x ∷ xs) h = h.1
 
+-- these are one fewer
 pub rest_long : (xs : List Link) → length (rest xs) ≡ length xs - 1
 rest_long [] = refl
 rest_long (x ∷ xs) = omega arith
 
 module _ (chain chain' : List Link) (conts conts' : Conts Stored) (two : 1 < length chain) (merged : Merged chain chain') (after : conts' ≡ with_spare (conts.spare - 1) conts) where
+  -- it went as the rule says
   pub exits : (top chain).shape.stage ≡ Values → Exits chain conts chain' conts'
   exits b m behind p s t a =
       let w = in_handle a.term two b in
@@ -74,8 +79,7 @@ module _ (chain chain' : List Link) (conts conts' : Conts Stored) (two : 1 < len
       let s1 = merged.waiting in
       let same = merged.same in
       let k = given (pushed_all (reverse us) s1) us w.stands (record { levels = same.levels; func = same.func; place = same.place; stage = same.stage })
-      (ap (λ (l : List Value). l ++ s1.operands) (reverse-reverse us) ∙ ap (λ (l : List Value). us ++ l) same.operands) in
-      (
+      (ap (λ (l : List Value). l ++ s1.operands) (reverse-reverse us) ∙ ap (λ (l : List Value). us ++ l) same.operands) in (
         w.rest_is,
         record {
           conts_after = s.conts;

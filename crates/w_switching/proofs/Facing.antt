@@ -1,5 +1,5 @@
 -- A configuration at a switching instruction, and the innermost segment, which stands before it.
-use Rattle.std.proofs.Common.{◌≡◌, ℕ, suc, ◌+◌, ◌<◌, List, [], ◌∷◌, Some, length, refl, sym, ap, ◌∙◌, subst, arith, add-one}
+use Rattle.std.proofs.Common.{◌≡◌, ℕ, suc, ◌+◌, ◌<◌, List, [], Some, length, sym, ap, ◌∙◌, subst, add-one}
 use Rattle.std.specs.Prelude.{◌≢◌, ◌^◌}
 use Rattle.w_types.specs.Rows.{Row}
 use Rattle.w_types.specs.declared.value.Value.{Value}
@@ -26,8 +26,8 @@ use Rattle.w_stands.specs.Stands.{In}
 use Rattle.w_stands.proofs.Reading.{here, shows_plain, onward}
 use Rattle.w_stands.proofs.Stepping.{Next, place_fits}
 use Rattle.w_switching.specs.declared.stored.Stored.{Stored}
-use Rattle.w_switching.specs.Standing.{Chained, only, around, Stand}
-use Rattle.w_switching.specs.Reductions.{switched, At, SwitchesAt}
+use Rattle.w_switching.specs.Standing.{Chained, only, around}
+use Rattle.w_switching.specs.Reductions.{switched, StandsAt, SwitchesAt}
 use Rattle.w_switching.proofs.Joining.{chained_some}
 
 -- ## The innermost segment
@@ -38,6 +38,7 @@ pub record Head (m : Module) (chain : List Link) (e : Context) (vs : Row Val) (r
   pub stands : In m outer behind (top chain).shape e r
   pub operands : vs ≡ stack (top chain).shape.operands
 
+-- it stands for its part of the context
 pub head : {m : Module} {outer : Context} {behind : Rest} {chain : List Link} {e : Context} {vs : Row Val} {r : Rest} → Chained m outer behind chain e vs r → Head m chain e vs r
 head (only i o) = record { outer = _; behind = _; stands = i; operands = o }
 head (around i o h b c) = record { outer = _; behind = _; stands = i; operands = o }
@@ -61,11 +62,12 @@ pushed_on s d u g q v w a b e h i =
 
 -- ## A configuration at the instruction
 
-module _ {o : SwitchingOp} {m : Module} {behind : Rest} {chain : List Link} {conts : Conts Stored} {p : Program} {s : Store} {t : Term} {c : Code} (a : At o m behind chain conts p s t c) where
+module _ {o : SwitchingOp} {m : Module} {behind : Rest} {chain : List Link} {conts : Conts Stored} {p : Program} {s : Store} {t : Term} {c : Code} (a : StandsAt o m behind chain conts p s t c) where
   -- the rule by the operands of the innermost segment
   pub on_stack : (vs : List Value) → (top chain).shape.operands ≡ vs → switched o p s t c ≡ switching_op p s t.around (stack vs) o c
   on_stack vs h = ap (λ (r : Row Val). switching_op p s t.around r o c) ((head a.stand.term).operands ∙ ap stack h)
 
+  -- so a rule applies to them
   pub applies_on : (vs : List Value) → (top chain).shape.operands ≡ vs → switching_op p s t.around (stack vs) o c ≢ Stuck
   applies_on vs h = λ q. a.applies (on_stack vs h ∙ q)
 
@@ -74,6 +76,7 @@ module _ {o : SwitchingOp} {m : Module} {behind : Rest} {chain : List Link} {con
   at_term = subst (λ (r : Rest). Chained m [] behind chain t.around t.operands r) a.comes a.stand.term
 
 module _ {o : SwitchingOp} {m : Module} {chain : List Link} {conts : Conts Stored} (k : SwitchesAt o m chain conts) where
+  -- there is a segment
   pub some_chain : 0 < length chain
   some_chain = chained_some k.at.stand.term
 

@@ -1,5 +1,5 @@
 -- Segments inside others, and entries of the store.
-use Rattle.std.proofs.Common.{◌≡◌, ℕ, zero, suc, ◌+◌, ◌<◌, List, [], ◌∷◌, ◌++◌, Option, Some, None, slice_get, length, refl, sym, ap, ◌∙◌, subst, arith}
+use Rattle.std.proofs.Common.{◌≡◌, ℕ, zero, suc, ◌<◌, List, [], ◌∷◌, ◌++◌, Option, Some, None, slice_get, length, refl, sym, ap, ◌∙◌, subst, arith}
 use Rattle.std.specs.Prelude.{slice_set}
 use Rattle.w_types.specs.Rows.{Row}
 use Rattle.w_syntax.specs.Code.{Code, Done}
@@ -16,16 +16,18 @@ use Rattle.w_stands.specs.Values.{stack}
 use Rattle.w_stands.specs.Code.{instrs, Reads}
 use Rattle.w_stands.specs.Stands.{Around, label, frame, outermost, In, body, left, fresh, values}
 use Rattle.w_switching.specs.declared.stored.Stored.{Stored}
-use Rattle.w_switching.specs.Standing.{Chained, only, around, IsKept, gone, kept, AllKept, nil, cons}
+use Rattle.w_switching.specs.Standing.{Chained, only, around, IsKept, gone, AllKept, nil, cons}
 
 -- ## What stands around may be more
 
+-- of levels
 pub around_more : {m : Module} {outer : Context} {behind : Rest} {f q : ℕ} {ls : List Level} {e : Context} (more : Context) →
     Around m outer behind f q ls e → Around m (outer ++ more) behind f q ls (e ++ more)
 around_more more (label b k g w) = label b k g (around_more more w)
 around_more more (frame n k w) = frame n k (around_more more w)
 around_more more (outermost n) = outermost n
 
+-- of a segment
 pub in_more : {m : Module} {outer : Context} {behind : Rest} {s : Shape} {e : Context} {r : Rest} (more : Context) →
     In m outer behind s e r → In m (outer ++ more) behind s (e ++ more) r
 in_more more (body a k w) = body a k (around_more more w)
@@ -105,6 +107,7 @@ pub record Entry (m : Module) (os : List (Option (ℕ × Stored))) (ks : List (O
   pub is : slice_get ks a ≡ Some there
   pub so : IsKept m (entry_at os a) there
 
+-- each address that was given out has one
 pub entry : {m : Module} {os : List (Option (ℕ × Stored))} {ks : List (Option Kept)} (a : ℕ) → AllKept m os ks → a < length os → Entry m os ks a
 entry a nil h = absurd (omega arith)
 entry zero (cons {k = k} i is) h = record { there = k; is = refl; so = i }

@@ -2,7 +2,7 @@
 use Rattle.std.proofs.Common.{◌≡◌, ℕ, List, [], ◌∷◌, ◌++◌, Option, Some, None, refl, ap, ◌∙◌}
 use Rattle.w_types.specs.declared.types.FuncType.{FuncType}
 use Rattle.w_types.specs.declared.types.ValType.{ValType}
-use Rattle.w_types.specs.Rows.{Row, ◌▹◌, row_of}
+use Rattle.w_types.specs.Rows.{◌▹◌, row_of}
 use Rattle.w_types.proofs.Rows.{row_of-more}
 use Rattle.w_syntax.specs.declared.module.Module.{Module}
 use Rattle.w_rules.specs.Context.{cont_of}
@@ -20,10 +20,12 @@ pub looks_up : (m : Module) (x : ℕ) (go : FuncType → Reduced) →
     or_stuck (cont_of (context_of m) x) (λ t. or_stuck (back_type (row_of t.params)) (λ y. or_stuck (cont_of (context_of m) y) go)) ≡ or_stuck (back_of m x) go
 looks_up m x go = first (cont_of (context_of m) x)
   where
+    -- the last two
     second : (o : Option ℕ) → or_stuck o (λ y. or_stuck (cont_of (context_of m) y) go) ≡ or_stuck (cont_at m o) go
     second None = refl
     second (Some y) = refl
 
+    -- all three
     first : (o : Option FuncType) → or_stuck o (λ t. or_stuck (back_type (row_of t.params)) (λ y. or_stuck (cont_of (context_of m) y) go)) ≡ or_stuck (cont_at m (last_cont o)) go
     first None = refl
     first (Some t) = second (back_type (row_of t.params))

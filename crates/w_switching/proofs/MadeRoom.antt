@@ -1,5 +1,5 @@
 -- A switch, once the innermost segment has room for what it will take.
-use Rattle.std.proofs.Common.{◌≡◌, ℕ, ◌+◌, ◌-◌, ◌<◌, ◌≤◌, List, ◌∷◌, Option, Some, length, sym, ap, ◌∙◌, subst, arith}
+use Rattle.std.proofs.Common.{◌≡◌, ℕ, ◌+◌, ◌-◌, ◌<◌, ◌≤◌, List, ◌∷◌, Some, length, sym, ap, ◌∙◌, subst, arith}
 use Rattle.std.specs.Prelude.{◌^◌}
 use Rattle.w_types.specs.declared.types.FuncType.{FuncType}
 use Rattle.w_types.specs.declared.value.Value.{Value}
@@ -7,10 +7,11 @@ use Rattle.w_types.specs.declared.value.Value.TheVariants as value
 use Rattle.w_types.specs.declared.value.ContRef.{ContRef}
 use Rattle.w_syntax.specs.declared.instructions.SwitchingOp.TheVariants as switching
 use Rattle.w_syntax.specs.declared.module.Module.{Module}
-use Rattle.w_segment.specs.Shape.{Shape, SameParts, height, Fits}
+use Rattle.w_segment.specs.Shape.{Shape, SameParts, Fits}
 use Rattle.w_segment.specs.Link.{Link, top, with_top}
 use Rattle.w_chain.specs.Layers.{IsFirstSwitch}
 use Rattle.w_conts.specs.Conts.{Conts, KeepsReferences, IsOf, kept_at, without_entry}
+use Rattle.w_conts.proofs.Finding.{some_is}
 use Rattle.w_stands.specs.declared.did.Did.TheVariants as did
 use Rattle.w_switching.specs.declared.stored.Stored.{Stored}
 use Rattle.w_switching.specs.BackTypes.{back_of}
@@ -21,9 +22,6 @@ use Rattle.w_switching.proofs.Facing.{place_behind, some_chain}
 use Rattle.w_switching.proofs.Exchanging.{at_same, switches_same, first_same, switch_layer, switch_fits, exchange_goes, exchange_sound}
 use Rattle.w_switching.proofs.SameButRoom.{same_top, same_sound}
 use Rattle.w_switching.proofs.Sounding.{each_at, long_top, room_with, top_top, reference_of}
-
-some_is : {A : Type 0} {x y : A} → Some x ≡ Some y → x ≡ y
-some_is e = cc
 
 -- what the moving needs
 pub record CanExchange (n layer : ℕ) (segs chain : List Link) : Type 0 where
@@ -36,24 +34,31 @@ pub record CanExchange (n layer : ℕ) (segs chain : List Link) : Type 0 where
 module _ (m : Module) (chain : List Link) (conts : Conts Stored) (x y : ℕ) (r : ContRef) (vs : List Value) (seen b : Stored) (on : (top chain).shape.operands ≡ value.Cont r ∷ vs)
     (sound : Sound chain conts) (sees : kept_at conts r.serial ≡ Some seen) (is : kept_at conts r.serial ≡ Some b) (k : SwitchesAt (switching.Switch x y) m chain conts) (layer : ℕ)
     (first : IsFirstSwitch m y layer chain) (u : FuncType) (kind : back_of m x ≡ Some u) (s' : Shape) (same : SameParts (top chain).shape s') where
+  -- the chain with that room
   abbrev roomy : List Link
   roomy = with_top s' chain
 
+  -- it stands at the instruction
   k' : SwitchesAt (switching.Switch x y) m roomy conts
   k' = switches_same (switching.Switch x y) m chain conts s' same k
 
+  -- with the same operands
   on' : (top roomy).shape.operands ≡ value.Cont r ∷ vs
   on' = ap (λ (z : Shape). z.operands) (top_top s' chain (some_chain k)) ∙ same.operands ∙ on
 
+  -- and with the same innermost layer
   first' : IsFirstSwitch m y layer roomy
   first' = first_same (switching.Switch x y) m chain conts s' same y layer first
 
+  -- what was looked at is what was taken
   takes_is : seen.takes ≡ b.takes
   takes_is = ap (λ (z : Stored). z.takes) (some_is (sym sees ∙ is))
 
+  -- the reference is of the store
   of : IsOf r conts
   of = reference_of chain conts r vs sound on
 
+  -- all of it is there
   pub can_exchange : TakesAtLeast 1 chain conts → length chain ≤ most_segments → CanExchange (seen.takes - 1) layer b.segment.value roomy
   can_exchange one few =
       let t = takes_is in
@@ -73,13 +78,14 @@ module _ (m : Module) (chain : List Link) (conts : Conts Stored) (x y : ℕ) (r 
 
   module _ (takes : ℕ) (long : takes ≡ length u.params) (conts1 : Conts Stored) (chain' : List Link) (conts' : Conts Stored) (taken : conts1 ≡ without_entry r.serial conts)
       (ex : Exchanged (seen.takes - 1) takes layer b.segment.value roomy conts1 chain' conts') where
+    -- what was moved, by the numbers of the rule
     exchanged : Exchanged (b.takes - 1) (length u.params) layer b.segment.value roomy conts1 chain' conts'
     exchanged =
         subst (λ (n : ℕ). Exchanged (n - 1) (length u.params) layer b.segment.value roomy conts1 chain' conts') takes_is
         (subst (λ (n : ℕ). Exchanged (seen.takes - 1) n layer b.segment.value roomy conts1 chain' conts') long ex)
 
     -- it went as the rule says
-    pub room_goes : Switches (switching.Switch x y) did.Went m chain conts chain' conts'
+    pub room_goes : Switches did.Went (switching.Switch x y) m chain conts chain' conts'
     room_goes behind p s t c a =
         exchange_goes m roomy conts x y r vs b on' of is k' layer first' u kind conts1 chain' conts' taken exchanged behind p s t c (at_same (switching.Switch x y) m chain conts s' same a)
 

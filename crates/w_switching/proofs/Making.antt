@@ -1,58 +1,56 @@
 -- Making a continuation.
-use Rattle.std.proofs.Common.{◌≡◌, ℕ, suc, ◌+◌, ◌<◌, ◌≤◌, Bool, true, List, [], ◌∷◌, ◌++◌, Option, Some, length, refl, sym, ap, ◌∙◌, subst, arith, drop}
-use Rattle.std.specs.Prelude.{◌≢◌}
-use Rattle.w_types.specs.Rows.{Row, ε, ◌▹◌}
+use Rattle.std.proofs.Common.{◌≡◌, ℕ, ◌+◌, ◌≤◌, true, List, [], ◌∷◌, ◌++◌, Some, length, refl, sym, ap, ◌∙◌, subst, arith, drop}
+use Rattle.w_types.specs.Rows.{◌▹◌}
 use Rattle.w_types.specs.declared.types.FuncType.{FuncType}
 use Rattle.w_types.specs.declared.value.Value.{Value}
 use Rattle.w_types.specs.declared.value.Value.TheVariants as value
-use Rattle.w_syntax.specs.Code.{Code, Done}
+use Rattle.w_syntax.specs.Code.{Done}
 use Rattle.w_syntax.specs.declared.instructions.SwitchingOp.TheVariants as switching
 use Rattle.w_syntax.specs.declared.module.Module.{Module}
 use Rattle.w_rules.specs.Context.{cont_of}
 use Rattle.w_rules.specs.Spaces.{context_of}
-use Rattle.w_segment.specs.Shape.{Shape, Capacity, fresh_shape}
-use Rattle.w_segment.specs.Link.{Link, IsNew, top, with_top, one}
+use Rattle.w_segment.specs.Shape.{Shape}
+use Rattle.w_segment.specs.Link.{Link, IsNew, top, with_top}
 use Rattle.w_segment.specs.Changes.{pushed, discarded, moved}
 use Rattle.w_segment.proofs.Holding.{pushed_holds, discarded_holds, moved_holds, fresh_holds}
 use Rattle.w_conts.specs.Conts.{Conts, KeepsReferences, IsOf, with_entry, with_spare}
-use Rattle.w_reduce.specs.Values.{Val, Cont}
-use Rattle.w_reduce.specs.Terms.{Rest, rest_of, Term, Kept, fresh as fresh_kept}
-use Rattle.w_reduce.specs.Store.{Store, next_cont, with_cont}
-use Rattle.w_reduce.specs.Program.{Program}
-use Rattle.w_reduce.specs.Reduced.{Stuck, or_stuck, steps_to}
-use Rattle.w_reduce.specs.Switching.{switching_op}
+use Rattle.w_reduce.specs.Values.{Cont}
+use Rattle.w_reduce.specs.Terms.{rest_of, Kept, fresh as fresh_kept}
+use Rattle.w_reduce.specs.Store.{next_cont, with_cont}
+use Rattle.w_reduce.specs.Reduced.{steps_to}
 use Rattle.w_reduce.specs.declared.trap.Trap.TheVariants as trap
 use Rattle.w_stands.specs.declared.did.Did.TheVariants as did
 use Rattle.w_stands.specs.Values.{stack}
 use Rattle.w_stands.specs.Stands.{fresh}
 use Rattle.w_stands.proofs.LookedUp.{goes_on}
-use Rattle.w_stands.proofs.Stepping.{Next}
 use Rattle.w_switching.specs.declared.stored.Stored.{Stored}
 use Rattle.w_switching.specs.Moved.{next_ref}
 use Rattle.w_switching.specs.Standing.{Chained, only, kept, AllKept}
-use Rattle.w_switching.specs.Reductions.{At, To, SwitchesAt, Switches}
+use Rattle.w_switching.specs.Reductions.{SwitchesAt, Switches}
 use Rattle.w_switching.specs.Sound.{LinksHold, Waits, HasRoomFor, is_of, Sound, SoundWith, IsGood}
 use Rattle.w_switching.proofs.Joining.{inside_top, kept_more, kept_long}
-use Rattle.w_switching.proofs.Facing.{on_stack, applies_on, at_term, next_top}
-use Rattle.w_switching.proofs.Sounding.{hold_top, of_is, is_of_it, long_top}
+use Rattle.w_switching.proofs.Facing.{on_stack, at_term, next_top}
+use Rattle.w_switching.proofs.Sounding.{hold_top, is_of_it}
 use Rattle.w_switching.proofs.Putting.{reserve_sound, top_sound, put_sound}
 
 -- a null reference traps
 pub new_traps : (m : Module) (chain : List Link) (conts : Conts Stored) (x : ℕ) (vs : List Value) → (top chain).shape.operands ≡ value.Null ∷ vs →
-    Switches (switching.ContNew x) (did.Trapped trap.NullReference) m chain conts chain conts
+    Switches (did.Trapped trap.NullReference) (switching.ContNew x) m chain conts chain conts
 new_traps m chain conts x vs q = (refl, refl, λ behind p s t c a. on_stack a (value.Null ∷ vs) q)
 
 module _ (m : Module) (chain : List Link) (conts conts' : Conts Stored) (x f place : ℕ) (vs : List Value) (t1 : FuncType) (b : Stored) (k : SwitchesAt (switching.ContNew x) m chain conts)
     (on : (top chain).shape.operands ≡ value.Func f ∷ vs) (kind : cont_of (context_of m) x ≡ Some t1) (takes : b.takes ≡ length t1.params) (new : IsNew f b.takes b.segment.value)
     (after : conts' ≡ with_entry place b (with_spare (conts.spare + 1) conts)) where
+  -- the innermost segment
   abbrev s_top : Shape
   s_top = (top chain).shape
 
+  -- the same with the reference, behind the instruction
   abbrev s_new : Shape
   s_new = moved (s_top.place + 1) (pushed (next_ref place (length conts.entries)) (discarded 1 s_top))
 
   -- it went as the rule says
-  pub new_goes : (s' : Shape) → s' ≡ s_new → Switches (switching.ContNew x) did.Went m chain conts (with_top s' chain) conts'
+  pub new_goes : (s' : Shape) → s' ≡ s_new → Switches did.Went (switching.ContNew x) m chain conts (with_top s' chain) conts'
   new_goes s' is behind p s t c a =
       let kept_one : Kept = fresh_kept f (length t1.params) in
       let long : next_cont s ≡ length conts.entries = kept_long a.stand.store in

@@ -1,32 +1,30 @@
 -- Resuming a continuation.
-use Rattle.std.proofs.Common.{◌≡◌, ℕ, suc, ◌+◌, ◌<◌, ◌≤◌, Bool, true, List, [], ◌∷◌, ◌++◌, Option, Some, None, slice_get, length, refl, sym, ap, ◌∙◌, subst, arith, drop, take, reverse, length-append}
-use Rattle.std.proofs.lemmas.List.{length-reverse, reverse-reverse}
-use Rattle.std.specs.Prelude.{◌≢◌, slice_set}
-use Rattle.w_types.specs.Rows.{Row, ◌▹◌, ◌⧺◌}
+use Rattle.std.proofs.Common.{◌≡◌, ℕ, ◌+◌, ◌≤◌, true, List, [], ◌∷◌, ◌++◌, Option, Some, None, slice_get, length, refl, sym, ap, ◌∙◌, subst, arith, drop, take, reverse, length-append}
+use Rattle.std.proofs.lemmas.List.{reverse-reverse}
+use Rattle.std.specs.Prelude.{slice_set}
+use Rattle.w_types.specs.Rows.{Row, ◌⧺◌}
 use Rattle.w_types.specs.declared.value.Value.{Value}
 use Rattle.w_types.specs.declared.value.Value.TheVariants as value
 use Rattle.w_types.specs.declared.value.ContRef.{ContRef}
 use Rattle.w_syntax.specs.Code.{Code, Plain, Done}
 use Rattle.w_syntax.specs.Functions.{code_of_function}
 use Rattle.w_syntax.specs.declared.instructions.Clause.{Clause}
-use Rattle.w_syntax.specs.declared.instructions.Instr.{Instr}
 use Rattle.w_syntax.specs.declared.instructions.Instr.TheVariants as flat
 use Rattle.w_syntax.specs.declared.instructions.Op.TheVariants as op
 use Rattle.w_syntax.specs.declared.instructions.SwitchingOp.TheVariants as switching
 use Rattle.w_syntax.specs.declared.module.Func.{Func}
 use Rattle.w_syntax.specs.declared.module.Module.{Module}
-use Rattle.w_segment.specs.Holds.{Holds}
 use Rattle.w_segment.specs.Shape.{Shape}
 use Rattle.w_segment.specs.Changes.{pushed_all, discarded, moved}
 use Rattle.w_segment.specs.Link.{Link, top, with_top, with_clauses}
 use Rattle.w_segment.proofs.Holding.{all_take, all_drop, all_reverse, pushed_all_holds, discarded_holds, moved_holds}
 use Rattle.w_chain.specs.ClauseLists.{clauses_in, clauses_of, instr_in}
 use Rattle.w_conts.specs.Conts.{Conts, KeepsReferences, IsOf, kept_at, without_entry}
-use Rattle.w_reduce.specs.Values.{Val, Cont}
+use Rattle.w_reduce.specs.Values.{Val}
 use Rattle.w_reduce.specs.Terms.{Rest, rest_of, Handle, Context, Term, Kept, filled, in_context}
 use Rattle.w_reduce.specs.Store.{Store, without_cont}
 use Rattle.w_reduce.specs.Program.{Program}
-use Rattle.w_reduce.specs.Reduced.{Reduced, Went, Stuck, take_values, unless_consumed}
+use Rattle.w_reduce.specs.Reduced.{Reduced, Went, take_values, unless_consumed}
 use Rattle.w_reduce.specs.Switching.{switching_op}
 use Rattle.w_stands.specs.declared.did.Did.TheVariants as did
 use Rattle.w_stands.specs.Values.{stack}
@@ -36,10 +34,10 @@ use Rattle.w_stands.proofs.TakingMany.{stack_take, stack_enough, stack_append}
 use Rattle.w_switching.specs.declared.stored.Stored.{Stored}
 use Rattle.w_switching.specs.Moved.{passed}
 use Rattle.w_switching.specs.Standing.{Chained, AllKept}
-use Rattle.w_switching.specs.Reductions.{At, To, SwitchesAt, Switches}
-use Rattle.w_switching.specs.Sound.{LinksHold, is_of, IsGood, Sound, SoundWith}
+use Rattle.w_switching.specs.Reductions.{StandsAt, SwitchesAt, Switches}
+use Rattle.w_switching.specs.Sound.{is_of, IsGood, Sound}
 use Rattle.w_switching.proofs.Joining.{joined, SamePlace, in_same, inside, inside_top, kept_set}
-use Rattle.w_switching.proofs.Facing.{head, on_stack, applies_on, at_term, next_top}
+use Rattle.w_switching.proofs.Facing.{head, on_stack, at_term, next_top}
 use Rattle.w_switching.proofs.Consuming.{KeptThere, kept_there}
 use Rattle.w_switching.proofs.Sounding.{hold_append, hold_with, hold_clauses, hold_top, each_at, links_more, more_of, long_top, long_clauses}
 use Rattle.w_switching.proofs.Putting.{take_sound}
@@ -61,6 +59,7 @@ pushed_given {segs = segs} us k =
 
 -- ## The clauses of the handle
 
+-- the instruction at a place, found either way
 instr_is : (f : Option Func) (place : ℕ) → instr_in f place ≡ slice_get (instrs_in f) place
 instr_is None place = refl
 instr_is (Some f) place = refl
@@ -83,7 +82,6 @@ resume_stands m (y ∷ ys) conts x hs k s' n i w =
 
 module _ (m : Module) (chain : List Link) (conts : Conts Stored) (x : ℕ) (hs : List Clause) (r : ContRef) (vs : List Value) (b : Stored) (k : SwitchesAt (switching.Resume x hs) m chain conts)
     (on : (top chain).shape.operands ≡ value.Cont r ∷ vs) (of : IsOf r conts) (is : kept_at conts r.serial ≡ Some b) where
-
   -- what the rule comes to
   pub record Resumed (behind : Rest) (p : Program) (s : Store) (t : Term) (c : Code) : Type 0 where
     pub there : KeptThere m s r.serial b
@@ -91,7 +89,8 @@ module _ (m : Module) (chain : List Link) (conts : Conts Stored) (x : ℕ) (hs :
     pub goes : switching_op p s t.around t.operands (switching.Resume x hs) c
         ≡ Went [] (without_cont r.serial s) (in_context (Handle (stack (drop b.takes vs)) hs c ∷ t.around) (filled there.k.term (stack (take b.takes vs))))
 
-  pub resumed : (behind : Rest) (p : Program) (s : Store) (t : Term) (c : Code) → At (switching.Resume x hs) m behind chain conts p s t c → Resumed behind p s t c
+  -- it comes to this in each configuration
+  pub resumed : (behind : Rest) (p : Program) (s : Store) (t : Term) (c : Code) → StandsAt (switching.Resume x hs) m behind chain conts p s t c → Resumed behind p s t c
   resumed behind p s t c a =
       let w = kept_there a.stand r of b is in
       let go : Kept → Row Val × Row Val → Reduced = λ q (below, us). Went [] (without_cont r.serial s) (in_context (Handle below hs c ∷ t.around) (filled q.term us)) in
@@ -107,7 +106,7 @@ module _ (m : Module) (chain : List Link) (conts : Conts Stored) (x : ℕ) (hs :
 
   -- it went as the rule says
   pub resume_goes : (chain' : List Link) (conts' : Conts Stored) → chain' ≡ passed b.takes b.segment.value chain → conts' ≡ without_entry r.serial conts →
-      Switches (switching.Resume x hs) did.Went m chain conts chain' conts'
+      Switches did.Went (switching.Resume x hs) m chain conts chain' conts'
   resume_goes chain' conts' went after behind p s t c a =
       let w = resumed behind p s t c a in
       let q = w.there.k.term in

@@ -1,5 +1,5 @@
 -- Segments that are the same but for room.
-use Rattle.std.proofs.Common.{◌≡◌, ℕ, suc, ◌+◌, ◌<◌, Bool, true, List, [], ◌∷◌, ◌++◌, length, refl, sym, ap, ◌∙◌, subst, arith}
+use Rattle.std.proofs.Common.{◌≡◌, ℕ, suc, Bool, true, List, [], ◌∷◌, ◌++◌, length, refl, ap, arith}
 use Rattle.w_types.specs.declared.value.Value.{Value}
 use Rattle.w_segment.specs.Shape.{Shape, SameParts}
 use Rattle.w_segment.specs.Link.{Link, top, with_top}
@@ -9,9 +9,11 @@ use Rattle.w_switching.specs.declared.stored.Stored.{Stored}
 use Rattle.w_switching.specs.Moved.{SameLinks}
 use Rattle.w_switching.specs.Sound.{LinksHold, is_of, SoundWith}
 
+-- of one segment
 pub same_shape : (s : Shape) → SameParts s s
 same_shape s = record { levels = refl; operands = refl; func = refl; place = refl; stage = refl }
 
+-- the same segments are
 pub same_links : (xs : List Link) → SameLinks xs xs
 same_links [] = tt
 same_links (x ∷ xs) = (same_shape x.shape, refl, same_links xs)
@@ -21,6 +23,7 @@ pub same_top : (s' : Shape) (xs : List Link) → SameParts (top xs).shape s' →
 same_top s' [] h = tt
 same_top s' (x ∷ xs) h = (h, refl, same_links xs)
 
+-- and joined ones
 pub same_append : (xs ys zs ws : List Link) → SameLinks xs ys → SameLinks zs ws → SameLinks (xs ++ zs) (ys ++ ws)
 same_append [] [] zs ws h g = g
 same_append [] (y ∷ ys) zs ws h g = absurd h
@@ -41,6 +44,7 @@ same_hold test [] (y ∷ ys) h g = absurd h
 same_hold test (x ∷ xs) [] h g = absurd h
 same_hold test (x ∷ xs) (y ∷ ys) h g = (same_holds (λ v. test v ≡ true) x.shape y.shape h.0 g.0, same_hold test xs ys h.2 g.1)
 
+-- and are sound
 pub same_sound : (n : ℕ) (xs ys : List Link) (conts : Conts Stored) → SameLinks xs ys → SoundWith n xs conts → SoundWith n ys conts
 same_sound n xs ys conts h s = record {
   references = same_hold (is_of conts) xs ys h s.references;

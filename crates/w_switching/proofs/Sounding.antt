@@ -1,5 +1,5 @@
 -- References, entries and slots, as segments and entries change.
-use Rattle.std.proofs.Common.{◌≡◌, ℕ, zero, suc, ◌+◌, ◌<◌, ◌≤◌, Bool, true, List, [], ◌∷◌, ◌++◌, Option, Some, None, length, refl, sym, ap, ◌∙◌, subst, arith, take, drop, reverse, length-append, nat_eq, eqb-true, eq-eqb}
+use Rattle.std.proofs.Common.{◌≡◌, ℕ, zero, suc, ◌+◌, ◌<◌, ◌≤◌, Bool, true, List, [], ◌∷◌, ◌++◌, Option, Some, None, length, refl, sym, ap, ◌∙◌, subst, arith, take, drop, reverse, length-append, eqb-true, eq-eqb}
 use Rattle.std.proofs.lemmas.List.{length-reverse}
 use Rattle.std.specs.Prelude.{slice_set, option_map}
 use Rattle.w_types.specs.declared.value.Value.{Value}
@@ -9,22 +9,26 @@ use Rattle.w_segment.specs.Holds.{AllOf, AllSet, LevelsHold, Holds}
 use Rattle.w_segment.specs.Shape.{Shape, Level, Label, Frame, height}
 use Rattle.w_segment.specs.Changes.{pushed_all}
 use Rattle.w_segment.specs.Link.{Link, top, with_top, with_clauses}
-use Rattle.w_conts.specs.Conts.{Conts, IsOf, KeepsReferences, entry_at, some_count}
+use Rattle.w_conts.specs.Conts.{Conts, IsOf, KeepsReferences, entry_at, kept_at, some_count}
+use Rattle.w_conts.proofs.Finding.{some_is, serial_is}
 use Rattle.w_switching.specs.declared.stored.Stored.{Stored}
 use Rattle.w_switching.specs.Sound.{LinksHold, Waits, HasRoomFor, IsReady, is_place, is_of, IsGood, EachStored, segments_in, Sound}
 
 -- ## A test that passes more
 
 module _ (P Q : Value → Type 0) (f : (v : Value) → P v → Q v) where
+  -- of operands
   all_more : (vs : List Value) → AllOf P vs → AllOf Q vs
   all_more [] h = tt
   all_more (v ∷ vs) h = (f v h.0, all_more vs h.1)
 
+  -- of locals
   set_more : (ls : List (Option Value)) → AllSet P ls → AllSet Q ls
   set_more [] h = tt
   set_more (None ∷ ls) h = set_more ls h
   set_more (Some v ∷ ls) h = (f v h.0, set_more ls h.1)
 
+  -- of levels
   levels_more : (ls : List Level) → LevelsHold P ls → LevelsHold Q ls
   levels_more [] h = tt
   levels_more (Label below n t ∷ ls) h = (all_more below h.0, levels_more ls h.1)
@@ -34,9 +38,11 @@ module _ (P Q : Value → Type 0) (f : (v : Value) → P v → Q v) where
   pub holds_more : (s : Shape) → Holds P s → Holds Q s
   holds_more s h = record { operands = all_more s.operands h.operands; levels = levels_more s.levels h.levels }
 
+-- each value that passes the one passes the other
 abbrev pub More : (Value → Bool) → (Value → Bool) → Type 0
 More a b = (v : Value) → a v ≡ true → b v ≡ true
 
+-- of segments
 pub links_more : (a b : Value → Bool) → More a b → (xs : List Link) → LinksHold a xs → LinksHold b xs
 links_more a b f [] h = tt
 links_more a b f (x ∷ xs) h = (holds_more (λ v. a v ≡ true) (λ v. b v ≡ true) f x.shape h.0, links_more a b f xs h.1)
@@ -44,34 +50,41 @@ links_more a b f (x ∷ xs) h = (holds_more (λ v. a v ≡ true) (λ v. b v ≡ 
 -- ## Lists of segments
 
 module _ (test : Value → Bool) where
+  -- joined
   pub hold_append : (xs ys : List Link) → LinksHold test xs → LinksHold test ys → LinksHold test (xs ++ ys)
   hold_append [] ys h g = g
   hold_append (x ∷ xs) ys h g = (h.0, hold_append xs ys h.1 g)
 
+  -- the first ones
   pub hold_take : (n : ℕ) (xs : List Link) → LinksHold test xs → LinksHold test (take n xs)
   hold_take zero xs h = tt
   hold_take (suc n) [] h = tt
   hold_take (suc n) (x ∷ xs) h = (h.0, hold_take n xs h.1)
 
+  -- the others
   pub hold_drop : (n : ℕ) (xs : List Link) → LinksHold test xs → LinksHold test (drop n xs)
   hold_drop zero xs h = h
   hold_drop (suc n) [] h = tt
   hold_drop (suc n) (x ∷ xs) h = hold_drop n xs h.1
 
+  -- with another stack inside
   pub hold_with : (s : Shape) (xs : List Link) → Holds (λ v. test v ≡ true) s → LinksHold test xs → LinksHold test (with_top s xs)
   hold_with s [] g h = tt
   hold_with s (x ∷ xs) g h = (g, h.1)
 
+  -- waiting at another place
   pub hold_clauses : (n : ℕ) (xs : List Link) → LinksHold test xs → LinksHold test (with_clauses n xs)
   hold_clauses n [] h = tt
   hold_clauses n (x ∷ xs) h = h
 
+  -- of the innermost one
   pub hold_top : (xs : List Link) → LinksHold test xs → Holds (λ v. test v ≡ true) (top xs).shape
   hold_top [] h = record { operands = tt; levels = tt }
   hold_top (x ∷ xs) h = h.0
 
 -- ## Entries
 
+-- what two equal entries keep is equal
 some_kept_is : (p : ℕ) {b c : Stored} → option_map (λ (q : ℕ × Stored). q.1) (let r : Option (ℕ × Stored) = Some (p, b) in r) ≡ Some c → b ≡ c
 some_kept_is p e = cc
 
@@ -98,6 +111,7 @@ module _ (P : Stored → Type 0) where
   each_with (None ∷ es) p b g h = each_with es p b g h
   each_with (Some (q, c) ∷ es) p b g h = (h.0, each_with es p b g h.1)
 
+-- where a fact of entries becomes another
 pub each_more : (P Q : Stored → Type 0) → ((b : Stored) → P b → Q b) → (es : List (Option (ℕ × Stored))) → EachStored P es → EachStored Q es
 each_more P Q f [] h = tt
 each_more P Q f (None ∷ es) h = each_more P Q f es h
@@ -109,20 +123,39 @@ good_more a b f x h = record { references = links_more a b f x.segment.value h.r
 
 -- ## Counts
 
-pub count_without : (es : List (Option (ℕ × Stored))) (a : ℕ) (b : Stored) → option_map (λ (q : ℕ × Stored). q.1) (entry_at es a) ≡ Some b
-    → (segments_in (slice_set es a None) + length b.segment.value ≡ segments_in es) × (suc (some_count (slice_set es a None)) ≡ some_count es)
-count_without [] a b e = absurd cc
-count_without (None ∷ es) zero b e = absurd cc
-count_without (Some (p, c) ∷ es) zero b e = let q = ap (λ (x : Stored). length x.segment.value) (some_kept_is p e) in (omega (arith, q), refl)
-count_without (None ∷ es) (suc a) b e = count_without es a b e
-count_without (Some (p, c) ∷ es) (suc a) b e = let r = count_without es a b e in let x = r.0 in (omega (arith, x), ap suc r.1)
+-- the entry where something is kept
+pub record EntryAt (es : List (Option (ℕ × Stored))) (a : ℕ) (b : Stored) : Type 0 where
+  pub place : ℕ
+  pub is : entry_at es a ≡ Some (place, b)
 
-pub count_with : (es : List (Option (ℕ × Stored))) (p : ℕ) (b : Stored)
-    → (segments_in (es ++ Some (p, b) ∷ []) ≡ segments_in es + length b.segment.value) × (some_count (es ++ Some (p, b) ∷ []) ≡ suc (some_count es))
-count_with [] p b = (omega arith, refl)
-count_with (None ∷ es) p b = count_with es p b
-count_with (Some (q, c) ∷ es) p b = let r = count_with es p b in let x = r.0 in (omega (arith, x), ap suc r.1)
+-- by what stands there
+entry_some : (es : List (Option (ℕ × Stored))) (a : ℕ) (b : Stored) (o : Option (ℕ × Stored)) → entry_at es a ≡ o → option_map (λ (q : ℕ × Stored). q.1) o ≡ Some b → EntryAt es a b
+entry_some es a b None e h = absurd cc
+entry_some es a b (Some (p, c)) e h = record { place = p; is = e ∙ ap (λ (x : Stored). Some (p, x)) (some_kept_is p h) }
 
+-- there is one where the store keeps something
+pub entry_kept : (conts : Conts Stored) (a : ℕ) (b : Stored) → kept_at conts a ≡ Some b → EntryAt conts.entries a b
+entry_kept conts a b h = entry_some conts.entries a b (entry_at conts.entries a) refl h
+
+-- what two equal entries keep is equal, whatever their places
+same_entry : {p q : ℕ} {b c : Stored} → (let r : Option (ℕ × Stored) = Some (p, b) in r) ≡ Some (q, c) → b ≡ c
+same_entry {p} {q} {b} {c} e = let w : (let r : ℕ × Stored = (p, b) in r) ≡ (q, c) = some_is e in ap (λ (x : ℕ × Stored). x.1) w
+
+-- the segments of one that is consumed are stored no more
+pub segments_without : (es : List (Option (ℕ × Stored))) (a : ℕ) (p : ℕ) (b : Stored) → entry_at es a ≡ Some (p, b) → segments_in (slice_set es a None) + length b.segment.value ≡ segments_in es
+segments_without [] a p b e = absurd cc
+segments_without (None ∷ es) zero p b e = absurd cc
+segments_without (Some (q, c) ∷ es) zero p b e = let w = ap (λ (x : Stored). length x.segment.value) (same_entry e) in omega (arith, w)
+segments_without (None ∷ es) (suc a) p b e = segments_without es a p b e
+segments_without (Some (q, c) ∷ es) (suc a) p b e = let w = segments_without es a p b e in omega (arith, w)
+
+-- and those of one more are
+pub segments_with : (es : List (Option (ℕ × Stored))) (p : ℕ) (b : Stored) → segments_in (es ++ Some (p, b) ∷ []) ≡ segments_in es + length b.segment.value
+segments_with [] p b = omega arith
+segments_with (None ∷ es) p b = segments_with es p b
+segments_with (Some (q, c) ∷ es) p b = let w = segments_with es p b in omega (arith, w)
+
+-- there are segments where some wait
 some_waits : (xs : List Link) → Waits xs → 0 < length xs
 some_waits [] h = absurd h
 some_waits (x ∷ xs) h = omega arith
@@ -142,18 +175,14 @@ pub waits_some : (xs : List Link) → Waits xs → (0 < length xs) × IsReady (t
 waits_some [] h = absurd h
 waits_some (x ∷ xs) h = (omega arith, h)
 
+-- also with another stack inside that is at the same stage
 pub top_wait : (s : Shape) (xs : List Link) → Waits xs → s.stage ≡ (top xs).shape.stage → Waits (with_top s xs)
 top_wait s [] h e = absurd h
 top_wait s (x ∷ xs) h e = subst IsReady (sym e) h
 
 -- ## References
 
-same_number : (a b : ℕ) → nat_eq a b ≡ true → a ≡ b
-same_number a b e = eqb-true a b e
-
-number_same : (a b : ℕ) → a ≡ b → nat_eq a b ≡ true
-number_same a b e = eq-eqb a b e
-
+-- an address that passes was given out
 place_made : (es : List (Option (ℕ × Stored))) (a place : ℕ) → is_place es a place ≡ true → a < length es
 place_made [] a place h = absurd cc
 place_made (None ∷ es) zero place h = omega arith
@@ -161,24 +190,19 @@ place_made (Some (p, b) ∷ es) zero place h = omega arith
 place_made (None ∷ es) (suc a) place h = let r = place_made es a place h in omega (arith, r)
 place_made (Some (p, b) ∷ es) (suc a) place h = let r = place_made es a place h in omega (arith, r)
 
-some_place : {p q : ℕ} {b x : Stored} → (let r : Option (ℕ × Stored) = Some (p, b) in r) ≡ Some (q, x) → p ≡ q
-some_place {p} {q} {b} {x} e = let f : Option (ℕ × Stored) → ℕ = at_place in ap f e
-  where
-    at_place : Option (ℕ × Stored) → ℕ
-    at_place None = 0
-    at_place (Some (k, c)) = k
-
+-- and its place is where it is kept
 place_is : (es : List (Option (ℕ × Stored))) (a place q : ℕ) (x : Stored) → is_place es a place ≡ true → entry_at es a ≡ Some (q, x) → q ≡ place
 place_is [] a place q x h e = absurd cc
 place_is (None ∷ es) zero place q x h e = absurd cc
-place_is (Some (p, b) ∷ es) zero place q x h e = sym (some_place e) ∙ same_number p place h
+place_is (Some (p, b) ∷ es) zero place q x h e = sym (serial_is e) ∙ eqb-true p place h
 place_is (None ∷ es) (suc a) place q x h e = place_is es a place q x h e
 place_is (Some (p, b) ∷ es) (suc a) place q x h e = place_is es a place q x h e
 
+-- the other way round
 is_placed : (es : List (Option (ℕ × Stored))) (a place : ℕ) → a < length es → ((p : ℕ) (x : Stored) → entry_at es a ≡ Some (p, x) → p ≡ place) → is_place es a place ≡ true
 is_placed [] a place l h = absurd (omega arith)
 is_placed (None ∷ es) zero place l h = refl
-is_placed (Some (p, b) ∷ es) zero place l h = number_same p place (h p b refl)
+is_placed (Some (p, b) ∷ es) zero place l h = eq-eqb p place (h p b refl)
 is_placed (None ∷ es) (suc a) place l h = is_placed es a place (omega arith) h
 is_placed (Some (p, b) ∷ es) (suc a) place l h = is_placed es a place (omega arith) h
 
@@ -186,6 +210,7 @@ is_placed (Some (p, b) ∷ es) (suc a) place l h = is_placed es a place (omega a
 pub of_is : (conts : Conts Stored) (r : ContRef) → is_of conts (value.Cont r) ≡ true → IsOf r conts
 of_is conts r h = record { made = place_made conts.entries r.serial r.place h; place = λ p x e. place_is conts.entries r.serial r.place p x h e }
 
+-- and the other way round
 pub is_of_it : (conts : Conts Stored) (r : ContRef) → IsOf r conts → is_of conts (value.Cont r) ≡ true
 is_of_it conts r h = is_placed conts.entries r.serial r.place h.made h.place
 
@@ -203,18 +228,22 @@ reference_of chain conts r vs s o = of_is conts r (subst (AllOf (λ v. is_of con
 
 -- ## Lengths
 
+-- another stack inside leaves as many segments
 pub long_top : (s : Shape) (xs : List Link) → length (with_top s xs) ≡ length xs
 long_top s [] = refl
 long_top s (x ∷ xs) = refl
 
+-- and so does another place to wait at
 pub long_clauses : (n : ℕ) (xs : List Link) → length (with_clauses n xs) ≡ length xs
 long_clauses n [] = refl
 long_clauses n (x ∷ xs) = refl
 
+-- the innermost one is that stack
 pub top_top : (s : Shape) (xs : List Link) → 0 < length xs → (top (with_top s xs)).shape ≡ s
 top_top s [] h = absurd (omega arith)
 top_top s (x ∷ xs) h = refl
 
+-- the last of two stacks stays
 pub with_twice : (s s' : Shape) (xs : List Link) → with_top s (with_top s' xs) ≡ with_top s xs
 with_twice s s' [] = refl
 with_twice s s' (x ∷ xs) = refl
@@ -230,6 +259,7 @@ room_with n s (x ∷ xs) h r = r
 pub high_more : (vs : List Value) (s : Shape) → height (pushed_all vs s) ≡ height s + length vs
 high_more vs s = let a = length-append (reverse vs) s.operands in let b = length-reverse vs in omega (arith, a, b)
 
+-- the same of operands in the other order
 pub high_pushed : (us : List Value) (s : Shape) → height (pushed_all (reverse us) s) ≡ height s + length us
 high_pushed us s = let a = high_more (reverse us) s in let b = length-reverse us in omega (arith, a, b)
 
@@ -239,5 +269,6 @@ taken_few zero vs = omega arith
 taken_few (suc n) [] = omega arith
 taken_few (suc n) (v ∷ vs) = let h = taken_few n vs in omega (arith, h)
 
+-- the same in the other order
 pub tops_few : (n : ℕ) (vs : List Value) → length (reverse (take n vs)) ≤ n
 tops_few n vs = let a = length-reverse (take n vs) in let b = taken_few n vs in omega (arith, a, b)

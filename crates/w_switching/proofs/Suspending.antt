@@ -1,11 +1,10 @@
 -- Suspending.
-use Rattle.std.proofs.Common.{◌≡◌, ℕ, suc, ◌+◌, ◌<◌, ◌≤◌, Bool, true, List, [], ◌∷◌, ◌++◌, Option, Some, None, length, refl, sym, ap, ◌∙◌, subst, arith, add-one, drop, take, reverse}
+use Rattle.std.proofs.Common.{◌≡◌, ℕ, suc, ◌+◌, ◌<◌, ◌≤◌, true, List, [], ◌∷◌, ◌++◌, Option, Some, None, length, refl, sym, ap, ◌∙◌, subst, arith, add-one, drop, take, reverse}
 use Rattle.std.proofs.lemmas.List.{reverse-reverse}
-use Rattle.std.specs.Prelude.{◌≢◌, All}
+use Rattle.std.specs.Prelude.{All}
 use Rattle.w_types.specs.Rows.{Row, ◌▹◌, ◌⧺◌}
 use Rattle.w_types.specs.declared.types.FuncType.{FuncType}
 use Rattle.w_types.specs.declared.value.Value.{Value}
-use Rattle.w_types.specs.declared.value.Value.TheVariants as value
 use Rattle.w_syntax.specs.Code.{Code, Plain, Done}
 use Rattle.w_syntax.specs.declared.instructions.Op.TheVariants as op
 use Rattle.w_syntax.specs.declared.instructions.SwitchingOp.TheVariants as switching
@@ -18,12 +17,12 @@ use Rattle.w_segment.specs.Changes.{pushed, pushed_all, discarded, moved, staged
 use Rattle.w_segment.specs.Link.{Link, top, rest, with_top}
 use Rattle.w_segment.proofs.Holding.{all_take, all_reverse, pushed_holds, pushed_all_holds, discarded_holds, moved_holds, staged_holds}
 use Rattle.w_chain.specs.Layers.{label_for, IsFirstLabel}
-use Rattle.w_conts.specs.Conts.{Conts, KeepsReferences, with_entry}
+use Rattle.w_conts.specs.Conts.{Conts, KeepsReferences}
 use Rattle.w_reduce.specs.Values.{Val, Cont}
 use Rattle.w_reduce.specs.Terms.{Branch, Rest, rest_of, Context, Term, Kept}
 use Rattle.w_reduce.specs.Store.{Store, with_cont, next_cont}
 use Rattle.w_reduce.specs.Program.{Program}
-use Rattle.w_reduce.specs.Reduced.{Reduced, Trapped, Stuck, or_stuck, steps_to, take_values}
+use Rattle.w_reduce.specs.Reduced.{Reduced, steps_to, take_values}
 use Rattle.w_reduce.specs.Handlers.{Handler, label_clause, find}
 use Rattle.w_reduce.specs.Switching.{switching_op, captured, or_unhandled}
 use Rattle.w_reduce.specs.declared.trap.Trap.TheVariants as trap
@@ -37,12 +36,12 @@ use Rattle.w_stands.proofs.TakingMany.{stack_take, stack_enough, stack_append}
 use Rattle.w_switching.specs.declared.stored.Stored.{Stored}
 use Rattle.w_switching.specs.Moved.{Captured, next_ref}
 use Rattle.w_switching.specs.Standing.{Chained, kept, AllKept}
-use Rattle.w_switching.specs.Reductions.{At, To, SwitchesAt, Switches}
+use Rattle.w_switching.specs.Reductions.{StandsAt, SwitchesAt, Switches}
 use Rattle.w_switching.specs.Sound.{LinksHold, Waits, HasRoomFor, is_of, IsGood, Sound, SoundWith, most_segments}
-use Rattle.w_switching.proofs.Joining.{SamePlace, inside_top, kept_more, kept_long}
+use Rattle.w_switching.proofs.Joining.{inside_top, kept_more, kept_long}
 use Rattle.w_switching.proofs.Facing.{head, on_stack, at_term, next_top, some_chain}
 use Rattle.w_switching.proofs.Cutting.{Cuts, cuts, no_layer, layer_below}
-use Rattle.w_switching.proofs.Parting.{top_taken, some_taken, some_dropped, part_long, part_some, part_top, outside_top, part_hold, part_sound, ready_top, low_discarded}
+use Rattle.w_switching.proofs.Parting.{top_taken, part_long, part_some, part_top, outside_top, part_hold, part_sound, ready_top, low_discarded}
 use Rattle.w_switching.proofs.Putting.{put_sound, top_sound}
 use Rattle.w_switching.proofs.Sounding.{More, more_of, links_more, hold_with, hold_top, is_of_it, long_top, room_with, spare_slot, with_twice}
 
@@ -69,14 +68,15 @@ module _ (m : Module) (chain : List Link) (conts : Conts Stored) (x : ℕ) where
     fits : length f.params ≤ length (top chain).shape.operands
     goes : switching_op p s t.around t.operands (switching.Suspend x) c ≡ or_unhandled x (find (label_clause x) t.around) (catching s f (top chain).shape.operands c)
 
+  -- it comes to this in each configuration
   suspends : (f : FuncType) → type_of_tag (context_of m) x ≡ Some f → (behind : Rest) (p : Program) (s : Store) (t : Term) (c : Code) →
-      At (switching.Suspend x) m behind chain conts p s t c → Suspends f p s t c
+      StandsAt (switching.Suspend x) m behind chain conts p s t c → Suspends f p s t c
   unfolding catching
   suspends f kind behind p s t c a =
       let vs = (top chain).shape.operands in
       let go : FuncType → Row Val × Row Val → Reduced = λ q (below, us).
-          or_unhandled x (find (label_clause x) t.around) (λ h. steps_to (with_cont (captured (length q.results) h.inner below c) s) h.outer
-          ((h.below ⧺ us) ▹ Cont (next_cont s)) (record { ahead = Branch h.answer ∷ []; code = h.rest })) in
+      or_unhandled x (find (label_clause x) t.around) (λ h. steps_to (with_cont (captured (length q.results) h.inner below c) s) h.outer
+      ((h.below ⧺ us) ▹ Cont (next_cont s)) (record { ahead = Branch h.answer ∷ []; code = h.rest })) in
       let rule : switching_op p s t.around t.operands (switching.Suspend x) c ≡ take_values (length f.params) (stack vs) (go f) =
       on_stack a vs refl
       ∙ goes_on (type_of_tag (context_of p.source) x) (λ q. take_values (length q.params) (stack vs) (go q)) f (ap (λ (z : Module). type_of_tag (context_of z) x) a.stand.source ∙ kind) in
@@ -88,15 +88,16 @@ module _ (m : Module) (chain : List Link) (conts : Conts Stored) (x : ℕ) where
     type_is : FuncType
     there : type_of_tag (context_of m) x ≡ Some type_is
 
-  has_type : (behind : Rest) (p : Program) (s : Store) (t : Term) (c : Code) → At (switching.Suspend x) m behind chain conts p s t c → HasType
+  -- so each configuration tells of it
+  has_type : (behind : Rest) (p : Program) (s : Store) (t : Term) (c : Code) → StandsAt (switching.Suspend x) m behind chain conts p s t c → HasType
   has_type behind p s t c a =
       let f = found (type_of_tag (context_of p.source) x) (λ q. take_values (length q.params) t.operands (λ (below, us).
-          or_unhandled x (find (label_clause x) t.around) (λ h. steps_to (with_cont (captured (length q.results) h.inner below c) s) h.outer
-          ((h.below ⧺ us) ▹ Cont (next_cont s)) (record { ahead = Branch h.answer ∷ []; code = h.rest })))) a.applies in
+      or_unhandled x (find (label_clause x) t.around) (λ h. steps_to (with_cont (captured (length q.results) h.inner below c) s) h.outer
+      ((h.below ⧺ us) ▹ Cont (next_cont s)) (record { ahead = Branch h.answer ∷ []; code = h.rest })))) a.applies in
       record { type_is = f.item; there = ap (λ (z : Module). type_of_tag (context_of z) x) (sym a.stand.source) ∙ f.is }
 
   -- where no handle has a label clause for the tag it traps
-  pub suspend_traps : All (λ y. label_for m x y ≡ None) (rest chain) → Switches (switching.Suspend x) (did.Trapped (trap.Unhandled x)) m chain conts chain conts
+  pub suspend_traps : All (λ y. label_for m x y ≡ None) (rest chain) → Switches (did.Trapped (trap.Unhandled x)) (switching.Suspend x) m chain conts chain conts
   suspend_traps none = (
     refl,
     refl,
@@ -107,10 +108,12 @@ module _ (m : Module) (chain : List Link) (conts : Conts Stored) (x : ℕ) where
   )
 
   module _ (k : SwitchesAt (switching.Suspend x) m chain conts) (layer l : ℕ) (first : IsFirstLabel m x layer l chain) where
-    pub suspend_cuts : {behind : Rest} {p : Program} {s : Store} {t : Term} {c : Code} → At (switching.Suspend x) m behind chain conts p s t c →
+    -- the handle that is found
+    pub suspend_cuts : {behind : Rest} {p : Program} {s : Store} {t : Term} {c : Code} → StandsAt (switching.Suspend x) m behind chain conts p s t c →
         Cuts (label_clause x) m [] behind chain t.around t.operands (rest_of (Plain (op.Switching (switching.Suspend x)) c)) layer l
     suspend_cuts a = cuts (label_clause x) m layer l (at_term a) (record { waiting = first.waiting; stands = first.stands; answers = first.label; inside = first.inside })
 
+    -- the layer is one of the chain
     pub suspend_layer : layer + 1 < length chain
     suspend_layer = layer_below (suspend_cuts k.at)
 
@@ -120,12 +123,14 @@ module _ (m : Module) (chain : List Link) (conts : Conts Stored) (x : ℕ) where
       suspend_fits = (suspends f kind k.behind k.p k.s k.t k.c k.at).fits
 
       module _ (chain' : List Link) (conts' : Conts Stored) (cap : Captured (length f.params) (length f.results) layer l chain conts chain' conts') where
+        -- the innermost segment and the one that waited, with their room
         abbrev inner : Shape
         inner = cap.parted.inner
 
         abbrev waiting : Shape
         waiting = cap.parted.waiting
 
+        -- the reference to what is stored
         abbrev own_ref : Value
         own_ref = next_ref cap.place (length conts.entries)
 
@@ -136,6 +141,7 @@ module _ (m : Module) (chain : List Link) (conts : Conts Stored) (x : ℕ) where
         s_branch : Shape
         s_branch = staged (AtBranch l) (pushed own_ref (pushed_all (reverse (take (length f.params) (top chain).shape.operands)) waiting))
 
+        -- what is stored is the first segments with that one inside
         stored_is : cap.b.segment.value ≡ with_top s_stored (take (layer + 1) chain)
         unfolding s_stored
         stored_is =
@@ -145,6 +151,7 @@ module _ (m : Module) (chain : List Link) (conts : Conts Stored) (x : ℕ) where
             ∙ ap (λ (i : ℕ). with_top (moved (i + 1) (discarded n inner)) cap.part) cap.parted.inner_same.place
             ∙ ap (with_top s_stored) cap.parted.part_is ∙ with_twice s_stored inner (take (layer + 1) chain)
 
+        -- and the others with the one that waited are the chain
         branch_is : chain' ≡ with_top s_branch (drop (layer + 1) chain)
         unfolding s_branch
         branch_is =
@@ -156,7 +163,7 @@ module _ (m : Module) (chain : List Link) (conts : Conts Stored) (x : ℕ) where
             ∙ ap (with_top s_branch) cap.parted.after ∙ with_twice s_branch waiting (drop (layer + 1) chain)
 
         -- it went as the rule says
-        pub suspend_goes : Switches (switching.Suspend x) did.Went m chain conts chain' conts'
+        pub suspend_goes : Switches did.Went (switching.Suspend x) m chain conts chain' conts'
         unfolding s_stored s_branch catching
         suspend_goes behind p s t c a =
             let n = length f.params in

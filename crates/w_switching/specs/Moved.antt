@@ -1,6 +1,5 @@
 -- Where segments and entries go as stacks are switched, told of them alone.
-use Rattle.std.specs.Prelude.{◌≡◌, ℕ, ◌+◌, ◌≤◌, List, [], ◌∷◌, ◌++◌, length, take, drop, reverse, Some, ⊤}
-use Rattle.w_types.specs.declared.value.ContRef.{ContRef}
+use Rattle.std.specs.Prelude.{◌≡◌, ℕ, ◌+◌, ◌≤◌, List, [], ◌∷◌, ◌++◌, length, take, drop, reverse, ⊤}
 use Rattle.w_types.specs.declared.value.Value.{Value}
 use Rattle.w_types.specs.declared.value.Value.TheVariants as value
 use Rattle.w_segment.specs.declared.entry.Stage.TheVariants.{Branch}

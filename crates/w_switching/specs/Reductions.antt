@@ -32,7 +32,7 @@ abbrev pub switched : SwitchingOp → Program → Store → Term → Code → Re
 switched o p s t c = switching_op p s t.around t.operands o c
 
 -- a configuration in which they stand at the instruction, with the code c behind it, and to which a rule applies
-pub record At (o : SwitchingOp) (m : Module) (behind : Rest) (chain : List Link) (conts : Conts Stored) (p : Program) (s : Store) (t : Term) (c : Code) : Type 0 where
+pub record StandsAt (o : SwitchingOp) (m : Module) (behind : Rest) (chain : List Link) (conts : Conts Stored) (p : Program) (s : Store) (t : Term) (c : Code) : Type 0 where
   pub stand : Stand m behind chain conts p s t
   pub comes : t.rest ≡ rest_of (Plain (op.Switching o) c)
   pub applies : switched o p s t c ≢ Stuck
@@ -46,26 +46,26 @@ pub record SwitchesAt (o : SwitchingOp) (m : Module) (chain : List Link) (conts 
   pub s : Store
   pub t : Term
   pub c : Code
-  pub at : At o m behind chain conts p s t c
+  pub at : StandsAt o m behind chain conts p s t c
 
 -- it goes on, printing nothing, where chain and store stand; of the definitions' store only continuations change
-pub record To (m : Module) (behind : Rest) (chain : List Link) (conts : Conts Stored) (p : Program) (s : Store) (d : Reduced) : Type 0 where
+pub record WentTo (m : Module) (behind : Rest) (chain : List Link) (conts : Conts Stored) (p : Program) (s : Store) (d : Reduced) : Type 0 where
   pub conts_after : List (Option Kept)
   pub t : Term
   pub is : d ≡ Went [] (with_conts conts_after s) t
   pub stand : Stand m behind chain conts p (with_conts conts_after s) t
 
 -- it did what the rules do; a trap changed nothing
-abbrev pub Switches : SwitchingOp → Did → Module → List Link → Conts Stored → List Link → Conts Stored → Type 0
-Switches o did.Went m chain conts chain' conts' = (behind : Rest) (p : Program) (s : Store) (t : Term) (c : Code) → At o m behind chain conts p s t c →
-    To m behind chain' conts' p s (switched o p s t c)
-Switches o (did.Trapped x) m chain conts chain' conts' = (chain' ≡ chain) × (conts' ≡ conts)
-    × ((behind : Rest) (p : Program) (s : Store) (t : Term) (c : Code) → At o m behind chain conts p s t c → switched o p s t c ≡ Trapped x)
+abbrev pub Switches : Did → SwitchingOp → Module → List Link → Conts Stored → List Link → Conts Stored → Type 0
+Switches did.Went o m chain conts chain' conts' = (behind : Rest) (p : Program) (s : Store) (t : Term) (c : Code) → StandsAt o m behind chain conts p s t c →
+    WentTo m behind chain' conts' p s (switched o p s t c)
+Switches (did.Trapped x) o m chain conts chain' conts' = (chain' ≡ chain) × (conts' ≡ conts)
+    × ((behind : Rest) (p : Program) (s : Store) (t : Term) (c : Code) → StandsAt o m behind chain conts p s t c → switched o p s t c ≡ Trapped x)
 
 -- the innermost segment, which is values, left the handle around it
 abbrev pub Exits : List Link → Conts Stored → List Link → Conts Stored → Type 0
 Exits chain conts chain' conts' = (m : Module) (behind : Rest) (p : Program) (s : Store) (t : Term) → Stand m behind chain conts p s t →
-    (t.rest ≡ rest_of Done) × To m behind chain' conts' p s (leave s t.around t.operands)
+    (t.rest ≡ rest_of Done) × WentTo m behind chain' conts' p s (leave s t.around t.operands)
 
 -- ## What types of continuations tell
 

@@ -90,7 +90,7 @@ pub fn suspend(
     requires sound { Sound chain.old conts.old }
     requires few { length chain.old ≤ most_segments }
     requires made { length conts.old.entries < 2 ^ 40 }
-    ensures goes { IfOk result (λ d. Switches (switching.Suspend tag) d program.now chain.old conts.old chain.new conts.new) }
+    ensures goes { IfOk result (λ d. Switches d (switching.Suspend tag) program.now chain.old conts.old chain.new conts.new) }
     ensures sound { Sound chain.new conts.new }
     ensures references { KeepsReferences conts.old conts.new }
     ensures err_chain { OnErr result (SameLinks chain.old chain.new) }

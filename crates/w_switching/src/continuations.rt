@@ -30,7 +30,7 @@ pub fn cont_new(
     requires at { SwitchesAt (switching.ContNew kind) program.now chain.old conts.old }
     requires sound { Sound chain.old conts.old }
     requires made { length conts.old.entries < 2 ^ 40 }
-    ensures goes { IfOk result (λ d. Switches (switching.ContNew kind) d program.now chain.old conts.old chain.new conts.new) }
+    ensures goes { IfOk result (λ d. Switches d (switching.ContNew kind) program.now chain.old conts.old chain.new conts.new) }
     ensures sound { Sound chain.new conts.new }
     ensures references { KeepsReferences conts.old conts.new }
     ensures err_chain { OnErr result (chain.new ≡ chain.old) }
@@ -100,7 +100,7 @@ pub fn cont_bind(
     requires sound { Sound chain.old conts.old }
     requires made { length conts.old.entries < 2 ^ 40 }
     requires takes { TakesParams to program.now chain.old conts.old }
-    ensures goes { Switches (switching.ContBind from to) result program.now chain.old conts.old chain.new conts.new }
+    ensures goes { Switches result (switching.ContBind from to) program.now chain.old conts.old chain.new conts.new }
     ensures sound { Sound chain.new conts.new }
     ensures references { KeepsReferences conts.old conts.new }
 {

@@ -53,7 +53,7 @@ pub fn resume(
     requires at { SwitchesAt (switching.Resume kind clauses.now) program.now chain.old conts.old }
     requires sound { Sound chain.old conts.old }
     requires few { length chain.old ≤ most_segments }
-    ensures goes { Switches (switching.Resume kind clauses.now) result program.now chain.old conts.old chain.new conts.new }
+    ensures goes { Switches result (switching.Resume kind clauses.now) program.now chain.old conts.old chain.new conts.new }
     ensures sound { Sound chain.new conts.new }
     ensures references { KeepsReferences conts.old conts.new }
 {

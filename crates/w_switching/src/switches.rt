@@ -70,7 +70,7 @@ pub fn switch(
     requires few { length chain.old ≤ most_segments }
     requires made { length conts.old.entries < 2 ^ 40 }
     requires takes { TakesAtLeast 1 chain.old conts.old }
-    ensures goes { IfOk result (λ d. Switches (switching.Switch kind tag) d program.now chain.old conts.old chain.new conts.new) }
+    ensures goes { IfOk result (λ d. Switches d (switching.Switch kind tag) program.now chain.old conts.old chain.new conts.new) }
     ensures sound { Sound chain.new conts.new }
     ensures references { KeepsReferences conts.old conts.new }
     ensures err_chain { OnErr result (SameLinks chain.old chain.new) }

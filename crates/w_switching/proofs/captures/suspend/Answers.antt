@@ -1,6 +1,4 @@
-use Rattle.std.proofs.Common.{◌≡◌, ℕ, length, sym, ap, ◌∙◌, subst, arith}
-use Rattle.w_conts.specs.Conts.{Conts}
-use Rattle.w_switching.specs.declared.stored.Stored.{Stored}
+use Rattle.std.proofs.Common.{ℕ, length, sym, ◌∙◌, subst, arith}
 use Rattle.w_switching.specs.Moved.{Captured}
 use Rattle.w_switching.specs.Sound.{Sound}
 use Rattle.w_switching.proofs.Facing.{place_behind}

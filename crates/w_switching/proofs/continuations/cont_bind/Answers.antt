@@ -1,11 +1,8 @@
-use Rattle.std.proofs.Common.{◌≡◌, ℕ, ◌-◌, ◌∷◌, List, length, drop, refl, sym, ap, ◌∙◌, subst, arith}
-use Rattle.w_types.specs.declared.value.Value.{Value}
+use Rattle.std.proofs.Common.{◌≡◌, ℕ, ◌-◌, ◌∷◌, drop, sym, ap, ◌∙◌, subst, arith}
 use Rattle.w_types.specs.declared.value.Value.TheVariants as value
 use Rattle.w_syntax.specs.declared.instructions.SwitchingOp.TheVariants as switching
 use Rattle.w_segment.specs.Shape.{Shape}
-use Rattle.w_segment.specs.Link.{Link, top}
-use Rattle.w_conts.specs.Conts.{Conts, IsOf}
-use Rattle.w_switching.specs.declared.stored.Stored.{Stored}
+use Rattle.w_segment.specs.Link.{top}
 use Rattle.w_switching.specs.Moved.{Bound}
 use Rattle.w_switching.specs.Sound.{Sound, is_of, IsGood}
 use Rattle.w_switching.proofs.Binding.{bind_typed, bind_fits, bind_goes, bind_sound}

@@ -1,5 +1,4 @@
-use Rattle.std.proofs.Common.{◌≡◌, ℕ, ◌+◌, ◌∷◌, List, length, drop, sym, ap, ◌∙◌, subst, arith}
-use Rattle.w_types.specs.declared.value.Value.{Value}
+use Rattle.std.proofs.Common.{◌≡◌, ℕ, length, drop, sym, ap, ◌∙◌, subst, arith}
 use Rattle.w_types.specs.declared.value.Value.TheVariants as value
 use Rattle.w_types.specs.declared.value.ContRef.{ContRef}
 use Rattle.w_segment.specs.Changes.{discarded}
@@ -26,7 +25,6 @@ overflow_add-place c =
     let f = place_behind c.requires.at in
     let w = c.place.ensures.value ∙ ap (λ (s : Shape). s.place) c.push.ensures.after ∙ ap (λ (s : Shape). s.place) c.discard.ensures.after ∙ ap (λ (s : Shape). s.place) c.stack_mut-stack.ensures.value in
     omega (arith, f, w)
-
 
 pub returns-clause-goes : goal.returns-clause-goes
 returns-clause-goes c =

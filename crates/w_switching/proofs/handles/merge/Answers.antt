@@ -1,8 +1,8 @@
-use Rattle.std.proofs.Common.{◌≡◌, ◌<◌, ◌∷◌, List, length, reverse, sym, ap, ◌∙◌, subst, arith}
+use Rattle.std.proofs.Common.{◌≡◌, ◌<◌, ◌∷◌, List, length, reverse, ap, ◌∙◌, subst, arith}
 use Rattle.w_types.specs.declared.value.Value.{Value}
 use Rattle.w_segment.specs.Changes.{pushed_all}
 use Rattle.w_segment.specs.Shape.{Shape, SameParts}
-use Rattle.w_segment.specs.Link.{Link, top, rest, with_top}
+use Rattle.w_segment.specs.Link.{Link, top, with_top}
 use Rattle.w_switching.proofs.Exiting.{put_back, rest_long}
 use Rattle.w_switching.proofs.Sounding.{top_top, with_twice}
 use Rattle.w_switching.proofs.handles.merge.Goals as goal
