@@ -157,7 +157,7 @@ module _ (p : Program) (s : Store) (t : Term) (steps : ℕ) (before now : Option
         (ap (results_reply (joined output.pieces.items)) none ∙ ap (λ (l : List ℕ). results_reply l []) (lines ∙ ap (flat_map result_line) h.2) ∙ ap end_reply (sym h.1)),
   )
     where
-      abbrev results_reply : List ℕ → List ℕ → Reply
+      results_reply : List ℕ → List ℕ → Reply
       results_reply text told = record { out = text; err = told; status = 0 }
 
   -- where memory ran out behind it, all that it printed was written

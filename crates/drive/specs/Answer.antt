@@ -163,10 +163,13 @@ end_reply NoRule = refusal [] 5
 abbrev pub behind : List ℕ → Reply → Reply
 behind printed reply = record reply { out = printed ++ reply.out }
 
+abbrev pub count_text : List ℕ → ℕ → List ℕ
+count_text text n = text ++ decimal n
+
 -- statistics: how many reductions, and how many continuations were made, are consumed and live
 abbrev pub counts_line : ℕ → ℕ → ℕ → ℕ → List ℕ
-counts_line steps made consumed live = line (codes "stats steps " ++ (decimal steps ++ (codes " made " ++ (decimal made
-    ++ (codes " consumed " ++ (decimal consumed ++ (codes " live " ++ decimal live)))))))
+counts_line steps made consumed live = line (((count_text (codes "stats steps ") steps ++ count_text (codes " made ") made)
+    ++ count_text (codes " consumed ") consumed) ++ count_text (codes " live ") live)
 
 -- those of a run
 abbrev pub stats_line : RunState → List ℕ

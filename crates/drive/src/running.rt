@@ -15,7 +15,9 @@ ghost use Rattle.drive.specs.Pieces.{joined};
 ghost use Rattle.drive.specs.Running.{IsAfter, IsFirst};
 ghost use Rattle.drive.specs.Stop.{IsReply, Refuses, WritesMore};
 
-use crate::lines::{printer_line, run_limit_line, start_limit_line, stats_line, trap_line, value_line};
+use crate::lines::{
+    printer_line, run_limit_line, start_limit_line, stats_line, trap_line, value_line,
+};
 use crate::output::Output;
 use crate::status::Status;
 use crate::stop::{Refusal, Stop, refuse, with_more};

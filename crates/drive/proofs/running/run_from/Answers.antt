@@ -7,8 +7,8 @@ use Rattle.w_machine.specs.Position.{Position}
 use Rattle.drive.proofs.Statistics.{leaves_with}
 use Rattle.drive.proofs.running.run_from.Goals as goal
 
-pub returns-in_ok-machine-clause-leaves : goal.returns-in_ok-machine-clause-leaves
-returns-in_ok-machine-clause-leaves g c = λ p s t begins.
+pub returns-clause-leaves : goal.returns-clause-leaves
+returns-clause-leaves g c = λ p s t begins.
     let ran = c.run_machine-answer.ensures in
     let same = ap (λ (q : Position). q.program) c.in_ok-machine.ensures in
     let at = subst (λ (n : Module). Begins n p s t) (sym same) begins in

@@ -19,7 +19,7 @@ returns-in_ok-pieces-in-Ended-clause-leaves g c = λ p s t begins.
     let h = from_first _ p s t c.args.steps c.args.machine.now c.run.new.self _ (g.O.Sink.held c.args.out.now) (g.O.Sink.held c.run.new.out) c.requires.first begins c.in-Ended.ensures.runs in
     let done = first_ended _ p s t c.args.steps c.args.machine.now c.run.new.self (g.O.Sink.held c.args.out.now) (g.O.Sink.held c.run.new.out) c.requires.first begins c.in-Ended.ensures.runs in
     run_ended p s t c.args.steps (g.O.Sink.held c.args.out.now) (g.O.Sink.held c.run.new.out) (Rose (g.O.Sink.faults c.args.out.now) (g.O.Sink.faults c.run.new.out)) (record { pieces = c.in_ok-pieces-in-Ended.pieces; told = c.new.result }) (vals c.results.result.now) h.1
-    (c.results.ensures.ended done.kept p s t done.begins c.args.steps done.within) (c.in_ok-pieces-in-Ended.ensures ∙ lines_of_vals c.results.result.now) c.new.ensures.empty
+    (c.results.ensures.ended done.kept p s t done.begins c.args.steps done.within) (c.in_ok-pieces-in-Ended.ensures ∙ lines_of_vals c.results.result.now) c.new.ensures.items
 
 pub returns-in-Running-clause-leaves : goal.returns-in-Running-clause-leaves
 returns-in-Running-clause-leaves g c = λ p s t begins.
