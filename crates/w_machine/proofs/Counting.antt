@@ -1,5 +1,5 @@
 -- How many frames, handles and continuations a configuration has, by its chain and its store of continuations.
-use Rattle.std.proofs.Common.{◌≡◌, ℕ, suc, ◌+◌, ◌-◌, nat_le, List, [], length, Option, refl, ap, arith}
+use Rattle.std.proofs.Common.{◌≡◌, ℕ, suc, ◌+◌, ◌-◌, ◌≤◌, nat_le, List, [], ◌∷◌, length, Option, Some, None, refl, ap, arith}
 use Rattle.w_types.specs.Rows.{Row}
 use Rattle.w_syntax.specs.declared.module.Module.{Module}
 use Rattle.w_segment.specs.Shape.{Shape, Level, frames_of}
@@ -59,6 +59,17 @@ handles_in_chain (only h q) = let n = handles_in h in omega (arith, n)
 handles_in_chain (around h q clauses b k) = let n = handles_in h in let rest = handles_in_chain k in omega (arith, n, rest)
 
 -- ## Continuations
+
+-- as many are made
+pub made_kept : {m : Module} {os : List (Option (ℕ × Stored))} {ks : List (Option Kept)} → AllKept m os ks → length ks ≡ length os
+made_kept nil = refl
+made_kept (cons h k) = ap suc (made_kept k)
+
+-- no more are live than were made
+pub live_made : (os : List (Option (ℕ × Stored))) → some_count os ≤ length os
+live_made [] = omega arith
+live_made (None ∷ os) = let i = live_made os in omega (arith, i)
+live_made (Some x ∷ os) = let i = live_made os in omega (arith, i)
 
 -- as many aren't consumed
 pub live_kept : {m : Module} {os : List (Option (ℕ × Stored))} {ks : List (Option Kept)} → AllKept m os ks → live_in ks ≡ some_count os

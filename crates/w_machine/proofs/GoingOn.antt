@@ -1,5 +1,5 @@
 -- A machine that took a reduction stands for the run with one reduction more.
-use Rattle.std.proofs.Common.{◌≡◌, ℕ, ◌+◌, ◌<◌, ◌≤◌, Bool, true, false, List, [], ◌∷◌, ◌++◌, length, Option, Some, None, refl, sym, ap, subst, subst₂, ◌∙◌, arith}
+use Rattle.std.proofs.Common.{◌≡◌, ℕ, ◌+◌, ◌<◌, Bool, true, false, List, [], ◌++◌, length, Option, Some, None, refl, sym, ap, subst, subst₂, ◌∙◌, arith}
 use Rattle.std.specs.Prelude.{Box}
 use Rattle.std.specs.declared.alloc.Global.{Global}
 use Rattle.w_types.specs.Rows.{Row, ε}
@@ -19,9 +19,9 @@ use Rattle.w_reduce.specs.Reduce.{next, reduce}
 use Rattle.w_reduce.specs.Run.{Running, RunState, state_at, Run}
 use Rattle.w_switching.specs.declared.stored.Stored.{Stored}
 use Rattle.w_switching.specs.Standing.{Chained, only, around}
-use Rattle.w_switching.specs.Sound.{SoundWith, Sound}
+use Rattle.w_switching.specs.Sound.{Sound}
 use Rattle.w_machine.specs.Parts.{Parts, parts, whole}
-use Rattle.w_machine.specs.Standing.{behind_of, IsLast, StandsSomewhere}
+use Rattle.w_machine.specs.Standing.{behind_of, IsLast}
 use Rattle.w_machine.specs.Reducing.{Takes, Reduces}
 use Rattle.w_machine.specs.Position.{Position, Printed, StepsFrom, most_reductions}
 use Rattle.w_machine.specs.Reached.{waiting_of, IsFresh, IsTurned, is_last, IsAt, IsReached}

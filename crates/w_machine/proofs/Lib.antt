@@ -2,8 +2,6 @@ pub mod Tops
 pub mod Counting
 pub mod Standing
 pub mod Reducing
-pub mod SwitchingMoves
-pub mod KeptCounts
 pub mod MadeConts
 pub mod TakingEnough
 pub mod SwitchedStacks

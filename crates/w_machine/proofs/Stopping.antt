@@ -26,7 +26,7 @@ use Rattle.w_machine.specs.Reached.{waiting_of, IsAt, EndsAt, Counts, IsUsable, 
 use Rattle.w_machine.proofs.Advancing.{state_went, next_run}
 use Rattle.w_machine.specs.Parts.{Parts, whole}
 use Rattle.w_conts.specs.Conts.{live_of}
-use Rattle.w_machine.proofs.KeptCounts.{kept_made, kept_live, live_made}
+use Rattle.w_machine.proofs.Counting.{made_kept, live_kept, live_made}
 
 -- ## The state of the run
 
@@ -93,7 +93,7 @@ module _ {m : Module} {waiting : Option ℕ} {x : Parts} {n : ℕ} (p : Program)
   pub counts_here : {r : RunState} → r.store ≡ (Run p s₀ t₀ n).store → Counts r (length x.conts.entries) (live_of x.conts)
   counts_here {r = r} same =
       let store : r.store ≡ whole x.store at.ks = same ∙ ap (λ (q : RunState). q.store) at.is in
-      record { made = ap made store ∙ kept_made at.stands.stand.store; live = ap live store ∙ kept_live at.stands.stand.store }
+      record { made = ap made store ∙ made_kept at.stands.stand.store; live = ap live store ∙ live_kept at.stands.stand.store }
 
   -- the run has come to what stopped the machine
   pub ends_at : (k : Kept) (x' : Parts) (before now : Option (List ℕ)) → ComesTo (Some k) m waiting p (reduce p (whole x.store at.ks) at.t) x x' before now

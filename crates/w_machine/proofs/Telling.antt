@@ -1,10 +1,9 @@
 -- What is told of a run with no reduction taken.
-use Rattle.std.proofs.Common.{◌≡◌, ℕ, ◌+◌, Bool, true, false, is_some, List, [], ◌∷◌, length, Option, Some, None, refl, sym, ap, subst, ◌∙◌}
+use Rattle.std.proofs.Common.{◌≡◌, ℕ, Bool, true, false, is_some, List, [], ◌∷◌, length, Option, Some, None, refl, sym, ap, subst, ◌∙◌}
 use Rattle.std.specs.Prelude.{Box}
 use Rattle.std.specs.declared.alloc.Global.{Global}
 use Rattle.w_types.specs.Rows.{Row}
 use Rattle.w_syntax.specs.Code.{Code, Done, Plain, Block, If, IfElse}
-use Rattle.w_syntax.specs.declared.instructions.Op.{Op}
 use Rattle.w_syntax.specs.declared.instructions.Op.TheVariants as op
 use Rattle.w_syntax.specs.declared.module.Module.{Module}
 use Rattle.w_rules.specs.Operands.{Operand}
@@ -38,11 +37,11 @@ use Rattle.w_machine.specs.Standing.{behind_of, IsLast, Stands}
 use Rattle.w_machine.specs.Reducing.{outlook_by, outlook_of}
 use Rattle.w_machine.specs.Beginning.{Begins}
 use Rattle.w_machine.specs.Position.{Position, is_fault, after_telling, TellsOn, IsNoFault, ToldBy}
-use Rattle.w_machine.specs.Reached.{waiting_of, is_last, EndsAt, Counts, IsReached}
-use Rattle.w_machine.proofs.Advancing.{reduces_safely, last_there, is_last_true, is_last_one}
-use Rattle.w_machine.proofs.KeptCounts.{live_made}
+use Rattle.w_machine.specs.Reached.{waiting_of, EndsAt, Counts, IsReached}
+use Rattle.w_machine.proofs.Advancing.{reduces_safely, last_there, is_last_true}
+use Rattle.w_machine.proofs.Counting.{live_made}
 use Rattle.w_machine.proofs.Stopping.{told_by, taken_is, counts_here, tells_so}
-use Rattle.w_machine.proofs.SwitchingMoves.{Moves, moved, no_move, no_rule, switching_moves}
+use Rattle.w_machine.proofs.MadeConts.{MakesOne, one_goes, one_traps, one_stuck, makes_one}
 
 -- ## Where the run has ended
 
@@ -93,16 +92,16 @@ plain_end vs silent_limit is = absurd (cc)
 plain_end vs (silent_end h) is = h
 plain_end vs silent_stuck is = absurd (cc)
 
-switched_end : {n : ℕ} {d : Reduced} (vs : Row Val) → Moves n d → d ≡ Ended vs → ⊥
-switched_end vs (moved h) is = absurd (cc)
-switched_end vs no_move is = absurd (cc)
-switched_end vs no_rule is = absurd (cc)
+switched_end : {n : ℕ} {d : Reduced} (vs : Row Val) → MakesOne n d → d ≡ Ended vs → ⊥
+switched_end vs (one_goes h) is = absurd (cc)
+switched_end vs one_traps is = absurd (cc)
+switched_end vs one_stuck is = absurd (cc)
 
 -- the end comes only where nothing is left
 end_by : (p : Program) (s : Store) (e : Context) (vs ws : Row Val) (ahead : List Administrative) (k : Code) (b : Bool) → switches ahead k ≡ b → next p s e vs ahead k ≡ Ended ws
     → is_end e ahead k ≡ true
 end_by p s e vs ws ahead k false plain is = plain_end ws (plainly_next [] p s e vs ahead k plain) is
-end_by p s e vs ws [] (Plain (op.Switching o) k) true switch is = absurd (switched_end ws (switching_moves p s e vs o k) is)
+end_by p s e vs ws [] (Plain (op.Switching o) k) true switch is = absurd (switched_end ws (makes_one o p s e vs k) is)
 end_by p s e vs ws [] (Plain (op.Control o) k) true switch is = absurd (cc)
 end_by p s e vs ws [] (Plain (op.Parametric o) k) true switch is = absurd (cc)
 end_by p s e vs ws [] (Plain (op.Variable o) k) true switch is = absurd (cc)

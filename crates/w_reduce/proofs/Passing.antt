@@ -1,5 +1,5 @@
 -- A configuration passes no limit exactly where it is within each.
-use Rattle.std.proofs.Common.{◌≡◌, ◌≤◌, ℕ, nat_le, Bool, true, false, Some, None, refl, arith}
+use Rattle.std.proofs.Common.{◌≡◌, ◌≤◌, ℕ, nat_le, Bool, true, false, None, refl, arith}
 use Rattle.w_reduce.specs.Store.{Store, live}
 use Rattle.w_reduce.specs.Terms.{Context, frames, handles}
 use Rattle.w_reduce.specs.Limits.{most_frames, most_handles, most_conts, first_passed, passed, IsWithin}

@@ -1,5 +1,5 @@
 -- Reductions by no rule of switching go on apart from continuations: they neither look at them nor change them.
-use Rattle.std.specs.Prelude.{◌≡◌, Bool, true, false, List, [], ◌∷◌, Option}
+use Rattle.std.specs.Prelude.{◌≡◌, Bool, true, false, List, [], Option}
 use Rattle.w_types.specs.Rows.{Row}
 use Rattle.w_syntax.specs.Code.{Code, Plain}
 use Rattle.w_syntax.specs.declared.instructions.Op.{Op}

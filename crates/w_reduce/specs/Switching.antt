@@ -1,12 +1,11 @@
 -- The instructions that switch stacks (stack-switching explainer, execution).
-use Rattle.std.specs.Prelude.{ℕ, ◌-◌, List, [], ◌∷◌, ◌++◌, length, Option, Some, None}
-use Rattle.w_types.specs.declared.types.FuncType.{FuncType}
+use Rattle.std.specs.Prelude.{ℕ, ◌-◌, [], ◌∷◌, length, Option, Some, None}
 use Rattle.w_types.specs.declared.types.HeapType.{HeapType}
 use Rattle.w_types.specs.declared.types.HeapType.TheVariants.{Index}
 use Rattle.w_types.specs.declared.types.ValType.{ValType}
 use Rattle.w_types.specs.declared.types.ValType.TheVariants.{Ref}
 use Rattle.w_types.specs.Rows.{Row, ◌▹◌, ◌⧺◌, row_of}
-use Rattle.w_syntax.specs.Code.{Code, Done}
+use Rattle.w_syntax.specs.Code.{Code}
 use Rattle.w_syntax.specs.declared.instructions.SwitchingOp.{SwitchingOp}
 use Rattle.w_syntax.specs.declared.instructions.SwitchingOp.TheVariants as switching
 use Rattle.w_rules.specs.Context.{cont_of, type_of_tag}
@@ -14,7 +13,7 @@ use Rattle.w_rules.specs.Spaces.{context_of}
 use Rattle.w_reduce.specs.declared.trap.Trap.TheVariants as trap
 use Rattle.w_reduce.specs.Values.{Val, Cont}
 use Rattle.w_reduce.specs.Store.{Store, next_cont, with_cont, without_cont}
-use Rattle.w_reduce.specs.Terms.{Rest, rest_of, Branch, Handle, Context, Kept, filled, fresh, in_context}
+use Rattle.w_reduce.specs.Terms.{rest_of, Branch, Handle, Context, Kept, filled, fresh, in_context}
 use Rattle.w_reduce.specs.Program.{Program}
 use Rattle.w_reduce.specs.Reduced.{Reduced, Went, Trapped, steps_to, ◌>>=◌, or_stuck, take_value, take_values, as_function, as_continuation}
 use Rattle.w_reduce.specs.Handlers.{Handler, label_clause, switch_clause, find}

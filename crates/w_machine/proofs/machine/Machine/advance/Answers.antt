@@ -1,8 +1,8 @@
-use Rattle.std.proofs.Common.{refl, sym, subst}
+use Rattle.std.proofs.Common.{sym, subst}
 use Rattle.std.specs.Prelude.{◌<◌}
 use Rattle.w_machine.specs.Position.{Position, most_reductions}
 use Rattle.w_machine.proofs.GoingOn.{turned}
-use Rattle.w_machine.proofs.Machines.{machine_stands, machine_long, machine_few, machine_went_long, machine_advanced, machine_stopped, machine_steps, machine_step_stopped}
+use Rattle.w_machine.proofs.Machines.{machine_stands, machine_few, machine_went_long, machine_advanced, machine_stopped, machine_steps, machine_step_stopped}
 use Rattle.w_machine.proofs.machine.Machine.advance.Goals as goal
 
 pub reduce-stopped-requires-clause-stands : goal.reduce-stopped-requires-clause-stands

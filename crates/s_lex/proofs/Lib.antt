@@ -1,0 +1,9 @@
+pub mod Runs
+pub mod Values
+pub mod Tables
+pub mod Longest
+pub mod PieceLaw
+pub mod Places
+pub mod Cutting
+pub mod TokenTexts
+mod PieceRows
