@@ -35,7 +35,6 @@ fn statuses_have_their_codes(rt: HostRuntime) {
         (Status::OutOfMemory, 8),
         (Status::Limit, 9),
         (Status::Running, 10),
-        (Status::Stuck, 11),
     ];
     for (status, code) in rows {
         assert_eq!(rt; status.code(), code);

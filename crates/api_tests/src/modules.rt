@@ -77,6 +77,9 @@ fn takes_three(rt: &impl Abort, machine: &mut Machine, out: &mut SureSink)
     assert!(rt; matches!(machine.run(3, out), Outcome::Running));
     assert_eq!(rt; machine.taken(), 3);
     assert_eq!(rt; machine.results().len(), 0);
+    assert_eq!(rt; machine.made(), 0);
+    assert_eq!(rt; machine.consumed(), 0);
+    assert_eq!(rt; machine.live(), 0);
 }
 
 // One more, by itself.

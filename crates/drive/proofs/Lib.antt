@@ -3,6 +3,7 @@ pub mod FileReplies
 pub mod Refusals
 pub mod Joined
 pub mod Runs
+pub mod Statistics
 pub mod Replies
 pub mod Programs
 pub mod OneAnswer

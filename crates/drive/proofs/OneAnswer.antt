@@ -153,7 +153,7 @@ one_reply Accepted one b r s (inr (inr h)) (inr (inr k)) = h.2 ∙ ap malformed 
 
 one_given : (action : Action) (m : Module) → IsOne (gives action m)
 one_given Check m r s h k = h ∙ sym k
-one_given (RunFor steps) m r s h k = h.3 ∙ ap (run_gives steps) (one_program m h.0 k.0 h.1 k.1 h.2 k.2) ∙ sym k.3
+one_given (RunFor steps stats) m r s h k = h.3 ∙ ap (run_gives steps stats) (one_program m h.0 k.0 h.1 k.1 h.2 k.2) ∙ sym k.3
 one_given Build m r s h k = h ∙ sym k
 
 -- ## Files

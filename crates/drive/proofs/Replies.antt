@@ -1,5 +1,5 @@
 -- What a part of a call did, from what its own parts did.
-use Rattle.std.proofs.Common.{◌≡◌, ◌⊎◌, ◌≤◌, inl, inr, ℕ, List, [], ◌++◌, Option, Result, Ok, Err, Vec, Global, refl, sym, ap, subst, append_assoc, append-nil, arith}
+use Rattle.std.proofs.Common.{◌≡◌, ◌⊎◌, ◌≤◌, inl, inr, ℕ, List, [], ◌++◌, Option, Result, Ok, Err, Vec, Global, refl, sym, ap, ◌∙◌, subst, append_assoc, append-nil, arith}
 use Rattle.std.specs.Prelude.{IsErrAnd}
 use Rattle.w_outside.specs.Outside.{Grew, GrewByFront, IsFront, Rose}
 use Rattle.w_outside.proofs.Growth.{grew_more, grew_nothing}
@@ -101,13 +101,15 @@ module _ (OutGrew ErrGrew : List ℕ → Type 0) (rose : Type 0) (answer : Resul
   refusal_delivered refusal is h = subst (λ (a : Result Output Stop). Delivers a result OutGrew ErrGrew rose) (sym is) h
 
 -- what is written is the reply
-pub output_is : (output : Output) (pieces : List (Vec ℕ Global)) → pieces ≡ output.pieces.items
-    → ◌≡◌ {A = Reply} (record { out = joined pieces; err = []; status = 0 }) (reply_with output)
-output_is output pieces same = ap (λ (p : List (Vec ℕ Global)). let reply : Reply = record { out = joined p; err = []; status = 0 } in reply) same
+pub output_is : (output : Output) (pieces : List (Vec ℕ Global)) (told : List ℕ) → pieces ≡ output.pieces.items → told ≡ output.told.items
+    → ◌≡◌ {A = Reply} (record { out = joined pieces; err = told; status = 0 }) (reply_with output)
+output_is output pieces told same told_same =
+    ap (λ (p : List (Vec ℕ Global)). let reply : Reply = record { out = joined p; err = told; status = 0 } in reply) same
+    ∙ ap (λ (l : List ℕ). let reply : Reply = record { out = joined output.pieces.items; err = l; status = 0 } in reply) told_same
 
-pub refusal_is : (refusal : Refusal) (line : List ℕ) → line ≡ refusal.line.items
-    → ◌≡◌ {A = Reply} (record { out = []; err = line; status = code_of refusal.status }) (reply_of_refusal refusal)
-refusal_is refusal line same = ap (λ (l : List ℕ). let reply : Reply = record { out = []; err = l; status = code_of refusal.status } in reply) same
+pub refusal_is : (refusal : Refusal) (text : List ℕ) → text ≡ refusal.text.items
+    → ◌≡◌ {A = Reply} (record { out = []; err = text; status = code_of refusal.status }) (reply_of_refusal refusal)
+refusal_is refusal text same = ap (λ (l : List ℕ). let reply : Reply = record { out = []; err = l; status = code_of refusal.status } in reply) same
 
 pub refusal_ends : (answer : Result Output Stop) (refusal : Refusal) → answer ≡ Err (Refused refusal) → EndsByItself answer → Ends refusal.status
 refusal_ends answer refusal is h = subst EndsByItself is h

@@ -1,5 +1,5 @@
 -- What a run gives, from what the machine came to.
-use Rattle.std.proofs.Common.{◌≡◌, ◌≤◌, ◌+◌, ◌⊎◌, ℕ, List, [], ◌∷◌, ◌++◌, flat_map, Option, Some, None, Result, Ok, Err, inl, inr, refl, sym, ap, subst, ◌∙◌, zero-add, append_assoc, arith}
+use Rattle.std.proofs.Common.{◌≡◌, ◌≤◌, ◌+◌, ◌⊎◌, ℕ, Bool, true, false, List, [], ◌∷◌, ◌++◌, flat_map, Option, Some, None, Result, Ok, Err, inl, inr, refl, sym, ap, subst, ◌∙◌, zero-add, append_assoc, arith}
 use Rattle.std.specs.Prelude.{IsErrAnd}
 use Rattle.w_outside.specs.Outside.{Grew, GrewByFront, IsFront}
 use Rattle.w_syntax.specs.declared.module.Module.{Module}
@@ -7,10 +7,10 @@ use Rattle.w_types.specs.Rows.{Row, listed}
 use Rattle.w_canon.specs.IsClassesOf.{IsClassesOf}
 use Rattle.w_types.specs.declared.value.Value.{Value}
 use Rattle.w_reduce.specs.Values.{Val, val}
-use Rattle.w_reduce.specs.Store.{Store}
+use Rattle.w_reduce.specs.Store.{Store, made, consumed, live}
 use Rattle.w_reduce.specs.Terms.{Term}
 use Rattle.w_reduce.specs.Program.{Program, IsProgram}
-use Rattle.w_reduce.specs.Run.{Outcome, Values, RunState, Run}
+use Rattle.w_reduce.specs.Run.{Outcome, Running, Values, RunState, Run}
 use Rattle.w_reduce.specs.Start.{Started, Start, Ready, NoPrinter, NoEntry, Exceeds, StartTraps}
 use Rattle.w_stands.specs.Values.{vals}
 use Rattle.w_inst.specs.Instances.{BeginsAs}
@@ -18,14 +18,16 @@ use Rattle.w_inst.specs.declared.instantiation.InstFault.{InstFault}
 use Rattle.w_machine.specs.declared.outcome.Kept.{Kept}
 use Rattle.w_machine.specs.declared.outcome.Kept.TheVariants as kept
 use Rattle.w_machine.specs.Beginning.{Begins}
-use Rattle.w_machine.specs.Position.{Position, Printed, PrintedAtMost, RunsFrom, RunsOn, Runs}
+use Rattle.w_machine.specs.Position.{Position, Tells, is_fault, IsNoFault, HasTaken, after_run, Printed, PrintedAtMost, RunsFrom, RunsOn, Runs}
+use Rattle.w_machine.proofs.GoingFar.{settled_at}
 use Rattle.w_machine.specs.Results.{HasResults}
 use Rattle.drive.specs.declared.output.Output.{Output}
 use Rattle.drive.specs.declared.stop.Stop.{Stop}
 use Rattle.drive.specs.declared.stop.Stop.TheVariants.{Refused, WriteFault, OutOfMemory}
-use Rattle.drive.specs.Answer.{Reply, result_line, behind, end_reply, run_reply, start_reply, run_gives, RunGives}
+use Rattle.drive.specs.Answer.{Reply, counts_line, stats_line, result_line, behind, end_reply, run_reply, start_reply, run_gives, RunGives}
 use Rattle.drive.specs.Leaving.{IsBegun, Leaves}
 use Rattle.drive.specs.Pieces.{joined}
+use Rattle.drive.specs.Running.{IsAfter, IsAfterBy}
 use Rattle.drive.specs.Stop.{Refuses, reply_with, reply_of_refusal}
 use Rattle.drive.proofs.Refusals.{refuses_same}
 use Rattle.drive.proofs.Replies.{front_next, front_first}
@@ -59,11 +61,53 @@ first_ended m p s t steps q new before now first begins runs =
       within = omega (arith, there, h.1);
     }
 
+-- it is that of the same module
+pub first_program : (m : Module) (steps : ℕ) (q new : Position) (k : Option Kept) (before now : Option (List ℕ)) → q ≡ First m → Runs q steps k new before now
+    → new.program ≡ q.program
+first_program m steps q new k before now first runs =
+    let h = subst (λ (z : Position). Runs z steps k new before now) first runs in
+    ap (λ (z : Position). z.program) h.2 ∙ same k h.0 ∙ sym (ap (λ (z : Position). z.program) first)
+  where
+    same : (o : Option Kept) (n : ℕ) → (after_run (First m) n o).program ≡ m
+    same None n = refl
+    same (Some x) n = refl
+
+-- it is the run of so many reductions, where no fault stopped it
+pub first_after : (m : Module) (steps : ℕ) (q new : Position) (k : Option Kept) (before now : Option (List ℕ)) → q ≡ First m → Runs q steps k new before now
+    → IsNoFault k → IsAfter new steps
+first_after m steps q new k before now first runs none =
+    let h = subst (λ (z : Position). Runs z steps k new before now) first runs in
+    subst (λ (z : Position). IsAfter z steps) (sym h.2) (after k h.0 h.1 none)
+  where
+    after : (o : Option Kept) (n : ℕ) → HasTaken n steps o → IsNoFault o → IsAfter (after_run (First m) n o) steps
+    after None n is none = zero-add n ∙ is
+    after (Some x) n le none = (let e = zero-add n in omega (arith, e, le), none)
+
+not_running : (k : Kept) (o : Outcome) → is_fault k ≡ false → Tells k o → o ≡ Running → ⊥
+not_running kept.Ended o sound tells runs = let e = tells.1 in absurd (cc)
+not_running (kept.Limit name) o sound tells runs = absurd (cc)
+not_running (kept.Trapped t) o sound tells runs = absurd (cc)
+not_running kept.WriteFault o sound tells runs = absurd (cc)
+not_running kept.OutOfMemory o sound tells runs = absurd (cc)
+
+-- so the run of the reductions that a machine took is that of so many
+pub run_after : (q : Position) (p : Program) (s : Store) (t : Term) (steps : ℕ) → IsAfter q steps
+    → ((k : Kept) → q.kept ≡ Some k → Tells k (Run p s t q.taken).outcome) → Run p s t q.taken ≡ Run p s t steps
+run_after q p s t steps after tells = go q.kept refl after
+  where
+    go : (o : Option Kept) → q.kept ≡ o → IsAfterBy o q.taken steps → Run p s t q.taken ≡ Run p s t steps
+    go None e is = ap (Run p s t) is
+    go (Some k) e is = sym (settled_at p s t q.taken steps is.0 (not_running k _ is.1 (tells k e)))
+
+-- the line of its counts
+pub counts_are : (r : RunState) (a b c d : ℕ) → r.taken ≡ a → made r.store ≡ b → consumed r.store ≡ c → live r.store ≡ d → counts_line a b c d ≡ stats_line r
+counts_are r a b c d ea eb ec ed = rw (← ea, ← eb, ← ec, ← ed) refl
+
 -- ## What is left to write behind what was printed
 
 module _ (p : Program) (s : Store) (t : Term) (steps : ℕ) (before now : Option (List ℕ)) (rose : Type 0) where
   abbrev IsDue : Reply → Type 0
-  IsDue reply = reply ≡ run_reply (Run p s t steps)
+  IsDue reply = reply ≡ run_reply false (Run p s t steps)
 
   from_zero : Run p s t (0 + steps) ≡ Run p s t steps
   from_zero = ap (Run p s t) (zero-add steps)
@@ -77,7 +121,7 @@ module _ (p : Program) (s : Store) (t : Term) (steps : ℕ) (before now : Option
 
   part_begun : (text : List ℕ) → text ≡ (Run p s t steps).output → GrewByFront before now text → IsBegun IsDue (Grew before now)
   part_begun text e h = (
-    run_reply (Run p s t steps),
+    run_reply false (Run p s t steps),
     refl,
     (
       h.part,
@@ -93,7 +137,7 @@ module _ (p : Program) (s : Store) (t : Term) (steps : ℕ) (before now : Option
       longer a b whole more j = sym (append_assoc a b more) ∙ ap (λ (l : List ℕ). l ++ more) j
 
   all_begun : (text : List ℕ) → text ≡ (Run p s t steps).output → Grew before now text → IsBegun IsDue (Grew before now)
-  all_begun text e grew = (run_reply (Run p s t steps), refl, (text, subst (λ (l : List ℕ). IsFront text (l ++ (end_reply (Run p s t steps).outcome).out)) e (front_first text _), grew))
+  all_begun text e grew = (run_reply false (Run p s t steps), refl, (text, subst (λ (l : List ℕ). IsFront text (l ++ (end_reply (Run p s t steps).outcome).out)) e (front_first text _), grew))
 
   -- a run that stops leaves a line on it
   pub run_refused : (o : Outcome) (stop : Stop) → Printed (Run p s t 0) (Run p s t (0 + steps)) before now → (Run p s t (0 + steps)).outcome ≡ o
@@ -105,16 +149,16 @@ module _ (p : Program) (s : Store) (t : Term) (steps : ℕ) (before now : Option
 
   -- one that ended leaves its results, a line each
   pub run_ended : (output : Output) (vs : List Val) → Printed (Run p s t 0) (Run p s t (0 + steps)) before now → HasResults (Run p s t steps).outcome vs
-      → joined output.pieces.items ≡ flat_map result_line vs → Leaves IsDue (Ok output) (Grew before now) rose
-  run_ended output vs print h lines = (
+      → joined output.pieces.items ≡ flat_map result_line vs → output.told.items ≡ [] → Leaves IsDue (Ok output) (Grew before now) rose
+  run_ended output vs print h lines none = (
     print.text,
     print.grew,
     behind_same print.text (reply_with output) (is_output print.text print.is)
-        (ap results_reply (lines ∙ ap (flat_map result_line) h.2) ∙ ap end_reply (sym h.1)),
+        (ap (results_reply (joined output.pieces.items)) none ∙ ap (λ (l : List ℕ). results_reply l []) (lines ∙ ap (flat_map result_line) h.2) ∙ ap end_reply (sym h.1)),
   )
     where
-      results_reply : List ℕ → Reply
-      results_reply text = record { out = text; err = []; status = 0 }
+      results_reply : List ℕ → List ℕ → Reply
+      results_reply text told = record { out = text; err = told; status = 0 }
 
   -- where memory ran out behind it, all that it printed was written
   pub run_unlisted : (answer : Result Output Stop) → Printed (Run p s t 0) (Run p s t (0 + steps)) before now → IsErrAnd answer (λ e. e ≡ OutOfMemory)
@@ -140,10 +184,10 @@ lines_of_vals (v ∷ vs) = ap (λ (l : List ℕ). result_line (val v) ++ l) (lin
 -- ## What a module gives
 
 -- where its run begins, what the run gives
-pub ready_gives : (m : Module) (steps : ℕ) (p : Program) (s : Store) (t : Term) → p.source ≡ m → IsProgram p → Start p ≡ Ready s t → (reply : Reply)
-    → reply ≡ run_reply (Run p s t steps) → RunGives steps m reply
-ready_gives m steps p s t source told start reply is = (p, source, told, is ∙ sym (ap (start_reply steps p) start))
+pub ready_gives : (m : Module) (steps : ℕ) (stats : Bool) (p : Program) (s : Store) (t : Term) → p.source ≡ m → IsProgram p → Start p ≡ Ready s t → (reply : Reply)
+    → reply ≡ run_reply stats (Run p s t steps) → RunGives steps stats m reply
+ready_gives m steps stats p s t source told start reply is = (p, source, told, is ∙ sym (ap (start_reply steps stats p) start))
 
 -- and else its refusal
-pub refused_gives : (m : Module) (steps : ℕ) (p : Program) → p.source ≡ m → IsProgram p → (reply : Reply) → reply ≡ run_gives steps p → RunGives steps m reply
-refused_gives m steps p source told reply is = (p, source, told, is)
+pub refused_gives : (m : Module) (steps : ℕ) (stats : Bool) (p : Program) → p.source ≡ m → IsProgram p → (reply : Reply) → reply ≡ run_gives steps stats p → RunGives steps stats m reply
+refused_gives m steps stats p source told reply is = (p, source, told, is)

@@ -224,7 +224,7 @@ bytes_total Accepted total bytes none = elim (spelled_or_not bytes) [
 
 some_given : (action : Action) (m : Module) → IsTotal (gives action m)
 some_given Check m none = none _ refl
-some_given (RunFor steps) m none = some_program m (λ p source is. none _ (p, source, is, refl))
+some_given (RunFor steps stats) m none = some_program m (λ p source is. none _ (p, source, is, refl))
 some_given Build m none = none _ refl
 
 pub some_answer : SomeAnswer

@@ -1,5 +1,5 @@
 -- What the program answers to a line, given what is told of the files.
-use Rattle.std.specs.Prelude.{◌≡◌, ◌≢◌, ◌⊎◌, ◌<◌, ◌≤◌, ℕ, List, [], ◌∷◌, ◌++◌, codes, decimal, length, flat_map}
+use Rattle.std.specs.Prelude.{◌≡◌, ◌≢◌, ◌⊎◌, ◌<◌, ◌≤◌, ℕ, Bool, true, false, List, [], ◌∷◌, ◌++◌, codes, decimal, length, flat_map}
 use Rattle.std.specs.Int.{w32, w64, cast_signed}
 use Rattle.std.specs.Fmt.{signed_decimal}
 use Rattle.w_outside.specs.Outside.{Known, untold, missing, holds}
@@ -23,6 +23,7 @@ use Rattle.w_reduce.specs.declared.limit.StartLimit.TheVariants.{Memory, Table}
 use Rattle.w_reduce.specs.declared.trap.Trap.{Trap}
 use Rattle.w_reduce.specs.declared.trap.Trap.TheVariants as trap
 use Rattle.w_reduce.specs.Values.{Val, I32, I64, Null, Func, Cont}
+use Rattle.w_reduce.specs.Store.{made, consumed, live}
 use Rattle.w_reduce.specs.Program.{Program, IsProgram}
 use Rattle.w_reduce.specs.Start.{Started, Ready, NoPrinter, NoEntry, Exceeds, StartTraps, Start}
 use Rattle.w_reduce.specs.Run.{Outcome, Running, Values, Traps, Limit, NoRule, RunState, Run}
@@ -129,9 +130,6 @@ trapped t = refusal (trap_text t) 1
 abbrev pub running : Reply
 running = refusal (codes "running") 10
 
-abbrev pub stuck : Reply
-stuck = refusal (codes "stuck") 11
-
 -- the most bytes of a file
 abbrev pub input_limit : ℕ
 input_limit = 16777216
@@ -153,35 +151,56 @@ value_text (Cont a) = codes "cont " ++ decimal a
 abbrev pub result_line : Val → List ℕ
 result_line v = line (codes "= " ++ value_text v)
 
--- what the end of a run gives
+-- what the end of a run gives; no run of a valid module comes to NoRule, and 5 is no status
 abbrev pub end_reply : Outcome → Reply
 end_reply (Values vs) = record { out = flat_map result_line (listed vs); err = []; status = 0 }
 end_reply Running = running
 end_reply (Traps t) = trapped t
 end_reply (Limit name) = limit (run_limit_text name)
-end_reply NoRule = stuck
+end_reply NoRule = refusal [] 5
 
 -- a reply that comes behind a text that was printed
 abbrev pub behind : List ℕ → Reply → Reply
 behind printed reply = record reply { out = printed ++ reply.out }
 
-abbrev pub run_reply : RunState → Reply
-run_reply r = behind r.output (end_reply r.outcome)
+abbrev pub count_text : List ℕ → ℕ → List ℕ
+count_text text n = text ++ decimal n
+
+-- statistics: how many reductions, and how many continuations were made, are consumed and live
+abbrev pub counts_line : ℕ → ℕ → ℕ → ℕ → List ℕ
+counts_line steps made consumed live = line (((count_text (codes "stats steps ") steps ++ count_text (codes " made ") made)
+    ++ count_text (codes " consumed ") consumed) ++ count_text (codes " live ") live)
+
+-- those of a run
+abbrev pub stats_line : RunState → List ℕ
+stats_line r = counts_line r.taken (made r.store) (consumed r.store) (live r.store)
+
+-- a reply that writes a text more to err
+abbrev pub with_more : List ℕ → Reply → Reply
+with_more text reply = record reply { err = reply.err ++ text }
+
+-- with statistics, where they are asked for
+abbrev pub with_stats : Bool → RunState → Reply → Reply
+with_stats true r reply = with_more (stats_line r) reply
+with_stats false r reply = reply
+
+abbrev pub run_reply : Bool → RunState → Reply
+run_reply stats r = with_stats stats r (behind r.output (end_reply r.outcome))
 
 -- what a run gives of at most so many steps, by where it begins
-abbrev pub start_reply : ℕ → Program → Started → Reply
-start_reply steps p (Ready s t) = run_reply (Run p s t steps)
-start_reply steps p (NoPrinter i) = no_printer i
-start_reply steps p NoEntry = no_entry
-start_reply steps p (Exceeds name) = limit (start_limit_text name)
-start_reply steps p (StartTraps t) = trapped t
+abbrev pub start_reply : ℕ → Bool → Program → Started → Reply
+start_reply steps stats p (Ready s t) = run_reply stats (Run p s t steps)
+start_reply steps stats p (NoPrinter i) = no_printer i
+start_reply steps stats p NoEntry = no_entry
+start_reply steps stats p (Exceeds name) = limit (start_limit_text name)
+start_reply steps stats p (StartTraps t) = trapped t
 
-abbrev pub run_gives : ℕ → Program → Reply
-run_gives steps p = start_reply steps p (Start p)
+abbrev pub run_gives : ℕ → Bool → Program → Reply
+run_gives steps stats p = start_reply steps stats p (Start p)
 
 -- so a module gives, by which of its types are equivalent
-abbrev pub RunGives : ℕ → Module → Reply → Type 0
-RunGives steps m reply = (p : Program) × (p.source ≡ m) × IsProgram p × (reply ≡ run_gives steps p)
+abbrev pub RunGives : ℕ → Bool → Module → Reply → Type 0
+RunGives steps stats m reply = (p : Program) × (p.source ≡ m) × IsProgram p × (reply ≡ run_gives steps stats p)
 
 -- a module that is valid, written again
 abbrev pub built : Module → Reply
@@ -190,7 +209,7 @@ built m = record { out = Canon m; err = []; status = 0 }
 -- what an action gives of a valid module
 abbrev pub gives : Action → Module → Reply → Type 0
 gives Check m reply = reply ≡ ok_module
-gives (RunFor steps) m reply = RunGives steps m reply
+gives (RunFor steps stats) m reply = RunGives steps stats m reply
 gives Build m reply = reply ≡ built m
 
 -- the module has this fault

@@ -1,7 +1,7 @@
 -- The exit codes.
 use Rattle.std.specs.Prelude.{ℕ}
 use Rattle.drive.specs.declared.status.Status.{Status}
-use Rattle.drive.specs.declared.status.Status.TheVariants.{Done, Trap, Usage, Malformed, Invalid, ReadFault, WriteFault, OutOfMemory, Limit, Running, Stuck}
+use Rattle.drive.specs.declared.status.Status.TheVariants.{Done, Trap, Usage, Malformed, Invalid, ReadFault, WriteFault, OutOfMemory, Limit, Running}
 
 abbrev pub code_of : Status → ℕ
 code_of Done = 0
@@ -14,4 +14,3 @@ code_of WriteFault = 7
 code_of OutOfMemory = 8
 code_of Limit = 9
 code_of Running = 10
-code_of Stuck = 11

@@ -1,20 +1,20 @@
--- The reply that an answer is: an output, or a refusal. Want of memory is no reply.
-use Rattle.std.specs.Prelude.{◌≡◌, [], ⊤, Result, Ok, Err}
+-- The reply that an answer is: an output, or a refusal. A fault is no reply.
+use Rattle.std.specs.Prelude.{◌≡◌, List, ℕ, [], ⊤, Result, Ok, Err}
 use Rattle.drive.specs.declared.output.Output.{Output}
 use Rattle.drive.specs.declared.status.Status.{Status}
 use Rattle.drive.specs.declared.status.Status.TheVariants as status
 use Rattle.drive.specs.declared.stop.Refusal.{Refusal}
 use Rattle.drive.specs.declared.stop.Stop.{Stop}
 use Rattle.drive.specs.declared.stop.Stop.TheVariants.{Refused, WriteFault, OutOfMemory}
-use Rattle.drive.specs.Answer.{Reply}
+use Rattle.drive.specs.Answer.{Reply, with_more}
 use Rattle.drive.specs.Pieces.{joined}
 use Rattle.drive.specs.Status.{code_of}
 
 abbrev pub reply_with : Output → Reply
-reply_with output = record { out = joined output.pieces.items; err = []; status = 0 }
+reply_with output = record { out = joined output.pieces.items; err = output.told.items; status = 0 }
 
 abbrev pub reply_of_refusal : Refusal → Reply
-reply_of_refusal refusal = record { out = []; err = refusal.line.items; status = code_of refusal.status }
+reply_of_refusal refusal = record { out = []; err = refusal.text.items; status = code_of refusal.status }
 
 -- a status with which a call ends by itself
 abbrev pub Ends : Status → Type 0
@@ -39,3 +39,19 @@ EndsByItself (Ok output) = ⊤
 EndsByItself (Err (Refused refusal)) = Ends refusal.status
 EndsByItself (Err WriteFault) = ⊤
 EndsByItself (Err OutOfMemory) = ⊤
+
+-- an answer that is a reply
+abbrev pub IsReply : Result Output Stop → Type 0
+IsReply (Ok output) = ⊤
+IsReply (Err (Refused refusal)) = ⊤
+IsReply (Err WriteFault) = ⊥
+IsReply (Err OutOfMemory) = ⊥
+
+-- an answer that writes a text more to err than the old one; memory may run out
+abbrev pub WritesMore : List ℕ → Result Output Stop → Result Output Stop → Type 0
+WritesMore text old (Ok output) = (before : Output) × (old ≡ Ok before) × (reply_with output ≡ with_more text (reply_with before))
+WritesMore text old (Err (Refused refusal)) =
+    (before : Refusal) × (old ≡ Err (Refused before)) × (refusal.status ≡ before.status)
+    × (reply_of_refusal refusal ≡ with_more text (reply_of_refusal before))
+WritesMore text old (Err WriteFault) = old ≡ Err WriteFault
+WritesMore text old (Err OutOfMemory) = ⊤

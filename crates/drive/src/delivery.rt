@@ -37,10 +37,11 @@ pub(crate) fn deliver<O: Sink, E: Sink>(
     match answer {
         Ok(output) => {
             write_pieces(output.pieces.as_slice(), out)?;
+            put(err, output.told.as_slice())?;
             Ok(Status::Done)
         }
         Err(Stop::Refused(refusal)) => {
-            put(err, refusal.line.as_slice())?;
+            put(err, refusal.text.as_slice())?;
             Ok(refusal.status)
         }
         Err(Stop::WriteFault) => Err(Fault::Failed),

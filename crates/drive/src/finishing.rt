@@ -49,7 +49,7 @@ pub(crate) fn finish<O: Sink>(
             drop(checked);
             tell(alloc)
         }
-        Action::Run { steps } => run(alloc, checked, steps, out),
+        Action::Run { steps, stats } => run(alloc, checked, steps, stats, out),
         Action::Build => {
             let output = build(alloc, checked.module());
             drop(checked);

@@ -68,8 +68,8 @@ fn refusal_of(alloc: Global, fault: ValidFault) -> Stop
         return Stop::OutOfMemory;
     }
     match invalid_line(alloc, fault) {
-        Ok(line) => Stop::Refused(Refusal {
-            line,
+        Ok(text) => Stop::Refused(Refusal {
+            text,
             status: invalid_status(fault),
         }),
         Err(_) => Stop::OutOfMemory,
@@ -100,9 +100,9 @@ pub(crate) fn judge(alloc: Global, bytes: &[u8]) -> Result<Checked, Stop>
         Ok(candidate) => accept(alloc, candidate),
         Err(DecodeFault::OutOfMemory) => Err(Stop::OutOfMemory),
         Err(fault) => {
-            let line = malformed_line(alloc, fault)?;
+            let text = malformed_line(alloc, fault)?;
             Err(Stop::Refused(Refusal {
-                line,
+                text,
                 status: Status::Malformed,
             }))
         }

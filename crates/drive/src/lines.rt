@@ -1,7 +1,7 @@
 //! The lines that the program writes.
-ghost use Rattle.std.specs.Prelude.{◌≡◌, ◌++◌, IfOk};
+ghost use Rattle.std.specs.Prelude.{◌≡◌, ◌++◌, IfOk, OnOk};
 ghost use Rattle.w_reduce.specs.Values.{val};
-ghost use Rattle.drive.specs.Answer.{line, result_line, malformed, limit, size_limit_text, run_limit_text, start_limit_text, trapped, invalid, no_printer};
+ghost use Rattle.drive.specs.Answer.{line, result_line, malformed, limit, size_limit_text, run_limit_text, start_limit_text, trapped, invalid, no_printer, counts_line};
 
 use itoa::{Buffer, Integer};
 use std::alloc::{AllocError, Global};
@@ -11,13 +11,22 @@ use w_rules::SizeLimit;
 use w_types::Value;
 use w_valid::ValidFault;
 
+// Appends a text and a number.
+fn push_number<I: Integer>(line: &mut Vec<u8>, text: &[u8], number: I) -> Result<(), AllocError>
+    ensures { OnOk result (line.new.items ≡ line.old.items ++ (text.now ++ I.text number)) }
+{
+    let mut buffer = Buffer::new();
+    line.extend_from_slice(text)?;
+    line.extend_from_slice(buffer.format(number).as_bytes())?;
+    Ok(())
+}
+
 // A text and a number, as a line.
 fn number_line<I: Integer>(alloc: Global, text: &[u8], number: I) -> Result<Vec<u8>, AllocError>
     ensures { IfOk result (λ v. v.items ≡ line (text.now ++ I.text number)) }
 {
-    let mut buffer = Buffer::new();
-    let mut line = Vec::from_slice(alloc, text)?;
-    line.extend_from_slice(buffer.format(number).as_bytes())?;
+    let mut line = Vec::new(alloc);
+    push_number(&mut line, text, number)?;
     line.push(b'\n')?;
     Ok(line)
 }
@@ -125,4 +134,23 @@ pub(crate) fn printer_line(alloc: Global, index: usize) -> Result<Vec<u8>, Alloc
     ensures { IfOk result (λ v. v.items ≡ (no_printer index).err) }
 {
     number_line(alloc, b"no printer ", index)
+}
+
+/// The line of statistics: how many reductions, and how many continuations were made, are consumed and live.
+pub(crate) fn stats_line(
+    alloc: Global,
+    steps: u64,
+    made: u64,
+    consumed: u64,
+    live: u64,
+) -> Result<Vec<u8>, AllocError>
+    ensures { IfOk result (λ v. v.items ≡ counts_line steps made consumed live) }
+{
+    let mut line = Vec::new(alloc);
+    push_number(&mut line, b"stats steps ", steps)?;
+    push_number(&mut line, b" made ", made)?;
+    push_number(&mut line, b" consumed ", consumed)?;
+    push_number(&mut line, b" live ", live)?;
+    line.push(b'\n')?;
+    Ok(line)
 }

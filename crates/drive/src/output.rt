@@ -1,22 +1,27 @@
 //! What an action gives.
-ghost use Rattle.std.specs.Prelude.{◌≡◌, IfOk};
+ghost use Rattle.std.specs.Prelude.{◌≡◌, [], IfOk};
 ghost use Rattle.drive.specs.Pieces.{joined};
 
 use std::alloc::{AllocError, Global};
 
-/// What is written to out: these pieces, in their order.
+/// What is written to out, these pieces in their order, and behind it a text to err.
 #[derive(Drop)]
 pub(crate) struct Output {
     pub(crate) pieces: Vec<Vec<u8>>,
+    pub(crate) told: Vec<u8>,
 }
 
 impl Output {
-    /// One piece.
+    /// One piece, and nothing to err.
     pub(crate) fn of_piece(alloc: Global, piece: Vec<u8>) -> Result<Output, AllocError>
-        ensures { IfOk result (λ output. joined output.pieces.items ≡ piece.items) }
+        ensures piece { IfOk result (λ output. joined output.pieces.items ≡ piece.items) }
+        ensures told { IfOk result (λ output. output.told.items ≡ []) }
     {
         let mut pieces = Vec::new(alloc);
         pieces.push(piece)?;
-        Ok(Output { pieces })
+        Ok(Output {
+            pieces,
+            told: Vec::new(alloc),
+        })
     }
 }

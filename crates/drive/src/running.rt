@@ -1,5 +1,5 @@
 //! Runs.
-ghost use Rattle.std.specs.Prelude.{◌≡◌, ◌≢◌, ◌≤◌, ℕ, flat_map, Err, IfOk};
+ghost use Rattle.std.specs.Prelude.{◌≡◌, ◌≢◌, ◌≤◌, ℕ, Bool, true, false, flat_map, Err, IfOk};
 ghost use Rattle.w_outside.specs.Outside.{Grew, Rose};
 ghost use Rattle.w_reduce.specs.Program.{Program};
 ghost use Rattle.w_reduce.specs.Run.{Run};
@@ -9,16 +9,18 @@ ghost use Rattle.w_reduce.specs.Values.{val};
 ghost use Rattle.w_inst.specs.Instances.{BeginsAs};
 ghost use Rattle.w_machine.specs.Beginning.{Begins, BeginsWith};
 ghost use Rattle.w_machine.specs.Position.{most_reductions};
-ghost use Rattle.drive.specs.Answer.{result_line, trapped, run_reply, run_gives, RunGives};
+ghost use Rattle.drive.specs.Answer.{result_line, stats_line as the_stats_line, trapped, run_reply, run_gives, RunGives};
 ghost use Rattle.drive.specs.Leaving.{Leaves};
 ghost use Rattle.drive.specs.Pieces.{joined};
-ghost use Rattle.drive.specs.Running.{IsFirst};
-ghost use Rattle.drive.specs.Stop.{Refuses};
+ghost use Rattle.drive.specs.Running.{IsAfter, IsFirst};
+ghost use Rattle.drive.specs.Stop.{IsReply, Refuses, WritesMore};
 
-use crate::lines::{printer_line, run_limit_line, start_limit_line, trap_line, value_line};
+use crate::lines::{
+    printer_line, run_limit_line, start_limit_line, stats_line, trap_line, value_line,
+};
 use crate::output::Output;
 use crate::status::Status;
-use crate::stop::{Refusal, Stop, refuse};
+use crate::stop::{Refusal, Stop, refuse, with_more};
 use std::alloc::{AllocError, Global};
 use w_inst::{InstFault, Instance, instantiate};
 use w_machine::{Machine, Outcome};
@@ -32,8 +34,8 @@ fn trap_refusal(alloc: Global, trap: Trap) -> Stop
     ensures { Refuses (λ reply. reply ≡ trapped trap) result }
 {
     match trap_line(alloc, trap) {
-        Ok(line) => Stop::Refused(Refusal {
-            line,
+        Ok(text) => Stop::Refused(Refusal {
+            text,
             status: Status::Trap,
         }),
         Err(_) => Stop::OutOfMemory,
@@ -51,7 +53,8 @@ fn result_lines(alloc: Global, values: &[Value]) -> Result<Vec<Vec<u8>>, AllocEr
     Ok(lines)
 }
 
-// Runs a machine that has taken no reduction. What is printed goes to out; the answer is what is left to write.
+// Runs a machine that has taken no reduction. What is printed goes to out; the answer is what is left to write. Where it is a reply, the
+// machine's run is that of so many steps.
 fn run_machine<O: Sink>(
     alloc: Global,
     machine: &mut Machine,
@@ -61,22 +64,50 @@ fn run_machine<O: Sink>(
     requires within { steps ≤ most_reductions }
     requires first { IsFirst machine.old }
     ensures leaves { (p : Program) (s : Store) (t : Term) → Begins machine.old.program p s t
-        → Leaves (λ reply. reply ≡ run_reply (Run p s t steps)) result
+        → Leaves (λ reply. reply ≡ run_reply false (Run p s t steps)) result
         (Grew (O.held out.old) (O.held out.new)) (Rose (O.faults out.old) (O.faults out.new)) }
+    ensures after { IsReply result → IsAfter machine.new steps }
+    ensures program { machine.new.program ≡ machine.old.program }
     ensures later { O.faults out.old ≤ O.faults out.new }
 {
     match machine.run(steps, out) {
         Outcome::Ended => {
             let pieces = result_lines(alloc, machine.results())?;
-            Ok(Output { pieces })
+            Ok(Output {
+                pieces,
+                told: Vec::new(alloc),
+            })
         }
         Outcome::Running => Err(refuse(alloc, b"running\n", Status::Running)),
-        Outcome::Stuck => Err(refuse(alloc, b"stuck\n", Status::Stuck)),
         Outcome::Limit(name) => Err(refuse(alloc, run_limit_line(name), Status::Limit)),
         Outcome::Trapped(trap) => Err(trap_refusal(alloc, trap)),
         Outcome::WriteFault => Err(Stop::WriteFault),
         Outcome::OutOfMemory => Err(Stop::OutOfMemory),
     }
+}
+
+// The answer of a machine's run, where statistics are asked for with their line behind what else goes to err.
+fn with_stats(
+    alloc: Global,
+    stats: bool,
+    machine: &Machine,
+    answer: Result<Output, Stop>,
+) -> Result<Output, Stop>
+    ensures told { stats ≡ true → (p : Program) (s : Store) (t : Term) (steps : ℕ) → Begins machine.now.program p s t
+        → (IsReply answer → IsAfter machine.now steps) → WritesMore (the_stats_line (Run p s t steps)) answer result }
+    ensures untold { stats ≡ false → result ≡ answer }
+{
+    if !stats {
+        return answer;
+    }
+    let line = stats_line(
+        alloc,
+        machine.taken(),
+        machine.made(),
+        machine.consumed(),
+        machine.live(),
+    )?;
+    with_more(answer, line.as_slice())
 }
 
 // Runs a module from its first store. The machine is let go in one place, since each such place is proved anew.
@@ -85,29 +116,31 @@ fn run_from<O: Sink>(
     checked: Checked,
     instance: Instance,
     steps: u64,
+    stats: bool,
     out: &mut O,
 ) -> Result<Output, Stop>
     requires within { steps ≤ most_reductions }
     requires first { BeginsWith checked instance.store instance.main }
     ensures leaves { (p : Program) (s : Store) (t : Term) → Begins checked p s t
-        → Leaves (λ reply. reply ≡ run_reply (Run p s t steps)) result
+        → Leaves (λ reply. reply ≡ run_reply stats (Run p s t steps)) result
         (Grew (O.held out.old) (O.held out.new)) (Rose (O.faults out.old) (O.faults out.new)) }
     ensures later { O.faults out.old ≤ O.faults out.new }
 {
     let mut machine = Machine::new(alloc, checked, instance)?;
-    let output = run_machine(alloc, &mut machine, steps, out);
+    let answer = run_machine(alloc, &mut machine, steps, out);
+    let told = with_stats(alloc, stats, &machine, answer);
     drop(machine);
-    output
+    told
 }
 
 // Why a module has no run.
 fn no_run(alloc: Global, fault: InstFault) -> Stop
-    ensures { (p : Program) (steps : ℕ) → BeginsAs p (Err fault) → Refuses (λ reply. reply ≡ run_gives steps p) result }
+    ensures { (p : Program) (steps : ℕ) (stats : Bool) → BeginsAs p (Err fault) → Refuses (λ reply. reply ≡ run_gives steps stats p) result }
 {
     match fault {
         InstFault::Import(index) => match printer_line(alloc, index) {
-            Ok(line) => Stop::Refused(Refusal {
-                line,
+            Ok(text) => Stop::Refused(Refusal {
+                text,
                 status: Status::Invalid,
             }),
             Err(_) => Stop::OutOfMemory,
@@ -124,17 +157,18 @@ pub(crate) fn run<O: Sink>(
     alloc: Global,
     checked: Checked,
     steps: u64,
+    stats: bool,
     out: &mut O,
 ) -> Result<Output, Stop>
     requires { steps ≤ most_reductions }
-    ensures leaves { Leaves (RunGives steps checked) result
+    ensures leaves { Leaves (RunGives steps stats checked) result
         (Grew (O.held out.old) (O.held out.new)) (Rose (O.faults out.old) (O.faults out.new)) }
     ensures later { O.faults out.old ≤ O.faults out.new }
 {
     // Which types are equivalent is known.
     let _classes = checked.classes();
     match instantiate(alloc, &checked) {
-        Ok(instance) => run_from(alloc, checked, instance, steps, out),
+        Ok(instance) => run_from(alloc, checked, instance, steps, stats, out),
         Err(fault) => {
             drop(checked);
             Err(no_run(alloc, fault))

@@ -25,8 +25,6 @@ pub enum Status {
     Limit,
     /// The steps are used up, and the run has not ended.
     Running,
-    /// No rule applies to the run's term.
-    Stuck,
 }
 
 impl Status {
@@ -45,7 +43,6 @@ impl Status {
             Status::OutOfMemory => 8,
             Status::Limit => 9,
             Status::Running => 10,
-            Status::Stuck => 11,
         }
     }
 }

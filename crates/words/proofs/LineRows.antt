@@ -1,5 +1,5 @@
 -- What some lists of words ask for, computed by the definition.
-use Rattle.std.proofs.Common.{◌≡◌, ℕ, nat_eq, List, [], ◌∷◌, refl, codes, false}
+use Rattle.std.proofs.Common.{◌≡◌, ℕ, nat_eq, List, [], ◌∷◌, refl, codes, true, false}
 use Rattle.std.specs.Fmt.{digits}
 use Rattle.clap.specs.Walk.{Text}
 use Rattle.clap.proofs.OnLiterals.{clap_on_literals}
@@ -43,39 +43,39 @@ check_for_steps = refl
 
 -- ## `run`
 
-run_file : asked (codes "run" ∷ codes "two" ∷ []) ≡ on_file (codes "two") (Run 100000000)
+run_file : asked (codes "run" ∷ codes "two" ∷ []) ≡ on_file (codes "two") (Run 100000000 false)
 unfolding line_of clap_on_literals digits
 run_file = refl
 
-run_for_steps : asked (codes "run" ∷ codes "two" ∷ codes "--steps" ∷ codes "5" ∷ []) ≡ on_file (codes "two") (Run 5)
+run_for_steps : asked (codes "run" ∷ codes "two" ∷ codes "--steps" ∷ codes "5" ∷ []) ≡ on_file (codes "two") (Run 5 false)
 unfolding line_of clap_on_literals digits
 run_for_steps = refl
 
-run_for_steps_first : asked (codes "run" ∷ codes "--steps" ∷ codes "5" ∷ codes "two" ∷ []) ≡ on_file (codes "two") (Run 5)
+run_for_steps_first : asked (codes "run" ∷ codes "--steps" ∷ codes "5" ∷ codes "two" ∷ []) ≡ on_file (codes "two") (Run 5 false)
 unfolding line_of clap_on_literals digits
 run_for_steps_first = refl
 
-run_for_steps_joined : asked (codes "run" ∷ codes "two" ∷ codes "--steps=5" ∷ []) ≡ on_file (codes "two") (Run 5)
+run_for_steps_joined : asked (codes "run" ∷ codes "two" ∷ codes "--steps=5" ∷ []) ≡ on_file (codes "two") (Run 5 false)
 unfolding line_of clap_on_literals digits
 run_for_steps_joined = refl
 
-run_for_none : asked (codes "run" ∷ codes "two" ∷ codes "--steps" ∷ codes "0" ∷ []) ≡ on_file (codes "two") (Run 0)
+run_for_none : asked (codes "run" ∷ codes "two" ∷ codes "--steps" ∷ codes "0" ∷ []) ≡ on_file (codes "two") (Run 0 false)
 unfolding line_of clap_on_literals digits
 run_for_none = refl
 
-run_for_most : asked (codes "run" ∷ codes "two" ∷ codes "--steps" ∷ codes "1099511627776" ∷ []) ≡ on_file (codes "two") (Run 1099511627776)
+run_for_most : asked (codes "run" ∷ codes "two" ∷ codes "--steps" ∷ codes "1099511627776" ∷ []) ≡ on_file (codes "two") (Run 1099511627776 false)
 unfolding line_of clap_on_literals digits
 run_for_most = refl
 
-run_behind_hyphens : asked (codes "run" ∷ codes "--" ∷ codes "-x" ∷ []) ≡ on_file (codes "-x") (Run 100000000)
+run_behind_hyphens : asked (codes "run" ∷ codes "--" ∷ codes "-x" ∷ []) ≡ on_file (codes "-x") (Run 100000000 false)
 unfolding line_of clap_on_literals digits
 run_behind_hyphens = refl
 
-run_hyphen : asked (codes "run" ∷ codes "-" ∷ []) ≡ on_file (codes "-") (Run 100000000)
+run_hyphen : asked (codes "run" ∷ codes "-" ∷ []) ≡ on_file (codes "-") (Run 100000000 false)
 unfolding line_of clap_on_literals digits
 run_hyphen = refl
 
-run_no_name : asked (codes "run" ∷ codes "" ∷ []) ≡ on_file [] (Run 100000000)
+run_no_name : asked (codes "run" ∷ codes "" ∷ []) ≡ on_file [] (Run 100000000 false)
 unfolding line_of clap_on_literals digits
 run_no_name = refl
 
@@ -90,6 +90,64 @@ run_two_files = refl
 run_option : asked (codes "run" ∷ codes "-x" ∷ []) ≡ bad
 unfolding line_of clap_on_literals digits
 run_option = refl
+
+-- ## `--stats`
+
+stats_after : asked (codes "run" ∷ codes "two" ∷ codes "--stats" ∷ []) ≡ on_file (codes "two") (Run 100000000 true)
+unfolding line_of clap_on_literals digits
+stats_after = refl
+
+stats_before : asked (codes "run" ∷ codes "--stats" ∷ codes "two" ∷ []) ≡ on_file (codes "two") (Run 100000000 true)
+unfolding line_of clap_on_literals digits
+stats_before = refl
+
+stats_and_steps : asked (codes "run" ∷ codes "two" ∷ codes "--stats" ∷ codes "--steps" ∷ codes "5" ∷ []) ≡ on_file (codes "two") (Run 5 true)
+unfolding line_of clap_on_literals digits
+stats_and_steps = refl
+
+steps_and_stats : asked (codes "run" ∷ codes "two" ∷ codes "--steps" ∷ codes "5" ∷ codes "--stats" ∷ []) ≡ on_file (codes "two") (Run 5 true)
+unfolding line_of clap_on_literals digits
+steps_and_stats = refl
+
+stats_round_the_file : asked (codes "run" ∷ codes "--steps=5" ∷ codes "two" ∷ codes "--stats" ∷ []) ≡ on_file (codes "two") (Run 5 true)
+unfolding line_of clap_on_literals digits
+stats_round_the_file = refl
+
+stats_twice : asked (codes "run" ∷ codes "two" ∷ codes "--stats" ∷ codes "--stats" ∷ []) ≡ bad
+unfolding line_of clap_on_literals digits
+stats_twice = refl
+
+stats_with_a_value : asked (codes "run" ∷ codes "two" ∷ codes "--stats=true" ∷ []) ≡ bad
+unfolding line_of clap_on_literals digits
+stats_with_a_value = refl
+
+stats_before_a_word : asked (codes "run" ∷ codes "two" ∷ codes "--stats" ∷ codes "true" ∷ []) ≡ bad
+unfolding line_of clap_on_literals digits
+stats_before_a_word = refl
+
+stats_for_steps : asked (codes "run" ∷ codes "two" ∷ codes "--steps" ∷ codes "--stats" ∷ []) ≡ bad
+unfolding line_of clap_on_literals digits
+stats_for_steps = refl
+
+stats_shortened : asked (codes "run" ∷ codes "two" ∷ codes "--stat" ∷ []) ≡ bad
+unfolding line_of clap_on_literals digits
+stats_shortened = refl
+
+stats_behind_hyphens : asked (codes "run" ∷ codes "--" ∷ codes "--stats" ∷ []) ≡ on_file (codes "--stats") (Run 100000000 false)
+unfolding line_of clap_on_literals digits
+stats_behind_hyphens = refl
+
+stats_alone : asked (codes "run" ∷ codes "--stats" ∷ []) ≡ bad
+unfolding line_of clap_on_literals digits
+stats_alone = refl
+
+check_for_stats : asked (codes "check" ∷ codes "two" ∷ codes "--stats" ∷ []) ≡ bad
+unfolding line_of clap_on_literals digits
+check_for_stats = refl
+
+build_for_stats : asked (codes "build" ∷ codes "two" ∷ codes "--stats" ∷ []) ≡ bad
+unfolding line_of clap_on_literals digits
+build_for_stats = refl
 
 -- ## `build`
 

@@ -1,10 +1,11 @@
 -- What a list of words asks for, by the definition of `clap`.
-use Rattle.std.specs.Prelude.{◌&&◌, ℕ, true, List, Option, Some, None, option_map, codes, nat_le, if◌then◌else◌, decimal}
+use Rattle.std.specs.Prelude.{◌&&◌, ℕ, Bool, true, false, List, Option, Some, None, option_map, codes, nat_le, if◌then◌else◌, decimal}
 use Rattle.std.specs.Str.{bytes_eq}
 use Rattle.std.specs.Str.Parse.{digits_value}
 use Rattle.clap.specs.Walk.{Row, Rule, Text, first_of, is_empty}
 use Rattle.clap.specs.Simple.{App, Shape, new_app, new_rule, on_top, subcommand_of, with_rule, with_subcommand}
 use Rattle.clap.specs.Faults.{fault_of}
+use Rattle.clap.specs.declared.builder.action.ArgAction.TheVariants.{SetTrue}
 use Rattle.words.specs.declared.request.Action.{Action}
 use Rattle.words.specs.declared.request.Action.TheVariants.{Check, Run, Build}
 
@@ -24,13 +25,17 @@ file_rule = record (new_rule (codes "file")) { required = true }
 abbrev pub steps_rule : Rule
 steps_rule = record (new_rule (codes "steps")) { long = Some (codes "steps") }
 
+-- `--stats`, which has no value, and may be left out
+abbrev pub stats_rule : Rule
+stats_rule = record (new_rule (codes "stats")) { long = Some (codes "stats"); action = Some SetTrue }
+
 -- `check FILE`
 abbrev pub check_app : App
 check_app = with_rule (new_app (codes "check")) file_rule
 
--- `run FILE [--steps N]`
+-- `run FILE [--steps N] [--stats]`
 abbrev pub run_app : App
-run_app = with_rule (with_rule (new_app (codes "run")) file_rule) steps_rule
+run_app = with_rule (with_rule (with_rule (new_app (codes "run")) file_rule) steps_rule) stats_rule
 
 -- `build FILE`
 abbrev pub build_app : App
@@ -73,6 +78,15 @@ abbrev pub steps_in : Option Text → Option ℕ
 steps_in (Some text) = number_in 0 most_steps text
 steps_in None = Some default_steps
 
+-- whether statistics are asked for: a flag has the text `true` where the words have it, and else `false`
+abbrev pub stats_in : Option Text → Bool
+stats_in (Some text) = bytes_eq text (codes "true")
+stats_in None = false
+
+-- the run of so many steps, if they are a number of steps
+abbrev pub run_of : Option ℕ → Bool → Option Action
+run_of steps stats = option_map (λ n. Run n stats) steps
+
 -- a line of what is there, and else a bad one
 abbrev pub when : {X : Type 0} → Option X → (X → Line) → Line
 when (Some x) line = line x
@@ -81,7 +95,7 @@ when None line = bad
 -- what a command does with the module of its file
 abbrev pub action_of : Text → List Row → Option Action
 action_of name rows = if bytes_eq name (codes "check") then Some Check
-    else (if bytes_eq name (codes "run") then option_map Run (steps_in (first_of (codes "steps") rows))
+    else (if bytes_eq name (codes "run") then run_of (steps_in (first_of (codes "steps") rows)) (stats_in (first_of (codes "stats") rows))
     else (if bytes_eq name (codes "build") then Some Build
     else None))
 

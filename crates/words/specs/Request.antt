@@ -16,5 +16,5 @@ Asks None line = line ≡ bad
 -- no more steps than the words may give
 abbrev pub IsWithinSteps : Action → Type 0
 IsWithinSteps Check = ⊤
-IsWithinSteps (Run steps) = steps ≤ most_steps
+IsWithinSteps (Run steps stats) = steps ≤ most_steps
 IsWithinSteps Build = ⊤

@@ -6,7 +6,7 @@ ghost use Rattle.clap.specs.Simple.{app_of, subcommand_of, subcommand_rows_of};
 ghost use Rattle.clap.specs.declared.builder.command.Command.TheViews.{out-Command};
 ghost use Rattle.words.specs.Line.{the_app, base_app, check_app, run_app, build_app};
 
-use clap::{Arg, ArgMatches, Command, Error};
+use clap::{Arg, ArgAction, ArgMatches, Command, Error};
 use std::alloc::{AllocError, Global};
 
 // `check FILE`.
@@ -18,14 +18,17 @@ fn check_command<'a>(alloc: Global) -> Result<Command<'a>, AllocError>
     Command::new(alloc, "check").arg(file)
 }
 
-// `run FILE [--steps N]`.
+// `run FILE [--steps N] [--stats]`.
 fn run_command<'a>(alloc: Global) -> Result<Command<'a>, AllocError>
     ensures app { IfOk result (λ c. app_of c ≡ run_app) }
     ensures local { IfOk result (λ c. (out-Command c).has_globals ≡ false) }
 {
     let file = Arg::new(alloc, "file").required(true);
     let steps = Arg::new(alloc, "steps").long("steps");
-    Command::new(alloc, "run").arg(file)?.arg(steps)
+    let stats = Arg::new(alloc, "stats")
+        .long("stats")
+        .action(ArgAction::SetTrue);
+    Command::new(alloc, "run").arg(file)?.arg(steps)?.arg(stats)
 }
 
 // `build FILE`.

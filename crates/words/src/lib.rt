@@ -2,10 +2,10 @@
 #![tactic(auto)]
 
 mod commands;
+mod options;
 mod reading;
 mod request;
-mod steps;
 
+pub use options::{DEFAULT_STEPS, MOST_STEPS};
 pub use reading::{WordsFault, request_of};
 pub use request::{Action, Request};
-pub use steps::{DEFAULT_STEPS, MOST_STEPS};

@@ -8,8 +8,8 @@ ghost use Rattle.words.specs.Line.{action_of, named_line, entered_line, line_of,
 ghost use Rattle.words.specs.Request.{Asks, asked_by, IsWithinSteps};
 
 use crate::commands::parse;
+use crate::options::{has_stats, steps_of, value_of};
 use crate::request::{Action, Request};
-use crate::steps::{steps_of, value_of};
 use clap::error::ErrorKind;
 use clap::{ArgMatches, Error};
 use std::alloc::Global;
@@ -34,7 +34,8 @@ fn action_named(name: &str, found: &ArgMatches) -> Option<Action>
     }
     if name == "run" {
         let steps = steps_of(found)?;
-        return Some(Action::Run { steps });
+        let stats = has_stats(found);
+        return Some(Action::Run { steps, stats });
     }
     if name == "build" {
         return Some(Action::Build);

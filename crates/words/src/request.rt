@@ -5,8 +5,8 @@
 pub enum Action {
     /// It is judged.
     Check,
-    /// It is run, for so many steps.
-    Run { steps: u64 },
+    /// It is run, for so many steps, and its statistics are told or not.
+    Run { steps: u64, stats: bool },
     /// It is written in its canonical spelling.
     Build,
 }

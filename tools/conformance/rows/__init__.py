@@ -11,7 +11,8 @@ from rows import (
     whole_modules, without_a_memory, types_and_imports, tables_and_memories, constant_expressions, segments,
     starts_exports_and_functions, orders, decoding, framing, fields, spellings, instructions,
     equivalence, matching, limits, arithmetic, sizes, long_runs, running_numbers, running_memory, running_tables,
-    running_control, running_instances)
+    running_control, running_instances, running_suspends, running_clauses, running_switches, running_continuations,
+    running_passing, running_switching_traps, running_coroutines, running_switching_limits)
 from surroundings import pieces
 
 
@@ -82,6 +83,30 @@ _FILES = [
         'running_instances', 'Where runs begin: imports, entries, limits, segments, start functions and globals.',
         running_instances.IMPORTS, running_instances.ENTRIES, running_instances.LIMITS, running_instances.SEGMENTS,
         running_instances.ORDER, running_instances.STARTS, running_instances.GLOBALS),
+    _modules(
+        'running_suspends', 'Runs of suspend and resume.', running_suspends.VALUES, running_suspends.LABELS,
+        running_suspends.ENDS),
+    _modules(
+        'running_clauses', 'Runs of handles in one another.', running_clauses.DEPTHS, running_clauses.LISTS,
+        running_clauses.INNER, running_clauses.AGAIN),
+    _modules(
+        'running_switches', 'Runs of switch.', running_switches.VALUES, running_switches.TARGETS,
+        running_switches.RINGS),
+    _modules(
+        'running_continuations', 'Runs in which continuations are made and bound.', running_continuations.MAKING,
+        running_continuations.BINDING, running_continuations.EQUIVALENCE),
+    _modules(
+        'running_passing', 'Runs in which continuations are kept and passed on.', running_passing.KEEPING,
+        running_passing.PASSING),
+    _modules(
+        'running_switching_traps', 'Runs in which stack switching traps.', running_switching_traps.NULLS,
+        running_switching_traps.CONSUMED, running_switching_traps.UNHANDLED),
+    _modules(
+        'running_coroutines', 'Runs of generators and start functions, and runs that are cut.',
+        running_coroutines.GENERATORS, running_coroutines.STARTS, running_coroutines.STEPS),
+    _modules(
+        'running_switching_limits', 'Runs of stack switching at the limits.', running_switching_limits.HANDLES,
+        running_switching_limits.FRAMES, running_switching_limits.LIVE, running_switching_limits.CHAINS),
 ]
 
 # All rows are made by now, and with them the module in which functions are judged.

@@ -1,11 +1,12 @@
-use Rattle.std.proofs.Common.{◌≤◌, Some, List, ◌∙◌, refl, sym, ap, subst, arith}
+use Rattle.std.proofs.Common.{Some, None, ◌∙◌, refl, ap}
 use Rattle.w_outside.specs.Outside.{Rose}
-use Rattle.w_reduce.specs.Run.{Running, Traps, Limit, NoRule}
+use Rattle.w_reduce.specs.Run.{Running, Traps, Limit}
 use Rattle.w_stands.specs.Values.{vals}
-use Rattle.w_machine.specs.declared.outcome.Kept.TheVariants.{Ended}
+use Rattle.w_machine.specs.declared.outcome.Kept.TheVariants.{Ended, Limit as KeptLimit, Trapped as KeptTrapped, WriteFault as KeptWriteFault, OutOfMemory as KeptOutOfMemory}
 use Rattle.w_machine.specs.Position.{Position}
 use Rattle.drive.proofs.Refusals.{refuses_same, same_refusal}
-use Rattle.drive.proofs.Runs.{from_first, first_ended, lines_of_vals, run_refused, run_ended, run_unlisted, run_failed, run_out}
+use Rattle.drive.proofs.Runs.{from_first, first_ended, first_after, first_program, lines_of_vals, run_refused, run_ended, run_unlisted, run_failed, run_out}
+use Rattle.drive.proofs.Statistics.{not_reply}
 use Rattle.drive.proofs.running.run_machine.Goals as goal
 
 pub returns-in_err-pieces-in-Ended-clause-leaves : goal.returns-in_err-pieces-in-Ended-clause-leaves
@@ -17,18 +18,13 @@ pub returns-in_ok-pieces-in-Ended-clause-leaves : goal.returns-in_ok-pieces-in-E
 returns-in_ok-pieces-in-Ended-clause-leaves g c = λ p s t begins.
     let h = from_first _ p s t c.args.steps c.args.machine.now c.run.new.self _ (g.O.Sink.held c.args.out.now) (g.O.Sink.held c.run.new.out) c.requires.first begins c.in-Ended.ensures.runs in
     let done = first_ended _ p s t c.args.steps c.args.machine.now c.run.new.self (g.O.Sink.held c.args.out.now) (g.O.Sink.held c.run.new.out) c.requires.first begins c.in-Ended.ensures.runs in
-    run_ended p s t c.args.steps (g.O.Sink.held c.args.out.now) (g.O.Sink.held c.run.new.out) (Rose (g.O.Sink.faults c.args.out.now) (g.O.Sink.faults c.run.new.out)) (record { pieces = c.in_ok-pieces-in-Ended.pieces }) (vals c.results.result.now) h.1
-    (c.results.ensures.ended done.kept p s t done.begins c.args.steps done.within) (c.in_ok-pieces-in-Ended.ensures ∙ lines_of_vals c.results.result.now)
+    run_ended p s t c.args.steps (g.O.Sink.held c.args.out.now) (g.O.Sink.held c.run.new.out) (Rose (g.O.Sink.faults c.args.out.now) (g.O.Sink.faults c.run.new.out)) (record { pieces = c.in_ok-pieces-in-Ended.pieces; told = c.new.result }) (vals c.results.result.now) h.1
+    (c.results.ensures.ended done.kept p s t done.begins c.args.steps done.within) (c.in_ok-pieces-in-Ended.ensures ∙ lines_of_vals c.results.result.now) c.new.ensures.items
 
 pub returns-in-Running-clause-leaves : goal.returns-in-Running-clause-leaves
 returns-in-Running-clause-leaves g c = λ p s t begins.
     let h = from_first _ p s t c.args.steps c.args.machine.now c.run.new.self _ (g.O.Sink.held c.args.out.now) (g.O.Sink.held c.run.new.out) c.requires.first begins c.in-Running.ensures.runs in
     run_refused p s t c.args.steps (g.O.Sink.held c.args.out.now) (g.O.Sink.held c.run.new.out) (Rose (g.O.Sink.faults c.args.out.now) (g.O.Sink.faults c.run.new.out)) Running c.refuse.result h.1 h.0 c.refuse.ensures
-
-pub returns-in-Stuck-clause-leaves : goal.returns-in-Stuck-clause-leaves
-returns-in-Stuck-clause-leaves g c = λ p s t begins.
-    let h = from_first _ p s t c.args.steps c.args.machine.now c.run.new.self _ (g.O.Sink.held c.args.out.now) (g.O.Sink.held c.run.new.out) c.requires.first begins c.in-Stuck.ensures.runs in
-    run_refused p s t c.args.steps (g.O.Sink.held c.args.out.now) (g.O.Sink.held c.run.new.out) (Rose (g.O.Sink.faults c.args.out.now) (g.O.Sink.faults c.run.new.out)) NoRule c.refuse-in-Stuck.result h.1 h.0 c.refuse-in-Stuck.ensures
 
 pub returns-in-Limit-clause-leaves : goal.returns-in-Limit-clause-leaves
 returns-in-Limit-clause-leaves g c = λ p s t begins.
@@ -51,3 +47,50 @@ pub returns-in-OutOfMemory-clause-leaves : goal.returns-in-OutOfMemory-clause-le
 returns-in-OutOfMemory-clause-leaves g c = λ p s t begins.
     let h = from_first _ p s t c.args.steps c.args.machine.now c.run.new.self _ (g.O.Sink.held c.args.out.now) (g.O.Sink.held c.run.new.out) c.requires.first begins c.in-OutOfMemory.ensures.runs in
     run_out p s t c.args.steps (g.O.Sink.held c.args.out.now) (g.O.Sink.held c.run.new.out) (Rose (g.O.Sink.faults c.args.out.now) (g.O.Sink.faults c.run.new.out)) h.1
+
+pub returns-in_err-pieces-in-Ended-clause-after : goal.returns-in_err-pieces-in-Ended-clause-after
+returns-in_err-pieces-in-Ended-clause-after g c = λ reply. absurd (not_reply c.from_residual.result c.from_residual.ensures.1 reply)
+
+pub returns-in_ok-pieces-in-Ended-clause-after : goal.returns-in_ok-pieces-in-Ended-clause-after
+returns-in_ok-pieces-in-Ended-clause-after g c =
+    λ _. first_after _ c.args.steps c.args.machine.now c.run.new.self (Some Ended) (g.O.Sink.held c.args.out.now) (g.O.Sink.held c.run.new.out) c.requires.first c.in-Ended.ensures.runs refl
+
+pub returns-in-Running-clause-after : goal.returns-in-Running-clause-after
+returns-in-Running-clause-after g c =
+    λ _. first_after _ c.args.steps c.args.machine.now c.run.new.self None (g.O.Sink.held c.args.out.now) (g.O.Sink.held c.run.new.out) c.requires.first c.in-Running.ensures.runs tt
+
+pub returns-in-Limit-clause-after : goal.returns-in-Limit-clause-after
+returns-in-Limit-clause-after g c =
+    λ _. first_after _ c.args.steps c.args.machine.now c.run.new.self (Some (KeptLimit c.in-Limit.name)) (g.O.Sink.held c.args.out.now) (g.O.Sink.held c.run.new.out) c.requires.first c.in-Limit.ensures.runs refl
+
+pub returns-in-Trapped-clause-after : goal.returns-in-Trapped-clause-after
+returns-in-Trapped-clause-after g c =
+    λ _. first_after _ c.args.steps c.args.machine.now c.run.new.self (Some (KeptTrapped c.in-Trapped.trap)) (g.O.Sink.held c.args.out.now) (g.O.Sink.held c.run.new.out) c.requires.first c.in-Trapped.ensures.runs refl
+
+pub returns-in_err-pieces-in-Ended-clause-program : goal.returns-in_err-pieces-in-Ended-clause-program
+returns-in_err-pieces-in-Ended-clause-program g c =
+    first_program _ c.args.steps c.args.machine.now c.run.new.self (Some Ended) (g.O.Sink.held c.args.out.now) (g.O.Sink.held c.run.new.out) c.requires.first c.in-Ended.ensures.runs
+
+pub returns-in_ok-pieces-in-Ended-clause-program : goal.returns-in_ok-pieces-in-Ended-clause-program
+returns-in_ok-pieces-in-Ended-clause-program g c =
+    first_program _ c.args.steps c.args.machine.now c.run.new.self (Some Ended) (g.O.Sink.held c.args.out.now) (g.O.Sink.held c.run.new.out) c.requires.first c.in-Ended.ensures.runs
+
+pub returns-in-Running-clause-program : goal.returns-in-Running-clause-program
+returns-in-Running-clause-program g c =
+    first_program _ c.args.steps c.args.machine.now c.run.new.self (None) (g.O.Sink.held c.args.out.now) (g.O.Sink.held c.run.new.out) c.requires.first c.in-Running.ensures.runs
+
+pub returns-in-Limit-clause-program : goal.returns-in-Limit-clause-program
+returns-in-Limit-clause-program g c =
+    first_program _ c.args.steps c.args.machine.now c.run.new.self (Some (KeptLimit c.in-Limit.name)) (g.O.Sink.held c.args.out.now) (g.O.Sink.held c.run.new.out) c.requires.first c.in-Limit.ensures.runs
+
+pub returns-in-Trapped-clause-program : goal.returns-in-Trapped-clause-program
+returns-in-Trapped-clause-program g c =
+    first_program _ c.args.steps c.args.machine.now c.run.new.self (Some (KeptTrapped c.in-Trapped.trap)) (g.O.Sink.held c.args.out.now) (g.O.Sink.held c.run.new.out) c.requires.first c.in-Trapped.ensures.runs
+
+pub returns-in-WriteFault-clause-program : goal.returns-in-WriteFault-clause-program
+returns-in-WriteFault-clause-program g c =
+    first_program _ c.args.steps c.args.machine.now c.run.new.self (Some KeptWriteFault) (g.O.Sink.held c.args.out.now) (g.O.Sink.held c.run.new.out) c.requires.first c.in-WriteFault.ensures.runs
+
+pub returns-in-OutOfMemory-clause-program : goal.returns-in-OutOfMemory-clause-program
+returns-in-OutOfMemory-clause-program g c =
+    first_program _ c.args.steps c.args.machine.now c.run.new.self (Some KeptOutOfMemory) (g.O.Sink.held c.args.out.now) (g.O.Sink.held c.run.new.out) c.requires.first c.in-OutOfMemory.ensures.runs

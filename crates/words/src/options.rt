@@ -1,8 +1,8 @@
-//! The number of steps of a run, as the words give it.
+//! The options of a run, as the words give them.
 ghost use Rattle.std.specs.Prelude.{◌≡◌, ◌≤◌, IfSome, option_map, codes};
 ghost use Rattle.clap.specs.Matches.{found_of};
 ghost use Rattle.clap.specs.Walk.{first_of, rows_of};
-ghost use Rattle.words.specs.Line.{number_in, steps_in, most_steps};
+ghost use Rattle.words.specs.Line.{number_in, steps_in, stats_in, most_steps};
 
 use clap::ArgMatches;
 use itoa::Buffer;
@@ -50,5 +50,15 @@ pub(crate) fn steps_of(found: &ArgMatches) -> Option<u64>
     match value_of(found, "steps") {
         Some(text) => number_of(0, MOST_STEPS, text),
         None => Some(DEFAULT_STEPS),
+    }
+}
+
+/// Whether statistics are asked for.
+pub(crate) fn has_stats(found: &ArgMatches) -> bool
+    ensures { result ≡ stats_in (first_of (codes "stats") (rows_of (found_of found.now))) }
+{
+    match value_of(found, "stats") {
+        Some(text) => text == "true",
+        None => false,
     }
 }

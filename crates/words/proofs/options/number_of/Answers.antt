@@ -1,7 +1,7 @@
 use Rattle.std.proofs.Common.{arith, ◌≡◌, sym, ◌∙◌, ap, decimal}
 use Rattle.std.specs.Cmp.Lexicographic.{same_text, other_text}
 use Rattle.words.proofs.Numerals.{number-some, number-none, unparsed, parsed}
-use Rattle.words.proofs.steps.number_of.Goals as goal
+use Rattle.words.proofs.options.number_of.Goals as goal
 
 pub returns-in_default-clause-number : goal.returns-in_default-clause-number
 returns-in_default-clause-number c = sym (number-none _ _ _ (λ n low high is. unparsed _ _ _ c.in_default.is c.parse.ensures.value.0 n (omega arith) is))
