@@ -1,5 +1,5 @@
 -- What tells which types of a module are equivalent: there is one at most, and there can't be none.
-use Rattle.std.proofs.Common.{◌≡◌, ◌<◌, ◌≤◌, ℕ, zero, suc, Bool, true, false, cond, inl, inr, refl, sym, ap, ◌∙◌, arith, List, length}
+use Rattle.std.proofs.Common.{◌≡◌, ◌<◌, ℕ, zero, suc, Bool, true, false, cond, inl, inr, refl, sym, ap, ◌∙◌, arith, List, length}
 use Rattle.std.specs.Prelude.{◌↔◌, ◌==◌, IsTrue, nat_lt}
 use Rattle.std.proofs.Math.Path.{fun_ext}
 use Rattle.std.proofs.lemmas.Bool.{ltb-true, ltb-false, eqb-true, eq-eqb}

@@ -1,24 +1,20 @@
 -- What a run gives, from what the machine came to.
-use Rattle.std.proofs.Common.{◌≡◌, ◌≤◌, ◌+◌, ◌⊎◌, ℕ, Bool, true, false, List, [], ◌∷◌, ◌++◌, flat_map, Option, Some, None, Result, Ok, Err, inl, inr, refl, sym, ap, subst, ◌∙◌, zero-add, append_assoc, arith}
+use Rattle.std.proofs.Common.{◌≡◌, ◌≤◌, ◌+◌, ℕ, Bool, false, List, [], ◌∷◌, ◌++◌, flat_map, Option, Some, None, Result, Ok, Err, inr, refl, sym, ap, subst, ◌∙◌, zero-add, append_assoc, arith}
 use Rattle.std.specs.Prelude.{IsErrAnd}
 use Rattle.w_outside.specs.Outside.{Grew, GrewByFront, IsFront}
 use Rattle.w_syntax.specs.declared.module.Module.{Module}
-use Rattle.w_types.specs.Rows.{Row, listed}
-use Rattle.w_canon.specs.IsClassesOf.{IsClassesOf}
 use Rattle.w_types.specs.declared.value.Value.{Value}
 use Rattle.w_reduce.specs.Values.{Val, val}
 use Rattle.w_reduce.specs.Store.{Store, made, consumed, live}
 use Rattle.w_reduce.specs.Terms.{Term}
 use Rattle.w_reduce.specs.Program.{Program, IsProgram}
-use Rattle.w_reduce.specs.Run.{Outcome, Running, Values, RunState, Run}
-use Rattle.w_reduce.specs.Start.{Started, Start, Ready, NoPrinter, NoEntry, Exceeds, StartTraps}
+use Rattle.w_reduce.specs.Run.{Outcome, Running, RunState, Run}
+use Rattle.w_reduce.specs.Start.{Start, Ready}
 use Rattle.w_stands.specs.Values.{vals}
-use Rattle.w_inst.specs.Instances.{BeginsAs}
-use Rattle.w_inst.specs.declared.instantiation.InstFault.{InstFault}
 use Rattle.w_machine.specs.declared.outcome.Kept.{Kept}
 use Rattle.w_machine.specs.declared.outcome.Kept.TheVariants as kept
 use Rattle.w_machine.specs.Beginning.{Begins}
-use Rattle.w_machine.specs.Position.{Position, Tells, is_fault, IsNoFault, HasTaken, after_run, Printed, PrintedAtMost, RunsFrom, RunsOn, Runs}
+use Rattle.w_machine.specs.Position.{Position, Tells, is_fault, IsNoFault, HasTaken, after_run, Printed, PrintedAtMost, RunsOn, Runs}
 use Rattle.w_machine.proofs.GoingFar.{settled_at}
 use Rattle.w_machine.specs.Results.{HasResults}
 use Rattle.drive.specs.declared.output.Output.{Output}
@@ -29,8 +25,7 @@ use Rattle.drive.specs.Leaving.{IsBegun, Leaves}
 use Rattle.drive.specs.Pieces.{joined}
 use Rattle.drive.specs.Running.{IsAfter, IsAfterBy}
 use Rattle.drive.specs.Stop.{Refuses, reply_with, reply_of_refusal}
-use Rattle.drive.proofs.Refusals.{refuses_same}
-use Rattle.drive.proofs.Replies.{front_next, front_first}
+use Rattle.drive.proofs.Replies.{front_first}
 
 -- ## Runs from the start
 

@@ -3,7 +3,6 @@ use Rattle.std.proofs.Common.{◌≡◌, ◌⊎◌, ℕ, refl, Bool, true, false
 use Rattle.std.specs.Prelude.{IsErrAnd}
 use Rattle.w_reduce.specs.Run.{RunState}
 use Rattle.drive.specs.declared.output.Output.{Output}
-use Rattle.drive.specs.declared.status.Status.{Status}
 use Rattle.drive.specs.declared.stop.Stop.{Stop}
 use Rattle.drive.specs.declared.stop.Stop.TheVariants.{Refused, WriteFault, OutOfMemory}
 use Rattle.drive.specs.Answer.{Reply, behind, stats_line, with_more, run_reply}

@@ -1,4 +1,4 @@
-use Rattle.std.proofs.Common.{Result, Err, refl, sym, ap, subst, ◌∙◌}
+use Rattle.std.proofs.Common.{Err, refl, sym, ap, subst, ◌∙◌}
 use Rattle.w_inst.specs.declared.instantiation.InstFault.{InstFault}
 use Rattle.w_inst.specs.Instances.{BeginsAs}
 use Rattle.drive.specs.Answer.{start_reply}

@@ -1,10 +1,10 @@
-use Rattle.std.proofs.Common.{refl, sym, ap, ◌∙◌}
+use Rattle.std.proofs.Common.{refl, ap, ◌∙◌}
 use Rattle.w_outside.specs.Outside.{Grew, Rose}
 use Rattle.w_syntax.specs.declared.module.Module.{Module}
 use Rattle.w_reduce.specs.Start.{Ready, start_term}
 use Rattle.w_stands.specs.Values.{store_of}
 use Rattle.w_machine.proofs.Advancing.{program_by, is_program}
-use Rattle.drive.specs.Answer.{RunGives, start_reply}
+use Rattle.drive.specs.Answer.{RunGives}
 use Rattle.drive.proofs.Refusals.{refuses_as}
 use Rattle.drive.proofs.Replies.{leaves_as, refusal_left}
 use Rattle.drive.proofs.Runs.{ready_gives, refused_gives}
