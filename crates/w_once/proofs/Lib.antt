@@ -1,0 +1,4 @@
+pub mod Later
+pub mod Leading
+pub mod Emptied
+pub mod Consumed

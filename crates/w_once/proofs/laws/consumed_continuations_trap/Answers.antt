@@ -1,0 +1,5 @@
+use Rattle.w_once.proofs.Consumed.{consumed_traps}
+use Rattle.w_once.proofs.laws.consumed_continuations_trap.Goals as goal
+
+pub returns : goal.returns
+returns c = consumed_traps
