@@ -26,10 +26,12 @@ from counting import counted                                # noqa: E402
 from executing.numbers import WIDTHS, signed                # noqa: E402
 from forms import FORMS, STRAIGHT                           # noqa: E402
 from measuring import best_of                               # noqa: E402
-from runs import RUNS, returning_at_once                    # noqa: E402
+from runs import RUNS as PLAIN_RUNS, returning_at_once      # noqa: E402
+from switching import MOST_REPEATS, RUNS as SWITCHING_RUNS  # noqa: E402
 
 PROGRAM = ROOT / 'crates' / 'stackwasm' / 'out' / 'stackwasm'
 MEBI = 1 << 20
+RUNS = PLAIN_RUNS | SWITCHING_RUNS
 STRAIGHT_NAME = next(name for name, form in FORMS.items() if form is STRAIGHT)
 INTERPRETED = re.compile(r'main\(\) => (i32|i64):(\d+)')     # what wasm-interp says of a result
 
@@ -90,10 +92,10 @@ def check_calls(given, path):
     return calls
 
 
-def run_calls(given, steps, path):
-    """The calls to time on a program that takes so many reductions."""
-    return calls_with('wasm-interp', ['--run-all-exports', str(path)], {
-        'run': ([str(given.program), 'run', str(path), '--steps', str(steps)], True)})
+def run_calls(given, steps, switches, path):
+    """The calls to time on a program that takes so many reductions; wasm-interp knows none that switches stacks."""
+    calls = {'run': ([str(given.program), 'run', str(path), '--steps', str(steps)], True)}
+    return calls if switches else calls_with('wasm-interp', ['--run-all-exports', str(path)], calls)
 
 
 def chosen(names, words, always=None):
@@ -135,7 +137,7 @@ def time_runs(given, folder):
     odd = []
     for name, count in counts.items():
         odd += small_oddities(given, folder, name, count)
-        repeats = count.repeats_within(given.steps)
+        repeats = min(count.repeats_within(given.steps), MOST_REPEATS.get(name, given.steps))
         steps = count.reductions(repeats)
         best = timed_run(given, folder, name, partial(RUNS[name], repeats), steps)
         print(tables.run_row(name, steps, best), flush=True)
@@ -148,7 +150,7 @@ def time_runs(given, folder):
 
 def timed_run(given, folder, name, make, steps):
     """The best call of each program on a module to run, that of wasm-interp as run would have ended it."""
-    _, best = timed(given, folder, name, make, partial(run_calls, given, steps))
+    _, best = timed(given, folder, name, make, partial(run_calls, given, steps, name in SWITCHING_RUNS))
     return {program: as_run_ends(call) if program == 'wasm-interp' else call for program, call in best.items()}
 
 
