@@ -84,7 +84,8 @@ def a_ring_of_coroutines(repeats):
     make = local_get(KEPT) + ref_func(1) + cont_new(ring) + table_set(0)
     main = (_counting_down(KEPT, RING - 1, make) + i32_const(0) + ref_func(1) + cont_new(ring) + table_set(0)
             + i32_const(RING) + global_set(here) + i32_const(RING * repeats) + global_set(left)
-            + ref_null(NOCONT) + _after(global_get(here)) + table_get(0) + resume(ring, on_switch(STOP)) + global_get(total))
+            + ref_null(NOCONT) + _after(global_get(here)) + table_get(0) + resume(ring, on_switch(STOP))
+            + global_get(total))
     return module(
         types=[*TYPES[:3], rec_group([functype([nullable(ring)], []), conttype(of_ring)])], functions=[MAIN, of_ring],
         tables=[table(nullable(ring), limits(RING + 1))], tags=[ONE, NOTHING],
