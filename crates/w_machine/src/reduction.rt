@@ -1,5 +1,5 @@
 //! One reduction of a run, with its limits.
-ghost use Rattle.std.specs.Prelude.{◌≡◌, ◌≢◌, ◌-◌, ◌<◌, ◌≤◌, ◌^◌, ℕ, nat_le, List, length, Option, Some, option_map, IfOk, OnErr};
+ghost use Rattle.std.specs.Prelude.{◌≡◌, ◌≢◌, ◌-◌, ◌<◌, ◌≤◌, ◌^◌, ℕ, true, nat_le, List, length, Option, Some, option_map, IfOk, OnErr};
 ghost use Rattle.w_syntax.specs.Packed.{unpacked};
 ghost use Rattle.w_syntax.specs.declared.instructions.Instr.TheVariants as flat;
 ghost use Rattle.w_syntax.specs.declared.instructions.Op.TheVariants as op;
@@ -11,6 +11,7 @@ ghost use Rattle.w_chain.specs.Counts.{frames_in_all};
 ghost use Rattle.w_conts.specs.Conts.{live_of, KeepsReferences};
 ghost use Rattle.w_stands.specs.Code.{instr_of};
 ghost use Rattle.w_plain.specs.Known.{IsKnown};
+ghost use Rattle.w_plain.specs.Plainness.{switches_at};
 ghost use Rattle.w_switching.specs.Moved.{SameLinks};
 ghost use Rattle.w_switching.specs.Reductions.{SwitchesAt, Switches};
 ghost use Rattle.w_switching.specs.Sound.{Sound, most_segments};
@@ -203,6 +204,54 @@ fn leave_handle(
     }
 }
 
+// Whether the instruction that was found switches stacks.
+#[inline(always)]
+fn switches(found: Option<&PackedInstr>) -> bool
+    ensures { result ≡ switches_at (option_map (λ p. unpacked p.now) found.entry) }
+{
+    match found {
+        Some(PackedInstr::Switching(_)) => true,
+        Some(PackedInstr::Boxed(instruction)) => matches!(
+            **instruction,
+            Instr::Plain(Op::Switching(_))
+        ),
+        _ => false,
+    }
+}
+
+// One reduction at an instruction that was found to switch stacks.
+#[inline(never)]
+fn switching_at(
+    program: &Module,
+    alloc: Global,
+    store: &Store,
+    chain: &mut Chain,
+    conts: &mut ContStore<Stored>,
+    found: Option<&PackedInstr>,
+) -> Option<Kept>
+    requires valid { Valid program.now }
+    requires stands { StandsSomewhere program.now (parts store.now chain.old conts.old) }
+    requires made { length conts.old.entries < 2 ^ 40 }
+    requires body { (top chain.old).shape.stage ≡ Body }
+    requires found { option_map (λ p. unpacked p.now) found ≡ instr_of program.now (top chain.old).shape.func (top chain.old).shape.place }
+    requires switches { switches_at (option_map (λ p. unpacked p.now) found) ≡ true }
+    ensures reduces { (held : Option (List ℕ)) → Reduces result program.now (parts store.now chain.old conts.old) (parts store.now chain.new conts.new) held held }
+    ensures no_fault { result ≢ Some Kept.WriteFault }
+{
+    match found {
+        Some(PackedInstr::Switching(operation)) => {
+            switching(program, alloc, store, chain, conts, &operation.whole())
+        }
+        Some(PackedInstr::Boxed(instruction)) => match &**instruction {
+            Instr::Plain(Op::Switching(operation)) => {
+                switching(program, alloc, store, chain, conts, operation)
+            }
+            _ => unreachable!(),
+        },
+        _ => unreachable!(),
+    }
+}
+
 // One reduction in the body where the innermost segment stands.
 #[inline(always)]
 fn in_body<O: Sink>(
@@ -225,18 +274,32 @@ fn in_body<O: Sink>(
     let source = program.source;
     let stack = chain.stack();
     let found = instr_at(source, stack.func(), stack.place());
-    match found {
-        Some(PackedInstr::Switching(operation)) => {
-            switching(source, alloc, store, chain, conts, &operation.whole())
-        }
-        Some(PackedInstr::Boxed(instruction)) => match &**instruction {
-            Instr::Plain(Op::Switching(operation)) => {
-                switching(source, alloc, store, chain, conts, operation)
-            }
-            _ => inside(program, store, chain, conts, out, found),
-        },
-        _ => inside(program, store, chain, conts, out, found),
+    if switches(found) {
+        switching_at(source, alloc, store, chain, conts, found)
+    } else {
+        inside(program, store, chain, conts, out, found)
     }
+}
+
+// One reduction where the innermost segment is fresh, or a branch comes next: in no body.
+#[inline(never)]
+fn before_code<O: Sink>(
+    program: Program,
+    store: &mut Store,
+    chain: &mut Chain,
+    conts: &ContStore<Stored>,
+    out: &mut O,
+) -> Option<Kept>
+    requires known { IsKnown program.source.now program.classes.now program.functions.now }
+    requires valid { Valid program.source.now }
+    requires stands { StandsSomewhere program.source.now (parts store.old chain.old conts.now) }
+    requires code { (top chain.old).shape.stage ≢ Body }
+    requires values { (top chain.old).shape.stage ≢ Values }
+    ensures reduces { Reduces result program.entry.source.now (parts store.old chain.old conts.now) (parts store.new chain.new conts.now) (O.held out.old) (O.held out.new) }
+    ensures cause { result ≡ Some Kept.WriteFault → Rose (O.faults out.old) (O.faults out.new) }
+    ensures later { O.faults out.old ≤ O.faults out.new }
+{
+    inside(program, store, chain, conts, out, None)
 }
 
 /// Takes one reduction, or says why none is taken, or that it traps or passes a limit.
@@ -259,8 +322,8 @@ pub(crate) fn reduce<O: Sink>(
 {
     match chain.stack().stage() {
         Stage::Body => in_body(program, alloc, store, chain, conts, out),
-        Stage::Fresh => inside(program, store, chain, conts, out, None),
-        Stage::Branch(_) => inside(program, store, chain, conts, out, None),
+        Stage::Fresh => before_code(program, store, chain, conts, out),
+        Stage::Branch(_) => before_code(program, store, chain, conts, out),
         Stage::Values => {
             if chain.handles() == 0 {
                 Some(Kept::Ended)
