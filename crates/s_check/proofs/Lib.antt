@@ -1,0 +1,7 @@
+mod Lists
+mod Least
+mod Names
+mod Clauses
+mod Firsts
+mod Scopes
+mod Statements

@@ -1,0 +1,47 @@
+-- Scopes that grow.
+use Rattle.std.proofs.Common.{◌≡◌, ℕ, Bool, true, false, List, [], ◌∷◌, ◌++◌, ◌+◌, ◌<◌, length, take, drop, map, get_or, refl, sym, ap, ◌∙◌, append_assoc}
+use Rattle.std.specs.Prelude.{is_some, if◌then◌else◌}
+use Rattle.s_syntax.specs.BlockTree.{StatementTree, Let, Assign, If, While, Print, Return, Fail, Evaluate}
+use Rattle.s_check.specs.Rules.{bound_after}
+use Rattle.s_check.specs.declared.bound.Binding.{Binding}
+use Rattle.s_check.specs.Scopes.{Bound, Scope, type_in, number}
+use Rattle.s_check.specs.Views.{bound_of, scope_of}
+use Rattle.s_check.proofs.Lists.{cell}
+use Rattle.s_check.proofs.Names.{scope_more}
+
+-- what was bound at first stays in front, where more is bound
+front_more : (first scope : Scope) (b : Bound) → take (length first) scope ≡ first → take (length first) (scope ++ b ∷ []) ≡ first
+front_more [] scope b h = refl
+front_more (a ∷ first) [] b h = absurd (cc)
+front_more (a ∷ first) (c ∷ scope) b h = let head : c ≡ a = cc in let rest : take (length first) scope ≡ first = cc in ap (λ (x : Bound). x ∷ take (length first) (scope ++ b ∷ [])) head ∙ ap (λ (l : Scope). a ∷ l) (front_more first scope b rest)
+
+front_bound : (first scope : Scope) (b : Bound) (is : Bool) → take (length first) scope ≡ first → take (length first) (if is then scope else scope ++ b ∷ []) ≡ first
+front_bound first scope b true h = h
+front_bound first scope b false h = front_more first scope b h
+
+front_after : (s : StatementTree) (first scope : Scope) → take (length first) scope ≡ first → take (length first) (bound_after s scope) ≡ first
+front_after (Let x e) first scope h = front_bound first scope (number x) (is_some (type_in scope x)) h
+front_after (Assign x e) first scope h = h
+front_after (If c a b) first scope h = h
+front_after (While c b) first scope h = h
+front_after (Print e) first scope h = h
+front_after (Return e) first scope h = h
+front_after Fail first scope h = h
+front_after (Evaluate e) first scope h = h
+
+-- behind a statement
+pub kept_after : (s : StatementTree) (first scope after : Scope) → take (length first) scope ≡ first → after ≡ bound_after s scope → take (length first) after ≡ first
+kept_after s first scope after h e = ap (take (length first)) e ∙ front_after s first scope h
+
+-- ## Lists that are filled
+
+-- one item of xs more, as the name that it binds
+pub pushed : {A : Type 0} (f : A → Bound) (xs : List A) (i : ℕ) (x : A) (bs new : List Binding) (b : Binding) (all : Scope) → i < length xs → x ≡ get_or xs i x → new ≡ bs ++ b ∷ [] → bound_of b ≡ f x
+    → scope_of bs ++ map f (drop i xs) ≡ all → scope_of new ++ map f (drop (i + 1) xs) ≡ all
+pushed f xs i x bs new b all h e n is inv =
+    ap (λ (l : List Binding). scope_of l ++ map f (drop (i + 1) xs)) n
+    ∙ ap (λ (s : Scope). s ++ map f (drop (i + 1) xs)) (scope_more bs b)
+    ∙ append_assoc (scope_of bs) (bound_of b ∷ []) (map f (drop (i + 1) xs))
+    ∙ ap (λ (y : Bound). scope_of bs ++ y ∷ map f (drop (i + 1) xs)) is
+    ∙ ap (λ (l : List _). scope_of bs ++ map f l) (sym (cell xs i x h e))
+    ∙ inv

@@ -1,0 +1,161 @@
+//! Arguments against parameters.
+ghost use Rattle.std.specs.Prelude.{◌≡◌, length};
+ghost use Rattle.std.specs.Option.{option_copied, option_map};
+ghost use Rattle.s_syntax.specs.ExprTree.{exprs};
+ghost use Rattle.s_check.specs.Least.{least_of};
+ghost use Rattle.s_check.specs.Rules.{is_resumption, is_resumption_of, suits, all_suit, against, for_function, for_effect, for_handler, for_handler_of_type, for_resumed};
+ghost use Rattle.s_check.specs.Scopes.{type_in};
+ghost use Rattle.s_check.specs.Views.{type_of};
+
+use crate::bound::ValueType;
+use crate::declarations::Declarations;
+use crate::rule::{Rule, broken, broken_where};
+use crate::scope::Scope;
+use s_syntax::{Expr, Function, Handler, Name, Node, Parameter, VariableType};
+
+// Whether it is the type of a resumption.
+fn is_resumption(ty: Option<ValueType>) -> bool
+    ensures value { result ≡ is_resumption (option_map type_of ty.entry) }
+{
+    matches!(ty, Some(ValueType::Resumption(_)))
+}
+
+// Whether it is the type of resumptions of the handler.
+fn is_resumption_of(handler: &Name, ty: Option<ValueType>) -> bool
+    ensures value { result ≡ is_resumption_of handler.now (option_map type_of ty.entry) }
+{
+    match ty {
+        Some(ValueType::Resumption(other)) => other == handler,
+        Some(ValueType::Int) => false,
+        None => false,
+    }
+}
+
+// Whether an argument suits a parameter of the type.
+fn suits<'a>(scope: &Scope<'a>, ty: &VariableType, argument: &'a Expr) -> bool
+    ensures value { result ≡ suits scope.now ty.now argument.now }
+{
+    match (ty, argument.node()) {
+        (VariableType::Int, Node::Read(name)) => !is_resumption(scope.find(name)),
+        (VariableType::Int, _) => true,
+        (VariableType::Resumption(handler), Node::Read(name)) => {
+            is_resumption_of(handler, scope.find(name))
+        }
+        (VariableType::Resumption(_), _) => false,
+    }
+}
+
+// Whether each argument suits its parameter.
+fn all_suit<'a>(scope: &Scope<'a>, parameters: &[Parameter], arguments: &'a [Expr]) -> bool
+    requires as_many { length arguments.now ≡ length parameters.now }
+    ensures value { result ≡ all_suit scope.now parameters.now (exprs arguments.now) }
+{
+    for index in 0..parameters.len() {
+        if !suits(scope, &parameters[index].ty, &arguments[index]) {
+            return false;
+        }
+    }
+    true
+}
+
+// The least rule, with those that arguments break against these parameters.
+fn against<'a>(
+    scope: &Scope<'a>,
+    parameters: &[Parameter],
+    arguments: &'a [Expr],
+    least: Option<Rule>,
+) -> Option<Rule>
+    ensures value { result ≡ least_of least (against scope.now parameters.now (exprs arguments.now)) }
+{
+    if arguments.len() == parameters.len() {
+        broken_where(
+            !all_suit(scope, parameters, arguments),
+            Rule::ArgumentOfOtherType,
+            least,
+        )
+    } else {
+        broken(Rule::OtherNumberOfArguments, least)
+    }
+}
+
+/// The least rule, with those that arguments break for a function that is called or handled.
+pub(crate) fn for_function<'a>(
+    scope: &Scope<'a>,
+    function: Option<&Function>,
+    arguments: &'a [Expr],
+    least: Option<Rule>,
+) -> Option<Rule>
+    ensures value { result ≡ least_of least (for_function scope.now (option_copied function.entry) (exprs arguments.now)) }
+{
+    match function {
+        Some(function) => against(scope, function.parameters.as_slice(), arguments, least),
+        None => broken(Rule::NoFunction, least),
+    }
+}
+
+/// The least rule, with those that arguments break for an effect that is performed.
+pub(crate) fn for_effect(
+    effect: Option<u64>,
+    arguments: &[Expr],
+    least: Option<Rule>,
+) -> Option<Rule>
+    ensures value { result ≡ least_of least (for_effect effect (exprs arguments.now)) }
+{
+    match effect {
+        Some(number) => broken_where(
+            arguments.len() as u64 != number,
+            Rule::OtherNumberOfArguments,
+            least,
+        ),
+        None => broken(Rule::NoEffect, least),
+    }
+}
+
+/// The least rule, with those that arguments break for the handler of a `handle`.
+pub(crate) fn for_handler<'a>(
+    scope: &Scope<'a>,
+    handler: Option<&Handler>,
+    arguments: &'a [Expr],
+    least: Option<Rule>,
+) -> Option<Rule>
+    ensures value { result ≡ least_of least (for_handler scope.now (option_copied handler.entry) (exprs arguments.now)) }
+{
+    match handler {
+        Some(handler) => against(scope, handler.parameters.as_slice(), arguments, least),
+        None => broken(Rule::NoHandler, least),
+    }
+}
+
+// The same for the handler of a type.
+fn for_handler_of_type<'a>(
+    scope: &Scope<'a>,
+    handler: Option<&Handler>,
+    arguments: &'a [Expr],
+    least: Option<Rule>,
+) -> Option<Rule>
+    ensures value { result ≡ least_of least (for_handler_of_type scope.now (option_copied handler.entry) (exprs arguments.now)) }
+{
+    match handler {
+        Some(handler) => against(scope, handler.parameters.as_slice(), arguments, least),
+        None => least,
+    }
+}
+
+/// The least rule, with those that arguments break for the handler of the resumption that is resumed.
+pub(crate) fn for_resumed<'a>(
+    declarations: &Declarations<'a>,
+    scope: &Scope<'a>,
+    resumption: &'a Name,
+    arguments: &'a [Expr],
+    least: Option<Rule>,
+) -> Option<Rule>
+    ensures value { result ≡ least_of least (for_resumed declarations.now scope.now (type_in scope.now resumption.now) (exprs arguments.now)) }
+{
+    match scope.find(resumption) {
+        Some(ValueType::Resumption(handler)) => {
+            for_handler_of_type(scope, declarations.handler(handler), arguments, least)
+        }
+        Some(ValueType::Int) => broken(Rule::NoResumption, least),
+        None => broken(Rule::NameNotBound, least),
+    }
+}

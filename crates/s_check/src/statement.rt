@@ -1,0 +1,112 @@
+//! Statements and blocks.
+ghost use Rattle.std.specs.Prelude.{◌≡◌, false, length, take, OnOk, IfOk};
+ghost use Rattle.s_syntax.specs.BlockOf.{statement_of, block_of};
+ghost use Rattle.s_check.specs.Least.{least_of};
+ghost use Rattle.s_check.specs.Rules.{in_target, bound_after, in_statement, in_block};
+ghost use Rattle.s_check.specs.Scopes.{type_in};
+
+use crate::bound::{Binding, ValueType};
+use crate::declarations::Declarations;
+use crate::expression::in_expr;
+use crate::rule::{Rule, broken};
+use crate::scope::Scope;
+use s_syntax::{Block, Name, Statement};
+use std::alloc::AllocError;
+
+// The least rule, with those that the assignment of a name breaks.
+fn in_target<'a>(scope: &Scope<'a>, name: &'a Name, least: Option<Rule>) -> Option<Rule>
+    ensures value { result ≡ least_of least (in_target (type_in scope.now name.now)) }
+{
+    match scope.find(name) {
+        Some(ValueType::Int) => least,
+        Some(ValueType::Resumption(_)) => broken(Rule::ResumptionElsewhere, least),
+        None => broken(Rule::NameNotBound, least),
+    }
+}
+
+// Binds the name of a let.
+fn bind_let<'a>(scope: &mut Scope<'a>, statement: &'a Statement) -> Result<(), AllocError>
+    ensures value { OnOk result (scope.new ≡ bound_after (statement_of statement.now) scope.old) }
+{
+    if let Statement::Let { name, value: _ } = statement {
+        scope.bind(Binding {
+            name,
+            ty: ValueType::Int,
+        })?;
+    }
+    Ok(())
+}
+
+// The least rule, with those that a statement breaks.
+#[cycle(statements)]
+#[tactic(auto, using(crate::proofs::Least::least_append))]
+fn in_statement<'a>(
+    declarations: &Declarations<'a>,
+    scope: &mut Scope<'a>,
+    statement: &'a Statement,
+    least: Option<Rule>,
+) -> Result<Option<Rule>, AllocError>
+    ensures value { IfOk result (λ now. now ≡ least_of least (in_statement declarations.now scope.old (statement_of statement.now))) }
+    ensures restored { OnOk result (scope.new ≡ scope.old) }
+{
+    match statement {
+        Statement::Let { name: _, value } => Ok(in_expr(declarations, scope, false, value, least)),
+        Statement::Assign { name, value } => {
+            let least = in_target(scope, name, least);
+            Ok(in_expr(declarations, scope, false, value, least))
+        }
+        Statement::If {
+            condition,
+            then_block,
+            else_block,
+        } => {
+            let least = in_expr(declarations, scope, false, condition, least);
+            let least = in_block(declarations, scope, then_block, least)?;
+            in_block(declarations, scope, else_block, least)
+        }
+        Statement::While { condition, body } => {
+            let least = in_expr(declarations, scope, false, condition, least);
+            in_block(declarations, scope, body, least)
+        }
+        Statement::Print(value) => Ok(in_expr(declarations, scope, false, value, least)),
+        Statement::Return(value) => Ok(in_expr(declarations, scope, false, value, least)),
+        Statement::Fail => Ok(least),
+        Statement::Evaluate(value) => Ok(in_expr(declarations, scope, false, value, least)),
+    }
+}
+
+// The least rule, with those that statements break, each behind those before it. What they bind stays behind the names.
+#[cycle(statements)]
+fn in_statements<'a>(
+    declarations: &Declarations<'a>,
+    scope: &mut Scope<'a>,
+    statements: &'a [Statement],
+    least: Option<Rule>,
+) -> Result<Option<Rule>, AllocError>
+    ensures value { IfOk result (λ now. now ≡ least_of least (in_block declarations.now scope.old (block_of statements.now))) }
+    ensures kept { OnOk result (take (length scope.old) scope.new ≡ scope.old) }
+{
+    let mut least = least;
+    for statement in statements {
+        least = in_statement(declarations, scope, statement, least)?;
+        bind_let(scope, statement)?;
+    }
+    Ok(least)
+}
+
+/// The least rule, with those that a block breaks.
+#[cycle(statements)]
+pub(crate) fn in_block<'a>(
+    declarations: &Declarations<'a>,
+    scope: &mut Scope<'a>,
+    block: &'a Block,
+    least: Option<Rule>,
+) -> Result<Option<Rule>, AllocError>
+    ensures value { IfOk result (λ now. now ≡ least_of least (in_block declarations.now scope.old block.now)) }
+    ensures restored { OnOk result (scope.new ≡ scope.old) }
+{
+    let count = scope.len();
+    let least = in_statements(declarations, scope, block.statements(), least)?;
+    scope.leave(count);
+    Ok(least)
+}
