@@ -1,13 +1,9 @@
 -- From what was read and judged to what is due of a file.
 use Rattle.std.proofs.Common.{◌≡◌, ◌≤◌, ◌<◌, inl, inr, sym, subst, List, ℕ, length}
 use Rattle.w_outside.specs.Outside.{Known, untold, missing, holds}
-use Rattle.w_syntax.specs.declared.module.Module.{Module}
-use Rattle.w_syntax.specs.Spells.{Spells}
-use Rattle.w_rules.specs.Limits.{Within}
-use Rattle.w_rules.specs.Valid.{Valid}
 use Rattle.words.specs.declared.request.Action.{Action}
 use Rattle.words.specs.Line.{Line, on_file as line_on_file}
-use Rattle.drive.specs.Answer.{Answer, OnFile, OnBytes, BytesGive, BytesRefusal, Reply, gives, input_limit, limit_input, read_fault}
+use Rattle.drive.specs.Answer.{Answer, OnFile, OnBytes, ActionGives, Reply, input_limit, limit_input, read_fault}
 use Rattle.drive.specs.Delivery.{MayFail}
 use Rattle.drive.specs.Reading.{FileRefusal, IsTooLong, MayHold}
 
@@ -36,20 +32,15 @@ refusal_on_file known failed Gives r (inr (inr f)) = inr f
 
 -- what a file gives is the answer to its line
 module _ (line : Line) (name : List ℕ) (action : Action) (files : List ℕ → Known) (failed : Type 0) (asks : line ≡ line_on_file name action) where
-  of_line : (r : Reply) → MayFail failed (OnFile (files name) (BytesGive (gives action))) r → MayFail failed (Answer line files) r
+  of_line : (r : Reply) → MayFail failed (OnFile (files name) (ActionGives action)) r → MayFail failed (Answer line files) r
   of_line r (inl h) = inl (subst (λ (l : Line). Answer l files r) (sym asks) h)
   of_line r (inr h) = inr h
 
   pub unread : (r : Reply) → FileRefusal (files name) failed r → MayFail failed (Answer line files) r
-  unread r h = of_line r (refusal_on_file (files name) failed (BytesGive (gives action)) r h)
+  unread r h = of_line r (refusal_on_file (files name) failed (ActionGives action) r h)
 
   module _ (slice bytes : List ℕ) (same : slice ≡ bytes) (may : MayHold (files name) bytes) (short : length bytes ≤ input_limit) where
-    of_bytes : (r : Reply) → BytesGive (gives action) slice r → MayFail failed (Answer line files) r
-    of_bytes r h =
-        of_line r (inl (on_file (files name) (BytesGive (gives action)) bytes r may short (subst (λ (l : List ℕ). BytesGive (gives action) l r) same h)))
-
-    pub refused : (r : Reply) → BytesRefusal slice r → MayFail failed (Answer line files) r
-    refused r h = of_bytes r (inr h)
-
-    pub accepted : (m : Module) → Spells slice m → Within m → Valid m → (r : Reply) → gives action m r → MayFail failed (Answer line files) r
-    accepted m spells within valid r is = of_bytes r (inl (m, spells, within, valid, is))
+    -- what bytes give that were read
+    pub acted : (r : Reply) → ActionGives action slice r → MayFail failed (Answer line files) r
+    acted r h =
+        of_line r (inl (on_file (files name) (ActionGives action) bytes r may short (subst (λ (l : List ℕ). ActionGives action l r) same h)))

@@ -15,10 +15,13 @@ use Rattle.w_rules.specs.declared.limits.SizeLimit.TheVariants.{Types, Params, L
 use Rattle.w_valid.specs.Faults.{IsRefusedAt, fault_of}
 use Rattle.w_valid.specs.declared.fault.ValidFault.{ValidFault}
 use Rattle.w_valid.specs.declared.fault.ValidFault.TheVariants as valid
+use Rattle.s_judge.proofs.Judged.{one_judgement}
+use Rattle.s_judge.specs.declared.fault.ScriptFault.{ScriptFault}
+use Rattle.s_syntax.specs.declared.script.Script.{Script}
 use Rattle.words.specs.declared.request.Action.{Action}
 use Rattle.words.specs.declared.request.Action.TheVariants.{Check, Run as RunFor, Build}
 use Rattle.words.specs.Line.{on_file as line_on_file, bad}
-use Rattle.drive.specs.Answer.{Reply, HasModuleFault, OnFile, OnBytes, BytesGive, gives, run_gives, malformed, invalid}
+use Rattle.drive.specs.Answer.{Reply, HasModuleFault, OnFile, OnBytes, BytesGive, ScriptGives, CheckGives, ActionGives, gives, run_gives, malformed, invalid, bad_script}
 use Rattle.drive.specs.Laws.{OneAnswer}
 use Rattle.drive.proofs.Programs.{one_program}
 
@@ -156,6 +159,30 @@ one_given Check m r s h k = h ∙ sym k
 one_given (RunFor steps stats) m r s h k = h.3 ∙ ap (run_gives steps stats) (one_program m h.0 k.0 h.1 k.1 h.2 k.2) ∙ sym k.3
 one_given Build m r s h k = h ∙ sym k
 
+-- ## Scripts
+
+script_once : (b : List ℕ) → IsOne (ScriptGives b)
+script_once b r s (inl h) (inl k) = h.1 ∙ sym k.1
+script_once b r s (inl h) (inr k) = let e : ◌≡◌ {A = Result Script ScriptFault} (Ok h.0.0) (Err k.0) = one_judgement b (Ok h.0.0) (Err k.0) h.0.1 k.1 in absurd (cc)
+script_once b r s (inr h) (inl k) = let e : ◌≡◌ {A = Result Script ScriptFault} (Ok k.0.0) (Err h.0) = one_judgement b (Ok k.0.0) (Err h.0) k.0.1 h.1 in absurd (cc)
+script_once b r s (inr h) (inr k) =
+    let e : ◌≡◌ {A = Result Script ScriptFault} (Err h.0) (Err k.0) = one_judgement b (Err h.0) (Err k.0) h.1 k.1 in
+    let same : h.0 ≡ k.0 = cc in
+    h.2 ∙ ap bad_script same ∙ sym k.2
+
+-- ## Modules and scripts
+
+checked_once : (b : List ℕ) → IsOne (CheckGives b)
+checked_once b r s (inl h) (inl k) = one_reply (gives Check) (one_given Check) b r s h.1 k.1
+checked_once b r s (inl h) (inr k) = let m = h.0 in let n = k.0 in absurd (cc)
+checked_once b r s (inr h) (inl k) = let m = h.0 in let n = k.0 in absurd (cc)
+checked_once b r s (inr h) (inr k) = script_once b r s h.1 k.1
+
+one_done : (action : Action) (b : List ℕ) → IsOne (ActionGives action b)
+one_done Check b = checked_once b
+one_done (RunFor steps stats) b = one_reply (gives (RunFor steps stats)) (one_given (RunFor steps stats)) b
+one_done Build b = one_reply (gives Build) (one_given Build) b
+
 -- ## Files
 
 on_bytes : (Gives : List ℕ → Reply → Type 0) (b : List ℕ) → IsOne (Gives b) → IsOne (OnBytes Gives b)
@@ -171,5 +198,5 @@ on_file (holds b) Gives told one r s h k = on_bytes Gives b (one b) r s h k
 
 pub one_answer : OneAnswer
 one_answer (line_on_file name action) files told r s h k =
-    on_file (files name) (BytesGive (gives action)) (told name) (λ b. one_reply (gives action) (one_given action) b) r s h k
+    on_file (files name) (ActionGives action) (told name) (one_done action) r s h k
 one_answer bad files told r s h k = h ∙ sym k

@@ -1,5 +1,5 @@
 -- Each line has an answer, for whatever is told of the files: there can't be none.
-use Rattle.std.proofs.Common.{◌≡◌, ◌⊎◌, ◌≤◌, ◌<◌, ◌+◌, inl, inr, refl, sym, ◌∙◌, subst, List, [], ℕ, zero, suc, length, Result, Ok, Err, arith}
+use Rattle.std.proofs.Common.{◌≡◌, ◌⊎◌, ◌≤◌, ◌<◌, ◌+◌, inl, inr, refl, sym, ◌∙◌, subst, List, [], ℕ, zero, suc, Bool, true, false, length, Result, Ok, Err, arith}
 use Rattle.w_outside.specs.Outside.{Known, untold, missing, holds}
 use Rattle.w_syntax.specs.declared.module.Module.{Module}
 use Rattle.w_decode.specs.declared.fault.DecodeFault.{DecodeFault}
@@ -15,10 +15,14 @@ use Rattle.std.specs.Prelude.{nat_eq, cond}
 use Rattle.std.proofs.lemmas.Bool.{cases_lt}
 use Rattle.w_valid.specs.declared.fault.ValidFault.{ValidFault}
 use Rattle.w_valid.specs.declared.fault.ValidFault.TheVariants as valid
+use Rattle.s_judge.proofs.Judged.{some_judgement}
+use Rattle.s_judge.specs.Judgements as script
+use Rattle.s_judge.specs.declared.fault.ScriptFault.{ScriptFault}
+use Rattle.s_syntax.specs.declared.script.Script.{Script}
 use Rattle.words.specs.declared.request.Action.{Action}
 use Rattle.words.specs.declared.request.Action.TheVariants.{Check, Run as RunFor, Build}
 use Rattle.words.specs.Line.{on_file as line_on_file, bad}
-use Rattle.drive.specs.Answer.{Reply, HasModuleFault, OnFile, OnBytes, BytesGive, gives, input_limit}
+use Rattle.drive.specs.Answer.{Reply, HasModuleFault, OnFile, OnBytes, BytesGive, ScriptGives, CheckGives, ActionGives, is_module, gives, input_limit}
 use Rattle.drive.specs.Laws.{SomeAnswer}
 use Rattle.drive.proofs.Programs.{some_program}
 
@@ -227,6 +231,27 @@ some_given Check m none = none _ refl
 some_given (RunFor steps stats) m none = some_program m (λ p source is. none _ (p, source, is, refl))
 some_given Build m none = none _ refl
 
+-- ## Scripts
+
+script_total : (bytes : List ℕ) → IsTotal (ScriptGives bytes)
+script_total bytes none = let j = some_judgement bytes in by j.0 j.1
+  where
+    by : (r : Result Script ScriptFault) → script.Means bytes r → ⊥
+    by (Ok p) m = none _ (inl ((p, m), refl))
+    by (Err fault) m = none _ (inr (fault, m, refl))
+
+checked_total : (bytes : List ℕ) → IsTotal (CheckGives bytes)
+checked_total bytes none = by (is_module bytes) refl
+  where
+    by : (b : Bool) → is_module bytes ≡ b → ⊥
+    by true e = bytes_total (gives Check) (some_given Check) bytes (λ r h. none r (inl (e, h)))
+    by false e = script_total bytes (λ r h. none r (inr (e, h)))
+
+some_done : (action : Action) (bytes : List ℕ) → IsTotal (ActionGives action bytes)
+some_done Check bytes = checked_total bytes
+some_done (RunFor steps stats) bytes = bytes_total (gives (RunFor steps stats)) (some_given (RunFor steps stats)) bytes
+some_done Build bytes = bytes_total (gives Build) (some_given Build) bytes
+
 pub some_answer : SomeAnswer
-some_answer (line_on_file name action) files none = on_file (files name) (BytesGive (gives action)) (bytes_total (gives action) (some_given action)) none
+some_answer (line_on_file name action) files none = on_file (files name) (ActionGives action) (some_done action) none
 some_answer bad files none = none _ refl

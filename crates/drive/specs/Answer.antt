@@ -1,5 +1,5 @@
 -- What the program answers to a line, given what is told of the files.
-use Rattle.std.specs.Prelude.{◌≡◌, ◌≢◌, ◌⊎◌, ◌<◌, ◌≤◌, ℕ, Bool, true, false, List, [], ◌∷◌, ◌++◌, codes, decimal, length, flat_map}
+use Rattle.std.specs.Prelude.{◌≡◌, ◌≢◌, ◌⊎◌, ◌<◌, ◌≤◌, ℕ, nat_eq, Bool, true, false, ◌&&◌, List, [], ◌∷◌, ◌++◌, codes, decimal, length, flat_map}
 use Rattle.std.specs.Int.{w32, w64, cast_signed}
 use Rattle.std.specs.Fmt.{signed_decimal}
 use Rattle.w_outside.specs.Outside.{Known, untold, missing, holds}
@@ -28,6 +28,10 @@ use Rattle.w_reduce.specs.Program.{Program, IsProgram}
 use Rattle.w_reduce.specs.Start.{Started, Ready, NoPrinter, NoEntry, Exceeds, StartTraps, Start}
 use Rattle.w_reduce.specs.Run.{Outcome, Running, Values, Traps, Limit, NoRule, RunState, Run}
 use Rattle.w_encode.specs.Canon.{Canon}
+use Rattle.s_check.specs.Refusal.{number_of}
+use Rattle.s_judge.specs.Judgements as script
+use Rattle.s_judge.specs.declared.fault.ScriptFault.{ScriptFault}
+use Rattle.s_judge.specs.declared.fault.ScriptFault.TheVariants as script_fault
 use Rattle.words.specs.declared.request.Action.{Action}
 use Rattle.words.specs.declared.request.Action.TheVariants.{Check, Run as RunFor, Build}
 use Rattle.words.specs.Line.{Line, on_file, bad}
@@ -151,13 +155,13 @@ value_text (Cont a) = codes "cont " ++ decimal a
 abbrev pub result_line : Val → List ℕ
 result_line v = line (codes "= " ++ value_text v)
 
--- what the end of a run gives; no run of a valid module comes to NoRule, and 5 is no status
+-- what the end of a run gives; no run of a valid module comes to NoRule, and 11 is no status
 abbrev pub end_reply : Outcome → Reply
 end_reply (Values vs) = record { out = flat_map result_line (listed vs); err = []; status = 0 }
 end_reply Running = running
 end_reply (Traps t) = trapped t
 end_reply (Limit name) = limit (run_limit_text name)
-end_reply NoRule = refusal [] 5
+end_reply NoRule = refusal [] 11
 
 -- a reply that comes behind a text that was printed
 abbrev pub behind : List ℕ → Reply → Reply
@@ -229,6 +233,50 @@ BytesRefusal bytes reply = ((m : Module) × Spells bytes m × ModuleRefusal m re
 abbrev pub BytesGive : (Module → Reply → Type 0) → List ℕ → Reply → Type 0
 BytesGive Accepted bytes reply = ((m : Module) × Spells bytes m × Within m × Valid m × Accepted m reply) ⊎ BytesRefusal bytes reply
 
+-- ## A script
+
+-- a script that breaks no rule
+abbrev pub ok_script : Reply
+ok_script = record { out = line (codes "ok script"); err = []; status = 0 }
+
+-- what a script with this fault gives; want of memory is none of its
+abbrev pub bad_script : ScriptFault → Reply
+bad_script script_fault.TooLong = limit (codes "limit script")
+bad_script (script_fault.Lex at) = refusal (codes "lex " ++ decimal at) 5
+bad_script (script_fault.Parse at) = refusal (codes "parse " ++ decimal at) 5
+bad_script script_fault.Deep = refusal (codes "deep") 5
+bad_script (script_fault.Rule d r) = refusal (count_text (count_text (codes "rule ") d ++ codes " ") (number_of r)) 5
+bad_script script_fault.OutOfMemory = refusal [] 5
+
+-- why a script is refused
+abbrev pub ScriptRefusal : List ℕ → Reply → Type 0
+ScriptRefusal bytes reply = (fault : ScriptFault) × script.HasFault bytes fault × (reply ≡ bad_script fault)
+
+-- what a script gives that is checked
+abbrev pub ScriptGives : List ℕ → Reply → Type 0
+ScriptGives bytes reply = (script.IsSomeGood bytes × (reply ≡ ok_script)) ⊎ ScriptRefusal bytes reply
+
+-- ## Modules and scripts
+
+abbrev pub begins_with : List ℕ → List ℕ → Bool
+begins_with [] bytes = true
+begins_with (m ∷ ms) [] = false
+begins_with (m ∷ ms) (b ∷ bytes) = nat_eq b m && begins_with ms bytes
+
+-- a file that begins so is a module, and every other one a script
+abbrev pub is_module : List ℕ → Bool
+is_module = begins_with (0 ∷ 97 ∷ 115 ∷ 109 ∷ [])
+
+-- what is given by bytes that are checked
+abbrev pub CheckGives : List ℕ → Reply → Type 0
+CheckGives bytes reply = ((is_module bytes ≡ true) × BytesGive (gives Check) bytes reply) ⊎ ((is_module bytes ≡ false) × ScriptGives bytes reply)
+
+-- by any action; only modules are run and written again
+abbrev pub ActionGives : Action → List ℕ → Reply → Type 0
+ActionGives Check = CheckGives
+ActionGives (RunFor steps stats) = BytesGive (gives (RunFor steps stats))
+ActionGives Build = BytesGive (gives Build)
+
 -- ## Files
 
 -- what bytes give, where they are not too many
@@ -245,7 +293,7 @@ OnFile (holds bytes) Gives reply = OnBytes Gives bytes reply
 -- ## The answer
 
 abbrev pub Answer : Line → (List ℕ → Known) → Reply → Type 0
-Answer (on_file name action) files = OnFile (files name) (BytesGive (gives action))
+Answer (on_file name action) files = OnFile (files name) (ActionGives action)
 Answer bad files = λ reply. reply ≡ usage
 
 -- the line has an answer with this status

@@ -1,7 +1,7 @@
 -- The exit codes.
 use Rattle.std.specs.Prelude.{ℕ}
 use Rattle.drive.specs.declared.status.Status.{Status}
-use Rattle.drive.specs.declared.status.Status.TheVariants.{Done, Trap, Usage, Malformed, Invalid, ReadFault, WriteFault, OutOfMemory, Limit, Running}
+use Rattle.drive.specs.declared.status.Status.TheVariants.{Done, Trap, Usage, Malformed, Invalid, BadScript, ReadFault, WriteFault, OutOfMemory, Limit, Running}
 
 abbrev pub code_of : Status → ℕ
 code_of Done = 0
@@ -9,6 +9,7 @@ code_of Trap = 1
 code_of Usage = 2
 code_of Malformed = 3
 code_of Invalid = 4
+code_of BadScript = 5
 code_of ReadFault = 6
 code_of WriteFault = 7
 code_of OutOfMemory = 8

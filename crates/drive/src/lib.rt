@@ -1,4 +1,4 @@
-//! The program, over any files and sinks: words, files, decoding, validation, runs and answers.
+//! The program, over any files and sinks: words, files, modules and scripts, their judgement, runs and answers.
 #![tactic(auto)]
 
 mod delivery;
@@ -11,6 +11,7 @@ mod lines;
 mod output;
 mod program;
 mod running;
+mod scripts;
 mod status;
 mod stop;
 

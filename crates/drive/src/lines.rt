@@ -1,9 +1,10 @@
 //! The lines that the program writes.
-ghost use Rattle.std.specs.Prelude.{◌≡◌, ◌++◌, IfOk, OnOk};
+ghost use Rattle.std.specs.Prelude.{◌≡◌, ◌++◌, IfOk, OnOk, codes};
 ghost use Rattle.w_reduce.specs.Values.{val};
-ghost use Rattle.drive.specs.Answer.{line, result_line, malformed, limit, size_limit_text, run_limit_text, start_limit_text, trapped, invalid, no_printer, counts_line};
+ghost use Rattle.drive.specs.Answer.{line, count_text, result_line, malformed, limit, size_limit_text, run_limit_text, start_limit_text, trapped, invalid, no_printer, counts_line, bad_script};
 
 use itoa::{Buffer, Integer};
+use s_judge::ScriptFault;
 use std::alloc::{AllocError, Global};
 use w_decode::DecodeFault;
 use w_reduce::{RunLimit, StartLimit, Trap};
@@ -134,6 +135,31 @@ pub(crate) fn printer_line(alloc: Global, index: usize) -> Result<Vec<u8>, Alloc
     ensures { IfOk result (λ v. v.items ≡ (no_printer index).err) }
 {
     number_line(alloc, b"no printer ", index)
+}
+
+// The line of a declaration that breaks a rule.
+fn rule_line(alloc: Global, declaration: usize, rule: u8) -> Result<Vec<u8>, AllocError>
+    ensures { IfOk result (λ v. v.items ≡ line (count_text (count_text (codes "rule ") declaration ++ codes " ") rule)) }
+{
+    let mut line = Vec::new(alloc);
+    push_number(&mut line, b"rule ", declaration)?;
+    push_number(&mut line, b" ", rule)?;
+    line.push(b'\n')?;
+    Ok(line)
+}
+
+/// The line of a script that is refused.
+pub(crate) fn script_line(alloc: Global, fault: ScriptFault) -> Result<Vec<u8>, AllocError>
+    ensures { IfOk result (λ v. v.items ≡ (bad_script fault).err) }
+{
+    match fault {
+        ScriptFault::TooLong => Ok(Vec::from_slice(alloc, b"limit script\n")?),
+        ScriptFault::Lex(at) => number_line(alloc, b"lex ", at),
+        ScriptFault::Parse(at) => number_line(alloc, b"parse ", at),
+        ScriptFault::Deep => Ok(Vec::from_slice(alloc, b"deep\n")?),
+        ScriptFault::Rule(declaration, rule) => rule_line(alloc, declaration, rule.number()),
+        ScriptFault::OutOfMemory => Ok(Vec::from_slice(alloc, b"\n")?),
+    }
 }
 
 /// The line of statistics: how many reductions, and how many continuations were made, are consumed and live.

@@ -2,7 +2,8 @@
 ghost use Rattle.std.specs.Prelude.{◌≡◌, ◌≢◌, ◌⊎◌, ◌≤◌, ℕ, List, map, string_bytes};
 ghost use Rattle.w_outside.specs.Outside.{Grew, Rose};
 ghost use Rattle.words.specs.Line.{line_of};
-ghost use Rattle.drive.specs.Answer.{Answer, HasStatus};
+ghost use Rattle.words.specs.Request.{IsWithinSteps};
+ghost use Rattle.drive.specs.Answer.{ActionGives, Answer, HasStatus};
 ghost use Rattle.drive.specs.Delivery.{Answers, Answered, Stopped, MayFail, Replies};
 ghost use Rattle.drive.specs.Leaving.{Leaves};
 
@@ -11,14 +12,30 @@ use crate::files::open;
 use crate::finishing::finish;
 use crate::judging::judge;
 use crate::output::Output;
+use crate::scripts::{check_script, is_module};
 use crate::status::Status;
 use crate::stop::{Stop, refuse};
 use std::alloc::Global;
 use w_outside::{Fault, Inputs, Sink};
-use words::{WordsFault, request_of};
+use words::{Action, WordsFault, request_of};
 
 static USAGE: &[u8] =
     b"usage: stackwasm check FILE | run FILE [--steps N] [--stats] | build FILE | gen N\n";
+
+// Does with bytes what is asked for. What a run prints goes to out; the answer is what is left to write.
+fn act<O: Sink>(alloc: Global, action: Action, bytes: &[u8], out: &mut O) -> Result<Output, Stop>
+    requires { IsWithinSteps action }
+    ensures leaves { Leaves (ActionGives action bytes.now) result
+        (Grew (O.held out.old) (O.held out.new)) (Rose (O.faults out.old) (O.faults out.new)) }
+    ensures later { O.faults out.old ≤ O.faults out.new }
+{
+    let is_script = matches!(action, Action::Check) && !is_module(bytes);
+    if is_script {
+        return check_script(alloc, bytes);
+    }
+    let checked = judge(alloc, bytes)?;
+    finish(alloc, action, checked, out)
+}
 
 // The answer to the words. What a run prints goes to out; the answer is what is left to write.
 fn answer<F: Inputs, O: Sink>(
@@ -36,8 +53,7 @@ fn answer<F: Inputs, O: Sink>(
     match request_of(alloc, words) {
         Ok(request) => {
             let bytes = open(alloc, files, request.file)?;
-            let checked = judge(alloc, bytes.as_slice())?;
-            finish(alloc, request.action, checked, out)
+            act(alloc, request.action, bytes.as_slice(), out)
         }
         Err(WordsFault::Bad) => Err(refuse(alloc, USAGE, Status::Usage)),
         Err(WordsFault::OutOfMemory) => Err(Stop::OutOfMemory),

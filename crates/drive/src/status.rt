@@ -15,6 +15,8 @@ pub enum Status {
     Malformed,
     /// The module is not valid.
     Invalid,
+    /// The file is no script that breaks no rule.
+    BadScript,
     /// The file could not be read.
     ReadFault,
     /// Out or err could not be written.
@@ -38,6 +40,7 @@ impl Status {
             Status::Usage => 2,
             Status::Malformed => 3,
             Status::Invalid => 4,
+            Status::BadScript => 5,
             Status::ReadFault => 6,
             Status::WriteFault => 7,
             Status::OutOfMemory => 8,

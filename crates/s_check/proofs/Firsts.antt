@@ -224,3 +224,21 @@ pub good_alone : (p q : Script) → q ≡ p → first_broken 0 (broken_rules p.d
 good_alone p q same e (Ok o) m = inl (ap (λ (x : Script). Ok x) (same ∙ sym m.0))
 good_alone p q same e (Err (refused.Rule c s)) m = let g = good p e in absurd (g.none c s m.has)
 good_alone p q same e (Err refused.OutOfMemory) m = absurd m
+
+-- ## What is computed is what is meant
+
+pub good_first : (p : Script) → Good p → first_broken 0 (broken_rules p.declarations) ≡ None
+good_first p g = by (first_broken 0 (broken_rules p.declarations)) refl
+  where
+    by : (o : Option (ℕ × Rule)) → first_broken 0 (broken_rules p.declarations) ≡ o → o ≡ None
+    by None e = refl
+    by (Some q) e = let b = broken p q.0 q.1 e in absurd (g.none q.0 q.1 b.has)
+
+pub broken_first : (p : Script) (d : ℕ) (r : Rule) → Broken p d r → first_broken 0 (broken_rules p.declarations) ≡ Some (d, r)
+broken_first p d r h = by (first_broken 0 (broken_rules p.declarations)) refl
+  where
+    by : (o : Option (ℕ × Rule)) → first_broken 0 (broken_rules p.declarations) ≡ o → o ≡ Some (d, r)
+    by None e = let g = good p e in absurd (g.none d r h.has)
+    by (Some q) e =
+        let one = one_least (broken_rules p.declarations) q.0 d q.1 r (broken p q.0 q.1 e) h in
+        ap (λ (n : ℕ). let o : Option (ℕ × Rule) = Some (n, q.1) in o) one.0 ∙ ap (λ (x : Rule). let o : Option (ℕ × Rule) = Some (d, x) in o) one.1

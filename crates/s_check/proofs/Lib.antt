@@ -2,6 +2,6 @@ mod Lists
 mod Least
 mod Names
 mod Clauses
-mod Firsts
+pub mod Firsts
 mod Scopes
 mod Statements

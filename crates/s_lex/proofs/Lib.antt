@@ -5,5 +5,6 @@ pub mod Longest
 pub mod PieceLaw
 pub mod Places
 pub mod Cutting
+pub mod SomeWay
 pub mod TokenTexts
 mod PieceRows

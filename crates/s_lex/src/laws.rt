@@ -1,6 +1,7 @@
 //! Laws of the definitions, each the contract of a function that does nothing.
-ghost use Rattle.std.specs.Prelude.{◌≡◌, ◌↔◌, ℕ, List};
+ghost use Rattle.std.specs.Prelude.{◌≡◌, ◌↔◌, ℕ, List, Err};
 ghost use Rattle.s_syntax.specs.declared.token.Kind.{Kind as TheKind};
+ghost use Rattle.s_lex.specs.declared.fault.LexFault.TheVariants.{OutOfMemory};
 ghost use Rattle.s_lex.specs.declared.piece.Piece.TheVariants.{Token, Blank, Bad};
 ghost use Rattle.s_lex.specs.Stands.{TokenStands, BlankStands, NothingStands};
 ghost use Rattle.s_lex.specs.Pieces.{piece_of};
@@ -17,4 +18,10 @@ pub fn pieces_are_as_the_rules_say()
 /// Bytes are cut in one way.
 pub fn one_lexing()
     ensures one { (bytes : List ℕ) (r s : Lexed) → Lexes 0 bytes r → Lexes 0 bytes s → r ≡ s }
+{}
+
+/// And they are cut in one, in which memory never runs out.
+pub fn some_lexing()
+    ensures some { (bytes : List ℕ) → (r : Lexed) × Lexes 0 bytes r }
+    ensures memory { (bytes : List ℕ) → Lexes 0 bytes (Err OutOfMemory) → ⊥ }
 {}

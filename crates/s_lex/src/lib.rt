@@ -9,6 +9,6 @@ mod piece;
 mod words;
 
 pub use fault::LexFault;
-pub use laws::{one_lexing, pieces_are_as_the_rules_say};
+pub use laws::{one_lexing, pieces_are_as_the_rules_say, some_lexing};
 pub use lexing::lex;
 pub use words::number_of;

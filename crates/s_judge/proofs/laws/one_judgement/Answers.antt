@@ -1,0 +1,5 @@
+use Rattle.s_judge.proofs.Judged as judged
+use Rattle.s_judge.proofs.laws.one_judgement.Goals as goal
+
+pub returns : goal.returns
+returns c = record { one = λ bytes r s h k. judged.one_judgement bytes r s h k }
