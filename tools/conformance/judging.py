@@ -5,6 +5,7 @@ from collections import Counter
 from reader import answer
 from reader.module_decoding import decode
 from rows.sections import STATUSES, VALID
+from script_reader import answer as answer_to_script, is_script
 
 OPTIONS = ('--steps', '--stats')
 GREATEST_FILE = 100000      # what the second reader reads in due time, and without too deep a nesting
@@ -41,7 +42,7 @@ def _contradiction(row):
     if not is_judged(row):
         return None
     command, given = _call(row)
-    said = answer(given)
+    said = answer_to_script(given) if command == 'check' and is_script(given) else answer(given)
     if said != VALID or command == 'check':
         return _contradicted_answer(row, said)
     if command == 'build':

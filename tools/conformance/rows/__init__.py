@@ -12,7 +12,8 @@ from rows import (
     starts_exports_and_functions, orders, decoding, framing, fields, spellings, instructions,
     equivalence, matching, limits, arithmetic, sizes, long_runs, running_numbers, running_memory, running_tables,
     running_control, running_instances, running_suspends, running_clauses, running_switches, running_continuations,
-    running_passing, running_switching_traps, running_coroutines, running_switching_limits)
+    running_passing, running_switching_traps, running_coroutines, running_switching_limits, scripts, script_rules,
+    script_sizes, script_names)
 from surroundings import pieces
 
 
@@ -107,6 +108,11 @@ _FILES = [
     _modules(
         'running_switching_limits', 'Runs of stack switching at the limits.', running_switching_limits.HANDLES,
         running_switching_limits.FRAMES, running_switching_limits.LIVE, running_switching_limits.CHAINS),
+    _modules('script_tokens', 'Bytes that are cut into tokens, and bytes that are not.', scripts.LEXING),
+    _modules('script_grammar', 'Tokens that are a script, and tokens that are none.', scripts.GRAMMAR, scripts.NESTING),
+    _modules('script_rules', 'Rules of scripts that are broken, and their neighbours.', script_rules.SECTION, script_rules.ORDER),
+    _modules('script_sizes', 'Scripts as long as one may be.', script_sizes.SECTION),
+    lambda: RowFile('script_names', 'Scripts of many names.', script_names.PIECES, [script_names.SECTION]),
 ]
 
 # All rows are made by now, and with them the module in which functions are judged.

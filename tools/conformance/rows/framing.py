@@ -13,7 +13,7 @@ def row(name, answer, digits):
 
 
 # Headers.
-for name, digits in [('an-empty-file', ''), ('seven-bytes', '0061736D010000'), ('version-2', '0061736D02000000')]:
+for name, digits in [('seven-bytes', '0061736D010000'), ('version-2', '0061736D02000000')]:
     SECTION.row(f'header/{name}', 'malformed header', bytes.fromhex(digits))
 
 # Frames.

@@ -1,0 +1,48 @@
+"""Scripts as long as one may be. What is to be said of them is clear without a reader."""
+
+from rows.sections import CallRow, Section
+
+SECTION = Section('script_sizes')
+LENGTH = 1048576
+
+
+def digits(text):
+    return text.encode().hex().upper()
+
+
+def row(name, words, said):
+    """A script that is spelled by words, each of text with a number of times, or of text alone."""
+    spelled = ' '.join(f'{digits(text)}*{times}' for text, times in words)
+    lines = (f'out | {said}',) if said == 'ok script' else (f'err | {said}', f'status {9 if said == "limit script" else 5}')
+    SECTION.rows.append(CallRow(name, 'check x', spelled, lines))
+
+
+def filled(front, part, back):
+    """So many of a part between a front and a back that the script is as long as one may be, with spaces behind it."""
+    times = (LENGTH - len(front) - len(back)) // len(part)
+    left = LENGTH - len(front) - len(back) - times * len(part)
+    return [(front, 1), (part, times), (back, 1)] + ([(' ', left)] if left else [])
+
+
+row('one-byte-more', [(' ', LENGTH + 1)], 'limit script')
+row('separators', [(' ', LENGTH)], 'rule 0 18')
+row('separators-and-main', filled('fn main() { }', ' ', ''), 'ok script')
+row('a-comment', filled('fn main() { } #', 'a', ''), 'ok script')
+row('comments', filled('fn main() { }', '#\n', ''), 'ok script')
+row('one-run-of-operators', filled('fn main() { return 1', '+1', '; }'), 'ok script')
+row('one-run-of-connectives', filled('fn main() { return 1', '||1', '; }'), 'ok script')
+row('statements', filled('fn main() { ', '1;', '}'), 'ok script')
+row('assignments', filled('fn main() { let x=1; ', 'x=x;', '}'), 'ok script')
+row('blocks-nested-as-far-as-may-be', filled('fn main() { ', 'if 1{' * 63 + '}' * 63, '}'), 'ok script')
+row('parentheses-nested-as-far-as-may-be', filled('fn main() { ', '(' * 63 + '1' + ')' * 63 + ';', '}'), 'ok script')
+row('one-name', filled('fn main() { let ', 'a', '=1; }'), 'ok script')
+row('one-name-read', filled('fn main() { return ', 'a', '; }'), 'rule 0 10')
+row('one-number', filled('fn main() { return ', '0', '; }'), 'ok script')
+row('one-argument-list', filled('fn main() { main(1', ',1', '); }'), 'rule 0 15')
+row('one-parameter-list', filled('fn f(a', ',a', ') { } fn main() { }'), 'rule 0 3')
+row('effects-of-one-name', filled('fn main() { } ', 'effect e/0;', ''), 'rule 2 1')
+row('clauses-of-no-effect', filled('handler h() { return(x) { } ', 'on e() k { } ', '} fn main() { }'), 'rule 0 4')
+row('a-byte-that-begins-no-token-at-the-end', filled('fn main() { }', ' ', '?'), f'lex {LENGTH - 1}')
+row('a-brace-too-few-at-the-end', filled('fn main() { ', '1;', ' '), 'parse ' + str(5 + 2 * ((LENGTH - 13) // 2)))
+row('zeros', [('\0', LENGTH)], 'lex 0')
+row('opened-parentheses', filled('fn main() { ', '(', ''), 'deep')
