@@ -1,5 +1,6 @@
 mod Lists
 mod Least
+mod Greater
 mod Names
 mod Clauses
 pub mod Firsts

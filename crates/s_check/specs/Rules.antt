@@ -169,12 +169,18 @@ abbrev pub in_clauses : List Declaration → Name → Handler → List Name → 
 in_clauses ds h i before [] = []
 in_clauses ds h i before (c ∷ cs) = (in_head (effect_of ds c.effect) before c ++ in_body ds (of_clause h i c) c.body) ++ in_clauses ds h i (c.effect ∷ before) cs
 
+-- a handler by its parameters and by how many clauses it has
+abbrev pub in_header : List Declaration → Handler → List Rule
+in_header ds h = in_parameters ds h.parameters ++ when (nat_lt 16 (length h.clauses)) rule.TooManyClauses
+
+-- and by its clauses
+abbrev pub in_bodies : List Declaration → Name → Handler → List Rule
+in_bodies ds x h = in_body ds (of_return h) h.return_clause.body ++ in_clauses ds x h [] h.clauses
+
 abbrev pub in_definition : List Declaration → Name → Definition → List Rule
 in_definition ds x (definition.Effect n) = when (nat_lt 8 n.value) rule.EffectOfTooMany
 in_definition ds x (definition.Function f) = in_parameters ds f.parameters ++ in_body ds (map parameter f.parameters) f.body
-in_definition ds x (definition.Handler h) =
-    in_parameters ds h.parameters ++ (when (nat_lt 16 (length h.clauses)) rule.TooManyClauses
-    ++ (in_body ds (of_return h) h.return_clause.body ++ in_clauses ds x h [] h.clauses))
+in_definition ds x (definition.Handler h) = in_header ds h ++ in_bodies ds x h
 
 -- a declaration behind those of these names
 abbrev pub in_declaration : List Declaration → List Name → Declaration → List Rule

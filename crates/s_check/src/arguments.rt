@@ -3,7 +3,7 @@ ghost use Rattle.std.specs.Prelude.{◌≡◌, length};
 ghost use Rattle.std.specs.Option.{option_copied, option_map};
 ghost use Rattle.s_syntax.specs.ExprTree.{exprs};
 ghost use Rattle.s_check.specs.Least.{least_of};
-ghost use Rattle.s_check.specs.Rules.{is_resumption, is_resumption_of, suits, all_suit, against, for_function, for_effect, for_handler, for_handler_of_type, for_resumed};
+ghost use Rattle.s_check.specs.Rules.{is_resumption_of, suits, all_suit, against, for_function, for_effect, for_handler, for_handler_of_type, for_resumed};
 ghost use Rattle.s_check.specs.Scopes.{type_in};
 ghost use Rattle.s_check.specs.Views.{type_of};
 
@@ -12,13 +12,6 @@ use crate::declarations::Declarations;
 use crate::rule::{Rule, broken, broken_where};
 use crate::scope::Scope;
 use s_syntax::{Expr, Function, Handler, Name, Node, Parameter, VariableType};
-
-// Whether it is the type of a resumption.
-fn is_resumption(ty: Option<ValueType>) -> bool
-    ensures value { result ≡ is_resumption (option_map type_of ty.entry) }
-{
-    matches!(ty, Some(ValueType::Resumption(_)))
-}
 
 // Whether it is the type of resumptions of the handler.
 fn is_resumption_of(handler: &Name, ty: Option<ValueType>) -> bool
@@ -36,7 +29,9 @@ fn suits<'a>(scope: &Scope<'a>, ty: &VariableType, argument: &'a Expr) -> bool
     ensures value { result ≡ suits scope.now ty.now argument.now }
 {
     match (ty, argument.node()) {
-        (VariableType::Int, Node::Read(name)) => !is_resumption(scope.find(name)),
+        (VariableType::Int, Node::Read(name)) => {
+            !matches!(scope.find(name), Some(ValueType::Resumption(_)))
+        }
         (VariableType::Int, _) => true,
         (VariableType::Resumption(handler), Node::Read(name)) => {
             is_resumption_of(handler, scope.find(name))

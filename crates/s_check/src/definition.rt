@@ -3,7 +3,7 @@ ghost use Rattle.std.specs.Prelude.{◌≡◌, ◌++◌, List, [], map, OnOk, If
 ghost use Rattle.s_syntax.specs.declared.name.Name.{Name as TheName};
 ghost use Rattle.s_syntax.specs.declared.script.Definition.TheVariants.{Function as AFunction, Handler as AHandler};
 ghost use Rattle.s_check.specs.Least.{least_of};
-ghost use Rattle.s_check.specs.Rules.{in_type, in_parameters, in_head, in_body, in_clauses, in_definition};
+ghost use Rattle.s_check.specs.Rules.{in_type, in_parameters, in_head, in_body, in_clauses, in_header, in_definition};
 ghost use Rattle.s_check.specs.Scopes.{parameter, number, of_clause, of_return, is_among};
 ghost use Rattle.s_check.specs.Views.{type_of, scope_of};
 
@@ -189,7 +189,21 @@ fn in_clauses<'a>(
     Ok(least)
 }
 
-// The least rule, with those that a handler breaks.
+// The least rule, with those that a handler breaks by its parameters and by how many clauses it has.
+#[tactic(auto, using(crate::proofs::Least::least_append))]
+fn in_header<'a>(
+    declarations: &Declarations<'a>,
+    handler: &'a Handler,
+    least: Option<Rule>,
+) -> Option<Rule>
+    ensures value { result ≡ least_of least (in_header declarations.now handler.now) }
+{
+    let least = in_parameters(declarations, handler.parameters.as_slice(), least);
+    broken_where(handler.clauses.len() > 16, Rule::TooManyClauses, least)
+}
+
+// The least rule, with those that a handler breaks. Where it has too many parameters or clauses no other rule is less, and its parameters
+// aren't gone through again for each clause.
 #[tactic(auto, using(crate::proofs::Least::least_append))]
 fn in_handler<'a>(
     alloc: Global,
@@ -200,8 +214,13 @@ fn in_handler<'a>(
 ) -> Result<Option<Rule>, AllocError>
     ensures value { IfOk result (λ now. now ≡ least_of least (in_definition declarations.now name.now (AHandler handler.now))) }
 {
-    let least = in_parameters(declarations, handler.parameters.as_slice(), least);
-    let least = broken_where(handler.clauses.len() > 16, Rule::TooManyClauses, least);
+    let least = in_header(declarations, handler, least);
+    if handler.parameters.len() > 8 {
+        return Ok(least);
+    }
+    if handler.clauses.len() > 16 {
+        return Ok(least);
+    }
     let least = in_return(alloc, declarations, handler, least)?;
     in_clauses(alloc, declarations, name, handler, least)
 }
