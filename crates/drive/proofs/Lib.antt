@@ -9,3 +9,4 @@ pub mod Programs
 pub mod OneAnswer
 pub mod SomeAnswer
 pub mod BuiltAgain
+pub mod Acting

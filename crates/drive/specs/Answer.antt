@@ -1,5 +1,5 @@
 -- What the program answers to a line, given what is told of the files.
-use Rattle.std.specs.Prelude.{◌≡◌, ◌≢◌, ◌⊎◌, ◌<◌, ◌≤◌, ℕ, nat_eq, Bool, true, false, ◌&&◌, List, [], ◌∷◌, ◌++◌, codes, decimal, length, flat_map}
+use Rattle.std.specs.Prelude.{◌≡◌, ◌≢◌, ◌⊎◌, ◌<◌, ◌≤◌, ℕ, nat_eq, Bool, true, false, not, ◌&&◌, List, [], ◌∷◌, ◌++◌, codes, decimal, length, flat_map}
 use Rattle.std.specs.Int.{w32, w64, cast_signed}
 use Rattle.std.specs.Fmt.{signed_decimal}
 use Rattle.w_outside.specs.Outside.{Known, untold, missing, holds}
@@ -266,6 +266,12 @@ begins_with (m ∷ ms) (b ∷ bytes) = nat_eq b m && begins_with ms bytes
 -- a file that begins so is a module, and every other one a script
 abbrev pub is_module : List ℕ → Bool
 is_module = begins_with (0 ∷ 97 ∷ 115 ∷ 109 ∷ [])
+
+-- a script that is to be checked
+abbrev pub is_checked_script : Action → List ℕ → Bool
+is_checked_script Check bytes = not (is_module bytes)
+is_checked_script (RunFor steps stats) bytes = false
+is_checked_script Build bytes = false
 
 -- what is given by bytes that are checked
 abbrev pub CheckGives : List ℕ → Reply → Type 0

@@ -12,7 +12,7 @@ use crate::files::open;
 use crate::finishing::finish;
 use crate::judging::judge;
 use crate::output::Output;
-use crate::scripts::{check_script, is_module};
+use crate::scripts::{check_script, is_checked_script};
 use crate::status::Status;
 use crate::stop::{Stop, refuse};
 use std::alloc::Global;
@@ -29,8 +29,7 @@ fn act<O: Sink>(alloc: Global, action: Action, bytes: &[u8], out: &mut O) -> Res
         (Grew (O.held out.old) (O.held out.new)) (Rose (O.faults out.old) (O.faults out.new)) }
     ensures later { O.faults out.old ≤ O.faults out.new }
 {
-    let is_script = matches!(action, Action::Check) && !is_module(bytes);
-    if is_script {
+    if is_checked_script(action, bytes) {
         return check_script(alloc, bytes);
     }
     let checked = judge(alloc, bytes)?;

@@ -1,6 +1,6 @@
 //! Scripts.
 ghost use Rattle.std.specs.Prelude.{◌≡◌, ◌≢◌};
-ghost use Rattle.drive.specs.Answer.{ScriptGives, bad_script, is_module as begins_module};
+ghost use Rattle.drive.specs.Answer.{ScriptGives, bad_script, is_checked_script, is_module as begins_module};
 ghost use Rattle.drive.specs.Status.{code_of};
 ghost use Rattle.drive.specs.Stop.{Ends, Gives, Refuses};
 
@@ -10,12 +10,24 @@ use crate::status::Status;
 use crate::stop::{Refusal, Stop};
 use s_judge::{ScriptFault, check};
 use std::alloc::Global;
+use words::Action;
 
-/// Whether bytes are a module; others are a script.
-pub(crate) fn is_module(bytes: &[u8]) -> bool
+// Whether bytes are a module; others are a script.
+fn is_module(bytes: &[u8]) -> bool
     ensures value { result ≡ begins_module bytes.now }
 {
     matches!(bytes, [0x00, 0x61, 0x73, 0x6D, ..])
+}
+
+/// Whether bytes are a script that is to be checked.
+pub(crate) fn is_checked_script(action: Action, bytes: &[u8]) -> bool
+    ensures value { result ≡ is_checked_script action bytes.now }
+{
+    match action {
+        Action::Check => !is_module(bytes),
+        Action::Run { .. } => false,
+        Action::Build => false,
+    }
 }
 
 // The status of a script that is refused.
