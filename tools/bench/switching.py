@@ -5,7 +5,7 @@ Each is a function from a number of repeats to a module, as in `runs.py`.
 
 from assembler.encoding import signed
 from assembler.instructions import (
-    I32_ADD, I32_EQZ, RETURN, UNREACHABLE, block, br, br_if, call, cont_new, global_get, global_set, i32_const, if_,
+    DROP, I32_ADD, I32_EQZ, RETURN, UNREACHABLE, block, br, br_if, call, cont_new, global_get, global_set, i32_const, if_,
     local_get, local_set, local_tee, loop, numeric, on, on_switch, ref_func, ref_null, resume, suspend, switch,
     table_get, table_set)
 from assembler.modules import code, export, global_, module, table
@@ -29,9 +29,20 @@ def plain_calls_in_a_loop(repeats):
     return _program(_repeated(repeats, call(1)) + global_get(0), [_adding_one()], NOTHING)
 
 
+def plain_calls_beside_a_full_store(repeats):
+    """The same where as many continuations are live as may be."""
+    return _program(
+        _filled(MOST_LIVE) + _repeated(repeats, call(1)) + global_get(0), [_adding_one()], NOTHING)
+
+
 def a_generator(repeats):
     """A generator of all numbers, whose handle stands right around it."""
     return _generating(repeats, 1)
+
+
+def a_generator_beside_a_full_store(repeats):
+    """The same where as many continuations are live as may be, its own among them."""
+    return _generating(repeats, 1, _filled(MOST_LIVE - 1))
 
 
 def a_generator_below_ten_handles(repeats):
@@ -44,12 +55,17 @@ def a_generator_below_a_hundred_handles(repeats):
     return _generating(repeats, 100)
 
 
-def _generating(repeats, depth):
+def _filled(count):
+    """Makes so many continuations that stay live."""
+    return _counting_down(REPEATS, count, _fresh(1) + DROP)
+
+
+def _generating(repeats, depth, before=b''):
     numbers = loop(EMPTY, local_get(0) + suspend(YIELD) + _more(local_get(0)) + local_set(0) + br(0))
     passing = [_fresh(function) + resume(COROUTINE) for function in range(1, depth)]
     take = block(signed(YIELDED), local_get(KEPT) + resume(COROUTINE, on(YIELD, 0)) + UNREACHABLE) + local_set(KEPT)
     add = local_get(RESULT) + I32_ADD + local_set(RESULT)
-    main = _fresh(depth) + local_set(KEPT) + _repeated(repeats, take + add) + local_get(RESULT)
+    main = before + _fresh(depth) + local_set(KEPT) + _repeated(repeats, take + add) + local_get(RESULT)
     return _program(main, [numbers, *passing], NOTHING, [(1, I32)])
 
 
@@ -130,6 +146,7 @@ def _program(main, others, kind, runs=(), types=None):
 
 
 RUNS = {run.__name__.replace('_', ' '): run for run in (
-    plain_calls_in_a_loop, a_generator, a_generator_below_ten_handles, a_generator_below_a_hundred_handles,
+    plain_calls_in_a_loop, plain_calls_beside_a_full_store, a_generator, a_generator_beside_a_full_store,
+    a_generator_below_ten_handles, a_generator_below_a_hundred_handles,
     fresh_coroutines, a_ring_of_coroutines, coroutines_that_stay_live)}
 MOST_REPEATS = {'coroutines that stay live': MOST_LIVE}

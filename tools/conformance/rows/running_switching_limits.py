@@ -235,6 +235,7 @@ def _chain_rows():
             ('1000-segments', EACH, 999), ('1000-segments-of-20-frames', multiples(20), 19998),
             ('20000-frames-in-one-segment', NOWHERE, 19998), ('one-segment', NOWHERE, 0)]:
         CHAINS.told(f'suspended-5000-times/{name}', suspending_chain(handles, levels, 5000))
+    CHAINS.told('suspended-100000-times/1000-segments', suspending_chain(EACH, 999, 100000))
     for levels in (0, 1, 499, 999):
         CHAINS.told(f'switched-5000-times/{levels}-handles-each', switching_chains(levels, 5000))
     CHAINS.told('switched-once/1000-handles-each', switching_chains(1000, 3))
