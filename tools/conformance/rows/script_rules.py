@@ -130,15 +130,18 @@ for rule, scripts in RULES.items():
     for name, text in scripts.items():
         SECTION.row(f'rule-{rule}/{name}', text)
 
-# Of each two rules one is broken by an earlier declaration, and by one declaration both.
+# Of each two rules one is broken by an earlier declaration, and by one declaration both. Each is also broken by two declarations.
 ONES = {
+    1: 'fn NAME() { } fn NAME() { }', 4: 'handler NAME() { return(x) { } ' + ''.join(f'on e{number}() k {{ }} ' for number in range(17)) + '}',
+    7: 'handler NAME() { return(x) { } on z() k { } on z() l { } }', 8: 'handler NAME() { return(x) { } on nothing() k { } }',
+    9: 'handler NAME() { return(x) { } on z(a) k { } }', 11: 'fn NAME(k: res h, v) { print k; }', 16: 'fn NAME(k: res h, v) { r(v, v); }',
     2: 'effect NAME/9;', 3: f'fn NAME({names(9)}) {{ }}', 5: 'fn NAME(k: res nothing) { }', 6: 'fn NAME(a, a) { }', 10: 'fn NAME() { print y; }',
     12: 'fn NAME() { nothing(); }', 13: 'fn NAME() { do nothing(); }', 14: 'fn NAME() { handle main() with nothing(); }', 15: 'fn NAME() { main(1); }',
     17: 'fn NAME(v) { resume v(1) with (); }'}
 for first, one in ONES.items():
     for second, other in ONES.items():
-        ORDER.row(f'{first}-before-{second}', f'{one.replace("NAME", "a")} {other.replace("NAME", "b")} ' + MAIN)
-        ORDER.row(f'{first}-and-a-name-again-by-{second}', f'{MAIN}{one.replace("NAME", "a")} {other.replace("NAME", "a")}')
+        ORDER.row(f'{first}-before-{second}', f'{H}{R}{one.replace("NAME", "a")} {other.replace("NAME", "b")} ' + MAIN)
+        ORDER.row(f'{first}-and-a-name-again-by-{second}', f'{H}{R}{MAIN}{one.replace("NAME", "a")} {other.replace("NAME", "a")}')
 BODIES = {
     10: 'print y;', 11: 'print k;', 12: 'nothing();', 13: 'do nothing();', 14: 'handle main() with nothing();', 15: 'main(1);', 16: 'r(v, v);', 17: 'resume v(1) with ();'}
 for first, one in BODIES.items():
