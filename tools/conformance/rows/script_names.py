@@ -27,7 +27,8 @@ def names():
 # Functions that each call another one, and lets of a body; each begins a line of text.
 FUNCTIONS = ' '.join(f'fn f{number}() {{ return f{(number * 7919 + 1) % 10000}(); }}' for number in range(10000))
 LETS = ''.join(f'let {name}=1;' for name in islice(names(), NAMES))
-PIECES = [('functions', f'| {FUNCTIONS}'), ('lets', f'| {LETS}'), ('main', spelled('fn main() { ')), ('end', spelled('}'))]
+PIECES = [
+    ('functions', f'| {FUNCTIONS}'), ('lets', f'| {LETS}'), ('main', spelled('fn main() { ')), ('end', spelled('}'))]
 
 row('10-000-functions', '@functions @main @end', 'ok script')
 row('10-000-functions-and-the-first-again', f'@functions {spelled("fn f0() { }")} @main @end', 'rule 10000 1')

@@ -1,6 +1,6 @@
 """Scripts as long as one may be. What is to be said of them is clear without a reader."""
 
-from rows.sections import CallRow, Section
+from rows.sections import CallRow, Section, answered
 
 SECTION = Section('script_sizes')
 LENGTH = 1048576
@@ -13,8 +13,7 @@ def digits(text):
 def row(name, words, said):
     """A script that is spelled by words, each of text with a number of times, or of text alone."""
     spelled = ' '.join(f'{digits(text)}*{times}' for text, times in words)
-    lines = (f'out | {said}',) if said == 'ok script' else (f'err | {said}', f'status {9 if said == "limit script" else 5}')
-    SECTION.rows.append(CallRow(name, 'check x', spelled, lines))
+    SECTION.rows.append(CallRow(name, 'check x', spelled, answered(said)))
 
 
 def filled(front, part, back):
@@ -43,9 +42,12 @@ row('one-argument-list', filled('fn main() { main(1', ',1', '); }'), 'rule 0 15'
 row('one-parameter-list', filled('fn f(a', ',a', ') { } fn main() { }'), 'rule 0 3')
 row('effects-of-one-name', filled('fn main() { } ', 'effect e/0;', ''), 'rule 2 1')
 row('clauses-of-no-effect', filled('handler h() { return(x) { } ', 'on e() k { } ', '} fn main() { }'), 'rule 0 4')
-row('parameters-for-many-clauses', [('handler h(a', 1), (',a', 200000), (') { return(x) { } ', 1), ('on e() k { } ', 45000), ('} fn main() { }', 1)], 'rule 0 3')
-row('long-parameters-for-many-clauses', [('handler h(a', 1), ('a', 400000), (') { return(x) { } ', 1), ('on e() k { } ', 45000), ('} fn main() { }', 1)], 'rule 0 4')
-row('long-names-in-many-statements', [('fn main() { let a', 1), ('a', 500000), ('=1; ', 1), ('aa;', 170000), ('}', 1)], 'rule 0 10')
+CLAUSES = [(') { return(x) { } ', 1), ('on e() k { } ', 45000), ('} fn main() { }', 1)]
+row('parameters-for-many-clauses', [('handler h(a', 1), (',a', 200000), *CLAUSES], 'rule 0 3')
+row('a-long-parameter-for-many-clauses', [('handler h(a', 1), ('a', 400000), *CLAUSES], 'rule 0 4')
+row(
+    'a-long-name-beside-many', [('fn main() { let a', 1), ('a', 500000), ('=1; ', 1), ('aa;', 170000), ('}', 1)],
+    'rule 0 10')
 row('a-byte-that-begins-no-token-at-the-end', filled('fn main() { }', ' ', '?'), f'lex {LENGTH - 1}')
 row('a-brace-too-few-at-the-end', filled('fn main() { ', '1;', ' '), 'parse ' + str(5 + 2 * ((LENGTH - 13) // 2)))
 row('zeros', [('\0', LENGTH)], 'lex 0')

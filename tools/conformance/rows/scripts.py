@@ -31,13 +31,15 @@ for keyword in KEYWORDS:
     LEXING.row(f'a-name-in-capitals/{keyword}', f'effect {keyword.upper()}/1;\n' + MAIN)
 for name, text in [
         ('an-underscore', '_'), ('two-underscores', '__'), ('digits-in-a-name', 'a1b2'), ('a-digit-in-front', '1a'),
-        ('an-underscore-behind-digits', '12_'), ('a-dot', 'a.b'), ('a-letter-that-is-not-ascii', 'ä'), ('a-dash', 'a-b')]:
+        ('an-underscore-behind-digits', '12_'), ('a-dot', 'a.b'), ('a-letter-that-is-not-ascii', 'ä'),
+        ('a-dash', 'a-b')]:
     LEXING.row(f'a-name/{name}', f'effect {text}/1;\n' + MAIN)
 for name, text in [
         ('zero', '0'), ('zeros-in-front', '0007'), ('the-greatest', str(GREATEST_NUMBER)),
         ('one-more', str(GREATEST_NUMBER + 1)), ('the-greatest-behind-zeros', f'000{GREATEST_NUMBER}'),
-        ('of-64-bits', str(2 ** 64)), ('of-200-digits', '1' * 200), ('of-200-zeros', '0' * 200), ('a-letter-behind', '1x'),
-        ('a-keyword-behind', '1if'), ('a-symbol-behind', '1+1'), ('a-comment-behind', '1#\n'), ('hexadecimal', '0x10')]:
+        ('of-64-bits', str(2 ** 64)), ('of-200-digits', '1' * 200), ('of-200-zeros', '0' * 200),
+        ('a-letter-behind', '1x'), ('a-keyword-behind', '1if'), ('a-symbol-behind', '1+1'),
+        ('a-comment-behind', '1#\n'), ('hexadecimal', '0x10')]:
     LEXING.row(f'a-number/{name}', main(f'return {text};'))
 for name, text in [
         ('of-nothing', '#\n'), ('to-the-end', MAIN + '# no end'), ('of-any-bytes', b'# \x00\xff\x80\n' + MAIN.encode()),
@@ -60,9 +62,11 @@ EXPRESSIONS = {
     'a-handle': 'handle f ( ) with h ( )', 'a-handle-with-arguments': 'handle p ( 1 , x ) with i ( 3 , 4 )',
     'a-resume': 'resume k ( x ) with ( )', 'minus': '- x', 'not': '! x', 'or': 'x || 1 || 2', 'and': 'x && 1 && 2',
     'equal': 'x == 1', 'not-equal': 'x != 1', 'less': 'x < 1', 'at-most': 'x <= 1', 'greater': 'x > 1',
-    'at-least': 'x >= 1', 'plus-and-minus': 'x + 1 - 2', 'times': 'x * 1 / 2 % 3', 'levels': '1 || x && 2 == 3 + 4 * - 5'}
+    'at-least': 'x >= 1', 'plus-and-minus': 'x + 1 - 2', 'times': 'x * 1 / 2 % 3',
+    'levels': '1 || x && 2 == 3 + 4 * - 5'}
 STATEMENTS = {
-    'a-let': 'let y = 1 ;', 'an-assignment': 'x = 1 ;', 'an-if': 'if x { }', 'an-if-with-else': 'if x { x = 1 ; } else { x = 2 ; }',
+    'a-let': 'let y = 1 ;', 'an-assignment': 'x = 1 ;', 'an-if': 'if x { }',
+    'an-if-with-else': 'if x { x = 1 ; } else { x = 2 ; }',
     'a-while': 'while x { x = 0 ; }', 'a-print': 'print x ;', 'a-return': 'return x ;', 'a-fail': 'fail ;',
     'an-expression': 'f ( ) ;', 'statements': 'x = 1 ; x = 2 ; print x ;'}
 DECLARATIONS = {
@@ -107,11 +111,13 @@ for first in ['||', '&&', '==', '<', '+', '-', '*', '%']:
     for second in ['||', '&&', '==', '<', '+', '-', '*', '%', '!']:
         GRAMMAR.row(f'two-operators/{first}{second}', main(f'print 1 {first} 2 {second} 3;'))
 for name, text in [
-        ('comparisons-do-not-chain', 'print 1 < 2 < 3;'), ('two-prefixes', 'print - - 1;'), ('a-prefix-of-a-run', 'print -1 - -1;'),
+        ('comparisons-do-not-chain', 'print 1 < 2 < 3;'), ('two-prefixes', 'print - - 1;'),
+        ('a-prefix-of-a-run', 'print -1 - -1;'),
         ('an-if-in-an-if', 'if 1 { if 2 { } else { } } else { }'), ('two-elses', 'if 1 { } else { } else { }'),
         ('else-if', 'if 1 { } else if 2 { }'), ('a-block-alone', '{ }'), ('a-semicolon-alone', ';'),
         ('an-if-and-a-semicolon', 'if 1 { };'), ('an-assignment-is-no-expression', 'print x = 1;'),
-        ('a-call-of-a-call', 'f()();'), ('a-call-of-a-number', '1();'), ('a-comma-at-the-end', 'f(1,);'), ('a-comma-alone', 'f(,);'),
+        ('a-call-of-a-call', 'f()();'), ('a-call-of-a-number', '1();'), ('a-comma-at-the-end', 'f(1,);'),
+        ('a-comma-alone', 'f(,);'),
         ('no-comma', 'f(1 2);'), ('a-let-without-a-value', 'let x;'), ('a-return-of-nothing', 'return;'),
         ('resume-without-an-argument', 'resume k() with ();'), ('resume-with-two-arguments', 'resume k(1, 2) with ();'),
         ('a-declaration-within', 'fn f() { }')]:

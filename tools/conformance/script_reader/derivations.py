@@ -29,8 +29,10 @@ class _Item(NamedTuple):
 
 
 class Derivations:
-    """The chart of kinds of tokens, by productions of which only the first name may derive none. `first_wrong` is the number of the first one with which no sentence begins, the end
-    counted as the last one; nothing where they are a sentence."""
+    """The chart of kinds of tokens, by productions of which only the first name may derive none.
+
+    `first_wrong` is the number of the first one with which no sentence begins, the end counted as the last one; nothing
+    where they are a sentence."""
 
     def __init__(self, productions, first, kinds):
         self.productions = {name: [tuple(row) for row in rows] for name, rows in productions.items()}

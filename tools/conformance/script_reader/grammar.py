@@ -1,6 +1,7 @@
 """The grammar of scripts, as it is written, and its plain productions.
 
-In a right side a quoted text is a token, NAME and INT are tokens, `x?` may be left out, `x*` stands any number of times.
+In a right side a quoted text is a token, NAME and INT are tokens, `x?` may be left out, and `x*` stands any number of
+times.
 """
 
 import re
