@@ -1,5 +1,5 @@
 -- The same of a machine's own fields.
-use Rattle.std.proofs.Common.{◌≡◌, ℕ, ◌+◌, ◌<◌, false, is_some, List, length, Option, Some, None, refl, sym, subst, subst₂, arith}
+use Rattle.std.proofs.Common.{◌≡◌, ℕ, ◌+◌, ◌<◌, false, is_some, List, length, Option, Some, None, refl, sym, subst, subst₂, ◌∙◌, arith}
 use Rattle.std.specs.Prelude.{Box}
 use Rattle.std.specs.declared.alloc.Global.{Global}
 use Rattle.w_syntax.specs.declared.module.Module.{Module}
@@ -77,3 +77,47 @@ module _ {m m' : Module} {functions : List ℕ} {x : Parts} {waiting : Option (B
       subst (λ (z : Position). Steps z (Some y) (record { program = m; taken = n + c; kept = Some y }) before now) view
       (subst (λ (o : Option Kept). Steps (record { program = m; taken = n; kept = o }) (Some y) (record { program = m; taken = n + c; kept = Some y }) before now) (sym (none_kept k none))
       (step_stopped x' before now (record { program = m; taken = n; kept = None }) y c count reached (reduces_here (Some y) x x' before now program goes)))
+
+-- ## Where what stops a machine is kept as it comes
+
+-- nothing is there, or something
+pub nothing_kept : (k : Option Kept) → is_some k ≡ false → k ≡ None
+nothing_kept None e = refl
+nothing_kept (Some k) e = absurd (cc)
+
+pub told_as : (m : Module) (x x' : Parts) (before now : Option (List ℕ)) (r k : Option Kept) → r ≡ k → Reduces r m x x' before now → Reduces k m x x' before now
+told_as m x x' before now r k e h = subst (λ (o : Option Kept). Reduces o m x x' before now) e h
+
+module _ {m m' : Module} {functions : List ℕ} {x : Parts} {waiting : Option (Box Segment Global)} {n a b : ℕ}
+    (k : Option Kept) (program : m' ≡ m) (none : false ≡ is_some k) (h : IsReached m functions x waiting k n a b) (r : Option Kept) where
+  -- where it took a reduction there are segments
+  pub segments_stay : (x' : Parts) (before now : Option (List ℕ)) (es : List Entry) → IsClassesOf m.types es → r ≡ None → Reduces r m' x x' before now → 0 < length x'.chain
+  segments_stay x' before now es classes nothing goes = machine_went_long k program none h x' before now es classes (told_as m' x x' before now r None nothing goes)
+
+  -- it took a reduction, and keeps nothing
+  pub keeps_nothing : (x' : Parts) (before now : Option (List ℕ)) {chain : List Link} {waiting' : Option (Box Segment Global)} (es : List Entry) → IsClassesOf m.types es → Valid m
+      → n < most_reductions → r ≡ None → Reduces r m' x x' before now → HasTurned waiting x'.chain chain waiting' → IsReached m functions (with_chain chain x') waiting' r (n + 1) a b
+  keeps_nothing x' before now {chain = chain} {waiting' = waiting'} es classes valid lt nothing goes t =
+      subst (λ (o : Option Kept). IsReached m functions (with_chain chain x') waiting' o (n + 1) a b) (none_kept k none ∙ sym nothing)
+      (machine_advanced k program none h x' before now es classes valid lt (told_as m' x x' before now r None nothing goes) t)
+
+  -- it was stopped, and keeps why
+  pub keeps_something : (x' : Parts) (before now : Option (List ℕ)) (y : Kept) (c made_then live_then : ℕ) → c ≡ counted y → made_then ≡ length x.conts.entries → live_then ≡ live_of x.conts
+      → (es : List Entry) → IsClassesOf m.types es → n < most_reductions → r ≡ Some y → Reduces r m' x x' before now
+      → IsReached m functions x' waiting r (n + c) made_then live_then
+  keeps_something x' before now y c made_then live_then count made_is live_is es classes lt is goes =
+      subst (λ (o : Option Kept). IsReached m functions x' waiting o (n + c) made_then live_then) (sym is)
+      (machine_stopped k program none h x' before now y c made_then live_then count made_is live_is es classes lt (told_as m' x x' before now r (Some y) is goes))
+
+  -- its step
+  pub steps_on : (x' : Parts) (before now : Option (List ℕ)) (q : Position) → record { program = m; taken = n; kept = k } ≡ q → r ≡ None
+      → Valid m → Reduces r m' x x' before now → Steps q r (record { program = m; taken = n + 1; kept = r }) before now
+  steps_on x' before now q view nothing valid goes =
+      subst (λ (o : Option Kept). Steps q r (record { program = m; taken = n + 1; kept = o }) before now) (none_kept k none ∙ sym nothing)
+      (machine_steps k program none h x' before now q r view nothing valid (told_as m' x x' before now r None nothing goes))
+
+  pub steps_last : (x' : Parts) (before now : Option (List ℕ)) (q : Position) (y : Kept) (c : ℕ) → record { program = m; taken = n; kept = k } ≡ q
+      → c ≡ counted y → r ≡ Some y → Reduces r m' x x' before now → Steps q r (record { program = m; taken = n + c; kept = r }) before now
+  steps_last x' before now q y c view count is goes =
+      subst (λ (o : Option Kept). Steps q o (record { program = m; taken = n + c; kept = o }) before now) (sym is)
+      (machine_step_stopped k program none h x' before now q y c view count (told_as m' x x' before now r (Some y) is goes))

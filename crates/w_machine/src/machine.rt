@@ -1,5 +1,5 @@
 //! The machine.
-ghost use Rattle.std.specs.Prelude.{◌≡◌, ◌≢◌, ◌+◌, ◌<◌, ◌≤◌, ℕ, true, false, [], length, Some, None, IfOk};
+ghost use Rattle.std.specs.Prelude.{◌≡◌, ◌≢◌, ◌+◌, ◌<◌, ◌≤◌, ℕ, true, false, [], length, Some, None, is_some, IfOk};
 ghost use Rattle.w_outside.specs.Outside.{Rose};
 ghost use Rattle.w_reduce.specs.Store.{Store as TheStore, made, live, consumed};
 ghost use Rattle.w_reduce.specs.Terms.{Term};
@@ -195,16 +195,17 @@ impl Machine {
         }
     }
 
-    // Takes one reduction, or says what stops it.
+    // Takes one reduction, or keeps what stops it, and says whether it is stopped.
     #[inline(always)]
-    fn advance<O: Sink>(&mut self, out: &mut O) -> Option<Kept>
+    fn advance<O: Sink>(&mut self, out: &mut O) -> bool
         requires { self.old.taken < most_reductions }
-        ensures steps { Steps self.old result self.new (O.held out.old) (O.held out.new) }
-        ensures cause { self.old.kept ≡ None → result ≡ Some Kept.WriteFault → Rose (O.faults out.old) (O.faults out.new) }
+        ensures steps { Steps self.old self.new.kept self.new (O.held out.old) (O.held out.new) }
+        ensures stops { result ≡ is_some self.new.kept }
+        ensures cause { self.old.kept ≡ None → self.new.kept ≡ Some Kept.WriteFault → Rose (O.faults out.old) (O.faults out.new) }
         ensures later { O.faults out.old ≤ O.faults out.new }
     {
         if self.kept.is_some() {
-            return self.kept;
+            return true;
         }
         let program = Program {
             source: self.checked.module(),
@@ -219,20 +220,22 @@ impl Machine {
             &mut self.chain,
             &mut self.conts,
             out,
+            &mut self.kept,
         );
-        match stopped {
-            None => {
-                turn(&mut self.chain, &mut self.waiting);
-                self.taken += 1;
-            }
+        if !stopped {
+            turn(&mut self.chain, &mut self.waiting);
+            self.taken += 1;
+            return false;
+        }
+        match self.kept {
             Some(kept) => {
                 self.taken += count(kept);
-                self.kept = Some(kept);
                 self.made = made;
                 self.live = live;
+                true
             }
+            None => unreachable!(),
         }
-        stopped
     }
 
     // Says what stops the run, with no reduction taken.
@@ -262,9 +265,8 @@ impl Machine {
             return self.kept;
         }
         for _ in 0..steps {
-            let stopped = self.advance(out);
-            if stopped.is_some() {
-                return stopped;
+            if self.advance(out) {
+                return self.kept;
             }
         }
         self.tell()
@@ -300,6 +302,7 @@ impl Machine {
         ensures cause { self.old.kept ≡ None → result ≡ Stepped.WriteFault → Rose (O.faults out.old) (O.faults out.new) }
         ensures later { O.faults out.old ≤ O.faults out.new }
     {
-        as_stepped(self.advance(out))
+        self.advance(out);
+        as_stepped(self.kept)
     }
 }

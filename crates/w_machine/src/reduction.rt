@@ -1,5 +1,5 @@
 //! One reduction of a run, with its limits.
-ghost use Rattle.std.specs.Prelude.{◌≡◌, ◌≢◌, ◌-◌, ◌<◌, ◌≤◌, ◌^◌, ℕ, true, nat_le, List, length, Option, Some, option_map, IfOk, OnErr};
+ghost use Rattle.std.specs.Prelude.{◌≡◌, ◌≢◌, ◌-◌, ◌<◌, ◌≤◌, ◌^◌, ℕ, true, nat_le, List, length, Option, Some, None, is_some, is_none, option_map, IfOk, OnErr};
 ghost use Rattle.w_syntax.specs.Packed.{unpacked};
 ghost use Rattle.w_syntax.specs.declared.instructions.Instr.TheVariants as flat;
 ghost use Rattle.w_syntax.specs.declared.instructions.Op.TheVariants as op;
@@ -105,6 +105,28 @@ fn told_switched(taken: Result<Did, AllocError>, limit: Option<RunLimit>) -> Opt
     }
 }
 
+// Whether a plain reduction was taken, whose result has so many frames, and no limit is passed. It is asked first, so that what stops a run,
+// which takes more than two words, is made only where something does.
+#[inline(always)]
+fn went(taken: Result<Did, Stop>, frames: u64) -> bool
+    ensures { result ≡ true → told_of taken frames ≡ None }
+{
+    match taken {
+        Ok(Did::Went) => frames <= MOST_FRAMES,
+        _ => false,
+    }
+}
+
+// Keeps what stops a run, if anything does, and says whether it does.
+#[inline(always)]
+fn keep(stopped: Option<Kept>, kept: &mut Option<Kept>) -> bool
+    ensures kept { kept.new ≡ stopped }
+    ensures stops { result ≡ is_some stopped }
+{
+    *kept = stopped;
+    stopped.is_some()
+}
+
 // One reduction inside the innermost segment.
 #[inline(always)]
 fn inside<O: Sink>(
@@ -114,19 +136,26 @@ fn inside<O: Sink>(
     conts: &ContStore<Stored>,
     out: &mut O,
     found: Option<&PackedInstr>,
-) -> Option<Kept>
+    kept: &mut Option<Kept>,
+) -> bool
     requires known { IsKnown program.source.now program.classes.now program.functions.now }
     requires valid { Valid program.source.now }
     requires stands { StandsSomewhere program.source.now (parts store.old chain.old conts.now) }
+    requires none { kept.old ≡ None }
     requires plain { IsPlainAt program.source.now (top chain.old).shape }
     requires found { (top chain.old).shape.stage ≡ Body → option_map (λ p. unpacked p.now) found ≡ instr_of program.source.now (top chain.old).shape.func (top chain.old).shape.place }
-    ensures reduces { Reduces result program.entry.source.now (parts store.old chain.old conts.now) (parts store.new chain.new conts.now) (O.held out.old) (O.held out.new) }
-    ensures cause { result ≡ Some Kept.WriteFault → Rose (O.faults out.old) (O.faults out.new) }
+    ensures reduces { Reduces kept.new program.entry.source.now (parts store.old chain.old conts.now) (parts store.new chain.new conts.now) (O.held out.old) (O.held out.new) }
+    ensures stops { result ≡ is_some kept.new }
+    ensures cause { kept.new ≡ Some Kept.WriteFault → Rose (O.faults out.old) (O.faults out.new) }
     ensures later { O.faults out.old ≤ O.faults out.new }
 {
     let _conts = conts;
     let taken = plain(program, store, chain.stack_mut(), out, found);
-    told(taken, chain.frames())
+    let frames = chain.frames();
+    if went(taken, frames) {
+        return false;
+    }
+    keep(told(taken, frames), kept)
 }
 
 // One of the five instructions that switch stacks.
@@ -189,18 +218,21 @@ fn leave_handle(
     store: &Store,
     chain: &mut Chain,
     conts: &mut ContStore<Stored>,
-) -> Option<Kept>
+    kept: &mut Option<Kept>,
+) -> bool
     requires valid { Valid program.now }
     requires stands { StandsSomewhere program.now (parts store.now chain.old conts.old) }
+    requires none { kept.old ≡ None }
     requires values { (top chain.old).shape.stage ≡ Values }
     requires two { 1 < length chain.old }
-    ensures reduces { (held : Option (List ℕ)) → Reduces result program.now (parts store.now chain.old conts.old) (parts store.now chain.new conts.new) held held }
-    ensures no_fault { result ≢ Some Kept.WriteFault }
+    ensures reduces { (held : Option (List ℕ)) → Reduces kept.new program.now (parts store.now chain.old conts.old) (parts store.now chain.new conts.new) held held }
+    ensures stops { result ≡ is_some kept.new }
+    ensures no_fault { kept.new ≢ Some Kept.WriteFault }
 {
     let (_program, _store) = (program, store);
     match exit_handle(chain, conts) {
-        Ok(()) => None,
-        Err(_) => Some(Kept::OutOfMemory),
+        Ok(()) => false,
+        Err(_) => keep(Some(Kept::OutOfMemory), kept),
     }
 }
 
@@ -228,23 +260,29 @@ fn switching_at(
     chain: &mut Chain,
     conts: &mut ContStore<Stored>,
     found: Option<&PackedInstr>,
-) -> Option<Kept>
+    kept: &mut Option<Kept>,
+) -> bool
     requires valid { Valid program.now }
     requires stands { StandsSomewhere program.now (parts store.now chain.old conts.old) }
     requires made { length conts.old.entries < 2 ^ 40 }
     requires body { (top chain.old).shape.stage ≡ Body }
     requires found { option_map (λ p. unpacked p.now) found ≡ instr_of program.now (top chain.old).shape.func (top chain.old).shape.place }
     requires switches { switches_at (option_map (λ p. unpacked p.now) found) ≡ true }
-    ensures reduces { (held : Option (List ℕ)) → Reduces result program.now (parts store.now chain.old conts.old) (parts store.now chain.new conts.new) held held }
-    ensures no_fault { result ≢ Some Kept.WriteFault }
+    ensures reduces { (held : Option (List ℕ)) → Reduces kept.new program.now (parts store.now chain.old conts.old) (parts store.now chain.new conts.new) held held }
+    ensures stops { result ≡ is_some kept.new }
+    ensures no_fault { kept.new ≢ Some Kept.WriteFault }
 {
     match found {
         Some(PackedInstr::Switching(operation)) => {
-            switching(program, alloc, store, chain, conts, &operation.whole())
+            let stopped = switching(program, alloc, store, chain, conts, &operation.whole());
+            keep(stopped, kept)
         }
         Some(PackedInstr::Boxed(instruction)) => match &**instruction {
             Instr::Plain(Op::Switching(operation)) => {
-                switching(program, alloc, store, chain, conts, operation)
+                keep(
+                    switching(program, alloc, store, chain, conts, operation),
+                    kept,
+                )
             }
             _ => unreachable!(),
         },
@@ -261,23 +299,26 @@ fn in_body<O: Sink>(
     chain: &mut Chain,
     conts: &mut ContStore<Stored>,
     out: &mut O,
-) -> Option<Kept>
+    kept: &mut Option<Kept>,
+) -> bool
     requires known { IsKnown program.source.now program.classes.now program.functions.now }
     requires valid { Valid program.source.now }
     requires stands { StandsSomewhere program.source.now (parts store.old chain.old conts.old) }
+    requires none { kept.old ≡ None }
     requires made { length conts.old.entries < 2 ^ 40 }
     requires body { (top chain.old).shape.stage ≡ Body }
-    ensures reduces { Reduces result program.entry.source.now (parts store.old chain.old conts.old) (parts store.new chain.new conts.new) (O.held out.old) (O.held out.new) }
-    ensures cause { result ≡ Some Kept.WriteFault → Rose (O.faults out.old) (O.faults out.new) }
+    ensures reduces { Reduces kept.new program.entry.source.now (parts store.old chain.old conts.old) (parts store.new chain.new conts.new) (O.held out.old) (O.held out.new) }
+    ensures stops { result ≡ is_some kept.new }
+    ensures cause { kept.new ≡ Some Kept.WriteFault → Rose (O.faults out.old) (O.faults out.new) }
     ensures later { O.faults out.old ≤ O.faults out.new }
 {
     let source = program.source;
     let stack = chain.stack();
     let found = instr_at(source, stack.func(), stack.place());
     if switches(found) {
-        switching_at(source, alloc, store, chain, conts, found)
+        switching_at(source, alloc, store, chain, conts, found, kept)
     } else {
-        inside(program, store, chain, conts, out, found)
+        inside(program, store, chain, conts, out, found, kept)
     }
 }
 
@@ -289,20 +330,23 @@ fn before_code<O: Sink>(
     chain: &mut Chain,
     conts: &ContStore<Stored>,
     out: &mut O,
-) -> Option<Kept>
+    kept: &mut Option<Kept>,
+) -> bool
     requires known { IsKnown program.source.now program.classes.now program.functions.now }
     requires valid { Valid program.source.now }
     requires stands { StandsSomewhere program.source.now (parts store.old chain.old conts.now) }
+    requires none { kept.old ≡ None }
     requires code { (top chain.old).shape.stage ≢ Body }
     requires values { (top chain.old).shape.stage ≢ Values }
-    ensures reduces { Reduces result program.entry.source.now (parts store.old chain.old conts.now) (parts store.new chain.new conts.now) (O.held out.old) (O.held out.new) }
-    ensures cause { result ≡ Some Kept.WriteFault → Rose (O.faults out.old) (O.faults out.new) }
+    ensures reduces { Reduces kept.new program.entry.source.now (parts store.old chain.old conts.now) (parts store.new chain.new conts.now) (O.held out.old) (O.held out.new) }
+    ensures stops { result ≡ is_some kept.new }
+    ensures cause { kept.new ≡ Some Kept.WriteFault → Rose (O.faults out.old) (O.faults out.new) }
     ensures later { O.faults out.old ≤ O.faults out.new }
 {
-    inside(program, store, chain, conts, out, None)
+    inside(program, store, chain, conts, out, None, kept)
 }
 
-/// Takes one reduction, or says why none is taken, or that it traps or passes a limit.
+/// Takes one reduction, or keeps why none is taken, or that it traps or passes a limit, and says whether it does.
 #[inline(always)]
 pub(crate) fn reduce<O: Sink>(
     program: Program,
@@ -311,24 +355,27 @@ pub(crate) fn reduce<O: Sink>(
     chain: &mut Chain,
     conts: &mut ContStore<Stored>,
     out: &mut O,
-) -> Option<Kept>
+    kept: &mut Option<Kept>,
+) -> bool
     requires known { IsKnown program.source.now program.classes.now program.functions.now }
     requires valid { Valid program.source.now }
     requires stands { StandsSomewhere program.source.now (parts store.old chain.old conts.old) }
+    requires none { kept.old ≡ None }
     requires made { length conts.old.entries < 2 ^ 40 }
-    ensures reduces { Reduces result program.entry.source.now (parts store.old chain.old conts.old) (parts store.new chain.new conts.new) (O.held out.old) (O.held out.new) }
-    ensures cause { result ≡ Some Kept.WriteFault → Rose (O.faults out.old) (O.faults out.new) }
+    ensures reduces { Reduces kept.new program.entry.source.now (parts store.old chain.old conts.old) (parts store.new chain.new conts.new) (O.held out.old) (O.held out.new) }
+    ensures stops { result ≡ is_some kept.new }
+    ensures cause { kept.new ≡ Some Kept.WriteFault → Rose (O.faults out.old) (O.faults out.new) }
     ensures later { O.faults out.old ≤ O.faults out.new }
 {
     match chain.stack().stage() {
-        Stage::Body => in_body(program, alloc, store, chain, conts, out),
-        Stage::Fresh => before_code(program, store, chain, conts, out),
-        Stage::Branch(_) => before_code(program, store, chain, conts, out),
+        Stage::Body => in_body(program, alloc, store, chain, conts, out, kept),
+        Stage::Fresh => before_code(program, store, chain, conts, out, kept),
+        Stage::Branch(_) => before_code(program, store, chain, conts, out, kept),
         Stage::Values => {
             if chain.handles() == 0 {
-                Some(Kept::Ended)
+                keep(Some(Kept::Ended), kept)
             } else {
-                leave_handle(program.source, store, chain, conts)
+                leave_handle(program.source, store, chain, conts, kept)
             }
         }
     }
