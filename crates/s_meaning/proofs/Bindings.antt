@@ -1,0 +1,120 @@
+-- What is bound behind names that are bound one after another: a name keeps the type that it had first.
+use Rattle.std.proofs.Common.{◌≡◌, Bool, true, false, ◌||◌, List, [], ◌∷◌, ◌++◌, map, Option, Some, None, is_some, if◌then◌else◌, refl, sym, ap, ◌∙◌, subst}
+use Rattle.std.specs.Str.{bytes_eq}
+use Rattle.s_syntax.specs.declared.name.Name.{Name}
+use Rattle.s_syntax.specs.declared.script.VariableType.{VariableType}
+use Rattle.s_syntax.specs.declared.script.VariableType.TheVariants.{Int, Resumption}
+use Rattle.s_check.specs.Scopes.{Bound, Scope, type_in, bind, bind_all, number, is_among, some_twice}
+use Rattle.s_meaning.specs.Typing.{IsFree}
+use Rattle.s_meaning.proofs.Scopes.{same_is, bool_of, Extends}
+
+-- the first of two types that is there
+abbrev pub or_else : Option VariableType → Option VariableType → Option VariableType
+or_else None o = o
+or_else (Some t) o = Some t
+
+or_none : (o : Option VariableType) → or_else o None ≡ o
+or_none None = refl
+or_none (Some t) = refl
+
+type_appended : (b : Bound) (y : Name) (bs : Scope) → type_in (bs ++ b ∷ []) y ≡ or_else (type_in bs y) (if bytes_eq b.name y then Some b.ty else None)
+type_appended b y [] = refl
+type_appended b y (c ∷ bs) = bool_of (bytes_eq c.name y) (λ q. (if q then Some c.ty else type_in (bs ++ b ∷ []) y) ≡ or_else (if q then Some c.ty else type_in bs y) (if bytes_eq b.name y then Some b.ty else None))
+    (λ q. refl) (λ q. type_appended b y bs)
+
+-- a name that is bound already keeps its type
+kept_type : (b : Bound) (y : Name) (bs : Scope) → is_some (type_in bs b.name) ≡ true → type_in bs y ≡ or_else (type_in bs y) (if bytes_eq b.name y then Some b.ty else None)
+kept_type b y bs there = bool_of (bytes_eq b.name y) (λ q. type_in bs y ≡ or_else (type_in bs y) (if q then Some b.ty else None))
+    (λ q. kept (type_in bs y) (ap (λ (z : Name). is_some (type_in bs z)) (same_is y b.name q) ∙ there)) (λ q. sym (or_none (type_in bs y)))
+  where
+    kept : (o : Option VariableType) → is_some o ≡ true → o ≡ or_else o (Some b.ty)
+    kept None e = absurd (cc)
+    kept (Some t) e = refl
+
+pub bound_type : (b : Bound) (y : Name) (bs : Scope) → type_in (bind b bs) y ≡ or_else (type_in bs y) (if bytes_eq b.name y then Some b.ty else None)
+bound_type b y bs = bool_of (is_some (type_in bs b.name)) (λ q. type_in (if q then bs else bs ++ b ∷ []) y ≡ or_else (type_in bs y) (if bytes_eq b.name y then Some b.ty else None))
+    (λ q. kept_type b y bs q) (λ q. type_appended b y bs)
+
+one_and_more : (q : Bool) (t : VariableType) (a o : Option VariableType) → or_else (or_else a (if q then Some t else None)) o ≡ or_else a (if q then Some t else o)
+one_and_more true t None o = refl
+one_and_more false t None o = refl
+one_and_more q t (Some u) o = refl
+
+all_bound : (cs : List Bound) (bs : Scope) (y : Name) → type_in (bind_all cs bs) y ≡ or_else (type_in bs y) (type_in cs y)
+all_bound [] bs y = sym (or_none (type_in bs y))
+all_bound (c ∷ cs) bs y =
+    all_bound cs (bind c bs) y ∙ ap (λ (o : Option VariableType). or_else o (type_in cs y)) (bound_type c y bs)
+    ∙ one_and_more (bytes_eq c.name y) c.ty (type_in bs y) (type_in cs y)
+
+-- ## Scopes that agree
+
+-- each name has the same type in both
+pub record Agree (Γ Γ' : Scope) : Type 0 where
+  pub type_of : (y : Name) → type_in Γ y ≡ type_in Γ' y
+
+pub extends_agree : {Γ Γ' : Scope} → Agree Γ Γ' → Extends Γ Γ'
+extends_agree g = record {
+  keeps = λ x k e. sym (g.type_of x) ∙ e;
+  frees = λ x f. record { free = λ h e. f.free h (g.type_of x ∙ e) };
+}
+
+-- at the start of a body
+pub starts_agree : (cs : List Bound) → Agree (bind_all cs []) cs
+starts_agree cs = record { type_of = λ y. all_bound cs [] y }
+
+-- behind a let of a name that has no res type
+pub let_agrees : (x : Name) (bs : Scope) → IsFree x bs → Agree (bind (number x) bs) (number x ∷ bs)
+let_agrees x bs free = record { type_of = λ y. bound_type (number x) y bs ∙ either y }
+  where
+    an_int : (y : Name) (o : Option VariableType) → type_in bs y ≡ o → bytes_eq x y ≡ true → or_else o (Some Int) ≡ Some Int
+    an_int y None e q = refl
+    an_int y (Some Int) e q = refl
+    an_int y (Some (Resumption h)) e q = absurd (free.free h (ap (λ (z : Name). type_in bs z) (sym (same_is y x q)) ∙ e))
+
+    either : (y : Name) → or_else (type_in bs y) (if bytes_eq x y then Some Int else None) ≡ (if bytes_eq x y then Some Int else type_in bs y)
+    either y = bool_of (bytes_eq x y) (λ q. or_else (type_in bs y) (if q then Some Int else None) ≡ (if q then Some Int else type_in bs y))
+        (λ q. an_int y (type_in bs y) refl q) (λ q. or_none (type_in bs y))
+
+-- what has a res type behind a let had it before
+pub res_before : (x y h : Name) (bs : Scope) → type_in (bind (number x) bs) y ≡ Some (Resumption h) → type_in bs y ≡ Some (Resumption h)
+res_before x y h bs e = was (bytes_eq x y) (type_in bs y) (sym (bound_type (number x) y bs) ∙ e)
+  where
+    was : (q : Bool) (o : Option VariableType) → or_else o (if q then Some Int else None) ≡ Some (Resumption h) → o ≡ Some (Resumption h)
+    was true None f = absurd (cc)
+    was false None f = absurd (cc)
+    was q (Some t) f = f
+
+-- ## Names that are bound twice
+
+pub or_left : (a b : Bool) → a ≡ true → (a || b) ≡ true
+or_left true b e = refl
+or_left false b e = absurd (cc)
+
+pub or_right : (a b : Bool) → b ≡ true → (a || b) ≡ true
+or_right true b e = refl
+or_right false b e = e
+
+pub among_left : (x : Name) (xs ys : List Name) → is_among xs x ≡ true → is_among (xs ++ ys) x ≡ true
+among_left x [] ys e = absurd (cc)
+among_left x (z ∷ xs) ys e = bool_of (bytes_eq z x) (λ b. (b || is_among xs x) ≡ true → (b || is_among (xs ++ ys) x) ≡ true) (λ q f. refl) (λ q f. among_left x xs ys f) e
+
+pub among_right : (x : Name) (xs ys : List Name) → is_among ys x ≡ true → is_among (xs ++ ys) x ≡ true
+among_right x [] ys e = e
+among_right x (z ∷ xs) ys e = or_right (bytes_eq z x) (is_among (xs ++ ys) x) (among_right x xs ys e)
+
+twice_before : (x : Name) (before ms : List Name) → is_among before x ≡ true → is_among ms x ≡ true → some_twice before ms ≡ true
+twice_before x before [] e f = absurd (cc)
+twice_before x before (z ∷ ms) e f = bool_of (bytes_eq z x) (λ b. (b || is_among ms x) ≡ true → (is_among before z || some_twice (z ∷ before) ms) ≡ true)
+    (λ q g. or_left (is_among before z) (some_twice (z ∷ before) ms) (subst (λ (y : Name). is_among before y ≡ true) (same_is x z q) e))
+    (λ q g. or_right (is_among before z) (some_twice (z ∷ before) ms) (twice_before x (z ∷ before) ms (or_right (bytes_eq z x) (is_among before x) e) g)) f
+
+pub twice_of : (x : Name) (before ns ms : List Name) → is_among ns x ≡ true → is_among ms x ≡ true → some_twice before (ns ++ ms) ≡ true
+twice_of x before [] ms e f = absurd (cc)
+twice_of x before (z ∷ ns) ms e f = bool_of (bytes_eq z x) (λ b. (b || is_among ns x) ≡ true → (is_among before z || some_twice (z ∷ before) (ns ++ ms)) ≡ true)
+    (λ q g. or_right (is_among before z) (some_twice (z ∷ before) (ns ++ ms)) (twice_before x (z ∷ before) (ns ++ ms) (or_left (bytes_eq z x) (is_among before x) q) (among_right x ns ms f)))
+    (λ q g. or_right (is_among before z) (some_twice (z ∷ before) (ns ++ ms)) (twice_of x (z ∷ before) ns ms g f)) e
+
+pub type_among : (x : Name) (t : VariableType) (bs : Scope) → type_in bs x ≡ Some t → is_among (map (λ (c : Bound). c.name) bs) x ≡ true
+type_among x t [] e = absurd (cc)
+type_among x t (b ∷ bs) e = bool_of (bytes_eq b.name x) (λ c. (if c then Some b.ty else type_in bs x) ≡ Some t → (c || is_among (map (λ (d : Bound). d.name) bs) x) ≡ true)
+    (λ q f. refl) (λ q f. type_among x t bs f) e

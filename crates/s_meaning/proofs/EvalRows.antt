@@ -1,0 +1,538 @@
+-- The worked scripts: what they print, how they end and after how many steps, and how many activations, active handles and resumptions there are midway.
+use Rattle.std.specs.Int.{int_wrap}
+use Rattle.std.proofs.Common.{◌≡◌, ◌∙◌, ℕ, zero, suc, pos, negsuc, List, [], ◌∷◌, ◌++◌, codes, refl, append-nil, arith}
+use Rattle.following.specs.Follows.{Going, Value, Fault}
+use Rattle.s_syntax.specs.declared.script.Definition.{Definition}
+use Rattle.s_syntax.specs.declared.script.Definition.TheVariants as definition
+use Rattle.s_syntax.specs.declared.script.Script.{Script}
+use Rattle.s_syntax.specs.declared.script.VariableType.TheVariants.{Int, Resumption}
+use Rattle.s_syntax.specs.declared.operators.UnaryOperator.TheVariants.{Minus, Not}
+use Rattle.s_syntax.specs.declared.operators.Connective.TheVariants.{Or, And}
+use Rattle.s_syntax.specs.declared.operators.Comparison.TheVariants.{Less}
+use Rattle.s_syntax.specs.declared.operators.Arithmetic.TheVariants.{Add, Subtract, Multiply, Divide}
+use Rattle.s_syntax.specs.declared.operators.BinaryOperator.TheVariants.{Connects, Compares, Computes}
+use Rattle.s_syntax.specs.ExprTree.{ExprTree, Literal, Read, Unary, Run, Call, Do, Handle, Resume, Exprs, NoExprs, MoreExprs, NoOperands, MoreOperands}
+use Rattle.s_syntax.specs.BlockTree.{Let, Assign, If, While, Print, Return, Evaluate, Done, ◌⨟◌}
+use Rattle.s_meaning.specs.Numbers.{line, Overflow, Reused, Unhandled}
+use Rattle.s_meaning.specs.Terms.{acts, hands, kept}
+use Rattle.s_meaning.specs.Eval.{Eval}
+
+infixr 55 ◌⊕◌
+abbrev ◌⊕◌ : ExprTree → Exprs → Exprs
+e ⊕ es = MoreExprs e es
+
+-- effects without an argument, and of one
+abbrev effect_of_0 : Definition
+effect_of_0 = definition.Effect (record { value = 0; small = omega arith })
+
+abbrev effect_of_1 : Definition
+effect_of_1 = definition.Effect (record { value = 1; small = omega arith })
+
+-- what was printed, after n steps that print nothing
+abbrev still : ℕ → List ℕ → List ℕ
+still zero out = out
+still (suc n) out = still n out ++ []
+
+same : (n : ℕ) (out : List ℕ) → still n out ≡ out
+same zero out = refl
+same (suc n) out = append-nil (still n out) ∙ same n out
+
+unfoldable counts_asks : Script
+counts_asks = record {
+  declarations =
+      record { name = (codes "ask"); definition = effect_of_0 }
+      ∷ record { name = (codes "body"); definition = definition.Function (record { parameters = ([]); body = (Print (Run (Do (codes "ask") NoExprs) (MoreOperands (Computes Add) (Do (codes "ask") NoExprs) NoOperands)) ⨟ Return (Literal 7) ⨟ Done) }) }
+      ∷ record { name = (codes "one"); definition = definition.Function (record { parameters = ([]); body = (Return (Do (codes "ask") NoExprs) ⨟ Done) }) }
+      ∷ record { name = (codes "h"); definition = definition.Handler (record { parameters = (record { name = (codes "s"); ty = Int } ∷ []); return_clause = record { value = (codes "x"); body = (Return (Run (Read (codes "x")) (MoreOperands (Computes Add) (Read (codes "s")) NoOperands)) ⨟ Done) }; clauses = (record { effect = (codes "ask"); arguments = ([]); resumption = (codes "k"); body = (Return (Resume (codes "k") (Read (codes "s")) ((Run (Read (codes "s")) (MoreOperands (Computes Add) (Literal 1) NoOperands)) ⊕ NoExprs)) ⨟ Done) } ∷ []) }) }
+      ∷ record { name = (codes "main"); definition = definition.Function (record { parameters = ([]); body = (Return (Handle (codes "body") NoExprs (codes "h") ((Literal 10) ⊕ NoExprs)) ⨟ Done) }) }
+      ∷ [];
+}
+
+counts_asks-ends : (Eval counts_asks 24).outcome ≡ Value (pos 19)
+unfolding counts_asks int_wrap
+counts_asks-ends = refl
+
+counts_asks-prints : (Eval counts_asks 24).printed ≡ still 7 (line (pos 21))
+unfolding counts_asks int_wrap
+counts_asks-prints = refl
+
+counts_asks-goes-on : (Eval counts_asks 23).outcome ≡ Going
+unfolding counts_asks int_wrap
+counts_asks-goes-on = refl
+
+counts_asks-acts : acts (Eval counts_asks 12).term ≡ 2
+unfolding counts_asks int_wrap
+counts_asks-acts = refl
+
+counts_asks-hands : hands (Eval counts_asks 12).term ≡ 0
+unfolding counts_asks int_wrap
+counts_asks-hands = refl
+
+counts_asks-kept : kept (Eval counts_asks 12).term ≡ 1
+unfolding counts_asks int_wrap
+counts_asks-kept = refl
+
+unfoldable one : Script
+one = record {
+  declarations =
+      record { name = (codes "main"); definition = definition.Function (record { parameters = ([]); body = (Return (Literal 1) ⨟ Done) }) }
+      ∷ [];
+}
+
+one-ends : (Eval one 2).outcome ≡ Value (pos 1)
+unfolding one int_wrap
+one-ends = refl
+
+one-prints : (Eval one 2).printed ≡ []
+unfolding one int_wrap
+one-prints = refl
+
+one-goes-on : (Eval one 1).outcome ≡ Going
+unfolding one int_wrap
+one-goes-on = refl
+
+unfoldable a_loop_of_asks : Script
+a_loop_of_asks = record {
+  declarations =
+      record { name = (codes "ask"); definition = effect_of_0 }
+      ∷ record { name = (codes "body"); definition = definition.Function (record { parameters = ([]); body = (Let (codes "i") (Literal 0) ⨟ While (Run (Read (codes "i")) (MoreOperands (Compares Less) (Literal 5) NoOperands)) (Evaluate (Do (codes "ask") NoExprs) ⨟ Assign (codes "i") (Run (Read (codes "i")) (MoreOperands (Computes Add) (Literal 1) NoOperands)) ⨟ Done) ⨟ Return (Read (codes "i")) ⨟ Done) }) }
+      ∷ record { name = (codes "one"); definition = definition.Function (record { parameters = ([]); body = (Return (Do (codes "ask") NoExprs) ⨟ Done) }) }
+      ∷ record { name = (codes "h"); definition = definition.Handler (record { parameters = (record { name = (codes "s"); ty = Int } ∷ []); return_clause = record { value = (codes "x"); body = (Return (Run (Read (codes "x")) (MoreOperands (Computes Add) (Read (codes "s")) NoOperands)) ⨟ Done) }; clauses = (record { effect = (codes "ask"); arguments = ([]); resumption = (codes "k"); body = (Return (Resume (codes "k") (Read (codes "s")) ((Run (Read (codes "s")) (MoreOperands (Computes Add) (Literal 1) NoOperands)) ⊕ NoExprs)) ⨟ Done) } ∷ []) }) }
+      ∷ record { name = (codes "main"); definition = definition.Function (record { parameters = ([]); body = (Return (Handle (codes "body") NoExprs (codes "h") ((Literal 0) ⊕ NoExprs)) ⨟ Done) }) }
+      ∷ [];
+}
+
+a_loop_of_asks-ends : (Eval a_loop_of_asks 91).outcome ≡ Value (pos 10)
+unfolding a_loop_of_asks int_wrap
+a_loop_of_asks-ends = refl
+
+a_loop_of_asks-prints : (Eval a_loop_of_asks 91).printed ≡ []
+unfolding a_loop_of_asks int_wrap
+a_loop_of_asks-prints = refl
+
+a_loop_of_asks-goes-on : (Eval a_loop_of_asks 90).outcome ≡ Going
+unfolding a_loop_of_asks int_wrap
+a_loop_of_asks-goes-on = refl
+
+a_loop_of_asks-acts : acts (Eval a_loop_of_asks 45).term ≡ 2
+unfolding a_loop_of_asks int_wrap
+a_loop_of_asks-acts = refl
+
+a_loop_of_asks-hands : hands (Eval a_loop_of_asks 45).term ≡ 1
+unfolding a_loop_of_asks int_wrap
+a_loop_of_asks-hands = refl
+
+a_loop_of_asks-kept : kept (Eval a_loop_of_asks 45).term ≡ 0
+unfolding a_loop_of_asks int_wrap
+a_loop_of_asks-kept = refl
+
+unfoldable a_resumed_value_is_used : Script
+a_resumed_value_is_used = record {
+  declarations =
+      record { name = (codes "ask"); definition = effect_of_0 }
+      ∷ record { name = (codes "body"); definition = definition.Function (record { parameters = ([]); body = (Print (Run (Do (codes "ask") NoExprs) (MoreOperands (Computes Add) (Do (codes "ask") NoExprs) NoOperands)) ⨟ Return (Literal 7) ⨟ Done) }) }
+      ∷ record { name = (codes "one"); definition = definition.Function (record { parameters = ([]); body = (Return (Do (codes "ask") NoExprs) ⨟ Done) }) }
+      ∷ record { name = (codes "h"); definition = definition.Handler (record { parameters = (record { name = (codes "s"); ty = Int } ∷ []); return_clause = record { value = (codes "x"); body = (Return (Run (Read (codes "x")) (MoreOperands (Computes Add) (Read (codes "s")) NoOperands)) ⨟ Done) }; clauses = (record { effect = (codes "ask"); arguments = ([]); resumption = (codes "k"); body = (Return (Run (Literal 100) (MoreOperands (Computes Add) (Resume (codes "k") (Read (codes "s")) ((Run (Read (codes "s")) (MoreOperands (Computes Add) (Literal 1) NoOperands)) ⊕ NoExprs)) NoOperands)) ⨟ Done) } ∷ []) }) }
+      ∷ record { name = (codes "main"); definition = definition.Function (record { parameters = ([]); body = (Return (Handle (codes "body") NoExprs (codes "h") ((Literal 10) ⊕ NoExprs)) ⨟ Done) }) }
+      ∷ [];
+}
+
+a_resumed_value_is_used-ends : (Eval a_resumed_value_is_used 30).outcome ≡ Value (pos 219)
+unfolding a_resumed_value_is_used int_wrap
+a_resumed_value_is_used-ends = refl
+
+a_resumed_value_is_used-prints : (Eval a_resumed_value_is_used 30).printed ≡ still 11 (line (pos 21))
+unfolding a_resumed_value_is_used int_wrap
+a_resumed_value_is_used-prints = refl
+
+a_resumed_value_is_used-goes-on : (Eval a_resumed_value_is_used 29).outcome ≡ Going
+unfolding a_resumed_value_is_used int_wrap
+a_resumed_value_is_used-goes-on = refl
+
+a_resumed_value_is_used-acts : acts (Eval a_resumed_value_is_used 15).term ≡ 3
+unfolding a_resumed_value_is_used int_wrap
+a_resumed_value_is_used-acts = refl
+
+a_resumed_value_is_used-hands : hands (Eval a_resumed_value_is_used 15).term ≡ 0
+unfolding a_resumed_value_is_used int_wrap
+a_resumed_value_is_used-hands = refl
+
+a_resumed_value_is_used-kept : kept (Eval a_resumed_value_is_used 15).term ≡ 1
+unfolding a_resumed_value_is_used int_wrap
+a_resumed_value_is_used-kept = refl
+
+unfoldable resumed_twice : Script
+resumed_twice = record {
+  declarations =
+      record { name = (codes "ask"); definition = effect_of_0 }
+      ∷ record { name = (codes "body"); definition = definition.Function (record { parameters = ([]); body = (Print (Run (Do (codes "ask") NoExprs) (MoreOperands (Computes Add) (Do (codes "ask") NoExprs) NoOperands)) ⨟ Return (Literal 7) ⨟ Done) }) }
+      ∷ record { name = (codes "one"); definition = definition.Function (record { parameters = ([]); body = (Return (Do (codes "ask") NoExprs) ⨟ Done) }) }
+      ∷ record { name = (codes "h"); definition = definition.Handler (record { parameters = (record { name = (codes "s"); ty = Int } ∷ []); return_clause = record { value = (codes "x"); body = (Return (Run (Read (codes "x")) (MoreOperands (Computes Add) (Read (codes "s")) NoOperands)) ⨟ Done) }; clauses = (record { effect = (codes "ask"); arguments = ([]); resumption = (codes "k"); body = (Let (codes "a") (Resume (codes "k") (Read (codes "s")) ((Read (codes "s")) ⊕ NoExprs)) ⨟ Return (Resume (codes "k") (Read (codes "s")) ((Read (codes "s")) ⊕ NoExprs)) ⨟ Done) } ∷ []) }) }
+      ∷ record { name = (codes "main"); definition = definition.Function (record { parameters = ([]); body = (Return (Handle (codes "one") NoExprs (codes "h") ((Literal 10) ⊕ NoExprs)) ⨟ Done) }) }
+      ∷ [];
+}
+
+resumed_twice-ends : (Eval resumed_twice 16).outcome ≡ Fault Reused
+unfolding resumed_twice int_wrap
+resumed_twice-ends = refl
+
+resumed_twice-prints : (Eval resumed_twice 16).printed ≡ []
+unfolding resumed_twice int_wrap
+resumed_twice-prints = refl
+
+resumed_twice-goes-on : (Eval resumed_twice 15).outcome ≡ Going
+unfolding resumed_twice int_wrap
+resumed_twice-goes-on = refl
+
+resumed_twice-acts : acts (Eval resumed_twice 8).term ≡ 3
+unfolding resumed_twice int_wrap
+resumed_twice-acts = refl
+
+resumed_twice-hands : hands (Eval resumed_twice 8).term ≡ 0
+unfolding resumed_twice int_wrap
+resumed_twice-hands = refl
+
+resumed_twice-kept : kept (Eval resumed_twice 8).term ≡ 0
+unfolding resumed_twice int_wrap
+resumed_twice-kept = refl
+
+unfoldable two_handlers : Script
+two_handlers = record {
+  declarations =
+      record { name = (codes "a"); definition = effect_of_0 }
+      ∷ record { name = (codes "b"); definition = effect_of_0 }
+      ∷ record { name = (codes "inner"); definition = definition.Function (record { parameters = ([]); body = (Return (Run (Run (Do (codes "a") NoExprs) (MoreOperands (Computes Multiply) (Literal 10) NoOperands)) (MoreOperands (Computes Add) (Do (codes "b") NoExprs) NoOperands)) ⨟ Done) }) }
+      ∷ record { name = (codes "hb"); definition = definition.Handler (record { parameters = (record { name = (codes "v"); ty = Int } ∷ []); return_clause = record { value = (codes "x"); body = (Return (Read (codes "x")) ⨟ Done) }; clauses = (record { effect = (codes "b"); arguments = ([]); resumption = (codes "k"); body = (Return (Resume (codes "k") (Read (codes "v")) ((Read (codes "v")) ⊕ NoExprs)) ⨟ Done) } ∷ []) }) }
+      ∷ record { name = (codes "mid"); definition = definition.Function (record { parameters = ([]); body = (Return (Handle (codes "inner") NoExprs (codes "hb") ((Literal 3) ⊕ NoExprs)) ⨟ Done) }) }
+      ∷ record { name = (codes "ha"); definition = definition.Handler (record { parameters = (record { name = (codes "v"); ty = Int } ∷ []); return_clause = record { value = (codes "x"); body = (Return (Read (codes "x")) ⨟ Done) }; clauses = (record { effect = (codes "a"); arguments = ([]); resumption = (codes "k"); body = (Return (Resume (codes "k") (Read (codes "v")) ((Read (codes "v")) ⊕ NoExprs)) ⨟ Done) } ∷ []) }) }
+      ∷ record { name = (codes "main"); definition = definition.Function (record { parameters = ([]); body = (Return (Handle (codes "mid") NoExprs (codes "ha") ((Literal 4) ⊕ NoExprs)) ⨟ Done) }) }
+      ∷ [];
+}
+
+two_handlers-ends : (Eval two_handlers 24).outcome ≡ Value (pos 43)
+unfolding two_handlers int_wrap
+two_handlers-ends = refl
+
+two_handlers-prints : (Eval two_handlers 24).printed ≡ []
+unfolding two_handlers int_wrap
+two_handlers-prints = refl
+
+two_handlers-goes-on : (Eval two_handlers 23).outcome ≡ Going
+unfolding two_handlers int_wrap
+two_handlers-goes-on = refl
+
+two_handlers-acts : acts (Eval two_handlers 12).term ≡ 3
+unfolding two_handlers int_wrap
+two_handlers-acts = refl
+
+two_handlers-hands : hands (Eval two_handlers 12).term ≡ 1
+unfolding two_handlers int_wrap
+two_handlers-hands = refl
+
+two_handlers-kept : kept (Eval two_handlers 12).term ≡ 1
+unfolding two_handlers int_wrap
+two_handlers-kept = refl
+
+unfoldable recursion : Script
+recursion = record {
+  declarations =
+      record { name = (codes "f"); definition = definition.Function (record { parameters = (record { name = (codes "n"); ty = Int } ∷ []); body = (If (Read (codes "n")) (Return (Call (codes "f") ((Run (Read (codes "n")) (MoreOperands (Computes Subtract) (Literal 1) NoOperands)) ⊕ NoExprs)) ⨟ Done) (Done) ⨟ Return (Literal 0) ⨟ Done) }) }
+      ∷ record { name = (codes "main"); definition = definition.Function (record { parameters = ([]); body = (Return (Call (codes "f") ((Literal 6) ⊕ NoExprs)) ⨟ Done) }) }
+      ∷ [];
+}
+
+recursion-ends : (Eval recursion 49).outcome ≡ Value (pos 0)
+unfolding recursion int_wrap
+recursion-ends = refl
+
+recursion-prints : (Eval recursion 49).printed ≡ []
+unfolding recursion int_wrap
+recursion-prints = refl
+
+recursion-goes-on : (Eval recursion 48).outcome ≡ Going
+unfolding recursion int_wrap
+recursion-goes-on = refl
+
+recursion-acts : acts (Eval recursion 24).term ≡ 5
+unfolding recursion int_wrap
+recursion-acts = refl
+
+recursion-hands : hands (Eval recursion 24).term ≡ 0
+unfolding recursion int_wrap
+recursion-hands = refl
+
+recursion-kept : kept (Eval recursion 24).term ≡ 0
+unfolding recursion int_wrap
+recursion-kept = refl
+
+unfoldable overflow : Script
+overflow = record {
+  declarations =
+      record { name = (codes "main"); definition = definition.Function (record { parameters = ([]); body = (Return (Run (Run (Literal 0) (MoreOperands (Computes Subtract) (Literal 9223372036854775807) (MoreOperands (Computes Subtract) (Literal 1) NoOperands))) (MoreOperands (Computes Divide) (Run (Literal 0) (MoreOperands (Computes Subtract) (Literal 1) NoOperands)) NoOperands)) ⨟ Done) }) }
+      ∷ [];
+}
+
+overflow-ends : (Eval overflow 9).outcome ≡ Fault Overflow
+unfolding overflow int_wrap
+overflow-ends = refl
+
+overflow-prints : (Eval overflow 9).printed ≡ []
+unfolding overflow int_wrap
+overflow-prints = refl
+
+overflow-goes-on : (Eval overflow 8).outcome ≡ Going
+unfolding overflow int_wrap
+overflow-goes-on = refl
+
+overflow-acts : acts (Eval overflow 4).term ≡ 1
+unfolding overflow int_wrap
+overflow-acts = refl
+
+overflow-hands : hands (Eval overflow 4).term ≡ 0
+unfolding overflow int_wrap
+overflow-hands = refl
+
+overflow-kept : kept (Eval overflow 4).term ≡ 0
+unfolding overflow int_wrap
+overflow-kept = refl
+
+unfoldable handlers_in_one_another : Script
+handlers_in_one_another = record {
+  declarations =
+      record { name = (codes "f"); definition = definition.Function (record { parameters = (record { name = (codes "n"); ty = Int } ∷ []); body = (If (Read (codes "n")) (Return (Handle (codes "f") ((Run (Read (codes "n")) (MoreOperands (Computes Subtract) (Literal 1) NoOperands)) ⊕ NoExprs) (codes "id") NoExprs) ⨟ Done) (Done) ⨟ Return (Literal 0) ⨟ Done) }) }
+      ∷ record { name = (codes "id"); definition = definition.Handler (record { parameters = ([]); return_clause = record { value = (codes "x"); body = (Return (Read (codes "x")) ⨟ Done) }; clauses = ([]) }) }
+      ∷ record { name = (codes "main"); definition = definition.Function (record { parameters = ([]); body = (Return (Call (codes "f") ((Literal 5) ⊕ NoExprs)) ⨟ Done) }) }
+      ∷ [];
+}
+
+handlers_in_one_another-ends : (Eval handlers_in_one_another 57).outcome ≡ Value (pos 0)
+unfolding handlers_in_one_another int_wrap
+handlers_in_one_another-ends = refl
+
+handlers_in_one_another-prints : (Eval handlers_in_one_another 57).printed ≡ []
+unfolding handlers_in_one_another int_wrap
+handlers_in_one_another-prints = refl
+
+handlers_in_one_another-goes-on : (Eval handlers_in_one_another 56).outcome ≡ Going
+unfolding handlers_in_one_another int_wrap
+handlers_in_one_another-goes-on = refl
+
+handlers_in_one_another-acts : acts (Eval handlers_in_one_another 28).term ≡ 6
+unfolding handlers_in_one_another int_wrap
+handlers_in_one_another-acts = refl
+
+handlers_in_one_another-hands : hands (Eval handlers_in_one_another 28).term ≡ 4
+unfolding handlers_in_one_another int_wrap
+handlers_in_one_another-hands = refl
+
+handlers_in_one_another-kept : kept (Eval handlers_in_one_another 28).term ≡ 0
+unfolding handlers_in_one_another int_wrap
+handlers_in_one_another-kept = refl
+
+unfoldable unhandled : Script
+unhandled = record {
+  declarations =
+      record { name = (codes "ask"); definition = effect_of_0 }
+      ∷ record { name = (codes "main"); definition = definition.Function (record { parameters = ([]); body = (Print (Literal 5) ⨟ Return (Do (codes "ask") NoExprs) ⨟ Done) }) }
+      ∷ [];
+}
+
+unhandled-ends : (Eval unhandled 3).outcome ≡ Fault (Unhandled (codes "ask"))
+unfolding unhandled int_wrap
+unhandled-ends = refl
+
+unhandled-prints : (Eval unhandled 3).printed ≡ line (pos 5)
+unfolding unhandled int_wrap
+unhandled-prints = refl
+
+unhandled-goes-on : (Eval unhandled 2).outcome ≡ Going
+unfolding unhandled int_wrap
+unhandled-goes-on = refl
+
+unhandled-acts : acts (Eval unhandled 1).term ≡ 1
+unfolding unhandled int_wrap
+unhandled-acts = refl
+
+unhandled-hands : hands (Eval unhandled 1).term ≡ 0
+unfolding unhandled int_wrap
+unhandled-hands = refl
+
+unhandled-kept : kept (Eval unhandled 1).term ≡ 0
+unfolding unhandled int_wrap
+unhandled-kept = refl
+
+unfoldable a_resumption_is_handed_over : Script
+a_resumption_is_handed_over = record {
+  declarations =
+      record { name = (codes "ask"); definition = effect_of_0 }
+      ∷ record { name = (codes "body"); definition = definition.Function (record { parameters = ([]); body = (Print (Run (Do (codes "ask") NoExprs) (MoreOperands (Computes Add) (Do (codes "ask") NoExprs) NoOperands)) ⨟ Return (Literal 7) ⨟ Done) }) }
+      ∷ record { name = (codes "go"); definition = definition.Function (record { parameters = (record { name = (codes "k"); ty = (Resumption (codes "h")) } ∷ record { name = (codes "v"); ty = Int } ∷ []); body = (Return (Resume (codes "k") (Read (codes "v")) ((Read (codes "v")) ⊕ NoExprs)) ⨟ Done) }) }
+      ∷ record { name = (codes "one"); definition = definition.Function (record { parameters = ([]); body = (Return (Do (codes "ask") NoExprs) ⨟ Done) }) }
+      ∷ record { name = (codes "h"); definition = definition.Handler (record { parameters = (record { name = (codes "s"); ty = Int } ∷ []); return_clause = record { value = (codes "x"); body = (Return (Run (Read (codes "x")) (MoreOperands (Computes Add) (Read (codes "s")) NoOperands)) ⨟ Done) }; clauses = (record { effect = (codes "ask"); arguments = ([]); resumption = (codes "k"); body = (Return (Call (codes "go") ((Read (codes "k")) ⊕ ((Literal 5) ⊕ NoExprs))) ⨟ Done) } ∷ []) }) }
+      ∷ record { name = (codes "main"); definition = definition.Function (record { parameters = ([]); body = (Return (Handle (codes "one") NoExprs (codes "h") ((Literal 10) ⊕ NoExprs)) ⨟ Done) }) }
+      ∷ [];
+}
+
+a_resumption_is_handed_over-ends : (Eval a_resumption_is_handed_over 18).outcome ≡ Value (pos 10)
+unfolding a_resumption_is_handed_over int_wrap
+a_resumption_is_handed_over-ends = refl
+
+a_resumption_is_handed_over-prints : (Eval a_resumption_is_handed_over 18).printed ≡ []
+unfolding a_resumption_is_handed_over int_wrap
+a_resumption_is_handed_over-prints = refl
+
+a_resumption_is_handed_over-goes-on : (Eval a_resumption_is_handed_over 17).outcome ≡ Going
+unfolding a_resumption_is_handed_over int_wrap
+a_resumption_is_handed_over-goes-on = refl
+
+a_resumption_is_handed_over-acts : acts (Eval a_resumption_is_handed_over 9).term ≡ 4
+unfolding a_resumption_is_handed_over int_wrap
+a_resumption_is_handed_over-acts = refl
+
+a_resumption_is_handed_over-hands : hands (Eval a_resumption_is_handed_over 9).term ≡ 1
+unfolding a_resumption_is_handed_over int_wrap
+a_resumption_is_handed_over-hands = refl
+
+a_resumption_is_handed_over-kept : kept (Eval a_resumption_is_handed_over 9).term ≡ 0
+unfolding a_resumption_is_handed_over int_wrap
+a_resumption_is_handed_over-kept = refl
+
+unfoldable resumptions_handed_down : Script
+resumptions_handed_down = record {
+  declarations =
+      record { name = (codes "ask"); definition = effect_of_0 }
+      ∷ record { name = (codes "body"); definition = definition.Function (record { parameters = ([]); body = (Print (Run (Do (codes "ask") NoExprs) (MoreOperands (Computes Add) (Do (codes "ask") NoExprs) NoOperands)) ⨟ Return (Literal 7) ⨟ Done) }) }
+      ∷ record { name = (codes "go"); definition = definition.Function (record { parameters = (record { name = (codes "k"); ty = (Resumption (codes "h")) } ∷ record { name = (codes "n"); ty = Int } ∷ []); body = (If (Read (codes "n")) (Return (Run (Literal 0) (MoreOperands (Computes Add) (Call (codes "go") ((Read (codes "k")) ⊕ ((Run (Read (codes "n")) (MoreOperands (Computes Subtract) (Literal 1) NoOperands)) ⊕ NoExprs))) NoOperands)) ⨟ Done) (Done) ⨟ Return (Resume (codes "k") (Read (codes "n")) ((Read (codes "n")) ⊕ NoExprs)) ⨟ Done) }) }
+      ∷ record { name = (codes "one"); definition = definition.Function (record { parameters = ([]); body = (Return (Do (codes "ask") NoExprs) ⨟ Done) }) }
+      ∷ record { name = (codes "h"); definition = definition.Handler (record { parameters = (record { name = (codes "s"); ty = Int } ∷ []); return_clause = record { value = (codes "x"); body = (Return (Run (Read (codes "x")) (MoreOperands (Computes Add) (Read (codes "s")) NoOperands)) ⨟ Done) }; clauses = (record { effect = (codes "ask"); arguments = ([]); resumption = (codes "k"); body = (Let (codes "a") (Resume (codes "k") (Read (codes "s")) ((Read (codes "s")) ⊕ NoExprs)) ⨟ Return (Run (Literal 0) (MoreOperands (Computes Add) (Call (codes "go") ((Read (codes "k")) ⊕ ((Literal 7) ⊕ NoExprs))) NoOperands)) ⨟ Done) } ∷ []) }) }
+      ∷ record { name = (codes "main"); definition = definition.Function (record { parameters = ([]); body = (Return (Handle (codes "one") NoExprs (codes "h") ((Literal 10) ⊕ NoExprs)) ⨟ Done) }) }
+      ∷ [];
+}
+
+resumptions_handed_down-ends : (Eval resumptions_handed_down 78).outcome ≡ Fault Reused
+unfolding resumptions_handed_down int_wrap
+resumptions_handed_down-ends = refl
+
+resumptions_handed_down-prints : (Eval resumptions_handed_down 78).printed ≡ []
+unfolding resumptions_handed_down int_wrap
+resumptions_handed_down-prints = refl
+
+resumptions_handed_down-goes-on : (Eval resumptions_handed_down 77).outcome ≡ Going
+unfolding resumptions_handed_down int_wrap
+resumptions_handed_down-goes-on = refl
+
+resumptions_handed_down-acts : acts (Eval resumptions_handed_down 39).term ≡ 5
+unfolding resumptions_handed_down int_wrap
+resumptions_handed_down-acts = refl
+
+resumptions_handed_down-hands : hands (Eval resumptions_handed_down 39).term ≡ 0
+unfolding resumptions_handed_down int_wrap
+resumptions_handed_down-hands = refl
+
+resumptions_handed_down-kept : kept (Eval resumptions_handed_down 39).term ≡ 0
+unfolding resumptions_handed_down int_wrap
+resumptions_handed_down-kept = refl
+
+unfoldable ticks : Script
+ticks = record {
+  declarations =
+      record { name = (codes "tick"); definition = effect_of_1 }
+      ∷ record { name = (codes "task"); definition = definition.Function (record { parameters = (record { name = (codes "id"); ty = Int } ∷ record { name = (codes "n"); ty = Int } ∷ []); body = (Let (codes "i") (Literal 0) ⨟ While (Run (Read (codes "i")) (MoreOperands (Compares Less) (Read (codes "n")) NoOperands)) (Evaluate (Do (codes "tick") ((Read (codes "id")) ⊕ NoExprs)) ⨟ Assign (codes "i") (Run (Read (codes "i")) (MoreOperands (Computes Add) (Literal 1) NoOperands)) ⨟ Done) ⨟ Return (Literal 0) ⨟ Done) }) }
+      ∷ record { name = (codes "count"); definition = definition.Handler (record { parameters = (record { name = (codes "ticks"); ty = Int } ∷ record { name = (codes "total"); ty = Int } ∷ []); return_clause = record { value = (codes "x"); body = (Print (Read (codes "ticks")) ⨟ Return (Read (codes "total")) ⨟ Done) }; clauses = (record { effect = (codes "tick"); arguments = ((codes "w") ∷ []); resumption = (codes "k"); body = (Return (Resume (codes "k") (Literal 0) ((Run (Read (codes "ticks")) (MoreOperands (Computes Add) (Literal 1) NoOperands)) ⊕ ((Run (Read (codes "total")) (MoreOperands (Computes Add) (Read (codes "w")) NoOperands)) ⊕ NoExprs))) ⨟ Done) } ∷ []) }) }
+      ∷ record { name = (codes "all"); definition = definition.Function (record { parameters = ([]); body = (Evaluate (Call (codes "task") ((Literal 1) ⊕ ((Literal 3) ⊕ NoExprs))) ⨟ Done) }) }
+      ∷ record { name = (codes "main"); definition = definition.Function (record { parameters = ([]); body = (Print (Literal 1) ⨟ Return (Handle (codes "all") NoExprs (codes "count") ((Literal 0) ⊕ ((Literal 0) ⊕ NoExprs))) ⨟ Done) }) }
+      ∷ [];
+}
+
+ticks-ends : (Eval ticks 81).outcome ≡ Value (pos 3)
+unfolding ticks int_wrap
+ticks-ends = refl
+
+ticks-prints : (Eval ticks 81).printed ≡ still 2 (still 75 (line (pos 1)) ++ line (pos 3))
+unfolding ticks int_wrap
+ticks-prints = refl
+
+ticks-goes-on : (Eval ticks 80).outcome ≡ Going
+unfolding ticks int_wrap
+ticks-goes-on = refl
+
+ticks-acts : acts (Eval ticks 40).term ≡ 2
+unfolding ticks int_wrap
+ticks-acts = refl
+
+ticks-hands : hands (Eval ticks 40).term ≡ 0
+unfolding ticks int_wrap
+ticks-hands = refl
+
+ticks-kept : kept (Eval ticks 40).term ≡ 1
+unfolding ticks int_wrap
+ticks-kept = refl
+
+unfoldable another_handler : Script
+another_handler = record {
+  declarations =
+      record { name = (codes "a"); definition = effect_of_0 }
+      ∷ record { name = (codes "b"); definition = effect_of_0 }
+      ∷ record { name = (codes "f"); definition = definition.Function (record { parameters = ([]); body = (Return (Run (Do (codes "a") NoExprs) (MoreOperands (Computes Add) (Literal 1) NoOperands)) ⨟ Done) }) }
+      ∷ record { name = (codes "f2"); definition = definition.Function (record { parameters = ([]); body = (Return (Run (Do (codes "b") NoExprs) (MoreOperands (Computes Add) (Literal 2) NoOperands)) ⨟ Done) }) }
+      ∷ record { name = (codes "h"); definition = definition.Handler (record { parameters = ([]); return_clause = record { value = (codes "x"); body = (Return (Run (Read (codes "x")) (MoreOperands (Computes Add) (Literal 10) NoOperands)) ⨟ Done) }; clauses = (record { effect = (codes "a"); arguments = ([]); resumption = (codes "k"); body = (Return (Handle (codes "f2") NoExprs (codes "g") ((Read (codes "k")) ⊕ NoExprs)) ⨟ Done) } ∷ []) }) }
+      ∷ record { name = (codes "g"); definition = definition.Handler (record { parameters = (record { name = (codes "k"); ty = (Resumption (codes "h")) } ∷ []); return_clause = record { value = (codes "x"); body = (Return (Run (Read (codes "x")) (MoreOperands (Computes Add) (Literal 100) NoOperands)) ⨟ Done) }; clauses = (record { effect = (codes "b"); arguments = ([]); resumption = (codes "j"); body = (Return (Resume (codes "k") (Literal 1) NoExprs) ⨟ Done) } ∷ []) }) }
+      ∷ record { name = (codes "main"); definition = definition.Function (record { parameters = ([]); body = (Return (Handle (codes "f") NoExprs (codes "h") NoExprs) ⨟ Done) }) }
+      ∷ [];
+}
+
+another_handler-ends : (Eval another_handler 18).outcome ≡ Value (pos 12)
+unfolding another_handler int_wrap
+another_handler-ends = refl
+
+another_handler-prints : (Eval another_handler 18).printed ≡ []
+unfolding another_handler int_wrap
+another_handler-prints = refl
+
+another_handler-goes-on : (Eval another_handler 17).outcome ≡ Going
+unfolding another_handler int_wrap
+another_handler-goes-on = refl
+
+another_handler-acts : acts (Eval another_handler 9).term ≡ 4
+unfolding another_handler int_wrap
+another_handler-acts = refl
+
+another_handler-hands : hands (Eval another_handler 9).term ≡ 1
+unfolding another_handler int_wrap
+another_handler-hands = refl
+
+another_handler-kept : kept (Eval another_handler 9).term ≡ 1
+unfolding another_handler int_wrap
+another_handler-kept = refl
+
+unfoldable connectives : Script
+connectives = record {
+  declarations =
+      record { name = (codes "t"); definition = definition.Function (record { parameters = (record { name = (codes "x"); ty = Int } ∷ []); body = (Print (Read (codes "x")) ⨟ Return (Read (codes "x")) ⨟ Done) }) }
+      ∷ record { name = (codes "main"); definition = definition.Function (record { parameters = ([]); body = (Print (Run (Call (codes "t") ((Literal 0) ⊕ NoExprs)) (MoreOperands (Connects And) (Call (codes "t") ((Literal 1) ⊕ NoExprs)) NoOperands)) ⨟ Print (Run (Call (codes "t") ((Literal 2) ⊕ NoExprs)) (MoreOperands (Connects And) (Call (codes "t") ((Literal 3) ⊕ NoExprs)) (MoreOperands (Connects And) (Call (codes "t") ((Literal 0) ⊕ NoExprs)) (MoreOperands (Connects And) (Call (codes "t") ((Literal 9) ⊕ NoExprs)) NoOperands)))) ⨟ Print (Run (Call (codes "t") ((Literal 0) ⊕ NoExprs)) (MoreOperands (Connects Or) (Call (codes "t") ((Literal 4) ⊕ NoExprs)) NoOperands)) ⨟ Print (Run (Call (codes "t") ((Literal 5) ⊕ NoExprs)) (MoreOperands (Connects Or) (Call (codes "t") ((Literal 6) ⊕ NoExprs)) NoOperands)) ⨟ Print (Run (Literal 1) (MoreOperands (Connects And) (Run (Literal 0) (MoreOperands (Connects Or) (Literal 7) NoOperands)) NoOperands)) ⨟ Return (Run (Unary Not (Literal 3)) (MoreOperands (Computes Add) (Unary Minus (Literal 2)) NoOperands)) ⨟ Done) }) }
+      ∷ [];
+}
+
+connectives-ends : (Eval connectives 69).outcome ≡ Value (negsuc 1)
+unfolding connectives int_wrap
+connectives-ends = refl
+
+connectives-prints : (Eval connectives 69).printed ≡ still 5 (still 7 (still 3 (still 3 (still 3 (still 6 (still 3 (still 4 (still 7 (still 6 (still 3 (still 3 (line (pos 0)) ++ line (pos 0)) ++ line (pos 2)) ++ line (pos 3)) ++ line (pos 0)) ++ line (pos 0)) ++ line (pos 0)) ++ line (pos 4)) ++ line (pos 1)) ++ line (pos 5)) ++ line (pos 1)) ++ line (pos 1))
+unfolding connectives int_wrap
+connectives-prints = refl
+
+connectives-goes-on : (Eval connectives 68).outcome ≡ Going
+unfolding connectives int_wrap
+connectives-goes-on = refl
+
+connectives-acts : acts (Eval connectives 34).term ≡ 2
+unfolding connectives int_wrap
+connectives-acts = refl
+
+connectives-hands : hands (Eval connectives 34).term ≡ 0
+unfolding connectives int_wrap
+connectives-hands = refl
+
+connectives-kept : kept (Eval connectives 34).term ≡ 0
+unfolding connectives int_wrap
+connectives-kept = refl

@@ -1,0 +1,143 @@
+-- What is done next in a typed term is typed.
+use Rattle.std.proofs.Common.{◌≡◌, ℕ, suc, List, [], ◌∷◌, ◌++◌, length, Option, Some, if◌then◌else◌, refl, ap, ◌∙◌, subst}
+use Rattle.s_syntax.specs.declared.name.Name.{Name}
+use Rattle.s_syntax.specs.declared.script.VariableType.{VariableType}
+use Rattle.s_syntax.specs.declared.script.VariableType.TheVariants.{Int}
+use Rattle.s_syntax.specs.declared.operators.UnaryOperator.{UnaryOperator}
+use Rattle.s_syntax.specs.declared.operators.Connective.{Connective}
+use Rattle.s_syntax.specs.declared.operators.BinaryOperator.{BinaryOperator}
+use Rattle.s_syntax.specs.declared.operators.BinaryOperator.TheVariants.{Connects, Compares, Computes}
+use Rattle.s_syntax.specs.declared.script.Parameter.{Parameter}
+use Rattle.s_syntax.specs.declared.script.Script.{Script}
+use Rattle.s_syntax.specs.ExprTree.{ExprTree, Exprs, Operands}
+use Rattle.s_syntax.specs.BlockTree.{BlockTree}
+use Rattle.s_check.specs.Scopes.{Scope, type_in}
+use Rattle.s_check.specs.Rules.{count}
+use Rattle.s_meaning.specs.Typing
+use Rattle.s_meaning.specs.Typing.{kinds, numbers, ExprTyped, OperandsTyped, ArgsTyped, literal, read, unary, run, call, does, handle, resume, no_more, next, no_args, number, resumption, IsFree, BlockTyped, done, lets, assigns, ifs, whiles, fails}
+use Rattle.s_meaning.proofs.Scopes.{bool_of, more_block, extends_int}
+use Rattle.s_meaning.specs.Terms.{Value, Row, ε, Variable, Head, Handling, Resuming, TailResuming, Use, Work, Among, Within, ToReturn, Hole}
+use Rattle.s_meaning.specs.Focus.{followed_by, Redex, Constant, Lookup, OnUnary, OnBinary, Decides, Applies, Uses, Fails, Ends, Focused, left_of, in_expr, in_args, in_both, variable_of, is_own, in_return, in_block, in_work, focus}
+use Rattle.s_meaning.specs.Typed
+use Rattle.s_meaning.specs.Typed.{World, HasKind, FirstHave, begun, further, UseTyped, stores, chooses, turns, WorkTyped, HeadTyped, under, left, right, among, within, calling, doing, handling, resuming, tail_resuming, HoleTyped, gives, finds, runs, Covers}
+
+-- a redex and the pending work around it
+pub data RedexTyped (p : Script) (Ξ : World) (Γ : Scope) : Redex → List Work → Type 0 where
+  constant : {n : ℕ} {w : List Work} → WorkTyped p Ξ Γ w Int → RedexTyped p Ξ Γ (Constant n) w
+  lookup : {x : Name} {k : VariableType} {w : List Work} → type_in Γ x ≡ Some k → WorkTyped p Ξ Γ w k → RedexTyped p Ξ Γ (Lookup x) w
+  on_unary : {o : UnaryOperator} {v : Value} {w : List Work} → HasKind Ξ v Int → WorkTyped p Ξ Γ w Int → RedexTyped p Ξ Γ (OnUnary o v) w
+  on_binary : {o : BinaryOperator} {u v : Value} {w : List Work} → HasKind Ξ u Int → HasKind Ξ v Int → WorkTyped p Ξ Γ w Int → RedexTyped p Ξ Γ (OnBinary o u v) w
+  decides : {c : Connective} {v : Value} {e : ExprTree} {es : Operands} {w : List Work} → HasKind Ξ v Int → ExprTyped p Γ e → OperandsTyped p Γ es
+      → WorkTyped p Ξ Γ w Int → RedexTyped p Ξ Γ (Decides c v e es) w
+  applying : {head : Head} {all : List VariableType} {vs : Row} {w : List Work} → HeadTyped p Ξ Γ head all w → FirstHave Ξ all vs [] → RedexTyped p Ξ Γ (Applies head vs) w
+  using : {u : Use} {v : Value} {Γ' : Scope} {rest : BlockTree} → UseTyped p Γ u Γ' → BlockTyped p Γ' rest → HasKind Ξ v Int → RedexTyped p Ξ Γ (Uses u v rest) []
+  failing : RedexTyped p Ξ Γ Fails []
+  ending : RedexTyped p Ξ Γ Ends []
+
+pub left_typed : {p : Script} {Ξ : World} {Γ : Scope} {es : Operands} {w : List Work} → OperandsTyped p Γ es → WorkTyped p Ξ Γ w Int → WorkTyped p Ξ Γ (left_of es w) Int
+left_typed no_more w = w
+left_typed (next t ts) w = left t ts w
+
+args_count : {p : Script} {Γ : Scope} {ks : List VariableType} {es : Exprs} → ArgsTyped p Γ ks es → count es ≡ length ks
+args_count no_args = refl
+args_count (number t ts) = ap suc (args_count ts)
+args_count (resumption q ts) = ap suc (args_count ts)
+
+kinds_count : (ps : List Parameter) → length (kinds ps) ≡ length ps
+kinds_count [] = refl
+kinds_count (p ∷ ps) = ap suc (kinds_count ps)
+
+args_append : {p : Script} {Γ : Scope} {ks js : List VariableType} {es bs : Exprs} → ArgsTyped p Γ ks es → ArgsTyped p Γ js bs → ArgsTyped p Γ (ks ++ js) (followed_by es bs)
+args_append no_args us = us
+args_append (number t ts) us = number t (args_append ts us)
+args_append (resumption q ts) us = resumption q (args_append ts us)
+
+module _ (p : Script) (Ξ : World) (Γ : Scope) where
+  -- what is found in an expression
+  In : Focused → Type 0
+  In f = RedexTyped p Ξ Γ f.redex f.work
+
+  mutual
+    unfolding In
+
+    expr_focus : {e : ExprTree} {w : List Work} → ExprTyped p Γ e → WorkTyped p Ξ Γ w Int → In (in_expr e w)
+    expr_focus literal w = constant w
+    expr_focus (read q) w = lookup q w
+    expr_focus (unary t) w = expr_focus t (under w)
+    expr_focus (run t ts) w = expr_focus t (left_typed ts w)
+    expr_focus (call {g = g} f ts) w = args_focus (calling f w) begun ts
+    expr_focus (does op ts) w = args_focus (doing op w) begun ts
+    expr_focus {w = w'} (handle {f = f'} {h = h'} {es = es} {bs = bs} {g = g} {i = i} f h ts us) w =
+        let head = handling f h (args_count ts ∙ kinds_count g.parameters) w in
+        both_focus (in_args (Handling f' (count es) h') ε bs w') head ts us (λ e. args_focus head (subst (λ (ks : List VariableType). FirstHave Ξ (kinds g.parameters ++ kinds i.parameters) ε ks) (ap (λ (ks : List VariableType). ks ++ kinds i.parameters) e) begun) us)
+    expr_focus (resume k i t us) w = expr_focus t (among (resuming k i w) begun us)
+
+    args_focus : {head : Head} {all todo : List VariableType} {vs : Row} {es : Exprs} {w : List Work} → HeadTyped p Ξ Γ head all w → FirstHave Ξ all vs todo
+        → ArgsTyped p Γ todo es → In (in_args head vs es w)
+    args_focus head vs no_args = applying head vs
+    args_focus head vs (number t ts) = expr_focus t (among head vs ts)
+    args_focus head vs (resumption q ts) = lookup q (among head vs ts)
+
+    -- in two lists of arguments; `second` is for where the first has none
+    both_focus : {head : Head} {ks js : List VariableType} {es bs : Exprs} {w : List Work} (second : Focused) → HeadTyped p Ξ Γ head (ks ++ js) w
+        → ArgsTyped p Γ ks es → ArgsTyped p Γ js bs → (ks ≡ [] → In second) → In (in_both head es bs w second)
+    both_focus second head no_args us given = given refl
+    both_focus second head (number t ts) us given = expr_focus t (among head begun (args_append ts us))
+    both_focus second head (resumption q ts) us given = lookup q (among head begun (args_append ts us))
+
+  -- in a body
+  return_focus : (vars : List Variable) (owner : Option Name) {e : ExprTree} {rest : BlockTree} → ExprTyped p Γ e → BlockTyped p Γ rest → In (in_return vars owner e rest)
+  unfolding In
+  return_focus vars owner literal b = expr_focus literal (within Typed.returns b)
+  return_focus vars owner (read q) b = expr_focus (read q) (within Typed.returns b)
+  return_focus vars owner (unary t) b = expr_focus (unary t) (within Typed.returns b)
+  return_focus vars owner (run t ts) b = expr_focus (run t ts) (within Typed.returns b)
+  return_focus vars owner (call f ts) b = expr_focus (call f ts) (within Typed.returns b)
+  return_focus vars owner (does op ts) b = expr_focus (does op ts) (within Typed.returns b)
+  return_focus vars owner (handle f h ts us) b = expr_focus (handle f h ts us) (within Typed.returns b)
+  return_focus vars owner {rest = rest} (resume {k = k} {e = e} {bs = bs} q i t us) b =
+      bool_of (is_own owner (variable_of k vars)) (λ o. In (if o then in_expr e (Among (TailResuming k) ε bs ∷ []) else in_expr e (Among (Resuming k) ε bs ∷ Within ToReturn rest ∷ [])))
+      (λ o. expr_focus t (among (tail_resuming q i) begun us)) (λ o. expr_focus t (among (resuming q i (within Typed.returns b)) begun us))
+
+  block_focus : (vars : List Variable) (owner : Option Name) {b : BlockTree} → BlockTyped p Γ b → In (in_block vars owner b)
+  unfolding In
+  block_focus vars owner done = ending
+  block_focus vars owner (lets t f b) = expr_focus t (within (stores f) b)
+  block_focus vars owner (assigns {x = x} t q b) =
+      let f : IsFree x Γ = record { free = λ h e. cc (q, e) } in
+      expr_focus t (within (stores f) (more_block (extends_int x Γ f) b))
+  block_focus vars owner (ifs t b c d) = expr_focus t (within (chooses b c) d)
+  block_focus vars owner (whiles t b d) = expr_focus t (within (turns t b) d)
+  block_focus vars owner (Typing.prints t b) = expr_focus t (within Typed.prints b)
+  block_focus vars owner (Typing.returns t b) = return_focus vars owner t b
+  block_focus vars owner (Typing.drops t b) = expr_focus t (within Typed.drops b)
+  block_focus vars owner (fails b) = failing
+
+  record Found_in (o : Option Focused) : Type 0 where
+    focused : Focused
+    is : o ≡ Some focused
+    typed : In focused
+
+  work_focus : {v : Value} {w : List Work} {k : VariableType} → HasKind Ξ v k → WorkTyped p Ξ Γ w k → Found_in (in_work v w)
+  unfolding In
+  work_focus h (under w) = record { focused = _; is = refl; typed = on_unary h w }
+  work_focus h (left {o = Connects c} t ts w) = record { focused = _; is = refl; typed = decides h t ts w }
+  work_focus h (left {o = Compares c} t ts w) = record { focused = _; is = refl; typed = expr_focus t (right h ts w) }
+  work_focus h (left {o = Computes c} t ts w) = record { focused = _; is = refl; typed = expr_focus t (right h ts w) }
+  work_focus h (right u ts w) = record { focused = _; is = refl; typed = on_binary u h (left_typed ts w) }
+  work_focus h (among head vs ts) = record { focused = _; is = refl; typed = args_focus head (further vs h) ts }
+  work_focus h (within u b) = record { focused = _; is = refl; typed = using u b h }
+
+-- what is done next in an activation
+pub record NextTyped (p : Script) (Ξ : World) (vars : List Variable) (o : Option Focused) : Type 0 where
+  pub scope : Scope
+  pub covers : Covers Ξ scope vars
+  pub focused : Focused
+  pub is : o ≡ Some focused
+  pub typed : RedexTyped p Ξ scope focused.redex focused.work
+
+pub next_typed : {p : Script} {Ξ : World} {hole : Hole} {vars : List Variable} (owner : Option Name) {w : List Work} → HoleTyped p Ξ hole vars w → NextTyped p Ξ vars (focus vars owner hole w)
+unfolding In
+next_typed {p} {Ξ} owner (gives {Γ = Γ} c h w) = let f = work_focus p Ξ Γ h w in record { scope = Γ; covers = c; focused = f.focused; is = f.is; typed = f.typed }
+next_typed {p} {Ξ} owner (finds {Γ = Γ} c t w) = record { scope = Γ; covers = c; focused = _; is = refl; typed = expr_focus p Ξ Γ t w }
+next_typed {p} {Ξ} {vars = vars} owner (runs {Γ = Γ} c b) = record { scope = Γ; covers = c; focused = _; is = refl; typed = block_focus p Ξ Γ vars owner b }

@@ -1,0 +1,10 @@
+pub mod EvalRows
+pub mod Scopes
+pub mod Bindings
+pub mod Good
+pub mod Variables
+pub mod Lists
+pub mod Worlds
+pub mod Focusing
+pub mod Sound
+pub mod Running

@@ -1,0 +1,218 @@
+-- Each step of a typed configuration gives a typed one, and none is wrong.
+use Rattle.std.proofs.Common.{◌≡◌, ℕ, zero, suc, ◌+◌, Bool, true, false, List, [], ◌∷◌, ◌++◌, inl, inr, length, Option, Some, None, slice_get, slice_set, if◌then◌else◌, refl, sym, ap, ◌∙◌, subst, length-append}
+use Rattle.s_syntax.specs.declared.name.Name.{Name}
+use Rattle.s_syntax.specs.declared.script.VariableType.{VariableType}
+use Rattle.s_syntax.specs.declared.script.VariableType.TheVariants.{Int, Resumption}
+use Rattle.s_syntax.specs.declared.operators.BinaryOperator.TheVariants.{Connects}
+use Rattle.s_syntax.specs.BlockTree.{BlockTree}
+use Rattle.s_syntax.specs.declared.script.Clause.{Clause}
+use Rattle.s_syntax.specs.declared.script.Handler.{Handler}
+use Rattle.s_syntax.specs.declared.script.Script.{Script}
+use Rattle.s_check.specs.Definitions.{handler_of, effect_of}
+use Rattle.s_check.specs.Scopes.{Scope, type_in}
+use Rattle.s_meaning.specs.Typing.{kinds, numbers, BlockTyped, ScriptTyped, ClauseTyped, whiles}
+use Rattle.s_meaning.proofs.Scopes.{bool_of, then_typed}
+use Rattle.s_meaning.specs.Numbers.{Reused, Unhandled, Computed, Is, Faulty, operate, decided, holds, truth}
+use Rattle.s_meaning.specs.Terms.{Value, Number, Reference, Variable, Work, RightOf, Place, Activation, Handle, Context, Hole, Gives, Finds, Store, Configuration}
+use Rattle.s_meaning.specs.Focus.{Redex, left_of}
+use Rattle.s_meaning.specs.Steps.{clause_of, bind, number_parameters, Found, find, farther, with_clause, with_handler, with_kept, emptied as without, next_address, Around, whole, goes, goes_on, enters, leaves, resumes, applies, uses, rule, step_at, step, unless_faulty, or_fault, or_wrong}
+use Rattle.s_meaning.specs.Typed
+use Rattle.s_meaning.specs.Typed.{World, HasKind, int, reference, AllHave, none, more, Variable_typed, Covers, UseTyped, stores, chooses, turns, WorkTyped, HeadTyped, calling, doing, handling, resuming, tail_resuming, ContextTyped, nothing, activation, handle, HoleTyped, gives, finds, runs, TermTyped, in_activation, in_handle, EntryTyped, emptied, kept, StoreTyped, Typed}
+use Rattle.s_meaning.specs.Laws.{StepGood, on, over, faulty}
+use Rattle.s_meaning.proofs.Lists.{get_before, get_last, get_appended, get_set, length_set}
+use Rattle.s_meaning.proofs.Variables.{covers_stored}
+use Rattle.s_meaning.proofs.Worlds.{Grows, all_grows, context_grows, entry_grows, context_append, listed_typed, taken_typed, dropped_typed, Match, no_names, name, match_append, match_covers, bound_typed, ints_typed}
+use Rattle.s_meaning.proofs.Focusing.{RedexTyped, constant, lookup, on_unary, on_binary, decides, applying, using, failing, ending, left_typed, next_typed}
+
+module _ (p : Script) (typed : ScriptTyped p) where
+  gives_typed : {Ξ : World} {v : Value} {κ : Context} {place : Place} → HasKind Ξ v Int → ContextTyped p Ξ (place ∷ κ) → TermTyped p Ξ (Gives v) (place ∷ κ)
+  gives_typed h (activation c w κ) = in_activation (gives c h w) κ
+  gives_typed h (handle i ps κ) = in_handle h i ps κ
+
+  leaves_good : {Ξ : World} {v : Value} (σ : Store) (κ : Context) → StoreTyped p Ξ σ.resumptions → HasKind Ξ v Int → ContextTyped p Ξ κ → StepGood p (leaves σ κ v)
+  leaves_good σ [] s int κ = over
+  leaves_good {Ξ} σ (place ∷ κ) s h t = on Ξ (record { store = s; term = gives_typed h t })
+
+  -- ## The innermost handle with a clause
+
+  record FoundTyped (Ξ : World) (op : Name) (f : Found) : Type 0 where
+    handler : handler_of p.declarations f.h ≡ Some f.handler
+    clause : clause_of op f.handler.clauses ≡ Some f.clause
+    params : AllHave Ξ f.params (kinds f.handler.parameters)
+    inner : ContextTyped p Ξ f.inner
+    outer : ContextTyped p Ξ f.outer
+
+  data FindGood (Ξ : World) (op : Name) : Option Found → Type 0 where
+    nowhere : FindGood Ξ op None
+    there : {f : Found} → FoundTyped Ξ op f → FindGood Ξ op (Some f)
+
+  farther_good : {Ξ : World} {op : Name} {o : Option Found} (place : Place) → ((κ : Context) → ContextTyped p Ξ κ → ContextTyped p Ξ (place ∷ κ)) → FindGood Ξ op o → FindGood Ξ op (farther place o)
+  farther_good place put nowhere = nowhere
+  farther_good place put (there {f = f} t) = there (record { handler = t.handler; clause = t.clause; params = t.params; inner = put f.inner t.inner; outer = t.outer })
+
+  clause_good : {Ξ : World} {op : Name} {κ : Context} {o : Option Found} (h : Name) (ps : List Value) (g : Handler) (c : Option Clause) → handler_of p.declarations h ≡ Some g → clause_of op g.clauses ≡ c
+      → AllHave Ξ ps (kinds g.parameters) → ContextTyped p Ξ κ → FindGood Ξ op o → FindGood Ξ op (with_clause h ps κ g c o)
+  clause_good h ps g None i q hs κ o = farther_good (Handle h ps) (λ κ' t. handle i hs t) o
+  clause_good h ps g (Some c) i q hs κ o = there (record { handler = i; clause = q; params = hs; inner = nothing; outer = κ })
+
+  find_good : {Ξ : World} {κ : Context} (op : Name) → ContextTyped p Ξ κ → FindGood Ξ op (find p op κ)
+  find_good op nothing = nowhere
+  find_good op (activation {vars = vars} {owner = owner} {w = w} c t κ) = farther_good (Activation vars owner w) (λ κ' u. activation c t u) (find_good op κ)
+  find_good {Ξ} op (handle {h = h} {i = g} {ps = ps} {κ = κ'} i hs κ) =
+      subst (λ (o : Option Handler). FindGood Ξ op (with_handler op h ps κ' o (find p op κ'))) (sym i)
+      (clause_good h ps g (clause_of op g.clauses) i refl hs κ (find_good op κ))
+
+  -- ## Stores
+
+  grown : (Ξ : World) (h : Name) → Grows Ξ (Ξ ++ h ∷ [])
+  grown Ξ h = record { keeps = λ a g e. get_before Ξ (h ∷ []) a g e }
+
+  kept_typed : {Ξ : World} {κ : Context} (h : Name) (entries : List (Option Context)) → StoreTyped p Ξ entries → ContextTyped p Ξ κ → StoreTyped p (Ξ ++ h ∷ []) (entries ++ Some κ ∷ [])
+  kept_typed {Ξ} {κ} h entries s t = record {
+    as_many = length-append entries (Some κ ∷ []) ∙ ap (λ (n : ℕ). n + 1) s.as_many ∙ sym (length-append Ξ (h ∷ []));
+    each = λ a e q. elim (get_appended entries (Some κ) e a q) [
+      | inl old ↦ entry_grows (grown Ξ h) (s.each a e old)
+      | inr new ↦ subst (λ (x : Option Context). EntryTyped p (Ξ ++ h ∷ []) x) (sym new) (entry_grows (grown Ξ h) (kept t))
+    ];
+  }
+
+  emptied_typed : {Ξ : World} (a : ℕ) (entries : List (Option Context)) → StoreTyped p Ξ entries → StoreTyped p Ξ (slice_set entries a None)
+  emptied_typed {Ξ} a entries s = record {
+    as_many = length_set entries a None ∙ s.as_many;
+    each = λ b e q. elim (get_set entries a None e b q) [
+      | inl old ↦ s.each b e old
+      | inr new ↦ subst (λ (x : Option Context). EntryTyped p Ξ x) (sym new) emptied
+    ];
+  }
+
+  -- ## The rules
+
+  -- a step of this form, where a number comes of it
+  computed_good : {Ξ : World} {Γ : Scope} (e : Around) (c : Computed) → StoreTyped p Ξ e.store.resumptions → Covers Ξ Γ e.variables → WorkTyped p Ξ Γ e.work Int
+      → ContextTyped p Ξ e.outer → StepGood p (unless_faulty c (λ n. goes_on e (Gives (Number n))))
+  computed_good {Ξ} e (Is n) s c w κ = on Ξ (record { store = s; term = in_activation (gives c int w) κ })
+  computed_good e (Faulty f) s c w κ = faulty
+
+  enters_typed : {Ξ : World} {Γ : Scope} {vars : List Variable} {body : BlockTree} {owner : Option Name} {κ : Context} (σ : Store) → StoreTyped p Ξ σ.resumptions → Match Ξ Γ vars
+      → BlockTyped p Γ body → ContextTyped p Ξ κ → StepGood p (enters σ body vars owner κ)
+  enters_typed {Ξ} σ s m b κ = on Ξ (record { store = s; term = in_activation (runs (match_covers m) b) κ })
+
+  whole_typed : {Ξ : World} {Γ : Scope} (e : Around) → Covers Ξ Γ e.variables → WorkTyped p Ξ Γ e.work Int → ContextTyped p Ξ e.outer → ContextTyped p Ξ (whole e)
+  whole_typed e c w κ = activation c w κ
+
+  -- a resumption of a handler, by its address
+  record Referred (Ξ : World) (h : Name) (v : Value) : Type 0 where
+    address : ℕ
+    is : v ≡ Reference address
+    there : slice_get Ξ address ≡ Some h
+
+  referred : {Ξ : World} {h : Name} {v : Value} → HasKind Ξ v (Resumption h) → Referred Ξ h v
+  referred (reference {a = a} e) = record { address = a; is = refl; there = e }
+
+  get_within : {A B : Type 0} (xs : List A) (ys : List B) (a : ℕ) (y : B) → length xs ≡ length ys → slice_get ys a ≡ Some y → (x : A) × (slice_get xs a ≡ Some x)
+  get_within [] [] a y e q = absurd (cc)
+  get_within [] (z ∷ ys) a y e q = absurd (cc)
+  get_within (x ∷ xs) [] a y e q = absurd (cc)
+  get_within (x ∷ xs) (z ∷ ys) zero y e q = (x, refl)
+  get_within (x ∷ xs) (z ∷ ys) (suc a) y e q = get_within xs ys a y (cc e) q
+
+  put_back : {Ξ : World} {v : Value} (h : Name) {i : Handler} {bs : List Value} {inner κ : Context} → HasKind Ξ v Int → handler_of p.declarations h ≡ Some i → AllHave Ξ bs (kinds i.parameters)
+      → ContextTyped p Ξ inner → ContextTyped p Ξ κ → TermTyped p Ξ (Gives v) (inner ++ Handle h bs ∷ κ)
+  put_back h t i bs nothing κ = in_handle t i bs κ
+  put_back h t i bs (activation c w inner) κ = in_activation (gives c t w) (context_append inner (handle i bs κ))
+  put_back h t i bs (handle j ps inner) κ = in_handle t j ps (context_append inner (handle i bs κ))
+
+  entry_good : {Ξ : World} (h : Name) {i : Handler} {v : Value} {bs : List Value} {κ : Context} (σ : Store) (a : ℕ) (entry : Option Context) → StoreTyped p Ξ σ.resumptions → EntryTyped p Ξ entry
+      → HasKind Ξ v Int → handler_of p.declarations h ≡ Some i → AllHave Ξ bs (kinds i.parameters) → ContextTyped p Ξ κ
+      → StepGood p (or_fault Reused entry (λ inner. goes (without σ a) (Gives v) (inner ++ Handle h bs ∷ κ)))
+  entry_good h σ a None s emptied t i bs κ = faulty
+  entry_good {Ξ} h σ a (Some inner) s (kept u) t i bs κ = on Ξ (record { store = emptied_typed a σ.resumptions s; term = put_back h t i bs u κ })
+
+  resumes_good : {Ξ : World} {Γ : Scope} {h : Name} {i : Handler} {κ : Context} {vs : List Value} (e : Around) (k : Name) → StoreTyped p Ξ e.store.resumptions → Covers Ξ Γ e.variables
+      → type_in Γ k ≡ Some (Resumption h) → handler_of p.declarations h ≡ Some i → AllHave Ξ vs (Int ∷ kinds i.parameters) → ContextTyped p Ξ κ → StepGood p (resumes e k vs κ)
+  resumes_good {h = h} e k s c q i (more t bs) κ =
+      let x = c.covers k (Resumption h) q in
+      let r = referred x.has in
+      let entry = get_within e.store.resumptions _ r.address h s.as_many r.there in
+      rw (x.there, x.of_kind, r.is, entry.1) (entry_good h e.store r.address entry.0 s (s.each r.address entry.0 entry.1) t i bs κ)
+
+  -- E[do op(vs)]
+  caught_good : {Ξ : World} {op : Name} {n : ℕ} {vs : List Value} (e : Around) (o : Option Found) → StoreTyped p Ξ e.store.resumptions → FindGood Ξ op o → effect_of p.declarations op ≡ Some n
+      → AllHave Ξ vs (numbers n) → StepGood p (or_fault (Unhandled op) o (λ f. or_wrong (bind f.handler.parameters f.params) (λ params. or_wrong (bind (number_parameters f.clause.arguments) vs) (λ args.
+      let k : Variable = record { name = f.clause.resumption; ty = Resumption f.h; value = Reference (next_address e.store) } in
+      enters (with_kept e.store f.inner) f.clause.body (params ++ (args ++ k ∷ [])) (Some f.h) f.outer))))
+  caught_good e None s nowhere q vs = faulty
+  caught_good {Ξ} {op} {n} {vs} e (Some f) s (there t) q us =
+      let ct : ClauseTyped p f.h op f.handler f.clause = typed.clauses f.h op f.handler f.clause t.handler t.clause in
+      let Ξ' : World = Ξ ++ f.h ∷ [] in
+      let grows : Grows Ξ Ξ' = grown Ξ f.h in
+      let many : n ≡ length f.clause.arguments = cc (q, ct.is_effect) in
+      let params = bound_typed f.handler.parameters (all_grows grows t.params) in
+      let args = ints_typed f.clause.arguments (all_grows grows (subst (λ (m : ℕ). AllHave Ξ vs (numbers m)) many us)) in
+      let k : HasKind Ξ' (Reference (next_address e.store)) (Resumption f.h) =
+      reference (subst (λ (a : ℕ). slice_get Ξ' a ≡ Some f.h) (sym s.as_many) (get_last Ξ f.h)) in
+      rw (params.is, args.is)
+      (enters_typed (with_kept e.store f.inner) (kept_typed f.h e.store.resumptions s t.inner) (match_append params.match (match_append args.match (name k no_names))) ct.body (context_grows grows t.outer))
+
+  applies_good : {Ξ : World} {Γ : Scope} {head : _} {all : List VariableType} {vs : List Value} (e : Around) → StoreTyped p Ξ e.store.resumptions → Covers Ξ Γ e.variables
+      → HeadTyped p Ξ Γ head all e.work → AllHave Ξ vs all → ContextTyped p Ξ e.outer → StepGood p (applies p e head vs)
+  applies_good e s c (calling {f = f} {g = g} q w) vs κ =
+      let b = bound_typed g.parameters vs in
+      rw (q, b.is) (enters_typed e.store s b.match (typed.functions f g q) (whole_typed e c w κ))
+  applies_good e s c (doing {op = op} q w) vs κ = caught_good e (find p op (whole e)) s (find_good op (whole_typed e c w κ)) q vs
+  applies_good {Ξ} {vs = us} e s c (handling {f = f} {g = g} {i = i} q j n w) vs κ =
+      let b = bound_typed g.parameters (taken_typed (kinds i.parameters) g.parameters vs) in
+      let outer = handle j (dropped_typed (kinds i.parameters) g.parameters vs) (whole_typed e c w κ) in
+      rw (n, q, b.is) (enters_typed e.store s b.match (typed.functions f g q) outer)
+  applies_good e s c (resuming {k = k} q i w) vs κ = resumes_good e k s c q i vs (whole_typed e c w κ)
+  applies_good e s c (tail_resuming {k = k} q i) vs κ = resumes_good e k s c q i vs κ
+
+  either_typed : {Γ : Scope} {b d : BlockTree} (h : Bool) → BlockTyped p Γ b → BlockTyped p Γ d → BlockTyped p Γ (if h then b else d)
+  either_typed true t u = t
+  either_typed false t u = u
+
+  uses_good : {Ξ : World} {Γ Γ' : Scope} {u : _} {v : Value} {rest : BlockTree} (e : Around) → StoreTyped p Ξ e.store.resumptions → Covers Ξ Γ e.variables → e.work ≡ []
+      → UseTyped p Γ u Γ' → BlockTyped p Γ' rest → HasKind Ξ v Int → ContextTyped p Ξ e.outer → StepGood p (uses e u v rest)
+  uses_good {Ξ} e s c w (stores {x = x} f) b (int {n = n}) κ = rw w (on Ξ (record { store = s; term = in_activation (runs (covers_stored x n c) b) κ }))
+  uses_good {Ξ} e s c w Typed.prints b int κ = rw w (on Ξ (record { store = s; term = in_activation (runs c b) κ }))
+  uses_good {Ξ} e s c w Typed.drops b int κ = rw w (on Ξ (record { store = s; term = in_activation (runs c b) κ }))
+  uses_good e s c w Typed.returns b t κ = leaves_good e.store e.outer s t κ
+  uses_good {Ξ} e s c w (chooses t u) b (int {n = n}) κ = rw w (on Ξ (record { store = s; term = in_activation (runs c (then_typed (either_typed (holds n) t u) b)) κ }))
+  uses_good {Ξ} e s c w (turns t u) b (int {n = n}) κ = rw w (on Ξ (record { store = s; term = in_activation (runs c (either_typed (holds n) (then_typed u (whiles t u b)) b)) κ }))
+
+  rule_good : {Ξ : World} {Γ : Scope} {r : Redex} (e : Around) → StoreTyped p Ξ e.store.resumptions → Covers Ξ Γ e.variables → ContextTyped p Ξ e.outer
+      → RedexTyped p Ξ Γ r e.work → StepGood p (rule p e r)
+  rule_good {Ξ} e s c κ (constant w) = on Ξ (record { store = s; term = in_activation (gives c int w) κ })
+  rule_good {Ξ} e s c κ (lookup {x = x} {k = k} q w) =
+      let v = c.covers x k q in
+      rw v.there (on Ξ (record { store = s; term = in_activation (gives c v.has w) κ }))
+  rule_good {Ξ} e s c κ (on_unary int w) = on Ξ (record { store = s; term = in_activation (gives c int w) κ })
+  rule_good e s c κ (on_binary {o = o} (int {n = a}) (int {n = b}) w) = computed_good e (operate o a b) s c w κ
+  rule_good {Ξ} e s c κ (decides {c = and} {e = x} {es = es} (int {n = a}) t ts w) =
+      bool_of (decided and a) (λ b. StepGood p (if b then goes_on (record e { work = left_of es e.work }) (Gives (Number (truth (holds a))))
+      else goes_on (record e { work = RightOf (Number a) (Connects and) es ∷ e.work }) (Finds x)))
+      (λ q. on Ξ (record { store = s; term = in_activation (gives c int (left_typed ts w)) κ }))
+      (λ q. on Ξ (record { store = s; term = in_activation (finds c t (Typed.right int ts w)) κ }))
+  rule_good e s c κ (applying head vs) = applies_good e s c head (listed_typed vs) κ
+  rule_good e s c κ (using u b t) = uses_good e s c refl u b t κ
+  rule_good e s c κ failing = faulty
+  rule_good e s c κ ending = leaves_good e.store e.outer s int κ
+
+  hole_good : {Ξ : World} {hole : Hole} {vars : List Variable} {w : List Work} {κ : Context} (σ : Store) (owner : Option Name) → StoreTyped p Ξ σ.resumptions → HoleTyped p Ξ hole vars w
+      → ContextTyped p Ξ κ → StepGood p (step_at p σ hole (Activation vars owner w ∷ κ))
+  hole_good {vars = vars} {κ = κ'} σ owner s t κ =
+      let n = next_typed owner t in
+      rw n.is (rule_good (record { store = σ; variables = vars; owner = owner; work = n.focused.work; outer = κ' }) s n.covers κ n.typed)
+
+  return_good : {Ξ : World} {v : Value} (h : Name) {ps : List Value} {κ : Context} {i : Handler} (σ : Store) → StoreTyped p Ξ σ.resumptions → HasKind Ξ v Int → handler_of p.declarations h ≡ Some i
+      → AllHave Ξ ps (kinds i.parameters) → ContextTyped p Ξ κ → StepGood p (step_at p σ (Gives v) (Handle h ps ∷ κ))
+  return_good h {i = i} σ s int q hs κ =
+      let b = bound_typed i.parameters hs in
+      rw (q, b.is) (enters_typed σ s (match_append b.match (name int no_names)) (typed.returns h i q) κ)
+
+  term_good : {Ξ : World} {hole : Hole} {κ : Context} (σ : Store) → StoreTyped p Ξ σ.resumptions → TermTyped p Ξ hole κ → StepGood p (step_at p σ hole κ)
+  term_good σ s (in_activation {owner = owner} t κ) = hole_good σ owner s t κ
+  term_good σ s (in_handle {h = h} t i hs κ) = return_good h σ s t i hs κ
+
+  pub step_good : {Ξ : World} (c : Configuration) → Typed p Ξ c → StepGood p (step p c)
+  step_good c t = term_good c.store t.store t.term

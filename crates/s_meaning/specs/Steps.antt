@@ -1,0 +1,268 @@
+-- The steps of scripts. Each rule's comment is the rule in the field's notation: σ is the store, E the context of the activation
+-- that takes the step, with its variables, and F, F' further contexts; E[..] stands for the step's result in that activation.
+use Rattle.std.specs.Prelude.{ℕ, ℤ, pos, List, [], ◌∷◌, ◌++◌, Option, Some, None, length, take, drop, slice_get, slice_set, option_map, if◌then◌else◌}
+use Rattle.std.specs.Str.{bytes_eq}
+use Rattle.following.specs.Steps.{Stepped, Goes, Returns, Faults, Wrong}
+use Rattle.s_syntax.specs.declared.name.Name.{Name}
+use Rattle.s_syntax.specs.declared.script.VariableType.{VariableType}
+use Rattle.s_syntax.specs.declared.script.VariableType.TheVariants.{Int, Resumption}
+use Rattle.s_syntax.specs.declared.script.Parameter.{Parameter}
+use Rattle.s_syntax.specs.declared.script.Clause.{Clause}
+use Rattle.s_syntax.specs.declared.script.Handler.{Handler}
+use Rattle.s_syntax.specs.declared.script.Script.{Script}
+use Rattle.s_syntax.specs.declared.operators.BinaryOperator.TheVariants.{Connects}
+use Rattle.s_syntax.specs.BlockTree.{BlockTree, While, Done, ◌⨟◌}
+use Rattle.s_check.specs.Definitions.{function_of, handler_of}
+use Rattle.s_meaning.specs.Numbers.{Fault, Failed, Reused, Unhandled, Computed, Is, Faulty, holds, truth, unary, operate, decided, line}
+use Rattle.s_meaning.specs.Terms.{Value, Number, Reference, listed, Variable, Head, Calling, Doing, Handling, Resuming, TailResuming, Use, ToStore, ToPrint, ToDrop, ToReturn, ToChoose, ToTurn, Work, RightOf, Place, Activation, Handle, Context, Hole, Gives, Finds, Runs, Store, Configuration}
+use Rattle.s_meaning.specs.Focus.{Redex, Constant, Lookup, OnUnary, OnBinary, Decides, Applies, Uses, Fails, Ends, left_of, variable_of, focus}
+
+abbrev pub Step : Type 0
+Step = Stepped ℤ Fault Configuration
+
+-- ## Taking what a rule needs; where it isn't there no rule applies
+
+infixl 1 ◌>>=◌
+abbrev pub ◌>>=◌ : {A : Type 0} → ((A → Step) → Step) → (A → Step) → Step
+e >>= go = e go
+
+abbrev pub or_wrong : {A : Type 0} → Option A → (A → Step) → Step
+or_wrong None go = Wrong
+or_wrong (Some a) go = go a
+
+abbrev pub or_fault : {A : Type 0} → Fault → Option A → (A → Step) → Step
+or_fault f None go = Faults f
+or_fault f (Some a) go = go a
+
+abbrev pub unless_faulty : Computed → (ℤ → Step) → Step
+unless_faulty (Is n) go = go n
+unless_faulty (Faulty f) go = Faults f
+
+abbrev pub as_number : Value → (ℤ → Step) → Step
+as_number (Number n) go = go n
+as_number (Reference a) go = Wrong
+
+abbrev pub as_reference : Value → (ℕ → Step) → Step
+as_reference (Number n) go = Wrong
+as_reference (Reference a) go = go a
+
+abbrev pub as_resumption : VariableType → (Name → Step) → Step
+as_resumption Int go = Wrong
+as_resumption (Resumption h) go = go h
+
+abbrev pub first_and_rest : List Value → (Value × List Value → Step) → Step
+first_and_rest [] go = Wrong
+first_and_rest (v ∷ vs) go = go (v, vs)
+
+-- ## Variables
+
+abbrev pub bind : List Parameter → List Value → Option (List Variable)
+bind [] [] = Some []
+bind [] (v ∷ vs) = None
+bind (p ∷ ps) [] = None
+bind (p ∷ ps) (v ∷ vs) = option_map (λ (xs : List Variable). record { name = p.name; ty = p.ty; value = v } ∷ xs) (bind ps vs)
+
+abbrev pub number_parameter : Name → Parameter
+number_parameter x = record { name = x; ty = Int }
+
+abbrev pub number_parameters : List Name → List Parameter
+number_parameters [] = []
+number_parameters (x ∷ xs) = number_parameter x ∷ number_parameters xs
+
+-- this variable takes the place of the one of its name, if there is one
+abbrev pub with_variable : Variable → List Variable → List Variable
+with_variable x [] = x ∷ []
+with_variable x (v ∷ vs) = if bytes_eq v.name x.name then x ∷ vs else (v ∷ with_variable x vs)
+
+-- the variable x is n from now on
+abbrev pub stored : Name → ℤ → List Variable → List Variable
+stored x n vs = with_variable (record { name = x; ty = Int; value = Number n }) vs
+
+-- ## Blocks
+
+-- the statements of one block, and then those of another
+infixr 50 ◌⨟⨟◌
+abbrev pub ◌⨟⨟◌ : BlockTree → BlockTree → BlockTree
+Done ⨟⨟ d = d
+(s ⨟ b) ⨟⨟ d = s ⨟ (b ⨟⨟ d)
+
+-- ## The innermost handle whose handler has a clause for an effect
+
+-- E is inner[ handle h(params) { outer } ]
+pub record Found : Type 0 where
+  pub inner : Context
+  pub h : Name
+  pub handler : Handler
+  pub params : List Value
+  pub clause : Clause
+  pub outer : Context
+
+abbrev pub farther : Place → Option Found → Option Found
+farther place None = None
+farther place (Some f) = Some (record f { inner = place ∷ f.inner })
+
+abbrev pub clause_of : Name → List Clause → Option Clause
+clause_of op [] = None
+clause_of op (c ∷ cs) = if bytes_eq c.effect op then Some c else clause_of op cs
+
+abbrev pub with_clause : Name → List Value → Context → Handler → Option Clause → Option Found → Option Found
+with_clause h ps κ g None others = farther (Handle h ps) others
+with_clause h ps κ g (Some c) others = Some (record { inner = []; h = h; handler = g; params = ps; clause = c; outer = κ })
+
+abbrev pub with_handler : Name → Name → List Value → Context → Option Handler → Option Found → Option Found
+with_handler op h ps κ None others = farther (Handle h ps) others
+with_handler op h ps κ (Some g) others = with_clause h ps κ g (clause_of op g.clauses) others
+
+abbrev pub find : Script → Name → Context → Option Found
+find p op [] = None
+find p op (Activation vars owner work ∷ κ) = farther (Activation vars owner work) (find p op κ)
+find p op (Handle h ps ∷ κ) = with_handler op h ps κ (handler_of p.declarations h) (find p op κ)
+
+-- ## The store
+
+abbrev pub with_kept : Store → Context → Store
+with_kept σ κ = record σ { resumptions = σ.resumptions ++ Some κ ∷ [] }
+
+abbrev pub emptied : Store → ℕ → Store
+emptied σ a = record σ { resumptions = slice_set σ.resumptions a None }
+
+abbrev pub next_address : Store → ℕ
+next_address σ = length σ.resumptions
+
+-- the context that is kept at an address; None where it was consumed
+abbrev pub kept_at : Store → ℕ → Option (Option Context)
+kept_at σ a = slice_get σ.resumptions a
+
+-- ## The rules
+
+-- where a redex stands: the store, its activation, and the context around that
+pub record Around : Type 0 where
+  pub store : Store
+  pub variables : List Variable
+  pub owner : Option Name
+  pub work : List Work
+  pub outer : Context
+
+abbrev pub goes : Store → Hole → Context → Step
+goes σ hole κ = Goes [] (record { store = σ; term = record { hole = hole; around = κ } })
+
+-- E itself, its activation included
+abbrev pub whole : Around → Context
+whole e = Activation e.variables e.owner e.work ∷ e.outer
+
+-- E[hole]
+abbrev pub goes_on : Around → Hole → Step
+goes_on e hole = goes e.store hole (whole e)
+
+-- a new activation in this context
+abbrev pub enters : Store → BlockTree → List Variable → Option Name → Context → Step
+enters σ body vars owner κ = goes σ (Runs body) (Activation vars owner [] ∷ κ)
+
+-- F[v], where F is around an activation that ends; the end of the script where there is no F
+abbrev pub leaves : Store → Context → Value → Step
+leaves σ [] v = do
+  n ← as_number v
+  Returns n
+leaves σ (place ∷ κ) v = goes σ (Gives v) (place ∷ κ)
+
+-- σ; E[resume k(v) with (bs)]  ⟶  σ with k emptied; E[handle F[v] with h(bs)]
+-- where k is of type res h, and kept F
+abbrev pub resumes : Around → Name → List Value → Context → Step
+resumes e k vs κ = do
+  (v, bs) ← first_and_rest vs
+  x ← or_wrong (variable_of k e.variables)
+  h ← as_resumption x.ty
+  a ← as_reference x.value
+  entry ← or_wrong (kept_at e.store a)
+  inner ← or_fault Reused entry
+  goes (emptied e.store a) (Gives v) (inner ++ Handle h bs ∷ κ)
+
+abbrev pub applies : Script → Around → Head → List Value → Step
+-- E[f(vs)]  ⟶  E[body of f, its parameters being vs]
+applies p e (Calling f) vs = do
+  g ← or_wrong (function_of p.declarations f)
+  vars ← or_wrong (bind g.parameters vs)
+  enters e.store g.body vars None (whole e)
+-- σ; F'[handle F[do op(vs)] with h(ps)]  ⟶  σ, k kept F; F'[clause of h for op, with vs, ps and k]
+-- where no handle in F has a clause for op
+applies p e (Doing op) vs = do
+  f ← or_fault (Unhandled op) (find p op (whole e))
+  params ← or_wrong (bind f.handler.parameters f.params)
+  args ← or_wrong (bind (number_parameters f.clause.arguments) vs)
+  let k : Variable = record { name = f.clause.resumption; ty = Resumption f.h; value = Reference (next_address e.store) } in
+      enters (with_kept e.store f.inner) f.clause.body (params ++ (args ++ k ∷ [])) (Some f.h) f.outer
+-- E[handle f(us) with h(bs)]  ⟶  E[handle (body of f, its parameters being us) with h(bs)]
+applies p e (Handling f n h) vs = do
+  g ← or_wrong (function_of p.declarations f)
+  vars ← or_wrong (bind g.parameters (take n vs))
+  enters e.store g.body vars None (Handle h (drop n vs) ∷ whole e)
+applies p e (Resuming k) vs = resumes e k vs (whole e)
+-- E's activation ends first
+applies p e (TailResuming k) vs = resumes e k vs e.outer
+
+abbrev pub uses : Around → Use → Value → BlockTree → Step
+-- let x = v; and x = v;
+uses e (ToStore x) v rest = do
+  n ← as_number v
+  goes_on (record e { variables = stored x n e.variables }) (Runs rest)
+-- print v;
+uses e ToPrint v rest = do
+  n ← as_number v
+  Goes (line n) (record { store = e.store; term = record { hole = Runs rest; around = whole e } })
+-- v;
+uses e ToDrop v rest = goes_on e (Runs rest)
+-- return v;
+uses e ToReturn v rest = leaves e.store e.outer v
+-- if v { b } else { d }
+uses e (ToChoose b d) v rest = do
+  n ← as_number v
+  goes_on e (Runs ((if holds n then b else d) ⨟⨟ rest))
+-- while v { body }, whose condition is c
+uses e (ToTurn c body) v rest = do
+  n ← as_number v
+  goes_on e (Runs (if holds n then body ⨟⨟ While c body ⨟ rest else rest))
+
+abbrev pub rule : Script → Around → Redex → Step
+-- E[n]  ⟶  E[n]
+rule p e (Constant n) = goes_on e (Gives (Number (pos n)))
+-- E[x]  ⟶  E[v]   where x is v
+rule p e (Lookup x) = do
+  v ← or_wrong (variable_of x e.variables)
+  goes_on e (Gives v.value)
+rule p e (OnUnary o v) = do
+  a ← as_number v
+  goes_on e (Gives (Number (unary o a)))
+rule p e (OnBinary o v w) = do
+  a ← as_number v
+  b ← as_number w
+  n ← unless_faulty (operate o a b)
+  goes_on e (Gives (Number n))
+-- the left side decides; or the right side is evaluated, whose value the operator then makes 0 or 1
+rule p e (Decides c v right more) = do
+  a ← as_number v
+  if decided c a then goes_on (record e { work = left_of more e.work }) (Gives (Number (truth (holds a))))
+      else goes_on (record e { work = RightOf v (Connects c) more ∷ e.work }) (Finds right)
+rule p e (Applies head vs) = applies p e head (listed vs)
+rule p e (Uses u v rest) = uses e u v rest
+-- fail;
+rule p e Fails = Faults Failed
+-- a body that runs to its end returns 0
+rule p e Ends = leaves e.store e.outer (Number (pos 0))
+
+-- ## One step
+
+abbrev pub step_at : Script → Store → Hole → Context → Step
+step_at p σ hole [] = Wrong
+step_at p σ hole (Activation vars owner work ∷ κ) = do
+  r ← or_wrong (focus vars owner hole work)
+  rule p (record { store = σ; variables = vars; owner = owner; work = r.work; outer = κ }) r.redex
+-- E[handle v with h(ps)]  ⟶  E[return clause of h, with v and ps]
+step_at p σ (Gives v) (Handle h ps ∷ κ) = do
+  g ← or_wrong (handler_of p.declarations h)
+  params ← or_wrong (bind g.parameters ps)
+  n ← as_number v
+  enters σ g.return_clause.body (params ++ record { name = g.return_clause.value; ty = Int; value = Number n } ∷ []) (Some h) κ
+step_at p σ hole (Handle h ps ∷ κ) = Wrong
+
+abbrev pub step : Script → Configuration → Step
+step p c = step_at p c.store c.term.hole c.term.around

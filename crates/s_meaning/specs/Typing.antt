@@ -1,0 +1,76 @@
+-- Typed scripts: what the rules come to for a script that breaks none.
+use Rattle.std.specs.Prelude.{◌≡◌, ◌≢◌, ℕ, zero, suc, List, [], ◌∷◌, map, length, codes, Some}
+use Rattle.s_syntax.specs.declared.name.Name.{Name}
+use Rattle.s_syntax.specs.declared.script.VariableType.{VariableType}
+use Rattle.s_syntax.specs.declared.script.VariableType.TheVariants.{Int, Resumption}
+use Rattle.s_syntax.specs.declared.operators.UnaryOperator.{UnaryOperator}
+use Rattle.s_syntax.specs.declared.operators.BinaryOperator.{BinaryOperator}
+use Rattle.s_syntax.specs.declared.script.Parameter.{Parameter}
+use Rattle.s_syntax.specs.declared.script.Function.{Function}
+use Rattle.s_syntax.specs.declared.script.Clause.{Clause}
+use Rattle.s_syntax.specs.declared.script.Handler.{Handler}
+use Rattle.s_syntax.specs.declared.script.Script.{Script}
+use Rattle.s_syntax.specs.ExprTree.{ExprTree, Literal, Read, Unary, Run, Call, Do, Handle, Resume, Exprs, NoExprs, MoreExprs, Operands, NoOperands, MoreOperands}
+use Rattle.s_syntax.specs.BlockTree.{Let, Assign, If, While, Print, Return, Fail, Evaluate, BlockTree, Done, ◌⨟◌}
+use Rattle.s_check.specs.Definitions.{function_of, handler_of, effect_of}
+use Rattle.s_check.specs.Scopes.{Scope, type_in, number as number_name, parameter, of_clause, of_return}
+use Rattle.s_meaning.specs.Steps.{clause_of}
+
+abbrev pub kinds : List Parameter → List VariableType
+kinds [] = []
+kinds (p ∷ ps) = p.ty ∷ kinds ps
+
+-- n ints
+abbrev pub numbers : ℕ → List VariableType
+numbers zero = []
+numbers (suc n) = Int ∷ numbers n
+
+mutual
+  -- an expression that has a number
+  pub data ExprTyped (p : Script) (Γ : Scope) : ExprTree → Type 0 where
+    literal : {n : ℕ} → ExprTyped p Γ (Literal n)
+    read : {x : Name} → type_in Γ x ≡ Some Int → ExprTyped p Γ (Read x)
+    unary : {o : UnaryOperator} {e : ExprTree} → ExprTyped p Γ e → ExprTyped p Γ (Unary o e)
+    run : {e : ExprTree} {es : Operands} → ExprTyped p Γ e → OperandsTyped p Γ es → ExprTyped p Γ (Run e es)
+    call : {f : Name} {es : Exprs} {g : Function} → function_of p.declarations f ≡ Some g → ArgsTyped p Γ (kinds g.parameters) es → ExprTyped p Γ (Call f es)
+    does : {op : Name} {es : Exprs} {n : ℕ} → effect_of p.declarations op ≡ Some n → ArgsTyped p Γ (numbers n) es → ExprTyped p Γ (Do op es)
+    handle : {f h : Name} {es bs : Exprs} {g : Function} {i : Handler} → function_of p.declarations f ≡ Some g → handler_of p.declarations h ≡ Some i
+        → ArgsTyped p Γ (kinds g.parameters) es → ArgsTyped p Γ (kinds i.parameters) bs → ExprTyped p Γ (Handle f es h bs)
+    resume : {k h : Name} {e : ExprTree} {bs : Exprs} {i : Handler} → type_in Γ k ≡ Some (Resumption h) → handler_of p.declarations h ≡ Some i
+        → ExprTyped p Γ e → ArgsTyped p Γ (kinds i.parameters) bs → ExprTyped p Γ (Resume k e bs)
+
+  pub data OperandsTyped (p : Script) (Γ : Scope) : Operands → Type 0 where
+    no_more : OperandsTyped p Γ NoOperands
+    next : {o : BinaryOperator} {e : ExprTree} {es : Operands} → ExprTyped p Γ e → OperandsTyped p Γ es → OperandsTyped p Γ (MoreOperands o e es)
+
+  -- arguments for parameters of these types; one for a parameter of type res h is a bare name of that type
+  pub data ArgsTyped (p : Script) (Γ : Scope) : List VariableType → Exprs → Type 0 where
+    no_args : ArgsTyped p Γ [] NoExprs
+    number : {e : ExprTree} {ks : List VariableType} {es : Exprs} → ExprTyped p Γ e → ArgsTyped p Γ ks es → ArgsTyped p Γ (Int ∷ ks) (MoreExprs e es)
+    resumption : {x h : Name} {ks : List VariableType} {es : Exprs} → type_in Γ x ≡ Some (Resumption h) → ArgsTyped p Γ ks es
+        → ArgsTyped p Γ (Resumption h ∷ ks) (MoreExprs (Read x) es)
+
+-- a let may bind this name: nothing of a res type has it
+pub record IsFree (x : Name) (Γ : Scope) : Type 0 where
+  pub free : (h : Name) → type_in Γ x ≢ Some (Resumption h)
+
+pub data BlockTyped (p : Script) : Scope → BlockTree → Type 0 where
+  done : {Γ : Scope} → BlockTyped p Γ Done
+  lets : {Γ : Scope} {x : Name} {e : ExprTree} {b : BlockTree} → ExprTyped p Γ e → IsFree x Γ → BlockTyped p (number_name x ∷ Γ) b → BlockTyped p Γ (Let x e ⨟ b)
+  assigns : {Γ : Scope} {x : Name} {e : ExprTree} {b : BlockTree} → ExprTyped p Γ e → type_in Γ x ≡ Some Int → BlockTyped p Γ b → BlockTyped p Γ (Assign x e ⨟ b)
+  ifs : {Γ : Scope} {e : ExprTree} {b c d : BlockTree} → ExprTyped p Γ e → BlockTyped p Γ b → BlockTyped p Γ c → BlockTyped p Γ d → BlockTyped p Γ (If e b c ⨟ d)
+  whiles : {Γ : Scope} {e : ExprTree} {b d : BlockTree} → ExprTyped p Γ e → BlockTyped p Γ b → BlockTyped p Γ d → BlockTyped p Γ (While e b ⨟ d)
+  prints : {Γ : Scope} {e : ExprTree} {b : BlockTree} → ExprTyped p Γ e → BlockTyped p Γ b → BlockTyped p Γ (Print e ⨟ b)
+  returns : {Γ : Scope} {e : ExprTree} {b : BlockTree} → ExprTyped p Γ e → BlockTyped p Γ b → BlockTyped p Γ (Return e ⨟ b)
+  drops : {Γ : Scope} {e : ExprTree} {b : BlockTree} → ExprTyped p Γ e → BlockTyped p Γ b → BlockTyped p Γ (Evaluate e ⨟ b)
+  fails : {Γ : Scope} {b : BlockTree} → BlockTyped p Γ b → BlockTyped p Γ (Fail ⨟ b)
+
+pub record ClauseTyped (p : Script) (h op : Name) (i : Handler) (c : Clause) : Type 0 where
+  pub is_effect : effect_of p.declarations op ≡ Some (length c.arguments)
+  pub body : BlockTyped p (of_clause h i c) c.body
+
+pub record ScriptTyped (p : Script) : Type 0 where
+  pub functions : (f : Name) (g : Function) → function_of p.declarations f ≡ Some g → BlockTyped p (map parameter g.parameters) g.body
+  pub returns : (h : Name) (i : Handler) → handler_of p.declarations h ≡ Some i → BlockTyped p (of_return i) i.return_clause.body
+  pub clauses : (h op : Name) (i : Handler) (c : Clause) → handler_of p.declarations h ≡ Some i → clause_of op i.clauses ≡ Some c → ClauseTyped p h op i c
+  pub entry : (g : Function) × (function_of p.declarations (codes "main") ≡ Some g) × (g.parameters ≡ [])
