@@ -1,0 +1,46 @@
+-- Temporaries are no more than a body is large.
+use Rattle.std.proofs.Common.{ℕ, ◌+◌, ◌≤◌, arith}
+use Rattle.s_syntax.specs.ExprTree.{ExprTree, Literal, Read, Unary, Run, Call, Do, Handle, Resume, Exprs, NoExprs, MoreExprs, Operands, NoOperands, MoreOperands}
+use Rattle.s_syntax.specs.BlockTree.{StatementTree, BlockTree, Let, Assign, If, While, Print, Return, Fail, Evaluate, Done, ◌⨟◌}
+use Rattle.s_check.specs.Rules.{count}
+use Rattle.s_check.specs.Size.{expr_size, exprs_size, operands_size, statement_size, block_size}
+use Rattle.s_code.specs.Temporaries.{high, high_args, high_aside, high_operands, high_statement, high_block}
+use Rattle.s_code.proofs.Sizes.{some_size, count_within}
+
+mutual
+  pub high_within : (t : ℕ) (e : ExprTree) → high t e ≤ t + expr_size e
+  high_within t (Literal n) = omega arith
+  high_within t (Read x) = omega arith
+  high_within t (Unary o e) = let q = high_within t e in omega (arith, q)
+  high_within t (Run e ps) = let q = high_within t e in let r = operands_high t ps in omega (arith, q, r)
+  high_within t (Call f es) = let q = args_high t es in omega (arith, q)
+  high_within t (Do op es) = let q = args_high t es in omega (arith, q)
+  high_within t (Handle f es h ps) = let q = aside_high t es in let r = args_high (t + count es) ps in let n = count_within es in omega (arith, q, r, n)
+  high_within t (Resume k e ps) = let q = high_within t e in let r = args_high (t + 1) ps in let s = some_size e in omega (arith, q, r, s)
+
+  args_high : (t : ℕ) (es : Exprs) → high_args t es ≤ t + exprs_size es
+  args_high t NoExprs = omega arith
+  args_high t (MoreExprs e es) = let q = high_within t e in let r = args_high t es in omega (arith, q, r)
+
+  aside_high : (t : ℕ) (es : Exprs) → high_aside t es ≤ t + exprs_size es
+  aside_high t NoExprs = omega arith
+  aside_high t (MoreExprs e es) = let q = high_within t e in let r = aside_high (t + 1) es in let s = some_size e in omega (arith, q, r, s)
+
+  operands_high : (t : ℕ) (ps : Operands) → high_operands t ps ≤ t + operands_size ps
+  operands_high t NoOperands = omega arith
+  operands_high t (MoreOperands o e ps) = let q = high_within t e in let r = operands_high t ps in omega (arith, q, r)
+
+mutual
+  statement_high : (s : StatementTree) → high_statement s ≤ statement_size s
+  statement_high (Let x e) = let q = high_within 0 e in omega (arith, q)
+  statement_high (Assign x e) = let q = high_within 0 e in omega (arith, q)
+  statement_high (If c a b) = let q = high_within 0 c in let r = block_high a in let s = block_high b in omega (arith, q, r, s)
+  statement_high (While c b) = let q = high_within 0 c in let r = block_high b in omega (arith, q, r)
+  statement_high (Print e) = let q = high_within 0 e in omega (arith, q)
+  statement_high (Return e) = let q = high_within 0 e in omega (arith, q)
+  statement_high Fail = omega arith
+  statement_high (Evaluate e) = let q = high_within 0 e in omega (arith, q)
+
+  pub block_high : (b : BlockTree) → high_block b ≤ block_size b
+  block_high Done = omega arith
+  block_high (s ⨟ b) = let q = statement_high s in let r = block_high b in omega (arith, q, r)

@@ -1,0 +1,7 @@
+pub mod Writing
+pub mod Sizes
+pub mod Highs
+mod Locals
+mod Handling
+mod Blocks
+mod Walking

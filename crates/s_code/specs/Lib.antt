@@ -1,0 +1,11 @@
+pub mod Instructions
+pub mod Layouts
+pub mod Expressions
+pub mod Statements
+pub mod Handlers
+pub mod Temporaries
+pub mod Writes
+pub mod Views
+pub mod Clauses
+pub mod Places
+pub mod Lowered

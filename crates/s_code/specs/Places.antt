@@ -1,0 +1,93 @@
+-- Where the names of functions and handlers are among their locals: the parameters first, then the names that their bodies bind, and
+-- then the temporaries.
+use Rattle.std.specs.Prelude.{ℕ, ◌+◌, max, List, [], ◌∷◌, ◌++◌, map, length, Some, None}
+use Rattle.w_types.specs.declared.types.ValType.{ValType}
+use Rattle.w_types.specs.declared.types.ValType.TheVariants.{I64}
+use Rattle.w_syntax.specs.declared.locals.LocalRun.{LocalRun}
+use Rattle.w_syntax.specs.Locals.{joined}
+use Rattle.s_syntax.specs.declared.name.Name.{Name}
+use Rattle.s_syntax.specs.declared.script.Function.{Function}
+use Rattle.s_syntax.specs.declared.script.Clause.{Clause}
+use Rattle.s_syntax.specs.declared.script.Handler.{Handler}
+use Rattle.s_syntax.specs.BlockTree.{BlockTree}
+use Rattle.s_check.specs.Scopes.{Bound, number, parameter, resumption, lets_in}
+use Rattle.s_index.specs.Types.{val_type}
+use Rattle.s_code.specs.Handlers.{Placed}
+use Rattle.s_code.specs.Layouts.{Layout, numbered}
+use Rattle.s_code.specs.Temporaries.{high_block}
+
+-- ## Functions
+
+abbrev pub lets : BlockTree → List Bound
+lets b = map number (lets_in b)
+
+abbrev pub function_names : Function → List Bound
+function_names f = map parameter f.parameters ++ lets f.body
+
+abbrev pub function_layout : Function → Layout
+function_layout f = record { names = numbered 0 (function_names f); temporaries = length (function_names f); owner = None }
+
+-- ## Handlers
+
+-- the return clause: the value, and what its body binds
+abbrev pub return_names : Handler → List Bound
+return_names i = number i.return_clause.value ∷ lets i.return_clause.body
+
+-- a clause of the handler h: its arguments, the resumption, and what its body binds
+abbrev pub clause_names : Name → Clause → List Bound
+clause_names h c = map number c.arguments ++ resumption h c.resumption ∷ lets c.body
+
+abbrev pub clauses_names : Name → List Clause → List Bound
+clauses_names h [] = []
+clauses_names h (c ∷ cs) = clause_names h c ++ clauses_names h cs
+
+-- behind the parameters lies what is handled; then come the names of the return clause and of the clauses, each its own
+abbrev pub return_place : Handler → ℕ
+return_place i = length i.parameters + 1
+
+abbrev pub clauses_place : Handler → ℕ
+clauses_place i = return_place i + length (return_names i)
+
+abbrev pub handler_temporaries : Name → Handler → ℕ
+handler_temporaries h i = clauses_place i + length (clauses_names h i.clauses)
+
+-- the parameters of the handler h, and these names from the local n on
+abbrev pub layout_at : Name → Handler → ℕ → List Bound → Layout
+layout_at h i n bs = record {
+  names = numbered 0 (map parameter i.parameters) ++ numbered n bs;
+  temporaries = handler_temporaries h i;
+  owner = Some (record { name = h; parameters = length i.parameters });
+}
+
+abbrev pub return_layout : Name → Handler → Layout
+return_layout h i = layout_at h i (return_place i) (return_names i)
+
+-- the clauses, the names of the first one being from the local n on
+abbrev pub placed_from : Name → Handler → ℕ → List Clause → List Placed
+placed_from h i n [] = []
+placed_from h i n (c ∷ cs) = record { clause = c; layout = layout_at h i n (clause_names h c) } ∷ placed_from h i (n + length (clause_names h c)) cs
+
+abbrev pub placed_clauses : Name → Handler → List Placed
+placed_clauses h i = placed_from h i (clauses_place i) i.clauses
+
+-- ## Locals
+
+abbrev pub run : ValType → ℕ → LocalRun
+run t n = record { count = n; kind = t }
+
+abbrev pub name_runs : List Bound → List LocalRun
+name_runs bs = map (λ (b : Bound). run (val_type b.ty) 1) bs
+
+-- one for each name, and so many temporaries
+abbrev pub locals_for : List Bound → ℕ → List LocalRun
+locals_for bs n = joined (name_runs bs ++ run I64 n ∷ [])
+
+abbrev pub function_locals : Function → List LocalRun
+function_locals f = locals_for (lets f.body) (high_block f.body)
+
+abbrev pub high_clauses : List Clause → ℕ
+high_clauses [] = 0
+high_clauses (c ∷ cs) = max (high_block c.body) (high_clauses cs)
+
+abbrev pub handler_locals : Name → Handler → List LocalRun
+handler_locals h i = locals_for (return_names i ++ clauses_names h i.clauses) (max (high_block i.return_clause.body) (high_clauses i.clauses))

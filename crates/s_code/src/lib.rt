@@ -1,0 +1,15 @@
+//! The code that the bodies of a script are compiled to (`specs/`).
+#![tactic(auto)]
+
+mod body;
+mod expression;
+mod handler;
+mod layout;
+mod operators;
+mod statement;
+mod temporaries;
+
+pub use body::function_body;
+pub use handler::{Placed, handler_body};
+pub use layout::{Layout, LocalName, OwnHandler, ValueType};
+pub use temporaries::high_block;

@@ -1,0 +1,5 @@
+pub mod Handled
+pub mod Numbers
+pub mod Types
+pub mod Indices
+pub mod Views

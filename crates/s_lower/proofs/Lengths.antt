@@ -1,0 +1,63 @@
+-- Names are no more than a body is large.
+use Rattle.std.proofs.Common.{◌≡◌, ◌+◌, ◌≤◌, List, [], ◌∷◌, ◌++◌, length, map, ap, arith, length-append}
+use Rattle.std.specs.Prelude.{sum_by}
+use Rattle.std.proofs.lemmas.List.{length-map}
+use Rattle.std.proofs.lemmas.List.Sums.{sum_by-cons}
+use Rattle.s_syntax.specs.declared.name.Name.{Name}
+use Rattle.s_syntax.specs.declared.script.Clause.{Clause}
+use Rattle.s_syntax.specs.declared.script.Handler.{Handler}
+use Rattle.s_syntax.specs.BlockTree.{StatementTree, BlockTree, Let, Assign, If, While, Print, Return, Fail, Evaluate, Done, ◌⨟◌}
+use Rattle.s_check.specs.Scopes.{Bound, number, resumption, lets_of, lets_in}
+use Rattle.s_check.specs.Size.{statement_size, block_size, clause_size}
+use Rattle.s_code.specs.Places.{lets, return_names, clause_names, clauses_names, high_clauses}
+use Rattle.s_code.proofs.Highs.{block_high}
+use Rattle.s_lower.specs.declared.names.Binding.{Binding}
+use Rattle.s_lower.specs.Views.{bound_of, bounds_of}
+
+mutual
+  lets_few : (s : StatementTree) → length (lets_of s) ≤ statement_size s
+  lets_few (Let x e) = omega arith
+  lets_few (Assign x e) = omega arith
+  lets_few (If c a b) = let q = all_lets_few a in let r = all_lets_few b in let l = length-append (lets_in a) (lets_in b) in omega (arith, q, r, l)
+  lets_few (While c b) = let q = all_lets_few b in omega (arith, q)
+  lets_few (Print e) = omega arith
+  lets_few (Return e) = omega arith
+  lets_few Fail = omega arith
+  lets_few (Evaluate e) = omega arith
+
+  pub all_lets_few : (b : BlockTree) → length (lets_in b) ≤ block_size b
+  all_lets_few Done = omega arith
+  all_lets_few (s ⨟ b) = let q = lets_few s in let r = all_lets_few b in let l = length-append (lets_of s) (lets_in b) in omega (arith, q, r, l)
+
+pub lets_within : (b : BlockTree) → length (lets b) ≤ block_size b
+lets_within b = let q = all_lets_few b in let m = length-map (lets_in b) number in omega (arith, q, m)
+
+pub return_within : (i : Handler) → length (return_names i) ≤ 1 + block_size i.return_clause.body
+return_within i = let q = lets_within i.return_clause.body in omega (arith, q)
+
+pub clause_within : (h : Name) (c : Clause) → length (clause_names h c) ≤ clause_size c
+clause_within h c =
+    let q = lets_within c.body in let m = length-map c.arguments number in
+    let l = length-append (map number c.arguments) (resumption h c.resumption ∷ lets c.body) in omega (arith, q, m, l)
+
+pub clauses_within : (h : Name) (cs : List Clause) → length (clauses_names h cs) ≤ sum_by clause_size cs
+clauses_within h [] = omega arith
+clauses_within h (c ∷ cs) =
+    let q = clause_within h c in let r = clauses_within h cs in let l = length-append (clause_names h c) (clauses_names h cs) in let s = sum_by-cons clause_size c cs in
+    omega (arith, q, r, l, s)
+
+pub clauses_high : (cs : List Clause) → high_clauses cs ≤ sum_by clause_size cs
+clauses_high [] = omega arith
+clauses_high (c ∷ cs) = let q = block_high c.body in let r = clauses_high cs in let s = sum_by-cons clause_size c cs in omega (arith, q, r, s)
+
+pub clauses_few : (cs : List Clause) → length cs ≤ sum_by clause_size cs
+clauses_few [] = omega arith
+clauses_few (c ∷ cs) = let r = clauses_few cs in let s = sum_by-cons clause_size c cs in omega (arith, r, s)
+
+-- as many as there are
+pub as_many : (bs : List Binding) (us : List Bound) → bounds_of bs ≡ us → length bs ≡ length us
+as_many bs us e = let m = length-map bs bound_of in let l = ap (λ (vs : List Bound). length vs) e in omega (arith, m, l)
+
+-- names put behind others
+pub grown : (old new : List Binding) (us : List Bound) → bounds_of new ≡ bounds_of old ++ us → length new ≡ length old + length us
+grown old new us e = let n = as_many new (bounds_of old ++ us) e in let m = length-map old bound_of in let l = length-append (bounds_of old) us in omega (arith, n, m, l)

@@ -1,0 +1,6 @@
+mod Lengths
+mod Numbering
+mod Runs
+mod Each
+mod Bindings
+mod Assembled

@@ -1,0 +1,27 @@
+-- What lists of names stand for.
+use Rattle.std.specs.Prelude.{ℕ, ◌+◌, List, [], ◌∷◌, ◌++◌, map, length, Option, Some}
+use Rattle.s_syntax.specs.declared.name.Name.{Name}
+use Rattle.s_syntax.specs.declared.script.Clause.{Clause}
+use Rattle.s_code.specs.Handlers.{Placed}
+use Rattle.s_code.specs.Places.{clause_names}
+use Rattle.s_code.specs.Layouts.{Owner, Layout, numbered}
+use Rattle.s_check.specs.Scopes.{Bound}
+use Rattle.s_lower.specs.declared.names.Binding.{Binding}
+use Rattle.s_code.specs.Views.{type_of}
+
+abbrev pub bound_of : Binding → Bound
+bound_of b = record { name = b.name.now; ty = type_of b.ty }
+
+abbrev pub bounds_of : List Binding → List Bound
+bounds_of bs = map bound_of bs
+
+-- the names ps from the first local on, and bs from the local `from` on
+abbrev pub layout_of : (ps bs : List Bound) → (from temporaries : ℕ) → Option Owner → Layout
+layout_of ps bs from temporaries owner = record { names = numbered 0 ps ++ numbered from bs; temporaries = temporaries; owner = owner }
+
+-- the clauses of the handler h, the names of the first one from the local n on
+abbrev pub placed_by : Name → (ps : List Bound) → (temporaries n : ℕ) → List Clause → List Placed
+placed_by h ps temporaries n [] = []
+placed_by h ps temporaries n (c ∷ cs) =
+    record { clause = c; layout = layout_of ps (clause_names h c) n temporaries (Some (record { name = h; parameters = length ps })) }
+    ∷ placed_by h ps temporaries (n + length (clause_names h c)) cs

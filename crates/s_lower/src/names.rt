@@ -1,0 +1,238 @@
+//! The names of bodies, and their locals.
+ghost use Rattle.std.specs.Prelude.{◌≡◌, ◌≤◌, ◌+◌, ◌++◌, ◌∷◌, [], map, length, sum_by, OnOk, IfOk};
+ghost use Rattle.s_syntax.specs.BlockOf.{statement_of};
+ghost use Rattle.s_check.specs.Scopes.{number, parameter, resumption, lets_of, lets_in};
+ghost use Rattle.s_check.specs.Size.{block_size, clause_size};
+ghost use Rattle.s_code.specs.Layouts.{numbered};
+ghost use Rattle.s_code.specs.Places.{lets, name_runs, locals_for, clause_names, clauses_names, return_names};
+ghost use Rattle.s_code.specs.Views.{locals_in, type_of};
+ghost use Rattle.s_index.specs.Types.{val_type};
+ghost use Rattle.s_lower.specs.Views.{bound_of, bounds_of};
+
+use s_code::{LocalName, ValueType};
+use s_index::resumption_local;
+use s_syntax::{Block, Clause, Handler, Name, Parameter, Statement, VariableType};
+use std::alloc::{AllocError, Global};
+use w_syntax::{LocalRun, Locals};
+use w_types::PackedType;
+
+/// A value name and its type.
+#[derive(Clone, Copy)]
+pub(crate) struct Binding<'a> {
+    pub name: &'a Name,
+    pub ty: ValueType<'a>,
+}
+
+// A name of a number.
+fn number<'a>(name: &'a Name) -> Binding<'a>
+    ensures value { bound_of result ≡ number name.now }
+{
+    Binding {
+        name,
+        ty: ValueType::Int,
+    }
+}
+
+// The type of a parameter.
+fn type_of(ty: &VariableType) -> ValueType<'_>
+    ensures value { type_of result ≡ ty.now }
+{
+    match ty {
+        VariableType::Int => ValueType::Int,
+        VariableType::Resumption(handler) => ValueType::Resumption(handler),
+    }
+}
+
+/// The names of parameters. It fails only for want of memory.
+pub(crate) fn parameters<'a>(
+    alloc: Global,
+    all: &'a [Parameter],
+) -> Result<Vec<Binding<'a>>, AllocError>
+    ensures value { IfOk result (λ names. bounds_of names.items ≡ map parameter all.now) }
+    ensures many { IfOk result (λ names. length names.items ≡ length all.now) }
+{
+    let mut names = Vec::new(alloc);
+    for parameter in all {
+        names.push(Binding {
+            name: &parameter.name,
+            ty: type_of(&parameter.ty),
+        })?;
+    }
+    Ok(names)
+}
+
+// Puts names of numbers behind the others.
+fn push_numbers<'a>(all: &'a [Name], names: &mut Vec<Binding<'a>>) -> Result<(), AllocError>
+    ensures value { OnOk result (bounds_of names.new.items ≡ bounds_of names.old.items ++ map number all.now) }
+{
+    for name in all {
+        names.push(number(name))?;
+    }
+    Ok(())
+}
+
+// Puts the names that a statement binds behind the others.
+#[cycle(lets)]
+fn push_lets_of<'a>(
+    statement: &'a Statement,
+    names: &mut Vec<Binding<'a>>,
+) -> Result<(), AllocError>
+    ensures value { OnOk result (bounds_of names.new.items ≡ bounds_of names.old.items ++ map number (lets_of (statement_of statement.now))) }
+{
+    match statement {
+        Statement::Let { name, value: _ } => {
+            names.push(number(name))?;
+            Ok(())
+        }
+        Statement::If {
+            condition: _,
+            then_block,
+            else_block,
+        } => {
+            push_lets(then_block, names)?;
+            push_lets(else_block, names)
+        }
+        Statement::While { condition: _, body } => push_lets(body, names),
+        Statement::Assign { name: _, value: _ }
+        | Statement::Print(_)
+        | Statement::Return(_)
+        | Statement::Fail
+        | Statement::Evaluate(_) => Ok(()),
+    }
+}
+
+// Puts the names that a block binds behind the others.
+#[cycle(lets)]
+fn push_lets<'a>(block: &'a Block, names: &mut Vec<Binding<'a>>) -> Result<(), AllocError>
+    ensures value { OnOk result (bounds_of names.new.items ≡ bounds_of names.old.items ++ map number (lets_in block.now)) }
+{
+    for statement in block.statements() {
+        push_lets_of(statement, names)?;
+    }
+    Ok(())
+}
+
+/// Puts the names that the body of a function binds behind the others. It fails only for want of memory.
+#[tactic(auto, using(crate::proofs::Lengths::lets_within))]
+pub(crate) fn push_body_names<'a>(
+    body: &'a Block,
+    names: &mut Vec<Binding<'a>>,
+) -> Result<(), AllocError>
+    ensures value { OnOk result (bounds_of names.new.items ≡ bounds_of names.old.items ++ lets body.now) }
+    ensures many { OnOk result (length names.new.items ≡ length names.old.items + length (lets body.now)) }
+    ensures few { length (lets body.now) ≤ block_size body.now }
+{
+    push_lets(body, names)
+}
+
+/// Puts the names of a handler's clause for return behind the others. It fails only for want of memory.
+#[tactic(auto, using(crate::proofs::Lengths::return_within))]
+pub(crate) fn push_return_names<'a>(
+    handler: &'a Handler,
+    names: &mut Vec<Binding<'a>>,
+) -> Result<(), AllocError>
+    ensures value { OnOk result (bounds_of names.new.items ≡ bounds_of names.old.items ++ return_names handler.now) }
+    ensures many { OnOk result (length names.new.items ≡ length names.old.items + length (return_names handler.now)) }
+    ensures few { length (return_names handler.now) ≤ 1 + block_size handler.now.return_clause.body }
+{
+    names.push(number(&handler.return_clause.value))?;
+    push_lets(&handler.return_clause.body, names)
+}
+
+/// Puts the names of a clause of this handler behind the others. It fails only for want of memory.
+#[tactic(auto, using(crate::proofs::Lengths::clause_within))]
+pub(crate) fn push_clause_names<'a>(
+    handler: &'a Name,
+    clause: &'a Clause,
+    names: &mut Vec<Binding<'a>>,
+) -> Result<(), AllocError>
+    ensures value { OnOk result (bounds_of names.new.items ≡ bounds_of names.old.items ++ clause_names handler.now clause.now) }
+    ensures many { OnOk result (length names.new.items ≡ length names.old.items + length (clause_names handler.now clause.now)) }
+    ensures few { length (clause_names handler.now clause.now) ≤ clause_size clause.now }
+{
+    push_numbers(clause.arguments.as_slice(), names)?;
+    names.push(Binding {
+        name: &clause.resumption,
+        ty: ValueType::Resumption(handler),
+    })?;
+    push_lets(&clause.body, names)
+}
+
+/// Puts the names of clauses of this handler behind the others. It fails only for want of memory.
+#[tactic(auto, using(crate::proofs::Lengths::clauses_within))]
+pub(crate) fn push_clauses_names<'a>(
+    handler: &'a Name,
+    clauses: &'a [Clause],
+    names: &mut Vec<Binding<'a>>,
+) -> Result<(), AllocError>
+    ensures value { OnOk result (bounds_of names.new.items ≡ bounds_of names.old.items ++ clauses_names handler.now clauses.now) }
+    ensures many { OnOk result (length names.new.items ≡ length names.old.items + length (clauses_names handler.now clauses.now)) }
+    ensures few { length (clauses_names handler.now clauses.now) ≤ sum_by clause_size clauses.now }
+{
+    for clause in clauses {
+        push_clause_names(handler, clause, names)?;
+    }
+    Ok(())
+}
+
+/// Puts names behind those that have locals, with the locals from `from` on. It fails only for want of memory.
+pub(crate) fn push_numbered<'a>(
+    from: u32,
+    names: &[Binding<'a>],
+    locals: &mut Vec<LocalName<'a>>,
+) -> Result<(), AllocError>
+    requires { from + length names.now ≤ 1000000 }
+    ensures value { OnOk result (locals_in locals.new.items ≡ locals_in locals.old.items ++ numbered from (bounds_of names.now)) }
+{
+    let mut next = from;
+    for binding in names {
+        locals.push(LocalName {
+            name: binding.name,
+            ty: binding.ty,
+            number: next,
+        })?;
+        next += 1;
+    }
+    Ok(())
+}
+
+// The type of the local of a name.
+fn local_type(ty: ValueType) -> PackedType
+    ensures value { result ≡ val_type (type_of ty.entry) }
+{
+    match ty {
+        ValueType::Int => PackedType::I64,
+        ValueType::Resumption(_) => resumption_local(),
+    }
+}
+
+// The locals of names, one each.
+fn name_runs(alloc: Global, names: &[Binding]) -> Result<Vec<LocalRun>, AllocError>
+    ensures value { IfOk result (λ runs. runs.items ≡ name_runs (bounds_of names.now)) }
+{
+    let mut runs = Vec::new(alloc);
+    for binding in names {
+        runs.push(LocalRun {
+            count: 1,
+            kind: local_type(binding.ty),
+        })?;
+    }
+    Ok(runs)
+}
+
+/// The locals for these names, one each, and so many temporaries. It fails only for want of memory.
+pub(crate) fn locals_for(
+    alloc: Global,
+    names: &[Binding],
+    temporaries: u32,
+) -> Result<Locals, AllocError>
+    requires { length names.now + temporaries ≤ 1000000 }
+    ensures value { IfOk result (λ locals. locals ≡ locals_for (bounds_of names.now) temporaries) }
+{
+    let mut runs = name_runs(alloc, names)?;
+    runs.push(LocalRun {
+        count: temporaries,
+        kind: PackedType::I64,
+    })?;
+    Ok(Locals::of_runs(alloc, runs)?.unwrap())
+}
