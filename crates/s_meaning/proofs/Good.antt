@@ -28,11 +28,11 @@ use Rattle.s_meaning.proofs.Bindings.{extends_agree, starts_agree, let_agrees, r
 
 -- ## No rule
 
-parts : (xs ys : List Rule) → xs ++ ys ≡ [] → (xs ≡ []) × (ys ≡ [])
+pub parts : (xs ys : List Rule) → xs ++ ys ≡ [] → (xs ≡ []) × (ys ≡ [])
 parts [] ys e = (refl, e)
 parts (x ∷ xs) ys e = absurd (cc)
 
-when_not : (b : Bool) (r : Rule) → when b r ≡ [] → b ≡ false
+pub when_not : (b : Bool) (r : Rule) → when b r ≡ [] → b ≡ false
 when_not true r e = absurd (cc)
 when_not false r e = refl
 
@@ -312,13 +312,13 @@ definition_empty ds before (c ∷ es) f d t e = bool_of (bytes_eq c.name f) (λ 
     ap (λ (y : Name). in_definition ds y d) (same_is f c.name q) ∙ ap (λ (y : Definition). in_definition ds c.name y) (sym same_definition) ∙ u.1)
     (λ q g. definition_empty ds (c.name ∷ before) es f d (tail_empty t) g) e
 
-is_function : (o : Option Definition) (g : Function) → as_function o ≡ Some g → o ≡ Some (definition.Function g)
+pub is_function : (o : Option Definition) (g : Function) → as_function o ≡ Some g → o ≡ Some (definition.Function g)
 is_function None g e = absurd (cc)
 is_function (Some (definition.Effect n)) g e = absurd (cc)
 is_function (Some (definition.Function f)) g e = ap (λ (x : Function). Some (definition.Function x)) (cc e)
 is_function (Some (definition.Handler h)) g e = absurd (cc)
 
-is_handler : (o : Option Definition) (i : Handler) → as_handler o ≡ Some i → o ≡ Some (definition.Handler i)
+pub is_handler : (o : Option Definition) (i : Handler) → as_handler o ≡ Some i → o ≡ Some (definition.Handler i)
 is_handler None i e = absurd (cc)
 is_handler (Some (definition.Effect n)) i e = absurd (cc)
 is_handler (Some (definition.Function f)) i e = absurd (cc)
@@ -378,12 +378,13 @@ module _ (p : Script) (good : Good p) where
       let hs = handled_parameters p.declarations g.parameters (types_handled p.declarations g.parameters t.0) no_names in
       body_typed p (map parameter g.parameters) g.body (handlers_of (rw append-nil at hs)) t.1
 
-  record Handler_empty (h : Name) (i : Handler) : Type 0 where
-    types : in_types p.declarations i.parameters ≡ []
-    returned : in_body p.declarations (of_return i) i.return_clause.body ≡ []
-    clauses : in_clauses p.declarations h i [] i.clauses ≡ []
+  pub record Handler_empty (h : Name) (i : Handler) : Type 0 where
+    pub types : in_types p.declarations i.parameters ≡ []
+    pub returned : in_body p.declarations (of_return i) i.return_clause.body ≡ []
+    pub clauses : in_clauses p.declarations h i [] i.clauses ≡ []
 
-  handler_empty : (h : Name) (i : Handler) → handler_of p.declarations h ≡ Some i → Handler_empty h i
+  -- the bodies of a handler break no rule
+  pub handler_empty : (h : Name) (i : Handler) → handler_of p.declarations h ≡ Some i → Handler_empty h i
   handler_empty h i e =
       let q = definition_empty p.declarations [] p.declarations h (definition.Handler i) all (is_handler (definition_of p.declarations h) i e) in
       let t = parts (in_header p.declarations i) (in_bodies p.declarations h i) q in

@@ -1,0 +1,150 @@
+-- A run of the module of a script begins: it invokes main in a store with the printer in front of the script's functions and handlers.
+use Rattle.std.proofs.Common.{◌≡◌, ◌⊎◌, inl, inr, ℕ, zero, suc, ◌<◌, Bool, List, [], ◌∷◌, map, length, codes, Option, Some, refl, sym, ap, ◌∙◌, arith, length-append}
+use Rattle.std.specs.Prelude.{slice_get}
+use Rattle.w_types.specs.Rows.{ε}
+use Rattle.w_types.specs.declared.types.FuncType.{FuncType}
+use Rattle.w_types.specs.declared.types.ValType.TheVariants.{I64}
+use Rattle.w_syntax.specs.Code.{Done}
+use Rattle.w_syntax.specs.Functions.{func_type, function_type as function_type_in, type_at}
+use Rattle.w_syntax.specs.declared.module.Elem.{Elem}
+use Rattle.w_syntax.specs.declared.module.Module.{Module}
+use Rattle.w_syntax.specs.declared.module.Tag.{Tag}
+use Rattle.w_tables.specs.declared.entries.FuncEntry.TheVariants as entry_of
+use Rattle.w_tables.specs.declared.entries.Printer.TheVariants as printer
+use Rattle.w_rules.specs.Spaces.{context_of}
+use Rattle.w_reduce.specs.Values.{Val}
+use Rattle.w_reduce.specs.Constants.{value_of}
+use Rattle.w_reduce.specs.Store.{Store, made, live}
+use Rattle.w_reduce.specs.Terms.{Term, Invoke}
+use Rattle.w_reduce.specs.Program.{Program}
+use Rattle.w_reduce.specs.Imports.{Found, All, of_type, printers_of, and_first}
+use Rattle.w_reduce.specs.Start.{Ready, Start, own, entry, entry_at, in_order, element_started, with_imports, with_entry, with_elements_in}
+use Rattle.s_syntax.specs.declared.script.Parameter.{Parameter}
+use Rattle.s_syntax.specs.declared.script.Function.{Function}
+use Rattle.s_syntax.specs.declared.script.Declaration.{Declaration}
+use Rattle.s_syntax.specs.declared.script.Script.{Script}
+use Rattle.s_check.specs.Definitions.{function_of}
+use Rattle.s_check.specs.Refusal.{Good}
+use Rattle.s_index.specs.Handled.{handled}
+use Rattle.s_index.specs.Indices.{function_type_index}
+use Rattle.s_index.specs.Numbers.{function_index}
+use Rattle.s_index.specs.Types.{from_to, val_types}
+use Rattle.s_code.specs.Lowered.{declared, lowered_all, lowered}
+use Rattle.s_meaning.proofs.Good.{good_typed}
+use Rattle.s_valid.specs.Offers.{arrow}
+use Rattle.s_valid.proofs.Numbering.{get_left, get_right}
+use Rattle.s_valid.proofs.TypeTable.{func_there, first_type}
+use Rattle.s_valid.proofs.ModuleOffers.{function_at, function_type_there}
+
+-- ## What a run begins with
+
+-- the segment of the functions that are handled is dropped
+abbrev pub segments_left : List Declaration → List (List Val)
+segments_left [] = []
+segments_left (d ∷ ds) = [] ∷ []
+
+-- the first store: the printer, the module's functions, and the tags' types
+abbrev pub first_store : List Declaration → Store
+first_store ds = record {
+  functions = entry_of.Printer printer.I64 ∷ own (length (lowered_all ds).functions);
+  tables = [];
+  memories = [];
+  globals = [];
+  tags = map (λ (t : Tag). t.type_index) (lowered_all ds).tags;
+  elements = segments_left (handled ds);
+  datas = [];
+  conts = [];
+}
+
+-- the first term: main is invoked
+abbrev pub first_term : List Declaration → Term
+first_term ds = record { around = []; operands = ε; rest = record { ahead = Invoke (function_index ds (codes "main")) ∷ []; code = Done } }
+
+-- ## Instantiation
+
+-- the printer is found
+printer_found : (ds : List Declaration) → printers_of (lowered_all ds) (lowered_all ds).imports ≡ All (printer.I64 ∷ [])
+printer_found ds =
+    let t : func_type (lowered_all ds) 4 ≡ Some (arrow (I64 ∷ []) []) = ap function_type_in (first_type (from_to (I64 ∷ []) []) ds (context_of (lowered_all ds)) refl (omega arith)) in
+    ap (λ (o : Option FuncType). and_first (of_type (Some printer.I64) o) (All [])) t
+
+-- main is found
+main_found : (ds : List Declaration) (g : Function) → function_of ds (codes "main") ≡ Some g → g.parameters ≡ [] → entry (lowered_all ds) ≡ Some (function_index ds (codes "main"))
+main_found ds g e none =
+    let i = function_index ds (codes "main") in
+    let typed : func_type (lowered_all ds) (function_type_index ds g.parameters) ≡ Some (arrow (val_types g.parameters) (I64 ∷ [])) =
+    func_there (arrow (val_types g.parameters) (I64 ∷ [])) ds (context_of (lowered_all ds)) refl (function_type_there ds (codes "main") g e) in
+    ap (λ (o : Option ℕ). entry_at i (type_at (lowered_all ds) o)) (function_at ds (codes "main") g e)
+    ∙ ap (λ (o : Option FuncType). entry_at i o) typed
+    ∙ ap (λ (ps : List Parameter). entry_at i (Some (arrow (val_types ps) (I64 ∷ [])))) none
+
+abbrev program : List Declaration → (ℕ → ℕ → Bool) → Program
+program ds same = record { source = lowered_all ds; same = same }
+
+-- the store before segments are looked at
+abbrev with_segment : List Declaration → List (List Val) → Store
+with_segment ds vs = record {
+  functions = entry_of.Printer printer.I64 ∷ own (length (lowered_all ds).functions);
+  tables = [];
+  memories = [];
+  globals = [];
+  tags = map (λ (t : Tag). t.type_index) (lowered_all ds).tags;
+  elements = vs;
+  datas = [];
+  conts = [];
+}
+
+-- the segment is dropped, where there is one
+segments_started : (ds : List Declaration) (p : Program) (s : Store) (hs : List Declaration)
+    → in_order (λ s y (e : Elem). element_started p s y e.mode) (Some (with_segment ds (map (λ (e : Elem). map (value_of p s) e.items) (declared ds hs)))) 0 (declared ds hs)
+    ≡ Some (with_segment ds (segments_left hs))
+segments_started ds p s [] = refl
+segments_started ds p s (h ∷ hs) = refl
+
+started : (ds : List Declaration) (same : ℕ → ℕ → Bool) (g : Function) → function_of ds (codes "main") ≡ Some g → g.parameters ≡ [] → Start (program ds same) ≡ Ready (first_store ds) (first_term ds)
+started ds same g e none =
+    let p = program ds same in
+    ap (λ (f : Found). with_imports p f) (printer_found ds)
+    ∙ ap (λ (o : Option ℕ). with_entry p (printer.I64 ∷ []) o) (main_found ds g e none)
+    ∙ ap (λ (o : Option Store). with_elements_in p (function_index ds (codes "main")) o) (segments_started ds p (with_segment ds []) (handled ds))
+
+-- a run of the module begins
+pub starts : (p : Script) → Good p → (P : Program) → P.source ≡ lowered p → Start P ≡ Ready (first_store p.declarations) (first_term p.declarations)
+starts p good P is =
+    let g = (good_typed p good).entry in
+    ap (λ (m : Module). Start (record { source = m; same = P.same })) is
+    ∙ started p.declarations P.same g.0 g.1 g.2
+
+-- no continuation is made at first
+pub none_made : (ds : List Declaration) → (made (first_store ds) ≡ 0) × (live (first_store ds) ≡ 0)
+none_made ds = (refl, refl)
+
+-- ## The functions of the first store
+
+own_length : (n : ℕ) → length (own n) ≡ n
+own_length zero = refl
+own_length (suc n) = let q = own_length n in let l = length-append (own n) (entry_of.Own n ∷ []) in omega (arith, q, l)
+
+-- a number below the next one is below this one, or is it
+below_or_same : (n k : ℕ) → k < suc n → (k < n) ⊎ (k ≡ n)
+below_or_same zero zero h = inr refl
+below_or_same zero (suc k) h = absurd (omega (arith, h))
+below_or_same (suc n) zero h = inl (omega arith)
+below_or_same (suc n) (suc k) h = elim (below_or_same n k (omega (arith, h))) [ inl l ↦ inl (omega (arith, l)) | inr e ↦ inr (ap (λ (i : ℕ). suc i) e) ]
+
+own_at : (n k : ℕ) → k < n → slice_get (own n) k ≡ Some (entry_of.Own k)
+own_at zero k h = absurd (omega (arith, h))
+own_at (suc n) k h = elim (below_or_same n k h) [
+  | inl l ↦ get_left (own n) (entry_of.Own n ∷ []) k (entry_of.Own k) (own_at n k l)
+  | inr e ↦
+      let q = own_length n in
+      get_right (own n) (entry_of.Own n ∷ []) 0 k (entry_of.Own k) (omega (arith, e, q)) (ap (λ (i : ℕ). Some (entry_of.Own i)) (sym e))
+]
+
+-- the printer is the first one
+pub printer_first : (ds : List Declaration) → slice_get (first_store ds).functions 0 ≡ Some (entry_of.Printer printer.I64)
+printer_first ds = refl
+
+-- the module's functions stand behind it
+pub own_behind : (ds : List Declaration) (k : ℕ) → k < length (lowered_all ds).functions → slice_get (first_store ds).functions (suc k) ≡ Some (entry_of.Own k)
+own_behind ds k h = own_at (length (lowered_all ds).functions) k h

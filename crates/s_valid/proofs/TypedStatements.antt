@@ -1,0 +1,167 @@
+-- The code of statements is typed: it takes nothing, and leaves nothing.
+use Rattle.std.proofs.Common.{◌≡◌, ℕ, suc, ◌+◌, ◌<◌, ◌≤◌, Bool, true, pos, ◌++◌, List, [], ◌∷◌, length, Option, Some, None, slice_get, if◌then◌else◌, refl, sym, ap, ◌∙◌, subst, arith}
+use Rattle.w_types.specs.declared.types.ValType.{ValType}
+use Rattle.w_types.specs.declared.types.ValType.TheVariants.{I64}
+use Rattle.w_types.specs.Rows.{Row, ε, ◌▹◌, ◌⧺◌, row_of, onto, size}
+use Rattle.w_types.proofs.Rows.{size-row_of}
+use Rattle.w_syntax.specs.Code.{Code, Plain}
+use Rattle.w_rules.specs.Operands.{Operand}
+use Rattle.w_rules.specs.Operands.{Known}
+use Rattle.w_rules.specs.Matching.{known}
+use Rattle.w_rules.specs.Context.{Context, labelled}
+use Rattle.w_rules.specs.InstructionTypes.{nullable}
+use Rattle.s_syntax.specs.declared.name.Name.{Name}
+use Rattle.s_syntax.specs.declared.script.VariableType.TheVariants.{Int, Resumption}
+use Rattle.s_syntax.specs.declared.script.Parameter.{Parameter}
+use Rattle.s_syntax.specs.declared.script.Handler.{Handler}
+use Rattle.s_syntax.specs.declared.script.Script.{Script}
+use Rattle.s_syntax.specs.ExprTree.{ExprTree, Literal, Read, Unary, Run, Call, Do, Handle, Resume, Exprs}
+use Rattle.s_syntax.specs.BlockTree.{BlockTree, Let, Assign, If, While, Print, Return, Fail, Evaluate, Done as NoStatements, ◌⨟◌}
+use Rattle.s_check.specs.Definitions.{handler_of}
+use Rattle.s_check.specs.Scopes.{Scope, type_in, number as number_name, lets_in}
+use Rattle.s_index.specs.Handled.{handled_in_expr, handled_in_exprs, handled_in_block}
+use Rattle.s_index.specs.Types.{computation_type, val_types}
+use Rattle.s_code.specs.Instructions.{branch, leave, local_set}
+use Rattle.s_code.specs.Layouts.{Layout, Owner, local_number, handler_of_name, is_own, is_same_handler, owner_parameters}
+use Rattle.s_code.specs.Temporaries.{high, high_block}
+use Rattle.s_code.specs.Expressions.{expr, set_parameters, tail_resume}
+use Rattle.s_code.specs.Statements.{return, block, body, ending, printer}
+use Rattle.s_meaning.specs.Typing.{kinds, ExprTyped, resume, BlockTyped, done, lets, assigns, ifs, whiles, prints, returns, drops, fails}
+use Rattle.s_meaning.proofs.Scopes.{same_is, same_refl, bool_of}
+use Rattle.s_valid.proofs.Rests.{Rest, is_zero_typed, constant_typed, get_typed, set_typed, call_typed, end_typed, if_typed, loop_typed, branch_if_typed, dropped_typed, branch_typed, returned_typed, unreachable_typed}
+use Rattle.s_valid.proofs.LayoutTypes.{Scoped, inside, local_typed, handler_at, bound, types_of_kinds, AllHandled, handled_left, handled_right, LetsPlaced, lets_left, lets_right, lets_first}
+use Rattle.s_valid.proofs.TypedExpressions.{expr_typed, args_typed, least_args, on_top, wake_typed}
+
+-- ## Parameters set from the stack
+
+-- the first locals have these types
+data FirstLocals (C : Context) : Row ValType → Type 0 where
+  no_locals : FirstLocals C ε
+  one_more : {ts : Row ValType} {t : ValType} → FirstLocals C ts → slice_get C.locals (size ts) ≡ Some t → FirstLocals C (ts ▹ t)
+
+first_onto : (C : Context) (ts : Row ValType) (us : List ValType) → FirstLocals C ts → ((n : ℕ) (t : ValType) → slice_get us n ≡ Some t → slice_get C.locals (size ts + n) ≡ Some t)
+    → FirstLocals C (onto ts us)
+first_onto C ts [] h at = h
+first_onto C ts (u ∷ us) h at =
+    first_onto C (ts ▹ u) us (one_more h (ap (λ (k : ℕ). slice_get C.locals k) (let e : size ts ≡ size ts + 0 = omega arith in e) ∙ at 0 u refl))
+    (λ n t e. ap (λ (k : ℕ). slice_get C.locals k) (let q : suc (size ts) + n ≡ size ts + suc n = omega arith in q) ∙ at (suc n) t e)
+
+set_parameters_typed : {C : Context} {us : Row Operand} {c : Code} (vs : Row Operand) (ts : Row ValType) → FirstLocals C ts → Rest C c vs us → Rest C (set_parameters (size ts) c) (vs ⧺ known ts) us
+set_parameters_typed vs ε no_locals r = r
+set_parameters_typed vs (ts ▹ t) (one_more h e) r = set_typed (size ts) e (set_parameters_typed vs ts h r)
+
+pub length_types : (ps : List Parameter) → length (val_types ps) ≡ length ps
+length_types [] = refl
+length_types (p ∷ ps) = ap suc (length_types ps)
+
+-- ## Returns
+
+own_is : (o : Option Owner) (g : Option Name) → is_same_handler o g ≡ true → (w : Owner) × (o ≡ Some w) × (g ≡ Some w.name)
+own_is None g e = absurd (cc)
+own_is (Some w) None e = absurd (cc)
+own_is (Some w) (Some h) e = (w, refl, ap (λ (x : Name). Some x) (sym (same_is w.name h e)))
+
+module _ {p : Script} {L : Layout} {n : ℕ} where
+  -- the next turn of the loop
+  turn_typed : {Γ : Scope} {D : ℕ} {C : Context} {us : Row Operand} {c : Code} (o : Owner) (i : Handler) → Scoped p.declarations L Γ n D C → L.owner ≡ Some o → handler_of p.declarations o.name ≡ Some i
+      → Rest C c ε us → Rest C (Plain (local_set (owner_parameters L.owner)) (set_parameters (owner_parameters L.owner) (Plain (branch D) c))) ((ε ⧺ known (row_of (val_types i.parameters))) ▹ Known (nullable computation_type)) us
+  turn_typed {Γ} {D} {C} {us} {c} o i s own is r =
+      let q = s.loop o own in
+      let same : q.handler ≡ i = let e = q.is in cc in
+      let ts = val_types i.parameters in
+      let P : Option Owner → Type 0 = λ w. Rest C (Plain (local_set (owner_parameters w)) (set_parameters (owner_parameters w) (Plain (branch D) c))) ((ε ⧺ known (row_of ts)) ▹ Known (nullable computation_type)) us in
+      let Q : ℕ → Type 0 = λ k. Rest C (set_parameters k (Plain (branch D) c)) (ε ⧺ known (row_of ts)) us in
+      let many : size (row_of ts) ≡ o.parameters = size-row_of ts ∙ length_types i.parameters ∙ ap (λ (j : Handler). length j.parameters) (sym same) ∙ sym q.as_many in
+      let firsts : FirstLocals C (row_of ts) =
+      first_onto C ε ts no_locals (λ k t e. ap (λ (j : ℕ). slice_get C.locals j) (let z : 0 + k ≡ k = omega arith in z) ∙ q.parameters k t (ap (λ (j : Handler). slice_get (val_types j.parameters) k) same ∙ e)) in
+      subst P (sym own) (set_typed o.parameters q.computation (subst Q many (set_parameters_typed ε (row_of ts) firsts (branch_typed {vs = ε} ε D q.loop r))))
+
+  tail_typed : {Γ : Scope} {D : ℕ} {C : Context} {us : Row Operand} {c : Code} (k : Name) (e : ExprTree) (ps : Exprs) → Scoped p.declarations L Γ n D C → ExprTyped p Γ (Resume k e ps)
+      → high 0 (Resume k e ps) ≤ n → AllHandled p.declarations (handled_in_expr (Resume k e ps)) → is_own L k ≡ true → Rest C c ε us → Rest C (tail_resume p.declarations L D k e ps c) ε us
+  tail_typed {Γ} {D} {C} {us} {c} k e ps s (resume {h = g} {i = i} is there q qs) h a own r =
+      let least = least_args ps 1 in
+      let free : 0 < n = omega (arith, h, least) in
+      let place : slice_get C.locals L.temporaries ≡ Some I64 = ap (λ (x : ℕ). slice_get C.locals x) (let z : L.temporaries ≡ L.temporaries + 0 = omega arith in z) ∙ s.temporaries 0 free in
+      let w = own_is L.owner (handler_of_name L k) own in
+      let at = handler_at s k (Resumption g) is in
+      let named : g ≡ w.0.name = let z = w.2 in cc in
+      let is_handler : handler_of p.declarations w.0.name ≡ Some i = ap (λ (x : Name). handler_of p.declarations x) (sym named) ∙ there in
+      expr_typed e 0 s q (omega (arith, h)) (handled_left (handled_in_expr e) (handled_in_exprs ps) a)
+      (set_typed L.temporaries place
+      (args_typed ps 1 s qs (omega (arith, h)) (handled_right (handled_in_expr e) (handled_in_exprs ps) a)
+      (on_top ε (kinds i.parameters) (val_types i.parameters) (types_of_kinds i.parameters)
+      (get_typed L.temporaries place
+      (wake_typed {p = p} s k g is
+      (turn_typed w.0 i s w.1 is_handler r))))))
+
+  return_typed : {Γ : Scope} {D : ℕ} {C : Context} {us : Row Operand} {c : Code} (e : ExprTree) → Scoped p.declarations L Γ n D C → ExprTyped p Γ e → high 0 e ≤ n
+      → AllHandled p.declarations (handled_in_expr e) → Rest C c ε us → Rest C (return p.declarations L D e c) ε us
+  return_typed {D = D} {C} {us} {c} (Resume k e ps) s q h a r =
+      bool_of (is_own L k) (λ b. Rest C (if b then tail_resume p.declarations L D k e ps c else expr p.declarations L 0 (Resume k e ps) (Plain leave c)) ε us)
+      (λ own. tail_typed k e ps s q h a own r) (λ other. expr_typed (Resume k e ps) 0 s q h a (returned_typed ε s.results r))
+  return_typed (Literal m) s q h a r = expr_typed (Literal m) 0 s q h a (returned_typed ε s.results r)
+  return_typed (Read x) s q h a r = expr_typed (Read x) 0 s q h a (returned_typed ε s.results r)
+  return_typed (Unary o e) s q h a r = expr_typed (Unary o e) 0 s q h a (returned_typed ε s.results r)
+  return_typed (Run e ps) s q h a r = expr_typed (Run e ps) 0 s q h a (returned_typed ε s.results r)
+  return_typed (Call f es) s q h a r = expr_typed (Call f es) 0 s q h a (returned_typed ε s.results r)
+  return_typed (Do op es) s q h a r = expr_typed (Do op es) 0 s q h a (returned_typed ε s.results r)
+  return_typed (Handle f es g ps) s q h a r = expr_typed (Handle f es g ps) 0 s q h a (returned_typed ε s.results r)
+
+  -- ## Blocks
+
+  set_name : {Γ : Scope} {D : ℕ} {C : Context} {us : Row Operand} {c : Code} (x : Name) → Scoped p.declarations L Γ n D C → type_in Γ x ≡ Some Int → Rest C c ε us
+      → Rest C (Plain (local_set (local_number L x)) c) (ε ▹ Known I64) us
+  set_name x s e r = set_typed (local_number L x) (local_typed s x Int e) r
+
+  pub block_typed : (b : BlockTree) {Γ : Scope} {D : ℕ} {C : Context} {us : Row Operand} {c : Code} → Scoped p.declarations L Γ n D C → BlockTyped p Γ b → LetsPlaced L (lets_in b)
+      → high_block b ≤ n → AllHandled p.declarations (handled_in_block b) → Rest C c ε us → Rest C (block p.declarations L D b c) ε us
+  block_typed NoStatements s done l h a r = r
+  block_typed (Let x e ⨟ b) {Γ = Γ} s (lets q free rest) l h a r =
+      let w = lets_first x (lets_in b) l in
+      let s' = bound s x w.0 w.1 free in
+      let is_int : type_in (number_name x ∷ Γ) x ≡ Some Int = ap (λ (b : Bool). if b then Some Int else type_in Γ x) (same_refl x) in
+      expr_typed e 0 s q (omega (arith, h)) (handled_left (handled_in_expr e) (handled_in_block b) a)
+      (set_name x s' is_int
+      (block_typed b s' rest (lets_right (x ∷ []) (lets_in b) l) (omega (arith, h)) (handled_right (handled_in_expr e) (handled_in_block b) a) r))
+  block_typed (Assign x e ⨟ b) s (assigns q is_int rest) l h a r =
+      expr_typed e 0 s q (omega (arith, h)) (handled_left (handled_in_expr e) (handled_in_block b) a)
+      (set_name x s is_int (block_typed b s rest l (omega (arith, h)) (handled_right (handled_in_expr e) (handled_in_block b) a) r))
+  block_typed (If e b d ⨟ k) s (ifs q first second rest) l h a r =
+      let here = handled_left (handled_in_expr e ++ (handled_in_block b ++ handled_in_block d)) (handled_in_block k) a in
+      let both = handled_right (handled_in_expr e) (handled_in_block b ++ handled_in_block d) here in
+      let within = lets_left (lets_in b ++ lets_in d) (lets_in k) l in
+      expr_typed e 0 s q (omega (arith, h)) (handled_left (handled_in_expr e) (handled_in_block b ++ handled_in_block d) here)
+      (if_typed
+      (block_typed d (inside ε s) second (lets_right (lets_in b) (lets_in d) within) (omega (arith, h)) (handled_right (handled_in_block b) (handled_in_block d) both) (end_typed ε))
+      (block_typed b (inside ε s) first (lets_left (lets_in b) (lets_in d) within) (omega (arith, h)) (handled_left (handled_in_block b) (handled_in_block d) both) (end_typed ε))
+      (block_typed k s rest (lets_right (lets_in b ++ lets_in d) (lets_in k) l) (omega (arith, h)) (handled_right (handled_in_expr e ++ (handled_in_block b ++ handled_in_block d)) (handled_in_block k) a) r))
+  block_typed (While e b ⨟ k) {Γ = Γ} {D} {C} s (whiles q inner rest) l h a r =
+      let here = handled_left (handled_in_expr e ++ handled_in_block b) (handled_in_block k) a in
+      let P : ℕ → Type 0 = λ d. Scoped p.declarations L Γ n d (labelled (labelled C ε) ε) in
+      let s' = subst P (let z : D + 1 + 1 ≡ D + 2 = omega arith in z) (inside ε (inside ε s)) in
+      loop_typed
+      (expr_typed e 0 s' q (omega (arith, h)) (handled_left (handled_in_expr e) (handled_in_block b) here)
+      (is_zero_typed
+      (branch_if_typed 1 refl
+      (block_typed b s' inner (lets_left (lets_in b) (lets_in k) l) (omega (arith, h)) (handled_right (handled_in_expr e) (handled_in_block b) here)
+      (branch_typed {vs = ε} ε 0 refl (end_typed ε))))))
+      (block_typed k s rest (lets_right (lets_in b) (lets_in k) l) (omega (arith, h)) (handled_right (handled_in_expr e ++ handled_in_block b) (handled_in_block k) a) r)
+  block_typed (Print e ⨟ b) s (prints q rest) l h a r =
+      expr_typed e 0 s q (omega (arith, h)) (handled_left (handled_in_expr e) (handled_in_block b) a)
+      (call_typed ε printer (I64 ∷ []) [] s.offers.printer (block_typed b s rest l (omega (arith, h)) (handled_right (handled_in_expr e) (handled_in_block b) a) r))
+  block_typed (Return e ⨟ b) s (returns q rest) l h a r =
+      return_typed e s q (omega (arith, h)) (handled_left (handled_in_expr e) (handled_in_block b) a)
+      (block_typed b s rest l (omega (arith, h)) (handled_right (handled_in_expr e) (handled_in_block b) a) r)
+  block_typed (Fail ⨟ b) s (fails rest) l h a r = unreachable_typed ε (block_typed b s rest l (omega (arith, h)) a r)
+  block_typed (Evaluate e ⨟ b) s (drops q rest) l h a r =
+      expr_typed e 0 s q (omega (arith, h)) (handled_left (handled_in_expr e) (handled_in_block b) a)
+      (dropped_typed (block_typed b s rest l (omega (arith, h)) (handled_right (handled_in_expr e) (handled_in_block b) a) r))
+
+-- a body that runs to its end returns 0
+ending_typed : {C : Context} {us : Row Operand} → C.results ≡ ε ▹ I64 → Rest C ending ε us
+ending_typed {C} {us} e = constant_typed (pos 0) (returned_typed us e (end_typed us))
+
+-- a body is typed to anything, since it returns
+pub body_typed : {p : Script} {L : Layout} {Γ : Scope} {n D : ℕ} {C : Context} {us : Row Operand} (b : BlockTree) → Scoped p.declarations L Γ n D C → BlockTyped p Γ b → LetsPlaced L (lets_in b)
+    → high_block b ≤ n → AllHandled p.declarations (handled_in_block b) → Rest C (body p.declarations L D b) ε us
+body_typed b s q l h a = block_typed b s q l h a (ending_typed s.results)
