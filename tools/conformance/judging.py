@@ -1,10 +1,11 @@
-"""Judges rows by the second reader."""
+"""Judges rows by the second reader, and by the second compiler of scripts."""
 
 from collections import Counter
 
 from reader import answer
 from reader.module_decoding import decode
 from rows.sections import STATUSES, VALID
+from script_compiler import built
 from script_reader import answer as answer_to_script, is_script
 
 OPTIONS = ('--steps', '--stats')
@@ -42,6 +43,8 @@ def _contradiction(row):
     if not is_judged(row):
         return None
     command, given = _call(row)
+    if command == 'build' and is_script(given):
+        return _contradicted_module(row, built(given))
     said = answer_to_script(given) if command == 'check' and is_script(given) else answer(given)
     if said != VALID or command == 'check':
         return _contradicted_answer(row, said)
@@ -56,6 +59,17 @@ def _contradicted_answer(row, said):
     written = (line, b'') if status == 0 else (b'', line)
     if (row.out, row.err, row.status) != (*written, status):
         return f'the row says {row.out!r}, {row.err!r}, {row.status}, and the second reader {said!r}'
+    return None
+
+
+def _contradicted_module(row, wanted):
+    """What is written of a script is to be what the second compiler gives, which is to be a module."""
+    if isinstance(wanted, str):
+        return _contradicted_answer(row, wanted)
+    if len(wanted) <= GREATEST_FILE and answer(wanted) != VALID:
+        return 'the second reader says that what the second compiler gives is not valid'
+    if (row.out, row.err, row.status) != (wanted, b'', 0):
+        return f'the second compiler writes {wanted.hex().upper()}'
     return None
 
 

@@ -21,7 +21,7 @@ use Rattle.s_syntax.specs.declared.script.Script.{Script}
 use Rattle.words.specs.declared.request.Action.{Action}
 use Rattle.words.specs.declared.request.Action.TheVariants.{Check, Run as RunFor, Build}
 use Rattle.words.specs.Line.{on_file as line_on_file, bad}
-use Rattle.drive.specs.Answer.{Reply, HasModuleFault, OnFile, OnBytes, BytesGive, ScriptGives, CheckGives, ActionGives, gives, run_gives, malformed, invalid, bad_script}
+use Rattle.drive.specs.Answer.{Reply, HasModuleFault, OnFile, OnBytes, BytesGive, ScriptGives, EitherGives, ActionGives, gives, script_gives, Compiled, run_gives, malformed, invalid, bad_script}
 use Rattle.drive.specs.Laws.{OneAnswer}
 use Rattle.drive.proofs.Programs.{one_program}
 
@@ -161,27 +161,41 @@ one_given Build m r s h k = h ∙ sym k
 
 -- ## Scripts
 
-script_once : (b : List ℕ) → IsOne (ScriptGives b)
-script_once b r s (inl h) (inl k) = h.1 ∙ sym k.1
-script_once b r s (inl h) (inr k) = let e : ◌≡◌ {A = Result Script ScriptFault} (Ok h.0.0) (Err k.0) = one_judgement b (Ok h.0.0) (Err k.0) h.0.1 k.1 in absurd (cc)
-script_once b r s (inr h) (inl k) = let e : ◌≡◌ {A = Result Script ScriptFault} (Ok k.0.0) (Err h.0) = one_judgement b (Ok k.0.0) (Err h.0) k.0.1 h.1 in absurd (cc)
-script_once b r s (inr h) (inr k) =
+compiled_once : (p : Script) → IsOne (Compiled p)
+compiled_once p r s (inl h) (inl k) = h.1 ∙ sym k.1
+compiled_once p r s (inl h) (inr k) = absurd (omega (arith, h.0, k.0))
+compiled_once p r s (inr h) (inl k) = absurd (omega (arith, h.0, k.0))
+compiled_once p r s (inr h) (inr k) = h.1 ∙ sym k.1
+
+script_given_once : (action : Action) (p : Script) → IsOne (script_gives action p)
+script_given_once Check p r s h k = h ∙ sym k
+script_given_once (RunFor steps stats) p r s h k = absurd h
+script_given_once Build p r s h k = compiled_once p r s h k
+
+script_once : (Accepted : Script → Reply → Type 0) → ((p : Script) → IsOne (Accepted p)) → (b : List ℕ) → IsOne (ScriptGives Accepted b)
+script_once Accepted one b r s (inl h) (inl k) =
+    let e : ◌≡◌ {A = Result Script ScriptFault} (Ok h.0) (Ok k.0) = one_judgement b (Ok h.0) (Ok k.0) h.1 k.1 in
+    let same : h.0 ≡ k.0 = cc in
+    one h.0 r s h.2 (subst (λ (p : Script). Accepted p s) (sym same) k.2)
+script_once Accepted one b r s (inl h) (inr k) = let e : ◌≡◌ {A = Result Script ScriptFault} (Ok h.0) (Err k.0) = one_judgement b (Ok h.0) (Err k.0) h.1 k.1 in absurd (cc)
+script_once Accepted one b r s (inr h) (inl k) = let e : ◌≡◌ {A = Result Script ScriptFault} (Ok k.0) (Err h.0) = one_judgement b (Ok k.0) (Err h.0) k.1 h.1 in absurd (cc)
+script_once Accepted one b r s (inr h) (inr k) =
     let e : ◌≡◌ {A = Result Script ScriptFault} (Err h.0) (Err k.0) = one_judgement b (Err h.0) (Err k.0) h.1 k.1 in
     let same : h.0 ≡ k.0 = cc in
     h.2 ∙ ap bad_script same ∙ sym k.2
 
 -- ## Modules and scripts
 
-checked_once : (b : List ℕ) → IsOne (CheckGives b)
-checked_once b r s (inl h) (inl k) = one_reply (gives Check) (one_given Check) b r s h.1 k.1
-checked_once b r s (inl h) (inr k) = let m = h.0 in let n = k.0 in absurd (cc)
-checked_once b r s (inr h) (inl k) = let m = h.0 in let n = k.0 in absurd (cc)
-checked_once b r s (inr h) (inr k) = script_once b r s h.1 k.1
+either_once : (action : Action) (b : List ℕ) → IsOne (EitherGives action b)
+either_once action b r s (inl h) (inl k) = one_reply (gives action) (one_given action) b r s h.1 k.1
+either_once action b r s (inl h) (inr k) = let m = h.0 in let n = k.0 in absurd (cc)
+either_once action b r s (inr h) (inl k) = let m = h.0 in let n = k.0 in absurd (cc)
+either_once action b r s (inr h) (inr k) = script_once (script_gives action) (script_given_once action) b r s h.1 k.1
 
 one_done : (action : Action) (b : List ℕ) → IsOne (ActionGives action b)
-one_done Check b = checked_once b
+one_done Check b = either_once Check b
 one_done (RunFor steps stats) b = one_reply (gives (RunFor steps stats)) (one_given (RunFor steps stats)) b
-one_done Build b = one_reply (gives Build) (one_given Build) b
+one_done Build b = either_once Build b
 
 -- ## Files
 

@@ -19,10 +19,11 @@ use Rattle.s_judge.proofs.Judged.{some_judgement}
 use Rattle.s_judge.specs.Judgements as script
 use Rattle.s_judge.specs.declared.fault.ScriptFault.{ScriptFault}
 use Rattle.s_syntax.specs.declared.script.Script.{Script}
+use Rattle.s_check.specs.Size.{Size}
 use Rattle.words.specs.declared.request.Action.{Action}
 use Rattle.words.specs.declared.request.Action.TheVariants.{Check, Run as RunFor, Build}
 use Rattle.words.specs.Line.{on_file as line_on_file, bad}
-use Rattle.drive.specs.Answer.{Reply, HasModuleFault, OnFile, OnBytes, BytesGive, ScriptGives, CheckGives, ActionGives, is_module, gives, input_limit}
+use Rattle.drive.specs.Answer.{Reply, HasModuleFault, OnFile, OnBytes, BytesGive, ScriptGives, EitherGives, ActionGives, is_module, gives, script_gives, Compiled, compiled_size, input_limit}
 use Rattle.drive.specs.Laws.{SomeAnswer}
 use Rattle.drive.proofs.Programs.{some_program}
 
@@ -233,24 +234,31 @@ some_given Build m none = none _ refl
 
 -- ## Scripts
 
-script_total : (bytes : List ℕ) → IsTotal (ScriptGives bytes)
-script_total bytes none = let j = some_judgement bytes in by j.0 j.1
+compiled_total : (p : Script) → IsTotal (Compiled p)
+compiled_total p none = elim (cases_lt compiled_size (Size p)) [
+  | inl large ↦ none _ (inr (large, refl))
+  | inr small ↦ none _ (inl (small, refl))
+]
+
+script_total : (Accepted : Script → Reply → Type 0) → ((p : Script) → IsTotal (Accepted p)) → (bytes : List ℕ) → IsTotal (ScriptGives Accepted bytes)
+script_total Accepted total bytes none = let j = some_judgement bytes in by j.0 j.1
   where
     by : (r : Result Script ScriptFault) → script.Means bytes r → ⊥
-    by (Ok p) m = none _ (inl ((p, m), refl))
+    by (Ok p) m = total p (λ r h. none r (inl (p, m, h)))
     by (Err fault) m = none _ (inr (fault, m, refl))
 
-checked_total : (bytes : List ℕ) → IsTotal (CheckGives bytes)
-checked_total bytes none = by (is_module bytes) refl
+-- where scripts that break no rule are answered, a module or a script is
+either_total : (action : Action) → ((p : Script) → IsTotal (script_gives action p)) → (bytes : List ℕ) → IsTotal (EitherGives action bytes)
+either_total action total bytes none = by (is_module bytes) refl
   where
     by : (b : Bool) → is_module bytes ≡ b → ⊥
-    by true e = bytes_total (gives Check) (some_given Check) bytes (λ r h. none r (inl (e, h)))
-    by false e = script_total bytes (λ r h. none r (inr (e, h)))
+    by true e = bytes_total (gives action) (some_given action) bytes (λ r h. none r (inl (e, h)))
+    by false e = script_total (script_gives action) total bytes (λ r h. none r (inr (e, h)))
 
 some_done : (action : Action) (bytes : List ℕ) → IsTotal (ActionGives action bytes)
-some_done Check bytes = checked_total bytes
+some_done Check bytes = either_total Check (λ p none. none _ refl) bytes
 some_done (RunFor steps stats) bytes = bytes_total (gives (RunFor steps stats)) (some_given (RunFor steps stats)) bytes
-some_done Build bytes = bytes_total (gives Build) (some_given Build) bytes
+some_done Build bytes = either_total Build compiled_total bytes
 
 pub some_answer : SomeAnswer
 some_answer (line_on_file name action) files none = on_file (files name) (ActionGives action) (some_done action) none

@@ -28,7 +28,10 @@ use Rattle.w_reduce.specs.Program.{Program, IsProgram}
 use Rattle.w_reduce.specs.Start.{Started, Ready, NoPrinter, NoEntry, Exceeds, StartTraps, Start}
 use Rattle.w_reduce.specs.Run.{Outcome, Running, Values, Traps, Limit, NoRule, RunState, Run}
 use Rattle.w_encode.specs.Canon.{Canon}
+use Rattle.s_syntax.specs.declared.script.Script.{Script}
 use Rattle.s_check.specs.Refusal.{number_of}
+use Rattle.s_check.specs.Size.{Size}
+use Rattle.s_code.specs.Lowered.{lowered}
 use Rattle.s_judge.specs.Judgements as script
 use Rattle.s_judge.specs.declared.fault.ScriptFault.{ScriptFault}
 use Rattle.s_judge.specs.declared.fault.ScriptFault.TheVariants as script_fault
@@ -252,9 +255,26 @@ bad_script script_fault.OutOfMemory = refusal [] 5
 abbrev pub ScriptRefusal : List ℕ → Reply → Type 0
 ScriptRefusal bytes reply = (fault : ScriptFault) × script.HasFault bytes fault × (reply ≡ bad_script fault)
 
--- what a script gives that is checked
-abbrev pub ScriptGives : List ℕ → Reply → Type 0
-ScriptGives bytes reply = (script.IsSomeGood bytes × (reply ≡ ok_script)) ⊎ ScriptRefusal bytes reply
+-- the most that the size of a script may be that is compiled
+abbrev pub compiled_size : ℕ
+compiled_size = 50000
+
+abbrev pub limit_size : Reply
+limit_size = limit (codes "limit size")
+
+-- a script that breaks no rule, compiled: its module is written
+abbrev pub Compiled : Script → Reply → Type 0
+Compiled p reply = ((Size p ≤ compiled_size) × (reply ≡ built (lowered p))) ⊎ ((compiled_size < Size p) × (reply ≡ limit_size))
+
+-- what an action gives of a script that breaks no rule; none is run
+abbrev pub script_gives : Action → Script → Reply → Type 0
+script_gives Check p reply = reply ≡ ok_script
+script_gives (RunFor steps stats) p reply = ⊥
+script_gives Build p reply = Compiled p reply
+
+-- what bytes of a script give, where one that breaks no rule gives this
+abbrev pub ScriptGives : (Script → Reply → Type 0) → List ℕ → Reply → Type 0
+ScriptGives Accepted bytes reply = ((p : Script) × script.IsGood bytes p × Accepted p reply) ⊎ ScriptRefusal bytes reply
 
 -- ## Modules and scripts
 
@@ -267,21 +287,22 @@ begins_with (m ∷ ms) (b ∷ bytes) = nat_eq b m && begins_with ms bytes
 abbrev pub is_module : List ℕ → Bool
 is_module = begins_with (0 ∷ 97 ∷ 115 ∷ 109 ∷ [])
 
--- a script that is to be checked
-abbrev pub is_checked_script : Action → List ℕ → Bool
-is_checked_script Check bytes = not (is_module bytes)
-is_checked_script (RunFor steps stats) bytes = false
-is_checked_script Build bytes = false
+-- whether bytes are a script for this action; only modules are run
+abbrev pub is_script : Action → List ℕ → Bool
+is_script Check bytes = not (is_module bytes)
+is_script (RunFor steps stats) bytes = false
+is_script Build bytes = not (is_module bytes)
 
--- what is given by bytes that are checked
-abbrev pub CheckGives : List ℕ → Reply → Type 0
-CheckGives bytes reply = ((is_module bytes ≡ true) × BytesGive (gives Check) bytes reply) ⊎ ((is_module bytes ≡ false) × ScriptGives bytes reply)
+-- what bytes give that are a module or a script
+abbrev pub EitherGives : Action → List ℕ → Reply → Type 0
+EitherGives action bytes reply =
+    ((is_module bytes ≡ true) × BytesGive (gives action) bytes reply) ⊎ ((is_module bytes ≡ false) × ScriptGives (script_gives action) bytes reply)
 
--- by any action; only modules are run and written again
+-- by any action
 abbrev pub ActionGives : Action → List ℕ → Reply → Type 0
-ActionGives Check = CheckGives
+ActionGives Check = EitherGives Check
 ActionGives (RunFor steps stats) = BytesGive (gives (RunFor steps stats))
-ActionGives Build = BytesGive (gives Build)
+ActionGives Build = EitherGives Build
 
 -- ## Files
 

@@ -24,8 +24,8 @@ fn tell(alloc: Global) -> Result<Output, Stop>
     Ok(Output::of_piece(alloc, line)?)
 }
 
-// A module is written in its canonical spelling, as one piece.
-fn build(alloc: Global, program: &Module) -> Result<Output, Stop>
+/// A module is written in its canonical spelling, as one piece.
+pub(crate) fn build(alloc: Global, program: &Module) -> Result<Output, Stop>
     ensures { Gives (λ reply. reply ≡ built program.now) result }
 {
     let spelling = encode(alloc, program)?;

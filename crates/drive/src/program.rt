@@ -12,7 +12,7 @@ use crate::files::open;
 use crate::finishing::finish;
 use crate::judging::judge;
 use crate::output::Output;
-use crate::scripts::{check_script, is_checked_script};
+use crate::scripts::{is_script, judge_script};
 use crate::status::Status;
 use crate::stop::{Stop, refuse};
 use std::alloc::Global;
@@ -29,8 +29,8 @@ fn act<O: Sink>(alloc: Global, action: Action, bytes: &[u8], out: &mut O) -> Res
         (Grew (O.held out.old) (O.held out.new)) (Rose (O.faults out.old) (O.faults out.new)) }
     ensures later { O.faults out.old ≤ O.faults out.new }
 {
-    if is_checked_script(action, bytes) {
-        return check_script(alloc, bytes);
+    if is_script(action, bytes) {
+        return judge_script(alloc, action, bytes);
     }
     let checked = judge(alloc, bytes)?;
     finish(alloc, action, checked, out)

@@ -1,14 +1,17 @@
 //! Scripts.
-ghost use Rattle.std.specs.Prelude.{◌≡◌, ◌≢◌};
-ghost use Rattle.drive.specs.Answer.{ScriptGives, bad_script, is_checked_script, is_module as begins_module};
+ghost use Rattle.std.specs.Prelude.{◌≡◌, ◌≢◌, true};
+ghost use Rattle.drive.specs.Answer.{Compiled, ScriptGives, bad_script, is_module as begins_module, is_script as is_script_for, limit_size, ok_script, script_gives};
 ghost use Rattle.drive.specs.Status.{code_of};
 ghost use Rattle.drive.specs.Stop.{Ends, Gives, Refuses};
 
+use crate::finishing::build;
 use crate::lines::script_line;
 use crate::output::Output;
 use crate::status::Status;
-use crate::stop::{Refusal, Stop};
-use s_judge::{ScriptFault, check};
+use crate::stop::{Refusal, Stop, refuse};
+use s_check::CheckedScript;
+use s_judge::{ScriptFault, check, judge};
+use s_lower::{LowerFault, lower};
 use std::alloc::Global;
 use words::Action;
 
@@ -19,14 +22,14 @@ fn is_module(bytes: &[u8]) -> bool
     matches!(bytes, [0x00, 0x61, 0x73, 0x6D, ..])
 }
 
-/// Whether bytes are a script that is to be checked.
-pub(crate) fn is_checked_script(action: Action, bytes: &[u8]) -> bool
-    ensures value { result ≡ is_checked_script action bytes.now }
+/// Whether bytes are a script for this action.
+pub(crate) fn is_script(action: Action, bytes: &[u8]) -> bool
+    ensures value { result ≡ is_script_for action bytes.now }
 {
     match action {
         Action::Check => !is_module(bytes),
         Action::Run { .. } => false,
-        Action::Build => false,
+        Action::Build => !is_module(bytes),
     }
 }
 
@@ -58,9 +61,9 @@ fn script_refusal(alloc: Global, fault: ScriptFault) -> Stop
     }
 }
 
-/// Checks a script.
-pub(crate) fn check_script(alloc: Global, bytes: &[u8]) -> Result<Output, Stop>
-    ensures gives { Gives (ScriptGives bytes.now) result }
+// Checks a script.
+fn check_script(alloc: Global, bytes: &[u8]) -> Result<Output, Stop>
+    ensures gives { Gives (ScriptGives (λ p reply. reply ≡ ok_script) bytes.now) result }
 {
     match check(alloc, bytes) {
         Ok(()) => {
@@ -69,5 +72,43 @@ pub(crate) fn check_script(alloc: Global, bytes: &[u8]) -> Result<Output, Stop>
         }
         Err(ScriptFault::OutOfMemory) => Err(Stop::OutOfMemory),
         Err(fault) => Err(script_refusal(alloc, fault)),
+    }
+}
+
+// A script that breaks no rule is compiled, and its module is written.
+fn compile(alloc: Global, script: &CheckedScript) -> Result<Output, Stop>
+    ensures gives { Gives (Compiled script.now) result }
+{
+    match lower(alloc, script) {
+        Ok(module) => {
+            let output = build(alloc, &module);
+            drop(module);
+            output
+        }
+        Err(LowerFault::TooLarge) => Err(refuse(alloc, b"limit size\n", Status::Limit)),
+        Err(LowerFault::OutOfMemory) => Err(Stop::OutOfMemory),
+    }
+}
+
+// Compiles a script.
+fn build_script(alloc: Global, bytes: &[u8]) -> Result<Output, Stop>
+    ensures gives { Gives (ScriptGives Compiled bytes.now) result }
+{
+    match judge(alloc, bytes) {
+        Ok(script) => compile(alloc, &script),
+        Err(ScriptFault::OutOfMemory) => Err(Stop::OutOfMemory),
+        Err(fault) => Err(script_refusal(alloc, fault)),
+    }
+}
+
+/// Does with a script what is asked for: it is checked, or compiled.
+pub(crate) fn judge_script(alloc: Global, action: Action, bytes: &[u8]) -> Result<Output, Stop>
+    requires script { is_script_for action bytes.now ≡ true }
+    ensures gives { Gives (ScriptGives (script_gives action) bytes.now) result }
+{
+    match action {
+        Action::Check => check_script(alloc, bytes),
+        Action::Build => build_script(alloc, bytes),
+        Action::Run { .. } => unreachable!(),
     }
 }

@@ -13,7 +13,7 @@ from rows import (
     equivalence, matching, limits, arithmetic, sizes, long_runs, running_numbers, running_memory, running_tables,
     running_control, running_instances, running_suspends, running_clauses, running_switches, running_continuations,
     running_passing, running_switching_traps, running_coroutines, running_switching_limits, scripts, script_rules,
-    script_sizes, script_names)
+    script_sizes, script_names, script_modules)
 from surroundings import pieces
 
 
@@ -113,6 +113,7 @@ _FILES = [
     _modules('script_rules', 'Rules of scripts that are broken, and their neighbours.', script_rules.SECTION, script_rules.ORDER),
     _modules('script_sizes', 'Scripts as long as one may be.', script_sizes.SECTION),
     lambda: RowFile('script_names', 'Scripts of many names.', script_names.PIECES, [script_names.SECTION]),
+    _modules('script_modules', 'Scripts that are compiled.', script_modules.SECTION),
 ]
 
 # All rows are made by now, and with them the module in which functions are judged.

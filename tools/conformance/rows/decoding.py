@@ -47,7 +47,7 @@ refused('a-memory-whose-limits-begin-with-2', 'malformed content 0', spelled('05
 refused('a-data-count-without-segments', 'malformed counts', spelled('0C0101'))
 refused('a-function-without-code', 'malformed counts', spelled('03020100'))
 refused('a-section-without-a-size', 'malformed frame 0', spelled('01'))
-row('an-empty-file/build', 'malformed header', b'', 'build')
+row('an-empty-file/build', 'rule 0 18', b'', 'build')
 refused('a-header-without-its-end', 'malformed header', bytes.fromhex('0061736D010000'))
 
 # Refused in a body.

@@ -13,7 +13,7 @@ class ScriptRow:
     @property
     def fields(self):
         """The lines of the row: lines of text, where it is such."""
-        lines = ['words stackwasm check x', f'file x{_spelled(self.text)}']
+        lines = ['words stackwasm check x', f'file x{spelled_script(self.text)}']
         return lines + answered(self.said)
 
 
@@ -32,7 +32,7 @@ class ScriptSection(Section):
         self.row(name, data, said)
 
 
-def _spelled(data):
+def spelled_script(data):
     """The words that spell bytes: a line of text for each where they are lines of text, and else digits."""
     if not data:
         return ''

@@ -8,7 +8,7 @@ import sys
 
 from script_reader.derivations import Derivations
 from script_reader.grammar import PRODUCTIONS
-from script_reader.rules import broken
+from script_reader.rules import broken, declarations_in
 from script_reader.tokens import NoToken, tokens_of
 
 MODULE_FRONT = bytes.fromhex('0061736D')
@@ -26,20 +26,26 @@ def is_script(data):
 
 def answer(data):
     """What is to be said of these bytes as a script."""
+    return read(data)[0]
+
+
+def read(data):
+    """What is to be said of these bytes as a script, and its declarations where it breaks no rule."""
     if len(data) > GREATEST_LENGTH:
-        return 'limit script'
+        return 'limit script', None
     try:
         tokens = tokens_of(data)
     except NoToken as fault:
-        return f'lex {fault}'
+        return f'lex {fault}', None
     derivations = Derivations(PRODUCTIONS, 'script', [token.kind for token in tokens])
     wrong, deep = derivations.first_wrong, _first_deep(tokens)
     if deep is not None and (wrong is None or deep < wrong):
-        return 'deep'
+        return 'deep', None
     if wrong is not None:
-        return f'parse {wrong}'
-    refused = broken(derivations.tree(tokens))
-    return VALID if refused is None else f'rule {refused[0]} {refused[1]}'
+        return f'parse {wrong}', None
+    declarations = declarations_in(derivations.tree(tokens))
+    refused = broken(declarations)
+    return (VALID, declarations) if refused is None else (f'rule {refused[0]} {refused[1]}', None)
 
 
 def _first_deep(tokens):

@@ -38,9 +38,13 @@ class Clause(NamedTuple):
     body: object
 
 
-def broken(tree):
+def declarations_in(tree):
+    """The declarations of a script, whose bodies stay as they are in the tree."""
+    return [_declaration(node) for node in tree.parts]
+
+
+def broken(declarations):
     """The first declaration that breaks a rule, and the least rule that it breaks, or nothing."""
-    declarations = [_declaration(node) for node in tree.parts]
     firsts = {}
     for declaration in declarations:
         firsts.setdefault(declaration.name, declaration)

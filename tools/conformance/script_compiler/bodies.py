@@ -1,0 +1,134 @@
+"""The code of expressions and statements."""
+
+from script_compiler.indices import COMPUTATION_TYPE, PRINTER, RESUMPTION_TYPE
+from script_compiler.instructions import (
+    ARITHMETIC, COMPARISONS, DROP, EMPTY, EXTEND, IS_ZERO, MULTIPLY, NOP, NUMBER, RETURN, TRUTH, UNREACHABLE,
+    bind_continuation, block, branch, branch_if, call, constant, function_reference, if_zero, local_get, local_set,
+    loop, new_continuation, suspend)
+from script_compiler.trees import (
+    Assign, Call, Do, Evaluate, Fail, Handle, If, Let, Literal, Print, Read, Resume, Return, Run, Unary, While)
+
+
+class Body:
+    """The code of what stands in one body. `used` is how many temporaries are in use, and `labels` how many labels are
+    around a statement in its function; in a handler's, inside its loop."""
+
+    def __init__(self, indices, layout):
+        self.indices, self.layout = indices, layout
+
+    def whole(self, labels, statements):
+        """A body, which returns 0 at its end."""
+        return self.statements(labels, statements) + constant(0) + RETURN
+
+    # Expressions.
+
+    def expression(self, used, tree):
+        makers = {
+            Literal: self._literal, Read: self._read, Unary: self._unary, Run: self._run, Call: self._call,
+            Do: self._do, Handle: self._handle, Resume: self._resume}
+        return makers[type(tree)](used, tree)
+
+    def expressions(self, used, trees):
+        return b''.join(self.expression(used, tree) for tree in trees)
+
+    def _literal(self, _, tree):
+        return constant(tree.number)
+
+    def _read(self, _, tree):
+        return local_get(self.layout.numbers[tree.name])
+
+    def _unary(self, used, tree):
+        behind = constant(-1) + MULTIPLY if tree.operator == '-' else IS_ZERO + EXTEND
+        return self.expression(used, tree.operand) + behind
+
+    def _run(self, used, tree):
+        behind = [_operated(operator, self.expression(used, operand)) for operator, operand in tree.others]
+        return self.expression(used, tree.first) + b''.join(behind)
+
+    def _call(self, used, tree):
+        return self.expressions(used, tree.arguments) + call(self.indices.numbers[tree.function])
+
+    def _do(self, used, tree):
+        return self.expressions(used, tree.arguments) + suspend(self.indices.tags[tree.effect])
+
+    def _handle(self, used, tree):
+        places = list(enumerate(tree.arguments, used))
+        continuation = self.indices.continuations[tree.function]
+        return b''.join([
+            *(self._aside(place, each) for place, each in places),
+            self.expressions(used + len(places), tree.parameters),
+            *(local_get(self.layout.slot(place, each)) for place, each in places),
+            function_reference(self.indices.numbers[tree.function]),
+            new_continuation(continuation), bind_continuation(continuation, COMPUTATION_TYPE),
+            call(self.indices.numbers[tree.handler])])
+
+    def _aside(self, place, tree):
+        """An argument put where it lies until all arguments are there."""
+        return NOP if self.layout.stays(tree) else self.expression(place, tree) + self._set_temporary(place)
+
+    def _set_temporary(self, place):
+        return local_set(self.layout.temporaries + place)
+
+    def _resume(self, used, tree):
+        handler = self.layout.handler_of(tree.resumption)
+        return self._woken(used, tree) + call(self.indices.numbers[handler])
+
+    def _woken(self, used, tree):
+        """The parameters, and behind them what is to be handled: a resumption with its value."""
+        return b''.join([
+            self.expression(used, tree.value), self._set_temporary(used),
+            self.expressions(used + 1, tree.parameters), local_get(self.layout.temporaries + used),
+            local_get(self.layout.numbers[tree.resumption]), bind_continuation(RESUMPTION_TYPE, COMPUTATION_TYPE)])
+
+    # Statements.
+
+    def statements(self, labels, trees):
+        return b''.join(self.statement(labels, tree) for tree in trees)
+
+    def statement(self, labels, tree):
+        if isinstance(tree, Fail):
+            return UNREACHABLE
+        if isinstance(tree, If):
+            return self._if(labels, tree)
+        if isinstance(tree, While):
+            return self._while(labels, tree)
+        if isinstance(tree, Return):
+            return self._return(labels, tree)
+        return self.expression(0, tree.value) + self._ending(tree)
+
+    def _ending(self, tree):
+        """What is done with the value of a statement."""
+        if isinstance(tree, (Let, Assign)):
+            return local_set(self.layout.numbers[tree.name])
+        return {Print: call(PRINTER), Evaluate: DROP}[type(tree)]
+
+    def _if(self, labels, tree):
+        blocks = (self.statements(labels + 1, each) for each in (tree.otherwise, tree.then))
+        return self.expression(0, tree.condition) + if_zero(EMPTY, *blocks)
+
+    def _while(self, labels, tree):
+        turn = self.expression(0, tree.condition) + IS_ZERO + branch_if(1) + self.statements(labels + 2, tree.body)
+        return block(EMPTY, loop(EMPTY, turn + branch(0)))
+
+    def _return(self, labels, tree):
+        value = tree.value
+        if isinstance(value, Resume) and self.layout.is_own(value.resumption):
+            return self._next_turn(labels, value)
+        return self.expression(0, value) + RETURN
+
+    def _next_turn(self, labels, tree):
+        """The loop of the handler begins again, with these parameters and this to be handled."""
+        computation = len(self.layout.owner.parameters)
+        sets = [local_set(local) for local in range(computation, -1, -1)]
+        return self._woken(0, tree) + b''.join(sets) + branch(labels)
+
+
+def _operated(operator, right):
+    """The code of an operator and its right operand, behind its left one."""
+    if operator == '&&':
+        return if_zero(NUMBER, constant(0), right + TRUTH)
+    if operator == '||':
+        return if_zero(NUMBER, right + TRUTH, constant(1))
+    if operator in COMPARISONS:
+        return right + COMPARISONS[operator] + EXTEND
+    return right + ARITHMETIC[operator]

@@ -1,0 +1,90 @@
+"""The types of the module of a script, each once and as it is spelled, and where types, functions and tags stand."""
+
+from assembler.encoding import signed, vector
+from script_compiler.trees import Handle, parts_of
+from script_reader.rules import INT
+
+NUMBER = b'\x7e'
+RESUMPTION_TYPE, COMPUTATION_TYPE, PRINTER_TYPE = 1, 3, 4
+RESUMPTION = b'\x63' + signed(RESUMPTION_TYPE)
+MADE_RESUMPTION = b'\x64' + signed(RESUMPTION_TYPE)       # which isn't null
+COMPUTATION = b'\x63' + signed(COMPUTATION_TYPE)
+PRINTER = 0     # the function
+
+
+def value_type(variable_type):
+    """The type of a variable in the module."""
+    return NUMBER if variable_type == INT else RESUMPTION
+
+
+def from_to(parameters, results):
+    """A function type."""
+    return b'\x60' + vector(parameters) + vector(results)
+
+
+def continuation_of(function_type):
+    """The type of continuations of the function type of this index."""
+    return b'\x5d' + signed(function_type)
+
+
+def function_type(parameters):
+    """The type of a function of these parameters."""
+    return from_to([value_type(parameter.type) for parameter in parameters], [NUMBER])
+
+
+def handler_type(parameters):
+    """The type of a handler of these parameters, whose last operand is what it handles."""
+    return from_to([value_type(parameter.type) for parameter in parameters] + [COMPUTATION], [NUMBER])
+
+
+def effect_type(count):
+    """The type of an effect of so many arguments."""
+    return from_to([NUMBER] * count, [NUMBER])
+
+
+def clause_type(count):
+    """The type of the block of a clause, which is left with so many arguments and the resumption."""
+    return from_to([], [NUMBER] * count + [MADE_RESUMPTION])
+
+
+FIRST_TYPES = [
+    from_to([NUMBER], [NUMBER]), continuation_of(0), from_to([], [NUMBER]), continuation_of(2), from_to([NUMBER], [])]
+
+
+def _types_for(declaration):
+    if declaration.kind == 'effect':
+        return [effect_type(declaration.count)]
+    if declaration.kind == 'fn':
+        return [function_type(declaration.parameters)]
+    return [handler_type(declaration.parameters)] + [clause_type(len(each.arguments)) for each in declaration.clauses]
+
+
+class Indices:
+    """Where the types, functions, handlers and tags of declarations stand, whose bodies are trees."""
+
+    def __init__(self, declarations):
+        self.effects = [each for each in declarations if each.kind == 'effect']
+        self.functions = [each for each in declarations if each.kind == 'fn']
+        self.handlers = [each for each in declarations if each.kind == 'handler']
+        self.tags = _numbered(self.effects, 0)
+        self.numbers = _numbered(self.functions + self.handlers, PRINTER + 1)
+        self.handled = self._handled(declarations)
+        wanted = [made for each in declarations for made in _types_for(each)]
+        self.types = list(dict.fromkeys(FIRST_TYPES + wanted))
+        continuations = [continuation_of(self.type(function_type(each.parameters))) for each in self.handled]
+        self.types = list(dict.fromkeys(self.types + continuations))
+        self.continuations = {each.name: self.type(made) for each, made in zip(self.handled, continuations)}
+
+    def _handled(self, declarations):
+        """The functions that some handle names."""
+        bodies = [(each.body, [clause.body for clause in each.clauses]) for each in declarations]
+        names = {part.function for part in parts_of(bodies) if isinstance(part, Handle)}
+        return [each for each in self.functions if each.name in names]
+
+    def type(self, spelled):
+        """The index of a type."""
+        return self.types.index(spelled)
+
+
+def _numbered(declarations, first):
+    return {declaration.name: first + number for number, declaration in enumerate(declarations)}

@@ -1,0 +1,133 @@
+"""Where the names of bodies are among the locals of their functions, and how many temporaries stand behind them."""
+
+from itertools import groupby
+from typing import NamedTuple
+
+from assembler.encoding import unsigned, vector
+from script_compiler.indices import NUMBER, value_type
+from script_compiler.trees import Call, Do, Handle, If, Let, Read, Resume, Run, Unary, While
+from script_reader.rules import INT, Parameter
+
+
+class Layout(NamedTuple):
+    """The number and the type of each name's local, the first temporary, and the handler in whose function this is."""
+
+    numbers: dict
+    types: dict
+    temporaries: int
+    owner: object = None
+
+    def handler_of(self, name):
+        """The handler of a resumption, or nothing."""
+        return None if self.types[name] == INT else self.types[name][1]
+
+    def stays(self, expression):
+        """Whether this is a bare name of a resumption, which is read where it lies."""
+        return isinstance(expression, Read) and self.handler_of(expression.name) is not None
+
+    def slot(self, temporary, expression):
+        """Where an argument lies until all arguments are there."""
+        return self.numbers[expression.name] if self.stays(expression) else self.temporaries + temporary
+
+    def is_own(self, name):
+        """Whether this is a resumption of the handler in whose function the body is."""
+        return self.owner is not None and self.handler_of(name) == self.owner.name
+
+
+def function_layout(function):
+    """The layout of a function's body."""
+    names = function.parameters + lets_in(function.body)
+    return _layout(names, range(len(names)), len(names))
+
+
+def function_locals(function):
+    """The locals of a function, as they are spelled."""
+    return _locals(lets_in(function.body), temporaries_in(function.body))
+
+
+def handler_layouts(handler):
+    """The layout of a handler's return clause, and those of its clauses."""
+    computation = 1
+    first = len(handler.parameters) + computation
+    rows = _handler_rows(handler)
+    temporaries = first + sum(map(len, rows))
+    layouts = []
+    for names in rows:
+        numbers = [*range(len(handler.parameters)), *range(first, first + len(names))]
+        layouts.append(_layout(handler.parameters + names, numbers, temporaries, handler))
+        first += len(names)
+    return layouts[0], layouts[1:]
+
+
+def handler_locals(handler):
+    """The locals of a handler's function, as they are spelled."""
+    bodies = [handler.body] + [clause.body for clause in handler.clauses]
+    return _locals(sum(_handler_rows(handler), []), max(map(temporaries_in, bodies)))
+
+
+def _handler_rows(handler):
+    """The names of the return clause, and those of each clause."""
+    rows = [[Parameter(handler.result, INT), *lets_in(handler.body)]]
+    for clause in handler.clauses:
+        arguments = [Parameter(name, INT) for name in clause.arguments]
+        rows.append(arguments + [Parameter(clause.resumption, ('res', handler.name)), *lets_in(clause.body)])
+    return rows
+
+
+def _layout(names, numbers, temporaries, owner=None):
+    places = {each.name: number for each, number in zip(names, numbers, strict=True)}
+    return Layout(places, {each.name: each.type for each in names}, temporaries, owner)
+
+
+def _locals(names, temporaries):
+    """One local for each name, and so many temporaries; neighbours of one type are one run."""
+    kinds = [value_type(each.type) for each in names] + [NUMBER] * temporaries
+    return vector([unsigned(len(list(run))) + kind for kind, run in groupby(kinds)])
+
+
+def lets_in(statements):
+    """The names that are bound in statements, those of blocks within too, in order."""
+    names = []
+    for statement in statements:
+        if isinstance(statement, Let):
+            names.append(Parameter(statement.name, INT))
+        for inner in _blocks(statement):
+            names += lets_in(inner)
+    return names
+
+
+def _blocks(statement):
+    if isinstance(statement, If):
+        return [statement.then, statement.otherwise]
+    return [statement.body] if isinstance(statement, While) else []
+
+
+def temporaries_in(statements):
+    """How many temporaries statements take."""
+    most = 0
+    for statement in statements:
+        for field in ('condition', 'value'):
+            if hasattr(statement, field):
+                most = max(most, _most(0, getattr(statement, field)))
+        most = max([most, *map(temporaries_in, _blocks(statement))])
+    return most
+
+
+def _most(used, expression):
+    """The number of temporaries in use at any time, so many being in use before."""
+    if isinstance(expression, Unary):
+        return _most(used, expression.operand)
+    if isinstance(expression, Run):
+        return max(_most(used, expression.first), _most_of(used, [operand for _, operand in expression.others]))
+    if isinstance(expression, (Call, Do)):
+        return _most_of(used, expression.arguments)
+    if isinstance(expression, Handle):
+        aside = [_most(used + place, each) for place, each in enumerate(expression.arguments)]
+        return max([*aside, _most_of(used + len(aside), expression.parameters)])
+    if isinstance(expression, Resume):
+        return max(_most(used, expression.value), _most_of(used + 1, expression.parameters))
+    return used
+
+
+def _most_of(used, expressions):
+    return max([used, *(_most(used, each) for each in expressions)])

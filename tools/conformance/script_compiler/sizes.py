@@ -1,0 +1,25 @@
+"""The size of scripts."""
+
+from script_compiler.trees import Run, parts_of
+
+
+def size_of(declarations):
+    """The size of a script of these declarations, whose bodies are trees."""
+    return sum(map(_declaration_size, declarations))
+
+
+def _declaration_size(declaration):
+    size = 1 + len(declaration.parameters) + _body_size(declaration.body)
+    if declaration.kind == 'handler':
+        return_clause_and_its_name = 2
+        size += return_clause_and_its_name + sum(map(_clause_size, declaration.clauses))
+    return size
+
+
+def _clause_size(clause):
+    clause_and_resumption = 2
+    return clause_and_resumption + len(clause.arguments) + _body_size(clause.body)
+
+
+def _body_size(statements):
+    return sum(len(part.others) if isinstance(part, Run) else 1 for part in parts_of(statements))
