@@ -1,7 +1,7 @@
 """A second compiler of scripts: it says what `build` is to write of one.
 
 It rests on what `docs/SPECIFICATION.md` tells of the compiling and of the size of scripts, and on the definitions named
-there. Scripts are read by `script_reader`, and spelled by nothing of the assembler but numbers, vectors and names.
+there. Scripts are read by `script_reader`, and modules spelled by the assembler; `reader` is to find each valid.
 """
 
 from functools import lru_cache

@@ -1,10 +1,12 @@
 """The code of expressions and statements."""
 
+from assembler.instructions import (
+    DROP, NOP, RETURN, UNREACHABLE, block, br, br_if, call, cont_bind, cont_new, i64_const, local_get, local_set, loop,
+    ref_func, suspend)
+from assembler.types import EMPTY
 from script_compiler.indices import COMPUTATION_TYPE, PRINTER, RESUMPTION_TYPE
 from script_compiler.instructions import (
-    ARITHMETIC, COMPARISONS, DROP, EMPTY, EXTEND, IS_ZERO, MULTIPLY, NOP, NUMBER, RETURN, TRUTH, UNREACHABLE,
-    bind_continuation, block, branch, branch_if, call, constant, function_reference, if_zero, local_get, local_set,
-    loop, new_continuation, suspend)
+    ARITHMETIC, COMPARISONS, EXTEND, IS_ZERO, NEGATE, NUMBER, TRUTH, if_zero)
 from script_compiler.trees import (
     Assign, Call, Do, Evaluate, Fail, Handle, If, Let, Literal, Print, Read, Resume, Return, Run, Unary, While)
 
@@ -18,7 +20,7 @@ class Body:
 
     def whole(self, labels, statements):
         """A body, which returns 0 at its end."""
-        return self.statements(labels, statements) + constant(0) + RETURN
+        return self.statements(labels, statements) + i64_const(0) + RETURN
 
     # Expressions.
 
@@ -32,13 +34,13 @@ class Body:
         return b''.join(self.expression(used, tree) for tree in trees)
 
     def _literal(self, _, tree):
-        return constant(tree.number)
+        return i64_const(tree.number)
 
     def _read(self, _, tree):
         return local_get(self.layout.numbers[tree.name])
 
     def _unary(self, used, tree):
-        behind = constant(-1) + MULTIPLY if tree.operator == '-' else IS_ZERO + EXTEND
+        behind = NEGATE if tree.operator == '-' else IS_ZERO + EXTEND
         return self.expression(used, tree.operand) + behind
 
     def _run(self, used, tree):
@@ -58,8 +60,8 @@ class Body:
             *(self._aside(place, each) for place, each in places),
             self.expressions(used + len(places), tree.parameters),
             *(local_get(self.layout.slot(place, each)) for place, each in places),
-            function_reference(self.indices.numbers[tree.function]),
-            new_continuation(continuation), bind_continuation(continuation, COMPUTATION_TYPE),
+            ref_func(self.indices.numbers[tree.function]),
+            cont_new(continuation), cont_bind(continuation, COMPUTATION_TYPE),
             call(self.indices.numbers[tree.handler])])
 
     def _aside(self, place, tree):
@@ -78,7 +80,7 @@ class Body:
         return b''.join([
             self.expression(used, tree.value), self._set_temporary(used),
             self.expressions(used + 1, tree.parameters), local_get(self.layout.temporaries + used),
-            local_get(self.layout.numbers[tree.resumption]), bind_continuation(RESUMPTION_TYPE, COMPUTATION_TYPE)])
+            local_get(self.layout.numbers[tree.resumption]), cont_bind(RESUMPTION_TYPE, COMPUTATION_TYPE)])
 
     # Statements.
 
@@ -107,8 +109,8 @@ class Body:
         return self.expression(0, tree.condition) + if_zero(EMPTY, *blocks)
 
     def _while(self, labels, tree):
-        turn = self.expression(0, tree.condition) + IS_ZERO + branch_if(1) + self.statements(labels + 2, tree.body)
-        return block(EMPTY, loop(EMPTY, turn + branch(0)))
+        turn = self.expression(0, tree.condition) + IS_ZERO + br_if(1) + self.statements(labels + 2, tree.body)
+        return block(EMPTY, loop(EMPTY, turn + br(0)))
 
     def _return(self, labels, tree):
         value = tree.value
@@ -120,15 +122,15 @@ class Body:
         """The loop of the handler begins again, with these parameters and this to be handled."""
         computation = len(self.layout.owner.parameters)
         sets = [local_set(local) for local in range(computation, -1, -1)]
-        return self._woken(0, tree) + b''.join(sets) + branch(labels)
+        return self._woken(0, tree) + b''.join(sets) + br(labels)
 
 
 def _operated(operator, right):
     """The code of an operator and its right operand, behind its left one."""
     if operator == '&&':
-        return if_zero(NUMBER, constant(0), right + TRUTH)
+        return if_zero(NUMBER, i64_const(0), right + TRUTH)
     if operator == '||':
-        return if_zero(NUMBER, right + TRUTH, constant(1))
+        return if_zero(NUMBER, right + TRUTH, i64_const(1))
     if operator in COMPARISONS:
-        return right + COMPARISONS[operator] + EXTEND
+        return right + COMPARISONS[operator]
     return right + ARITHMETIC[operator]

@@ -1,14 +1,15 @@
 """The types of the module of a script, each once and as it is spelled, and where types, functions and tags stand."""
 
-from assembler.encoding import signed, vector
+from assembler.encoding import signed
+from assembler.types import functype, nullable, ref
+from script_compiler.instructions import NUMBER
 from script_compiler.trees import Handle, parts_of
 from script_reader.rules import INT
 
-NUMBER = b'\x7e'
 RESUMPTION_TYPE, COMPUTATION_TYPE, PRINTER_TYPE = 1, 3, 4
-RESUMPTION = b'\x63' + signed(RESUMPTION_TYPE)
-MADE_RESUMPTION = b'\x64' + signed(RESUMPTION_TYPE)       # which isn't null
-COMPUTATION = b'\x63' + signed(COMPUTATION_TYPE)
+RESUMPTION = nullable(RESUMPTION_TYPE)
+MADE_RESUMPTION = ref(RESUMPTION_TYPE)      # which isn't null
+COMPUTATION = nullable(COMPUTATION_TYPE)
 PRINTER = 0     # the function
 
 
@@ -17,38 +18,33 @@ def value_type(variable_type):
     return NUMBER if variable_type == INT else RESUMPTION
 
 
-def from_to(parameters, results):
-    """A function type."""
-    return b'\x60' + vector(parameters) + vector(results)
-
-
-def continuation_of(function_type):
-    """The type of continuations of the function type of this index."""
-    return b'\x5d' + signed(function_type)
+def continuation_of(function):
+    """The type of continuations of the function type of this index, which is written as a signed number."""
+    return b'\x5d' + signed(function)
 
 
 def function_type(parameters):
     """The type of a function of these parameters."""
-    return from_to([value_type(parameter.type) for parameter in parameters], [NUMBER])
+    return functype([value_type(parameter.type) for parameter in parameters], [NUMBER])
 
 
 def handler_type(parameters):
     """The type of a handler of these parameters, whose last operand is what it handles."""
-    return from_to([value_type(parameter.type) for parameter in parameters] + [COMPUTATION], [NUMBER])
+    return functype([value_type(parameter.type) for parameter in parameters] + [COMPUTATION], [NUMBER])
 
 
 def effect_type(count):
     """The type of an effect of so many arguments."""
-    return from_to([NUMBER] * count, [NUMBER])
+    return functype([NUMBER] * count, [NUMBER])
 
 
 def clause_type(count):
     """The type of the block of a clause, which is left with so many arguments and the resumption."""
-    return from_to([], [NUMBER] * count + [MADE_RESUMPTION])
+    return functype([], [NUMBER] * count + [MADE_RESUMPTION])
 
 
 FIRST_TYPES = [
-    from_to([NUMBER], [NUMBER]), continuation_of(0), from_to([], [NUMBER]), continuation_of(2), from_to([NUMBER], [])]
+    functype([NUMBER], [NUMBER]), continuation_of(0), functype([], [NUMBER]), continuation_of(2), functype([NUMBER], [])]
 
 
 def _types_for(declaration):

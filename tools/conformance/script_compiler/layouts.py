@@ -3,8 +3,8 @@
 from itertools import groupby
 from typing import NamedTuple
 
-from assembler.encoding import unsigned, vector
-from script_compiler.indices import NUMBER, value_type
+from script_compiler.indices import value_type
+from script_compiler.instructions import NUMBER
 from script_compiler.trees import Call, Do, Handle, If, Let, Read, Resume, Run, Unary, While
 from script_reader.rules import INT, Parameter
 
@@ -41,7 +41,7 @@ def function_layout(function):
 
 
 def function_locals(function):
-    """The locals of a function, as they are spelled."""
+    """The locals of a function, in runs of one type."""
     return _locals(lets_in(function.body), temporaries_in(function.body))
 
 
@@ -60,7 +60,7 @@ def handler_layouts(handler):
 
 
 def handler_locals(handler):
-    """The locals of a handler's function, as they are spelled."""
+    """The locals of a handler's function, in runs of one type."""
     bodies = [handler.body] + [clause.body for clause in handler.clauses]
     return _locals(sum(_handler_rows(handler), []), max(map(temporaries_in, bodies)))
 
@@ -82,7 +82,7 @@ def _layout(names, numbers, temporaries, owner=None):
 def _locals(names, temporaries):
     """One local for each name, and so many temporaries; neighbours of one type are one run."""
     kinds = [value_type(each.type) for each in names] + [NUMBER] * temporaries
-    return vector([unsigned(len(list(run))) + kind for kind, run in groupby(kinds)])
+    return [(len(list(run)), kind) for kind, run in groupby(kinds)]
 
 
 def lets_in(statements):
