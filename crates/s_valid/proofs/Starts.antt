@@ -1,21 +1,16 @@
 -- A run of the module of a script begins: it invokes main in a store with the printer in front of the script's functions and handlers.
 use Rattle.std.proofs.Common.{◌≡◌, ◌⊎◌, inl, inr, ℕ, zero, suc, ◌<◌, Bool, List, [], ◌∷◌, map, length, codes, Option, Some, refl, sym, ap, ◌∙◌, arith, length-append}
 use Rattle.std.specs.Prelude.{slice_get}
-use Rattle.w_types.specs.Rows.{ε}
 use Rattle.w_types.specs.declared.types.FuncType.{FuncType}
 use Rattle.w_types.specs.declared.types.ValType.TheVariants.{I64}
-use Rattle.w_syntax.specs.Code.{Done}
 use Rattle.w_syntax.specs.Functions.{func_type, function_type as function_type_in, type_at}
 use Rattle.w_syntax.specs.declared.module.Elem.{Elem}
 use Rattle.w_syntax.specs.declared.module.Module.{Module}
-use Rattle.w_syntax.specs.declared.module.Tag.{Tag}
 use Rattle.w_tables.specs.declared.entries.FuncEntry.TheVariants as entry_of
 use Rattle.w_tables.specs.declared.entries.Printer.TheVariants as printer
 use Rattle.w_rules.specs.Spaces.{context_of}
-use Rattle.w_reduce.specs.Values.{Val}
 use Rattle.w_reduce.specs.Constants.{value_of}
 use Rattle.w_reduce.specs.Store.{Store, made, live}
-use Rattle.w_reduce.specs.Terms.{Term, Invoke}
 use Rattle.w_reduce.specs.Program.{Program}
 use Rattle.w_reduce.specs.Imports.{Found, All, of_type, printers_of, and_first}
 use Rattle.w_reduce.specs.Start.{Ready, Start, own, entry, entry_at, in_order, element_started, with_imports, with_entry, with_elements_in}
@@ -32,33 +27,10 @@ use Rattle.s_index.specs.Types.{from_to, val_types}
 use Rattle.s_code.specs.Lowered.{declared, lowered_all, lowered}
 use Rattle.s_meaning.proofs.Good.{good_typed}
 use Rattle.s_valid.specs.Offers.{arrow}
+use Rattle.s_valid.specs.Beginning.{segments_left, store_with, first_store, first_term}
 use Rattle.s_valid.proofs.Numbering.{get_left, get_right}
 use Rattle.s_valid.proofs.TypeTable.{func_there, first_type}
 use Rattle.s_valid.proofs.ModuleOffers.{function_at, function_type_there}
-
--- ## What a run begins with
-
--- the segment of the functions that are handled is dropped
-abbrev pub segments_left : List Declaration → List (List Val)
-segments_left [] = []
-segments_left (d ∷ ds) = [] ∷ []
-
--- the first store: the printer, the module's functions, and the tags' types
-abbrev pub first_store : List Declaration → Store
-first_store ds = record {
-  functions = entry_of.Printer printer.I64 ∷ own (length (lowered_all ds).functions);
-  tables = [];
-  memories = [];
-  globals = [];
-  tags = map (λ (t : Tag). t.type_index) (lowered_all ds).tags;
-  elements = segments_left (handled ds);
-  datas = [];
-  conts = [];
-}
-
--- the first term: main is invoked
-abbrev pub first_term : List Declaration → Term
-first_term ds = record { around = []; operands = ε; rest = record { ahead = Invoke (function_index ds (codes "main")) ∷ []; code = Done } }
 
 -- ## Instantiation
 
@@ -81,23 +53,10 @@ main_found ds g e none =
 abbrev program : List Declaration → (ℕ → ℕ → Bool) → Program
 program ds same = record { source = lowered_all ds; same = same }
 
--- the store before segments are looked at
-abbrev with_segment : List Declaration → List (List Val) → Store
-with_segment ds vs = record {
-  functions = entry_of.Printer printer.I64 ∷ own (length (lowered_all ds).functions);
-  tables = [];
-  memories = [];
-  globals = [];
-  tags = map (λ (t : Tag). t.type_index) (lowered_all ds).tags;
-  elements = vs;
-  datas = [];
-  conts = [];
-}
-
 -- the segment is dropped, where there is one
 segments_started : (ds : List Declaration) (p : Program) (s : Store) (hs : List Declaration)
-    → in_order (λ s y (e : Elem). element_started p s y e.mode) (Some (with_segment ds (map (λ (e : Elem). map (value_of p s) e.items) (declared ds hs)))) 0 (declared ds hs)
-    ≡ Some (with_segment ds (segments_left hs))
+    → in_order (λ s y (e : Elem). element_started p s y e.mode) (Some (store_with ds (map (λ (e : Elem). map (value_of p s) e.items) (declared ds hs)))) 0 (declared ds hs)
+    ≡ Some (store_with ds (segments_left hs))
 segments_started ds p s [] = refl
 segments_started ds p s (h ∷ hs) = refl
 
@@ -106,7 +65,7 @@ started ds same g e none =
     let p = program ds same in
     ap (λ (f : Found). with_imports p f) (printer_found ds)
     ∙ ap (λ (o : Option ℕ). with_entry p (printer.I64 ∷ []) o) (main_found ds g e none)
-    ∙ ap (λ (o : Option Store). with_elements_in p (function_index ds (codes "main")) o) (segments_started ds p (with_segment ds []) (handled ds))
+    ∙ ap (λ (o : Option Store). with_elements_in p (function_index ds (codes "main")) o) (segments_started ds p (store_with ds []) (handled ds))
 
 -- a run of the module begins
 pub starts : (p : Script) → Good p → (P : Program) → P.source ≡ lowered p → Start P ≡ Ready (first_store p.declarations) (first_term p.declarations)

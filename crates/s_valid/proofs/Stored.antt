@@ -21,11 +21,12 @@ use Rattle.s_index.specs.Numbers.{Entry, no_counts, counted, counts_of, with_ent
 use Rattle.s_index.specs.Types.{handler_type, clause_types, val_types, to_continuation, computation_type}
 use Rattle.s_code.specs.Lowered.{function_code, handler_code, function_code_of, handler_code_of, for_each, lowered_all}
 use Rattle.s_valid.specs.Offers.{arrow}
+use Rattle.s_valid.specs.Beginning.{first_store}
 use Rattle.s_valid.proofs.MadeOnce.{here}
 use Rattle.s_valid.proofs.Numbering.{get_left, get_right, found, all_made}
 use Rattle.s_valid.proofs.TypeTable.{is_function, is_handler, func_there}
 use Rattle.s_valid.proofs.ModuleOffers.{function_types_of, handler_types_of, found_function, function_index_is, function_type_there, found_handler, handler_index_is, handlers_behind, handler_type_there}
-use Rattle.s_valid.proofs.Starts.{first_store, own_behind}
+use Rattle.s_valid.proofs.Starts.{own_behind}
 
 -- what is invoked at an address: a function of the module, of this type and with this code
 pub record Stored (ds : List Declaration) (a : ℕ) (t : FuncType) (b : Body) : Type 0 where

@@ -4,13 +4,12 @@ use Rattle.w_encode.specs.Canon.{Canon}
 use Rattle.w_rules.specs.Limits.{Within}
 use Rattle.w_rules.specs.Valid.{Valid}
 use Rattle.w_reduce.specs.Program.{Program}
-use Rattle.w_reduce.specs.Store.{Store}
-use Rattle.w_reduce.specs.Terms.{Term}
 use Rattle.w_reduce.specs.Start.{Start, Ready}
 use Rattle.s_syntax.specs.declared.script.Script.{Script}
 use Rattle.s_check.specs.Refusal.{Good}
 use Rattle.s_check.specs.Size.{Size}
 use Rattle.s_code.specs.Lowered.{lowered}
+use Rattle.s_valid.specs.Beginning.{first_store, first_term}
 
 -- they are valid, and within the limits of modules
 abbrev pub ModulesValid : Type 0
@@ -20,6 +19,7 @@ ModulesValid = (p : Script) → Good p → Size p ≤ 50000 → Valid (lowered p
 abbrev pub SpellingsShort : Type 0
 SpellingsShort = (p : Script) → Good p → Size p ≤ 50000 → length (Canon (lowered p)) ≤ 16777216
 
--- runs of them begin, whatever tells which types are equivalent: nothing that they import is missing, and no segment traps
+-- runs of them begin with this store and this term, whatever tells which types are equivalent: nothing that they import is missing, and no
+-- segment traps
 abbrev pub RunsBegin : Type 0
-RunsBegin = (p : Script) → Good p → (program : Program) → program.source ≡ lowered p → (s : Store) × (t : Term) × (Start program ≡ Ready s t)
+RunsBegin = (p : Script) → Good p → (program : Program) → program.source ≡ lowered p → Start program ≡ Ready (first_store p.declarations) (first_term p.declarations)

@@ -11,7 +11,7 @@ pub fn spellings_of_scripts_are_short()
     ensures short { SpellingsShort }
 {}
 
-/// A run of the module of a script that breaks no rule begins.
+/// A run of the module of a script that breaks no rule begins: it calls `main`, and no continuation is made yet.
 pub fn runs_of_scripts_begin()
     ensures begin { RunsBegin }
 {}
