@@ -4,7 +4,7 @@ use Rattle.std.specs.Fmt.{digits}
 use Rattle.clap.specs.Walk.{Text}
 use Rattle.clap.proofs.OnLiterals.{clap_on_literals}
 use Rattle.words.specs.declared.request.Action.TheVariants.{Check, Run, Build}
-use Rattle.words.specs.Line.{Line, line_of, on_file, bad}
+use Rattle.words.specs.Line.{Line, line_of, on_file, generated, bad}
 
 -- what the words after the program's name ask for
 abbrev asked : List Text → Line
@@ -175,6 +175,52 @@ build_for_steps : asked (codes "build" ∷ codes "two" ∷ codes "--steps" ∷ c
 unfolding line_of clap_on_literals digits
 build_for_steps = refl
 
+-- ## `gen`
+
+gen_least : asked (codes "gen" ∷ codes "1" ∷ []) ≡ generated 1
+unfolding line_of clap_on_literals digits
+gen_least = refl
+
+gen_most : asked (codes "gen" ∷ codes "500" ∷ []) ≡ generated 500
+unfolding line_of clap_on_literals digits
+gen_most = refl
+
+gen_none : asked (codes "gen" ∷ codes "0" ∷ []) ≡ bad
+unfolding line_of clap_on_literals digits
+gen_none = refl
+
+gen_over_most : asked (codes "gen" ∷ codes "501" ∷ []) ≡ bad
+unfolding line_of clap_on_literals digits
+gen_over_most = refl
+
+gen_with_zero : asked (codes "gen" ∷ codes "01" ∷ []) ≡ bad
+unfolding line_of clap_on_literals digits
+gen_with_zero = refl
+
+gen_alone : asked (codes "gen" ∷ []) ≡ bad
+unfolding line_of clap_on_literals digits
+gen_alone = refl
+
+gen_no_number : asked (codes "gen" ∷ codes "x" ∷ []) ≡ bad
+unfolding line_of clap_on_literals digits
+gen_no_number = refl
+
+gen_two_numbers : asked (codes "gen" ∷ codes "5" ∷ codes "6" ∷ []) ≡ bad
+unfolding line_of clap_on_literals digits
+gen_two_numbers = refl
+
+gen_for_stats : asked (codes "gen" ∷ codes "5" ∷ codes "--stats" ∷ []) ≡ bad
+unfolding line_of clap_on_literals digits
+gen_for_stats = refl
+
+gen_below_none : asked (codes "gen" ∷ codes "-5" ∷ []) ≡ bad
+unfolding line_of clap_on_literals digits
+gen_below_none = refl
+
+gen_for_steps : asked (codes "gen" ∷ codes "5" ∷ codes "--steps" ∷ codes "9" ∷ []) ≡ bad
+unfolding line_of clap_on_literals digits
+gen_for_steps = refl
+
 -- ## Steps that are no number in the range
 
 steps_over_most : asked (codes "run" ∷ codes "two" ∷ codes "--steps" ∷ codes "1099511627777" ∷ []) ≡ bad
@@ -251,7 +297,7 @@ version_flag : asked (codes "--version" ∷ []) ≡ bad
 unfolding line_of clap_on_literals digits
 version_flag = refl
 
-other_command : asked (codes "gen" ∷ codes "5" ∷ []) ≡ bad
+other_command : asked (codes "make" ∷ codes "two" ∷ []) ≡ bad
 unfolding line_of clap_on_literals digits
 other_command = refl
 

@@ -12,6 +12,8 @@ use Rattle.words.specs.declared.request.Action.TheVariants.{Check, Run, Build}
 pub data Line : Type 0 where
   -- this action on the module of this file
   on_file : Text → Action → Line
+  -- the run of the script that is generated for this number
+  generated : ℕ → Line
   -- nothing that is there
   bad : Line
 
@@ -29,6 +31,10 @@ steps_rule = record (new_rule (codes "steps")) { long = Some (codes "steps") }
 abbrev pub stats_rule : Rule
 stats_rule = record (new_rule (codes "stats")) { long = Some (codes "stats"); action = Some SetTrue }
 
+-- one number, which has to be given
+abbrev pub number_rule : Rule
+number_rule = record (new_rule (codes "number")) { required = true }
+
 -- `check FILE`
 abbrev pub check_app : App
 check_app = with_rule (new_app (codes "check")) file_rule
@@ -40,6 +46,10 @@ run_app = with_rule (with_rule (with_rule (new_app (codes "run")) file_rule) ste
 -- `build FILE`
 abbrev pub build_app : App
 build_app = with_rule (new_app (codes "build")) file_rule
+
+-- `gen N`
+abbrev pub gen_app : App
+gen_app = with_rule (new_app (codes "gen")) number_rule
 
 -- a command has to be named; `help` and `--help` are words like others
 abbrev pub settings : Shape → Shape
@@ -55,7 +65,7 @@ base_app = with_subcommand (with_subcommand (on_top settings (new_app (codes "st
 
 -- the program's commands
 abbrev pub the_app : App
-the_app = with_subcommand base_app build_app.top
+the_app = with_subcommand (with_subcommand base_app build_app.top) gen_app.top
 
 -- ## What its matches say
 
@@ -67,6 +77,10 @@ default_steps = 100000000
 abbrev pub most_steps : ℕ
 most_steps = 1099511627776
 
+-- the most that the number of a generated script may be
+abbrev pub most_generated : ℕ
+most_generated = 500
+
 -- the number that the text spells in decimal digits, with no sign and no zero before it, from the least to the most
 abbrev pub number_in : ℕ → ℕ → Text → Option ℕ
 number_in least most text = if bytes_eq text (decimal (digits_value 10 text))
@@ -77,6 +91,11 @@ number_in least most text = if bytes_eq text (decimal (digits_value 10 text))
 abbrev pub steps_in : Option Text → Option ℕ
 steps_in (Some text) = number_in 0 most_steps text
 steps_in None = Some default_steps
+
+-- the number of a generated script, by the text that the words give for it
+abbrev pub generated_in : Option Text → Option ℕ
+generated_in (Some text) = number_in 1 most_generated text
+generated_in None = None
 
 -- whether statistics are asked for: a flag has the text `true` where the words have it, and else `false`
 abbrev pub stats_in : Option Text → Bool
@@ -99,9 +118,14 @@ action_of name rows = if bytes_eq name (codes "check") then Some Check
     else (if bytes_eq name (codes "build") then Some Build
     else None))
 
+-- the line of the matches of a command on a file
+abbrev pub file_line : Text → List Row → Line
+file_line name rows = when (first_of (codes "file") rows) (λ file. when (action_of name rows) (on_file file))
+
 -- the line of a command's matches
 abbrev pub named_line : Text → List Row → Line
-named_line name rows = when (first_of (codes "file") rows) (λ file. when (action_of name rows) (on_file file))
+named_line name rows = if bytes_eq name (codes "gen") then when (generated_in (first_of (codes "number") rows)) generated
+    else file_line name rows
 
 abbrev pub entered_line : Option (Text × List Row) → Line
 entered_line (Some p) = named_line p.0 p.1

@@ -3,10 +3,12 @@ use Rattle.std.specs.Prelude.{◌≡◌, ◌≤◌, ⊤, Option, Some, None}
 use Rattle.words.specs.declared.request.Action.{Action}
 use Rattle.words.specs.declared.request.Action.TheVariants.{Check, Run, Build}
 use Rattle.words.specs.declared.request.Request.{Request}
-use Rattle.words.specs.Line.{Line, on_file, bad, most_steps}
+use Rattle.words.specs.declared.request.Request.TheVariants.{OnFile, Generated}
+use Rattle.words.specs.Line.{Line, on_file, generated, bad, most_steps, most_generated}
 
 abbrev pub asked_by : Request → Line
-asked_by request = on_file request.file.now request.action
+asked_by (OnFile file action) = on_file file.now action
+asked_by (Generated number) = generated number
 
 -- the request is the line, and there is none where the line is bad
 abbrev pub Asks : Option Request → Line → Type 0
@@ -18,3 +20,8 @@ abbrev pub IsWithinSteps : Action → Type 0
 IsWithinSteps Check = ⊤
 IsWithinSteps (Run steps stats) = steps ≤ most_steps
 IsWithinSteps Build = ⊤
+
+-- no more steps than the words may give, and a number from 1 to the most
+abbrev pub IsAllowed : Request → Type 0
+IsAllowed (OnFile file action) = IsWithinSteps action
+IsAllowed (Generated number) = (1 ≤ number) × (number ≤ most_generated)

@@ -4,7 +4,7 @@ ghost use Rattle.clap.specs.Kinds.{HasKind};
 ghost use Rattle.clap.specs.Faults.{fault_of};
 ghost use Rattle.clap.specs.Simple.{app_of, subcommand_of, subcommand_rows_of};
 ghost use Rattle.clap.specs.declared.builder.command.Command.TheViews.{out-Command};
-ghost use Rattle.words.specs.Line.{the_app, base_app, check_app, run_app, build_app};
+ghost use Rattle.words.specs.Line.{the_app, base_app, check_app, run_app, build_app, gen_app};
 
 use clap::{Arg, ArgAction, ArgMatches, Command, Error};
 use std::alloc::{AllocError, Global};
@@ -40,6 +40,15 @@ fn build_command<'a>(alloc: Global) -> Result<Command<'a>, AllocError>
     Command::new(alloc, "build").arg(file)
 }
 
+// `gen N`.
+fn gen_command<'a>(alloc: Global) -> Result<Command<'a>, AllocError>
+    ensures app { IfOk result (λ c. app_of c ≡ gen_app) }
+    ensures local { IfOk result (λ c. (out-Command c).has_globals ≡ false) }
+{
+    let number = Arg::new(alloc, "number").required(true);
+    Command::new(alloc, "gen").arg(number)
+}
+
 // The commands `check` and `run`. `help` and `--help` are words like others.
 fn base_commands<'a>(alloc: Global) -> Result<Command<'a>, AllocError>
     ensures { IfOk result (λ c. app_of c ≡ base_app) }
@@ -58,7 +67,10 @@ fn commands<'a>(alloc: Global) -> Result<Command<'a>, AllocError>
     ensures { IfOk result (λ c. app_of c ≡ the_app) }
 {
     let build = build_command(alloc)?;
-    base_commands(alloc)?.subcommand(build)
+    let generate = gen_command(alloc)?;
+    base_commands(alloc)?
+        .subcommand(build)?
+        .subcommand(generate)
 }
 
 /// What clap makes of the words.

@@ -6,6 +6,6 @@ mod options;
 mod reading;
 mod request;
 
-pub use options::{DEFAULT_STEPS, MOST_STEPS};
+pub use options::{DEFAULT_STEPS, MOST_GENERATED, MOST_STEPS};
 pub use reading::{WordsFault, request_of};
 pub use request::{Action, Request};

@@ -1,8 +1,8 @@
-//! The options of a run, as the words give them.
+//! The options of a run and the number of a generated script, as the words give them.
 ghost use Rattle.std.specs.Prelude.{◌≡◌, ◌≤◌, IfSome, option_map, codes};
 ghost use Rattle.clap.specs.Matches.{found_of};
 ghost use Rattle.clap.specs.Walk.{first_of, rows_of};
-ghost use Rattle.words.specs.Line.{number_in, steps_in, stats_in, most_steps};
+ghost use Rattle.words.specs.Line.{number_in, steps_in, stats_in, generated_in, most_steps, most_generated};
 
 use clap::ArgMatches;
 use itoa::Buffer;
@@ -13,10 +13,13 @@ pub const DEFAULT_STEPS: u64 = 100_000_000;
 /// The most steps that the words may give.
 pub const MOST_STEPS: u64 = 1_099_511_627_776;
 
+/// The most that the number of a generated script may be.
+pub const MOST_GENERATED: u64 = 500;
+
 // A number in decimal digits, with no sign and no zero before it, from the least to the most.
 fn number_of(least: u64, most: u64, text: &str) -> Option<u64>
     ensures number { result ≡ number_in least most text.now }
-    ensures within { IfSome result (λ number. number ≤ most) }
+    ensures within { IfSome result (λ number. (least ≤ number) × (number ≤ most)) }
 {
     let Ok(number) = text.parse::<u64>() else {
         return None;
@@ -51,6 +54,16 @@ pub(crate) fn steps_of(found: &ArgMatches) -> Option<u64>
         Some(text) => number_of(0, MOST_STEPS, text),
         None => Some(DEFAULT_STEPS),
     }
+}
+
+/// The number of a generated script.
+pub(crate) fn generated_of(found: &ArgMatches) -> Option<u32>
+    ensures number { result ≡ generated_in (first_of (codes "number") (rows_of (found_of found.now))) }
+    ensures within { IfSome result (λ number. (1 ≤ number) × (number ≤ most_generated)) }
+{
+    let text = value_of(found, "number")?;
+    let number = number_of(1, MOST_GENERATED, text)?;
+    Some(number as u32)
 }
 
 /// Whether statistics are asked for.

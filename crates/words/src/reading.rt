@@ -4,11 +4,11 @@ ghost use Rattle.clap.specs.Matches.{found_of};
 ghost use Rattle.clap.specs.Values.{kind_of};
 ghost use Rattle.clap.specs.Walk.{rows_of};
 ghost use Rattle.clap.specs.Simple.{subcommand_rows_of};
-ghost use Rattle.words.specs.Line.{action_of, named_line, entered_line, line_of, bad};
-ghost use Rattle.words.specs.Request.{Asks, asked_by, IsWithinSteps};
+ghost use Rattle.words.specs.Line.{action_of, file_line, named_line, entered_line, line_of, bad};
+ghost use Rattle.words.specs.Request.{Asks, asked_by, IsWithinSteps, IsAllowed};
 
 use crate::commands::parse;
-use crate::options::{has_stats, steps_of, value_of};
+use crate::options::{generated_of, has_stats, steps_of, value_of};
 use crate::request::{Action, Request};
 use clap::error::ErrorKind;
 use clap::{ArgMatches, Error};
@@ -43,20 +43,32 @@ fn action_named(name: &str, found: &ArgMatches) -> Option<Action>
     None
 }
 
-// What the matches of a command ask for.
-fn request_named<'a>(name: &str, found: &ArgMatches<'a>) -> Option<Request<'a>>
-    ensures asks { Asks result (named_line name.now (rows_of (found_of found.now))) }
-    ensures within { IfSome result (λ request. IsWithinSteps request.action) }
+// What the matches of a command on a file ask for.
+fn request_on_file<'a>(name: &str, found: &ArgMatches<'a>) -> Option<Request<'a>>
+    ensures asks { Asks result (file_line name.now (rows_of (found_of found.now))) }
+    ensures within { IfSome result IsAllowed }
 {
     let file = value_of(found, "file")?;
     let action = action_named(name, found)?;
-    Some(Request { file, action })
+    Some(Request::OnFile { file, action })
+}
+
+// What the matches of a command ask for.
+fn request_named<'a>(name: &str, found: &ArgMatches<'a>) -> Option<Request<'a>>
+    ensures asks { Asks result (named_line name.now (rows_of (found_of found.now))) }
+    ensures within { IfSome result IsAllowed }
+{
+    if name == "gen" {
+        let number = generated_of(found)?;
+        return Some(Request::Generated(number));
+    }
+    request_on_file(name, found)
 }
 
 // What the matches ask for. `None` exactly where that is nothing.
 fn request_in<'a>(matches: &ArgMatches<'a>) -> Option<Request<'a>>
     ensures asks { Asks result (entered_line (subcommand_rows_of matches.now)) }
-    ensures within { IfSome result (λ request. IsWithinSteps request.action) }
+    ensures within { IfSome result IsAllowed }
 {
     let (name, found) = matches.subcommand()?;
     request_named(name, found)
@@ -76,7 +88,7 @@ fn fault_of_error(error: &Error) -> WordsFault
 /// What the words ask for, the program's name first.
 pub fn request_of<'a>(alloc: Global, words: &'a [String]) -> Result<Request<'a>, WordsFault>
     ensures asks { IfOk result (λ request. line_of (map string_bytes words.entry.now) ≡ asked_by request) }
-    ensures within { IfOk result (λ request. IsWithinSteps request.action) }
+    ensures within { IfOk result IsAllowed }
     ensures bad { IsErrOf result WordsFault.Bad → line_of (map string_bytes words.entry.now) ≡ bad }
 {
     match parse(alloc, words) {

@@ -11,9 +11,11 @@ pub enum Action {
     Build,
 }
 
-/// An action on the module of a file.
+/// What the words ask for.
 #[derive(Clone, Copy)]
-pub struct Request<'a> {
-    pub file: &'a str,
-    pub action: Action,
+pub enum Request<'a> {
+    /// An action on a file.
+    OnFile { file: &'a str, action: Action },
+    /// The run of the script that is generated for this number, from 1 to 500.
+    Generated(u32),
 }
