@@ -1,0 +1,123 @@
+-- Each run of a script's module follows the script.
+use Rattle.std.proofs.Common.{◌≡◌, ℕ, ℤ, zero, suc, ◌+◌, ◌≤◌, Bool, List, [], ◌∷◌, codes, length, Option, Some, None, refl, sym, ap, ◌∙◌, subst, arith}
+use Rattle.std.specs.Prelude.{slice_get}
+use Rattle.following.specs.Follows.{Going, Is, after}
+use Rattle.following.specs.Steps as steps
+use Rattle.following.specs.Steps.{Reductions, StepSimulation}
+use Rattle.following.proofs.Stepping.{follows_term}
+use Rattle.w_types.specs.Rows.{Row, ε}
+use Rattle.w_syntax.specs.Code.{Done}
+use Rattle.w_reduce.specs.Program.{Program}
+use Rattle.w_reduce.specs.Reduce as machine
+use Rattle.w_reduce.specs.Reduced.{Went}
+use Rattle.w_reduce.specs.Run.{RunState, Run, state_at}
+use Rattle.w_reduce.specs.Store.{Store}
+use Rattle.w_reduce.specs.Terms.{Term, rest_of}
+use Rattle.w_syntax.specs.declared.module.Module.{Module}
+use Rattle.s_syntax.specs.declared.name.Name.{Name}
+use Rattle.s_syntax.specs.declared.script.Function.{Function}
+use Rattle.s_syntax.specs.declared.script.Parameter.{Parameter}
+use Rattle.s_syntax.specs.declared.script.Script.{Script}
+use Rattle.s_check.specs.Definitions.{function_of}
+use Rattle.s_check.specs.Refusal.{Good}
+use Rattle.s_judge.specs.Judgements.{IsGood}
+use Rattle.s_index.specs.Numbers.{function_index}
+use Rattle.s_index.specs.Types.{val_types}
+use Rattle.s_code.specs.Lowered.{lowered, function_code}
+use Rattle.s_code.specs.Places.{function_layout, function_locals}
+use Rattle.s_code.specs.Statements.{body}
+use Rattle.s_code.specs.Temporaries.{high_block}
+use Rattle.s_meaning.specs.Numbers.{Fault}
+use Rattle.s_meaning.specs.Terms.{Variable, Configuration}
+use Rattle.s_meaning.specs.Steps.{step, bind}
+use Rattle.s_meaning.specs.Typing.{ScriptTyped}
+use Rattle.s_meaning.specs.Eval as eval
+use Rattle.s_meaning.specs.Eval.{Ended, Passes, body_or_none, start, Eval, Follows}
+use Rattle.s_meaning.proofs.Good.{good_typed}
+use Rattle.s_meaning.proofs.Running.{start_typed}
+use Rattle.s_meaning.proofs.Sound.{step_good}
+use Rattle.s_valid.specs.Beginning.{first_store, first_term}
+use Rattle.s_valid.proofs.Stored.{function_stored}
+use Rattle.s_agrees.specs.Agrees.{end_of, Agrees, RunsFollow}
+use Rattle.s_agrees.proofs.ScriptRows.{no_values}
+use Rattle.s_agrees.proofs.Standing.{config, none, function, outside, runs, Active, Stores, At}
+use Rattle.s_agrees.proofs.Facts.{Facts}
+use Rattle.s_agrees.proofs.FactsHold.{facts}
+use Rattle.s_agrees.proofs.Paths.{program_of}
+use Rattle.s_agrees.proofs.Paths as paths
+use Rattle.s_agrees.proofs.Bodies.{rest_body}
+use Rattle.s_agrees.proofs.Entering.{entered, invoke_step}
+use Rattle.s_agrees.proofs.Calling.{entered_active}
+use Rattle.s_agrees.proofs.Limited.{Config, at, reduce}
+use Rattle.s_agrees.proofs.Whole.{Related, potential, within}
+use Rattle.s_agrees.proofs.Rules.{rules}
+use Rattle.s_agrees.proofs.Stepping.{sim_step}
+use Rattle.s_agrees.proofs.SmallScripts.{small_literals}
+use Rattle.s_agrees.proofs.Agreeing.{follows_by}
+
+module _ (p : Script) (same : ℕ → ℕ → Bool) (typed : ScriptTyped p) (known : Facts p.declarations) where
+  -- each step is matched
+  simulation : StepSimulation {V = ℤ} {F = Fault} {L = eval.RunLimit} (step p) Passes (reduce p same)
+  simulation = record {
+    Related = Related p;
+    potential = potential;
+    matches = λ {s} {x} r. within p same r.stands (step p s) refl (step_good p typed s r.typed) (sim_step same known (rules p same known) r.typed r.stands);
+  }
+
+  -- main, which has no parameters
+  no_parameters : (fn : Function) → fn.parameters ≡ [] → (length (val_types fn.parameters) ≡ 0) × (0 ≡ length fn.parameters) × (bind fn.parameters [] ≡ Some [])
+  no_parameters fn none_is = (ap (λ (ps : List Parameter). length (val_types ps)) none_is, ap (λ (ps : List Parameter). length ps) (sym none_is), ap (λ (ps : List Parameter). bind ps []) none_is)
+
+  first_stores : Stores p.declarations [] (start p).store (first_store p.declarations)
+  first_stores = record {
+    as_many = refl;
+    each = λ a b e. absurd (cc);
+    apart = λ a c b e f. absurd (cc);
+    lives = refl;
+    functions = refl;
+  }
+
+  -- what the start comes to by one reduction: main is entered
+  entered_main : (fn : Function) → function_of p.declarations (codes "main") ≡ Some fn → Term
+  entered_main fn is = config (entered ε ε (function_locals fn) (rest_of Done) []) ε (body p.declarations (function_layout fn) 0 fn.body)
+
+  main_reduction : (fn : Function) (is : function_of p.declarations (codes "main") ≡ Some fn) → fn.parameters ≡ []
+      → reduce p same (at (first_store p.declarations) (first_term p.declarations)) ≡ steps.Went [] (at (first_store p.declarations) (entered_main fn is))
+  unfolding entered_main
+  main_reduction fn is none_is =
+      let ds = p.declarations in
+      let invoked : paths.step (program_of p same) (first_store ds) (first_term ds) ≡ Went [] (first_store ds) (entered_main fn is) =
+      invoke_step p same (first_store ds) [] ε ε (rest_of Done) (function_index ds (codes "main")) (val_types fn.parameters) (function_code ds fn) refl (function_stored ds (codes "main") fn is) (no_parameters fn none_is).0 in
+      rw invoked refl
+
+  first_related : (fn : Function) (is : function_of p.declarations (codes "main") ≡ Some fn) → fn.parameters ≡ [] → Related p (start p) (at (first_store p.declarations) (entered_main fn is))
+  unfolding entered_main
+  first_related fn is none_is =
+      let q = known.functions (codes "main") fn is in
+      let m = no_parameters fn none_is in
+      let k = start_typed p typed in
+      record {
+        world = k.world;
+        typed = k.typed;
+        addresses = [];
+        stands = record {
+          stands = rw is (runs (entered_active known (codes "main") fn is {vs = no_values} {ws = ε} [] m.1 none m.2) (rest_body q.well) (function refl) outside);
+          stores = first_stores;
+        };
+      }
+
+  pub follows_all : Agrees p (program_of p same)
+  unfolding entered_main simulation
+  follows_all = λ N.
+      let ds = p.declarations in
+      let fn = typed.entry.0 in let is = typed.entry.1 in let none_is = typed.entry.2 in
+      let x = at (first_store ds) (entered_main fn is) in
+      let path : Reductions (reduce p same) (at (first_store ds) (first_term ds)) [] 1 x = steps.silent (main_reduction fn is none_is) steps.none in
+      follows_by p same simulation (start p) (first_store ds) (first_term ds) 1 x path (first_related fn is none_is) (omega arith) N
+
+pub runs_follow : RunsFollow
+runs_follow bytes p good program source =
+    let typed = good_typed p good.good in
+    let all = follows_all p program.same typed (facts p good.good (small_literals bytes p good)) in
+    let is : program_of p program.same ≡ program = ap (λ (m : Module). let q : Program = record { source = m; same = program.same } in q) (sym source) in
+    subst (λ (q : Program). Agrees p q) is all

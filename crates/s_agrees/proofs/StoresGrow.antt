@@ -1,0 +1,82 @@
+-- One resumption more, and the continuation that keeps it: stores stand for one another as before.
+use Rattle.std.proofs.Common.{◌≡◌, ℕ, zero, suc, ◌+◌, ◌<◌, List, [], ◌∷◌, ◌++◌, length, ◌⊎◌, inl, inr, Option, Some, None, refl, sym, ap, ◌∙◌, subst, arith, length-append}
+use Rattle.std.specs.Prelude.{slice_get}
+use Rattle.std.proofs.lemmas.Option.{slice_get_within}
+use Rattle.w_reduce.specs.Store.{Store, next_cont, with_cont}
+use Rattle.w_reduce.specs.Terms.{Kept}
+use Rattle.s_syntax.specs.declared.script.Declaration.{Declaration}
+use Rattle.s_meaning.specs.Terms as script
+use Rattle.s_meaning.specs.Steps.{with_kept}
+use Rattle.s_meaning.proofs.Lists.{get_before, get_last}
+use Rattle.s_agrees.proofs.Standing.{KeptAs, Entry, consumed, keeps, Stores}
+use Rattle.s_agrees.proofs.Growing.{Grows, grows_more}
+use Rattle.s_agrees.proofs.Contexts.{waits_grow}
+use Rattle.s_agrees.proofs.Counting.{live_more, full_more}
+
+-- ## Entries
+
+pub kept_grows : {ds : List Declaration} {ρ ρ' : List ℕ} {κ : script.Context} {k : Kept} → Grows ρ ρ' → KeptAs ds ρ κ k → KeptAs ds ρ' κ k
+kept_grows g h = record { takes = h.takes; ahead = h.ahead; waits = waits_grow g h.waits }
+
+pub entry_grows : {ds : List Declaration} {ρ ρ' : List ℕ} {o : Option (Option script.Context)} {q : Option (Option Kept)} → Grows ρ ρ' → Entry ds ρ o q → Entry ds ρ' o q
+entry_grows g consumed = consumed
+entry_grows g (keeps h) = keeps (kept_grows g h)
+
+-- both sides are there
+pub record Sides (ds : List Declaration) (ρ : List ℕ) (o : Option (Option script.Context)) (q : Option (Option Kept)) : Type 0 where
+  pub left : Option script.Context
+  pub right : Option Kept
+  pub left_is : o ≡ Some left
+  pub right_is : q ≡ Some right
+  pub entry : Entry ds ρ (Some left) (Some right)
+
+pub sides : {ds : List Declaration} {ρ : List ℕ} {o : Option (Option script.Context)} {q : Option (Option Kept)} → Entry ds ρ o q → Sides ds ρ o q
+sides consumed = record { left = None; right = None; left_is = refl; right_is = refl; entry = consumed }
+sides (keeps {κ = κ} {k = k} h) = record { left = Some κ; right = Some k; left_is = refl; right_is = refl; entry = keeps h }
+
+-- an entry whose sides are found at other places
+pub entry_at : {ds : List Declaration} {ρ : List ℕ} {o o' : Option (Option script.Context)} {q q' : Option (Option Kept)} → o' ≡ o → q' ≡ q → Entry ds ρ o q → Entry ds ρ o' q'
+entry_at {ds} {ρ} {o} {o'} {q} {q'} x y h = subst (λ (z : Option (Option script.Context)). Entry ds ρ z q') (sym x) (subst (λ (z : Option (Option Kept)). Entry ds ρ o z) (sym y) h)
+
+-- ## A list with one item more
+
+pub old_or_new : {A : Type 0} (xs : List A) (x : A) (a : ℕ) (e : A) → slice_get (xs ++ x ∷ []) a ≡ Some e → (slice_get xs a ≡ Some e) ⊎ ((a ≡ length xs) × (e ≡ x))
+old_or_new [] x zero e q = inr (refl, cc)
+old_or_new [] x (suc a) e q = absurd (cc)
+old_or_new (y ∷ xs) x zero e q = inl q
+old_or_new (y ∷ xs) x (suc a) e q = further (old_or_new xs x a e q)
+  where
+    further : (slice_get xs a ≡ Some e) ⊎ ((a ≡ length xs) × (e ≡ x)) → (slice_get xs a ≡ Some e) ⊎ ((suc a ≡ suc (length xs)) × (e ≡ x))
+    further (inl h) = inl h
+    further (inr h) = inr (ap suc h.0, h.1)
+
+-- ## Stores
+
+module _ {ds : List Declaration} {ρ : List ℕ} {σ : script.Store} {s : Store} (h : Stores ds ρ σ s) {κ : script.Context} {k : Kept} (kept : KeptAs ds ρ κ k) where
+  -- an address of the store, so not the next one
+  earlier : (a b : ℕ) → slice_get ρ a ≡ Some b → b < next_cont s
+  earlier a b e = let z = sides (h.each a b e) in slice_get_within s.conts b z.right z.right_is
+
+  each_more : (a b : ℕ) → (slice_get ρ a ≡ Some b) ⊎ ((a ≡ length ρ) × (b ≡ next_cont s))
+      → Entry ds (ρ ++ next_cont s ∷ []) (slice_get (with_kept σ κ).resumptions a) (slice_get (with_cont k s).conts b)
+  each_more a b (inl e) =
+      let x = sides (h.each a b e) in
+      entry_at (get_before σ.resumptions (Some κ ∷ []) a x.left x.left_is) (get_before s.conts (Some k ∷ []) b x.right x.right_is) (entry_grows (grows_more ρ (next_cont s)) x.entry)
+  each_more a b (inr e) =
+      entry_at (ap (λ (z : ℕ). slice_get (σ.resumptions ++ Some κ ∷ []) z) (e.0 ∙ h.as_many) ∙ get_last σ.resumptions (Some κ))
+      (ap (λ (z : ℕ). slice_get (s.conts ++ Some k ∷ []) z) e.1 ∙ get_last s.conts (Some k)) (keeps (kept_grows (grows_more ρ (next_cont s)) kept))
+
+  apart_more : (a a' b : ℕ) → (slice_get ρ a ≡ Some b) ⊎ ((a ≡ length ρ) × (b ≡ next_cont s)) → (slice_get ρ a' ≡ Some b) ⊎ ((a' ≡ length ρ) × (b ≡ next_cont s)) → a ≡ a'
+  apart_more a a' b (inl e) (inl q) = h.apart a a' b e q
+  apart_more a a' b (inl e) (inr q) = let lt = earlier a b e in let same = q.1 in absurd (omega (arith, lt, same))
+  apart_more a a' b (inr e) (inl q) = let lt = earlier a' b q in let same = e.1 in absurd (omega (arith, lt, same))
+  apart_more a a' b (inr e) (inr q) = e.0 ∙ sym q.0
+
+  pub stores_more : Stores ds (ρ ++ next_cont s ∷ []) (with_kept σ κ) (with_cont k s)
+  stores_more = record {
+    as_many = length-append ρ (next_cont s ∷ []) ∙ ap (λ (z : ℕ). z + 1) h.as_many ∙ sym (length-append σ.resumptions (Some κ ∷ []));
+    each = λ a b e. each_more a b (old_or_new ρ (next_cont s) a b e);
+    apart = λ a a' b e q. apart_more a a' b (old_or_new ρ (next_cont s) a b e) (old_or_new ρ (next_cont s) a' b q);
+    lives = live_more s.conts k ∙ ap suc h.lives ∙ sym (full_more σ.resumptions κ);
+    functions = h.functions;
+  }

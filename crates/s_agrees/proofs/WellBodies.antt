@@ -1,0 +1,139 @@
+-- The bodies of a script have their temporaries and their locals: where no more temporaries are taken than there are, each literal is small,
+-- each name that is bound as a number has a local for one, and what a handle names is handled.
+use Rattle.std.proofs.Common.{◌≡◌, ℕ, ◌+◌, ◌≤◌, Bool, true, ◌||◌, List, [], ◌∷◌, ◌++◌, Some, if◌then◌else◌, sym, ap, subst, arith}
+use Rattle.std.specs.Str.{bytes_eq}
+use Rattle.s_syntax.specs.declared.name.Name.{Name}
+use Rattle.s_syntax.specs.declared.script.VariableType.TheVariants.{Int}
+use Rattle.s_syntax.specs.declared.script.Declaration.{Declaration}
+use Rattle.s_syntax.specs.declared.script.Script.{Script}
+use Rattle.s_syntax.specs.ExprTree.{ExprTree, Literal, Read, Unary, Run, Call, Do, Handle, Resume, Exprs, NoExprs, MoreExprs, Operands, NoOperands, MoreOperands}
+use Rattle.s_syntax.specs.BlockTree.{BlockTree, Let, Assign, If, While, Print, Return, Fail, Evaluate, Done as NoStatements, ◌⨟◌}
+use Rattle.s_check.specs.Rules.{count}
+use Rattle.s_check.specs.Scopes.{Scope, type_in, number as number_name, lets_in, is_among}
+use Rattle.s_index.specs.Handled.{handled_in_expr, handled_in_exprs, handled_in_operands, handled_in_block}
+use Rattle.s_code.specs.Layouts.{Layout}
+use Rattle.s_code.specs.Temporaries.{high, high_args, high_aside, high_operands, high_block}
+use Rattle.s_meaning.specs.Typing.{BlockTyped}
+use Rattle.s_meaning.specs.Typing as script
+use Rattle.s_meaning.proofs.Bindings.{among_left, among_right}
+use Rattle.s_meaning.proofs.Scopes.{same_is, same_refl, bool_of}
+use Rattle.s_valid.proofs.LayoutTypes.{AllHandled, handled_left, handled_right, handled_first, handled_later}
+use Rattle.s_valid.proofs.TypedExpressions.{least_args}
+use Rattle.s_agrees.proofs.Literals.{SmallExpr, SmallExprs, SmallOperands, SmallBlock}
+use Rattle.s_agrees.proofs.Standing.{HasNumber, WellExpr, WellArgs, WellAsides, WellOperands, WellBlock, literal, read, unary, run, calls, does, handles, resumes, no_args, arg, no_asides, aside_arg, no_operands, operand, lets, assigns, ifs, whiles, print, return, fail, drop, done, next}
+
+-- ## Expressions
+
+-- no fewer temporaries are in use behind arguments that are put aside
+least_aside : (es : Exprs) (t : ℕ) → t ≤ high_aside t es
+least_aside NoExprs t = omega arith
+least_aside (MoreExprs e es) t = let h = least_aside es (t + 1) in omega (arith, h)
+
+module _ {ds : List Declaration} {n : ℕ} where
+  mutual
+    -- an expression that takes at most n temporaries has them
+    pub well_expr : (e : ExprTree) (t : ℕ) → high t e ≤ n → AllHandled ds (handled_in_expr e) → SmallExpr e → WellExpr ds n t e
+    well_expr (Literal k) t h a small = literal small
+    well_expr (Read x) t h a small = read
+    well_expr (Unary o e) t h a small = unary (well_expr e t h a small)
+    well_expr (Run e ps) t h a small =
+        run (well_expr e t (omega (arith, h)) (handled_left (handled_in_expr e) (handled_in_operands ps) a) small.0)
+        (well_operands ps t (omega (arith, h)) (handled_right (handled_in_expr e) (handled_in_operands ps) a) small.1)
+    well_expr (Call f es) t h a small = calls (well_args es t h a small)
+    well_expr (Do op es) t h a small = does (well_args es t h a small)
+    well_expr (Handle f es g bs) t h a small =
+        let both = handled_later f (handled_in_exprs es ++ handled_in_exprs bs) a in
+        handles (handled_first f (handled_in_exprs es ++ handled_in_exprs bs) a)
+        (well_asides es t (omega (arith, h)) (handled_left (handled_in_exprs es) (handled_in_exprs bs) both) small.0)
+        (well_args bs (t + count es) (omega (arith, h)) (handled_right (handled_in_exprs es) (handled_in_exprs bs) both) small.1)
+    well_expr (Resume k e bs) t h a small =
+        let least = least_args bs (t + 1) in
+        resumes (omega (arith, h, least)) (well_expr e t (omega (arith, h)) (handled_left (handled_in_expr e) (handled_in_exprs bs) a) small.0)
+        (well_args bs (t + 1) (omega (arith, h)) (handled_right (handled_in_expr e) (handled_in_exprs bs) a) small.1)
+
+    pub well_args : (es : Exprs) (t : ℕ) → high_args t es ≤ n → AllHandled ds (handled_in_exprs es) → SmallExprs es → WellArgs ds n t es
+    well_args NoExprs t h a small = no_args
+    well_args (MoreExprs e es) t h a small =
+        arg (well_expr e t (omega (arith, h)) (handled_left (handled_in_expr e) (handled_in_exprs es) a) small.0)
+        (well_args es t (omega (arith, h)) (handled_right (handled_in_expr e) (handled_in_exprs es) a) small.1)
+
+    -- arguments that are put aside
+    pub well_asides : (es : Exprs) (t : ℕ) → high_aside t es ≤ n → AllHandled ds (handled_in_exprs es) → SmallExprs es → WellAsides ds n t es
+    well_asides NoExprs t h a small = no_asides
+    well_asides (MoreExprs e es) t h a small =
+        let least = least_aside es (t + 1) in
+        aside_arg (omega (arith, h, least)) (well_expr e t (omega (arith, h)) (handled_left (handled_in_expr e) (handled_in_exprs es) a) small.0)
+        (well_asides es (t + 1) (omega (arith, h)) (handled_right (handled_in_expr e) (handled_in_exprs es) a) small.1)
+
+    pub well_operands : (ps : Operands) (t : ℕ) → high_operands t ps ≤ n → AllHandled ds (handled_in_operands ps) → SmallOperands ps → WellOperands ds n t ps
+    well_operands NoOperands t h a small = no_operands
+    well_operands (MoreOperands o e ps) t h a small =
+        operand (well_expr e t (omega (arith, h)) (handled_left (handled_in_expr e) (handled_in_operands ps) a) small.0)
+        (well_operands ps t (omega (arith, h)) (handled_right (handled_in_expr e) (handled_in_operands ps) a) small.1)
+
+-- ## Names
+
+-- each name that is bound as a number has a local for one
+pub record Numbers (Γ : Layout) (bs : Scope) : Type 0 where
+  pub each : (x : Name) → type_in bs x ≡ Some Int → HasNumber Γ x
+
+-- and so has each name of these lets
+pub record Lets (Γ : Layout) (xs : List Name) : Type 0 where
+  pub each : (x : Name) → is_among xs x ≡ true → HasNumber Γ x
+
+lets_left : {Γ : Layout} (xs ys : List Name) → Lets Γ (xs ++ ys) → Lets Γ xs
+lets_left xs ys l = record { each = λ x h. l.each x (among_left x xs ys h) }
+
+lets_right : {Γ : Layout} (xs ys : List Name) → Lets Γ (xs ++ ys) → Lets Γ ys
+lets_right xs ys l = record { each = λ x h. l.each x (among_right x xs ys h) }
+
+lets_first : {Γ : Layout} (x : Name) (xs : List Name) → Lets Γ (x ∷ xs) → HasNumber Γ x
+lets_first x xs l = l.each x (ap (λ (b : Bool). b || is_among xs x) (same_refl x))
+
+-- behind a let of a name that has a local for a number
+numbers_more : {Γ : Layout} {bs : Scope} (x : Name) → HasNumber Γ x → Numbers Γ bs → Numbers Γ (number_name x ∷ bs)
+numbers_more {Γ} {bs} x h s = record {
+  each = λ y. bool_of (bytes_eq x y) (λ b. (if b then Some Int else type_in bs y) ≡ Some Int → HasNumber Γ y)
+      (λ q e. subst (λ (z : Name). HasNumber Γ z) (sym (same_is y x q)) h) (λ q e. s.each y e);
+}
+
+-- ## Blocks
+
+module _ {p : Script} {Γ : Layout} {n : ℕ} where
+  -- a typed block has its temporaries and its locals
+  pub well_block : (b : BlockTree) {bs : Scope} → BlockTyped p bs b → Numbers Γ bs → Lets Γ (lets_in b) → high_block b ≤ n → AllHandled p.declarations (handled_in_block b) → SmallBlock b
+      → WellBlock p.declarations Γ n b
+  well_block NoStatements script.done s l h a small = done
+  well_block (Let x e ⨟ b) (script.lets q free rest) s l h a small =
+      let first = lets_first x (lets_in b) l in
+      next (lets first (well_expr e 0 (omega (arith, h)) (handled_left (handled_in_expr e) (handled_in_block b) a) small.0))
+      (well_block b rest (numbers_more x first s) (lets_right (x ∷ []) (lets_in b) l) (omega (arith, h)) (handled_right (handled_in_expr e) (handled_in_block b) a) small.1)
+  well_block (Assign x e ⨟ b) (script.assigns q is_int rest) s l h a small =
+      next (assigns (s.each x is_int) (well_expr e 0 (omega (arith, h)) (handled_left (handled_in_expr e) (handled_in_block b) a) small.0))
+      (well_block b rest s l (omega (arith, h)) (handled_right (handled_in_expr e) (handled_in_block b) a) small.1)
+  well_block (If e b d ⨟ k) (script.ifs q one two rest) s l h a small =
+      let whole = handled_left (handled_in_expr e ++ (handled_in_block b ++ handled_in_block d)) (handled_in_block k) a in
+      let both = handled_right (handled_in_expr e) (handled_in_block b ++ handled_in_block d) whole in
+      let within = lets_left (lets_in b ++ lets_in d) (lets_in k) l in
+      next
+      (ifs (well_expr e 0 (omega (arith, h)) (handled_left (handled_in_expr e) (handled_in_block b ++ handled_in_block d) whole) small.0.0)
+      (well_block b one s (lets_left (lets_in b) (lets_in d) within) (omega (arith, h)) (handled_left (handled_in_block b) (handled_in_block d) both) small.0.1)
+      (well_block d two s (lets_right (lets_in b) (lets_in d) within) (omega (arith, h)) (handled_right (handled_in_block b) (handled_in_block d) both) small.0.2))
+      (well_block k rest s (lets_right (lets_in b ++ lets_in d) (lets_in k) l) (omega (arith, h))
+      (handled_right (handled_in_expr e ++ (handled_in_block b ++ handled_in_block d)) (handled_in_block k) a) small.1)
+  well_block (While e b ⨟ k) (script.whiles q inner rest) s l h a small =
+      let whole = handled_left (handled_in_expr e ++ handled_in_block b) (handled_in_block k) a in
+      next
+      (whiles (well_expr e 0 (omega (arith, h)) (handled_left (handled_in_expr e) (handled_in_block b) whole) small.0.0)
+      (well_block b inner s (lets_left (lets_in b) (lets_in k) l) (omega (arith, h)) (handled_right (handled_in_expr e) (handled_in_block b) whole) small.0.1))
+      (well_block k rest s (lets_right (lets_in b) (lets_in k) l) (omega (arith, h)) (handled_right (handled_in_expr e ++ handled_in_block b) (handled_in_block k) a) small.1)
+  well_block (Print e ⨟ b) (script.prints q rest) s l h a small =
+      next (print (well_expr e 0 (omega (arith, h)) (handled_left (handled_in_expr e) (handled_in_block b) a) small.0))
+      (well_block b rest s l (omega (arith, h)) (handled_right (handled_in_expr e) (handled_in_block b) a) small.1)
+  well_block (Return e ⨟ b) (script.returns q rest) s l h a small =
+      next (return (well_expr e 0 (omega (arith, h)) (handled_left (handled_in_expr e) (handled_in_block b) a) small.0))
+      (well_block b rest s l (omega (arith, h)) (handled_right (handled_in_expr e) (handled_in_block b) a) small.1)
+  well_block (Fail ⨟ b) (script.fails rest) s l h a small = next fail (well_block b rest s l (omega (arith, h)) a small.1)
+  well_block (Evaluate e ⨟ b) (script.drops q rest) s l h a small =
+      next (drop (well_expr e 0 (omega (arith, h)) (handled_left (handled_in_expr e) (handled_in_block b) a) small.0))
+      (well_block b rest s l (omega (arith, h)) (handled_right (handled_in_expr e) (handled_in_block b) a) small.1)

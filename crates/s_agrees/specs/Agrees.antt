@@ -1,0 +1,74 @@
+-- When the runs of a script's module follow the script.
+use Rattle.std.specs.Prelude.{◌≡◌, ℕ, List, [], ◌∷◌, ◌++◌, slice_get, Option, Some, None, option_map}
+use Rattle.following.specs.Follows.{Going, Value, Fault as Faulted, End, Is, Limit}
+use Rattle.std.specs.Int.{w64, cast_signed}
+use Rattle.w_types.specs.Rows.{Row, ε, ◌▹◌}
+use Rattle.w_reduce.specs.declared.limit.RunLimit.{RunLimit}
+use Rattle.w_reduce.specs.declared.limit.RunLimit.TheVariants as limit
+use Rattle.w_reduce.specs.declared.trap.Trap.{Trap}
+use Rattle.w_reduce.specs.declared.trap.Trap.TheVariants as trap
+use Rattle.w_reduce.specs.Program.{Program}
+use Rattle.w_reduce.specs.Values.{Val, I64}
+use Rattle.w_reduce.specs.Run.{Outcome, Running, Values, Traps, Limit as LimitMet, NoRule, Run}
+use Rattle.s_syntax.specs.declared.name.Name.{Name}
+use Rattle.s_syntax.specs.declared.script.Definition.{Definition}
+use Rattle.s_syntax.specs.declared.script.Definition.TheVariants as definition
+use Rattle.s_syntax.specs.declared.script.Declaration.{Declaration}
+use Rattle.s_syntax.specs.declared.script.Script.{Script}
+use Rattle.s_judge.specs.Judgements.{IsGood}
+use Rattle.s_meaning.specs.Numbers.{Fault, DivZero, Overflow, Failed, Reused, Unhandled}
+use Rattle.s_meaning.specs.Eval.{Ended, Frames, Handles, Conts, Follows}
+use Rattle.s_code.specs.Lowered.{lowered}
+use Rattle.s_valid.specs.Beginning.{first_store, first_term}
+use Rattle.s_meaning.specs.Eval as script
+
+-- the names of the effects, in their order: so tags are numbered
+abbrev pub effect_of : Name → Definition → List Name
+effect_of x (definition.Effect n) = x ∷ []
+effect_of x (definition.Function f) = []
+effect_of x (definition.Handler h) = []
+
+abbrev pub effect_names : List Declaration → List Name
+effect_names [] = []
+effect_names (d ∷ ds) = effect_of d.name d.definition ++ effect_names ds
+
+-- the fault that a trap stands for; other traps stand for none
+abbrev pub fault_of : List Declaration → Trap → Option Fault
+fault_of ds trap.Unreachable = Some Failed
+fault_of ds trap.DivideByZero = Some DivZero
+fault_of ds trap.IntegerOverflow = Some Overflow
+fault_of ds trap.ConsumedContinuation = Some Reused
+fault_of ds (trap.Unhandled e) = option_map Unhandled (slice_get (effect_names ds) e)
+fault_of ds t = None
+
+abbrev pub limit_of : RunLimit → script.RunLimit
+limit_of limit.Frames = Frames
+limit_of limit.Handles = Handles
+limit_of limit.Conts = Conts
+
+abbrev pub end_of_fault : Option Fault → Option Ended
+end_of_fault None = None
+end_of_fault (Some f) = Some (Is (Faulted f))
+
+-- the value of a script that its module's results are
+abbrev pub end_of_values : Row Val → Option Ended
+end_of_values (ε ▹ I64 n) = Some (Is (Value (cast_signed w64 n)))
+end_of_values vs = None
+
+-- what a run of the module has come to, where that stands for anything of the script's
+abbrev pub end_of : List Declaration → Outcome → Option Ended
+end_of ds Running = Some (Is Going)
+end_of ds (Values vs) = end_of_values vs
+end_of ds (Traps t) = end_of_fault (fault_of ds t)
+end_of ds (LimitMet name) = Some (Limit (limit_of name))
+end_of ds NoRule = None
+
+-- for each number of reductions a run has come to what the script may come to, or to a limit, and follows the script
+abbrev pub Agrees : Script → Program → Type 0
+Agrees p program =
+    (N : ℕ) → let r = Run program (first_store p.declarations) (first_term p.declarations) N in
+    (e : Ended) × (end_of p.declarations r.outcome ≡ Some e) × Follows p N r.output e
+
+-- so it is of each script that bytes spell and that breaks no rule, and of its module, whatever tells which types are equivalent
+abbrev pub RunsFollow : Type 0
+RunsFollow = (bytes : List ℕ) (p : Script) → IsGood bytes p → (program : Program) → program.source ≡ lowered p → Agrees p program
