@@ -21,7 +21,7 @@ no_item : (m : Module) (x : Item) → Valid m → IsInvalidAt m x → ⊥
 no_item m x v i = i.invalid (v x i.item)
 
 -- a valid module within its limits has no fault
-no_fault : (m : Module) (f : ValidFault) → Within m → Valid m → HasModuleFault m f → ⊥
+pub no_fault : (m : Module) (f : ValidFault) → Within m → Valid m → HasModuleFault m f → ⊥
 no_fault m (valid.Limit Types) w v h = h.1 w.types
 no_fault m (valid.Limit Params) w v h = h.1.1 w.params
 no_fault m (valid.Limit Locals) w v h = h.1.2 w.locals

@@ -1,9 +1,11 @@
--- From what was read and judged to what is due of a file.
-use Rattle.std.proofs.Common.{◌≡◌, ◌≤◌, ◌<◌, inl, inr, sym, subst, List, ℕ, length}
+-- From what was read and judged, or generated, to what is due of a line.
+use Rattle.std.proofs.Common.{◌≡◌, ◌≤◌, ◌<◌, false, inl, inr, sym, subst, List, ℕ, length}
 use Rattle.w_outside.specs.Outside.{Known, untold, missing, holds}
 use Rattle.words.specs.declared.request.Action.{Action}
-use Rattle.words.specs.Line.{Line, on_file as line_on_file}
-use Rattle.drive.specs.Answer.{Answer, OnFile, OnBytes, ActionGives, Reply, input_limit, limit_input, read_fault}
+use Rattle.words.specs.declared.request.Action.TheVariants.{Run as RunFor}
+use Rattle.words.specs.Line.{Line, on_file as line_on_file, generated}
+use Rattle.s_generate.specs.Generated.{generated as generated_script}
+use Rattle.drive.specs.Answer.{Answer, OnFile, OnBytes, ActionGives, Reply, generated_steps, input_limit, limit_input, read_fault}
 use Rattle.drive.specs.Delivery.{MayFail}
 use Rattle.drive.specs.Reading.{FileRefusal, IsTooLong, MayHold}
 
@@ -44,3 +46,8 @@ module _ (line : Line) (name : List ℕ) (action : Action) (files : List ℕ →
     pub acted : (r : Reply) → ActionGives action slice r → MayFail failed (Answer line files) r
     acted r h =
         of_line r (inl (on_file (files name) (ActionGives action) bytes r may short (subst (λ (l : List ℕ). ActionGives action l r) same h)))
+
+-- what the run of a generated script gives is the answer to its line
+pub generated_run : (line : Line) (number : ℕ) (files : List ℕ → Known) (failed : Type 0) → line ≡ generated number
+    → (r : Reply) → ActionGives (RunFor generated_steps false) (generated_script number) r → MayFail failed (Answer line files) r
+generated_run line number files failed asks r h = inl (subst (λ (l : Line). Answer l files r) (sym asks) h)

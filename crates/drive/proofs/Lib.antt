@@ -9,4 +9,6 @@ pub mod Programs
 pub mod OneAnswer
 pub mod SomeAnswer
 pub mod BuiltAgain
+pub mod ScriptRuns
 pub mod Acting
+pub mod Meanings

@@ -1,5 +1,5 @@
 -- What is told of a file leaves one answer.
-use Rattle.std.proofs.Common.{◌≡◌, ◌⊎◌, ◌<◌, ℕ, List, inl, inr, Result, Ok, Err, refl, sym, ap, subst, ◌∙◌, arith}
+use Rattle.std.proofs.Common.{◌≡◌, ◌⊎◌, ◌<◌, ℕ, List, Bool, false, inl, inr, Result, Ok, Err, refl, sym, ap, subst, ◌∙◌, arith}
 use Rattle.std.specs.Prelude.{◌≢◌, nat_eq, cond}
 use Rattle.std.proofs.lemmas.Bool.{cases_order}
 use Rattle.w_outside.specs.Outside.{Known, untold, missing, holds}
@@ -20,8 +20,10 @@ use Rattle.s_judge.specs.declared.fault.ScriptFault.{ScriptFault}
 use Rattle.s_syntax.specs.declared.script.Script.{Script}
 use Rattle.words.specs.declared.request.Action.{Action}
 use Rattle.words.specs.declared.request.Action.TheVariants.{Check, Run as RunFor, Build}
-use Rattle.words.specs.Line.{on_file as line_on_file, bad}
-use Rattle.drive.specs.Answer.{Reply, HasModuleFault, OnFile, OnBytes, BytesGive, ScriptGives, EitherGives, ActionGives, gives, script_gives, Compiled, run_gives, malformed, invalid, bad_script}
+use Rattle.s_code.specs.Lowered.{lowered}
+use Rattle.s_generate.specs.Generated.{generated as generated_script}
+use Rattle.words.specs.Line.{on_file as line_on_file, generated, bad}
+use Rattle.drive.specs.Answer.{Reply, HasModuleFault, OnFile, OnBytes, BytesGive, ScriptGives, ActionGives, Teller, gives, script_gives, RunGives, Compiled, trapped, faulted, built, run_gives, malformed, invalid, bad_script, generated_steps}
 use Rattle.drive.specs.Laws.{OneAnswer}
 use Rattle.drive.proofs.Programs.{one_program}
 
@@ -154,23 +156,26 @@ one_reply Accepted one b r s (inr (inr h)) (inl k) = absurd (not_both b k.0 h.0 
 one_reply Accepted one b r s (inr (inr h)) (inr (inl k)) = absurd (not_both b k.0 h.0 k.1 h.1)
 one_reply Accepted one b r s (inr (inr h)) (inr (inr k)) = h.2 ∙ ap malformed (one_fault b h.0 k.0 h.1 k.1) ∙ sym k.2
 
+one_run : (say : Teller) (steps : ℕ) (stats : Bool) (m : Module) → IsOne (RunGives say steps stats m)
+one_run say steps stats m r s h k = h.3 ∙ ap (run_gives say steps stats) (one_program m h.0 k.0 h.1 k.1 h.2 k.2) ∙ sym k.3
+
 one_given : (action : Action) (m : Module) → IsOne (gives action m)
 one_given Check m r s h k = h ∙ sym k
-one_given (RunFor steps stats) m r s h k = h.3 ∙ ap (run_gives steps stats) (one_program m h.0 k.0 h.1 k.1 h.2 k.2) ∙ sym k.3
+one_given (RunFor steps stats) m r s h k = one_run trapped steps stats m r s h k
 one_given Build m r s h k = h ∙ sym k
 
 -- ## Scripts
 
-compiled_once : (p : Script) → IsOne (Compiled p)
-compiled_once p r s (inl h) (inl k) = h.1 ∙ sym k.1
-compiled_once p r s (inl h) (inr k) = absurd (omega (arith, h.0, k.0))
-compiled_once p r s (inr h) (inl k) = absurd (omega (arith, h.0, k.0))
-compiled_once p r s (inr h) (inr k) = h.1 ∙ sym k.1
+compiled_once : (Accepted : Module → Reply → Type 0) → ((m : Module) → IsOne (Accepted m)) → (p : Script) → IsOne (Compiled Accepted p)
+compiled_once Accepted one p r s (inl h) (inl k) = one (lowered p) r s h.1 k.1
+compiled_once Accepted one p r s (inl h) (inr k) = absurd (omega (arith, h.0, k.0))
+compiled_once Accepted one p r s (inr h) (inl k) = absurd (omega (arith, h.0, k.0))
+compiled_once Accepted one p r s (inr h) (inr k) = h.1 ∙ sym k.1
 
 script_given_once : (action : Action) (p : Script) → IsOne (script_gives action p)
 script_given_once Check p r s h k = h ∙ sym k
-script_given_once (RunFor steps stats) p r s h k = absurd h
-script_given_once Build p r s h k = compiled_once p r s h k
+script_given_once (RunFor steps stats) p r s h k = compiled_once (RunGives (faulted p) steps false) (one_run (faulted p) steps false) p r s h k
+script_given_once Build p r s h k = compiled_once (λ m reply. reply ≡ built m) (λ m r s h k. h ∙ sym k) p r s h k
 
 script_once : (Accepted : Script → Reply → Type 0) → ((p : Script) → IsOne (Accepted p)) → (b : List ℕ) → IsOne (ScriptGives Accepted b)
 script_once Accepted one b r s (inl h) (inl k) =
@@ -186,16 +191,11 @@ script_once Accepted one b r s (inr h) (inr k) =
 
 -- ## Modules and scripts
 
-either_once : (action : Action) (b : List ℕ) → IsOne (EitherGives action b)
-either_once action b r s (inl h) (inl k) = one_reply (gives action) (one_given action) b r s h.1 k.1
-either_once action b r s (inl h) (inr k) = let m = h.0 in let n = k.0 in absurd (cc)
-either_once action b r s (inr h) (inl k) = let m = h.0 in let n = k.0 in absurd (cc)
-either_once action b r s (inr h) (inr k) = script_once (script_gives action) (script_given_once action) b r s h.1 k.1
-
 one_done : (action : Action) (b : List ℕ) → IsOne (ActionGives action b)
-one_done Check b = either_once Check b
-one_done (RunFor steps stats) b = one_reply (gives (RunFor steps stats)) (one_given (RunFor steps stats)) b
-one_done Build b = either_once Build b
+one_done action b r s (inl h) (inl k) = one_reply (gives action) (one_given action) b r s h.1 k.1
+one_done action b r s (inl h) (inr k) = let m = h.0 in let n = k.0 in absurd (cc)
+one_done action b r s (inr h) (inl k) = let m = h.0 in let n = k.0 in absurd (cc)
+one_done action b r s (inr h) (inr k) = script_once (script_gives action) (script_given_once action) b r s h.1 k.1
 
 -- ## Files
 
@@ -213,4 +213,5 @@ on_file (holds b) Gives told one r s h k = on_bytes Gives b (one b) r s h k
 pub one_answer : OneAnswer
 one_answer (line_on_file name action) files told r s h k =
     on_file (files name) (ActionGives action) (told name) (one_done action) r s h k
+one_answer (generated n) files told r s h k = one_done (RunFor generated_steps false) (generated_script n) r s h k
 one_answer bad files told r s h k = h ∙ sym k

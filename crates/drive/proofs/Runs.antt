@@ -20,7 +20,7 @@ use Rattle.w_machine.specs.Results.{HasResults}
 use Rattle.drive.specs.declared.output.Output.{Output}
 use Rattle.drive.specs.declared.stop.Stop.{Stop}
 use Rattle.drive.specs.declared.stop.Stop.TheVariants.{Refused, WriteFault, OutOfMemory}
-use Rattle.drive.specs.Answer.{Reply, counts_line, stats_line, result_line, behind, end_reply, run_reply, start_reply, run_gives, RunGives}
+use Rattle.drive.specs.Answer.{Reply, Teller, counts_line, stats_line, result_line, behind, end_reply, run_reply, start_reply, run_gives, RunGives}
 use Rattle.drive.specs.Leaving.{IsBegun, Leaves}
 use Rattle.drive.specs.Pieces.{joined}
 use Rattle.drive.specs.Running.{IsAfter, IsAfterBy}
@@ -100,9 +100,9 @@ counts_are r a b c d ea eb ec ed = rw (← ea, ← eb, ← ec, ← ed) refl
 
 -- ## What is left to write behind what was printed
 
-module _ (p : Program) (s : Store) (t : Term) (steps : ℕ) (before now : Option (List ℕ)) (rose : Type 0) where
+module _ (say : Teller) (p : Program) (s : Store) (t : Term) (steps : ℕ) (before now : Option (List ℕ)) (rose : Type 0) where
   abbrev IsDue : Reply → Type 0
-  IsDue reply = reply ≡ run_reply false (Run p s t steps)
+  IsDue reply = reply ≡ run_reply say false (Run p s t steps)
 
   from_zero : Run p s t (0 + steps) ≡ Run p s t steps
   from_zero = ap (Run p s t) (zero-add steps)
@@ -111,18 +111,18 @@ module _ (p : Program) (s : Store) (t : Term) (steps : ℕ) (before now : Option
   is_output : (text : List ℕ) → (Run p s t (0 + steps)).output ≡ (Run p s t 0).output ++ text → text ≡ (Run p s t steps).output
   is_output text e = sym e ∙ ap (λ (r : RunState). r.output) from_zero
 
-  behind_same : (text : List ℕ) (left : Reply) → text ≡ (Run p s t steps).output → left ≡ end_reply (Run p s t steps).outcome → IsDue (behind text left)
+  behind_same : (text : List ℕ) (left : Reply) → text ≡ (Run p s t steps).output → left ≡ end_reply say (Run p s t steps).outcome → IsDue (behind text left)
   behind_same text left e f = ap (λ (l : List ℕ). behind l left) e ∙ ap (behind (Run p s t steps).output) f
 
   part_begun : (text : List ℕ) → text ≡ (Run p s t steps).output → GrewByFront before now text → IsBegun IsDue (Grew before now)
   part_begun text e h = (
-    run_reply false (Run p s t steps),
+    run_reply say false (Run p s t steps),
     refl,
     (
       h.part,
       record {
-        rest = h.front.rest ++ (end_reply (Run p s t steps).outcome).out;
-        joined = longer h.part h.front.rest text (end_reply (Run p s t steps).outcome).out h.front.joined ∙ ap (λ (l : List ℕ). l ++ (end_reply (Run p s t steps).outcome).out) e;
+        rest = h.front.rest ++ (end_reply say (Run p s t steps).outcome).out;
+        joined = longer h.part h.front.rest text (end_reply say (Run p s t steps).outcome).out h.front.joined ∙ ap (λ (l : List ℕ). l ++ (end_reply say (Run p s t steps).outcome).out) e;
       },
       h.grew,
     ),
@@ -132,13 +132,13 @@ module _ (p : Program) (s : Store) (t : Term) (steps : ℕ) (before now : Option
       longer a b whole more j = sym (append_assoc a b more) ∙ ap (λ (l : List ℕ). l ++ more) j
 
   all_begun : (text : List ℕ) → text ≡ (Run p s t steps).output → Grew before now text → IsBegun IsDue (Grew before now)
-  all_begun text e grew = (run_reply false (Run p s t steps), refl, (text, subst (λ (l : List ℕ). IsFront text (l ++ (end_reply (Run p s t steps).outcome).out)) e (front_first text _), grew))
+  all_begun text e grew = (run_reply say false (Run p s t steps), refl, (text, subst (λ (l : List ℕ). IsFront text (l ++ (end_reply say (Run p s t steps).outcome).out)) e (front_first text _), grew))
 
   -- a run that stops leaves a line on it
   pub run_refused : (o : Outcome) (stop : Stop) → Printed (Run p s t 0) (Run p s t (0 + steps)) before now → (Run p s t (0 + steps)).outcome ≡ o
-      → Refuses (λ reply. reply ≡ end_reply o) stop → Leaves IsDue (Err stop) (Grew before now) rose
+      → Refuses (λ reply. reply ≡ end_reply say o) stop → Leaves IsDue (Err stop) (Grew before now) rose
   run_refused o (Refused refusal) print told h =
-      (h.0, (print.text, print.grew, behind_same print.text (reply_of_refusal refusal) (is_output print.text print.is) (h.1 ∙ ap end_reply (sym told ∙ ap (λ (r : RunState). r.outcome) from_zero))))
+      (h.0, (print.text, print.grew, behind_same print.text (reply_of_refusal refusal) (is_output print.text print.is) (h.1 ∙ ap (end_reply say) (sym told ∙ ap (λ (r : RunState). r.outcome) from_zero))))
   run_refused o WriteFault print told h = absurd h
   run_refused o OutOfMemory print told h = inr (all_begun print.text (is_output print.text print.is) print.grew)
 
@@ -149,7 +149,7 @@ module _ (p : Program) (s : Store) (t : Term) (steps : ℕ) (before now : Option
     print.text,
     print.grew,
     behind_same print.text (reply_with output) (is_output print.text print.is)
-        (ap (results_reply (joined output.pieces.items)) none ∙ ap (λ (l : List ℕ). results_reply l []) (lines ∙ ap (flat_map result_line) h.2) ∙ ap end_reply (sym h.1)),
+        (ap (results_reply (joined output.pieces.items)) none ∙ ap (λ (l : List ℕ). results_reply l []) (lines ∙ ap (flat_map result_line) h.2) ∙ ap (end_reply say) (sym h.1)),
   )
     where
       results_reply : List ℕ → List ℕ → Reply
@@ -179,10 +179,10 @@ lines_of_vals (v ∷ vs) = ap (λ (l : List ℕ). result_line (val v) ++ l) (lin
 -- ## What a module gives
 
 -- where its run begins, what the run gives
-pub ready_gives : (m : Module) (steps : ℕ) (stats : Bool) (p : Program) (s : Store) (t : Term) → p.source ≡ m → IsProgram p → Start p ≡ Ready s t → (reply : Reply)
-    → reply ≡ run_reply stats (Run p s t steps) → RunGives steps stats m reply
-ready_gives m steps stats p s t source told start reply is = (p, source, told, is ∙ sym (ap (start_reply steps stats p) start))
+pub ready_gives : (say : Teller) (m : Module) (steps : ℕ) (stats : Bool) (p : Program) (s : Store) (t : Term) → p.source ≡ m → IsProgram p → Start p ≡ Ready s t → (reply : Reply)
+    → reply ≡ run_reply say stats (Run p s t steps) → RunGives say steps stats m reply
+ready_gives say m steps stats p s t source told start reply is = (p, source, told, is ∙ sym (ap (start_reply say steps stats p) start))
 
 -- and else its refusal
-pub refused_gives : (m : Module) (steps : ℕ) (stats : Bool) (p : Program) → p.source ≡ m → IsProgram p → (reply : Reply) → reply ≡ run_gives steps stats p → RunGives steps stats m reply
-refused_gives m steps stats p source told reply is = (p, source, told, is)
+pub refused_gives : (say : Teller) (m : Module) (steps : ℕ) (stats : Bool) (p : Program) → p.source ≡ m → IsProgram p → (reply : Reply) → reply ≡ run_gives say steps stats p → RunGives say steps stats m reply
+refused_gives say m steps stats p source told reply is = (p, source, told, is)

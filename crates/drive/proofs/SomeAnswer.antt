@@ -22,8 +22,10 @@ use Rattle.s_syntax.specs.declared.script.Script.{Script}
 use Rattle.s_check.specs.Size.{Size}
 use Rattle.words.specs.declared.request.Action.{Action}
 use Rattle.words.specs.declared.request.Action.TheVariants.{Check, Run as RunFor, Build}
-use Rattle.words.specs.Line.{on_file as line_on_file, bad}
-use Rattle.drive.specs.Answer.{Reply, HasModuleFault, OnFile, OnBytes, BytesGive, ScriptGives, EitherGives, ActionGives, is_module, gives, script_gives, Compiled, compiled_size, input_limit}
+use Rattle.s_code.specs.Lowered.{lowered}
+use Rattle.s_generate.specs.Generated.{generated as generated_script}
+use Rattle.words.specs.Line.{on_file as line_on_file, generated, bad}
+use Rattle.drive.specs.Answer.{Reply, HasModuleFault, OnFile, OnBytes, BytesGive, ScriptGives, ActionGives, Teller, is_module, gives, script_gives, RunGives, Compiled, compiled_size, trapped, faulted, built, generated_steps, input_limit}
 use Rattle.drive.specs.Laws.{SomeAnswer}
 use Rattle.drive.proofs.Programs.{some_program}
 
@@ -227,18 +229,26 @@ bytes_total Accepted total bytes none = elim (spelled_or_not bytes) [
   | inr h ↦ none _ (inr (inr (h.0, h.1, refl)))
 ]
 
+some_run : (say : Teller) (steps : ℕ) (stats : Bool) (m : Module) → IsTotal (RunGives say steps stats m)
+some_run say steps stats m none = some_program m (λ p source is. none _ (p, source, is, refl))
+
 some_given : (action : Action) (m : Module) → IsTotal (gives action m)
 some_given Check m none = none _ refl
-some_given (RunFor steps stats) m none = some_program m (λ p source is. none _ (p, source, is, refl))
+some_given (RunFor steps stats) m none = some_run trapped steps stats m none
 some_given Build m none = none _ refl
 
 -- ## Scripts
 
-compiled_total : (p : Script) → IsTotal (Compiled p)
-compiled_total p none = elim (cases_lt compiled_size (Size p)) [
+compiled_total : (Accepted : Module → Reply → Type 0) → ((m : Module) → IsTotal (Accepted m)) → (p : Script) → IsTotal (Compiled Accepted p)
+compiled_total Accepted total p none = elim (cases_lt compiled_size (Size p)) [
   | inl large ↦ none _ (inr (large, refl))
-  | inr small ↦ none _ (inl (small, refl))
+  | inr small ↦ total (lowered p) (λ r h. none r (inl (small, h)))
 ]
+
+some_script_given : (action : Action) (p : Script) → IsTotal (script_gives action p)
+some_script_given Check p none = none _ refl
+some_script_given (RunFor steps stats) p none = compiled_total (RunGives (faulted p) steps false) (some_run (faulted p) steps false) p none
+some_script_given Build p none = compiled_total (λ m reply. reply ≡ built m) (λ m none. none _ refl) p none
 
 script_total : (Accepted : Script → Reply → Type 0) → ((p : Script) → IsTotal (Accepted p)) → (bytes : List ℕ) → IsTotal (ScriptGives Accepted bytes)
 script_total Accepted total bytes none = let j = some_judgement bytes in by j.0 j.1
@@ -247,19 +257,15 @@ script_total Accepted total bytes none = let j = some_judgement bytes in by j.0 
     by (Ok p) m = total p (λ r h. none r (inl (p, m, h)))
     by (Err fault) m = none _ (inr (fault, m, refl))
 
--- where scripts that break no rule are answered, a module or a script is
-either_total : (action : Action) → ((p : Script) → IsTotal (script_gives action p)) → (bytes : List ℕ) → IsTotal (EitherGives action bytes)
-either_total action total bytes none = by (is_module bytes) refl
+-- a module or a script
+some_done : (action : Action) (bytes : List ℕ) → IsTotal (ActionGives action bytes)
+some_done action bytes none = by (is_module bytes) refl
   where
     by : (b : Bool) → is_module bytes ≡ b → ⊥
     by true e = bytes_total (gives action) (some_given action) bytes (λ r h. none r (inl (e, h)))
-    by false e = script_total (script_gives action) total bytes (λ r h. none r (inr (e, h)))
-
-some_done : (action : Action) (bytes : List ℕ) → IsTotal (ActionGives action bytes)
-some_done Check bytes = either_total Check (λ p none. none _ refl) bytes
-some_done (RunFor steps stats) bytes = bytes_total (gives (RunFor steps stats)) (some_given (RunFor steps stats)) bytes
-some_done Build bytes = either_total Build compiled_total bytes
+    by false e = script_total (script_gives action) (some_script_given action) bytes (λ r h. none r (inr (e, h)))
 
 pub some_answer : SomeAnswer
 some_answer (line_on_file name action) files none = on_file (files name) (ActionGives action) (some_done action) none
+some_answer (generated n) files none = some_done (RunFor generated_steps false) (generated_script n) none
 some_answer bad files none = none _ refl

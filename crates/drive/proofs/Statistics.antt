@@ -5,7 +5,7 @@ use Rattle.w_reduce.specs.Run.{RunState}
 use Rattle.drive.specs.declared.output.Output.{Output}
 use Rattle.drive.specs.declared.stop.Stop.{Stop}
 use Rattle.drive.specs.declared.stop.Stop.TheVariants.{Refused, WriteFault, OutOfMemory}
-use Rattle.drive.specs.Answer.{Reply, behind, stats_line, with_more, run_reply}
+use Rattle.drive.specs.Answer.{Reply, Teller, behind, stats_line, with_more, run_reply}
 use Rattle.drive.specs.Leaving.{IsLeft, IsBegun, Leaves}
 use Rattle.drive.specs.Stop.{Ends, IsReply, WritesMore, reply_with, reply_of_refusal}
 use Rattle.drive.proofs.Replies.{front_first}
@@ -31,12 +31,12 @@ more_same one other old (Err OutOfMemory) same h = tt
 
 -- ## What is left of an answer, with statistics
 
-module _ (r : RunState) (OutGrew : List ℕ → Type 0) (rose : Type 0) where
+module _ (say : Teller) (r : RunState) (OutGrew : List ℕ → Type 0) (rose : Type 0) where
   abbrev Plain : Reply → Type 0
-  Plain reply = reply ≡ run_reply false r
+  Plain reply = reply ≡ run_reply say false r
 
   abbrev Told : Reply → Type 0
-  Told reply = reply ≡ run_reply true r
+  Told reply = reply ≡ run_reply say true r
 
   more_told : (reply : Reply) → Plain reply → Told (with_more (stats_line r) reply)
   more_told reply is = ap (with_more (stats_line r)) is
@@ -69,6 +69,6 @@ module _ (r : RunState) (OutGrew : List ℕ → Type 0) (rose : Type 0) where
 
   -- where they are asked for
   pub leaves_with : (stats : Bool) (old answer : Result Output Stop) → Leaves Plain old OutGrew rose → (stats ≡ true → WritesMore (stats_line r) old answer)
-      → (stats ≡ false → answer ≡ old) → Leaves (λ reply. reply ≡ run_reply stats r) answer OutGrew rose
+      → (stats ≡ false → answer ≡ old) → Leaves (λ reply. reply ≡ run_reply say stats r) answer OutGrew rose
   leaves_with true old answer h told untold = leaves_more old answer h (told refl)
   leaves_with false old answer h told untold = subst (λ (a : Result Output Stop). Leaves Plain a OutGrew rose) (sym (untold refl)) h

@@ -1,5 +1,5 @@
 -- What the program answers to a line, given what is told of the files.
-use Rattle.std.specs.Prelude.{◌≡◌, ◌≢◌, ◌⊎◌, ◌<◌, ◌≤◌, ℕ, nat_eq, Bool, true, false, not, ◌&&◌, List, [], ◌∷◌, ◌++◌, codes, decimal, length, flat_map}
+use Rattle.std.specs.Prelude.{◌≡◌, ◌≢◌, ◌⊎◌, ◌<◌, ◌≤◌, ℕ, nat_eq, Bool, true, false, ◌&&◌, List, [], ◌∷◌, ◌++◌, codes, decimal, length, flat_map, slice_get, Option, Some, None}
 use Rattle.std.specs.Int.{w32, w64, cast_signed}
 use Rattle.std.specs.Fmt.{signed_decimal}
 use Rattle.w_outside.specs.Outside.{Known, untold, missing, holds}
@@ -28,16 +28,19 @@ use Rattle.w_reduce.specs.Program.{Program, IsProgram}
 use Rattle.w_reduce.specs.Start.{Started, Ready, NoPrinter, NoEntry, Exceeds, StartTraps, Start}
 use Rattle.w_reduce.specs.Run.{Outcome, Running, Values, Traps, Limit, NoRule, RunState, Run}
 use Rattle.w_encode.specs.Canon.{Canon}
+use Rattle.s_syntax.specs.declared.name.Name.{Name}
 use Rattle.s_syntax.specs.declared.script.Script.{Script}
 use Rattle.s_check.specs.Refusal.{number_of}
 use Rattle.s_check.specs.Size.{Size}
 use Rattle.s_code.specs.Lowered.{lowered}
+use Rattle.s_agrees.specs.Agrees.{effect_names}
+use Rattle.s_generate.specs.Generated.{generated as generated_script}
 use Rattle.s_judge.specs.Judgements as script
 use Rattle.s_judge.specs.declared.fault.ScriptFault.{ScriptFault}
 use Rattle.s_judge.specs.declared.fault.ScriptFault.TheVariants as script_fault
 use Rattle.words.specs.declared.request.Action.{Action}
 use Rattle.words.specs.declared.request.Action.TheVariants.{Check, Run as RunFor, Build}
-use Rattle.words.specs.Line.{Line, on_file, bad}
+use Rattle.words.specs.Line.{Line, on_file, generated, bad}
 
 -- what is written to out and to err, and the status
 pub record Reply : Type 0 where
@@ -158,13 +161,17 @@ value_text (Cont a) = codes "cont " ++ decimal a
 abbrev pub result_line : Val → List ℕ
 result_line v = line (codes "= " ++ value_text v)
 
+-- how a trap of a run is told
+abbrev pub Teller : Type 0
+Teller = Trap → Reply
+
 -- what the end of a run gives; no run of a valid module comes to NoRule, and 11 is no status
-abbrev pub end_reply : Outcome → Reply
-end_reply (Values vs) = record { out = flat_map result_line (listed vs); err = []; status = 0 }
-end_reply Running = running
-end_reply (Traps t) = trapped t
-end_reply (Limit name) = limit (run_limit_text name)
-end_reply NoRule = refusal [] 11
+abbrev pub end_reply : Teller → Outcome → Reply
+end_reply told (Values vs) = record { out = flat_map result_line (listed vs); err = []; status = 0 }
+end_reply told Running = running
+end_reply told (Traps t) = told t
+end_reply told (Limit name) = limit (run_limit_text name)
+end_reply told NoRule = refusal [] 11
 
 -- a reply that comes behind a text that was printed
 abbrev pub behind : List ℕ → Reply → Reply
@@ -191,23 +198,23 @@ abbrev pub with_stats : Bool → RunState → Reply → Reply
 with_stats true r reply = with_more (stats_line r) reply
 with_stats false r reply = reply
 
-abbrev pub run_reply : Bool → RunState → Reply
-run_reply stats r = with_stats stats r (behind r.output (end_reply r.outcome))
+abbrev pub run_reply : Teller → Bool → RunState → Reply
+run_reply told stats r = with_stats stats r (behind r.output (end_reply told r.outcome))
 
 -- what a run gives of at most so many steps, by where it begins
-abbrev pub start_reply : ℕ → Bool → Program → Started → Reply
-start_reply steps stats p (Ready s t) = run_reply stats (Run p s t steps)
-start_reply steps stats p (NoPrinter i) = no_printer i
-start_reply steps stats p NoEntry = no_entry
-start_reply steps stats p (Exceeds name) = limit (start_limit_text name)
-start_reply steps stats p (StartTraps t) = trapped t
+abbrev pub start_reply : Teller → ℕ → Bool → Program → Started → Reply
+start_reply told steps stats p (Ready s t) = run_reply told stats (Run p s t steps)
+start_reply told steps stats p (NoPrinter i) = no_printer i
+start_reply told steps stats p NoEntry = no_entry
+start_reply told steps stats p (Exceeds name) = limit (start_limit_text name)
+start_reply told steps stats p (StartTraps t) = told t
 
-abbrev pub run_gives : ℕ → Bool → Program → Reply
-run_gives steps stats p = start_reply steps stats p (Start p)
+abbrev pub run_gives : Teller → ℕ → Bool → Program → Reply
+run_gives told steps stats p = start_reply told steps stats p (Start p)
 
 -- so a module gives, by which of its types are equivalent
-abbrev pub RunGives : ℕ → Bool → Module → Reply → Type 0
-RunGives steps stats m reply = (p : Program) × (p.source ≡ m) × IsProgram p × (reply ≡ run_gives steps stats p)
+abbrev pub RunGives : Teller → ℕ → Bool → Module → Reply → Type 0
+RunGives told steps stats m reply = (p : Program) × (p.source ≡ m) × IsProgram p × (reply ≡ run_gives told steps stats p)
 
 -- a module that is valid, written again
 abbrev pub built : Module → Reply
@@ -216,7 +223,7 @@ built m = record { out = Canon m; err = []; status = 0 }
 -- what an action gives of a valid module
 abbrev pub gives : Action → Module → Reply → Type 0
 gives Check m reply = reply ≡ ok_module
-gives (RunFor steps stats) m reply = RunGives steps stats m reply
+gives (RunFor steps stats) m reply = RunGives trapped steps stats m reply
 gives Build m reply = reply ≡ built m
 
 -- the module has this fault
@@ -262,15 +269,32 @@ compiled_size = 50000
 abbrev pub limit_size : Reply
 limit_size = limit (codes "limit size")
 
--- a script that breaks no rule, compiled: its module is written
-abbrev pub Compiled : Script → Reply → Type 0
-Compiled p reply = ((Size p ≤ compiled_size) × (reply ≡ built (lowered p))) ⊎ ((compiled_size < Size p) × (reply ≡ limit_size))
+-- a script that breaks no rule, compiled, where its module gives this
+abbrev pub Compiled : (Module → Reply → Type 0) → Script → Reply → Type 0
+Compiled Gives p reply = ((Size p ≤ compiled_size) × Gives (lowered p) reply) ⊎ ((compiled_size < Size p) × (reply ≡ limit_size))
 
--- what an action gives of a script that breaks no rule; none is run
+-- the name at a place; each tag has one
+abbrev pub name_or_none : Option Name → Name
+name_or_none None = []
+name_or_none (Some x) = x
+
+-- the fault of a script for which a trap of its module stands; other traps stand for none
+abbrev pub fault_text : Script → Trap → List ℕ
+fault_text p trap.Unreachable = codes "fault failed"
+fault_text p trap.DivideByZero = codes "fault divzero"
+fault_text p trap.IntegerOverflow = codes "fault overflow"
+fault_text p trap.ConsumedContinuation = codes "fault reused"
+fault_text p (trap.Unhandled e) = codes "fault unhandled " ++ name_or_none (slice_get (effect_names p.declarations) e)
+fault_text p t = trap_text t
+
+abbrev pub faulted : Script → Trap → Reply
+faulted p t = refusal (fault_text p t) 1
+
+-- what an action gives of a script that breaks no rule; no statistics are told of its run
 abbrev pub script_gives : Action → Script → Reply → Type 0
 script_gives Check p reply = reply ≡ ok_script
-script_gives (RunFor steps stats) p reply = ⊥
-script_gives Build p reply = Compiled p reply
+script_gives (RunFor steps stats) p reply = Compiled (RunGives (faulted p) steps false) p reply
+script_gives Build p reply = Compiled (λ m reply. reply ≡ built m) p reply
 
 -- what bytes of a script give, where one that breaks no rule gives this
 abbrev pub ScriptGives : (Script → Reply → Type 0) → List ℕ → Reply → Type 0
@@ -287,22 +311,10 @@ begins_with (m ∷ ms) (b ∷ bytes) = nat_eq b m && begins_with ms bytes
 abbrev pub is_module : List ℕ → Bool
 is_module = begins_with (0 ∷ 97 ∷ 115 ∷ 109 ∷ [])
 
--- whether bytes are a script for this action; only modules are run
-abbrev pub is_script : Action → List ℕ → Bool
-is_script Check bytes = not (is_module bytes)
-is_script (RunFor steps stats) bytes = false
-is_script Build bytes = not (is_module bytes)
-
--- what bytes give that are a module or a script
-abbrev pub EitherGives : Action → List ℕ → Reply → Type 0
-EitherGives action bytes reply =
-    ((is_module bytes ≡ true) × BytesGive (gives action) bytes reply) ⊎ ((is_module bytes ≡ false) × ScriptGives (script_gives action) bytes reply)
-
--- by any action
+-- what an action gives of bytes that are a module or a script
 abbrev pub ActionGives : Action → List ℕ → Reply → Type 0
-ActionGives Check = EitherGives Check
-ActionGives (RunFor steps stats) = BytesGive (gives (RunFor steps stats))
-ActionGives Build = EitherGives Build
+ActionGives action bytes reply =
+    ((is_module bytes ≡ true) × BytesGive (gives action) bytes reply) ⊎ ((is_module bytes ≡ false) × ScriptGives (script_gives action) bytes reply)
 
 -- ## Files
 
@@ -319,8 +331,13 @@ OnFile (holds bytes) Gives reply = OnBytes Gives bytes reply
 
 -- ## The answer
 
+-- how many steps a generated script is run for
+abbrev pub generated_steps : ℕ
+generated_steps = 10000000000
+
 abbrev pub Answer : Line → (List ℕ → Known) → Reply → Type 0
 Answer (on_file name action) files = OnFile (files name) (ActionGives action)
+Answer (generated n) files = ActionGives (RunFor generated_steps false) (generated_script n)
 Answer bad files = λ reply. reply ≡ usage
 
 -- the line has an answer with this status

@@ -8,6 +8,7 @@ ghost use Rattle.drive.specs.Stop.{Gives};
 
 use crate::output::Output;
 use crate::running::run;
+use crate::source::Source;
 use crate::stop::Stop;
 use std::alloc::Global;
 use w_encode::encode;
@@ -49,7 +50,7 @@ pub(crate) fn finish<O: Sink>(
             drop(checked);
             tell(alloc)
         }
-        Action::Run { steps, stats } => run(alloc, checked, steps, stats, out),
+        Action::Run { steps, stats } => run(alloc, Source::Module, checked, steps, stats, out),
         Action::Build => {
             let output = build(alloc, checked.module());
             drop(checked);

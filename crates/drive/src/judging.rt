@@ -76,8 +76,8 @@ fn refusal_of(alloc: Global, fault: ValidFault) -> Stop
     }
 }
 
-// The module itself, where it is valid and within its limits.
-fn accept(alloc: Global, candidate: Module) -> Result<Checked, Stop>
+/// The module itself, where it is valid and within its limits.
+pub(crate) fn accept(alloc: Global, candidate: Module) -> Result<Checked, Stop>
     ensures same { IfOk result (λ checked. checked ≡ candidate) }
     ensures within { IfOk result Within }
     ensures valid { IfOk result Valid }

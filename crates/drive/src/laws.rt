@@ -1,6 +1,7 @@
 //! Laws of the definitions, each the contract of a function that does nothing.
 ghost use Rattle.drive.specs.Idempotent.{BuildIsIdempotent};
 ghost use Rattle.drive.specs.Laws.{OneAnswer, SomeAnswer};
+ghost use Rattle.drive.specs.Meaning.{RunsMean};
 
 /// What `build` wrote of a file, it writes again.
 pub fn build_is_idempotent()
@@ -15,4 +16,9 @@ pub fn one_answer()
 /// Whatever is told of the files, there can't be no answer.
 pub fn some_answer()
     ensures { SomeAnswer }
+{}
+
+/// The run of a script prints, faults and ends as its meaning says, for each number of reductions.
+pub fn runs_of_scripts_mean()
+    ensures { RunsMean }
 {}

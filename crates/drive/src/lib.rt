@@ -12,10 +12,11 @@ mod output;
 mod program;
 mod running;
 mod scripts;
+mod source;
 mod status;
 mod stop;
 
 pub use input::{InputFault, read_input};
-pub use laws::{build_is_idempotent, one_answer, some_answer};
+pub use laws::{build_is_idempotent, one_answer, runs_of_scripts_mean, some_answer};
 pub use program::command;
 pub use status::Status;

@@ -1,10 +1,14 @@
 //! The lines that the program writes.
-ghost use Rattle.std.specs.Prelude.{◌≡◌, ◌++◌, IfOk, OnOk, codes};
+ghost use Rattle.std.specs.Prelude.{◌≡◌, ◌++◌, IfOk, OnOk, codes, option_map, slice_get};
+ghost use Rattle.std.specs.Borrow.{Bor};
+ghost use Rattle.s_syntax.specs.declared.name.Name.{Name as TheName};
 ghost use Rattle.w_reduce.specs.Values.{val};
-ghost use Rattle.drive.specs.Answer.{line, count_text, result_line, malformed, limit, size_limit_text, run_limit_text, start_limit_text, trapped, invalid, no_printer, counts_line, bad_script};
+ghost use Rattle.s_agrees.specs.Agrees.{effect_names};
+ghost use Rattle.drive.specs.Answer.{line, count_text, result_line, malformed, limit, size_limit_text, run_limit_text, start_limit_text, trapped, invalid, no_printer, counts_line, bad_script, faulted};
 
 use itoa::{Buffer, Integer};
 use s_judge::ScriptFault;
+use s_syntax::{Definition, Name, Script};
 use std::alloc::{AllocError, Global};
 use w_decode::DecodeFault;
 use w_reduce::{RunLimit, StartLimit, Trap};
@@ -90,6 +94,34 @@ pub(crate) fn start_limit_line(name: StartLimit) -> &'static [u8]
     }
 }
 
+// The name of the effect of this number.
+fn effect_name(script: &Script, number: u32) -> Option<&Name>
+    ensures { option_map (λ (name : Bor TheName). name.now) result ≡ slice_get (effect_names script.now.declarations) number }
+{
+    let mut left = number;
+    for declaration in script.declarations.as_slice() {
+        if let Definition::Effect(_) = declaration.definition {
+            if left == 0 {
+                return Some(&declaration.name);
+            }
+            left -= 1;
+        }
+    }
+    None
+}
+
+// The line of an effect that no handler in place has a clause for, by its tag.
+fn unhandled_line(alloc: Global, script: &Script, tag: u32) -> Result<Vec<u8>, AllocError>
+    ensures { IfOk result (λ v. v.items ≡ (faulted script.now (Trap.Unhandled tag)).err) }
+{
+    let mut line = Vec::from_slice(alloc, b"fault unhandled ")?;
+    if let Some(name) = effect_name(script, tag) {
+        line.extend_from_slice(name.as_bytes())?;
+    }
+    line.push(b'\n')?;
+    Ok(line)
+}
+
 /// The line of a trap.
 pub(crate) fn trap_line(alloc: Global, trap: Trap) -> Result<Vec<u8>, AllocError>
     ensures { IfOk result (λ v. v.items ≡ (trapped trap).err) }
@@ -106,6 +138,25 @@ pub(crate) fn trap_line(alloc: Global, trap: Trap) -> Result<Vec<u8>, AllocError
         Trap::NullReference => Ok(Vec::from_slice(alloc, b"trap null reference\n")?),
         Trap::ConsumedContinuation => Ok(Vec::from_slice(alloc, b"trap consumed continuation\n")?),
         Trap::Unhandled(tag) => number_line(alloc, b"trap unhandled ", tag),
+    }
+}
+
+/// The line of a script's fault, for which the trap of its module stands.
+pub(crate) fn fault_line(alloc: Global, script: &Script, trap: Trap) -> Result<Vec<u8>, AllocError>
+    ensures { IfOk result (λ v. v.items ≡ (faulted script.now trap).err) }
+{
+    match trap {
+        Trap::Unreachable => Ok(Vec::from_slice(alloc, b"fault failed\n")?),
+        Trap::DivideByZero => Ok(Vec::from_slice(alloc, b"fault divzero\n")?),
+        Trap::IntegerOverflow => Ok(Vec::from_slice(alloc, b"fault overflow\n")?),
+        Trap::ConsumedContinuation => Ok(Vec::from_slice(alloc, b"fault reused\n")?),
+        Trap::Unhandled(tag) => unhandled_line(alloc, script, tag),
+        Trap::MemoryOutOfBounds => trap_line(alloc, trap),
+        Trap::TableOutOfBounds => trap_line(alloc, trap),
+        Trap::UndefinedElement => trap_line(alloc, trap),
+        Trap::NullElement => trap_line(alloc, trap),
+        Trap::CallTypeMismatch => trap_line(alloc, trap),
+        Trap::NullReference => trap_line(alloc, trap),
     }
 }
 

@@ -1,9 +1,11 @@
 //! The program.
-ghost use Rattle.std.specs.Prelude.{◌≡◌, ◌≢◌, ◌⊎◌, ◌≤◌, ℕ, List, map, string_bytes};
+ghost use Rattle.std.specs.Prelude.{◌≡◌, ◌≢◌, ◌⊎◌, ◌≤◌, ℕ, List, false, map, string_bytes};
 ghost use Rattle.w_outside.specs.Outside.{Grew, Rose};
 ghost use Rattle.words.specs.Line.{line_of};
 ghost use Rattle.words.specs.Request.{IsWithinSteps};
-ghost use Rattle.drive.specs.Answer.{ActionGives, Answer, HasStatus};
+ghost use Rattle.words.specs.declared.request.Action.TheVariants.{Run as RunFor};
+ghost use Rattle.s_generate.specs.Generated.{generated as generated_script};
+ghost use Rattle.drive.specs.Answer.{ActionGives, Answer, HasStatus, generated_steps};
 ghost use Rattle.drive.specs.Delivery.{Answers, Answered, Stopped, MayFail, Replies};
 ghost use Rattle.drive.specs.Leaving.{Leaves};
 
@@ -12,12 +14,16 @@ use crate::files::open;
 use crate::finishing::finish;
 use crate::judging::judge;
 use crate::output::Output;
-use crate::scripts::{is_script, judge_script};
+use crate::scripts::{is_module, judge_script};
 use crate::status::Status;
 use crate::stop::{Stop, refuse};
+use s_generate::generate;
 use std::alloc::Global;
 use w_outside::{Fault, Inputs, Sink};
-use words::{Action, WordsFault, request_of};
+use words::{Action, Request, WordsFault, request_of};
+
+/// How many steps a generated script is run for.
+const GENERATED_STEPS: u64 = 10_000_000_000;
 
 static USAGE: &[u8] =
     b"usage: stackwasm check FILE | run FILE [--steps N] [--stats] | build FILE | gen N\n";
@@ -29,11 +35,25 @@ fn act<O: Sink>(alloc: Global, action: Action, bytes: &[u8], out: &mut O) -> Res
         (Grew (O.held out.old) (O.held out.new)) (Rose (O.faults out.old) (O.faults out.new)) }
     ensures later { O.faults out.old ≤ O.faults out.new }
 {
-    if is_script(action, bytes) {
-        return judge_script(alloc, action, bytes);
+    if !is_module(bytes) {
+        return judge_script(alloc, action, bytes, out);
     }
     let checked = judge(alloc, bytes)?;
     finish(alloc, action, checked, out)
+}
+
+// Runs the script that is generated for this number. What a run prints goes to out; the answer is what is left to write.
+fn run_generated<O: Sink>(alloc: Global, number: u32, out: &mut O) -> Result<Output, Stop>
+    ensures leaves { Leaves (ActionGives (RunFor generated_steps false) (generated_script number)) result
+        (Grew (O.held out.old) (O.held out.new)) (Rose (O.faults out.old) (O.faults out.new)) }
+    ensures later { O.faults out.old ≤ O.faults out.new }
+{
+    let bytes = generate(alloc, number)?;
+    let action = Action::Run {
+        steps: GENERATED_STEPS,
+        stats: false,
+    };
+    act(alloc, action, bytes.as_slice(), out)
 }
 
 // The answer to the words. What a run prints goes to out; the answer is what is left to write.
@@ -50,10 +70,11 @@ fn answer<F: Inputs, O: Sink>(
     ensures names { (n : List ℕ) → F.file files.new n ≡ F.file files.old n }
 {
     match request_of(alloc, words) {
-        Ok(request) => {
-            let bytes = open(alloc, files, request.file)?;
-            act(alloc, request.action, bytes.as_slice(), out)
+        Ok(Request::OnFile { file, action }) => {
+            let bytes = open(alloc, files, file)?;
+            act(alloc, action, bytes.as_slice(), out)
         }
+        Ok(Request::Generated(number)) => run_generated(alloc, number, out),
         Err(WordsFault::Bad) => Err(refuse(alloc, USAGE, Status::Usage)),
         Err(WordsFault::OutOfMemory) => Err(Stop::OutOfMemory),
     }

@@ -9,16 +9,16 @@ ghost use Rattle.w_reduce.specs.Values.{val};
 ghost use Rattle.w_inst.specs.Instances.{BeginsAs};
 ghost use Rattle.w_machine.specs.Beginning.{Begins, BeginsWith};
 ghost use Rattle.w_machine.specs.Position.{most_reductions};
-ghost use Rattle.drive.specs.Answer.{result_line, stats_line as the_stats_line, trapped, run_reply, run_gives, RunGives};
+ghost use Rattle.drive.specs.Answer.{result_line, stats_line as the_stats_line, run_reply, run_gives, RunGives};
 ghost use Rattle.drive.specs.Leaving.{Leaves};
 ghost use Rattle.drive.specs.Pieces.{joined};
 ghost use Rattle.drive.specs.Running.{IsAfter, IsFirst};
+ghost use Rattle.drive.specs.Source.{told_of};
 ghost use Rattle.drive.specs.Stop.{IsReply, Refuses, WritesMore};
 
-use crate::lines::{
-    printer_line, run_limit_line, start_limit_line, stats_line, trap_line, value_line,
-};
+use crate::lines::{printer_line, run_limit_line, start_limit_line, stats_line, value_line};
 use crate::output::Output;
+use crate::source::Source;
 use crate::status::Status;
 use crate::stop::{Refusal, Stop, refuse, with_more};
 use std::alloc::{AllocError, Global};
@@ -30,10 +30,10 @@ use w_rules::Checked;
 use w_types::Value;
 
 // The refusal by a trap.
-fn trap_refusal(alloc: Global, trap: Trap) -> Stop
-    ensures { Refuses (λ reply. reply ≡ trapped trap) result }
+fn trap_refusal(alloc: Global, source: Source, trap: Trap) -> Stop
+    ensures { Refuses (λ reply. reply ≡ told_of source.entry trap) result }
 {
-    match trap_line(alloc, trap) {
+    match source.trap_line(alloc, trap) {
         Ok(text) => Stop::Refused(Refusal {
             text,
             status: Status::Trap,
@@ -57,6 +57,7 @@ fn result_lines(alloc: Global, values: &[Value]) -> Result<Vec<Vec<u8>>, AllocEr
 // machine's run is that of so many steps.
 fn run_machine<O: Sink>(
     alloc: Global,
+    source: Source,
     machine: &mut Machine,
     steps: u64,
     out: &mut O,
@@ -64,7 +65,7 @@ fn run_machine<O: Sink>(
     requires within { steps ≤ most_reductions }
     requires first { IsFirst machine.old }
     ensures leaves { (p : Program) (s : Store) (t : Term) → Begins machine.old.program p s t
-        → Leaves (λ reply. reply ≡ run_reply false (Run p s t steps)) result
+        → Leaves (λ reply. reply ≡ run_reply (told_of source.entry) false (Run p s t steps)) result
         (Grew (O.held out.old) (O.held out.new)) (Rose (O.faults out.old) (O.faults out.new)) }
     ensures after { IsReply result → IsAfter machine.new steps }
     ensures program { machine.new.program ≡ machine.old.program }
@@ -80,7 +81,7 @@ fn run_machine<O: Sink>(
         }
         Outcome::Running => Err(refuse(alloc, b"running\n", Status::Running)),
         Outcome::Limit(name) => Err(refuse(alloc, run_limit_line(name), Status::Limit)),
-        Outcome::Trapped(trap) => Err(trap_refusal(alloc, trap)),
+        Outcome::Trapped(trap) => Err(trap_refusal(alloc, source, trap)),
         Outcome::WriteFault => Err(Stop::WriteFault),
         Outcome::OutOfMemory => Err(Stop::OutOfMemory),
     }
@@ -113,6 +114,7 @@ fn with_stats(
 // Runs a module from its first store. The machine is let go in one place, since each such place is proved anew.
 fn run_from<O: Sink>(
     alloc: Global,
+    source: Source,
     checked: Checked,
     instance: Instance,
     steps: u64,
@@ -122,20 +124,20 @@ fn run_from<O: Sink>(
     requires within { steps ≤ most_reductions }
     requires first { BeginsWith checked instance.store instance.main }
     ensures leaves { (p : Program) (s : Store) (t : Term) → Begins checked p s t
-        → Leaves (λ reply. reply ≡ run_reply stats (Run p s t steps)) result
+        → Leaves (λ reply. reply ≡ run_reply (told_of source.entry) stats (Run p s t steps)) result
         (Grew (O.held out.old) (O.held out.new)) (Rose (O.faults out.old) (O.faults out.new)) }
     ensures later { O.faults out.old ≤ O.faults out.new }
 {
     let mut machine = Machine::new(alloc, checked, instance)?;
-    let answer = run_machine(alloc, &mut machine, steps, out);
+    let answer = run_machine(alloc, source, &mut machine, steps, out);
     let told = with_stats(alloc, stats, &machine, answer);
     drop(machine);
     told
 }
 
 // Why a module has no run.
-fn no_run(alloc: Global, fault: InstFault) -> Stop
-    ensures { (p : Program) (steps : ℕ) (stats : Bool) → BeginsAs p (Err fault) → Refuses (λ reply. reply ≡ run_gives steps stats p) result }
+fn no_run(alloc: Global, source: Source, fault: InstFault) -> Stop
+    ensures { (p : Program) (steps : ℕ) (stats : Bool) → BeginsAs p (Err fault) → Refuses (λ reply. reply ≡ run_gives (told_of source.entry) steps stats p) result }
 {
     match fault {
         InstFault::Import(index) => match printer_line(alloc, index) {
@@ -147,7 +149,7 @@ fn no_run(alloc: Global, fault: InstFault) -> Stop
         },
         InstFault::NoEntry => refuse(alloc, b"no entry\n", Status::Invalid),
         InstFault::Limit(name) => refuse(alloc, start_limit_line(name), Status::Limit),
-        InstFault::Trap(trap) => trap_refusal(alloc, trap),
+        InstFault::Trap(trap) => trap_refusal(alloc, source, trap),
         InstFault::OutOfMemory => Stop::OutOfMemory,
     }
 }
@@ -155,23 +157,24 @@ fn no_run(alloc: Global, fault: InstFault) -> Stop
 /// Runs a module, where it has a run. What is printed goes to out; the answer is what is left to write.
 pub(crate) fn run<O: Sink>(
     alloc: Global,
+    source: Source,
     checked: Checked,
     steps: u64,
     stats: bool,
     out: &mut O,
 ) -> Result<Output, Stop>
     requires { steps ≤ most_reductions }
-    ensures leaves { Leaves (RunGives steps stats checked) result
+    ensures leaves { Leaves (RunGives (told_of source.entry) steps stats checked) result
         (Grew (O.held out.old) (O.held out.new)) (Rose (O.faults out.old) (O.faults out.new)) }
     ensures later { O.faults out.old ≤ O.faults out.new }
 {
     // Which types are equivalent is known.
     let _classes = checked.classes();
     match instantiate(alloc, &checked) {
-        Ok(instance) => run_from(alloc, checked, instance, steps, stats, out),
+        Ok(instance) => run_from(alloc, source, checked, instance, steps, stats, out),
         Err(fault) => {
             drop(checked);
-            Err(no_run(alloc, fault))
+            Err(no_run(alloc, source, fault))
         }
     }
 }

@@ -1,36 +1,36 @@
 //! Scripts.
-ghost use Rattle.std.specs.Prelude.{◌≡◌, ◌≢◌, true};
-ghost use Rattle.drive.specs.Answer.{Compiled, ScriptGives, bad_script, is_module as begins_module, is_script as is_script_for, limit_size, ok_script, script_gives};
+ghost use Rattle.std.specs.Prelude.{◌≡◌, ◌<◌, ◌≤◌, false, IfOk, IfErr};
+ghost use Rattle.w_outside.specs.Outside.{Grew, Rose};
+ghost use Rattle.w_machine.specs.Position.{most_reductions};
+ghost use Rattle.s_check.specs.Size.{Size};
+ghost use Rattle.s_code.specs.Lowered.{lowered};
+ghost use Rattle.words.specs.Request.{IsWithinSteps};
+ghost use Rattle.drive.specs.Answer.{Compiled, RunGives, ScriptGives, bad_script, built, compiled_size, faulted, is_module as begins_module, limit_size, ok_script, script_gives};
+ghost use Rattle.drive.specs.Leaving.{Leaves};
 ghost use Rattle.drive.specs.Status.{code_of};
 ghost use Rattle.drive.specs.Stop.{Ends, Gives, Refuses};
 
 use crate::finishing::build;
+use crate::judging::accept;
 use crate::lines::script_line;
 use crate::output::Output;
+use crate::running::run;
+use crate::source::Source;
 use crate::status::Status;
 use crate::stop::{Refusal, Stop, refuse};
 use s_check::CheckedScript;
 use s_judge::{ScriptFault, check, judge};
 use s_lower::{LowerFault, lower};
 use std::alloc::Global;
+use w_outside::Sink;
+use w_syntax::Module;
 use words::Action;
 
 // Whether bytes are a module; others are a script.
-fn is_module(bytes: &[u8]) -> bool
+pub(crate) fn is_module(bytes: &[u8]) -> bool
     ensures value { result ≡ begins_module bytes.now }
 {
     matches!(bytes, [0x00, 0x61, 0x73, 0x6D, ..])
-}
-
-/// Whether bytes are a script for this action.
-pub(crate) fn is_script(action: Action, bytes: &[u8]) -> bool
-    ensures value { result ≡ is_script_for action bytes.now }
-{
-    match action {
-        Action::Check => !is_module(bytes),
-        Action::Run { .. } => false,
-        Action::Build => !is_module(bytes),
-    }
 }
 
 // The status of a script that is refused.
@@ -75,40 +75,87 @@ fn check_script(alloc: Global, bytes: &[u8]) -> Result<Output, Stop>
     }
 }
 
-// A script that breaks no rule is compiled, and its module is written.
-fn compile(alloc: Global, script: &CheckedScript) -> Result<Output, Stop>
-    ensures gives { Gives (Compiled script.now) result }
+// The module of a script that breaks no rule.
+fn compile(alloc: Global, script: &CheckedScript) -> Result<Module, Stop>
+    ensures small { IfOk result (λ m. Size script.now ≤ compiled_size) }
+    ensures module_of { IfOk result (λ m. m ≡ lowered script.now) }
+    ensures refused { IfErr result (Refuses (λ reply. (compiled_size < Size script.now) × (reply ≡ limit_size))) }
 {
     match lower(alloc, script) {
-        Ok(module) => {
-            let output = build(alloc, &module);
-            drop(module);
-            output
-        }
+        Ok(module) => Ok(module),
         Err(LowerFault::TooLarge) => Err(refuse(alloc, b"limit size\n", Status::Limit)),
         Err(LowerFault::OutOfMemory) => Err(Stop::OutOfMemory),
     }
 }
 
+// Compiles a script that breaks no rule, and writes its module.
+fn build_good(alloc: Global, script: &CheckedScript) -> Result<Output, Stop>
+    ensures gives { Gives (Compiled (λ m reply. reply ≡ built m) script.now) result }
+{
+    let module = compile(alloc, script)?;
+    let output = build(alloc, &module);
+    drop(module);
+    output
+}
+
 // Compiles a script.
 fn build_script(alloc: Global, bytes: &[u8]) -> Result<Output, Stop>
-    ensures gives { Gives (ScriptGives Compiled bytes.now) result }
+    ensures gives { Gives (ScriptGives (Compiled (λ m reply. reply ≡ built m)) bytes.now) result }
 {
     match judge(alloc, bytes) {
-        Ok(script) => compile(alloc, &script),
+        Ok(script) => build_good(alloc, &script),
         Err(ScriptFault::OutOfMemory) => Err(Stop::OutOfMemory),
         Err(fault) => Err(script_refusal(alloc, fault)),
     }
 }
 
-/// Does with a script what is asked for: it is checked, or compiled.
-pub(crate) fn judge_script(alloc: Global, action: Action, bytes: &[u8]) -> Result<Output, Stop>
-    requires script { is_script_for action bytes.now ≡ true }
-    ensures gives { Gives (ScriptGives (script_gives action) bytes.now) result }
+// Compiles a script that breaks no rule, and runs its module, which is valid.
+fn run_good<O: Sink>(
+    alloc: Global,
+    script: &CheckedScript,
+    steps: u64,
+    out: &mut O,
+) -> Result<Output, Stop>
+    requires { steps ≤ most_reductions }
+    ensures leaves { Leaves (Compiled (RunGives (faulted script.now) steps false) script.now) result
+        (Grew (O.held out.old) (O.held out.new)) (Rose (O.faults out.old) (O.faults out.new)) }
+    ensures later { O.faults out.old ≤ O.faults out.new }
+{
+    let source = Source::Script(script.script());
+    let module = compile(alloc, script)?;
+    let checked = accept(alloc, module)?;
+    run(alloc, source, checked, steps, false, out)
+}
+
+// Runs a script.
+fn run_script<O: Sink>(alloc: Global, bytes: &[u8], steps: u64, out: &mut O) -> Result<Output, Stop>
+    requires { steps ≤ most_reductions }
+    ensures leaves { Leaves (ScriptGives (λ p. Compiled (RunGives (faulted p) steps false) p) bytes.now) result
+        (Grew (O.held out.old) (O.held out.new)) (Rose (O.faults out.old) (O.faults out.new)) }
+    ensures later { O.faults out.old ≤ O.faults out.new }
+{
+    match judge(alloc, bytes) {
+        Ok(script) => run_good(alloc, &script, steps, out),
+        Err(ScriptFault::OutOfMemory) => Err(Stop::OutOfMemory),
+        Err(fault) => Err(script_refusal(alloc, fault)),
+    }
+}
+
+/// Does with a script what is asked for. What a run prints goes to out; the answer is what is left to write.
+pub(crate) fn judge_script<O: Sink>(
+    alloc: Global,
+    action: Action,
+    bytes: &[u8],
+    out: &mut O,
+) -> Result<Output, Stop>
+    requires { IsWithinSteps action }
+    ensures leaves { Leaves (ScriptGives (script_gives action) bytes.now) result
+        (Grew (O.held out.old) (O.held out.new)) (Rose (O.faults out.old) (O.faults out.new)) }
+    ensures later { O.faults out.old ≤ O.faults out.new }
 {
     match action {
         Action::Check => check_script(alloc, bytes),
+        Action::Run { steps, .. } => run_script(alloc, bytes, steps, out),
         Action::Build => build_script(alloc, bytes),
-        Action::Run { .. } => unreachable!(),
     }
 }

@@ -4,6 +4,7 @@ use Rattle.w_reduce.specs.Run.{Running, Traps, Limit}
 use Rattle.w_stands.specs.Values.{vals}
 use Rattle.w_machine.specs.declared.outcome.Kept.TheVariants.{Ended, Limit as KeptLimit, Trapped as KeptTrapped, WriteFault as KeptWriteFault, OutOfMemory as KeptOutOfMemory}
 use Rattle.w_machine.specs.Position.{Position}
+use Rattle.drive.specs.Source.{told_of}
 use Rattle.drive.proofs.Refusals.{refuses_same, same_refusal}
 use Rattle.drive.proofs.Runs.{from_first, first_ended, first_after, first_program, lines_of_vals, run_refused, run_ended, run_unlisted, run_failed, run_out}
 use Rattle.drive.proofs.Statistics.{not_reply}
@@ -12,41 +13,41 @@ use Rattle.drive.proofs.running.run_machine.Goals as goal
 pub returns-in_err-pieces-in-Ended-clause-leaves : goal.returns-in_err-pieces-in-Ended-clause-leaves
 returns-in_err-pieces-in-Ended-clause-leaves g c = λ p s t begins.
     let h = from_first _ p s t c.args.steps c.args.machine.now c.run.new.self _ (g.O.Sink.held c.args.out.now) (g.O.Sink.held c.run.new.out) c.requires.first begins c.in-Ended.ensures.runs in
-    run_unlisted p s t c.args.steps (g.O.Sink.held c.args.out.now) (g.O.Sink.held c.run.new.out) (Rose (g.O.Sink.faults c.args.out.now) (g.O.Sink.faults c.run.new.out)) c.from_residual.result h.1 c.from_residual.ensures.1
+    run_unlisted (told_of c.args.source) p s t c.args.steps (g.O.Sink.held c.args.out.now) (g.O.Sink.held c.run.new.out) (Rose (g.O.Sink.faults c.args.out.now) (g.O.Sink.faults c.run.new.out)) c.from_residual.result h.1 c.from_residual.ensures.1
 
 pub returns-in_ok-pieces-in-Ended-clause-leaves : goal.returns-in_ok-pieces-in-Ended-clause-leaves
 returns-in_ok-pieces-in-Ended-clause-leaves g c = λ p s t begins.
     let h = from_first _ p s t c.args.steps c.args.machine.now c.run.new.self _ (g.O.Sink.held c.args.out.now) (g.O.Sink.held c.run.new.out) c.requires.first begins c.in-Ended.ensures.runs in
     let done = first_ended _ p s t c.args.steps c.args.machine.now c.run.new.self (g.O.Sink.held c.args.out.now) (g.O.Sink.held c.run.new.out) c.requires.first begins c.in-Ended.ensures.runs in
-    run_ended p s t c.args.steps (g.O.Sink.held c.args.out.now) (g.O.Sink.held c.run.new.out) (Rose (g.O.Sink.faults c.args.out.now) (g.O.Sink.faults c.run.new.out)) (record { pieces = c.in_ok-pieces-in-Ended.pieces; told = c.new.result }) (vals c.results.result.now) h.1
+    run_ended (told_of c.args.source) p s t c.args.steps (g.O.Sink.held c.args.out.now) (g.O.Sink.held c.run.new.out) (Rose (g.O.Sink.faults c.args.out.now) (g.O.Sink.faults c.run.new.out)) (record { pieces = c.in_ok-pieces-in-Ended.pieces; told = c.new.result }) (vals c.results.result.now) h.1
     (c.results.ensures.ended done.kept p s t done.begins c.args.steps done.within) (c.in_ok-pieces-in-Ended.ensures ∙ lines_of_vals c.results.result.now) c.new.ensures.items
 
 pub returns-in-Running-clause-leaves : goal.returns-in-Running-clause-leaves
 returns-in-Running-clause-leaves g c = λ p s t begins.
     let h = from_first _ p s t c.args.steps c.args.machine.now c.run.new.self _ (g.O.Sink.held c.args.out.now) (g.O.Sink.held c.run.new.out) c.requires.first begins c.in-Running.ensures.runs in
-    run_refused p s t c.args.steps (g.O.Sink.held c.args.out.now) (g.O.Sink.held c.run.new.out) (Rose (g.O.Sink.faults c.args.out.now) (g.O.Sink.faults c.run.new.out)) Running c.refuse.result h.1 h.0 c.refuse.ensures
+    run_refused (told_of c.args.source) p s t c.args.steps (g.O.Sink.held c.args.out.now) (g.O.Sink.held c.run.new.out) (Rose (g.O.Sink.faults c.args.out.now) (g.O.Sink.faults c.run.new.out)) Running c.refuse.result h.1 h.0 c.refuse.ensures
 
 pub returns-in-Limit-clause-leaves : goal.returns-in-Limit-clause-leaves
 returns-in-Limit-clause-leaves g c = λ p s t begins.
     let h = from_first _ p s t c.args.steps c.args.machine.now c.run.new.self _ (g.O.Sink.held c.args.out.now) (g.O.Sink.held c.run.new.out) c.requires.first begins c.in-Limit.ensures.runs in
-    run_refused p s t c.args.steps (g.O.Sink.held c.args.out.now) (g.O.Sink.held c.run.new.out) (Rose (g.O.Sink.faults c.args.out.now) (g.O.Sink.faults c.run.new.out)) (Limit c.in-Limit.name) c.refuse-in-Limit.result h.1 h.0
+    run_refused (told_of c.args.source) p s t c.args.steps (g.O.Sink.held c.args.out.now) (g.O.Sink.held c.run.new.out) (Rose (g.O.Sink.faults c.args.out.now) (g.O.Sink.faults c.run.new.out)) (Limit c.in-Limit.name) c.refuse-in-Limit.result h.1 h.0
     (refuses_same c.refuse-in-Limit.result (same_refusal _ _ 9 9 c.run_limit_line.ensures refl) c.refuse-in-Limit.ensures)
 
 pub returns-in-Trapped-clause-leaves : goal.returns-in-Trapped-clause-leaves
 returns-in-Trapped-clause-leaves g c = λ p s t begins.
     let h = from_first _ p s t c.args.steps c.args.machine.now c.run.new.self _ (g.O.Sink.held c.args.out.now) (g.O.Sink.held c.run.new.out) c.requires.first begins c.in-Trapped.ensures.runs in
-    run_refused p s t c.args.steps (g.O.Sink.held c.args.out.now) (g.O.Sink.held c.run.new.out) (Rose (g.O.Sink.faults c.args.out.now) (g.O.Sink.faults c.run.new.out)) (Traps c.in-Trapped.trap) c.trap_refusal.result h.1 h.0 c.trap_refusal.ensures
+    run_refused (told_of c.args.source) p s t c.args.steps (g.O.Sink.held c.args.out.now) (g.O.Sink.held c.run.new.out) (Rose (g.O.Sink.faults c.args.out.now) (g.O.Sink.faults c.run.new.out)) (Traps c.in-Trapped.trap) c.trap_refusal.result h.1 h.0 c.trap_refusal.ensures
 
 pub returns-in-WriteFault-clause-leaves : goal.returns-in-WriteFault-clause-leaves
 returns-in-WriteFault-clause-leaves g c = λ p s t begins.
     let h = from_first _ p s t c.args.steps c.args.machine.now c.run.new.self _ (g.O.Sink.held c.args.out.now) (g.O.Sink.held c.run.new.out) c.requires.first begins c.in-WriteFault.ensures.runs in
-    run_failed p s t c.args.steps (g.O.Sink.held c.args.out.now) (g.O.Sink.held c.run.new.out) (Rose (g.O.Sink.faults c.args.out.now) (g.O.Sink.faults c.run.new.out)) h.1
+    run_failed (told_of c.args.source) p s t c.args.steps (g.O.Sink.held c.args.out.now) (g.O.Sink.held c.run.new.out) (Rose (g.O.Sink.faults c.args.out.now) (g.O.Sink.faults c.run.new.out)) h.1
     (c.in-WriteFault.ensures.cause (ap (λ (q : Position). q.kept) c.requires.first) refl)
 
 pub returns-in-OutOfMemory-clause-leaves : goal.returns-in-OutOfMemory-clause-leaves
 returns-in-OutOfMemory-clause-leaves g c = λ p s t begins.
     let h = from_first _ p s t c.args.steps c.args.machine.now c.run.new.self _ (g.O.Sink.held c.args.out.now) (g.O.Sink.held c.run.new.out) c.requires.first begins c.in-OutOfMemory.ensures.runs in
-    run_out p s t c.args.steps (g.O.Sink.held c.args.out.now) (g.O.Sink.held c.run.new.out) (Rose (g.O.Sink.faults c.args.out.now) (g.O.Sink.faults c.run.new.out)) h.1
+    run_out (told_of c.args.source) p s t c.args.steps (g.O.Sink.held c.args.out.now) (g.O.Sink.held c.run.new.out) (Rose (g.O.Sink.faults c.args.out.now) (g.O.Sink.faults c.run.new.out)) h.1
 
 pub returns-in_err-pieces-in-Ended-clause-after : goal.returns-in_err-pieces-in-Ended-clause-after
 returns-in_err-pieces-in-Ended-clause-after g c = λ reply. absurd (not_reply c.from_residual.result c.from_residual.ensures.1 reply)
