@@ -22,6 +22,7 @@ use Rattle.w_syntax.specs.Spells.{Spells}
 use Rattle.w_encode.specs.TypesWritten.{rectype_written, limits_written}
 use Rattle.w_encode.specs.FieldsWritten.{import_written, tag_written, export_written, table_written, global_written, elem_written, data_written}
 use Rattle.w_encode.specs.Canon.{code_written, list_section, number_section, data_count, Canon}
+use Rattle.w_encode.specs.Spelled.{StartSpelled}
 use Rattle.w_encode.proofs.Cases.{in_either}
 use Rattle.w_encode.proofs.TypesCanonical.{canon_rectype, canon_limits}
 use Rattle.w_encode.proofs.FieldsCanonical.{canon_import, canon_tag, canon_export, canon_table_of, canon_global}
@@ -77,15 +78,11 @@ section_says f p h = chosen_says kinds
     f.0 f.1 p h
 
 -- a list that is empty, or that at most n bytes spell
-abbrev Decoded : {A : Type 0} → Format A → ℕ → List A → Type 0
+abbrev pub Decoded : {A : Type 0} → Format A → ℕ → List A → Type 0
 Decoded f n xs = (xs ≡ []) ⊎ ((e : List ℕ) × (vec f).Spells e xs × (length e ≤ n))
 
-abbrev StartWithin : Option ℕ → Type 0
-StartWithin None = Unit {0}
-StartWithin (Some x) = x < 2 ^ 32
-
 -- each list of the module is, in the order of its fields, and the start function is a number of 32 bits
-abbrev Lists : ℕ → Module → Type 0
+abbrev pub Lists : ℕ → Module → Type 0
 Lists n m =
     Decoded rectype n m.types
     × Decoded import n m.imports
@@ -95,7 +92,7 @@ Lists n m =
     × Decoded tag n m.tags
     × Decoded global n m.globals
     × Decoded export n m.exports
-    × StartWithin m.start
+    × StartSpelled m.start
     × Decoded elem n m.elements
     × Decoded code n m.codes
     × Decoded data_segment n m.datas
@@ -185,7 +182,7 @@ unfolding shortest_in
 few_bytes zero n = omega arith
 few_bytes (suc k) n = few_or (nat_lt n 128) k n (few_bytes k (n / 128))
 
-number_spelled : (id : ℕ) (make : ℕ → Section) (o : Option ℕ) → StartWithin o → ((e : List ℕ) (n : ℕ) → (number 32).Spells e n → IsSection (id, e) (make n)) → Each section.Spells (number_section id o) (number_part make o)
+number_spelled : (id : ℕ) (make : ℕ → Section) (o : Option ℕ) → StartSpelled o → ((e : List ℕ) (n : ℕ) → (number 32).Spells e n → IsSection (id, e) (make n)) → Each section.Spells (number_section id o) (number_part make o)
 number_spelled id make None h s = each_none
 number_spelled id make (Some n) h s =
     let e = shortest n in
@@ -363,7 +360,7 @@ count_agrees : (v : Bool) (m : Module) → any_uses_data m.codes ≡ v → DataA
 count_agrees true m e = refl
 count_agrees false m e = subst IsFalse (sym e) refl
 
-few_of : (m : Module) (v : Bool) → Decoded data_segment (2 ^ 30) m.datas → StartWithin (cond v (Some (length m.datas)) None)
+few_of : (m : Module) (v : Bool) → Decoded data_segment (2 ^ 30) m.datas → StartSpelled (cond v (Some (length m.datas)) None)
 unfolding Counted
 few_of m true (inl e) = omega (arith, ap length e)
 few_of m true (inr h) = within_bits 32 (length m.datas) h.1.0 h.1.3
@@ -389,17 +386,20 @@ all_spelled m l =
     let e13 = list_spelled data_segment data_written 0x0B part.Datas m.datas canon_data l.11 (λ e ys s. (ys, s, refl)) in
     (_, refl, each_both (section_of_list part.Types m.types) _ _ _ e1 (each_both (section_of_list part.Imports m.imports) _ _ _ e2 (each_both (section_of_list part.Functions m.functions) _ _ _ e3 (each_both (section_of_list part.Tables m.tables) _ _ _ e4 (each_both (section_of_list part.Memories m.memories) _ _ _ e5 (each_both (section_of_list part.Tags m.tags) _ _ _ e6 (each_both (section_of_list part.Globals m.globals) _ _ _ e7 (each_both (section_of_list part.Exports m.exports) _ _ _ e8 (each_both (number_part part.Start m.start) _ _ _ e9 (each_both (section_of_list part.Elements m.elements) _ _ _ e10 (each_both (number_part part.DataCount (data_count m)) _ _ _ e11 (each_both (section_of_list part.Codes m.codes) _ _ _ e12 (e13)))))))))))))
 
-pub canon_spells : (b : List ℕ) (m : Module) → Spells b m → length b ≤ 2 ^ 30 → Spells (Canon m) m
-canon_spells b m h le =
-    let l = lists_of b m h le in
+-- a module whose lists are within 2^30 bytes, and whose functions have their codes
+pub lists_spell : (m : Module) → Lists (2 ^ 30) m → length m.functions ≡ length m.codes → Spells (Canon m) m
+lists_spell m l e =
     let s = all_spelled m l in
     let o = in_order m 0 (omega arith) in (
       parts_of m,
       o.0,
       record { sections = s.0; parts = s.1 ∙ ap (λ (t : List ℕ). header ++ t) (sym (append-nil s.0)); each = s.2; order = o.1 },
       made m,
-      (h.4.0, subst (λ (c : Option ℕ). DataAgrees c m) (sym (counted m)) (count_agrees (any_uses_data m.codes) m refl)),
+      (e, subst (λ (c : Option ℕ). DataAgrees c m) (sym (counted m)) (count_agrees (any_uses_data m.codes) m refl)),
     )
+
+pub canon_spells : (b : List ℕ) (m : Module) → Spells b m → length b ≤ 2 ^ 30 → Spells (Canon m) m
+canon_spells b m h le = lists_spell m (lists_of b m h le) h.4.0
 
 -- what is the canonical spelling is a spelling
 pub canon_ok : {E : Type 0} (m : Module) (r : Result (Vec ℕ) E) → IfOk r (λ v. v.items ≡ Canon m) → IfOk r (λ v. (b : List ℕ) → Spells b m → length b ≤ 2 ^ 30 → Spells v.items m)

@@ -8,5 +8,7 @@ mod FieldsCanonical
 mod SegmentsCanonical
 mod FunctionsCanonical
 pub mod Canonical
+pub mod SpelledCode
+pub mod SpelledModules
 mod WrittenRows
 mod OpcodeRows

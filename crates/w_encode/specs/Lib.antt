@@ -3,3 +3,4 @@ pub mod InstructionsWritten
 pub mod FlatWritten
 pub mod FieldsWritten
 pub mod Canon
+pub mod Spelled

@@ -13,5 +13,5 @@ mod put;
 mod segments;
 mod types;
 
-pub use laws::canonical_spells;
+pub use laws::{canonical_spells, parts_spell};
 pub use module::encode;
