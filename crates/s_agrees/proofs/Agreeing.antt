@@ -1,15 +1,12 @@
 -- The runs of a script's module, for each number of reductions: they follow the script, if each of its steps is matched.
-use Rattle.std.proofs.Common.{◌≡◌, ℕ, ℤ, zero, suc, ◌+◌, ◌≤◌, Bool, List, [], ◌∷◌, ◌++◌, codes, Option, Some, None, refl, sym, ap, ◌∙◌, subst, arith, append-nil}
+use Rattle.std.proofs.Common.{◌≡◌, ℕ, ℤ, zero, suc, ◌+◌, ◌≤◌, Bool, List, [], ◌++◌, Option, Some, None, refl, sym, ap, ◌∙◌, subst, append-nil}
 use Rattle.std.specs.Prelude.{◌≢◌}
-use Rattle.following.specs.Follows.{Going, Value, Fault as Faulty, End, Is, Limit, IsPrefix, after, Follows}
+use Rattle.following.specs.Follows.{Going, End, Is, Limit, IsPrefix, after, Follows}
 use Rattle.following.specs.Simulation.{Machine}
 use Rattle.following.specs.Steps as steps
 use Rattle.following.specs.Steps.{Stops, Over, Reducing, Reductions, StepSimulation, told_before}
 use Rattle.following.proofs.Stepping.{follows_term}
 use Rattle.w_types.specs.Rows.{Row, ε, ◌▹◌}
-use Rattle.w_types.specs.declared.types.ValType.TheVariants.{I64 as ValI64}
-use Rattle.w_reduce.specs.declared.limit.RunLimit.TheVariants as limit
-use Rattle.w_reduce.specs.declared.trap.Trap.{Trap}
 use Rattle.w_reduce.specs.Program.{Program}
 use Rattle.w_reduce.specs.Reduce as machine
 use Rattle.w_reduce.specs.Reduced as reduced

@@ -1,11 +1,9 @@
 -- Calls of functions, and of functions under a handle.
-use Rattle.std.proofs.Common.{◌≡◌, ℕ, zero, suc, ◌+◌, ◌<◌, ◌≤◌, max, Bool, true, List, [], ◌∷◌, ◌++◌, map, length, take, drop, Option, Some, None, refl, sym, ap, ◌∙◌, subst, arith, length-append}
-use Rattle.std.specs.Prelude.{slice_get, slice_set}
-use Rattle.w_types.specs.Rows.{Row, ε, ◌▹◌, ◌⧺◌, size, listed}
+use Rattle.std.proofs.Common.{◌≡◌, ℕ, suc, Bool, List, [], ◌∷◌, length, Option, Some, refl, sym, ap, ◌∙◌, arith}
+use Rattle.w_types.specs.Rows.{Row, ε, ◌⧺◌}
 use Rattle.w_syntax.specs.Code.{Code, Plain}
-use Rattle.w_reduce.specs.Calls.{defaults}
 use Rattle.w_reduce.specs.Values.{Val}
-use Rattle.w_reduce.specs.Store.{Store, live}
+use Rattle.w_reduce.specs.Store.{Store}
 use Rattle.w_reduce.specs.Terms.{rest_of, Context, Term}
 use Rattle.w_reduce.specs.Reduced.{Went}
 use Rattle.s_syntax.specs.declared.name.Name.{Name}
@@ -22,11 +20,11 @@ use Rattle.s_code.specs.Temporaries.{high_block}
 use Rattle.s_code.specs.Statements.{body}
 use Rattle.s_meaning.specs.Terms.{Value, Variable, Head, Calling, Work, Activation}
 use Rattle.s_meaning.specs.Terms as script
-use Rattle.s_meaning.specs.Steps.{Around, bind, applies, enters, whole, or_wrong}
+use Rattle.s_meaning.specs.Steps.{bind, applies}
 use Rattle.s_valid.proofs.Stored.{function_stored}
 use Rattle.s_agrees.proofs.ScriptRows.{Values, many, listed_many}
 use Rattle.s_agrees.proofs.Standing.{config, Sames, Locals, Active, Works, Base, function, Waits, activation, runs, Stores}
-use Rattle.s_agrees.proofs.Facts.{Facts, FunctionFacts}
+use Rattle.s_agrees.proofs.Facts.{Facts}
 use Rattle.s_agrees.proofs.Paths.{program_of, step, stay, go}
 use Rattle.s_agrees.proofs.Matches.{Matches, went, under_last}
 use Rattle.s_agrees.proofs.Binding.{bind_known, holds_bound}

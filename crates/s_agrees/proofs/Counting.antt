@@ -1,15 +1,15 @@
 -- Labels, frames, handles and continuations of related contexts and stores, counted.
-use Rattle.std.proofs.Common.{◌≡◌, ℕ, zero, suc, ◌+◌, ◌≤◌, List, [], ◌∷◌, ◌++◌, length, Option, Some, None, refl, sym, ap, ◌∙◌, arith}
+use Rattle.std.proofs.Common.{◌≡◌, ℕ, zero, suc, ◌+◌, ◌≤◌, List, [], ◌∷◌, ◌++◌, length, Option, Some, None, refl, ap, ◌∙◌, arith}
 use Rattle.std.specs.Prelude.{slice_get, slice_set}
-use Rattle.w_types.specs.Rows.{Row, ε}
-use Rattle.w_syntax.specs.Code.{Code, Done}
+use Rattle.w_types.specs.Rows.{Row}
+use Rattle.w_syntax.specs.Code.{Code}
 use Rattle.w_reduce.specs.Values.{Val}
 use Rattle.w_reduce.specs.Store.{Store, live_in}
 use Rattle.w_reduce.specs.Terms.{Label, Frame, Handle, Context, Term, Kept, frames, handles, with_local}
 use Rattle.s_syntax.specs.declared.name.Name.{Name}
 use Rattle.s_syntax.specs.declared.script.Declaration.{Declaration}
 use Rattle.s_code.specs.Layouts.{Layout}
-use Rattle.s_code.specs.Handlers.{Placed, clause_code, labels as clause_list, return_code}
+use Rattle.s_code.specs.Handlers.{Placed}
 use Rattle.s_code.specs.Places.{placed_clauses}
 use Rattle.s_meaning.specs.Terms.{activations, full}
 use Rattle.s_meaning.specs.Terms as script

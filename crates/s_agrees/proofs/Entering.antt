@@ -1,6 +1,6 @@
 -- Calls: from the arguments on the stack to the body of a function of the module, and to the computation that a handler's function resumes.
-use Rattle.std.proofs.Common.{◌≡◌, ℕ, zero, suc, ◌+◌, ◌<◌, ◌≤◌, Bool, false, List, [], ◌∷◌, ◌++◌, map, length, Option, Some, None, ◌⊎◌, inl, inr, refl, sym, ap, ◌∙◌, subst, arith, length-append}
-use Rattle.std.specs.Prelude.{slice_get, slice_set}
+use Rattle.std.proofs.Common.{◌≡◌, ℕ, zero, suc, ◌+◌, Bool, false, List, [], ◌∷◌, ◌++◌, map, length, Option, Some, inl, inr, refl, sym, ap, ◌∙◌, subst, arith, length-append}
+use Rattle.std.specs.Prelude.{slice_get}
 use Rattle.w_types.specs.Rows.{Row, ε, ◌▹◌, ◌⧺◌, size, listed}
 use Rattle.w_types.specs.declared.types.ValType.{ValType}
 use Rattle.w_types.specs.declared.types.ValType.TheVariants.{I64}
@@ -9,18 +9,16 @@ use Rattle.w_tables.specs.declared.entries.FuncEntry.TheVariants.{Own}
 use Rattle.w_syntax.specs.Code.{Code, Done, Plain, Block}
 use Rattle.w_syntax.specs.declared.instructions.BlockKind.TheVariants as kind
 use Rattle.w_syntax.specs.declared.instructions.BlockType.TheVariants as block_type
-use Rattle.w_syntax.specs.declared.instructions.Clause.{Clause as HandlerClause}
 use Rattle.w_syntax.specs.declared.locals.LocalRun.{LocalRun}
 use Rattle.w_syntax.specs.declared.module.Func.{Func as Body}
 use Rattle.w_reduce.specs.Calls.{defaults, invoke}
 use Rattle.w_reduce.specs.Values.{Val, Cont}
-use Rattle.w_reduce.specs.Store.{Store, live, without_cont}
-use Rattle.w_reduce.specs.Terms.{Rest, rest_of, Label, Frame, Handle, Context, Term, Kept, frames, handles, locals_of}
+use Rattle.w_reduce.specs.Store.{Store, without_cont}
+use Rattle.w_reduce.specs.Terms.{Rest, rest_of, Label, Frame, Handle, Context, Term, Kept}
 use Rattle.w_reduce.specs.Program.{Arity, arity_of, function_arity}
-use Rattle.w_reduce.specs.Reduced.{Reduced, Went, steps_to}
+use Rattle.w_reduce.specs.Reduced.{Went, steps_to}
 use Rattle.s_syntax.specs.declared.name.Name.{Name}
 use Rattle.s_syntax.specs.declared.script.Clause.{Clause}
-use Rattle.s_syntax.specs.declared.script.Function.{Function}
 use Rattle.s_syntax.specs.declared.script.Handler.{Handler}
 use Rattle.s_syntax.specs.declared.script.Declaration.{Declaration}
 use Rattle.s_syntax.specs.declared.script.Script.{Script}
@@ -28,20 +26,18 @@ use Rattle.s_check.specs.Definitions.{handler_of}
 use Rattle.s_index.specs.Indices.{clause_type_index}
 use Rattle.s_index.specs.Types.{computation_type, resumption_type, to_continuation, numbers}
 use Rattle.s_code.specs.Handlers.{Placed, blocks, clause_code, labels, return_code, handling}
-use Rattle.s_code.specs.Instructions.{local_get, resume}
-use Rattle.s_code.specs.Lowered.{lowered, function_code, handler_code}
-use Rattle.s_code.specs.Places.{function_layout, function_locals, return_layout, placed_clauses}
-use Rattle.s_code.specs.Temporaries.{high_block}
+use Rattle.s_code.specs.Instructions.{resume}
+use Rattle.s_code.specs.Lowered.{lowered}
+use Rattle.s_code.specs.Places.{return_layout, placed_clauses}
 use Rattle.s_meaning.specs.Terms.{Value, Variable}
 use Rattle.s_meaning.specs.Terms as script
-use Rattle.s_meaning.specs.Steps.{bind}
 use Rattle.s_valid.specs.Beginning.{first_store}
 use Rattle.s_valid.specs.Offers.{arrow}
 use Rattle.s_valid.proofs.ModuleOffers.{offers_all}
 use Rattle.s_valid.proofs.Stored.{Stored}
 use Rattle.s_meaning.proofs.Lists.{get_before, get_last}
-use Rattle.s_agrees.proofs.ScriptRows.{Values, no_values, ◌▸◌, many, listed_more, listed_many}
-use Rattle.s_agrees.proofs.Standing.{config, Same, Sames, none, more, Locals, LocalIs, Held, Active, clause_labels, loop_code, in_loop}
+use Rattle.s_agrees.proofs.ScriptRows.{Values, many, listed_more, listed_many}
+use Rattle.s_agrees.proofs.Standing.{config, Same, Sames, none, more, Locals, Held, clause_labels, loop_code, in_loop}
 use Rattle.s_agrees.proofs.Contexts.{clauses_locals}
 use Rattle.s_agrees.proofs.StoresGrow.{old_or_new}
 use Rattle.s_agrees.proofs.Cutting.{clauses_of, clauses_placed}

@@ -1,6 +1,6 @@
 -- What is fixed in a script that breaks no rule: where names are among locals, that code has its temporaries, and how many there are of what is
 -- written in place.
-use Rattle.std.proofs.Common.{◌≡◌, ℕ, suc, ◌+◌, ◌<◌, ◌≤◌, List, [], length, Option, Some, None}
+use Rattle.std.proofs.Common.{◌≡◌, ℕ, suc, ◌+◌, ◌<◌, ◌≤◌, List, length, Some}
 use Rattle.std.specs.Prelude.{slice_get}
 use Rattle.w_reduce.specs.Calls.{defaults}
 use Rattle.s_syntax.specs.declared.name.Name.{Name}
@@ -15,7 +15,7 @@ use Rattle.s_code.specs.Layouts.{Layout, local_of}
 use Rattle.s_code.specs.Handlers.{Placed}
 use Rattle.s_code.specs.Places.{function_layout, function_locals, return_layout, placed_clauses, handler_temporaries, handler_locals}
 use Rattle.s_code.specs.Temporaries.{high_block}
-use Rattle.s_agrees.proofs.Standing.{Fine, HasNumber, WellBlock, own, handler_high, handler_room}
+use Rattle.s_agrees.proofs.Standing.{Fine, WellBlock, own, handler_high, handler_room}
 
 -- parameters are the first locals
 pub record Parameters (Γ : Layout) (ps : List Parameter) : Type 0 where

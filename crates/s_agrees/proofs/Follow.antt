@@ -1,34 +1,23 @@
 -- Each run of a script's module follows the script.
-use Rattle.std.proofs.Common.{◌≡◌, ℕ, ℤ, zero, suc, ◌+◌, ◌≤◌, Bool, List, [], ◌∷◌, codes, length, Option, Some, None, refl, sym, ap, ◌∙◌, subst, arith}
-use Rattle.std.specs.Prelude.{slice_get}
-use Rattle.following.specs.Follows.{Going, Is, after}
+use Rattle.std.proofs.Common.{◌≡◌, ℕ, ℤ, Bool, List, [], codes, length, Some, refl, sym, ap, subst, arith}
 use Rattle.following.specs.Steps as steps
 use Rattle.following.specs.Steps.{Reductions, StepSimulation}
-use Rattle.following.proofs.Stepping.{follows_term}
-use Rattle.w_types.specs.Rows.{Row, ε}
+use Rattle.w_types.specs.Rows.{ε}
 use Rattle.w_syntax.specs.Code.{Done}
 use Rattle.w_reduce.specs.Program.{Program}
-use Rattle.w_reduce.specs.Reduce as machine
 use Rattle.w_reduce.specs.Reduced.{Went}
-use Rattle.w_reduce.specs.Run.{RunState, Run, state_at}
-use Rattle.w_reduce.specs.Store.{Store}
 use Rattle.w_reduce.specs.Terms.{Term, rest_of}
 use Rattle.w_syntax.specs.declared.module.Module.{Module}
-use Rattle.s_syntax.specs.declared.name.Name.{Name}
 use Rattle.s_syntax.specs.declared.script.Function.{Function}
 use Rattle.s_syntax.specs.declared.script.Parameter.{Parameter}
 use Rattle.s_syntax.specs.declared.script.Script.{Script}
 use Rattle.s_check.specs.Definitions.{function_of}
-use Rattle.s_check.specs.Refusal.{Good}
-use Rattle.s_judge.specs.Judgements.{IsGood}
 use Rattle.s_index.specs.Numbers.{function_index}
 use Rattle.s_index.specs.Types.{val_types}
-use Rattle.s_code.specs.Lowered.{lowered, function_code}
+use Rattle.s_code.specs.Lowered.{function_code}
 use Rattle.s_code.specs.Places.{function_layout, function_locals}
 use Rattle.s_code.specs.Statements.{body}
-use Rattle.s_code.specs.Temporaries.{high_block}
 use Rattle.s_meaning.specs.Numbers.{Fault}
-use Rattle.s_meaning.specs.Terms.{Variable, Configuration}
 use Rattle.s_meaning.specs.Steps.{step, bind}
 use Rattle.s_meaning.specs.Typing.{ScriptTyped}
 use Rattle.s_meaning.specs.Eval as eval
@@ -38,9 +27,9 @@ use Rattle.s_meaning.proofs.Running.{start_typed}
 use Rattle.s_meaning.proofs.Sound.{step_good}
 use Rattle.s_valid.specs.Beginning.{first_store, first_term}
 use Rattle.s_valid.proofs.Stored.{function_stored}
-use Rattle.s_agrees.specs.Agrees.{end_of, Agrees, RunsFollow}
+use Rattle.s_agrees.specs.Agrees.{RunFollows, RunsFollow}
 use Rattle.s_agrees.proofs.ScriptRows.{no_values}
-use Rattle.s_agrees.proofs.Standing.{config, none, function, outside, runs, Active, Stores, At}
+use Rattle.s_agrees.proofs.Standing.{config, none, function, outside, runs, Stores}
 use Rattle.s_agrees.proofs.Facts.{Facts}
 use Rattle.s_agrees.proofs.FactsHold.{facts}
 use Rattle.s_agrees.proofs.Paths.{program_of}
@@ -48,7 +37,7 @@ use Rattle.s_agrees.proofs.Paths as paths
 use Rattle.s_agrees.proofs.Bodies.{rest_body}
 use Rattle.s_agrees.proofs.Entering.{entered, invoke_step}
 use Rattle.s_agrees.proofs.Calling.{entered_active}
-use Rattle.s_agrees.proofs.Limited.{Config, at, reduce}
+use Rattle.s_agrees.proofs.Limited.{at, reduce}
 use Rattle.s_agrees.proofs.Whole.{Related, potential, within}
 use Rattle.s_agrees.proofs.Rules.{rules}
 use Rattle.s_agrees.proofs.Stepping.{sim_step}
@@ -106,7 +95,7 @@ module _ (p : Script) (same : ℕ → ℕ → Bool) (typed : ScriptTyped p) (kno
         };
       }
 
-  pub follows_all : Agrees p (program_of p same)
+  pub follows_all : RunFollows p (program_of p same)
   unfolding entered_main simulation
   follows_all = λ N.
       let ds = p.declarations in
@@ -120,4 +109,4 @@ runs_follow bytes p good program source =
     let typed = good_typed p good.good in
     let all = follows_all p program.same typed (facts p good.good (small_literals bytes p good)) in
     let is : program_of p program.same ≡ program = ap (λ (m : Module). let q : Program = record { source = m; same = program.same } in q) (sym source) in
-    subst (λ (q : Program). Agrees p q) is all
+    subst (λ (q : Program). RunFollows p q) is all

@@ -1,18 +1,16 @@
 -- What holds of values and locals holds with more resumptions, and with other locals set.
-use Rattle.std.proofs.Common.{◌≡◌, ℕ, zero, suc, ◌+◌, ◌<◌, ◌≤◌, List, [], ◌∷◌, ◌++◌, length, Option, Some, None, refl, sym, ap, ◌∙◌, subst, arith}
+use Rattle.std.proofs.Common.{◌≡◌, ℕ, zero, suc, ◌+◌, ◌<◌, ◌≤◌, List, [], ◌∷◌, ◌++◌, Option, Some, refl, ap, ◌∙◌, arith}
 use Rattle.std.specs.Prelude.{slice_get, slice_set}
-use Rattle.w_types.specs.Rows.{Row, ε, ◌▹◌, ◌⧺◌, size}
+use Rattle.w_types.specs.Rows.{Row}
 use Rattle.w_reduce.specs.Values.{Val}
 use Rattle.s_syntax.specs.declared.name.Name.{Name}
-use Rattle.s_syntax.specs.BlockTree.{BlockTree}
 use Rattle.s_syntax.specs.ExprTree.{Exprs}
 use Rattle.s_syntax.specs.declared.script.Declaration.{Declaration}
-use Rattle.s_code.specs.Layouts.{Local, Layout, local_of}
+use Rattle.s_code.specs.Layouts.{Layout}
 use Rattle.s_meaning.specs.Terms.{Value, Variable}
-use Rattle.s_meaning.specs.Focus.{variable_of}
 use Rattle.s_meaning.proofs.Lists.{get_before, length_set}
-use Rattle.s_agrees.proofs.ScriptRows.{Values, no_values, ◌▸◌}
-use Rattle.s_agrees.proofs.Standing.{Same, number, reference, Sames, none, more, Locals, LocalIs, InLocal, Holds, Held, HeldAt, held_none, held_more, Fine, Active, Asides}
+use Rattle.s_agrees.proofs.ScriptRows.{Values}
+use Rattle.s_agrees.proofs.Standing.{Same, number, reference, Sames, none, more, Locals, LocalIs, InLocal, Holds, Held, HeldAt, held_none, held_more, Active, Asides}
 
 -- ## More resumptions
 

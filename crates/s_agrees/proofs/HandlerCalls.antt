@@ -1,55 +1,32 @@
 -- Calls of handlers' functions: the parameters are their first locals, and behind them lies what is handled.
-use Rattle.std.proofs.Common.{◌≡◌, ℕ, zero, suc, ◌+◌, ◌-◌, ◌≤◌, Bool, true, List, [], ◌∷◌, ◌++◌, map, length, Option, Some, None, refl, sym, ap, ◌∙◌, subst, arith, length-append}
-use Rattle.std.specs.Prelude.{slice_get, slice_set}
+use Rattle.std.proofs.Common.{◌≡◌, ℕ, ◌≤◌, Bool, true, List, [], ◌∷◌, ◌++◌, length, Some, ap, ◌∙◌, arith, length-append}
+use Rattle.std.specs.Prelude.{slice_get}
 use Rattle.w_types.specs.Rows.{Row, ε, ◌▹◌, ◌⧺◌, size, listed as vals_listed}
-use Rattle.w_types.specs.declared.types.CompType.{CompType}
-use Rattle.w_types.specs.declared.types.ValType.TheVariants.{I64}
 use Rattle.w_syntax.specs.Code.{Code, Done, Plain}
-use Rattle.w_rules.specs.Context.{cont_of, func_at, index_in_cont}
-use Rattle.w_rules.specs.Spaces.{context_of}
-use Rattle.w_reduce.specs.declared.trap.Trap.TheVariants as trap
 use Rattle.w_reduce.specs.Calls.{defaults}
 use Rattle.w_reduce.specs.Values.{Val, Cont}
-use Rattle.w_reduce.specs.Store.{Store, live, live_in, next_cont, with_cont, without_cont}
-use Rattle.w_reduce.specs.Terms.{Administrative, rest_of, Label, Frame, Handle, Context, Term, Kept, filled, frames, handles, locals_of}
-use Rattle.w_reduce.specs.Reduced.{Went, Trapped}
+use Rattle.w_reduce.specs.Store.{Store}
+use Rattle.w_reduce.specs.Terms.{rest_of, Label, Frame, Context}
+use Rattle.w_reduce.specs.Reduced.{Went}
 use Rattle.s_syntax.specs.declared.name.Name.{Name}
-use Rattle.s_syntax.specs.declared.script.VariableType.TheVariants.{Resumption}
-use Rattle.s_syntax.specs.declared.script.Clause.{Clause}
-use Rattle.s_syntax.specs.declared.script.Parameter.{Parameter}
 use Rattle.s_syntax.specs.declared.script.Handler.{Handler}
 use Rattle.s_syntax.specs.declared.script.Declaration.{Declaration}
 use Rattle.s_syntax.specs.declared.script.Script.{Script}
 use Rattle.s_check.specs.Definitions.{handler_of}
 use Rattle.s_index.specs.Numbers.{handler_index}
-use Rattle.s_index.specs.Types.{computation_type, resumption_type, to_continuation, val_types}
-use Rattle.s_code.specs.Instructions.{call, local_get, bind_continuation}
-use Rattle.s_code.specs.Layouts.{Local, Layout, number_in, local_number, handler_in, handler_in_type, handler_of_name}
-use Rattle.s_code.specs.Expressions.{handler_index_of}
-use Rattle.s_code.specs.Handlers.{Placed, labels as clause_answers, return_code}
-use Rattle.s_code.specs.Lowered.{lowered, handler_code}
-use Rattle.s_code.specs.Places.{return_layout, placed_clauses, handler_locals}
-use Rattle.s_valid.specs.Offers.{arrow}
-use Rattle.s_valid.proofs.ModuleOffers.{offers_all}
+use Rattle.s_index.specs.Types.{computation_type, to_continuation, val_types}
+use Rattle.s_code.specs.Instructions.{call}
+use Rattle.s_code.specs.Lowered.{handler_code}
+use Rattle.s_code.specs.Places.{handler_locals}
 use Rattle.s_valid.proofs.Stored.{handler_stored}
-use Rattle.s_meaning.specs.Numbers.{Reused}
 use Rattle.s_meaning.specs.Terms.{Value, Reference, listed, Variable, Resuming, Work, Activation, Handle as Handled, Gives}
 use Rattle.s_meaning.specs.Terms as script
-use Rattle.s_meaning.specs.Focus.{variable_of}
-use Rattle.s_meaning.specs.Steps.{Step, or_fault, emptied, kept_at, goes, resumes, applies}
-use Rattle.s_meaning.proofs.Lists.{get_before, get_last, length_set}
-use Rattle.s_agrees.proofs.ScriptRows.{Values, no_values, ◌▸◌, ◌⧻◌, many, listed_both, listed_many}
-use Rattle.s_agrees.proofs.Standing.{config, Same, reference, Sames, Locals, LocalIs, InLocal, Held, Active, resume_code, Works, clause_labels, loop_code, in_loop, handler_room, Base, Waits, activation, handle, Stands, gives, KeptAs, Entry, consumed, keeps, Stores, At}
-use Rattle.s_agrees.proofs.Contexts.{deep_locals, works_deep, base_locals, waits_join}
-use Rattle.s_agrees.proofs.Counting.{labels, stored, labels_plug, frames_plug, handles_plug, clauses_labels, clauses_frames, clauses_handles, live_more, live_none, live_less, stored_none, stored_less}
-use Rattle.s_agrees.proofs.Paths.{program_of, step, Caps, Under, Path, stay, go, path_wider, takes, get_path}
-use Rattle.s_agrees.proofs.Matches.{caps_of, Matches, went, faulted, under_first}
-use Rattle.s_agrees.proofs.Facts.{HandlerFacts, Facts}
-use Rattle.s_agrees.proofs.Entering.{sames_many, listed_size, first_locals, many_locals, value_at, get_mapped, invoke_step, many_placed, enter_path}
-use Rattle.s_agrees.proofs.Binding.{some_is}
-use Rattle.s_agrees.proofs.Cutting.{clauses_of, clauses_placed}
-use Rattle.s_agrees.proofs.StoresGrow.{sides}
-use Rattle.s_agrees.proofs.Spending.{set_last, stores_less}
+use Rattle.s_meaning.proofs.Lists.{get_before, get_last}
+use Rattle.s_agrees.proofs.ScriptRows.{Values, many}
+use Rattle.s_agrees.proofs.Standing.{config, Sames, Locals, Held, loop_code, handler_room, Stores}
+use Rattle.s_agrees.proofs.Paths.{program_of, step}
+use Rattle.s_agrees.proofs.Facts.{HandlerFacts}
+use Rattle.s_agrees.proofs.Entering.{sames_many, listed_size, first_locals, many_locals, value_at, get_mapped, invoke_step}
 use Rattle.s_agrees.proofs.Calling.{types_many}
 
 -- its locals: the parameters, and what it handles

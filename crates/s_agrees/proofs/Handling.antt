@@ -1,16 +1,14 @@
 -- Handles: the function that is handled becomes a continuation, its arguments are bound, and the handler's function resumes it.
-use Rattle.std.proofs.Common.{◌≡◌, ℕ, zero, suc, ◌+◌, ◌-◌, ◌<◌, ◌≤◌, Bool, true, List, [], ◌∷◌, ◌++◌, length, take, drop, Option, Some, None, refl, sym, ap, ◌∙◌, subst, arith, length-append, append_assoc}
+use Rattle.std.proofs.Common.{◌≡◌, ℕ, zero, suc, ◌+◌, ◌-◌, ◌≤◌, Bool, true, List, [], ◌∷◌, ◌++◌, length, take, drop, Option, Some, None, refl, sym, ap, ◌∙◌, subst, arith, length-append, append_assoc}
 use Rattle.std.specs.Prelude.{slice_get, slice_set}
 use Rattle.w_types.specs.declared.types.CompType.{CompType}
-use Rattle.w_types.specs.Rows.{Row, ε, ◌▹◌, ◌⧺◌, size, listed}
+use Rattle.w_types.specs.Rows.{Row, ε, ◌▹◌, ◌⧺◌, size}
 use Rattle.w_types.specs.declared.types.ValType.TheVariants.{I64}
 use Rattle.w_tables.specs.declared.entries.FuncEntry.{FuncEntry}
 use Rattle.w_tables.specs.declared.entries.FuncEntry.TheVariants.{Own}
 use Rattle.w_syntax.specs.Code.{Code, Done, Plain}
-use Rattle.w_syntax.specs.declared.locals.LocalRun.{LocalRun}
 use Rattle.w_rules.specs.Context.{cont_of, func_at, index_in_cont}
 use Rattle.w_rules.specs.Spaces.{context_of}
-use Rattle.w_reduce.specs.Calls.{defaults}
 use Rattle.w_reduce.specs.Values.{Val, Func, Cont}
 use Rattle.w_reduce.specs.Store.{Store, live, live_in, next_cont, with_cont, without_cont, with_conts}
 use Rattle.w_reduce.specs.Terms.{rest_of, Label, Frame, Handle, Context, Term, Kept, fresh, filled, locals_of, Invoke, frames, handles}
@@ -24,23 +22,23 @@ use Rattle.s_check.specs.Scopes.{is_among}
 use Rattle.s_index.specs.Handled.{handled_names}
 use Rattle.s_index.specs.Indices.{continuation_index}
 use Rattle.s_index.specs.Numbers.{function_index, handler_index}
-use Rattle.s_index.specs.Types.{val_types, computation_type, to_continuation}
+use Rattle.s_index.specs.Types.{val_types, computation_type}
 use Rattle.s_code.specs.Instructions.{call, local_get, new_continuation, bind_continuation}
 use Rattle.s_code.specs.Layouts.{Layout}
 use Rattle.s_code.specs.Expressions.{begin}
 use Rattle.s_code.specs.Handlers.{labels as clause_list, return_code}
-use Rattle.s_code.specs.Lowered.{lowered, function_code, handler_code}
-use Rattle.s_code.specs.Places.{function_layout, function_locals, return_layout, placed_clauses, handler_locals}
+use Rattle.s_code.specs.Lowered.{lowered, function_code}
+use Rattle.s_code.specs.Places.{function_layout, function_locals, return_layout, placed_clauses}
 use Rattle.s_code.specs.Statements.{body}
 use Rattle.s_meaning.specs.Terms.{Value, Variable, Handling, Work}
 use Rattle.s_meaning.specs.Terms as script
-use Rattle.s_meaning.specs.Steps.{Around, applies}
-use Rattle.s_meaning.proofs.Lists.{get_before, get_last}
+use Rattle.s_meaning.specs.Steps.{applies}
+use Rattle.s_meaning.proofs.Lists.{get_last}
 use Rattle.s_valid.specs.Offers.{arrow}
 use Rattle.s_valid.proofs.ModuleOffers.{offers_all}
-use Rattle.s_valid.proofs.Stored.{function_stored, handler_stored}
+use Rattle.s_valid.proofs.Stored.{function_stored}
 use Rattle.s_agrees.proofs.ScriptRows.{Values, ◌⧻◌, many, listed_both, listed_many}
-use Rattle.s_agrees.proofs.Standing.{config, Sames, none, more, Locals, Held, HeldAt, held_none, held_more, Active, gets, handle_code, Works, clause_labels, loop_code, in_loop, handler_room, Base, function, Waits, activation, handle, runs, Stores}
+use Rattle.s_agrees.proofs.Standing.{config, Sames, none, more, Locals, HeldAt, held_none, held_more, Active, gets, handle_code, Works, clause_labels, in_loop, Base, function, Waits, activation, handle, runs, Stores}
 use Rattle.s_agrees.proofs.Facts.{Facts}
 use Rattle.s_agrees.proofs.Contexts.{deep_locals, works_deep, base_locals}
 use Rattle.s_agrees.proofs.Counting.{stored, clauses_labels, clauses_frames, clauses_handles, live_more, live_none, stored_none}

@@ -38,3 +38,9 @@ pub mod Returning
 pub mod Stepping
 pub mod Rules
 pub mod Follow
+pub mod SpelledTokens
+pub mod SpelledIndices
+pub mod SpelledParts
+pub mod SpelledCode
+pub mod SpelledHandlers
+pub mod SpelledScripts

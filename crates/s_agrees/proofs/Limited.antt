@@ -1,38 +1,32 @@
 -- From one step that is matched to one that is matched within the limits of a run: a limit is met only where the script may meet it.
-use Rattle.std.proofs.Common.{◌≡◌, ℕ, ℤ, zero, suc, ◌+◌, ◌<◌, ◌≤◌, max, Bool, true, false, List, [], ◌∷◌, ◌⊎◌, inl, inr, Option, Some, None, refl, sym, ap, ◌∙◌, subst, arith}
+use Rattle.std.proofs.Common.{◌≡◌, ℕ, ℤ, suc, ◌<◌, max, Bool, true, false, List, [], ◌⊎◌, inl, inr, Option, Some, None, refl, ◌∙◌, subst, arith}
 use Rattle.std.specs.Prelude.{nat_le}
 use Rattle.std.proofs.lemmas.Bool.{leb-false, cases_lt}
-use Rattle.following.specs.Follows.{Is, Limit, Value}
+use Rattle.following.specs.Follows.{Limit}
 use Rattle.following.specs.Steps as steps
 use Rattle.following.specs.Steps.{Stops, Over, Reductions, StepMatched, goes, returns, faults, stops_before, stops_after, Goes, Returns, Faults}
-use Rattle.following.proofs.Reductions.{silent_then}
-use Rattle.w_types.specs.Rows.{Row, ε, ◌▹◌}
 use Rattle.w_reduce.specs.declared.limit.RunLimit.{RunLimit}
 use Rattle.w_reduce.specs.declared.limit.RunLimit.TheVariants as limit
 use Rattle.w_reduce.specs.Limits.{passed, first_passed, most_frames, most_handles, most_conts}
-use Rattle.w_reduce.specs.Program.{Program}
 use Rattle.w_reduce.specs.Reduce as machine
 use Rattle.w_reduce.specs.Reduced as reduced
 use Rattle.w_reduce.specs.Reduced.{Went, Trapped, Limited, Ended, Stuck}
 use Rattle.w_reduce.specs.Store.{Store, live}
 use Rattle.w_reduce.specs.Terms.{Context, Term, frames, handles}
-use Rattle.w_reduce.specs.Values.{Val, I64}
 use Rattle.s_syntax.specs.declared.script.Declaration.{Declaration}
 use Rattle.s_syntax.specs.declared.script.Script.{Script}
 use Rattle.s_meaning.specs.Numbers.{Fault}
 use Rattle.s_meaning.specs.Terms.{activations, Configuration, acts, hands, kept}
 use Rattle.s_meaning.specs.Terms as script
-use Rattle.s_meaning.specs.Steps.{Step, step}
 use Rattle.s_meaning.specs.Eval as eval
 use Rattle.s_meaning.specs.Eval.{Frames, Handles, Conts, Passes, Ended as ScriptEnd}
 use Rattle.s_agrees.specs.Agrees.{fault_of, limit_of, end_of_fault, end_of_values}
-use Rattle.s_agrees.proofs.Standing.{Stands, gives, lies, finds, runs, Waits, At}
+use Rattle.s_agrees.proofs.Standing.{Stands, gives, lies, finds, runs, At}
 use Rattle.s_agrees.proofs.Contexts.{works_deep, rest_deep}
-use Rattle.s_agrees.proofs.Counting.{Counted, waits_counted, deep_frames, deep_handles, base_frames, base_handles, weight}
+use Rattle.s_agrees.proofs.Counting.{Counted, waits_counted, deep_frames, deep_handles, base_frames, base_handles}
 use Rattle.s_agrees.proofs.Paths.{program_of, Caps, Under, Path, stay, go}
 use Rattle.s_agrees.proofs.Paths as paths
-use Rattle.s_agrees.proofs.Matches.{Matches, went, prints, faulted, caps_of}
-use Rattle.s_agrees.proofs.Matches as matches
+use Rattle.s_agrees.proofs.Matches.{caps_of}
 
 -- a configuration of the machine
 pub record Config : Type 0 where

@@ -1,12 +1,12 @@
 -- What a step of a script is matched by.
-use Rattle.std.proofs.Common.{◌≡◌, ℕ, ℤ, suc, ◌+◌, ◌≤◌, max, Bool, List, [], ◌∷◌, Option, Some, None, refl, arith}
+use Rattle.std.proofs.Common.{◌≡◌, ℕ, ℤ, suc, ◌+◌, ◌≤◌, max, Bool, List, [], Some, arith}
 use Rattle.following.specs.Steps.{Goes, Returns, Faults}
 use Rattle.std.specs.Int.{w64, cast_signed}
-use Rattle.w_types.specs.Rows.{Row, ε, ◌▹◌}
+use Rattle.w_types.specs.Rows.{ε, ◌▹◌}
 use Rattle.w_reduce.specs.declared.trap.Trap.{Trap}
-use Rattle.w_reduce.specs.Values.{Val, I64}
+use Rattle.w_reduce.specs.Values.{I64}
 use Rattle.w_reduce.specs.Store.{Store, live}
-use Rattle.w_reduce.specs.Terms.{Context, Term, frames, handles}
+use Rattle.w_reduce.specs.Terms.{Term, frames, handles}
 use Rattle.w_reduce.specs.Reduced.{Went, Trapped, Ended}
 use Rattle.s_syntax.specs.declared.script.Script.{Script}
 use Rattle.s_meaning.specs.Numbers.{Fault}

@@ -1,8 +1,8 @@
 -- Reductions one after another, with caps on what they count, and what single instructions do.
-use Rattle.std.proofs.Common.{◌≡◌, ℕ, zero, suc, ◌+◌, ◌≤◌, Bool, List, [], ◌∷◌, ◌++◌, length, Option, Some, None, refl, sym, ap, ◌∙◌, subst, arith}
-use Rattle.std.specs.Prelude.{slice_get, slice_set}
+use Rattle.std.proofs.Common.{◌≡◌, ℕ, zero, suc, ◌+◌, ◌≤◌, Bool, [], Option, Some, refl, ap, ◌∙◌, subst, arith}
+use Rattle.std.specs.Prelude.{slice_get}
 use Rattle.w_types.specs.Rows.{Row, ε, ◌▹◌, ◌⧺◌, size}
-use Rattle.w_syntax.specs.Code.{Code, Done, Plain}
+use Rattle.w_syntax.specs.Code.{Code, Plain}
 use Rattle.w_reduce.specs.Values.{Val}
 use Rattle.w_reduce.specs.Store.{Store, live}
 use Rattle.w_reduce.specs.Terms.{Context, Term, frames, handles, locals_of, with_local}

@@ -1,5 +1,5 @@
 -- Where a redex of the script stands in the machine's term: all that it needs are values.
-use Rattle.std.proofs.Common.{◌≡◌, ℕ, suc, ◌+◌, ◌<◌, ◌≤◌, true, false, ℤ, pos, List, [], ◌∷◌, length, Option, Some}
+use Rattle.std.proofs.Common.{◌≡◌, ℕ, ◌+◌, ◌≤◌, true, false, ℤ, pos, List, [], ◌∷◌}
 use Rattle.w_types.specs.Rows.{Row, ε, ◌▹◌, ◌⧺◌}
 use Rattle.w_syntax.specs.Code.{Code, Done, Plain}
 use Rattle.w_reduce.specs.Values.{Val}
@@ -21,7 +21,7 @@ use Rattle.s_code.specs.Layouts.{Layout, local_number, stays, is_own}
 use Rattle.s_code.specs.Expressions.{expr, operands}
 use Rattle.s_code.specs.Statements.{ending}
 use Rattle.s_meaning.specs.Numbers.{decided}
-use Rattle.s_meaning.specs.Terms.{Value, Number, Head, Calling, Doing, Handling, Resuming, TailResuming, Use, Work, Among}
+use Rattle.s_meaning.specs.Terms.{Value, Number, Calling, Doing, Handling, Resuming, TailResuming, Use, Work, Among}
 use Rattle.s_meaning.specs.Focus.{Redex, Constant, Lookup, OnUnary, OnBinary, Decides, Applies, Uses, Fails, Ends, followed_by}
 use Rattle.s_agrees.proofs.Literals.{greatest}
 use Rattle.s_agrees.proofs.ScriptRows.{Values, no_values, ◌▸◌, ◌⧻◌, many}

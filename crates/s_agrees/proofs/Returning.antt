@@ -1,5 +1,5 @@
 -- A value at a handle: the handle is left, and the return clause runs in the handler's function.
-use Rattle.std.proofs.Common.{◌≡◌, ℕ, suc, ◌+◌, ◌<◌, ◌≤◌, Bool, ℤ, List, [], ◌∷◌, ◌++◌, length, Option, Some, refl, sym, ap, ◌∙◌, subst, arith}
+use Rattle.std.proofs.Common.{◌≡◌, ℕ, ◌+◌, ◌<◌, ◌≤◌, Bool, ℤ, List, [], ◌∷◌, ◌++◌, length, Option, Some, refl, sym, ap, subst, arith}
 use Rattle.std.specs.Prelude.{slice_set}
 use Rattle.std.proofs.lemmas.Option.{slice_get_within}
 use Rattle.w_types.specs.Rows.{Row, ε, ◌▹◌}
@@ -9,11 +9,10 @@ use Rattle.w_reduce.specs.Store.{Store}
 use Rattle.w_reduce.specs.Terms.{Handle, Context, Term}
 use Rattle.s_syntax.specs.declared.name.Name.{Name}
 use Rattle.s_syntax.specs.declared.script.VariableType.TheVariants.{Int}
-use Rattle.s_syntax.specs.declared.script.Clause.{Clause}
 use Rattle.s_syntax.specs.declared.script.Handler.{Handler}
 use Rattle.s_syntax.specs.declared.script.Script.{Script}
 use Rattle.s_check.specs.Definitions.{handler_of}
-use Rattle.s_code.specs.Handlers.{Placed, labels as clause_answers, return_code}
+use Rattle.s_code.specs.Handlers.{labels as clause_answers, return_code}
 use Rattle.s_code.specs.Instructions.{local_set}
 use Rattle.s_code.specs.Layouts.{number_in}
 use Rattle.s_code.specs.Places.{return_layout, placed_clauses}
@@ -32,7 +31,6 @@ use Rattle.s_agrees.proofs.Facts.{ReturnFacts, Facts}
 use Rattle.s_agrees.proofs.Binding.{bind_known, holds_bound, holds_append, holds_one}
 use Rattle.s_agrees.proofs.Bodies.{rest_body}
 use Rattle.s_agrees.proofs.Capturing.{in_range, Around, in_blocks, set_path}
-use Rattle.s_agrees.proofs.Cutting.{clauses_of, clauses_placed}
 
 module _ {p : Script} (same : ℕ → ℕ → Bool) (facts : Facts p.declarations) {ρ : List ℕ} {σ : script.Store} {s : Store} (stores : Stores p.declarations ρ σ s)
     (h : Name) {i : Handler} {L : Locals} {ps : List Value} {κ : script.Context} {below : Row Val} {c : Code} {e : Context} (is : handler_of p.declarations h ≡ Some i) (room : handler_room h i ≤ length L)

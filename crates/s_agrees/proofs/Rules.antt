@@ -1,5 +1,5 @@
 -- Each rule of the script is matched where its redex stands ready and is typed.
-use Rattle.std.proofs.Common.{◌≡◌, ℕ, ℤ, zero, suc, ◌+◌, ◌≤◌, Bool, List, [], ◌∷◌, ◌++◌, length, Option, Some, None, refl, sym, ap, ◌∙◌, subst, arith, length-append}
+use Rattle.std.proofs.Common.{◌≡◌, ℕ, zero, suc, ◌+◌, Bool, List, [], ◌∷◌, length, Option, Some, refl, ap, ◌∙◌, arith, length-append}
 use Rattle.std.specs.Prelude.{slice_get}
 use Rattle.w_types.specs.Rows.{Row}
 use Rattle.w_syntax.specs.Code.{Code}
@@ -8,7 +8,7 @@ use Rattle.w_reduce.specs.Store.{Store}
 use Rattle.w_reduce.specs.Terms.{Context}
 use Rattle.s_syntax.specs.declared.name.Name.{Name}
 use Rattle.s_syntax.specs.declared.script.VariableType.{VariableType}
-use Rattle.s_syntax.specs.declared.script.VariableType.TheVariants.{Int, Resumption}
+use Rattle.s_syntax.specs.declared.script.VariableType.TheVariants.{Resumption}
 use Rattle.s_syntax.specs.declared.script.Parameter.{Parameter}
 use Rattle.s_syntax.specs.declared.script.Script.{Script}
 use Rattle.s_check.specs.Scopes.{Scope}
@@ -20,7 +20,7 @@ use Rattle.s_meaning.specs.Typed.{World, HasKind, int, reference, FirstHave, beg
 use Rattle.s_meaning.specs.Focus.{Redex}
 use Rattle.s_meaning.specs.Steps.{rule}
 use Rattle.s_meaning.proofs.Focusing.{RedexTyped, constant, lookup, on_unary, on_binary, decides, applying, using, failing, ending}
-use Rattle.s_agrees.proofs.ScriptRows.{Values, no_values, ◌▸◌, ◌⧻◌, many, both_many}
+use Rattle.s_agrees.proofs.ScriptRows.{Values, no_values, ◌▸◌, many, both_many}
 use Rattle.s_agrees.proofs.Standing.{config, Active, Base, Waits, Stores}
 use Rattle.s_agrees.proofs.Standing as standing
 use Rattle.s_agrees.proofs.Facts.{Facts}

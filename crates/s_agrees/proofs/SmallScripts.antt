@@ -14,7 +14,7 @@ use Rattle.s_syntax.specs.declared.script.Declaration.{Declaration}
 use Rattle.s_syntax.specs.declared.script.Script.{Script}
 use Rattle.s_syntax.specs.ExprTree.{ExprTree, Literal, Unary, exprs, operands}
 use Rattle.s_syntax.specs.BlockTree.{StatementTree, BlockTree, Print, Return, Fail, Evaluate}
-use Rattle.s_grammar.specs.Kinds.{Kinds, is}
+use Rattle.s_grammar.specs.Kinds.{Kinds}
 use Rattle.s_grammar.specs.Grammar.{Grammar, One, InTurn, Image, Each, Maybe, Choice, Between, Never, Inside}
 use Rattle.s_grammar.specs.Operators.{or_operators, and_operators, comparisons, sum_operators, product_operators, operator_of}
 use Rattle.s_grammar.specs.Parts.{former, latter, or_nothing, to_list, run_with, run_of, once_of, read_or_call, do_of, handle_of, resume_of, let_of, assign_of, if_of, while_of, block_tree, clause_of, return_clause_of, function_of, handler_of, effect_of, script_of}

@@ -1,5 +1,5 @@
 -- The stores that handle and resume leave: what they make is consumed at once, and a resumption that is resumed is consumed.
-use Rattle.std.proofs.Common.{◌≡◌, ℕ, ◌+◌, List, [], ◌∷◌, ◌++◌, length, Option, Some, None, refl, sym, ap, ◌∙◌, arith}
+use Rattle.std.proofs.Common.{◌≡◌, ℕ, List, [], ◌∷◌, ◌++◌, length, Option, Some, None, refl, sym, ap, ◌∙◌, arith}
 use Rattle.std.specs.Prelude.{slice_get, slice_set}
 use native.Mathlib.Decide.{ℕ_discrete}
 use Rattle.w_reduce.specs.Store.{Store, live, live_in}

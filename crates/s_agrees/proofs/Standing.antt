@@ -1,9 +1,9 @@
 -- How a configuration of the module's run stands for one of the script: each activation is a frame, each active handle a frame of the
 -- handler's function, inside its loop and the blocks of its clauses, that waits at its resume.
-use Rattle.std.proofs.Common.{◌≡◌, ℕ, zero, suc, ◌+◌, ◌<◌, ◌≤◌, ◌^◌, Bool, true, false, max, ℤ, pos, List, [], ◌∷◌, ◌++◌, length, Option, Some, None}
+use Rattle.std.proofs.Common.{◌≡◌, ℕ, zero, suc, ◌+◌, ◌<◌, ◌≤◌, ◌^◌, true, false, max, ℤ, List, [], ◌∷◌, length, Option, Some, None}
 use Rattle.std.specs.Prelude.{slice_get}
 use Rattle.w_num.specs.Signed.{signed}
-use Rattle.w_types.specs.Rows.{Row, ε, ◌▹◌, ◌⧺◌, size}
+use Rattle.w_types.specs.Rows.{Row, ε, ◌▹◌, ◌⧺◌}
 use Rattle.w_syntax.specs.Code.{Code, Done, Plain, Block}
 use Rattle.w_syntax.specs.declared.instructions.BlockKind.TheVariants as kind
 use Rattle.w_syntax.specs.declared.instructions.BlockType.TheVariants as block_type
@@ -12,7 +12,6 @@ use Rattle.w_reduce.specs.Store.{Store, live}
 use Rattle.w_reduce.specs.Terms.{rest_of, Label, Frame, Handle, Context, Term, Kept}
 use Rattle.s_syntax.specs.declared.name.Name.{Name}
 use Rattle.s_syntax.specs.declared.script.VariableType.TheVariants.{Int}
-use Rattle.s_syntax.specs.declared.script.Clause.{Clause}
 use Rattle.s_syntax.specs.declared.script.Handler.{Handler}
 use Rattle.s_syntax.specs.declared.script.Declaration.{Declaration}
 use Rattle.s_syntax.specs.declared.operators.UnaryOperator.{UnaryOperator}
@@ -28,11 +27,11 @@ use Rattle.s_check.specs.Rules.{count}
 use Rattle.s_check.specs.Scopes.{is_among}
 use Rattle.s_index.specs.Handled.{handled_names}
 use Rattle.s_index.specs.Numbers.{function_index, handler_index, tag_index}
-use Rattle.s_code.specs.Instructions.{constant, call, local_get, local_set, nop, suspend, branch, branch_if, is_zero, leave, unreachable, dropped, if_zero, truth, unary_operator, connective, comparison, arithmetic}
-use Rattle.s_code.specs.Layouts.{Local, Owner, Layout, local_of, local_number, handler_of_name, stays, is_own, owner_parameters}
+use Rattle.s_code.specs.Instructions.{call, local_get, local_set, suspend, branch, branch_if, is_zero, leave, dropped, if_zero, truth, unary_operator, comparison, arithmetic}
+use Rattle.s_code.specs.Layouts.{Local, Owner, Layout, local_of, local_number, handler_of_name, is_own, owner_parameters}
 use Rattle.s_code.specs.Temporaries.{high_block}
 use Rattle.s_code.specs.Expressions.{reload, begin, wake, handler_index_of, expr, args, set_aside, operands, set_parameters}
-use Rattle.s_code.specs.Statements.{printer, statement, block, body, ending}
+use Rattle.s_code.specs.Statements.{printer, statement, block, ending}
 use Rattle.s_code.specs.Handlers.{Placed, clause_code, labels, return_code, handler_body}
 use Rattle.s_code.specs.Places.{return_layout, placed_clauses, handler_temporaries, high_clauses}
 use Rattle.s_meaning.specs.Numbers.{decided}

@@ -1,37 +1,21 @@
 -- Whole runs: the module's run follows its script, since each step is matched.
-use Rattle.std.proofs.Common.{◌≡◌, ℕ, ℤ, zero, suc, ◌+◌, ◌<◌, ◌≤◌, Bool, List, [], ◌∷◌, ◌++◌, ◌⊎◌, inl, inr, codes, length, Option, Some, None, refl, sym, ap, ◌∙◌, subst, arith, append-nil}
-use Rattle.std.specs.Prelude.{◌≢◌, slice_get}
-use Rattle.following.specs.Follows as follows
-use Rattle.following.specs.Follows.{Going, Is, Limit, Value, Fault as Faulty, IsPrefix, after}
-use Rattle.following.specs.Simulation.{Machine}
+use Rattle.std.proofs.Common.{◌≡◌, ℕ, ℤ, zero, suc, ◌+◌, ◌<◌, ◌≤◌, Bool, List, [], inl, inr, Some, refl, ap, subst, arith}
+use Rattle.following.specs.Follows.{Is, Limit, Value, Fault as Faulty}
 use Rattle.following.specs.Steps as steps
 use Rattle.following.specs.Steps.{Stops, Over, Reducing, Reductions, StepMatched, StepSimulation, goes, returns, faults, stops_before, stops_after, Goes, Returns, Faults, told_before}
 use Rattle.following.proofs.Reductions.{silent_then}
-use Rattle.following.proofs.Stepping.{follows_term}
-use Rattle.w_types.specs.Rows.{Row, ε, ◌▹◌}
-use Rattle.w_types.specs.declared.types.ValType.TheVariants.{I64 as ValI64}
-use Rattle.w_syntax.specs.Code.{Done}
-use Rattle.w_reduce.specs.Program.{Program}
-use Rattle.w_reduce.specs.Reduce as machine
-use Rattle.w_reduce.specs.Reduced as reduced
-use Rattle.w_reduce.specs.Reduced.{Went, Trapped, Limited, Ended, Stuck}
-use Rattle.w_reduce.specs.Run.{Outcome, Running, Values, Traps, Limit as LimitMet, NoRule, RunState, Run, continued, outcome_by, state_at, after_reduction}
 use Rattle.w_reduce.specs.Store.{Store}
-use Rattle.w_reduce.specs.Terms.{Term, rest_of}
+use Rattle.w_reduce.specs.Terms.{Term}
 use Rattle.s_syntax.specs.declared.script.Script.{Script}
 use Rattle.s_meaning.specs.Numbers.{Fault}
 use Rattle.s_meaning.specs.Terms.{Configuration}
 use Rattle.s_meaning.specs.Steps.{Step, step}
-use Rattle.s_meaning.specs.Typing.{ScriptTyped}
 use Rattle.s_meaning.specs.Typed.{World, Typed}
 use Rattle.s_meaning.specs.Laws.{StepGood, on}
 use Rattle.s_meaning.specs.Eval as eval
 use Rattle.s_meaning.specs.Eval.{Passes, start}
-use Rattle.s_meaning.proofs.Sound.{step_good}
-use Rattle.s_agrees.specs.Agrees.{end_of, end_of_values, fault_of}
 use Rattle.s_agrees.proofs.Standing.{At}
 use Rattle.s_agrees.proofs.Counting.{weight}
-use Rattle.s_agrees.proofs.Paths.{program_of}
 use Rattle.s_agrees.proofs.Matches.{Matches, went, prints, faulted, caps_of}
 use Rattle.s_agrees.proofs.Matches as matches
 use Rattle.s_agrees.proofs.Limited.{Config, at, reduce, Walked, all, part, walked, Went_on, goes_on, stopped, one, passes_here, passes_either}

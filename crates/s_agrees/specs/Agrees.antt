@@ -1,13 +1,19 @@
--- When the runs of a script's module follow the script.
-use Rattle.std.specs.Prelude.{◌≡◌, ℕ, List, [], ◌∷◌, ◌++◌, slice_get, Option, Some, None, option_map}
-use Rattle.following.specs.Follows.{Going, Value, Fault as Faulted, End, Is, Limit}
+-- What a script's module keeps of the script: when the two agree.
+use Rattle.std.specs.Prelude.{◌≡◌, ℕ, ◌≤◌, List, [], ◌∷◌, ◌++◌, length, slice_get, Option, Some, None, option_map}
+use Rattle.following.specs.Follows.{Going, Value, Fault as Faulted, Is, Limit}
 use Rattle.std.specs.Int.{w64, cast_signed}
 use Rattle.w_types.specs.Rows.{Row, ε, ◌▹◌}
+use Rattle.w_syntax.specs.declared.module.Module.{Module}
+use Rattle.w_syntax.specs.Spells.{Spells}
+use Rattle.w_encode.specs.Canon.{Canon}
+use Rattle.w_rules.specs.Limits.{Within}
+use Rattle.w_rules.specs.Valid.{Valid}
 use Rattle.w_reduce.specs.declared.limit.RunLimit.{RunLimit}
 use Rattle.w_reduce.specs.declared.limit.RunLimit.TheVariants as limit
 use Rattle.w_reduce.specs.declared.trap.Trap.{Trap}
 use Rattle.w_reduce.specs.declared.trap.Trap.TheVariants as trap
 use Rattle.w_reduce.specs.Program.{Program}
+use Rattle.w_reduce.specs.Start.{Start, Ready}
 use Rattle.w_reduce.specs.Values.{Val, I64}
 use Rattle.w_reduce.specs.Run.{Outcome, Running, Values, Traps, Limit as LimitMet, NoRule, Run}
 use Rattle.s_syntax.specs.declared.name.Name.{Name}
@@ -15,6 +21,7 @@ use Rattle.s_syntax.specs.declared.script.Definition.{Definition}
 use Rattle.s_syntax.specs.declared.script.Definition.TheVariants as definition
 use Rattle.s_syntax.specs.declared.script.Declaration.{Declaration}
 use Rattle.s_syntax.specs.declared.script.Script.{Script}
+use Rattle.s_check.specs.Size.{Size}
 use Rattle.s_judge.specs.Judgements.{IsGood}
 use Rattle.s_meaning.specs.Numbers.{Fault, DivZero, Overflow, Failed, Reused, Unhandled}
 use Rattle.s_meaning.specs.Eval.{Ended, Frames, Handles, Conts, Follows}
@@ -64,11 +71,25 @@ end_of ds (LimitMet name) = Some (Limit (limit_of name))
 end_of ds NoRule = None
 
 -- for each number of reductions a run has come to what the script may come to, or to a limit, and follows the script
-abbrev pub Agrees : Script → Program → Type 0
-Agrees p program =
+abbrev pub RunFollows : Script → Program → Type 0
+RunFollows p program =
     (N : ℕ) → let r = Run program (first_store p.declarations) (first_term p.declarations) N in
     (e : Ended) × (end_of p.declarations r.outcome ≡ Some e) × Follows p N r.output e
 
--- so it is of each script that bytes spell and that breaks no rule, and of its module, whatever tells which types are equivalent
+-- What the compiler promises of a script and its module: the module's canonical spelling is one, and a file has room for it; the module is
+-- valid and within its limits; and its runs begin and follow the script, whatever tells which types are equivalent.
+pub record Agrees (p : Script) (m : Module) : Type 0 where
+  pub spelled : Spells (Canon m) m
+  pub short : length (Canon m) ≤ 16777216
+  pub valid : Valid m
+  pub within : Within m
+  pub begins : (program : Program) → program.source ≡ m → Start program ≡ Ready (first_store p.declarations) (first_term p.declarations)
+  pub follows : (program : Program) → program.source ≡ m → RunFollows p program
+
+-- so the runs follow of each script that bytes spell and that breaks no rule
 abbrev pub RunsFollow : Type 0
-RunsFollow = (bytes : List ℕ) (p : Script) → IsGood bytes p → (program : Program) → program.source ≡ lowered p → Agrees p program
+RunsFollow = (bytes : List ℕ) (p : Script) → IsGood bytes p → (program : Program) → program.source ≡ lowered p → RunFollows p program
+
+-- and all of it holds where the script isn't too large
+abbrev pub ScriptsAgree : Type 0
+ScriptsAgree = (bytes : List ℕ) (p : Script) → IsGood bytes p → Size p ≤ 50000 → Agrees p (lowered p)

@@ -1,0 +1,252 @@
+-- The code of functions and handlers of scripts can be spelled.
+use Rattle.std.proofs.Common.{◌≡◌, ℕ, ◌+◌, ◌≤◌, max, List, [], ◌∷◌, ◌++◌, map, length, refl, arith, length-append}
+use Rattle.std.specs.Prelude.{sum_by}
+use Rattle.std.proofs.lemmas.List.{length-map}
+use Rattle.std.proofs.lemmas.List.Sums.{sum_by-cons}
+use Rattle.w_syntax.specs.Code.{Code, Plain, Block}
+use Rattle.w_syntax.specs.declared.instructions.BlockKind.TheVariants as kind
+use Rattle.w_syntax.specs.declared.instructions.BlockType.TheVariants as block_type
+use Rattle.w_syntax.specs.declared.module.Func.{Func}
+use Rattle.s_syntax.specs.declared.name.Name.{Name}
+use Rattle.s_syntax.specs.declared.script.Function.{Function}
+use Rattle.s_syntax.specs.declared.script.Clause.{Clause}
+use Rattle.s_syntax.specs.declared.script.Handler.{Handler}
+use Rattle.s_syntax.specs.declared.script.Definition.{Definition}
+use Rattle.s_syntax.specs.declared.script.Definition.TheVariants as definition
+use Rattle.s_syntax.specs.declared.script.Declaration.{Declaration}
+use Rattle.s_syntax.specs.declared.script.Script.{Script}
+use Rattle.s_syntax.specs.BlockTree.{StatementTree, BlockTree, Let, Assign, If as IfStatement, While, Print, Return, Fail, Evaluate, Done as NoStatements, ◌⨟◌}
+use Rattle.s_check.specs.Refusal.{Good}
+use Rattle.s_check.specs.Scopes.{Bound, number, parameter, resumption, lets_of, lets_in}
+use Rattle.s_check.specs.Size.{statement_size, block_size, clause_size, definition_size, Size}
+use Rattle.s_index.specs.Numbers.{tag_index}
+use Rattle.s_index.specs.Types.{computation_type, clause_type}
+use Rattle.s_index.specs.Indices.{clause_type_index}
+use Rattle.s_code.specs.Instructions.{local_set}
+use Rattle.s_code.specs.Layouts.{Layout, local_number}
+use Rattle.s_code.specs.Statements.{body}
+use Rattle.s_code.specs.Handlers.{set_names, clause_code, blocks, labels, return_code, handling}
+use Rattle.s_code.specs.Temporaries.{high_block}
+use Rattle.s_code.specs.Places.{lets, function_names, function_layout, return_names, clause_names, clauses_names, return_place, clauses_place, handler_temporaries, layout_at, return_layout, placed_from, high_clauses}
+use Rattle.s_code.specs.Lowered.{function_code, handler_code, function_code_of, handler_code_of, for_each, lowered}
+use Rattle.s_code.proofs.Highs.{block_high}
+use Rattle.s_agrees.proofs.Literals.{SmallBlock, SmallClauses, SmallDefinition, SmallLiterals}
+use Rattle.w_encode.specs.Spelled.{CodeSpelled, FunctionSpelled, FunctionsSpelled}
+use Rattle.s_agrees.proofs.SpelledIndices.{limit, fits, SmallIndices, small_indices, SmallLayout, names_small, both_small, locals_total, runs_spelled, runs_joined}
+use Rattle.s_agrees.proofs.SpelledCode.{room, body_spelled}
+use Rattle.s_agrees.proofs.SpelledTokens.{ClausesSmall, local_get_spelled, local_set_spelled, resume_spelled, block_spelled}
+
+-- ## Names
+
+-- no more names are bound than a body is large
+mutual
+  statement_lets : (s : StatementTree) → length (lets_of s) ≤ statement_size s
+  statement_lets (Let x e) = omega arith
+  statement_lets (Assign x e) = omega arith
+  statement_lets (IfStatement c a b) = let q = block_lets a in let r = block_lets b in let l = length-append (lets_in a) (lets_in b) in omega (arith, q, r, l)
+  statement_lets (While c b) = let q = block_lets b in omega (arith, q)
+  statement_lets (Print e) = omega arith
+  statement_lets (Return e) = omega arith
+  statement_lets Fail = omega arith
+  statement_lets (Evaluate e) = omega arith
+
+  block_lets : (b : BlockTree) → length (lets_in b) ≤ block_size b
+  block_lets NoStatements = omega arith
+  block_lets (s ⨟ b) = let q = statement_lets s in let r = block_lets b in let l = length-append (lets_of s) (lets_in b) in omega (arith, q, r, l)
+
+-- as many stand in its layout
+few_lets : (b : BlockTree) → length (lets b) ≤ block_size b
+few_lets b = let q = block_lets b in let l = length-map (lets_in b) number in omega (arith, q, l)
+
+-- a clause binds no more than its size
+few_names : (h : Name) (c : Clause) → length (clause_names h c) ≤ clause_size c
+few_names h c =
+    let q = few_lets c.body in
+    let l = length-append (map number c.arguments) (resumption h c.resumption ∷ lets c.body) in
+    let a = length-map c.arguments number in
+    omega (arith, q, l, a)
+
+-- and neither do all clauses
+all_names : (h : Name) (cs : List Clause) → length (clauses_names h cs) ≤ sum_by clause_size cs
+all_names h [] = omega arith
+all_names h (c ∷ cs) =
+    let q = all_names h cs in
+    let r = few_names h c in
+    let s = sum_by-cons clause_size c cs in
+    let l = length-append (clause_names h c) (clauses_names h cs) in
+    omega (arith, q, r, s, l)
+
+-- nor do they take more temporaries
+all_high : (cs : List Clause) → high_clauses cs ≤ sum_by clause_size cs
+all_high [] = omega arith
+all_high (c ∷ cs) = let q = all_high cs in let r = block_high c.body in let s = sum_by-cons clause_size c cs in omega (arith, q, r, s)
+
+-- nor are there more of them
+few_clauses : (cs : List Clause) → length cs ≤ sum_by clause_size cs
+few_clauses [] = omega arith
+few_clauses (c ∷ cs) = let q = few_clauses cs in let s = sum_by-cons clause_size c cs in omega (arith, q, s)
+
+-- ## Functions
+
+-- the names of a function, and its temporaries
+function_layout_small : (f : Function) → definition_size (definition.Function f) ≤ 50000 → SmallLayout (function_layout f)
+function_layout_small f few =
+    let q = few_lets f.body in
+    let l = length-append (map parameter f.parameters) (lets f.body) in
+    let m = length-map f.parameters parameter in
+    record { name = names_small (function_names f) (omega (arith, few, q, l, m)); temporaries = omega (arith, few, q, l, m); parameters = omega arith }
+
+-- the code of a function that isn't too large
+pub function_spelled : (ds : List Declaration) (f : Function) → SmallIndices ds → SmallBlock f.body → definition_size (definition.Function f) ≤ 50000 → FunctionSpelled (function_code ds f)
+function_spelled ds f S s few =
+    let q = few_lets f.body in
+    let h = block_high f.body in
+    let t = locals_total (lets f.body) (high_block f.body) in
+    record {
+      runs = runs_spelled (lets f.body) (high_block f.body) (omega (arith, few, q, h));
+      alone = runs_joined (lets f.body) (high_block f.body);
+      few = omega (arith, t, few, q, h);
+      body = body_spelled ds (function_layout f) S (function_layout_small f few) f.body 0 s (omega (arith, few));
+    }
+
+-- ## Handlers
+
+module _ (ds : List Declaration) (Γ : Layout) (S : SmallIndices ds) (L : SmallLayout Γ) where
+  -- a name that is set, and several
+  name_set : (x : Name) (c : Code) → CodeSpelled c → CodeSpelled (Plain (local_set (local_number Γ x)) c)
+  name_set x c h = (local_set_spelled (local_number Γ x) (fits (local_number Γ x) (L.name x)), h)
+
+  names_set : (xs : List Name) (c : Code) → CodeSpelled c → CodeSpelled (set_names Γ xs c)
+  names_set [] c h = h
+  names_set (x ∷ xs) c h = names_set xs (Plain (local_set (local_number Γ x)) c) (name_set x c h)
+
+  -- a clause, and the return clause
+  clause_spelled : (D : ℕ) (c : Clause) → SmallBlock c.body → D + block_size c.body ≤ room → CodeSpelled (clause_code ds D (record { clause = c; layout = Γ }))
+  clause_spelled D c s few =
+      name_set c.resumption (set_names Γ c.arguments (body ds Γ D c.body)) (names_set c.arguments (body ds Γ D c.body) (body_spelled ds Γ S L c.body D s few))
+
+  returned_spelled : (D : ℕ) (i : Handler) → SmallBlock i.return_clause.body → D + block_size i.return_clause.body ≤ room → CodeSpelled (return_code ds Γ D i)
+  returned_spelled D i s few = name_set i.return_clause.value (body ds Γ D i.return_clause.body) (body_spelled ds Γ S L i.return_clause.body D s few)
+
+-- as many as there are clauses
+placed_length : (h : Name) (i : Handler) (n : ℕ) (cs : List Clause) → length (placed_from h i n cs) ≡ length cs
+placed_length h i n [] = refl
+placed_length h i n (c ∷ cs) = let q = placed_length h i (n + length (clause_names h c)) cs in omega (arith, q)
+
+-- each has a label, which is small
+labels_length : (ds : List Declaration) (l : ℕ) (cs : List Clause) → length (labels ds l cs) ≡ length cs
+labels_length ds l [] = refl
+labels_length ds l (c ∷ cs) = let q = labels_length ds (l + 1) cs in omega (arith, q)
+
+labels_small : (ds : List Declaration) → SmallIndices ds → (l : ℕ) (cs : List Clause) → l + length cs ≤ limit → ClausesSmall (labels ds l cs)
+labels_small ds S l [] few = tt
+labels_small ds S l (c ∷ cs) few = ((fits (tag_index ds c.effect) (S.tag c.effect), omega (arith, few)), labels_small ds S (l + 1) cs (omega (arith, few)))
+
+-- how many locals the names and temporaries of a handler take
+handler_few : (h : Name) (i : Handler) → handler_temporaries h i + max (high_block i.return_clause.body) (high_clauses i.clauses) ≤ definition_size (definition.Handler i) + definition_size (definition.Handler i)
+handler_few h i =
+    let q = few_lets i.return_clause.body in
+    let r = all_names h i.clauses in
+    let s = block_high i.return_clause.body in
+    let t = all_high i.clauses in
+    omega (arith, q, r, s, t)
+
+-- the names of a clause lie before the temporaries
+layout_small : (h : Name) (i : Handler) (n : ℕ) (bs : List Bound) → definition_size (definition.Handler i) ≤ 50000 → n + length bs ≤ handler_temporaries h i → SmallLayout (layout_at h i n bs)
+layout_small h i n bs few behind =
+    let t = handler_few h i in
+    let m = length-map i.parameters parameter in
+    record {
+      name = both_small (map parameter i.parameters) n bs (omega (arith, few, m)) (omega (arith, few, t, behind));
+      temporaries = omega (arith, few, t);
+      parameters = omega (arith, few);
+    }
+
+module _ (ds : List Declaration) (h : Name) (i : Handler) (S : SmallIndices ds) (few : definition_size (definition.Handler i) ≤ 50000) where
+  -- the blocks of clauses, the names of the first one being from the local n on
+  blocks_spelled : (n : ℕ) (cs : List Clause) (c : Code) → SmallClauses cs → n + length (clauses_names h cs) ≤ handler_temporaries h i → sum_by clause_size cs ≤ 50000 → CodeSpelled c
+      → CodeSpelled (blocks ds (placed_from h i n cs) c)
+  blocks_spelled n [] c s behind size g = g
+  blocks_spelled n (k ∷ cs) c s behind size g =
+      let m = n + length (clause_names h k) in
+      let ps = placed_from h i m cs in
+      let x = clause_type_index ds (length k.arguments) in
+      let a = length-append (clause_names h k) (clauses_names h cs) in
+      let z = sum_by-cons clause_size k cs in
+      let p = placed_length h i m cs in
+      let l = few_clauses cs in
+      let b = clause_spelled ds (layout_at h i n (clause_names h k)) S (layout_small h i n (clause_names h k) few (omega (arith, behind, a))) (length ps) k s.0 (omega (arith, size, z, p, l)) in
+      let t = block_spelled kind.Block (block_type.Index x) (fits x (S.type (clause_type (length k.arguments)))) in
+      blocks_spelled m cs (Block kind.Block (block_type.Index x) c (clause_code ds (length ps) (record { clause = k; layout = layout_at h i n (clause_names h k) }))) s.1
+      (omega (arith, behind, a)) (omega (arith, size, z)) (t, g, b)
+
+  -- the resume and the return clause
+  handling_spelled : SmallBlock i.return_clause.body → CodeSpelled (handling ds (return_layout h i) i)
+  handling_spelled s =
+      let hs = labels ds 0 i.clauses in
+      let l = labels_length ds 0 i.clauses in
+      let n = few_clauses i.clauses in
+      let r = returned_spelled ds (return_layout h i) S (layout_small h i (return_place i) (return_names i) few (omega arith)) (length i.clauses) i s (omega (arith, few, n)) in (
+        local_get_spelled (length i.parameters) (omega (arith, few)),
+        (resume_spelled computation_type hs (omega arith) (omega (arith, few, l, n)) (labels_small ds S 0 i.clauses (omega (arith, few, n))), r),
+      )
+
+-- the code of a handler that isn't too large
+pub handler_spelled : (ds : List Declaration) (h : Name) (i : Handler) → SmallIndices ds → SmallBlock i.return_clause.body → SmallClauses i.clauses → definition_size (definition.Handler i) ≤ 50000
+    → FunctionSpelled (handler_code ds h i)
+handler_spelled ds h i S s cs few =
+    let bs = return_names i ++ clauses_names h i.clauses in
+    let k = max (high_block i.return_clause.body) (high_clauses i.clauses) in
+    let q = handler_few h i in
+    let l = length-append (return_names i) (clauses_names h i.clauses) in
+    let t = locals_total bs k in
+    let g = handling_spelled ds h i S few s in
+    record {
+      runs = runs_spelled bs k (omega (arith, few, q, l));
+      alone = runs_joined bs k;
+      few = omega (arith, t, few, q, l);
+      body = (
+        block_spelled kind.Loop (block_type.Value _) refl,
+        blocks_spelled ds h i S few (clauses_place i) i.clauses (handling ds (return_layout h i) i) cs (omega arith) (omega (arith, few)) g,
+        tt,
+      );
+    }
+
+-- ## All of a script
+
+-- functions behind others
+both_spelled : (fs gs : List Func) → FunctionsSpelled fs → FunctionsSpelled gs → FunctionsSpelled (fs ++ gs)
+both_spelled [] gs h i = i
+both_spelled (f ∷ fs) gs h i = (h.0, both_spelled fs gs h.1 i)
+
+-- what one declaration adds
+function_of_spelled : (ds : List Declaration) (d : Definition) → SmallIndices ds → SmallDefinition d → definition_size d ≤ 50000 → FunctionsSpelled (function_code_of ds d)
+function_of_spelled ds (definition.Effect n) S s few = tt
+function_of_spelled ds (definition.Function f) S s few = (function_spelled ds f S s few, tt)
+function_of_spelled ds (definition.Handler i) S s few = tt
+
+handler_of_spelled : (ds : List Declaration) (h : Name) (d : Definition) → SmallIndices ds → SmallDefinition d → definition_size d ≤ 50000 → FunctionsSpelled (handler_code_of ds h d)
+handler_of_spelled ds h (definition.Effect n) S s few = tt
+handler_of_spelled ds h (definition.Function f) S s few = tt
+handler_of_spelled ds h (definition.Handler i) S s few = (handler_spelled ds h i S s.0 s.1 few, tt)
+
+-- how large declarations are
+abbrev sizes : List Declaration → ℕ
+sizes es = sum_by (λ (d : Declaration). definition_size d.definition) es
+
+-- what all declarations add
+each_spelled : (make : Declaration → List Func) → ((d : Declaration) → SmallDefinition d.definition → definition_size d.definition ≤ 50000 → FunctionsSpelled (make d)) → (es : List Declaration)
+    → SmallLiterals es → sizes es ≤ 50000 → FunctionsSpelled (for_each make es)
+each_spelled make m [] s few = tt
+each_spelled make m (e ∷ es) s few =
+    let z = sum_by-cons (λ (d : Declaration). definition_size d.definition) e es in
+    both_spelled (make e) (for_each make es) (m e s.0 (omega (arith, few, z))) (each_spelled make m es s.1 (omega (arith, few, z)))
+
+-- the code of a script that breaks no rule and isn't too large
+pub codes_spelled : (p : Script) → Good p → Size p ≤ 50000 → SmallLiterals p.declarations → FunctionsSpelled (lowered p).codes
+codes_spelled p good few s =
+    let ds = p.declarations in
+    let S = small_indices p good few in
+    both_spelled (for_each (λ (d : Declaration). function_code_of ds d.definition) ds) (for_each (λ (d : Declaration). handler_code_of ds d.name d.definition) ds)
+    (each_spelled (λ (d : Declaration). function_code_of ds d.definition) (λ d t n. function_of_spelled ds d.definition S t n) ds s few)
+    (each_spelled (λ (d : Declaration). handler_code_of ds d.name d.definition) (λ d t n. handler_of_spelled ds d.name d.definition S t n) ds s few)
