@@ -39,7 +39,7 @@ no_fault m (valid.Function i) w v h = no_item m _ v h.1.1
 no_fault m valid.OutOfMemory w v h = h.0 refl
 
 -- bytes that spell a module have no fault
-spelled_or_not : (b : List ℕ) (m : Module) (f : DecodeFault) → Spells b m → HasFault b f → ⊥
+pub spelled_or_not : (b : List ℕ) (m : Module) (f : DecodeFault) → Spells b m → HasFault b f → ⊥
 spelled_or_not b m f s h = let e : ◌≡◌ {A = Result Module DecodeFault} (Ok m) (Err f) = sym ((spelled_exactly b m).1 s) ∙ (fault_exactly b f).1 h in absurd cc
 
 only_built : (m : Module) (reply : Reply) → Spells (Canon m) m → Within m → Valid m → BytesGive (gives Build) (Canon m) reply → reply ≡ built m

@@ -12,3 +12,4 @@ pub mod BuiltAgain
 pub mod ScriptRuns
 pub mod Acting
 pub mod Meanings
+pub mod BuiltRuns

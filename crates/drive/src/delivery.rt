@@ -1,5 +1,5 @@
 //! Writing an answer.
-ghost use Rattle.std.specs.Prelude.{◌≡◌, ◌⊎◌, ◌≤◌, ℕ, List, OnOk, OnErr};
+ghost use Rattle.std.specs.Prelude.{◌⊎◌, ◌≤◌, OnOk, OnErr};
 ghost use Rattle.w_outside.specs.Outside.{Grew, GrewByFront, HasCause, Rose};
 ghost use Rattle.drive.specs.Leaving.{Delivers};
 ghost use Rattle.drive.specs.Pieces.{joined};

@@ -17,6 +17,8 @@ mod status;
 mod stop;
 
 pub use input::{InputFault, read_input};
-pub use laws::{build_is_idempotent, one_answer, runs_of_scripts_mean, some_answer};
+pub use laws::{
+    build_is_idempotent, built_runs_are_alike, one_answer, runs_of_scripts_mean, some_answer,
+};
 pub use program::command;
 pub use status::Status;
