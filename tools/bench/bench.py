@@ -1,5 +1,6 @@
 #!/usr/bin/env python3
-"""Makes modules, and times the program on them: checks beside wasm-validate, or runs beside wasm-interp.
+"""Makes modules, and times the program on them: checks beside wasm-validate, or runs beside wasm-interp; or runs of
+scripts beside Lua and Guile.
 
 Modules are made in a process of their own, so that this one stays small: a child begins as a copy of it, and the
 system counts the copy as the child's peak.
@@ -25,8 +26,9 @@ import tables                                               # noqa: E402
 from counting import counted                                # noqa: E402
 from executing.numbers import WIDTHS, signed                # noqa: E402
 from forms import FORMS, STRAIGHT                           # noqa: E402
-from measuring import best_of                               # noqa: E402
+from measuring import best_of, measured                     # noqa: E402
 from runs import RUNS as PLAIN_RUNS, returning_at_once      # noqa: E402
+from script_runs import LEAST_SCRIPT, SCRIPT_RUNS, STEPS_OF_ANY, compiling, others, taken_by    # noqa: E402
 from switching import MOST_REPEATS, RUNS as SWITCHING_RUNS  # noqa: E402
 
 PROGRAM = ROOT / 'crates' / 'stackwasm' / 'out' / 'stackwasm'
@@ -41,15 +43,17 @@ def arguments():
     parser.add_argument('--program', default=PROGRAM, type=Path, help='the program to time')
     parser.add_argument('--size', default=16, type=float, help='MiB of each module (16, the most that it reads)')
     parser.add_argument('--forms', nargs='+', metavar='WORDS',
-                        help='only forms, or programs to run, whose names have one of these words')
+                        help='only forms, or programs or scripts to run, whose names have one of these words')
     parser.add_argument('--rounds', default=3, type=int, help='each figure is the best of so many (3)')
     parser.add_argument('--limit', default=60, type=int, help='seconds after which a call is ended (60)')
     parser.add_argument('--memory', default=8, type=int, help='GiB that a call may take (8)')
     parser.add_argument('--build', action='store_true', help='time build too')
     parser.add_argument('--keep', type=Path, metavar='FOLDER', help='keep the modules there')
-    parser.add_argument('--list', action='store_true', help='name the forms, or the programs, and what they are')
+    parser.add_argument('--list', action='store_true', help='name the forms, programs or scripts, and what they are')
     parser.add_argument('--run', action='store_true', help='time run, on programs that run long')
     parser.add_argument('--steps', default=100000000, type=int, help='about so many reductions a run (100,000,000)')
+    parser.add_argument('--scripts', action='store_true', help='time run on scripts, beside lua5.4 and guile')
+    parser.add_argument('--effects', default=10000000, type=int, help='about so many effects a script (10,000,000)')
     return parser.parse_args()
 
 
@@ -187,17 +191,67 @@ def small_oddities(given, folder, name, count):
     return odd
 
 
+def time_scripts(given, folder):
+    """Print the table of scripts, and give what is odd in it."""
+    programs = {name: shutil.which(name) for name in ('lua5.4', 'guile')}
+    names = chosen(SCRIPT_RUNS, given.forms)
+    odd = compiled_oddities(given, folder, programs['guile']) if programs['guile'] else []
+    taken = {name: apart(f'counting {name}', partial(taken_of, given, name)) for name in names}
+    print(tables.heading(tables.SCRIPT_HEADINGS), flush=True)
+    for name, (number, took, small) in taken.items():
+        for less, printed in small.items():
+            best = timed_script(given, folder, programs, name, less, STEPS_OF_ANY)
+            odd += [f'{name}: {program} said {call.said!r} of {less}, and not {printed!r}'
+                    for program, call in best.items() if call.said != printed]
+        best = timed_script(given, folder, programs, name, number, took.reductions)
+        print(tables.script_row(name, SCRIPT_RUNS[name].effects(number), took, best), flush=True)
+        odd += run_oddities(name, best)
+    least = timed_script(given, folder, programs, LEAST_SCRIPT, 1, STEPS_OF_ANY)
+    print(f'\nOf {LEAST_SCRIPT} of one number: ' + ', '.join(
+        f'{program} {call.seconds:.3f} seconds' for program, call in least.items()))
+    return odd + run_oddities(f'{LEAST_SCRIPT} of one number', least)
+
+
+def taken_of(given, name):
+    """The number that a script is given, what this takes, and what the small ones print."""
+    script = SCRIPT_RUNS[name]
+    number = script.number_within(given.effects)
+    return number, script.taken(number), {less: taken_by(script.script(less))[1] for less in script.small}
+
+
+def timed_script(given, folder, programs, name, number, steps):
+    """The best call of each program on a script of this number."""
+    script = SCRIPT_RUNS[name]
+    path = folder / f'{script.stem}.script'
+    calls = {'run': script.call(str(given.program), number, path, steps)}
+    calls |= others(script.stem, number, programs, folder)
+    return best_of({program: (words, True) for program, words in calls.items()}, given.rounds, given.limit)
+
+
+def compiled_oddities(given, folder, guile):
+    """Compile the programs of Guile, and give what went wrong."""
+    calls = {name: measured(compiling(guile, script.stem, folder), given.limit) for name, script in SCRIPT_RUNS.items()}
+    return [f'{name}: guile said {call.said!r} when it compiled' for name, call in calls.items() if call.status]
+
+
+def kinds(given):
+    """What there is to time, by name, and what it is."""
+    if given.scripts:
+        return {name: script.about for name, script in SCRIPT_RUNS.items()}
+    return {name: made.__doc__.strip().splitlines()[0] for name, made in (RUNS if given.run else FORMS).items()}
+
+
 def main():
     given = arguments()
     if given.list:
-        for name, listed in (RUNS if given.run else FORMS).items():
-            print(f'{name}: {listed.__doc__.strip().splitlines()[0]}')
+        for name, about in kinds(given).items():
+            print(f'{name}: {about}')
         return 0
     resource.setrlimit(resource.RLIMIT_AS, (given.memory << 30, given.memory << 30))    # children have it too
     with tempfile.TemporaryDirectory() as temporary:
         folder = given.keep or Path(temporary)
         folder.mkdir(parents=True, exist_ok=True)
-        odd = (time_runs if given.run else time_forms)(given, folder)
+        odd = (time_scripts if given.scripts else time_runs if given.run else time_forms)(given, folder)
     for line in odd:
         print(f'\n{line}', end='')
     print()

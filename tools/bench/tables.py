@@ -1,4 +1,5 @@
-"""Tables in Markdown: a line for each form, with rates beside those of the straight form, or for each program."""
+"""Tables in Markdown: a line for each form, with rates beside those of the straight form, or for each program or
+script."""
 
 MEGA = 1000000
 MOST_TIMES = 10         # no form is to take longer than so many times the straight one
@@ -7,6 +8,9 @@ FORM_HEADINGS = [
     'Form', 'Bytes', 'check MB/s', 'B/B', 'build MB/s', 'B/B', 'wasm-validate MB/s', 'B/B', 'check / wasm-validate',
     'time / mixed code']
 RUN_HEADINGS = ['Program', 'Reductions', 'run M/s', 'MB', 'wasm-interp M/s', 'MB', 'run / wasm-interp']
+SCRIPT_HEADINGS = [
+    'Script', 'Effects', 'Steps', 'Reductions / step', 'run M/s', 'run s', 'MB', 'lua5.4 s', 'MB', 'guile s', 'MB',
+    'run / lua5.4', 'run / guile']
 
 
 def heading(headings):
@@ -35,6 +39,17 @@ def run_row(name, reductions, best):
     return _line(cells)
 
 
+def script_row(name, effects, taken, best):
+    """The line of a script. What was said instead of a result stands in place of the seconds."""
+    run = best['run']
+    rate_of_run, _ = _rate_and_peak(run, taken.reductions, MEGA)
+    cells = [name, f'{effects:,}', f'{taken.steps:,}', _ratio(taken.reductions, taken.steps), rate_of_run]
+    for program in ('run', 'lua5.4', 'guile'):
+        cells += _seconds_and_peak(best.get(program))
+    cells += [_ratio_of_rates(run, best.get(program), taken.steps) for program in ('lua5.4', 'guile')]
+    return _line(cells)
+
+
 def rate(call, amount):
     """Bytes or reductions a second. The clock of the system may count nothing for what is very short."""
     return amount / max(call.seconds, 0.0001) if call else None
@@ -52,6 +67,14 @@ def _rate_and_peak(call, amount, peak_unit, refusal=None):
         return ['died' if call.status < 0 else refusal or ' '.join(call.said.split()), '']
     below = '< ' if call.ended else ''
     return [f'{below}{_figure(rate(call, amount) / MEGA)}', _figure(call.peak / peak_unit)]
+
+
+def _seconds_and_peak(call):
+    """Seconds and millions of bytes, or why there are none."""
+    if not _counts(call):
+        return _rate_and_peak(call, 1, MEGA)
+    above = '> ' if call.ended else ''
+    return [f'{above}{_figure(call.seconds)}', _figure(call.peak / MEGA)]
 
 
 def _ratio_of_rates(ours, theirs, amount):
