@@ -1,7 +1,11 @@
-"""Judges rows by the second reader, and by the second compiler of scripts."""
+"""Judges rows by the second reader, by the second compiler of scripts, and by the second reader of their meaning."""
 
+import re
 from collections import Counter
 
+from executing import USUAL_STEPS
+from following import contradiction, outcome_of_script
+from generated_scripts import GENERATED_STEPS, GREATEST_NUMBER, generated
 from reader import answer
 from reader.module_decoding import decode
 from rows.sections import STATUSES, VALID
@@ -9,6 +13,7 @@ from script_compiler import built
 from script_reader import answer as answer_to_script, is_script
 
 OPTIONS = ('--steps', '--stats')
+GENERATED = re.compile('[1-9][0-9]{0,2}')
 GREATEST_FILE = 100000      # what the second reader reads in due time, and without too deep a nesting
 
 
@@ -25,17 +30,35 @@ def faults(name, rows):
 
 
 def is_judged(row):
-    """Whether the second reader judges a row: a call on a file that is there and not too large, where nothing fails."""
-    _, given = _call(row)
-    return given is not None and len(given) <= GREATEST_FILE and not row.fails
+    """Whether the second readers judge a row: a call on a file that is there and not too large, or on a generated
+    script, where nothing fails, and no run of a script that is too long."""
+    command, given = _call(row)
+    if given is None or len(given) > GREATEST_FILE or row.fails:
+        return False
+    return not _is_script_run(command, given) or outcome_of_script(given, _steps(row)) is not None
 
 
 def _call(row):
-    """The command, and the contents of the file that is named behind it, where the call is of this form."""
+    """The command, and the contents of the file that is named behind it, where the call is of this form; those of a
+    generated script are told by its number."""
     program, command, file, *more = [*row.words, None, None, None][:max(3, len(row.words))]
     if program != 'stackwasm' or (more and (command != 'run' or more[0] not in OPTIONS)):
         return None, None
+    if command == 'gen':
+        number = int(file) if GENERATED.fullmatch(file or '') else 0
+        return command, generated(number) if 1 <= number <= GREATEST_NUMBER else None
     return command, row.files.get(file)
+
+
+def _is_script_run(command, given):
+    return command in ('run', 'gen') and is_script(given)
+
+
+def _steps(row):
+    """How many reductions a call of `run` or `gen` is for."""
+    if row.words[1] == 'gen':
+        return GENERATED_STEPS
+    return int(row.words[row.words.index('--steps') + 1]) if '--steps' in row.words else USUAL_STEPS
 
 
 def _contradiction(row):
@@ -43,6 +66,8 @@ def _contradiction(row):
     if not is_judged(row):
         return None
     command, given = _call(row)
+    if _is_script_run(command, given):
+        return _contradicted_run(row, given)
     if command == 'build' and is_script(given):
         return _contradicted_module(row, built(given))
     said = answer_to_script(given) if command == 'check' and is_script(given) else answer(given)
@@ -51,6 +76,14 @@ def _contradiction(row):
     if command == 'build':
         return _contradicted_spelling(row, given)
     return None
+
+
+def _contradicted_run(row, given):
+    """The run of a script is to come to what its module comes to, and to follow the script."""
+    outcome = outcome_of_script(given, _steps(row))
+    if (row.out, row.err, row.status) != outcome:
+        return f'the row says {row.out!r}, {row.err!r}, {row.status}, and the second reader {outcome}'
+    return contradiction(given, _steps(row))
 
 
 def _contradicted_answer(row, said):

@@ -47,7 +47,7 @@ class RunSection(Section):
         out, err, status = outcome_of(given, USUAL_STEPS if steps is None else steps, stats)
         if valid == err.startswith((b'malformed', b'invalid')):
             raise ValueError(f'{name}: {err!r}')
-        self.rows.append(CallRow(name, command, words or spelled(given), _wanted(out, err, status)))
+        self.rows.append(CallRow(name, command, words or spelled(given), wanted_lines(out, err, status)))
 
     def told(self, name, given, steps=None):
         """A run of a module with its statistics."""
@@ -74,7 +74,7 @@ class RunSection(Section):
         self.row(f'{name}/{steps - 1}-reductions', given, steps - 1)
 
 
-def _wanted(out, err, status):
+def wanted_lines(out, err, status):
     """The lines that say what a run comes to."""
     lines = [*_written('out', out), *_written('err', err)]
     return lines + [f'status {status}'] if status else lines

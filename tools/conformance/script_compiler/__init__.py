@@ -8,7 +8,7 @@ from functools import lru_cache
 
 from script_compiler.modules import module_of
 from script_compiler.sizes import size_of as _size_of_trees
-from script_compiler.trees import with_trees
+from script_reader.trees import with_trees
 from script_reader import VALID, read
 
 GREATEST_SIZE = 50000

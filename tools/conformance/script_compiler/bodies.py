@@ -7,7 +7,7 @@ from assembler.types import EMPTY
 from script_compiler.indices import COMPUTATION_TYPE, PRINTER, RESUMPTION_TYPE
 from script_compiler.instructions import (
     ARITHMETIC, COMPARISONS, EXTEND, IS_ZERO, NEGATE, NUMBER, TRUTH, if_zero)
-from script_compiler.trees import (
+from script_reader.trees import (
     Assign, Call, Do, Evaluate, Fail, Handle, If, Let, Literal, Print, Read, Resume, Return, Run, Unary, While)
 
 

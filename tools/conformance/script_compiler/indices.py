@@ -3,7 +3,7 @@
 from assembler.encoding import signed
 from assembler.types import functype, nullable, ref
 from script_compiler.instructions import NUMBER
-from script_compiler.trees import Handle, parts_of
+from script_reader.trees import Handle, parts_of
 from script_reader.rules import INT
 
 RESUMPTION_TYPE, COMPUTATION_TYPE, PRINTER_TYPE = 1, 3, 4

@@ -5,7 +5,7 @@ from typing import NamedTuple
 
 from script_compiler.indices import value_type
 from script_compiler.instructions import NUMBER
-from script_compiler.trees import Call, Do, Handle, If, Let, Read, Resume, Run, Unary, While
+from script_reader.trees import Call, Do, Handle, If, Let, Read, Resume, Run, Unary, While
 from script_reader.rules import INT, Parameter
 
 

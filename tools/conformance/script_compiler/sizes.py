@@ -1,6 +1,6 @@
 """The size of scripts."""
 
-from script_compiler.trees import Run, parts_of
+from script_reader.trees import Run, parts_of
 
 
 def size_of(declarations):

@@ -5,6 +5,7 @@ by all derivations of the grammar at once, and not by a parser that looks ahead.
 """
 
 import sys
+from functools import lru_cache
 
 from script_reader.derivations import Derivations
 from script_reader.grammar import PRODUCTIONS
@@ -29,6 +30,7 @@ def answer(data):
     return read(data)[0]
 
 
+@lru_cache(maxsize=64)
 def read(data):
     """What is to be said of these bytes as a script, and its declarations where it breaks no rule."""
     if len(data) > GREATEST_LENGTH:

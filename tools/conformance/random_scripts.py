@@ -1,0 +1,195 @@
+"""Scripts at random that break no rule, and whose loops end.
+
+A function calls and handles functions behind it alone, and a handler the last one alone.
+"""
+
+from typing import NamedTuple
+
+NUMBER = None       # the type of a number; that of a resumption is the name of its handler
+LITERALS = ['0', '1', '2', '3', '5', '7', '10', '64', '128', '1000', '2147483648', '9223372036854775807']
+
+
+class Function(NamedTuple):
+    """A function or a handler: its name, and the types of its parameters."""
+
+    name: str
+    types: list
+
+
+class RandomScript:
+    """One script; `text` is its text."""
+
+    def __init__(self, random):
+        self.random = random
+        self.effects = [(f'e{number}', random.choice([0, 0, 1, 1, 2, 3])) for number in range(random.randint(1, 2))]
+        self.handlers = [
+            Function(f'h{number}', self._types(number, 0.2)) for number in range(random.randint(1, 2))]
+        self.functions = [Function('main', [])] + [
+            Function(f'f{number}', self._types(number and len(self.handlers), 0.25))
+            for number in range(random.randint(2, 3))]
+        self.lets = 0
+        parts = [f'effect {name}/{count};' for name, count in self.effects]
+        parts += [self._function(number, each) for number, each in enumerate(self.functions)]
+        parts += [self._handler(each) for each in self.handlers]
+        random.shuffle(parts)
+        self.text = '\n'.join(parts) + '\n'
+
+    def _types(self, handlers, likely):
+        """Types of parameters, some of them of resumptions of the first so many handlers."""
+        return [
+            f'h{self.random.randrange(handlers)}' if handlers and self.random.random() < likely else NUMBER
+            for _ in range(self.random.randint(0, 2))]
+
+    # Declarations.
+
+    def _parameters(self, declared):
+        scope = {f'p{number}': type for number, type in enumerate(declared.types)}
+        return scope, ', '.join(name if type is NUMBER else f'{name}: res {type}' for name, type in scope.items())
+
+    def _function(self, number, function):
+        scope, parameters = self._parameters(function)
+        self.first = number + 1
+        self.doing = 0.5 if 0 < number < len(self.functions) - 1 else 0     # how likely a part performs an effect
+        self.is_handling = True
+        return f'fn {function.name}({parameters}) {{ {self._beginning(number, scope)}{self._body(scope, 2)} }}'
+
+    def _beginning(self, number, scope):
+        """Main begins with the first function in a handle, and that with an effect."""
+        handler, function, (effect, count) = self.handlers[0], self.functions[1], self.effects[0]
+        if number == 0:
+            values, parameters = (self._list(scope, 0, each.types) for each in (function, handler))
+            return f'print handle {function.name}({values}) with {handler.name}({parameters}); '
+        return f'print do {effect}({self._list(scope, 0, [NUMBER] * count)}); ' if number == 1 else ''
+
+    def _handler(self, handler):
+        """Clauses call the last function alone, which performs no effect, and return clauses handle none."""
+        scope, parameters = self._parameters(handler)
+        self.first, self.doing, self.is_handling = len(self.functions) - 1, 0.05, False
+        clauses = [f'return(x) {{ {self._body(scope | {"x": NUMBER}, 1)} }}']
+        self.is_handling = True
+        for effect, count in self._handled(handler):
+            names = [f'a{number}' for number in range(count)]
+            inner = scope | dict.fromkeys(names, NUMBER) | {'k': handler.name}
+            clauses.append(f'on {effect}({", ".join(names)}) k {{ {self._body(inner, 1)} }}')
+        return f'handler {handler.name}({parameters}) {{ ' + ' '.join(clauses) + ' }'
+
+    def _handled(self, handler):
+        """The effects of a handler's clauses: all, or some, but for the first handler."""
+        least = len(self.effects) if handler.name == 'h0' else 1
+        return self.random.sample(self.effects, self.random.randint(least, len(self.effects)))
+
+    # Statements.
+
+    def _body(self, scope, depth):
+        text = self._block(dict(scope), depth)
+        return f'{text} {self._return(scope)}' if self.random.random() < 0.9 else text
+
+    def _return(self, scope):
+        resumptions = [name for name, type in scope.items() if type is not NUMBER]
+        if resumptions and self.random.random() < 0.8:
+            return f'return {self._resume(scope, 1, self.random.choice(resumptions))};'
+        return f'return {self._expression(scope, 2)};'
+
+    def _block(self, scope, depth):
+        """Statements, which bind names in this scope."""
+        return ' '.join(self._statement(scope, depth) for _ in range(self.random.randint(1, 2)))
+
+    def _statement(self, scope, depth):
+        kind = self.random.random()
+        if kind < 0.3:
+            return f'print {self._expression(scope, 2)};'
+        if kind < 0.5:
+            value = self._expression(scope, 2)
+            return f'let {self._bound(scope, "v")} = {value};'
+        if kind < 0.65:
+            assigned = [name for name, type in scope.items() if type is NUMBER and name[0] != 'i']
+            if assigned:
+                return f'{self.random.choice(assigned)} = {self._expression(scope, 1)};'
+        if kind < 0.75 or depth == 0:
+            return f'{self._expression(scope, 1)};'
+        if kind < 0.88:
+            otherwise = f' else {{ {self._block(dict(scope), depth - 1)} }}' if self.random.random() < 0.5 else ''
+            then = self._block(dict(scope), depth - 1)
+            if self.random.random() < 0.3:
+                then += f' {self._return(scope)}'
+            return f'if {self._expression(scope, 1)} {{ {then} }}{otherwise}'
+        if kind < 0.98:
+            counter = self._bound(scope, 'i')
+            body = self._block(dict(scope), depth - 1)
+            times = self.random.randint(1, 3)
+            return f'let {counter} = 0; while {counter} < {times} {{ {counter} = {counter} + 1; {body} }}'
+        return f'if {self._expression(scope, 1)} {{ fail; }}'
+
+    def _bound(self, scope, front):
+        self.lets += 1
+        name = f'{front}{self.lets}'
+        scope[name] = NUMBER
+        return name
+
+    # Expressions, by the levels of the grammar.
+
+    def _expression(self, scope, depth):
+        return self._run(['||'], 0.06, lambda: self._run(['&&'], 0.06, lambda: self._comparison(scope, depth)))
+
+    def _run(self, operators, likely, part):
+        text = part()
+        while self.random.random() < likely:
+            text += f' {self.random.choice(operators)} {part()}'
+        return text
+
+    def _comparison(self, scope, depth):
+        text = self._sum(scope, depth)
+        if self.random.random() < 0.12:
+            text += f' {self.random.choice(["==", "!=", "<", "<=", ">", ">="])} {self._sum(scope, depth)}'
+        return text
+
+    def _sum(self, scope, depth):
+        return self._run('+-', 0.2, lambda: self._run('*******/%', 0.08, lambda: self._unary(scope, depth)))
+
+    def _unary(self, scope, depth):
+        return self.random.choice(['', '', '', '', '', '', '-', '!']) + self._primary(scope, depth)
+
+    def _primary(self, scope, depth):
+        kind = self.random.random()
+        if depth and kind < 0.55:
+            made = self._compound(scope, depth - 1)
+            if made:
+                return made
+        numbers = [name for name, type in scope.items() if type is NUMBER]
+        if numbers and kind < 0.85:
+            return self.random.choice(numbers)
+        return self.random.choice(LITERALS[:8] if self.random.random() < 0.9 else LITERALS)
+
+    def _compound(self, scope, depth):
+        resumptions = [name for name, type in scope.items() if type is not NUMBER]
+        if resumptions and self.random.random() < 0.35:
+            return self._resume(scope, depth, self.random.choice(resumptions))
+        if self.random.random() < self.doing:
+            effect, count = self.random.choice(self.effects)
+            return f'do {effect}({self._list(scope, depth, [NUMBER] * count)})'
+        functions = [each for each in self.functions[self.first:] if self._fits(scope, each)]
+        handlers = [each for each in self.handlers if self._fits(scope, each)]
+        if functions and handlers and self.is_handling and (not self.doing or self.random.random() < 0.6):
+            function, handler = self.random.choice(functions), self.random.choice(handlers)
+            values, parameters = (self._list(scope, depth, each.types) for each in (function, handler))
+            return f'handle {function.name}({values}) with {handler.name}({parameters})'
+        if functions and self.random.random() < 0.7:
+            function = self.random.choice(functions)
+            return f'{function.name}({self._list(scope, depth, function.types)})'
+        return f'({self._expression(scope, depth)})'
+
+    def _fits(self, scope, declared):
+        """Whether there is a name for each parameter that is a resumption."""
+        return all(type is NUMBER or type in scope.values() for type in declared.types)
+
+    def _resume(self, scope, depth, name):
+        handler = next(each for each in self.handlers if each.name == scope[name])
+        if not self._fits(scope, handler):
+            return '(0)'
+        value = self._expression(scope, depth)
+        return f'resume {name}({value}) with ({self._list(scope, depth, handler.types)})'
+
+    def _list(self, scope, depth, types):
+        return ', '.join(
+            self._expression(scope, depth) if type is NUMBER
+            else self.random.choice([name for name, bound in scope.items() if bound == type]) for type in types)

@@ -1,0 +1,5 @@
+"""How a script ends: with the value of main, or with a fault."""
+
+
+class Fault(Exception):
+    """A fault: divzero, overflow, failed, reused, or unhandled and the name of an effect."""
