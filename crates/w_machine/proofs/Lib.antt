@@ -11,6 +11,7 @@ pub mod NoReferences
 pub mod GoingOn
 pub mod Stopping
 pub mod Machines
+pub mod Hastening
 pub mod FirstStep
 pub mod ShortBodies
 pub mod Telling

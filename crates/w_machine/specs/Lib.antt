@@ -6,3 +6,5 @@ pub mod Beginning
 pub mod Position
 pub mod Reached
 pub mod Results
+pub mod Hastening
+pub mod HasteningOn

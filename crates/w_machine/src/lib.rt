@@ -1,6 +1,7 @@
 //! The machine: a store, and a run of a module that does what the reduction rules say.
 #![tactic(auto)]
 
+mod attempt;
 mod machine;
 mod outcome;
 mod reduction;

@@ -9,10 +9,12 @@ ghost use Rattle.w_stands.specs.Code.{AllShort};
 ghost use Rattle.w_stands.specs.Values.{vals};
 ghost use Rattle.w_machine.specs.Beginning.{Begins, BeginsWith};
 ghost use Rattle.w_machine.specs.Kept.{stopped_at, stopped_in};
+ghost use Rattle.w_machine.specs.HasteningOn.{HastensOn};
 ghost use Rattle.w_machine.specs.Position.{Steps, Tells, ToldBy, Runs, counted, most_reductions};
 ghost use Rattle.w_machine.specs.Results.{HasResults};
 ghost use Rattle.w_machine.specs.Reached.{AreFirst, IsTurned, IsFresh, is_last};
 
+use crate::attempt::hasten;
 use crate::outcome::{Kept, Outcome, Stepped, as_outcome, as_stepped, has_ended};
 use crate::reduction::{outlook, reduce};
 use std::alloc::{AllocError, Global};
@@ -22,6 +24,7 @@ use w_conts::ContStore;
 use w_inst::Instance;
 use w_outside::Sink;
 use w_plain::Program;
+use w_reduce::RunLimit;
 use w_rules::{Checked, Spaces};
 use w_segment::{Segment, Stage};
 use w_switching::Stored;
@@ -195,9 +198,9 @@ impl Machine {
         }
     }
 
-    // Takes one reduction, or keeps what stops it, and says whether it is stopped.
-    #[inline(always)]
-    fn advance<O: Sink>(&mut self, out: &mut O) -> bool
+    // Takes one reduction, whatever it is, or keeps what stops it, and says whether it is stopped.
+    #[inline(never)]
+    fn advance_slowly<O: Sink>(&mut self, out: &mut O) -> bool
         requires { self.old.taken < most_reductions }
         ensures steps { Steps self.old self.new.kept self.new (O.held out.old) (O.held out.new) }
         ensures stops { result ≡ is_some self.new.kept }
@@ -235,6 +238,45 @@ impl Machine {
                 true
             }
             None => unreachable!(),
+        }
+    }
+
+    // Attempts one of the commonest reductions, and says whether it stopped the machine. `None`: none was taken, and the machine is as it was.
+    #[inline(always)]
+    fn hasten(&mut self) -> Option<bool>
+        requires few { self.old.taken < most_reductions }
+        requires none { self.old.kept ≡ None }
+        ensures hastens { HastensOn result self.old self.new }
+    {
+        let program = self.checked.module();
+        let _classes = self.checked.classes();
+        let within = hasten(program, &mut self.store, &mut self.chain, &self.conts)?;
+        self.taken += 1;
+        if within {
+            turn(&mut self.chain, &mut self.waiting);
+            return Some(false);
+        }
+        self.kept = Some(Kept::Limit(RunLimit::Frames));
+        self.made = self.conts.made();
+        self.live = self.conts.live();
+        Some(true)
+    }
+
+    // Takes one reduction, or keeps what stops it, and says whether it is stopped.
+    #[inline(always)]
+    fn advance<O: Sink>(&mut self, out: &mut O) -> bool
+        requires { self.old.taken < most_reductions }
+        ensures steps { Steps self.old self.new.kept self.new (O.held out.old) (O.held out.new) }
+        ensures stops { result ≡ is_some self.new.kept }
+        ensures cause { self.old.kept ≡ None → self.new.kept ≡ Some Kept.WriteFault → Rose (O.faults out.old) (O.faults out.new) }
+        ensures later { O.faults out.old ≤ O.faults out.new }
+    {
+        if self.kept.is_some() {
+            return true;
+        }
+        match self.hasten() {
+            Some(stopped) => stopped,
+            None => self.advance_slowly(out),
         }
     }
 

@@ -34,7 +34,7 @@ use w_syntax::{Instr, Module, Op, PackedInstr, SwitchingOp};
 use w_tables::Store;
 
 /// The most frames of a term.
-const MOST_FRAMES: u64 = 20_000;
+pub(crate) const MOST_FRAMES: u64 = 20_000;
 /// The most handles of a term.
 const MOST_HANDLES: u64 = 1_000;
 /// The most continuations that aren't consumed.

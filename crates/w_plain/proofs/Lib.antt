@@ -2,3 +2,4 @@ mod Steps
 mod Prints
 mod Ends
 mod Applying
+mod Attempting

@@ -3,3 +3,4 @@ pub mod Printing
 pub mod Known
 pub mod Plainness
 pub mod Meets
+pub mod Attempted

@@ -1,6 +1,7 @@
 //! One plain reduction: that of the configuration in which a segment's stack stands, with the store, and what it prints (`specs/`).
 #![tactic(auto)]
 
+mod attempts;
 mod blocks;
 mod calls;
 mod controls;
@@ -13,6 +14,7 @@ mod reduction;
 mod stop;
 mod values;
 
+pub use attempts::attempt;
 pub use instructions::instr_at;
 pub use program::Program;
 pub use reduction::plain;

@@ -1,4 +1,4 @@
-use Rattle.std.proofs.Common.{◌≡◌, Bool, true, false, Some, subst}
+use Rattle.std.proofs.Common.{◌≡◌, true, false, Some, subst}
 use Rattle.w_syntax.specs.Packed.{unpacked}
 use Rattle.w_syntax.specs.declared.packed.PackedInstr.{PackedInstr}
 use Rattle.w_plain.specs.Plainness.{switches_at}

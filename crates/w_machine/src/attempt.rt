@@ -1,0 +1,39 @@
+//! Attempts at the commonest reductions, before any other is looked at.
+ghost use Rattle.w_rules.specs.Valid.{Valid};
+ghost use Rattle.w_machine.specs.Parts.{parts};
+ghost use Rattle.w_machine.specs.Standing.{StandsSomewhere};
+ghost use Rattle.w_machine.specs.Hastening.{Hastens};
+
+use crate::reduction::MOST_FRAMES;
+use w_chain::Chain;
+use w_conts::ContStore;
+use w_plain::{attempt, instr_at};
+use w_segment::Stage;
+use w_switching::Stored;
+use w_syntax::Module;
+use w_tables::Store;
+
+/// Attempts one reduction in the body where the innermost segment stands, and says whether its result is within the limits. `None`: none
+/// was taken, and all is as it was but for room.
+#[inline(always)]
+pub(crate) fn hasten(
+    program: &Module,
+    store: &mut Store,
+    chain: &mut Chain,
+    conts: &ContStore<Stored>,
+) -> Option<bool>
+    requires valid { Valid program.now }
+    requires stands { StandsSomewhere program.now (parts store.old chain.old conts.now) }
+    ensures { Hastens result program.now (parts store.old chain.old conts.now) (parts store.new chain.new conts.now) }
+{
+    let _conts = conts;
+    let stack = chain.stack();
+    let Stage::Body = stack.stage() else {
+        return None;
+    };
+    let found = instr_at(program, stack.func(), stack.place());
+    if !attempt(program, store, chain.stack_mut(), found) {
+        return None;
+    }
+    Some(chain.frames() <= MOST_FRAMES)
+}
