@@ -1,5 +1,5 @@
 //! Decoding a module.
-ghost use Rattle.std.specs.Prelude.{◌≡◌, ◌≢◌, IfOk, IfErr, Ok, Err, Some, None, IsTrue, IsFalse, drop, List, ℕ};
+ghost use Rattle.std.specs.Prelude.{◌≡◌, ◌≢◌, IfOk, OnOk, IfErr, Ok, Err, Some, None, IsTrue, IsFalse, drop, List, ℕ};
 ghost use Rattle.w_syntax.specs.Module.{header};
 ghost use Rattle.w_syntax.specs.Spells.{Spells};
 ghost use Rattle.w_syntax.specs.declared.module.Module.{Module as TheModule};
@@ -36,13 +36,12 @@ fn nothing(alloc: Global) -> PartialModule
 }
 
 // Reads section after section, as the sections of a module stand one behind the other.
-fn decode_exactly(alloc: Global, bytes: &[u8]) -> Result<Module, DecodeFault>
-    ensures { Gives result (decoded bytes.now) }
+fn read_sections(alloc: Global, bytes: &[u8], so_far: &mut PartialModule) -> Result<(), DecodeFault>
+    requires header { behind header bytes.now ≡ Some (drop 8 bytes.now) }
+    requires none { so_far.old ≡ no_sections }
+    ensures ok { OnOk result (decoded bytes.now ≡ Ok so_far.new.tree) }
+    ensures err { IfErr result (λ e. Gives (Err e) (decoded bytes.now)) }
 {
-    if !has_header(bytes) {
-        return Err(DecodeFault::Header);
-    }
-    let mut so_far = nothing(alloc);
     let mut place = 8;
     let mut last = 0;
     let mut number = 0;
@@ -59,19 +58,29 @@ fn decode_exactly(alloc: Global, bytes: &[u8]) -> Result<Module, DecodeFault>
         let Some(part) = section_at(alloc, id, &bytes[start..end])? else {
             return Err(DecodeFault::Content(number));
         };
-        add_section(&mut so_far, part);
+        add_section(so_far, part);
         place = end;
         last = rank;
         number += 1;
     }
-    if !counts_agree(&so_far) {
+    if !counts_agree(so_far) {
         return Err(DecodeFault::Counts);
     }
-    let PartialModule {
-        tree,
-        data_count: _,
-    } = so_far;
-    Ok(tree)
+    Ok(())
+}
+
+// Decodes the bytes behind the header. What was read so far is let go here alone.
+fn decode_exactly(alloc: Global, bytes: &[u8]) -> Result<Module, DecodeFault>
+    ensures { Gives result (decoded bytes.now) }
+{
+    if !has_header(bytes) {
+        return Err(DecodeFault::Header);
+    }
+    let mut so_far = nothing(alloc);
+    match read_sections(alloc, bytes, &mut so_far) {
+        Ok(()) => Ok(so_far.tree),
+        Err(fault) => Err(fault),
+    }
 }
 
 /// The module that the bytes spell, or the first fault that they have (Core, binary format, modules). `Header`: they do not

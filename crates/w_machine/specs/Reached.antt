@@ -13,6 +13,7 @@ use Rattle.w_reduce.specs.Terms.{Term, Kept as TheKept}
 use Rattle.w_reduce.specs.Program.{Program}
 use Rattle.w_reduce.specs.Run.{Outcome, Values, RunState, state_at, Run}
 use Rattle.w_reduce.specs.Start.{Start, Ready}
+use Rattle.w_stands.specs.Code.{AllShort}
 use Rattle.w_stands.specs.Values.{stack}
 use Rattle.w_machine.specs.declared.outcome.Kept.{Kept}
 use Rattle.w_machine.specs.declared.outcome.Kept.TheVariants as kept
@@ -54,6 +55,14 @@ IsTurned (Some b) chain after = after ≡ b.value
 abbrev pub AreFirst : Option ℕ → ℕ → Box Segment Global → Option (Box Segment Global) → Type 0
 AreFirst None main segment waiting = IsNew main 0 segment.value × (waiting ≡ None)
 AreFirst (Some f) main segment waiting = IsNew f 0 segment.value × ((b : Box Segment Global) × (waiting ≡ Some b) × IsNew main 0 b.value)
+
+-- what a machine of a module begins with: the types of its functions, one segment that runs, and the one that waits for it
+pub record IsBeginning (m : Module) (main : ℕ) (functions : List ℕ) (chain : List Link) (waiting : Option (Box Segment Global)) : Type 0 where
+  pub short : AllShort m
+  pub functions_are : functions ≡ functions_of m
+  pub segment : Box Segment Global
+  pub first : AreFirst m.start main segment waiting
+  pub chain_is : chain ≡ top segment.value ∷ []
 
 -- ## The run
 

@@ -5,6 +5,7 @@ ghost use Rattle.w_reduce.specs.Store.{Store as TheStore, made, live, consumed};
 ghost use Rattle.w_reduce.specs.Terms.{Term};
 ghost use Rattle.w_reduce.specs.Program.{Program as TheProgram};
 ghost use Rattle.w_reduce.specs.Run.{Run};
+ghost use Rattle.w_rules.specs.Spaces.{functions_of};
 ghost use Rattle.w_stands.specs.Code.{AllShort};
 ghost use Rattle.w_stands.specs.Values.{vals};
 ghost use Rattle.w_machine.specs.Beginning.{Begins, BeginsWith};
@@ -12,7 +13,7 @@ ghost use Rattle.w_machine.specs.Kept.{stopped_at, stopped_in};
 ghost use Rattle.w_machine.specs.HasteningOn.{HastensOn};
 ghost use Rattle.w_machine.specs.Position.{Steps, Tells, ToldBy, Runs, counted, most_reductions};
 ghost use Rattle.w_machine.specs.Results.{HasResults};
-ghost use Rattle.w_machine.specs.Reached.{AreFirst, IsTurned, IsFresh, is_last};
+ghost use Rattle.w_machine.specs.Reached.{AreFirst, IsBeginning, IsTurned, IsFresh, is_last};
 
 use crate::attempt::hasten;
 use crate::outcome::{Kept, Outcome, Stepped, as_outcome, as_stepped, has_ended};
@@ -93,6 +94,39 @@ fn first_segments(
     }
 }
 
+// What a machine begins with, beside its module and its store.
+#[derive(Drop)]
+struct Beginning {
+    functions: Vec<u32>,
+    chain: Chain,
+    waiting: Option<Box<Segment>>,
+}
+
+// The index of each function's type, imported functions in front. It fails only for want of memory.
+fn function_types(alloc: Global, program: &Module) -> Result<Vec<u32>, AllocError>
+    ensures { IfOk result (λ functions. functions.items ≡ functions_of program.now) }
+{
+    Ok(Spaces::of_module(alloc, program)?.functions)
+}
+
+// The beginning of a module whose bodies are short.
+fn first_parts(alloc: Global, program: &Module, main: u32) -> Result<Beginning, AllocError>
+    ensures { IfOk result (λ b. IsBeginning program.now main b.functions.items b.chain b.waiting) }
+{
+    if !are_short(program) {
+        return Err(AllocError);
+    }
+    let (segment, waiting) = first_segments(alloc, program.start, main)?;
+    let functions = function_types(alloc, program)?;
+    let mut chain = Chain::new();
+    chain.push(segment);
+    Ok(Beginning {
+        functions,
+        chain,
+        waiting,
+    })
+}
+
 // Where the last segment is left, the one that waits runs next.
 #[inline(always)]
 fn turn(chain: &mut Chain, waiting: &mut Option<Box<Segment>>)
@@ -130,27 +164,26 @@ impl Machine {
     {
         let module = checked.module();
         let _classes = checked.classes();
-        if !are_short(module) {
-            return Err(AllocError);
+        match first_parts(alloc, module, instance.main) {
+            Ok(beginning) => Ok(Machine {
+                alloc,
+                checked,
+                functions: beginning.functions,
+                store: instance.store,
+                chain: beginning.chain,
+                conts: ContStore::new(alloc),
+                waiting: beginning.waiting,
+                taken: 0,
+                kept: None,
+                made: 0,
+                live: 0,
+            }),
+            Err(error) => {
+                drop(checked);
+                drop(instance);
+                Err(error)
+            }
         }
-        let functions = Spaces::of_module(alloc, module)?.functions;
-        let (segment, waiting) = first_segments(alloc, module.start, instance.main)?;
-        let mut chain = Chain::new();
-        chain.push(segment);
-        let conts = ContStore::new(alloc);
-        Ok(Machine {
-            alloc,
-            checked,
-            functions,
-            store: instance.store,
-            chain,
-            conts,
-            waiting,
-            taken: 0,
-            kept: None,
-            made: 0,
-            live: 0,
-        })
     }
 
     /// How many reductions were taken.

@@ -4,3 +4,4 @@ pub mod Known
 pub mod Plainness
 pub mod Meets
 pub mod Attempted
+pub mod Commonness

@@ -12,19 +12,15 @@ ghost use Rattle.w_plain.specs.Meets.{Applies};
 ghost use Rattle.w_plain.specs.Plainness.{switches_at};
 ghost use Rattle.w_plain.specs.Attempted.{has_gone, Attempted};
 
-use crate::blocks::{enter_block, enter_choice};
-use crate::exits::{leave_else, leave_end};
-use crate::families::{in_memory, number, parametric};
-use crate::values::variable;
+use crate::common::common;
+use crate::controls::branching;
+use crate::exits::leave_end;
 use std::alloc::AllocError;
 use w_call_ops::call_own;
-use w_control_ops::{br, br_if, br_table, return_};
+use w_control_ops::br_table;
 use w_segment::Stack;
 use w_stands::Did;
-use w_syntax::{
-    ControlOp, Instr, MemArg, MemoryOp, Module, NumericOp, Op, PackedInstr, ParametricOp,
-    ShortControlOp,
-};
+use w_syntax::{ControlOp, Instr, Module, Op, PackedInstr, ShortControlOp};
 use w_tables::{FuncEntry, Store};
 
 // Whether a call took its reduction, and that is no trap.
@@ -55,7 +51,7 @@ fn call(program: &Module, store: &mut Store, stack: &mut Stack, address: u32) ->
 
 // A control instruction that holds no list.
 #[inline(always)]
-#[tactic(auto, using(crate::proofs::Steps::alone, crate::proofs::Attempting::attempted_alone, crate::proofs::Attempting::nothing_attempted))]
+#[tactic(auto, using(crate::proofs::Steps::alone, crate::proofs::Attempting::nothing_attempted))]
 fn control(
     program: &Module,
     store: &mut Store,
@@ -66,20 +62,10 @@ fn control(
     ensures step { Attempted result program.now store.old stack.old store.new stack.new }
 {
     match operation {
-        ShortControlOp::Br(label) => {
-            br(program, stack, label);
-            true
-        }
-        ShortControlOp::BrIf(label) => {
-            br_if(program, stack, label);
-            true
-        }
-        ShortControlOp::Return => {
-            return_(program, stack);
-            true
-        }
         ShortControlOp::Call(function) => call(program, store, stack, function),
-        _ => false,
+        ShortControlOp::CallIndirect(_, _) => false,
+        ShortControlOp::CallRef(_) => false,
+        _ => has_gone(Ok(branching(program, stack, operation))),
     }
 }
 
@@ -101,7 +87,7 @@ fn boxed(program: &Module, store: &mut Store, stack: &mut Stack, instr: &Instr) 
 
 // Attempts the reduction at an instruction.
 #[inline(always)]
-#[tactic(auto, using(crate::proofs::Attempting::attempted_step, crate::proofs::Ends::end_meets))]
+#[tactic(auto, using(crate::proofs::Attempting::attempted_step, crate::proofs::Attempting::nothing_attempted))]
 fn at_instruction(
     program: &Module,
     store: &mut Store,
@@ -115,63 +101,12 @@ fn at_instruction(
 {
     match packed {
         PackedInstr::Control(operation) => control(program, store, stack, *operation),
-        PackedInstr::Variable(operation) => {
-            has_gone(variable(program, store, stack, *operation))
-        }
-        PackedInstr::Drop => {
-            has_gone(Ok(parametric(program, store, stack, &ParametricOp::Drop)))
-        }
-        PackedInstr::Select => {
-            has_gone(Ok(parametric(program, store, stack, &ParametricOp::Select)))
-        }
-        PackedInstr::Load(operation, align, offset) => {
-            let (align, offset) = (*align, *offset);
-            let operation = MemoryOp::Load(*operation, MemArg { align, offset });
-            has_gone(in_memory(program, store, stack, operation))
-        }
-        PackedInstr::Store(operation, align, offset) => {
-            let (align, offset) = (*align, *offset);
-            let operation = MemoryOp::Store(*operation, MemArg { align, offset });
-            has_gone(in_memory(program, store, stack, operation))
-        }
-        PackedInstr::I32Const(value) => {
-            has_gone(number(program, store, stack, NumericOp::I32Const(*value)))
-        }
-        PackedInstr::I64Const(value) => {
-            has_gone(number(program, store, stack, NumericOp::I64Const(*value)))
-        }
-        PackedInstr::Eqz(kind) => has_gone(number(program, store, stack, NumericOp::Eqz(*kind))),
-        PackedInstr::Compare(kind, operation) => {
-            let operation = NumericOp::Compare(*kind, *operation);
-            has_gone(number(program, store, stack, operation))
-        }
-        PackedInstr::Unary(kind, operation) => {
-            let operation = NumericOp::Unary(*kind, *operation);
-            has_gone(number(program, store, stack, operation))
-        }
-        PackedInstr::Binary(kind, operation) => {
-            let operation = NumericOp::Binary(*kind, *operation);
-            has_gone(number(program, store, stack, operation))
-        }
-        PackedInstr::Convert(operation) => {
-            has_gone(number(program, store, stack, NumericOp::Convert(*operation)))
-        }
-        PackedInstr::Block(kind, block_type, end) => {
-            let block_type = block_type.whole();
-            has_gone(enter_block(program, store, stack, *kind, block_type, *end))
-        }
-        PackedInstr::If(block_type, end) => {
-            let block_type = block_type.whole();
-            has_gone(enter_choice(program, store, stack, block_type, None, *end))
-        }
-        PackedInstr::IfElse(block_type, otherwise, end) => {
-            let (block_type, otherwise) = (block_type.whole(), Some(*otherwise));
-            has_gone(enter_choice(program, store, stack, block_type, otherwise, *end))
-        }
-        PackedInstr::Else => has_gone(Ok(leave_else(program, store, stack))),
-        PackedInstr::End => has_gone(Ok(leave_end(program, store, stack))),
         PackedInstr::Boxed(instr) => boxed(program, store, stack, instr),
-        _ => false,
+        PackedInstr::Table(_) => false,
+        PackedInstr::Memory(_) => false,
+        PackedInstr::Reference(_) => false,
+        PackedInstr::Switching(_) => false,
+        _ => has_gone(common(program, store, stack, packed)),
     }
 }
 

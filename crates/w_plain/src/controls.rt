@@ -1,10 +1,12 @@
 //! Control instructions that hold no others.
-ghost use Rattle.std.specs.Prelude.{◌≡◌, ◌≤◌, Err};
+ghost use Rattle.std.specs.Prelude.{◌≡◌, ◌≤◌, false, Err};
 ghost use Rattle.w_syntax.specs.declared.instructions.Instr.TheVariants as flat;
 ghost use Rattle.w_syntax.specs.declared.instructions.Op.TheVariants as op;
 ghost use Rattle.w_syntax.specs.Packed.{control_of};
 ghost use Rattle.w_outside.specs.Outside.{Rose};
-ghost use Rattle.w_stands.specs.Steps.{MovesAt};
+ghost use Rattle.w_stands.specs.Keeps.{Keeps};
+ghost use Rattle.w_stands.specs.Steps.{MovesAt, MovesAlone, FollowsAlone};
+ghost use Rattle.w_plain.specs.Commonness.{is_call};
 ghost use Rattle.w_plain.specs.Known.{IsKnown};
 ghost use Rattle.w_plain.specs.Printing.{Printed};
 
@@ -16,8 +18,29 @@ use w_control_ops::{br, br_if, br_on_non_null, br_on_null, nop, return_, unreach
 use w_outside::Sink;
 use w_segment::Stack;
 use w_stands::Did;
-use w_syntax::ShortControlOp;
+use w_syntax::{Module, ShortControlOp};
 use w_tables::Store;
+
+/// A control instruction that calls no function, and so looks at the stack alone.
+#[inline(always)]
+pub(crate) fn branching(program: &Module, stack: &mut Stack, operation: ShortControlOp) -> Did
+    requires calls { is_call operation ≡ false }
+    requires moves { MovesAlone (flat.Plain (op.Control (control_of operation))) program.now stack.old }
+    ensures goes { FollowsAlone result program.now stack.old stack.new }
+    ensures keeps { Keeps stack.old stack.new }
+{
+    match operation {
+        ShortControlOp::Unreachable => return unreachable(program, stack),
+        ShortControlOp::Nop => nop(program, stack),
+        ShortControlOp::Br(label) => br(program, stack, label),
+        ShortControlOp::BrIf(label) => br_if(program, stack, label),
+        ShortControlOp::Return => return_(program, stack),
+        ShortControlOp::BrOnNull(label) => br_on_null(program, stack, label),
+        ShortControlOp::BrOnNonNull(label) => br_on_non_null(program, stack, label),
+        _ => unreachable!(),
+    }
+    Did::Went
+}
 
 /// A control instruction that holds no list.
 #[inline(always)]
@@ -37,31 +60,6 @@ pub(crate) fn control<O: Sink>(
 {
     let source = program.source;
     match operation {
-        ShortControlOp::Unreachable => Ok(unreachable(source, stack)),
-        ShortControlOp::Nop => {
-            nop(source, stack);
-            Ok(Did::Went)
-        }
-        ShortControlOp::Br(label) => {
-            br(source, stack, label);
-            Ok(Did::Went)
-        }
-        ShortControlOp::BrIf(label) => {
-            br_if(source, stack, label);
-            Ok(Did::Went)
-        }
-        ShortControlOp::Return => {
-            return_(source, stack);
-            Ok(Did::Went)
-        }
-        ShortControlOp::BrOnNull(label) => {
-            br_on_null(source, stack, label);
-            Ok(Did::Went)
-        }
-        ShortControlOp::BrOnNonNull(label) => {
-            br_on_non_null(source, stack, label);
-            Ok(Did::Went)
-        }
         ShortControlOp::Call(function) => call(source, store, stack, out, function, 0),
         ShortControlOp::CallIndirect(kind, table) => {
             match callee_by_table(
@@ -81,5 +79,6 @@ pub(crate) fn control<O: Sink>(
             Ok(address) => call(source, store, stack, out, address, 1),
             Err(trap) => Ok(Did::Trapped(trap)),
         },
+        _ => Ok(branching(source, stack, operation)),
     }
 }

@@ -4,13 +4,16 @@
 mod attempts;
 mod blocks;
 mod calls;
+mod common;
 mod controls;
 mod exits;
 mod families;
 mod instructions;
 mod packed_steps;
 mod program;
+mod rare;
 mod reduction;
+mod silent;
 mod stop;
 mod values;
 

@@ -1,6 +1,6 @@
 use Rattle.std.proofs.Common.{◌≡◌, ◌-◌, ◌≤◌, drop, length}
 use Rattle.w_decode.specs.Reading.{read_sections, decoded}
-use Rattle.w_decode.proofs.decoding.decode_exactly.Given as goal
+use Rattle.w_decode.proofs.decoding.read_sections.Given as goal
 
 abbrev pub invariant-loop-place : goal.invariant-loop-place
 invariant-loop-place l = record {

@@ -1,0 +1,92 @@
+//! Instructions that stand in a box and print nothing.
+ghost use Rattle.std.specs.Prelude.{◌≡◌, ◌≤◌, true, length};
+ghost use Rattle.w_syntax.specs.declared.instructions.Instr.TheVariants as flat;
+ghost use Rattle.w_stands.specs.Steps.{MovesAt};
+ghost use Rattle.w_plain.specs.Commonness.{is_silent};
+ghost use Rattle.w_plain.specs.Stepped.{Stepped};
+
+use crate::blocks::{enter_block, enter_choice};
+use crate::exits::{leave_else, leave_end};
+use crate::families::{in_memory, in_table, number, parametric};
+use crate::values::{reference, variable};
+use std::alloc::AllocError;
+use w_segment::Stack;
+use w_stands::Did;
+use w_syntax::{BlockType, Instr, Module, Op};
+use w_tables::Store;
+
+// An instruction that holds no others.
+fn silent_op(
+    program: &Module,
+    store: &mut Store,
+    stack: &mut Stack,
+    operation: &Op,
+) -> Result<Did, AllocError>
+    requires silent { is_silent (flat.Plain operation.now) ≡ true }
+    requires moves { MovesAt (flat.Plain operation.now) program.now store.old stack.old }
+    requires one { length store.old.memories ≤ 1 }
+    ensures step { Stepped result program.now store.old stack.old store.new stack.new }
+{
+    match operation {
+        Op::Parametric(operation) => Ok(parametric(program, store, stack, operation)),
+        Op::Variable(operation) => variable(program, store, stack, *operation),
+        Op::Table(operation) => in_table(program, store, stack, *operation),
+        Op::Memory(operation) => in_memory(program, store, stack, *operation),
+        Op::Numeric(operation) => number(program, store, stack, *operation),
+        Op::Reference(operation) => reference(program, store, stack, *operation),
+        _ => unreachable!(),
+    }
+}
+
+// An if, by the places of its else, where it has one, and of its end. It fails where a place is no number of 32 bits, as when out of memory.
+fn silent_if(
+    program: &Module,
+    store: &mut Store,
+    stack: &mut Stack,
+    block_type: BlockType,
+    otherwise: Option<usize>,
+    end: usize,
+) -> Result<Did, AllocError>
+    requires moves { MovesAt (flat.If block_type otherwise end) program.now store.old stack.old }
+    ensures step { Stepped result program.now store.old stack.old store.new stack.new }
+{
+    let Ok(end) = u32::try_from(end) else {
+        return Err(AllocError);
+    };
+    match otherwise {
+        None => enter_choice(program, store, stack, block_type, None, end),
+        Some(otherwise) => match u32::try_from(otherwise) {
+            Ok(otherwise) => {
+                enter_choice(program, store, stack, block_type, Some(otherwise), end)
+            }
+            Err(_) => Err(AllocError),
+        },
+    }
+}
+
+/// One reduction at such an instruction. It fails only when out of memory, and then all is as it was but for room.
+#[tactic(auto, using(crate::proofs::Ends::end_meets))]
+pub(crate) fn silent(
+    program: &Module,
+    store: &mut Store,
+    stack: &mut Stack,
+    instr: &Instr,
+) -> Result<Did, AllocError>
+    requires silent { is_silent instr.now ≡ true }
+    requires moves { MovesAt instr.now program.now store.old stack.old }
+    requires one { length store.old.memories ≤ 1 }
+    ensures step { Stepped result program.now store.old stack.old store.new stack.new }
+{
+    match instr {
+        Instr::Plain(operation) => silent_op(program, store, stack, operation),
+        Instr::Block(kind, block_type, end) => match u32::try_from(*end) {
+            Ok(end) => enter_block(program, store, stack, *kind, *block_type, end),
+            Err(_) => Err(AllocError),
+        },
+        Instr::If(block_type, otherwise, end) => {
+            silent_if(program, store, stack, *block_type, *otherwise, *end)
+        }
+        Instr::Else => Ok(leave_else(program, store, stack)),
+        Instr::End => Ok(leave_end(program, store, stack)),
+    }
+}
