@@ -40,27 +40,19 @@ pub(crate) fn section_at(
 {
     match id {
         0x00 => Ok(custom(contents)),
-        0x01 => Ok(whole_of::<RecGroupsField>(alloc, contents)?.map(|types| Section::Types(types))),
-        0x02 => Ok(list_of::<ImportField>(alloc, contents)?.map(|imports| Section::Imports(
-            imports,
-        ))),
-        0x03 => Ok(list_of::<IndexField>(alloc, contents)?.map(|types| Section::Functions(types))),
-        0x04 => Ok(list_of::<TableField>(alloc, contents)?.map(|tables| Section::Tables(tables))),
-        0x05 => Ok(list_of::<LimitsField>(alloc, contents)?.map(|limits| Section::Memories(
-            limits,
-        ))),
-        0x0D => Ok(list_of::<TagField>(alloc, contents)?.map(|tags| Section::Tags(tags))),
-        0x06 => Ok(list_of::<GlobalField>(alloc, contents)?.map(|globals| Section::Globals(
-            globals,
-        ))),
-        0x07 => Ok(list_of::<ExportField>(alloc, contents)?.map(|exports| Section::Exports(
-            exports,
-        ))),
-        0x08 => Ok(whole_of::<IndexField>(alloc, contents)?.map(|start| Section::Start(start))),
-        0x09 => Ok(list_of::<ElemField>(alloc, contents)?.map(|elems| Section::Elements(elems))),
-        0x0C => Ok(whole_of::<IndexField>(alloc, contents)?.map(|count| Section::DataCount(count))),
-        0x0A => Ok(list_of::<FuncField>(alloc, contents)?.map(|codes| Section::Codes(codes))),
-        0x0B => Ok(list_of::<DataField>(alloc, contents)?.map(|datas| Section::Datas(datas))),
+        0x01 => Ok(whole_of::<RecGroupsField>(alloc, contents)?.map(Section::Types)),
+        0x02 => Ok(list_of::<ImportField>(alloc, contents)?.map(Section::Imports)),
+        0x03 => Ok(list_of::<IndexField>(alloc, contents)?.map(Section::Functions)),
+        0x04 => Ok(list_of::<TableField>(alloc, contents)?.map(Section::Tables)),
+        0x05 => Ok(list_of::<LimitsField>(alloc, contents)?.map(Section::Memories)),
+        0x0D => Ok(list_of::<TagField>(alloc, contents)?.map(Section::Tags)),
+        0x06 => Ok(list_of::<GlobalField>(alloc, contents)?.map(Section::Globals)),
+        0x07 => Ok(list_of::<ExportField>(alloc, contents)?.map(Section::Exports)),
+        0x08 => Ok(whole_of::<IndexField>(alloc, contents)?.map(Section::Start)),
+        0x09 => Ok(list_of::<ElemField>(alloc, contents)?.map(Section::Elements)),
+        0x0C => Ok(whole_of::<IndexField>(alloc, contents)?.map(Section::DataCount)),
+        0x0A => Ok(list_of::<FuncField>(alloc, contents)?.map(Section::Codes)),
+        0x0B => Ok(list_of::<DataField>(alloc, contents)?.map(Section::Datas)),
         _ => Ok(None),
     }
 }
