@@ -1,7 +1,13 @@
 -- Attempts at reductions, by what the calls that take them came to.
-use Rattle.std.proofs.Common.{◌≡◌, true, false, Some, None, Result, Ok, Err, refl, sym, ap, ◌∙◌}
+use Rattle.std.proofs.Common.{◌≡◌, true, false, List, Some, None, Result, Ok, Err, refl, sym, ap, ◌∙◌}
 use Rattle.std.specs.declared.alloc.AllocError.{AllocError}
+use Rattle.w_syntax.specs.declared.instructions.Op.TheVariants as op
 use Rattle.w_syntax.specs.declared.instructions.Instr.{Instr}
+use Rattle.w_syntax.specs.declared.instructions.Instr.TheVariants as flat
+use Rattle.w_syntax.specs.declared.packed.PackedInstr.{PackedInstr}
+use Rattle.w_syntax.specs.declared.packed.PackedInstr.TheVariants as packed
+use Rattle.w_syntax.specs.Packed.{unpacked}
+use Rattle.w_tables.specs.declared.entries.FuncEntry.{FuncEntry}
 use Rattle.w_syntax.specs.declared.module.Module.{Module}
 use Rattle.w_segment.specs.Shape.{Shape}
 use Rattle.w_tables.specs.Store as instances
@@ -10,7 +16,9 @@ use Rattle.w_stands.specs.declared.did.Did.TheVariants as did
 use Rattle.w_stands.specs.Keeps.{Keeps}
 use Rattle.w_stands.specs.Steps.{FollowsAlone}
 use Rattle.w_plain.specs.Stepped.{Stepped}
-use Rattle.w_plain.specs.Attempted.{has_gone, Attempted}
+use Rattle.w_plain.specs.declared.progress.Progress.{Progress}
+use Rattle.w_plain.specs.declared.progress.Progress.TheVariants as progress
+use Rattle.w_plain.specs.Attempted.{attempt_of, Attempted, was_made, is_own, is_branch_table, is_attempted, is_attempted_at}
 use Rattle.w_plain.proofs.Prints.{same_parts}
 use Rattle.w_plain.proofs.Steps.{takes_alone}
 use Rattle.w_segment.specs.declared.entry.Stage.TheVariants.{Body}
@@ -22,18 +30,44 @@ use Rattle.w_plain.specs.Meets.{Meets, Applies}
 use Rattle.w_plain.proofs.Applying.{at_instruction, behind_all}
 
 -- a call that may fail for want of memory
-pub attempted_step : (r : Result Did AllocError) (m : Module) (u u' : instances.Store) (s s' : Shape) → Stepped r m u s u' s' → Attempted (has_gone r) m u s u' s'
+pub attempted_step : (r : Result Did AllocError) (m : Module) (u u' : instances.Store) (s s' : Shape) → Stepped r m u s u' s' → Attempted (attempt_of r) m u s u' s'
 attempted_step (Ok did.Went) m u u' s s' h = h
-attempted_step (Ok (did.Trapped t)) m u u' s s' h = (h.goes.2, same_parts s s' h.goes.3)
+attempted_step (Ok (did.Trapped t)) m u u' s s' h = (h.goes.2, same_parts s s' h.goes.3, (t, (h.goes.0, h.goes.1, refl, refl)))
 attempted_step (Err e) m u u' s s' h = h
 
 -- one on the stack alone that can't
-pub attempted_alone : (m : Module) (u : instances.Store) (s s' : Shape) → FollowsAlone did.Went m s s' → Keeps s s' → Attempted true m u s u s'
+pub attempted_alone : (m : Module) (u : instances.Store) (s s' : Shape) → FollowsAlone did.Went m s s' → Keeps s s' → Attempted progress.Went m u s u s'
 attempted_alone m u s s' g k = takes_alone did.Went m u s s' g k
 
 -- none was taken
-pub nothing_attempted : (m : Module) (u : instances.Store) (s : Shape) → Attempted false m u s u s
+pub nothing_attempted : (m : Module) (u : instances.Store) (s : Shape) → Attempted progress.Rare m u s u s
 nothing_attempted m u s = (refl, same_parts s s refl)
+
+-- what came of a call was attempted
+pub made : (r : Result Did AllocError) → was_made (attempt_of r) ≡ true
+made (Ok did.Went) = refl
+made (Ok (did.Trapped t)) = refl
+made (Err e) = refl
+
+-- what is attempted switches no stacks
+table_plain : (i : Instr) → is_branch_table i ≡ true → switches_at (Some i) ≡ false
+table_plain (flat.Plain (op.Control o)) h = refl
+table_plain (flat.Plain (op.Parametric o)) h = refl
+table_plain (flat.Plain (op.Variable o)) h = refl
+table_plain (flat.Plain (op.Table o)) h = refl
+table_plain (flat.Plain (op.Memory o)) h = refl
+table_plain (flat.Plain (op.Numeric o)) h = refl
+table_plain (flat.Plain (op.Reference o)) h = refl
+table_plain (flat.Plain (op.Switching o)) h = absurd (cc)
+table_plain (flat.Block k b z) h = refl
+table_plain (flat.If b y z) h = refl
+table_plain flat.Else h = refl
+table_plain flat.End h = refl
+
+pub attempted_plain : (fs : List FuncEntry) (p : PackedInstr) → is_attempted fs p ≡ true → switches_at (Some (unpacked p)) ≡ false
+attempted_plain fs (packed.Switching o) h = absurd (cc)
+attempted_plain fs (packed.Boxed i) h = table_plain i.value h
+attempted_plain fs p h = refl
 
 -- ## By what stands at the place
 

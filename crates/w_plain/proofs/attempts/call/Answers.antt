@@ -10,11 +10,9 @@ function-requires c = record {
       callee_there c.args.address 0 c.args.program.now c.args.store.now c.args.stack.now (call_calls c.args.program.now c.args.store.now c.args.stack.now c.args.address c.requires.moves);
 }
 
-pub returns-in-Ok : goal.returns-in-Ok
-returns-in-Ok c = record {
-  step =
-      takes_stack did.Went c.args.program.now [] c.args.store.now c.args.stack.now c.call_own.new.stack c.in-Ok.ensures.goes c.in-Ok.ensures.keeps;
-}
+pub returns-in-Ok-clause-step : goal.returns-in-Ok-clause-step
+returns-in-Ok-clause-step c =
+    takes_stack did.Went c.args.program.now [] c.args.store.now c.args.stack.now c.call_own.new.stack c.in-Ok.ensures.goes c.in-Ok.ensures.keeps
 
-pub returns-in-Err : goal.returns-in-Err
-returns-in-Err c = record { step = (refl, c.in-Err.ensures.err) }
+pub returns-in-Err-clause-step : goal.returns-in-Err-clause-step
+returns-in-Err-clause-step c = (refl, c.in-Err.ensures.err)

@@ -1,0 +1,14 @@
+//! What attempts come to.
+
+/// What an attempt at a reduction comes to.
+#[derive(Clone, Copy)]
+pub enum Progress {
+    /// It was taken.
+    Went,
+    /// It traps, and was not taken.
+    Trapped,
+    /// None was attempted: what is there is rarer.
+    Rare,
+    /// Memory ran out, and it was not taken.
+    OutOfMemory,
+}
