@@ -7,7 +7,7 @@ ghost use Rattle.w_machine.specs.Hastening.{Hastens};
 use crate::reduction::MOST_FRAMES;
 use w_chain::Chain;
 use w_conts::ContStore;
-use w_plain::{attempt, instr_at};
+use w_plain::{Progress, attempt, instr_at};
 use w_segment::Stage;
 use w_switching::Stored;
 use w_syntax::Module;
@@ -32,8 +32,8 @@ pub(crate) fn hasten(
         return None;
     };
     let found = instr_at(program, stack.func(), stack.place());
-    if !attempt(program, store, chain.stack_mut(), found) {
-        return None;
+    match attempt(program, store, chain.stack_mut(), found) {
+        Progress::Went => Some(chain.frames() <= MOST_FRAMES),
+        Progress::Trapped | Progress::Rare | Progress::OutOfMemory => None,
     }
-    Some(chain.frames() <= MOST_FRAMES)
 }

@@ -29,10 +29,10 @@ attempt-requires-clause-found c =
 pub attempt-requires-clause-one : goal.attempt-requires-clause-one
 attempt-requires-clause-one c = memory_there c.requires.valid c.requires.stands
 
-pub returns : goal.returns
-returns c =
+pub returns-in-Went : goal.returns-in-Went
+returns-in-Went c =
     let body = ap (λ (s : Shape). s.stage) (sym c.stack-stack.ensures.value) ∙ sym c.stage.ensures.value ∙ c.in-Body.is in
     hastened c.requires.valid body
-    (subst (λ (s : Shape). switches_at (instr_of c.args.program.now s.func s.place) ≡ false) c.stack_mut.ensures.value (c.attempt.ensures.plain c.if-not-attempt.false))
+    (subst (λ (s : Shape). switches_at (instr_of c.args.program.now s.func s.place) ≡ false) c.stack_mut.ensures.value (c.in-Went.ensures.plain refl))
     c.attempt.new.store c.attempt.new.stack _ c.frames.result _ refl c.frames.ensures.count refl
-    (subst (λ (s : Shape). Takes did.Went c.args.program.now [] c.args.store.now s c.attempt.new.store c.attempt.new.stack) c.stack_mut.ensures.value c.if-not-attempt.ensures.step)
+    (subst (λ (s : Shape). Takes did.Went c.args.program.now [] c.args.store.now s c.attempt.new.store c.attempt.new.stack) c.stack_mut.ensures.value c.in-Went.ensures.step)
