@@ -1,6 +1,13 @@
 -- Names put behind others, one by one.
 use Rattle.std.proofs.Common.{◌≡◌, ℕ, ◌+◌, ◌<◌, List, [], ◌∷◌, ◌++◌, length, map, drop, get_or, refl, sym, ap, ◌∙◌, append_assoc}
+use Rattle.w_types.specs.declared.types.ValType.{ValType}
+use Rattle.w_syntax.specs.declared.locals.LocalRun.{LocalRun}
+use Rattle.s_syntax.specs.declared.name.Name.{Name}
+use Rattle.s_syntax.specs.declared.script.Clause.{Clause}
 use Rattle.s_check.specs.Scopes.{Bound}
+use Rattle.s_code.specs.Places.{run, name_runs, clause_names, clauses_names}
+use Rattle.s_code.specs.Views.{type_of}
+use Rattle.s_index.specs.Types.{val_type}
 use Rattle.s_index.proofs.Lists.{cell}
 use Rattle.s_lower.specs.declared.names.Binding.{Binding}
 use Rattle.s_lower.specs.Views.{bound_of, bounds_of}
@@ -18,4 +25,23 @@ pushed read xs i x old new b all h e made is inv =
     ∙ append_assoc (bounds_of old) (bound_of b ∷ []) (map read (drop (i + 1) xs))
     ∙ ap (λ (u : Bound). bounds_of old ++ u ∷ map read (drop (i + 1) xs)) is
     ∙ ap (λ (ys : List _). bounds_of old ++ map read ys) (sym (cell xs i x h e))
+    ∙ inv
+
+-- the names of one clause more
+pub clause_pushed : (h : Name) (cs : List Clause) (i : ℕ) (c : Clause) (old new : List Binding) (all : List Bound) → i < length cs → c ≡ get_or cs i c
+    → bounds_of new ≡ bounds_of old ++ clause_names h c → bounds_of old ++ clauses_names h (drop i cs) ≡ all → bounds_of new ++ clauses_names h (drop (i + 1) cs) ≡ all
+clause_pushed h cs i c old new all l e made inv =
+    ap (λ (us : List Bound). us ++ clauses_names h (drop (i + 1) cs)) made
+    ∙ append_assoc (bounds_of old) (clause_names h c) (clauses_names h (drop (i + 1) cs))
+    ∙ ap (λ (ds : List Clause). bounds_of old ++ clauses_names h ds) (sym (cell cs i c l e))
+    ∙ inv
+
+-- the local of one name more
+pub run_pushed : (bs : List Binding) (i : ℕ) (b : Binding) (old new : List LocalRun) (t : ValType) (all : List LocalRun) → i < length bs → b ≡ get_or bs i b
+    → new ≡ old ++ run t 1 ∷ [] → t ≡ val_type (type_of b.ty) → old ++ name_runs (bounds_of (drop i bs)) ≡ all → new ++ name_runs (bounds_of (drop (i + 1) bs)) ≡ all
+run_pushed bs i b old new t all l e made is inv =
+    ap (λ (rs : List LocalRun). rs ++ name_runs (bounds_of (drop (i + 1) bs))) made
+    ∙ append_assoc old (run t 1 ∷ []) (name_runs (bounds_of (drop (i + 1) bs)))
+    ∙ ap (λ (u : ValType). old ++ run u 1 ∷ name_runs (bounds_of (drop (i + 1) bs))) is
+    ∙ ap (λ (cs : List Binding). old ++ name_runs (bounds_of cs)) (sym (cell bs i b l e))
     ∙ inv

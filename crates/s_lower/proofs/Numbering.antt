@@ -1,28 +1,22 @@
 -- Names with their locals, in two parts, and clauses with where their names are.
-use Rattle.std.proofs.Common.{◌≡◌, ℕ, zero, suc, ◌+◌, ◌≤◌, List, [], ◌∷◌, ◌++◌, length, map, refl, sym, ap, ◌∙◌, arith, length-append}
-use Rattle.std.specs.Prelude.{max, sum_by, Option, Some, None, slice_get}
+use Rattle.std.proofs.Common.{◌≡◌, ℕ, zero, suc, ◌+◌, ◌≤◌, List, [], ◌∷◌, ◌++◌, ◌<◌, length, map, drop, get_or, refl, sym, ap, ◌∙◌, arith, append_assoc, length-append}
+use Rattle.std.specs.Prelude.{sum_by, Option, Some, None, slice_get}
 use Rattle.std.specs.Option.{option_map}
 use Rattle.std.proofs.lemmas.List.{length-map}
 use Rattle.std.proofs.lemmas.Option.{slice_get-map}
 use Rattle.std.proofs.lemmas.List.Sums.{sum_by-cons}
-use Rattle.w_syntax.specs.declared.locals.LocalRun.{LocalRun}
-use Rattle.w_syntax.specs.declared.module.Func.{Func}
-use Rattle.w_syntax.specs.Code.{Code}
 use Rattle.s_syntax.specs.declared.name.Name.{Name}
 use Rattle.s_syntax.specs.declared.script.Function.{Function}
 use Rattle.s_syntax.specs.declared.script.Clause.{Clause}
 use Rattle.s_syntax.specs.declared.script.Handler.{Handler}
-use Rattle.s_syntax.specs.declared.script.Declaration.{Declaration}
 use Rattle.s_check.specs.Scopes.{Bound, parameter}
 use Rattle.s_check.specs.Size.{block_size, clause_size}
 use Rattle.s_code.specs.declared.handler.Placed.{Placed as Kept}
 use Rattle.s_code.specs.Clauses.{placed_in, placed_all, AllFit}
-use Rattle.s_code.specs.Handlers.{Placed, handler_body}
+use Rattle.s_code.specs.Handlers.{Placed}
 use Rattle.s_code.specs.Layouts.{Local, Owner, Layout, numbered}
-use Rattle.s_code.specs.Lowered.{function_code, handler_code}
-use Rattle.s_code.specs.Places.{lets, function_names, function_layout, return_names, clause_names, clauses_names, clauses_place, handler_temporaries, layout_at, return_layout, placed_from, placed_clauses, locals_for, high_clauses}
-use Rattle.s_code.specs.Statements.{body}
-use Rattle.s_code.specs.Temporaries.{high_block}
+use Rattle.s_code.specs.Places.{lets, function_names, function_layout, return_names, clause_names, clauses_place, handler_temporaries, layout_at, return_layout, placed_from, placed_clauses}
+use Rattle.s_index.proofs.Lists.{cell}
 use Rattle.s_lower.specs.Views.{layout_of, placed_by}
 
 some_same : {A : Type 0} (a b : A) → Some a ≡ Some b → a ≡ b
@@ -60,42 +54,40 @@ function_laid f us vs from temps u v is t =
     ∙ ap (λ (k : ℕ). numbered 0 ps ++ numbered k (lets f.body)) start ∙ sym (numbered_append 0 ps (lets f.body)))
     (omega (arith, is, long, many, all, t))
 
-funcs : (ls ms : List LocalRun) (c d : Code) → ls ≡ ms → c ≡ d → (let f : Func = record { locals = ls; body = c } in f) ≡ record { locals = ms; body = d }
-funcs ls ms c d l e = ap (λ (ks : List LocalRun). let f : Func = record { locals = ks; body = c } in f) l ∙ ap (λ (k : Code). let f : Func = record { locals = ms; body = k } in f) e
-
-pub function_made : (ds : List Declaration) (f : Function) (us vs : List Bound) (from temps high : ℕ) (L : Layout) (locals : List LocalRun) (made : Code)
-    → us ≡ map parameter f.parameters → vs ≡ lets f.body → from ≡ length f.parameters → temps ≡ from + length vs → L ≡ layout_of us vs from temps None
-    → high ≡ high_block f.body → locals ≡ locals_for vs high → made ≡ body ds L 0 f.body
-    → (let g : Func = record { locals = locals; body = made } in g) ≡ function_code ds f
-function_made ds f us vs from temps high L locals made u v is t laid h l m =
-    funcs _ _ _ _ (l ∙ ap (λ (xs : List Bound). locals_for xs high) v ∙ ap (λ (k : ℕ). locals_for (lets f.body) k) h)
-    (m ∙ ap (λ (k : Layout). body ds k 0 f.body) (laid ∙ function_laid f us vs from temps u v is t))
-
-pub handler_made : (ds : List Declaration) (h : Name) (i : Handler) (us vs ws : List Bound) (first from temps most : ℕ) (L : Layout) (ps : List Placed) (locals : List LocalRun) (made : Code)
-    → us ≡ map parameter i.parameters → vs ≡ return_names i → ws ≡ vs ++ clauses_names h i.clauses
-    → first ≡ length i.parameters + 1 → from ≡ first + length vs → temps ≡ first + length ws
-    → L ≡ layout_of us vs first temps (Some (record { name = h; parameters = length i.parameters })) → ps ≡ placed_by h us temps from i.clauses
-    → most ≡ max (high_block i.return_clause.body) (high_clauses i.clauses) → locals ≡ locals_for ws most → made ≡ handler_body ds L i ps
-    → (let g : Func = record { locals = locals; body = made } in g) ≡ handler_code ds h i
-handler_made ds h i us vs ws first from temps most L ps locals made u v w f n t laid placed hi l m =
-    let many : length vs ≡ length (return_names i) = ap (λ (xs : List Bound). length xs) v in
-    let all : length ws ≡ length vs + length (clauses_names h i.clauses) = ap (λ (xs : List Bound). length xs) w ∙ length-append vs (clauses_names h i.clauses) in
-    let temporaries : temps ≡ handler_temporaries h i = omega (arith, many, all, f, t) in
-    let place : from ≡ clauses_place i = omega (arith, many, f, n) in
-    let o : Option Owner = Some (record { name = h; parameters = length i.parameters }) in
-    let L_is : L ≡ return_layout h i =
-    laid
-    ∙ layouts _ _ _ _ o
+-- the clause for return of a handler
+pub handler_laid : (h : Name) (i : Handler) (us vs : List Bound) (first temps : ℕ) → us ≡ map parameter i.parameters → vs ≡ return_names i → first ≡ length i.parameters + 1 → temps ≡ handler_temporaries h i
+    → layout_of us vs first temps (Some (record { name = h; parameters = length i.parameters })) ≡ return_layout h i
+handler_laid h i us vs first temps u v f t =
+    layouts _ _ _ _ (Some (record { name = h; parameters = length i.parameters }))
     (ap (λ (xs : List Bound). numbered 0 xs ++ numbered first vs) u ∙ ap (λ (xs : List Bound). numbered 0 (map parameter i.parameters) ++ numbered first xs) v
-    ∙ ap (λ (k : ℕ). numbered 0 (map parameter i.parameters) ++ numbered k (return_names i)) f) temporaries in
-    let ps_is : ps ≡ placed_clauses h i =
-    placed
-    ∙ ap (λ (xs : List Bound). placed_by h xs temps from i.clauses) u ∙ ap (λ (k : ℕ). placed_by h (map parameter i.parameters) k from i.clauses) temporaries
+    ∙ ap (λ (k : ℕ). numbered 0 (map parameter i.parameters) ++ numbered k (return_names i)) f) t
+
+-- its clauses
+pub handler_placed : (h : Name) (i : Handler) (us vs : List Bound) (from temps : ℕ) → us ≡ map parameter i.parameters → vs ≡ return_names i → from ≡ length i.parameters + 1 + length vs → temps ≡ handler_temporaries h i
+    → placed_by h us temps from i.clauses ≡ placed_clauses h i
+handler_placed h i us vs from temps u v n t =
+    let many : length vs ≡ length (return_names i) = ap (λ (xs : List Bound). length xs) v in
+    let place : from ≡ clauses_place i = omega (arith, many, n) in
+    ap (λ (xs : List Bound). placed_by h xs temps from i.clauses) u ∙ ap (λ (k : ℕ). placed_by h (map parameter i.parameters) k from i.clauses) t
     ∙ ap (λ (k : ℕ). placed_by h (map parameter i.parameters) (handler_temporaries h i) k i.clauses) place
-    ∙ placed_of_handler h i (clauses_place i) i.clauses in
-    funcs _ _ _ _
-    (l ∙ ap (λ (xs : List Bound). locals_for xs most) (w ∙ ap (λ (xs : List Bound). xs ++ clauses_names h i.clauses) v) ∙ ap (λ (k : ℕ). locals_for (return_names i ++ clauses_names h i.clauses) k) hi)
-    (m ∙ ap (λ (k : Layout). handler_body ds k i ps) L_is ∙ ap (λ (qs : List Placed). handler_body ds (return_layout h i) i qs) ps_is)
+    ∙ placed_of_handler h i (clauses_place i) i.clauses
+
+-- one clause more
+pub placed_more : (h : Name) (us : List Bound) (temps n m : ℕ) (cs : List Clause) (i : ℕ) (c : Clause) (old new : List Kept) (all : List Placed) → i < length cs → c ≡ get_or cs i c
+    → placed_all new ≡ placed_all old ++ placed_by h us temps n (c ∷ []) → m ≡ n + length (clause_names h c)
+    → placed_all old ++ placed_by h us temps n (drop i cs) ≡ all → placed_all new ++ placed_by h us temps m (drop (i + 1) cs) ≡ all
+placed_more h us temps n m cs i c old new all l e made next before =
+    ap (λ (ps : List Placed). ps ++ placed_by h us temps m (drop (i + 1) cs)) made
+    ∙ append_assoc (placed_all old) (placed_by h us temps n (c ∷ [])) (placed_by h us temps m (drop (i + 1) cs))
+    ∙ ap (λ (k : ℕ). placed_all old ++ (placed_by h us temps n (c ∷ []) ++ placed_by h us temps k (drop (i + 1) cs))) next
+    ∙ ap (λ (ds : List Clause). placed_all old ++ placed_by h us temps n ds) (sym (cell cs i c l e))
+    ∙ before
+
+-- clauses put behind none
+pub placed_first : (old new ks : List Kept) (h : Name) (us : List Bound) (temps n : ℕ) (cs ds : List Clause) → old ≡ [] → placed_all new ≡ placed_all old ++ placed_by h us temps n cs → ks ≡ new → cs ≡ ds
+    → placed_all ks ≡ placed_by h us temps n ds
+placed_first old new ks h us temps n cs ds o e k d =
+    ap (λ (xs : List Kept). placed_all xs) k ∙ e ∙ ap (λ (xs : List Kept). placed_all xs ++ placed_by h us temps n cs) o ∙ ap (λ (xs : List Clause). placed_by h us temps n xs) d
 
 -- ## Clauses fit
 

@@ -1,8 +1,11 @@
 -- What lists of names stand for.
 use Rattle.std.specs.Prelude.{ℕ, ◌+◌, List, [], ◌∷◌, ◌++◌, map, length, Option, Some}
+use Rattle.w_syntax.specs.declared.module.Module.{Module}
 use Rattle.s_syntax.specs.declared.name.Name.{Name}
 use Rattle.s_syntax.specs.declared.script.Clause.{Clause}
+use Rattle.s_syntax.specs.declared.script.Declaration.{Declaration}
 use Rattle.s_code.specs.Handlers.{Placed}
+use Rattle.s_code.specs.Lowered.{lowered_all}
 use Rattle.s_code.specs.Places.{clause_names}
 use Rattle.s_code.specs.Layouts.{Owner, Layout, numbered}
 use Rattle.s_check.specs.Scopes.{Bound}
@@ -25,3 +28,7 @@ placed_by h ps temporaries n [] = []
 placed_by h ps temporaries n (c ∷ cs) =
     record { clause = c; layout = layout_of ps (clause_names h c) n temporaries (Some (record { name = h; parameters = length ps })) }
     ∷ placed_by h ps temporaries (n + length (clause_names h c)) cs
+
+-- the module of a script, without its types
+abbrev pub untyped : List Declaration → Module
+untyped ds = record (lowered_all ds) { types = [] }

@@ -1,50 +1,72 @@
 //! The module of a script.
-ghost use Rattle.std.specs.Prelude.{◌≡◌, ◌≤◌, IfOk};
+ghost use Rattle.std.specs.Prelude.{◌≡◌, ◌≤◌, codes, sum_by, IfOk, OnOk};
+ghost use Rattle.w_syntax.specs.Module.{empty_module};
 ghost use Rattle.s_syntax.specs.declared.script.Script.{Script as TheScript};
-ghost use Rattle.s_check.specs.Size.{Size};
+ghost use Rattle.s_syntax.specs.declared.script.Declaration.{Declaration as TheDeclaration};
+ghost use Rattle.s_check.specs.Size.{Size, definition_size};
 ghost use Rattle.s_code.specs.Lowered.{lowered};
 ghost use Rattle.s_lower.specs.Answers.{Answers};
+ghost use Rattle.s_lower.specs.Views.{untyped};
 
 use crate::fault::LowerFault;
-use crate::parts::{codes, elements, exports, function_types, groups, imports, tags};
+use crate::parts::{
+    groups, push_elements, push_function_codes, push_function_types, push_handler_codes,
+    push_handler_types, push_main, push_printer, push_tags,
+};
 use s_check::CheckedScript;
 use s_index::Program;
 use s_size::is_within;
 use s_syntax::{Name, Script};
 use std::alloc::{AllocError, Global};
 use w_syntax::Module;
-use w_types::ListOf;
 
 /// The greatest size of a script that has a module.
 const SIZE_LIMIT: u32 = 50_000;
+
+// Puts what is no type into a module that is empty yet.
+fn add_parts<'a>(
+    alloc: Global,
+    program: &Program<'a>,
+    main: &'a Name,
+    module: &mut Module,
+) -> Result<(), AllocError>
+    requires main { main.now ≡ codes "main" }
+    requires few { sum_by (λ (d : TheDeclaration). definition_size d.definition) program.now ≤ 50000 }
+    requires empty { module.now ≡ empty_module }
+    ensures value { OnOk result (module.new ≡ untyped program.now) }
+{
+    push_printer(alloc, &mut module.imports)?;
+    push_function_types(alloc, program, &mut module.functions)?;
+    push_handler_types(alloc, program, &mut module.functions)?;
+    push_tags(alloc, program, &mut module.tags)?;
+    push_main(alloc, program, main, &mut module.exports)?;
+    push_elements(alloc, program, &mut module.elements)?;
+    push_function_codes(alloc, program, &mut module.codes)?;
+    push_handler_codes(alloc, program, &mut module.codes)?;
+    Ok(())
+}
+
+// Makes an empty module that of a script whose size is within the limit.
+fn fill(alloc: Global, script: &Script, module: &mut Module) -> Result<(), AllocError>
+    requires small { Size script.now ≤ 50000 }
+    requires empty { module.now ≡ empty_module }
+    ensures value { OnOk result (module.new ≡ lowered script.now) }
+{
+    let main = Name::new(alloc, b"main")?;
+    let program = Program::new(alloc, script.declarations.as_slice())?;
+    add_parts(alloc, &program, &main, module)?;
+    module.types = groups(alloc, program.into_types())?;
+    Ok(())
+}
 
 // The module of a script whose size is within the limit.
 fn module(alloc: Global, script: &Script) -> Result<Module, AllocError>
     requires { Size script.now ≤ 50000 }
     ensures value { IfOk result (λ made. made ≡ lowered script.now) }
 {
-    let main = Name::new(alloc, b"main")?;
-    let program = Program::new(alloc, script.declarations.as_slice())?;
-    let imports = imports(alloc)?;
-    let functions = function_types(alloc, &program)?;
-    let tags = tags(alloc, &program)?;
-    let exports = exports(alloc, &program, &main)?;
-    let elements = elements(alloc, &program)?;
-    let codes = codes(alloc, &program)?;
-    Ok(Module {
-        types: groups(alloc, program.into_types())?,
-        imports,
-        functions,
-        tables: ListOf::new(alloc),
-        memories: ListOf::new(alloc),
-        tags,
-        globals: ListOf::new(alloc),
-        exports,
-        start: None,
-        elements,
-        codes,
-        datas: ListOf::new(alloc),
-    })
+    let mut module = Module::empty(alloc);
+    fill(alloc, script, &mut module)?;
+    Ok(module)
 }
 
 /// The module that a script which breaks no rule is compiled to. `TooLarge` is answered just where the size of the script is above 50,000, and

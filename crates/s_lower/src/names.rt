@@ -112,22 +112,20 @@ fn push_lets<'a>(block: &'a Block, names: &mut Vec<Binding<'a>>) -> Result<(), A
     Ok(())
 }
 
-/// Puts the names that the body of a function binds behind the others. It fails only for want of memory.
-#[tactic(auto, using(crate::proofs::Lengths::lets_within))]
-pub(crate) fn push_body_names<'a>(
-    body: &'a Block,
-    names: &mut Vec<Binding<'a>>,
-) -> Result<(), AllocError>
-    ensures value { OnOk result (bounds_of names.new.items ≡ bounds_of names.old.items ++ lets body.now) }
-    ensures many { OnOk result (length names.new.items ≡ length names.old.items + length (lets body.now)) }
-    ensures few { length (lets body.now) ≤ block_size body.now }
+/// The names that the body of a function binds. It fails only for want of memory.
+#[tactic(auto, using(crate::proofs::Lengths::lets_within, crate::proofs::Lengths::as_many))]
+pub(crate) fn body_names<'a>(alloc: Global, body: &'a Block) -> Result<Vec<Binding<'a>>, AllocError>
+    ensures value { IfOk result (λ names. bounds_of names.items ≡ lets body.now) }
+    ensures few { IfOk result (λ names. length names.items ≤ block_size body.now) }
 {
-    push_lets(body, names)
+    let mut names = Vec::new(alloc);
+    push_lets(body, &mut names)?;
+    Ok(names)
 }
 
-/// Puts the names of a handler's clause for return behind the others. It fails only for want of memory.
+// Puts the names of a handler's clause for return behind the others.
 #[tactic(auto, using(crate::proofs::Lengths::return_within))]
-pub(crate) fn push_return_names<'a>(
+fn push_return_names<'a>(
     handler: &'a Handler,
     names: &mut Vec<Binding<'a>>,
 ) -> Result<(), AllocError>
@@ -158,9 +156,8 @@ pub(crate) fn push_clause_names<'a>(
     push_lets(&clause.body, names)
 }
 
-/// Puts the names of clauses of this handler behind the others. It fails only for want of memory.
-#[tactic(auto, using(crate::proofs::Lengths::clauses_within))]
-pub(crate) fn push_clauses_names<'a>(
+// Puts the names of clauses of this handler behind the others.
+fn push_clauses_names<'a>(
     handler: &'a Name,
     clauses: &'a [Clause],
     names: &mut Vec<Binding<'a>>,
@@ -173,6 +170,35 @@ pub(crate) fn push_clauses_names<'a>(
         push_clause_names(handler, clause, names)?;
     }
     Ok(())
+}
+
+/// The names of a handler's clause for return. It fails only for want of memory.
+pub(crate) fn return_names<'a>(
+    alloc: Global,
+    handler: &'a Handler,
+) -> Result<Vec<Binding<'a>>, AllocError>
+    ensures value { IfOk result (λ names. bounds_of names.items ≡ return_names handler.now) }
+    ensures many { IfOk result (λ names. length names.items ≡ length (return_names handler.now)) }
+    ensures few { length (return_names handler.now) ≤ 1 + block_size handler.now.return_clause.body }
+{
+    let mut names = Vec::new(alloc);
+    push_return_names(handler, &mut names)?;
+    Ok(names)
+}
+
+/// The names of a handler behind its parameters: those of the clause for return, and those of the clauses. It fails only for want of memory.
+pub(crate) fn handler_names<'a>(
+    alloc: Global,
+    name: &'a Name,
+    handler: &'a Handler,
+) -> Result<Vec<Binding<'a>>, AllocError>
+    ensures value { IfOk result (λ names. bounds_of names.items ≡ return_names handler.now ++ clauses_names name.now handler.now.clauses) }
+    ensures few { IfOk result (λ names. length names.items ≤ 1 + block_size handler.now.return_clause.body + sum_by clause_size handler.now.clauses) }
+{
+    let mut names = Vec::new(alloc);
+    push_return_names(handler, &mut names)?;
+    push_clauses_names(name, handler.clauses.as_slice(), &mut names)?;
+    Ok(names)
 }
 
 /// Puts names behind those that have locals, with the locals from `from` on. It fails only for want of memory.

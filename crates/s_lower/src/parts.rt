@@ -1,5 +1,6 @@
 //! The parts of the module.
-ghost use Rattle.std.specs.Prelude.{◌≡◌, ◌≤◌, ◌∷◌, ◌++◌, [], codes, map, sum_by, IfOk};
+ghost use Rattle.std.specs.Prelude.{◌≡◌, ◌≤◌, ◌∷◌, ◌++◌, [], codes, map, sum_by, IfOk, OnOk};
+ghost use Rattle.s_index.specs.Indices.{function_type_index, handler_type_index, effect_type_index};
 ghost use Rattle.s_index.specs.Numbers.{function_index};
 ghost use Rattle.s_syntax.specs.declared.script.Declaration.{Declaration as TheDeclaration};
 ghost use Rattle.s_check.specs.Size.{definition_size};
@@ -8,88 +9,173 @@ ghost use Rattle.s_code.specs.Lowered.{function_type_of, handler_type_of, tag_of
 
 use crate::code::{function_code, handler_code};
 use s_index::{PRINTER, Program, effect_type, function_type, handler_type};
-use s_syntax::{Declaration, Definition, Name as DeclaredName};
+use s_syntax::{Declaration, Definition, Name as DeclaredName, Number, Parameter};
 use std::alloc::{AllocError, Global};
 use w_syntax::{Elem, ElemMode, Export, ExternIndex, ExternType, Func, Import, Items, Name, Tag};
 use w_types::{CompType, ListOf, RecGroup, RecGroups, RefType};
+
+// Puts this type in a group of its own behind the others.
+fn push_group(alloc: Global, ty: CompType, groups: &mut Vec<RecGroup>) -> Result<(), AllocError>
+    ensures value { OnOk result (groups.new.items ≡ groups.old.items ++ group ty ∷ []) }
+{
+    let mut types = ListOf::new(alloc);
+    types.push(ty)?;
+    groups.push(RecGroup { types })?;
+    Ok(())
+}
+
+// Puts each of these types in a group of its own behind the others.
+fn push_groups(
+    alloc: Global,
+    types: Vec<CompType>,
+    groups: &mut Vec<RecGroup>,
+) -> Result<(), AllocError>
+    ensures value { OnOk result (groups.new.items ≡ groups.old.items ++ map group types.items) }
+{
+    for ty in types {
+        push_group(alloc, ty, groups)?;
+    }
+    Ok(())
+}
 
 /// Each of these types in a group of its own. It fails only for want of memory.
 pub(crate) fn groups(alloc: Global, types: Vec<CompType>) -> Result<RecGroups, AllocError>
     ensures value { IfOk result (λ groups. groups ≡ map group types.items) }
 {
     let mut groups = Vec::new(alloc);
-    for ty in types {
-        let mut one = ListOf::new(alloc);
-        one.push(ty)?;
-        groups.push(RecGroup { types: one })?;
-    }
+    push_groups(alloc, types, &mut groups)?;
     RecGroups::from_vec(alloc, groups)
 }
 
-/// The import of the printer of numbers. It fails only for want of memory.
-pub(crate) fn imports(alloc: Global) -> Result<ListOf<Import>, AllocError>
-    ensures value { IfOk result (λ imports. imports ≡ printer_import ∷ []) }
+// The import of the printer of numbers.
+fn printer(alloc: Global) -> Result<Import, AllocError>
+    ensures value { IfOk result (λ import. import ≡ printer_import) }
 {
-    let mut imports = ListOf::new(alloc);
-    imports.push(Import {
+    Ok(Import {
         module_name: Name::new(String::from_str(alloc, "host")?),
         item_name: Name::new(String::from_str(alloc, "print_i64")?),
         kind: ExternType::Func(PRINTER),
-    })?;
-    Ok(imports)
+    })
 }
 
-/// The indices of the types of functions, and of handlers behind them. It fails only for want of memory.
-pub(crate) fn function_types(alloc: Global, program: &Program) -> Result<ListOf<u32>, AllocError>
-    ensures value { IfOk result (λ all. all ≡ for_each (λ (d : TheDeclaration). function_type_of program.now d.definition) program.now ++ for_each (λ (d : TheDeclaration). handler_type_of program.now d.definition) program.now) }
+/// Puts the import of the printer of numbers behind the others. It fails only for want of memory.
+pub(crate) fn push_printer(alloc: Global, imports: &mut ListOf<Import>) -> Result<(), AllocError>
+    ensures value { OnOk result (imports.new ≡ imports.old ++ printer_import ∷ []) }
 {
-    let mut all = ListOf::new(alloc);
+    imports.push(printer(alloc)?)?;
+    Ok(())
+}
+
+// The index of the type of a function with these parameters.
+fn function_type_index(
+    alloc: Global,
+    program: &Program,
+    parameters: &[Parameter],
+) -> Result<u32, AllocError>
+    ensures value { IfOk result (λ index. index ≡ function_type_index program.now parameters.now) }
+{
+    let ty = function_type(alloc, parameters)?;
+    Ok(program.type_index(&ty))
+}
+
+/// Puts the indices of the types of functions behind the others. It fails only for want of memory.
+pub(crate) fn push_function_types(
+    alloc: Global,
+    program: &Program,
+    all: &mut ListOf<u32>,
+) -> Result<(), AllocError>
+    ensures value { OnOk result (all.new ≡ all.old ++ for_each (λ (d : TheDeclaration). function_type_of program.now d.definition) program.now) }
+{
     for declaration in program.declarations() {
         if let Definition::Function(function) = &declaration.definition {
-            let ty = function_type(alloc, function.parameters.as_slice())?;
-            all.push(program.type_index(&ty))?;
+            let parameters = function.parameters.as_slice();
+            all.push(function_type_index(alloc, program, parameters)?)?;
         }
     }
+    Ok(())
+}
+
+// The index of the type of a handler with these parameters.
+fn handler_type_index(
+    alloc: Global,
+    program: &Program,
+    parameters: &[Parameter],
+) -> Result<u32, AllocError>
+    ensures value { IfOk result (λ index. index ≡ handler_type_index program.now parameters.now) }
+{
+    let ty = handler_type(alloc, parameters)?;
+    Ok(program.type_index(&ty))
+}
+
+/// Puts the indices of the types of handlers behind the others. It fails only for want of memory.
+pub(crate) fn push_handler_types(
+    alloc: Global,
+    program: &Program,
+    all: &mut ListOf<u32>,
+) -> Result<(), AllocError>
+    ensures value { OnOk result (all.new ≡ all.old ++ for_each (λ (d : TheDeclaration). handler_type_of program.now d.definition) program.now) }
+{
     for declaration in program.declarations() {
         if let Definition::Handler(handler) = &declaration.definition {
-            let ty = handler_type(alloc, handler.parameters.as_slice())?;
-            all.push(program.type_index(&ty))?;
+            let parameters = handler.parameters.as_slice();
+            all.push(handler_type_index(alloc, program, parameters)?)?;
         }
     }
-    Ok(all)
+    Ok(())
 }
 
-/// The tags of effects. It fails only for want of memory.
-pub(crate) fn tags(alloc: Global, program: &Program) -> Result<ListOf<Tag>, AllocError>
-    ensures value { IfOk result (λ all. all ≡ for_each (λ (d : TheDeclaration). tag_of program.now d.definition) program.now) }
+// The index of the type of an effect with so many arguments.
+fn effect_type_index(alloc: Global, program: &Program, number: &Number) -> Result<u32, AllocError>
+    ensures value { IfOk result (λ index. index ≡ effect_type_index program.now number.now.value) }
 {
-    let mut all = ListOf::new(alloc);
+    let ty = effect_type(alloc, number.value as usize)?;
+    Ok(program.type_index(&ty))
+}
+
+/// Puts the tags of effects behind the others. It fails only for want of memory.
+pub(crate) fn push_tags(
+    alloc: Global,
+    program: &Program,
+    all: &mut ListOf<Tag>,
+) -> Result<(), AllocError>
+    ensures value { OnOk result (all.new ≡ all.old ++ for_each (λ (d : TheDeclaration). tag_of program.now d.definition) program.now) }
+{
     for declaration in program.declarations() {
         if let Definition::Effect(number) = &declaration.definition {
-            let ty = effect_type(alloc, number.value as usize)?;
-            all.push(Tag {
-                type_index: program.type_index(&ty),
-            })?;
+            let type_index = effect_type_index(alloc, program, number)?;
+            all.push(Tag { type_index })?;
         }
     }
-    Ok(all)
+    Ok(())
 }
 
-/// The export of the function `main`, by its name. It fails only for want of memory.
-pub(crate) fn exports<'a>(
+// The export of the function `main`, by its name.
+fn main_export<'a>(
     alloc: Global,
     program: &Program<'a>,
     main: &'a DeclaredName,
-) -> Result<ListOf<Export>, AllocError>
+) -> Result<Export, AllocError>
     requires { main.now ≡ codes "main" }
-    ensures value { IfOk result (λ exports. exports ≡ main_export program.now ∷ []) }
+    ensures value { IfOk result (λ export. export ≡ main_export program.now) }
 {
-    let mut exports = ListOf::new(alloc);
-    exports.push(Export {
+    Ok(Export {
         name: Name::new(String::from_str(alloc, "main")?),
         index: ExternIndex::Func(program.function_index(main)),
-    })?;
-    Ok(exports)
+    })
+}
+
+/// Puts the export of the function `main` behind the others. It fails only for want of memory.
+pub(crate) fn push_main<'a>(
+    alloc: Global,
+    program: &Program<'a>,
+    main: &'a DeclaredName,
+    exports: &mut ListOf<Export>,
+) -> Result<(), AllocError>
+    requires { main.now ≡ codes "main" }
+    ensures value { OnOk result (exports.new ≡ exports.old ++ main_export program.now ∷ []) }
+{
+    exports.push(main_export(alloc, program, main)?)?;
+    Ok(())
 }
 
 // The functions that are handled, by their indices.
@@ -105,38 +191,56 @@ fn handled_functions<'a>(alloc: Global, program: &Program<'a>) -> Result<Vec<u32
     Ok(all)
 }
 
-/// The segment that declares the functions that are handled, where there are some. It fails only for want of memory.
-pub(crate) fn elements(alloc: Global, program: &Program) -> Result<ListOf<Elem>, AllocError>
-    ensures value { IfOk result (λ elements. elements ≡ declared program.now (handled program.now)) }
+/// Puts the segment that declares the functions that are handled, where there are some, behind the others. It fails only for want of memory.
+pub(crate) fn push_elements(
+    alloc: Global,
+    program: &Program,
+    elements: &mut ListOf<Elem>,
+) -> Result<(), AllocError>
+    ensures value { OnOk result (elements.new ≡ elements.old ++ declared program.now (handled program.now)) }
 {
     let functions = handled_functions(alloc, program)?;
-    let mut elements = ListOf::new(alloc);
     if functions.len() == 0 {
-        return Ok(elements);
+        return Ok(());
     }
     elements.push(Elem {
         kind: RefType::FUNC,
         items: Items::of_functions(ListOf::from_vec(functions)),
         mode: ElemMode::Declarative,
     })?;
-    Ok(elements)
+    Ok(())
 }
 
-/// The code of functions, and of handlers behind them. It fails only for want of memory.
-pub(crate) fn codes(alloc: Global, program: &Program) -> Result<ListOf<Func>, AllocError>
+/// Puts the code of functions behind the others. It fails only for want of memory.
+pub(crate) fn push_function_codes(
+    alloc: Global,
+    program: &Program,
+    all: &mut ListOf<Func>,
+) -> Result<(), AllocError>
     requires { sum_by (λ (d : TheDeclaration). definition_size d.definition) program.now ≤ 50000 }
-    ensures value { IfOk result (λ all. all ≡ for_each (λ (d : TheDeclaration). function_code_of program.now d.definition) program.now ++ for_each (λ (d : TheDeclaration). handler_code_of program.now d.name d.definition) program.now) }
+    ensures value { OnOk result (all.new ≡ all.old ++ for_each (λ (d : TheDeclaration). function_code_of program.now d.definition) program.now) }
 {
-    let mut all = ListOf::new(alloc);
     for declaration in program.declarations() {
         if let Definition::Function(function) = &declaration.definition {
             all.push(function_code(alloc, program, function)?)?;
         }
     }
+    Ok(())
+}
+
+/// Puts the code of handlers behind the others. It fails only for want of memory.
+pub(crate) fn push_handler_codes(
+    alloc: Global,
+    program: &Program,
+    all: &mut ListOf<Func>,
+) -> Result<(), AllocError>
+    requires { sum_by (λ (d : TheDeclaration). definition_size d.definition) program.now ≤ 50000 }
+    ensures value { OnOk result (all.new ≡ all.old ++ for_each (λ (d : TheDeclaration). handler_code_of program.now d.name d.definition) program.now) }
+{
     for declaration in program.declarations() {
         if let Definition::Handler(handler) = &declaration.definition {
             all.push(handler_code(alloc, program, &declaration.name, handler)?)?;
         }
     }
-    Ok(all)
+    Ok(())
 }
