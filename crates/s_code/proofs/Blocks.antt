@@ -17,7 +17,7 @@ use Rattle.s_code.specs.Handlers.{Placed, clause_code, blocks, set_names}
 use Rattle.s_code.specs.Instructions.{local_set}
 use Rattle.s_code.specs.Layouts.{Layout, local_number}
 use Rattle.s_code.specs.Writes.{Writes}
-use Rattle.s_index.proofs.Lists.{cell}
+use Rattle.s_index.proofs.Lists.{cell, cell_back}
 
 -- the last name of a list is set first
 pub set_last : (Γ : Layout) (xs : List Name) (x : Name) (c : Code) → set_names Γ (xs ++ x ∷ []) c ≡ Plain (local_set (local_number Γ x)) (set_names Γ xs c)
@@ -53,6 +53,14 @@ taken_last xs b x h e =
     let within : length xs - 1 - b < length xs = omega (arith, h) in
     ap (λ (k : ℕ). take k xs) i ∙ take-suc xs (length xs - 1 - b) x within
     ∙ ap (λ (y : _). take (length xs - 1 - b) xs ++ y ∷ []) (sym e) ∙ ap (λ (k : ℕ). take k xs ++ x ∷ []) j
+
+-- the block of one clause more
+pub opened_more : (ds : List Declaration) (ps : List Kept) (b : ℕ) (p : Kept) (o0 o1 o2 : List Token) → b < length ps → p ≡ get_or ps (length ps - 1 - b) p
+    → o2 ≡ o1 ++ open_token ds (placed_in p) ∷ [] → o1 ≡ o0 ++ opens ds (placed_all (drop (length ps - b) ps)) → o2 ≡ o0 ++ opens ds (placed_all (drop (length ps - (b + 1)) ps))
+opened_more ds ps b p o0 o1 o2 h e opened before =
+    opened ∙ ap (λ (ts : List Token). ts ++ open_token ds (placed_in p) ∷ []) before
+    ∙ append_assoc o0 (opens ds (placed_all (drop (length ps - b) ps))) (open_token ds (placed_in p) ∷ [])
+    ∙ ap (λ (qs : List Kept). o0 ++ opens ds (placed_all qs)) (sym (cell_back ps b p h e))
 
 -- a clause behind its block's end
 pub closed_more : (ds : List Declaration) (ps : List Kept) (i : ℕ) (p : Kept) (o0 o1 o2 : List Token) → i < length ps → p ≡ get_or ps i p

@@ -13,7 +13,7 @@ ghost use Rattle.s_code.specs.Writes.{Writes};
 use crate::layout::Layout;
 use crate::operators::{
     write_arithmetic, write_comparison, write_control, write_get, write_numeric, write_op,
-    write_set, write_switching, write_truth, write_unary,
+    write_set, write_switching, write_token, write_truth, write_unary,
 };
 use s_index::{COMPUTATION, Program, RESUMPTION};
 use s_syntax::{BinaryOperator, Connective, Expr, Name, Node};
@@ -228,22 +228,22 @@ fn write_connective<'a>(
     ensures writes { OnOk result ((c : Code) → Writes out.old.items (connective_code connective (expr program.now layout.now used right.now truth) c) out.new.items c) }
 {
     write_numeric(NumericOp::Eqz(IntType::I64), out)?;
-    out.push(Token::If(BlockType::Value(PackedType::I64)))?;
+    write_token(Token::If(BlockType::Value(PackedType::I64)), out)?;
     match connective {
         Connective::And => {
             write_numeric(NumericOp::I64Const(0), out)?;
-            out.push(Token::Else)?;
+            write_token(Token::Else, out)?;
             write_expr(program, layout, used, right, out)?;
             write_truth(out)?;
-            out.push(Token::End)?;
+            write_token(Token::End, out)?;
             Ok(())
         }
         Connective::Or => {
             write_expr(program, layout, used, right, out)?;
             write_truth(out)?;
-            out.push(Token::Else)?;
+            write_token(Token::Else, out)?;
             write_numeric(NumericOp::I64Const(1), out)?;
-            out.push(Token::End)?;
+            write_token(Token::End, out)?;
             Ok(())
         }
     }

@@ -8,7 +8,7 @@ ghost use Rattle.s_code.specs.Writes.{Writes};
 
 use crate::body::body_of;
 use crate::layout::Layout;
-use crate::operators::{write_get, write_set, write_switching};
+use crate::operators::{write_get, write_set, write_switching, write_token};
 use crate::statement::write_body;
 use s_index::{COMPUTATION, Program};
 use s_syntax::{Clause, Handler, Name};
@@ -65,7 +65,7 @@ fn open_blocks<'a>(
     for behind in 0..all.len() {
         let placed = &all[all.len() - 1 - behind];
         let index = program.clause_type_index(placed.clause.arguments.len())?;
-        out.push(Token::Block(BlockKind::Block, BlockType::Index(index)))?;
+        write_token(Token::Block(BlockKind::Block, BlockType::Index(index)), out)?;
     }
     Ok(())
 }
@@ -81,7 +81,7 @@ fn close_blocks<'a>(
     ensures closes { OnOk result (out.new.items ≡ out.old.items ++ closes program.now (placed_all all.now)) }
 {
     for index in 0..all.len() {
-        out.push(Token::End)?;
+        write_token(Token::End, out)?;
         let labels = (all.len() - 1 - index) as u32;
         let placed = &all[index];
         write_clause(program, labels, placed, out)?;
@@ -117,8 +117,8 @@ fn write_handling<'a>(
     requires parameters { length handler.now.parameters ≤ 1000000 }
     ensures writes { OnOk result (Writes out.old.items (handling program.now layout.now handler.now) out.new.items Done) }
 {
-    let clauses = labels(alloc, program, handler.clauses.as_slice())?;
     write_get(handler.parameters.len() as u32, out)?;
+    let clauses = labels(alloc, program, handler.clauses.as_slice())?;
     write_switching(SwitchingOp::Resume(COMPUTATION, clauses), out)?;
     let returned = &handler.return_clause;
     write_set(layout.local_number(&returned.value), out)?;

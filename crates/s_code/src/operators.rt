@@ -1,5 +1,5 @@
 //! Instructions behind those that are written, and operators.
-ghost use Rattle.std.specs.Prelude.{◌≡◌, OnOk};
+ghost use Rattle.std.specs.Prelude.{◌≡◌, ◌++◌, ◌∷◌, [], OnOk};
 ghost use Rattle.w_syntax.specs.declared.instructions.Op.TheVariants as op;
 ghost use Rattle.w_syntax.specs.Code.{Code, Done, Plain};
 ghost use Rattle.s_code.specs.Instructions.{binop_of, relop_of, local_get, local_set, unary_operator, comparison, arithmetic, truth};
@@ -10,6 +10,14 @@ use std::alloc::AllocError;
 use w_syntax::{
     Binop, ControlOp, Cvtop, IntType, NumericOp, Op, Relop, SwitchingOp, Token, VariableOp,
 };
+
+/// Writes a token.
+pub(crate) fn write_token(token: Token, out: &mut Vec<Token>) -> Result<(), AllocError>
+    ensures token { OnOk result (out.new.items ≡ out.old.items ++ token ∷ []) }
+{
+    out.push(token)?;
+    Ok(())
+}
 
 /// Writes an instruction that holds no others.
 #[tactic(auto, using(crate::proofs::Writing::plain_written))]

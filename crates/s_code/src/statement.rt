@@ -9,7 +9,7 @@ ghost use Rattle.s_code.specs.Writes.{Writes};
 
 use crate::expression::{write_expr, write_tail_resume};
 use crate::layout::Layout;
-use crate::operators::{write_control, write_numeric, write_op, write_set};
+use crate::operators::{write_control, write_numeric, write_op, write_set, write_token};
 use s_index::Program;
 use s_syntax::{Block, Expr, Node, Statement};
 use std::alloc::AllocError;
@@ -62,11 +62,11 @@ fn write_if<'a>(
 {
     write_expr(program, layout, 0, condition, out)?;
     write_numeric(NumericOp::Eqz(IntType::I64), out)?;
-    out.push(Token::If(BlockType::Empty))?;
+    write_token(Token::If(BlockType::Empty), out)?;
     write_block(program, layout, labels + 1, else_block, out)?;
-    out.push(Token::Else)?;
+    write_token(Token::Else, out)?;
     write_block(program, layout, labels + 1, then_block, out)?;
-    out.push(Token::End)?;
+    write_token(Token::End, out)?;
     Ok(())
 }
 
@@ -83,15 +83,15 @@ fn write_while<'a>(
     requires { layout.now.temporaries + labels + statement_size (While condition.now body.now) ≤ 1000000 }
     ensures writes { OnOk result ((c : Code) → Writes out.old.items (statement_code program.now layout.now labels (While condition.now body.now) c) out.new.items c) }
 {
-    out.push(Token::Block(BlockKind::Block, BlockType::Empty))?;
-    out.push(Token::Block(BlockKind::Loop, BlockType::Empty))?;
+    write_token(Token::Block(BlockKind::Block, BlockType::Empty), out)?;
+    write_token(Token::Block(BlockKind::Loop, BlockType::Empty), out)?;
     write_expr(program, layout, 0, condition, out)?;
     write_numeric(NumericOp::Eqz(IntType::I64), out)?;
     write_control(ControlOp::BrIf(1), out)?;
     write_block(program, layout, labels + 2, body, out)?;
     write_control(ControlOp::Br(0), out)?;
-    out.push(Token::End)?;
-    out.push(Token::End)?;
+    write_token(Token::End, out)?;
+    write_token(Token::End, out)?;
     Ok(())
 }
 

@@ -62,24 +62,24 @@ write_aside-loop-item-preserved t c =
       room = omega (arith, s, r, o);
     }
 
-pub write_connective-returns-in_ok-push-in-And-2 : goal.write_connective-returns-in_ok-push-in-And-2
-write_connective-returns-in_ok-push-in-And-2 t c = record {
+pub write_connective-returns-in_ok-write_token-in-And-2 : goal.write_connective-returns-in_ok-write_token-in-And-2
+write_connective-returns-in_ok-write_token-in-And-2 t c = record {
   writes = λ k.
       let right = code.expr c.args.program.now c.args.layout.now c.args.used c.args.right.now truth in
-      subst (λ (o : Connective). Writes c.args.out.now.items (connective o right k) c.push-in-And-2.new.self.items k) (sym c.in-And.is)
+      subst (λ (o : Connective). Writes c.args.out.now.items (connective o right k) c.write_token-in-And-2.new.out.items k) (sym c.in-And.is)
       (c.in_ok-write_numeric.ensures.writes _
-      ∙ branches_at _ _ _ _ _ _ (block.Value I64) _ right k c.in_ok-push.ensures.items (c.in_ok-write_numeric-in-And.ensures.writes Done) c.in_ok-push-in-And.ensures.items
-      (c.in_ok-write_expr-in-And.ensures.writes truth ∙ c.in_ok-write_truth-in-And.ensures.writes) c.in_ok-push-in-And-2.ensures.items);
+      ∙ branches_at _ _ _ _ _ _ (block.Value I64) _ right k c.in_ok-write_token.ensures.token (c.in_ok-write_numeric-in-And.ensures.writes Done) c.in_ok-write_token-in-And.ensures.token
+      (c.in_ok-write_expr-in-And.ensures.writes truth ∙ c.in_ok-write_truth-in-And.ensures.writes) c.in_ok-write_token-in-And-2.ensures.token);
 }
 
-pub write_connective-returns-in_ok-push-in-Or-2 : goal.write_connective-returns-in_ok-push-in-Or-2
-write_connective-returns-in_ok-push-in-Or-2 t c = record {
+pub write_connective-returns-in_ok-write_token-in-Or-2 : goal.write_connective-returns-in_ok-write_token-in-Or-2
+write_connective-returns-in_ok-write_token-in-Or-2 t c = record {
   writes = λ k.
       let right = code.expr c.args.program.now c.args.layout.now c.args.used c.args.right.now truth in
-      subst (λ (o : Connective). Writes c.args.out.now.items (connective o right k) c.push-in-Or-2.new.self.items k) (sym c.in-Or.is)
+      subst (λ (o : Connective). Writes c.args.out.now.items (connective o right k) c.write_token-in-Or-2.new.out.items k) (sym c.in-Or.is)
       (c.in_ok-write_numeric.ensures.writes _
-      ∙ branches_at _ _ _ _ _ _ (block.Value I64) right _ k c.in_ok-push.ensures.items (c.in_ok-write_expr-in-Or.ensures.writes truth ∙ c.in_ok-write_truth-in-Or.ensures.writes) c.in_ok-push-in-Or.ensures.items
-      (c.in_ok-write_numeric-in-Or.ensures.writes Done) c.in_ok-push-in-Or-2.ensures.items);
+      ∙ branches_at _ _ _ _ _ _ (block.Value I64) right _ k c.in_ok-write_token.ensures.token (c.in_ok-write_expr-in-Or.ensures.writes truth ∙ c.in_ok-write_truth-in-Or.ensures.writes) c.in_ok-write_token-in-Or.ensures.token
+      (c.in_ok-write_numeric-in-Or.ensures.writes Done) c.in_ok-write_token-in-Or-2.ensures.token);
 }
 
 -- ## A handle, and a resume

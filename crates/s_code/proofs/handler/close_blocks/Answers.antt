@@ -12,6 +12,6 @@ write_clause-requires c =
 
 pub loop-index-preserved : goal.loop-index-preserved
 loop-index-preserved c =
-    closed_more c.args.program.now c.args.all.now c.loop-index.index c.index-all-index.result c.loop-index.out.items c.push.new.self.items c.write_clause.new.out.items c.loop-index-test.true c.index-all-index.is
-    c.in_ok-push.ensures.items c.in_ok-write_clause.ensures.writes
+    closed_more c.args.program.now c.args.all.now c.loop-index.index c.index-all-index.result c.loop-index.out.items c.write_token.new.out.items c.write_clause.new.out.items c.loop-index-test.true c.index-all-index.is
+    c.in_ok-write_token.ensures.token c.in_ok-write_clause.ensures.writes
     ∙ c.loop-index.invariant

@@ -27,7 +27,7 @@ write_if-returns t c = record {
   writes = λ k.
       c.in_ok-write_expr.ensures.writes _ ∙ c.in_ok-write_numeric.ensures.writes _
       ∙ branches_at _ _ _ _ _ _ block_type.Empty (code.block c.args.program.now c.args.layout.now (c.args.labels + 1) c.args.else_block.now Done) (code.block c.args.program.now c.args.layout.now (c.args.labels + 1) c.args.then_block.now Done) k
-      c.in_ok-push.ensures.items (c.in_ok-write_block.ensures.writes Done) c.in_ok-push-2.ensures.items (c.in_ok-write_block-2.ensures.writes Done) c.in_ok-push-3.ensures.items;
+      c.in_ok-write_token.ensures.token (c.in_ok-write_block.ensures.writes Done) c.in_ok-write_token-2.ensures.token (c.in_ok-write_block-2.ensures.writes Done) c.in_ok-write_token-3.ensures.token;
 }
 
 pub write_while-write_block-requires : goal.write_while-write_block-requires
@@ -36,9 +36,9 @@ write_while-write_block-requires t c = let s = some_size c.args.condition.now in
 pub write_while-returns : goal.write_while-returns
 write_while-returns t c = record {
   writes = λ k.
-      block_at c.args.out.now.items c.push.new.self.items c.push-3.new.self.items c.push-4.new.self.items kind.Block block_type.Empty _ k c.in_ok-push.ensures.items
-      (block_at c.push.new.self.items c.push-2.new.self.items c.write_control-2.new.out.items c.push-3.new.self.items kind.Loop block_type.Empty _ Done c.in_ok-push-2.ensures.items
+      block_at c.args.out.now.items c.write_token.new.out.items c.write_token-3.new.out.items c.write_token-4.new.out.items kind.Block block_type.Empty _ k c.in_ok-write_token.ensures.token
+      (block_at c.write_token.new.out.items c.write_token-2.new.out.items c.write_control-2.new.out.items c.write_token-3.new.out.items kind.Loop block_type.Empty _ Done c.in_ok-write_token-2.ensures.token
       (c.in_ok-write_expr.ensures.writes _ ∙ c.in_ok-write_numeric.ensures.writes _ ∙ c.in_ok-write_control.ensures.writes _ ∙ c.in_ok-write_block.ensures.writes (Plain (branch 0) Done) ∙ c.in_ok-write_control-2.ensures.writes Done)
-      c.in_ok-push-3.ensures.items)
-      c.in_ok-push-4.ensures.items;
+      c.in_ok-write_token-3.ensures.token)
+      c.in_ok-write_token-4.ensures.token;
 }
