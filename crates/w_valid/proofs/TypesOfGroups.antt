@@ -164,3 +164,11 @@ next_left gs start items i g same lt is l =
 -- a position where a type stands is below the length
 pub position_below : (items ts : List CompType) (k : ℕ) (t : CompType) → items ≡ ts → slice_get items k ≡ Some t → k < length ts
 position_below items ts k t same is = omega (arith, slice_get_within items k t is, ap length same)
+
+-- one type more that is valid
+pub one_more : (P : CompType → Type 0) (ts : List CompType) (n : ℕ) (t : CompType) → slice_get ts n ≡ Some t → P t
+    → ((i : ℕ) (u : CompType) → i < n → slice_get ts i ≡ Some u → P u) → (i : ℕ) (u : CompType) → i < n + 1 → slice_get ts i ≡ Some u → P u
+one_more P ts n t there holds before i u lt is = elim (cases_lt i n) [
+  | inl h ↦ before i u h is
+  | inr h ↦ let at : i ≡ n = omega arith in let found : slice_get ts n ≡ Some u = sym (ap (slice_get ts) at) ∙ is in let same : t ≡ u = cc in subst P same holds
+]

@@ -5,8 +5,7 @@ ghost use Rattle.w_syntax.specs.Code.{Code};
 ghost use Rattle.w_syntax.specs.Items.{code_of};
 ghost use Rattle.w_rules.specs.Bodies.{ConstTyped};
 ghost use Rattle.w_rules.specs.Spaces.{context_of};
-ghost use Rattle.w_rules.specs.Valid.{ElementItem, ElementValid, IsElemModeValid};
-ghost use Rattle.w_valid.specs.Firsts.{IsFirst};
+ghost use Rattle.w_rules.specs.Valid.{ElementValid, IsElemModeValid};
 ghost use Rattle.w_valid.specs.Judged.{IsContextOf};
 
 use crate::lists::item_at;
@@ -80,8 +79,9 @@ fn are_items_typed(
     Ok(true)
 }
 
-// Whether the element segment of this index is valid.
-fn is_valid(alloc: Global, cx: &Context, index: usize) -> Result<bool, AllocError>
+/// Whether the element segment of this index is valid: its type is, its items are constant and of this type, and where it is active
+/// its table and its offset fit.
+pub(crate) fn is_valid(alloc: Global, cx: &Context, index: usize) -> Result<bool, AllocError>
     requires { IsContextOf cx.now }
     ensures { IfOk result (λ typed. IsTrue typed ↔ ElementValid cx.now.owner.now index) }
 {
@@ -95,21 +95,4 @@ fn is_valid(alloc: Global, cx: &Context, index: usize) -> Result<bool, AllocErro
         return Ok(false);
     }
     are_items_typed(alloc, cx, element.kind, &element.items)
-}
-
-/// The first element segment that is not valid, if there is one: its type is not, an item is not constant and of this type, or it
-/// is active and its table or its offset does not fit.
-pub(crate) fn first_invalid_element(
-    alloc: Global,
-    cx: &Context,
-) -> Result<Option<usize>, AllocError>
-    requires { IsContextOf cx.now }
-    ensures { IfOk result (λ first. IsFirst cx.now.owner.now ElementItem first) }
-{
-    for index in 0..cx.owner.elements.len() {
-        if !is_valid(alloc, cx, index)? {
-            return Ok(Some(index));
-        }
-    }
-    Ok(None)
 }

@@ -1,7 +1,6 @@
 //! Validity of globals.
 ghost use Rattle.std.specs.Prelude.{◌≡◌, ◌↔◌, IfOk, IsTrue};
-ghost use Rattle.w_rules.specs.Valid.{GlobalItem, GlobalValid};
-ghost use Rattle.w_valid.specs.Firsts.{IsFirst};
+ghost use Rattle.w_rules.specs.Valid.{GlobalValid};
 ghost use Rattle.w_valid.specs.Judged.{IsContextOf};
 
 use crate::lists::item_at;
@@ -9,8 +8,8 @@ use std::alloc::{AllocError, Global};
 use w_bodies::is_const_typed;
 use w_rules::Context;
 
-// Whether the global of this index is valid.
-fn is_valid(alloc: Global, cx: &Context, index: usize) -> Result<bool, AllocError>
+/// Whether the global of this index is valid: its type is, and what it begins with is constant and of this type.
+pub(crate) fn is_valid(alloc: Global, cx: &Context, index: usize) -> Result<bool, AllocError>
     requires { IsContextOf cx.now }
     ensures { IfOk result (λ typed. IsTrue typed ↔ GlobalValid cx.now.owner.now index) }
 {
@@ -27,17 +26,4 @@ fn is_valid(alloc: Global, cx: &Context, index: usize) -> Result<bool, AllocErro
         ..*cx
     };
     is_const_typed(alloc, &below, &global.init, global.kind.kind)
-}
-
-/// The first global that is not valid, if there is one: its type is not, or what it begins with is not constant and of this type.
-pub(crate) fn first_invalid_global(alloc: Global, cx: &Context) -> Result<Option<usize>, AllocError>
-    requires { IsContextOf cx.now }
-    ensures { IfOk result (λ first. IsFirst cx.now.owner.now GlobalItem first) }
-{
-    for index in 0..cx.owner.globals.len() {
-        if !is_valid(alloc, cx, index)? {
-            return Ok(Some(index));
-        }
-    }
-    Ok(None)
 }

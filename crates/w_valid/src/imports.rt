@@ -1,7 +1,6 @@
 //! Validity of imports.
 ghost use Rattle.std.specs.Prelude.{◌≡◌, ◌↔◌, IsTrue};
-ghost use Rattle.w_rules.specs.Valid.{ImportItem, ImportValid, IsExternValid};
-ghost use Rattle.w_valid.specs.Firsts.{IsFirst};
+ghost use Rattle.w_rules.specs.Valid.{ImportValid, IsExternValid};
 
 use crate::limits::{MOST_PAGES, are_limits_valid};
 use crate::lists::item_at;
@@ -23,24 +22,12 @@ fn is_extern_valid(cx: &Context, kind: ExternType) -> bool
     }
 }
 
-// Whether the import of this index is valid.
-fn is_valid(cx: &Context, index: usize) -> bool
+/// Whether the import of this index is valid: its type is.
+pub(crate) fn is_valid(cx: &Context, index: usize) -> bool
     ensures { IsTrue result ↔ ImportValid cx.now.owner.now index }
 {
     match item_at(&cx.owner.imports, index) {
         Some(import) => is_extern_valid(cx, import.kind),
         None => false,
     }
-}
-
-/// The first import that is not valid, if there is one: its type is not.
-pub(crate) fn first_invalid_import(cx: &Context) -> Option<usize>
-    ensures { IsFirst cx.now.owner.now ImportItem result }
-{
-    for index in 0..cx.owner.imports.len() {
-        if !is_valid(cx, index) {
-            return Some(index);
-        }
-    }
-    None
 }

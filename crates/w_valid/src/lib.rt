@@ -8,6 +8,7 @@ mod fault;
 mod functions;
 mod globals;
 mod imports;
+mod indexed;
 mod limits;
 mod lists;
 mod memories;

@@ -1,7 +1,6 @@
 //! Validity of tables.
 ghost use Rattle.std.specs.Prelude.{◌≡◌, ◌↔◌, IfOk, IsTrue};
-ghost use Rattle.w_rules.specs.Valid.{TableItem, TableValid, IsInitValid, IsTableTypeValid};
-ghost use Rattle.w_valid.specs.Firsts.{IsFirst};
+ghost use Rattle.w_rules.specs.Valid.{TableValid, IsInitValid, IsTableTypeValid};
 ghost use Rattle.w_valid.specs.Judged.{IsContextOf};
 
 use crate::limits::{MOST_ELEMENTS, are_limits_valid};
@@ -35,8 +34,8 @@ fn is_init_typed(
     }
 }
 
-// Whether the table of this index is valid.
-fn is_valid(alloc: Global, cx: &Context, index: usize) -> Result<bool, AllocError>
+/// Whether the table of this index is valid: its type is, and what its elements begin with is constant and of their type.
+pub(crate) fn is_valid(alloc: Global, cx: &Context, index: usize) -> Result<bool, AllocError>
     requires { IsContextOf cx.now }
     ensures { IfOk result (λ typed. IsTrue typed ↔ TableValid cx.now.owner.now index) }
 {
@@ -47,18 +46,4 @@ fn is_valid(alloc: Global, cx: &Context, index: usize) -> Result<bool, AllocErro
         return Ok(false);
     }
     is_init_typed(alloc, cx, table.kind.element, &table.init)
-}
-
-/// The first table that is not valid, if there is one: its type is not, or what its elements begin with is not constant and of
-/// their type.
-pub(crate) fn first_invalid_table(alloc: Global, cx: &Context) -> Result<Option<usize>, AllocError>
-    requires { IsContextOf cx.now }
-    ensures { IfOk result (λ first. IsFirst cx.now.owner.now TableItem first) }
-{
-    for index in 0..cx.owner.tables.len() {
-        if !is_valid(alloc, cx, index)? {
-            return Ok(Some(index));
-        }
-    }
-    Ok(None)
 }

@@ -1,25 +1,20 @@
 //! Validation of a module.
-ghost use Rattle.std.specs.Prelude.{◌≡◌, IfOk, IfErr, OnOk, Ok, Err};
+ghost use Rattle.std.specs.Prelude.{◌≡◌, [], IfOk, IfErr, OnOk, Ok, Err};
 ghost use Rattle.w_rules.specs.Facts.{AreFacts};
 ghost use Rattle.w_rules.specs.Limits.{Within, Passes};
 ghost use Rattle.w_rules.specs.Valid.{Item, ExportItem, Valid, IsInvalidAt};
 ghost use Rattle.w_rules.specs.declared.limits.SizeLimit.{SizeLimit as TheLimit};
 ghost use Rattle.w_valid.specs.Faults.{fault_of, IsFaultOf, IsAnswer};
 ghost use Rattle.w_valid.specs.Firsts.{IsFirstBefore};
-ghost use Rattle.w_valid.specs.Judged.{IsContextOf};
+ghost use Rattle.w_valid.specs.Judged.{IsContextOf, AreSpacesOf};
 ghost use Rattle.w_valid.specs.Measured.{AreMeasures};
 
-use crate::datas::first_invalid_data;
-use crate::elements::first_invalid_element;
 use crate::exports::first_invalid_export;
 use crate::fault::ValidFault;
 use crate::functions::{BodyFacts, first_invalid_function};
-use crate::globals::first_invalid_global;
-use crate::imports::first_invalid_import;
+use crate::indexed::{ItemKind, first_invalid};
 use crate::memories::are_memories_valid;
 use crate::start::is_start_valid;
-use crate::tables::first_invalid_table;
-use crate::tags::first_invalid_tag;
 use crate::types::first_invalid_type;
 use std::alloc::{AllocError, Global};
 use w_canon::Classes;
@@ -34,25 +29,25 @@ fn first_invalid_definition(alloc: Global, cx: &Context) -> Result<Option<ValidF
     if let Some(index) = first_invalid_type(cx.owner) {
         return Ok(Some(ValidFault::TypeAt(index)));
     }
-    if let Some(index) = first_invalid_import(cx) {
+    if let Some(index) = first_invalid(alloc, cx, ItemKind::Import)? {
         return Ok(Some(ValidFault::Import(index)));
     }
-    if let Some(index) = first_invalid_table(alloc, cx)? {
+    if let Some(index) = first_invalid(alloc, cx, ItemKind::Table)? {
         return Ok(Some(ValidFault::Table(index)));
     }
     if !are_memories_valid(cx) {
         return Ok(Some(ValidFault::Memory));
     }
-    if let Some(index) = first_invalid_tag(cx.owner) {
+    if let Some(index) = first_invalid(alloc, cx, ItemKind::Tag)? {
         return Ok(Some(ValidFault::Tag(index)));
     }
-    if let Some(index) = first_invalid_global(alloc, cx)? {
+    if let Some(index) = first_invalid(alloc, cx, ItemKind::Global)? {
         return Ok(Some(ValidFault::Global(index)));
     }
-    if let Some(index) = first_invalid_element(alloc, cx)? {
+    if let Some(index) = first_invalid(alloc, cx, ItemKind::Element)? {
         return Ok(Some(ValidFault::Element(index)));
     }
-    if let Some(index) = first_invalid_data(alloc, cx)? {
+    if let Some(index) = first_invalid(alloc, cx, ItemKind::Data)? {
         return Ok(Some(ValidFault::Data(index)));
     }
     if !is_start_valid(cx) {
@@ -61,13 +56,15 @@ fn first_invalid_definition(alloc: Global, cx: &Context) -> Result<Option<ValidF
     Ok(None)
 }
 
-// Finds the first item that is not valid, and else what the bodies of the functions need.
-fn judge_items(alloc: Global, cx: &Context) -> Result<BodyFacts, ValidFault>
+// Finds the first item that is not valid, and else adds what the bodies of the functions need.
+fn judge_items(alloc: Global, cx: &Context, measures: &mut BodyFacts) -> Result<(), ValidFault>
     requires whole { IsContextOf cx.now }
     requires within { Within cx.now.owner.now }
+    requires no_heights { measures.old.heights.items ≡ [] }
+    requires no_depths { measures.old.depths.items ≡ [] }
     ensures valid { OnOk result (Valid cx.now.owner.now) }
-    ensures measured { IfOk result (λ measures. AreMeasures cx.now.owner.now measures.heights.items
-        measures.depths.items) }
+    ensures measured { OnOk result (AreMeasures cx.now.owner.now measures.new.heights.items
+        measures.new.depths.items) }
     ensures err { IfErr result (λ fault. IsFaultOf cx.now.owner.now fault) }
 {
     if let Some(fault) = first_invalid_definition(alloc, cx)? {
@@ -76,14 +73,43 @@ fn judge_items(alloc: Global, cx: &Context) -> Result<BodyFacts, ValidFault>
     if let Some(index) = first_invalid_export(alloc, cx)? {
         return Err(ValidFault::Export(index));
     }
+    if let Some(index) = first_invalid_function(alloc, cx, measures)? {
+        return Err(ValidFault::Function(index));
+    }
+    Ok(())
+}
+
+// The same by its index spaces, and what is known of the module.
+fn judge_by(alloc: Global, candidate: &Module, spaces: &Spaces) -> Result<Facts, ValidFault>
+    requires within { Within candidate.now }
+    requires spaces { AreSpacesOf candidate.now spaces.now }
+    ensures valid { OnOk result (Valid candidate.now) }
+    ensures facts { IfOk result (λ facts. AreFacts candidate.now facts) }
+    ensures err { IfErr result (λ fault. IsFaultOf candidate.now fault) }
+{
+    let declared = declared_functions(alloc, candidate, spaces.functions.len())?;
+    let classes = Classes::of_groups(alloc, candidate.types.as_slice())?;
+    let cx = Context {
+        owner: candidate,
+        classes: &classes,
+        functions: spaces.functions.as_slice(),
+        tables: spaces.tables.as_slice(),
+        memories: spaces.memories.as_slice(),
+        globals: spaces.globals.as_slice(),
+        tags: spaces.tags.as_slice(),
+        declared: declared.as_slice(),
+    };
     let mut measures = BodyFacts {
         heights: Vec::new(alloc),
         depths: Vec::new(alloc),
     };
-    if let Some(index) = first_invalid_function(alloc, cx, &mut measures)? {
-        return Err(ValidFault::Function(index));
-    }
-    Ok(measures)
+    judge_items(alloc, &cx, &mut measures)?;
+    Ok(Facts {
+        heights: measures.heights,
+        depths: measures.depths,
+        declared,
+        classes,
+    })
 }
 
 // Finds the first fault of a module, and else what is known of it.
@@ -97,25 +123,7 @@ fn judge(alloc: Global, candidate: &Module) -> Result<Facts, ValidFault>
         return Err(ValidFault::Limit(name));
     }
     let spaces = Spaces::of_module(alloc, candidate)?;
-    let declared = declared_functions(alloc, candidate, spaces.functions.len())?;
-    let classes = Classes::of_groups(alloc, candidate.types.as_slice())?;
-    let cx = Context {
-        owner: candidate,
-        classes: &classes,
-        functions: spaces.functions.as_slice(),
-        tables: spaces.tables.as_slice(),
-        memories: spaces.memories.as_slice(),
-        globals: spaces.globals.as_slice(),
-        tags: spaces.tags.as_slice(),
-        declared: declared.as_slice(),
-    };
-    let measures = judge_items(alloc, &cx)?;
-    Ok(Facts {
-        heights: measures.heights,
-        depths: measures.depths,
-        declared,
-        classes,
-    })
+    judge_by(alloc, candidate, &spaces)
 }
 
 /// Validates a module (Core, validation, modules): keeps it where it is valid and within its limits, and else names its first

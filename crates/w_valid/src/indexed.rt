@@ -1,0 +1,68 @@
+//! Items of the kinds of which a module may have several, each judged by its index.
+ghost use Rattle.std.specs.Prelude.{◌≡◌, ◌↔◌, IfOk, IsTrue};
+ghost use Rattle.w_rules.specs.Valid.{ItemValid};
+ghost use Rattle.w_valid.specs.Firsts.{IsFirst};
+ghost use Rattle.w_valid.specs.Judged.{IsContextOf};
+ghost use Rattle.w_valid.specs.Kinds.{item_of, count_of};
+
+use crate::{datas, elements, globals, imports, tables, tags};
+use std::alloc::{AllocError, Global};
+use w_rules::Context;
+use w_syntax::Module;
+
+/// A kind of which a module may have several items.
+#[derive(Clone, Copy)]
+pub(crate) enum ItemKind {
+    Import,
+    Table,
+    Tag,
+    Global,
+    Element,
+    Data,
+}
+
+// How many items of this kind the module has.
+fn count(owner: &Module, kind: ItemKind) -> usize
+    ensures { result ≡ count_of owner.now kind }
+{
+    match kind {
+        ItemKind::Import => owner.imports.len(),
+        ItemKind::Table => owner.tables.len(),
+        ItemKind::Tag => owner.tags.len(),
+        ItemKind::Global => owner.globals.len(),
+        ItemKind::Element => owner.elements.len(),
+        ItemKind::Data => owner.datas.len(),
+    }
+}
+
+// Whether the item of this kind and index is valid.
+fn is_valid(alloc: Global, cx: &Context, kind: ItemKind, index: usize) -> Result<bool, AllocError>
+    requires { IsContextOf cx.now }
+    ensures { IfOk result (λ typed. IsTrue typed ↔ ItemValid cx.now.owner.now (item_of kind index)) }
+{
+    match kind {
+        ItemKind::Import => Ok(imports::is_valid(cx, index)),
+        ItemKind::Table => tables::is_valid(alloc, cx, index),
+        ItemKind::Tag => Ok(tags::is_valid(cx.owner, index)),
+        ItemKind::Global => globals::is_valid(alloc, cx, index),
+        ItemKind::Element => elements::is_valid(alloc, cx, index),
+        ItemKind::Data => datas::is_valid(alloc, cx, index),
+    }
+}
+
+/// The first item of this kind that is not valid, if there is one.
+pub(crate) fn first_invalid(
+    alloc: Global,
+    cx: &Context,
+    kind: ItemKind,
+) -> Result<Option<usize>, AllocError>
+    requires { IsContextOf cx.now }
+    ensures { IfOk result (λ first. IsFirst cx.now.owner.now (item_of kind) first) }
+{
+    for index in 0..count(cx.owner, kind) {
+        if !is_valid(alloc, cx, kind, index)? {
+            return Ok(Some(index));
+        }
+    }
+    Ok(None)
+}
