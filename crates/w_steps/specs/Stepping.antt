@@ -60,3 +60,8 @@ is_rare packed.Drop = false
 is_rare (packed.Load l a o) = false
 is_rare (packed.Store s a o) = false
 is_rare p = true
+
+-- the packed instruction gets or sets a local or a global
+abbrev pub is_variable : PackedInstr → Bool
+is_variable (packed.Variable o) = true
+is_variable p = false

@@ -1,12 +1,14 @@
 //! What instructions do to the operands.
-ghost use Rattle.std.specs.Prelude.{◌≡◌, ◌∷◌, IfOk, IfSome, IfNone, OnOk, IsTrue};
+ghost use Rattle.std.specs.Prelude.{◌≡◌, ◌∷◌, IfOk, IfSome, IfNone, IsFalse, IsTrue, List, OnOk};
 ghost use Rattle.w_flow.specs.Flow.{step};
 ghost use Rattle.w_flow.specs.View.{flow_view, flow_if};
 ghost use Rattle.w_rules.specs.InstructionTypes.{instr_type};
-ghost use Rattle.w_locals.specs.Locals.{outer_sets};
+ghost use Rattle.w_locals.specs.Locals.{LocalState, outer_sets};
+ghost use Rattle.w_types.specs.declared.types.ValType.{ValType};
+ghost use Rattle.w_steps.specs.declared.frame_kind.FrameKind.{FrameKind};
 ghost use Rattle.w_steps.specs.PlainTests.{plain_test};
 ghost use Rattle.w_syntax.specs.Packed.{OnPlain, unpacked};
-ghost use Rattle.w_steps.specs.Stepping.{StepsTo, SetsBy, PackedSteps, PackedSets, StepsAnywhere, is_rare};
+ghost use Rattle.w_steps.specs.Stepping.{StepsTo, SetsBy, PackedSteps, PackedSets, is_rare, is_variable};
 ghost use Rattle.w_steps.specs.View.{outer_kinds};
 ghost use Rattle.w_steps.specs.View.{context_at, gated};
 
@@ -74,40 +76,37 @@ fn plain_step(
     }
 }
 
-// A common instruction; `None`, and nothing is done, where it is none.
+// A common instruction but those on variables; `None`, and nothing is done, where it is none.
 fn common_step(
     cx: &Context,
-    locals: &mut Locals,
     flow: &mut Flow,
     packed: &PackedInstr,
-) -> Result<Option<bool>, AllocError>
-    ensures steps { IfOk result (λ told. IfSome told (λ taken. StepsAnywhere
-        cx.now locals.old packed.now flow.old flow.new taken)) }
-    ensures types { locals.new.types ≡ locals.old.types }
-    ensures sets { IfOk result (λ told. IfSome told (λ taken. IsTrue taken
-        → PackedSets packed.now locals.old locals.new)) }
-    ensures outer { OnOk result (outer_sets locals.new.sets ≡ outer_sets locals.old.sets) }
-    ensures rare { IfOk result (λ told. IfNone told (IsTrue (is_rare packed.now))) }
-    ensures nothing { IfOk result (λ told. IfNone told ((flow.new ≡ flow.old)
-        × (locals.new ≡ locals.old))) }
+) -> Option<Result<bool, AllocError>>
+    requires { IsFalse (is_variable packed.now) }
+    ensures steps { (locals : LocalState) (results : List ValType) (ks : List FrameKind)
+        → IfSome result (λ told. IfOk told (λ taken. PackedSteps cx.now locals results ks packed.now
+        flow.old flow.new taken)) }
+    ensures unset { (locals : LocalState) → IfSome result (λ _. PackedSets packed.now locals locals) }
+    ensures rare { IfNone result (IsTrue (is_rare packed.now)) }
+    ensures nothing { IfNone result (flow.new ≡ flow.old) }
 {
     let classes = cx.classes;
-    let taken = match packed {
-        PackedInstr::Variable(op) => variable_step(cx, locals, flow, *op)?,
-        PackedInstr::I32Const(_) => flow.gives(PackedType::I32)?,
-        PackedInstr::I64Const(_) => flow.gives(PackedType::I64)?,
-        PackedInstr::Eqz(kind) => flow.turns(classes, of_int(*kind), PackedType::I32)?,
-        PackedInstr::Compare(kind, _) => flow.joins(classes, of_int(*kind), PackedType::I32)?,
-        PackedInstr::Unary(kind, _) => flow.turns(classes, of_int(*kind), of_int(*kind))?,
-        PackedInstr::Binary(kind, _) => flow.joins(classes, of_int(*kind), of_int(*kind))?,
-        PackedInstr::Drop => flow.drops(),
-        PackedInstr::Load(load, align, offset) => load_step(cx, flow, *load, *align, *offset)?,
-        PackedInstr::Store(store, align, offset) => {
-            store_step(cx, flow, *store, *align, *offset)
+    match packed {
+        PackedInstr::I32Const(_) => Some(flow.gives(PackedType::I32)),
+        PackedInstr::I64Const(_) => Some(flow.gives(PackedType::I64)),
+        PackedInstr::Eqz(kind) => Some(flow.turns(classes, of_int(*kind), PackedType::I32)),
+        PackedInstr::Compare(kind, _) => Some(flow.joins(classes, of_int(*kind), PackedType::I32)),
+        PackedInstr::Unary(kind, _) => Some(flow.turns(classes, of_int(*kind), of_int(*kind))),
+        PackedInstr::Binary(kind, _) => Some(flow.joins(classes, of_int(*kind), of_int(*kind))),
+        PackedInstr::Drop => Some(Ok(flow.drops())),
+        PackedInstr::Load(load, align, offset) => {
+            Some(load_step(cx, flow, *load, *align, *offset))
         }
-        _ => return Ok(None),
-    };
-    Ok(Some(taken))
+        PackedInstr::Store(store, align, offset) => {
+            Some(Ok(store_step(cx, flow, *store, *align, *offset)))
+        }
+        _ => None,
+    }
 }
 
 // Another instruction, where it holds no others and does not switch stacks.
@@ -173,8 +172,11 @@ pub fn packed_step(
         → PackedSets packed.now locals.old locals.new) }
     ensures outer { OnOk result (outer_sets locals.new.sets ≡ outer_sets locals.old.sets) }
 {
-    match common_step(cx, locals, flow, packed)? {
-        Some(taken) => Ok(taken),
-        None => rare_step(cx, locals, results, kind, outer, flow, packed),
+    match packed {
+        PackedInstr::Variable(op) => variable_step(cx, locals, flow, *op),
+        _ => match common_step(cx, flow, packed) {
+            Some(taken) => taken,
+            None => rare_step(cx, locals, results, kind, outer, flow, packed),
+        },
     }
 }

@@ -1,5 +1,6 @@
 //! Types that stand only where a test holds.
-ghost use Rattle.std.specs.Prelude.{◌≡◌, IfOk};
+ghost use Rattle.std.specs.Prelude.{◌≡◌, IfOk, List};
+ghost use Rattle.w_canon.specs.declared.entry.Entry.{Entry};
 ghost use Rattle.w_types.specs.Rows.{ε, ◌▹◌, row_of};
 ghost use Rattle.w_flow.specs.Flow.{step};
 ghost use Rattle.w_flow.specs.View.{flow_view, flow_if};
@@ -26,6 +27,21 @@ pub(crate) fn fixed_if_valid(
         return Ok(false);
     }
     flow.fixed(classes, ins, outs)
+}
+
+/// Gives an operand of this type, where the test holds.
+pub(crate) fn gives_if_valid(
+    flow: &mut Flow,
+    test: bool,
+    kind: PackedType,
+) -> Result<bool, AllocError>
+    ensures { (es : List Entry) → IfOk result (λ taken. step es (if_valid test (fixed ε (ε ▹ kind)))
+        (flow_view flow.old).any (flow_view flow.old).operands ≡ flow_if taken flow.new) }
+{
+    if !test {
+        return Ok(false);
+    }
+    flow.gives(kind)
 }
 
 /// Takes an operand and gives one of these types, where the test holds.

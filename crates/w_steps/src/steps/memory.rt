@@ -1,20 +1,20 @@
 //! Memory instructions.
-ghost use Rattle.std.specs.Prelude.{◌≡◌, IfOk};
+ghost use Rattle.std.specs.Prelude.{◌≡◌, ◌&&◌, IfOk, nat_lt};
+ghost use Rattle.w_types.specs.Rows.{ε, ◌▹◌};
+ghost use Rattle.w_types.specs.declared.types.ValType.TheVariants as val;
 ghost use Rattle.w_syntax.specs.declared.memory_instructions.MemoryOp.TheVariants as op;
 ghost use Rattle.w_flow.specs.Flow.{step};
 ghost use Rattle.w_flow.specs.View.{flow_view, flow_if};
-ghost use Rattle.w_rules.specs.InstructionTypes.{load_type as the_load_type, load_width as the_load_width, store_type as the_store_type, store_width as the_store_width, is_access as the_access, memory_op_type};
+ghost use Rattle.w_rules.specs.InstructionTypes.{load_type as the_load_type, load_width as the_load_width, store_type as the_store_type, store_width as the_store_width, is_access as the_access, fixed, has_memory, if_valid, memory_op_type};
 ghost use Rattle.w_rules.specs.View.{context_in};
 
-use crate::steps::if_valid::{fixed_if_valid, takes_two_if_valid, turns_if_valid};
+use crate::steps::if_valid::{fixed_if_valid, gives_if_valid, takes_two_if_valid, turns_if_valid};
 use std::alloc::AllocError;
+use w_canon::Classes;
 use w_flow::Flow;
 use w_rules::Context;
 use w_syntax::{LoadOp, MemoryOp, StoreOp};
 use w_types::PackedType;
-
-// What takes a place, a second one or a byte, and a length takes.
-const THREE: [PackedType; 3] = [PackedType::I32, PackedType::I32, PackedType::I32];
 
 fn load_type(load: LoadOp) -> PackedType
     ensures { result ≡ the_load_type load }
@@ -76,6 +76,29 @@ fn is_access(cx: &Context, width: u32, align: u8, offset: u64) -> bool
     cx.has_memory(0) && (u32::from(align) <= width && offset < 1 << 32)
 }
 
+// Whether a copy of a data segment into a memory has both.
+fn is_init(cx: &Context, segment: u32, memory: u32) -> bool
+    ensures { result ≡ (has_memory (context_in cx.now) memory && nat_lt segment (context_in cx.now).datas) }
+{
+    cx.has_memory(memory) && cx.has_data(segment)
+}
+
+// Whether a copy of a part of a memory into a memory has both.
+fn is_copy(cx: &Context, to: u32, from: u32) -> bool
+    ensures { result ≡ (has_memory (context_in cx.now) to && has_memory (context_in cx.now) from) }
+{
+    cx.has_memory(to) && cx.has_memory(from)
+}
+
+// Takes a place, a second one or a byte, and a length, where the test holds.
+fn takes_three_if_valid(classes: &Classes, flow: &mut Flow, test: bool) -> Result<bool, AllocError>
+    ensures { IfOk result (λ taken. step classes.now (if_valid test (fixed (ε ▹ val.I32 ▹ val.I32 ▹ val.I32) ε))
+        (flow_view flow.old).any (flow_view flow.old).operands ≡ flow_if taken flow.new) }
+{
+    let three = [PackedType::I32, PackedType::I32, PackedType::I32];
+    fixed_if_valid(classes, flow, test, &three, &[])
+}
+
 /// A load, with the exponent of the alignment and the offset.
 pub(crate) fn load_step(
     cx: &Context,
@@ -120,13 +143,7 @@ pub(crate) fn memory_step(cx: &Context, flow: &mut Flow, op: MemoryOp) -> Result
         MemoryOp::Store(store, argument) => {
             Ok(store_step(cx, flow, store, argument.align, argument.offset))
         }
-        MemoryOp::Size(memory) => {
-            if cx.has_memory(memory) {
-                flow.gives(PackedType::I32)
-            } else {
-                Ok(false)
-            }
-        }
+        MemoryOp::Size(memory) => gives_if_valid(flow, cx.has_memory(memory), PackedType::I32),
         MemoryOp::Grow(memory) => turns_if_valid(
             cx.classes,
             flow,
@@ -135,18 +152,12 @@ pub(crate) fn memory_step(cx: &Context, flow: &mut Flow, op: MemoryOp) -> Result
             PackedType::I32,
         ),
         MemoryOp::Init(segment, memory) => {
-            let there = cx.has_memory(memory) && cx.has_data(segment);
-            fixed_if_valid(cx.classes, flow, there, &THREE, &[])
+            takes_three_if_valid(cx.classes, flow, is_init(cx, segment, memory))
         }
         MemoryOp::DataDrop(segment) => {
             fixed_if_valid(cx.classes, flow, cx.has_data(segment), &[], &[])
         }
-        MemoryOp::Copy(to, from) => {
-            let there = cx.has_memory(to) && cx.has_memory(from);
-            fixed_if_valid(cx.classes, flow, there, &THREE, &[])
-        }
-        MemoryOp::Fill(memory) => {
-            fixed_if_valid(cx.classes, flow, cx.has_memory(memory), &THREE, &[])
-        }
+        MemoryOp::Copy(to, from) => takes_three_if_valid(cx.classes, flow, is_copy(cx, to, from)),
+        MemoryOp::Fill(memory) => takes_three_if_valid(cx.classes, flow, cx.has_memory(memory)),
     }
 }

@@ -18,7 +18,7 @@ fn function_reference(cx: &Context, function: u32) -> Option<PackedType>
     ensures { ref_func_type (slice_get (context_in cx.now).functions function) (slice_get
         (context_in cx.now).declared function) ≡ gives_type result }
 {
-    let index = *cx.functions.get(function as usize)?;
+    let index = cx.function(function)?;
     if *cx.declared.get(function as usize)? {
         Some(PackedType::reference(RefType {
             nullable: false,
