@@ -1,7 +1,7 @@
 -- Values found for globals, tables and element segments.
 use Rattle.std.proofs.Common.{◌≡◌, ℕ, ◌+◌, ◌<◌, ◌≤◌, List, [], ◌∷◌, ◌++◌, length, drop, get_or, map, refl, sym, ap, ◌∙◌, arith}
 use Rattle.std.specs.Prelude.{Option, Some, None, slice_get, replicate}
-use Rattle.std.proofs.lemmas.List.{at_drop_more, append_assoc, map-append}
+use Rattle.std.proofs.lemmas.List.{at_drop_more, append_assoc, append-nil, map-append}
 use Rattle.std.proofs.lemmas.Option.{slice_get_past, get_or_from_slice_get}
 use Rattle.w_types.specs.declared.types.HeapType.{HeapType}
 use Rattle.w_types.specs.declared.value.Value.{Value}
@@ -86,6 +86,11 @@ items_more gs n xs i k vs ws v e h f found w p s c =
     w p s c ∙ ap (λ (l : List Val). vals vs ++ l) (at_drop_more (map (value_of p s)) xs i k h)
     ∙ sym (append_assoc (vals vs) (value_of p s (get_or xs i k) ∷ []) (map (value_of p s) (drop (i + 1) xs)))
     ∙ ap (λ (l : List Val). l ++ map (value_of p s) (drop (i + 1) xs)) (ap (λ (y : Val). vals vs ++ y ∷ []) valued ∙ sym (map-append val vs (v ∷ [])) ∙ ap vals (sym f))
+
+-- all of them
+pub items_all : (gs : List Value) (n : ℕ) (xs : List Code) (vs : List Value) (rest : List Code) → rest ≡ [] → ItemsFound gs n xs vs rest
+    → (p : Program) (s : Store) → Sees gs n s → map (value_of p s) xs ≡ vals vs
+items_all gs n xs vs rest e w p s c = w p s c ∙ ap (λ (l : List Code). vals vs ++ map (value_of p s) l) e ∙ append-nil (vals vs)
 
 -- ## Tables
 

@@ -81,8 +81,7 @@ pub(crate) fn add_datas(alloc: Global, store: &mut Store, datas: &[Data]) -> Res
     ensures added { OnOk result (store_of store.new ≡ with_datas (store_of store.old) (map (λ (d : TheData). d.bytes) datas.now)) }
 {
     for data in datas {
-        let mut bytes = Vec::new(alloc);
-        bytes.extend_from_slice(data.bytes.as_slice())?;
+        let bytes = Vec::from_slice(alloc, data.bytes.as_slice())?;
         store.add_bytes(bytes)?;
     }
     Ok(())

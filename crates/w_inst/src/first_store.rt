@@ -1,9 +1,10 @@
 //! The store that a run begins with (Core, execution, instantiation).
-ghost use Rattle.std.specs.Prelude.{◌≡◌, IfOk, None};
+ghost use Rattle.std.specs.Prelude.{◌≡◌, ◌+◌, IfOk, OnOk, None, length};
+ghost use Rattle.w_tables.specs.Operations.{empty};
 ghost use Rattle.w_rules.specs.Valid.{Valid};
 ghost use Rattle.w_reduce.specs.Program.{Program};
 ghost use Rattle.w_reduce.specs.Start as start;
-ghost use Rattle.w_stands.specs.Values.{store_of};
+ghost use Rattle.w_stands.specs.Values.{vals, store_of};
 ghost use Rattle.w_inst.specs.Instances.{StandsFor, SegmentsFrom};
 
 use crate::allocation::{add_datas, add_memories, add_own, add_printers, add_tags};
@@ -22,19 +23,49 @@ pub(crate) struct FirstStore {
     pub(crate) globals: Vec<Value>,
 }
 
-// A store of what asks for no value.
-fn bare(alloc: Global, program: &Module, printers: &[Printer]) -> Result<Store, AllocError>
+// Adds what asks for no value.
+fn add_bare(
+    alloc: Global,
+    store: &mut Store,
+    program: &Module,
+    printers: &[Printer],
+) -> Result<(), AllocError>
     requires within { start.exceeded program.now ≡ None }
     requires valid { Valid program.now }
-    ensures bare { IfOk result (λ s. store_of s ≡ start.bare program.now printers.now) }
+    requires nothing { store.old ≡ empty }
+    ensures bare { OnOk result (store_of store.new ≡ start.bare program.now printers.now) }
 {
-    let mut store = Store::new(alloc)?;
-    add_printers(&mut store, printers)?;
-    add_own(&mut store, program.functions.len())?;
-    add_memories(alloc, &mut store, program)?;
-    add_tags(&mut store, program.tags.as_slice())?;
-    add_datas(alloc, &mut store, program.datas.as_slice())?;
-    Ok(store)
+    add_printers(store, printers)?;
+    add_own(store, program.functions.len())?;
+    add_memories(alloc, store, program)?;
+    add_tags(store, program.tags.as_slice())?;
+    add_datas(alloc, store, program.datas.as_slice())
+}
+
+// Adds all that a module defines, behind the functions of the host: globals of these values, and what sees so many functions.
+fn add_all(
+    alloc: Global,
+    store: &mut Store,
+    program: &Module,
+    printers: &[Printer],
+    globals: &[Value],
+    functions: usize,
+) -> Result<(), AllocError>
+    requires within { start.exceeded program.now ≡ None }
+    requires valid { Valid program.now }
+    requires nothing { store.old ≡ empty }
+    requires count { functions ≡ length printers.now + length program.now.functions }
+    requires values { (p : Program) → start.with_globals p (start.bare program.now printers.now)
+        program.now.globals ≡ record (start.bare program.now printers.now) { globals = vals globals.now } }
+    ensures allocated { OnOk result ((p : Program) → p.source ≡ program.now → store_of store.new ≡ start.allocated p printers.now) }
+    ensures stands { OnOk result (StandsFor program.now globals.now functions store.new) }
+    ensures segments { OnOk result (SegmentsFrom program.now 0 store.new) }
+{
+    add_bare(alloc, store, program, printers)?;
+    add_globals(store, globals)?;
+    add_tables(alloc, store, program, globals, functions)?;
+    add_elements(alloc, store, program, globals, functions)?;
+    Ok(())
 }
 
 /// Allocates what a module defines, behind the functions of the host that it imports (Core, execution, allocation of modules). It fails
@@ -54,10 +85,15 @@ pub(crate) fn allocate(
         return Err(AllocError);
     };
     let globals = global_values(alloc, program, functions)?;
-    let mut store = bare(alloc, program, printers)?;
-    add_globals(&mut store, globals.as_slice())?;
-    add_tables(alloc, &mut store, program, globals.as_slice(), functions)?;
-    add_elements(alloc, &mut store, program, globals.as_slice(), functions)?;
+    let mut store = Store::new(alloc)?;
+    add_all(
+        alloc,
+        &mut store,
+        program,
+        printers,
+        globals.as_slice(),
+        functions,
+    )?;
     Ok(FirstStore {
         store,
         functions,
