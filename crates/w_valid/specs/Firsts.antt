@@ -3,7 +3,7 @@ use Rattle.std.specs.Prelude.{◌≡◌, ℕ, ◌<◌, List, Option, Some, None,
 use Rattle.w_syntax.specs.declared.module.Module.{Module}
 use Rattle.w_rules.specs.Valid.{Item, ItemValid, IsItem, Before, IsInvalidAt}
 use Rattle.w_valid.specs.declared.fault.ValidFault.{ValidFault}
-use Rattle.w_valid.specs.Faults.{fault_of}
+use Rattle.w_valid.specs.Faults.{fault_of, IsFaultOf}
 
 -- of the items of one kind, this is the first without a derivation, or there is none
 abbrev pub IsFirst : Module → (ℕ → Item) → Option ℕ → Type 0
@@ -19,3 +19,8 @@ IsFirstFailing {A} Holds xs (Some k) = (x : A) × (slice_get xs k ≡ Some x) ×
 abbrev pub IsFirstBefore : Module → Item → Option ValidFault → Type 0
 IsFirstBefore m z None = (x : Item) → Before x z → IsItem m x → ItemValid m x
 IsFirstBefore m z (Some fault) = (x : Item) × (fault ≡ fault_of x) × Before x z × IsInvalidAt m x
+
+-- the fault is that of the module, or each item before z has a derivation
+abbrev pub IsFaultBefore : Module → Item → Option ValidFault → Type 0
+IsFaultBefore m z None = (x : Item) → Before x z → IsItem m x → ItemValid m x
+IsFaultBefore m z (Some fault) = IsFaultOf m fault

@@ -5,7 +5,7 @@ ghost use Rattle.w_rules.specs.Limits.{Within, Passes};
 ghost use Rattle.w_rules.specs.Valid.{Item, ExportItem, Valid, IsInvalidAt};
 ghost use Rattle.w_rules.specs.declared.limits.SizeLimit.{SizeLimit as TheLimit};
 ghost use Rattle.w_valid.specs.Faults.{fault_of, IsFaultOf, IsAnswer};
-ghost use Rattle.w_valid.specs.Firsts.{IsFirstBefore};
+ghost use Rattle.w_valid.specs.Firsts.{IsFaultBefore};
 ghost use Rattle.w_valid.specs.Judged.{IsContextOf, AreSpacesOf};
 ghost use Rattle.w_valid.specs.Measured.{AreMeasures};
 
@@ -23,8 +23,9 @@ use w_syntax::Module;
 
 // The first item before the exports that is not valid, if there is one.
 fn first_invalid_definition(alloc: Global, cx: &Context) -> Result<Option<ValidFault>, AllocError>
-    requires { IsContextOf cx.now }
-    ensures { IfOk result (λ first. IsFirstBefore cx.now.owner.now (ExportItem 0) first) }
+    requires whole { IsContextOf cx.now }
+    requires within { Within cx.now.owner.now }
+    ensures { IfOk result (λ first. IsFaultBefore cx.now.owner.now (ExportItem 0) first) }
 {
     if let Some(index) = first_invalid_type(cx.owner) {
         return Ok(Some(ValidFault::TypeAt(index)));
