@@ -1,6 +1,7 @@
 pub mod Definitions
 pub mod Scopes
 pub mod Rules
+pub mod Parts
 pub mod Refusal
 pub mod Least
 pub mod Views

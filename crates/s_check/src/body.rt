@@ -4,10 +4,11 @@ ghost use Rattle.s_syntax.specs.BlockOf.{statement_of};
 ghost use Rattle.s_check.specs.Least.{least_of};
 ghost use Rattle.s_check.specs.Rules.{in_body};
 ghost use Rattle.s_check.specs.Scopes.{Bound, lets_of, lets_in, some_twice, bind_all};
-ghost use Rattle.s_check.specs.Views.{names_of, scope_of};
+ghost use Rattle.s_check.specs.Views.{names_of, scope_of, HasNames};
 
 use crate::bound::Binding;
 use crate::declarations::Declarations;
+use crate::noted::noted_before;
 use crate::rule::{Rule, broken_where};
 use crate::scope::Scope;
 use crate::statement::in_block;
@@ -53,17 +54,25 @@ fn push_lets<'a>(block: &'a Block, names: &mut Vec<&'a Name>) -> Result<(), Allo
     Ok(())
 }
 
-// Whether a name stands twice.
-fn some_twice(alloc: Global, names: &[&Name]) -> Result<bool, AllocError>
+// Whether a name stands twice, where the set has none yet.
+fn some_noted<'a>(before: &mut BTreeSet<&'a [u8]>, names: &[&'a Name]) -> Result<bool, AllocError>
+    requires none { HasNames before.old [] }
     ensures value { IfOk result (λ twice. twice ≡ some_twice [] (names_of names.now)) }
 {
-    let mut before: BTreeSet<&[u8]> = BTreeSet::new(alloc);
     for name in names {
-        if !before.insert(name.as_bytes())? {
+        if noted_before(before, name)? {
             return Ok(true);
         }
     }
     Ok(false)
+}
+
+// Whether a name stands twice.
+fn some_twice(alloc: Global, names: &[&Name]) -> Result<bool, AllocError>
+    ensures value { IfOk result (λ twice. twice ≡ some_twice [] (names_of names.now)) }
+{
+    let mut before = BTreeSet::new(alloc);
+    some_noted(&mut before, names)
 }
 
 // Whether a body binds a name twice, at whose start these are bound.

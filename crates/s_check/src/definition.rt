@@ -5,11 +5,12 @@ ghost use Rattle.s_syntax.specs.declared.script.Definition.TheVariants.{Function
 ghost use Rattle.s_check.specs.Least.{least_of};
 ghost use Rattle.s_check.specs.Rules.{in_type, in_parameters, in_head, in_body, in_clauses, in_header, in_definition};
 ghost use Rattle.s_check.specs.Scopes.{parameter, number, of_clause, of_return, is_among};
-ghost use Rattle.s_check.specs.Views.{type_of, scope_of};
+ghost use Rattle.s_check.specs.Views.{type_of, scope_of, HasNames};
 
 use crate::body::in_body;
 use crate::bound::{Binding, ValueType};
 use crate::declarations::Declarations;
+use crate::noted::noted_before;
 use crate::rule::{Rule, broken, broken_where};
 use s_syntax::{Clause, Definition, Function, Handler, Name, Parameter, VariableType};
 use std::alloc::{AllocError, Global};
@@ -169,6 +170,27 @@ fn in_head(
     }
 }
 
+// The least rule, with those that the clauses of a handler for effects break, where the set has no name yet.
+fn in_each_clause<'a>(
+    alloc: Global,
+    declarations: &Declarations<'a>,
+    name: &'a Name,
+    handler: &'a Handler,
+    before: &mut BTreeSet<&'a [u8]>,
+    least: Option<Rule>,
+) -> Result<Option<Rule>, AllocError>
+    requires none { HasNames before.old [] }
+    ensures value { IfOk result (λ now. now ≡ least_of least (in_clauses declarations.now name.now handler.now [] handler.now.clauses)) }
+{
+    let mut least = least;
+    for clause in handler.clauses.as_slice() {
+        let is_again = noted_before(before, &clause.effect)?;
+        least = in_head(declarations.effect(&clause.effect), is_again, clause, least);
+        least = in_clause(alloc, declarations, name, handler, clause, least)?;
+    }
+    Ok(least)
+}
+
 // The least rule, with those that the clauses of a handler for effects break.
 fn in_clauses<'a>(
     alloc: Global,
@@ -179,14 +201,8 @@ fn in_clauses<'a>(
 ) -> Result<Option<Rule>, AllocError>
     ensures value { IfOk result (λ now. now ≡ least_of least (in_clauses declarations.now name.now handler.now [] handler.now.clauses)) }
 {
-    let mut least = least;
-    let mut before: BTreeSet<&[u8]> = BTreeSet::new(alloc);
-    for clause in handler.clauses.as_slice() {
-        let is_again = !before.insert(clause.effect.as_bytes())?;
-        least = in_head(declarations.effect(&clause.effect), is_again, clause, least);
-        least = in_clause(alloc, declarations, name, handler, clause, least)?;
-    }
-    Ok(least)
+    let mut before = BTreeSet::new(alloc);
+    in_each_clause(alloc, declarations, name, handler, &mut before, least)
 }
 
 // The least rule, with those that a handler breaks by its parameters and by how many clauses it has.

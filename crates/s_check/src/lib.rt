@@ -8,6 +8,7 @@ mod checked;
 mod declarations;
 mod definition;
 mod expression;
+mod noted;
 mod refused;
 mod reviewing;
 mod rule;

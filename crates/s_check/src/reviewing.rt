@@ -1,5 +1,5 @@
 //! Whole scripts.
-ghost use Rattle.std.specs.Prelude.{◌≡◌, ◌≢◌, List, Result, IfOk, IfErr, None, codes};
+ghost use Rattle.std.specs.Prelude.{◌≡◌, ◌≢◌, List, [], Result, IfOk, IfErr, None, codes};
 ghost use Rattle.s_syntax.specs.declared.name.Name.{Name as TheName};
 ghost use Rattle.s_syntax.specs.declared.script.Script.{Script as TheScript};
 ghost use Rattle.s_check.specs.declared.refused.Refused.{Refused as TheRefused};
@@ -9,10 +9,12 @@ ghost use Rattle.s_check.specs.Least.{least_of, first_broken};
 ghost use Rattle.s_check.specs.Refusal.{Good, IsRefusal, Means, IsAnswer};
 ghost use Rattle.s_check.specs.Rules.{in_declaration, is_main, broken_rules};
 ghost use Rattle.s_check.specs.Scopes.{is_among};
+ghost use Rattle.s_check.specs.Views.{HasNames};
 
 use crate::checked::CheckedScript;
 use crate::declarations::Declarations;
 use crate::definition::in_definition;
+use crate::noted::noted_before;
 use crate::refused::Refused;
 use crate::rule::{Rule, broken_where};
 use s_syntax::{Declaration, Name, Script};
@@ -50,25 +52,42 @@ fn has_main<'a>(declarations: &Declarations<'a>, main: &'a Name) -> bool
     }
 }
 
-// The first declaration that breaks a rule, with the least that it breaks; behind the declarations, whether `main` is missing.
+// The first declaration that breaks a rule, with the least that it breaks; behind the declarations, whether `main` is missing. The names of
+// those gone through are noted in the set.
+fn first_in<'a>(
+    alloc: Global,
+    declarations: &Declarations<'a>,
+    main: &'a Name,
+    before: &mut BTreeSet<&'a [u8]>,
+    all: &'a [Declaration],
+) -> Result<Option<(usize, Rule)>, AllocError>
+    requires main { main.now ≡ codes "main" }
+    requires all { declarations.now ≡ all.now }
+    requires none { HasNames before.old [] }
+    ensures value { IfOk result (λ broken. broken ≡ first_broken 0 (broken_rules all.now)) }
+{
+    for index in 0..all.len() {
+        let declaration = &all[index];
+        let is_again = noted_before(before, &declaration.name)?;
+        if let Some(rule) = in_declaration(alloc, declarations, is_again, declaration)? {
+            return Ok(Some((index, rule)));
+        }
+    }
+    if has_main(declarations, main) {
+        Ok(None)
+    } else {
+        Ok(Some((all.len(), Rule::NoMain)))
+    }
+}
+
+// The same of a script's declarations. What it owns is let go at one place, so that the loop over them has nothing to let go.
 fn first_broken(alloc: Global, all: &[Declaration]) -> Result<Option<(usize, Rule)>, AllocError>
     ensures value { IfOk result (λ broken. broken ≡ first_broken 0 (broken_rules all.now)) }
 {
     let main = Name::new(alloc, "main".as_bytes())?;
     let declarations = Declarations::new(alloc, all)?;
-    let mut before: BTreeSet<&[u8]> = BTreeSet::new(alloc);
-    for index in 0..all.len() {
-        let declaration = &all[index];
-        let is_again = !before.insert(declaration.name.as_bytes())?;
-        if let Some(rule) = in_declaration(alloc, &declarations, is_again, declaration)? {
-            return Ok(Some((index, rule)));
-        }
-    }
-    if has_main(&declarations, &main) {
-        Ok(None)
-    } else {
-        Ok(Some((all.len(), Rule::NoMain)))
-    }
+    let mut before = BTreeSet::new(alloc);
+    first_in(alloc, &declarations, &main, &mut before, all)
 }
 
 /// The script, where it breaks no rule. `Rule` is the first declaration that breaks one, with the least rule that it breaks; where only `main`

@@ -2,7 +2,8 @@
 ghost use Rattle.std.specs.Prelude.{◌≡◌, false, length, take, OnOk, IfOk};
 ghost use Rattle.s_syntax.specs.BlockOf.{statement_of, block_of};
 ghost use Rattle.s_check.specs.Least.{least_of};
-ghost use Rattle.s_check.specs.Rules.{in_target, bound_after, in_statement, in_block};
+ghost use Rattle.s_check.specs.Rules.{in_target, bound_after, in_block};
+ghost use Rattle.s_check.specs.Parts.{in_front, in_blocks};
 ghost use Rattle.s_check.specs.Scopes.{type_in};
 
 use crate::bound::{Binding, ValueType};
@@ -37,41 +38,66 @@ fn bind_let<'a>(scope: &mut Scope<'a>, statement: &'a Statement) -> Result<(), A
     Ok(())
 }
 
-// The least rule, with those that a statement breaks.
+// The least rule, with those that a statement breaks outside its blocks.
+#[tactic(auto, using(crate::proofs::Least::least_append))]
+fn in_front<'a>(
+    declarations: &Declarations<'a>,
+    scope: &Scope<'a>,
+    statement: &'a Statement,
+    least: Option<Rule>,
+) -> Option<Rule>
+    ensures value { result ≡ least_of least (in_front declarations.now scope.now (statement_of statement.now)) }
+{
+    match statement {
+        Statement::Assign { name, value } => {
+            let least = in_target(scope, name, least);
+            in_expr(declarations, scope, false, value, least)
+        }
+        Statement::Fail => least,
+        Statement::Let { name: _, value }
+        | Statement::If {
+            condition: value,
+            then_block: _,
+            else_block: _,
+        }
+        | Statement::While {
+            condition: value,
+            body: _,
+        }
+        | Statement::Print(value)
+        | Statement::Return(value)
+        | Statement::Evaluate(value) => in_expr(declarations, scope, false, value, least),
+    }
+}
+
+// The least rule, with those that the blocks of a statement break.
 #[cycle(statements)]
 #[tactic(auto, using(crate::proofs::Least::least_append))]
-fn in_statement<'a>(
+fn in_blocks<'a>(
     declarations: &Declarations<'a>,
     scope: &mut Scope<'a>,
     statement: &'a Statement,
     least: Option<Rule>,
 ) -> Result<Option<Rule>, AllocError>
-    ensures value { IfOk result (λ now. now ≡ least_of least (in_statement declarations.now scope.old (statement_of statement.now))) }
+    ensures value { IfOk result (λ now. now ≡ least_of least (in_blocks declarations.now scope.old (statement_of statement.now))) }
     ensures restored { OnOk result (scope.new ≡ scope.old) }
 {
     match statement {
-        Statement::Let { name: _, value } => Ok(in_expr(declarations, scope, false, value, least)),
-        Statement::Assign { name, value } => {
-            let least = in_target(scope, name, least);
-            Ok(in_expr(declarations, scope, false, value, least))
-        }
         Statement::If {
-            condition,
+            condition: _,
             then_block,
             else_block,
         } => {
-            let least = in_expr(declarations, scope, false, condition, least);
             let least = in_block(declarations, scope, then_block, least)?;
             in_block(declarations, scope, else_block, least)
         }
-        Statement::While { condition, body } => {
-            let least = in_expr(declarations, scope, false, condition, least);
-            in_block(declarations, scope, body, least)
-        }
-        Statement::Print(value) => Ok(in_expr(declarations, scope, false, value, least)),
-        Statement::Return(value) => Ok(in_expr(declarations, scope, false, value, least)),
-        Statement::Fail => Ok(least),
-        Statement::Evaluate(value) => Ok(in_expr(declarations, scope, false, value, least)),
+        Statement::While { condition: _, body } => in_block(declarations, scope, body, least),
+        Statement::Let { name: _, value: _ }
+        | Statement::Assign { name: _, value: _ }
+        | Statement::Print(_)
+        | Statement::Return(_)
+        | Statement::Fail
+        | Statement::Evaluate(_) => Ok(least),
     }
 }
 
@@ -88,7 +114,8 @@ fn in_statements<'a>(
 {
     let mut least = least;
     for statement in statements {
-        least = in_statement(declarations, scope, statement, least)?;
+        least = in_front(declarations, scope, statement, least);
+        least = in_blocks(declarations, scope, statement, least)?;
         bind_let(scope, statement)?;
     }
     Ok(least)

@@ -11,8 +11,8 @@ decreases-in_block l = depth l.block.now * 4 + 3
 abbrev pub decreases-in_statements : goal.decreases-in_statements
 decreases-in_statements l = depth (block_of l.statements.now) * 4 + 2
 
-abbrev pub decreases-in_statement : goal.decreases-in_statement
-decreases-in_statement l = depth_within (statement_of l.statement.now) * 4 + 1
+abbrev pub decreases-in_blocks : goal.decreases-in_blocks
+decreases-in_blocks l = depth_within (statement_of l.statement.now) * 4 + 1
 
 abbrev pub invariant-in_statements-loop-statement : goal.invariant-in_statements-loop-statement
 invariant-in_statements-loop-statement l = record {

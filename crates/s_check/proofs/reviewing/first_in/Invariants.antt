@@ -3,7 +3,7 @@ use Rattle.s_syntax.specs.declared.name.Name.{Name}
 use Rattle.s_check.specs.Least.{first_broken}
 use Rattle.s_check.specs.Rules.{in_declarations, in_main, broken_rules}
 use Rattle.s_check.specs.Views.{HasNames}
-use Rattle.s_check.proofs.reviewing.first_broken.Given as goal
+use Rattle.s_check.proofs.reviewing.first_in.Given as goal
 
 abbrev pub invariant-loop-index : goal.invariant-loop-index
 invariant-loop-index l = record {

@@ -2,7 +2,7 @@ use Rattle.std.proofs.Common.{◌≡◌, List, [], drop}
 use Rattle.s_syntax.specs.declared.name.Name.{Name}
 use Rattle.s_check.specs.Scopes.{some_twice}
 use Rattle.s_check.specs.Views.{names_of, HasNames}
-use Rattle.s_check.proofs.body.some_twice.Given as goal
+use Rattle.s_check.proofs.body.some_noted.Given as goal
 
 abbrev pub invariant-loop-name : goal.invariant-loop-name
 invariant-loop-name l = record {

@@ -3,7 +3,7 @@ use Rattle.s_syntax.specs.declared.name.Name.{Name}
 use Rattle.s_check.specs.Least.{least_of}
 use Rattle.s_check.specs.Rules.{in_clauses}
 use Rattle.s_check.specs.Views.{HasNames}
-use Rattle.s_check.proofs.definition.in_clauses.Given as goal
+use Rattle.s_check.proofs.definition.in_each_clause.Given as goal
 
 abbrev pub invariant-loop-clause : goal.invariant-loop-clause
 invariant-loop-clause l = record {
