@@ -1,16 +1,17 @@
 -- A block, and its statements.
-use Rattle.std.proofs.Common.{◌≡◌, ℕ, zero, suc, List, [], ◌∷◌, refl, ap, ◌∙◌}
+use Rattle.std.proofs.Common.{◌≡◌, ℕ, zero, suc, List, [], ◌∷◌, Option, Some, None, refl, ap, ◌∙◌}
 use Rattle.s_syntax.specs.BlockOf.{statement_of, block_of}
-use Rattle.s_syntax.specs.BlockTree.{BlockTree, ◌⨟◌}
+use Rattle.s_syntax.specs.BlockTree.{BlockTree, If, ◌⨟◌}
+use Rattle.s_syntax.specs.ExprTree.{ExprTree}
 use Rattle.s_syntax.specs.declared.statement.Statement.{Statement}
 use Rattle.s_syntax.specs.declared.token.Kind.TheVariants as kind
 use Rattle.s_syntax.specs.declared.token.Token.{Token}
 use Rattle.s_grammar.specs.Kinds.{other_than, is}
-use Rattle.s_grammar.specs.Parts.{block_tree}
+use Rattle.s_grammar.specs.Parts.{block_tree, if_of}
 use Rattle.s_grammar.specs.Reading.{inside, image, many, Answer, Reading}
 use Rattle.s_grammar.specs.Reads.{block, in_braces, statements_by}
 use Rattle.s_expr.proofs.Loops.{viewed}
-use Rattle.s_parse.specs.Items.{statements, statement}
+use Rattle.s_parse.specs.Items.{statements, statement, or_done}
 
 -- the tree of statements that are seen is that of the statements
 pub block_seen : (ss : List Statement) → block_tree (viewed statement_of ss) ≡ block_of ss
@@ -36,3 +37,8 @@ module _ (bytes : List ℕ) where
   -- what holds of statements by their repetition
   pub by_items : (n : ℕ) (l : List Token) (o : Answer BlockTree) → image block_tree (many (other_than (is kind.CloseBrace)) (statement bytes n)) l ≡ o → statements bytes n l ≡ o
   by_items n l o e = ap (λ (r : Reading BlockTree). r l) (statements_are n) ∙ e
+
+-- a choice by its condition and its blocks
+pub if_seen : (c : ExprTree) (a : BlockTree) (o : Option BlockTree) → if_of (c, (a, o)) ≡ If c a (or_done o)
+if_seen c a None = refl
+if_seen c a (Some b) = refl

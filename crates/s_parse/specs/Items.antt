@@ -1,13 +1,20 @@
 -- Reading of the parts of statements and declarations that have a function of their own.
-use Rattle.std.specs.Prelude.{ℕ, List}
+use Rattle.std.specs.Prelude.{ℕ, List, Option, Some, None}
 use Rattle.s_syntax.specs.declared.token.Kind.TheVariants as kind
 use Rattle.s_syntax.specs.declared.script.Clause.{Clause}
 use Rattle.s_syntax.specs.declared.script.ReturnClause.{ReturnClause}
 use Rattle.s_syntax.specs.declared.script.Declaration.{Declaration}
-use Rattle.s_syntax.specs.BlockTree.{StatementTree, BlockTree}
+use Rattle.s_syntax.specs.declared.name.Name.{Name}
+use Rattle.s_syntax.specs.ExprTree.{ExprTree}
+use Rattle.s_syntax.specs.BlockTree.{StatementTree, BlockTree, Done}
 use Rattle.s_grammar.specs.Kinds.{is}
-use Rattle.s_grammar.specs.Reading.{Reading, choice, inside, many}
-use Rattle.s_grammar.specs.Reads.{in_braces, expr, block, statement_by, statements_by, clause, clauses, declaration_by}
+use Rattle.s_grammar.specs.Reading.{Reading, choice, in_turn, inside, many, maybe}
+use Rattle.s_grammar.specs.Reads.{in_braces, led, ended, name, expr, block, statement_by, statements_by, clause, clauses, declaration_by}
+
+-- a block that may be missing
+abbrev pub or_done : Option BlockTree → BlockTree
+or_done None = Done
+or_done (Some b) = b
 
 module _ (bytes : List ℕ) where
   -- a statement, and those of a block
@@ -16,6 +23,14 @@ module _ (bytes : List ℕ) where
 
   unfoldable pub statements : ℕ → Reading BlockTree
   statements n = statements_by bytes (expr bytes n) (block bytes n)
+
+  -- a name and its value, as a let and an assignment end
+  abbrev pub named_value : ℕ → Reading (Name × ExprTree)
+  named_value n = in_turn (name bytes) (led kind.Assign (ended (expr bytes n) kind.Semicolon))
+
+  -- the blocks of a choice
+  abbrev pub branches : ℕ → Reading (BlockTree × Option BlockTree)
+  branches n = in_turn (block bytes n) (maybe (is kind.Else) (led kind.Else (block bytes n)))
 
   -- the clauses of a handler for effects, and all its clauses in their braces
   unfoldable pub effect_clauses : ℕ → Reading (List Clause)

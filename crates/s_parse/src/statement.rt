@@ -8,13 +8,14 @@ ghost use Rattle.s_grammar.specs.Kinds.{kind_of};
 ghost use Rattle.s_grammar.specs.Reading.{image};
 ghost use Rattle.s_grammar.specs.Reads.{expr, block, statement_by, ended, led, key, assigned, evaluated};
 ghost use Rattle.s_expr.specs.Places.{ReadsAt, ReadsAs};
-ghost use Rattle.s_parse.specs.Items.{statement, statements};
+ghost use Rattle.s_parse.specs.Items.{statement, statements, named_value, branches, or_done};
 
 use s_expr::{Stop, expect, expr_at, is_kind, kind_at, name_at};
-use s_syntax::{Block, Expr, Kind, Statement, Token};
+use s_syntax::{Block, Expr, Kind, Name, Statement, Token};
 use std::alloc::Global;
 
-// An expression and a semicolon.
+// An expression and a semicolon. An expression that isn't answered goes by a call of `drop`, here and below: let go in place, each of its
+// forms would be a case of this function's proof.
 #[tactic(auto, unfolding(s_grammar::specs::Reads::ended))]
 fn ended_at(
     alloc: Global,
@@ -28,8 +29,32 @@ fn ended_at(
     ensures reads { ReadsAt (ended (expr bytes.now nest) kind.Semicolon) tokens.now at result }
 {
     let (value, at) = expr_at(alloc, bytes, tokens, at, nest)?;
-    let (_, at) = expect(tokens, at, Kind::Semicolon)?;
-    Ok((value, at))
+    match expect(tokens, at, Kind::Semicolon) {
+        Ok((_, at)) => Ok((value, at)),
+        Err(stop) => {
+            drop(value);
+            Err(stop)
+        }
+    }
+}
+
+// What a let and an assignment have in common: a name, and behind it the value that it gets.
+#[tactic(auto, unfolding(s_grammar::specs::Reads::led))]
+fn named_value_at(
+    alloc: Global,
+    bytes: &[u8],
+    tokens: &[Token],
+    at: usize,
+    nest: usize,
+) -> Result<((Name, Expr), usize), Stop>
+    requires order { AreInOrder 0 (length bytes.now) tokens.now }
+    requires within { at ≤ length tokens.now }
+    ensures reads { ReadsAt (named_value bytes.now nest) tokens.now at result }
+{
+    let (name, at) = name_at(alloc, bytes, tokens, at)?;
+    let (_, at) = expect(tokens, at, Kind::Assign)?;
+    let (value, at) = ended_at(alloc, bytes, tokens, at, nest)?;
+    Ok(((name, value), at))
 }
 
 // A let.
@@ -46,14 +71,12 @@ fn let_at(
     ensures reads { ReadsAs statement_of (statement_by bytes.now (expr bytes.now nest) (block bytes.now nest) kind.Let) tokens.now at result }
 {
     let (_, at) = expect(tokens, at, Kind::Let)?;
-    let (name, at) = name_at(alloc, bytes, tokens, at)?;
-    let (_, at) = expect(tokens, at, Kind::Assign)?;
-    let (value, at) = ended_at(alloc, bytes, tokens, at, nest)?;
+    let ((name, value), at) = named_value_at(alloc, bytes, tokens, at, nest)?;
     Ok((Statement::Let { name, value }, at))
 }
 
 // An assignment.
-#[tactic(auto, unfolding(s_grammar::specs::Reads::assigned, s_grammar::specs::Reads::led))]
+#[tactic(auto, unfolding(s_grammar::specs::Reads::assigned))]
 fn assign_at(
     alloc: Global,
     bytes: &[u8],
@@ -65,9 +88,7 @@ fn assign_at(
     requires within { at ≤ length tokens.now }
     ensures reads { ReadsAs statement_of (assigned bytes.now (expr bytes.now nest)) tokens.now at result }
 {
-    let (name, at) = name_at(alloc, bytes, tokens, at)?;
-    let (_, at) = expect(tokens, at, Kind::Assign)?;
-    let (value, at) = ended_at(alloc, bytes, tokens, at, nest)?;
+    let ((name, value), at) = named_value_at(alloc, bytes, tokens, at, nest)?;
     Ok((Statement::Assign { name, value }, at))
 }
 
@@ -135,9 +156,42 @@ fn fail_at(tokens: &[Token], at: usize) -> Result<(Statement, usize), Stop>
     Ok((Statement::Fail, at))
 }
 
+// The blocks of a choice, of which the second may be missing.
+#[cycle(block)]
+#[tactic(auto, unfolding(s_grammar::specs::Reads::led))]
+fn branches_at(
+    alloc: Global,
+    bytes: &[u8],
+    tokens: &[Token],
+    at: usize,
+    nest: usize,
+) -> Result<((Block, Option<Block>), usize), Stop>
+    requires order { AreInOrder 0 (length bytes.now) tokens.now }
+    requires within { at ≤ length tokens.now }
+    ensures reads { ReadsAt (branches bytes.now nest) tokens.now at result }
+{
+    let (then_block, at) = block_at(alloc, bytes, tokens, at, nest)?;
+    if !is_kind(Kind::Else, kind_at(tokens, at)) {
+        return Ok(((then_block, None), at));
+    }
+    let (_, at) = expect(tokens, at, Kind::Else)?;
+    let (else_block, at) = block_at(alloc, bytes, tokens, at, nest)?;
+    Ok(((then_block, Some(else_block)), at))
+}
+
+// A block that may be missing: it is empty then.
+fn or_empty(alloc: Global, block: Option<Block>) -> Block
+    ensures value { result ≡ or_done block }
+{
+    match block {
+        Some(block) => block,
+        None => Block::new(Vec::new(alloc)),
+    }
+}
+
 // A choice.
 #[cycle(block)]
-#[tactic(auto, unfolding(s_grammar::specs::Reads::statement_by, s_grammar::specs::Reads::led))]
+#[tactic(auto, unfolding(s_grammar::specs::Reads::statement_by, s_grammar::specs::Reads::led), using(crate::proofs::Blocks::if_seen))]
 fn if_at(
     alloc: Global,
     bytes: &[u8],
@@ -151,28 +205,21 @@ fn if_at(
 {
     let (_, at) = expect(tokens, at, Kind::If)?;
     let (condition, at) = expr_at(alloc, bytes, tokens, at, nest)?;
-    let (then_block, at) = block_at(alloc, bytes, tokens, at, nest)?;
-    if !is_kind(Kind::Else, kind_at(tokens, at)) {
-        let else_block = Block::new(Vec::new(alloc));
-        return Ok((
-            Statement::If {
+    match branches_at(alloc, bytes, tokens, at, nest) {
+        Ok(((then_block, otherwise), at)) => {
+            let else_block = or_empty(alloc, otherwise);
+            let statement = Statement::If {
                 condition,
                 then_block,
                 else_block,
-            },
-            at,
-        ));
+            };
+            Ok((statement, at))
+        }
+        Err(stop) => {
+            drop(condition);
+            Err(stop)
+        }
     }
-    let (_, at) = expect(tokens, at, Kind::Else)?;
-    let (else_block, at) = block_at(alloc, bytes, tokens, at, nest)?;
-    Ok((
-        Statement::If {
-            condition,
-            then_block,
-            else_block,
-        },
-        at,
-    ))
 }
 
 // A loop.
@@ -191,8 +238,13 @@ fn while_at(
 {
     let (_, at) = expect(tokens, at, Kind::While)?;
     let (condition, at) = expr_at(alloc, bytes, tokens, at, nest)?;
-    let (body, at) = block_at(alloc, bytes, tokens, at, nest)?;
-    Ok((Statement::While { condition, body }, at))
+    match block_at(alloc, bytes, tokens, at, nest) {
+        Ok((body, at)) => Ok((Statement::While { condition, body }, at)),
+        Err(stop) => {
+            drop(condition);
+            Err(stop)
+        }
+    }
 }
 
 // A statement that begins with a name.

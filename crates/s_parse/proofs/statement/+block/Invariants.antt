@@ -10,16 +10,19 @@ abbrev pub decreases-block_at : goal.decreases-block_at
 decreases-block_at l = l.nest * 8 + 1
 
 abbrev pub decreases-if_at : goal.decreases-if_at
-decreases-if_at l = l.nest * 8 + 2
+decreases-if_at l = l.nest * 8 + 3
+
+abbrev pub decreases-branches_at : goal.decreases-branches_at
+decreases-branches_at l = l.nest * 8 + 2
 
 abbrev pub decreases-while_at : goal.decreases-while_at
 decreases-while_at l = l.nest * 8 + 2
 
 abbrev pub decreases-statement_at : goal.decreases-statement_at
-decreases-statement_at l = l.nest * 8 + 3
+decreases-statement_at l = l.nest * 8 + 4
 
 abbrev pub decreases-statements_at : goal.decreases-statements_at
-decreases-statements_at l = l.nest * 8 + 4
+decreases-statements_at l = l.nest * 8 + 5
 
 abbrev pub invariant-statements_at-items : goal.invariant-statements_at-items
 invariant-statements_at-items l = Ahead (other_than (is kind.CloseBrace)) (statement l.bytes l.nest) l.tokens l.start (viewed statement_of l.items.items) l.at
