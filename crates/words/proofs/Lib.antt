@@ -1,3 +1,4 @@
+pub mod AddedCommands
 pub mod TakenWords
 pub mod Numerals
 mod LineRows

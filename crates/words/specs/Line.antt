@@ -35,6 +35,10 @@ stats_rule = record (new_rule (codes "stats")) { long = Some (codes "stats"); ac
 abbrev pub number_rule : Rule
 number_rule = record (new_rule (codes "number")) { required = true }
 
+-- a command on a file
+abbrev pub file_app : Text → App
+file_app name = with_rule (new_app name) file_rule
+
 -- `check FILE`
 abbrev pub check_app : App
 check_app = with_rule (new_app (codes "check")) file_rule

@@ -1,21 +1,43 @@
 //! The command line, as clap sees it.
-ghost use Rattle.std.specs.Prelude.{◌≡◌, [], map, string_bytes, false, IfOk, IfErr};
+ghost use Rattle.std.specs.Prelude.{◌≡◌, [], map, string_bytes, codes, false, IfOk, IfErr, IsOkAnd};
 ghost use Rattle.clap.specs.Kinds.{HasKind};
 ghost use Rattle.clap.specs.Faults.{fault_of};
-ghost use Rattle.clap.specs.Simple.{app_of, subcommand_of, subcommand_rows_of};
+ghost use Rattle.clap.specs.Simple.{app_of, new_app, on_top, with_rule, with_subcommand, subcommand_of, subcommand_rows_of};
 ghost use Rattle.clap.specs.declared.builder.command.Command.TheViews.{out-Command};
-ghost use Rattle.words.specs.Line.{the_app, base_app, check_app, run_app, build_app, gen_app};
+ghost use Rattle.words.specs.Line.{the_app, settings, file_app, run_app, gen_app, steps_rule, stats_rule};
 
 use clap::{Arg, ArgAction, ArgMatches, Command, Error};
 use std::alloc::{AllocError, Global};
 
-// `check FILE`.
-fn check_command<'a>(alloc: Global) -> Result<Command<'a>, AllocError>
-    ensures app { IfOk result (λ c. app_of c ≡ check_app) }
+// A command on a file, which has to be named.
+fn file_command<'a>(alloc: Global, name: &'a str) -> Result<Command<'a>, AllocError>
+    ensures app { IfOk result (λ c. app_of c ≡ file_app name.entry.now) }
     ensures local { IfOk result (λ c. (out-Command c).has_globals ≡ false) }
 {
     let file = Arg::new(alloc, "file").required(true);
-    Command::new(alloc, "check").arg(file)
+    Command::new(alloc, name).arg(file)
+}
+
+// The command with the option `--steps N`.
+fn with_steps<'a>(alloc: Global, command: Command<'a>) -> Result<Command<'a>, AllocError>
+    requires local { (out-Command command).has_globals ≡ false }
+    ensures app { IfOk result (λ c. app_of c ≡ with_rule (app_of command.entry) steps_rule) }
+    ensures local { IfOk result (λ c. (out-Command c).has_globals ≡ false) }
+{
+    let steps = Arg::new(alloc, "steps").long("steps");
+    command.arg(steps)
+}
+
+// The command with the flag `--stats`.
+fn with_stats<'a>(alloc: Global, command: Command<'a>) -> Result<Command<'a>, AllocError>
+    requires local { (out-Command command).has_globals ≡ false }
+    ensures app { IfOk result (λ c. app_of c ≡ with_rule (app_of command.entry) stats_rule) }
+    ensures local { IfOk result (λ c. (out-Command c).has_globals ≡ false) }
+{
+    let stats = Arg::new(alloc, "stats")
+        .long("stats")
+        .action(ArgAction::SetTrue);
+    command.arg(stats)
 }
 
 // `run FILE [--steps N] [--stats]`.
@@ -23,21 +45,9 @@ fn run_command<'a>(alloc: Global) -> Result<Command<'a>, AllocError>
     ensures app { IfOk result (λ c. app_of c ≡ run_app) }
     ensures local { IfOk result (λ c. (out-Command c).has_globals ≡ false) }
 {
-    let file = Arg::new(alloc, "file").required(true);
-    let steps = Arg::new(alloc, "steps").long("steps");
-    let stats = Arg::new(alloc, "stats")
-        .long("stats")
-        .action(ArgAction::SetTrue);
-    Command::new(alloc, "run").arg(file)?.arg(steps)?.arg(stats)
-}
-
-// `build FILE`.
-fn build_command<'a>(alloc: Global) -> Result<Command<'a>, AllocError>
-    ensures app { IfOk result (λ c. app_of c ≡ build_app) }
-    ensures local { IfOk result (λ c. (out-Command c).has_globals ≡ false) }
-{
-    let file = Arg::new(alloc, "file").required(true);
-    Command::new(alloc, "build").arg(file)
+    let run = file_command(alloc, "run")?;
+    let run = with_steps(alloc, run)?;
+    with_stats(alloc, run)
 }
 
 // `gen N`.
@@ -49,28 +59,42 @@ fn gen_command<'a>(alloc: Global) -> Result<Command<'a>, AllocError>
     Command::new(alloc, "gen").arg(number)
 }
 
-// The commands `check` and `run`. `help` and `--help` are words like others.
-fn base_commands<'a>(alloc: Global) -> Result<Command<'a>, AllocError>
-    ensures { IfOk result (λ c. app_of c ≡ base_app) }
+// The commands with one more. Where that wasn't made, the others go by a call of `drop`: let go in place, each part of a command would be a
+// case of this function's proof.
+fn with_command<'a>(
+    top: Command<'a>,
+    command: Result<Command<'a>, AllocError>,
+) -> Result<Command<'a>, AllocError>
+    ensures { IfOk result (λ c. IsOkAnd command.entry (λ d. (out-Command d).has_globals ≡ false → app_of c ≡ with_subcommand (app_of top.entry) (app_of d).top)) }
 {
-    let check = check_command(alloc)?;
-    let run = run_command(alloc)?;
-    let top = Command::new(alloc, "stackwasm")
+    match command {
+        Ok(command) => top.subcommand(command),
+        Err(failed) => {
+            drop(top);
+            Err(failed)
+        }
+    }
+}
+
+// The program without its commands. `help` and `--help` are words like others.
+fn program<'a>(alloc: Global) -> Command<'a>
+    ensures { app_of result ≡ on_top settings (new_app (codes "stackwasm")) }
+{
+    Command::new(alloc, "stackwasm")
         .subcommand_required(true)
         .disable_help_flag(true)
-        .disable_help_subcommand(true);
-    top.subcommand(check)?.subcommand(run)
+        .disable_help_subcommand(true)
 }
 
 // The program's commands.
 fn commands<'a>(alloc: Global) -> Result<Command<'a>, AllocError>
     ensures { IfOk result (λ c. app_of c ≡ the_app) }
 {
-    let build = build_command(alloc)?;
-    let generate = gen_command(alloc)?;
-    base_commands(alloc)?
-        .subcommand(build)?
-        .subcommand(generate)
+    let checking = with_command(program(alloc), file_command(alloc, "check"))?;
+    let running = with_command(checking, run_command(alloc))?;
+    let building = with_command(running, file_command(alloc, "build"))?;
+    let all = with_command(building, gen_command(alloc))?;
+    Ok(all)
 }
 
 /// What clap makes of the words.

@@ -1,0 +1,19 @@
+use Rattle.std.proofs.Common.{◌≡◌, ap, ◌∙◌, codes}
+use Rattle.clap.specs.Simple.{App, app_of, new_app, on_top, with_subcommand}
+use Rattle.words.specs.Line.{settings, file_app, run_app, gen_app, check_app, build_app, base_app}
+use Rattle.words.proofs.AddedCommands.{added}
+use Rattle.words.proofs.commands.commands.Goals as goal
+
+pub returns : goal.returns
+returns c =
+    let checking : app_of c.in_ok-checking.checking ≡ with_subcommand (on_top settings (new_app (codes "stackwasm"))) check_app.top =
+    added c.program.result c.file_command.result (file_app (codes "check")) c.file_command.ensures.app c.file_command.ensures.local c.in_ok-checking.checking c.in_ok-checking.ensures
+    ∙ ap (λ (a : App). with_subcommand a check_app.top) c.program.ensures in
+    let running : app_of c.in_ok-running.running ≡ base_app =
+    added c.in_ok-checking.checking c.run_command.result run_app c.run_command.ensures.app c.run_command.ensures.local c.in_ok-running.running c.in_ok-running.ensures
+    ∙ ap (λ (a : App). with_subcommand a run_app.top) checking in
+    let building : app_of c.in_ok-building.building ≡ with_subcommand base_app build_app.top =
+    added c.in_ok-running.running c.file_command-2.result (file_app (codes "build")) c.file_command-2.ensures.app c.file_command-2.ensures.local c.in_ok-building.building c.in_ok-building.ensures
+    ∙ ap (λ (a : App). with_subcommand a build_app.top) running in
+    added c.in_ok-building.building c.gen_command.result gen_app c.gen_command.ensures.app c.gen_command.ensures.local c.in_ok-all.all c.in_ok-all.ensures
+    ∙ ap (λ (a : App). with_subcommand a gen_app.top) building
