@@ -1,9 +1,9 @@
 -- The first items without a derivation.
 use Rattle.std.specs.Prelude.{◌≡◌, ℕ, ◌<◌, List, Option, Some, None, slice_get}
 use Rattle.w_syntax.specs.declared.module.Module.{Module}
-use Rattle.w_rules.specs.Valid.{Item, ItemValid, IsItem, Before, IsInvalidAt}
+use Rattle.w_rules.specs.Valid.{Item, ItemValid, IsItem, Before}
 use Rattle.w_valid.specs.declared.fault.ValidFault.{ValidFault}
-use Rattle.w_valid.specs.Faults.{fault_of, IsFaultOf}
+use Rattle.w_valid.specs.Faults.{IsFaultOf}
 
 -- of the items of one kind, this is the first without a derivation, or there is none
 abbrev pub IsFirst : Module → (ℕ → Item) → Option ℕ → Type 0
@@ -14,11 +14,6 @@ IsFirst m item (Some i) = IsItem m (item i) × (ItemValid m (item i) → ⊥) ×
 abbrev pub IsFirstFailing : {A : Type 0} → (A → Type 0) → List A → Option ℕ → Type 0
 IsFirstFailing {A} Holds xs None = (i : ℕ) (x : A) → slice_get xs i ≡ Some x → Holds x
 IsFirstFailing {A} Holds xs (Some k) = (x : A) × (slice_get xs k ≡ Some x) × (Holds x → ⊥) × ((i : ℕ) (y : A) → i < k → slice_get xs i ≡ Some y → Holds y)
-
--- of the items before z, the fault names the first without a derivation, or there is none
-abbrev pub IsFirstBefore : Module → Item → Option ValidFault → Type 0
-IsFirstBefore m z None = (x : Item) → Before x z → IsItem m x → ItemValid m x
-IsFirstBefore m z (Some fault) = (x : Item) × (fault ≡ fault_of x) × Before x z × IsInvalidAt m x
 
 -- the fault is that of the module, or each item before z has a derivation
 abbrev pub IsFaultBefore : Module → Item → Option ValidFault → Type 0
