@@ -9,11 +9,10 @@ ghost use Rattle.w_plain.specs.Known.{IsKnown};
 ghost use Rattle.w_plain.specs.Plainness.{switches_at};
 ghost use Rattle.w_plain.specs.Printing.{Printed, widened};
 
-use crate::common::common;
 use crate::controls::control;
 use crate::program::Program;
 use crate::rare::rare;
-use crate::silent::silent;
+use crate::silent::{silent, silent_packed};
 use crate::stop::Stop;
 use std::alloc::AllocError;
 use w_control_ops::br_table;
@@ -143,6 +142,6 @@ pub(crate) fn instruction<O: Sink>(
         }
         PackedInstr::Switching(_) => unreachable!(),
         PackedInstr::Boxed(instr) => boxed(program, store, stack, out, instr),
-        _ => widen(common(source, store, stack, packed)),
+        _ => widen(silent_packed(source, store, stack, packed)),
     }
 }

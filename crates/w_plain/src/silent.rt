@@ -1,5 +1,6 @@
-//! Instructions that stand in a box and print nothing.
+//! Instructions that print nothing, where they stand in a box or weren't attempted.
 ghost use Rattle.std.specs.Prelude.{◌≡◌, ◌≤◌, true, length};
+ghost use Rattle.w_syntax.specs.Packed.{unpacked};
 ghost use Rattle.w_syntax.specs.declared.instructions.Instr.TheVariants as flat;
 ghost use Rattle.w_stands.specs.Steps.{MovesAt};
 ghost use Rattle.w_plain.specs.Commonness.{is_silent};
@@ -12,7 +13,7 @@ use crate::values::{reference, variable};
 use std::alloc::AllocError;
 use w_segment::Stack;
 use w_stands::Did;
-use w_syntax::{BlockType, Instr, Module, Op};
+use w_syntax::{BlockType, Instr, Module, Op, PackedInstr};
 use w_tables::Store;
 
 // An instruction that holds no others.
@@ -89,4 +90,24 @@ pub(crate) fn silent(
         Instr::Else => Ok(leave_else(program, store, stack)),
         Instr::End => Ok(leave_end(program, store, stack)),
     }
+}
+
+/// One reduction at an instruction that prints nothing, as a body keeps it. A run attempts what is common before, so that this is called
+/// seldom: it goes by the instruction that is stood for, and what an attempt inlines stands in the program once.
+#[inline(never)]
+pub(crate) fn silent_packed(
+    program: &Module,
+    store: &mut Store,
+    stack: &mut Stack,
+    packed: &PackedInstr,
+) -> Result<Did, AllocError>
+    requires silent { is_silent (unpacked packed.now) ≡ true }
+    requires moves { MovesAt (unpacked packed.now) program.now store.old stack.old }
+    requires one { length store.old.memories ≤ 1 }
+    ensures step { Stepped result program.now store.old stack.old store.new stack.new }
+{
+    let view = packed.view();
+    let taken = silent(program, store, stack, view.instr());
+    drop(view);
+    taken
 }
