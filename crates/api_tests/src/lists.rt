@@ -1,5 +1,6 @@
 //! Lists, groups of types, and names.
 use std::alloc::{AllocError, Global};
+use std::process::Abort;
 use std::test::Fail;
 use w_syntax::Name;
 use w_types::{CompType, ListOf, RecGroup, RecGroups};
@@ -37,22 +38,31 @@ fn continued(types: &RecGroups, index: usize) -> Option<u32> {
     }
 }
 
+// Three groups: of one type, of none, and of two.
+fn three_groups(alloc: Global) -> Result<RecGroups, AllocError> {
+    let mut groups = Vec::new(alloc);
+    let indices: [&[u32]; 3] = [&[70], &[], &[71, 72]];
+    for indices in indices {
+        groups.push(group(alloc, indices)?)?;
+    }
+    RecGroups::from_vec(alloc, groups)
+}
+
+fn types_are_those_of_the_groups(rt: &impl Abort, types: &RecGroups) {
+    assert_eq!(rt; types.type_count(), 3);
+    let rows = [(0, Some(70)), (1, Some(71)), (2, Some(72)), (3, None)];
+    for (index, function) in rows {
+        assert_eq!(rt; continued(types, index), function, "{index}");
+    }
+    assert_eq!(rt; types.as_slice().len(), 3);
+}
+
 #[test]
 fn types_are_counted_through_their_groups(rt: HostRuntime) -> Result<(), Fail> {
-    let alloc = rt.alloc();
-    let mut groups = Vec::new(alloc);
-    groups.push(group(alloc, &[70])?)?;
-    groups.push(group(alloc, &[])?)?;
-    groups.push(group(alloc, &[71, 72])?)?;
-    let types = RecGroups::from_vec(alloc, groups)?;
-    assert_eq!(rt; types.type_count(), 3);
-    assert_eq!(rt; continued(&types, 0), Some(70));
-    assert_eq!(rt; continued(&types, 1), Some(71));
-    assert_eq!(rt; continued(&types, 2), Some(72));
-    assert_eq!(rt; continued(&types, 3), None);
-    assert_eq!(rt; types.as_slice().len(), 3);
+    let types = three_groups(rt.alloc())?;
+    types_are_those_of_the_groups(&rt, &types);
     assert_eq!(rt; types.into_vec().len(), 3);
-    assert_eq!(rt; RecGroups::new(alloc).type_count(), 0);
+    assert_eq!(rt; RecGroups::new(rt.alloc()).type_count(), 0);
     Ok(())
 }
 

@@ -1,5 +1,5 @@
 //! Whole modules from bytes: decoded, validated, written and run, and what validation found of them.
-ghost use Rattle.std.specs.Prelude.{◌≡◌};
+ghost use Rattle.std.specs.Prelude.{◌≡◌, IfOk};
 
 use std::alloc::Global;
 use std::process::Abort;
@@ -91,18 +91,32 @@ fn takes_one(rt: &impl Abort, machine: &mut Machine, out: &mut SureSink) {
     assert_eq!(rt; machine.taken(), 4);
 }
 
+// A machine of the module, at its beginning.
+fn machine(alloc: Global) -> Result<Machine, Fail>
+    ensures { IfOk result (λ machine. machine.taken ≡ 0) }
+{
+    let checked = checked(alloc)?;
+    match instantiate(alloc, &checked) {
+        Ok(instance) => Ok(Machine::new(alloc, checked, instance)?),
+        Err(_) => {
+            drop(checked);
+            Err(Fail::from("no instance"))
+        }
+    }
+}
+
+fn take_four(alloc: Global, rt: &impl Abort, out: &mut SureSink) -> Result<(), Fail> {
+    let mut machine = machine(alloc)?;
+    takes_three(rt, &mut machine, out);
+    takes_one(rt, &mut machine, out);
+    drop(machine);
+    Ok(())
+}
+
 #[test]
 fn reductions_are_counted(rt: HostRuntime) -> Result<(), Fail> {
-    let checked = checked(rt.alloc())?;
-    let Ok(instance) = instantiate(rt.alloc(), &checked) else {
-        drop(checked);
-        return Err(Fail::from("no instance"));
-    };
     let mut out = SureSink::new(rt.alloc())?;
-    let mut machine = Machine::new(rt.alloc(), checked, instance)?;
-    takes_three(&rt, &mut machine, &mut out);
-    takes_one(&rt, &mut machine, &mut out);
-    drop(machine);
+    let taken = take_four(rt.alloc(), &rt, &mut out);
     assert_eq!(rt; out.held().len(), 0);
-    Ok(())
+    taken
 }
