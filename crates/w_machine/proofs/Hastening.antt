@@ -19,7 +19,7 @@ use Rattle.w_stands.specs.declared.did.Did.TheVariants as did
 use Rattle.w_stands.specs.Code.{instr_of}
 use Rattle.w_stands.specs.Values.{stack}
 use Rattle.w_plain.specs.Meets.{Applies}
-use Rattle.w_plain.specs.Plainness.{switches_at}
+use Rattle.w_plain.specs.Plainness.{switches_at, calls_at}
 use Rattle.w_plain.specs.Stepped.{Takes}
 use Rattle.w_switching.proofs.Joining.{in_same, inside_top}
 use Rattle.w_switching.proofs.SameButRoom.{same_top, same_sound}
@@ -33,7 +33,7 @@ use Rattle.w_machine.specs.Reached.{IsReached}
 use Rattle.w_machine.specs.Hastening.{SameButRoom, Hastens}
 use Rattle.w_machine.specs.Position.{IsNoFault, is_fault}
 use Rattle.w_machine.proofs.Standing.{head, plain_applies}
-use Rattle.w_machine.proofs.Reducing.{told_reduces}
+use Rattle.w_machine.proofs.Reducing.{few_there, told_reduces}
 
 -- ## Where a segment stands in a body
 
@@ -53,6 +53,14 @@ pub hastened : {m : Module} {x : Parts} → Valid m → (top x.chain).shape.stag
 hastened {m = m} {x = x} valid body plain u' s' chain' n b test count is takes held =
     told_reduces valid (plain_at m (top x.chain).shape body plain) u' s' chain' held held (Ok did.Went) n (if b then None else Some (kept.Limit Frames))
     (ap (λ (y : Bool). if y then None else Some (kept.Limit Frames)) test) count is ([], takes, grew_nothing held)
+
+-- where no function was called, that is within the limits
+pub hastened_within : {m : Module} {x : Parts} → Valid m → StandsSomewhere m x → (top x.chain).shape.stage ≡ Body
+    → switches_at (instr_of m (top x.chain).shape.func (top x.chain).shape.place) ≡ false → calls_at (instr_of m (top x.chain).shape.func (top x.chain).shape.place) ≡ false
+    → (u' : instances.Store) (s' : Shape) (chain' : List Link) → chain' ≡ with_top s' x.chain → Takes did.Went m [] x.store (top x.chain).shape u' s' → Hastens (Some true) m x (parts u' chain' x.conts)
+hastened_within {m = m} {x = x} valid h body plain none u' s' chain' is takes held =
+    let few = few_there valid (plain_at m (top x.chain).shape body plain) h.stands body none takes in
+    hastened valid body plain u' s' chain' (frames_in_all chain') true (sym (ap (λ (c : List Link). nat_le (frames_in_all c) most_frames) is ∙ few)) refl is takes held
 
 -- ## With other room
 

@@ -7,6 +7,7 @@ use Rattle.w_rules.specs.Valid.{Valid}
 use Rattle.w_tables.specs.Store as instances
 use Rattle.w_segment.specs.Holds.{Holds}
 use Rattle.w_segment.specs.Shape.{Shape}
+use Rattle.w_segment.specs.declared.entry.Stage.TheVariants.{Body}
 use Rattle.w_segment.specs.Link.{Link, top, with_top}
 use Rattle.w_chain.specs.Counts.{frames_in_all}
 use Rattle.w_conts.specs.Conts.{Conts}
@@ -21,12 +22,14 @@ use Rattle.w_reduce.specs.Reduce.{reduce, limited, unless_passed}
 use Rattle.w_reduce.specs.Store.{Store, with_conts}
 use Rattle.w_reduce.specs.Terms.{Context, Term, Kept as TheKept, frames}
 use Rattle.w_reduce.proofs.Passing.{within_none}
-use Rattle.w_reduce.proofs.Plainly.{Plainly, silent, stays, silent_trap, silent_limit, silent_end, silent_stuck, plainly_next}
+use Rattle.w_reduce.proofs.Plainly.{Plainly, silent, stays, silent_trap, silent_limit, silent_end, silent_stuck, plainly_next, no_more_frames}
 use Rattle.w_stands.specs.declared.did.Did.{Did}
 use Rattle.w_stands.specs.declared.did.Did.TheVariants as did
+use Rattle.w_stands.specs.Code.{instr_of}
 use Rattle.w_stands.specs.Keeps.{OnPlain, StoreHolds}
 use Rattle.w_stands.specs.Steps.{Outside, To}
 use Rattle.w_stands.specs.Values.{stack, store_of}
+use Rattle.w_plain.specs.Plainness.{calls_at}
 use Rattle.w_plain.specs.declared.stop.Stop.{Stop}
 use Rattle.w_plain.specs.declared.stop.Stop.TheVariants as stop
 use Rattle.w_plain.specs.Printing.{Began, Printed}
@@ -43,13 +46,13 @@ use Rattle.w_machine.specs.Parts.{Parts, parts, whole}
 use Rattle.w_machine.specs.Standing.{behind_of, Stands}
 use Rattle.w_machine.specs.Reducing.{Begun, Fails, Reduces, IsPlainAt, told_of}
 use Rattle.w_machine.proofs.Counting.{all_frames, all_handles}
-use Rattle.w_machine.proofs.Standing.{plain_next, head, alone, standing_at}
+use Rattle.w_machine.proofs.Standing.{plain_next, calls_in, head, alone, standing_at}
 
 -- ## What is printed
 
 -- a reduction that goes on prints nothing, or its context stays
-quiet_text : {ks : List (Option TheKept)} {e : Context} {last : Bool} {d d' : Reduced} (text : List ℕ) (v : Store) (t : Term) → Plainly ks e last d d' → d ≡ Went text v t → (text ≡ []) ⊎ (t.around ≡ e)
-quiet_text text v t silent is = inl (cc)
+quiet_text : {ks : List (Option TheKept)} {e : Context} {last : Bool} {most : ℕ} {d d' : Reduced} (text : List ℕ) (v : Store) (t : Term) → Plainly ks e last most d d' → d ≡ Went text v t → (text ≡ []) ⊎ (t.around ≡ e)
+quiet_text text v t (silent few) is = inl (cc)
 quiet_text {e = e} text v t (stays {t = old} h) is = let same : t ≡ old = cc in inr (ap (λ (x : Term). x.around) same ∙ h)
 quiet_text text v t silent_trap is = absurd (cc)
 quiet_text text v t silent_limit is = absurd (cc)
@@ -72,6 +75,9 @@ front_none e h = grew_none (no_front h.front e) h.grew
 
 not_le : (n : ℕ) → nat_le n most_frames ≡ false → n ≤ most_frames → ⊥
 not_le n is h = let no : nat_le n most_frames ≡ true = grind (arith, h) in absurd (cc)
+
+not_many : (n : ℕ) → n ≤ most_frames → nat_le n most_frames ≡ true
+not_many n h = grind (arith, h)
 
 few_enough : (n : ℕ) → nat_le n most_frames ≡ true → n ≤ most_frames
 few_enough n h = grind (arith, h)
@@ -121,6 +127,18 @@ module _ {m : Module} {x : Parts} (valid : Valid m) (f : IsPlainAt m (top x.chai
 
     frames_there : {d : Reduced} (to : To m (head h).o text u' s' d) (b : Bool) → nat_le (frames_in_all (with_top s' x.chain)) most_frames ≡ b → nat_le (frames to.around) most_frames ≡ b
     frames_there to b is = ap (λ (n : ℕ). nat_le n most_frames) (all_frames (stands_there to)) ∙ is
+
+  -- where no function was called, it has no more of them
+  pub few_there : {waiting : Option ℕ} {p : Program} {ks : List (Option TheKept)} {t : Term} → Stands m waiting x p ks t → (top x.chain).shape.stage ≡ Body
+      → calls_at (instr_of m (top x.chain).shape.func (top x.chain).shape.place) ≡ false → {u' : instances.Store} {s' : Shape} → TakesPlain did.Went m [] x.store (top x.chain).shape u' s'
+      → nat_le (frames_in_all (with_top s' x.chain)) most_frames ≡ true
+  few_there {p = p} {t = t} h body none {u'} {s'} takes =
+      let to = takes.goes p (head h).o t.around t.rest (standing_at valid h f) in
+      let fewer = no_more_frames p (store_of x.store) t.around (stack (top x.chain).shape.operands) t.rest.ahead t.rest.code (plain_next (head h).stands f)
+          (calls_in (head h).stands body ∙ none) [] (store_of u') (led_to to) to.is in
+      let same = all_frames (stands_there h to) in
+      let most = h.within.few_frames in
+      not_many (frames_in_all (with_top s' x.chain)) (omega (arith, fewer, same, most))
 
   -- it went on
   went : (u' : instances.Store) (s' : Shape) (before now : Option (List ℕ)) (b : Bool) → nat_le (frames_in_all (with_top s' x.chain)) most_frames ≡ b

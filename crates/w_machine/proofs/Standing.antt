@@ -11,6 +11,7 @@ use Rattle.w_segment.specs.declared.entry.Stage.TheVariants.{Fresh, Body}
 use Rattle.w_segment.specs.Shape.{Shape}
 use Rattle.w_segment.specs.Link.{top}
 use Rattle.w_reduce.specs.Apart.{switches, apart}
+use Rattle.w_reduce.specs.Entering.{calls}
 use Rattle.w_reduce.specs.Program.{Program}
 use Rattle.w_reduce.specs.Reduced.{Reduced, Stuck}
 use Rattle.w_reduce.specs.Reduce.{next, reduce, limited}
@@ -22,7 +23,7 @@ use Rattle.w_stands.specs.Stands.{In, body, left, fresh, values}
 use Rattle.w_stands.specs.Steps.{At, next_of}
 use Rattle.w_stands.specs.Values.{stack, store_of}
 use Rattle.w_plain.specs.Meets.{Applies}
-use Rattle.w_plain.specs.Plainness.{switches_at}
+use Rattle.w_plain.specs.Plainness.{switches_at, calls_at}
 use Rattle.w_switching.specs.Sound.{most_segments}
 use Rattle.w_typed.specs.Values.{Arrows}
 use Rattle.w_typed.specs.Configurations.{Typed, IsSafe, goes, traps, is_limited, ends}
@@ -57,6 +58,29 @@ next_in (body h k w) b = read_next k
 next_in (left h k w) b = absurd (cc)
 next_in (fresh h k) b = absurd (cc)
 next_in (values h k) b = absurd (cc)
+
+mark_calls : (i : Option Instr) → IsMark i → false ≡ calls_at i
+mark_calls None h = refl
+mark_calls (Some flat.End) h = refl
+mark_calls (Some flat.Else) h = refl
+mark_calls (Some (flat.Plain o)) h = absurd h
+mark_calls (Some (flat.Block k b z)) h = absurd h
+mark_calls (Some (flat.If b y z)) h = absurd h
+
+read_calls : {is : List Instr} {p q : ℕ} {c : Code} → Reads is p c q → calls [] c ≡ calls_at (slice_get is p)
+read_calls {is = is} {p = p} (stop h) = mark_calls (slice_get is p) h
+read_calls (plain at h) = rw at refl
+read_calls (block at h k j) = rw at refl
+read_calls (choice at h k j) = rw at refl
+read_calls (choices at h k j i l) = rw at refl
+
+-- and so is whether a function is called next
+pub calls_in : {m : Module} {outer : Context} {behind : Rest} {s : Shape} {e : Context} {r : Rest} → In m outer behind s e r → s.stage ≡ Body
+    → calls r.ahead r.code ≡ calls_at (instr_of m s.func s.place)
+calls_in (body h k w) b = read_calls k
+calls_in (left h k w) b = absurd (cc)
+calls_in (fresh h k) b = absurd (cc)
+calls_in (values h k) b = absurd (cc)
 
 -- and an invoke that comes next switches none
 pub fresh_next : {m : Module} {outer : Context} {behind : Rest} {s : Shape} {e : Context} {r : Rest} → In m outer behind s e r → s.stage ≡ Fresh

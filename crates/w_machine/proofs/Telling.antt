@@ -84,8 +84,8 @@ limited_end (Limited l) vs is = absurd (cc)
 limited_end (Ended ws) vs is = is
 limited_end Stuck vs is = absurd (cc)
 
-plain_end : {ks : List (Option TheKept)} {e : Context} {last : Bool} {d d' : Reduced} (vs : Row Val) → Plainly ks e last d d' → d ≡ Ended vs → last ≡ true
-plain_end vs silent is = absurd (cc)
+plain_end : {ks : List (Option TheKept)} {e : Context} {last : Bool} {most : ℕ} {d d' : Reduced} (vs : Row Val) → Plainly ks e last most d d' → d ≡ Ended vs → last ≡ true
+plain_end vs (silent few) is = absurd (cc)
 plain_end vs (stays h) is = absurd (cc)
 plain_end vs silent_trap is = absurd (cc)
 plain_end vs silent_limit is = absurd (cc)

@@ -33,7 +33,9 @@ pub(crate) fn hasten(
     };
     let found = instr_at(program, stack.func(), stack.place());
     match attempt(program, store, chain.stack_mut(), found) {
-        Progress::Went => Some(chain.frames() <= MOST_FRAMES),
+        // but for a call no frame is added, so that the limit still holds
+        Progress::Went => Some(true),
+        Progress::Entered => Some(chain.frames() <= MOST_FRAMES),
         Progress::Trapped | Progress::Rare | Progress::OutOfMemory => None,
     }
 }

@@ -295,18 +295,16 @@ impl Machine {
         Some(true)
     }
 
-    // Takes one reduction, or keeps what stops it, and says whether it is stopped.
+    // Takes one reduction of a machine that isn't stopped, or keeps what stops it, and says whether it is stopped.
     #[inline(always)]
     fn advance<O: Sink>(&mut self, out: &mut O) -> bool
-        requires { self.old.taken < most_reductions }
+        requires few { self.old.taken < most_reductions }
+        requires none { self.old.kept ≡ None }
         ensures steps { Steps self.old self.new.kept self.new (O.held out.old) (O.held out.new) }
         ensures stops { result ≡ is_some self.new.kept }
         ensures cause { self.old.kept ≡ None → self.new.kept ≡ Some Kept.WriteFault → Rose (O.faults out.old) (O.faults out.new) }
         ensures later { O.faults out.old ≤ O.faults out.new }
     {
-        if self.kept.is_some() {
-            return true;
-        }
         match self.hasten() {
             Some(stopped) => stopped,
             None => self.advance_slowly(out),
@@ -377,7 +375,9 @@ impl Machine {
         ensures cause { self.old.kept ≡ None → result ≡ Stepped.WriteFault → Rose (O.faults out.old) (O.faults out.new) }
         ensures later { O.faults out.old ≤ O.faults out.new }
     {
-        self.advance(out);
+        if self.kept.is_none() {
+            self.advance(out);
+        }
         as_stepped(self.kept)
     }
 }

@@ -25,7 +25,10 @@ use Rattle.w_segment.specs.declared.entry.Stage.TheVariants.{Body}
 use Rattle.w_stands.specs.Code.{instr_of}
 use Rattle.w_stands.specs.Steps.{MovesAt}
 use Rattle.w_control_ops.specs.Exits.{IsEnd}
-use Rattle.w_plain.specs.Plainness.{switches_at}
+use Rattle.w_plain.specs.Plainness.{switches_at, calls_at}
+use Rattle.w_plain.specs.Commonness.{is_common, is_call}
+use Rattle.w_syntax.specs.declared.packed.ShortControlOp.{ShortControlOp}
+use Rattle.w_syntax.specs.declared.packed.ShortControlOp.TheVariants as short
 use Rattle.w_plain.specs.Meets.{Meets, Applies}
 use Rattle.w_plain.proofs.Applying.{at_instruction, behind_all}
 
@@ -68,6 +71,25 @@ pub attempted_plain : (fs : List FuncEntry) (p : PackedInstr) → is_attempted f
 attempted_plain fs (packed.Switching o) h = absurd (cc)
 attempted_plain fs (packed.Boxed i) h = table_plain i.value h
 attempted_plain fs p h = refl
+
+-- ## What calls no function
+
+-- a control instruction that holds no list
+pub short_calls_none : (o : ShortControlOp) → is_call o ≡ false → calls_at (Some (unpacked (packed.Control o))) ≡ false
+short_calls_none (short.Call f) h = absurd (cc)
+short_calls_none (short.CallIndirect t k) h = absurd (cc)
+short_calls_none (short.CallRef t) h = absurd (cc)
+short_calls_none o h = refl
+
+-- a common one
+pub common_calls_none : (p : PackedInstr) → is_common p ≡ true → calls_at (Some (unpacked p)) ≡ false
+common_calls_none (packed.Control o) h = absurd (cc)
+common_calls_none (packed.Boxed i) h = absurd (cc)
+common_calls_none p h = refl
+
+-- so nothing is called at the place where it stands
+pub calls_there : (m : Module) (s : Shape) (i : Instr) → Some i ≡ instr_of m s.func s.place → calls_at (Some i) ≡ false → calls_at (instr_of m s.func s.place) ≡ false
+calls_there m s i here none = ap calls_at (sym here) ∙ none
 
 -- ## By what stands at the place
 

@@ -30,6 +30,7 @@ attempt_of (Err e) = progress.OutOfMemory
 -- its reduction was taken, or all is as it was but for room: it traps, or none was attempted, or memory ran out
 abbrev pub Attempted : Progress → Module → instances.Store → Shape → instances.Store → Shape → Type 0
 Attempted progress.Went m u s u' s' = Takes did.Went m [] u s u' s'
+Attempted progress.Entered m u s u' s' = Takes did.Went m [] u s u' s'
 Attempted progress.Trapped m u s u' s' = (u' ≡ u) × SameParts s s' × ((t : Trap) × Follows (did.Trapped t) m [] u s u s)
 Attempted progress.Rare m u s u' s' = (u' ≡ u) × SameParts s s'
 Attempted progress.OutOfMemory m u s u' s' = (u' ≡ u) × SameParts s s'

@@ -1,5 +1,5 @@
 //! Attempts at the commonest reductions, of which nothing but what each came to is told.
-ghost use Rattle.std.specs.Prelude.{◌≡◌, ◌≤◌, true, false, length, Some, option_map, slice_get};
+ghost use Rattle.std.specs.Prelude.{◌≡◌, ◌≢◌, ◌≤◌, true, false, length, Some, option_map, slice_get};
 ghost use Rattle.w_syntax.specs.Packed.{unpacked};
 ghost use Rattle.w_syntax.specs.declared.instructions.Instr.TheVariants as flat;
 ghost use Rattle.w_syntax.specs.declared.instructions.Op.TheVariants as op;
@@ -10,7 +10,9 @@ ghost use Rattle.w_segment.specs.declared.entry.Stage.TheVariants.{Body};
 ghost use Rattle.w_stands.specs.Code.{instr_of};
 ghost use Rattle.w_stands.specs.Steps.{MovesAt};
 ghost use Rattle.w_plain.specs.Meets.{Applies};
-ghost use Rattle.w_plain.specs.Plainness.{switches_at};
+ghost use Rattle.w_plain.specs.Commonness.{is_call};
+ghost use Rattle.w_plain.specs.Plainness.{switches_at, calls_at};
+ghost use Rattle.w_plain.specs.declared.progress.Progress.TheVariants as progress;
 ghost use Rattle.w_plain.specs.Attempted.{attempt_of, Attempted, was_made, is_own, is_branch_table, is_attempted, is_attempted_at};
 
 use crate::common::common;
@@ -44,11 +46,12 @@ fn call(program: &Module, store: &mut Store, stack: &mut Stack, address: u32) ->
     requires moves { MovesAt (flat.Plain (op.Control (control_of (short.Call address)))) program.now store.old stack.old }
     ensures step { Attempted result program.now store.old stack.old store.new stack.new }
     ensures made { was_made result ≡ is_own (slice_get store.old.functions address) }
+    ensures went { result ≢ progress.Went }
 {
     match store.function(address) {
         FuncEntry::Own(function) => {
             match call_own(program, store, stack, address, function, 0) {
-                Ok(()) => Progress::Went,
+                Ok(()) => Progress::Entered,
                 Err(_) => Progress::OutOfMemory,
             }
         }
@@ -68,6 +71,7 @@ fn control(
     requires moves { MovesAt (flat.Plain (op.Control (control_of operation))) program.now store.old stack.old }
     ensures step { Attempted result program.now store.old stack.old store.new stack.new }
     ensures made { was_made result ≡ is_attempted store.old.functions (packed.Control operation) }
+    ensures went { result ≡ progress.Went → is_call operation ≡ false }
 {
     match operation {
         ShortControlOp::Call(function) => call(program, store, stack, function),
@@ -84,6 +88,7 @@ fn boxed(program: &Module, store: &mut Store, stack: &mut Stack, instr: &Instr) 
     requires moves { switches_at (Some instr.now) ≡ false → MovesAt instr.now program.now store.old stack.old }
     ensures step { Attempted result program.now store.old stack.old store.new stack.new }
     ensures made { was_made result ≡ is_branch_table instr.now }
+    ensures went { result ≡ progress.Went → calls_at (Some instr.now) ≡ false }
 {
     let _store = store;
     if let Instr::Plain(Op::Control(ControlOp::BrTable(labels, last))) = instr {
@@ -95,7 +100,7 @@ fn boxed(program: &Module, store: &mut Store, stack: &mut Stack, instr: &Instr) 
 
 // Attempts the reduction at an instruction.
 #[inline(always)]
-#[tactic(auto, using(crate::proofs::Attempting::attempted_step, crate::proofs::Attempting::nothing_attempted, crate::proofs::Attempting::made))]
+#[tactic(auto, using(crate::proofs::Attempting::attempted_step, crate::proofs::Attempting::nothing_attempted, crate::proofs::Attempting::made, crate::proofs::Attempting::short_calls_none, crate::proofs::Attempting::common_calls_none))]
 fn at_instruction(
     program: &Module,
     store: &mut Store,
@@ -106,6 +111,7 @@ fn at_instruction(
     requires one { length store.old.memories ≤ 1 }
     ensures step { Attempted result program.now store.old stack.old store.new stack.new }
     ensures made { was_made result ≡ is_attempted store.old.functions packed.now }
+    ensures went { result ≡ progress.Went → calls_at (Some (unpacked packed.now)) ≡ false }
 {
     match packed {
         PackedInstr::Control(operation) => control(program, store, stack, *operation),
@@ -123,7 +129,7 @@ fn at_instruction(
 /// of the module by its index. Where it wasn't taken all is as it was but for room: another call takes it, or tells why it is not taken.
 /// Nothing is made in memory here, so that a run goes fastest by this. `found` is what `instr_at` finds there.
 #[inline(always)]
-#[tactic(auto, using(crate::proofs::Attempting::moves_at, crate::proofs::Attempting::ends_at, crate::proofs::Attempting::attempted_step, crate::proofs::Attempting::made, crate::proofs::Attempting::attempted_plain))]
+#[tactic(auto, using(crate::proofs::Attempting::moves_at, crate::proofs::Attempting::ends_at, crate::proofs::Attempting::attempted_step, crate::proofs::Attempting::made, crate::proofs::Attempting::attempted_plain, crate::proofs::Attempting::calls_there))]
 pub fn attempt(
     program: &Module,
     store: &mut Store,
@@ -138,6 +144,8 @@ pub fn attempt(
     // It is attempted exactly at what is common, and that switches no stacks.
     ensures made { was_made result ≡ is_attempted_at store.old.functions (option_map (λ p. p.now) found.entry) }
     ensures plain { was_made result ≡ true → switches_at (instr_of program.now stack.old.func stack.old.place) ≡ false }
+    // Where it only went on, nothing is called there.
+    ensures went { result ≡ progress.Went → calls_at (instr_of program.now stack.old.func stack.old.place) ≡ false }
 {
     match found {
         Some(packed) => at_instruction(program, store, stack, packed),

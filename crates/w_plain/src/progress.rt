@@ -3,8 +3,10 @@
 /// What an attempt at a reduction comes to.
 #[derive(Clone, Copy)]
 pub enum Progress {
-    /// It was taken.
+    /// It was taken, and no function was called.
     Went,
+    /// It was taken, and entered a function: one frame more stands.
+    Entered,
     /// It traps, and was not taken.
     Trapped,
     /// None was attempted: what is there is rarer.

@@ -19,6 +19,7 @@ pub mod Switching
 pub mod Limits
 pub mod Reduce
 pub mod Apart
+pub mod Entering
 pub mod Run
 pub mod Imports
 pub mod Constants

@@ -3,6 +3,7 @@ ghost use Rattle.std.specs.Prelude.{ℕ};
 ghost use Rattle.w_reduce.specs.Tree.{Decomposes, Deterministic};
 ghost use Rattle.w_reduce.specs.Handlers.{Finds, FindsNone};
 ghost use Rattle.w_reduce.specs.Apart.{PlainReductionsGoApart};
+ghost use Rattle.w_reduce.specs.Entering.{OnlyCallsAddFrames};
 
 /// A term is a redex in a context in one way only.
 pub fn decomposes()
@@ -25,4 +26,9 @@ pub fn finds_innermost()
 /// A reduction by no rule of switching neither looks at continuations nor changes them.
 pub fn plain_reductions_go_apart()
     ensures { PlainReductionsGoApart }
+{}
+
+/// Of the reductions that switch no stacks, calls alone add a frame.
+pub fn only_calls_add_frames()
+    ensures { OnlyCallsAddFrames }
 {}

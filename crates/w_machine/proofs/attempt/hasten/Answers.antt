@@ -3,10 +3,10 @@ use Rattle.w_segment.specs.Shape.{Shape}
 use Rattle.w_stands.specs.Code.{instr_of}
 use Rattle.w_stands.specs.declared.did.Did.TheVariants as did
 use Rattle.w_plain.specs.Meets.{Applies}
-use Rattle.w_plain.specs.Plainness.{switches_at}
+use Rattle.w_plain.specs.Plainness.{switches_at, calls_at}
 use Rattle.w_plain.specs.Stepped.{Takes}
 use Rattle.w_machine.proofs.Standing.{memory_there}
-use Rattle.w_machine.proofs.Hastening.{applies_there, hastened}
+use Rattle.w_machine.proofs.Hastening.{applies_there, hastened, hastened_within}
 use Rattle.w_machine.proofs.attempt.hasten.Goals as goal
 
 pub attempt-requires-clause-applies : goal.attempt-requires-clause-applies
@@ -32,7 +32,16 @@ attempt-requires-clause-one c = memory_there c.requires.valid c.requires.stands
 pub returns-in-Went : goal.returns-in-Went
 returns-in-Went c =
     let body = ap (λ (s : Shape). s.stage) (sym c.stack-stack.ensures.value) ∙ sym c.stage.ensures.value ∙ c.in-Body.is in
-    hastened c.requires.valid body
+    hastened_within c.requires.valid c.requires.stands body
     (subst (λ (s : Shape). switches_at (instr_of c.args.program.now s.func s.place) ≡ false) c.stack_mut.ensures.value (c.in-Went.ensures.plain refl))
-    c.attempt.new.store c.attempt.new.stack _ c.frames.result _ refl c.frames.ensures.count refl
+    (subst (λ (s : Shape). calls_at (instr_of c.args.program.now s.func s.place) ≡ false) c.stack_mut.ensures.value (c.in-Went.ensures.went refl))
+    c.attempt.new.store c.attempt.new.stack _ refl
     (subst (λ (s : Shape). Takes did.Went c.args.program.now [] c.args.store.now s c.attempt.new.store c.attempt.new.stack) c.stack_mut.ensures.value c.in-Went.ensures.step)
+
+pub returns-in-Entered : goal.returns-in-Entered
+returns-in-Entered c =
+    let body = ap (λ (s : Shape). s.stage) (sym c.stack-stack.ensures.value) ∙ sym c.stage.ensures.value ∙ c.in-Body.is in
+    hastened c.requires.valid body
+    (subst (λ (s : Shape). switches_at (instr_of c.args.program.now s.func s.place) ≡ false) c.stack_mut.ensures.value (c.in-Entered.ensures.plain refl))
+    c.attempt.new.store c.attempt.new.stack _ c.frames.result _ refl c.frames.ensures.count refl
+    (subst (λ (s : Shape). Takes did.Went c.args.program.now [] c.args.store.now s c.attempt.new.store c.attempt.new.stack) c.stack_mut.ensures.value c.in-Entered.ensures.step)
