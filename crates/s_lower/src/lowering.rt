@@ -28,34 +28,34 @@ fn add_parts<'a>(
     alloc: Global,
     program: &Program<'a>,
     main: &'a Name,
-    module: &mut Module,
+    compiled: &mut Module,
 ) -> Result<(), AllocError>
     requires main { main.now ≡ codes "main" }
     requires few { sum_by (λ (d : TheDeclaration). definition_size d.definition) program.now ≤ 50000 }
-    requires empty { module.now ≡ empty_module }
-    ensures value { OnOk result (module.new ≡ untyped program.now) }
+    requires empty { compiled.now ≡ empty_module }
+    ensures value { OnOk result (compiled.new ≡ untyped program.now) }
 {
-    push_printer(alloc, &mut module.imports)?;
-    push_function_types(alloc, program, &mut module.functions)?;
-    push_handler_types(alloc, program, &mut module.functions)?;
-    push_tags(alloc, program, &mut module.tags)?;
-    push_main(alloc, program, main, &mut module.exports)?;
-    push_elements(alloc, program, &mut module.elements)?;
-    push_function_codes(alloc, program, &mut module.codes)?;
-    push_handler_codes(alloc, program, &mut module.codes)?;
+    push_printer(alloc, &mut compiled.imports)?;
+    push_function_types(alloc, program, &mut compiled.functions)?;
+    push_handler_types(alloc, program, &mut compiled.functions)?;
+    push_tags(alloc, program, &mut compiled.tags)?;
+    push_main(alloc, program, main, &mut compiled.exports)?;
+    push_elements(alloc, program, &mut compiled.elements)?;
+    push_function_codes(alloc, program, &mut compiled.codes)?;
+    push_handler_codes(alloc, program, &mut compiled.codes)?;
     Ok(())
 }
 
 // Makes an empty module that of a script whose size is within the limit.
-fn fill(alloc: Global, script: &Script, module: &mut Module) -> Result<(), AllocError>
+fn fill(alloc: Global, script: &Script, compiled: &mut Module) -> Result<(), AllocError>
     requires small { Size script.now ≤ 50000 }
-    requires empty { module.now ≡ empty_module }
-    ensures value { OnOk result (module.new ≡ lowered script.now) }
+    requires empty { compiled.now ≡ empty_module }
+    ensures value { OnOk result (compiled.new ≡ lowered script.now) }
 {
     let main = Name::new(alloc, b"main")?;
     let program = Program::new(alloc, script.declarations.as_slice())?;
-    add_parts(alloc, &program, &main, module)?;
-    module.types = groups(alloc, program.into_types())?;
+    add_parts(alloc, &program, &main, compiled)?;
+    compiled.types = groups(alloc, program.into_types())?;
     Ok(())
 }
 

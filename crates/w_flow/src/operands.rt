@@ -63,10 +63,11 @@ struct Match {
 }
 
 // Whether an operand and a type are those of a match.
+#[inline(always)]
 fn is_match(found: (Operand, PackedType), operand: Operand, kind: PackedType) -> bool
     ensures { IsTrue result → (operand ≡ found.0) × (kind ≡ found.1) }
 {
-    operand == found.0 && kind == found.1
+    operand.is_same(found.0) && Operand::known(kind).is_same(Operand::known(found.1))
 }
 
 // Whether an operand is just of this type, or the two are those of a match.

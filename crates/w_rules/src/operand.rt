@@ -44,6 +44,7 @@ impl Operand {
     ghost use Rattle.std.specs.Prelude.{◌≡◌, ◌↔◌, IsTrue};
     ghost use Rattle.w_rules.specs.Operands.{Known, Bottom, BottomRef};
     ghost use Rattle.w_rules.specs.OperandView.{seen};
+    ghost use Rattle.w_rules.specs.PackedOperands.{operand_number};
 
     /// The type below all types.
     pub const BOTTOM: Operand = Operand { kind: 0, index: 0 };
@@ -70,12 +71,29 @@ impl Operand {
         }
     }
 
+    // Its two numbers as one.
+    #[inline(always)]
+    fn number(self) -> u64
+        ensures { result ≡ operand_number self }
+    {
+        u64::from(self.index) * 4294967296 + u64::from(self.kind)
+    }
+
+    /// Whether it is just this type. As one number a type is compared at once, also with one that a loop keeps.
+    #[tactic(auto, using(crate::proofs::PackedOperands::same_number))]
+    #[inline(always)]
+    pub fn is_same(self, other: Operand) -> bool
+        ensures { IsTrue result ↔ (self ≡ other) }
+    {
+        self.number() == other.number()
+    }
+
     /// Whether it is just this value type.
-    #[tactic(auto, using(crate::proofs::PackedOperands::known_at))]
+    #[inline(always)]
     pub fn is(self, kind: PackedType) -> bool
         ensures { IsTrue result ↔ (self ≡ Known kind) }
     {
-        self == Operand::known(kind)
+        self.is_same(Operand::known(kind))
     }
 
     /// The type, as it is read.

@@ -16,7 +16,7 @@ use w_rules::Context;
 use w_syntax::ControlOp;
 use w_types::{HeapType, PackedType, RefType, ValType};
 
-// Whether an index is the last one that was judged.
+// Whether an index is the last one that was judged of those at its place.
 fn is_last(last: Option<u32>, index: u32) -> bool
     ensures { IsTrue result → last ≡ Some index }
 {
@@ -38,17 +38,21 @@ fn label_fits(body: &BodyContext, flow: &Flow, index: u32, count: usize) -> bool
     }
 }
 
-// Whether each of these labels takes n types that can be taken. One that was judged is not judged again right behind.
+// Where labels that were judged are kept, by their numbers modulo this: a table mostly leads to few labels, in any order.
+const JUDGED: usize = 128;
+
+// Whether each of these labels takes n types that can be taken. One that was judged is mostly not judged again.
 fn labels_fit(body: &BodyContext, flow: &Flow, labels: &[u32], count: usize) -> bool
     ensures { result ≡ fit_each body.now.cx.now.classes.now (context_at body.now).labels
         (flow_view flow.now).any (flow_view flow.now).operands count labels.now }
 {
-    let mut fitting = None;
+    let mut fitting: [Option<u32>; JUDGED] = [None; JUDGED];
     for index in labels {
-        if !is_last(fitting, *index) && !label_fits(body, flow, *index, count) {
+        let place = *index as usize % JUDGED;
+        if !is_last(fitting[place], *index) && !label_fits(body, flow, *index, count) {
             return false;
         }
-        fitting = Some(*index);
+        fitting[place] = Some(*index);
     }
     true
 }

@@ -1,14 +1,15 @@
-use Rattle.std.proofs.Common.{◌≡◌, ℕ, drop, true}
-use Rattle.std.specs.Prelude.{IfSome, slice_get}
+use Rattle.std.proofs.Common.{◌≡◌, ℕ, Option, drop, length, true}
+use Rattle.std.specs.Prelude.{All, IfSome, slice_get}
 use Rattle.w_flow.specs.Flow.{fits_one, fit_each}
 use Rattle.w_flow.specs.View.{flow_view}
 use Rattle.w_steps.specs.View.{context_at}
 use Rattle.w_steps.proofs.steps.control.labels_fit.Given as goal
 
--- whether all labels fit is whether those from here on do, and the last one that was judged fits
+-- whether all labels fit is whether those from here on do, and each that is kept as judged fits
 abbrev pub invariant-loop-index : goal.invariant-loop-index
 invariant-loop-index l = record {
   left : fit_each l.body.cx.now.classes.now (context_at l.body).labels (flow_view l.flow).any (flow_view l.flow).operands l.count l.labels
       ≡ fit_each l.body.cx.now.classes.now (context_at l.body).labels (flow_view l.flow).any (flow_view l.flow).operands l.count (drop l.index-index l.labels);
-  fitting : IfSome l.fitting (λ (x : ℕ). fits_one l.body.cx.now.classes.now (flow_view l.flow).any (flow_view l.flow).operands l.count (slice_get (context_at l.body).labels x) ≡ true);
+  places : length l.fitting ≡ 128;
+  fitting : All (λ (o : Option ℕ). IfSome o (λ (x : ℕ). fits_one l.body.cx.now.classes.now (flow_view l.flow).any (flow_view l.flow).operands l.count (slice_get (context_at l.body).labels x) ≡ true)) l.fitting;
 }
