@@ -135,7 +135,7 @@ module _ {m : Module} {x : Parts} (valid : Valid m) (f : IsPlainAt m (top x.chai
   few_there {p = p} {t = t} h body none {u'} {s'} takes =
       let to = takes.goes p (head h).o t.around t.rest (standing_at valid h f) in
       let fewer = no_more_frames p (store_of x.store) t.around (stack (top x.chain).shape.operands) t.rest.ahead t.rest.code (plain_next (head h).stands f)
-          (calls_in (head h).stands body ∙ none) [] (store_of u') (led_to to) to.is in
+      (calls_in (head h).stands body ∙ none) [] (store_of u') (led_to to) to.is in
       let same = all_frames (stands_there h to) in
       let most = h.within.few_frames in
       not_many (frames_in_all (with_top s' x.chain)) (omega (arith, fewer, same, most))

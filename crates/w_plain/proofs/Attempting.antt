@@ -16,9 +16,8 @@ use Rattle.w_stands.specs.declared.did.Did.TheVariants as did
 use Rattle.w_stands.specs.Keeps.{Keeps}
 use Rattle.w_stands.specs.Steps.{FollowsAlone}
 use Rattle.w_plain.specs.Stepped.{Stepped}
-use Rattle.w_plain.specs.declared.progress.Progress.{Progress}
 use Rattle.w_plain.specs.declared.progress.Progress.TheVariants as progress
-use Rattle.w_plain.specs.Attempted.{attempt_of, Attempted, was_made, is_own, is_branch_table, is_attempted, is_attempted_at}
+use Rattle.w_plain.specs.Attempted.{attempt_of, Attempted, was_made, is_branch_table, is_attempted}
 use Rattle.w_plain.proofs.Prints.{same_parts}
 use Rattle.w_plain.proofs.Steps.{takes_alone}
 use Rattle.w_segment.specs.declared.entry.Stage.TheVariants.{Body}

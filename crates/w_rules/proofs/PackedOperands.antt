@@ -1,5 +1,5 @@
 -- The two numbers of a value type, as an operand's.
-use Rattle.std.proofs.Common.{◌≡◌, ◌<◌, ℕ, zero, suc, ◌+◌, ◌*◌, Bool, true, false, refl, sym, ap, ◌∙◌, arith}
+use Rattle.std.proofs.Common.{◌≡◌, ◌<◌, ℕ, zero, suc, Bool, true, false, refl, sym, ap, ◌∙◌, arith}
 use Rattle.w_types.specs.declared.types.HeapType.{HeapType}
 use Rattle.w_types.specs.declared.types.HeapType.TheVariants as heap
 use Rattle.w_types.specs.declared.types.ValType.{ValType}
