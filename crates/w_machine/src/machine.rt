@@ -337,7 +337,8 @@ impl Machine {
         if self.kept.is_some() {
             return self.kept;
         }
-        for _ in 0..steps {
+        let end = self.taken + steps;
+        while self.taken < end {
             if self.advance(out) {
                 return self.kept;
             }

@@ -16,8 +16,9 @@ use Rattle.w_stands.specs.declared.did.Did.TheVariants as did
 use Rattle.w_stands.specs.Keeps.{Keeps}
 use Rattle.w_stands.specs.Steps.{FollowsAlone}
 use Rattle.w_plain.specs.Stepped.{Stepped}
+use Rattle.w_plain.specs.declared.progress.Progress.{Progress}
 use Rattle.w_plain.specs.declared.progress.Progress.TheVariants as progress
-use Rattle.w_plain.specs.Attempted.{attempt_of, Attempted, was_made, is_branch_table, is_attempted}
+use Rattle.w_plain.specs.Attempted.{attempt_of, Attempted, IsAttempt, was_made, is_branch_table, is_attempted}
 use Rattle.w_plain.proofs.Prints.{same_parts}
 use Rattle.w_plain.proofs.Steps.{takes_alone}
 use Rattle.w_segment.specs.declared.entry.Stage.TheVariants.{Body}
@@ -85,6 +86,28 @@ pub common_calls_none : (p : PackedInstr) → is_common p ≡ true → calls_at 
 common_calls_none (packed.Control o) h = absurd (cc)
 common_calls_none (packed.Boxed i) h = absurd (cc)
 common_calls_none p h = refl
+
+common_attempted : (fs : List FuncEntry) (p : PackedInstr) → is_common p ≡ true → is_attempted fs p ≡ true
+common_attempted fs (packed.Control o) h = absurd (cc)
+common_attempted fs (packed.Boxed i) h = absurd (cc)
+common_attempted fs (packed.Table o) h = absurd (cc)
+common_attempted fs (packed.Memory o) h = absurd (cc)
+common_attempted fs (packed.Reference o) h = absurd (cc)
+common_attempted fs (packed.Switching o) h = absurd (cc)
+common_attempted fs p h = refl
+
+-- what came of a call that takes its reduction
+pub common_attempt : {m : Module} {u u' : instances.Store} {s s' : Shape} (p : PackedInstr) (r : Result Did AllocError) (a : Progress) → a ≡ attempt_of r → is_common p ≡ true
+    → Stepped r m u s u' s' → IsAttempt a p m u s u' s'
+common_attempt {m} {u} {u'} {s} {s'} p r a e h k = rw e (record {
+  step = attempted_step r m u u' s s' k;
+  made = made r ∙ sym (common_attempted u.functions p h);
+  went = λ e. common_calls_none p h;
+})
+
+-- none of a rarer one is made
+pub rare_attempt : (p : PackedInstr) (m : Module) (u : instances.Store) (s : Shape) → is_attempted u.functions p ≡ false → IsAttempt progress.Rare p m u s u s
+rare_attempt p m u s h = record { step = nothing_attempted m u s; made = sym h; went = λ e. absurd (cc) }
 
 -- so nothing is called at the place where it stands
 pub calls_there : (m : Module) (s : Shape) (i : Instr) → Some i ≡ instr_of m s.func s.place → calls_at (Some i) ≡ false → calls_at (instr_of m s.func s.place) ≡ false

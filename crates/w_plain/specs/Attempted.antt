@@ -19,6 +19,8 @@ use Rattle.w_stands.specs.declared.did.Did.TheVariants as did
 use Rattle.w_stands.specs.Steps.{Follows}
 use Rattle.w_plain.specs.declared.progress.Progress.{Progress}
 use Rattle.w_plain.specs.declared.progress.Progress.TheVariants as progress
+use Rattle.w_syntax.specs.Packed.{unpacked}
+use Rattle.w_plain.specs.Plainness.{calls_at}
 use Rattle.w_plain.specs.Stepped.{Takes}
 
 -- the attempt at a reduction that came to this
@@ -65,3 +67,11 @@ is_attempted fs p = true
 abbrev pub is_attempted_at : List FuncEntry → Option PackedInstr → Bool
 is_attempted_at fs None = true
 is_attempted_at fs (Some p) = is_attempted fs p
+
+-- ## At an instruction
+
+-- It came to this, was made exactly where it is attempted, and where it only went on nothing is called.
+pub record IsAttempt (result : Progress) (p : PackedInstr) (m : Module) (u : instances.Store) (s : Shape) (u' : instances.Store) (s' : Shape) : Type 0 where
+  pub step : Attempted result m u s u' s'
+  pub made : was_made result ≡ is_attempted u.functions p
+  pub went : result ≡ progress.Went → calls_at (Some (unpacked p)) ≡ false

@@ -4,7 +4,7 @@
 mod attempts;
 mod blocks;
 mod calls;
-mod common;
+mod control_attempts;
 mod controls;
 mod exits;
 mod families;

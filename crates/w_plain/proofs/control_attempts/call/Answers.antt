@@ -2,7 +2,7 @@ use Rattle.std.proofs.Common.{refl, []}
 use Rattle.w_stands.specs.declared.did.Did.TheVariants as did
 use Rattle.w_plain.proofs.Steps.{takes_stack}
 use Rattle.w_plain.proofs.Prints.{callee_there, call_calls}
-use Rattle.w_plain.proofs.attempts.call.Goals as goal
+use Rattle.w_plain.proofs.control_attempts.call.Goals as goal
 
 pub function-requires : goal.function-requires
 function-requires c = record {

@@ -1,5 +1,5 @@
 use Rattle.w_plain.proofs.Attempting.{attempted_alone}
-use Rattle.w_plain.proofs.attempts.boxed.Goals as goal
+use Rattle.w_plain.proofs.control_attempts.boxed.Goals as goal
 
 pub returns-in-Plain-Control-BrTable-clause-step : goal.returns-in-Plain-Control-BrTable-clause-step
 returns-in-Plain-Control-BrTable-clause-step c =

@@ -1,7 +1,7 @@
 use Rattle.std.proofs.Common.{Ok}
 use Rattle.w_plain.proofs.Attempting.{attempted_step}
 use Rattle.w_plain.proofs.Steps.{takes_alone}
-use Rattle.w_plain.proofs.attempts.control.Goals as goal
+use Rattle.w_plain.proofs.control_attempts.control.Goals as goal
 
 pub returns-in_default-clause-step : goal.returns-in_default-clause-step
 returns-in_default-clause-step c =

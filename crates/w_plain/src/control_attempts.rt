@@ -1,0 +1,98 @@
+//! Attempts at control instructions.
+ghost use Rattle.std.specs.Prelude.{◌≡◌, ◌≢◌, false, Some, slice_get};
+ghost use Rattle.w_syntax.specs.Packed.{control_of};
+ghost use Rattle.w_syntax.specs.declared.instructions.Instr.TheVariants as flat;
+ghost use Rattle.w_syntax.specs.declared.instructions.Op.TheVariants as op;
+ghost use Rattle.w_syntax.specs.declared.packed.PackedInstr.TheVariants as packed;
+ghost use Rattle.w_syntax.specs.declared.packed.ShortControlOp.TheVariants as short;
+ghost use Rattle.w_stands.specs.Steps.{MovesAt};
+ghost use Rattle.w_plain.specs.Commonness.{is_call};
+ghost use Rattle.w_plain.specs.Plainness.{switches_at, calls_at};
+ghost use Rattle.w_plain.specs.declared.progress.Progress.TheVariants as progress;
+ghost use Rattle.w_plain.specs.Attempted.{attempt_of, Attempted, was_made, is_own, is_branch_table, is_attempted};
+
+use crate::controls::branching;
+use crate::progress::Progress;
+use std::alloc::AllocError;
+use w_call_ops::call_own;
+use w_control_ops::br_table;
+use w_segment::Stack;
+use w_stands::Did;
+use w_syntax::{ControlOp, Instr, Module, Op, ShortControlOp};
+use w_tables::{FuncEntry, Store};
+
+/// The attempt at a reduction that came to this.
+#[inline(always)]
+pub(crate) fn told(outcome: Result<Did, AllocError>) -> Progress
+    ensures { result ≡ attempt_of outcome }
+{
+    match outcome {
+        Ok(Did::Went) => Progress::Went,
+        Ok(Did::Trapped(_)) => Progress::Trapped,
+        Err(_) => Progress::OutOfMemory,
+    }
+}
+
+// A call of a function of the module.
+#[inline(always)]
+#[tactic(auto, using(crate::proofs::Prints::call_calls))]
+fn call(program: &Module, store: &mut Store, stack: &mut Stack, address: u32) -> Progress
+    requires moves { MovesAt (flat.Plain (op.Control (control_of (short.Call address)))) program.now store.old stack.old }
+    ensures step { Attempted result program.now store.old stack.old store.new stack.new }
+    ensures made { was_made result ≡ is_own (slice_get store.old.functions address) }
+    ensures went { result ≢ progress.Went }
+{
+    match store.function(address) {
+        FuncEntry::Own(function) => {
+            match call_own(program, store, stack, address, function, 0) {
+                Ok(()) => Progress::Entered,
+                Err(_) => Progress::OutOfMemory,
+            }
+        }
+        FuncEntry::Printer(_) => Progress::Rare,
+    }
+}
+
+/// A control instruction that holds no list.
+#[inline(always)]
+#[tactic(auto, using(crate::proofs::Steps::alone, crate::proofs::Attempting::nothing_attempted))]
+pub(crate) fn control(
+    program: &Module,
+    store: &mut Store,
+    stack: &mut Stack,
+    operation: ShortControlOp,
+) -> Progress
+    requires moves { MovesAt (flat.Plain (op.Control (control_of operation))) program.now store.old stack.old }
+    ensures step { Attempted result program.now store.old stack.old store.new stack.new }
+    ensures made { was_made result ≡ is_attempted store.old.functions (packed.Control operation) }
+    ensures went { result ≡ progress.Went → is_call operation ≡ false }
+{
+    match operation {
+        ShortControlOp::Call(function) => call(program, store, stack, function),
+        ShortControlOp::CallIndirect(_, _) => Progress::Rare,
+        ShortControlOp::CallRef(_) => Progress::Rare,
+        _ => told(Ok(branching(program, stack, operation))),
+    }
+}
+
+/// A `br_table`.
+#[inline(always)]
+#[tactic(auto, using(crate::proofs::Steps::alone, crate::proofs::Attempting::attempted_alone, crate::proofs::Attempting::nothing_attempted))]
+pub(crate) fn boxed(
+    program: &Module,
+    store: &mut Store,
+    stack: &mut Stack,
+    instr: &Instr,
+) -> Progress
+    requires moves { switches_at (Some instr.now) ≡ false → MovesAt instr.now program.now store.old stack.old }
+    ensures step { Attempted result program.now store.old stack.old store.new stack.new }
+    ensures made { was_made result ≡ is_branch_table instr.now }
+    ensures went { result ≡ progress.Went → calls_at (Some instr.now) ≡ false }
+{
+    let _store = store;
+    if let Instr::Plain(Op::Control(ControlOp::BrTable(labels, last))) = instr {
+        br_table(program, stack, labels, *last);
+        return Progress::Went;
+    }
+    Progress::Rare
+}
