@@ -1,7 +1,7 @@
 //! Entering a function of the module (Core, execution, function calls).
 ghost use Rattle.std.specs.Prelude.{◌≡◌, ◌+◌, ◌<◌, ◌≤◌, ◌^◌, length, drop, OnErr, OnOk};
 ghost use Rattle.w_syntax.specs.Locals.{total};
-ghost use Rattle.w_segment.specs.Shape.{SameParts, frames_of, locals_all};
+ghost use Rattle.w_segment.specs.Shape.{Fits, SameParts, frames_of, locals_all};
 ghost use Rattle.w_segment.specs.Changes.{with_more};
 ghost use Rattle.w_stands.specs.Code.{instrs};
 ghost use Rattle.w_stands.specs.Keeps.{Keeps};
@@ -51,6 +51,18 @@ fn add_runs(stack: &mut Stack, runs: &[LocalRun])
     }
 }
 
+// Takes room for a frame of so many locals, and for its body's label, where there is none.
+#[inline(always)]
+fn room_for_frame(stack: &mut Stack, locals: usize) -> Result<(), AllocError>
+    ensures same { SameParts stack.old stack.new }
+    ensures ok { OnOk result (Fits 0 2 locals stack.new) }
+{
+    if stack.has_levels(2, locals) {
+        return Ok(());
+    }
+    stack.reserve(0, 2, locals)
+}
+
 /// Enters a function of the module, by its index among the module's own, once so many operands are gone; its arguments stand beneath
 /// them. The function that ran before goes on at `back`. It fails only when out of memory, and then the stack is as it was but for room.
 #[inline(never)]
@@ -77,7 +89,7 @@ pub(crate) fn enter(
     };
     let runs = code.locals.as_slice();
     let target = code.body.instrs().len() as u32;
-    stack.reserve(0, 2, params as usize + count_locals(runs))?;
+    room_for_frame(stack, params as usize + count_locals(runs))?;
     stack.discard(taken);
     stack.go(back);
     stack.enter(Entry::Frame {

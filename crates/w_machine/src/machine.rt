@@ -135,6 +135,10 @@ fn turn(chain: &mut Chain, waiting: &mut Option<Box<Segment>>)
     ensures stays { is_last chain.old ≡ false → (chain.new ≡ chain.old) × (waiting.new ≡ waiting.old) }
     ensures turns { is_last chain.old ≡ true → IsTurned waiting.old chain.old chain.new × (waiting.new ≡ None) }
 {
+    // mostly none waits, which is told sooner than where the last one stands
+    if waiting.is_none() {
+        return;
+    }
     if let Stage::Values = chain.stack().stage() {
         if chain.handles() == 0 {
             if let Some(next) = waiting.take() {

@@ -123,6 +123,15 @@ impl Stack {
         self.marks.len() < self.marks.capacity().min(MOST_LEVELS)
     }
 
+    /// Whether there is room for so many labels or frames, and so many locals, more.
+    #[inline(always)]
+    pub fn has_levels(&self, levels: usize, locals: usize) -> bool
+        ensures answer { IsTrue result → Fits 0 levels locals self.now }
+    {
+        self.marks.len().saturating_add(levels) <= self.marks.capacity().min(MOST_LEVELS)
+            && self.locals.len().saturating_add(locals) <= self.locals.capacity()
+    }
+
     /// Takes room for so many more operands, levels and locals. It fails only when out of memory, or where there would be 2^32 levels, and
     /// not where there is that room; also then nothing else changes.
     #[inline(never)]
