@@ -1,5 +1,5 @@
 -- Blocks of typed configurations.
-use Rattle.std.proofs.Common.{◌≡◌, Bool, true, false, cond, List, Option, Some, None, option_map, refl, sym, ap}
+use Rattle.std.proofs.Common.{◌≡◌, ℕ, subst, Bool, true, false, cond, List, Option, Some, None, option_map, refl, sym, ap}
 use Rattle.w_types.specs.declared.types.FuncType.{FuncType}
 use Rattle.w_types.specs.declared.types.ValType.{ValType}
 use Rattle.w_types.specs.Rows.{Row, ε, ◌▹◌, ◌⧺◌, size}
@@ -8,6 +8,7 @@ use Rattle.w_syntax.specs.Code.{Code, Done, Block, after}
 use Rattle.w_syntax.specs.Functions.{func_type}
 use Rattle.w_syntax.specs.declared.instructions.BlockKind.{BlockKind}
 use Rattle.w_syntax.specs.declared.instructions.BlockKind.TheVariants as kind
+use Rattle.w_syntax.specs.declared.instructions.BlockKind.TheVariants.{Loop}
 use Rattle.w_syntax.specs.declared.instructions.BlockType.{BlockType}
 use Rattle.w_syntax.specs.declared.instructions.BlockType.TheVariants as blocktype
 use Rattle.w_syntax.specs.declared.module.Module.{Module}
@@ -26,12 +27,13 @@ use Rattle.w_reduce.specs.Reduced.{steps_to}
 use Rattle.w_reduce.specs.Branches.{block, label_of}
 use Rattle.w_typed.specs.Values.{Arrows, ValuesTyped}
 use Rattle.w_typed.specs.Stores.{StoreTyped}
-use Rattle.w_typed.specs.Contexts.{Scope, in_scope, CodeTyped, code_alone, Subset, Within, label}
+use Rattle.w_typed.specs.Contexts.{Scope, under, in_scope, IsLow, CodeTyped, code_alone, Subset, Within, label}
 use Rattle.w_typed.specs.Configurations.{IsSafe}
 use Rattle.w_typed.proofs.Subsumed.{values_sub}
 use Rattle.w_typed.proofs.Taken.{values_taken}
 use Rattle.w_typed.proofs.Holes.{code_left}
-use Rattle.w_typed.proofs.Branches.{size_known}
+use Rattle.w_typed.proofs.Low.{as_later, size_known}
+use Rattle.w_typed.proofs.Branches.{values_size}
 use Rattle.w_typed.proofs.Onward.{goes_on}
 
 -- how many operands a block of this type takes and gives
@@ -68,24 +70,35 @@ pub record BlockTyped (m : Module) (c : Scope) (set : List Bool) (kind : BlockKi
   pub inside : Derives (labelled (in_scope m c) (rules.label_of kind arrow)) set x (known arrow.from) (known arrow.to)
   pub has_type : HasType m.types (known arrow.from) (known arrow.to) ts ws
   pub behind : CodeTyped m c set k ws out
+  pub inside_low : (c.results ≡ None → ⊥) → IsLow m (under (size has_type.beneath) (rules.label_of kind arrow) c) set x (size arrow.from)
+  pub again_low : kind ≡ Loop → (c.results ≡ None → ⊥) → IsLow m c set (Block Loop b x k) (size (has_type.beneath ⧺ known arrow.from))
 
 module _ (p : Program) {K : Arrows} (us : Row Operand) where
+  inside_there : (kind : BlockKind) {b : BlockType} {x k : Code} {c : Scope} {set : List Bool} {ts ws out : Row Operand} (h : BlockTyped p.source c set kind b x k ts ws out)
+      → (below : Row Val) → ValuesTyped p.source K below h.has_type.beneath → (c.results ≡ None → ⊥)
+      → IsLow p.source (under (size below) (rules.label_of kind h.arrow) c) set x (size (known h.arrow.from))
+  inside_there kind {x = x} {c = c} {set = set} h below lower i =
+      let m = p.source in
+      let label_there = rules.label_of kind h.arrow in
+      subst (λ (n : ℕ). IsLow m (under (size below) label_there c) set x n) (sym (size_known h.arrow.from))
+      (subst (λ (n : ℕ). IsLow m (under n label_there c) set x (size h.arrow.from)) (sym (values_size m lower)) (h.inside_low i))
+
   block_goes : (kind : BlockKind) {b : BlockType} {x k : Code} {s : Store} {e : Context} {vs : Row Val} {c : Scope} {set now : List Bool} {ts ws out : Row Operand}
       → StoreTyped p.source K s → Subset set now → ValuesTyped p.source K vs ts → (h : BlockTyped p.source c set kind b x k ts ws out) → (c.results ≡ None → ⊥)
       → Within p.source K us e c now out → (below args : Row Val) → ValuesTyped p.source K below h.has_type.beneath → ValuesTyped p.source K args (known h.arrow.from)
       → IsSafe p.source K us (steps_to s (label_of kind b (sizes h.arrow) x below k e) args (rest_of x))
   block_goes kind.Block {k = k} u still v h n w below args lower taken =
       let m = p.source in
-      let gives = code_left m h.has_type.gives h.behind in
-      goes_on m us u still taken (code_alone (record { derives = h.inside; none = λ e. absurd (n e) }))
+      let gives = as_later m (code_left m h.has_type.gives h.behind) in
+      goes_on m us u still taken (code_alone (record { derives = h.inside; none = λ e. absurd (n e); low = inside_there kind.Block h below lower }))
       (label h.has_type.beneath (row_refl m.types (known h.arrow.to)) refl lower (rw (after_done k) gives) gives still w)
   block_goes kind.Loop {b = b} {x = x} {k = k} {c = c} {set = set} {ws = ws} {out = out} u still v h n w below args lower taken =
       let m = p.source in
       let from = h.has_type.beneath ⧺ known h.arrow.from in
       let again : Derives (in_scope m c) set (Block kind.Loop b x k) from out = rw h.is (h.inside, (ws, record { beneath = h.has_type.beneath; takes = row_refl m.types from; gives = h.has_type.gives }, h.behind.derives)) in
-      goes_on m us u still taken (code_alone (record { derives = h.inside; none = λ e. absurd (n e) }))
+      goes_on m us u still taken (code_alone (record { derives = h.inside; none = λ e. absurd (n e); low = inside_there kind.Loop h below lower }))
       (label h.has_type.beneath (row_refl m.types (known h.arrow.to)) refl lower
-      (rw (after_block kind.Loop b x k) (record { derives = again; none = λ e. absurd (n e) })) (code_left m h.has_type.gives h.behind) still w)
+      (rw (after_block kind.Loop b x k) (record { derives = again; none = λ e. absurd (n e); low = λ i room. h.again_low refl i })) (as_later m (code_left m h.has_type.gives h.behind)) still w)
 
   -- a block is entered, with the operands that it takes
   pub block_safe : (kind : BlockKind) {b : BlockType} {x k : Code} {s : Store} {e : Context} {vs : Row Val} {c : Scope} {set now : List Bool} {ts ws out : Row Operand}

@@ -1,5 +1,5 @@
 -- Calls of typed configurations.
-use Rattle.std.proofs.Common.{◌≡◌, ℕ, zero, suc, Bool, true, false, List, [], ◌∷◌, ◌++◌, length, map, replicate, if◌then◌else◌, Option, Some, None, slice_get, inl, refl, sym, ap, subst, ◌∙◌}
+use Rattle.std.proofs.Common.{◌≡◌, ℕ, zero, suc, Bool, true, false, List, [], ◌∷◌, ◌++◌, length, map, replicate, if◌then◌else◌, Option, Some, None, slice_get, inl, refl, sym, ap, subst, ◌∙◌, arith}
 use Rattle.std.proofs.lemmas.Option.{slice_get_within}
 use Rattle.w_types.specs.declared.types.FuncType.{FuncType}
 use Rattle.w_types.specs.declared.types.HeapType.{HeapType}
@@ -15,6 +15,8 @@ use Rattle.w_syntax.specs.declared.module.Module.{Module}
 use Rattle.w_canon.specs.Matching.{IsFunc}
 use Rattle.w_rules.specs.Bodies.{types_of_runs, set_first, has_default}
 use Rattle.w_rules.specs.Context.{type_of_func, func_at}
+use Rattle.w_rules.specs.Facts.{height_of}
+use Rattle.w_rules.specs.Peak.{depth}
 use Rattle.w_rules.specs.Matching.{RowMatches, known}
 use Rattle.w_rules.specs.Operands.{Operand}
 use Rattle.w_rules.specs.Operands.{Known}
@@ -32,14 +34,14 @@ use Rattle.w_reduce.specs.Printed.{printed_i32, printed_i64, printed_byte}
 use Rattle.w_reduce.specs.Calls.{defaults, enter, print, invoked, invoke}
 use Rattle.w_typed.specs.Values.{Arrows, ValueTyped, an_i32, an_i64, a_null, a_value, ValuesTyped, no_values, values}
 use Rattle.w_typed.specs.Stores.{StoreTyped, EntryTyped, own, host, printed_type}
-use Rattle.w_typed.specs.Contexts.{Scope, inside, CodeTyped, code_alone, RestTyped, Subset, LocalTyped, unset, held, LocalsTyped, no_locals, locals, Within, label, frame}
+use Rattle.w_typed.specs.Contexts.{Scope, inside, most_operands, most_labels, LaterTyped, code_alone, RestTyped, Subset, LocalTyped, unset, held, LocalsTyped, no_locals, locals, Within, label, frame}
 use Rattle.w_typed.specs.Configurations.{IsSafe}
 use Rattle.w_typed.proofs.TypeKinds.{is_func}
 use Rattle.w_typed.proofs.Places.{instance_at}
 use Rattle.w_typed.proofs.Taken.{values_taken, number_taken}
 use Rattle.w_typed.proofs.Holes.{subset_refl}
-use Rattle.w_typed.proofs.Branches.{size_known}
 use Rattle.w_typed.proofs.Blocks.{after_done}
+use Rattle.w_typed.proofs.Low.{size_known}
 use Rattle.w_typed.proofs.Onward.{goes_on, goes_printing}
 
 some_same : {A : Type 0} {a b : A} → Some a ≡ Some b → a ≡ b
@@ -113,12 +115,16 @@ module _ (p : Program) {K : Arrows} (us : Row Operand) where
       let begin = set_first f.type.params f.func.locals in
       let as_many = sym (size-row_of f.type.results) in
       let nothing = subst (λ (ts : Row Operand). RowMatches m.types ts (known results)) (sym (unit_left (known results))) (row_refl m.types (known results)) in
-      let behind : CodeTyped m (inside (f.type.params ++ types_of_runs f.func.locals) results) begin Done (ε ⧺ known results) (known results) = record { derives = nothing; none = λ e. refl } in
+      let behind : LaterTyped m (inside i (f.type.params ++ types_of_runs f.func.locals) results) begin Done (ε ⧺ known results) (known results) =
+      record { derives = nothing; none = λ e. refl; low = λ own room. record { operands = room; labels = omega arith } } in
+      let peak_is : most_operands m i ≡ height_of m f.type f.func = rw (f.has_type, f.has_code) refl in
+      let depth_is : most_labels m i ≡ depth f.func.body = rw (f.has_type, f.has_code) refl in
       rw (f.has_type, f.has_code)
       (values_taken m us (length f.type.params) vs beneath (known (row_of f.type.params)) _ (sym (size_known (row_of f.type.params) ∙ size-row_of f.type.params)) v
-      (λ below args lower taken. goes_on m us u (subset_refl begin) no_values (code_alone (record { derives = f.body; none = λ e. absurd (cc) }))
+      (λ below args lower taken. goes_on m us u (subset_refl begin) no_values (code_alone (record { derives = f.body; none = λ e. absurd (cc); low = λ own. record { operands = omega (arith, peak_is); labels = omega (arith, depth_is) } }))
       (label ε (row_refl m.types (known results)) as_many no_values (rw (after_done Done) behind) behind (subset_refl begin)
-      (frame beneath (row_refl m.types (known results)) as_many (first_locals m f.type.params f.func.locals taken) lower k still w))))
+      (frame beneath (record { type = f.type; func = f.func; has_type = f.has_type; has_code = f.has_code; locals_are = refl; results_are = refl })
+      (row_refl m.types (known results)) as_many (first_locals m f.type.params f.func.locals taken) lower k still w))))
 
   -- a function of the host prints
   printed : {s : Store} {e : Context} {vs : Row Val} {rest : Rest} {c : Scope} {set now : List Bool} {out : Row Operand} (k : Printer) (beneath : Row Operand)

@@ -1,5 +1,5 @@
 -- cont.new, of typed configurations.
-use Rattle.std.proofs.Common.{◌≡◌, ℕ, [], ◌∷◌, ◌++◌, length, Option, Some, None, slice_get, refl, ap, ◌∙◌}
+use Rattle.std.proofs.Common.{◌≡◌, ℕ, false, [], ◌∷◌, ◌++◌, length, Option, Some, None, slice_get, refl, ap, ◌∙◌}
 use Rattle.w_types.specs.declared.types.FuncType.{FuncType}
 use Rattle.w_types.specs.Rows.{Row, ε, ◌▹◌, ◌⧺◌, row_of}
 use Rattle.w_types.proofs.Rows.{unit_left}
@@ -56,16 +56,16 @@ fresh_typed m K a x t is f =
         before = ε;
         after = to;
         operands = no_values;
-        rest = invoke_first ε has takes (code_alone (record { derives = gives; none = λ e. refl }));
+        rest = invoke_first ε has takes (code_alone (record { derives = gives; none = λ e. refl; low = λ n. absurd (n refl) }));
         around = outside (row_refl m.types to);
       };
     }
 
 module _ (p : Program) (K : Arrows) (us : Row Operand) {s : Store} {e : Context} {k : Code} where
   -- with the function type known
-  made : {vs : Row Val} (x f : ℕ) {beneath : Row Operand} (h : Here p K us s e k (beneath ▹ Known (non_null x))) → Valid p.source → IsContOf p.source x f
+  made : {vs : Row Val} (x f : ℕ) {beneath : Row Operand} (h : Here p K us s e k (beneath ▹ Known (non_null x))) → h.leaving ≡ false → Valid p.source → IsContOf p.source x f
       → ValuesTyped p.source K vs (beneath ▹ Known (nullable f)) → IsSafe p.source K us (switching_op p s e vs (switching.ContNew x) k)
-  made x f h valid c (values b (a_value q)) =
+  made x f h n valid c (values b (a_value q)) =
       let m = p.source in
       let t : FuncType = c.type in
       function_taken p us trap.NullReference _ (index_func (is_func m f t c.has_func)) q (λ a g.
@@ -73,17 +73,17 @@ module _ (p : Program) (K : Arrows) (us : Row Operand) {s : Store} {e : Context}
       let one = grows_more K t in
       rw (c.has_cont) (goes_with_more m one (cont_made m (fresh a (length t.params)) t s h.store (fresh_typed m (K ++ t ∷ []) a g.index t g.is same)) h.still
       (values (values_grow m one b) (a_value (a_continuation (made_reference m t t x s h.store c.has_cont (func_refl m.types t)))))
-      (code_alone h.behind) h.around))
+      (code_alone (h.behind n)) h.around))
 
   -- by whether there is a function type
-  by_index : {ts ws : Row Operand} {vs : Row Val} (x : ℕ) (f : Option ℕ) (h : Here p K us s e k ws) → Valid p.source → func_index_of_cont (context_of p.source) x ≡ f
+  by_index : {ts ws : Row Operand} {vs : Row Val} (x : ℕ) (f : Option ℕ) (h : Here p K us s e k ws) → h.leaving ≡ false → Valid p.source → func_index_of_cont (context_of p.source) x ≡ f
       → HasInstrType p.source.types (cont_new_type x f) ts ws → ValuesTyped p.source K vs ts → IsSafe p.source K us (switching_op p s e vs (switching.ContNew x) k)
-  by_index x None h valid is t v = absurd t
-  by_index x (Some f) h valid is t v =
+  by_index x None h n valid is t v = absurd t
+  by_index x (Some f) h n valid is t v =
       let m = p.source in
-      made x f (here_left p K us t.gives h) valid (is_cont_of m valid x f is) (values_sub m t.takes v)
+      made x f (here_left p K us t.gives h) n valid (is_cont_of m valid x f is) (values_sub m t.takes v)
 
   -- cont.new makes a continuation of the function, or traps where it is null
-  pub cont_new_safe : {ts ws : Row Operand} {vs : Row Val} (x : ℕ) (h : Here p K us s e k ws) → Valid p.source
+  pub cont_new_safe : {ts ws : Row Operand} {vs : Row Val} (x : ℕ) (h : Here p K us s e k ws) → h.leaving ≡ false → Valid p.source
       → HasInstrType p.source.types (cont_new_type x (func_index_of_cont (context_of p.source) x)) ts ws → ValuesTyped p.source K vs ts → IsSafe p.source K us (switching_op p s e vs (switching.ContNew x) k)
-  cont_new_safe x h valid t v = by_index x (func_index_of_cont (context_of p.source) x) h valid refl t v
+  cont_new_safe x h n valid t v = by_index x (func_index_of_cont (context_of p.source) x) h n valid refl t v

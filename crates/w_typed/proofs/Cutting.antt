@@ -1,18 +1,19 @@
 -- A typed context, cut at the handle that is found.
-use Rattle.std.proofs.Common.{All, Bool, List, [], ◌∷◌, ◌++◌, Option, subst}
+use Rattle.std.proofs.Common.{◌≡◌, ◌≤◌, ◌+◌, All, Bool, List, [], ◌∷◌, ◌++◌, Option, None, subst}
 use Rattle.w_types.specs.declared.types.ValType.{ValType}
-use Rattle.w_types.specs.Rows.{Row, ◌⧺◌, row_of}
+use Rattle.w_types.specs.Rows.{Row, ◌⧺◌, row_of, size}
 use Rattle.w_syntax.specs.Code.{Code}
 use Rattle.w_syntax.specs.declared.instructions.Clause.{Clause}
 use Rattle.w_syntax.specs.declared.module.Module.{Module}
 use Rattle.w_rules.specs.Conditions.{ClauseTyped}
 use Rattle.w_rules.specs.Matching.{known}
 use Rattle.w_rules.specs.Operands.{Operand}
+use Rattle.w_rules.specs.Peak.{clause_tops}
 use Rattle.w_reduce.specs.Values.{Val}
 use Rattle.w_reduce.specs.Terms.{Label, Frame, Handle, Context}
 use Rattle.w_reduce.specs.Handlers.{Handler, IsInnermost}
 use Rattle.w_typed.specs.Values.{Arrows, ValuesTyped}
-use Rattle.w_typed.specs.Contexts.{Scope, in_scope, CodeTyped, Subset, Within, outside, label, frame, handle}
+use Rattle.w_typed.specs.Contexts.{Scope, in_scope, most_operands, CodeTyped, Subset, Within, outside, label, frame, handle}
 
 -- a handle between the context inside it, whose hole is this one, and the context around it, of results us
 pub record HandleTyped (m : Module) (K : Arrows) (us : Row Operand) (c : Scope) (now : List Bool) (ts : Row Operand) (inner : Context) (below : Row Val)
@@ -26,6 +27,7 @@ pub record HandleTyped (m : Module) (K : Arrows) (us : Row Operand) (c : Scope) 
   pub beneath : Row Operand
   pub out : Row Operand
   pub clauses : All (ClauseTyped (in_scope m scope) results) hs
+  pub tops : (scope.results ≡ None → ⊥) → clause_tops scope.labels (scope.base + size beneath) hs ≤ most_operands m scope.function
   pub values : ValuesTyped m K below beneath
   pub behind : CodeTyped m scope set rest (beneath ⧺ known (row_of results)) out
   pub around : Within m K us outer scope now_there out
@@ -45,15 +47,16 @@ module _ (m : Module) {K : Arrows} {us : Row Operand} (below : Row Val) (hs : Li
     beneath = h.beneath;
     out = h.out;
     clauses = h.clauses;
+    tops = h.tops;
     values = h.values;
     behind = h.behind;
     around = h.around;
   }
 
   -- at the handle that stands behind these layers
-  cut : {c : Scope} {now : List Bool} {ts : Row Operand} (i : Context) → Within m K us (i ++ Handle below hs rest ∷ outer) c now ts
+  cut : (i : Context) {c : Scope} {now : List Bool} {ts : Row Operand} → Within m K us (i ++ Handle below hs rest ∷ outer) c now ts
       → HandleTyped m K us c now ts i below hs rest outer
-  cut [] (handle {s = s} {outer = there} {out = out} results beneath r clauses h k still w) = record {
+  cut [] (handle {s = s} {outer = there} {out = out} results beneath r clauses tops h k still w) = record {
     results = results;
     inside = outside r;
     scope = _;
@@ -63,13 +66,14 @@ module _ (m : Module) {K : Arrows} {us : Row Operand} (below : Row Val) (hs : Li
     beneath = beneath;
     out = out;
     clauses = clauses;
+    tops = tops;
     values = h;
     behind = k;
     around = w;
   }
   cut (Label b n again k ∷ i) (label beneath r size_is h d f still w) = deeper (λ results x. label beneath r size_is h d f still x) (cut i w)
-  cut (Frame b n ls k ∷ i) (frame beneath r size_is l h d still w) = deeper (λ results x. frame beneath r size_is l h d still x) (cut i w)
-  cut (Handle b gs k ∷ i) (handle given beneath r clauses h d still w) = deeper (λ results x. handle given beneath r clauses h d still x) (cut i w)
+  cut (Frame b n ls k ∷ i) (frame beneath f r size_is l h d still w) = deeper (λ results x. frame beneath f r size_is l h d still x) (cut i w)
+  cut (Handle b gs k ∷ i) (handle given beneath r clauses tops h d still w) = deeper (λ results x. handle given beneath r clauses tops h d still x) (cut i w)
 
 -- a typed context is typed on both sides of the handle that is found in it
 pub cut_found : (m : Module) {K : Arrows} {us : Row Operand} {A : Type 0} (answer : List Clause → Option A) (e : Context) (h : Handler A) {c : Scope}

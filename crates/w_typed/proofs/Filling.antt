@@ -19,8 +19,8 @@ module _ (m : Module) {K : Arrows} {mid us : Row Operand} where
       → ((any : List Bool) → Within m K us outer closed any mid) → Within m K us (inner ++ outer) c now ts
   within_join (outside {now = now} r) k = within_sub m r (k now)
   within_join (label beneath r n h again d still w) k = label beneath r n h again d still (within_join w k)
-  within_join (frame beneath r n ls h d still w) k = frame beneath r n ls h d still (within_join w k)
-  within_join (handle results beneath r hs h d still w) k = handle results beneath r hs h d still (within_join w k)
+  within_join (frame beneath f r n ls h d still w) k = frame beneath f r n ls h d still (within_join w k)
+  within_join (handle results beneath r hs tops h d still w) k = handle results beneath r hs tops h d still (within_join w k)
 
   -- a term with a hole, in a context that takes its results
   pub hole_within : {ps : Row Operand} {outer : Context} (t : Term) → HoleTyped m K ps mid t → ((any : List Bool) → Within m K us outer closed any mid)

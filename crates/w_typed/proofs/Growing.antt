@@ -75,8 +75,8 @@ module _ (m : Module) {K L : Arrows} (g : Grows K L) where
   pub within_grows : {us : Row Operand} {e : Context} {c : Scope} {now : List Bool} {ts : Row Operand} → Within m K us e c now ts → Within m L us e c now ts
   within_grows (outside r) = outside r
   within_grows (label beneath r n h again k still w) = label beneath r n (values_grow h) again k still (within_grows w)
-  within_grows (frame beneath r n ls h k still w) = frame beneath r n (locals_grow ls) (values_grow h) k still (within_grows w)
-  within_grows (handle results beneath r hs h k still w) = handle results beneath r hs (values_grow h) k still (within_grows w)
+  within_grows (frame beneath f r n ls h k still w) = frame beneath f r n (locals_grow ls) (values_grow h) k still (within_grows w)
+  within_grows (handle results beneath r hs tops h k still w) = handle results beneath r hs tops (values_grow h) k still (within_grows w)
 
   -- ## Terms and stores
 

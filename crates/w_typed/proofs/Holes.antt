@@ -1,5 +1,5 @@
 -- Typed contexts: what fills one, and the locals of its innermost frame.
-use Rattle.std.proofs.Common.{◌≡◌, ℕ, zero, suc, Bool, true, List, [], ◌∷◌, ◌⊎◌, inl, inr, Option, Some, slice_get, slice_set, refl, ap, subst}
+use Rattle.std.proofs.Common.{◌≡◌, ℕ, zero, suc, Bool, true, List, [], ◌∷◌, ◌⊎◌, inl, inr, Option, Some, slice_get, slice_set, refl, sym, ap, subst}
 use Rattle.w_types.specs.declared.types.ValType.{ValType}
 use Rattle.w_types.specs.Rows.{Row, ◌⧺◌, row_of}
 use Rattle.w_syntax.specs.Code.{Code}
@@ -7,11 +7,12 @@ use Rattle.w_syntax.specs.declared.module.Module.{Module}
 use Rattle.w_rules.specs.Matching.{RowMatches, known}
 use Rattle.w_rules.specs.Operands.{Operand}
 use Rattle.w_rules.proofs.Derive.{derives_left}
-use Rattle.w_rules.proofs.Preorder.{row_trans}
+use Rattle.w_rules.proofs.Preorder.{row_size, row_trans}
 use Rattle.w_reduce.specs.Values.{Val}
 use Rattle.w_reduce.specs.Terms.{Administrative, Context, locals_of, with_local}
 use Rattle.w_typed.specs.Values.{Arrows, ValueTyped}
-use Rattle.w_typed.specs.Contexts.{Scope, in_scope, CodeTyped, RestTyped, code_alone, invoke_first, branch_first, Subset, LocalTyped, held, LocalsTyped, no_locals, locals, Within, outside, label, frame, handle}
+use Rattle.w_typed.specs.Contexts.{Scope, in_scope, IsHeld, CodeTyped, RestTyped, code_alone, invoke_first, branch_first, Subset, LocalTyped, held, LocalsTyped, no_locals, locals, Within, outside, label, frame, handle}
+use Rattle.w_typed.proofs.Low.{low_sub}
 
 -- ## Sets of locals
 
@@ -83,8 +84,8 @@ module _ (m : Module) {K : Arrows} where
       → slice_get c.locals x ≡ Some t → Local m K (locals_of e) now x t
   local_within x t (outside r) is = absurd (cc)
   local_within x t (label beneath r n h again k still w) is = local_within x t w is
-  local_within x t (frame beneath r n ls h k still w) is = local_at x t ls is
-  local_within x t (handle results beneath r hs h k still w) is = absurd (cc)
+  local_within x t (frame beneath f r n ls h k still w) is = local_at x t ls is
+  local_within x t (handle results beneath r hs tops h k still w) is = absurd (cc)
 
   -- one of them may get a value of its type
   pub put_within : {us : Row Operand} {e : Context} {c : Scope} {now : List Bool} {ts : Row Operand} (x : ℕ) (t : ValType) (v : Val) → Within m K us e c now ts
@@ -92,8 +93,8 @@ module _ (m : Module) {K : Arrows} where
   put_within x t v (outside r) is h = absurd (cc)
   put_within x t v (label {now = now} beneath r n h again k still w) is u =
       label beneath r n h again k (subset_trans still (subset_set now x)) (put_within x t v w is u)
-  put_within x t v (frame beneath r n ls h k still w) is u = frame beneath r n (local_put x t v ls is u) h k still w
-  put_within x t v (handle results beneath r hs h k still w) is u = absurd (cc)
+  put_within x t v (frame beneath f r n ls h k still w) is u = frame beneath f r n (local_put x t v ls is u) h k still w
+  put_within x t v (handle results beneath r hs tops h k still w) is u = absurd (cc)
 
   -- ## Filling
 
@@ -102,15 +103,16 @@ module _ (m : Module) {K : Arrows} where
       → Within m K us e c now ts'
   within_sub {us} {ts = ts} {ts' = ts'} q (outside r) = outside (row_trans m.types ts' ts us q r)
   within_sub {ts = ts} {ts' = ts'} q (label {given = given} beneath r n h again k still w) = label beneath (row_trans m.types ts' ts given q r) n h again k still w
-  within_sub {ts = ts} {ts' = ts'} q (frame {results = results} beneath r n ls h k still w) = frame beneath (row_trans m.types ts' ts (known results) q r) n ls h k still w
-  within_sub {ts = ts} {ts' = ts'} q (handle results beneath r hs h k still w) = handle results beneath (row_trans m.types ts' ts (known (row_of results)) q r) hs h k still w
+  within_sub {ts = ts} {ts' = ts'} q (frame {results = results} beneath f r n ls h k still w) = frame beneath f (row_trans m.types ts' ts (known results) q r) n ls h k still w
+  within_sub {ts = ts} {ts' = ts'} q (handle results beneath r hs tops h k still w) = handle results beneath (row_trans m.types ts' ts (known (row_of results)) q r) hs tops h k still w
 
 module _ (m : Module) where
   pub code_left : {c : Scope} {s : List Bool} {k : Code} {ts ts' us : Row Operand} → RowMatches m.types ts' ts → CodeTyped m c s k ts us → CodeTyped m c s k ts' us
-  code_left {c = c} {s = s} {k = k} {ts = ts} {ts' = ts'} {us = us} q h = record { derives = derives_left (in_scope m c) s k ts' ts us q h.derives; none = h.none }
+  code_left {c = c} {s = s} {k = k} {ts = ts} {ts' = ts'} {us = us} q h = record { derives = derives_left (in_scope m c) s k ts' ts us q h.derives; none = h.none; low = λ inside. low_sub m q (h.low inside) }
 
   pub rest_left : {c : Scope} {s : List Bool} {ahead : List Administrative} {k : Code} {ts ts' us : Row Operand} → RowMatches m.types ts' ts
       → RestTyped m c s ahead k ts us → RestTyped m c s ahead k ts' us
   rest_left q (code_alone h) = code_alone (code_left q h)
-  rest_left {ts = ts} {ts' = ts'} q (branch_first {taken = taken} beneath is r) = branch_first beneath is (row_trans m.types ts' ts (beneath ⧺ known taken) q r)
+  rest_left {c = c} {ts = ts} {ts' = ts'} q (branch_first {taken = taken} beneath is r held_there) =
+      branch_first beneath is (row_trans m.types ts' ts (beneath ⧺ known taken) q r) (λ inside. subst (IsHeld m c) (sym (row_size m.types ts' ts q)) (held_there inside))
   rest_left {ts = ts} {ts' = ts'} q (invoke_first {t = t} beneath is r h) = invoke_first beneath is (row_trans m.types ts' ts (beneath ⧺ known (row_of t.params)) q r) h

@@ -2,6 +2,9 @@ pub mod Places
 pub mod Growing
 pub mod Subsumed
 pub mod Taken
+pub mod Counted
+pub mod Low
+pub mod FramesHold
 pub mod Holes
 pub mod Onward
 pub mod Filling

@@ -10,8 +10,8 @@ use Rattle.w_canon.specs.Matching.{ResultMatches}
 use Rattle.w_rules.specs.Matching.{RowMatches, known}
 use Rattle.w_rules.specs.Operands.{Operand, Known}
 use Rattle.w_rules.proofs.Preorder.{row_refl, row_beside}
-use Rattle.w_typed.proofs.Branches.{size_known}
 use Rattle.w_typed.proofs.SameTypes.{result_rows}
+use Rattle.w_typed.proofs.Low.{size_known}
 
 -- as many operands as types
 pub size_types : (ts : List ValType) → size (known (row_of ts)) ≡ length ts

@@ -90,7 +90,7 @@ module _ (m : Module) where
   main_typed : (main : ℕ) (f : EntryAt m main) → RestTyped m closed [] (Invoke main ∷ []) Done ε (known (row_of f.type.results))
   main_typed main f =
       invoke_typed main f.type [] (known (row_of f.type.results)) (known (row_of f.type.results)) f.has_type f.no_params refl
-      (code_alone (record { derives = row_refl m.types (known (row_of f.type.results)); none = λ e. refl }))
+      (code_alone (record { derives = row_refl m.types (known (row_of f.type.results)); none = λ e. refl; low = λ n. absurd (n refl) }))
 
   rest_typed : Valid m → (main : ℕ) (f : EntryAt m main) (o : Option ℕ) → m.start ≡ o
       → RestTyped m closed [] (invokes o ++ Invoke main ∷ []) Done ε (known (row_of f.type.results))

@@ -1,5 +1,5 @@
 -- switch, of typed configurations.
-use Rattle.std.proofs.Common.{◌≡◌, ℕ, ◌-◌, List, [], ◌∷◌, ◌++◌, length, Some, slice_get, refl, sym, ap, subst, arith}
+use Rattle.std.proofs.Common.{◌≡◌, ℕ, false, ◌-◌, List, [], ◌∷◌, ◌++◌, length, Some, slice_get, refl, sym, ap, subst, arith}
 use Rattle.w_types.specs.declared.types.FuncType.{FuncType}
 use Rattle.w_types.specs.declared.types.HeapType.TheVariants.{Index}
 use Rattle.w_types.specs.declared.types.RecGroup.{RecGroup}
@@ -58,21 +58,21 @@ last_of gs (more {us = us} {u = u} r h) = record { first = us; last = u; is = re
 module _ (p : Program) (K : Arrows) (us : Row Operand) {s : Store} {e : Context} {k : Code} where
   -- with its handle found
   switched : {below args : Row Val} (x y a : ℕ) (beneath : Row Operand) (own : FuncType) (cont : Kept) (f : Handler (Unit {0})) {ws : Row Operand}
-      (h : Here p K us s e k ws) (c : SwitchTyped (in_scope p.source h.scope) x y) → ws ≡ beneath ⧺ known (row_of c.other.params)
+      (h : Here p K us s e k ws) (c : SwitchTyped (in_scope p.source h.scope) x y) → h.leaving ≡ false → ws ≡ beneath ⧺ known (row_of c.other.params)
       → slice_get K a ≡ Some own → KeptTyped p.source K cont own → FuncMatches p.source.types own c.one → switch_clause y f.clauses ≡ Some f.answer
       → HandleTyped p.source K us h.scope h.now h.out f.inner f.below f.clauses f.rest f.outer
       → (last : LastOf p.source.types (known c.beneath) (Known (Ref (record { nullable = c.is_null; heap = Index c.index }))) (known (row_of own.params)))
       → ValuesTyped p.source K below beneath → ValuesTyped p.source K args last.first
       → IsSafe p.source K us (Went [] (with_cont (captured (length c.other.params) f.inner below k) (without_cont a s))
       (in_context (Handle f.below f.clauses f.rest ∷ f.outer) (filled cont.term (args ▹ Cont (next_cont s)))))
-  switched {below} {args} x y a beneath own cont f h c gives there kt matches found cut last lower taken =
+  switched {below} {args} x y a beneath own cont f h c n gives there kt matches found cut last lower taken =
       let m = p.source in
       let l : SwitchClauseTyped (in_scope m cut.scope) cut.results y = switch_found (in_scope m cut.scope) cut.results y f.clauses f.answer cut.clauses found in
       let same : l.tag ≡ c.tag = let q = l.has_tag in let r = c.has_tag in cc in
       let equal : ResultEqual m.types c.tag.results cut.results = subst (λ (z : FuncType). ResultEqual m.types z.results cut.results) same l.equal in
       let new : FuncType = record { params = c.other.params; results = cut.results } in
       let g = grows_more K new in
-      let behind = subst (λ (r : Row Operand). CodeTyped m h.scope h.set k r h.out) gives h.behind in
+      let behind = subst (λ (r : Row Operand). CodeTyped m h.scope h.set k r h.out) gives (h.behind n) in
       let back = captured_typed m (K ++ new ∷ []) new beneath h.still (values_grow m g lower) behind (within_grows m g cut.inside) in
       let down : ResultMatches m.types cut.results c.other.results =
       result_trans m.types cut.results c.tag.results c.other.results
@@ -90,15 +90,15 @@ module _ (p : Program) (K : Arrows) (us : Row Operand) {s : Store} {e : Context}
         store = cont_made m (captured (length c.other.params) f.inner below k) new (without_cont a s) (cont_consumed m a own s h.store there) back;
         term = hole_within m (filled cont.term (args ▹ Cont (next_cont s)))
             (hole_filled m ps ε cont.term (hole_grows m g kt.term) (row_refl m.types ps) handed)
-            (λ any. handle cut.results cut.beneath (result_rows m.types up) cut.clauses (values_grow m g cut.values) cut.behind cut.still (within_grows m g cut.around));
+            (λ any. handle cut.results cut.beneath (result_rows m.types up) cut.clauses cut.tops (values_grow m g cut.values) cut.behind cut.still (within_grows m g cut.around));
       })
 
   -- with operands of its type
-  switch_here : {vs : Row Val} (x y : ℕ) (beneath : Row Operand) {ws : Row Operand} (h : Here p K us s e k ws) (c : SwitchTyped (in_scope p.source h.scope) x y)
+  switch_here : {vs : Row Val} (x y : ℕ) (beneath : Row Operand) {ws : Row Operand} (h : Here p K us s e k ws) (c : SwitchTyped (in_scope p.source h.scope) x y) → h.leaving ≡ false
       → ws ≡ beneath ⧺ known (row_of c.other.params) → Valid p.source
       → ValuesTyped p.source K vs ((beneath ⧺ known c.beneath) ▹ Known (nullable x))
       → IsSafe p.source K us (switching_op p s e vs (switching.Switch x y) k)
-  switch_here x y beneath h c gives valid (values b (a_value q)) =
+  switch_here x y beneath h c leaving gives valid (values b (a_value q)) =
       let m = p.source in
       continuation_taken m us x c.one _ valid h.store c.has_one q (λ a cont own there kt matches.
       handle_found m us y (switch_clause y) e _ (λ f found.
@@ -111,18 +111,18 @@ module _ (p : Program) (K : Arrows) (us : Row Operand) {s : Store} {e : Context}
       rw (c.has_one, c.params, c.has_other) (values_taken m us (cont.takes - 1) _ beneath last.first _ count
       (values_sub m (row_beside m.types beneath beneath (known c.beneath) last.first (row_refl m.types beneath) last.others) b)
       (λ below args lower taken.
-      switched x y a beneath own cont f h c gives there kt matches found.answers (cut_found m (switch_clause y) e f found h.around) last lower taken))))
+      switched x y a beneath own cont f h c leaving gives there kt matches found.answers (cut_found m (switch_clause y) e f found h.around) last lower taken))))
 
   -- with its type known
-  switch_by : {ts ws : Row Operand} {vs : Row Val} (x y : ℕ) (h : Here p K us s e k ws) → Valid p.source → (c : SwitchTyped (in_scope p.source h.scope) x y)
+  switch_by : {ts ws : Row Operand} {vs : Row Val} (x y : ℕ) (h : Here p K us s e k ws) → h.leaving ≡ false → Valid p.source → (c : SwitchTyped (in_scope p.source h.scope) x y)
       → HasInstrType p.source.types (switched_type x c.beneath (Some c.other)) ts ws → ValuesTyped p.source K vs ts
       → IsSafe p.source K us (switching_op p s e vs (switching.Switch x y) k)
-  switch_by x y h valid c t v = switch_here x y t.beneath (here_left p K us t.gives h) c refl valid (values_sub p.source t.takes v)
+  switch_by x y h n valid c t v = switch_here x y t.beneath (here_left p K us t.gives h) c n refl valid (values_sub p.source t.takes v)
 
   -- switch goes on in the continuation, under the same handle, with a continuation of the context up to that, or traps
-  pub switch_safe : {ts ws : Row Operand} {vs : Row Val} (x y : ℕ) (h : Here p K us s e k ws) → Valid p.source → SwitchTyped (in_scope p.source h.scope) x y
+  pub switch_safe : {ts ws : Row Operand} {vs : Row Val} (x y : ℕ) (h : Here p K us s e k ws) → h.leaving ≡ false → Valid p.source → SwitchTyped (in_scope p.source h.scope) x y
       → HasInstrType p.source.types (switch_type (in_scope p.source h.scope) x (params_of (cont_of (context_of p.source) x))) ts ws → ValuesTyped p.source K vs ts
       → IsSafe p.source K us (switching_op p s e vs (switching.Switch x y) k)
-  switch_safe {ts} {ws} x y h valid c t v =
+  switch_safe {ts} {ws} x y h n valid c t v =
       let d : HasInstrType p.source.types (switched_type x c.beneath (Some c.other)) ts ws = rw (c.has_one, c.params, c.has_other) at t in
-      switch_by x y h valid c d v
+      switch_by x y h n valid c d v

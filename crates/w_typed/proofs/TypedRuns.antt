@@ -1,16 +1,13 @@
 -- Runs of typed configurations stay typed.
-use Rattle.std.proofs.Common.{◌≡◌, ◌≢◌, ℕ, zero, suc, Bool, true, false, List, [], ◌∷◌, ◌++◌, refl, ◌∙◌}
+use Rattle.std.proofs.Common.{◌≡◌, ◌≢◌, ℕ, zero, suc, List, [], ◌++◌, refl}
 use Rattle.w_types.specs.Rows.{Row}
-use Rattle.w_syntax.specs.Code.{Code, Done, Plain, Block, If, IfElse}
-use Rattle.w_syntax.specs.declared.instructions.Op.TheVariants as op
 use Rattle.w_rules.specs.Operands.{Operand}
 use Rattle.w_rules.specs.Valid.{Valid}
-use Rattle.w_reduce.specs.Values.{Val}
 use Rattle.w_reduce.specs.Store.{Store}
-use Rattle.w_reduce.specs.Terms.{Administrative, Context, Term}
+use Rattle.w_reduce.specs.Terms.{Term}
 use Rattle.w_reduce.specs.Program.{Program, IsProgram}
-use Rattle.w_reduce.specs.Reduced.{Reduced, Stuck}
-use Rattle.w_reduce.specs.Reduce.{next, reduce}
+use Rattle.w_reduce.specs.Reduced.{Reduced}
+use Rattle.w_reduce.specs.Reduce.{reduce}
 use Rattle.w_reduce.specs.Run.{Outcome, Running, Values, Traps, Limit, NoRule, RunState, outcome_by, state_at, after_reduction, continued, Run}
 use Rattle.w_typed.specs.Values.{Arrows}
 use Rattle.w_typed.specs.Configurations.{Typed, IsSafe, goes, traps, is_limited, ends, RunIsTyped, RunsAreTyped}

@@ -1,7 +1,7 @@
 -- Typed configurations, and what one reduction makes of them (Core, appendix, soundness: configuration validity and theorems).
-use Rattle.std.specs.Prelude.{◌≡◌, ◌≢◌, ℕ, Bool, true, false, List, [], Some}
+use Rattle.std.specs.Prelude.{◌≡◌, ◌≢◌, ℕ, Bool, true, false, List, [], ◌∷◌, Some, None}
 use Rattle.w_types.specs.declared.types.FuncType.{FuncType}
-use Rattle.w_types.specs.Rows.{Row, row_of}
+use Rattle.w_types.specs.Rows.{Row, row_of, size}
 use Rattle.w_syntax.specs.declared.module.Module.{Module}
 use Rattle.w_rules.specs.Context.{type_of_func}
 use Rattle.w_rules.specs.Matching.{known}
@@ -12,7 +12,7 @@ use Rattle.w_reduce.specs.declared.limit.RunLimit.{RunLimit}
 use Rattle.w_reduce.specs.declared.trap.Trap.{Trap}
 use Rattle.w_reduce.specs.Values.{Val}
 use Rattle.w_reduce.specs.Store.{Store}
-use Rattle.w_reduce.specs.Terms.{Term}
+use Rattle.w_reduce.specs.Terms.{Administrative, Invoke, Branch, Term}
 use Rattle.w_reduce.specs.Program.{Program, IsProgram}
 use Rattle.w_reduce.specs.Reduced.{Reduced, Went, Trapped, Limited, Ended}
 use Rattle.w_reduce.specs.Reduce.{reduce}
@@ -20,7 +20,7 @@ use Rattle.w_reduce.specs.Run.{RunState, NoRule, Run}
 use Rattle.w_reduce.specs.Start.{Start, Ready, start_term}
 use Rattle.w_typed.specs.Values.{Arrows, Grows, ValuesTyped}
 use Rattle.w_typed.specs.Stores.{StoreTyped}
-use Rattle.w_typed.specs.Contexts.{TermTyped}
+use Rattle.w_typed.specs.Contexts.{IsHeld, TermTyped}
 
 -- a store of the module's types, whose continuations have the function types K, and a term of results us
 pub record Typed (m : Module) (K : Arrows) (us : Row Operand) (s : Store) (t : Term) : Type 0 where
@@ -61,3 +61,14 @@ pub record StartsTyped (m : Module) (s : Store) (t : Term) : Type 0 where
 
 abbrev pub StartsAreTyped : Type 0
 StartsAreTyped = (p : Program) (s : Store) (t : Term) → IsProgram p → Valid p.source → Start p ≡ Ready s t → StartsTyped p.source s t
+
+-- a function is invoked next
+abbrev pub invokes_next : List Administrative → Bool
+invokes_next (Invoke a ∷ ahead) = true
+invokes_next (Branch l ∷ ahead) = false
+invokes_next [] = false
+
+-- where none is, the innermost frame has no more operands and labels than its function has anywhere
+abbrev pub FramesHoldNoMore : Type 0
+FramesHoldNoMore = (m : Module) (K : Arrows) (us : Row Operand) (t : Term) (h : TermTyped m K us t) → (h.scope.results ≡ None → ⊥) → invokes_next t.rest.ahead ≡ false
+    → IsHeld m h.scope (size t.operands)

@@ -1,5 +1,5 @@
 //! Laws of the definitions, each the contract of a function that does nothing.
-ghost use Rattle.w_typed.specs.Configurations.{ReductionsAreSafe, RunsAreTyped, StartsAreTyped};
+ghost use Rattle.w_typed.specs.Configurations.{FramesHoldNoMore, ReductionsAreSafe, RunsAreTyped, StartsAreTyped};
 
 /// Preservation and progress: a reduction of a typed configuration of a valid module leads to one of the same results, to a trap, to a
 /// limit or to values, and is never stuck.
@@ -15,4 +15,10 @@ pub fn starts_are_typed()
 /// A run from a typed configuration of a valid module stays typed, and is never stuck.
 pub fn runs_are_typed()
     ensures { RunsAreTyped }
+{}
+
+/// The innermost frame of a typed configuration holds no more operands and labels than its function has at any place, as validation
+/// counts them.
+pub fn frames_hold_no_more()
+    ensures { FramesHoldNoMore }
 {}
