@@ -126,7 +126,7 @@ impl Stack {
     /// Whether there is room for so many labels or frames, and so many locals, more.
     #[inline(always)]
     pub fn has_levels(&self, levels: usize, locals: usize) -> bool
-        ensures answer { IsTrue result → Fits 0 levels locals self.now }
+        ensures answer { IsTrue result ↔ Fits 0 levels locals self.now }
     {
         self.marks.len().saturating_add(levels) <= self.marks.capacity().min(MOST_LEVELS)
             && self.locals.len().saturating_add(locals) <= self.locals.capacity()
