@@ -32,7 +32,7 @@ module _ {A : Type 0} (answer : List Clause → Option A) where
   found : (e : Context) (h : Handler A) → find answer e ≡ Some h → IsInnermost answer e h
   found [] h p = absurd (cc)
   found (Label below n again rest ∷ e) h p = more_found (Label below n again rest) e (find answer e) h (λ i x. x) (found e) p
-  found (Frame below n locals rest ∷ e) h p = more_found (Frame below n locals rest) e (find answer e) h (λ i x. x) (found e) p
+  found (Frame below n f locals rest ∷ e) h p = more_found (Frame below n f locals rest) e (find answer e) h (λ i x. x) (found e) p
   found (Handle below hs rest ∷ e) h p = here_found below hs rest e (find answer e) h (found e) (answer hs) refl p
 
   -- the handle h, with the layers i inside it
@@ -44,7 +44,7 @@ module _ {A : Type 0} (answer : List Clause → Option A) where
   unfolding with_inner
   finds [] h x p = rw p refl
   finds (Label below n again rest ∷ i) h x p = ap (λ (o : Option (Handler A)). option_map (one_more (Label below n again rest)) o) (finds i h x p)
-  finds (Frame below n locals rest ∷ i) h x p = ap (λ (o : Option (Handler A)). option_map (one_more (Frame below n locals rest)) o) (finds i h x p)
+  finds (Frame below n f locals rest ∷ i) h x p = ap (λ (o : Option (Handler A)). option_map (one_more (Frame below n f locals rest)) o) (finds i h x p)
   finds (Handle below hs rest ∷ i) h x p = rw x.0 (ap (λ (o : Option (Handler A)). option_map (one_more (Handle below hs rest)) o) (finds i h x.1 p))
 
   no_more : (layer : Layer) (o : Option (Handler A)) → option_map (one_more layer) o ≡ None → o ≡ None
@@ -60,13 +60,13 @@ module _ {A : Type 0} (answer : List Clause → Option A) where
   none_inner : (e : Context) → find answer e ≡ None → Inner answer e
   none_inner [] p = tt
   none_inner (Label below n again rest ∷ e) p = none_inner e (no_more (Label below n again rest) (find answer e) p)
-  none_inner (Frame below n locals rest ∷ e) p = none_inner e (no_more (Frame below n locals rest) (find answer e) p)
+  none_inner (Frame below n f locals rest ∷ e) p = none_inner e (no_more (Frame below n f locals rest) (find answer e) p)
   none_inner (Handle below hs rest ∷ e) p = let r = here_none below hs rest e (find answer e) (answer hs) p in (r.0, none_inner e r.1)
 
   inner_none : (e : Context) → Inner answer e → find answer e ≡ None
   inner_none [] x = refl
   inner_none (Label below n again rest ∷ e) x = ap (λ (o : Option (Handler A)). option_map (one_more (Label below n again rest)) o) (inner_none e x)
-  inner_none (Frame below n locals rest ∷ e) x = ap (λ (o : Option (Handler A)). option_map (one_more (Frame below n locals rest)) o) (inner_none e x)
+  inner_none (Frame below n f locals rest ∷ e) x = ap (λ (o : Option (Handler A)). option_map (one_more (Frame below n f locals rest)) o) (inner_none e x)
   inner_none (Handle below hs rest ∷ e) x = rw x.0 (ap (λ (o : Option (Handler A)). option_map (one_more (Handle below hs rest)) o) (inner_none e x.1))
 
 pub finding : (A : Type 0) → Finds A

@@ -2,3 +2,4 @@ pub mod Trees
 pub mod Finding
 pub mod Plainly
 pub mod Passing
+pub mod Deep

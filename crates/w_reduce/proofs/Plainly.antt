@@ -88,7 +88,7 @@ one_more false e h = absurd (cc)
 with_local_frames : (x : ℕ) (v : Val) (e : Context) → frames (with_local x v e) ≡ frames e
 with_local_frames x v [] = refl
 with_local_frames x v (Label below n again rest ∷ e) = with_local_frames x v e
-with_local_frames x v (Frame below n locals rest ∷ e) = refl
+with_local_frames x v (Frame below n g locals rest ∷ e) = refl
 with_local_frames x v (Handle below hs rest ∷ e) = refl
 
 module _ (ks : List (Option Kept)) (e : Context) (last : Bool) (most : ℕ) (few : frames e ≤ most) where
@@ -276,14 +276,14 @@ module _ (ks : List (Option Kept)) (e : Context) (last : Bool) (most : ℕ) (few
   plainly_branch s l [] vs h = silent_stuck
   plainly_branch s zero (Label below a again rest ∷ f) vs h = plainly_take_values a vs _ _ (λ q. silent h)
   plainly_branch s (suc l) (Label below a again rest ∷ f) vs h = plainly_branch s l f vs h
-  plainly_branch s l (Frame below a locals rest ∷ f) vs h = silent_stuck
+  plainly_branch s l (Frame below a g locals rest ∷ f) vs h = silent_stuck
   plainly_branch s l (Handle below hs rest ∷ f) vs h = silent_stuck
 
   -- a return out of any context
   pub plainly_returns : (s : Store) (f : Context) (vs : Row Val) → frames f ≤ most → Plainly ks e last most (returns s f vs) (returns (with_conts ks s) f vs)
   plainly_returns s [] vs h = silent_stuck
   plainly_returns s (Label below a again rest ∷ f) vs h = plainly_returns s f vs h
-  plainly_returns s (Frame below a locals rest ∷ f) vs h = let fewer : frames f ≤ most = omega (arith, h) in plainly_take_values a vs _ _ (λ q. silent fewer)
+  plainly_returns s (Frame below a g locals rest ∷ f) vs h = let fewer : frames f ≤ most = omega (arith, h) in plainly_take_values a vs _ _ (λ q. silent fewer)
   plainly_returns s (Handle below hs rest ∷ f) vs h = silent_stuck
 
   -- ## Calls
@@ -352,8 +352,8 @@ is_last e ahead k = false
 plainly_leave : (ks : List (Option Kept)) (s : Store) (e : Context) (vs : Row Val) → Plainly ks e (is_last e [] Done) (frames e) (leave s e vs) (leave (with_conts ks s) e vs)
 plainly_leave ks s [] vs = silent_end refl
 plainly_leave ks s (Label below n again rest ∷ e) vs = silent (at_least false e)
-plainly_leave ks s (Frame below n locals rest ∷ e) vs =
-    plainly_if ks (Frame below n locals rest ∷ e) false (suc (frames e)) (at_least false (Frame below n locals rest ∷ e)) (nat_eq (size vs) n) _ _ _ _ (silent (at_least true e)) silent_stuck
+plainly_leave ks s (Frame below n g locals rest ∷ e) vs =
+    plainly_if ks (Frame below n g locals rest ∷ e) false (suc (frames e)) (at_least false (Frame below n g locals rest ∷ e)) (nat_eq (size vs) n) _ _ _ _ (silent (at_least true e)) silent_stuck
 plainly_leave ks s (Handle below hs rest ∷ e) vs = silent (at_least false e)
 
 plainly_code : (ks : List (Option Kept)) (p : Program) (s : Store) (e : Context) (vs : Row Val) (k : Code) → switches [] k ≡ false

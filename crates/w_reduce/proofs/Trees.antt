@@ -19,7 +19,7 @@ code_in (InstrIfElse b y z ∙∙ x) = IfElse b y z (code_in x)
 code_in (Const v ∙∙ x) = Done
 code_in (Admin a ∙∙ x) = Done
 code_in (InLabel n again y ∙∙ x) = Done
-code_in (InFrame n ls y ∙∙ x) = Done
+code_in (InFrame n f ls y ∙∙ x) = Done
 code_in (InHandle hs y ∙∙ x) = Done
 
 with_ahead : Administrative → Rest → Rest
@@ -34,7 +34,7 @@ rest_in (InstrIf b y ∙∙ x) = record { ahead = []; code = If b y (code_in x) 
 rest_in (InstrIfElse b y z ∙∙ x) = record { ahead = []; code = IfElse b y z (code_in x) }
 rest_in (Const v ∙∙ x) = record { ahead = []; code = Done }
 rest_in (InLabel n again y ∙∙ x) = record { ahead = []; code = Done }
-rest_in (InFrame n ls y ∙∙ x) = record { ahead = []; code = Done }
+rest_in (InFrame n f ls y ∙∙ x) = record { ahead = []; code = Done }
 rest_in (InHandle hs y ∙∙ x) = record { ahead = []; code = Done }
 
 -- a sequence, at the hole of e and after vs, taken apart
@@ -47,7 +47,7 @@ apart e vs (InstrBlock kind b y ∙∙ x) = record { around = e; operands = vs; 
 apart e vs (InstrIf b y ∙∙ x) = record { around = e; operands = vs; rest = record { ahead = []; code = If b y (code_in x) } }
 apart e vs (InstrIfElse b y z ∙∙ x) = record { around = e; operands = vs; rest = record { ahead = []; code = IfElse b y z (code_in x) } }
 apart e vs (InLabel n again y ∙∙ x) = apart (Label vs n again (code_in x) ∷ e) ε y
-apart e vs (InFrame n ls y ∙∙ x) = apart (Frame vs n ls (rest_in x) ∷ e) ε y
+apart e vs (InFrame n f ls y ∙∙ x) = apart (Frame vs n f ls (rest_in x) ∷ e) ε y
 apart e vs (InHandle hs y ∙∙ x) = apart (Handle vs hs (code_in x) ∷ e) ε y
 
 code_written : (c : Code) → code_in (instructions_of c) ≡ c
@@ -92,9 +92,9 @@ apart_filled (Label below n again rest ∷ e) x =
     apart_filled e (values_then below (InLabel n again x ∙∙ instructions_of rest))
     ∙ apart_values e ε below (InLabel n again x ∙∙ instructions_of rest)
     ∙ rw (unit_left below, code_written rest) refl
-apart_filled (Frame below n ls rest ∷ e) x =
-    apart_filled e (values_then below (InFrame n ls x ∙∙ sequence_of rest))
-    ∙ apart_values e ε below (InFrame n ls x ∙∙ sequence_of rest)
+apart_filled (Frame below n f ls rest ∷ e) x =
+    apart_filled e (values_then below (InFrame n f ls x ∙∙ sequence_of rest))
+    ∙ apart_values e ε below (InFrame n f ls x ∙∙ sequence_of rest)
     ∙ rw (unit_left below, rest_written rest.ahead rest.code) refl
 apart_filled (Handle below hs rest ∷ e) x =
     apart_filled e (values_then below (InHandle hs x ∙∙ instructions_of rest))

@@ -45,14 +45,14 @@ branch s zero (Label below n again rest ∷ e) vs = do
   (_, us) ← take_values n vs
   steps_to s e (below ⧺ us) (rest_of (after again rest))
 branch s (suc l) (Label below n again rest ∷ e) vs = branch s l e vs
-branch s l (Frame below n locals rest ∷ e) vs = Stuck
+branch s l (Frame below n f locals rest ∷ e) vs = Stuck
 branch s l (Handle below hs rest ∷ e) vs = Stuck
 
 -- frame_n{F} B*[vs v^n return] end  ↪  v^n
 abbrev pub returns : Store → Context → Row Val → Reduced
 returns s [] vs = Stuck
 returns s (Label below n again rest ∷ e) vs = returns s e vs
-returns s (Frame below n locals rest ∷ e) vs = do
+returns s (Frame below n f locals rest ∷ e) vs = do
   (_, us) ← take_values n vs
   steps_to s e (below ⧺ us) rest
 returns s (Handle below hs rest ∷ e) vs = Stuck

@@ -27,7 +27,7 @@ enter p s e vs i rest = do
   code ← or_stuck (code_of_function p.source i)
   (below, args) ← take_values (length t.params) vs
   let k = length t.results in
-      steps_to s (Label ε k Done Done ∷ Frame below k (map (λ (v : Val). Some v) (listed args) ++ defaults code.locals) rest ∷ e) ε (rest_of code.body)
+      steps_to s (Label ε k Done Done ∷ Frame below k i (map (λ (v : Val). Some v) (listed args) ++ defaults code.locals) rest ∷ e) ε (rest_of code.body)
 
 -- v (invoke a)  ↪  ε, where the function of address a is the host's, and prints v
 abbrev pub print : Store → Context → Row Val → Printer → Rest → Reduced

@@ -11,6 +11,6 @@ leave s [] vs = Ended vs
 -- label_n{again} v* end  ↪  v*
 leave s (Label below n again rest ∷ e) vs = steps_to s e (below ⧺ vs) (rest_of rest)
 -- frame_n{} v^n end  ↪  v^n
-leave s (Frame below n locals rest ∷ e) vs = if nat_eq (size vs) n then steps_to s e (below ⧺ vs) rest else Stuck
+leave s (Frame below n f locals rest ∷ e) vs = if nat_eq (size vs) n then steps_to s e (below ⧺ vs) rest else Stuck
 -- handle{hdl*} v* end  ↪  v*
 leave s (Handle below hs rest ∷ e) vs = steps_to s e (below ⧺ vs) (rest_of rest)

@@ -47,7 +47,7 @@ module _ {A : Type 0} where
   abbrev pub find : (List Clause → Option A) → Context → Option (Handler A)
   find answer [] = None
   find answer (Label below n again rest ∷ e) = option_map (one_more (Label below n again rest)) (find answer e)
-  find answer (Frame below n locals rest ∷ e) = option_map (one_more (Frame below n locals rest)) (find answer e)
+  find answer (Frame below n f locals rest ∷ e) = option_map (one_more (Frame below n f locals rest)) (find answer e)
   find answer (Handle below hs rest ∷ e) = here_or (answer hs) below hs rest e (find answer e)
 
   -- ## What it means that it is the innermost one
@@ -56,7 +56,7 @@ module _ {A : Type 0} where
   abbrev pub Inner : (List Clause → Option A) → Context → Type 0
   Inner answer [] = Unit {0}
   Inner answer (Label below n again rest ∷ e) = Inner answer e
-  Inner answer (Frame below n locals rest ∷ e) = Inner answer e
+  Inner answer (Frame below n f locals rest ∷ e) = Inner answer e
   Inner answer (Handle below hs rest ∷ e) = (answer hs ≡ None) × Inner answer e
 
   -- the context is one in which no handle answers, inside a handle that does

@@ -25,8 +25,9 @@ rest_of code = record { ahead = []; code = code }
 pub data Layer : Type 0 where
   -- below label_arity{again} [ ] end rest
   Label : (below : Row Val) (arity : ℕ) (again rest : Code) → Layer
-  -- below frame_arity{locals} [ ] end rest; a local that was never set holds nothing
-  Frame : (below : Row Val) (arity : ℕ) (locals : List (Option Val)) (rest : Rest) → Layer
+  -- below frame_arity{locals} [ ] end rest; which function of the module's own it is of, which no rule looks at; a local that was never
+  -- set holds nothing
+  Frame : (below : Row Val) (arity function : ℕ) (locals : List (Option Val)) (rest : Rest) → Layer
   -- below handle{clauses} [ ] end rest (stack-switching explainer, execution)
   Handle : (below : Row Val) (clauses : List Clause) (rest : Code) → Layer
 
@@ -65,13 +66,13 @@ fresh a n = record { takes = n; term = record { around = []; operands = ε; rest
 abbrev pub locals_of : Context → List (Option Val)
 locals_of [] = []
 locals_of (Label below n again rest ∷ e) = locals_of e
-locals_of (Frame below n locals rest ∷ e) = locals
+locals_of (Frame below n f locals rest ∷ e) = locals
 locals_of (Handle below hs rest ∷ e) = []
 
 abbrev pub with_local : ℕ → Val → Context → Context
 with_local x v [] = []
 with_local x v (Label below n again rest ∷ e) = Label below n again rest ∷ with_local x v e
-with_local x v (Frame below n locals rest ∷ e) = Frame below n (slice_set locals x (Some v)) rest ∷ e
+with_local x v (Frame below n f locals rest ∷ e) = Frame below n f (slice_set locals x (Some v)) rest ∷ e
 with_local x v (Handle below hs rest ∷ e) = Handle below hs rest ∷ e
 
 -- ## Counting
@@ -80,11 +81,11 @@ with_local x v (Handle below hs rest ∷ e) = Handle below hs rest ∷ e
 abbrev pub frames : Context → ℕ
 frames [] = 0
 frames (Label below n again rest ∷ e) = frames e
-frames (Frame below n locals rest ∷ e) = suc (frames e)
+frames (Frame below n f locals rest ∷ e) = suc (frames e)
 frames (Handle below hs rest ∷ e) = frames e
 
 abbrev pub handles : Context → ℕ
 handles [] = 0
 handles (Label below n again rest ∷ e) = handles e
-handles (Frame below n locals rest ∷ e) = handles e
+handles (Frame below n f locals rest ∷ e) = handles e
 handles (Handle below hs rest ∷ e) = suc (handles e)

@@ -24,7 +24,7 @@ mutual
     InstrIf : BlockType → (inside : Code) → AdminInstr
     InstrIfElse : BlockType → (first second : Code) → AdminInstr
     InLabel : (arity : ℕ) (again : Code) (body : Sequence) → AdminInstr
-    InFrame : (arity : ℕ) (locals : List (Option Val)) (body : Sequence) → AdminInstr
+    InFrame : (arity function : ℕ) (locals : List (Option Val)) (body : Sequence) → AdminInstr
     InHandle : (clauses : List Clause) (body : Sequence) → AdminInstr
 
   pub data Sequence : Type 0 where
@@ -54,7 +54,7 @@ sequence_of r = admin_then r.ahead (instructions_of r.code)
 abbrev pub plugged : Context → Sequence → Sequence
 plugged [] x = x
 plugged (Label below n again rest ∷ e) x = plugged e (values_then below (InLabel n again x ∙∙ instructions_of rest))
-plugged (Frame below n locals rest ∷ e) x = plugged e (values_then below (InFrame n locals x ∙∙ sequence_of rest))
+plugged (Frame below n f locals rest ∷ e) x = plugged e (values_then below (InFrame n f locals x ∙∙ sequence_of rest))
 plugged (Handle below hs rest ∷ e) x = plugged e (values_then below (InHandle hs x ∙∙ instructions_of rest))
 
 abbrev pub tree : Term → Sequence

@@ -14,7 +14,8 @@ use Rattle.w_reduce.specs.Branches.{branch, returns}
 use Rattle.w_reduce.specs.Exits.{leave}
 use Rattle.w_typed.specs.Values.{Arrows, ValuesTyped, no_values, values}
 use Rattle.w_typed.specs.Stores.{StoreTyped}
-use Rattle.w_typed.specs.Contexts.{Scope, most_operands, code_alone, Within, outside, label, frame, handle}
+use Rattle.w_reduce.specs.Room.{most_operands}
+use Rattle.w_typed.specs.Contexts.{Scope, code_alone, Within, outside, label, frame, handle}
 use Rattle.w_typed.specs.Configurations.{IsSafe, ends}
 use Rattle.w_typed.proofs.Subsumed.{values_sub, values_beside}
 use Rattle.w_typed.proofs.Taken.{values_taken}

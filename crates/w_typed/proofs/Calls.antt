@@ -34,7 +34,8 @@ use Rattle.w_reduce.specs.Printed.{printed_i32, printed_i64, printed_byte}
 use Rattle.w_reduce.specs.Calls.{defaults, enter, print, invoked, invoke}
 use Rattle.w_typed.specs.Values.{Arrows, ValueTyped, an_i32, an_i64, a_null, a_value, ValuesTyped, no_values, values}
 use Rattle.w_typed.specs.Stores.{StoreTyped, EntryTyped, own, host, printed_type}
-use Rattle.w_typed.specs.Contexts.{Scope, inside, most_operands, most_labels, LaterTyped, code_alone, RestTyped, Subset, LocalTyped, unset, held, LocalsTyped, no_locals, locals, Within, label, frame}
+use Rattle.w_reduce.specs.Room.{most_operands, most_labels}
+use Rattle.w_typed.specs.Contexts.{Scope, inside, LaterTyped, code_alone, RestTyped, Subset, LocalTyped, unset, held, LocalsTyped, no_locals, locals, Within, label, frame}
 use Rattle.w_typed.specs.Configurations.{IsSafe}
 use Rattle.w_typed.proofs.TypeKinds.{is_func}
 use Rattle.w_typed.proofs.Places.{instance_at}

@@ -13,7 +13,8 @@ use Rattle.w_reduce.specs.Values.{Val}
 use Rattle.w_reduce.specs.Terms.{Label, Frame, Handle, Context}
 use Rattle.w_reduce.specs.Handlers.{Handler, IsInnermost}
 use Rattle.w_typed.specs.Values.{Arrows, ValuesTyped}
-use Rattle.w_typed.specs.Contexts.{Scope, in_scope, most_operands, CodeTyped, Subset, Within, outside, label, frame, handle}
+use Rattle.w_reduce.specs.Room.{most_operands}
+use Rattle.w_typed.specs.Contexts.{Scope, in_scope, CodeTyped, Subset, Within, outside, label, frame, handle}
 
 -- a handle between the context inside it, whose hole is this one, and the context around it, of results us
 pub record HandleTyped (m : Module) (K : Arrows) (us : Row Operand) (c : Scope) (now : List Bool) (ts : Row Operand) (inner : Context) (below : Row Val)
@@ -72,7 +73,7 @@ module _ (m : Module) {K : Arrows} {us : Row Operand} (below : Row Val) (hs : Li
     around = w;
   }
   cut (Label b n again k ∷ i) (label beneath r size_is h d f still w) = deeper (λ results x. label beneath r size_is h d f still x) (cut i w)
-  cut (Frame b n ls k ∷ i) (frame beneath f r size_is l h d still w) = deeper (λ results x. frame beneath f r size_is l h d still x) (cut i w)
+  cut (Frame b n g ls k ∷ i) (frame beneath f r size_is l h d still w) = deeper (λ results x. frame beneath f r size_is l h d still x) (cut i w)
   cut (Handle b gs k ∷ i) (handle given beneath r clauses tops h d still w) = deeper (λ results x. handle given beneath r clauses tops h d still x) (cut i w)
 
 -- a typed context is typed on both sides of the handle that is found in it

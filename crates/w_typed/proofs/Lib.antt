@@ -4,6 +4,7 @@ pub mod Subsumed
 pub mod Taken
 pub mod Counted
 pub mod Low
+pub mod Giving
 pub mod FramesHold
 pub mod Holes
 pub mod Onward

@@ -15,11 +15,13 @@ use Rattle.w_rules.specs.Context.{Arrow, arrow_of, labelled}
 use Rattle.w_rules.specs.InstructionTypes.{InstrType, fixed, polymorphic, table_polymorphic, drops, selects, tests_null, as_non_null, on_null, untyped, instr_type, sets}
 use Rattle.w_rules.specs.Matching.{RowMatches, known}
 use Rattle.w_rules.specs.Operands.{Operand}
-use Rattle.w_rules.specs.Peak.{net, in_arrow, moved, past_net, past_arrow, label_top, clause_tops, extra, peak, depth}
+use Rattle.w_rules.specs.Peak.{net, in_arrow, moved, past_net, past_arrow, label_top, clause_tops, extra, peak}
 use Rattle.w_rules.specs.Typing.{HasType, HasInstrType}
 use Rattle.w_rules.proofs.Preorder.{row_size}
+use Rattle.w_reduce.proofs.Deep.{one_deep}
 use Rattle.w_reduce.specs.Handlers.{label_clause}
-use Rattle.w_typed.specs.Contexts.{Scope, under, in_scope, most_operands, IsHeld, IsLow, CodeTyped, LaterTyped}
+use Rattle.w_reduce.specs.Room.{most_operands}
+use Rattle.w_typed.specs.Contexts.{Scope, under, in_scope, IsHeld, IsLow, CodeTyped, LaterTyped}
 
 -- ## Peaks
 
@@ -30,14 +32,6 @@ least c s (Plain o k) h = omega arith
 least c s (Block b x i k) h = omega arith
 least c s (If x i k) h = omega arith
 least c s (IfElse x i j k) h = omega arith
-
--- a place has at least one block around
-one_deep : (k : Code) → 1 ≤ depth k
-one_deep Done = omega arith
-one_deep (Plain o k) = one_deep k
-one_deep (Block b x i k) = let h = one_deep k in omega (arith, h)
-one_deep (If x i k) = let h = one_deep k in omega (arith, h)
-one_deep (IfElse x i j k) = let h = one_deep k in omega (arith, h)
 
 -- behind an instruction that holds no others
 past_peak : (o : Option (ℕ × ℕ)) (n : ℕ × ℕ) (a h most : ℕ) (f : ℕ → ℕ) → o ≡ Some n → max a (past_net o h f) ≤ most → f (moved h n) ≤ most

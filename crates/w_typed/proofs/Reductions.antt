@@ -32,9 +32,10 @@ use Rattle.w_reduce.specs.Variable.{variable_op}
 use Rattle.w_reduce.specs.Reduce.{instruction, next, limited, unless_passed}
 use Rattle.w_typed.specs.Values.{Arrows, ValuesTyped}
 use Rattle.w_typed.specs.Stores.{StoreTyped}
-use Rattle.w_typed.specs.Contexts.{Scope, under, in_scope, most_operands, IsLow, CodeTyped, RestTyped, code_alone, invoke_first, branch_first, Subset, Within}
+use Rattle.w_reduce.specs.Room.{most_operands}
+use Rattle.w_typed.specs.Contexts.{Scope, under, in_scope, IsLow, CodeTyped, RestTyped, code_alone, invoke_first, branch_first, Subset, Within}
 use Rattle.w_typed.proofs.Switches.{switching_safe}
-use Rattle.w_typed.specs.Configurations.{IsSafe, goes, traps, is_limited, ends, ReductionsAreSafe}
+use Rattle.w_typed.specs.Configurations.{IsSafe, goes, traps, is_limited, ends, ReductionsAreSafe, NextsAreSafe}
 use Rattle.w_typed.proofs.Subsumed.{values_sub}
 use Rattle.w_typed.proofs.Taken.{number_taken}
 use Rattle.w_typed.proofs.Counted.{leaves, counted}
@@ -270,7 +271,9 @@ limited_safe m us _ traps = traps
 limited_safe m us _ is_limited = is_limited
 limited_safe m us _ (ends v) = ends v
 
--- preservation and progress
+-- preservation and progress, before limits are looked at
+pub nexts_are_safe : NextsAreSafe
+nexts_are_safe p K us s t prog valid h = next_safe p us prog valid t.rest.ahead t.rest.code h.store h.term.operands h.term.rest h.term.still h.term.around
+
 pub reductions_are_safe : ReductionsAreSafe
-reductions_are_safe p K us s t prog valid h =
-    limited_safe p.source us _ (next_safe p us prog valid t.rest.ahead t.rest.code h.store h.term.operands h.term.rest h.term.still h.term.around)
+reductions_are_safe p K us s t prog valid h = limited_safe p.source us _ (nexts_are_safe p K us s t prog valid h)

@@ -25,7 +25,8 @@ use Rattle.w_reduce.specs.Terms.{Context, Kept, filled}
 use Rattle.w_reduce.specs.Program.{Program}
 use Rattle.w_reduce.specs.Switching.{switching_op}
 use Rattle.w_typed.specs.Values.{Arrows, a_value, a_continuation, ValuesTyped, values}
-use Rattle.w_typed.specs.Contexts.{in_scope, most_operands, code_alone, handle, KeptTyped}
+use Rattle.w_reduce.specs.Room.{most_operands}
+use Rattle.w_typed.specs.Contexts.{in_scope, code_alone, handle, KeptTyped}
 use Rattle.w_typed.specs.Configurations.{IsSafe, goes}
 use Rattle.w_typed.proofs.Subsumed.{values_sub}
 use Rattle.w_typed.proofs.Taken.{values_taken}

@@ -17,7 +17,8 @@ use Rattle.w_reduce.specs.Terms.{Context}
 use Rattle.w_reduce.specs.Program.{Program}
 use Rattle.w_reduce.specs.Switching.{switching_op}
 use Rattle.w_typed.specs.Values.{Arrows, ValuesTyped}
-use Rattle.w_typed.specs.Contexts.{in_scope, most_operands}
+use Rattle.w_reduce.specs.Room.{most_operands}
+use Rattle.w_typed.specs.Contexts.{in_scope}
 use Rattle.w_typed.specs.Configurations.{IsSafe}
 use Rattle.w_typed.proofs.Control.{Here}
 use Rattle.w_typed.proofs.ContNew.{cont_new_safe}

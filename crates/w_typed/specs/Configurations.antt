@@ -1,5 +1,5 @@
 -- Typed configurations, and what one reduction makes of them (Core, appendix, soundness: configuration validity and theorems).
-use Rattle.std.specs.Prelude.{◌≡◌, ◌≢◌, ℕ, Bool, true, false, List, [], ◌∷◌, Some, None}
+use Rattle.std.specs.Prelude.{◌≡◌, ◌≢◌, ◌+◌, ℕ, false, List, [], Some}
 use Rattle.w_types.specs.declared.types.FuncType.{FuncType}
 use Rattle.w_types.specs.Rows.{Row, row_of, size}
 use Rattle.w_syntax.specs.declared.module.Module.{Module}
@@ -12,15 +12,16 @@ use Rattle.w_reduce.specs.declared.limit.RunLimit.{RunLimit}
 use Rattle.w_reduce.specs.declared.trap.Trap.{Trap}
 use Rattle.w_reduce.specs.Values.{Val}
 use Rattle.w_reduce.specs.Store.{Store}
-use Rattle.w_reduce.specs.Terms.{Administrative, Invoke, Branch, Term}
+use Rattle.w_reduce.specs.Room.{function_in, more_operands, more_labels, FrameHolds, invokes_next}
+use Rattle.w_reduce.specs.Terms.{Term}
 use Rattle.w_reduce.specs.Program.{Program, IsProgram}
 use Rattle.w_reduce.specs.Reduced.{Reduced, Went, Trapped, Limited, Ended}
-use Rattle.w_reduce.specs.Reduce.{reduce}
+use Rattle.w_reduce.specs.Reduce.{next, reduce}
 use Rattle.w_reduce.specs.Run.{RunState, NoRule, Run}
 use Rattle.w_reduce.specs.Start.{Start, Ready, start_term}
 use Rattle.w_typed.specs.Values.{Arrows, Grows, ValuesTyped}
 use Rattle.w_typed.specs.Stores.{StoreTyped}
-use Rattle.w_typed.specs.Contexts.{IsHeld, TermTyped}
+use Rattle.w_typed.specs.Contexts.{HoleTyped, TermTyped}
 
 -- a store of the module's types, whose continuations have the function types K, and a term of results us
 pub record Typed (m : Module) (K : Arrows) (us : Row Operand) (s : Store) (t : Term) : Type 0 where
@@ -40,6 +41,11 @@ pub data IsSafe (m : Module) (K : Arrows) (us : Row Operand) : Reduced → Type 
 -- preservation and progress
 abbrev pub ReductionsAreSafe : Type 0
 ReductionsAreSafe = (p : Program) (K : Arrows) (us : Row Operand) (s : Store) (t : Term) → IsProgram p → Valid p.source → Typed p.source K us s t → IsSafe p.source K us (reduce p s t)
+
+-- also where the result passes a limit
+abbrev pub NextsAreSafe : Type 0
+NextsAreSafe = (p : Program) (K : Arrows) (us : Row Operand) (s : Store) (t : Term) → IsProgram p → Valid p.source → Typed p.source K us s t
+    → IsSafe p.source K us (next p s t.around t.operands t.rest.ahead t.rest.code)
 
 -- a run stays typed, and is never stuck: a rule applies wherever its term isn't values
 pub record RunIsTyped (p : Program) (us : Row Operand) (r : RunState) : Type 0 where
@@ -62,13 +68,12 @@ pub record StartsTyped (m : Module) (s : Store) (t : Term) : Type 0 where
 abbrev pub StartsAreTyped : Type 0
 StartsAreTyped = (p : Program) (s : Store) (t : Term) → IsProgram p → Valid p.source → Start p ≡ Ready s t → StartsTyped p.source s t
 
--- a function is invoked next
-abbrev pub invokes_next : List Administrative → Bool
-invokes_next (Invoke a ∷ ahead) = true
-invokes_next (Branch l ∷ ahead) = false
-invokes_next [] = false
-
--- where none is, the innermost frame has no more operands and labels than its function has anywhere
+-- where no function is invoked next, what the innermost frame holds fits, with what the hole takes
 abbrev pub FramesHoldNoMore : Type 0
-FramesHoldNoMore = (m : Module) (K : Arrows) (us : Row Operand) (t : Term) (h : TermTyped m K us t) → (h.scope.results ≡ None → ⊥) → invokes_next t.rest.ahead ≡ false
-    → IsHeld m h.scope (size t.operands)
+FramesHoldNoMore = (m : Module) (K : Arrows) (ps us : Row Operand) (t : Term) → HoleTyped m K ps us t → (f : ℕ) → function_in t.around ≡ Some f
+    → invokes_next t.rest.ahead ≡ false → FrameHolds m f t.around (size t.operands + size ps) 0
+
+-- before an instruction, what it gives and enters fits too
+abbrev pub NextHasRoom : Type 0
+NextHasRoom = (m : Module) (K : Arrows) (us : Row Operand) (t : Term) → TermTyped m K us t → (f : ℕ) → function_in t.around ≡ Some f → t.rest.ahead ≡ []
+    → FrameHolds m f t.around (size t.operands + more_operands t.rest.code) (more_labels t.rest.code)

@@ -12,13 +12,13 @@ use Rattle.w_rules.specs.Bodies.{types_of_runs}
 use Rattle.w_rules.specs.Conditions.{ClauseTyped}
 use Rattle.w_rules.specs.Context as rules
 use Rattle.w_rules.specs.Context.{type_of_func}
-use Rattle.w_rules.specs.Facts.{height_of}
 use Rattle.w_rules.specs.Matching.{RowMatches, known}
 use Rattle.w_rules.specs.Operands.{Operand}
 use Rattle.w_rules.specs.Peak.{peak, depth, clause_tops}
 use Rattle.w_rules.specs.Spaces.{context_of}
 use Rattle.w_rules.specs.Typing.{Derives}
 use Rattle.w_reduce.specs.Values.{Val}
+use Rattle.w_reduce.specs.Room.{most_operands, most_labels}
 use Rattle.w_reduce.specs.Terms.{Administrative, Invoke, Branch, Rest, Label, Frame, Handle, Context, Term, Kept}
 use Rattle.w_typed.specs.Values.{Arrows, ValueTyped, ValuesTyped}
 
@@ -55,19 +55,6 @@ abbrev pub in_scope : Module → Scope → rules.Context
 in_scope m c = record (context_of m) { locals = c.locals; results = returned c.results; labels = c.labels }
 
 -- ## Room
-
-abbrev pub of_function : Option FuncType → Option Func → (FuncType → Func → ℕ) → ℕ
-of_function (Some t) (Some f) go = go t f
-of_function (Some t) None go = 0
-of_function None o go = 0
-
--- the greatest number of operands at a counted place of a function of the module's own, by its index
-abbrev pub most_operands : Module → ℕ → ℕ
-most_operands m i = of_function (type_of_function m i) (code_of_function m i) (height_of m)
-
--- and the greatest number of labels around a place
-abbrev pub most_labels : Module → ℕ → ℕ
-most_labels m i = of_function (type_of_function m i) (code_of_function m i) (λ (t : FuncType) (f : Func). depth f.body)
 
 -- with n operands inside the innermost label, the frame has no more operands and labels than its function has anywhere
 pub record IsHeld (m : Module) (c : Scope) (n : ℕ) : Type 0 where
@@ -145,7 +132,7 @@ pub data Within (m : Module) (K : Arrows) (us : Row Operand) : Context → Scope
       {types : List ValType} {results : Row ValType} (beneath : Row Operand)
       → IsFrameOf m f types results → RowMatches m.types ts (known results) → n ≡ size results → LocalsTyped m K ls types now → ValuesTyped m K below beneath
       → RestTyped m c s rest.ahead rest.code (beneath ⧺ known results) out → Subset s outer → Within m K us e c outer out
-      → Within m K us (Frame below n ls rest ∷ e) (inside f types results) now ts
+      → Within m K us (Frame below n f ls rest ∷ e) (inside f types results) now ts
   -- what it gives matches the results, for which each clause is typed; and its frame holds what the label of each takes
   handle : {below : Row Val} {hs : List Clause} {rest : Code} {e : Context} {c : Scope} {s outer now : List Bool} {ts out : Row Operand} (results : List ValType)
       (beneath : Row Operand)

@@ -1,10 +1,15 @@
 //! Laws of the definitions, each the contract of a function that does nothing.
-ghost use Rattle.w_typed.specs.Configurations.{FramesHoldNoMore, ReductionsAreSafe, RunsAreTyped, StartsAreTyped};
+ghost use Rattle.w_typed.specs.Configurations.{FramesHoldNoMore, NextHasRoom, NextsAreSafe, ReductionsAreSafe, RunsAreTyped, StartsAreTyped};
 
 /// Preservation and progress: a reduction of a typed configuration of a valid module leads to one of the same results, to a trap, to a
 /// limit or to values, and is never stuck.
 pub fn reductions_are_safe()
     ensures { ReductionsAreSafe }
+{}
+
+/// The same before limits are looked at.
+pub fn nexts_are_safe()
+    ensures { NextsAreSafe }
 {}
 
 /// Where a run of a valid module begins, the configuration is typed, and its results are main's.
@@ -17,8 +22,14 @@ pub fn runs_are_typed()
     ensures { RunsAreTyped }
 {}
 
-/// The innermost frame of a typed configuration holds no more operands and labels than its function has at any place, as validation
-/// counts them.
+/// The innermost frame of a typed configuration, and of a continuation with what it takes, holds no more operands and labels than its
+/// function has at any place, as validation counts them.
 pub fn frames_hold_no_more()
     ensures { FramesHoldNoMore }
+{}
+
+/// Before each instruction of a typed configuration the innermost frame holds, with the operand that it gives and the label that it
+/// enters, no more than its function has at any place.
+pub fn next_has_room()
+    ensures { NextHasRoom }
 {}
