@@ -1,5 +1,5 @@
 -- Blocks and loops: what they need, and where the stack stands inside.
-use Rattle.std.proofs.Common.{rules, ◌≡◌, ℕ, suc, ◌+◌, ◌<◌, ◌≤◌, List, [], ◌∷◌, Some, length, slice_get, sym, ap, ◌∙◌, subst, add-one, drop}
+use Rattle.std.proofs.Common.{rules, ◌≡◌, ℕ, suc, ◌+◌, ◌<◌, ◌≤◌, List, [], ◌∷◌, Some, length, slice_get, sym, ap, ◌∙◌, subst, add-one, drop, refl}
 use Rattle.std.specs.Prelude.{◌^◌, IsSome}
 use Rattle.w_types.specs.declared.value.Value.{Value}
 use Rattle.w_syntax.specs.Code.{Code, Block, after}
@@ -21,6 +21,7 @@ use Rattle.w_stands.specs.declared.did.Did.TheVariants as did
 use Rattle.w_stands.specs.Code.{instrs, IsMark, Reads, stop, plain, block as reads_block, choice as reads_choice, choices as reads_choices, at_end}
 use Rattle.w_stands.specs.Stands.{Around, label}
 use Rattle.w_stands.specs.Steps.{Outside, next_of, At, MovesAlone, FollowsAlone}
+use Rattle.w_stands.proofs.Fitting.{same_room, room_for_label}
 use Rattle.w_stands.proofs.Reading.{here, onward}
 use Rattle.w_stands.proofs.Stepping.{place_fits}
 use Rattle.w_control_ops.specs.Entering.{kept_by, target_of, IsLabelled}
@@ -99,6 +100,10 @@ module _ (m : Module) (s : Shape) (k : BlockKind) (b : BlockType) (z : ℕ) (mv 
       let v = mv.moves in
       place_fits m s.func z flat.End (v.at.short s.func) (shown mv.u v.p v.o v.e v.r v.at).0.ends
 
+  -- there is room for the label
+  pub block_room : length s.levels < s.capacity.levels
+  block_room = room_for_label m mv.u s (flat.Block k b z) refl mv.moves
+
   -- it goes on in the contents, inside the label
   pub block_follows : (a : Arity) (s' : Shape) → arity_of m b ≡ Some a → IsLabelled 0 a.params (kept_by k a.params a.results) (target_of k s.place z) (s.place + 1) s s' → FollowsAlone did.Went m s s'
   block_follows a s' is l = λ u p o e r at.
@@ -115,4 +120,5 @@ module _ (m : Module) (s : Shape) (k : BlockKind) (b : BlockType) (z : ℕ) (mv 
         stands = onward s.func (suc s.place) (Label (drop a.params s.operands) (kept_by k a.params a.results) (target_of k s.place z) ∷ s.levels) w.0.inside
             (around_contents k a (drop a.params s.operands) w.0.ends w.0.reads (subst (λ (c : Code). Reads (instrs m s.func) s.place c h.end) w.0.shape h.reads) h.around)
             (l.stage ∙ mv.moves.stage) l.func (l.place ∙ add-one s.place) l.levels;
+        room = let t : Shape = record s { levels = Label (drop a.params s.operands) (kept_by k a.params a.results) (target_of k s.place z) ∷ s.levels } in same_room m t s' l.levels l.func l.capacity at.room;
       }

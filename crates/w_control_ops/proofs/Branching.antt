@@ -25,6 +25,8 @@ use Rattle.w_stands.specs.Keeps.{Keeps}
 use Rattle.w_stands.specs.Stands.{Around, label, frame, outermost}
 use Rattle.w_stands.specs.Steps.{Outside, next_of, At, MovesAlone, FollowsAlone}
 use Rattle.w_stands.specs.Taking.{Kind, Going, IsTaking, AreOf, taken_of}
+use Rattle.w_stands.specs.Room.{HasRoom}
+use Rattle.w_stands.proofs.Fitting.{same_room, branch_fit}
 use Rattle.w_stands.proofs.Reading.{onward}
 use Rattle.w_control_ops.proofs.Arriving.{arrives}
 use Rattle.w_stands.proofs.TakingMany.{stack_take, stack_enough, stack_append}
@@ -76,6 +78,7 @@ pub record Beneath (s : Shape) (vs : List Value) (t : Shape) : Type 0 where
   pub operands : t.operands ≡ vs
   pub func : t.func ≡ s.func
   pub stage : t.stage ≡ s.stage
+  pub capacity : t.capacity ≡ s.capacity
 
 -- it branches to the label
 abbrev pub IsBranched : ℕ → Shape → Shape → Type 0
@@ -116,6 +119,7 @@ module _ (m : Module) (s : Shape) (i : Op) (ks : List Kind) (go : Going) (rule :
             ∙ ap (λ (x : Shape). steps_to (store_of u) g.around (stack x.operands) (rest_of g.code)) (sym after);
         stands = onward s.func g.target.target g.target.outer g.reads g.stands (ap (λ (x : Shape). x.stage) after ∙ b.stage ∙ k.moves.stage) (ap (λ (x : Shape). x.func) after ∙ b.func)
             (ap (λ (x : Shape). x.place) after) (ap (λ (x : Shape). x.levels) after);
+        room = subst (HasRoom m) (sym after) (branch_fit m t.capacity t.func l t.levels g.target (ap (label_at l) b.levels ∙ g.at) (same_room m s t b.levels b.func b.capacity a.room));
       }
 
 -- what held of every value still holds

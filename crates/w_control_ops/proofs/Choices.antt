@@ -27,6 +27,7 @@ use Rattle.w_stands.specs.Code.{instrs, IsMark, Reads, stop, plain, block as rea
 use Rattle.w_stands.specs.Stands.{Around, label}
 use Rattle.w_stands.specs.Steps.{Outside, next_of, At, MovesAlone, FollowsAlone}
 use Rattle.w_stands.proofs.Numbers.{TakesNumber, number_there, number_top}
+use Rattle.w_stands.proofs.Fitting.{same_room, room_for_label}
 use Rattle.w_stands.proofs.Reading.{here, onward}
 use Rattle.w_stands.proofs.Stepping.{place_fits}
 use Rattle.w_control_ops.specs.Entering.{start_of, IsLabelled}
@@ -143,6 +144,10 @@ module _ (m : Module) (s : Shape) (b : BlockType) (y : Option ℕ) (z : ℕ) (mv
       let t = v.at.short s.func in
       omega (arith, f, t)
 
+  -- there is room for the label
+  pub choice_room : length s.levels < s.capacity.levels
+  choice_room = room_for_label m mv.u s (flat.If b y z) refl mv.moves
+
   module _ (v : Value) (vs : List Value) (is : s.operands ≡ v ∷ vs) where
     -- it is the topmost operand
     pub choice_number : IsNumber int.I32 v
@@ -189,6 +194,7 @@ module _ (m : Module) (s : Shape) (b : BlockType) (y : Option ℕ) (z : ℕ) (mv
           stands = onward s.func (start_of (bits_in v) s.place y z) (Label (drop a.params vs) a.results (z + 1) ∷ s.levels) t.reads
               (around_chosen b x a (drop a.params vs) t.behind w.reads g.around)
               (l.stage ∙ mv.moves.stage) l.func l.place (l.levels ∙ ap (λ (xs : List Value). Label (drop a.params xs) a.results (z + 1) ∷ s.levels) beneath);
+          room = let t' : Shape = record s { levels = Label (drop a.params (drop 1 s.operands)) a.results (z + 1) ∷ s.levels } in same_room m t' s' l.levels l.func l.capacity at.room;
         }
 
   -- the type has an arity

@@ -146,11 +146,11 @@ module _ (m : Module) (s : Shape) (i : Op) (kind : Kind) (go : Going) (rule : Is
 
 -- without the topmost operand
 beneath_one : (s : Shape) → Beneath s (drop 1 s.operands) (discarded 1 s)
-beneath_one s = record { levels = refl; operands = refl; func = refl; stage = refl }
+beneath_one s = record { levels = refl; operands = refl; func = refl; stage = refl; capacity = refl }
 
 -- with all of them
 beneath_none : (s : Shape) → Beneath s s.operands s
-beneath_none s = record { levels = refl; operands = refl; func = refl; stage = refl }
+beneath_none s = record { levels = refl; operands = refl; func = refl; stage = refl; capacity = refl }
 
 -- what holds is kept by a branch beneath the topmost operand
 pub dropped_keeps : (l : ℕ) (s s' : Shape) → IsAt l (discarded 1 s) → IsBranched l (discarded 1 s) s' → Keeps s s'
@@ -242,7 +242,7 @@ module _ (m : Module) (s : Shape) (l : ℕ) (k : MovesAlone (flat.Plain (op.Cont
   null_passes s' h after =
       let b = dropped_behind 0 s s' after in
       one_passes m s (op.Control (control.BrOnNull l)) Any (null_branching l) (null_rule l) k v is (v ∷ []) s'
-      (record { levels = b.levels; operands = b.operands ∙ is; func = b.func; place = b.place; stage = b.stage })
+      (record { levels = b.levels; operands = b.operands ∙ is; func = b.func; place = b.place; stage = b.stage; capacity = b.capacity })
       (λ p u e c. null_other v _ _ h null_reference)
 
 -- ## br_on_non_null

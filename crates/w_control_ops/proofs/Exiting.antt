@@ -23,12 +23,14 @@ use Rattle.w_stands.specs.declared.did.Did.TheVariants as did
 use Rattle.w_stands.specs.Code.{instrs, instr_of, IsMark, Reads, stop, plain, block, choice, choices, Behind, at_end, at_else}
 use Rattle.w_stands.specs.Stands.{Around, label, frame, outermost, In, values}
 use Rattle.w_stands.specs.Steps.{Outside, next_of, At, To, FollowsAlone}
+use Rattle.w_stands.specs.Room.{HasRoom}
+use Rattle.w_stands.proofs.Fitting.{left_fit}
 use Rattle.w_stands.proofs.Reading.{here, onward}
 use Rattle.w_stands.proofs.Stepping.{place_fits}
 use Rattle.w_control_ops.specs.Ended.{stage_in, ended}
 use Rattle.w_control_ops.specs.Exits.{ExitsAlone, IsEnd}
 use Rattle.w_stands.proofs.TakingMany.{stack_append}
-use Rattle.w_control_ops.proofs.Returning.{inside, ended_parts}
+use Rattle.w_control_ops.proofs.Returning.{inside, ended_parts, ended_room}
 
 -- ## Where a sequence ends
 
@@ -148,17 +150,19 @@ module _ (m : Module) (s : Shape) (k : ExitsAlone m s) where
 
   -- it is left there
   pub to_left : (u : instances.Store) (p : Program) (o : Outside) (e : Context) (r : Rest) (s' : Shape) → next_of p u s e r ≡ leave (store_of u) e (stack s.operands) →
-      Left m o.outer o.behind (store_of u) s' (leave (store_of u) e (stack s.operands)) → To m o [] u s' (next_of p u s e r)
-  to_left u p o e r s' q w = record { around = w.around; rest = w.rest; is = q ∙ w.is; stands = w.stands }
+      Left m o.outer o.behind (store_of u) s' (leave (store_of u) e (stack s.operands)) → HasRoom m s' → To m o [] u s' (next_of p u s e r)
+  to_left u p o e r s' q w room = record { around = w.around; rest = w.rest; is = q ∙ w.is; stands = w.stands; room = room }
 
   -- out of a label
   pub exit_label : (s' : Shape) → is_in_label s.levels ≡ true → IsEnd (instr_of m s.func s.place) → s' ≡ moved (s.place + 1) (left s) → FollowsAlone did.Went m s s'
   exit_label s' h mark after = λ u p o e r a.
       let w = left_there u p o e r a in
       to_left u p o e r s' w.0 (end_label (store_of u) s s' w.1.2 refl h w.1.1 (subst (λ (q : ℕ). IsEnd (instr_of m s.func q)) (sym w.1.1) mark) k.stage after)
+      (subst (HasRoom m) (sym after) (left_fit m s s.levels refl a.room))
 
   -- out of a frame
   pub exit_frame : (s' : Shape) → is_in_label s.levels ≡ false → s' ≡ ended (left s) → FollowsAlone did.Went m s s'
   exit_frame s' h after = λ u p o e r a.
       let w = left_there u p o e r a in
       to_left u p o e r s' w.0 (end_frame (store_of u) s s' w.1.2 refl h k.stage (λ q. a.applies (w.0 ∙ q)) after)
+      (subst (HasRoom m) (sym after) (ended_room m (left s) (left_fit m s s.levels refl a.room)))

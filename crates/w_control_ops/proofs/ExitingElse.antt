@@ -18,6 +18,8 @@ use Rattle.w_stands.specs.declared.did.Did.TheVariants as did
 use Rattle.w_stands.specs.Code.{instrs, instr_of, Behind, at_end, at_else}
 use Rattle.w_stands.specs.Stands.{Around, label, frame, outermost}
 use Rattle.w_stands.specs.Steps.{FollowsAlone}
+use Rattle.w_stands.specs.Room.{HasRoom}
+use Rattle.w_stands.proofs.Fitting.{left_fit}
 use Rattle.w_stands.proofs.Reading.{onward}
 use Rattle.w_control_ops.specs.Exits.{ExitsAlone}
 use Rattle.w_stands.proofs.TakingMany.{stack_append}
@@ -44,9 +46,18 @@ else_label u s s' (label {q = q} {n = n} {target = t} {below = below} {rest = re
 else_label u s s' (frame n k w) l mark stage after = absurd cc
 else_label u s s' (outermost n) l mark stage after = absurd cc
 
+-- each frame still has room
+else_room : {m : Module} {outer : Context} {behind : Rest} {q : ℕ} {ls : List Level} {e : Context} (s s' : Shape) → Around m outer behind s.func q ls e → s.levels ≡ ls →
+    slice_get (instrs m s.func) q ≡ Some flat.Else → ((below : List Value) (n t : ℕ) (outside : List Level) → ls ≡ Label below n t ∷ outside → s' ≡ moved t (left s)) → HasRoom m s → HasRoom m s'
+else_room {m} s s' (label {n = n} {target = t} {below = below} {ls = ls} b k g w) l mark after room =
+    subst (HasRoom m) (sym (after below n t ls refl)) (left_fit m s s.levels refl room)
+else_room s s' (frame n k w) l mark after room = absurd cc
+else_room s s' (outermost n) l mark after room = absurd cc
+
 module _ (m : Module) (s : Shape) (k : ExitsAlone m s) where
   pub exit_else : (s' : Shape) → instr_of m s.func s.place ≡ Some flat.Else → ((below : List Value) (n t : ℕ) (outside : List Level) → s.levels ≡ Label below n t ∷ outside → s' ≡ moved t (left s)) →
       FollowsAlone did.Went m s s'
   exit_else s' mark after = λ u p o e r a.
       let w = left_there m s k u p o e r a in
       to_left m s k u p o e r s' w.0 (else_label (store_of u) s s' w.1.2 refl (subst (λ (q : ℕ). instr_of m s.func q ≡ Some flat.Else) (sym w.1.1) mark) k.stage after)
+      (else_room s s' w.1.2 refl (subst (λ (q : ℕ). instr_of m s.func q ≡ Some flat.Else) (sym w.1.1) mark) after a.room)

@@ -18,6 +18,8 @@ use Rattle.w_stands.specs.declared.did.Did.TheVariants as did
 use Rattle.w_stands.specs.Keeps.{Keeps}
 use Rattle.w_stands.specs.Stands.{Around, In, body, left, fresh, values}
 use Rattle.w_stands.specs.Steps.{Outside, next_of, At, FollowsAlone}
+use Rattle.w_stands.specs.Room.{HasRoom}
+use Rattle.w_stands.proofs.Fitting.{branch_fit}
 use Rattle.w_stands.proofs.Reading.{onward}
 use Rattle.w_control_ops.specs.Left.{BranchLeft}
 use Rattle.w_control_ops.proofs.Branching.{Branches, branches, IsBranched, branch_keeps}
@@ -71,6 +73,7 @@ module _ (l : ℕ) (m : Module) (s : Shape) (k : BranchLeft l m s) where
         is = w.0 ∙ g.is ∙ ap (λ (x : Shape). steps_to (store_of u) g.around (stack x.operands) (rest_of g.code)) (sym after);
         stands = onward s.func g.target.target g.target.outer g.reads g.stands (ap (λ (x : Shape). x.stage) after) (ap (λ (x : Shape). x.func) after)
             (ap (λ (x : Shape). x.place) after) (ap (λ (x : Shape). x.levels) after);
+        room = subst (HasRoom m) (sym after) (branch_fit m s.capacity s.func l s.levels g.target g.at a.room);
       }
 
   -- what held of every value still holds

@@ -24,6 +24,8 @@ use Rattle.w_stands.specs.Keeps.{Keeps}
 use Rattle.w_stands.specs.Stands.{Around, label, frame, outermost, In, values}
 use Rattle.w_stands.specs.Steps.{Outside, next_of, At, MovesAlone, FollowsAlone}
 use Rattle.w_stands.specs.Taking.{Going}
+use Rattle.w_stands.specs.Room.{HasRoom}
+use Rattle.w_stands.proofs.Fitting.{same_room, return_fit}
 use Rattle.w_stands.proofs.Reading.{onward}
 use Rattle.w_control_ops.specs.Ended.{stage_in, ended_in, ended}
 use Rattle.w_control_ops.proofs.Arriving.{arrives}
@@ -77,6 +79,7 @@ pub record IsEnded (s s' : Shape) : Type 0 where
   pub func : s'.func ≡ s.func
   pub place : s'.place ≡ s.place
   pub stage : s'.stage ≡ stage_in s.levels
+  pub capacity : s'.capacity ≡ s.capacity
 
 ended_parts_in : (ls : List Level) (s s' : Shape) → s.levels ≡ ls → s' ≡ ended_in ls s → s.stage ≡ Body → IsEnded s s'
 ended_parts_in [] s s' l e b = record {
@@ -85,6 +88,7 @@ ended_parts_in [] s s' l e b = record {
   func = ap (λ (x : Shape). x.func) e;
   place = ap (λ (x : Shape). x.place) e;
   stage = ap (λ (x : Shape). x.stage) e ∙ ap stage_in (sym l);
+  capacity = ap (λ (x : Shape). x.capacity) e;
 }
 ended_parts_in (k ∷ ls) s s' l e b = record {
   levels = ap (λ (x : Shape). x.levels) e;
@@ -92,6 +96,7 @@ ended_parts_in (k ∷ ls) s s' l e b = record {
   func = ap (λ (x : Shape). x.func) e;
   place = ap (λ (x : Shape). x.place) e;
   stage = ap (λ (x : Shape). x.stage) e ∙ b ∙ ap stage_in (sym l);
+  capacity = ap (λ (x : Shape). x.capacity) e;
 }
 
 pub ended_parts : (s s' : Shape) → s' ≡ ended s → s.stage ≡ Body → IsEnded s s'
@@ -104,6 +109,14 @@ ended_holds_in P (l ∷ ls) s h = h
 
 pub ended_holds : (P : Value → Type 0) (s : Shape) → Holds P s → Holds P (ended s)
 ended_holds P s h = ended_holds_in P s.levels s h
+
+-- and each frame still has room
+ended_room_in : (m : Module) (ls : List Level) (s : Shape) → HasRoom m s → HasRoom m (ended_in ls s)
+ended_room_in m [] s h = h
+ended_room_in m (l ∷ ls) s h = h
+
+pub ended_room : (m : Module) (s : Shape) → HasRoom m s → HasRoom m (ended s)
+ended_room m s h = ended_room_in m s.levels s h
 
 -- ## return
 
@@ -152,6 +165,7 @@ module _ (m : Module) (s : Shape) (k : MovesAlone (flat.Plain (op.Control contro
             ∙ ap (λ (xs : List Value). steps_to (store_of u) g.around (stack xs) g.rest) (sym ops);
         stands = g.stands s' (h.levels ∙ ap (λ (x : Shape). x.levels) e1) (h.func ∙ ap (λ (x : Shape). x.func) e1) (h.place ∙ ap (λ (x : Shape). x.place) e1)
             (h.stage ∙ ap (λ (x : Shape). stage_in x.levels) e1);
+        room = same_room m t s' h.levels h.func h.capacity (subst (HasRoom m) (sym e1) (return_fit m s.capacity s.func s.levels c g.at a.room));
       }
 
   -- what held of every value still holds

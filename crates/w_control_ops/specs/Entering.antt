@@ -29,3 +29,4 @@ pub record IsLabelled (taken params arity target start : ℕ) (s s' : Shape) : T
   pub func : s'.func ≡ s.func
   pub place : s'.place ≡ start
   pub stage : s'.stage ≡ s.stage
+  pub capacity : s'.capacity ≡ s.capacity

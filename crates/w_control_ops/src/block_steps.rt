@@ -1,14 +1,13 @@
 //! Blocks, loops and ifs (Core, execution, control instructions).
-ghost use Rattle.std.specs.Prelude.{◌≡◌, ◌+◌, ◌<◌, ◌≤◌, ◌^◌, length, IsSome, Some, IfOk, OnErr, OnOk};
+ghost use Rattle.std.specs.Prelude.{◌≡◌, ◌+◌, ◌<◌, ◌≤◌, ◌^◌, length, IsSome, Some};
 ghost use Rattle.w_syntax.specs.declared.instructions.Instr.TheVariants as flat;
-ghost use Rattle.w_segment.specs.Shape.{SameParts};
 ghost use Rattle.w_reduce.specs.Program.{arity_of, function_arity};
+ghost use Rattle.w_stands.specs.Code.{AreNarrow};
 ghost use Rattle.w_stands.specs.Keeps.{Keeps};
 ghost use Rattle.w_stands.specs.Steps.{MovesAlone, FollowsAlone};
 ghost use Rattle.w_stands.specs.declared.did.Did.TheVariants as did;
 ghost use Rattle.w_control_ops.specs.Entering.{kept_by, target_of, start_of as start, IsLabelled};
 
-use std::alloc::AllocError;
 use w_rules::func_type;
 use w_segment::{Entry, Stack};
 use w_stands::i32_of;
@@ -30,34 +29,34 @@ struct Label {
     target: u32,
 }
 
-// The arity of a block of a function type. It fails where that has 2^32 parameters or results, as when out of memory.
-fn function_arity(kind: &FuncType) -> Result<Arity, AllocError>
-    ensures ok { IfOk result (λ a. function_arity (Some kind.now) ≡ Some (record { params = a.params; results = a.results })) }
+// The arity of a block of a function type, which has fewer than 2^32 parameters and results.
+fn function_arity(kind: &FuncType) -> Arity
+    requires params { length kind.now.params < 2 ^ 32 }
+    requires results { length kind.now.results < 2 ^ 32 }
+    ensures { function_arity (Some kind.now) ≡ Some (record { params = result.params; results = result.results }) }
 {
-    let Ok(params) = u32::try_from(kind.params.len()) else {
-        return Err(AllocError);
-    };
-    let Ok(results) = u32::try_from(kind.results.len()) else {
-        return Err(AllocError);
-    };
-    Ok(Arity { params, results })
+    Arity {
+        params: kind.params.len() as u32,
+        results: kind.results.len() as u32,
+    }
 }
 
 // The arity of a block type, where it has one.
 #[inline(always)]
-fn block_arity(program: &Module, block_type: BlockType) -> Result<Arity, AllocError>
+fn block_arity(program: &Module, block_type: BlockType) -> Arity
+    requires narrow { AreNarrow program.now }
     requires known { IsSome (arity_of program.now block_type) }
-    ensures ok { IfOk result (λ a. arity_of program.now block_type ≡ Some (record { params = a.params; results = a.results })) }
+    ensures { arity_of program.now block_type ≡ Some (record { params = result.params; results = result.results }) }
 {
     match block_type {
-        BlockType::Empty => Ok(Arity {
+        BlockType::Empty => Arity {
             params: 0,
             results: 0,
-        }),
-        BlockType::Value(_) => Ok(Arity {
+        },
+        BlockType::Value(_) => Arity {
             params: 0,
             results: 1,
-        }),
+        },
         BlockType::Index(index) => match func_type(program, index as usize) {
             Some(kind) => function_arity(kind),
             None => unreachable!(),
@@ -65,27 +64,13 @@ fn block_arity(program: &Module, block_type: BlockType) -> Result<Arity, AllocEr
     }
 }
 
-// Takes room for one label more, where there is none.
+// Takes operands off, enters a label around those beneath, where there is room for it, and goes to a place.
 #[inline(always)]
-fn room_for_label(stack: &mut Stack) -> Result<(), AllocError>
-    ensures same { SameParts stack.old stack.new }
-    ensures ok { OnOk result (length stack.new.levels < stack.new.capacity.levels) }
-{
-    if stack.has_level() {
-        return Ok(());
-    }
-    stack.reserve(0, 1, 0)
-}
-
-// Takes operands off, enters a label around those beneath, and goes to a place. It fails only when out of memory, and then all is as
-// before but for room.
-#[inline(always)]
-fn enter(stack: &mut Stack, taken: usize, label: Label, place: u32) -> Result<(), AllocError>
+fn enter(stack: &mut Stack, taken: usize, label: Label, place: u32)
     requires there { taken + label.params ≤ length stack.old.operands }
-    ensures after { OnOk result (IsLabelled taken label.params label.arity label.target place stack.old stack.new) }
-    ensures err { OnErr result (SameParts stack.old stack.new) }
+    requires room { length stack.old.levels < stack.old.capacity.levels }
+    ensures after { IsLabelled taken label.params label.arity label.target place stack.old stack.new }
 {
-    room_for_label(stack)?;
     stack.discard(taken);
     stack.enter(Entry::Label {
         params: label.params,
@@ -93,7 +78,6 @@ fn enter(stack: &mut Stack, taken: usize, label: Label, place: u32) -> Result<()
         target: label.target,
     });
     stack.go(place);
-    Ok(())
 }
 
 // The label of a block at a place: it leads behind the block's end with the results, and that of a loop back to it with the parameters.
@@ -118,25 +102,17 @@ fn label_of(kind: BlockKind, arity: Arity, place: u32, end: u32) -> Label
     }
 }
 
-/// `block` and `loop`, by the place of the end (Core, execution, control instructions: block, loop). It fails only when out of memory,
-/// and then the stack is as it was but for room.
+/// `block` and `loop`, by the place of the end (Core, execution, control instructions: block, loop).
 #[inline(always)]
-pub fn block(
-    program: &Module,
-    stack: &mut Stack,
-    kind: BlockKind,
-    block_type: BlockType,
-    end: u32,
-) -> Result<(), AllocError>
+pub fn block(program: &Module, stack: &mut Stack, kind: BlockKind, block_type: BlockType, end: u32)
     requires moves { MovesAlone (flat.Block kind block_type end) program.now stack.old }
-    ensures goes { OnOk result (FollowsAlone did.Went program.now stack.old stack.new) }
-    ensures keeps { OnOk result (Keeps stack.old stack.new) }
-    ensures err { OnErr result (SameParts stack.old stack.new) }
+    ensures goes { FollowsAlone did.Went program.now stack.old stack.new }
+    ensures keeps { Keeps stack.old stack.new }
 {
-    let arity = block_arity(program, block_type)?;
+    let arity = block_arity(program, block_type);
     let place = stack.place();
     let label = label_of(kind, arity, place, end);
-    enter(stack, 0, label, place + 1)
+    enter(stack, 0, label, place + 1);
 }
 
 // Where the contents of an if begin that a number chooses; an if without an else has none for 0, and these stand at its end.
@@ -154,8 +130,7 @@ fn start_of(number: u32, place: u32, otherwise: Option<u32>, end: u32) -> u32
     }
 }
 
-/// `if`, by the places of the else, if it has one, and the end (Core, execution, control instructions: if). It fails only when out of
-/// memory, and then the stack is as it was but for room.
+/// `if`, by the places of the else, if it has one, and the end (Core, execution, control instructions: if).
 #[inline(always)]
 pub fn choice(
     program: &Module,
@@ -163,15 +138,14 @@ pub fn choice(
     block_type: BlockType,
     otherwise: Option<u32>,
     end: u32,
-) -> Result<(), AllocError>
+)
     requires moves { MovesAlone (flat.If block_type otherwise end) program.now stack.old }
-    ensures goes { OnOk result (FollowsAlone did.Went program.now stack.old stack.new) }
-    ensures keeps { OnOk result (Keeps stack.old stack.new) }
-    ensures err { OnErr result (SameParts stack.old stack.new) }
+    ensures goes { FollowsAlone did.Went program.now stack.old stack.new }
+    ensures keeps { Keeps stack.old stack.new }
 {
-    let arity = block_arity(program, block_type)?;
+    let arity = block_arity(program, block_type);
     let place = stack.place();
     let label = label_of(BlockKind::Block, arity, place, end);
     let start = start_of(i32_of(stack.peek()), place, otherwise, end);
-    enter(stack, 1, label, start)
+    enter(stack, 1, label, start);
 }

@@ -1,8 +1,8 @@
 //! Memory instructions (Core, execution, memory instructions).
-ghost use Rattle.std.specs.Prelude.{◌≡◌, ◌≤◌, [], length, IfOk, OnErr, OnOk};
+ghost use Rattle.std.specs.Prelude.{◌≡◌, ◌≤◌, true, [], length, IfOk, OnErr, OnOk};
 ghost use Rattle.w_syntax.specs.declared.instructions.Instr.TheVariants as flat;
 ghost use Rattle.w_syntax.specs.declared.instructions.Op.TheVariants as op;
-ghost use Rattle.w_segment.specs.Shape.{SameParts};
+ghost use Rattle.w_reduce.specs.Room.{takes_memory};
 ghost use Rattle.w_stands.specs.Keeps.{KeepsAll};
 ghost use Rattle.w_stands.specs.Steps.{MovesAt, Follows};
 
@@ -15,8 +15,8 @@ use w_stands::Did;
 use w_syntax::{MemoryOp, Module};
 use w_tables::Store;
 
-/// One reduction of a memory instruction, or its trap (Core, execution, memory instructions). It fails only when out of memory, and then
-/// all is as it was but for room.
+/// One reduction of a memory instruction, or its trap (Core, execution, memory instructions). It fails only where a memory grows and that
+/// is out of memory, and then all is as it was.
 #[inline(always)]
 pub fn memory(
     program: &Module,
@@ -30,13 +30,14 @@ pub fn memory(
     ensures keeps { OnOk result (KeepsAll store.old stack.old store.new stack.new) }
     ensures count { length store.new.memories ≡ length store.old.memories }
     ensures store { OnErr result (store.new ≡ store.old) }
-    ensures stack { OnErr result (SameParts stack.old stack.new) }
+    ensures stack { OnErr result (stack.new ≡ stack.old) }
+    ensures takes { OnErr result (takes_memory (op.Memory operation) ≡ true) }
 {
     match operation {
         MemoryOp::Load(operation, arg) => Ok(load(program, store, stack, operation, arg)),
         MemoryOp::Store(operation, arg) => Ok(store_number(program, store, stack, operation, arg)),
         MemoryOp::Size(index) => {
-            size(program, store, stack, index)?;
+            size(program, store, stack, index);
             Ok(Did::Went)
         }
         MemoryOp::Grow(index) => {

@@ -3,7 +3,6 @@ ghost use Rattle.std.specs.Prelude.{◌≡◌, ◌≤◌, [], length, OnErr, OnO
 ghost use Rattle.w_syntax.specs.declared.instructions.Instr.TheVariants as flat;
 ghost use Rattle.w_syntax.specs.declared.instructions.Op.TheVariants as op;
 ghost use Rattle.w_syntax.specs.declared.memory_instructions.MemoryOp.TheVariants as memory;
-ghost use Rattle.w_segment.specs.Shape.{SameParts};
 ghost use Rattle.w_stands.specs.Keeps.{KeepsAll};
 ghost use Rattle.w_stands.specs.Steps.{MovesAt, Follows};
 ghost use Rattle.w_stands.specs.declared.did.Did.TheVariants as did;
@@ -15,22 +14,16 @@ use w_syntax::Module;
 use w_tables::Store;
 use w_types::Value;
 
-/// `memory.size`. It fails only when out of memory, and then the stack is as it was but for room.
-pub(crate) fn size(
-    program: &Module,
-    store: &Store,
-    stack: &mut Stack,
-    index: u32,
-) -> Result<(), AllocError>
+/// `memory.size`.
+pub(crate) fn size(program: &Module, store: &Store, stack: &mut Stack, index: u32)
     requires moves { MovesAt (flat.Plain (op.Memory (memory.Size index))) program.now store.now stack.old }
     requires one { length store.now.memories ≤ 1 }
-    ensures goes { OnOk result (Follows did.Went program.now [] store.now stack.old store.now stack.new) }
-    ensures keeps { OnOk result (KeepsAll store.now stack.old store.now stack.new) }
-    ensures stack { OnErr result (SameParts stack.old stack.new) }
+    ensures goes { Follows did.Went program.now [] store.now stack.old store.now stack.new }
+    ensures keeps { KeepsAll store.now stack.old store.now stack.new }
 {
     let _program = program;
     let _index = index;
-    push_next(stack, Value::I32(store.memory().size()))
+    push_next(stack, Value::I32(store.memory().size()));
 }
 
 /// `memory.grow`. It fails only when out of memory, and then all is as it was.

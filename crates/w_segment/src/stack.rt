@@ -107,29 +107,22 @@ impl Stack {
         }
     }
 
-    /// Whether there is room for one operand more.
+    // Whether there is room for so many labels or frames, and so many locals, more.
     #[inline(always)]
-    pub fn has_room(&self) -> bool
-        ensures answer { IsTrue result ↔ (height self.now < self.now.capacity.operands) }
-    {
-        self.operands.len() < self.operands.capacity()
-    }
-
-    /// Whether there is room for one label or frame more.
-    #[inline(always)]
-    pub fn has_level(&self) -> bool
-        ensures answer { IsTrue result ↔ (length self.now.levels < self.now.capacity.levels) }
-    {
-        self.marks.len() < self.marks.capacity().min(MOST_LEVELS)
-    }
-
-    /// Whether there is room for so many labels or frames, and so many locals, more.
-    #[inline(always)]
-    pub fn has_levels(&self, levels: usize, locals: usize) -> bool
+    fn has_levels(&self, levels: usize, locals: usize) -> bool
         ensures answer { IsTrue result ↔ Fits 0 levels locals self.now }
     {
         self.marks.len().saturating_add(levels) <= self.marks.capacity().min(MOST_LEVELS)
             && self.locals.len().saturating_add(locals) <= self.locals.capacity()
+    }
+
+    /// Whether there is room for so many operands, labels or frames, and locals, more.
+    #[inline(always)]
+    pub fn fits(&self, operands: usize, levels: usize, locals: usize) -> bool
+        ensures answer { IsTrue result ↔ Fits operands levels locals self.now }
+    {
+        self.operands.len().saturating_add(operands) <= self.operands.capacity()
+            && self.has_levels(levels, locals)
     }
 
     /// Takes room for so many more operands, levels and locals. It fails only when out of memory, or where there would be 2^32 levels, and
@@ -153,17 +146,6 @@ impl Stack {
         self.marks.reserve(levels)?;
         self.locals.reserve(locals)?;
         Ok(())
-    }
-
-    /// Takes room for one frame more: with so many locals, parameters included, so many operands (`height`) and so many labels (`depth`).
-    /// It fails as `reserve` does.
-    pub fn reserve_frame(&mut self, locals: u32, height: u64, depth: u32) -> Result<(), AllocError>
-        ensures same { SameParts self.old self.new }
-        ensures grown { Grown self.old.capacity self.new.capacity }
-        ensures ok { OnOk result (Fits height (depth + 1) locals self.new) }
-        ensures succeeds { Fits height (depth + 1) locals self.old → IsOk result }
-    {
-        self.reserve(height as usize, depth as usize + 1, locals as usize)
     }
 
     /// How many frames there are.

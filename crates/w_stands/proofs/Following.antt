@@ -29,17 +29,17 @@ use Rattle.w_stands.proofs.Taking.{all_there, all_taken, all_of}
 -- ## Behind an instruction
 
 pub replaced_behind : (n : ℕ) (v : Value) (s s' : Shape) → s' ≡ replaced n v s → IsBehind n (v ∷ []) s s'
-replaced_behind n v s s' after = subst (IsBehind n (v ∷ []) s) (sym after) (record { levels = refl; operands = refl; func = refl; place = refl; stage = refl })
+replaced_behind n v s s' after = subst (IsBehind n (v ∷ []) s) (sym after) (record { levels = refl; operands = refl; func = refl; place = refl; stage = refl; capacity = refl })
 
 pub dropped_behind : (n : ℕ) (s s' : Shape) → s' ≡ dropped n s → IsBehind n [] s s'
-dropped_behind n s s' after = subst (IsBehind n [] s) (sym after) (record { levels = refl; operands = refl; func = refl; place = refl; stage = refl })
+dropped_behind n s s' after = subst (IsBehind n [] s) (sym after) (record { levels = refl; operands = refl; func = refl; place = refl; stage = refl; capacity = refl })
 
 pub pushed_behind : (v : Value) (s s' : Shape) → IsPushedNext v s s' → IsBehind 0 (v ∷ []) s s'
-pushed_behind v s s' n = record { levels = n.levels; operands = n.operands; func = n.func; place = n.place; stage = n.stage }
+pushed_behind v s s' n = record { levels = n.levels; operands = n.operands; func = n.func; place = n.place; stage = n.stage; capacity = n.capacity }
 
 -- one that takes no operand and gives none
 pub moved_behind : (s s' : Shape) → s' ≡ moved (s.place + 1) s → IsBehind 0 [] s s'
-moved_behind s s' after = subst (IsBehind 0 [] s) (sym after) (record { levels = refl; operands = refl; func = refl; place = refl; stage = refl })
+moved_behind s s' after = subst (IsBehind 0 [] s) (sym after) (record { levels = refl; operands = refl; func = refl; place = refl; stage = refl; capacity = refl })
 
 -- what holds of all values holds of all behind it
 pub behind_holds : (P : Value → Type 0) (n : ℕ) (given : List Value) (s s' : Shape) → IsBehind n given s s' → AllOf P given → Holds P s → Holds P s'
@@ -104,7 +104,7 @@ module _ (m : Module) (u : instances.Store) (s : Shape) (i : Op) (ks : List Kind
       let beneath : drop (length args) s.operands ≡ rest = ap (drop (length args)) is ∙ drop-append_seam args rest in
       let after : s'.operands ≡ given ++ rest = b.operands ∙ ap (λ (l : List Value). given ++ l) beneath in
       went m u s p o e r i a stage at out u' s'
-      (record { levels = b.levels; func = b.func; place = b.place; stage = b.stage ∙ stage })
+      (record { levels = b.levels; func = b.func; place = b.place; stage = b.stage ∙ stage; capacity = b.capacity })
       (rule p (store_of u) e (stack s.operands) c
       ∙ ap (λ (l : List Value). taking ks (stack l) (go p (store_of u) e c)) is
       ∙ all_taken ks args rest (go p (store_of u) e c) of

@@ -1,5 +1,7 @@
 pub mod Bodies
 pub mod Reading
+pub mod Fitting
+pub mod Narrow
 pub mod Stepping
 pub mod Locals
 pub mod Numbers

@@ -37,8 +37,8 @@ pub around_set : {m : Module} {outer : Context} {behind : Rest} {f q : ℕ} {ls 
     Around m outer behind f q (with_local x v ls) (with_local_in x (val v) e)
 around_set x v (label b r t w) = label b r t (around_set x v w)
 around_set {m} {outer} {behind} {f} {q} x v (frame {n = n} {caller = g} {back = b} {below = below} {locals = locals} {rest = rest} {ls = ls} {e = e} p r w) =
-    subst (λ l. Around m outer behind f q (Frame below n (slice_set locals x (Some v)) g b ∷ ls) (InFrame (stack below) n l (rest_of rest) ∷ e))
+    subst (λ l. Around m outer behind f q (Frame below n (slice_set locals x (Some v)) g b ∷ ls) (InFrame (stack below) n f l (rest_of rest) ∷ e))
     (mapped_set (λ (o : Option Value). option_map val o) locals x (Some v)) (frame p r w)
 around_set {m} {outer} {behind} {f} {q} x v (outermost {n = n} {caller = g} {back = b} {below = below} {locals = locals} p) =
-    subst (λ l. Around m outer behind f q (Frame below n (slice_set locals x (Some v)) g b ∷ []) (InFrame (stack below) n l behind ∷ outer))
+    subst (λ l. Around m outer behind f q (Frame below n (slice_set locals x (Some v)) g b ∷ []) (InFrame (stack below) n f l behind ∷ outer))
     (mapped_set (λ (o : Option Value). option_map val o) locals x (Some v)) (outermost p)

@@ -17,6 +17,7 @@ use Rattle.w_reduce.specs.Reduce.{next, instruction}
 use Rattle.w_stands.specs.Values.{stack, store_of}
 use Rattle.w_stands.specs.Code.{instrs, instr_of}
 use Rattle.w_stands.specs.Steps.{Outside, next_of, At, To}
+use Rattle.w_stands.proofs.Fitting.{same_room}
 use Rattle.w_stands.proofs.Reading.{Here, here, ShowsPlain, shows_plain, onward}
 
 -- to the next instruction, in the same levels
@@ -25,6 +26,7 @@ pub record Next (s s' : Shape) : Type 0 where
   pub func : s'.func ≡ s.func
   pub place : s'.place ≡ s.place + 1
   pub stage : s'.stage ≡ Body
+  pub capacity : s'.capacity ≡ s.capacity
 
 -- there is a place behind each instruction
 pub place_fits : (m : Module) (f p : ℕ) (i : Instr) → length (instrs m f) < 2 ^ 32 → instr_of m f p ≡ Some i → p + 1 < 2 ^ 32
@@ -61,4 +63,5 @@ module _ (m : Module) (u : instances.Store) (s : Shape) (p : Program) (o : Outsi
     rest = rest_of following;
     is = next_is ∙ g;
     stands = onward s.func (suc s.place) s.levels shown.reads there.around n.stage n.func (n.place ∙ add-one s.place) n.levels;
+    room = same_room m s s' n.levels n.func n.capacity a.room;
   }

@@ -1,5 +1,6 @@
 -- Code that is kept in one list, read from a place on.
-use Rattle.std.specs.Prelude.{◌≡◌, ◌<◌, ◌^◌, ℕ, suc, List, [], Option, Some, None, slice_get, ⊤, length}
+use Rattle.std.specs.Prelude.{◌≡◌, ◌<◌, ◌^◌, ℕ, suc, All, List, [], Option, Some, None, slice_get, ⊤, length}
+use Rattle.w_types.specs.Groups.{types_of}
 use Rattle.w_syntax.specs.Code.{Code, Done, Plain, Block, If, IfElse}
 use Rattle.w_syntax.specs.Flat.{whole, size}
 use Rattle.w_syntax.specs.Functions.{code_of_function}
@@ -10,6 +11,7 @@ use Rattle.w_syntax.specs.declared.instructions.Instr.TheVariants as flat
 use Rattle.w_syntax.specs.declared.instructions.Op.{Op}
 use Rattle.w_syntax.specs.declared.module.Func.{Func}
 use Rattle.w_syntax.specs.declared.module.Module.{Module}
+use Rattle.w_rules.specs.Limits.{IsNarrow}
 
 abbrev pub instrs_in : Option Func → List Instr
 instrs_in (Some f) = whole f.body
@@ -25,6 +27,10 @@ instr_of m f p = slice_get (instrs m f) p
 -- places of every function are numbers of 32 bits, also the one behind its last instruction
 abbrev pub AllShort : Module → Type 0
 AllShort m = (f : ℕ) → length (instrs m f) < 2 ^ 32
+
+-- function types have at most so many parameters and results as modules within their limits
+abbrev pub AreNarrow : Module → Type 0
+AreNarrow m = All IsNarrow (types_of m.types)
 
 -- where a sequence ends: at an end or an else, or behind the last instruction
 abbrev pub IsMark : Option Instr → Type 0

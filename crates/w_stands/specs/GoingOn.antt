@@ -19,6 +19,7 @@ pub record IsPushedNext (v : Value) (s s' : Shape) : Type 0 where
   pub func : s'.func ≡ s.func
   pub place : s'.place ≡ s.place + 1
   pub stage : s'.stage ≡ s.stage
+  pub capacity : s'.capacity ≡ s.capacity
 
 -- these stand in place of the topmost n operands, and the next instruction comes
 pub record IsBehind (n : ℕ) (given : List Value) (s s' : Shape) : Type 0 where
@@ -27,3 +28,4 @@ pub record IsBehind (n : ℕ) (given : List Value) (s s' : Shape) : Type 0 where
   pub func : s'.func ≡ s.func
   pub place : s'.place ≡ s.place + 1
   pub stage : s'.stage ≡ s.stage
+  pub capacity : s'.capacity ≡ s.capacity

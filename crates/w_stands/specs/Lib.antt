@@ -3,6 +3,7 @@ pub mod Numbers
 pub mod References
 pub mod Code
 pub mod Stands
+pub mod Room
 pub mod Steps
 pub mod Keeps
 pub mod GoingOn

@@ -17,11 +17,11 @@ pub data Around (m : Module) (outer : Context) (behind : Rest) : (f q : ℕ) →
       Around m outer behind f q (Label below n target ∷ ls) (InLabel (stack below) n again rest ∷ e)
   frame : {f q q' n caller back : ℕ} {below : List Value} {locals : List (Option Value)} {rest : Code} {ls : List Level} {e : Context} →
       slice_get (instrs m f) q ≡ None → Reads (instrs m caller) back rest q' → Around m outer behind caller q' ls e →
-      Around m outer behind f q (Frame below n locals caller back ∷ ls) (InFrame (stack below) n (local_vals locals) (rest_of rest) ∷ e)
+      Around m outer behind f q (Frame below n locals caller back ∷ ls) (InFrame (stack below) n f (local_vals locals) (rest_of rest) ∷ e)
   -- the frame of the function that a fresh continuation, or the run, invoked
   outermost : {f q n caller back : ℕ} {below : List Value} {locals : List (Option Value)} →
       slice_get (instrs m f) q ≡ None →
-      Around m outer behind f q (Frame below n locals caller back ∷ []) (InFrame (stack below) n (local_vals locals) behind ∷ outer)
+      Around m outer behind f q (Frame below n locals caller back ∷ []) (InFrame (stack below) n f (local_vals locals) behind ∷ outer)
 
 -- the segment's stack is the context, and what comes next
 pub data In (m : Module) (outer : Context) (behind : Rest) (s : Shape) : Context → Rest → Type 0 where

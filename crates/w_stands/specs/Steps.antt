@@ -12,8 +12,9 @@ use Rattle.w_reduce.specs.Reduce.{next}
 use Rattle.w_stands.specs.declared.did.Did.{Did}
 use Rattle.w_stands.specs.declared.did.Did.TheVariants as did
 use Rattle.w_stands.specs.Values.{stack, store_of}
-use Rattle.w_stands.specs.Code.{instr_of, AllShort}
+use Rattle.w_stands.specs.Code.{instr_of, AllShort, AreNarrow}
 use Rattle.w_stands.specs.Stands.{In}
+use Rattle.w_stands.specs.Room.{HasRoom, NextFits}
 
 -- what stands around a segment, and what comes behind its outermost frame
 pub record Outside : Type 0 where
@@ -24,20 +25,24 @@ pub record Outside : Type 0 where
 abbrev pub next_of : Program → instances.Store → Shape → Context → Rest → Reduced
 next_of p u s e r = next p (store_of u) e (stack s.operands) r.ahead r.code
 
--- a configuration in which the stack stands, and to which a rule applies
+-- a configuration in which the stack stands, with room, and to which a rule applies
 pub record At (m : Module) (u : instances.Store) (s : Shape) (p : Program) (o : Outside) (e : Context) (r : Rest) : Type 0 where
   pub source : p.source ≡ m
   pub program : IsProgram p
   pub short : AllShort m
+  pub narrow : AreNarrow m
   pub stands : In m o.outer o.behind s e r
   pub applies : next_of p u s e r ≢ Stuck
+  pub room : HasRoom m s
+  pub fits : NextFits m s
 
--- it goes on, printing these bytes, with the store u and where the stack s stands
+-- it goes on, printing these bytes, with the store u and where the stack s stands, in which frames have room
 pub record To (m : Module) (o : Outside) (out : List ℕ) (u : instances.Store) (s : Shape) (d : Reduced) : Type 0 where
   pub around : Context
   pub rest : Rest
   pub is : d ≡ Went out (store_of u) (record { around = around; operands = stack s.operands; rest = rest })
   pub stands : In m o.outer o.behind s around rest
+  pub room : HasRoom m s
 
 -- some configuration in which the stack stands at the instruction, and to which a rule applies
 pub record MovesAt (i : Instr) (m : Module) (u : instances.Store) (s : Shape) : Type 0 where

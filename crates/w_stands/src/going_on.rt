@@ -1,10 +1,9 @@
 //! Going on behind an instruction.
-ghost use Rattle.std.specs.Prelude.{◌≡◌, ◌+◌, ◌<◌, ◌≤◌, ◌^◌, length, OnErr, OnOk};
+ghost use Rattle.std.specs.Prelude.{◌≡◌, ◌+◌, ◌<◌, ◌≤◌, ◌^◌, length};
 ghost use Rattle.w_segment.specs.Changes.{moved};
-ghost use Rattle.w_segment.specs.Shape.{SameParts, height};
+ghost use Rattle.w_segment.specs.Shape.{height};
 ghost use Rattle.w_stands.specs.GoingOn.{replaced, dropped, IsPushedNext};
 
-use std::alloc::AllocError;
 use w_segment::Stack;
 use w_types::Value;
 
@@ -41,27 +40,13 @@ pub fn drop_next(stack: &mut Stack, count: usize)
     stack.go(stack.place() + 1);
 }
 
-// Takes room for one operand more, where there is none.
+/// Pushes a value, where there is room, and goes on behind the instruction.
 #[inline(always)]
-fn room_for_one(stack: &mut Stack) -> Result<(), AllocError>
-    ensures same { SameParts stack.old stack.new }
-    ensures ok { OnOk result (height stack.new < stack.new.capacity.operands) }
-{
-    if stack.has_room() {
-        return Ok(());
-    }
-    stack.reserve(1, 0, 0)
-}
-
-/// Pushes a value, and goes on behind the instruction. It fails only when out of memory, and then all is as before but for room.
-#[inline(always)]
-pub fn push_next(stack: &mut Stack, value: Value) -> Result<(), AllocError>
+pub fn push_next(stack: &mut Stack, value: Value)
+    requires room { height stack.old < stack.old.capacity.operands }
     requires place { stack.old.place + 1 < 2 ^ 32 }
-    ensures after { OnOk result (IsPushedNext value stack.old stack.new) }
-    ensures err { OnErr result (SameParts stack.old stack.new) }
+    ensures after { IsPushedNext value stack.old stack.new }
 {
-    room_for_one(stack)?;
     stack.push(value);
     stack.go(stack.place() + 1);
-    Ok(())
 }

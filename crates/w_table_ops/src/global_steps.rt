@@ -1,35 +1,26 @@
 //! Instructions on globals (Core, execution, variable instructions).
-ghost use Rattle.std.specs.Prelude.{◌≡◌, [], OnErr, OnOk};
+ghost use Rattle.std.specs.Prelude.{◌≡◌, []};
 ghost use Rattle.w_syntax.specs.declared.instructions.Instr.TheVariants as flat;
 ghost use Rattle.w_syntax.specs.declared.instructions.Op.TheVariants as op;
 ghost use Rattle.w_syntax.specs.declared.instructions.VariableOp.TheVariants as variable;
-ghost use Rattle.w_segment.specs.Shape.{SameParts};
 ghost use Rattle.w_stands.specs.Keeps.{KeepsAll};
 ghost use Rattle.w_stands.specs.Steps.{MovesAt, Follows};
 ghost use Rattle.w_stands.specs.declared.did.Did.TheVariants as did;
 
-use std::alloc::AllocError;
 use w_segment::Stack;
 use w_stands::{drop_next, push_next};
 use w_syntax::Module;
 use w_tables::Store;
 
-/// One reduction of `global.get` (Core, execution, `global.get`). It fails only when out of memory, and then the stack is as it was but
-/// for room.
-pub fn global_get(
-    program: &Module,
-    store: &Store,
-    stack: &mut Stack,
-    index: u32,
-) -> Result<(), AllocError>
+/// One reduction of `global.get` (Core, execution, `global.get`).
+pub fn global_get(program: &Module, store: &Store, stack: &mut Stack, index: u32)
     requires moves { MovesAt (flat.Plain (op.Variable (variable.GlobalGet index))) program.now store.now stack.old }
-    ensures goes { OnOk result (Follows did.Went program.now [] store.now stack.old store.now stack.new) }
-    ensures keeps { OnOk result (KeepsAll store.now stack.old store.now stack.new) }
-    ensures err { OnErr result (SameParts stack.old stack.new) }
+    ensures goes { Follows did.Went program.now [] store.now stack.old store.now stack.new }
+    ensures keeps { KeepsAll store.now stack.old store.now stack.new }
 {
     let _program = program;
     let value = store.global_get(index);
-    push_next(stack, value)
+    push_next(stack, value);
 }
 
 /// One reduction of `global.set` (Core, execution, `global.set`).

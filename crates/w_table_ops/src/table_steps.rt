@@ -1,9 +1,9 @@
 //! Table instructions (Core, execution, table instructions).
-ghost use Rattle.std.specs.Prelude.{◌≡◌, [], IfOk, OnErr, OnOk};
+ghost use Rattle.std.specs.Prelude.{◌≡◌, true, [], IfOk, OnErr, OnOk};
 ghost use Rattle.w_syntax.specs.declared.instructions.Instr.TheVariants as flat;
 ghost use Rattle.w_syntax.specs.declared.instructions.Op.TheVariants as op;
 ghost use Rattle.w_syntax.specs.declared.instructions.TableOp.TheVariants as table_op;
-ghost use Rattle.w_segment.specs.Shape.{SameParts};
+ghost use Rattle.w_reduce.specs.Room.{takes_memory};
 ghost use Rattle.w_stands.specs.Keeps.{KeepsAll};
 ghost use Rattle.w_stands.specs.Steps.{MovesAt, Follows};
 ghost use Rattle.w_stands.specs.declared.did.Did.TheVariants as did;
@@ -123,7 +123,7 @@ fn table_grow(
     ensures keeps { OnOk result (KeepsAll store.old stack.old store.new stack.new) }
     ensures memories { store.new.memories ≡ store.old.memories }
     ensures store { OnErr result (store.new ≡ store.old) }
-    ensures stack { OnErr result (SameParts stack.old stack.new) }
+    ensures stack { OnErr result (stack.new ≡ stack.old) }
 {
     let _program = program;
     let (value, count) = top_two(stack);
@@ -133,20 +133,14 @@ fn table_grow(
 }
 
 // `table.size`.
-fn table_size(
-    program: &Module,
-    store: &Store,
-    stack: &mut Stack,
-    index: u32,
-) -> Result<(), AllocError>
+fn table_size(program: &Module, store: &Store, stack: &mut Stack, index: u32)
     requires moves { MovesAt (flat.Plain (op.Table (table_op.Size index))) program.now store.now stack.old }
-    ensures goes { OnOk result (Follows did.Went program.now [] store.now stack.old store.now stack.new) }
-    ensures keeps { OnOk result (KeepsAll store.now stack.old store.now stack.new) }
-    ensures err { OnErr result (SameParts stack.old stack.new) }
+    ensures goes { Follows did.Went program.now [] store.now stack.old store.now stack.new }
+    ensures keeps { KeepsAll store.now stack.old store.now stack.new }
 {
     let _program = program;
     let size = store.table_size(index);
-    push_next(stack, Value::I32(size))
+    push_next(stack, Value::I32(size));
 }
 
 // `table.fill`, or its trap.
@@ -167,8 +161,8 @@ fn table_fill(program: &Module, store: &mut Store, stack: &mut Stack, index: u32
     }
 }
 
-/// One reduction of a table instruction, or its trap (Core, execution, table instructions). It fails only when out of memory, and then
-/// all is as it was but for room.
+/// One reduction of a table instruction, or its trap (Core, execution, table instructions). It fails only where a table grows and that is
+/// out of memory, and then all is as it was.
 pub fn table(
     program: &Module,
     store: &mut Store,
@@ -180,7 +174,8 @@ pub fn table(
     ensures keeps { OnOk result (KeepsAll store.old stack.old store.new stack.new) }
     ensures memories { store.new.memories ≡ store.old.memories }
     ensures store { OnErr result (store.new ≡ store.old) }
-    ensures stack { OnErr result (SameParts stack.old stack.new) }
+    ensures stack { OnErr result (stack.new ≡ stack.old) }
+    ensures takes { OnErr result (takes_memory (op.Table operation) ≡ true) }
 {
     match operation {
         TableOp::Get(index) => Ok(table_get(program, store, stack, index)),
@@ -196,7 +191,7 @@ pub fn table(
             Ok(Did::Went)
         }
         TableOp::Size(index) => {
-            table_size(program, store, stack, index)?;
+            table_size(program, store, stack, index);
             Ok(Did::Went)
         }
         TableOp::Fill(index) => Ok(table_fill(program, store, stack, index)),

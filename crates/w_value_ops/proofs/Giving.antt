@@ -23,5 +23,5 @@ pub give_follows : (m : Module) (s s' : Shape) (i : Op) (v : Value) → IsGiving
 give_follows m s s' i v rule k n = λ u p o e r a.
     let c = following m u s p o e r i a k.moves.stage k.moves.here in
     went m u s p o e r i a k.moves.stage k.moves.here [] u s'
-    (record { levels = n.levels; func = n.func; place = n.place; stage = n.stage ∙ k.moves.stage })
+    (record { levels = n.levels; func = n.func; place = n.place; stage = n.stage ∙ k.moves.stage; capacity = n.capacity })
     (rule p u e s.operands c ∙ ap (λ (l : List Value). steps_to (store_of u) e (stack l) (rest_of c)) (sym n.operands))

@@ -12,7 +12,7 @@ use Rattle.w_syntax.specs.declared.instructions.Op.TheVariants as op
 use Rattle.w_syntax.specs.declared.instructions.VariableOp.TheVariants as variable
 use Rattle.w_syntax.specs.declared.module.Module.{Module}
 use Rattle.w_segment.specs.Shape.{Shape, locals_of}
-use Rattle.w_segment.specs.Changes.{with_local}
+use Rattle.w_segment.specs.Changes.{with_local, with_locals}
 use Rattle.w_tables.specs.Store as instances
 use Rattle.w_reduce.specs.Values.{Val, val}
 use Rattle.w_reduce.specs.Terms.{Rest, rest_of, Context, locals_of as locals_in, with_local as with_local_in}
@@ -24,6 +24,7 @@ use Rattle.w_stands.specs.declared.did.Did.TheVariants as did
 use Rattle.w_stands.specs.Steps.{Outside, At, MovesAlone, FollowsAlone}
 use Rattle.w_stands.proofs.Locals.{local_seen, around_set}
 use Rattle.w_stands.proofs.Reading.{onward}
+use Rattle.w_stands.proofs.Fitting.{same_room, local_fit}
 use Rattle.w_stands.proofs.Stepping.{there, shown, following, next_is, applies, went, place_fits}
 use Rattle.w_stands.specs.GoingOn.{IsPushedNext}
 
@@ -67,7 +68,7 @@ module _ (m : Module) (s : Shape) (x : ℕ) (k : MovesAlone (flat.Plain (op.Vari
   get_follows s' v is n = λ u p o e r a.
       let c = following m u s p o e r i a k.moves.stage k.moves.here in
       went m u s p o e r i a k.moves.stage k.moves.here [] u s'
-      (record { levels = n.levels; func = n.func; place = n.place; stage = n.stage ∙ k.moves.stage })
+      (record { levels = n.levels; func = n.func; place = n.place; stage = n.stage ∙ k.moves.stage; capacity = n.capacity })
       (found u p o e r a ∙ ap (λ (l : Option (Option Value)). getting u e (stack s.operands) c (seen l)) is
       ∙ ap (λ (l : List Value). steps_to (store_of u) e (stack l) (rest_of c)) (sym n.operands))
 
@@ -116,8 +117,8 @@ module _ (m : Module) (s : Shape) (j : Op) (x : ℕ) (left : Row Val → Val →
   set_place = place_fits m s.func s.place (flat.Plain j) (k.moves.at.short s.func) k.moves.here
 
   pub set_follows : (s' : Shape) (v : Value) → s.operands ≡ v ∷ drop 1 s.operands → s'.levels ≡ with_local x v s.levels → s'.func ≡ s.func → s'.place ≡ s.place + 1 →
-      s'.stage ≡ s.stage → left (stack (drop 1 s.operands)) (val v) ≡ stack s'.operands → FollowsAlone did.Went m s s'
-  set_follows s' v whole ls f pl st row = λ u p o e r a.
+      s'.stage ≡ s.stage → s'.capacity ≡ s.capacity → left (stack (drop 1 s.operands)) (val v) ≡ stack s'.operands → FollowsAlone did.Went m s s'
+  set_follows s' v whole ls f pl st cap row = λ u p o e r a.
       let c = following m u s p o e r j a k.moves.stage k.moves.here in
       let h = there m u s p o e r j a k.moves.stage k.moves.here in
       let w = shown m u s p o e r j a k.moves.stage k.moves.here in
@@ -129,4 +130,5 @@ module _ (m : Module) (s : Shape) (j : Op) (x : ℕ) (left : Row Val → Val →
             ∙ set_on u e x (drop 1 s.operands) v c left (slice_get (locals_of s.levels) x) set_needs.0 set_needs.1
             ∙ ap (λ (y : Row Val). steps_to (store_of u) (with_local_in x (val v) e) y (rest_of c)) row;
         stands = onward s.func (suc s.place) (with_local x v s.levels) w.reads (around_set x v h.around) (st ∙ k.moves.stage) f (pl ∙ add-one s.place) ls;
+        room = same_room m (with_locals x v s) s' ls f cap (local_fit m s.capacity s.func x v s.levels a.room);
       }

@@ -156,5 +156,5 @@ module _ (m : Module) (s : Shape) (k : MovesAlone (flat.Plain (op.Reference refe
     pub require_goes : (s' : Shape) → false ≡ is_null v → s' ≡ moved (s.place + 1) s → FollowsAlone did.Went m s s'
     require_goes s' h after = λ u.
         take_follows m u s (op.Reference reference.AsNonNull) (Any ∷ []) requiring require_rule k.moves.stage k.moves.here (v ∷ []) (drop 1 s.operands) is tt [] u s' (v ∷ [])
-        (subst (IsBehind 1 (v ∷ []) s) (sym after) (record { levels = refl; operands = is; func = refl; place = refl; stage = refl }))
+        (subst (IsBehind 1 (v ∷ []) s) (sym after) (record { levels = refl; operands = is; func = refl; place = refl; stage = refl; capacity = refl }))
         (λ p e c source program. required false u e c h)

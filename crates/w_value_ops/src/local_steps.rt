@@ -1,25 +1,21 @@
 //! Instructions on locals (Core, execution, variable instructions).
-ghost use Rattle.std.specs.Prelude.{OnErr, OnOk};
 ghost use Rattle.w_syntax.specs.declared.instructions.Instr.TheVariants as flat;
 ghost use Rattle.w_syntax.specs.declared.instructions.Op.TheVariants as op;
 ghost use Rattle.w_syntax.specs.declared.instructions.VariableOp.TheVariants as variable;
-ghost use Rattle.w_segment.specs.Shape.{SameParts};
 ghost use Rattle.w_stands.specs.Keeps.{Keeps};
 ghost use Rattle.w_stands.specs.Steps.{MovesAlone, FollowsAlone};
 ghost use Rattle.w_stands.specs.declared.did.Did.TheVariants as did;
 
-use std::alloc::AllocError;
 use w_segment::Stack;
 use w_stands::push_next;
 use w_syntax::Module;
 
-/// `local.get`. It fails only when out of memory, and then the stack is as it was but for room.
+/// `local.get`.
 #[inline(always)]
-pub fn local_get(program: &Module, stack: &mut Stack, index: u32) -> Result<(), AllocError>
+pub fn local_get(program: &Module, stack: &mut Stack, index: u32)
     requires moves { MovesAlone (flat.Plain (op.Variable (variable.LocalGet index))) program.now stack.old }
-    ensures goes { OnOk result (FollowsAlone did.Went program.now stack.old stack.new) }
-    ensures keeps { OnOk result (Keeps stack.old stack.new) }
-    ensures err { OnErr result (SameParts stack.old stack.new) }
+    ensures goes { FollowsAlone did.Went program.now stack.old stack.new }
+    ensures keeps { Keeps stack.old stack.new }
 {
     let _program = program;
     match stack.local_get(index) {

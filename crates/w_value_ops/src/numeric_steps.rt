@@ -1,10 +1,10 @@
 //! Numeric instructions (Core, execution, numeric instructions).
-ghost use Rattle.std.specs.Prelude.{◌≡◌, Bool, true, IfOk, OnErr, OnOk};
+ghost use Rattle.std.specs.Prelude.{◌≡◌, Bool, true};
 ghost use Rattle.w_syntax.specs.declared.instructions.Instr.TheVariants as flat;
 ghost use Rattle.w_syntax.specs.declared.instructions.Op.TheVariants as op;
 ghost use Rattle.w_syntax.specs.declared.numeric.NumericOp.TheVariants as numeric;
 ghost use Rattle.w_reduce.specs.Reduced.{trap_of};
-ghost use Rattle.w_segment.specs.Shape.{SameParts};
+ghost use Rattle.w_reduce.specs.Room.{gives_one};
 ghost use Rattle.w_stands.specs.Keeps.{Keeps, OnPlain};
 ghost use Rattle.w_types.specs.declared.value.Value.{Value as TheValue};
 ghost use Rattle.w_value_ops.specs.Rules.{IsGiving};
@@ -12,7 +12,6 @@ ghost use Rattle.w_stands.specs.Steps.{MovesAlone, FollowsAlone};
 ghost use Rattle.w_stands.specs.declared.did.Did.TheVariants as did;
 
 use crate::numbers::{compared, converted, eqz_of, joined, unary_of};
-use std::alloc::AllocError;
 use w_num::NumFault;
 use w_reduce::Trap;
 use w_segment::Stack;
@@ -89,23 +88,17 @@ fn binary(program: &Module, stack: &mut Stack, kind: IntType, operation: Binop) 
 
 // A constant.
 #[inline(always)]
-fn constant(
-    program: &Module,
-    stack: &mut Stack,
-    operation: NumericOp,
-    value: Value,
-) -> Result<Did, AllocError>
+fn constant(program: &Module, stack: &mut Stack, operation: NumericOp, value: Value)
     requires moves { MovesAlone (flat.Plain (op.Numeric operation)) program.now stack.old }
+    requires one { gives_one (op.Numeric operation) ≡ true }
     requires gives { IsGiving (op.Numeric operation) value }
     requires plain { (test : TheValue → Bool) → OnPlain test → test value ≡ true }
-    ensures goes { IfOk result (λ did. FollowsAlone did program.now stack.old stack.new) }
-    ensures keeps { OnOk result (Keeps stack.old stack.new) }
-    ensures err { OnErr result (SameParts stack.old stack.new) }
+    ensures goes { FollowsAlone did.Went program.now stack.old stack.new }
+    ensures keeps { Keeps stack.old stack.new }
 {
     let _program = program;
     let _operation = operation;
-    push_next(stack, value)?;
-    Ok(Did::Went)
+    push_next(stack, value);
 }
 
 // The trap of a fault.
@@ -119,13 +112,12 @@ fn trap_of(fault: NumFault) -> Trap
     }
 }
 
-/// One reduction of a numeric instruction, or its trap. It fails only when out of memory, and then the stack is as it was but for room.
+/// One reduction of a numeric instruction, or its trap.
 #[inline(always)]
-pub fn numeric(program: &Module, stack: &mut Stack, operation: NumericOp) -> Result<Did, AllocError>
+pub fn numeric(program: &Module, stack: &mut Stack, operation: NumericOp) -> Did
     requires moves { MovesAlone (flat.Plain (op.Numeric operation)) program.now stack.old }
-    ensures goes { IfOk result (λ did. FollowsAlone did program.now stack.old stack.new) }
-    ensures keeps { OnOk result (Keeps stack.old stack.new) }
-    ensures err { OnErr result (SameParts stack.old stack.new) }
+    ensures goes { FollowsAlone result program.now stack.old stack.new }
+    ensures keeps { Keeps stack.old stack.new }
 {
     match operation {
         NumericOp::I32Const(number) => {
@@ -134,7 +126,8 @@ pub fn numeric(program: &Module, stack: &mut Stack, operation: NumericOp) -> Res
                 stack,
                 operation,
                 Value::I32(number.cast_unsigned()),
-            )
+            );
+            Did::Went
         }
         NumericOp::I64Const(number) => {
             constant(
@@ -142,24 +135,25 @@ pub fn numeric(program: &Module, stack: &mut Stack, operation: NumericOp) -> Res
                 stack,
                 operation,
                 Value::I64(number.cast_unsigned()),
-            )
+            );
+            Did::Went
         }
         NumericOp::Eqz(kind) => {
             eqz(program, stack, kind);
-            Ok(Did::Went)
+            Did::Went
         }
         NumericOp::Compare(kind, operation) => {
             compare(program, stack, kind, operation);
-            Ok(Did::Went)
+            Did::Went
         }
         NumericOp::Unary(kind, operation) => {
             unary(program, stack, kind, operation);
-            Ok(Did::Went)
+            Did::Went
         }
-        NumericOp::Binary(kind, operation) => Ok(binary(program, stack, kind, operation)),
+        NumericOp::Binary(kind, operation) => binary(program, stack, kind, operation),
         NumericOp::Convert(operation) => {
             convert(program, stack, operation);
-            Ok(Did::Went)
+            Did::Went
         }
     }
 }

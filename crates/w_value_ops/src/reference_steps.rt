@@ -1,14 +1,12 @@
 //! Reference instructions (Core, execution, reference instructions).
-ghost use Rattle.std.specs.Prelude.{◌≡◌, [], OnErr, OnOk};
+ghost use Rattle.std.specs.Prelude.{◌≡◌, []};
 ghost use Rattle.w_syntax.specs.declared.instructions.Instr.TheVariants as flat;
 ghost use Rattle.w_syntax.specs.declared.instructions.Op.TheVariants as op;
 ghost use Rattle.w_syntax.specs.declared.instructions.ReferenceOp.TheVariants as reference;
-ghost use Rattle.w_segment.specs.Shape.{SameParts};
 ghost use Rattle.w_stands.specs.Keeps.{Keeps};
 ghost use Rattle.w_stands.specs.Steps.{MovesAt, MovesAlone, Follows, FollowsAlone};
 ghost use Rattle.w_stands.specs.declared.did.Did.TheVariants as did;
 
-use std::alloc::AllocError;
 use w_reduce::Trap;
 use w_segment::Stack;
 use w_stands::{Did, is_null, next, push_next, replace};
@@ -16,16 +14,15 @@ use w_syntax::Module;
 use w_tables::Store;
 use w_types::{HeapType, Value};
 
-/// `ref.null` (Core, execution, `ref.null`). It fails only when out of memory, and then the stack is as it was but for room.
-pub fn ref_null(program: &Module, stack: &mut Stack, heap: HeapType) -> Result<(), AllocError>
+/// `ref.null` (Core, execution, `ref.null`).
+pub fn ref_null(program: &Module, stack: &mut Stack, heap: HeapType)
     requires moves { MovesAlone (flat.Plain (op.Reference (reference.Null heap))) program.now stack.old }
-    ensures goes { OnOk result (FollowsAlone did.Went program.now stack.old stack.new) }
-    ensures keeps { OnOk result (Keeps stack.old stack.new) }
-    ensures err { OnErr result (SameParts stack.old stack.new) }
+    ensures goes { FollowsAlone did.Went program.now stack.old stack.new }
+    ensures keeps { Keeps stack.old stack.new }
 {
     let _program = program;
     let _heap = heap;
-    push_next(stack, Value::Null)
+    push_next(stack, Value::Null);
 }
 
 /// `ref.is_null` (Core, execution, `ref.is_null`).
@@ -39,21 +36,15 @@ pub fn ref_is_null(program: &Module, stack: &mut Stack)
     replace(stack, 1, Value::I32(number));
 }
 
-/// `ref.func` (Core, execution, `ref.func`). It fails only when out of memory, and then the stack is as it was but for room.
-pub fn ref_func(
-    program: &Module,
-    store: &Store,
-    stack: &mut Stack,
-    function: u32,
-) -> Result<(), AllocError>
+/// `ref.func` (Core, execution, `ref.func`).
+pub fn ref_func(program: &Module, store: &Store, stack: &mut Stack, function: u32)
     requires moves { MovesAt (flat.Plain (op.Reference (reference.Func function))) program.now store.now stack.old }
-    ensures goes { OnOk result (Follows did.Went program.now [] store.now stack.old store.now stack.new) }
-    ensures keeps { OnOk result (Keeps stack.old stack.new) }
-    ensures err { OnErr result (SameParts stack.old stack.new) }
+    ensures goes { Follows did.Went program.now [] store.now stack.old store.now stack.new }
+    ensures keeps { Keeps stack.old stack.new }
 {
     let _program = program;
     let _store = store;
-    push_next(stack, Value::Func(function))
+    push_next(stack, Value::Func(function));
 }
 
 /// `ref.as_non_null` (Core, execution, `ref.as_non_null`), or its trap.

@@ -1,4 +1,7 @@
-use Rattle.std.proofs.lemmas.Result.{on_ok_weaker}
+use Rattle.std.proofs.Common.{refl}
+use Rattle.w_syntax.specs.declared.instructions.Op.TheVariants as op
+use Rattle.w_syntax.specs.declared.instructions.VariableOp.TheVariants as variable
+use Rattle.w_stands.proofs.Fitting.{room_for_one}
 use Rattle.std.proofs.Common.{◌≡◌, Option, Some, sym, ◌∙◌, ap, true}
 use Rattle.w_types.specs.declared.value.Value.{Value}
 use Rattle.w_value_ops.proofs.Keeping.{pushed_next_holds}
@@ -10,7 +13,7 @@ pub local_get-requires : goal.local_get-requires
 local_get-requires c = record { there = get_within c.args.program.now c.args.stack.now c.args.index c.requires.moves }
 
 pub push_next-requires : goal.push_next-requires
-push_next-requires c = record { place = get_place c.args.program.now c.args.stack.now c.args.index c.requires.moves }
+push_next-requires c = record { place = get_place c.args.program.now c.args.stack.now c.args.index c.requires.moves; room = room_for_one c.args.program.now c.requires.moves.u c.args.stack.now (op.Variable (variable.LocalGet c.args.index)) refl c.requires.moves.moves }
 
 pub unreachable-requires : goal.unreachable-requires
 unreachable-requires c =
@@ -21,13 +24,10 @@ unreachable-requires c =
 
 pub returns-clause-goes : goal.returns-clause-goes
 returns-clause-goes c =
-    on_ok_weaker c.push_next.result
-    (λ n. get_follows c.args.program.now c.args.stack.now c.args.index c.requires.moves c.push_next.new.stack c.in-Some.value (c.local_get.ensures.value ∙ ap (λ (o : Option Value). Some o) c.in-Some.is) n)
+    get_follows c.args.program.now c.args.stack.now c.args.index c.requires.moves c.push_next.new.stack c.in-Some.value (c.local_get.ensures.value ∙ ap (λ (o : Option Value). Some o) c.in-Some.is)
     c.push_next.ensures.after
 
 pub returns-clause-keeps : goal.returns-clause-keeps
-returns-clause-keeps c =
-    on_ok_weaker c.push_next.result
-    (λ n test on h. pushed_next_holds (λ v. test v ≡ true) c.in-Some.value c.args.stack.now c.push_next.new.stack n
-    (local_is (λ v. test v ≡ true) c.args.index c.in-Some.value c.args.stack.now (c.local_get.ensures.value ∙ ap (λ (o : Option Value). Some o) c.in-Some.is) h) h)
-    c.push_next.ensures.after
+returns-clause-keeps c = λ test on h.
+    pushed_next_holds (λ v. test v ≡ true) c.in-Some.value c.args.stack.now c.push_next.new.stack c.push_next.ensures.after
+    (local_is (λ v. test v ≡ true) c.args.index c.in-Some.value c.args.stack.now (c.local_get.ensures.value ∙ ap (λ (o : Option Value). Some o) c.in-Some.is) h) h

@@ -43,7 +43,7 @@ returns-clause-goes c =
     let e : c.go.new.self ≡ moved (s.place + 1) (with_locals c.args.index v (popped s)) =
     c.go.ensures.after ∙ ap (λ (n : ℕ). moved (n + 1) c.local_set.new.self) at ∙ ap (moved (s.place + 1)) set in
     set_follows c.args.program.now s (op.Variable (variable.LocalSet c.args.index)) c.args.index left (rule c.args.index) c.requires.moves c.go.new.self v c.pop-value.ensures.value
-    (ap (λ (y : Shape). y.levels) e) (ap (λ (y : Shape). y.func) e) (ap (λ (y : Shape). y.place) e) (ap (λ (y : Shape). y.stage) e)
+    (ap (λ (y : Shape). y.levels) e) (ap (λ (y : Shape). y.func) e) (ap (λ (y : Shape). y.place) e) (ap (λ (y : Shape). y.stage) e) (ap (λ (y : Shape). y.capacity) e)
     (sym (ap (λ (y : Shape). stack y.operands) e))
 
 -- the operand passes what all pass
