@@ -21,7 +21,8 @@ use Rattle.w_stands.specs.Stands.{frame}
 use Rattle.w_stands.specs.Steps.{Follows}
 use Rattle.w_stands.specs.declared.did.Did.TheVariants as did
 use Rattle.w_stands.proofs.Stepping.{there, shown, following, next_is, applies, place_fits}
-use Rattle.w_call_ops.specs.Entering.{IsFunction, CanEnter, IsEntered}
+use Rattle.w_call_ops.proofs.FrameRoom.{entered_room}
+use Rattle.w_call_ops.specs.Entering.{HasFrameRoom, IsFunction, CanEnter, IsEntered}
 use Rattle.w_call_ops.specs.Calling.{Calls}
 use Rattle.w_call_ops.proofs.InFunctions.{enter_is, enter_there, behind_end, in_body, locals_in}
 
@@ -52,15 +53,15 @@ module _ (m : Module) (u : instances.Store) (s : Shape) (a taken i : ℕ) (k : C
       let e : call_there.kind ≡ h.kind = (let f = call_there.there.type_is in let g = h.there.type_is in let x : Some call_there.kind ≡ Some h.kind = sym f ∙ g in cc) in
       subst (λ (t : FuncType). length t.params ≤ length (drop taken s.operands)) e call_there.some
 
-  pub call_follows : (s' : Shape) → IsEntered m i (s.place + 1) (drop taken s.operands) s s' → Follows did.Went m [] u s u s'
-  call_follows s' h = λ p o e r at.
+  pub call_follows : (s' : Shape) → IsEntered m i (s.place + 1) (drop taken s.operands) s s' → HasFrameRoom m i s s' → Follows did.Went m [] u s u s'
+  call_follows s' h g = λ p o e r at.
       let c = following m u s p o e r k.i at k.moves.stage k.moves.here in
       let hr = there m u s p o e r k.i at k.moves.stage k.moves.here in
       let w = shown m u s p o e r k.i at k.moves.stage k.moves.here in
       let vs = drop taken s.operands in
       let n = length h.kind.params in
       let ls = locals_in vs h.kind h.code in
-      let own_frame = InFrame (stack (drop n vs)) (length h.kind.results) (local_vals ls) (rest_of c) in
+      let own_frame = InFrame (stack (drop n vs)) (length h.kind.results) i (local_vals ls) (rest_of c) in
       let around : Context = InLabel ε (length h.kind.results) Done Done ∷ own_frame ∷ e in
       let back : Reads (instrs m s.func) (s.place + 1) c hr.end = subst (λ (x : ℕ). Reads (instrs m s.func) x c hr.end) (sym (add-one s.place)) w.reads in
       record {
@@ -73,4 +74,5 @@ module _ (m : Module) (u : instances.Store) (s : Shape) (a taken i : ℕ) (k : C
             ∙ ap (λ (l : List Value). steps_to (store_of u) around (stack l) (rest_of h.code.body)) (sym h.operands);
         stands = in_body m i h.kind h.code h.there o.outer o.behind s' (own_frame ∷ e) (Frame (drop n vs) (length h.kind.results) ls s.func (s.place + 1) ∷ s.levels)
             (frame (behind_end m i h.kind h.code h.there) back hr.around) h.levels h.func h.place h.stage;
+        room = entered_room m i (s.place + 1) vs s s' h g at.room;
       }

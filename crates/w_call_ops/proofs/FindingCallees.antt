@@ -25,6 +25,7 @@ use Rattle.w_reduce.specs.Terms.{rest_of, Context}
 use Rattle.w_reduce.specs.Program.{Program, IsProgram}
 use Rattle.w_reduce.specs.Reduced.{Reduced, Trapped, Stuck, or_stuck, or_trap, as_function}
 use Rattle.w_reduce.specs.Calls.{invoke}
+use Rattle.w_reduce.specs.Entering.{is_call}
 use Rattle.w_reduce.specs.Control.{unless_mismatch}
 use Rattle.w_stands.specs.Values.{stack, store_of, table_of}
 use Rattle.w_stands.specs.Numbers.{IsNumber, bits_in}
@@ -55,10 +56,11 @@ module _ (m : Module) (u : instances.Store) (s : Shape) (i : Op) (k : Kind) (go 
   one_some = let l = ap (λ (l : List Value). length l) whole in omega (arith, l)
 
   -- it invokes the function of address a
-  pub one_calls : (a : ℕ) → ((p : Program) (e : Context) (c : Code) → p.source ≡ m → IsProgram p →
+  pub one_calls : (a : ℕ) → is_call i ≡ true → ((p : Program) (e : Context) (c : Code) → p.source ≡ m → IsProgram p →
       go p (store_of u) e c (taken_of (k ∷ []) (v ∷ [])) (stack (drop 1 s.operands)) ≡ invoke p (store_of u) e (stack (drop 1 s.operands)) a (rest_of c)) → Calls a 1 m u s
-  one_calls a does = record {
+  one_calls a call does = record {
     i = i;
+    calls = call;
     moves = mv;
     there = omega (arith, one_some);
     rule = λ p e c g h.
@@ -109,7 +111,7 @@ module _ (m : Module) (u : instances.Store) (s : Shape) (y : ℕ) (mv : MovesAt 
 
   pub reference_calls : (v : Value) (a : ℕ) → s.operands ≡ v ∷ drop 1 s.operands → v ≡ value.Func a → Calls a 1 m u s
   reference_calls v a whole func =
-      one_calls m u s (op.Control (control.CallRef y)) Any referring (by_reference y) mv v whole a
+      one_calls m u s (op.Control (control.CallRef y)) Any referring (by_reference y) mv v whole a refl
       (λ p e c g h. ap (λ (x : Value). as_function trap.NullReference (val x) (λ b. invoke p (store_of u) e (stack (drop 1 s.operands)) b (rest_of c))) func)
 
 -- ## call_indirect
@@ -194,7 +196,7 @@ module _ (m : Module) (u : instances.Store) (s : Shape) (y x : ℕ) (mv : MovesA
 
       pub indirect_calls : (z : ℕ) → slice_get (functions_of m) a ≡ Some z → ((p : Program) → p.source ≡ m → IsProgram p → p.same z y ≡ true) → Calls a 1 m u s
       indirect_calls z k same =
-          one_calls m u s (op.Control (control.CallIndirect y x)) (Number int.I32) (indirect y x) (by_table y x) mv v whole a
+          one_calls m u s (op.Control (control.CallIndirect y x)) (Number int.I32) (indirect y x) (by_table y x) mv v whole a refl
           (λ p e c g is. with_kind z k p e c g ∙ ap (λ (b : Bool). unless_mismatch b (invoke p (store_of u) e (stack (drop 1 s.operands)) a (rest_of c))) (same p g is))
 
       pub indirect_mismatch : (z : ℕ) → slice_get (functions_of m) a ≡ Some z → ((p : Program) → p.source ≡ m → IsProgram p → p.same z y ≡ false) →

@@ -31,10 +31,10 @@ use Rattle.w_call_ops.proofs.Arguments.{entered_locals}
 -- ## The rule
 
 -- what entering goes on with
-abbrev entering : Program → instances.Store → Context → Rest → FuncType → Func → Row Val × Row Val → Reduced
-entering p u e rest t c q =
+abbrev entering : Program → instances.Store → Context → ℕ → Rest → FuncType → Func → Row Val × Row Val → Reduced
+entering p u e i rest t c q =
     steps_to (store_of u)
-    (InLabel ε (length t.results) Done Done ∷ InFrame q.0 (length t.results) (map (λ (v : Val). Some v) (listed q.1) ++ defaults c.locals) rest ∷ e) ε (rest_of c.body)
+    (InLabel ε (length t.results) Done Done ∷ InFrame q.0 (length t.results) i (map (λ (v : Val). Some v) (listed q.1) ++ defaults c.locals) rest ∷ e) ε (rest_of c.body)
 
 -- the locals of a frame that was entered
 abbrev pub locals_in : List Value → FuncType → Func → List (Option Value)
@@ -43,29 +43,29 @@ locals_in vs t c = map (λ (v : Value). Some v) (reverse (take (length t.params)
 pub enter_is : (p : Program) (u : instances.Store) (e : Context) (vs : List Value) (i : ℕ) (rest : Rest) (t : FuncType) (c : Func) → IsFunction p.source i t c →
     length t.params ≤ length vs → enter p (store_of u) e (stack vs) i rest
     ≡ steps_to (store_of u)
-    (InLabel ε (length t.results) Done Done ∷ InFrame (stack (drop (length t.params) vs)) (length t.results) (local_vals (locals_in vs t c)) rest ∷ e) ε (rest_of c.body)
+    (InLabel ε (length t.results) Done Done ∷ InFrame (stack (drop (length t.params) vs)) (length t.results) i (local_vals (locals_in vs t c)) rest ∷ e) ε (rest_of c.body)
 enter_is p u e vs i rest t c f h =
-    ap (λ (o : Option FuncType). or_stuck o (λ x. or_stuck (code_of_function p.source i) (λ y. take_values (length x.params) (stack vs) (entering p u e rest x y)))) f.type_is
-    ∙ ap (λ (o : Option Func). or_stuck o (λ y. take_values (length t.params) (stack vs) (entering p u e rest t y))) f.code_is
-    ∙ stack_take (length t.params) vs (entering p u e rest t c) h
+    ap (λ (o : Option FuncType). or_stuck o (λ x. or_stuck (code_of_function p.source i) (λ y. take_values (length x.params) (stack vs) (entering p u e i rest x y)))) f.type_is
+    ∙ ap (λ (o : Option Func). or_stuck o (λ y. take_values (length t.params) (stack vs) (entering p u e i rest t y))) f.code_is
+    ∙ stack_take (length t.params) vs (entering p u e i rest t c) h
     ∙ ap (λ (l : List (Option Val)). steps_to (store_of u)
-    (InLabel ε (length t.results) Done Done ∷ InFrame (stack (drop (length t.params) vs)) (length t.results) l rest ∷ e) ε (rest_of c.body))
+    (InLabel ε (length t.results) Done Done ∷ InFrame (stack (drop (length t.params) vs)) (length t.results) i l rest ∷ e) ε (rest_of c.body))
     (entered_locals (take (length t.params) vs) c.locals)
 
 -- where it applies, the function is there, and so are its arguments
 code_there : (p : Program) (u : instances.Store) (e : Context) (vs : List Value) (i : ℕ) (rest : Rest) (t : FuncType) (o : Option Func) →
     type_of_function p.source i ≡ Some t → code_of_function p.source i ≡ o →
-    or_stuck o (λ y. take_values (length t.params) (stack vs) (entering p u e rest t y)) ≢ Stuck → CanEnter p.source i vs
+    or_stuck o (λ y. take_values (length t.params) (stack vs) (entering p u e i rest t y)) ≢ Stuck → CanEnter p.source i vs
 code_there p u e vs i rest t None f g h = absurd (h refl)
 code_there p u e vs i rest t (Some c) f g h = record {
   kind = t;
   code = c;
   there = record { type_is = f; code_is = g };
-  some = stack_enough (length t.params) vs (entering p u e rest t c) h;
+  some = stack_enough (length t.params) vs (entering p u e i rest t c) h;
 }
 
 type_there : (p : Program) (u : instances.Store) (e : Context) (vs : List Value) (i : ℕ) (rest : Rest) (o : Option FuncType) → type_of_function p.source i ≡ o →
-    or_stuck o (λ x. or_stuck (code_of_function p.source i) (λ y. take_values (length x.params) (stack vs) (entering p u e rest x y))) ≢ Stuck → CanEnter p.source i vs
+    or_stuck o (λ x. or_stuck (code_of_function p.source i) (λ y. take_values (length x.params) (stack vs) (entering p u e i rest x y))) ≢ Stuck → CanEnter p.source i vs
 type_there p u e vs i rest None f h = absurd (h refl)
 type_there p u e vs i rest (Some t) f h = code_there p u e vs i rest t (code_of_function p.source i) f refl h
 

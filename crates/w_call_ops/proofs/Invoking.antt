@@ -19,7 +19,8 @@ use Rattle.w_stands.specs.Code.{instrs}
 use Rattle.w_stands.specs.Stands.{In, body, left, fresh, values, outermost}
 use Rattle.w_stands.specs.Steps.{Follows}
 use Rattle.w_stands.specs.declared.did.Did.TheVariants as did
-use Rattle.w_call_ops.specs.Entering.{IsFunction, CanEnter, IsEntered}
+use Rattle.w_call_ops.proofs.FrameRoom.{entered_room}
+use Rattle.w_call_ops.specs.Entering.{HasFrameRoom, IsFunction, CanEnter, IsEntered}
 use Rattle.w_call_ops.specs.Calling.{Invokes}
 use Rattle.w_call_ops.proofs.Calling.{own_invoked}
 use Rattle.w_call_ops.proofs.InFunctions.{enter_is, enter_there, behind_end, in_body, locals_in}
@@ -53,13 +54,13 @@ module _ (m : Module) (u : instances.Store) (s : Shape) (i : ℕ) (k : Invokes m
       let e : invoke_there.kind ≡ h.kind = (let f = invoke_there.there.type_is in let g = h.there.type_is in let x : Some invoke_there.kind ≡ Some h.kind = sym f ∙ g in cc) in
       subst (λ (t : FuncType). length t.params ≤ length s.operands) e invoke_there.some
 
-  pub invoke_follows : (s' : Shape) → IsEntered m i 0 s.operands s s' → Follows did.Went m [] u s u s'
-  invoke_follows s' h = λ p o e r at.
+  pub invoke_follows : (s' : Shape) → IsEntered m i 0 s.operands s s' → HasFrameRoom m i s s' → Follows did.Went m [] u s u s'
+  invoke_follows s' h g = λ p o e r at.
       let b = begins at.stands k.stage in
       let vs = s.operands in
       let n = length h.kind.params in
       let ls = locals_in vs h.kind h.code in
-      let own_frame = InFrame (stack (drop n vs)) (length h.kind.results) (local_vals ls) o.behind in
+      let own_frame = InFrame (stack (drop n vs)) (length h.kind.results) i (local_vals ls) o.behind in
       let around : Context = InLabel ε (length h.kind.results) Done Done ∷ own_frame ∷ o.outer in
       let levels : List Level = Frame (drop n vs) (length h.kind.results) ls s.func 0 ∷ [] in
       record {
@@ -74,4 +75,5 @@ module _ (m : Module) (u : instances.Store) (s : Shape) (i : ℕ) (k : Invokes m
             (outermost (behind_end m i h.kind h.code h.there))
             (h.levels ∙ ap (λ (l : List Level). Label [] (length h.kind.results) (length (whole h.code.body)) ∷ Frame (drop n vs) (length h.kind.results) ls s.func 0 ∷ l) b.levels)
             h.func h.place h.stage;
+        room = entered_room m i 0 vs s s' h g at.room;
       }

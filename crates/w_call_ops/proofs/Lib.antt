@@ -1,5 +1,6 @@
 mod Runs
 mod FirstValues
+mod FrameRoom
 mod Arguments
 mod InFunctions
 pub mod Calling

@@ -26,6 +26,7 @@ use Rattle.w_stands.specs.Stands.{values}
 use Rattle.w_stands.specs.Steps.{Follows}
 use Rattle.w_stands.specs.declared.did.Did.TheVariants as did
 use Rattle.w_stands.proofs.Numbers.{TakesNumber, number_there, number_top}
+use Rattle.w_stands.specs.Room.{HasRoom}
 use Rattle.w_stands.proofs.Stepping.{Next, following, applies, went, place_fits}
 use Rattle.w_call_ops.specs.Calling.{Calls, Invokes}
 use Rattle.w_call_ops.specs.Printing.{taken_by, printed, first, text_of}
@@ -82,7 +83,7 @@ module _ (m : Module) (u : instances.Store) (s : Shape) (a taken : ℕ) (h : Pri
       let vs = drop taken s.operands in
       let beneath : s'.operands ≡ drop 1 vs = ap (λ (x : Shape). x.operands) after ∙ sym (drop-drop 1 taken s.operands) in
       went m u s p o e r k.i at k.moves.stage k.moves.here (text_of h taken s.operands) u s'
-      (subst (Next s) (sym after) (record { levels = refl; func = refl; place = refl; stage = k.moves.stage }))
+      (subst (Next s) (sym after) (record { levels = refl; func = refl; place = refl; stage = k.moves.stage; capacity = refl }))
       (k.rule p e c at.source at.program
       ∙ host_invoked p u e vs a h (rest_of c) host
       ∙ ap (λ (l : List Value). print (store_of u) e (stack l) h (rest_of c)) argument_there.0
@@ -119,6 +120,7 @@ module _ (m : Module) (u : instances.Store) (s : Shape) (h : Printer) (k : Invok
             ∙ print_is u o.outer h o.behind (first s.operands) (drop 1 s.operands) fresh_argument.1
             ∙ ap (λ (x : Shape). Went (text_of h 0 s.operands) (store_of u) (record { around = o.outer; operands = stack x.operands; rest = o.behind })) (sym after);
         stands = values (ap (λ (x : Shape). x.stage) after) (ap (λ (x : Shape). x.levels) after ∙ b.levels);
+        room = subst (HasRoom m) (sym after) at.room;
       }
 
 -- ## Reading the argument

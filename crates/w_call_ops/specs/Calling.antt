@@ -1,5 +1,5 @@
 -- Reductions that invoke a function (Core, execution, function calls).
-use Rattle.std.specs.Prelude.{◌≡◌, ◌≤◌, ℕ, length, drop}
+use Rattle.std.specs.Prelude.{◌≡◌, ◌≤◌, ℕ, true, length, drop}
 use Rattle.w_syntax.specs.Code.{Code}
 use Rattle.w_syntax.specs.declared.instructions.Instr.TheVariants as flat
 use Rattle.w_syntax.specs.declared.instructions.Op.{Op}
@@ -10,6 +10,7 @@ use Rattle.w_tables.specs.Store as instances
 use Rattle.w_reduce.specs.Terms.{Rest, rest_of, Context}
 use Rattle.w_reduce.specs.Program.{Program, IsProgram}
 use Rattle.w_reduce.specs.Calls.{invoke}
+use Rattle.w_reduce.specs.Entering.{is_call}
 use Rattle.w_reduce.specs.Reduce.{instruction}
 use Rattle.w_stands.specs.Values.{stack, store_of}
 use Rattle.w_stands.specs.Steps.{Outside, At, MovesAt}
@@ -17,6 +18,7 @@ use Rattle.w_stands.specs.Steps.{Outside, At, MovesAt}
 -- The instruction that comes next invokes the function of address a, once so many operands are gone.
 pub record Calls (a taken : ℕ) (m : Module) (u : instances.Store) (s : Shape) : Type 0 where
   pub i : Op
+  pub calls : is_call i ≡ true
   pub moves : MovesAt (flat.Plain i) m u s
   pub there : taken ≤ length s.operands
   pub rule : (p : Program) (e : Context) (c : Code) → p.source ≡ m → IsProgram p →

@@ -1,5 +1,5 @@
 -- Where a stack stands once a function of the module was entered (Core, execution, function calls).
-use Rattle.std.specs.Prelude.{◌≡◌, ◌≤◌, ℕ, List, [], ◌∷◌, ◌++◌, length, take, drop, map, reverse, flat_map, replicate, Option, Some}
+use Rattle.std.specs.Prelude.{◌≡◌, ◌+◌, ◌≤◌, ℕ, suc, List, [], ◌∷◌, ◌++◌, length, take, drop, map, reverse, flat_map, replicate, Option, Some}
 use Rattle.w_types.specs.Values.{default_of}
 use Rattle.w_types.specs.declared.types.FuncType.{FuncType}
 use Rattle.w_types.specs.declared.value.Value.{Value}
@@ -9,7 +9,8 @@ use Rattle.w_syntax.specs.declared.locals.LocalRun.{LocalRun}
 use Rattle.w_syntax.specs.declared.module.Func.{Func}
 use Rattle.w_syntax.specs.declared.module.Module.{Module}
 use Rattle.w_segment.specs.declared.entry.Stage.TheVariants.{Body}
-use Rattle.w_segment.specs.Shape.{Shape, Label, Frame}
+use Rattle.w_segment.specs.Shape.{Shape, Label, Frame, Grown, below_all}
+use Rattle.w_reduce.specs.Room.{most_operands, most_labels}
 
 -- a function of the module, by its index among its own: its type and its code
 pub record IsFunction (m : Module) (i : ℕ) (kind : FuncType) (code : Func) : Type 0 where
@@ -26,6 +27,12 @@ pub record CanEnter (m : Module) (i : ℕ) (given : List Value) : Type 0 where
 -- what the locals of these runs begin with
 abbrev pub first_values : List LocalRun → List (Option Value)
 first_values = flat_map (λ (r : LocalRun). replicate r.count (default_of r.kind))
+
+-- No capacity is lower than before, and the frame has room for what its function needs, the levels around it being those of s.
+pub record HasFrameRoom (m : Module) (i : ℕ) (s s' : Shape) : Type 0 where
+  pub grown : Grown s.capacity s'.capacity
+  pub operands : below_all s'.levels + most_operands m i ≤ s'.capacity.operands
+  pub levels : suc (length s.levels) + most_labels m i ≤ s'.capacity.levels
 
 -- The function's arguments, the topmost of `given`, are its first locals, and it stands at its beginning, in the label
 -- of its body; the function that ran before goes on at `back`.

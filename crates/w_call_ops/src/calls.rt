@@ -1,23 +1,23 @@
 //! Invoking a function of the module by an instruction (Core, execution, function calls).
 ghost use Rattle.std.specs.Prelude.{◌≡◌, [], OnErr, OnOk, slice_get};
-ghost use Rattle.w_segment.specs.Shape.{SameParts};
 ghost use Rattle.w_tables.specs.declared.entries.FuncEntry.TheVariants as entry;
 ghost use Rattle.w_stands.specs.Keeps.{Keeps};
+ghost use Rattle.w_stands.specs.Room.{Roomier};
 ghost use Rattle.w_stands.specs.Steps.{Follows};
 ghost use Rattle.w_stands.specs.declared.did.Did.TheVariants as did;
 ghost use Rattle.w_call_ops.specs.Calling.{Calls, Invokes};
 
 use crate::entering::enter;
 use std::alloc::AllocError;
+use w_rules::Checked;
 use w_segment::Stack;
-use w_syntax::Module;
 use w_tables::Store;
 
 /// Invokes the function of the module that an instruction calls, by its address and its index among the module's own, once so many
 /// operands are gone. It fails only when out of memory, and then the stack is as it was but for room.
 #[inline(always)]
 pub fn call_own(
-    program: &Module,
+    program: &Checked,
     store: &Store,
     stack: &mut Stack,
     address: u32,
@@ -28,7 +28,7 @@ pub fn call_own(
     requires own { slice_get store.now.functions address ≡ Some (entry.Own function) }
     ensures goes { OnOk result (Follows did.Went program.now [] store.now stack.old store.now stack.new) }
     ensures keeps { OnOk result (Keeps stack.old stack.new) }
-    ensures err { OnErr result (SameParts stack.old stack.new) }
+    ensures err { OnErr result (Roomier stack.old stack.new) }
 {
     let _store = store;
     let back = stack.place() + 1;
@@ -39,7 +39,7 @@ pub fn call_own(
 /// memory, and then the stack is as it was but for room.
 #[inline(always)]
 pub fn invoke_own(
-    program: &Module,
+    program: &Checked,
     store: &Store,
     stack: &mut Stack,
     function: u32,
@@ -48,7 +48,7 @@ pub fn invoke_own(
     requires own { slice_get store.now.functions stack.old.func ≡ Some (entry.Own function) }
     ensures goes { OnOk result (Follows did.Went program.now [] store.now stack.old store.now stack.new) }
     ensures keeps { OnOk result (Keeps stack.old stack.new) }
-    ensures err { OnErr result (SameParts stack.old stack.new) }
+    ensures err { OnErr result (Roomier stack.old stack.new) }
 {
     let _store = store;
     enter(program, stack, function, 0, 0)

@@ -1,16 +1,17 @@
 //! Entering a function of the module (Core, execution, function calls).
 ghost use Rattle.std.specs.Prelude.{◌≡◌, ◌+◌, ◌<◌, ◌≤◌, ◌^◌, length, drop, OnErr, OnOk};
 ghost use Rattle.w_syntax.specs.Locals.{total};
-ghost use Rattle.w_segment.specs.Shape.{Fits, SameParts, frames_of, locals_all};
+ghost use Rattle.w_segment.specs.Shape.{Fits, frames_of, locals_all};
 ghost use Rattle.w_segment.specs.Changes.{with_more};
 ghost use Rattle.w_stands.specs.Code.{instrs};
 ghost use Rattle.w_stands.specs.Keeps.{Keeps};
+ghost use Rattle.w_stands.specs.Room.{Roomier};
 ghost use Rattle.w_types.specs.declared.types.FuncType.{FuncType as FuncKind};
 ghost use Rattle.w_syntax.specs.declared.module.Func.{Func as FuncCode};
-ghost use Rattle.w_call_ops.specs.Entering.{CanEnter, IsEntered, IsFunction, first_values};
+ghost use Rattle.w_call_ops.specs.Entering.{CanEnter, HasFrameRoom, IsEntered, IsFunction, first_values};
 
 use std::alloc::AllocError;
-use w_rules::function_type;
+use w_rules::{Checked, function_type};
 use w_segment::{Entry, Stack};
 use w_syntax::{Func, LocalRun, Module};
 use w_types::{FuncType, Value};
@@ -51,23 +52,30 @@ fn add_runs(stack: &mut Stack, runs: &[LocalRun])
     }
 }
 
-// Takes room for a frame of so many locals, and for its body's label, where there is none.
+// Takes room for a frame with so many operands, labels and locals, where there is none.
 #[inline(always)]
-fn room_for_frame(stack: &mut Stack, locals: usize) -> Result<(), AllocError>
-    ensures same { SameParts stack.old stack.new }
-    ensures ok { OnOk result (Fits 0 2 locals stack.new) }
+fn room_for_frame(
+    stack: &mut Stack,
+    operands: u64,
+    labels: u32,
+    locals: usize,
+) -> Result<(), AllocError>
+    ensures roomier { Roomier stack.old stack.new }
+    ensures ok { OnOk result (Fits operands (labels + 1) locals stack.new) }
 {
-    if stack.has_levels(2, locals) {
+    let (operands, levels) = (operands as usize, labels as usize + 1);
+    if stack.fits(operands, levels, locals) {
         return Ok(());
     }
-    stack.reserve(0, 2, locals)
+    stack.reserve(operands, levels, locals)
 }
 
 /// Enters a function of the module, by its index among the module's own, once so many operands are gone; its arguments stand beneath
-/// them. The function that ran before goes on at `back`. It fails only when out of memory, and then the stack is as it was but for room.
+/// them. The function that ran before goes on at `back`. The frame gets room for all that its function needs. It fails only when out of
+/// memory, and then the stack is as it was but for room.
 #[inline(never)]
 pub(crate) fn enter(
-    program: &Module,
+    program: &Checked,
     stack: &mut Stack,
     function: u32,
     taken: usize,
@@ -76,20 +84,20 @@ pub(crate) fn enter(
     requires taken { taken ≤ length stack.old.operands }
     requires there { CanEnter program.now function (drop taken stack.old.operands) }
     requires short { length (instrs program.now function) < 2 ^ 32 }
+    ensures room { OnOk result (HasFrameRoom program.now function stack.old stack.new) }
     ensures after { OnOk result (IsEntered program.now function back (drop taken stack.old.operands) stack.old stack.new) }
     ensures keeps { OnOk result (Keeps stack.old stack.new) }
-    ensures err { OnErr result (SameParts stack.old stack.new) }
+    ensures err { OnErr result (Roomier stack.old stack.new) }
 {
-    let (kind, code) = find(program, function);
-    let Ok(params) = u32::try_from(kind.params.len()) else {
-        return Err(AllocError);
-    };
-    let Ok(arity) = u32::try_from(kind.results.len()) else {
-        return Err(AllocError);
-    };
+    let (kind, code) = find(program.module(), function);
+    let params = kind.params.len() as u32;
+    let arity = kind.results.len() as u32;
     let runs = code.locals.as_slice();
     let target = code.body.instrs().len() as u32;
-    room_for_frame(stack, params as usize + count_locals(runs))?;
+    let locals = params as usize + count_locals(runs);
+    let height = program.height(function);
+    let depth = program.depth(function);
+    room_for_frame(stack, height, depth, locals)?;
     stack.discard(taken);
     stack.go(back);
     stack.enter(Entry::Frame {

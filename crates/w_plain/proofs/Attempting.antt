@@ -1,5 +1,5 @@
 -- Attempts at reductions, by what the calls that take them came to.
-use Rattle.std.proofs.Common.{◌≡◌, true, false, List, Some, None, Result, Ok, Err, refl, sym, ap, ◌∙◌}
+use Rattle.std.proofs.Common.{◌≡◌, true, false, List, Some, None, Result, Ok, Err, refl, sym, ap, ◌∙◌, subst}
 use Rattle.std.specs.declared.alloc.AllocError.{AllocError}
 use Rattle.w_syntax.specs.declared.instructions.Op.TheVariants as op
 use Rattle.w_syntax.specs.declared.instructions.Instr.{Instr}
@@ -19,6 +19,8 @@ use Rattle.w_plain.specs.Stepped.{Stepped}
 use Rattle.w_plain.specs.declared.progress.Progress.{Progress}
 use Rattle.w_plain.specs.declared.progress.Progress.TheVariants as progress
 use Rattle.w_plain.specs.Attempted.{attempt_of, Attempted, IsAttempt, was_made, is_branch_table, is_attempted}
+use Rattle.w_stands.specs.Room.{Roomier}
+use Rattle.w_stands.proofs.Fitting.{same_grown}
 use Rattle.w_plain.proofs.Prints.{same_parts}
 use Rattle.w_plain.proofs.Steps.{takes_alone}
 use Rattle.w_segment.specs.declared.entry.Stage.TheVariants.{Body}
@@ -32,11 +34,15 @@ use Rattle.w_syntax.specs.declared.packed.ShortControlOp.TheVariants as short
 use Rattle.w_plain.specs.Meets.{Meets, Applies}
 use Rattle.w_plain.proofs.Applying.{at_instruction, behind_all}
 
+-- nothing is changed
+same_room : (s s' : Shape) → s' ≡ s → Roomier s s'
+same_room s s' e = subst (Roomier s) (sym e) (record { same = same_parts s s refl; grown = same_grown s.capacity })
+
 -- a call that may fail for want of memory
 pub attempted_step : (r : Result Did AllocError) (m : Module) (u u' : instances.Store) (s s' : Shape) → Stepped r m u s u' s' → Attempted (attempt_of r) m u s u' s'
 attempted_step (Ok did.Went) m u u' s s' h = h
-attempted_step (Ok (did.Trapped t)) m u u' s s' h = (h.goes.2, same_parts s s' h.goes.3, (t, (h.goes.0, h.goes.1, refl, refl)))
-attempted_step (Err e) m u u' s s' h = h
+attempted_step (Ok (did.Trapped t)) m u u' s s' h = (h.goes.2, same_room s s' h.goes.3, (t, (h.goes.0, h.goes.1, refl, refl)))
+attempted_step (Err e) m u u' s s' h = (h.0, same_room s s' h.1)
 
 -- one on the stack alone that can't
 pub attempted_alone : (m : Module) (u : instances.Store) (s s' : Shape) → FollowsAlone did.Went m s s' → Keeps s s' → Attempted progress.Went m u s u s'
@@ -44,7 +50,7 @@ attempted_alone m u s s' g k = takes_alone did.Went m u s s' g k
 
 -- none was taken
 pub nothing_attempted : (m : Module) (u : instances.Store) (s : Shape) → Attempted progress.Rare m u s u s
-nothing_attempted m u s = (refl, same_parts s s refl)
+nothing_attempted m u s = (refl, same_room s s refl)
 
 -- what came of a call was attempted
 pub made : (r : Result Did AllocError) → was_made (attempt_of r) ≡ true

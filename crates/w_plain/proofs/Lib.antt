@@ -1,4 +1,5 @@
 mod Steps
+mod Places
 mod Prints
 mod Ends
 mod Applying

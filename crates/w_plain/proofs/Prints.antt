@@ -31,7 +31,10 @@ use Rattle.w_stands.specs.declared.did.Did.TheVariants as did
 use Rattle.w_stands.specs.Keeps.{Keeps}
 use Rattle.w_stands.specs.Steps.{MovesAt, Follows, FollowsAlone}
 use Rattle.w_plain.specs.Stepped.{Takes, Stepped}
-use Rattle.w_plain.specs.Printing.{Prints, Printed, widened}
+use Rattle.w_plain.specs.declared.stop.Stop.{Stop}
+use Rattle.w_plain.specs.declared.stop.Stop.TheVariants as stop
+use Rattle.w_plain.specs.Plainness.{MayTake}
+use Rattle.w_plain.specs.Printing.{Prints, Printed, MayStop, widened}
 use Rattle.w_plain.proofs.Steps.{takes_alone}
 
 -- nothing is written
@@ -73,6 +76,11 @@ invoke_prints h m u s k host = λ p o e r at.
     let t = fresh_follows m u s h k host (staged Values (discarded 1 s)) refl p o e r at in
     (store_of u, record { around = t.around; operands = stack (staged Values (discarded 1 s)).operands; rest = t.rest }, t.is)
 
+-- what may take memory may stop for want of it
+pub may_stop : (e : Stop) (m : Module) (s : Shape) → MayTake m s → MayStop e m s
+may_stop stop.OutOfMemory m s h = h
+may_stop stop.WriteFault m s h = tt
+
 -- ## Calls that print nothing
 
 pub printed_alone : (d : Did) (m : Module) (u : instances.Store) (s s' : Shape) (held : Option (List ℕ)) → FollowsAlone d m s s' → Keeps s s' →
@@ -85,11 +93,11 @@ printed_trap t m u s held g = ([], record { goes = g; keeps = λ test on h k. (h
 
 pub printed_step : (r : Result Did AllocError) (m : Module) (u u' : instances.Store) (s s' : Shape) (held : Option (List ℕ)) → Stepped r m u s u' s' → Printed (widened r) held held m u s u' s'
 printed_step (Ok d) m u u' s s' held h = ([], h, grew_nothing held)
-printed_step (Err e) m u u' s s' held h = (h.0, h.1, inl refl)
+printed_step (Err e) m u u' s s' held h = (h.0, same_parts s s' h.1, inl refl, h.2)
 
 -- the function that `call` names is invoked
 pub call_calls : (m : Module) (u : instances.Store) (s : Shape) (x : ℕ) → MovesAt (flat.Plain (op.Control (control.Call x))) m u s → Calls x 0 m u s
-call_calls m u s x k = record { i = op.Control (control.Call x); moves = k; there = omega arith; rule = λ p e c g h. refl }
+call_calls m u s x k = record { i = op.Control (control.Call x); calls = refl; moves = k; there = omega arith; rule = λ p e c g h. refl }
 
 pub printed_takes : (d : Did) (m : Module) (u u' : instances.Store) (s s' : Shape) (held : Option (List ℕ)) → Takes d m [] u s u' s' →
     (text : List ℕ) × Takes d m text u s u' s' × Grew held held text

@@ -1,16 +1,23 @@
 -- Calls on a stack alone, and on a stack with a store, told in one way.
-use Rattle.std.proofs.Common.{◌≡◌, ℕ, List, [], length, Result, Ok, Err, refl, ap}
-use Rattle.std.specs.Prelude.{IfOk, OnOk, OnErr}
-use Rattle.std.specs.declared.alloc.AllocError.{AllocError}
+use Rattle.std.proofs.Common.{◌≡◌, ℕ, true, List, [], length, Option, refl, sym, ap, subst}
 use Rattle.w_syntax.specs.declared.instructions.Instr.{Instr}
+use Rattle.w_syntax.specs.declared.instructions.Instr.TheVariants as flat
+use Rattle.w_syntax.specs.declared.instructions.Op.{Op}
+use Rattle.w_syntax.specs.declared.instructions.Op.TheVariants as op
 use Rattle.w_syntax.specs.declared.module.Module.{Module}
 use Rattle.w_memory.specs.Memory.{Memory}
-use Rattle.w_segment.specs.Shape.{Shape, SameParts}
+use Rattle.w_segment.specs.declared.entry.Stage.{Stage}
+use Rattle.w_segment.specs.Shape.{Shape}
 use Rattle.w_tables.specs.Store as instances
+use Rattle.w_reduce.specs.Entering.{is_call}
+use Rattle.w_reduce.specs.Room.{takes_memory}
+use Rattle.w_stands.specs.Code.{instr_of}
 use Rattle.w_stands.specs.declared.did.Did.{Did}
-use Rattle.w_stands.specs.Keeps.{Keeps, KeepsAll}
+use Rattle.w_stands.specs.Keeps.{Keeps}
 use Rattle.w_stands.specs.Steps.{MovesAt, MovesAlone, Follows, FollowsAlone}
-use Rattle.w_plain.specs.Stepped.{Takes, Stepped}
+use Rattle.w_call_ops.specs.Calling.{Calls, Invokes}
+use Rattle.w_plain.specs.Plainness.{takes_at, MayTakeAt, MayTake}
+use Rattle.w_plain.specs.Stepped.{Takes}
 
 -- where a rule applies to a stack with a store, one applies to the stack
 pub alone : {i : Instr} {m : Module} {u : instances.Store} {s : Shape} → MovesAt i m u s → MovesAlone i m s
@@ -24,16 +31,28 @@ takes_alone d m u s s' g k = record { goes = g u; keeps = λ test on h g. (h, k 
 pub takes_stack : (d : Did) (m : Module) (text : List ℕ) (u : instances.Store) (s s' : Shape) → Follows d m text u s u s' → Keeps s s' → Takes d m text u s u s'
 takes_stack d m text u s s' g k = record { goes = g; keeps = λ test on h g. (h, k test on g); memories = refl }
 
-pub stepped_alone : (r : Result Did AllocError) (m : Module) (u : instances.Store) (s s' : Shape) → IfOk r (λ d. FollowsAlone d m s s') → OnOk r (Keeps s s') →
-    OnErr r (SameParts s s') → Stepped r m u s u s'
-stepped_alone (Ok d) m u s s' g k e = takes_alone d m u s s' g k
-stepped_alone (Err x) m u s s' g k e = (refl, e)
+-- an instruction that may take memory stands there
+pub may_take : {m : Module} {u : instances.Store} {s : Shape} {o : Op} → MovesAt (flat.Plain o) m u s → takes_memory o ≡ true → MayTake m s
+may_take {m} {u} {s} {o} k h =
+    subst (λ (x : Stage). MayTakeAt x (instr_of m s.func s.place)) (sym k.stage) (subst (λ (i : Option Instr). takes_at i ≡ true) (sym k.here) h)
 
--- one with the store
-pub stepped_with : (r : Result Did AllocError) (m : Module) (u u' : instances.Store) (s s' : Shape) → IfOk r (λ d. Follows d m [] u s u' s') → OnOk r (KeepsAll u s u' s') →
-    length u'.memories ≡ length u.memories → OnErr r (u' ≡ u) → OnErr r (SameParts s s') → Stepped r m u s u' s'
-stepped_with (Ok d) m u u' s s' g k n e f = record { goes = g; keeps = k; memories = n }
-stepped_with (Err x) m u u' s s' g k n e f = (e, f)
+-- one that calls a function does
+call_takes : (o : Op) → is_call o ≡ true → takes_memory o ≡ true
+call_takes (op.Control o) h = h
+call_takes (op.Parametric o) h = absurd (cc)
+call_takes (op.Variable o) h = absurd (cc)
+call_takes (op.Table o) h = absurd (cc)
+call_takes (op.Memory o) h = absurd (cc)
+call_takes (op.Numeric o) h = absurd (cc)
+call_takes (op.Reference o) h = absurd (cc)
+call_takes (op.Switching o) h = absurd (cc)
+
+pub calls_take : {m : Module} {u : instances.Store} {s : Shape} {a taken : ℕ} → Calls a taken m u s → MayTake m s
+calls_take k = may_take k.moves (call_takes k.i k.calls)
+
+-- so does the invoke of a fresh segment
+pub invokes_take : {m : Module} {u : instances.Store} {s : Shape} → Invokes m u s → MayTake m s
+invokes_take {m} {u} {s} k = subst (λ (x : Stage). MayTakeAt x (instr_of m s.func s.place)) (sym k.stage) tt
 
 pub same_count : (u u' : instances.Store) → u'.memories ≡ u.memories → length u'.memories ≡ length u.memories
 same_count u u' e = ap (λ (l : List Memory). length l) e

@@ -9,13 +9,14 @@ use Rattle.w_syntax.specs.declared.packed.ShortControlOp.TheVariants as short
 use Rattle.w_syntax.specs.declared.packed.PackedInstr.{PackedInstr}
 use Rattle.w_syntax.specs.declared.packed.PackedInstr.TheVariants as packed
 use Rattle.w_syntax.specs.declared.module.Module.{Module}
-use Rattle.w_segment.specs.Shape.{Shape, SameParts}
+use Rattle.w_segment.specs.Shape.{Shape}
 use Rattle.w_tables.specs.Store as instances
 use Rattle.w_tables.specs.declared.entries.FuncEntry.{FuncEntry}
 use Rattle.w_tables.specs.declared.entries.FuncEntry.TheVariants as entry
 use Rattle.w_reduce.specs.declared.trap.Trap.{Trap}
 use Rattle.w_stands.specs.declared.did.Did.{Did}
 use Rattle.w_stands.specs.declared.did.Did.TheVariants as did
+use Rattle.w_stands.specs.Room.{Roomier}
 use Rattle.w_stands.specs.Steps.{Follows}
 use Rattle.w_plain.specs.declared.progress.Progress.{Progress}
 use Rattle.w_plain.specs.declared.progress.Progress.TheVariants as progress
@@ -33,9 +34,9 @@ attempt_of (Err e) = progress.OutOfMemory
 abbrev pub Attempted : Progress → Module → instances.Store → Shape → instances.Store → Shape → Type 0
 Attempted progress.Went m u s u' s' = Takes did.Went m [] u s u' s'
 Attempted progress.Entered m u s u' s' = Takes did.Went m [] u s u' s'
-Attempted progress.Trapped m u s u' s' = (u' ≡ u) × SameParts s s' × ((t : Trap) × Follows (did.Trapped t) m [] u s u s)
-Attempted progress.Rare m u s u' s' = (u' ≡ u) × SameParts s s'
-Attempted progress.OutOfMemory m u s u' s' = (u' ≡ u) × SameParts s s'
+Attempted progress.Trapped m u s u' s' = (u' ≡ u) × Roomier s s' × ((t : Trap) × Follows (did.Trapped t) m [] u s u s)
+Attempted progress.Rare m u s u' s' = (u' ≡ u) × Roomier s s'
+Attempted progress.OutOfMemory m u s u' s' = (u' ≡ u) × Roomier s s'
 
 -- ## When one is made
 

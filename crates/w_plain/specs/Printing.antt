@@ -1,5 +1,5 @@
 -- What a call that may print leaves in its sink.
-use Rattle.std.specs.Prelude.{◌≡◌, ◌⊎◌, ℕ, List, Option, Result, Ok, Err}
+use Rattle.std.specs.Prelude.{◌≡◌, ◌⊎◌, ℕ, List, Option, Result, Ok, Err, ⊤}
 use Rattle.w_outside.specs.Outside.{Grew, GrewByFront}
 use Rattle.w_syntax.specs.declared.module.Module.{Module}
 use Rattle.w_segment.specs.Shape.{Shape, SameParts}
@@ -13,6 +13,7 @@ use Rattle.w_stands.specs.Steps.{Outside, At, next_of}
 use Rattle.std.specs.declared.alloc.AllocError.{AllocError}
 use Rattle.w_plain.specs.declared.stop.Stop.{Stop}
 use Rattle.w_plain.specs.declared.stop.Stop.TheVariants as stop
+use Rattle.w_plain.specs.Plainness.{MayTake}
 use Rattle.w_plain.specs.Stepped.{Takes}
 
 -- the reduction prints these bytes, in each configuration in which the stack stands
@@ -23,10 +24,15 @@ Prints text m u s = (p : Program) (o : Outside) (e : Context) (r : Rest) → At 
 abbrev pub Began : Option (List ℕ) → Option (List ℕ) → Module → instances.Store → Shape → Type 0
 Began before now m u s = (now ≡ before) ⊎ ((text : List ℕ) × Prints text m u s × GrewByFront before now text)
 
+-- want of memory stops nothing but a reduction that may take some
+abbrev pub MayStop : Stop → Module → Shape → Type 0
+MayStop stop.OutOfMemory m s = MayTake m s
+MayStop stop.WriteFault m s = ⊤
+
 -- It took its reduction, and the sink has what that prints; or it stopped, all is as it was but for room, and the sink has a first part.
 abbrev pub Printed : Result Did Stop → Option (List ℕ) → Option (List ℕ) → Module → instances.Store → Shape → instances.Store → Shape → Type 0
 Printed (Ok d) before now m u s u' s' = (text : List ℕ) × Takes d m text u s u' s' × Grew before now text
-Printed (Err e) before now m u s u' s' = (u' ≡ u) × SameParts s s' × Began before now m u s
+Printed (Err e) before now m u s u' s' = (u' ≡ u) × SameParts s s' × Began before now m u s × MayStop e m s
 
 -- what a call that prints nothing comes to, told with the others
 abbrev pub widened : Result Did AllocError → Result Did Stop

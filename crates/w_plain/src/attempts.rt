@@ -18,6 +18,7 @@ use crate::exits::{leave_else, leave_end};
 use crate::families::{in_memory, number, parametric};
 use crate::progress::Progress;
 use crate::values::variable;
+use w_rules::Checked;
 use w_segment::Stack;
 use w_syntax::{MemArg, MemoryOp, Module, NumericOp, PackedInstr, ParametricOp};
 use w_tables::Store;
@@ -27,16 +28,18 @@ use w_tables::Store;
 #[tactic(auto, using(crate::proofs::Attempting::common_attempt, crate::proofs::Ends::end_meets, crate::proofs::Attempting::rare_attempt, crate::proofs::Attempting::short_calls_none))]
 fn at_instruction(
     program: &Module,
+    checked: &Checked,
     store: &mut Store,
     stack: &mut Stack,
     packed: &PackedInstr,
 ) -> Progress
+    requires same { checked.now ≡ program.now }
     requires moves { switches_at (Some (unpacked packed.now)) ≡ false → MovesAt (unpacked packed.now) program.now store.old stack.old }
     requires one { length store.old.memories ≤ 1 }
     ensures attempt { IsAttempt result packed.now program.now store.old stack.old store.new stack.new }
 {
     match packed {
-        PackedInstr::Variable(operation) => told(variable(program, store, stack, *operation)),
+        PackedInstr::Variable(operation) => told(Ok(variable(program, store, stack, *operation))),
         PackedInstr::Drop => told(Ok(parametric(program, store, stack, &ParametricOp::Drop))),
         PackedInstr::Select => told(Ok(parametric(program, store, stack, &ParametricOp::Select))),
         PackedInstr::Load(operation, align, offset) => {
@@ -49,44 +52,44 @@ fn at_instruction(
             let operation = MemoryOp::Store(*operation, MemArg { align, offset });
             told(in_memory(program, store, stack, operation))
         }
-        PackedInstr::I32Const(value) => told(number(
+        PackedInstr::I32Const(value) => told(Ok(number(
             program,
             store,
             stack,
             NumericOp::I32Const(*value),
-        )),
-        PackedInstr::I64Const(value) => told(number(
+        ))),
+        PackedInstr::I64Const(value) => told(Ok(number(
             program,
             store,
             stack,
             NumericOp::I64Const(*value),
-        )),
-        PackedInstr::Eqz(kind) => told(number(program, store, stack, NumericOp::Eqz(*kind))),
+        ))),
+        PackedInstr::Eqz(kind) => told(Ok(number(program, store, stack, NumericOp::Eqz(*kind)))),
         PackedInstr::Compare(kind, operation) => {
-            told(number(program, store, stack, NumericOp::Compare(*kind, *operation)))
+            told(Ok(number(program, store, stack, NumericOp::Compare(*kind, *operation))))
         }
         PackedInstr::Unary(kind, operation) => {
-            told(number(program, store, stack, NumericOp::Unary(*kind, *operation)))
+            told(Ok(number(program, store, stack, NumericOp::Unary(*kind, *operation))))
         }
         PackedInstr::Binary(kind, operation) => {
-            told(number(program, store, stack, NumericOp::Binary(*kind, *operation)))
+            told(Ok(number(program, store, stack, NumericOp::Binary(*kind, *operation))))
         }
         PackedInstr::Convert(operation) => {
-            told(number(program, store, stack, NumericOp::Convert(*operation)))
+            told(Ok(number(program, store, stack, NumericOp::Convert(*operation))))
         }
         PackedInstr::Block(kind, block_type, end) => {
-            told(enter_block(program, store, stack, *kind, block_type.whole(), *end))
+            told(Ok(enter_block(program, store, stack, *kind, block_type.whole(), *end)))
         }
         PackedInstr::If(block_type, end) => {
-            told(enter_choice(program, store, stack, block_type.whole(), None, *end))
+            told(Ok(enter_choice(program, store, stack, block_type.whole(), None, *end)))
         }
         PackedInstr::IfElse(block_type, otherwise, end) => {
             let otherwise = Some(*otherwise);
-            told(enter_choice(program, store, stack, block_type.whole(), otherwise, *end))
+            told(Ok(enter_choice(program, store, stack, block_type.whole(), otherwise, *end)))
         }
         PackedInstr::Else => told(Ok(leave_else(program, store, stack))),
         PackedInstr::End => told(Ok(leave_end(program, store, stack))),
-        PackedInstr::Control(operation) => control(program, store, stack, *operation),
+        PackedInstr::Control(operation) => control(program, checked, store, stack, *operation),
         PackedInstr::Boxed(instr) => boxed(program, store, stack, instr),
         _ => Progress::Rare,
     }
@@ -99,7 +102,7 @@ fn at_instruction(
 #[inline(always)]
 #[tactic(auto, using(crate::proofs::Attempting::moves_at, crate::proofs::Attempting::ends_at, crate::proofs::Attempting::attempted_step, crate::proofs::Attempting::made, crate::proofs::Attempting::attempted_plain, crate::proofs::Attempting::calls_there))]
 pub fn attempt(
-    program: &Module,
+    program: &Checked,
     store: &mut Store,
     stack: &mut Stack,
     found: Option<&PackedInstr>,
@@ -115,8 +118,9 @@ pub fn attempt(
     // Where it only went on, nothing is called there.
     ensures went { result ≡ progress.Went → calls_at (instr_of program.now stack.old.func stack.old.place) ≡ false }
 {
+    let source = program.module();
     match found {
-        Some(packed) => at_instruction(program, store, stack, packed),
-        None => told(Ok(leave_end(program, store, stack))),
+        Some(packed) => at_instruction(source, program, store, stack, packed),
+        None => told(Ok(leave_end(source, store, stack))),
     }
 }

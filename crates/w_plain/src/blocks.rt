@@ -1,10 +1,9 @@
 //! Blocks, and where sequences end.
-ghost use Rattle.std.specs.Prelude.{◌≡◌};
+ghost use Rattle.std.specs.Prelude.{[]};
 ghost use Rattle.w_syntax.specs.declared.instructions.Instr.TheVariants as flat;
 ghost use Rattle.w_stands.specs.Steps.{MovesAt};
-ghost use Rattle.w_plain.specs.Stepped.{Stepped};
+ghost use Rattle.w_plain.specs.Stepped.{Takes};
 
-use std::alloc::AllocError;
 use w_control_ops::{block, choice};
 use w_segment::Stack;
 use w_stands::Did;
@@ -21,13 +20,13 @@ pub(crate) fn enter_block(
     kind: BlockKind,
     block_type: BlockType,
     end: u32,
-) -> Result<Did, AllocError>
+) -> Did
     requires moves { MovesAt (flat.Block kind block_type end) program.now store.old stack.old }
-    ensures step { Stepped result program.now store.old stack.old store.new stack.new }
+    ensures step { Takes result program.now [] store.old stack.old store.new stack.new }
 {
     let _store = store;
-    block(program, stack, kind, block_type, end)?;
-    Ok(Did::Went)
+    block(program, stack, kind, block_type, end);
+    Did::Went
 }
 
 /// An if, with the places of its else, where it has one, and of its end.
@@ -40,11 +39,11 @@ pub(crate) fn enter_choice(
     block_type: BlockType,
     otherwise: Option<u32>,
     end: u32,
-) -> Result<Did, AllocError>
+) -> Did
     requires moves { MovesAt (flat.If block_type otherwise end) program.now store.old stack.old }
-    ensures step { Stepped result program.now store.old stack.old store.new stack.new }
+    ensures step { Takes result program.now [] store.old stack.old store.new stack.new }
 {
     let _store = store;
-    choice(program, stack, block_type, otherwise, end)?;
-    Ok(Did::Went)
+    choice(program, stack, block_type, otherwise, end);
+    Did::Went
 }

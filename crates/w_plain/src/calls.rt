@@ -2,40 +2,42 @@
 ghost use Rattle.std.specs.Prelude.{◌≡◌, ◌≤◌, Err};
 ghost use Rattle.w_outside.specs.Outside.{Rose};
 ghost use Rattle.w_call_ops.specs.Calling.{Calls, Invokes};
+ghost use Rattle.w_plain.specs.Known.{IsKnown};
 ghost use Rattle.w_plain.specs.Printing.{Printed};
 
+use crate::program::Program;
 use crate::stop::Stop;
 use w_call_ops::{call_own, call_printer, invoke_own, invoke_printer};
 use w_outside::Sink;
 use w_segment::Stack;
 use w_stands::Did;
-use w_syntax::Module;
 use w_tables::{FuncEntry, Store};
 
 /// Invokes the function that an instruction calls, by its address, once so many operands are gone.
 #[inline(always)]
 pub(crate) fn call<O: Sink>(
-    program: &Module,
+    program: Program,
     store: &mut Store,
     stack: &mut Stack,
     out: &mut O,
     address: u32,
     taken: usize,
 ) -> Result<Did, Stop>
-    requires call { Calls address taken program.now store.old stack.old }
-    ensures step { Printed result (O.held out.old) (O.held out.new) program.now store.old stack.old store.new stack.new }
+    requires known { IsKnown program.source.now program.checked.now program.classes.now program.functions.now }
+    requires call { Calls address taken program.source.now store.old stack.old }
+    ensures step { Printed result (O.held out.old) (O.held out.new) program.entry.source.now store.old stack.old store.new stack.new }
     ensures cause { result ≡ Err Stop.WriteFault → Rose (O.faults out.old) (O.faults out.new) }
     ensures later { O.faults out.old ≤ O.faults out.new }
 {
     match store.function(address) {
         FuncEntry::Own(function) => {
-            match call_own(program, store, stack, address, function, taken) {
+            match call_own(program.checked, store, stack, address, function, taken) {
                 Ok(()) => Ok(Did::Went),
                 Err(_) => Err(Stop::OutOfMemory),
             }
         }
         FuncEntry::Printer(printer) => {
-            match call_printer(program, store, stack, out, address, printer, taken) {
+            match call_printer(program.source, store, stack, out, address, printer, taken) {
                 Ok(()) => Ok(Did::Went),
                 Err(fault) => Err(Stop::of_fault(fault)),
             }
@@ -46,22 +48,29 @@ pub(crate) fn call<O: Sink>(
 /// Invokes the function that a fresh segment begins with.
 #[inline(always)]
 pub(crate) fn invoke<O: Sink>(
-    program: &Module,
+    program: Program,
     store: &mut Store,
     stack: &mut Stack,
     out: &mut O,
 ) -> Result<Did, Stop>
-    requires invoke { Invokes program.now store.old stack.old }
-    ensures step { Printed result (O.held out.old) (O.held out.new) program.now store.old stack.old store.new stack.new }
+    requires known { IsKnown program.source.now program.checked.now program.classes.now program.functions.now }
+    requires invoke { Invokes program.source.now store.old stack.old }
+    ensures step { Printed result (O.held out.old) (O.held out.new) program.entry.source.now store.old stack.old store.new stack.new }
     ensures cause { result ≡ Err Stop.WriteFault → Rose (O.faults out.old) (O.faults out.new) }
     ensures later { O.faults out.old ≤ O.faults out.new }
 {
     match store.function(stack.func()) {
-        FuncEntry::Own(function) => match invoke_own(program, store, stack, function) {
+        FuncEntry::Own(function) => match invoke_own(program.checked, store, stack, function) {
             Ok(()) => Ok(Did::Went),
             Err(_) => Err(Stop::OutOfMemory),
         },
-        FuncEntry::Printer(printer) => match invoke_printer(program, store, stack, out, printer) {
+        FuncEntry::Printer(printer) => match invoke_printer(
+            program.source,
+            store,
+            stack,
+            out,
+            printer,
+        ) {
             Ok(()) => Ok(Did::Went),
             Err(fault) => Err(Stop::of_fault(fault)),
         },

@@ -16,6 +16,7 @@ use crate::progress::Progress;
 use std::alloc::AllocError;
 use w_call_ops::call_own;
 use w_control_ops::br_table;
+use w_rules::Checked;
 use w_segment::Stack;
 use w_stands::Did;
 use w_syntax::{ControlOp, Instr, Module, Op, ShortControlOp};
@@ -36,7 +37,14 @@ pub(crate) fn told(outcome: Result<Did, AllocError>) -> Progress
 // A call of a function of the module.
 #[inline(always)]
 #[tactic(auto, using(crate::proofs::Prints::call_calls))]
-fn call(program: &Module, store: &mut Store, stack: &mut Stack, address: u32) -> Progress
+fn call(
+    program: &Module,
+    checked: &Checked,
+    store: &mut Store,
+    stack: &mut Stack,
+    address: u32,
+) -> Progress
+    requires same { checked.now ≡ program.now }
     requires moves { MovesAt (flat.Plain (op.Control (control_of (short.Call address)))) program.now store.old stack.old }
     ensures step { Attempted result program.now store.old stack.old store.new stack.new }
     ensures made { was_made result ≡ is_own (slice_get store.old.functions address) }
@@ -44,7 +52,7 @@ fn call(program: &Module, store: &mut Store, stack: &mut Stack, address: u32) ->
 {
     match store.function(address) {
         FuncEntry::Own(function) => {
-            match call_own(program, store, stack, address, function, 0) {
+            match call_own(checked, store, stack, address, function, 0) {
                 Ok(()) => Progress::Entered,
                 Err(_) => Progress::OutOfMemory,
             }
@@ -58,17 +66,19 @@ fn call(program: &Module, store: &mut Store, stack: &mut Stack, address: u32) ->
 #[tactic(auto, using(crate::proofs::Steps::alone, crate::proofs::Attempting::nothing_attempted))]
 pub(crate) fn control(
     program: &Module,
+    checked: &Checked,
     store: &mut Store,
     stack: &mut Stack,
     operation: ShortControlOp,
 ) -> Progress
+    requires same { checked.now ≡ program.now }
     requires moves { MovesAt (flat.Plain (op.Control (control_of operation))) program.now store.old stack.old }
     ensures step { Attempted result program.now store.old stack.old store.new stack.new }
     ensures made { was_made result ≡ is_attempted store.old.functions (packed.Control operation) }
     ensures went { result ≡ progress.Went → is_call operation ≡ false }
 {
     match operation {
-        ShortControlOp::Call(function) => call(program, store, stack, function),
+        ShortControlOp::Call(function) => call(program, checked, store, stack, function),
         ShortControlOp::CallIndirect(_, _) => Progress::Rare,
         ShortControlOp::CallRef(_) => Progress::Rare,
         _ => told(Ok(branching(program, stack, operation))),

@@ -52,7 +52,7 @@ pub(crate) fn control<O: Sink>(
     out: &mut O,
     operation: ShortControlOp,
 ) -> Result<Did, Stop>
-    requires known { IsKnown program.source.now program.classes.now program.functions.now }
+    requires known { IsKnown program.source.now program.checked.now program.classes.now program.functions.now }
     requires moves { MovesAt (flat.Plain (op.Control (control_of operation))) program.source.now store.old stack.old }
     ensures step { Printed result (O.held out.old) (O.held out.new) program.entry.source.now store.old stack.old store.new stack.new }
     ensures cause { result ≡ Err Stop.WriteFault → Rose (O.faults out.old) (O.faults out.new) }
@@ -60,7 +60,7 @@ pub(crate) fn control<O: Sink>(
 {
     let source = program.source;
     match operation {
-        ShortControlOp::Call(function) => call(source, store, stack, out, function, 0),
+        ShortControlOp::Call(function) => call(program, store, stack, out, function, 0),
         ShortControlOp::CallIndirect(kind, table) => {
             match callee_by_table(
                 source,
@@ -71,12 +71,12 @@ pub(crate) fn control<O: Sink>(
                 kind,
                 table,
             ) {
-                Ok(address) => call(source, store, stack, out, address, 1),
+                Ok(address) => call(program, store, stack, out, address, 1),
                 Err(trap) => Ok(Did::Trapped(trap)),
             }
         }
         ShortControlOp::CallRef(kind) => match callee_by_reference(source, store, stack, kind) {
-            Ok(address) => call(source, store, stack, out, address, 1),
+            Ok(address) => call(program, store, stack, out, address, 1),
             Err(trap) => Ok(Did::Trapped(trap)),
         },
         _ => Ok(branching(source, stack, operation)),

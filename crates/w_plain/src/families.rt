@@ -22,9 +22,9 @@ pub(crate) fn number(
     store: &mut Store,
     stack: &mut Stack,
     operation: NumericOp,
-) -> Result<Did, AllocError>
+) -> Did
     requires moves { MovesAt (flat.Plain (op.Numeric operation)) program.now store.old stack.old }
-    ensures step { Stepped result program.now store.old stack.old store.new stack.new }
+    ensures step { Takes result program.now [] store.old stack.old store.new stack.new }
 {
     let _store = store;
     numeric(program, stack, operation)
@@ -32,6 +32,7 @@ pub(crate) fn number(
 
 /// A memory instruction.
 #[inline(always)]
+#[tactic(auto, using(crate::proofs::Steps::may_take))]
 pub(crate) fn in_memory(
     program: &Module,
     store: &mut Store,
@@ -47,6 +48,7 @@ pub(crate) fn in_memory(
 
 /// A table instruction.
 #[inline(never)]
+#[tactic(auto, using(crate::proofs::Steps::may_take, crate::proofs::Steps::same_count))]
 pub(crate) fn in_table(
     program: &Module,
     store: &mut Store,

@@ -42,7 +42,7 @@ fn control_op<O: Sink>(
     out: &mut O,
     operation: &ControlOp,
 ) -> Result<Did, Stop>
-    requires known { IsKnown program.source.now program.classes.now program.functions.now }
+    requires known { IsKnown program.source.now program.checked.now program.classes.now program.functions.now }
     requires moves { MovesAt (flat.Plain (op.Control operation.now)) program.source.now store.old stack.old }
     ensures step { Printed result (O.held out.old) (O.held out.new) program.entry.source.now store.old stack.old store.new stack.new }
     ensures cause { result ≡ Err Stop.WriteFault → Rose (O.faults out.old) (O.faults out.new) }
@@ -77,7 +77,7 @@ fn standing<O: Sink>(
     out: &mut O,
     instr: &Instr,
 ) -> Result<Did, Stop>
-    requires known { IsKnown program.source.now program.classes.now program.functions.now }
+    requires known { IsKnown program.source.now program.checked.now program.classes.now program.functions.now }
     requires moves { MovesAt instr.now program.source.now store.old stack.old }
     requires plain { switches_at (Some instr.now) ≡ false }
     requires one { length store.old.memories ≤ 1 }
@@ -101,7 +101,7 @@ fn boxed<O: Sink>(
     out: &mut O,
     operation: &Instr,
 ) -> Result<Did, Stop>
-    requires known { IsKnown program.source.now program.classes.now program.functions.now }
+    requires known { IsKnown program.source.now program.checked.now program.classes.now program.functions.now }
     requires moves { MovesAt operation.now program.source.now store.old stack.old }
     requires plain { switches_at (Some operation.now) ≡ false }
     requires one { length store.old.memories ≤ 1 }
@@ -126,7 +126,7 @@ pub(crate) fn instruction<O: Sink>(
     out: &mut O,
     packed: &PackedInstr,
 ) -> Result<Did, Stop>
-    requires known { IsKnown program.source.now program.classes.now program.functions.now }
+    requires known { IsKnown program.source.now program.checked.now program.classes.now program.functions.now }
     requires moves { MovesAt (unpacked packed.now) program.source.now store.old stack.old }
     requires plain { switches_at (Some (unpacked packed.now)) ≡ false }
     requires one { length store.old.memories ≤ 1 }

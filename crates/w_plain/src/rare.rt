@@ -30,7 +30,7 @@ pub(crate) fn rare(
     match packed {
         PackedInstr::Table(operation) => in_table(program, store, stack, *operation),
         PackedInstr::Memory(operation) => in_memory(program, store, stack, operation.whole()),
-        PackedInstr::Reference(operation) => reference(program, store, stack, *operation),
+        PackedInstr::Reference(operation) => Ok(reference(program, store, stack, *operation)),
         _ => unreachable!(),
     }
 }

@@ -31,7 +31,7 @@ fn in_body<O: Sink>(
     out: &mut O,
     found: Option<&PackedInstr>,
 ) -> Result<Did, Stop>
-    requires known { IsKnown program.source.now program.classes.now program.functions.now }
+    requires known { IsKnown program.source.now program.checked.now program.classes.now program.functions.now }
     requires applies { Applies program.source.now store.old stack.old }
     requires body { stack.old.stage ≡ Body }
     requires found { option_map (λ p. unpacked p.now) found ≡ instr_of program.source.now stack.old.func stack.old.place }
@@ -60,7 +60,7 @@ pub fn plain<O: Sink>(
     out: &mut O,
     found: Option<&PackedInstr>,
 ) -> Result<Did, Stop>
-    requires known { IsKnown program.source.now program.classes.now program.functions.now }
+    requires known { IsKnown program.source.now program.checked.now program.classes.now program.functions.now }
     requires applies { Applies program.source.now store.old stack.old }
     requires inside { stack.old.stage ≢ Values }
     requires found { stack.old.stage ≡ Body → option_map (λ p. unpacked p.now) found ≡ instr_of program.source.now stack.old.func stack.old.place }
@@ -72,7 +72,7 @@ pub fn plain<O: Sink>(
 {
     match stack.stage() {
         Stage::Body => in_body(program, store, stack, out, found),
-        Stage::Fresh => invoke(program.source, store, stack, out),
+        Stage::Fresh => invoke(program, store, stack, out),
         Stage::Branch(label) => {
             branch_left(program.source, stack, label);
             Ok(Did::Went)

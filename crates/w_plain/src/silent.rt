@@ -1,10 +1,10 @@
 //! Instructions that print nothing, where they stand in a box or weren't attempted.
-ghost use Rattle.std.specs.Prelude.{◌≡◌, ◌≤◌, true, length};
+ghost use Rattle.std.specs.Prelude.{◌≡◌, ◌≤◌, true, [], length};
 ghost use Rattle.w_syntax.specs.Packed.{unpacked};
 ghost use Rattle.w_syntax.specs.declared.instructions.Instr.TheVariants as flat;
 ghost use Rattle.w_stands.specs.Steps.{MovesAt};
 ghost use Rattle.w_plain.specs.Commonness.{is_silent};
-ghost use Rattle.w_plain.specs.Stepped.{Stepped};
+ghost use Rattle.w_plain.specs.Stepped.{Stepped, Takes};
 
 use crate::blocks::{enter_block, enter_choice};
 use crate::exits::{leave_else, leave_end};
@@ -30,16 +30,16 @@ fn silent_op(
 {
     match operation {
         Op::Parametric(operation) => Ok(parametric(program, store, stack, operation)),
-        Op::Variable(operation) => variable(program, store, stack, *operation),
+        Op::Variable(operation) => Ok(variable(program, store, stack, *operation)),
         Op::Table(operation) => in_table(program, store, stack, *operation),
         Op::Memory(operation) => in_memory(program, store, stack, *operation),
-        Op::Numeric(operation) => number(program, store, stack, *operation),
-        Op::Reference(operation) => reference(program, store, stack, *operation),
+        Op::Numeric(operation) => Ok(number(program, store, stack, *operation)),
+        Op::Reference(operation) => Ok(reference(program, store, stack, *operation)),
         _ => unreachable!(),
     }
 }
 
-// An if, by the places of its else, where it has one, and of its end. It fails where a place is no number of 32 bits, as when out of memory.
+// An if, by the places of its else, where it has one, and of its end, which are numbers of 32 bits.
 fn silent_if(
     program: &Module,
     store: &mut Store,
@@ -47,25 +47,21 @@ fn silent_if(
     block_type: BlockType,
     otherwise: Option<usize>,
     end: usize,
-) -> Result<Did, AllocError>
+) -> Did
     requires moves { MovesAt (flat.If block_type otherwise end) program.now store.old stack.old }
-    ensures step { Stepped result program.now store.old stack.old store.new stack.new }
+    ensures step { Takes result program.now [] store.old stack.old store.new stack.new }
 {
-    let Ok(end) = u32::try_from(end) else {
-        return Err(AllocError);
-    };
+    let end = end as u32;
     match otherwise {
         None => enter_choice(program, store, stack, block_type, None, end),
-        Some(otherwise) => match u32::try_from(otherwise) {
-            Ok(otherwise) => {
-                enter_choice(program, store, stack, block_type, Some(otherwise), end)
-            }
-            Err(_) => Err(AllocError),
-        },
+        Some(otherwise) => {
+            let otherwise = Some(otherwise as u32);
+            enter_choice(program, store, stack, block_type, otherwise, end)
+        }
     }
 }
 
-/// One reduction at such an instruction. It fails only when out of memory, and then all is as it was but for room.
+/// One reduction at such an instruction. It fails only where a memory or a table grows, when out of memory, and then all is as it was.
 #[tactic(auto, using(crate::proofs::Ends::end_meets))]
 pub(crate) fn silent(
     program: &Module,
@@ -80,13 +76,18 @@ pub(crate) fn silent(
 {
     match instr {
         Instr::Plain(operation) => silent_op(program, store, stack, operation),
-        Instr::Block(kind, block_type, end) => match u32::try_from(*end) {
-            Ok(end) => enter_block(program, store, stack, *kind, *block_type, end),
-            Err(_) => Err(AllocError),
-        },
-        Instr::If(block_type, otherwise, end) => {
-            silent_if(program, store, stack, *block_type, *otherwise, *end)
+        Instr::Block(kind, block_type, end) => {
+            let end = *end as u32;
+            Ok(enter_block(program, store, stack, *kind, *block_type, end))
         }
+        Instr::If(block_type, otherwise, end) => Ok(silent_if(
+            program,
+            store,
+            stack,
+            *block_type,
+            *otherwise,
+            *end,
+        )),
         Instr::Else => Ok(leave_else(program, store, stack)),
         Instr::End => Ok(leave_end(program, store, stack)),
     }

@@ -1,10 +1,10 @@
 //! Instructions on locals, globals and references.
+ghost use Rattle.std.specs.Prelude.{[]};
 ghost use Rattle.w_syntax.specs.declared.instructions.Instr.TheVariants as flat;
 ghost use Rattle.w_syntax.specs.declared.instructions.Op.TheVariants as op;
 ghost use Rattle.w_stands.specs.Steps.{MovesAt};
-ghost use Rattle.w_plain.specs.Stepped.{Stepped};
+ghost use Rattle.w_plain.specs.Stepped.{Takes};
 
-use std::alloc::AllocError;
 use w_segment::Stack;
 use w_stands::Did;
 use w_syntax::{Module, ReferenceOp, VariableOp};
@@ -22,30 +22,30 @@ pub(crate) fn variable(
     store: &mut Store,
     stack: &mut Stack,
     operation: VariableOp,
-) -> Result<Did, AllocError>
+) -> Did
     requires moves { MovesAt (flat.Plain (op.Variable operation)) program.now store.old stack.old }
-    ensures step { Stepped result program.now store.old stack.old store.new stack.new }
+    ensures step { Takes result program.now [] store.old stack.old store.new stack.new }
 {
     match operation {
         VariableOp::LocalGet(index) => {
-            local_get(program, stack, index)?;
-            Ok(Did::Went)
+            local_get(program, stack, index);
+            Did::Went
         }
         VariableOp::LocalSet(index) => {
             local_set(program, stack, index);
-            Ok(Did::Went)
+            Did::Went
         }
         VariableOp::LocalTee(index) => {
             local_tee(program, stack, index);
-            Ok(Did::Went)
+            Did::Went
         }
         VariableOp::GlobalGet(index) => {
-            global_get(program, store, stack, index)?;
-            Ok(Did::Went)
+            global_get(program, store, stack, index);
+            Did::Went
         }
         VariableOp::GlobalSet(index) => {
             global_set(program, store, stack, index);
-            Ok(Did::Went)
+            Did::Went
         }
     }
 }
@@ -58,23 +58,23 @@ pub(crate) fn reference(
     store: &mut Store,
     stack: &mut Stack,
     operation: ReferenceOp,
-) -> Result<Did, AllocError>
+) -> Did
     requires moves { MovesAt (flat.Plain (op.Reference operation)) program.now store.old stack.old }
-    ensures step { Stepped result program.now store.old stack.old store.new stack.new }
+    ensures step { Takes result program.now [] store.old stack.old store.new stack.new }
 {
     match operation {
         ReferenceOp::Null(heap) => {
-            ref_null(program, stack, heap)?;
-            Ok(Did::Went)
+            ref_null(program, stack, heap);
+            Did::Went
         }
         ReferenceOp::IsNull => {
             ref_is_null(program, stack);
-            Ok(Did::Went)
+            Did::Went
         }
         ReferenceOp::Func(function) => {
-            ref_func(program, store, stack, function)?;
-            Ok(Did::Went)
+            ref_func(program, store, stack, function);
+            Did::Went
         }
-        ReferenceOp::AsNonNull => Ok(ref_as_non_null(program, stack)),
+        ReferenceOp::AsNonNull => ref_as_non_null(program, stack),
     }
 }

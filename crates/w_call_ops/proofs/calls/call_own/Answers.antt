@@ -1,3 +1,4 @@
+use Rattle.w_call_ops.proofs.FrameRoom.{both_ok}
 use Rattle.std.proofs.Common.{ℕ, ◌+◌, drop, subst, arith}
 use Rattle.std.proofs.lemmas.Result.{on_ok_weaker}
 use Rattle.w_call_ops.specs.Entering.{IsEntered}
@@ -17,5 +18,5 @@ returns-clause-goes c =
     let s = c.args.stack.now in
     on_ok_weaker c.enter.result
     (λ h. call_follows c.args.program.now c.args.store.now s c.args.address c.args.taken c.args.function c.requires.call c.requires.own c.enter.new.stack
-    (subst (λ (b : ℕ). IsEntered c.args.program.now c.args.function (b + 1) (drop c.args.taken s.operands) s c.enter.new.stack) c.place-back.ensures.value h))
-    c.enter.ensures.after
+    (subst (λ (b : ℕ). IsEntered c.args.program.now c.args.function (b + 1) (drop c.args.taken s.operands) s c.enter.new.stack) c.place-back.ensures.value h.0) h.1)
+    (both_ok _ _ c.enter.result c.enter.ensures.after c.enter.ensures.room)

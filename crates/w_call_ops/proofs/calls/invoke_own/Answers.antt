@@ -1,3 +1,4 @@
+use Rattle.w_call_ops.proofs.FrameRoom.{both_ok}
 use Rattle.std.proofs.lemmas.Result.{on_ok_weaker}
 use Rattle.w_call_ops.proofs.Invoking.{invoke_there, invoke_follows}
 use Rattle.w_call_ops.proofs.calls.invoke_own.Goals as goal
@@ -8,5 +9,5 @@ enter-requires-clause-there c = invoke_there c.args.program.now c.args.store.now
 pub returns-clause-goes : goal.returns-clause-goes
 returns-clause-goes c =
     on_ok_weaker c.enter.result
-    (λ h. invoke_follows c.args.program.now c.args.store.now c.args.stack.now c.args.function c.requires.invoke c.requires.own c.enter.new.stack h)
-    c.enter.ensures.after
+    (λ h. invoke_follows c.args.program.now c.args.store.now c.args.stack.now c.args.function c.requires.invoke c.requires.own c.enter.new.stack h.0 h.1)
+    (both_ok _ _ c.enter.result c.enter.ensures.after c.enter.ensures.room)

@@ -5,7 +5,7 @@ use Rattle.w_plain.proofs.attempts.at_instruction.Goals as goal
 
 pub returns-in-Variable : goal.returns-in-Variable
 returns-in-Variable c = record {
-  attempt = common_attempt c.args.packed.now c.variable.result c.told.result c.told.ensures (ap is_common c.in-Variable.is) c.variable.ensures.step;
+  attempt = common_attempt c.args.packed.now (Ok c.variable.result) c.told.result c.told.ensures (ap is_common c.in-Variable.is) c.variable.ensures.step;
 }
 
 pub returns-in-Drop : goal.returns-in-Drop
@@ -30,52 +30,52 @@ returns-in-Store c = record {
 
 pub returns-in-I32Const : goal.returns-in-I32Const
 returns-in-I32Const c = record {
-  attempt = common_attempt c.args.packed.now c.number.result c.told-in-I32Const.result c.told-in-I32Const.ensures (ap is_common c.in-I32Const.is) c.number.ensures.step;
+  attempt = common_attempt c.args.packed.now (Ok c.number.result) c.told-in-I32Const.result c.told-in-I32Const.ensures (ap is_common c.in-I32Const.is) c.number.ensures.step;
 }
 
 pub returns-in-I64Const : goal.returns-in-I64Const
 returns-in-I64Const c = record {
-  attempt = common_attempt c.args.packed.now c.number-in-I64Const.result c.told-in-I64Const.result c.told-in-I64Const.ensures (ap is_common c.in-I64Const.is) c.number-in-I64Const.ensures.step;
+  attempt = common_attempt c.args.packed.now (Ok c.number-in-I64Const.result) c.told-in-I64Const.result c.told-in-I64Const.ensures (ap is_common c.in-I64Const.is) c.number-in-I64Const.ensures.step;
 }
 
 pub returns-in-Eqz : goal.returns-in-Eqz
 returns-in-Eqz c = record {
-  attempt = common_attempt c.args.packed.now c.number-in-Eqz.result c.told-in-Eqz.result c.told-in-Eqz.ensures (ap is_common c.in-Eqz.is) c.number-in-Eqz.ensures.step;
+  attempt = common_attempt c.args.packed.now (Ok c.number-in-Eqz.result) c.told-in-Eqz.result c.told-in-Eqz.ensures (ap is_common c.in-Eqz.is) c.number-in-Eqz.ensures.step;
 }
 
 pub returns-in-Compare : goal.returns-in-Compare
 returns-in-Compare c = record {
-  attempt = common_attempt c.args.packed.now c.number-in-Compare.result c.told-in-Compare.result c.told-in-Compare.ensures (ap is_common c.in-Compare.is) c.number-in-Compare.ensures.step;
+  attempt = common_attempt c.args.packed.now (Ok c.number-in-Compare.result) c.told-in-Compare.result c.told-in-Compare.ensures (ap is_common c.in-Compare.is) c.number-in-Compare.ensures.step;
 }
 
 pub returns-in-Unary : goal.returns-in-Unary
 returns-in-Unary c = record {
-  attempt = common_attempt c.args.packed.now c.number-in-Unary.result c.told-in-Unary.result c.told-in-Unary.ensures (ap is_common c.in-Unary.is) c.number-in-Unary.ensures.step;
+  attempt = common_attempt c.args.packed.now (Ok c.number-in-Unary.result) c.told-in-Unary.result c.told-in-Unary.ensures (ap is_common c.in-Unary.is) c.number-in-Unary.ensures.step;
 }
 
 pub returns-in-Binary : goal.returns-in-Binary
 returns-in-Binary c = record {
-  attempt = common_attempt c.args.packed.now c.number-in-Binary.result c.told-in-Binary.result c.told-in-Binary.ensures (ap is_common c.in-Binary.is) c.number-in-Binary.ensures.step;
+  attempt = common_attempt c.args.packed.now (Ok c.number-in-Binary.result) c.told-in-Binary.result c.told-in-Binary.ensures (ap is_common c.in-Binary.is) c.number-in-Binary.ensures.step;
 }
 
 pub returns-in-Convert : goal.returns-in-Convert
 returns-in-Convert c = record {
-  attempt = common_attempt c.args.packed.now c.number-in-Convert.result c.told-in-Convert.result c.told-in-Convert.ensures (ap is_common c.in-Convert.is) c.number-in-Convert.ensures.step;
+  attempt = common_attempt c.args.packed.now (Ok c.number-in-Convert.result) c.told-in-Convert.result c.told-in-Convert.ensures (ap is_common c.in-Convert.is) c.number-in-Convert.ensures.step;
 }
 
 pub returns-in-Block : goal.returns-in-Block
 returns-in-Block c = record {
-  attempt = common_attempt c.args.packed.now c.enter_block.result c.told-in-Block.result c.told-in-Block.ensures (ap is_common c.in-Block.is) c.enter_block.ensures.step;
+  attempt = common_attempt c.args.packed.now (Ok c.enter_block.result) c.told-in-Block.result c.told-in-Block.ensures (ap is_common c.in-Block.is) c.enter_block.ensures.step;
 }
 
 pub returns-in-If : goal.returns-in-If
 returns-in-If c = record {
-  attempt = common_attempt c.args.packed.now c.enter_choice.result c.told-in-If.result c.told-in-If.ensures (ap is_common c.in-If.is) c.enter_choice.ensures.step;
+  attempt = common_attempt c.args.packed.now (Ok c.enter_choice.result) c.told-in-If.result c.told-in-If.ensures (ap is_common c.in-If.is) c.enter_choice.ensures.step;
 }
 
 pub returns-in-IfElse : goal.returns-in-IfElse
 returns-in-IfElse c = record {
-  attempt = common_attempt c.args.packed.now c.enter_choice-in-IfElse.result c.told-in-IfElse.result c.told-in-IfElse.ensures (ap is_common c.in-IfElse.is) c.enter_choice-in-IfElse.ensures.step;
+  attempt = common_attempt c.args.packed.now (Ok c.enter_choice-in-IfElse.result) c.told-in-IfElse.result c.told-in-IfElse.ensures (ap is_common c.in-IfElse.is) c.enter_choice-in-IfElse.ensures.step;
 }
 
 pub returns-in-Else : goal.returns-in-Else
