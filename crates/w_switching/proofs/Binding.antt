@@ -106,8 +106,9 @@ module _ (m : Module) (chain : List Link) (conts : Conts Stored) (x y : ℕ) (r 
             source = a.stand.source;
             program = a.stand.program;
             short = a.stand.short;
+            narrow = a.stand.narrow;
             term = subst (λ (z : List Link). Chained m [] behind z t.around (stack (drop n vs) ▹ Cont (next_cont s)) (rest_of c)) (sym bound.chain_after)
-                (inside_top s' (λ o q. next_top k s' (record { levels = refl; func = refl; place = refl; stage = k.stage }))
+                (inside_top s' (λ o q. next_top k s' (record { levels = refl; func = refl; place = refl; stage = k.stage; capacity = refl }))
                 (ap (λ (i : ℕ). stack (drop n vs) ▹ Cont i) long ∙ ap (λ (l : List Value). stack (drop n l) ▹ Cont (length conts1.entries)) (sym one)) (at_term a));
             store = subst (λ (z : Conts Stored). AllKept m z.entries (slice_set s.conts r.serial None ++ Some k1 ∷ [])) (sym bound.conts_after)
                 (kept_more (Some (bound.place, bound.b)) (Some k1) (subst (λ (z : Conts Stored). AllKept m z.entries (slice_set s.conts r.serial None)) (sym taken) (kept_set r.serial a.stand.store))

@@ -24,7 +24,7 @@ use Rattle.w_switching.proofs.Joining.{chained_some}
 abbrev pub IsOpen : Context → Type 0
 IsOpen [] = ⊤
 IsOpen (InLabel below n again rest ∷ e) = IsOpen e
-IsOpen (InFrame below n locals rest ∷ e) = IsOpen e
+IsOpen (InFrame below n f locals rest ∷ e) = IsOpen e
 IsOpen (Handle below hs rest ∷ e) = ⊥
 
 record OwnAround (m : Module) (outer : Context) (behind : Rest) (f q : ℕ) (ls : List Level) (e : Context) : Type 0 where
@@ -43,16 +43,16 @@ own_around (label {n = n} {below = below} {again = again} {rest = rest} b k g w)
       opens = r.opens;
       at = λ o. label b k g (r.at o);
     }
-own_around (frame {n = n} {below = below} {locals = locals} {rest = rest} z k w) =
+own_around {f = f} (frame {n = n} {below = below} {locals = locals} {rest = rest} z k w) =
     let r = own_around w in
     record {
-      own = InFrame (stack below) n (local_vals locals) (rest_of rest) ∷ r.own;
-      is = ap (λ (x : Context). InFrame (stack below) n (local_vals locals) (rest_of rest) ∷ x) r.is;
+      own = InFrame (stack below) n f (local_vals locals) (rest_of rest) ∷ r.own;
+      is = ap (λ (x : Context). InFrame (stack below) n f (local_vals locals) (rest_of rest) ∷ x) r.is;
       opens = r.opens;
       at = λ o. frame z k (r.at o);
     }
-own_around {behind = behind} (outermost {n = n} {below = below} {locals = locals} z) =
-    record { own = InFrame (stack below) n (local_vals locals) behind ∷ []; is = refl; opens = tt; at = λ o. outermost z }
+own_around {behind = behind} {f = f} (outermost {n = n} {below = below} {locals = locals} z) =
+    record { own = InFrame (stack below) n f (local_vals locals) behind ∷ []; is = refl; opens = tt; at = λ o. outermost z }
 
 record Own (m : Module) (outer : Context) (behind : Rest) (s : Shape) (e : Context) (r : Rest) : Type 0 where
   own : Context
@@ -91,8 +91,8 @@ module _ {A : Type 0} where
   past c [] o h = sym (none_before (find c o))
   past c (InLabel below n again rest ∷ e) o h =
       ap (option_map (one_more (InLabel below n again rest))) (past c e o h) ∙ more_before (InLabel below n again rest) e (find c o)
-  past c (InFrame below n locals rest ∷ e) o h =
-      ap (option_map (one_more (InFrame below n locals rest))) (past c e o h) ∙ more_before (InFrame below n locals rest) e (find c o)
+  past c (InFrame below n f locals rest ∷ e) o h =
+      ap (option_map (one_more (InFrame below n f locals rest))) (past c e o h) ∙ more_before (InFrame below n f locals rest) e (find c o)
   past c (Handle below hs rest ∷ e) o h = absurd h
 
   -- where the innermost handle around a segment has an answer, that is found

@@ -1,5 +1,5 @@
 -- Switching.
-use Rattle.std.proofs.Common.{◌≡◌, ℕ, suc, ◌+◌, ◌-◌, ◌<◌, ◌≤◌, Bool, true, false, List, [], ◌∷◌, ◌++◌, Option, Some, None, slice_get, length, refl, sym, ap, ◌∙◌, subst, arith, add-one, drop, take, reverse, length-append, get_or}
+use Rattle.std.proofs.Common.{◌≡◌, ℕ, suc, ◌+◌, ◌-◌, ◌<◌, ◌≤◌, Bool, true, false, List, [], ◌∷◌, ◌++◌, Option, Some, None, length, refl, sym, ap, ◌∙◌, subst, arith, add-one, drop, take, reverse, length-append, get_or}
 use Rattle.std.proofs.lemmas.List.{reverse-reverse, length-set}
 use Rattle.std.specs.Prelude.{All, slice_set, if◌then◌else◌}
 use Rattle.w_types.specs.Rows.{Row, ◌▹◌, ◌⧺◌, row_of}
@@ -10,13 +10,12 @@ use Rattle.w_types.specs.declared.value.ContRef.{ContRef}
 use Rattle.w_syntax.specs.Code.{Code, Plain, Done}
 use Rattle.w_syntax.specs.declared.instructions.Clause.{Clause}
 use Rattle.w_syntax.specs.declared.instructions.Op.TheVariants as op
-use Rattle.w_syntax.specs.declared.instructions.SwitchingOp.{SwitchingOp}
 use Rattle.w_syntax.specs.declared.instructions.SwitchingOp.TheVariants as switching
 use Rattle.w_syntax.specs.declared.module.Module.{Module}
 use Rattle.w_rules.specs.Context.{cont_of}
 use Rattle.w_rules.specs.Spaces.{context_of}
 use Rattle.w_segment.specs.declared.entry.Stage.TheVariants.{Body}
-use Rattle.w_segment.specs.Shape.{Shape, SameParts}
+use Rattle.w_segment.specs.Shape.{Shape, below_all, height}
 use Rattle.w_segment.specs.Changes.{pushed, pushed_all, discarded, moved}
 use Rattle.w_segment.specs.Link.{Link, top, rest, with_top}
 use Rattle.w_segment.proofs.Holding.{all_take, all_drop, all_reverse, pushed_holds, pushed_all_holds, discarded_holds, moved_holds}
@@ -29,12 +28,13 @@ use Rattle.w_reduce.specs.Store.{Store, with_cont, without_cont, next_cont}
 use Rattle.w_reduce.specs.Program.{Program}
 use Rattle.w_reduce.specs.Reduced.{Reduced, Went, or_stuck, take_values, unless_consumed}
 use Rattle.w_reduce.specs.Handlers.{Handler, has_switch, switch_clause, find}
+use Rattle.w_reduce.specs.Room.{Holding}
 use Rattle.w_reduce.specs.Switching.{switching_op, captured, or_unhandled, back_type}
 use Rattle.w_reduce.specs.declared.trap.Trap.TheVariants as trap
 use Rattle.w_stands.specs.declared.did.Did.TheVariants as did
 use Rattle.w_stands.specs.Values.{stack}
-use Rattle.w_stands.specs.Code.{instr_of}
 use Rattle.w_stands.specs.Stands.{In}
+use Rattle.w_stands.proofs.Fitting.{stack_size}
 use Rattle.w_stands.proofs.LookedUp.{goes_on}
 use Rattle.w_stands.proofs.TakingMany.{stack_take, stack_enough}
 use Rattle.w_switching.specs.declared.stored.Stored.{Stored}
@@ -42,16 +42,17 @@ use Rattle.w_switching.specs.BackTypes.{back_of}
 use Rattle.w_switching.specs.Moved.{Exchanged, next_ref}
 use Rattle.w_switching.specs.Standing.{Chained, kept, AllKept}
 use Rattle.w_switching.specs.Reductions.{StandsAt, SwitchesAt, Switches}
-use Rattle.w_switching.specs.Sound.{LinksHold, Waits, HasRoomFor, is_of, IsGood, Sound, SoundWith, most_segments}
-use Rattle.w_switching.proofs.Joining.{joined, in_same, inside_top, kept_set, kept_more, kept_long}
-use Rattle.w_switching.proofs.Facing.{head, on_stack, at_term, next_top, some_chain}
+use Rattle.w_switching.specs.Sound.{LinksHold, Waits, HasRoomFor, is_of, IsGood, Sound, SoundWith, Roomy, most_segments}
+use Rattle.w_switching.proofs.Joining.{joined, inside_top, kept_set, kept_more, kept_long}
+use Rattle.w_switching.proofs.Facing.{on_stack, at_term, next_top, some_chain}
 use Rattle.w_switching.proofs.Consuming.{kept_there}
 use Rattle.w_switching.proofs.Cutting.{Cuts, cuts, no_layer, layer_below}
 use Rattle.w_switching.proofs.LastTypes.{looks_up}
-use Rattle.w_switching.proofs.Parting.{top_taken, some_taken, both_long, ready_top, low_discarded}
+use Rattle.w_switching.proofs.Parting.{top_taken, some_taken, both_long, ready_top}
 use Rattle.w_switching.proofs.Putting.{take_sound, put_sound, top_sound}
 use Rattle.w_switching.proofs.Resuming.{given}
-use Rattle.w_switching.proofs.Sounding.{top_top, More, more_of, links_more, hold_append, hold_take, hold_drop, hold_with, hold_top, each_at, is_of_it, long_top, room_with, waits_some}
+use Rattle.w_switching.proofs.Rooms.{links_take, room_at, get_end}
+use Rattle.w_switching.proofs.Sounding.{More, more_of, links_more, hold_append, hold_take, hold_drop, hold_with, hold_top, each_at, is_of_it, long_top, room_with, waits_some}
 
 -- ## Clauses
 
@@ -78,55 +79,6 @@ joined_all {ys = y ∷ ys} k h b d = joined k h b d
 with_append : (s : Shape) (xs ys : List Link) → 0 < length xs → with_top s (xs ++ ys) ≡ with_top s xs ++ ys
 with_append s [] ys h = absurd (omega arith)
 with_append s (x ∷ xs) ys h = refl
-
--- ## With other room
-
--- those around the innermost one stay
-rest_top : (s' : Shape) (xs : List Link) → rest (with_top s' xs) ≡ rest xs
-rest_top s' [] = refl
-rest_top s' (x ∷ xs) = refl
-
-module _ (o : SwitchingOp) (m : Module) (chain : List Link) (conts : Conts Stored) (s' : Shape) (same : SameParts (top chain).shape s') where
-  -- the chain stands where it stood
-  pub at_same : {behind : Rest} {p : Program} {s : Store} {t : Term} {c : Code} → StandsAt o m behind chain conts p s t c → StandsAt o m behind (with_top s' chain) conts p s t c
-  at_same a = record {
-    stand = record {
-      source = a.stand.source;
-      program = a.stand.program;
-      short = a.stand.short;
-      term = inside_top s' (λ q b i. in_same (record { levels = same.levels; func = same.func; place = same.place; stage = same.stage }) i)
-          ((head a.stand.term).operands ∙ ap stack (sym same.operands)) a.stand.term;
-      store = a.stand.store;
-    };
-    comes = a.comes;
-    applies = a.applies;
-  }
-
-  -- so it stands at the instruction
-  pub switches_same : SwitchesAt o m chain conts → SwitchesAt o m (with_top s' chain) conts
-  switches_same k =
-      let t = top_top s' chain (some_chain k) in
-      record {
-        here = ap (λ (z : Shape). instr_of m z.func z.place) t ∙ ap (λ (f : ℕ). instr_of m f s'.place) same.func ∙ ap (λ (i : ℕ). instr_of m (top chain).shape.func i) same.place ∙ k.here;
-        stage = ap (λ (z : Shape). z.stage) t ∙ same.stage ∙ k.stage;
-        behind = k.behind;
-        p = k.p;
-        s = k.s;
-        t = k.t;
-        c = k.c;
-        at = at_same k.at;
-      }
-
-  -- and the innermost layer with a switch clause is the same
-  pub first_same : (e n : ℕ) → IsFirstSwitch m e n chain → IsFirstSwitch m e n (with_top s' chain)
-  first_same e n f =
-      let r = rest_top s' chain in
-      record {
-        waiting = f.waiting;
-        stands = ap (λ (ys : List Link). slice_get ys n) r ∙ f.stands;
-        switches = f.switches;
-        inside = subst (λ (ys : List Link). All (λ y. switches_for m e y ≡ false) (take n ys)) (sym r) f.inside;
-      }
 
 -- ## The rule
 
@@ -215,6 +167,32 @@ module _ (m : Module) (chain : List Link) (conts : Conts Stored) (x y : ℕ) (r 
       pub switch_fits : b.takes - 1 + 1 ≤ length (top chain).shape.operands
       switch_fits = let f = (exchanges k.behind k.p k.s k.t k.c k.at).fits in let l = ap (λ (l : List Value). length l) on in omega (arith, f, l)
 
+      -- the configuration after it holds no more than its functions need
+      switch_holds : (let w = kept_there k.at.stand r of b is in let h = (switch_cuts k.at).handler in
+          Holding m (with_cont (captured (length u.params) h.inner (stack (drop (b.takes - 1) vs)) k.c) (without_cont r.serial k.s))
+          (in_context (Handle h.below h.clauses h.rest ∷ h.outer) (filled w.k.term (stack (take (b.takes - 1) vs) ▹ Cont (next_cont k.s)))))
+      unfolding exchanging
+      switch_holds = k.holds [] _ _ (exchanges k.behind k.p k.s k.t k.c k.at).goes
+
+      -- what is stored has room for what it takes
+      pub switch_inside : Roomy m chain conts → height (discarded (b.takes - 1) (discarded 1 (top chain).shape)) + length u.params ≤ (top chain).shape.capacity.operands
+      switch_inside roomy =
+          let n = b.takes - 1 in
+          let S = (top chain).shape in
+          let h = (switch_cuts k.at).handler in
+          let one : drop 1 S.operands ≡ vs = ap (λ (l : List Value). drop 1 l) on in
+          let low : take (suc layer) chain ≡ take (layer + 1) chain = ap (λ (j : ℕ). take j chain) (sym (add-one layer)) in
+          let inside = subst (λ (z : List Link). Chained m [] (rest_of Done) z h.inner k.t.operands (rest_of (Plain (op.Switching (switching.Switch x y)) k.c))) low (switch_cuts k.at).inner in
+          let same = top_taken layer chain in
+          let k1 : Kept = captured (length u.params) h.inner (stack (drop n vs)) k.c in
+          let many = stack_size (drop n vs) in
+          let room = room_at inside (ap (λ (z : Link). z.shape.stage) same ∙ k.stage) (links_take m (layer + 1) chain roomy.running) (length (drop n vs) + length u.params)
+          (λ g is. let held = (switch_holds.stored (length (slice_set k.s.conts r.serial None)) k1 (get_end (slice_set k.s.conts r.serial None) (Some k1)) g is refl).operands in omega (arith, held, many)) in
+          let there : below_all S.levels + (length (drop n vs) + length u.params) ≤ S.capacity.operands =
+          subst (λ (z : Link). below_all z.shape.levels + (length (drop n vs) + length u.params) ≤ z.shape.capacity.operands) same room in
+          let left = ap (λ (l : List Value). length (drop n l)) one in
+          omega (arith, there, left)
+
       module _ (conts1 : Conts Stored) (chain' : List Link) (conts' : Conts Stored) (taken : conts1 ≡ without_entry r.serial conts)
           (ex : Exchanged (b.takes - 1) (length u.params) layer b.segment.value chain conts1 chain' conts') where
         -- it went as the rule says
@@ -239,7 +217,7 @@ module _ (m : Module) (chain : List Link) (conts : Conts Stored) (x y : ℕ) (r 
             let inside = subst (λ (z : List Link). Chained m [] (rest_of Done) z h.inner t.operands (rest_of here)) low d.inner in
             let part : Chained m [] (rest_of Done) (with_top S' (take (layer + 1) chain)) h.inner (stack (drop n vs)) (rest_of c) =
             inside_top S'
-            (λ o e i. next_top k S' (record { levels = refl; func = refl; place = refl; stage = k.stage })
+            (λ o e i. next_top k S' (record { levels = refl; func = refl; place = refl; stage = k.stage; capacity = refl })
             (subst (λ (z : Link). In m o e z.shape h.inner (rest_of here)) (top_taken layer chain) i))
             (ap (λ (l : List Value). stack (drop n l)) (sym one)) inside in
             let own = next_ref ex.place (length conts1.entries) in
@@ -260,6 +238,7 @@ module _ (m : Module) (chain : List Link) (conts : Conts Stored) (x y : ℕ) (r 
                 source = a.stand.source;
                 program = a.stand.program;
                 short = a.stand.short;
+                narrow = a.stand.narrow;
                 term = subst (λ (z : List Link). Chained m [] behind z after.around after.operands after.rest) (sym ex.chain_after)
                     (subst (λ (i : ℕ). Chained m [] behind (with_top T' segs ++ drop (layer + 1) chain) after.around (q.operands ⧺ (stack (take n vs) ▹ Cont i)) after.rest) (sym long)
                     (subst (λ (l : List Value). Chained m [] behind (with_top T' segs ++ drop (layer + 1) chain) after.around (q.operands ⧺ (stack (take n l) ▹ Cont (length conts1.entries))) after.rest) one whole));
@@ -270,8 +249,8 @@ module _ (m : Module) (chain : List Link) (conts : Conts Stored) (x y : ℕ) (r 
             }
 
         -- and is sound
-        pub exchange_sound : Sound chain conts → HasRoomFor (length u.params) chain → length chain ≤ most_segments → KeepsReferences conts conts1 → KeepsReferences conts1 conts' → Sound chain' conts'
-        exchange_sound s room few refs1 refs2 =
+        pub exchange_sound : Sound chain conts → Roomy m chain conts → length chain ≤ most_segments → KeepsReferences conts conts1 → KeepsReferences conts1 conts' → Sound chain' conts'
+        exchange_sound s roomy few refs1 refs2 =
             let n = b.takes - 1 in
             let S = (top chain).shape in
             let segs = b.segment.value in
@@ -291,15 +270,14 @@ module _ (m : Module) (chain : List Link) (conts : Conts Stored) (x y : ℕ) (r 
             let h1 = moved_holds P (S.place + 1) (discarded n (discarded 1 S)) (discarded_holds P n (discarded 1 S) (discarded_holds P 1 S sh)) in
             let low_hold = hold_take test (layer + 1) chain free.references in
             let some_low = some_taken layer chain (some_chain k) in
-            let l1 = low_discarded n (discarded 1 S) in
-            let l2 = low_discarded 1 S in
+            let room = switch_inside roomy in
             let takes = ex.takes_is in
             let both = both_long (layer + 1) chain in
             let long : length ex.b.segment.value ≡ length low = ap (λ (z : List Link). length z) ex.stored ∙ long_top S' low in
             let good1 : IsGood test ex.b = record {
               references = subst (LinksHold test) (sym ex.stored) (hold_with test S' low h1 low_hold);
               waits = subst Waits (sym ex.stored) (ready_top S' low some_low k.stage);
-              room = subst (HasRoomFor ex.b.takes) (sym ex.stored) (room_with ex.b.takes S' low some_low (omega (arith, room, l1, l2, takes)));
+              room = subst (HasRoomFor ex.b.takes) (sym ex.stored) (room_with ex.b.takes S' low some_low (omega (arith, room, takes)));
               few = omega (arith, long, both, few);
             } in
             let joined_long = length-append segs high in

@@ -6,11 +6,12 @@ pub mod Exiting
 pub mod Facing
 pub mod Joining
 pub mod LastTypes
-pub mod MadeRoom
+pub mod Giving
 pub mod Making
 pub mod Parting
 pub mod Putting
 pub mod Resuming
+pub mod Rooms
 pub mod SameButRoom
 pub mod Sounding
 pub mod Suspending

@@ -65,8 +65,9 @@ module _ (m : Module) (chain : List Link) (conts conts' : Conts Stored) (x f pla
           source = a.stand.source;
           program = a.stand.program;
           short = a.stand.short;
+          narrow = a.stand.narrow;
           term = subst (λ (z : Shape). Chained m [] behind (with_top z chain) t.around (stack vs ▹ Cont (next_cont s)) (rest_of c)) (sym is)
-              (inside_top s_new (λ o r. next_top k s_new (record { levels = refl; func = refl; place = refl; stage = k.stage }))
+              (inside_top s_new (λ o r. next_top k s_new (record { levels = refl; func = refl; place = refl; stage = k.stage; capacity = refl }))
               (ap (λ (n : ℕ). stack vs ▹ Cont n) long ∙ ap (λ (l : List Value). stack (drop 1 l) ▹ Cont (length conts.entries)) (sym on)) (at_term a));
           store = subst (λ (z : Conts Stored). AllKept m z.entries (s.conts ++ Some kept_one ∷ [])) (sym after)
               (kept_more (Some (place, b)) (Some kept_one) a.stand.store

@@ -115,7 +115,7 @@ module _ (m : Module) (chain : List Link) (conts : Conts Stored) (x : ℕ) (hs :
       let one : drop 1 S.operands ≡ vs = ap (λ (l : List Value). drop 1 l) on in
       let s' = moved (S.place + 1) (discarded n (discarded 1 S)) in
       let inner = pushed_given (take n (drop 1 S.operands)) w.there.stands in
-      let whole = resume_stands m chain conts x hs k s' (record { levels = refl; func = refl; place = refl; stage = k.stage }) inner (at_term a) in
+      let whole = resume_stands m chain conts x hs k s' (record { levels = refl; func = refl; place = refl; stage = k.stage; capacity = refl }) inner (at_term a) in
       record {
         conts_after = slice_set s.conts r.serial None;
         t = in_context (Handle (stack (drop n vs)) hs c ∷ t.around) (filled q (stack (take n vs)));
@@ -124,6 +124,7 @@ module _ (m : Module) (chain : List Link) (conts : Conts Stored) (x : ℕ) (hs :
           source = a.stand.source;
           program = a.stand.program;
           short = a.stand.short;
+          narrow = a.stand.narrow;
           term = subst (λ (z : List Link). Chained m [] behind z (q.around ++ Handle (stack (drop n vs)) hs c ∷ t.around) (q.operands ⧺ stack (take n vs)) q.rest) (sym went)
               (subst (λ (l : List Value). Chained m [] behind (passed n b.segment.value chain) (q.around ++ Handle (stack (drop n l)) hs c ∷ t.around) (q.operands ⧺ stack (take n l)) q.rest) one whole);
           store = subst (λ (z : Conts Stored). AllKept m z.entries (slice_set s.conts r.serial None)) (sym after) (kept_set r.serial a.stand.store);

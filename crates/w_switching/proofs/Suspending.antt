@@ -1,8 +1,8 @@
 -- Suspending.
-use Rattle.std.proofs.Common.{◌≡◌, ℕ, suc, ◌+◌, ◌<◌, ◌≤◌, true, List, [], ◌∷◌, ◌++◌, Option, Some, None, length, refl, sym, ap, ◌∙◌, subst, arith, add-one, drop, take, reverse}
-use Rattle.std.proofs.lemmas.List.{reverse-reverse}
+use Rattle.std.proofs.Common.{◌≡◌, ℕ, suc, ◌+◌, ◌<◌, ◌≤◌, true, length-append, List, [], ◌∷◌, ◌++◌, Option, Some, None, length, refl, sym, ap, ◌∙◌, subst, arith, add-one, drop, take, reverse}
+use Rattle.std.proofs.lemmas.List.{reverse-reverse, length-take-le}
 use Rattle.std.specs.Prelude.{All}
-use Rattle.w_types.specs.Rows.{Row, ◌▹◌, ◌⧺◌}
+use Rattle.w_types.specs.Rows.{Row, ◌▹◌, ◌⧺◌, size}
 use Rattle.w_types.specs.declared.types.FuncType.{FuncType}
 use Rattle.w_types.specs.declared.value.Value.{Value}
 use Rattle.w_syntax.specs.Code.{Code, Plain, Done}
@@ -12,7 +12,7 @@ use Rattle.w_syntax.specs.declared.module.Module.{Module}
 use Rattle.w_rules.specs.Context.{type_of_tag}
 use Rattle.w_rules.specs.Spaces.{context_of}
 use Rattle.w_segment.specs.declared.entry.Stage.TheVariants.{Body, Branch as AtBranch}
-use Rattle.w_segment.specs.Shape.{Shape, Level, height}
+use Rattle.w_segment.specs.Shape.{Shape, Level, below_all, height}
 use Rattle.w_segment.specs.Changes.{pushed, pushed_all, discarded, moved, staged}
 use Rattle.w_segment.specs.Link.{Link, top, rest, with_top}
 use Rattle.w_segment.proofs.Holding.{all_take, all_reverse, pushed_holds, pushed_all_holds, discarded_holds, moved_holds, staged_holds}
@@ -24,12 +24,14 @@ use Rattle.w_reduce.specs.Store.{Store, with_cont, next_cont}
 use Rattle.w_reduce.specs.Program.{Program}
 use Rattle.w_reduce.specs.Reduced.{Reduced, steps_to, take_values}
 use Rattle.w_reduce.specs.Handlers.{Handler, label_clause, find}
+use Rattle.w_reduce.specs.Room.{Holding}
 use Rattle.w_reduce.specs.Switching.{switching_op, captured, or_unhandled}
 use Rattle.w_reduce.specs.declared.trap.Trap.TheVariants as trap
 use Rattle.w_stands.specs.declared.did.Did.TheVariants as did
 use Rattle.w_stands.specs.Values.{stack}
 use Rattle.w_stands.specs.Code.{instrs, Reads}
 use Rattle.w_stands.specs.Stands.{Around, In, left}
+use Rattle.w_stands.proofs.Fitting.{stack_size}
 use Rattle.w_stands.proofs.LookedUp.{found, goes_on}
 use Rattle.w_stands.proofs.Reading.{here}
 use Rattle.w_stands.proofs.TakingMany.{stack_take, stack_enough, stack_append}
@@ -37,13 +39,14 @@ use Rattle.w_switching.specs.declared.stored.Stored.{Stored}
 use Rattle.w_switching.specs.Moved.{Captured, next_ref}
 use Rattle.w_switching.specs.Standing.{Chained, kept, AllKept}
 use Rattle.w_switching.specs.Reductions.{StandsAt, SwitchesAt, Switches}
-use Rattle.w_switching.specs.Sound.{LinksHold, Waits, HasRoomFor, is_of, IsGood, Sound, SoundWith, most_segments}
+use Rattle.w_switching.specs.Sound.{LinksHold, Waits, HasRoomFor, is_of, IsGood, Sound, SoundWith, Roomy, most_segments}
 use Rattle.w_switching.proofs.Joining.{inside_top, kept_more, kept_long}
 use Rattle.w_switching.proofs.Facing.{head, on_stack, at_term, next_top, some_chain}
 use Rattle.w_switching.proofs.Cutting.{Cuts, cuts, no_layer, layer_below}
-use Rattle.w_switching.proofs.Parting.{top_taken, part_long, part_some, part_top, outside_top, part_hold, part_sound, ready_top, low_discarded}
+use Rattle.w_switching.proofs.Parting.{top_taken, some_taken, both_long, part_sound, ready_top}
 use Rattle.w_switching.proofs.Putting.{put_sound, top_sound}
-use Rattle.w_switching.proofs.Sounding.{More, more_of, links_more, hold_with, hold_top, is_of_it, long_top, room_with, spare_slot, with_twice}
+use Rattle.w_switching.proofs.Rooms.{links_take, links_drop, room_at, get_end}
+use Rattle.w_switching.proofs.Sounding.{More, more_of, links_more, hold_take, hold_with, hold_top, is_of_it, long_top, room_with, spare_slot}
 
 -- the segment that waited stands at a branch
 at_branch : {m : Module} {outer : Context} {behind : Rest} {e : Context} {c : Code} (l : ℕ) (s s' : Shape) → s.stage ≡ Body → s'.levels ≡ s.levels → s'.func ≡ s.func → s'.place ≡ s.place →
@@ -122,55 +125,71 @@ module _ (m : Module) (chain : List Link) (conts : Conts Stored) (x : ℕ) where
       pub suspend_fits : length f.params ≤ length (top chain).shape.operands
       suspend_fits = (suspends f kind k.behind k.p k.s k.t k.c k.at).fits
 
+      -- the configuration after it holds no more than its functions need
+      suspend_holds : (let d = suspend_cuts k.at in let h = d.handler in Holding m (with_cont (captured (length f.results) h.inner (stack (drop (length f.params) (top chain).shape.operands)) k.c) k.s)
+          (record { around = h.outer; operands = (h.below ⧺ stack (take (length f.params) (top chain).shape.operands)) ▹ Cont (next_cont k.s); rest = record { ahead = Branch h.answer ∷ []; code = h.rest } }))
+      unfolding catching
+      suspend_holds =
+          let d = suspend_cuts k.at in
+          k.holds [] _ _ ((suspends f kind k.behind k.p k.s k.t k.c k.at).goes ∙ ap (λ (o : Option (Handler ℕ)). or_unhandled x o (catching k.s f (top chain).shape.operands k.c)) d.found)
+
+      -- what is stored has room for what it takes
+      pub suspend_inside : Roomy m chain conts → height (discarded (length f.params) (top chain).shape) + length f.results ≤ (top chain).shape.capacity.operands
+      suspend_inside roomy =
+          let n = length f.params in
+          let S = (top chain).shape in
+          let d = suspend_cuts k.at in
+          let h = d.handler in
+          let low : take (suc layer) chain ≡ take (layer + 1) chain = ap (λ (j : ℕ). take j chain) (sym (add-one layer)) in
+          let inside = subst (λ (z : List Link). Chained m [] (rest_of Done) z h.inner k.t.operands (rest_of (Plain (op.Switching (switching.Suspend x)) k.c))) low d.inner in
+          let same = top_taken layer chain in
+          let k1 : Kept = captured (length f.results) h.inner (stack (drop n S.operands)) k.c in
+          let many = stack_size (drop n S.operands) in
+          let room = room_at inside (ap (λ (z : Link). z.shape.stage) same ∙ k.stage) (links_take m (layer + 1) chain roomy.running) (length (drop n S.operands) + length f.results)
+          (λ g is. let held = (suspend_holds.stored (next_cont k.s) k1 (get_end k.s.conts (Some k1)) g is refl).operands in omega (arith, held, many)) in
+          let there : below_all S.levels + (length (drop n S.operands) + length f.results) ≤ S.capacity.operands =
+          subst (λ (z : Link). below_all z.shape.levels + (length (drop n S.operands) + length f.results) ≤ z.shape.capacity.operands) same room in
+          omega (arith, there)
+
+      -- and what waits outside has room for the arguments and the reference
+      pub suspend_outside : Roomy m chain conts → HasRoomFor (length f.params + 1) (drop (layer + 1) chain)
+      suspend_outside roomy =
+          let n = length f.params in
+          let S = (top chain).shape in
+          let W = (top (drop (layer + 1) chain)).shape in
+          let d = suspend_cuts k.at in
+          let h = d.handler in
+          let high : drop (suc layer) chain ≡ drop (layer + 1) chain = ap (λ (j : ℕ). drop j chain) (sym (add-one layer)) in
+          let outside = subst (λ (z : List Link). Chained m [] k.behind z h.outer h.below (rest_of h.rest)) high d.outside in
+          let body : W.stage ≡ Body = ap (λ (z : List Link). (top z).shape.stage) (sym high) ∙ d.waits in
+          let us = take n S.operands in
+          let many : size (h.below ⧺ stack us) ≡ length (us ++ W.operands) =
+          ap (λ (r : Row Val). size (r ⧺ stack us)) (head outside).operands ∙ ap size (sym (stack_append us W.operands)) ∙ stack_size (us ++ W.operands) in
+          let both = length-append us W.operands in
+          let all = length-take-le n S.operands suspend_fits in
+          let room = room_at outside body (links_drop m (layer + 1) chain roomy.running) (suc (length us + length W.operands))
+          (λ g is. let held = (suspend_holds.running g is refl).operands in omega (arith, held, many, both)) in
+          omega (arith, room, all)
+
       module _ (chain' : List Link) (conts' : Conts Stored) (cap : Captured (length f.params) (length f.results) layer l chain conts chain' conts') where
-        -- the innermost segment and the one that waited, with their room
-        abbrev inner : Shape
-        inner = cap.parted.inner
-
-        abbrev waiting : Shape
-        waiting = cap.parted.waiting
-
         -- the reference to what is stored
         abbrev own_ref : Value
         own_ref = next_ref cap.place (length conts.entries)
 
         -- the innermost segment once it is stored, and the one that waited
-        s_stored : Shape
-        s_stored = moved ((top chain).shape.place + 1) (discarded (length f.params) inner)
+        abbrev s_stored : Shape
+        s_stored = moved ((top chain).shape.place + 1) (discarded (length f.params) (top chain).shape)
 
-        s_branch : Shape
-        s_branch = staged (AtBranch l) (pushed own_ref (pushed_all (reverse (take (length f.params) (top chain).shape.operands)) waiting))
-
-        -- what is stored is the first segments with that one inside
-        stored_is : cap.b.segment.value ≡ with_top s_stored (take (layer + 1) chain)
-        unfolding s_stored
-        stored_is =
-            let n = length f.params in
-            let t = part_top cap.parted (some_chain k) in
-            cap.stored ∙ ap (λ (z : Shape). with_top (moved (z.place + 1) (discarded n z)) cap.part) t
-            ∙ ap (λ (i : ℕ). with_top (moved (i + 1) (discarded n inner)) cap.part) cap.parted.inner_same.place
-            ∙ ap (with_top s_stored) cap.parted.part_is ∙ with_twice s_stored inner (take (layer + 1) chain)
-
-        -- and the others with the one that waited are the chain
-        branch_is : chain' ≡ with_top s_branch (drop (layer + 1) chain)
-        unfolding s_branch
-        branch_is =
-            let n = length f.params in
-            let t : (top cap.part).shape.operands ≡ (top chain).shape.operands = ap (λ (z : Shape). z.operands) (part_top cap.parted (some_chain k)) ∙ cap.parted.inner_same.operands in
-            let w = outside_top cap.parted suspend_layer in
-            cap.chain_after ∙ ap (λ (vs : List Value). with_top (staged (AtBranch l) (pushed own_ref (pushed_all (reverse (take n vs)) (top cap.outside).shape))) cap.outside) t
-            ∙ ap (λ (z : Shape). with_top (staged (AtBranch l) (pushed own_ref (pushed_all (reverse (take n (top chain).shape.operands)) z))) cap.outside) w
-            ∙ ap (with_top s_branch) cap.parted.after ∙ with_twice s_branch waiting (drop (layer + 1) chain)
+        abbrev s_branch : Shape
+        s_branch = staged (AtBranch l) (pushed own_ref (pushed_all (reverse (take (length f.params) (top chain).shape.operands)) (top (drop (layer + 1) chain)).shape))
 
         -- it went as the rule says
         pub suspend_goes : Switches did.Went (switching.Suspend x) m chain conts chain' conts'
-        unfolding s_stored s_branch catching
+        unfolding catching
         suspend_goes behind p s t c a =
             let n = length f.params in
             let S = (top chain).shape in
             let W = (top (drop (layer + 1) chain)).shape in
-            let i = cap.parted.inner_same in
-            let w = cap.parted.waiting_same in
             let d = suspend_cuts a in
             let h = d.handler in
             let low : take (suc layer) chain ≡ take (layer + 1) chain = ap (λ (j : ℕ). take j chain) (sym (add-one layer)) in
@@ -183,17 +202,17 @@ module _ (m : Module) (chain : List Link) (conts : Conts Stored) (x : ℕ) where
             let body : W.stage ≡ Body = ap (λ (z : List Link). (top z).shape.stage) (sym high) ∙ d.waits in
             let inside = subst (λ (z : List Link). Chained m [] (rest_of Done) z h.inner t.operands (rest_of (Plain (op.Switching (switching.Suspend x)) c))) low d.inner in
             let ops : ws ≡ stack s_branch.operands =
-            ap (λ (r : Row Val). (r ⧺ stack (take n S.operands)) ▹ Cont (next_cont s)) ((head outside).operands ∙ ap stack (sym w.operands))
-            ∙ ap (λ (r : Row Val). r ▹ Cont (next_cont s)) (sym (stack_append (take n S.operands) waiting.operands))
-            ∙ ap (λ (us : List Value). stack (us ++ waiting.operands) ▹ Cont (next_cont s)) (sym (reverse-reverse (take n S.operands)))
-            ∙ ap (λ (j : ℕ). stack (reverse (reverse (take n S.operands)) ++ waiting.operands) ▹ Cont j) long in
+            ap (λ (r : Row Val). (r ⧺ stack (take n S.operands)) ▹ Cont (next_cont s)) (head outside).operands
+            ∙ ap (λ (r : Row Val). r ▹ Cont (next_cont s)) (sym (stack_append (take n S.operands) W.operands))
+            ∙ ap (λ (us : List Value). stack (us ++ W.operands) ▹ Cont (next_cont s)) (sym (reverse-reverse (take n S.operands)))
+            ∙ ap (λ (j : ℕ). stack (reverse (reverse (take n S.operands)) ++ W.operands) ▹ Cont j) long in
             let term : Chained m [] behind (with_top s_branch (drop (layer + 1) chain)) h.outer ws r2 =
-            inside_top s_branch (λ o b q. at_branch h.answer W s_branch body w.levels w.func w.place (ap AtBranch (sym d.answer_is)) q) ops outside in
+            inside_top s_branch (λ o b q. at_branch h.answer W s_branch body refl refl refl (ap AtBranch (sym d.answer_is)) q) ops outside in
             let part : Chained m [] (rest_of Done) (with_top s_stored (take (layer + 1) chain)) h.inner (stack (drop n S.operands)) (rest_of c) =
             inside_top s_stored
-            (λ o b q. next_top k s_stored (record { levels = i.levels; func = i.func; place = refl; stage = i.stage ∙ k.stage })
+            (λ o b q. next_top k s_stored (record { levels = refl; func = refl; place = refl; stage = k.stage; capacity = refl })
             (subst (λ (y : Link). In m o b y.shape h.inner (rest_of (Plain (op.Switching (switching.Suspend x)) c))) (top_taken layer chain) q))
-            (ap (λ (vs : List Value). stack (drop n vs)) (sym i.operands)) inside in
+            refl inside in
             record {
               conts_after = s.conts ++ Some k1 ∷ [];
               t = record { around = h.outer; operands = ws; rest = r2 };
@@ -202,52 +221,44 @@ module _ (m : Module) (chain : List Link) (conts : Conts Stored) (x : ℕ) where
                 source = a.stand.source;
                 program = a.stand.program;
                 short = a.stand.short;
-                term = subst (λ (z : List Link). Chained m [] behind z h.outer ws r2) (sym branch_is) term;
+                narrow = a.stand.narrow;
+                term = subst (λ (z : List Link). Chained m [] behind z h.outer ws r2) (sym cap.chain_after) term;
                 store = subst (λ (z : Conts Stored). AllKept m z.entries (s.conts ++ Some k1 ∷ [])) (sym cap.conts_after)
                     (kept_more (Some (cap.place, cap.b)) (Some k1) a.stand.store
-                    (kept (subst (λ (z : List Link). Chained m [] (rest_of Done) z h.inner (stack (drop n S.operands)) (rest_of c)) (sym stored_is) part) (sym cap.takes_is)));
+                    (kept (subst (λ (z : List Link). Chained m [] (rest_of Done) z h.inner (stack (drop n S.operands)) (rest_of c)) (sym cap.stored) part) (sym cap.takes_is)));
               };
             }
 
         -- and is sound
-        pub suspend_sound : Sound chain conts → length chain ≤ most_segments → KeepsReferences conts conts' → Sound chain' conts'
-        suspend_sound s few keeps =
+        pub suspend_sound : Sound chain conts → Roomy m chain conts → length chain ≤ most_segments → KeepsReferences conts conts' → Sound chain' conts'
+        suspend_sound s roomy few keeps =
             let n = length f.params in
-            let part = cap.part in
-            let outside = cap.outside in
-            let free = part_sound cap.parted conts s in
+            let S = (top chain).shape in
+            let low = take (layer + 1) chain in
+            let outside = drop (layer + 1) chain in
             let test = is_of conts in
             let P : Value → Type 0 = λ v. test v ≡ true in
             let Q : Value → Type 0 = λ v. is_of conts' v ≡ true in
             let more : More test (is_of conts') = more_of conts conts' keeps in
-            let held = part_hold cap.parted test s.references in
-            let held' = links_more test (is_of conts') more part held in
-            let T = (top part).shape in
-            let S' = moved (T.place + 1) (discarded n T) in
-            let some = part_some cap.parted (some_chain k) in
-            let top_is = part_top cap.parted (some_chain k) in
-            let high = ap (λ (z : Shape). height z + cap.b.takes) top_is in
-            let cap_is = ap (λ (z : Shape). z.capacity.operands) top_is in
-            let room = cap.parted.inner_room in
+            let some = some_taken layer chain (some_chain k) in
+            let room = suspend_inside roomy in
             let takes = cap.takes_is in
-            let lower = low_discarded n T in
-            let l1 = part_long cap.parted in
-            let l2 : length cap.b.segment.value ≡ length part = ap (λ (z : List Link). length z) cap.stored ∙ long_top S' part in
-            let body : T.stage ≡ Body = ap (λ (z : Shape). z.stage) top_is ∙ cap.parted.inner_same.stage ∙ k.stage in
+            let l1 = both_long (layer + 1) chain in
+            let l2 : length cap.b.segment.value ≡ length low = ap (λ (z : List Link). length z) cap.stored ∙ long_top s_stored low in
             let good : IsGood test cap.b = record {
-              references = subst (LinksHold test) (sym cap.stored) (hold_with test S' part (moved_holds P (T.place + 1) (discarded n T) (discarded_holds P n T (hold_top test part held))) held);
-              waits = subst Waits (sym cap.stored) (ready_top S' part some body);
-              room = subst (HasRoomFor cap.b.takes) (sym cap.stored) (room_with cap.b.takes S' part some (omega (arith, high, cap_is, room, takes, lower)));
+              references = subst (LinksHold test) (sym cap.stored)
+                  (hold_with test s_stored low (moved_holds P (S.place + 1) (discarded n S) (discarded_holds P n S (hold_top test chain s.references))) (hold_take test (layer + 1) chain s.references));
+              waits = subst Waits (sym cap.stored) (ready_top s_stored low some k.stage);
+              room = subst (HasRoomFor cap.b.takes) (sym cap.stored) (room_with cap.b.takes s_stored low some (omega (arith, room, takes)));
               few = omega (arith, l1, l2, few);
             } in
             let spare = spare_slot chain conts s (let h = suspend_layer in omega (arith, h)) in
-            let put = put_sound outside conts cap.place cap.b (subst (λ (i : ℕ). SoundWith i outside conts) (sym l2) free) spare good (subst (KeepsReferences conts) cap.conts_after keeps) in
+            let put = put_sound outside conts cap.place cap.b (subst (λ (i : ℕ). SoundWith i outside conts) (sym l2) (part_sound layer chain conts s)) spare good (subst (KeepsReferences conts) cap.conts_after keeps) in
             let put' : Sound outside conts' = subst (Sound outside) (sym cap.conts_after) put in
-            let us = take n T.operands in
+            let us = take n S.operands in
             let W = (top outside).shape in
-            let args = all_reverse Q us (all_take Q n T.operands (hold_top (is_of conts') part held').operands) in
+            let args = all_reverse Q us (all_take Q n S.operands (hold_top (is_of conts') chain (links_more test (is_of conts') more chain s.references)).operands) in
             let h1 = pushed_all_holds Q (reverse us) W args (hold_top (is_of conts') outside put'.references) in
             let h2 = pushed_holds Q own_ref (pushed_all (reverse us) W) (is_of_it conts' (record { place = cap.place; serial = length conts.entries }) cap.of) h1 in
-            let T' = staged (AtBranch l) (pushed own_ref (pushed_all (reverse us) W)) in
             subst (λ (z : List Link). Sound z conts') (sym cap.chain_after)
-            (top_sound 0 outside conts' T' put' (staged_holds Q (AtBranch l) (pushed own_ref (pushed_all (reverse us) W)) h2))
+            (top_sound 0 outside conts' s_branch put' (staged_holds Q (AtBranch l) (pushed own_ref (pushed_all (reverse us) W)) h2))

@@ -19,6 +19,7 @@ use Rattle.w_reduce.specs.Terms.{Rest, rest_of, Term, Kept}
 use Rattle.w_reduce.specs.Store.{Store, with_conts}
 use Rattle.w_reduce.specs.Program.{Program}
 use Rattle.w_reduce.specs.Reduced.{Reduced, Went, Trapped, Stuck}
+use Rattle.w_reduce.specs.Room.{HoldsAfter}
 use Rattle.w_reduce.specs.Switching.{switching_op}
 use Rattle.w_reduce.specs.Exits.{leave}
 use Rattle.w_stands.specs.Code.{instr_of}
@@ -37,7 +38,7 @@ pub record StandsAt (o : SwitchingOp) (m : Module) (behind : Rest) (chain : List
   pub comes : t.rest ≡ rest_of (Plain (op.Switching o) c)
   pub applies : switched o p s t c ≢ Stuck
 
--- some such configuration
+-- some such configuration, after which no frame holds more than its function has anywhere
 pub record SwitchesAt (o : SwitchingOp) (m : Module) (chain : List Link) (conts : Conts Stored) : Type 0 where
   pub here : instr_of m (top chain).shape.func (top chain).shape.place ≡ Some (flat.Plain (op.Switching o))
   pub stage : (top chain).shape.stage ≡ Body
@@ -47,6 +48,7 @@ pub record SwitchesAt (o : SwitchingOp) (m : Module) (chain : List Link) (conts 
   pub t : Term
   pub c : Code
   pub at : StandsAt o m behind chain conts p s t c
+  pub holds : HoldsAfter m (switched o p s t c)
 
 -- it goes on, printing nothing, where chain and store stand; of the definitions' store only continuations change
 pub record WentTo (m : Module) (behind : Rest) (chain : List Link) (conts : Conts Stored) (p : Program) (s : Store) (d : Reduced) : Type 0 where

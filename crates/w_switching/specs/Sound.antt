@@ -2,12 +2,14 @@
 use Rattle.std.specs.Prelude.{◌≡◌, ℕ, zero, suc, ◌+◌, ◌^◌, ◌≤◌, Bool, true, false, nat_eq, List, [], ◌∷◌, length, Option, Some, None, ⊤}
 use Rattle.w_types.specs.declared.value.Value.{Value}
 use Rattle.w_types.specs.declared.value.Value.TheVariants as value
+use Rattle.w_syntax.specs.declared.module.Module.{Module}
 use Rattle.w_segment.specs.declared.entry.Stage.{Stage}
 use Rattle.w_segment.specs.declared.entry.Stage.TheVariants.{Fresh, Body, Branch, Values}
 use Rattle.w_segment.specs.Shape.{height}
 use Rattle.w_segment.specs.Holds.{Holds}
 use Rattle.w_segment.specs.Link.{Link, top}
 use Rattle.w_conts.specs.Conts.{Conts, live_of}
+use Rattle.w_stands.specs.Room.{HasRoom}
 use Rattle.w_switching.specs.declared.stored.Stored.{Stored}
 
 -- ## Segments
@@ -85,3 +87,15 @@ pub record SoundWith (n : ℕ) (chain : List Link) (conts : Conts Stored) : Type
 
 abbrev pub Sound : List Link → Conts Stored → Type 0
 Sound = SoundWith 0
+
+-- ## Room
+
+-- each segment has room for what its frames' functions need
+abbrev pub LinksRoom : Module → List Link → Type 0
+LinksRoom m [] = ⊤
+LinksRoom m (x ∷ xs) = HasRoom m x.shape × LinksRoom m xs
+
+-- those that run, and those that are stored
+pub record Roomy (m : Module) (chain : List Link) (conts : Conts Stored) : Type 0 where
+  pub running : LinksRoom m chain
+  pub stored : EachStored (λ b. LinksRoom m b.segment.value) conts.entries

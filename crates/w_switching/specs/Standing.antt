@@ -13,7 +13,7 @@ use Rattle.w_reduce.specs.Terms.{Rest, rest_of, Handle, Context, Term, Kept}
 use Rattle.w_reduce.specs.Store.{Store}
 use Rattle.w_reduce.specs.Program.{Program, IsProgram}
 use Rattle.w_stands.specs.Values.{stack}
-use Rattle.w_stands.specs.Code.{AllShort}
+use Rattle.w_stands.specs.Code.{AllShort, AreNarrow}
 use Rattle.w_stands.specs.Stands.{In}
 use Rattle.w_switching.specs.declared.stored.Stored.{Stored}
 
@@ -43,5 +43,6 @@ pub record Stand (m : Module) (behind : Rest) (chain : List Link) (conts : Conts
   pub source : p.source ≡ m
   pub program : IsProgram p
   pub short : AllShort m
+  pub narrow : AreNarrow m
   pub term : Chained m [] behind chain t.around t.operands t.rest
   pub store : AllKept m conts.entries s.conts

@@ -5,7 +5,7 @@ ghost use Rattle.w_segment.specs.Link.{top};
 ghost use Rattle.w_conts.specs.Conts.{KeepsReferences};
 ghost use Rattle.w_switching.specs.Moved.{Bound};
 ghost use Rattle.w_switching.specs.Reductions.{SwitchesAt, Switches, TakesParams};
-ghost use Rattle.w_switching.specs.Sound.{Sound, HasRoomFor};
+ghost use Rattle.w_switching.specs.Sound.{Sound, Roomy, HasRoomFor};
 
 use crate::module_types::cont_type;
 use crate::stored::Stored;
@@ -29,9 +29,11 @@ pub fn cont_new(
 ) -> Result<Did, AllocError>
     requires at { SwitchesAt (switching.ContNew kind) program.now chain.old conts.old }
     requires sound { Sound chain.old conts.old }
+    requires roomy { Roomy program.now chain.old conts.old }
     requires made { length conts.old.entries < 2 ^ 40 }
     ensures goes { IfOk result (λ d. Switches d (switching.ContNew kind) program.now chain.old conts.old chain.new conts.new) }
     ensures sound { Sound chain.new conts.new }
+    ensures roomy { Roomy program.now chain.new conts.new }
     ensures references { KeepsReferences conts.old conts.new }
     ensures err_chain { OnErr result (chain.new ≡ chain.old) }
     ensures err_conts { OnErr result (conts.new ≡ conts.old) }
@@ -98,10 +100,12 @@ pub fn cont_bind(
 ) -> Did
     requires at { SwitchesAt (switching.ContBind from to) program.now chain.old conts.old }
     requires sound { Sound chain.old conts.old }
+    requires roomy { Roomy program.now chain.old conts.old }
     requires made { length conts.old.entries < 2 ^ 40 }
     requires takes { TakesParams to program.now chain.old conts.old }
     ensures goes { Switches result (switching.ContBind from to) program.now chain.old conts.old chain.new conts.new }
     ensures sound { Sound chain.new conts.new }
+    ensures roomy { Roomy program.now chain.new conts.new }
     ensures references { KeepsReferences conts.old conts.new }
 {
     let _from = from;

@@ -1,16 +1,16 @@
 //! Entering and leaving handles: a continuation is resumed inside one, and the innermost segment leaves the one around it when it is
 //! values.
-ghost use Rattle.std.specs.Prelude.{◌≡◌, ◌+◌, ◌<◌, ◌≤◌, ◌^◌, length, OnOk, OnErr};
+ghost use Rattle.std.specs.Prelude.{◌≡◌, ◌+◌, ◌<◌, ◌≤◌, ◌^◌, length};
 ghost use Rattle.w_syntax.specs.declared.instructions.SwitchingOp.TheVariants as switching;
+ghost use Rattle.w_syntax.specs.declared.module.Module.{Module as TheModule};
 ghost use Rattle.w_segment.specs.declared.entry.Stage.TheVariants.{Values};
-ghost use Rattle.w_segment.specs.Link.{top};
+ghost use Rattle.w_segment.specs.Link.{top, rest};
 ghost use Rattle.w_conts.specs.Conts.{KeepsReferences};
-ghost use Rattle.w_switching.specs.Moved.{passed, Merged, SameLinks};
+ghost use Rattle.w_switching.specs.Moved.{passed, merged};
 ghost use Rattle.w_switching.specs.Reductions.{SwitchesAt, Switches, Exits};
-ghost use Rattle.w_switching.specs.Sound.{Sound, HasRoomFor, most_segments};
+ghost use Rattle.w_switching.specs.Sound.{Sound, Roomy, HasRoomFor, most_segments};
 
 use crate::stored::Stored;
-use std::alloc::AllocError;
 use w_chain::Chain;
 use w_conts::ContStore;
 use w_reduce::Trap;
@@ -52,9 +52,11 @@ pub fn resume(
 ) -> Did
     requires at { SwitchesAt (switching.Resume kind clauses.now) program.now chain.old conts.old }
     requires sound { Sound chain.old conts.old }
+    requires roomy { Roomy program.now chain.old conts.old }
     requires few { length chain.old ≤ most_segments }
     ensures goes { Switches result (switching.Resume kind clauses.now) program.now chain.old conts.old chain.new conts.new }
     ensures sound { Sound chain.new conts.new }
+    ensures roomy { Roomy program.now chain.new conts.new }
     ensures references { KeepsReferences conts.old conts.new }
 {
     let (_program, _kind, _clauses) = (program, kind, clauses);
@@ -72,39 +74,29 @@ pub fn resume(
     }
 }
 
-// Moves the operands of the innermost segment onto those of the one that waits, which is the innermost one then. It fails only when out of
-// memory, and then all is as it was but for room.
-fn merge(chain: &mut Chain) -> Result<(), AllocError>
+// Moves the operands of the innermost segment onto those of the one that waits, which has room for them, and is the innermost one then.
+fn merge(chain: &mut Chain)
     requires two { 1 < length chain.old }
-    requires few { length chain.old ≤ most_segments }
-    ensures after { OnOk result (Merged chain.old chain.new) }
-    ensures err { OnErr result (SameLinks chain.old chain.new) }
+    requires room { HasRoomFor (length (top chain.old).shape.operands) (rest chain.old) }
+    ensures after { chain.new ≡ merged chain.old }
 {
     let done = chain.pop();
-    let count = done.stack().count();
-    if chain.stack_mut().reserve(count, 0, 0).is_err() {
-        chain.push(done);
-        return Err(AllocError);
-    }
     chain.stack_mut().push_all(done.stack().operands());
-    Ok(())
 }
 
-/// Leaves the handle around the innermost segment, which is values: these stand on the operands of the segment that waited, which goes
-/// on, and the room for one continuation is given back (stack-switching explainer, execution: handle). It fails only when out of memory,
-/// and then all is as it was but for room.
-pub fn exit_handle(chain: &mut Chain, conts: &mut ContStore<Stored>) -> Result<(), AllocError>
+/// Leaves the handle around the innermost segment, which is values: these stand on the operands of the segment that waited, which has room
+/// for them and goes on, and the room for one continuation is given back (stack-switching explainer, execution: handle). It takes no
+/// memory.
+pub fn exit_handle(chain: &mut Chain, conts: &mut ContStore<Stored>)
     requires two { 1 < length chain.old }
     requires values { (top chain.old).shape.stage ≡ Values }
     requires sound { Sound chain.old conts.old }
-    requires few { length chain.old ≤ most_segments }
-    ensures goes { OnOk result (Exits chain.old conts.old chain.new conts.new) }
+    requires room { HasRoomFor (length (top chain.old).shape.operands) (rest chain.old) }
+    ensures goes { Exits chain.old conts.old chain.new conts.new }
     ensures sound { Sound chain.new conts.new }
+    ensures roomy { (m : TheModule) → Roomy m chain.old conts.old → Roomy m chain.new conts.new }
     ensures references { KeepsReferences conts.old conts.new }
-    ensures err_chain { OnErr result (SameLinks chain.old chain.new) }
-    ensures err_conts { OnErr result (conts.new ≡ conts.old) }
 {
-    merge(chain)?;
+    merge(chain);
     conts.release_one();
-    Ok(())
 }

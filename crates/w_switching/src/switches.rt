@@ -1,15 +1,14 @@
 //! Switching from one continuation to another, inside the same handle.
-ghost use Rattle.std.specs.Prelude.{◌≡◌, ◌+◌, ◌<◌, ◌≤◌, ◌^◌, length, IfOk, OnErr};
+ghost use Rattle.std.specs.Prelude.{◌≡◌, ◌+◌, ◌<◌, ◌≤◌, ◌^◌, length};
 ghost use Rattle.w_syntax.specs.declared.instructions.SwitchingOp.TheVariants as switching;
 ghost use Rattle.w_segment.specs.Link.{top};
 ghost use Rattle.w_conts.specs.Conts.{KeepsReferences};
-ghost use Rattle.w_switching.specs.Moved.{Exchanged, SameLinks};
+ghost use Rattle.w_switching.specs.Moved.{Exchanged};
 ghost use Rattle.w_switching.specs.Reductions.{SwitchesAt, Switches, TakesAtLeast};
-ghost use Rattle.w_switching.specs.Sound.{Sound, HasRoomFor, most_segments};
+ghost use Rattle.w_switching.specs.Sound.{Sound, Roomy, HasRoomFor, most_segments};
 
 use crate::module_types::back_type;
 use crate::stored::Stored;
-use std::alloc::AllocError;
 use w_chain::Chain;
 use w_conts::ContStore;
 use w_reduce::Trap;
@@ -56,50 +55,45 @@ fn exchange(
 
 /// Switches to the continuation whose reference is the topmost operand, inside the innermost handle that has a switch clause for the tag:
 /// what was inside is kept as a continuation, and the reference to it goes along as the last argument. Null, a continuation that was
-/// consumed, and no such handle trap (stack-switching explainer, execution: switch). It fails only when out of memory, and then all is as
-/// it was but for room.
+/// consumed, and no such handle trap (stack-switching explainer, execution: switch). It takes no memory.
 pub fn switch(
     program: &Module,
     chain: &mut Chain,
     conts: &mut ContStore<Stored>,
     kind: u32,
     tag: u32,
-) -> Result<Did, AllocError>
+) -> Did
     requires at { SwitchesAt (switching.Switch kind tag) program.now chain.old conts.old }
     requires sound { Sound chain.old conts.old }
+    requires roomy { Roomy program.now chain.old conts.old }
     requires few { length chain.old ≤ most_segments }
     requires made { length conts.old.entries < 2 ^ 40 }
     requires takes { TakesAtLeast 1 chain.old conts.old }
-    ensures goes { IfOk result (λ d. Switches d (switching.Switch kind tag) program.now chain.old conts.old chain.new conts.new) }
+    ensures goes { Switches result (switching.Switch kind tag) program.now chain.old conts.old chain.new conts.new }
     ensures sound { Sound chain.new conts.new }
+    ensures roomy { Roomy program.now chain.new conts.new }
     ensures references { KeepsReferences conts.old conts.new }
-    ensures err_chain { OnErr result (SameLinks chain.old chain.new) }
-    ensures err_conts { OnErr result (conts.new ≡ conts.old) }
 {
     let reference = match chain.stack().peek() {
-        Value::Null => return Ok(Did::Trapped(Trap::NullReference)),
+        Value::Null => return Did::Trapped(Trap::NullReference),
         Value::Cont(reference) => reference,
         _ => unreachable!(),
     };
     let args = match conts.look(reference) {
         Some(stored) => stored.takes as usize - 1,
-        None => return Ok(Did::Trapped(Trap::ConsumedContinuation)),
+        None => return Did::Trapped(Trap::ConsumedContinuation),
     };
     let Some(layer) = chain.find_switch(program, tag) else {
-        return Ok(Did::Trapped(Trap::Unhandled(tag)));
+        return Did::Trapped(Trap::Unhandled(tag));
     };
     let takes = match back_type(program, kind) {
-        Some(function) => function.params.len(),
+        Some(function) => function.params.len() as u32,
         None => unreachable!(),
     };
-    let Ok(takes) = u32::try_from(takes) else {
-        return Err(AllocError);
-    };
-    chain.stack_mut().reserve(takes as usize, 0, 0)?;
     match conts.take(reference) {
         Some(stored) => {
             exchange(chain, conts, stored.segment, layer, args, takes);
-            Ok(Did::Went)
+            Did::Went
         }
         None => unreachable!(),
     }

@@ -4,10 +4,11 @@ use Rattle.w_syntax.specs.declared.instructions.SwitchingOp.TheVariants as switc
 use Rattle.w_segment.specs.Shape.{Shape}
 use Rattle.w_segment.specs.Link.{top}
 use Rattle.w_switching.specs.Moved.{Bound}
-use Rattle.w_switching.specs.Sound.{Sound, is_of, IsGood}
+use Rattle.w_switching.specs.Sound.{Sound, is_of, IsGood, Roomy}
 use Rattle.w_switching.proofs.Binding.{bind_typed, bind_fits, bind_goes, bind_sound}
 use Rattle.w_switching.proofs.Consuming.{bind_consumes, null_traps, consumed_traps}
 use Rattle.w_switching.proofs.Facing.{place_behind}
+use Rattle.w_switching.proofs.Rooms.{segments_roomy, take_roomy, bind_roomy}
 use Rattle.w_switching.proofs.Sounding.{each_at, reference_of}
 use Rattle.w_switching.proofs.continuations.cont_bind.Goals as goal
 
@@ -77,3 +78,15 @@ returns-in-None-clause-goes c =
 
 pub returns-in-None-clause-sound : goal.returns-in-None-clause-sound
 returns-in-None-clause-sound c = subst (Sound c.args.chain.now) (sym c.in-None.ensures.none) c.requires.sound
+
+pub returns-in-Some-cont_type-clause-roomy : goal.returns-in-Some-cont_type-clause-roomy
+returns-in-Some-cont_type-clause-roomy c =
+    let m = c.args.program.now in
+    let C = c.args.chain.now in
+    let b = c.in-Some.stored in
+    bind_roomy m _ _ b.segment.value C c.take.new.self c.bind.new.chain c.bind.new.conts c.bind.ensures.after
+    (segments_roomy m C c.args.conts.now c.in-Cont.reference.serial b c.requires.roomy (sym c.in-Some.ensures.value))
+    (take_roomy m C c.args.conts.now c.take.new.self c.in-Cont.reference.serial c.in-Some.ensures.some c.requires.roomy)
+
+pub returns-in-None-clause-roomy : goal.returns-in-None-clause-roomy
+returns-in-None-clause-roomy c = subst (Roomy c.args.program.now c.args.chain.now) (sym c.in-None.ensures.none) c.requires.roomy

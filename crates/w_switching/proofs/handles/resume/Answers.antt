@@ -3,10 +3,11 @@ use Rattle.w_types.specs.declared.value.Value.TheVariants as value
 use Rattle.w_syntax.specs.declared.instructions.SwitchingOp.TheVariants as switching
 use Rattle.w_segment.specs.Shape.{Shape}
 use Rattle.w_segment.specs.Link.{top}
-use Rattle.w_switching.specs.Sound.{Sound, is_of, IsGood}
+use Rattle.w_switching.specs.Sound.{Sound, Roomy, is_of, IsGood}
 use Rattle.w_switching.proofs.Consuming.{resume_consumes, null_traps, consumed_traps}
 use Rattle.w_switching.proofs.Facing.{place_behind}
 use Rattle.w_switching.proofs.Resuming.{resume_fits, resume_goes, resume_sound}
+use Rattle.w_switching.proofs.Rooms.{segments_roomy, take_roomy, pass_roomy}
 use Rattle.w_switching.proofs.Sounding.{each_at, reference_of}
 use Rattle.w_switching.proofs.handles.resume.Goals as goal
 
@@ -66,3 +67,15 @@ returns-in-None-clause-goes c =
 
 pub returns-in-None-clause-sound : goal.returns-in-None-clause-sound
 returns-in-None-clause-sound c = subst (Sound c.args.chain.now) (sym c.in-None.ensures.none) c.requires.sound
+
+pub returns-in-Some-clause-roomy : goal.returns-in-Some-clause-roomy
+returns-in-Some-clause-roomy c =
+    let m = c.args.program.now in
+    let C = c.args.chain.now in
+    let b = c.in-Some.stored in
+    pass_roomy m b.takes b.segment.value C c.pass.new.chain c.take.new.self c.pass.ensures.after
+    (segments_roomy m C c.args.conts.now c.in-Cont.reference.serial b c.requires.roomy (sym c.in-Some.ensures.value))
+    (take_roomy m C c.args.conts.now c.take.new.self c.in-Cont.reference.serial c.in-Some.ensures.some c.requires.roomy)
+
+pub returns-in-None-clause-roomy : goal.returns-in-None-clause-roomy
+returns-in-None-clause-roomy c = subst (Roomy c.args.program.now c.args.chain.now) (sym c.in-None.ensures.none) c.requires.roomy

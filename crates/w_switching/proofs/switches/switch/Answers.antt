@@ -1,13 +1,12 @@
-use Rattle.std.proofs.Common.{◌≡◌, ◌∷◌, drop, refl, sym, ap, ◌∙◌, subst}
+use Rattle.std.proofs.Common.{◌≡◌, ◌∷◌, drop, refl, sym, ap, ◌∙◌, arith}
 use Rattle.w_types.specs.declared.value.Value.TheVariants as value
 use Rattle.w_syntax.specs.declared.instructions.SwitchingOp.TheVariants as switching
-use Rattle.w_segment.specs.Shape.{Shape, SameParts}
+use Rattle.w_segment.specs.Shape.{Shape}
 use Rattle.w_segment.specs.Link.{top}
 use Rattle.w_switching.proofs.Consuming.{switch_consumes, null_traps, consumed_traps}
 use Rattle.w_switching.proofs.Exchanging.{switch_traps, switch_typed}
-use Rattle.w_switching.proofs.MadeRoom.{can_exchange, room_goes, room_sound}
-use Rattle.w_switching.proofs.Parting.{on_err}
-use Rattle.w_switching.proofs.SameButRoom.{same_links, same_top}
+use Rattle.w_switching.proofs.Giving.{can_exchange, given_goes, given_sound, given_roomy}
+use Rattle.w_switching.proofs.LastTypes.{narrow_at_back}
 use Rattle.w_switching.proofs.Sounding.{reference_of}
 use Rattle.w_switching.proofs.switches.switch.Goals as goal
 
@@ -44,82 +43,83 @@ unreachable-requires-in-None-back_type c =
     (reference_of c.args.chain.now c.args.conts.now c.in-Cont.reference vs c.requires.sound on) (sym c.in-Some.ensures.kept) c.requires.at
     c.in-Some-find_switch.layer c.in-Some-find_switch.ensures.found (sym c.in-None-back_type.ensures.kind)
 
-pub returns-in_default-try_from-clause-err_chain : goal.returns-in_default-try_from-clause-err_chain
-returns-in_default-try_from-clause-err_chain c = same_links c.args.chain.now
-
-pub returns-in_err-reserve-clause-err_chain : goal.returns-in_err-reserve-clause-err_chain
-returns-in_err-reserve-clause-err_chain c =
-    on_err c.from_residual.result
-    (same_top c.reserve.new.self c.args.chain.now (subst (λ (z : Shape). SameParts z c.reserve.new.self) c.stack_mut.ensures.value c.reserve.ensures.same))
-
 pub take-requires : goal.take-requires
 take-requires c = record {
   of = reference_of c.args.chain.now c.args.conts.now c.in-Cont.reference (drop 1 c.stack.result.now.operands) c.requires.sound
       (ap (λ (s : Shape). s.operands) (sym c.stack.ensures.value) ∙ c.in-Cont.ensures.value);
 }
 
+pub overflow_cast-takes : goal.overflow_cast-takes
+overflow_cast-takes c =
+    let n = narrow_at_back c.args.program.now c.args.kind c.in-Some-back_type.function.now c.requires.at.at.stand.narrow (sym c.in-Some-back_type.ensures.kind) in
+    let l = c.len.ensures in
+    omega (arith, n, l)
+
 pub exchange-requires-clause-layer : goal.exchange-requires-clause-layer
 exchange-requires-clause-layer c =
     let vs = drop 1 c.stack.result.now.operands in
     let on : (top c.args.chain.now).shape.operands ≡ value.Cont c.in-Cont.reference ∷ vs = ap (λ (s : Shape). s.operands) (sym c.stack.ensures.value) ∙ c.in-Cont.ensures.value in
-    let same = subst (λ (z : Shape). SameParts z c.reserve.new.self) c.stack_mut.ensures.value c.reserve.ensures.same in
     (can_exchange c.args.program.now c.args.chain.now c.args.conts.now c.args.kind c.args.tag c.in-Cont.reference vs c.in-Some.stored.now c.in-Some-take.stored on c.requires.sound
     (sym c.in-Some.ensures.kept) (sym c.in-Some-take.ensures.value) c.requires.at c.in-Some-find_switch.layer c.in-Some-find_switch.ensures.found c.in-Some-back_type.function.now
-    (sym c.in-Some-back_type.ensures.kind) c.reserve.new.self same c.requires.takes c.requires.few).layer_is
+    (sym c.in-Some-back_type.ensures.kind) c.requires.takes c.requires.few).layer_is
 
 pub exchange-requires-clause-operands : goal.exchange-requires-clause-operands
 exchange-requires-clause-operands c =
     let vs = drop 1 c.stack.result.now.operands in
     let on : (top c.args.chain.now).shape.operands ≡ value.Cont c.in-Cont.reference ∷ vs = ap (λ (s : Shape). s.operands) (sym c.stack.ensures.value) ∙ c.in-Cont.ensures.value in
-    let same = subst (λ (z : Shape). SameParts z c.reserve.new.self) c.stack_mut.ensures.value c.reserve.ensures.same in
     (can_exchange c.args.program.now c.args.chain.now c.args.conts.now c.args.kind c.args.tag c.in-Cont.reference vs c.in-Some.stored.now c.in-Some-take.stored on c.requires.sound
     (sym c.in-Some.ensures.kept) (sym c.in-Some-take.ensures.value) c.requires.at c.in-Some-find_switch.layer c.in-Some-find_switch.ensures.found c.in-Some-back_type.function.now
-    (sym c.in-Some-back_type.ensures.kind) c.reserve.new.self same c.requires.takes c.requires.few).operands
+    (sym c.in-Some-back_type.ensures.kind) c.requires.takes c.requires.few).operands
 
 pub exchange-requires-clause-place : goal.exchange-requires-clause-place
 exchange-requires-clause-place c =
     let vs = drop 1 c.stack.result.now.operands in
     let on : (top c.args.chain.now).shape.operands ≡ value.Cont c.in-Cont.reference ∷ vs = ap (λ (s : Shape). s.operands) (sym c.stack.ensures.value) ∙ c.in-Cont.ensures.value in
-    let same = subst (λ (z : Shape). SameParts z c.reserve.new.self) c.stack_mut.ensures.value c.reserve.ensures.same in
     (can_exchange c.args.program.now c.args.chain.now c.args.conts.now c.args.kind c.args.tag c.in-Cont.reference vs c.in-Some.stored.now c.in-Some-take.stored on c.requires.sound
     (sym c.in-Some.ensures.kept) (sym c.in-Some-take.ensures.value) c.requires.at c.in-Some-find_switch.layer c.in-Some-find_switch.ensures.found c.in-Some-back_type.function.now
-    (sym c.in-Some-back_type.ensures.kind) c.reserve.new.self same c.requires.takes c.requires.few).place
+    (sym c.in-Some-back_type.ensures.kind) c.requires.takes c.requires.few).place
 
 pub exchange-requires-clause-room : goal.exchange-requires-clause-room
 exchange-requires-clause-room c =
     let vs = drop 1 c.stack.result.now.operands in
     let on : (top c.args.chain.now).shape.operands ≡ value.Cont c.in-Cont.reference ∷ vs = ap (λ (s : Shape). s.operands) (sym c.stack.ensures.value) ∙ c.in-Cont.ensures.value in
-    let same = subst (λ (z : Shape). SameParts z c.reserve.new.self) c.stack_mut.ensures.value c.reserve.ensures.same in
     (can_exchange c.args.program.now c.args.chain.now c.args.conts.now c.args.kind c.args.tag c.in-Cont.reference vs c.in-Some.stored.now c.in-Some-take.stored on c.requires.sound
     (sym c.in-Some.ensures.kept) (sym c.in-Some-take.ensures.value) c.requires.at c.in-Some-find_switch.layer c.in-Some-find_switch.ensures.found c.in-Some-back_type.function.now
-    (sym c.in-Some-back_type.ensures.kind) c.reserve.new.self same c.requires.takes c.requires.few).room
+    (sym c.in-Some-back_type.ensures.kind) c.requires.takes c.requires.few).room
 
 pub exchange-requires-clause-few : goal.exchange-requires-clause-few
 exchange-requires-clause-few c =
     let vs = drop 1 c.stack.result.now.operands in
     let on : (top c.args.chain.now).shape.operands ≡ value.Cont c.in-Cont.reference ∷ vs = ap (λ (s : Shape). s.operands) (sym c.stack.ensures.value) ∙ c.in-Cont.ensures.value in
-    let same = subst (λ (z : Shape). SameParts z c.reserve.new.self) c.stack_mut.ensures.value c.reserve.ensures.same in
     (can_exchange c.args.program.now c.args.chain.now c.args.conts.now c.args.kind c.args.tag c.in-Cont.reference vs c.in-Some.stored.now c.in-Some-take.stored on c.requires.sound
     (sym c.in-Some.ensures.kept) (sym c.in-Some-take.ensures.value) c.requires.at c.in-Some-find_switch.layer c.in-Some-find_switch.ensures.found c.in-Some-back_type.function.now
-    (sym c.in-Some-back_type.ensures.kind) c.reserve.new.self same c.requires.takes c.requires.few).few
+    (sym c.in-Some-back_type.ensures.kind) c.requires.takes c.requires.few).few
 
 pub returns-clause-goes : goal.returns-clause-goes
 returns-clause-goes c =
     let vs = drop 1 c.stack.result.now.operands in
     let on : (top c.args.chain.now).shape.operands ≡ value.Cont c.in-Cont.reference ∷ vs = ap (λ (s : Shape). s.operands) (sym c.stack.ensures.value) ∙ c.in-Cont.ensures.value in
-    let same = subst (λ (z : Shape). SameParts z c.reserve.new.self) c.stack_mut.ensures.value c.reserve.ensures.same in
-    room_goes c.args.program.now c.args.chain.now c.args.conts.now c.args.kind c.args.tag c.in-Cont.reference vs c.in-Some.stored.now c.in-Some-take.stored on c.requires.sound
+    given_goes c.args.program.now c.args.chain.now c.args.conts.now c.args.kind c.args.tag c.in-Cont.reference vs c.in-Some.stored.now c.in-Some-take.stored on c.requires.sound
     (sym c.in-Some.ensures.kept) (sym c.in-Some-take.ensures.value) c.requires.at c.in-Some-find_switch.layer c.in-Some-find_switch.ensures.found c.in-Some-back_type.function.now
-    (sym c.in-Some-back_type.ensures.kind) c.reserve.new.self same
-    c.in-Ok.takes (c.in-Ok.ensures.1 ∙ c.len-takes.ensures) c.take.new.self c.exchange.new.chain c.exchange.new.conts c.in-Some-take.ensures.some c.exchange.ensures.after
+    (sym c.in-Some-back_type.ensures.kind)
+    c.len.result c.len.ensures c.take.new.self c.exchange.new.chain c.exchange.new.conts c.in-Some-take.ensures.some c.exchange.ensures.after
 
 pub returns-clause-sound : goal.returns-clause-sound
 returns-clause-sound c =
     let vs = drop 1 c.stack.result.now.operands in
     let on : (top c.args.chain.now).shape.operands ≡ value.Cont c.in-Cont.reference ∷ vs = ap (λ (s : Shape). s.operands) (sym c.stack.ensures.value) ∙ c.in-Cont.ensures.value in
-    let same = subst (λ (z : Shape). SameParts z c.reserve.new.self) c.stack_mut.ensures.value c.reserve.ensures.same in
-    room_sound c.args.program.now c.args.chain.now c.args.conts.now c.args.kind c.args.tag c.in-Cont.reference vs c.in-Some.stored.now c.in-Some-take.stored on c.requires.sound
+    given_sound c.args.program.now c.args.chain.now c.args.conts.now c.args.kind c.args.tag c.in-Cont.reference vs c.in-Some.stored.now c.in-Some-take.stored on c.requires.sound
     (sym c.in-Some.ensures.kept) (sym c.in-Some-take.ensures.value) c.requires.at c.in-Some-find_switch.layer c.in-Some-find_switch.ensures.found c.in-Some-back_type.function.now
-    (sym c.in-Some-back_type.ensures.kind) c.reserve.new.self same
-    c.in-Ok.takes (c.in-Ok.ensures.1 ∙ c.len-takes.ensures) c.take.new.self c.exchange.new.chain c.exchange.new.conts c.in-Some-take.ensures.some c.exchange.ensures.after
-    c.in_ok-reserve.ensures.ok c.requires.few c.in-Some-take.ensures.references c.exchange.ensures.references
+    (sym c.in-Some-back_type.ensures.kind)
+    c.len.result c.len.ensures c.take.new.self c.exchange.new.chain c.exchange.new.conts c.in-Some-take.ensures.some c.exchange.ensures.after
+    c.requires.roomy c.requires.few c.in-Some-take.ensures.references c.exchange.ensures.references
+
+pub returns-clause-roomy : goal.returns-clause-roomy
+returns-clause-roomy c =
+    let vs = drop 1 c.stack.result.now.operands in
+    let on : (top c.args.chain.now).shape.operands ≡ value.Cont c.in-Cont.reference ∷ vs = ap (λ (s : Shape). s.operands) (sym c.stack.ensures.value) ∙ c.in-Cont.ensures.value in
+    given_roomy c.args.program.now c.args.chain.now c.args.conts.now c.args.kind c.args.tag c.in-Cont.reference vs c.in-Some.stored.now c.in-Some-take.stored on c.requires.sound
+    (sym c.in-Some.ensures.kept) (sym c.in-Some-take.ensures.value) c.requires.at c.in-Some-find_switch.layer c.in-Some-find_switch.ensures.found c.in-Some-back_type.function.now
+    (sym c.in-Some-back_type.ensures.kind)
+    c.len.result c.len.ensures c.take.new.self c.exchange.new.chain c.exchange.new.conts c.in-Some-take.ensures.some c.exchange.ensures.after
+    c.requires.roomy
