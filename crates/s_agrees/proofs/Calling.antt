@@ -1,5 +1,5 @@
 -- Calls of functions, and of functions under a handle.
-use Rattle.std.proofs.Common.{◌≡◌, ℕ, suc, Bool, List, [], ◌∷◌, length, Option, Some, refl, sym, ap, ◌∙◌, arith}
+use Rattle.std.proofs.Common.{◌≡◌, ℕ, suc, ◌-◌, Bool, List, [], ◌∷◌, length, Option, Some, refl, sym, ap, ◌∙◌, arith}
 use Rattle.w_types.specs.Rows.{Row, ε, ◌⧺◌}
 use Rattle.w_syntax.specs.Code.{Code, Plain}
 use Rattle.w_reduce.specs.Values.{Val}
@@ -55,7 +55,7 @@ module _ {p : Script} (same : ℕ → ℕ → Bool) (facts : Facts p.declaration
       let q = facts.functions g fn is in
       let b = bind_known fn.parameters (script.listed vs) (sym enough ∙ sym (listed_many vs)) in
       let t : Term = config e (ops ⧺ ws) (Plain (call (function_index ds g)) c) in
-      let t' : Term = config (entered ops ws (function_locals fn) (rest_of c) e) ε (body ds (function_layout fn) 0 fn.body) in
+      let t' : Term = config (entered (function_index ds g - 1) ops ws (function_locals fn) (rest_of c) e) ε (body ds (function_layout fn) 0 fn.body) in
       let called : step (program_of p same) s t ≡ Went [] s t' =
       invoke_step p same s e ops ws (rest_of c) (function_index ds g) (val_types fn.parameters) (record { locals = function_locals fn; body = body ds (function_layout fn) 0 fn.body }) stores.functions (function_stored ds g fn is)
       (types_many fn.parameters ∙ sym enough ∙ sames_many values) in

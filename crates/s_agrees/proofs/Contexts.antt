@@ -239,8 +239,8 @@ base_plug {ds} {Γ} {L} {below} {c} {e} {owner} {D0} tail (clause {h = h} {i = i
 
 pub base_cut : {ds : List Declaration} {Γ : Layout} {L : Locals} {below : Row Val} {c : Code} {e : Context} {owner : Option Name} {D0 : ℕ} {f : Context} (e1 tail : Context) → e ≡ e1 ++ tail
     → Base ds Γ L below c e owner D0 f → (f1 : Context) × Base ds Γ L below c e1 owner D0 f1 × (f ≡ f1 ++ tail)
-base_cut {L = L} {below = below} {c = c} e1 tail split (function o) =
-    (Label ε 1 Done Done ∷ Frame below 1 L (rest_of c) ∷ e1, function o, ap (λ (z : Context). Label ε 1 Done Done ∷ Frame below 1 L (rest_of c) ∷ z) split)
+base_cut {L = L} {below = below} {c = c} e1 tail split (function {place = place} o) =
+    (Label ε 1 Done Done ∷ Frame below 1 place L (rest_of c) ∷ e1, function o, ap (λ (z : Context). Label ε 1 Done Done ∷ Frame below 1 place L (rest_of c) ∷ z) split)
 base_cut {ds} {L = L} {below = below} {c = c} e1 tail split (clause {h = h} {i = i} ps is o few room) = (
   clause_labels ds ps (in_loop ds h i L below c e1),
   clause ps is o few room,

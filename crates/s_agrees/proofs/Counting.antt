@@ -20,7 +20,7 @@ use Rattle.s_agrees.proofs.Contexts.{works_deep}
 abbrev pub labels : Context → ℕ
 labels [] = 0
 labels (Label below n again rest ∷ e) = suc (labels e)
-labels (Frame below n locals rest ∷ e) = labels e
+labels (Frame below n f locals rest ∷ e) = labels e
 labels (Handle below hs rest ∷ e) = labels e
 
 -- and in the contexts of continuations
@@ -37,37 +37,37 @@ weight s t = labels t.around + stored s.conts
 pub labels_plug : (e tail : Context) → labels (e ++ tail) ≡ labels e + labels tail
 labels_plug [] tail = omega arith
 labels_plug (Label below n again rest ∷ e) tail = let q = labels_plug e tail in omega (arith, q)
-labels_plug (Frame below n locals rest ∷ e) tail = labels_plug e tail
+labels_plug (Frame below n f locals rest ∷ e) tail = labels_plug e tail
 labels_plug (Handle below hs rest ∷ e) tail = labels_plug e tail
 
 pub frames_plug : (e tail : Context) → frames (e ++ tail) ≡ frames e + frames tail
 frames_plug [] tail = omega arith
 frames_plug (Label below n again rest ∷ e) tail = frames_plug e tail
-frames_plug (Frame below n locals rest ∷ e) tail = let q = frames_plug e tail in omega (arith, q)
+frames_plug (Frame below n f locals rest ∷ e) tail = let q = frames_plug e tail in omega (arith, q)
 frames_plug (Handle below hs rest ∷ e) tail = frames_plug e tail
 
 pub handles_plug : (e tail : Context) → handles (e ++ tail) ≡ handles e + handles tail
 handles_plug [] tail = omega arith
 handles_plug (Label below n again rest ∷ e) tail = handles_plug e tail
-handles_plug (Frame below n locals rest ∷ e) tail = handles_plug e tail
+handles_plug (Frame below n f locals rest ∷ e) tail = handles_plug e tail
 handles_plug (Handle below hs rest ∷ e) tail = let q = handles_plug e tail in omega (arith, q)
 
 pub labels_set : (y : ℕ) (v : Val) (e : Context) → labels (with_local y v e) ≡ labels e
 labels_set y v [] = refl
 labels_set y v (Label below n again rest ∷ e) = ap suc (labels_set y v e)
-labels_set y v (Frame below n locals rest ∷ e) = refl
+labels_set y v (Frame below n f locals rest ∷ e) = refl
 labels_set y v (Handle below hs rest ∷ e) = refl
 
 pub frames_set : (y : ℕ) (v : Val) (e : Context) → frames (with_local y v e) ≡ frames e
 frames_set y v [] = refl
 frames_set y v (Label below n again rest ∷ e) = frames_set y v e
-frames_set y v (Frame below n locals rest ∷ e) = refl
+frames_set y v (Frame below n f locals rest ∷ e) = refl
 frames_set y v (Handle below hs rest ∷ e) = refl
 
 pub handles_set : (y : ℕ) (v : Val) (e : Context) → handles (with_local y v e) ≡ handles e
 handles_set y v [] = refl
 handles_set y v (Label below n again rest ∷ e) = handles_set y v e
-handles_set y v (Frame below n locals rest ∷ e) = refl
+handles_set y v (Frame below n f locals rest ∷ e) = refl
 handles_set y v (Handle below hs rest ∷ e) = refl
 
 -- ## The blocks of clauses

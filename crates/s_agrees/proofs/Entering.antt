@@ -1,5 +1,5 @@
 -- Calls: from the arguments on the stack to the body of a function of the module, and to the computation that a handler's function resumes.
-use Rattle.std.proofs.Common.{◌≡◌, ℕ, zero, suc, ◌+◌, Bool, false, List, [], ◌∷◌, ◌++◌, map, length, Option, Some, inl, inr, refl, sym, ap, ◌∙◌, subst, arith, length-append}
+use Rattle.std.proofs.Common.{◌≡◌, ℕ, zero, suc, ◌+◌, ◌-◌, Bool, false, List, [], ◌∷◌, ◌++◌, map, length, Option, Some, inl, inr, refl, sym, ap, ◌∙◌, subst, arith, length-append}
 use Rattle.std.specs.Prelude.{slice_get}
 use Rattle.w_types.specs.Rows.{Row, ε, ◌▹◌, ◌⧺◌, size, listed}
 use Rattle.w_types.specs.declared.types.ValType.{ValType}
@@ -37,7 +37,7 @@ use Rattle.s_valid.proofs.ModuleOffers.{offers_all}
 use Rattle.s_valid.proofs.Stored.{Stored}
 use Rattle.s_meaning.proofs.Lists.{get_before, get_last}
 use Rattle.s_agrees.proofs.ScriptRows.{Values, many, listed_more, listed_many}
-use Rattle.s_agrees.proofs.Standing.{config, Same, Sames, none, more, Locals, Held, clause_labels, loop_code, in_loop}
+use Rattle.s_agrees.proofs.Standing.{config, Same, Sames, none, more, Locals, Held, clause_labels, handler_place, loop_code, in_loop}
 use Rattle.s_agrees.proofs.Contexts.{clauses_locals}
 use Rattle.s_agrees.proofs.StoresGrow.{old_or_new}
 use Rattle.s_agrees.proofs.Cutting.{clauses_of, clauses_placed}
@@ -92,16 +92,18 @@ held_first {ws = ws} locals s = record {
 
 -- ## A call, and an invoke, to the frame
 
-abbrev pub entered : Row Val → Row Val → List LocalRun → Rest → Context → Context
-entered below ws locals rest e = Label ε 1 Done Done ∷ Frame below 1 (first_locals ws locals) rest ∷ e
+abbrev pub entered : ℕ → Row Val → Row Val → List LocalRun → Rest → Context → Context
+entered place below ws locals rest e = Label ε 1 Done Done ∷ Frame below 1 place (first_locals ws locals) rest ∷ e
 
 pub invoke_step : (p : Script) (same : ℕ → ℕ → Bool) (s : Store) (e : Context) (ops ws : Row Val) (rest : Rest) (a : ℕ) (ts : List ValType) (b : Body)
     → s.functions ≡ (first_store p.declarations).functions → Stored p.declarations a (arrow ts (I64 ∷ [])) b → length ts ≡ size ws
-    → invoke (program_of p same) s e (ops ⧺ ws) a rest ≡ steps_to s (entered ops ws b.locals rest e) ε (rest_of b.body)
+    → invoke (program_of p same) s e (ops ⧺ ws) a rest ≡ steps_to s (entered (a - 1) ops ws b.locals rest e) ε (rest_of b.body)
 invoke_step p same s e ops ws rest a ts b functions there enough =
     let entry : slice_get s.functions a ≡ Some (Own there.place) = ap (λ (l : List FuncEntry). slice_get l a) functions ∙ there.entry in
-    rw (entry, there.type, there.code)
-    (takes (length ts) ops ws (λ q. steps_to s (Label ε 1 Done Done ∷ Frame q.0 1 (map (λ (v : Val). Some v) (listed q.1) ++ defaults b.locals) rest ∷ e) ε (rest_of b.body)) enough)
+    let place : there.place ≡ a - 1 = let behind = there.behind in omega (arith, behind) in
+    subst (λ (k : ℕ). invoke (program_of p same) s e (ops ⧺ ws) a rest ≡ steps_to s (entered k ops ws b.locals rest e) ε (rest_of b.body)) place
+    (rw (entry, there.type, there.code)
+    (takes (length ts) ops ws (λ q. steps_to s (Label ε 1 Done Done ∷ Frame q.0 1 there.place (map (λ (v : Val). Some v) (listed q.1) ++ defaults b.locals) rest ∷ e) ε (rest_of b.body)) enough))
 
 -- ## A handler's function, from its loop to the computation that it resumes
 
@@ -167,10 +169,10 @@ block_path p same h i is {k} {s} {e} (q ∷ ps) c all u =
 pub enter_path : (p : Script) (same : ℕ → ℕ → Bool) (h : Name) (i : Handler) → handler_of p.declarations h ≡ Some i
     → {k : Caps} {s : Store} {e : Context} {below : Row Val} {c : Code} {L : Locals} (b : ℕ) (kept : Kept)
     → slice_get L (length i.parameters) ≡ Some (Some (Cont b)) → slice_get s.conts b ≡ Some (Some kept) → kept.takes ≡ 0
-    → Under k s (Frame below 1 L (rest_of c) ∷ e)
+    → Under k s (Frame below 1 (handler_place p.declarations h) L (rest_of c) ∷ e)
     → Under k (without_cont b s) (kept.term.around ++ Handle ε (labels p.declarations 0 i.clauses) (return_code p.declarations (return_layout h i) (length i.clauses) i)
     ∷ clause_labels p.declarations (placed_clauses h i) (in_loop p.declarations h i L below c e))
-    → Path (program_of p same) k (3 + length i.clauses) s (config (Label ε 1 Done Done ∷ Frame below 1 L (rest_of c) ∷ e) ε (loop_code p.declarations h i))
+    → Path (program_of p same) k (3 + length i.clauses) s (config (Label ε 1 Done Done ∷ Frame below 1 (handler_place p.declarations h) L (rest_of c) ∷ e) ε (loop_code p.declarations h i))
     (without_cont b s) (record {
       around = kept.term.around ++ Handle ε (labels p.declarations 0 i.clauses) (return_code p.declarations (return_layout h i) (length i.clauses) i)
           ∷ clause_labels p.declarations (placed_clauses h i) (in_loop p.declarations h i L below c e);
@@ -191,6 +193,6 @@ enter_path p same h i is {k} {s} {e} {below} {c} {L} b kept local there nothing 
     let entered_all = block_path p same h i is {k = k} {s = s} {e = in_loop ds h i L below c e} ps (handling ds (return_layout h i) i) (all_placed h i) inside in
     let got : Path (program_of p same) k 2 s (config (clause_labels ds ps (in_loop ds h i L below c e)) ε (handling ds (return_layout h i) i)) (without_cont b s) end =
     get_path {L = L} (length i.parameters) (Cont b) (clauses_locals ds ps (in_loop ds h i L below c e)) local (under_clauses ds ps inside) (go resumed v stay) in
-    subst (λ (j : ℕ). Path (program_of p same) k j s (config (Label ε 1 Done Done ∷ Frame below 1 L (rest_of c) ∷ e) ε (loop_code ds h i)) (without_cont b s) end)
+    subst (λ (j : ℕ). Path (program_of p same) k j s (config (Label ε 1 Done Done ∷ Frame below 1 (handler_place ds h) L (rest_of c) ∷ e) ε (loop_code ds h i)) (without_cont b s) end)
     (let m = many_placed h i in let z : suc (length ps + 2) ≡ 3 + length i.clauses = omega (arith, m) in z)
     (go refl inside (path_on entered_all got))

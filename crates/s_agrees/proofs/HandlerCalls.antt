@@ -23,7 +23,7 @@ use Rattle.s_meaning.specs.Terms.{Value, Reference, listed, Variable, Resuming, 
 use Rattle.s_meaning.specs.Terms as script
 use Rattle.s_meaning.proofs.Lists.{get_before, get_last}
 use Rattle.s_agrees.proofs.ScriptRows.{Values, many}
-use Rattle.s_agrees.proofs.Standing.{config, Sames, Locals, Held, loop_code, handler_room, Stores}
+use Rattle.s_agrees.proofs.Standing.{config, Sames, Locals, Held, handler_place, loop_code, handler_room, Stores}
 use Rattle.s_agrees.proofs.Paths.{program_of, step}
 use Rattle.s_agrees.proofs.Facts.{HandlerFacts}
 use Rattle.s_agrees.proofs.Entering.{sames_many, listed_size, first_locals, many_locals, value_at, get_mapped, invoke_step}
@@ -65,7 +65,7 @@ pub handler_step : (p : Script) (same : ℕ → ℕ → Bool) {ρ : List ℕ} {�
     (facts : HandlerFacts p.declarations h i) (s' : Store) (functions : s'.functions ≡ s.functions) {vs : Values} {ws : Row Val} (values : Sames ρ vs ws) (number : many vs ≡ length i.parameters) (e : Context) (ops : Row Val)
     (c : Code) (b : ℕ)
     → step (program_of p same) s' (config e ((ops ⧺ ws) ▹ Cont b) (Plain (call (handler_index p.declarations h)) c))
-    ≡ Went [] s' (config (Label ε 1 Done Done ∷ Frame ops 1 (handler_first h i ws b) (rest_of c) ∷ e) ε (loop_code p.declarations h i))
+    ≡ Went [] s' (config (Label ε 1 Done Done ∷ Frame ops 1 (handler_place p.declarations h) (handler_first h i ws b) (rest_of c) ∷ e) ε (loop_code p.declarations h i))
 handler_step p same stores h {i} is facts s' functions {ws = ws} values number e ops c b =
     invoke_step p same s' e ops (ws ▹ Cont b) (rest_of c) (handler_index p.declarations h) (val_types i.parameters ++ to_continuation true computation_type ∷ []) (handler_code p.declarations h i)
     (functions ∙ stores.functions) (handler_stored p.declarations h i is) (first_many p.declarations facts values number b)

@@ -38,7 +38,7 @@ use Rattle.s_valid.specs.Offers.{arrow}
 use Rattle.s_valid.proofs.ModuleOffers.{offers_all}
 use Rattle.s_valid.proofs.Stored.{function_stored}
 use Rattle.s_agrees.proofs.ScriptRows.{Values, ◌⧻◌, many, listed_both, listed_many}
-use Rattle.s_agrees.proofs.Standing.{config, Sames, none, more, Locals, HeldAt, held_none, held_more, Active, gets, handle_code, Works, clause_labels, in_loop, Base, function, Waits, activation, handle, runs, Stores}
+use Rattle.s_agrees.proofs.Standing.{config, Sames, none, more, Locals, HeldAt, held_none, held_more, Active, gets, handle_code, Works, handler_place, clause_labels, in_loop, Base, function, Waits, activation, handle, runs, Stores}
 use Rattle.s_agrees.proofs.Facts.{Facts}
 use Rattle.s_agrees.proofs.Contexts.{deep_locals, works_deep, base_locals}
 use Rattle.s_agrees.proofs.Counting.{stored, clauses_labels, clauses_frames, clauses_handles, live_more, live_none, stored_none}
@@ -184,11 +184,11 @@ module _ {p : Script} (same : ℕ → ℕ → Bool) (facts : Facts p.declaration
       let ec_frames = clauses_frames ds ps (in_loop ds h i Lh ops c e) in
       let ec_handles = clauses_handles ds ps (in_loop ds h i Lh ops c e) in
       let ec_labels = clauses_labels ds ps (in_loop ds h i Lh ops c e) in
-      let entering : Under k0 s1 (Frame ops 1 Lh (rest_of c) ∷ e) = record { frames = omega arith; handles = omega arith; conts = omega (arith, live1) } in
-      let inside : Under k0 s1 (Label ε 1 Done Done ∷ Frame ops 1 Lh (rest_of c) ∷ e) = record { frames = entering.frames; handles = entering.handles; conts = entering.conts } in
+      let entering : Under k0 s1 (Frame ops 1 (handler_place ds h) Lh (rest_of c) ∷ e) = record { frames = omega arith; handles = omega arith; conts = omega (arith, live1) } in
+      let inside : Under k0 s1 (Label ε 1 Done Done ∷ Frame ops 1 (handler_place ds h) Lh (rest_of c) ∷ e) = record { frames = entering.frames; handles = entering.handles; conts = entering.conts } in
       let resumed : Under k0 s2 E = record { frames = omega (arith, ec_frames); handles = omega (arith, ec_handles); conts = omega (arith, live2) } in
       let N = enter_path p same h i is_h {k = k0} {s = s1} {e = e} {below = ops} {c = c} {L = Lh} b1 K (first_handled ds hf values enough_h b1) (get_last (s.conts ++ None ∷ []) (Some K)) refl entering resumed in
-      let t' : Term = config (entered ε us' (function_locals fn) (rest_of Done) E) ε (body ds (function_layout fn) 0 fn.body) in
+      let t' : Term = config (entered (a - 1) ε us' (function_locals fn) (rest_of Done) E) ε (body ds (function_layout fn) 0 fn.body) in
       let invoked : step (program_of p same) s2 (record { around = E; operands = ε ⧺ us'; rest = record { ahead = Invoke a ∷ []; code = Done } }) ≡ Went [] s2 t' =
       invoke_step p same s2 E ε us' (rest_of Done) a (val_types fn.parameters) (function_code ds fn) stores.functions f_stored (types_many fn.parameters ∙ many_us) in
       let last : Under k0 s2 t'.around = record { frames = omega (arith, ec_frames); handles = omega (arith, ec_handles); conts = omega (arith, live2) } in

@@ -35,7 +35,7 @@ use Rattle.s_meaning.specs.Focus.{variable_of}
 use Rattle.s_meaning.specs.Steps.{Step, or_fault, emptied, kept_at, goes, resumes, applies}
 use Rattle.s_meaning.proofs.Lists.{get_last, length_set}
 use Rattle.s_agrees.proofs.ScriptRows.{Values, no_values, ◌▸◌, ◌⧻◌, many, listed_both, listed_many}
-use Rattle.s_agrees.proofs.Standing.{config, Same, reference, Sames, Locals, LocalIs, InLocal, Held, Active, resume_code, Works, clause_labels, loop_code, in_loop, handler_room, Base, Waits, activation, handle, Stands, gives, KeptAs, Entry, consumed, keeps, Stores, At}
+use Rattle.s_agrees.proofs.Standing.{config, Same, reference, Sames, Locals, LocalIs, InLocal, Held, Active, resume_code, Works, clause_labels, handler_place, loop_code, in_loop, handler_room, Base, Waits, activation, handle, Stands, gives, KeptAs, Entry, consumed, keeps, Stores, At}
 use Rattle.s_agrees.proofs.Contexts.{deep_locals, works_deep, base_locals, waits_join}
 use Rattle.s_agrees.proofs.Counting.{labels, stored, labels_plug, frames_plug, handles_plug, clauses_labels, clauses_frames, clauses_handles, live_more, live_none, live_less, stored_none, stored_less}
 use Rattle.s_agrees.proofs.Paths.{program_of, step, Caps, Under, Path, stay, go, path_wider, takes, get_path}
@@ -149,7 +149,7 @@ module _ (p : Script) (same : ℕ → ℕ → Bool) (s : Store) (b : ℕ) (k : K
     (L : Locals) (below : Row Val) (c : Code) (e : Context) (local : slice_get L (length i.parameters) ≡ Some (Some (Cont (next_cont s)))) where
   -- from the handler's function to the kept context
   pub resumed_path : Path (program_of p same) (resuming_caps s e k) (3 + length i.clauses)
-      (with_bound s b k w) (config (Label ε 1 Done Done ∷ Frame below 1 L (rest_of c) ∷ e) ε (loop_code p.declarations h i)) (spent s b k w) (resumed p.declarations h i L below c e k w)
+      (with_bound s b k w) (config (Label ε 1 Done Done ∷ Frame below 1 (handler_place p.declarations h) L (rest_of c) ∷ e) ε (loop_code p.declarations h i)) (spent s b k w) (resumed p.declarations h i L below c e k w)
   resumed_path =
       let f = resumed_frames p.declarations h i L below c e k w in let g = resumed_handles p.declarations h i L below c e k w in
       let x = bound_live s b k w there in let y = spent_live s b k w there in let z = live_less s.conts b k there in
@@ -217,7 +217,7 @@ module _ {p : Script} (same : ℕ → ℕ → Bool) (facts : Facts p.declaration
       let live_same = bound_live s b k v right_is in
       let there : Under caps s e = record { frames = omega arith; handles = omega arith; conts = omega arith } in
       let there' : Under caps woken e = record { frames = omega arith; handles = omega arith; conts = omega (arith, live_same) } in
-      let inside : Under caps woken (Label ε 1 Done Done ∷ Frame ops 1 L' (rest_of c) ∷ e) = record { frames = omega arith; handles = omega arith; conts = omega (arith, live_same) } in
+      let inside : Under caps woken (Label ε 1 Done Done ∷ Frame ops 1 (handler_place ds h) L' (rest_of c) ∷ e) = record { frames = omega arith; handles = omega arith; conts = omega (arith, live_same) } in
       let path : Path P caps (4 + (3 + length i.clauses)) s
       (config e (ops ⧺ ws) (Plain (local_get y) (Plain (local_get (local_number Γ x)) (Plain (bind_continuation resumption_type computation_type) (Plain (call (handler_index ds h)) c)))))
       (spent s b k v) end =

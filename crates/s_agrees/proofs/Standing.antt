@@ -1,6 +1,6 @@
 -- How a configuration of the module's run stands for one of the script: each activation is a frame, each active handle a frame of the
 -- handler's function, inside its loop and the blocks of its clauses, that waits at its resume.
-use Rattle.std.proofs.Common.{◌≡◌, ℕ, zero, suc, ◌+◌, ◌<◌, ◌≤◌, ◌^◌, true, false, max, ℤ, List, [], ◌∷◌, length, Option, Some, None}
+use Rattle.std.proofs.Common.{◌≡◌, ℕ, zero, suc, ◌+◌, ◌<◌, ◌-◌, ◌≤◌, ◌^◌, true, false, max, ℤ, List, [], ◌∷◌, length, Option, Some, None}
 use Rattle.std.specs.Prelude.{slice_get}
 use Rattle.w_num.specs.Signed.{signed}
 use Rattle.w_types.specs.Rows.{Row, ε, ◌▹◌, ◌⧺◌}
@@ -281,9 +281,13 @@ clause_labels ds (p ∷ ps) e = Label ε (suc (length p.clause.arguments)) Done 
 abbrev pub loop_code : List Declaration → Name → Handler → Code
 loop_code ds h i = handler_body ds (return_layout h i) i (placed_clauses h i)
 
+-- the index of a handler's function among the module's own: behind that of the host
+abbrev pub handler_place : List Declaration → Name → ℕ
+handler_place ds h = handler_index ds h - 1
+
 -- a handler's function inside its loop
 abbrev pub in_loop : List Declaration → Name → Handler → Locals → Row Val → Code → Context → Context
-in_loop ds h i L below c e = Label ε 0 (loop_code ds h i) Done ∷ Label ε 1 Done Done ∷ Frame below 1 L (rest_of c) ∷ e
+in_loop ds h i L below c e = Label ε 0 (loop_code ds h i) Done ∷ Label ε 1 Done Done ∷ Frame below 1 (handler_place ds h) L (rest_of c) ∷ e
 
 -- how many temporaries the bodies of a handler take
 abbrev pub handler_high : Handler → ℕ
@@ -299,7 +303,7 @@ own h i = record { name = h; parameters = length i.parameters }
 -- the frame of an activation: of a function, or of a clause of a handler, which stands in its function's loop, in the blocks of the clauses
 -- after it
 pub data Base (ds : List Declaration) (Γ : Layout) (L : Locals) (below : Row Val) (c : Code) (e : Context) : Option Name → ℕ → Context → Type 0 where
-  function : Γ.owner ≡ None → Base ds Γ L below c e None 0 (Label ε 1 Done Done ∷ Frame below 1 L (rest_of c) ∷ e)
+  function : {place : ℕ} → Γ.owner ≡ None → Base ds Γ L below c e None 0 (Label ε 1 Done Done ∷ Frame below 1 place L (rest_of c) ∷ e)
   clause : {h : Name} {i : Handler} (ps : List Placed) → handler_of ds h ≡ Some i → Γ.owner ≡ Some (own h i) → length ps ≤ 16 → handler_room h i ≤ length L
       → Base ds Γ L below c e (Some h) (length ps) (clause_labels ds ps (in_loop ds h i L below c e))
 

@@ -29,7 +29,7 @@ use Rattle.s_meaning.specs.Steps.{Step, or_fault, emptied, kept_at, goes, applie
 use Rattle.s_meaning.proofs.Lists.{length_set}
 use Rattle.s_meaning.proofs.Scopes.{same_is}
 use Rattle.s_agrees.proofs.ScriptRows.{Values, no_values, ◌▸◌, ◌⧻◌, many, listed_more, listed_many}
-use Rattle.s_agrees.proofs.Standing.{config, Sames, none, more, Locals, LocalIs, Held, Active, Deep, here, label, tail_code, clause_labels, loop_code, in_loop, own, handler_room, Base, function, clause, Waits, KeptAs, Stores}
+use Rattle.s_agrees.proofs.Standing.{config, Sames, none, more, Locals, LocalIs, Held, Active, Deep, here, label, tail_code, clause_labels, handler_place, loop_code, in_loop, own, handler_room, Base, function, clause, Waits, KeptAs, Stores}
 use Rattle.s_agrees.proofs.Growing.{get_set_same, get_set_other}
 use Rattle.s_agrees.proofs.Contexts.{setting, deep_locals, clauses_beyond, clauses_locals, base_locals}
 use Rattle.s_agrees.proofs.Counting.{clauses_labels, clauses_frames, clauses_handles, deep_frames, deep_handles, deep_labels}
@@ -78,7 +78,7 @@ branch_clauses s ds (q ∷ ps) e vs = branch_clauses s ds ps e vs
 
 -- to the loop of a handler's function
 branch_loop : (s : Store) (ds : List Declaration) (h : Name) (i : Handler) (L : Locals) (below : Row Val) (c : Code) (e : Context)
-    → branch_to s 0 (in_loop ds h i L below c e) ε ≡ steps_to s (Label ε 1 Done Done ∷ Frame below 1 L (rest_of c) ∷ e) ε (rest_of (loop_code ds h i))
+    → branch_to s 0 (in_loop ds h i L below c e) ε ≡ steps_to s (Label ε 1 Done Done ∷ Frame below 1 (handler_place ds h) L (rest_of c) ∷ e) ε (rest_of (loop_code ds h i))
 unfolding after
 branch_loop s ds h i L below c e = refl
 
@@ -173,7 +173,7 @@ tail_back : (p : Script) (same : ℕ → ℕ → Bool) (s : Store) {f : Context}
 tail_back p same s {d = d} {D = D} h i ps b k w M below c' e' c is there local deep inside =
     let live_same = bound_live s b k w there in let woken : Store = with_bound s b k w in let ds = p.declarations in
     let out : step (program_of p same) woken (config (in_clause deep ds h i ps below c' e' M) ε (Plain (branch D) c))
-    ≡ Went [] woken (config (Label ε 1 Done Done ∷ Frame below 1 M (rest_of c') ∷ e') ε (loop_code ds h i)) =
+    ≡ Went [] woken (config (Label ε 1 Done Done ∷ Frame below 1 (handler_place ds h) M (rest_of c') ∷ e') ε (loop_code ds h i)) =
     branch_deep woken ε (length ps) D inside (rebase_deep (clause_labels ds ps (in_loop ds h i M below c' e')) deep)
     ∙ branch_clauses woken ds ps (in_loop ds h i M below c' e') ε ∙ branch_loop woken ds h i M below c' e' in
     go out (record { frames = omega arith; handles = omega arith; conts = omega (arith, live_same) }) (resumed_path p same s b k w there h i is M below c' e' local)

@@ -1,5 +1,5 @@
 -- The functions and handlers of a script stand in the first store of a run, each at its index, with its type and its code.
-use Rattle.std.proofs.Common.{◌≡◌, ℕ, ◌+◌, true, List, [], ◌∷◌, ◌++◌, length, Option, Some, refl, sym, ap, ◌∙◌, arith}
+use Rattle.std.proofs.Common.{◌≡◌, ℕ, suc, ◌+◌, true, List, [], ◌∷◌, ◌++◌, length, Option, Some, refl, sym, ap, ◌∙◌, arith}
 use Rattle.std.specs.Prelude.{slice_get}
 use Rattle.std.proofs.lemmas.Option.{slice_get_within}
 use Rattle.w_types.specs.declared.types.FuncType.{FuncType}
@@ -31,6 +31,8 @@ use Rattle.s_valid.proofs.Starts.{own_behind}
 -- what is invoked at an address: a function of the module, of this type and with this code
 pub record Stored (ds : List Declaration) (a : ℕ) (t : FuncType) (b : Body) : Type 0 where
   pub place : ℕ
+  -- the host's function is in front
+  pub behind : a ≡ suc place
   pub entry : slice_get (first_store ds).functions a ≡ Some (Own place)
   pub type : type_of_function (lowered_all ds) place ≡ Some t
   pub code : code_of_function (lowered_all ds) place ≡ Some b
@@ -70,6 +72,7 @@ function_stored ds f g e =
     get_left (for_each (function_types_of ds) ds) (for_each (handler_types_of ds) ds) q.place (function_type_index ds g.parameters) q.item in
     record {
       place = q.place;
+      behind = function_index_is ds f g q;
       entry = ap (λ (i : ℕ). slice_get (first_store ds).functions i) (function_index_is ds f g q)
           ∙ own_behind ds q.place (slice_get_within m.functions q.place (function_type_index ds g.parameters) at);
       type = ap (λ (o : Option ℕ). type_at m o) at
@@ -96,6 +99,7 @@ handler_stored ds h i e =
     get_right (for_each (function_types_of ds) ds) (for_each (handler_types_of ds) ds) q.place (n + q.place) (handler_type_index ds i.parameters) refl q.item in
     record {
       place = n + q.place;
+      behind = handler_index_is ds h i q;
       entry = ap (λ (k : ℕ). slice_get (first_store ds).functions k) (handler_index_is ds h i q)
           ∙ own_behind ds (n + q.place) (slice_get_within m.functions (n + q.place) (handler_type_index ds i.parameters) at);
       type = ap (λ (o : Option ℕ). type_at m o) at

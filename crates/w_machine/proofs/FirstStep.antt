@@ -18,7 +18,7 @@ use Rattle.w_reduce.specs.Terms.{Invoke, Term}
 use Rattle.w_reduce.specs.Program.{Program}
 use Rattle.w_reduce.specs.Run.{state_at, Run}
 use Rattle.w_reduce.specs.Start.{Ready, invokes, start_term}
-use Rattle.w_stands.specs.Code.{AllShort}
+use Rattle.w_stands.specs.Code.{AllShort, AreNarrow}
 use Rattle.w_stands.specs.Stands.{fresh}
 use Rattle.w_stands.specs.Values.{store_of}
 use Rattle.w_typed.specs.Configurations.{Typed, StartsTyped}
@@ -66,9 +66,9 @@ abbrev pub first_parts : instances.Store → ℕ → Capacity → Parts
 first_parts u f c = parts u (one (fresh_shape f c) 0) (record { entries = []; spare = 0 })
 
 -- the run begins where the parts stand
-first_at : {m : Module} {u : instances.Store} {main f : ℕ} {waiting : Option ℕ} (c : Capacity) → Valid m → AllShort m → StoreHolds IsPlain u → BeginsWith m u main → First m main f waiting
+first_at : {m : Module} {u : instances.Store} {main f : ℕ} {waiting : Option ℕ} (c : Capacity) → Valid m → AllShort m → AreNarrow m → StoreHolds IsPlain u → BeginsWith m u main → First m main f waiting
     → (p : Program) (s₀ : Store) (t₀ : Term) → Begins m p s₀ t₀ → IsAt m waiting (first_parts u f c) 0 p (Run p s₀ t₀ 0)
-first_at {m = m} {u = u} {main = main} {f = f} {waiting = waiting} c valid short bare with_this first p s₀ t₀ begins =
+first_at {m = m} {u = u} {main = main} {f = f} {waiting = waiting} c valid short narrow bare with_this first p s₀ t₀ begins =
     let one : Ready s₀ t₀ ≡ Ready (store_of u) (start_term m main) = sym begins.start ∙ with_this p begins.source in
     let store : s₀ ≡ store_of u = cc in
     let term : t₀ ≡ start_term m main = cc in
@@ -78,13 +78,14 @@ first_at {m = m} {u = u} {main = main} {f = f} {waiting = waiting} c valid short
       ks = [];
       t = record { around = []; operands = ε; rest = record { ahead = Invoke f ∷ invokes waiting; code = Done } };
       stands = record {
-        stand = record { source = begins.source; program = begins.program; short = short; term = only (fresh refl refl) refl; store = nil };
+        stand = record { source = begins.source; program = begins.program; short = short; narrow = narrow; term = only (fresh refl refl) refl; store = nil };
         results = known (row_of typed.type.results);
         arrows = [];
         typed = subst₂ (λ (s : Store) (t : Term). Typed m [] (known (row_of typed.type.results)) s t) store there typed.typed;
         ends = ends_with first term typed;
         within = record { few_frames = omega arith; few_handles = omega arith; few_conts = omega arith };
         sound = record { references = (record { operands = tt; levels = tt }, tt); stored = tt; slots = omega arith };
+        room = record { running = (tt, tt); stored = tt };
         held = bare;
         done = λ e. let is = e.1 in absurd (cc);
       };
@@ -92,17 +93,17 @@ first_at {m = m} {u = u} {main = main} {f = f} {waiting = waiting} c valid short
     }
 
 -- a machine begins
-begun : {m : Module} {functions : List ℕ} {u : instances.Store} {main f : ℕ} {waiting : Option (Box Segment Global)} (c : Capacity) → Valid m → AllShort m → StoreHolds IsPlain u
+begun : {m : Module} {functions : List ℕ} {u : instances.Store} {main f : ℕ} {waiting : Option (Box Segment Global)} (c : Capacity) → Valid m → AllShort m → AreNarrow m → StoreHolds IsPlain u
     → BeginsWith m u main → functions ≡ functions_of m → First m main f (waiting_of waiting) → IsFresh waiting
     → IsReached m functions (first_parts u f c) waiting None 0 0 0
-begun {m = m} {u = u} {main = main} c valid short bare with_this functions_are first fresh_one = record {
+begun {m = m} {u = u} {main = main} c valid short narrow bare with_this functions_are first fresh_one = record {
   functions_are = functions_are;
   fresh = fresh_one;
   bound = omega arith;
   usable = (omega arith, omega arith);
   started = λ p e. (store_of u, start_term m main, with_this p e);
   fewer = omega arith;
-  reached = first_at c valid short bare with_this first;
+  reached = first_at c valid short narrow bare with_this first;
 }
 
 -- with these segments
@@ -111,14 +112,14 @@ BegunWith m functions u chain waiting = IsReached m functions (parts u chain (re
 
 -- by the segments that it begins with
 begun_by : {m : Module} {functions : List ℕ} {u : instances.Store} (main : ℕ) (segment : Box Segment Global) {waiting : Option (Box Segment Global)} (start : Option ℕ) → Valid m
-    → AllShort m → StoreHolds IsPlain u → BeginsWith m u main → functions ≡ functions_of m → m.start ≡ start → AreFirst start main segment waiting → BegunWith m functions u segment.value waiting
-begun_by {m = m} {functions = functions} {u = u} main segment None valid short bare with_this functions_are is (new, alone) =
+    → AllShort m → AreNarrow m → StoreHolds IsPlain u → BeginsWith m u main → functions ≡ functions_of m → m.start ≡ start → AreFirst start main segment waiting → BegunWith m functions u segment.value waiting
+begun_by {m = m} {functions = functions} {u = u} main segment None valid short narrow bare with_this functions_are is (new, alone) =
     subst₂ (λ (l : List Link) (w : Option (Box Segment Global)). BegunWith m functions u l w) (sym new.is) (sym alone)
-    (begun new.capacity valid short bare with_this functions_are (main_alone is) tt)
-begun_by {m = m} {functions = functions} {u = u} main segment (Some f) valid short bare with_this functions_are is (new, (b, waits, other)) =
+    (begun new.capacity valid short narrow bare with_this functions_are (main_alone is) tt)
+begun_by {m = m} {functions = functions} {u = u} main segment (Some f) valid short narrow bare with_this functions_are is (new, (b, waits, other)) =
     let shape : (top b.value).shape.func ≡ main = ap (λ (l : List Link). (top l).shape.func) other.is in
     subst₂ (λ (l : List Link) (w : Option (Box Segment Global)). BegunWith m functions u l w) (sym new.is) (sym waits)
-    (begun new.capacity valid short bare with_this functions_are (subst (λ (x : ℕ). First m main f (Some x)) (sym shape) (start_first is)) (main, other.capacity, other.is))
+    (begun new.capacity valid short narrow bare with_this functions_are (subst (λ (x : ℕ). First m main f (Some x)) (sym shape) (start_first is)) (main, other.capacity, other.is))
 
 -- they are a segment each
 first_alone : (start : Option ℕ) (main : ℕ) (segment : Box Segment Global) (waiting : Option (Box Segment Global)) → AreFirst start main segment waiting
@@ -127,13 +128,13 @@ first_alone None main segment waiting (new, alone) = ap (λ (l : List Link). top
 first_alone (Some f) main segment waiting (new, waits) = ap (λ (l : List Link). top l ∷ []) new.is ∙ sym new.is
 
 pub begun_with : {m n : Module} {functions : List ℕ} {u : instances.Store} (es : List Entry) (main : ℕ) (segment : Box Segment Global) (chain : List Link) (conts : Conts Stored)
-    {waiting : Option (Box Segment Global)} → n ≡ m → IsClassesOf m.types es → Valid m → AllShort n → BeginsWith m u main → functions ≡ functions_of n
+    {waiting : Option (Box Segment Global)} → n ≡ m → IsClassesOf m.types es → Valid m → AllShort n → AreNarrow m → BeginsWith m u main → functions ≡ functions_of n
     → AreFirst n.start main segment waiting → chain ≡ top segment.value ∷ [] → conts ≡ record { entries = []; spare = 0 }
     → IsReached m functions (parts u chain conts) waiting None 0 0 0
-begun_with {m = m} {n = n} {functions = functions} {u = u} es main segment chain conts {waiting = waiting} same classes valid short with_this functions_are first is empty =
+begun_with {m = m} {n = n} {functions = functions} {u = u} es main segment chain conts {waiting = waiting} same classes valid short narrow with_this functions_are first is empty =
     let there = subst Valid (sym same) valid in
     let begins = subst (λ (x : Module). BeginsWith x u main) (sym same) with_this in
     let plain = begins_plain es u main (subst (λ (x : Module). IsClassesOf x.types es) (sym same) classes) there begins in
     subst₂ (λ (l : List Link) (c : Conts Stored). IsReached m functions (parts u l c) waiting None 0 0 0) (sym (is ∙ first_alone n.start main segment waiting first)) (sym empty)
     (subst (λ (x : Module). BegunWith x functions u segment.value waiting) same
-    (begun_by main segment n.start there short plain begins functions_are refl first))
+    (begun_by main segment n.start there short (subst AreNarrow (sym same) narrow) plain begins functions_are refl first))

@@ -91,6 +91,7 @@ next_at {x = x} {p = p} {x' = x'} s₀ t₀ valid at went (stays_on done) =
         ends = at.stands.ends;
         within = limited_within (next p (whole x.store at.ks) at.t.around at.t.operands at.t.rest.ahead at.t.rest.code) went.text (whole x'.store went.ks) went.t went.is;
         sound = went.sound;
+        room = went.room;
         held = went.held;
         done = done;
       };
@@ -108,6 +109,7 @@ next_at {m = m} {x = x} {p = p} {x' = x'} s₀ t₀ valid at went (takes_over {m
           source = went.stand.source;
           program = went.stand.program;
           short = went.stand.short;
+          narrow = went.stand.narrow;
           term = turn_chained main c there.0 empty there.1;
           store = went.stand.store;
         };
@@ -116,6 +118,7 @@ next_at {m = m} {x = x} {p = p} {x' = x'} s₀ t₀ valid at went (takes_over {m
         typed = typed.typed;
         ends = λ f e. absurd (cc);
         within = limited_within (next p (whole x.store at.ks) at.t.around at.t.operands at.t.rest.ahead at.t.rest.code) went.text (whole x'.store went.ks) went.t went.is;
+        room = record { running = (tt, tt); stored = went.room.stored };
         sound = turn_sound main c x'.chain x'.conts (is_last_one x'.chain last).0 went.sound;
         held = went.held;
         done = λ e. refl;

@@ -9,6 +9,9 @@ use Rattle.w_tables.specs.Store as instances
 use Rattle.w_segment.specs.declared.entry.Stage.TheVariants.{Body}
 use Rattle.w_segment.specs.declared.segment.Segment.{Segment}
 use Rattle.w_segment.specs.Shape.{Shape, SameParts}
+use Rattle.w_stands.specs.Room.{Roomier}
+use Rattle.w_stands.proofs.Fitting.{roomier_fit}
+use Rattle.w_switching.proofs.Rooms.{links_top, links_with}
 use Rattle.w_segment.specs.Link.{Link, top, with_top}
 use Rattle.w_chain.specs.Counts.{frames_in_all}
 use Rattle.w_reduce.specs.declared.limit.RunLimit.TheVariants.{Frames}
@@ -69,13 +72,14 @@ last_same s [] h l = l
 last_same s (x ∷ xs) h l = (l.0, sym h.stage ∙ l.1)
 
 -- the parts stand where they stood
-pub stands_same : {m : Module} {waiting : Option ℕ} {x : Parts} {p : Program} {ks : List (Option TheKept)} {t : Term} (s : Shape) → SameParts (top x.chain).shape s
+pub stands_same : {m : Module} {waiting : Option ℕ} {x : Parts} {p : Program} {ks : List (Option TheKept)} {t : Term} (s : Shape) → Roomier (top x.chain).shape s
     → Stands m waiting x p ks t → Stands m waiting (parts x.store (with_top s x.chain) x.conts) p ks t
-stands_same {x = x} s same h = record {
+stands_same {m = m} {x = x} s roomier h = let same = roomier.same in record {
   stand = record {
     source = h.stand.source;
     program = h.stand.program;
     short = h.stand.short;
+    narrow = h.stand.narrow;
     term = inside_top s (λ q b i. in_same (record { levels = same.levels; func = same.func; place = same.place; stage = same.stage }) i)
         ((head h).operands ∙ ap stack (sym same.operands)) h.stand.term;
     store = h.stand.store;
@@ -86,6 +90,7 @@ stands_same {x = x} s same h = record {
   ends = h.ends;
   within = h.within;
   sound = same_sound 0 x.chain (with_top s x.chain) x.conts (same_top s x.chain same) h.sound;
+  room = record { running = links_with m s x.chain (roomier_fit m (top x.chain).shape s roomier (links_top m x.chain h.room.running)) h.room.running; stored = h.room.stored };
   held = h.held;
   done = λ l. h.done (last_same s x.chain same l);
 }
@@ -95,7 +100,7 @@ none_there None e = refl
 none_there (Some k) e = absurd (cc)
 
 -- and for the run that they stood for
-reached_same : {m : Module} {functions : List ℕ} {x : Parts} {waiting : Option (Box Segment Global)} {n a b : ℕ} (s : Shape) → SameParts (top x.chain).shape s
+reached_same : {m : Module} {functions : List ℕ} {x : Parts} {waiting : Option (Box Segment Global)} {n a b : ℕ} (s : Shape) → Roomier (top x.chain).shape s
     → IsReached m functions x waiting None n a b → IsReached m functions (parts x.store (with_top s x.chain) x.conts) waiting None n a b
 reached_same {x = x} s same h = record {
   functions_are = h.functions_are;

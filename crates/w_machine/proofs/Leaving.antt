@@ -20,7 +20,7 @@ use Rattle.w_stands.specs.Stands.{In, body, left, fresh, values}
 use Rattle.w_stands.specs.Values.{stack}
 use Rattle.w_switching.specs.declared.stored.Stored.{Stored}
 use Rattle.w_switching.specs.Reductions.{Exits}
-use Rattle.w_switching.specs.Sound.{Sound}
+use Rattle.w_switching.specs.Sound.{Sound, Roomy}
 use Rattle.w_switching.specs.Standing.{Chained, only, around}
 use Rattle.w_switching.proofs.Joining.{kept_long}
 use Rattle.w_machine.specs.declared.outcome.Kept.TheVariants as kept
@@ -48,14 +48,14 @@ fewer_if s e false d h = tt
 leave_fewer : (s : Store) (e : Context) (vs : Row Val) → Fewer s e (leave s e vs)
 leave_fewer s [] vs = tt
 leave_fewer s (Label below n again rest ∷ e) vs = (refl, omega arith, omega arith)
-leave_fewer s (Frame below n locals rest ∷ e) vs = fewer_if s (Frame below n locals rest ∷ e) (nat_eq (size vs) n) _ (refl, omega arith, omega arith)
+leave_fewer s (Frame below n f locals rest ∷ e) vs = fewer_if s (Frame below n f locals rest ∷ e) (nat_eq (size vs) n) _ (refl, omega arith, omega arith)
 leave_fewer s (Handle below hs rest ∷ e) vs = (refl, omega arith, omega arith)
 
 module _ {m : Module} {x : Parts} (chain' : List Link) (conts' : Conts Stored) where
   -- what it led to passes no limit
-  pub left_handle : Exits x.chain x.conts chain' conts' → Sound chain' conts' → KeepsReferences x.conts conts' → (held : Option (List ℕ))
+  pub left_handle : Exits x.chain x.conts chain' conts' → Sound chain' conts' → ((n : Module) → Roomy n x.chain x.conts → Roomy n chain' conts') → KeepsReferences x.conts conts' → (held : Option (List ℕ))
       → Reduces None m x (parts x.store chain' conts') held held
-  left_handle exits sound keeps held waiting p ks t h =
+  left_handle exits sound room keeps held waiting p ks t h =
       let went = exits m (behind_of waiting) p (whole x.store ks) t h.stand in
       let to = went.1 in
       let s' = whole x.store to.conts_after in
@@ -80,6 +80,7 @@ module _ {m : Module} {x : Parts} (chain' : List Link) (conts' : Conts Stored) w
         is = ap (λ (r : Rest). limited (next p (whole x.store ks) t.around t.operands r.ahead r.code)) went.0 ∙ ap limited to.is ∙ within [] s' to.t is_within;
         stand = to.stand;
         sound = sound;
+        room = room m h.room;
         held = held_on x.store x.conts conts' keeps h.held;
         made = omega (arith, after, before, long);
         grew = grew_nothing held;

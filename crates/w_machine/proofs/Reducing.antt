@@ -38,6 +38,7 @@ use Rattle.w_switching.specs.declared.stored.Stored.{Stored}
 use Rattle.w_switching.specs.Standing.{Stand}
 use Rattle.w_switching.specs.Sound.{is_of}
 use Rattle.w_switching.proofs.Putting.{top_sound}
+use Rattle.w_switching.proofs.Rooms.{links_with}
 use Rattle.w_switching.proofs.SameButRoom.{same_top}
 use Rattle.w_switching.proofs.Sounding.{hold_top, long_top}
 use Rattle.w_machine.specs.declared.outcome.Kept.{Kept}
@@ -46,6 +47,7 @@ use Rattle.w_machine.specs.Parts.{Parts, parts, whole}
 use Rattle.w_machine.specs.Standing.{behind_of, Stands}
 use Rattle.w_machine.specs.Reducing.{Begun, Fails, Reduces, IsPlainAt, told_of}
 use Rattle.w_machine.proofs.Counting.{all_frames, all_handles}
+use Rattle.w_machine.proofs.Rooms.{may_take_in}
 use Rattle.w_machine.proofs.Standing.{plain_next, calls_in, head, alone, standing_at}
 
 -- ## What is printed
@@ -112,6 +114,7 @@ module _ {m : Module} {x : Parts} (valid : Valid m) (f : IsPlainAt m (top x.chai
       source = h.stand.source;
       program = h.stand.program;
       short = h.stand.short;
+      narrow = h.stand.narrow;
       term = (head h).back s' to.around to.rest to.stands;
       store = h.stand.store;
     }
@@ -153,6 +156,7 @@ module _ {m : Module} {x : Parts} (valid : Valid m) (f : IsPlainAt m (top x.chai
         is = ap limited (alone h f ∙ ap (apart ks) to.is) ∙ within text (whole u' ks) (led_to to) (within_there h to (few_enough (frames to.around) (frames_there h to true few)));
         stand = stands_there h to;
         sound = top_sound 0 x.chain x.conts s' h.sound values.1;
+        room = record { running = links_with m s' x.chain to.room h.room.running; stored = h.room.stored };
         held = values.0;
         made = omega arith;
         grew = grew;
@@ -194,7 +198,7 @@ module _ {m : Module} {x : Parts} (valid : Valid m) (f : IsPlainAt m (top x.chai
 
   failed : {u' : instances.Store} {s' : Shape} {before now : Option (List ℕ)} (y : Stop) {waiting : Option ℕ} {p : Program} {ks : List (Option TheKept)} {t : Term}
       → Printed (Err y) before now m x.store (top x.chain).shape u' s' → Stands m waiting x p ks t → Fails (reduce p (whole x.store ks) t) x (parts u' (with_top s' x.chain) x.conts) before now
-  failed {s' = s'} y (same, shape, begun) h = record { store = same; chain = same_top s' x.chain shape; conts = refl; sink = began h begun }
+  failed {s' = s'} y (same, shape, begun, may) h = record { store = same; chain = same_top s' x.chain shape; conts = refl; sink = began h begun }
 
   -- what is told of it is what the rules do
   pub reduces_told : (u' : instances.Store) (s' : Shape) (before now : Option (List ℕ)) (d : Result Did Stop) → Printed d before now m x.store (top x.chain).shape u' s'
@@ -202,7 +206,7 @@ module _ {m : Module} {x : Parts} (valid : Valid m) (f : IsPlainAt m (top x.chai
   reduces_told u' s' before now (Ok did.Went) k = went u' s' before now (nat_le (frames_in_all (with_top s' x.chain)) most_frames) refl k
   reduces_told u' s' before now (Ok (did.Trapped t)) k = trapped u' s' before now t k
   reduces_told u' s' before now (Err stop.WriteFault) k = λ waiting p ks t h. failed stop.WriteFault k h
-  reduces_told u' s' before now (Err stop.OutOfMemory) k = λ waiting p ks t h. failed stop.OutOfMemory k h
+  reduces_told u' s' before now (Err stop.OutOfMemory) k = λ waiting p ks t h. (failed stop.OutOfMemory k h, may_take_in (head h).stands k.3)
 
   -- the same, with the call's own words
   pub told_reduces : (u' : instances.Store) (s' : Shape) (chain' : List Link) (before now : Option (List ℕ)) (d : Result Did Stop) (n : ℕ) (k : Option Kept) → k ≡ told_of d n

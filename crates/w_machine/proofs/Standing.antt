@@ -31,6 +31,8 @@ use Rattle.w_typed.proofs.Reductions.{reductions_are_safe}
 use Rattle.w_machine.specs.Parts.{Parts, whole}
 use Rattle.w_machine.specs.Standing.{behind_of, Stands, StandsSomewhere}
 use Rattle.w_machine.specs.Reducing.{IsPlainAt}
+use Rattle.w_switching.proofs.Rooms.{links_top}
+use Rattle.w_machine.proofs.Rooms.{next_fits}
 use Rattle.w_machine.proofs.Tops.{Top, top_of}
 use Rattle.w_machine.proofs.Counting.{all_handles}
 
@@ -140,8 +142,11 @@ module _ {m : Module} {waiting : Option ℕ} {x : Parts} {p : Program} {ks : Lis
     source = h.stand.source;
     program = h.stand.program;
     short = h.stand.short;
+    narrow = h.stand.narrow;
     stands = (head h).stands;
     applies = λ is. rule_applies valid h (ap limited (alone h f ∙ ap (apart ks) is));
+    room = links_top m x.chain h.room.running;
+    fits = next_fits h;
   }
 
 -- wherever they stand

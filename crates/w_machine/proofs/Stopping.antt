@@ -11,16 +11,17 @@ use Rattle.w_reduce.specs.declared.limit.RunLimit.{RunLimit}
 use Rattle.w_reduce.specs.declared.trap.Trap.{Trap}
 use Rattle.w_reduce.specs.Values.{Val}
 use Rattle.w_reduce.specs.Store.{Store, made, live}
-use Rattle.w_reduce.specs.Terms.{Term}
+use Rattle.w_reduce.specs.Terms.{Rest, Term}
 use Rattle.w_reduce.specs.Program.{Program}
 use Rattle.w_reduce.specs.Reduced.{Reduced, Went, Trapped, Limited, Ended, Stuck}
 use Rattle.w_reduce.specs.Reduce.{reduce}
+use Rattle.w_reduce.specs.Room.{may_take_memory}
 use Rattle.w_reduce.specs.Run.{Outcome, Running, Values, Traps, Limit, NoRule, RunState, outcome_by, state_at, after_reduction, continued, Run}
 use Rattle.w_stands.specs.Values.{stack}
 use Rattle.w_machine.specs.declared.outcome.Kept.{Kept}
 use Rattle.w_machine.specs.declared.outcome.Kept.TheVariants as kept
 use Rattle.w_machine.specs.Reducing.{Fails, ComesTo, Reduces}
-use Rattle.w_machine.specs.Position.{Position, Tells, counted, Printed, PrintedAtMost, PrintedBy, StepsFrom, most_reductions}
+use Rattle.w_machine.specs.Position.{Position, Tells, counted, Printed, PrintedAtMost, PrintedBy, MayStop, StepsFrom, most_reductions}
 use Rattle.w_machine.specs.Standing.{StandsSomewhere}
 use Rattle.w_machine.specs.Reached.{waiting_of, IsAt, EndsAt, Counts, IsUsable, IsReached}
 use Rattle.w_machine.proofs.Advancing.{state_went, next_run}
@@ -96,7 +97,7 @@ module _ {m : Module} {waiting : Option ℕ} {x : Parts} {n : ℕ} (p : Program)
       record { made = ap made store ∙ made_kept at.stands.stand.store; live = ap live store ∙ live_kept at.stands.stand.store }
 
   -- the run has come to what stopped the machine
-  pub ends_at : (k : Kept) (x' : Parts) (before now : Option (List ℕ)) → ComesTo (Some k) m waiting p (reduce p (whole x.store at.ks) at.t) x x' before now
+  pub ends_at : (k : Kept) (x' : Parts) (before now : Option (List ℕ)) → ComesTo (Some k) m waiting p (reduce p (whole x.store at.ks) at.t) at.t.rest x x' before now
       → EndsAt k x'.chain (Run p s₀ t₀ (n + counted k)).outcome × ((Run p s₀ t₀ (n + counted k)).taken ≡ n + counted k)
       × Counts (Run p s₀ t₀ (n + counted k)) (length x.conts.entries) (live_of x.conts)
   ends_at kept.Ended x' before now (is, same) = (
@@ -127,14 +128,23 @@ module _ {m : Module} {waiting : Option ℕ} {x : Parts} {n : ℕ} (p : Program)
   ]
 
   -- what was printed
-  pub printed_by : (k : Kept) (x' : Parts) (before now : Option (List ℕ)) → ComesTo (Some k) m waiting p (reduce p (whole x.store at.ks) at.t) x x' before now
+  pub printed_by : (k : Kept) (x' : Parts) (before now : Option (List ℕ)) → ComesTo (Some k) m waiting p (reduce p (whole x.store at.ks) at.t) at.t.rest x x' before now
       → PrintedBy k (Run p s₀ t₀ n) (Run p s₀ t₀ (n + 1)) before now
   printed_by kept.Ended x' before now (is, same) =
       nothing_more (ap (λ (q : RunState). q.output) (next_run p s₀ t₀ n ∙ ended_next p at.is (stack (top x.chain).shape.operands) is)) same.sink
   printed_by (kept.Limit name) x' before now (is, same) = nothing_more (ap (λ (q : RunState). q.output) (next_run p s₀ t₀ n ∙ limited_next p at.is name is)) same
   printed_by (kept.Trapped t) x' before now (is, same) = nothing_more (ap (λ (q : RunState). q.output) (next_run p s₀ t₀ n ∙ trapped_next p at.is t is)) same
   printed_by kept.WriteFault x' before now h = at_most h
-  printed_by kept.OutOfMemory x' before now h = at_most h
+  printed_by kept.OutOfMemory x' before now h = at_most h.0
+
+  -- for want of memory it stopped only where what comes next may take some
+  pub may_stop : (k : Kept) (x' : Parts) (before now : Option (List ℕ)) → ComesTo (Some k) m waiting p (reduce p (whole x.store at.ks) at.t) at.t.rest x x' before now
+      → MayStop k (Run p s₀ t₀ n).term
+  may_stop kept.Ended x' before now h = tt
+  may_stop (kept.Limit name) x' before now h = tt
+  may_stop (kept.Trapped t) x' before now h = tt
+  may_stop kept.WriteFault x' before now h = tt
+  may_stop kept.OutOfMemory x' before now h = ap (λ (q : RunState). may_take_memory q.term.rest.ahead q.term.rest.code) at.is ∙ h.1
 
 -- what it tells of its end it tells of the run
 pub tells_so : (k : Kept) (xs : List Link) (o : Outcome) → EndsAt k xs o → Tells k o
@@ -152,13 +162,13 @@ counts_one kept.WriteFault = omega arith
 counts_one kept.OutOfMemory = omega arith
 
 -- where the run ended there is a segment
-usable_after : (m : Module) (waiting : Option ℕ) (p : Program) (d : Reduced) (x x' : Parts) (before now : Option (List ℕ)) (k : Kept) (n : ℕ) → 0 < length x.chain
-    → ComesTo (Some k) m waiting p d x x' before now → IsUsable (Some k) x' n
-usable_after m waiting p d x x' before now kept.Ended n some (is, same) = subst (λ (y : Parts). 0 < length y.chain) (sym same.same) some
-usable_after m waiting p d x x' before now (kept.Limit name) n some h = tt
-usable_after m waiting p d x x' before now (kept.Trapped t) n some h = tt
-usable_after m waiting p d x x' before now kept.WriteFault n some h = tt
-usable_after m waiting p d x x' before now kept.OutOfMemory n some h = tt
+usable_after : (m : Module) (waiting : Option ℕ) (p : Program) (d : Reduced) (r : Rest) (x x' : Parts) (before now : Option (List ℕ)) (k : Kept) (n : ℕ) → 0 < length x.chain
+    → ComesTo (Some k) m waiting p d r x x' before now → IsUsable (Some k) x' n
+usable_after m waiting p d r x x' before now kept.Ended n some (is, same) = subst (λ (y : Parts). 0 < length y.chain) (sym same.same) some
+usable_after m waiting p d r x x' before now (kept.Limit name) n some h = tt
+usable_after m waiting p d r x x' before now (kept.Trapped t) n some h = tt
+usable_after m waiting p d r x x' before now kept.WriteFault n some h = tt
+usable_after m waiting p d r x x' before now kept.OutOfMemory n some h = tt
 
 -- the machine keeps it, with how many continuations there were before
 pub stopped : {m : Module} {functions : List ℕ} {x : Parts} {waiting : Option (Box Segment Global)} {n a b made_then live_then : ℕ} (x' : Parts)
@@ -171,7 +181,7 @@ stopped {m = m} {functions = functions} {x = x} {waiting = waiting} {n = n} {mad
       functions_are = h.functions_are;
       fresh = h.fresh;
       bound = omega (arith, lt, one, count);
-      usable = usable_after m here.waiting here.p _ x x' before now k (n + c) h.usable.0 (goes here.waiting here.p here.ks here.t here.stands);
+      usable = usable_after m here.waiting here.p _ here.t.rest x x' before now k (n + c) h.usable.0 (goes here.waiting here.p here.ks here.t here.stands);
       started = h.started;
       fewer = (let l = live_made x.conts.entries in omega (arith, l, made_is, live_is));
       reached = λ p s₀ t₀ begins.
@@ -191,5 +201,5 @@ step_stopped {waiting = waiting} x' before now old k c count h goes = (
   λ p s₀ t₀ begins.
       let at = h.reached p s₀ t₀ begins in
       let came = goes (waiting_of waiting) p at.ks at.t at.stands in
-      (tells_so k x'.chain _ (ends_at p s₀ t₀ at k x' before now came).0, printed_by p s₀ t₀ at k x' before now came),
+      (tells_so k x'.chain _ (ends_at p s₀ t₀ at k x' before now came).0, printed_by p s₀ t₀ at k x' before now came, may_stop p s₀ t₀ at k x' before now came),
 )

@@ -22,6 +22,7 @@ use Rattle.w_reduce.specs.Limits.{most_frames, most_handles, most_conts, first_p
 use Rattle.w_reduce.specs.Program.{Program}
 use Rattle.w_reduce.specs.Reduced.{Went}
 use Rattle.w_reduce.specs.Reduce.{next, reduce, limited, unless_passed}
+use Rattle.w_reduce.specs.Room.{HoldsAfter, takes_memory, may_take_memory}
 use Rattle.w_reduce.specs.Terms.{Rest, rest_of, Context, Term, Kept as TheKept}
 use Rattle.w_stands.specs.declared.did.Did.{Did}
 use Rattle.w_stands.specs.declared.did.Did.TheVariants as did
@@ -32,7 +33,7 @@ use Rattle.w_stands.proofs.Reading.{here, shows_plain}
 use Rattle.w_switching.specs.declared.stored.Stored.{Stored}
 use Rattle.w_switching.specs.Moved.{SameLinks}
 use Rattle.w_switching.specs.Reductions.{switched, StandsAt, SwitchesAt, Switches}
-use Rattle.w_switching.specs.Sound.{is_of, Sound, most_segments}
+use Rattle.w_switching.specs.Sound.{is_of, Sound, Roomy, most_segments}
 use Rattle.w_switching.proofs.Joining.{kept_long}
 use Rattle.w_switching.proofs.SameButRoom.{same_links}
 use Rattle.w_switching.proofs.Sounding.{more_of}
@@ -43,6 +44,7 @@ use Rattle.w_machine.specs.Standing.{behind_of, Stands, StandsSomewhere}
 use Rattle.w_machine.specs.Reducing.{Reduces, TakesEnough, told_with}
 use Rattle.w_machine.proofs.Counting.{passed_is}
 use Rattle.w_machine.proofs.MadeConts.{MakesOne, made_one, makes_one}
+use Rattle.w_machine.proofs.Rooms.{holds_next}
 use Rattle.w_machine.proofs.Standing.{rule_applies, few_segments, head}
 use Rattle.w_machine.proofs.TakingEnough.{takes_enough}
 
@@ -104,6 +106,7 @@ module _ {m : Module} {x : Parts} (valid : Valid m) (o : SwitchingOp) (b : (top 
     t = h.t;
     c = (comes h.stands).code;
     at = at_it h.stands;
+    holds = subst (λ (r : Rest). HoldsAfter m (next h.p (whole x.store h.ks) h.t.around h.t.operands r.ahead r.code)) (comes h.stands).is (holds_next valid h.stands);
   }
 
   pub enough_there : StandsSomewhere m x → TakesEnough o m x.chain x.conts
@@ -111,7 +114,7 @@ module _ {m : Module} {x : Parts} (valid : Valid m) (o : SwitchingOp) (b : (top 
 
   -- ## Its answers
 
-  module _ (chain' : List Link) (conts' : Conts Stored) (sound : Sound chain' conts') (keeps : KeepsReferences x.conts conts') where
+  module _ (chain' : List Link) (conts' : Conts Stored) (sound : Sound chain' conts') (room : Roomy m chain' conts') (keeps : KeepsReferences x.conts conts') where
     -- it went on
     went_by : (l : Option RunLimit) → l ≡ first_passed (nat_le (frames_in_all chain') most_frames) (nat_le (length chain' - 1) most_handles) (nat_le (live_of conts') most_conts)
         → Switches did.Went o m x.chain x.conts chain' conts' → (held : Option (List ℕ)) → Reduces (told_with (Ok did.Went) l) m x (parts x.store chain' conts') held held
@@ -129,6 +132,7 @@ module _ {m : Module} {x : Parts} (valid : Valid m) (o : SwitchingOp) (b : (top 
           is = reduce_is h ∙ ap limited to.is ∙ ap (λ (l : Option RunLimit). unless_passed l (Went [] s' to.t)) few;
           stand = to.stand;
           sound = sound;
+          room = room;
           held = held_on x.store x.conts conts' keeps h.held;
           made = omega (arith, one, after, before);
           grew = grew_nothing held;
@@ -142,20 +146,23 @@ module _ {m : Module} {x : Parts} (valid : Valid m) (o : SwitchingOp) (b : (top 
     -- what is told of it is what the rules do
     switched_by : (d : Result Did AllocError) (l : Option RunLimit)
         → l ≡ first_passed (nat_le (frames_in_all chain') most_frames) (nat_le (length chain' - 1) most_handles) (nat_le (live_of conts') most_conts)
-        → IfOk d (λ d. Switches d o m x.chain x.conts chain' conts') → OnErr d (SameLinks x.chain chain') → OnErr d (conts' ≡ x.conts) → (held : Option (List ℕ))
-        → Reduces (told_with d l) m x (parts x.store chain' conts') held held
-    switched_by (Ok did.Went) l is goes links same held = went_by l is goes held
-    switched_by (Ok (did.Trapped y)) l is goes links same held = λ waiting p ks t h.
+        → IfOk d (λ d. Switches d o m x.chain x.conts chain' conts') → OnErr d (chain' ≡ x.chain) → OnErr d (conts' ≡ x.conts)
+        → OnErr d (takes_memory (op.Switching o) ≡ true) → (held : Option (List ℕ)) → Reduces (told_with d l) m x (parts x.store chain' conts') held held
+    switched_by (Ok did.Went) l is goes links same takes held = went_by l is goes held
+    switched_by (Ok (did.Trapped y)) l is goes links same takes held = λ waiting p ks t h.
         (reduce_is h ∙ ap limited (goes.2 (behind_of waiting) p (whole x.store ks) t (comes h).code (at_it h)), refl)
-    switched_by (Err e) l is goes links same held = λ waiting p ks t h. record { store = refl; chain = links; conts = same; sink = inl refl }
+    switched_by (Err e) l is goes links same takes held = λ waiting p ks t h. (
+      record { store = refl; chain = subst (SameLinks x.chain) (sym links) (same_links x.chain); conts = same; sink = inl refl },
+      ap (λ (r : Rest). may_take_memory r.ahead r.code) (comes h).is ∙ takes,
+    )
 
     -- the same, with the call's own words
     pub switched_told : (d : Result Did AllocError) (l : Option RunLimit) (k : Option Kept)
         → l ≡ first_passed (nat_le (frames_in_all chain') most_frames) (nat_le (length chain' - 1) most_handles) (nat_le (live_of conts') most_conts) → k ≡ told_with d l
-        → IfOk d (λ d. Switches d o m x.chain x.conts chain' conts') → OnErr d (SameLinks x.chain chain') → OnErr d (conts' ≡ x.conts) → (held : Option (List ℕ))
-        → Reduces k m x (parts x.store chain' conts') held held
-    switched_told d l k is told goes links same held =
-        subst (λ (y : Option Kept). Reduces y m x (parts x.store chain' conts') held held) (sym told) (switched_by d l is goes links same held)
+        → IfOk d (λ d. Switches d o m x.chain x.conts chain' conts') → OnErr d (chain' ≡ x.chain) → OnErr d (conts' ≡ x.conts)
+        → OnErr d (takes_memory (op.Switching o) ≡ true) → (held : Option (List ℕ)) → Reduces k m x (parts x.store chain' conts') held held
+    switched_told d l k is told goes links same takes held =
+        subst (λ (y : Option Kept). Reduces y m x (parts x.store chain' conts') held held) (sym told) (switched_by d l is goes links same takes held)
 
 -- there are few segments wherever the parts stand
 pub few_there : {m : Module} {x : Parts} → StandsSomewhere m x → length x.chain ≤ most_segments
@@ -167,8 +174,3 @@ no_fault_told (Ok did.Went) None h = absurd (cc)
 no_fault_told (Ok did.Went) (Some name) h = absurd (cc)
 no_fault_told (Ok (did.Trapped t)) l h = absurd (cc)
 no_fault_told (Err e) l h = absurd (cc)
-
--- where nothing was changed the segments are the same
-pub same_on_err : {T E : Type 0} (r : Result T E) (xs ys : List Link) → OnErr r (ys ≡ xs) → OnErr r (SameLinks xs ys)
-same_on_err (Ok v) xs ys h = tt
-same_on_err (Err e) xs ys h = subst (SameLinks xs) (sym h) (same_links xs)

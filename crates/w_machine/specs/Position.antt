@@ -10,6 +10,7 @@ use Rattle.w_reduce.specs.Values.{Val}
 use Rattle.w_reduce.specs.Store.{Store}
 use Rattle.w_reduce.specs.Terms.{Term}
 use Rattle.w_reduce.specs.Program.{Program}
+use Rattle.w_reduce.specs.Room.{may_take_memory}
 use Rattle.w_reduce.specs.Run.{Outcome, Running, Values, Traps, Limit, RunState, Run}
 use Rattle.w_machine.specs.declared.outcome.Kept.{Kept}
 use Rattle.w_machine.specs.declared.outcome.Kept.TheVariants as kept
@@ -79,10 +80,15 @@ abbrev pub after_step : Position → Option Kept → Position
 after_step old None = record old { taken = old.taken + 1 }
 after_step old (Some k) = record old { taken = old.taken + counted k; kept = Some k }
 
+-- want of memory stops nothing but a reduction that may take some
+abbrev pub MayStop : Kept → Term → Type 0
+MayStop kept.OutOfMemory t = may_take_memory t.rest.ahead t.rest.code ≡ true
+MayStop k t = ⊤
+
 -- of a run: it was running, or what is told of it; and what was printed
 abbrev pub StepsOn : (ℕ → RunState) → ℕ → Option Kept → Option (List ℕ) → Option (List ℕ) → Type 0
 StepsOn run n None before now = ((run n).outcome ≡ Running) × Printed (run n) (run (n + 1)) before now
-StepsOn run n (Some k) before now = Tells k (run (n + counted k)).outcome × PrintedBy k (run n) (run (n + 1)) before now
+StepsOn run n (Some k) before now = Tells k (run (n + counted k)).outcome × PrintedBy k (run n) (run (n + 1)) before now × MayStop k (run n).term
 
 -- an outcome that is kept is told again, and nothing changes
 abbrev pub StepsFrom : Option Kept → Position → Option Kept → Position → Option (List ℕ) → Option (List ℕ) → Type 0

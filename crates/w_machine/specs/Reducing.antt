@@ -14,10 +14,11 @@ use Rattle.w_reduce.specs.declared.limit.RunLimit.{RunLimit}
 use Rattle.w_reduce.specs.declared.limit.RunLimit.TheVariants.{Frames}
 use Rattle.w_reduce.specs.Limits.{most_frames}
 use Rattle.w_reduce.specs.Store.{Store}
-use Rattle.w_reduce.specs.Terms.{Term, Kept as TheKept}
+use Rattle.w_reduce.specs.Terms.{Rest, Term, Kept as TheKept}
 use Rattle.w_reduce.specs.Program.{Program}
 use Rattle.w_reduce.specs.Reduced.{Reduced, Went, Trapped, Limited, Ended}
 use Rattle.w_reduce.specs.Reduce.{reduce}
+use Rattle.w_reduce.specs.Room.{may_take_memory}
 use Rattle.w_stands.specs.declared.did.Did.{Did}
 use Rattle.w_stands.specs.declared.did.Did.TheVariants as did
 use Rattle.w_stands.specs.Code.{instr_of}
@@ -30,7 +31,7 @@ use Rattle.w_switching.specs.declared.stored.Stored.{Stored}
 use Rattle.w_switching.specs.Moved.{SameLinks}
 use Rattle.w_switching.specs.Reductions.{TakesAtLeast, TakesParams}
 use Rattle.w_switching.specs.Standing.{Stand}
-use Rattle.w_switching.specs.Sound.{is_of, Sound}
+use Rattle.w_switching.specs.Sound.{is_of, Sound, Roomy}
 use Rattle.w_machine.specs.declared.outcome.Kept.{Kept}
 use Rattle.w_machine.specs.declared.outcome.Kept.TheVariants as kept
 use Rattle.w_machine.specs.Parts.{Parts, whole}
@@ -45,6 +46,7 @@ pub record Takes (m : Module) (waiting : Option ℕ) (p : Program) (d : Reduced)
   pub is : d ≡ Went text (whole x.store ks) t
   pub stand : Stand m (behind_of waiting) x.chain x.conts p (whole x.store ks) t
   pub sound : Sound x.chain x.conts
+  pub room : Roomy m x.chain x.conts
   pub held : StoreHolds (λ v. is_of x.conts v ≡ true) x.store
   pub made : length x.conts.entries ≤ n + 1
   pub grew : Grew before now text
@@ -69,19 +71,19 @@ pub record Fails (d : Reduced) (x x' : Parts) (before now : Option (List ℕ)) :
   pub conts : x'.conts ≡ x.conts
   pub sink : (now ≡ before) ⊎ Begun d before now
 
--- in a configuration whose reduction comes to d
-abbrev pub ComesTo : Option Kept → Module → Option ℕ → Program → Reduced → Parts → Parts → Option (List ℕ) → Option (List ℕ) → Type 0
-ComesTo None m waiting p d x x' before now = Takes m waiting p d (length x.conts.entries) x' before now
-ComesTo (Some kept.Ended) m waiting p d x x' before now = (d ≡ Ended (stack (top x.chain).shape.operands)) × Unchanged x x' before now
-ComesTo (Some (kept.Limit name)) m waiting p d x x' before now = (d ≡ Limited name) × (now ≡ before)
-ComesTo (Some (kept.Trapped t)) m waiting p d x x' before now = (d ≡ Trapped t) × (now ≡ before)
-ComesTo (Some kept.WriteFault) m waiting p d x x' before now = Fails d x x' before now
-ComesTo (Some kept.OutOfMemory) m waiting p d x x' before now = Fails d x x' before now
+-- in a configuration where r comes next, whose reduction comes to d; it fails for want of memory only where that may take some
+abbrev pub ComesTo : Option Kept → Module → Option ℕ → Program → Reduced → Rest → Parts → Parts → Option (List ℕ) → Option (List ℕ) → Type 0
+ComesTo None m waiting p d r x x' before now = Takes m waiting p d (length x.conts.entries) x' before now
+ComesTo (Some kept.Ended) m waiting p d r x x' before now = (d ≡ Ended (stack (top x.chain).shape.operands)) × Unchanged x x' before now
+ComesTo (Some (kept.Limit name)) m waiting p d r x x' before now = (d ≡ Limited name) × (now ≡ before)
+ComesTo (Some (kept.Trapped t)) m waiting p d r x x' before now = (d ≡ Trapped t) × (now ≡ before)
+ComesTo (Some kept.WriteFault) m waiting p d r x x' before now = Fails d x x' before now
+ComesTo (Some kept.OutOfMemory) m waiting p d r x x' before now = Fails d x x' before now × (may_take_memory r.ahead r.code ≡ true)
 
 -- in each configuration that they stand for
 abbrev pub Reduces : Option Kept → Module → Parts → Parts → Option (List ℕ) → Option (List ℕ) → Type 0
 Reduces result m x x' before now = (waiting : Option ℕ) (p : Program) (ks : List (Option TheKept)) (t : Term) → Stands m waiting x p ks t
-    → ComesTo result m waiting p (reduce p (whole x.store ks) t) x x' before now
+    → ComesTo result m waiting p (reduce p (whole x.store ks) t) t.rest x x' before now
 
 -- ## What is told
 

@@ -18,7 +18,7 @@ use Rattle.w_stands.specs.Keeps.{StoreHolds}
 use Rattle.w_typed.specs.Values.{Arrows}
 use Rattle.w_typed.specs.Configurations.{Typed}
 use Rattle.w_switching.specs.Standing.{Stand}
-use Rattle.w_switching.specs.Sound.{is_of, Sound}
+use Rattle.w_switching.specs.Sound.{is_of, Sound, Roomy}
 use Rattle.w_machine.specs.Parts.{Parts, whole}
 
 -- what comes behind the outermost frame: main's invoke, while the start function runs
@@ -37,7 +37,8 @@ abbrev pub IsLast : List Link → Type 0
 IsLast chain = (length chain ≡ 1) × ((top chain).shape.stage ≡ Values)
 
 -- The parts stand for this configuration, where `waiting` is the function that is invoked once all segments are left. It is typed and
--- passes no limit; each reference to a continuation, also in tables and globals, is of the store.
+-- passes no limit; each reference to a continuation, also in tables and globals, is of the store; and each frame has room for what its
+-- function needs.
 pub record Stands (m : Module) (waiting : Option ℕ) (x : Parts) (p : Program) (ks : List (Option Kept)) (t : Term) : Type 0 where
   pub stand : Stand m (behind_of waiting) x.chain x.conts p (whole x.store ks) t
   pub results : Row Operand
@@ -46,6 +47,7 @@ pub record Stands (m : Module) (waiting : Option ℕ) (x : Parts) (p : Program) 
   pub ends : (main : ℕ) → waiting ≡ Some main → EndsWith m results main
   pub within : IsWithin (whole x.store ks) t.around
   pub sound : Sound x.chain x.conts
+  pub room : Roomy m x.chain x.conts
   pub held : StoreHolds (λ v. is_of x.conts v ≡ true) x.store
   pub done : IsLast x.chain → waiting ≡ None
 

@@ -8,16 +8,16 @@ use crate::reduction::MOST_FRAMES;
 use w_chain::Chain;
 use w_conts::ContStore;
 use w_plain::{Progress, attempt, instr_at};
+use w_rules::Checked;
 use w_segment::Stage;
 use w_switching::Stored;
-use w_syntax::Module;
 use w_tables::Store;
 
 /// Attempts one reduction in the body where the innermost segment stands, and says whether its result is within the limits. `None`: none
 /// was taken, and all is as it was but for room.
 #[inline(always)]
 pub(crate) fn hasten(
-    program: &Module,
+    program: &Checked,
     store: &mut Store,
     chain: &mut Chain,
     conts: &ContStore<Stored>,
@@ -31,7 +31,7 @@ pub(crate) fn hasten(
     let Stage::Body = stack.stage() else {
         return None;
     };
-    let found = instr_at(program, stack.func(), stack.place());
+    let found = instr_at(program.module(), stack.func(), stack.place());
     match attempt(program, store, chain.stack_mut(), found) {
         // but for a call no frame is added, so that the limit still holds
         Progress::Went => Some(true),

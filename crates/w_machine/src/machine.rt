@@ -249,6 +249,7 @@ impl Machine {
         }
         let program = Program {
             source: self.checked.module(),
+            checked: &self.checked,
             classes: self.checked.classes(),
             functions: self.functions.as_slice(),
         };
@@ -285,9 +286,9 @@ impl Machine {
         requires none { self.old.kept ≡ None }
         ensures hastens { HastensOn result self.old self.new }
     {
-        let program = self.checked.module();
+        let _module = self.checked.module();
         let _classes = self.checked.classes();
-        let within = hasten(program, &mut self.store, &mut self.chain, &self.conts)?;
+        let within = hasten(&self.checked, &mut self.store, &mut self.chain, &self.conts)?;
         self.taken += 1;
         if within {
             turn(&mut self.chain, &mut self.waiting);

@@ -12,9 +12,9 @@ ghost use Rattle.w_conts.specs.Conts.{live_of, KeepsReferences};
 ghost use Rattle.w_stands.specs.Code.{instr_of};
 ghost use Rattle.w_plain.specs.Known.{IsKnown};
 ghost use Rattle.w_plain.specs.Plainness.{switches_at};
-ghost use Rattle.w_switching.specs.Moved.{SameLinks};
 ghost use Rattle.w_switching.specs.Reductions.{SwitchesAt, Switches};
-ghost use Rattle.w_switching.specs.Sound.{Sound, most_segments};
+ghost use Rattle.w_switching.specs.Sound.{Sound, Roomy, most_segments};
+ghost use Rattle.w_reduce.specs.Room.{takes_memory};
 ghost use Rattle.w_reduce.specs.Limits.{most_frames, most_handles, most_conts, first_passed};
 ghost use Rattle.w_machine.specs.Parts.{parts};
 ghost use Rattle.w_machine.specs.Standing.{StandsSomewhere};
@@ -138,7 +138,7 @@ fn inside<O: Sink>(
     found: Option<&PackedInstr>,
     kept: &mut Option<Kept>,
 ) -> bool
-    requires known { IsKnown program.source.now program.classes.now program.functions.now }
+    requires known { IsKnown program.source.now program.checked.now program.classes.now program.functions.now }
     requires valid { Valid program.source.now }
     requires stands { StandsSomewhere program.source.now (parts store.old chain.old conts.now) }
     requires none { kept.old ≡ None }
@@ -171,20 +171,23 @@ fn switch_by(
     requires few { length chain.old ≤ most_segments }
     requires made { length conts.old.entries < 2 ^ 40 }
     requires takes { TakesEnough operation.now program.now chain.old conts.old }
+    requires roomy { Roomy program.now chain.old conts.old }
     ensures goes { IfOk result (λ d. Switches d operation.now program.now chain.old conts.old chain.new conts.new) }
     ensures sound { Sound chain.new conts.new }
+    ensures roomy { Roomy program.now chain.new conts.new }
     ensures references { KeepsReferences conts.old conts.new }
-    ensures err_chain { OnErr result (SameLinks chain.old chain.new) }
+    ensures err_chain { OnErr result (chain.new ≡ chain.old) }
     ensures err_conts { OnErr result (conts.new ≡ conts.old) }
+    ensures err_takes { OnErr result (takes_memory (op.Switching operation.now) ≡ true) }
 {
     match operation {
         SwitchingOp::ContNew(kind) => cont_new(program, alloc, chain, conts, *kind),
         SwitchingOp::ContBind(from, to) => Ok(cont_bind(program, chain, conts, *from, *to)),
-        SwitchingOp::Suspend(tag) => suspend(program, chain, conts, *tag),
+        SwitchingOp::Suspend(tag) => Ok(suspend(program, chain, conts, *tag)),
         SwitchingOp::Resume(kind, clauses) => {
             Ok(resume(program, chain, conts, *kind, clauses.as_slice()))
         }
-        SwitchingOp::Switch(kind, tag) => switch(program, chain, conts, *kind, *tag),
+        SwitchingOp::Switch(kind, tag) => Ok(switch(program, chain, conts, *kind, *tag)),
     }
 }
 
@@ -213,27 +216,15 @@ fn switching(
 
 // The exit of a handle.
 #[inline(never)]
-fn leave_handle(
-    program: &Module,
-    store: &Store,
-    chain: &mut Chain,
-    conts: &mut ContStore<Stored>,
-    kept: &mut Option<Kept>,
-) -> bool
+fn leave_handle(program: &Module, store: &Store, chain: &mut Chain, conts: &mut ContStore<Stored>)
     requires valid { Valid program.now }
     requires stands { StandsSomewhere program.now (parts store.now chain.old conts.old) }
-    requires none { kept.old ≡ None }
     requires values { (top chain.old).shape.stage ≡ Values }
     requires two { 1 < length chain.old }
-    ensures reduces { (held : Option (List ℕ)) → Reduces kept.new program.now (parts store.now chain.old conts.old) (parts store.now chain.new conts.new) held held }
-    ensures stops { result ≡ is_some kept.new }
-    ensures no_fault { kept.new ≢ Some Kept.WriteFault }
+    ensures reduces { (held : Option (List ℕ)) → Reduces None program.now (parts store.now chain.old conts.old) (parts store.now chain.new conts.new) held held }
 {
     let (_program, _store) = (program, store);
-    match exit_handle(chain, conts) {
-        Ok(()) => false,
-        Err(_) => keep(Some(Kept::OutOfMemory), kept),
-    }
+    exit_handle(chain, conts);
 }
 
 // Whether the instruction that was found switches stacks.
@@ -301,7 +292,7 @@ fn in_body<O: Sink>(
     out: &mut O,
     kept: &mut Option<Kept>,
 ) -> bool
-    requires known { IsKnown program.source.now program.classes.now program.functions.now }
+    requires known { IsKnown program.source.now program.checked.now program.classes.now program.functions.now }
     requires valid { Valid program.source.now }
     requires stands { StandsSomewhere program.source.now (parts store.old chain.old conts.old) }
     requires none { kept.old ≡ None }
@@ -332,7 +323,7 @@ fn before_code<O: Sink>(
     out: &mut O,
     kept: &mut Option<Kept>,
 ) -> bool
-    requires known { IsKnown program.source.now program.classes.now program.functions.now }
+    requires known { IsKnown program.source.now program.checked.now program.classes.now program.functions.now }
     requires valid { Valid program.source.now }
     requires stands { StandsSomewhere program.source.now (parts store.old chain.old conts.now) }
     requires none { kept.old ≡ None }
@@ -357,7 +348,7 @@ pub(crate) fn reduce<O: Sink>(
     out: &mut O,
     kept: &mut Option<Kept>,
 ) -> bool
-    requires known { IsKnown program.source.now program.classes.now program.functions.now }
+    requires known { IsKnown program.source.now program.checked.now program.classes.now program.functions.now }
     requires valid { Valid program.source.now }
     requires stands { StandsSomewhere program.source.now (parts store.old chain.old conts.old) }
     requires none { kept.old ≡ None }
@@ -375,7 +366,8 @@ pub(crate) fn reduce<O: Sink>(
             if chain.handles() == 0 {
                 keep(Some(Kept::Ended), kept)
             } else {
-                leave_handle(program.source, store, chain, conts, kept)
+                leave_handle(program.source, store, chain, conts);
+                keep(None, kept)
             }
         }
     }

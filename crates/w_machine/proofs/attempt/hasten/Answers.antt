@@ -1,4 +1,5 @@
 use Rattle.std.proofs.Common.{[], ◌≡◌, ℕ, false, ◌∙◌, refl, sym, ap, subst}
+use Rattle.w_syntax.specs.declared.module.Module.{Module}
 use Rattle.w_segment.specs.Shape.{Shape}
 use Rattle.w_stands.specs.Code.{instr_of}
 use Rattle.w_stands.specs.declared.did.Did.TheVariants as did
@@ -24,7 +25,7 @@ attempt-requires-clause-found c =
     let same = c.stack-stack.ensures.value ∙ sym c.stack_mut.ensures.value in
     let func = c.func.ensures.value ∙ ap (λ (s : Shape). s.func) same in
     let place = c.place.ensures.value ∙ ap (λ (s : Shape). s.place) same in
-    c.instr_at-found.ensures.is ∙ ap (λ (f : ℕ). instr_of c.args.program.now f c.place.result) func ∙ ap (λ (i : ℕ). instr_of c.args.program.now c.stack_mut.result.now.func i) place
+    c.instr_at-found.ensures.is ∙ ap (λ (m : Module). instr_of m c.func.result c.place.result) c.module.ensures.same ∙ ap (λ (f : ℕ). instr_of c.args.program.now f c.place.result) func ∙ ap (λ (i : ℕ). instr_of c.args.program.now c.stack_mut.result.now.func i) place
 
 pub attempt-requires-clause-one : goal.attempt-requires-clause-one
 attempt-requires-clause-one c = memory_there c.requires.valid c.requires.stands

@@ -1,14 +1,15 @@
-use Rattle.std.proofs.Common.{None, sym}
-use Rattle.w_machine.specs.Parts.{parts}
 use Rattle.w_machine.proofs.Leaving.{left_handle}
-use Rattle.w_machine.proofs.Machines.{told_as}
-use Rattle.w_machine.proofs.SwitchedStacks.{few_there}
+use Rattle.w_machine.proofs.Rooms.{leaving_room}
 use Rattle.w_machine.proofs.reduction.leave_handle.Goals as goal
 
-pub exit_handle-requires-clause-few : goal.exit_handle-requires-clause-few
-exit_handle-requires-clause-few c = few_there c.requires.stands
+pub exit_handle-requires-clause-sound : goal.exit_handle-requires-clause-sound
+exit_handle-requires-clause-sound c = c.requires.stands.stands.sound
 
-pub returns-in-Ok-clause-reduces : goal.returns-in-Ok-clause-reduces
-returns-in-Ok-clause-reduces c held =
-    told_as c.args.program.now (parts c.args.store.now c.args.chain.now c.args.conts.now) (parts c.args.store.now c.exit_handle.new.chain c.exit_handle.new.conts) held held None c.args.kept.now (sym c.requires.none)
-    (left_handle c.exit_handle.new.chain c.exit_handle.new.conts c.in-Ok.ensures.goes c.in-Ok.ensures.sound c.in-Ok.ensures.references held)
+pub exit_handle-requires-clause-room : goal.exit_handle-requires-clause-room
+exit_handle-requires-clause-room c = leaving_room c.requires.valid c.requires.stands c.requires.two c.requires.values
+
+pub returns : goal.returns
+returns c = record {
+  reduces = λ held.
+      left_handle c.exit_handle.new.chain c.exit_handle.new.conts c.exit_handle.ensures.goes c.exit_handle.ensures.sound c.exit_handle.ensures.roomy c.exit_handle.ensures.references held;
+}
