@@ -80,6 +80,20 @@ fn is_alike(classes: &Classes, found: &Match, operand: Operand, kind: PackedType
     operand.is(kind) | is_match((found.operand, found.kind), operand, kind)
 }
 
+// Whether an operand and a type differ in no more than the indices that they name, and these are of equivalent types. It is asked before
+// matching, which goes by all that types may be.
+#[inline(always)]
+fn is_equivalent(classes: &Classes, operand: Operand, wanted: PackedType) -> bool
+    ensures { IsTrue result → IsTrue (operand_test classes.now operand wanted) }
+{
+    match operand.view() {
+        OperandView::Known(kind) => {
+            kind.kind() == wanted.kind() && classes.same(kind.index(), wanted.index())
+        }
+        OperandView::Bottom | OperandView::BottomRef(_) => false,
+    }
+}
+
 // Whether an operand stands where one of this type is wanted; the last match that was looked up is not looked up again, since in rows
 // that match by subtyping alone the next one is mostly the same.
 #[inline(always)]
@@ -88,7 +102,10 @@ fn matches_again(classes: &Classes, found: &mut Match, operand: Operand, wanted:
     ensures told { result ≡ operand_test classes.now operand wanted }
     ensures found { IsTrue (operand_test classes.now found.new.operand found.new.kind) }
 {
-    if operand.is(wanted) || is_match((found.operand, found.kind), operand, wanted) {
+    if operand.is(wanted)
+        || is_match((found.operand, found.kind), operand, wanted)
+        || is_equivalent(classes, operand, wanted)
+    {
         return true;
     }
     if !matches_unlike(classes, operand, wanted) {
@@ -180,7 +197,11 @@ fn match_whole(classes: &Classes, operands: &[Operand], types: &[PackedType]) ->
         return true;
     }
     match last_match(classes, operands, types) {
-        Some(found) => match_alike(classes, &found, operands, types),
+        // where the first ones match otherwise, so do most
+        Some(found) => {
+            is_alike(classes, &found, operands[0], types[0])
+                && match_alike(classes, &found, operands, types)
+        }
         None => false,
     }
 }
