@@ -13,12 +13,10 @@ HERE = Path(__file__).resolve().parent
 ROOT = HERE.parent.parent
 sys.path.insert(0, str(ROOT / 'tools' / 'conformance'))
 
-from executing import running     # noqa: E402
 from executing.ends import Exceeded, Trap     # noqa: E402
 from executing.instantiating import Refused, instantiated     # noqa: E402
-from executing.machine import Machine     # noqa: E402
-from reader.instructions import Instruction     # noqa: E402
-from reader.matching import type_keys     # noqa: E402
+from executing.running import begun, reduced     # noqa: E402
+from reader.byte_source import Malformed     # noqa: E402
 from reader.module_decoding import decode     # noqa: E402
 from row_files import rows_of     # noqa: E402
 
@@ -27,7 +25,6 @@ SWITCHING = [
     'running_switches', 'running_switching_limits', 'running_switching_traps']
 MAY_ASK = {'call', 'call_indirect', 'call_ref', 'invoke', 'cont.new', 'memory.grow', 'table.grow'}
 RUNNING, WANTING = 10, 8      # statuses
-MOST_REDUCTIONS = 300
 MOST_SECONDS = 60
 
 
@@ -63,14 +60,16 @@ def runs(names):
                     yield name, row, Path(folder)
 
 
-def refuse(program, names, workers):
-    """Refuses each growth in turn. The answer is the whole one, or want of memory with a first part of out."""
+def refuse(program, names, workers, most):
+    """Refuses each growth in turn, or so many of a row that has more. The answer is the whole one, or want of memory with a first part
+    of out."""
     told, odd = collections.Counter(), []
     for name, row, folder in runs(names):
         whole, asked = program.call(row.words[1:], folder)
         with ThreadPoolExecutor(workers) as pool:
-            answers = pool.map(lambda at: program.call(row.words[1:], folder, at)[0], range(1, asked + 1))
-            for at, answer in enumerate(answers, 1):
+            places = range(1, asked + 1, max(1, asked // most))
+            answers = pool.map(lambda at: program.call(row.words[1:], folder, at)[0], places)
+            for at, answer in zip(places, answers):
                 status, out, err = answer
                 is_part = status == WANTING and whole[1].startswith(out) and whole[2].startswith(err)
                 told['the whole answer' if answer == whole else 'want of memory' if is_part else 'odd'] += 1
@@ -80,30 +79,26 @@ def refuse(program, names, workers):
     return told, odd
 
 
-def reductions(module_bytes):
-    """What each reduction of a run is of, in order: an instruction, an invoke or an exit."""
+def reductions(module_bytes, most):
+    """What each of the first reductions of a run is of, in order: an instruction, an invoke or an exit."""
     module = decode(module_bytes)
-    store, main = instantiated(module)
-    started = [main] if module.start is None else [module.start, main]
-    types = [comp_type for group in module.groups for comp_type in group]
-    machine = Machine(
-        types, type_keys(module.groups), store, [Instruction('invoke', (address,)) for address in started])
+    machine = begun(module, *instantiated(module))
     named = []
-    while len(named) < MOST_REDUCTIONS and not machine.is_ended():
+    while len(named) < most and not machine.is_ended():
         named.append('exit' if machine.place == len(machine.code) else machine.code[machine.place][0])
-        if running._ending(machine):
+        if reduced(machine):
             break
     return named
 
 
-def ask(program, names, workers):
-    """Tells which reductions ask for memory, by runs of one reduction more each."""
+def ask(program, names, workers, most):
+    """Tells which of so many reductions ask for memory, by runs of one reduction more each."""
     told, odd = collections.Counter(), []
     for name, row, folder in runs(names):
         module_bytes = row.files.get(row.words[2], b'')
         try:
-            named = reductions(module_bytes) if module_bytes[:4] == b'\0asm' else []
-        except (Refused, Exceeded, Trap):
+            named = reductions(module_bytes, most) if module_bytes[:4] == b'\0asm' else []
+        except (Malformed, Refused, Exceeded, Trap):
             continue
         with ThreadPoolExecutor(workers) as pool:
             calls = list(pool.map(
@@ -125,11 +120,12 @@ def main():
     parser.add_argument('what', choices=['refuse', 'ask'])
     parser.add_argument('--program', default=ROOT / 'crates' / 'stackwasm' / 'out' / 'stackwasm')
     parser.add_argument('--rows', nargs='+', default=SWITCHING, metavar='NAME')
+    parser.add_argument('--most', type=int, default=300)
     parser.add_argument('--workers', type=int, default=os.cpu_count())
     options = parser.parse_args()
     with tempfile.TemporaryDirectory() as folder:
         program = Program(Path(options.program).resolve(), Path(folder))
-        told, odd = {'refuse': refuse, 'ask': ask}[options.what](program, options.rows, options.workers)
+        told, odd = {'refuse': refuse, 'ask': ask}[options.what](program, options.rows, options.workers, options.most)
     for what, often in told.most_common():
         print(what, often)
     print('\n'.join(odd))

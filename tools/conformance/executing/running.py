@@ -30,22 +30,27 @@ class Outcome(NamedTuple):
     status: int = 0
 
 
-def run(module, store, main, steps):
-    """The outcome of at most so many reductions, which begin with the start function, where there is one, and main."""
+def begun(module, store, main):
+    """The machine of a run with no reduction taken: first comes the start function, where there is one, and then main."""
     started = [main] if module.start is None else [module.start, main]
     invokes = [Instruction('invoke', (address,)) for address in started]
     types = [comp_type for group in module.groups for comp_type in group]
-    machine = Machine(types, type_keys(module.groups), store, invokes)
+    return Machine(types, type_keys(module.groups), store, invokes)
+
+
+def run(module, store, main, steps):
+    """The outcome of at most so many reductions."""
+    machine = begun(module, store, main)
     taken, ending = 0, {}
     while taken < steps and not ending and not machine.is_ended():
         taken += 1
-        ending = _ending(machine)
+        ending = reduced(machine)
     if not ending:
         ending = {'values': machine.operands} if machine.is_ended() else {'line': 'running', 'status': 10}
     return Outcome(taken, store.made, store.consumed, bytes(machine.out), **ending)
 
 
-def _ending(machine):
+def reduced(machine):
     """Take one reduction; how it ends the run, if it does so before the term is values."""
     try:
         _reduce(machine)
