@@ -76,7 +76,8 @@ pub fn read_u64(bytes: &[u8], at: usize) -> Option<(u64, usize)>
     unsigned_from(bytes, at, 64)
 }
 
-// A signed number of so many bits.
+// A signed number of so many bits. It stands out of line, so that readers of instructions have what one byte spells in line.
+#[inline(never)]
 fn signed_at(bytes: &[u8], at: usize, width: u32) -> Option<(i64, usize)>
     requires low { 0 < width }
     requires high { width ≤ 64 }
@@ -130,7 +131,7 @@ fn signed_from(bytes: &[u8], at: usize, width: u32) -> Option<(i64, usize)>
 
 /// The signed number of 32 bits that is spelled at a place, in any spelling of at most five bytes, and the place after it
 /// (Core, binary format, values). `None` exactly where no spelling begins.
-#[inline]
+#[inline(always)]
 pub fn read_s32(bytes: &[u8], at: usize) -> Option<(i32, usize)>
     ensures reads { ReadsAt (signed 32) bytes.now at result }
     ensures begins { BeginsAt (Signed 32) bytes.now at result }
@@ -153,7 +154,7 @@ pub fn read_s33(bytes: &[u8], at: usize) -> Option<(i64, usize)>
 
 /// The signed number of 64 bits that is spelled at a place, in any spelling of at most ten bytes, and the place after it
 /// (Core, binary format, values). `None` exactly where no spelling begins.
-#[inline]
+#[inline(always)]
 pub fn read_s64(bytes: &[u8], at: usize) -> Option<(i64, usize)>
     ensures reads { ReadsAt (signed 64) bytes.now at result }
     ensures begins { BeginsAt (Signed 64) bytes.now at result }

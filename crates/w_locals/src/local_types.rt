@@ -74,6 +74,7 @@ fn runs_before(ends: &[u64], local: u32) -> usize
 }
 
 // The type of the locals of a run.
+#[inline(never)]
 fn run_type(runs: &[LocalRun], run: usize) -> Option<PackedType>
     ensures { option_map kind_of (slice_get runs.now run) ≡ result }
 {
@@ -102,6 +103,7 @@ impl<'a> LocalTypes<'a> {
     }
 
     /// The type of a local.
+    #[inline(always)]
     pub(crate) fn get(&self, local: u32) -> Option<PackedType>
         ensures { slice_get (types_in self.now) local ≡ result }
     {
@@ -122,6 +124,7 @@ impl<'a> LocalTypes<'a> {
     }
 
     /// Whether a local is there and not set where the body begins.
+    #[inline(always)]
     pub(crate) fn is_unset_first(&self, local: u32) -> bool
         ensures { result ≡ is_off (slice_get (first_in self.now) local) }
     {

@@ -77,6 +77,7 @@ impl<'a> Locals<'a> {
     }
 
     /// The type of a local.
+    #[inline(always)]
     pub fn get(&self, local: u32) -> Option<PackedType>
         ensures { slice_get self.now.types local ≡ result }
     {
@@ -84,6 +85,7 @@ impl<'a> Locals<'a> {
     }
 
     // Whether a local is there and not set.
+    #[inline(always)]
     fn is_unset(&self, local: u32) -> bool
         ensures { result ≡ is_off (slice_get (first_set self.now.sets) local) }
     {
@@ -97,6 +99,7 @@ impl<'a> Locals<'a> {
     }
 
     /// The type of a local that is set.
+    #[inline(always)]
     pub fn get_set(&self, local: u32) -> Option<PackedType>
         ensures { get_type (slice_get self.now.types local) (slice_get
             (first_set self.now.sets) local) ≡ gives_type result }

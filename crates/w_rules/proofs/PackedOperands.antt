@@ -1,5 +1,6 @@
 -- The two numbers of a value type, as an operand's.
-use Rattle.std.proofs.Common.{◌≡◌, ◌<◌, ℕ, zero, suc, Bool, true, false, refl, sym, ap, ◌∙◌, arith}
+use Rattle.std.proofs.Common.{◌≡◌, ◌<◌, ◌↔◌, ℕ, zero, suc, Bool, true, false, refl, sym, ap, ◌∙◌, arith}
+use Rattle.std.specs.Int.Bits.{bit_xor, xor_self, xor_assoc, xor_zero_l, xor_zero_r}
 use Rattle.w_types.specs.declared.types.HeapType.{HeapType}
 use Rattle.w_types.specs.declared.types.HeapType.TheVariants as heap
 use Rattle.w_types.specs.declared.types.ValType.{ValType}
@@ -56,3 +57,15 @@ same_number t u e =
     let index : operand_index t ≡ operand_index u = omega arith in
     let kind : operand_kind t ≡ operand_kind u = omega arith in
     by_numbers t ∙ ap (λ (k : ℕ). operand_at k (operand_index t)) kind ∙ ap (operand_at (operand_kind u)) index ∙ sym (by_numbers u)
+
+-- two numbers differ in no bit exactly where they are the same
+no_bits : (m n : ℕ) → bit_xor m n ≡ 0 → m ≡ n
+no_bits m n e =
+    sym (xor_zero_r m) ∙ ap (bit_xor m) (sym (xor_self n)) ∙ sym (xor_assoc m n n) ∙ ap (λ (k : ℕ). bit_xor k n) e ∙ xor_zero_l n
+
+-- the numbers of two types differ in no bit exactly where the types are the same
+pub no_difference : (t u : Operand) → bit_xor (operand_number t) (operand_number u) ≡ 0 ↔ (t ≡ u)
+no_difference t u = (
+  (λ e. same_number t u (no_bits (operand_number t) (operand_number u) e)),
+  (λ e. ap (λ (v : Operand). bit_xor (operand_number v) (operand_number u)) e ∙ xor_self (operand_number u)),
+)

@@ -88,6 +88,16 @@ impl Operand {
         self.number() == other.number()
     }
 
+    /// The bits in which its numbers differ from those of another: 0 exactly where both are the same. A loop over rows gathers these
+    /// with no branch.
+    #[tactic(auto, using(crate::proofs::PackedOperands::no_difference))]
+    #[inline(always)]
+    pub fn difference(self, other: Operand) -> u64
+        ensures { result ≡ 0 ↔ (self ≡ other) }
+    {
+        self.number() ^ other.number()
+    }
+
     /// Whether it is just this value type.
     #[inline(always)]
     pub fn is(self, kind: PackedType) -> bool
