@@ -6,5 +6,6 @@ mod Tables
 pub mod Exact
 pub mod RowsOfLists
 pub mod ShortTypes
+mod SameRows
 mod SameTypes
 pub mod LabelsOfTables

@@ -1,6 +1,6 @@
 -- Operands that are just of the types that are wanted.
-use Rattle.std.proofs.Common.{◌≡◌, ℕ, ◌+◌, ◌-◌, ◌<◌, ◌≤◌, Bool, true, false, List, [], ◌∷◌, ◌++◌, length, length-drop, map, append_assoc, take, drop, get_or, set, replicate, Option, Some, None, if◌then◌else◌, refl, sym, ◌∙◌, ap, arith}
-use Rattle.std.proofs.lemmas.List.{map-append, take_more, take_more_set, take_all, take-append-drop}
+use Rattle.std.proofs.Common.{◌≡◌, ℕ, ◌+◌, ◌-◌, ◌<◌, ◌≤◌, min, Bool, true, false, List, [], ◌∷◌, ◌++◌, length, length-drop, map, append_assoc, take, drop, get_or, set, replicate, Option, Some, None, if◌then◌else◌, refl, sym, ◌∙◌, ap, arith}
+use Rattle.std.proofs.lemmas.List.{map-append, take_more, take_more_set, take_all, take-append-drop, take-append-le, length-take}
 use Rattle.std.proofs.Math.Seq.{take-append_seam}
 use Rattle.w_types.specs.declared.types.ValType.{ValType}
 use Rattle.w_types.specs.Rows.{Row, ε, ◌▹◌, ◌⧺◌, onto, row_of, size}
@@ -138,17 +138,22 @@ pub put_all : (before xs : List Operand) (ts : List ValType) (n i : ℕ) → len
 put_all before xs ts n i same h e =
     sym (take_all (n + i) xs (omega arith)) ∙ e ∙ ap (λ (us : List ValType). before ++ map Known us) (take_all i ts h)
 
--- so many places are made behind the operands, and the types put there
-pub given_whole : (old room new : List Operand) (ts : List ValType) (o : Operand) (m r : ℕ) → m ≡ length old →
+-- the first so many of a list that was cut behind them, and made longer
+kept_first : {A : Type 0} (xs ys : List A) (m k : ℕ) → m ≤ length xs → take m (take (m + k) xs ++ ys) ≡ take m xs
+kept_first {A} xs ys m k h =
+    let cut : length (take (m + k) xs) ≡ min (m + k) (length xs) = length-take (m + k) xs in
+    let whole : take m xs ≡ take m (take (m + k) xs ++ drop (m + k) xs) = ap (take m) (sym (take-append-drop (m + k) xs)) in
+    take-append-le m (take (m + k) xs) ys (omega arith)
+    ∙ sym (whole ∙ take-append-le m (take (m + k) xs) (drop (m + k) xs) (omega arith))
+
+-- so many places are made behind the first operands, and the types put there
+pub given_behind : (old room new : List Operand) (ts : List ValType) (o : Operand) (m r : ℕ) → m ≤ length old →
     room ≡ take (m + length ts) old ++ replicate r o →
-    new ≡ take m room ++ map Known ts → row_of new ≡ row_of old ⧺ known (row_of ts)
-given_whole old room new ts o m r l e h =
-    let made : room ≡ old ++ replicate r o =
-    e ∙ ap (λ (xs : List Operand). xs ++ replicate r o) (take_all (m + length ts) old (omega arith)) in
-    let kept : take m room ≡ old =
-    ap (λ (k : ℕ). take k room) l ∙ ap (take (length old)) made ∙ take-append_seam old (replicate r o) in
-    ap row_of (h ∙ ap (λ (xs : List Operand). xs ++ map Known ts) kept) ∙ row_of-append old (map Known ts)
-    ∙ ap (λ (r : Row Operand). row_of old ⧺ r) (row_of_known ts)
+    new ≡ take m room ++ map Known ts → row_of new ≡ row_of (take m old) ⧺ known (row_of ts)
+given_behind old room new ts o m r l e h =
+    let kept : take m room ≡ take m old = ap (take m) e ∙ kept_first old (replicate r o) m (length ts) l in
+    ap row_of (h ∙ ap (λ (xs : List Operand). xs ++ map Known ts) kept) ∙ row_of-append (take m old) (map Known ts)
+    ∙ ap (λ (r : Row Operand). row_of (take m old) ⧺ r) (row_of_known ts)
 
 -- where all of a list is written through a slice, the list is what the slice has
 pub written_whole : {A : Type 0} (n : ℕ) (xs ys : List A) → n ≡ length ys → take n (ys ++ drop (length ys) xs) ≡ ys

@@ -1,2 +1,3 @@
 pub mod Flow
+pub mod Matched
 pub mod View

@@ -1,8 +1,10 @@
 //! The operands of a block: of the standard's validation algorithm, the part of `vals` above the `val_height` of a `ctrl_frame`, and its
-//! `unreachable`. `take` is `pop_vals`, `give` is `push_vals`, and `leave` is `unreachable()`.
+//! `unreachable`. `enter` is `pop_vals`, `give` is `push_vals`, and `leave` is `unreachable()`.
 
-use crate::operands::{WIDE, can_take, end_with, give_types, take_types};
+use crate::matched::Matched;
+use crate::operands::{WIDE, can_take, end_with, give_behind, give_types, left};
 use std::alloc::{AllocError, Global};
+use std::mem;
 use w_canon::Classes;
 use w_rules::Operand;
 use w_types::PackedType;
@@ -17,7 +19,7 @@ pub struct Flow {
 }
 
 impl Flow {
-    ghost use Rattle.std.specs.Prelude.{◌≡◌, if◌then◌else◌, IfOk, Some, None};
+    ghost use Rattle.std.specs.Prelude.{◌≡◌, if◌then◌else◌, is_some, IfOk, IfSome, Some, None};
     ghost use Rattle.w_types.specs.Rows.{ε, ◌⧺◌, row_of, size};
     ghost use Rattle.w_rules.specs.Matching.{known};
     ghost use Rattle.w_flow.specs.Flow.{pops, is_popped, ends};
@@ -61,41 +63,70 @@ impl Flow {
     }
 
     /// Whether operands of these types can be taken. It compares no more types than there are operands.
-    pub fn can_take(&self, classes: &Classes, ins: &[PackedType]) -> bool
-        ensures { result ≡ is_popped (pops classes.now self.now.any (row_of self.now.operands.items)
-            (row_of ins.now)) }
+    pub fn can_take(&self, classes: &Classes, matched: &mut Matched, ins: &[PackedType]) -> bool
+        requires { matched.old ≡ classes.now }
+        ensures told { result ≡ is_popped (pops classes.now self.now.any
+            (row_of self.now.operands.items) (row_of ins.now)) }
+        ensures kept { matched.new ≡ matched.old }
     {
-        can_take(classes, self.any, &self.operands, ins)
+        can_take(classes, matched, self.any, &self.operands, ins)
     }
 
     /// Whether the operands are just of these types, as at the end of a block.
-    pub fn ends_with(&self, classes: &Classes, outs: &[PackedType]) -> bool
-        ensures { result ≡ ends classes.now self.now.any (row_of self.now.operands.items)
+    pub fn ends_with(&self, classes: &Classes, matched: &mut Matched, outs: &[PackedType]) -> bool
+        requires { matched.old ≡ classes.now }
+        ensures told { result ≡ ends classes.now self.now.any (row_of self.now.operands.items)
             (row_of outs.now) }
+        ensures kept { matched.new ≡ matched.old }
     {
-        end_with(classes, self.any, &self.operands, outs)
+        end_with(classes, matched, self.any, &self.operands, outs)
     }
 
-    /// Takes operands of these types, as where a block begins, or gives back false. Where many were all that there were, their room is
-    /// given back, since blocks within may take as much.
-    pub fn take(&mut self, classes: &Classes, ins: &[PackedType]) -> bool
-        ensures left { pops classes.now self.old.any (row_of self.old.operands.items)
-            (row_of ins.now) ≡ (if result then Some (row_of self.new.operands.items) else None) }
+    /// Takes operands of these types where a block begins, and gives those that stand at its beginning; `None` where they cannot be
+    /// taken. Where they are many, and all that there were, those of the block stand in their room. It fails only when out of memory.
+    pub fn enter(
+        &mut self,
+        alloc: Global,
+        classes: &Classes,
+        matched: &mut Matched,
+        ins: &[PackedType],
+    ) -> Result<Option<Flow>, AllocError>
+        requires { matched.old ≡ classes.now }
+        ensures left { IfOk result (λ inner. pops classes.now self.old.any
+            (row_of self.old.operands.items) (row_of ins.now)
+            ≡ (if is_some inner then Some (row_of self.new.operands.items) else None)) }
+        ensures inner { IfOk result (λ inner. IfSome inner (λ f. flow_view f
+            ≡ reached (known (row_of ins.now)))) }
         ensures any { self.new.any ≡ self.old.any }
+        ensures kept { matched.new ≡ matched.old }
     {
-        let taken = take_types(classes, self.any, &mut self.operands, ins);
-        if ins.len() >= WIDE && self.operands.is_empty() {
-            self.operands.shrink_to(0);
+        let Some(count) = left(classes, matched, self.any, &self.operands, ins) else {
+            return Ok(None);
+        };
+        let mut operands = Vec::new(alloc);
+        if count == 0 && ins.len() >= WIDE {
+            mem::swap(&mut operands, &mut self.operands);
+        } else {
+            self.operands.truncate(count);
         }
-        taken
+        give_behind(&mut operands, 0, ins)?;
+        Ok(Some(Flow {
+            any: false,
+            operands,
+        }))
     }
 
-    /// Gives operands of these types, as where a block has ended. It fails only when out of memory.
-    pub fn give(&mut self, outs: &[PackedType]) -> Result<(), AllocError>
+    /// Gives operands of these types, where a block within has ended: in the room of that block's, where these are many and there are no
+    /// others. It fails only when out of memory.
+    pub fn give(&mut self, ended: &mut Flow, outs: &[PackedType]) -> Result<(), AllocError>
         ensures operands { IfOk result (λ _. row_of self.new.operands.items
             ≡ row_of self.old.operands.items ⧺ known (row_of outs.now)) }
         ensures any { self.new.any ≡ self.old.any }
     {
+        if outs.len() >= WIDE && self.operands.is_empty() {
+            mem::swap(&mut self.operands, &mut ended.operands);
+            return give_behind(&mut self.operands, 0, outs);
+        }
         give_types(&mut self.operands, outs)
     }
 }

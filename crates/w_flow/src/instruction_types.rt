@@ -1,8 +1,10 @@
 //! The types of instructions, each a step of a flow. Each step gives back whether its operands can be taken.
 
 use crate::flow::Flow;
+use crate::matched::Matched;
 use crate::operands::{
-    give_types, non_null, selected, take_any, take_reference, take_type, take_types,
+    give_types, non_null, selected, take_any, take_few, take_reference, take_type, take_types,
+    turn_types,
 };
 use std::alloc::AllocError;
 use w_canon::Classes;
@@ -17,7 +19,7 @@ impl Flow {
     ghost use Rattle.w_flow.specs.Flow.{pops, step};
     ghost use Rattle.w_flow.specs.View.{flow_view, flow_if, anything};
 
-    /// The type [ins] to [outs]. It fails only when out of memory.
+    /// The type [ins] to [outs], of few types. It fails only when out of memory.
     pub fn fixed(
         &mut self,
         classes: &Classes,
@@ -28,45 +30,72 @@ impl Flow {
             (row_of outs.now)) self.old.any (row_of self.old.operands.items)
             ≡ flow_if taken self.new) }
     {
-        if !take_types(classes, self.any, &mut self.operands, ins) {
+        if !take_few(classes, self.any, &mut self.operands, ins) {
             return Ok(false);
         }
         give_types(&mut self.operands, outs)?;
         Ok(true)
     }
 
-    /// The type [ins top] to [outs]. It fails only when out of memory.
-    pub fn fixed_below(
+    /// The same of types that may be many, as those that a function type names.
+    pub fn turns_all(
         &mut self,
         classes: &Classes,
+        matched: &mut Matched,
+        ins: &[PackedType],
+        outs: &[PackedType],
+    ) -> Result<bool, AllocError>
+        requires { matched.old ≡ classes.now }
+        ensures steps { IfOk result (λ taken. step classes.now (fixed (row_of ins.now)
+            (row_of outs.now)) self.old.any (row_of self.old.operands.items)
+            ≡ flow_if taken self.new) }
+        ensures kept { matched.new ≡ matched.old }
+    {
+        turn_types(classes, matched, self.any, &mut self.operands, ins, outs)
+    }
+
+    /// The type [ins top] to [outs], of types that may be many. It fails only when out of memory.
+    pub fn turns_all_below(
+        &mut self,
+        classes: &Classes,
+        matched: &mut Matched,
         ins: &[PackedType],
         top: PackedType,
         outs: &[PackedType],
     ) -> Result<bool, AllocError>
-        ensures { IfOk result (λ taken. step classes.now (fixed (row_of ins.now ▹ top)
+        requires { matched.old ≡ classes.now }
+        ensures steps { IfOk result (λ taken. step classes.now (fixed (row_of ins.now ▹ top)
             (row_of outs.now)) self.old.any (row_of self.old.operands.items)
             ≡ flow_if taken self.new) }
+        ensures kept { matched.new ≡ matched.old }
     {
         if !take_type(classes, self.any, &mut self.operands, top) {
             return Ok(false);
         }
-        self.fixed(classes, ins, outs)
+        self.turns_all(classes, matched, ins, outs)
     }
 
     /// The type [t* ins] to any.
-    pub fn polymorphic(&mut self, classes: &Classes, ins: &[PackedType]) -> bool
-        ensures { step classes.now (polymorphic (row_of ins.now)) self.old.any
+    pub fn polymorphic(
+        &mut self,
+        classes: &Classes,
+        matched: &mut Matched,
+        ins: &[PackedType],
+    ) -> bool
+        requires { matched.old ≡ classes.now }
+        ensures steps { step classes.now (polymorphic (row_of ins.now)) self.old.any
             (row_of self.old.operands.items) ≡ flow_if result self.new }
+        ensures kept { matched.new ≡ matched.old }
     {
-        if !take_types(classes, self.any, &mut self.operands, ins) {
+        if !take_types(classes, matched, self.any, &mut self.operands, ins) {
             return false;
         }
         self.leave();
         true
     }
 
-    /// Takes the index of a `br_table`. Then each label's row is to be tested by `can_take`, and `leave` ends the type.
-    pub fn begin_table(&mut self, classes: &Classes) -> bool
+    /// Takes a number that is tested, as the index of a `br_table`, or what an `if` asks.
+    pub fn take_tested(&mut self, classes: &Classes) -> bool
         ensures left { pops classes.now self.old.any (row_of self.old.operands.items) (ε ▹ val.I32)
             ≡ (if result then Some (row_of self.new.operands.items) else None) }
         ensures any { self.new.any ≡ self.old.any }
@@ -83,6 +112,7 @@ impl Flow {
     }
 
     /// The type of `drop`. It compares no types, so the contract has no entries.
+    #[inline(always)]
     pub fn drops(&mut self) -> bool
         ensures { step [] drops self.old.any (row_of self.old.operands.items)
             ≡ flow_if result self.new }
@@ -140,14 +170,21 @@ impl Flow {
 
     /// The type of a `br_on_null` to a label that takes these types. It fails only when out of memory.
     #[tactic(auto, using(crate::proofs::RowsOfLists::row_more))]
-    pub fn on_null(&mut self, classes: &Classes, label: &[PackedType]) -> Result<bool, AllocError>
-        ensures { IfOk result (λ taken. step classes.now (on_null (row_of label.now)) self.old.any
+    pub fn on_null(
+        &mut self,
+        classes: &Classes,
+        matched: &mut Matched,
+        label: &[PackedType],
+    ) -> Result<bool, AllocError>
+        requires { matched.old ≡ classes.now }
+        ensures steps { IfOk result (λ taken. step classes.now (on_null (row_of label.now)) self.old.any
             (row_of self.old.operands.items) ≡ flow_if taken self.new) }
+        ensures kept { matched.new ≡ matched.old }
     {
         let Some(heap) = take_reference(self.any, &mut self.operands) else {
             return Ok(false);
         };
-        if !take_types(classes, self.any, &mut self.operands, label) {
+        if !take_types(classes, matched, self.any, &mut self.operands, label) {
             return Ok(false);
         }
         give_types(&mut self.operands, label)?;

@@ -4,8 +4,10 @@
 mod flow;
 mod instruction_types;
 mod laws;
+mod matched;
 mod operands;
 mod short_types;
 
 pub use flow::Flow;
 pub use laws::exact_step;
+pub use matched::Matched;

@@ -5,9 +5,12 @@ ghost use Rattle.w_types.specs.Rows.{ε, ◌▹◌, ◌⧺◌, row_of};
 ghost use Rattle.w_rules.specs.Matching.{known};
 ghost use Rattle.w_rules.specs.Operands.{Known, Bottom};
 ghost use Rattle.w_rules.specs.Typing.{ref_to};
-ghost use Rattle.w_flow.specs.Flow.{operand_test, pops, is_popped, ends, pop, pop_ref, select_of, heap_of};
+ghost use Rattle.w_flow.specs.Flow.{operand_test, pops, is_popped, ends, pop, pop_ref, select_of, heap_of, step};
+ghost use Rattle.w_rules.specs.InstructionTypes.{fixed};
+ghost use Rattle.w_flow.specs.Matched.{StandFor};
 ghost use Rattle.w_flow.specs.View.{with_rest};
 
+use crate::matched::Matched;
 use std::alloc::AllocError;
 use w_canon::Classes;
 use w_rules::{Operand, OperandView};
@@ -17,6 +20,7 @@ use w_types::{HeapType, PackedType, RefType, ValType};
 pub(crate) const WIDE: usize = 8;
 
 // Whether an operand that is not just of this type stands where one of the type is wanted.
+#[inline(never)]
 fn matches_unlike(classes: &Classes, operand: Operand, wanted: PackedType) -> bool
     ensures { result ≡ operand_test classes.now operand wanted }
 {
@@ -32,6 +36,7 @@ fn matches_unlike(classes: &Classes, operand: Operand, wanted: PackedType) -> bo
 
 /// Whether an operand stands where one of this type is wanted.
 #[tactic(auto, using(crate::proofs::SameTypes::known_matches))]
+#[inline(always)]
 pub(crate) fn matches_type(classes: &Classes, operand: Operand, wanted: PackedType) -> bool
     ensures { result ≡ operand_test classes.now operand wanted }
 {
@@ -46,13 +51,13 @@ fn are_known(operands: &[Operand], types: &[PackedType]) -> bool
     requires { length operands.now ≡ length types.now }
     ensures { IsTrue result → operands.now ≡ map Known types.now }
 {
-    let mut alike = true;
+    let mut difference = 0;
     for i in 0..types.len() {
         let operand = operands[i];
         let kind = types[i];
-        alike &= operand.is(kind);
+        difference |= operand.difference(Operand::known(kind));
     }
-    alike
+    difference == 0
 }
 
 // An operand that stands where one of a type is wanted.
@@ -68,16 +73,6 @@ fn is_match(found: (Operand, PackedType), operand: Operand, kind: PackedType) ->
     ensures { IsTrue result → (operand ≡ found.0) × (kind ≡ found.1) }
 {
     operand.is_same(found.0) && Operand::known(kind).is_same(Operand::known(found.1))
-}
-
-// Whether an operand is just of this type, or the two are those of a match.
-#[tactic(auto, using(crate::proofs::SameTypes::known_matches))]
-#[inline(always)]
-fn is_alike(classes: &Classes, found: &Match, operand: Operand, kind: PackedType) -> bool
-    requires { IsTrue (operand_test classes.now found.now.operand found.now.kind) }
-    ensures { IsTrue result → IsTrue (operand_test classes.now operand kind) }
-{
-    operand.is(kind) | is_match((found.operand, found.kind), operand, kind)
 }
 
 // Whether an operand and a type differ in no more than the indices that they name, and these are of equivalent types. It is asked before
@@ -149,75 +144,72 @@ fn left_by_each(
     Some(n)
 }
 
-// The last operand that is not just of the type at its place, with that type, where it stands for one.
-fn last_match(classes: &Classes, operands: &[Operand], types: &[PackedType]) -> Option<Match>
+// Whether operands stand where these types are wanted, each where the one at its place is.
+fn match_each(classes: &Classes, operands: &[Operand], types: &[PackedType]) -> bool
     requires { length operands.now ≡ length types.now }
-    ensures { IfSome result (λ found. IsTrue (operand_test classes.now found.operand found.kind)) }
+    ensures { IsTrue result → StandFor classes.now operands.now types.now }
 {
-    let mut i = types.len();
-    while i > 0 {
-        i -= 1;
-        let operand = operands[i];
-        let kind = types[i];
-        if !operand.is(kind) {
-            return if matches_unlike(classes, operand, kind) {
-                Some(Match { operand, kind })
-            } else {
-                None
-            };
-        }
-    }
-    None
-}
-
-// Whether operands are just of these types, or match as those of a match do. It goes through all, so that the comparison has no
-// branches.
-fn match_alike(classes: &Classes, found: &Match, operands: &[Operand], types: &[PackedType]) -> bool
-    requires long { length operands.now ≡ length types.now }
-    requires found { IsTrue (operand_test classes.now found.now.operand found.now.kind) }
-    ensures { IsTrue result → (p : Bool) → pops classes.now p (row_of operands.now) (row_of types.now) ≡ Some ε }
-{
-    let mut alike = true;
+    let mut found = Match {
+        operand: Operand::BOTTOM,
+        kind: PackedType::I32,
+    };
     for i in 0..types.len() {
         let operand = operands[i];
         let kind = types[i];
-        alike &= is_alike(classes, found, operand, kind);
+        if !matches_again(classes, &mut found, operand, kind) {
+            return false;
+        }
     }
-    alike
+    true
 }
 
-// Whether operands stand where these types are wanted, and those that are not just of their types match alike.
-fn match_whole(classes: &Classes, operands: &[Operand], types: &[PackedType]) -> bool
+// The same of rows that may be long: those that are just of their types, and those that were found to match last, are compared whole.
+fn match_whole(
+    classes: &Classes,
+    matched: &mut Matched,
+    operands: &[Operand],
+    types: &[PackedType],
+) -> bool
+    requires agreed { matched.old ≡ classes.now }
     requires long { length operands.now ≡ length types.now }
     requires some { 0 < length types.now }
-    ensures { IsTrue result → (p : Bool) → pops classes.now p (row_of operands.now) (row_of types.now) ≡ Some ε }
+    ensures stands { IsTrue result → StandFor classes.now operands.now types.now }
+    ensures kept { matched.new ≡ matched.old }
 {
     let last = types.len() - 1;
     if operands[last].is(types[last]) && are_known(operands, types) {
         return true;
     }
-    match last_match(classes, operands, types) {
-        // where the first ones match otherwise, so do most
-        Some(found) => {
-            is_alike(classes, &found, operands[0], types[0])
-                && match_alike(classes, &found, operands, types)
-        }
-        None => false,
+    if matched.has(operands, types) {
+        return true;
     }
+    if !match_each(classes, operands, types) {
+        return false;
+    }
+    matched.remember(operands, types);
+    true
 }
 
-// How many operands are left when these types are taken, or `None` where they can't be. Where the place cannot be reached there may be
-// fewer operands than types, and those are compared whole too.
-fn left(classes: &Classes, any: bool, operands: &[Operand], wanted: &[PackedType]) -> Option<usize>
+/// How many operands are left when these types are taken, or `None` where they can't be. Where the place cannot be reached there may be
+/// fewer operands than types, and those are compared whole too.
+pub(crate) fn left(
+    classes: &Classes,
+    matched: &mut Matched,
+    any: bool,
+    operands: &[Operand],
+    wanted: &[PackedType],
+) -> Option<usize>
+    requires { matched.old ≡ classes.now }
     ensures what { pops classes.now any (row_of operands.now) (row_of wanted.now)
         ≡ option_map (λ n. row_of (take n operands.now)) result }
     ensures within { IfSome result (λ n. n ≤ length operands.now) }
+    ensures kept { matched.new ≡ matched.old }
 {
     let common = operands.len().min(wanted.len());
     if common >= WIDE {
         let beneath = operands.len() - common;
         let made_up = wanted.len() - common;
-        if match_whole(classes, &operands[beneath..], &wanted[made_up..]) {
+        if match_whole(classes, matched, &operands[beneath..], &wanted[made_up..]) {
             return if made_up == 0 || any {
                 Some(beneath)
             } else {
@@ -231,32 +223,39 @@ fn left(classes: &Classes, any: bool, operands: &[Operand], wanted: &[PackedType
 /// Whether these types can be taken.
 pub(crate) fn can_take(
     classes: &Classes,
+    matched: &mut Matched,
     any: bool,
     operands: &[Operand],
     wanted: &[PackedType],
 ) -> bool
-    ensures { result ≡ is_popped (pops classes.now any (row_of operands.now) (row_of wanted.now)) }
+    requires { matched.old ≡ classes.now }
+    ensures told { result ≡ is_popped (pops classes.now any (row_of operands.now)
+        (row_of wanted.now)) }
+    ensures kept { matched.new ≡ matched.old }
 {
-    left(classes, any, operands, wanted).is_some()
+    left(classes, matched, any, operands, wanted).is_some()
 }
 
 /// Whether the operands are just of these types.
 pub(crate) fn end_with(
     classes: &Classes,
+    matched: &mut Matched,
     any: bool,
     operands: &[Operand],
     wanted: &[PackedType],
 ) -> bool
-    ensures { result ≡ ends classes.now any (row_of operands.now) (row_of wanted.now) }
+    requires { matched.old ≡ classes.now }
+    ensures told { result ≡ ends classes.now any (row_of operands.now) (row_of wanted.now) }
+    ensures kept { matched.new ≡ matched.old }
 {
-    match left(classes, any, operands, wanted) {
+    match left(classes, matched, any, operands, wanted) {
         Some(n) => n == 0,
         None => false,
     }
 }
 
-/// Takes these types, or answers false.
-pub(crate) fn take_types(
+/// Takes these types, which are few, or answers false.
+pub(crate) fn take_few(
     classes: &Classes,
     any: bool,
     operands: &mut Vec<Operand>,
@@ -265,7 +264,29 @@ pub(crate) fn take_types(
     ensures { pops classes.now any (row_of operands.old.items) (row_of wanted.now)
         ≡ (if result then Some (row_of operands.new.items) else None) }
 {
-    match left(classes, any, operands, wanted) {
+    match left_by_each(classes, any, operands, wanted) {
+        Some(n) => {
+            operands.truncate(n);
+            true
+        }
+        None => false,
+    }
+}
+
+/// Takes these types, which may be many, or answers false.
+pub(crate) fn take_types(
+    classes: &Classes,
+    matched: &mut Matched,
+    any: bool,
+    operands: &mut Vec<Operand>,
+    wanted: &[PackedType],
+) -> bool
+    requires { matched.old ≡ classes.now }
+    ensures left { pops classes.now any (row_of operands.old.items) (row_of wanted.now)
+        ≡ (if result then Some (row_of operands.new.items) else None) }
+    ensures kept { matched.new ≡ matched.old }
+{
+    match left(classes, matched, any, operands, wanted) {
         Some(n) => {
             operands.truncate(n);
             true
@@ -276,6 +297,7 @@ pub(crate) fn take_types(
 
 /// Takes an operand of this type, or answers false.
 #[tactic(auto, using(crate::proofs::RowsOfLists::row_more))]
+#[inline(always)]
 pub(crate) fn take_type(
     classes: &Classes,
     any: bool,
@@ -293,6 +315,7 @@ pub(crate) fn take_type(
 
 /// Takes an operand, whatever it is.
 #[tactic(auto, using(crate::proofs::RowsOfLists::row_more))]
+#[inline(always)]
 pub(crate) fn take_any(any: bool, operands: &mut Vec<Operand>) -> Option<Operand>
     ensures { pop any (row_of operands.old.items) ≡ with_rest (row_of operands.new.items) result }
 {
@@ -398,6 +421,25 @@ fn give_each(operands: &mut Vec<Operand>, types: &[PackedType]) -> Result<(), Al
     Ok(())
 }
 
+/// Gives operands of these types behind the first so many, in the place of those that stand there.
+pub(crate) fn give_behind(
+    operands: &mut Vec<Operand>,
+    from: usize,
+    types: &[PackedType],
+) -> Result<(), AllocError>
+    requires { from ≤ length operands.old.items }
+    ensures { IfOk result (λ _. row_of operands.new.items
+        ≡ row_of (take from operands.old.items) ⧺ known (row_of types.now)) }
+{
+    if types.len() < WIDE {
+        operands.truncate(from);
+        return give_each(operands, types);
+    }
+    operands.resize(from + types.len(), Operand::BOTTOM)?;
+    put_types(operands.as_mut_slice(), from, types);
+    Ok(())
+}
+
 /// Gives operands of these types.
 pub(crate) fn give_types(
     operands: &mut Vec<Operand>,
@@ -406,11 +448,28 @@ pub(crate) fn give_types(
     ensures { IfOk result (λ _. row_of operands.new.items
         ≡ row_of operands.old.items ⧺ known (row_of types.now)) }
 {
-    if types.len() < WIDE {
-        return give_each(operands, types);
-    }
     let from = operands.len();
-    operands.resize(from + types.len(), Operand::BOTTOM)?;
-    put_types(operands.as_mut_slice(), from, types);
-    Ok(())
+    give_behind(operands, from, types)
+}
+
+/// Takes these types, and gives those, in the place of what was taken; or answers false. Both may be many.
+pub(crate) fn turn_types(
+    classes: &Classes,
+    matched: &mut Matched,
+    any: bool,
+    operands: &mut Vec<Operand>,
+    wanted: &[PackedType],
+    given: &[PackedType],
+) -> Result<bool, AllocError>
+    requires { matched.old ≡ classes.now }
+    ensures steps { IfOk result (λ taken. step classes.now (fixed (row_of wanted.now)
+        (row_of given.now)) any (row_of operands.old.items)
+        ≡ (if taken then Some (record { any = any; operands = row_of operands.new.items }) else None)) }
+    ensures kept { matched.new ≡ matched.old }
+{
+    let Some(n) = left(classes, matched, any, operands, wanted) else {
+        return Ok(false);
+    };
+    give_behind(operands, n, given)?;
+    Ok(true)
 }

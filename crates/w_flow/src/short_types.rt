@@ -17,6 +17,7 @@ impl Flow {
 
     /// The type [] to [to]. It compares no types, so the contract has no entries. It fails only when out of memory.
     #[tactic(auto, using(crate::proofs::RowsOfLists::row_more))]
+    #[inline(always)]
     pub fn gives(&mut self, to: PackedType) -> Result<bool, AllocError>
         ensures { IfOk result (λ taken. step [] (fixed ε (ε ▹ to)) self.old.any
             (row_of self.old.operands.items) ≡ flow_if taken self.new) }
@@ -26,6 +27,7 @@ impl Flow {
     }
 
     /// The type [from] to [].
+    #[inline(always)]
     pub fn takes(&mut self, classes: &Classes, from: PackedType) -> bool
         ensures { step classes.now (fixed (ε ▹ from) ε) self.old.any
             (row_of self.old.operands.items) ≡ flow_if result self.new }
@@ -42,6 +44,7 @@ impl Flow {
     }
 
     /// The type [from] to [to]. It fails only when out of memory.
+    #[inline(always)]
     pub fn turns(
         &mut self,
         classes: &Classes,
@@ -63,6 +66,7 @@ impl Flow {
     }
 
     /// The type [from from] to [to]. It fails only when out of memory.
+    #[inline(always)]
     pub fn joins(
         &mut self,
         classes: &Classes,

@@ -24,6 +24,7 @@ mod variable;
 use crate::body_context::BodyContext;
 use crate::frame::Frame;
 use crate::frame_kind::FrameKind;
+use crate::setting::Setting;
 use control::control_step;
 use memory::{load_step, memory_step, store_step};
 use numeric::{numeric_step, of_int};
@@ -40,7 +41,7 @@ use w_types::PackedType;
 
 // An instruction that holds no others and does not switch stacks.
 fn plain_step(
-    cx: &Context,
+    setting: &mut Setting,
     locals: &mut Locals,
     results: &[PackedType],
     kind: &FrameKind,
@@ -48,12 +49,14 @@ fn plain_step(
     flow: &mut Flow,
     op: &Op,
 ) -> Result<bool, AllocError>
-    ensures steps { IfOk result (λ taken. StepsTo cx.now locals.old results.now (kind.now
+    ensures steps { IfOk result (λ taken. StepsTo setting.old.cx.now locals.old results.now (kind.now
         ∷ outer_kinds outer.now) op.now flow.old flow.new taken) }
     ensures types { locals.new.types ≡ locals.old.types }
     ensures sets { IfOk result (λ taken. IsTrue taken → SetsBy op.now locals.old locals.new) }
     ensures outer { OnOk result (outer_sets locals.new.sets ≡ outer_sets locals.old.sets) }
+    ensures kept { setting.new.cx ≡ setting.old.cx }
 {
+    let cx = setting.cx;
     match op {
         Op::Control(op) => {
             let body = BodyContext {
@@ -63,7 +66,7 @@ fn plain_step(
                 kind,
                 outer,
             };
-            control_step(&body, flow, op)
+            control_step(&body, &mut setting.matched, flow, op)
         }
         Op::Parametric(op) => parametric_step(cx, flow, op),
         Op::Variable(op) => variable_step(cx, locals, flow, *op),
@@ -77,6 +80,7 @@ fn plain_step(
 }
 
 // A common instruction but those on variables; `None`, and nothing is done, where it is none.
+#[inline(always)]
 fn common_step(
     cx: &Context,
     flow: &mut Flow,
@@ -112,7 +116,7 @@ fn common_step(
 // Another instruction, where it holds no others and does not switch stacks.
 #[inline(never)]
 fn rare_step(
-    cx: &Context,
+    setting: &mut Setting,
     locals: &mut Locals,
     results: &[PackedType],
     kind: &FrameKind,
@@ -121,13 +125,15 @@ fn rare_step(
     packed: &PackedInstr,
 ) -> Result<bool, AllocError>
     requires { IsTrue (is_rare packed.now) }
-    ensures steps { IfOk result (λ taken. PackedSteps cx.now locals.old results.now (kind.now
+    ensures steps { IfOk result (λ taken. PackedSteps setting.old.cx.now locals.old results.now (kind.now
         ∷ outer_kinds outer.now) packed.now flow.old flow.new taken) }
     ensures types { locals.new.types ≡ locals.old.types }
     ensures sets { IfOk result (λ taken. IsTrue taken
         → PackedSets packed.now locals.old locals.new) }
     ensures outer { OnOk result (outer_sets locals.new.sets ≡ outer_sets locals.old.sets) }
+    ensures kept { setting.new.cx ≡ setting.old.cx }
 {
+    let cx = setting.cx;
     match packed {
         PackedInstr::Convert(op) => numeric_step(cx.classes, flow, NumericOp::Convert(*op)),
         PackedInstr::Memory(op) => memory_step(cx, flow, op.whole()),
@@ -139,13 +145,13 @@ fn rare_step(
                 kind,
                 outer,
             };
-            control_step(&body, flow, &op.whole())
+            control_step(&body, &mut setting.matched, flow, &op.whole())
         }
         PackedInstr::Select => flow.selects(cx.classes),
         PackedInstr::Table(op) => table_step(cx, flow, *op),
         PackedInstr::Reference(op) => reference_step(cx, flow, *op),
         PackedInstr::Boxed(instr) => match &**instr {
-            Instr::Plain(op) => plain_step(cx, locals, results, kind, outer, flow, op),
+            Instr::Plain(op) => plain_step(setting, locals, results, kind, outer, flow, op),
             _ => Ok(false),
         },
         // switching has no test here, and the others are not plain
@@ -156,8 +162,9 @@ fn rare_step(
 /// An instruction that does not switch stacks, where it holds no others: what it does to the operands of its block, and the local
 /// that it sets. Its typing goes by the module, the function's locals and those of them that are set, its results, the innermost
 /// block's kind, and the blocks around it.
+#[inline(always)]
 pub fn packed_step(
-    cx: &Context,
+    setting: &mut Setting,
     locals: &mut Locals,
     results: &[PackedType],
     kind: &FrameKind,
@@ -165,18 +172,20 @@ pub fn packed_step(
     flow: &mut Flow,
     packed: &PackedInstr,
 ) -> Result<bool, AllocError>
-    ensures steps { IfOk result (λ taken. PackedSteps cx.now locals.old results.now (kind.now
+    ensures steps { IfOk result (λ taken. PackedSteps setting.old.cx.now locals.old results.now (kind.now
         ∷ outer_kinds outer.now) packed.now flow.old flow.new taken) }
     ensures types { locals.new.types ≡ locals.old.types }
     ensures sets { IfOk result (λ taken. IsTrue taken
         → PackedSets packed.now locals.old locals.new) }
     ensures outer { OnOk result (outer_sets locals.new.sets ≡ outer_sets locals.old.sets) }
+    ensures kept { setting.new.cx ≡ setting.old.cx }
 {
+    let cx = setting.cx;
     match packed {
         PackedInstr::Variable(op) => variable_step(cx, locals, flow, *op),
         _ => match common_step(cx, flow, packed) {
             Some(taken) => taken,
-            None => rare_step(cx, locals, results, kind, outer, flow, packed),
+            None => rare_step(setting, locals, results, kind, outer, flow, packed),
         },
     }
 }

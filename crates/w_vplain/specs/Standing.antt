@@ -23,11 +23,11 @@ use Rattle.w_vplain.specs.declared.moves.Move.{Move}
 
 -- the context that a checker types in
 abbrev pub context_for : Checker → Context
-context_for c = in_body (context_in c.cx.now) c.locals.types c.results.now
+context_for c = in_body (context_in c.setting.cx.now) c.locals.types c.results.now
 
 -- the entries of the types
 abbrev pub classes_for : Checker → List Entry
-classes_for c = c.cx.now.classes.now
+classes_for c = c.setting.cx.now.classes.now
 
 -- the classes are those of the module's types
 abbrev pub HasClasses : Checker → Type 0

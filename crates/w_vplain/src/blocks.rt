@@ -1,8 +1,9 @@
 //! The beginnings and ends of blocks.
-ghost use Rattle.std.specs.Prelude.{◌≡◌, ◌∷◌, [], Bool, List, IfOk, IfSome, if◌then◌else◌};
+ghost use Rattle.std.specs.Prelude.{◌≡◌, ◌∷◌, [], Bool, List, IfOk, IfSome, is_some, if◌then◌else◌};
 ghost use Rattle.w_types.specs.Rows.{row_of};
 ghost use Rattle.w_flow.specs.Flow.{pops};
-ghost use Rattle.w_flow.specs.View.{flow_view};
+ghost use Rattle.w_flow.specs.View.{flow_view, reached};
+ghost use Rattle.w_rules.specs.Matching.{known};
 ghost use Rattle.w_rules.specs.Spaces.{in_body};
 ghost use Rattle.w_rules.specs.View.{context_in};
 ghost use Rattle.w_vplain.specs.Frames.{Frame as TheFrame, enter_next, other_next, end_test as needs_no_branch, end_next, no_frames};
@@ -12,24 +13,34 @@ ghost use Rattle.w_vplain.specs.View.{frame_view, inner_with, else_with, left_wi
 
 use std::alloc::{AllocError, Global};
 use w_canon::Classes;
-use w_flow::Flow;
+use w_flow::{Flow, Matched};
 use w_rules::Context;
 use w_steps::{Frame, FrameKind, arrow};
 use w_types::PackedType;
 
-// Takes what a block with these parameters takes.
-fn take_params(classes: &Classes, kind: &FrameKind, flow: &mut Flow, from: &[PackedType]) -> bool
-    ensures left { pops classes.now (flow_view flow.old).any (flow_view flow.old).operands
+// Takes what a block with these parameters takes, and gives the operands at its beginning.
+fn enter_params(
+    alloc: Global,
+    classes: &Classes,
+    matched: &mut Matched,
+    kind: &FrameKind,
+    flow: &mut Flow,
+    from: &[PackedType],
+) -> Result<Option<Flow>, AllocError>
+    requires { matched.old ≡ classes.now }
+    ensures left { IfOk result (λ inner. pops classes.now (flow_view flow.old).any
+        (flow_view flow.old).operands
         (taken_by kind.now (record { from = row_of from.now; to = row_of [] }))
-        ≡ (if result then Some (flow_view flow.new).operands else None) }
+        ≡ (if is_some inner then Some (flow_view flow.new).operands else None)) }
+    ensures inner { IfOk result (λ inner. IfSome inner (λ f. flow_view f
+        ≡ reached (known (row_of from.now)))) }
     ensures same { (flow_view flow.new).any ≡ (flow_view flow.old).any }
+    ensures kept { matched.new ≡ matched.old }
 {
-    match kind {
-        FrameKind::Then(_) | FrameKind::Else(_) => {
-            flow.take(classes, &[PackedType::I32]) && flow.take(classes, from)
-        }
-        FrameKind::Body | FrameKind::Block(_, _) => flow.take(classes, from),
+    if matches!(kind, FrameKind::Then(_) | FrameKind::Else(_)) && !flow.take_tested(classes) {
+        return Ok(None);
     }
+    flow.enter(alloc, classes, matched, from)
 }
 
 /// How many operands there are in the block and around it, where its place is counted. It fails where that passes 64 bits, as for want
@@ -54,10 +65,12 @@ pub(crate) fn height(frame: &Frame) -> Result<Option<u64>, AllocError>
 pub(crate) fn inner_frame(
     alloc: Global,
     cx: &Context,
+    matched: &mut Matched,
     results: &[PackedType],
     kind: FrameKind,
     around: &mut Frame,
 ) -> Result<Option<Frame>, AllocError>
+    requires { matched.old ≡ cx.now.classes.now }
     ensures steps { IfOk result (λ inner. (fs : List TheFrame) (s : List Bool) →
         enter_next cx.now.classes.now (in_body (context_in cx.now) [] results.now) kind
         (frame_view around.old s) fs ≡ inner_with inner around.new s fs) }
@@ -67,14 +80,15 @@ pub(crate) fn inner_frame(
     ensures same_base { around.new.base ≡ around.old.base }
     ensures same_kind { around.new.kind ≡ around.old.kind }
     ensures kind { IfOk result (λ inner. IfSome inner (λ f. f.kind ≡ kind)) }
+    ensures kept { matched.new ≡ matched.old }
 {
     let Some((from, _)) = arrow(cx, results, &kind) else {
         return Ok(None);
     };
-    if !take_params(cx.classes, &kind, &mut around.flow, from) {
+    let flow = &mut around.flow;
+    let Some(flow) = enter_params(alloc, cx.classes, matched, &kind, flow, from)? else {
         return Ok(None);
-    }
-    let flow = Flow::of_types(alloc, from)?;
+    };
     let base = height(around)?;
     Ok(Some(Frame { kind, flow, base }))
 }
@@ -83,13 +97,16 @@ pub(crate) fn inner_frame(
 pub(crate) fn else_frame(
     alloc: Global,
     cx: &Context,
+    matched: &mut Matched,
     results: &[PackedType],
     first: &Frame,
 ) -> Result<Option<Frame>, AllocError>
+    requires { matched.old ≡ cx.now.classes.now }
     ensures steps { IfOk result (λ second. (g : TheFrame) (gs : List TheFrame) (s : List Bool) →
         other_next cx.now.classes.now (in_body (context_in cx.now) [] results.now) first.now.kind
         (frame_view first.now s) (g ∷ gs) ≡ else_with second g gs) }
     ensures base { IfOk result (λ second. IfSome second (λ f. f.base ≡ first.now.base)) }
+    ensures kept { matched.new ≡ matched.old }
 {
     let FrameKind::Then(block) = first.kind else {
         return Ok(None);
@@ -97,7 +114,7 @@ pub(crate) fn else_frame(
     let Some((from, to)) = arrow(cx, results, &first.kind) else {
         return Ok(None);
     };
-    if !first.flow.ends_with(cx.classes, to) {
+    if !first.flow.ends_with(cx.classes, matched, to) {
         return Ok(None);
     }
     let flow = Flow::of_types(alloc, from)?;
@@ -123,22 +140,27 @@ fn needs_none(classes: &Classes, kind: &FrameKind, from: &[PackedType], to: &[Pa
 /// What the innermost block leaves, where it ends well; a body stands alone, and every other block in one.
 pub(crate) fn end_types<'c>(
     cx: &'c Context<'c>,
+    matched: &mut Matched,
     results: &'c [PackedType],
-    top: &'c Frame,
+    kind: &'c FrameKind,
+    flow: &Flow,
     alone: bool,
 ) -> Option<&'c [PackedType]>
-    ensures { (fs : List TheFrame) (s : List Bool) → alone ≡ no_frames fs →
+    requires { matched.old ≡ cx.now.classes.now }
+    ensures left { (fs : List TheFrame) (s : List Bool) → alone ≡ no_frames fs →
         end_next cx.now.classes.now (in_body (context_in cx.now) [] results.now)
-        (frame_view top.now s) fs ≡ left_with result fs }
+        (record { kind = kind.now; any = (flow_view flow.now).any; operands = (flow_view flow.now).operands; is_set = s })
+        fs ≡ left_with result fs }
+    ensures kept { matched.new ≡ matched.old }
 {
-    let (from, to) = arrow(cx, results, &top.kind)?;
-    if matches!(top.kind, FrameKind::Body) != alone {
+    let (from, to) = arrow(cx, results, kind)?;
+    if matches!(kind, FrameKind::Body) != alone {
         return None;
     }
-    if !top.flow.ends_with(cx.classes, to) {
+    if !flow.ends_with(cx.classes, matched, to) {
         return None;
     }
-    if !needs_none(cx.classes, &top.kind, from, to) {
+    if !needs_none(cx.classes, kind, from, to) {
         return None;
     }
     Some(to)

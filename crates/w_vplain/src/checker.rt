@@ -22,10 +22,10 @@ use crate::blocks::{else_frame, end_types, height, inner_frame};
 use crate::moves::{InstrRow, Move};
 use std::alloc::{AllocError, Global};
 use std::mem;
-use w_flow::Flow;
+use w_flow::{Flow, Matched};
 use w_locals::Locals;
 use w_rules::Context;
-use w_steps::{Frame, FrameKind, label_of, packed_step};
+use w_steps::{Frame, FrameKind, Setting, label_of, packed_step};
 use w_syntax::{Instr, LocalRun, Op, PackedInstr};
 use w_types::{PackedType, ValType};
 
@@ -34,7 +34,7 @@ use w_types::{PackedType, ValType};
 #[derive(Drop)]
 pub struct Checker<'a> {
     alloc: Global,
-    cx: &'a Context<'a>,
+    setting: Setting<'a>,
     results: &'a [PackedType],
     locals: Locals<'a>,
     outer: Vec<Frame>,
@@ -145,7 +145,10 @@ impl<'a> Checker<'a> {
         let locals = Locals::begin(alloc, params, runs)?;
         Ok(Checker {
             alloc,
-            cx,
+            setting: Setting {
+                cx,
+                matched: Matched::new(alloc, cx.classes),
+            },
             results,
             locals,
             outer: Vec::new(alloc),
@@ -163,6 +166,7 @@ impl<'a> Checker<'a> {
     }
 
     // An instruction that does not switch stacks, where it holds no others.
+    #[inline(always)]
     fn op(&mut self, packed: &PackedInstr) -> Result<bool, AllocError>
         ensures steps { IfOk result (λ taken. OnPlain (λ o. op_next (classes_for self.old)
             (context_for self.old) o (top_of self.old) (outer_of self.old)
@@ -176,7 +180,7 @@ impl<'a> Checker<'a> {
         let outer = self.outer.as_slice();
         let top = &mut self.top;
         if !packed_step(
-            self.cx,
+            &mut self.setting,
             &mut self.locals,
             self.results,
             &top.kind,
@@ -199,8 +203,16 @@ impl<'a> Checker<'a> {
         ensures uncounted { IsUncounted self.old self.new }
         ensures ended { self.new.ended ≡ self.old.ended }
     {
-        let results = self.results;
-        let Some(inner) = inner_frame(self.alloc, self.cx, results, kind, &mut self.top)? else {
+        let setting = &mut self.setting;
+        let Some(inner) = inner_frame(
+            self.alloc,
+            setting.cx,
+            &mut setting.matched,
+            self.results,
+            kind,
+            &mut self.top,
+        )?
+        else {
             return Ok(false);
         };
         self.locals.enter_block()?;
@@ -222,7 +234,14 @@ impl<'a> Checker<'a> {
         if self.outer.as_slice().is_empty() {
             return Ok(false);
         }
-        match else_frame(self.alloc, self.cx, self.results, &self.top)? {
+        let setting = &mut self.setting;
+        match else_frame(
+            self.alloc,
+            setting.cx,
+            &mut setting.matched,
+            self.results,
+            &self.top,
+        )? {
             Some(second) => {
                 self.top = second;
                 self.locals.leave_block();
@@ -244,13 +263,21 @@ impl<'a> Checker<'a> {
         ensures uncounted { IsUncounted self.old self.new }
     {
         let alone = self.outer.as_slice().is_empty();
-        let Some(to) = end_types(self.cx, self.results, &self.top, alone) else {
+        let setting = &mut self.setting;
+        let Some(to) = end_types(
+            setting.cx,
+            &mut setting.matched,
+            self.results,
+            &self.top.kind,
+            &self.top.flow,
+            alone,
+        ) else {
             return Ok(false);
         };
         match self.outer.pop() {
             None => self.ended = true,
             Some(mut around) => {
-                around.flow.give(to)?;
+                around.flow.give(&mut self.top.flow, to)?;
                 self.locals.leave_block();
                 self.top = around;
             }
@@ -315,12 +342,18 @@ impl<'a> Checker<'a> {
         ensures bases { HasBases self.old → HasBases self.new }
         ensures uncounted { IsUncounted self.old self.new }
     {
+        let setting = &mut self.setting;
+        let classes = setting.cx.classes;
+        let flow = &mut self.top.flow;
         match top {
-            Some(top) => self
-                .top
-                .flow
-                .fixed_below(self.cx.classes, ins, PackedType::new(top), outs),
-            None => self.top.flow.fixed(self.cx.classes, ins, outs),
+            Some(top) => flow.turns_all_below(
+                classes,
+                &mut setting.matched,
+                ins,
+                PackedType::new(top),
+                outs,
+            ),
+            None => flow.turns_all(classes, &mut setting.matched, ins, outs),
         }
     }
 
@@ -339,6 +372,7 @@ impl<'a> Checker<'a> {
     }
 
     // Counts the operands of the place that was reached.
+    #[inline(always)]
     fn count_operands(&mut self) -> Result<(), AllocError>
         ensures raises { OnOk result (HasBases self.old → self.new.peak
             ≡ max self.old.peak (or_none (total (frames_of self.old)) (λ (h : ℕ). h))) }
@@ -393,6 +427,7 @@ impl<'a> Checker<'a> {
     }
 
     // The same of one that holds no others. It opens no block, so that there are none to count.
+    #[inline(always)]
     fn advance_op(&mut self, packed: &PackedInstr) -> Result<bool, AllocError>
         requires { IsFalse self.old.ended }
         ensures steps { IfOk result (λ taken. OnPlain (λ o. Leads (op_next (classes_for self.old)
@@ -409,6 +444,7 @@ impl<'a> Checker<'a> {
     }
 
     // An instruction, where the body has not ended.
+    #[inline(always)]
     fn advance_instr(&mut self, packed: &PackedInstr) -> Result<bool, AllocError>
         requires { IsFalse self.old.ended }
         ensures steps { IfOk result (λ taken. Leads (next (classes_for self.old)
@@ -454,6 +490,7 @@ impl<'a> Checker<'a> {
     }
 
     // A call where the body has not ended, and the count of the place that it reaches.
+    #[inline(always)]
     fn advance(&mut self, step: Move) -> Result<bool, AllocError>
         requires { IsFalse self.old.ended }
         ensures steps { IfOk result (λ taken. Leads (move_next (classes_for self.old)
@@ -469,6 +506,7 @@ impl<'a> Checker<'a> {
     }
 
     // A call.
+    #[inline(always)]
     fn call(&mut self, step: Move) -> Result<bool, AllocError>
         ensures steps { IfOk result (λ taken. IsCall self.old self.new step.entry taken) }
         ensures body { IsSameBody self.old self.new }
@@ -499,6 +537,7 @@ impl<'a> Checker<'a> {
     /// An instruction whose row takes operands of these types, the topmost of this one, and gives those; of a resume also how many the
     /// longest label of its clauses takes. Whether the rules derive the sequence with each instruction that has this row where the
     /// sequence so far is derived. It fails only when out of memory.
+    #[inline(never)]
     pub fn apply(
         &mut self,
         ins: &[PackedType],
@@ -536,9 +575,9 @@ impl<'a> Checker<'a> {
 
     /// The context that it types in.
     pub fn context(&self) -> &'a Context<'a>
-        ensures { result.now ≡ self.now.cx.now }
+        ensures { result.now ≡ self.now.setting.cx.now }
     {
-        self.cx
+        self.setting.cx
     }
 
     /// What a branch to a label takes, where the rules derive the sequence so far. Labels are counted from the innermost block.
@@ -552,7 +591,7 @@ impl<'a> Checker<'a> {
             return None;
         }
         label_of(
-            self.cx,
+            self.setting.cx,
             self.results,
             &self.top.kind,
             self.outer.as_slice(),
@@ -562,6 +601,7 @@ impl<'a> Checker<'a> {
 
     /// An instruction that opens or ends no block and does not switch stacks; one of another class begins no body there. Whether the
     /// rules derive the sequence with it. It fails only when out of memory.
+    #[inline(always)]
     pub fn plain(&mut self, packed: &PackedInstr) -> Result<bool, AllocError>
         ensures answers { IfOk result (λ taken. Answers self.old self.new (follow_plain
             (unpacked packed.now)) taken) }
@@ -576,6 +616,7 @@ impl<'a> Checker<'a> {
 
     /// A block, a loop or an if; an instruction of another class begins no body there. Whether the rules derive the sequence with it.
     /// It fails only when out of memory.
+    #[inline(never)]
     pub fn enter(&mut self, packed: &PackedInstr) -> Result<bool, AllocError>
         ensures answers { IfOk result (λ taken. Answers self.old self.new (follow_enter
             (unpacked packed.now)) taken) }
@@ -589,6 +630,7 @@ impl<'a> Checker<'a> {
     }
 
     /// The else of an if. Whether the rules derive the sequence with it. It fails only when out of memory.
+    #[inline(never)]
     pub fn other(&mut self) -> Result<bool, AllocError>
         ensures answers { IfOk result (λ taken. Answers self.old self.new
             (follow Flat.Else) taken) }
@@ -599,6 +641,7 @@ impl<'a> Checker<'a> {
     }
 
     /// The end of a block, or of the body. Whether the rules derive the sequence with it. It fails only when out of memory.
+    #[inline(never)]
     pub fn end(&mut self) -> Result<bool, AllocError>
         ensures answers { IfOk result (λ taken. Answers self.old self.new (follow Flat.End) taken) }
         ensures body { IsSameBody self.old self.new }

@@ -21,7 +21,7 @@ use Rattle.w_vswitch.specs.Places.{at_end}
 use Rattle.w_vswitch.specs.Rows.{RowAt, RefusedAt}
 
 -- a continuation's type, where the checker stands
-pub cont_at : (c : Checker) (cx : rt.Context) → cx ≡ c.cx.now → (x : ℕ) (kind : FuncType) → cont_of (context_in cx) x ≡ Some kind →
+pub cont_at : (c : Checker) (cx : rt.Context) → cx ≡ c.setting.cx.now → (x : ℕ) (kind : FuncType) → cont_of (context_in cx) x ≡ Some kind →
     (w : Prefix) → cont_of (at_end (context_for c) w) x ≡ Some kind
 cont_at c cx e x kind h w = ap (λ (d : rt.Context). cont_of (context_in d) x) (sym e) ∙ h
 

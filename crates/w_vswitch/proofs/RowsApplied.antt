@@ -21,7 +21,7 @@ use Rattle.w_vswitch.specs.Places.{at_end, Anywhere, AtEnds}
 use Rattle.w_vswitch.specs.Rows.{RowAt, RefusedAt}
 
 -- what holds anywhere holds where the checker stands
-pub at_place : (c : Checker) (cx : rt.Context) → cx ≡ c.cx.now → (P : Context → Type 0) → Anywhere cx P → AtEnds c P
+pub at_place : (c : Checker) (cx : rt.Context) → cx ≡ c.setting.cx.now → (P : Context → Type 0) → Anywhere cx P → AtEnds c P
 at_place c cx e P h s w k g =
     let Q : rt.Context → Type 0 = λ x. Anywhere x P in
     subst Q e h k.classes c.locals.types (row_of c.results.now) (labels_in (context_for c) w)

@@ -11,7 +11,7 @@ ghost use Rattle.w_steps.specs.View.{context_at, gated, non_null_type};
 
 use crate::body_context::BodyContext;
 use std::alloc::AllocError;
-use w_flow::Flow;
+use w_flow::{Flow, Matched};
 use w_rules::Context;
 use w_syntax::ControlOp;
 use w_types::{HeapType, PackedType, RefType, ValType};
@@ -28,12 +28,20 @@ fn is_last(last: Option<u32>, index: u32) -> bool
 
 // Whether a label takes n types that can be taken.
 #[tactic(auto, using(crate::proofs::TablesTaken::label_here, crate::proofs::TablesTaken::not_equal))]
-fn label_fits(body: &BodyContext, flow: &Flow, index: u32, count: usize) -> bool
-    ensures { result ≡ fits_one body.now.cx.now.classes.now (flow_view flow.now).any
+fn label_fits(
+    body: &BodyContext,
+    matched: &mut Matched,
+    flow: &Flow,
+    index: u32,
+    count: usize,
+) -> bool
+    requires { matched.old ≡ body.now.cx.now.classes.now }
+    ensures told { result ≡ fits_one body.now.cx.now.classes.now (flow_view flow.now).any
         (flow_view flow.now).operands count (slice_get (context_at body.now).labels index) }
+    ensures kept { matched.new ≡ matched.old }
 {
     match body.label(index) {
-        Some(label) => label.len() == count && flow.can_take(body.cx.classes, label),
+        Some(label) => label.len() == count && flow.can_take(body.cx.classes, matched, label),
         None => false,
     }
 }
@@ -42,14 +50,22 @@ fn label_fits(body: &BodyContext, flow: &Flow, index: u32, count: usize) -> bool
 const JUDGED: usize = 128;
 
 // Whether each of these labels takes n types that can be taken. One that was judged is mostly not judged again.
-fn labels_fit(body: &BodyContext, flow: &Flow, labels: &[u32], count: usize) -> bool
-    ensures { result ≡ fit_each body.now.cx.now.classes.now (context_at body.now).labels
+fn labels_fit(
+    body: &BodyContext,
+    matched: &mut Matched,
+    flow: &Flow,
+    labels: &[u32],
+    count: usize,
+) -> bool
+    requires { matched.old ≡ body.now.cx.now.classes.now }
+    ensures told { result ≡ fit_each body.now.cx.now.classes.now (context_at body.now).labels
         (flow_view flow.now).any (flow_view flow.now).operands count labels.now }
+    ensures kept { matched.new ≡ matched.old }
 {
     let mut fitting: [Option<u32>; JUDGED] = [None; JUDGED];
     for index in labels {
         let place = *index as usize % JUDGED;
-        if !is_last(fitting[place], *index) && !label_fits(body, flow, *index, count) {
+        if !is_last(fitting[place], *index) && !label_fits(body, matched, flow, *index, count) {
             return false;
         }
         fitting[place] = Some(*index);
@@ -58,21 +74,29 @@ fn labels_fit(body: &BodyContext, flow: &Flow, labels: &[u32], count: usize) -> 
 }
 
 // A branch by a table.
-fn table_step(body: &BodyContext, flow: &mut Flow, labels: &[u32], otherwise: u32) -> bool
-    ensures { step body.now.cx.now.classes.now (br_table_type (slice_get
+fn table_step(
+    body: &BodyContext,
+    matched: &mut Matched,
+    flow: &mut Flow,
+    labels: &[u32],
+    otherwise: u32,
+) -> bool
+    requires { matched.old ≡ body.now.cx.now.classes.now }
+    ensures steps { step body.now.cx.now.classes.now (br_table_type (slice_get
         (context_at body.now).labels otherwise) (labels_at (context_at body.now).labels labels.now))
         (flow_view flow.old).any (flow_view flow.old).operands ≡ flow_if result flow.new }
+    ensures kept { matched.new ≡ matched.old }
 {
-    if !flow.begin_table(body.cx.classes) {
+    if !flow.take_tested(body.cx.classes) {
         return false;
     }
     let Some(label) = body.label(otherwise) else {
         return false;
     };
-    if !flow.can_take(body.cx.classes, label) {
+    if !flow.can_take(body.cx.classes, matched, label) {
         return false;
     }
-    if !labels_fit(body, flow, labels, label.len()) {
+    if !labels_fit(body, matched, flow, labels, label.len()) {
         return false;
     }
     flow.leave();
@@ -80,25 +104,45 @@ fn table_step(body: &BodyContext, flow: &mut Flow, labels: &[u32], otherwise: u3
 }
 
 // A branch where the operand is not 0.
-fn br_if_step(body: &BodyContext, flow: &mut Flow, index: u32) -> Result<bool, AllocError>
-    ensures { IfOk result (λ taken. step body.now.cx.now.classes.now (br_if_type (slice_get
+fn br_if_step(
+    body: &BodyContext,
+    matched: &mut Matched,
+    flow: &mut Flow,
+    index: u32,
+) -> Result<bool, AllocError>
+    requires { matched.old ≡ body.now.cx.now.classes.now }
+    ensures steps { IfOk result (λ taken. step body.now.cx.now.classes.now (br_if_type (slice_get
         (context_at body.now).labels index)) (flow_view flow.old).any (flow_view flow.old).operands
         ≡ flow_if taken flow.new) }
+    ensures kept { matched.new ≡ matched.old }
 {
     match body.label(index) {
-        Some(label) => flow.fixed_below(body.cx.classes, label, PackedType::I32, label),
+        Some(label) => flow.turns_all_below(
+            body.cx.classes,
+            matched,
+            label,
+            PackedType::I32,
+            label,
+        ),
         None => Ok(false),
     }
 }
 
 // A branch where the operand is null.
-fn br_on_null_step(body: &BodyContext, flow: &mut Flow, index: u32) -> Result<bool, AllocError>
-    ensures { IfOk result (λ taken. step body.now.cx.now.classes.now (br_on_null_type (slice_get
+fn br_on_null_step(
+    body: &BodyContext,
+    matched: &mut Matched,
+    flow: &mut Flow,
+    index: u32,
+) -> Result<bool, AllocError>
+    requires { matched.old ≡ body.now.cx.now.classes.now }
+    ensures steps { IfOk result (λ taken. step body.now.cx.now.classes.now (br_on_null_type (slice_get
         (context_at body.now).labels index)) (flow_view flow.old).any (flow_view flow.old).operands
         ≡ flow_if taken flow.new) }
+    ensures kept { matched.new ≡ matched.old }
 {
     match body.label(index) {
-        Some(label) => flow.on_null(body.cx.classes, label),
+        Some(label) => flow.on_null(body.cx.classes, matched, label),
         None => Ok(false),
     }
 }
@@ -115,10 +159,17 @@ fn reference_label(label: &[PackedType]) -> Option<(&[PackedType], HeapType)>
 }
 
 // A branch where the operand is not null.
-fn br_on_non_null_step(body: &BodyContext, flow: &mut Flow, index: u32) -> Result<bool, AllocError>
-    ensures { IfOk result (λ taken. step body.now.cx.now.classes.now (br_on_non_null_type (slice_get
+fn br_on_non_null_step(
+    body: &BodyContext,
+    matched: &mut Matched,
+    flow: &mut Flow,
+    index: u32,
+) -> Result<bool, AllocError>
+    requires { matched.old ≡ body.now.cx.now.classes.now }
+    ensures steps { IfOk result (λ taken. step body.now.cx.now.classes.now (br_on_non_null_type (slice_get
         (context_at body.now).labels index)) (flow_view flow.old).any (flow_view flow.old).operands
         ≡ flow_if taken flow.new) }
+    ensures kept { matched.new ≡ matched.old }
 {
     let Some(label) = body.label(index) else {
         return Ok(false);
@@ -130,17 +181,29 @@ fn br_on_non_null_step(body: &BodyContext, flow: &mut Flow, index: u32) -> Resul
         nullable: true,
         heap,
     });
-    flow.fixed_below(body.cx.classes, beneath, reference, beneath)
+    flow.turns_all_below(body.cx.classes, matched, beneath, reference, beneath)
 }
 
 // A call of a function.
-fn call_step(cx: &Context, flow: &mut Flow, function: u32) -> Result<bool, AllocError>
-    ensures { IfOk result (λ taken. step cx.now.classes.now (call_type (type_of_func
+fn call_step(
+    cx: &Context,
+    matched: &mut Matched,
+    flow: &mut Flow,
+    function: u32,
+) -> Result<bool, AllocError>
+    requires { matched.old ≡ cx.now.classes.now }
+    ensures steps { IfOk result (λ taken. step cx.now.classes.now (call_type (type_of_func
         (context_in cx.now) function)) (flow_view flow.old).any (flow_view flow.old).operands
         ≡ flow_if taken flow.new) }
+    ensures kept { matched.new ≡ matched.old }
 {
     match cx.type_of_func(function) {
-        Some(kind) => flow.fixed(cx.classes, kind.params.as_slice(), kind.results.as_slice()),
+        Some(kind) => flow.turns_all(
+            cx.classes,
+            matched,
+            kind.params.as_slice(),
+            kind.results.as_slice(),
+        ),
         None => Ok(false),
     }
 }
@@ -148,14 +211,17 @@ fn call_step(cx: &Context, flow: &mut Flow, function: u32) -> Result<bool, Alloc
 // A call of a function of a table.
 fn call_indirect_step(
     cx: &Context,
+    matched: &mut Matched,
     flow: &mut Flow,
     kind: u32,
     table: u32,
 ) -> Result<bool, AllocError>
-    ensures { let c = context_in cx.now in IfOk result
+    requires { matched.old ≡ cx.now.classes.now }
+    ensures steps { let c = context_in cx.now in IfOk result
         (λ taken. gated (holds_functions cx.now.classes.now (slice_get c.tables table))
         (step cx.now.classes.now (call_indirect_type (slice_get c.tables table) (func_of c kind))
         (flow_view flow.old).any (flow_view flow.old).operands) ≡ flow_if taken flow.new) }
+    ensures kept { matched.new ≡ matched.old }
 {
     let Some(table) = cx.table(table) else {
         return Ok(false);
@@ -168,8 +234,9 @@ fn call_indirect_step(
         return Ok(false);
     }
     match cx.func_of(kind) {
-        Some(kind) => flow.fixed_below(
+        Some(kind) => flow.turns_all_below(
             cx.classes,
+            matched,
             kind.params.as_slice(),
             PackedType::I32,
             kind.results.as_slice(),
@@ -179,18 +246,26 @@ fn call_indirect_step(
 }
 
 // A call of a function by a reference.
-fn call_ref_step(cx: &Context, flow: &mut Flow, index: u32) -> Result<bool, AllocError>
-    ensures { IfOk result (λ taken. step cx.now.classes.now (call_ref_type index (func_of
+fn call_ref_step(
+    cx: &Context,
+    matched: &mut Matched,
+    flow: &mut Flow,
+    index: u32,
+) -> Result<bool, AllocError>
+    requires { matched.old ≡ cx.now.classes.now }
+    ensures steps { IfOk result (λ taken. step cx.now.classes.now (call_ref_type index (func_of
         (context_in cx.now) index)) (flow_view flow.old).any (flow_view flow.old).operands
         ≡ flow_if taken flow.new) }
+    ensures kept { matched.new ≡ matched.old }
 {
     let reference = PackedType::reference(RefType {
         nullable: true,
         heap: HeapType::Index(index),
     });
     match cx.func_of(index) {
-        Some(kind) => flow.fixed_below(
+        Some(kind) => flow.turns_all_below(
             cx.classes,
+            matched,
             kind.params.as_slice(),
             reference,
             kind.results.as_slice(),
@@ -202,34 +277,40 @@ fn call_ref_step(cx: &Context, flow: &mut Flow, index: u32) -> Result<bool, Allo
 /// A control instruction that holds no others.
 pub(crate) fn control_step(
     body: &BodyContext,
+    matched: &mut Matched,
     flow: &mut Flow,
     op: &ControlOp,
 ) -> Result<bool, AllocError>
-    ensures { IfOk result (λ taken. gated (control_test body.now.cx.now.classes.now
+    requires { matched.old ≡ body.now.cx.now.classes.now }
+    ensures steps { IfOk result (λ taken. gated (control_test body.now.cx.now.classes.now
         (context_at body.now) op.now)
         (step body.now.cx.now.classes.now (control_op_type (context_at body.now) op.now)
         (flow_view flow.old).any (flow_view flow.old).operands) ≡ flow_if taken flow.new) }
+    ensures kept { matched.new ≡ matched.old }
 {
     let cx = body.cx;
     match op {
-        ControlOp::Unreachable => Ok(flow.polymorphic(cx.classes, &[])),
+        ControlOp::Unreachable => Ok(flow.polymorphic(cx.classes, matched, &[])),
         ControlOp::Nop => flow.fixed(cx.classes, &[], &[]),
         ControlOp::Br(index) => match body.label(*index) {
-            Some(label) => Ok(flow.polymorphic(cx.classes, label)),
+            Some(label) => Ok(flow.polymorphic(cx.classes, matched, label)),
             None => Ok(false),
         },
-        ControlOp::BrIf(index) => br_if_step(body, flow, *index),
+        ControlOp::BrIf(index) => br_if_step(body, matched, flow, *index),
         ControlOp::BrTable(labels, otherwise) => Ok(table_step(
             body,
+            matched,
             flow,
             labels.as_slice(),
             *otherwise,
         )),
-        ControlOp::Return => Ok(flow.polymorphic(cx.classes, body.results)),
-        ControlOp::BrOnNull(index) => br_on_null_step(body, flow, *index),
-        ControlOp::BrOnNonNull(index) => br_on_non_null_step(body, flow, *index),
-        ControlOp::Call(function) => call_step(cx, flow, *function),
-        ControlOp::CallIndirect(kind, table) => call_indirect_step(cx, flow, *kind, *table),
-        ControlOp::CallRef(kind) => call_ref_step(cx, flow, *kind),
+        ControlOp::Return => Ok(flow.polymorphic(cx.classes, matched, body.results)),
+        ControlOp::BrOnNull(index) => br_on_null_step(body, matched, flow, *index),
+        ControlOp::BrOnNonNull(index) => br_on_non_null_step(body, matched, flow, *index),
+        ControlOp::Call(function) => call_step(cx, matched, flow, *function),
+        ControlOp::CallIndirect(kind, table) => call_indirect_step(
+            cx, matched, flow, *kind, *table,
+        ),
+        ControlOp::CallRef(kind) => call_ref_step(cx, matched, flow, *kind),
     }
 }

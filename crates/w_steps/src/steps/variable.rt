@@ -31,6 +31,7 @@ fn variable_global(cx: &Context, global: u32) -> Option<PackedType>
 
 // Sets a local where its value was taken.
 #[tactic(auto, using(crate::proofs::LocalsSet::set_now, crate::proofs::LocalsSet::set_around))]
+#[inline(always)]
 fn set_if(locals: &mut Locals, local: u32, taken: bool) -> Result<bool, AllocError>
     ensures told { IfOk result (λ told. told ≡ taken) }
     ensures types { locals.new.types ≡ locals.old.types }
@@ -45,6 +46,7 @@ fn set_if(locals: &mut Locals, local: u32, taken: bool) -> Result<bool, AllocErr
 }
 
 /// A variable instruction, which may set a local.
+#[inline(always)]
 pub(crate) fn variable_step(
     cx: &Context,
     locals: &mut Locals,

@@ -21,13 +21,13 @@ pub returns-then-any-clause-what : goal.returns-then-any-clause-what
 returns-then-any-clause-what c =
     let n = length c.args.operands.now - c.min-common.result in
     let m = length c.args.wanted.now - c.min-common.result in
-    taken_common c.args.classes.now c.args.any c.args.operands.now c.args.wanted.now n m (omega arith) (c.match_whole.ensures c.if-match_whole.true c.args.any)
+    taken_common c.args.classes.now c.args.any c.args.operands.now c.args.wanted.now n m (omega arith) (c.match_whole.ensures.stands c.if-match_whole.true c.args.any)
     ∙ left_beneath c.args.classes.now c.args.any c.args.operands.now c.args.wanted.now n m (omega arith) (omega arith) c.if-any.either
 
 pub returns-else-any-clause-what : goal.returns-else-any-clause-what
 returns-else-any-clause-what c =
     let n = length c.args.operands.now - c.min-common.result in
     let m = length c.args.wanted.now - c.min-common.result in
-    taken_common c.args.classes.now c.args.any c.args.operands.now c.args.wanted.now n m (omega arith) (c.match_whole.ensures c.if-match_whole.true c.args.any)
+    taken_common c.args.classes.now c.args.any c.args.operands.now c.args.wanted.now n m (omega arith) (c.match_whole.ensures.stands c.if-match_whole.true c.args.any)
     ∙ none_there c.args.classes.now c.args.any c.args.operands.now c.args.wanted.now n m (omega arith) (omega arith) (omega arith)
     ∙ decided c.args.any false _ _ c.if-any.false.1
