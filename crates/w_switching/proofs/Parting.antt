@@ -1,5 +1,5 @@
 -- The segments up to a layer, and those that wait outside.
-use Rattle.std.proofs.Common.{◌≡◌, ℕ, suc, ◌+◌, ◌<◌, List, [], ◌∷◌, length, refl, sym, ap, ◌∙◌, subst, arith, add-one, take, drop, length-append, length-drop, take-append-drop}
+use Rattle.std.proofs.Common.{◌≡◌, ℕ, suc, ◌+◌, ◌<◌, List, [], ◌∷◌, length, refl, sym, ap, ◌∙◌, subst, arith, add-one, take, drop, length-append, take-append-drop}
 use Rattle.w_segment.specs.declared.entry.Stage.TheVariants.{Body}
 use Rattle.w_segment.specs.Shape.{Shape}
 use Rattle.w_segment.specs.Link.{Link, top, with_top}
@@ -19,15 +19,6 @@ take_top_suc n s (x ∷ xs) = refl
 pub take_top : (n : ℕ) (s : Shape) (xs : List Link) → take (n + 1) (with_top s xs) ≡ with_top s (take (n + 1) xs)
 take_top n s xs = ap (λ (k : ℕ). take k (with_top s xs)) (add-one n) ∙ take_top_suc n s xs ∙ ap (λ (k : ℕ). with_top s (take k xs)) (sym (add-one n))
 
--- the other segments are not changed by the innermost one
-drop_top_suc : (n : ℕ) (s : Shape) (xs : List Link) → drop (suc n) (with_top s xs) ≡ drop (suc n) xs
-drop_top_suc n s [] = refl
-drop_top_suc n s (x ∷ xs) = refl
-
--- the same of n + 1
-pub drop_top : (n : ℕ) (s : Shape) (xs : List Link) → drop (n + 1) (with_top s xs) ≡ drop (n + 1) xs
-drop_top n s xs = ap (λ (k : ℕ). drop k (with_top s xs)) (add-one n) ∙ drop_top_suc n s xs ∙ ap (λ (k : ℕ). drop k xs) (sym (add-one n))
-
 -- the innermost of the first segments is that of all
 top_taken_suc : (n : ℕ) (xs : List Link) → top (take (suc n) xs) ≡ top xs
 top_taken_suc n [] = refl
@@ -45,10 +36,6 @@ some_taken_suc n (x ∷ xs) h = omega arith
 -- the same of n + 1
 pub some_taken : (n : ℕ) (xs : List Link) → 0 < length xs → 0 < length (take (n + 1) xs)
 some_taken n xs h = subst (λ (k : ℕ). 0 < length (take k xs)) (sym (add-one n)) (some_taken_suc n xs h)
-
--- there are others
-pub some_dropped : (n : ℕ) (xs : List Link) → n < length xs → 0 < length (drop n xs)
-some_dropped n xs h = let d = length-drop n xs in omega (arith, h, d)
 
 -- both are as many as all
 pub both_long : (n : ℕ) (xs : List Link) → length (take n xs) + length (drop n xs) ≡ length xs

@@ -1,5 +1,5 @@
 -- Segments that are the same but for room.
-use Rattle.std.proofs.Common.{◌≡◌, ℕ, suc, Bool, true, List, [], ◌∷◌, ◌++◌, length, refl, ap, arith}
+use Rattle.std.proofs.Common.{◌≡◌, ℕ, suc, Bool, true, List, [], ◌∷◌, length, refl, ap, arith}
 use Rattle.w_types.specs.declared.value.Value.{Value}
 use Rattle.w_segment.specs.Shape.{Shape, SameParts}
 use Rattle.w_segment.specs.Link.{Link, top, with_top}
@@ -22,13 +22,6 @@ same_links (x ∷ xs) = (same_shape x.shape, refl, same_links xs)
 pub same_top : (s' : Shape) (xs : List Link) → SameParts (top xs).shape s' → SameLinks xs (with_top s' xs)
 same_top s' [] h = tt
 same_top s' (x ∷ xs) h = (h, refl, same_links xs)
-
--- and joined ones
-pub same_append : (xs ys zs ws : List Link) → SameLinks xs ys → SameLinks zs ws → SameLinks (xs ++ zs) (ys ++ ws)
-same_append [] [] zs ws h g = g
-same_append [] (y ∷ ys) zs ws h g = absurd h
-same_append (x ∷ xs) [] zs ws h g = absurd h
-same_append (x ∷ xs) (y ∷ ys) zs ws h g = (h.0, h.1, same_append xs ys zs ws h.2 g)
 
 -- they are as many
 pub same_long : (xs ys : List Link) → SameLinks xs ys → length ys ≡ length xs
