@@ -1,5 +1,6 @@
 pub mod Tops
 pub mod Counting
+pub mod NextCode
 pub mod Rooms
 pub mod Standing
 pub mod Reducing

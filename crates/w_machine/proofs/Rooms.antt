@@ -1,12 +1,10 @@
 -- What typing tells of room where the parts stand: what comes next fits, after a reduction no frame holds more than its function has
 -- anywhere, and want of memory stops nothing but what may take some.
-use Rattle.std.proofs.Common.{◌≡◌, ◌<◌, ◌+◌, ℕ, zero, suc, true, false, List, [], length, Option, Some, None, slice_get, refl, sym, ap, subst, subst₂, ◌∙◌, arith}
+use Rattle.std.proofs.Common.{◌≡◌, ◌<◌, ◌+◌, ℕ, zero, suc, true, false, List, length, Option, Some, slice_get, refl, sym, ap, subst, subst₂, ◌∙◌, arith}
 use Rattle.w_types.specs.declared.types.FuncType.{FuncType}
 use Rattle.w_types.specs.Rows.{Row, ε, row_of, size}
 use Rattle.w_types.proofs.Rows.{size-row_of}
-use Rattle.w_syntax.specs.Code.{Code, Done}
-use Rattle.w_syntax.specs.declared.instructions.Instr.{Instr}
-use Rattle.w_syntax.specs.declared.instructions.Instr.TheVariants as flat
+use Rattle.w_syntax.specs.Code.{Done}
 use Rattle.w_syntax.specs.declared.module.Module.{Module}
 use Rattle.w_rules.specs.Matching.{known}
 use Rattle.w_rules.specs.Operands.{Operand}
@@ -21,7 +19,7 @@ use Rattle.w_reduce.specs.Room.{FrameHolds, Holding, HoldsAfter, function_in, mo
 use Rattle.w_reduce.specs.Store.{Store}
 use Rattle.w_reduce.specs.Terms.{Rest, rest_of, Context, Term, Kept}
 use Rattle.w_reduce.specs.Values.{Val}
-use Rattle.w_stands.specs.Code.{instr_of, IsMark, Reads, stop, plain, block, choice, choices}
+use Rattle.w_stands.specs.Code.{instr_of}
 use Rattle.w_stands.specs.Room.{NextFits, operands_of, labels_of}
 use Rattle.w_stands.specs.Stands.{In, body, left, fresh, values}
 use Rattle.w_stands.proofs.Fitting.{measured, stack_size}
@@ -39,53 +37,10 @@ use Rattle.w_typed.proofs.Low.{size_known}
 use Rattle.w_typed.proofs.Reductions.{nexts_are_safe}
 use Rattle.w_machine.specs.Parts.{Parts, whole}
 use Rattle.w_machine.specs.Standing.{Stands, StandsSomewhere}
+use Rattle.w_machine.proofs.NextCode.{read_takes, read_operands, read_labels}
 use Rattle.w_machine.proofs.Tops.{top_of}
 
 -- ## What comes next
-
-mark_gives : (i : Instr) → IsMark (Some i) → operands_of i ≡ 0
-mark_gives flat.End h = refl
-mark_gives flat.Else h = refl
-mark_gives (flat.Plain o) h = absurd h
-mark_gives (flat.Block k b z) h = absurd h
-mark_gives (flat.If b y z) h = absurd h
-
-mark_enters : (i : Instr) → IsMark (Some i) → labels_of i ≡ 0
-mark_enters flat.End h = refl
-mark_enters flat.Else h = refl
-mark_enters (flat.Plain o) h = absurd h
-mark_enters (flat.Block k b z) h = absurd h
-mark_enters (flat.If b y z) h = absurd h
-
--- the instruction at the place gives as many operands as the code there, and enters as many labels
-read_operands : {is : List Instr} {p q : ℕ} {c : Code} → Reads is p c q → (i : Instr) → slice_get is p ≡ Some i → more_operands c ≡ operands_of i
-read_operands (stop h) i at = sym (mark_gives i (subst IsMark at h))
-read_operands (plain {o = o} g k) i at = let e : flat.Plain o ≡ i = cc in ap operands_of e
-read_operands (block {z = z} {k = k} {b = b} g h j l) i at = let e : flat.Block k b z ≡ i = cc in ap operands_of e
-read_operands (choice {z = z} {b = b} g h j l) i at = let e : flat.If b None z ≡ i = cc in ap operands_of e
-read_operands (choices {y = y} {z = z} {b = b} g h j k l n) i at = let e : flat.If b (Some y) z ≡ i = cc in ap operands_of e
-
-read_labels : {is : List Instr} {p q : ℕ} {c : Code} → Reads is p c q → (i : Instr) → slice_get is p ≡ Some i → more_labels c ≡ labels_of i
-read_labels (stop h) i at = sym (mark_enters i (subst IsMark at h))
-read_labels (plain {o = o} g k) i at = let e : flat.Plain o ≡ i = cc in ap labels_of e
-read_labels (block {z = z} {k = k} {b = b} g h j l) i at = let e : flat.Block k b z ≡ i = cc in ap labels_of e
-read_labels (choice {z = z} {b = b} g h j l) i at = let e : flat.If b None z ≡ i = cc in ap labels_of e
-read_labels (choices {y = y} {z = z} {b = b} g h j k l n) i at = let e : flat.If b (Some y) z ≡ i = cc in ap labels_of e
-
-mark_takes : (i : Option Instr) → IsMark i → false ≡ takes_at i
-mark_takes None h = refl
-mark_takes (Some flat.End) h = refl
-mark_takes (Some flat.Else) h = refl
-mark_takes (Some (flat.Plain o)) h = absurd h
-mark_takes (Some (flat.Block k b z)) h = absurd h
-mark_takes (Some (flat.If b y z)) h = absurd h
-
-read_takes : {is : List Instr} {p q : ℕ} {c : Code} → Reads is p c q → may_take_memory [] c ≡ takes_at (slice_get is p)
-read_takes {is = is} {p = p} (stop h) = mark_takes (slice_get is p) h
-read_takes (plain at h) = rw at refl
-read_takes (block at h k j) = rw at refl
-read_takes (choice at h k j) = rw at refl
-read_takes (choices at h k j i l) = rw at refl
 
 -- whether what comes next may take memory is told by where the stack stands
 pub may_take_in : {m : Module} {outer : Context} {behind : Rest} {s : Shape} {e : Context} {r : Rest} → In m outer behind s e r → MayTake m s → may_take_memory r.ahead r.code ≡ true

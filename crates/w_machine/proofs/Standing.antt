@@ -1,13 +1,10 @@
 -- What holds of parts that stand for a configuration of a run.
-use Rattle.std.proofs.Common.{◌≡◌, ◌≢◌, ℕ, ◌≤◌, false, List, [], length, Option, Some, None, slice_get, refl, sym, ap, subst, ◌∙◌, arith}
+use Rattle.std.proofs.Common.{◌≡◌, ◌≢◌, ℕ, ◌≤◌, false, List, [], length, Option, refl, sym, ap, subst, ◌∙◌, arith}
 use Rattle.w_types.specs.Rows.{Row}
-use Rattle.w_syntax.specs.Code.{Code}
-use Rattle.w_syntax.specs.declared.instructions.Instr.{Instr}
-use Rattle.w_syntax.specs.declared.instructions.Instr.TheVariants as flat
 use Rattle.w_syntax.specs.declared.module.Module.{Module}
 use Rattle.w_rules.specs.Operands.{Operand}
 use Rattle.w_rules.specs.Valid.{Valid, MemoryItem}
-use Rattle.w_segment.specs.declared.entry.Stage.TheVariants.{Fresh, Body}
+use Rattle.w_segment.specs.declared.entry.Stage.TheVariants.{Body}
 use Rattle.w_segment.specs.Shape.{Shape}
 use Rattle.w_segment.specs.Link.{top}
 use Rattle.w_reduce.specs.Apart.{switches, apart}
@@ -18,7 +15,7 @@ use Rattle.w_reduce.specs.Reduce.{next, reduce, limited}
 use Rattle.w_reduce.specs.Terms.{Rest, Context, Term, Kept}
 use Rattle.w_reduce.specs.Values.{Val}
 use Rattle.w_reduce.proofs.Plainly.{plain_apart}
-use Rattle.w_stands.specs.Code.{instr_of, IsMark, Reads, stop, plain, block, choice, choices}
+use Rattle.w_stands.specs.Code.{instr_of}
 use Rattle.w_stands.specs.Stands.{In, body, left, fresh, values}
 use Rattle.w_stands.specs.Steps.{At, next_of}
 use Rattle.w_stands.specs.Values.{stack, store_of}
@@ -32,49 +29,20 @@ use Rattle.w_machine.specs.Parts.{Parts, whole}
 use Rattle.w_machine.specs.Standing.{behind_of, Stands, StandsSomewhere}
 use Rattle.w_machine.specs.Reducing.{IsPlainAt}
 use Rattle.w_switching.proofs.Rooms.{links_top}
+use Rattle.w_machine.proofs.NextCode.{read_switches, read_calls}
 use Rattle.w_machine.proofs.Rooms.{next_fits}
 use Rattle.w_machine.proofs.Tops.{Top, top_of}
 use Rattle.w_machine.proofs.Counting.{all_handles}
 
 -- ## What comes next
 
-mark_next : (i : Option Instr) → IsMark i → false ≡ switches_at i
-mark_next None h = refl
-mark_next (Some flat.End) h = refl
-mark_next (Some flat.Else) h = refl
-mark_next (Some (flat.Plain o)) h = absurd h
-mark_next (Some (flat.Block k b z)) h = absurd h
-mark_next (Some (flat.If b y z)) h = absurd h
-
-read_next : {is : List Instr} {p q : ℕ} {c : Code} → Reads is p c q → switches [] c ≡ switches_at (slice_get is p)
-read_next {is = is} {p = p} (stop h) = mark_next (slice_get is p) h
-read_next (plain at h) = rw at refl
-read_next (block at h k j) = rw at refl
-read_next (choice at h k j) = rw at refl
-read_next (choices at h k j i l) = rw at refl
-
 -- whether stacks are switched next is told by the instruction at the place
 pub next_in : {m : Module} {outer : Context} {behind : Rest} {s : Shape} {e : Context} {r : Rest} → In m outer behind s e r → s.stage ≡ Body
     → switches r.ahead r.code ≡ switches_at (instr_of m s.func s.place)
-next_in (body h k w) b = read_next k
+next_in (body h k w) b = read_switches k
 next_in (left h k w) b = absurd (cc)
 next_in (fresh h k) b = absurd (cc)
 next_in (values h k) b = absurd (cc)
-
-mark_calls : (i : Option Instr) → IsMark i → false ≡ calls_at i
-mark_calls None h = refl
-mark_calls (Some flat.End) h = refl
-mark_calls (Some flat.Else) h = refl
-mark_calls (Some (flat.Plain o)) h = absurd h
-mark_calls (Some (flat.Block k b z)) h = absurd h
-mark_calls (Some (flat.If b y z)) h = absurd h
-
-read_calls : {is : List Instr} {p q : ℕ} {c : Code} → Reads is p c q → calls [] c ≡ calls_at (slice_get is p)
-read_calls {is = is} {p = p} (stop h) = mark_calls (slice_get is p) h
-read_calls (plain at h) = rw at refl
-read_calls (block at h k j) = rw at refl
-read_calls (choice at h k j) = rw at refl
-read_calls (choices at h k j i l) = rw at refl
 
 -- and so is whether a function is called next
 pub calls_in : {m : Module} {outer : Context} {behind : Rest} {s : Shape} {e : Context} {r : Rest} → In m outer behind s e r → s.stage ≡ Body
@@ -83,14 +51,6 @@ calls_in (body h k w) b = read_calls k
 calls_in (left h k w) b = absurd (cc)
 calls_in (fresh h k) b = absurd (cc)
 calls_in (values h k) b = absurd (cc)
-
--- and an invoke that comes next switches none
-pub fresh_next : {m : Module} {outer : Context} {behind : Rest} {s : Shape} {e : Context} {r : Rest} → In m outer behind s e r → s.stage ≡ Fresh
-    → switches r.ahead r.code ≡ false
-fresh_next (body h k w) b = absurd (cc)
-fresh_next (left h k w) b = absurd (cc)
-fresh_next (fresh h k) b = refl
-fresh_next (values h k) b = absurd (cc)
 
 -- none are switched next
 pub plain_next : {m : Module} {outer : Context} {behind : Rest} {s : Shape} {e : Context} {r : Rest} → In m outer behind s e r → IsPlainAt m s → switches r.ahead r.code ≡ false
