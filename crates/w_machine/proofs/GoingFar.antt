@@ -8,7 +8,7 @@ use Rattle.w_reduce.specs.Run.{Outcome, Running, Values, Traps, Limit, NoRule, R
 use Rattle.w_machine.specs.declared.outcome.Kept.{Kept}
 use Rattle.w_machine.specs.declared.outcome.Kept.TheVariants as kept
 use Rattle.w_machine.specs.Beginning.{Begins}
-use Rattle.w_machine.specs.Position.{Position, Tells, counted, is_fault, Printed, PrintedAtMost, PrintedIf, StepsFrom, Steps, ToldBy, RunsFrom, Runs}
+use Rattle.w_machine.specs.Position.{Position, Tells, counted, is_fault, Printed, PrintedAtMost, PrintedIf, MayStop, StepsFrom, Steps, ToldBy, RunsFrom, Runs}
 use Rattle.w_machine.proofs.Stopping.{counts_one, output_grows}
 
 -- ## A run that doesn't go on stays
@@ -66,6 +66,24 @@ part_more {q = q} {r = r} {u = u} {a = a} {b = b} {c = c} rest h k v far = recor
     grew = grew_more a b c h.text k.grew.part h.grew k.grew.grew;
   };
 }
+
+-- ## Where memory may run out
+
+-- want of memory counts no reduction, so that it stops a run where the run then stands
+may_stop_there : (k : Kept) (run : ℕ → RunState) (n m : ℕ) → n + counted k ≡ m → MayStop k (run n).term → MayStop k (run m).term
+may_stop_there kept.Ended run n m e h = tt
+may_stop_there (kept.Limit name) run n m e h = tt
+may_stop_there (kept.Trapped x) run n m e h = tt
+may_stop_there kept.WriteFault run n m e h = tt
+may_stop_there kept.OutOfMemory run n m e h = let same : n ≡ m = omega (arith, e) in subst (λ (i : ℕ). MayStop kept.OutOfMemory (run i).term) same h
+
+-- what is no fault may stop it anywhere
+no_fault_stops : (k : Kept) (t : Term) → is_fault k ≡ false → MayStop k t
+no_fault_stops kept.Ended t f = tt
+no_fault_stops (kept.Limit name) t f = tt
+no_fault_stops (kept.Trapped x) t f = tt
+no_fault_stops kept.WriteFault t f = tt
+no_fault_stops kept.OutOfMemory t f = absurd (cc)
 
 -- ## The steps of a run
 
@@ -137,6 +155,7 @@ module _ (old l new : Position) (i steps : ℕ) (first b a : Option (List ℕ)) 
         h.0 ∙ ap (λ (x : ℕ). let q : Position = record old { taken = x; kept = Some k } in q) n,
         λ p s t begins.
             stop_told k (is_fault k) refl (counted k) refl one lt p s t begins (h.1 p s t begins).0 (h.1 p s t begins).1,
+        λ p s t begins. may_stop_there k (Run p s t) (old.taken + i) (old.taken + (i + counted k)) n (h.1 p s t begins).2,
       )
 
   -- a step that stopped stops the run
@@ -154,6 +173,7 @@ module _ (old l new : Position) (i steps : ℕ) (first b a : Option (List ℕ)) 
       subst (λ (n : ℕ). (Run p s t (old.taken + n)).outcome ≡ Running) e (h.2 p s t begins),
       subst (λ (n : ℕ). Printed (Run p s t old.taken) (Run p s t (old.taken + n)) first b) e (printed p s t begins),
     ),
+    λ p s t begins. tt,
   )
   told_from (Some k) e h = (
     i,
@@ -164,6 +184,7 @@ module _ (old l new : Position) (i steps : ℕ) (first b a : Option (List ℕ)) 
       subst (λ (f : Bool). PrintedIf f (Run p s t old.taken) (Run p s t (old.taken + steps)) first b) (sym h.1)
           (subst (λ (n : ℕ). Printed (Run p s t old.taken) (Run p s t (old.taken + n)) first b) e (printed p s t begins)),
     ),
+    λ p s t begins. no_fault_stops k (Run p s t (old.taken + i)).term h.1,
   )
 
   -- and what is told then is told of the run

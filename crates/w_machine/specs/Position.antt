@@ -133,11 +133,17 @@ abbrev pub HasTaken : ℕ → ℕ → Option Kept → Type 0
 HasTaken n steps None = n ≡ steps
 HasTaken n steps (Some k) = n ≤ steps
 
+-- where want of memory stopped it, what comes next there may take some
+abbrev pub StopsAt : Option Kept → Term → Type 0
+StopsAt None t = ⊤
+StopsAt (Some k) t = MayStop k t
+
 abbrev pub RunsFrom : Option Kept → Position → ℕ → Option Kept → Position → Option (List ℕ) → Option (List ℕ) → Type 0
 RunsFrom (Some k) old steps result new before now = (result ≡ Some k) × (new ≡ old) × (now ≡ before)
 RunsFrom None old steps result new before now =
     (n : ℕ) × HasTaken n steps result × (new ≡ after_run old n result)
     × ((p : Program) (s : Store) (t : Term) → Begins old.program p s t → RunsOn (Run p s t) old.taken steps result before now)
+    × ((p : Program) (s : Store) (t : Term) → Begins old.program p s t → StopsAt result (Run p s t (old.taken + n)).term)
 
 abbrev pub Runs : Position → ℕ → Option Kept → Position → Option (List ℕ) → Option (List ℕ) → Type 0
 Runs old steps result new before now = RunsFrom old.kept old steps result new before now

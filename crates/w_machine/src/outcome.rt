@@ -15,7 +15,7 @@ pub enum Kept {
     Trapped(Trap),
     /// The sink failed.
     WriteFault,
-    /// Memory ran out.
+    /// Memory ran out, where a step answers so.
     OutOfMemory,
 }
 
@@ -32,7 +32,8 @@ pub enum Stepped {
     Trapped(Trap),
     /// The sink failed; none was taken.
     WriteFault,
-    /// Memory ran out; none was taken.
+    /// Memory ran out, at a reduction that may take some: one that calls or invokes a function, or is a `cont.new`, a `memory.grow` or a
+    /// `table.grow`; none was taken.
     OutOfMemory,
 }
 
@@ -49,7 +50,7 @@ pub enum Outcome {
     Trapped(Trap),
     /// The sink failed.
     WriteFault,
-    /// Memory ran out.
+    /// Memory ran out, where a step answers so.
     OutOfMemory,
 }
 
