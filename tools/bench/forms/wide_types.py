@@ -85,6 +85,16 @@ def wide_calls_of_equal_types_shifted(size):
     return _rows_of_calls(size, functype(parameters, [nullable(1)] * WIDTH), NULL, NULL + call(0), before=types)
 
 
+def wide_calls_of_a_thousand_types_by_turns(size):
+    """Calls of two functions by turns, whose results are references to a thousand types, in one order and in the other."""
+    types = [functype([I32] * (place % 40), [I64] * (place // 40)) for place in range(WIDTH)]
+    results = [nullable(1 + place) for place in range(WIDTH)]
+    turns = [functype([FUNCREF] * WIDTH, results), functype([FUNCREF] * WIDTH, results[::-1])]
+    return module_of_rows(
+        size, repeat((call(0) + call(1)) * CHUNK), [NOTHING, *types, *turns], opening=NULL * WIDTH, closing=RETURN,
+        imports=[imported(as_func(1 + WIDTH)), imported(as_func(2 + WIDTH))])
+
+
 def wide_calls_not_reached(size):
     """Calls in code that isn't reached, so that each takes what the one before gave, and operands made up."""
     return module_of_rows(
@@ -295,8 +305,8 @@ def wide_switches(size):
 FORMS = [
     wide_calls, wide_calls_shifted, wide_calls_by_subtyping, wide_calls_by_subtyping_shifted,
     wide_calls_by_subtyping_replaced, wide_calls_of_mixed_types_shifted, wide_calls_of_a_thousand_types_shifted,
-    wide_calls_of_equal_types_shifted, wide_calls_not_reached, wide_calls_indirect, wide_calls_by_reference,
-    wide_results_dropped, wide_blocks, wide_blocks_by_subtyping, wide_blocks_by_subtyping_shifted,
+    wide_calls_of_equal_types_shifted, wide_calls_of_a_thousand_types_by_turns, wide_calls_not_reached,
+    wide_calls_indirect, wide_calls_by_reference, wide_results_dropped, wide_blocks, wide_blocks_by_subtyping, wide_blocks_by_subtyping_shifted,
     wide_loops_by_subtyping, wide_ifs_by_subtyping, wide_blocks_nested, wide_branches, wide_branches_by_subtyping,
     wide_branches_by_subtyping_shifted, wide_branch_table, wide_branch_table_by_subtyping,
     wide_branch_table_of_many_blocks, wide_branch_tables, wide_branch_tables_not_reached, wide_resumes,
