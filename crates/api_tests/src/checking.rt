@@ -9,7 +9,7 @@ use w_syntax::{
     BlockKind, Module, NumericOp, PackedInstr, ShortBlockType, ShortControlOp, ShortSwitchingOp,
 };
 use w_types::{PackedType, ValType};
-use w_vplain::Checker;
+use w_vplain::{Checker, Room};
 use w_vswitch::switching;
 
 // The types [] to [] and [i32] to [].
@@ -164,7 +164,7 @@ enum Call {
 fn perform(alloc: Global, rt: &impl Abort, bench: &Bench, call: Call) -> Result<(), Fail> {
     let context = bench.context();
     let results = [PackedType::I64];
-    let mut checker = Checker::begin(alloc, &context, &[], &[], &results)?;
+    let mut checker = Checker::begin(alloc, &context, Room::new(alloc), &[], &[], &results)?;
     let told = match call {
         Call::Row => row_leaves_one(rt, &mut checker),
         Call::OtherClass => plain_call_refuses_switching(rt, &mut checker),

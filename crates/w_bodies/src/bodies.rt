@@ -7,10 +7,11 @@ ghost use Rattle.w_vplain.specs.Standing.{Answers, IsSameBody};
 ghost use Rattle.w_bodies.specs.Measured.{IsMeasure};
 
 use std::alloc::{AllocError, Global};
+use std::mem;
 use w_rules::Context;
 use w_syntax::{Body, Instr, LocalRun, Op, PackedInstr};
 use w_types::PackedType;
-use w_vplain::Checker;
+use w_vplain::{Checker, Room};
 use w_vswitch::switching;
 
 // One instruction more, which is boxed: whether the rules derive the sequence with it.
@@ -52,10 +53,12 @@ fn call(checker: &mut Checker, packed: &PackedInstr) -> Result<bool, AllocError>
 }
 
 /// Types a body (Core, validation, functions): where it has its type, the greatest number of operands at a counted place of it, and
-/// one plus the greatest number of blocks around a place. It fails only when out of memory.
+/// one plus the greatest number of blocks around a place. It works in this room, and leaves it to the next one. It fails only when out of
+/// memory.
 pub fn check_body(
     alloc: Global,
     cx: &Context,
+    room: &mut Room,
     params: &[PackedType],
     runs: &[LocalRun],
     results: &[PackedType],
@@ -65,11 +68,14 @@ pub fn check_body(
     ensures { IfOk result (λ measured. IsMeasure
         (context_in cx.now) params.now runs.now results.now body.now measured) }
 {
-    let mut checker = Checker::begin(alloc, cx, params, runs, results)?;
+    let kept = mem::replace(room, Room::new(alloc));
+    let mut checker = Checker::begin(alloc, cx, kept, params, runs, results)?;
     for packed in body.instrs() {
         if !call(&mut checker, packed)? {
             return Ok(None);
         }
     }
-    Ok(Some((checker.height(), checker.depth())))
+    let measured = (checker.height(), checker.depth());
+    *room = checker.into_room();
+    Ok(Some(measured))
 }

@@ -23,6 +23,7 @@ use w_syntax::{
     Binop, Body, GlobalType, Instr, Mutability, NumericOp, Op, PackedInstr, ReferenceOp, VariableOp,
 };
 use w_types::{HeapType, PackedType, RefType};
+use w_vplain::Room;
 
 fn is_const_binary(op: Binop) -> bool
     ensures { result ≡ is_const_binary op }
@@ -247,7 +248,8 @@ fn is_body_typed(
     if !all_const(cx, body) {
         return Ok(false);
     }
-    let measured = check_body(alloc, cx, &[], &[], &[kind], body)?;
+    let mut room = Room::new(alloc);
+    let measured = check_body(alloc, cx, &mut room, &[], &[], &[kind], body)?;
     Ok(measured.is_some())
 }
 

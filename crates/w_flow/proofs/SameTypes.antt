@@ -132,29 +132,6 @@ put_more before xs ts n i t h k b same =
     ∙ ap (λ (ys : List Operand). ys ++ Known t ∷ []) same ∙ append_assoc before (map Known (take i ts)) (Known t ∷ [])
     ∙ ap (λ (ys : List Operand). before ++ ys) (sym (known_more ts i t k b))
 
--- all are put
-pub put_all : (before xs : List Operand) (ts : List ValType) (n i : ℕ) → length xs ≡ n + length ts → length ts ≤ i →
-    take (n + i) xs ≡ before ++ map Known (take i ts) → xs ≡ before ++ map Known ts
-put_all before xs ts n i same h e =
-    sym (take_all (n + i) xs (omega arith)) ∙ e ∙ ap (λ (us : List ValType). before ++ map Known us) (take_all i ts h)
-
--- the first so many of a list that was cut behind them, and made longer
-kept_first : {A : Type 0} (xs ys : List A) (m k : ℕ) → m ≤ length xs → take m (take (m + k) xs ++ ys) ≡ take m xs
-kept_first {A} xs ys m k h =
-    let cut : length (take (m + k) xs) ≡ min (m + k) (length xs) = length-take (m + k) xs in
-    let whole : take m xs ≡ take m (take (m + k) xs ++ drop (m + k) xs) = ap (take m) (sym (take-append-drop (m + k) xs)) in
-    take-append-le m (take (m + k) xs) ys (omega arith)
-    ∙ sym (whole ∙ take-append-le m (take (m + k) xs) (drop (m + k) xs) (omega arith))
-
--- so many places are made behind the first operands, and the types put there
-pub given_behind : (old room new : List Operand) (ts : List ValType) (o : Operand) (m r : ℕ) → m ≤ length old →
-    room ≡ take (m + length ts) old ++ replicate r o →
-    new ≡ take m room ++ map Known ts → row_of new ≡ row_of (take m old) ⧺ known (row_of ts)
-given_behind old room new ts o m r l e h =
-    let kept : take m room ≡ take m old = ap (take m) e ∙ kept_first old (replicate r o) m (length ts) l in
-    ap row_of (h ∙ ap (λ (xs : List Operand). xs ++ map Known ts) kept) ∙ row_of-append (take m old) (map Known ts)
-    ∙ ap (λ (r : Row Operand). row_of (take m old) ⧺ r) (row_of_known ts)
-
--- where all of a list is written through a slice, the list is what the slice has
-pub written_whole : {A : Type 0} (n : ℕ) (xs ys : List A) → n ≡ length ys → take n (ys ++ drop (length ys) xs) ≡ ys
-written_whole n xs ys e = ap (λ (m : ℕ). take m (ys ++ drop (length ys) xs)) e ∙ take-append_seam ys (drop (length ys) xs)
+-- the row of types that are given behind others
+pub given_row : (before new : List Operand) (ts : List ValType) → new ≡ before ++ map Known ts → row_of new ≡ row_of before ⧺ known (row_of ts)
+given_row before new ts e = ap row_of e ∙ row_of-append before (map Known ts) ∙ ap (λ (r : Row Operand). row_of before ⧺ r) (row_of_known ts)

@@ -6,7 +6,7 @@ use Rattle.w_flow.specs.declared.flow.Flow as program
 use Rattle.w_flow.specs.Flow.{Flow}
 
 abbrev pub flow_view : program.Flow → Flow
-flow_view f = record { any = f.any; operands = row_of f.operands.items }
+flow_view f = record { any = f.any; operands = row_of f.operands }
 
 -- the flow, where the answer is true
 abbrev pub flow_if : Bool → program.Flow → Option Flow

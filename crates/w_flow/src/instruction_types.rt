@@ -3,7 +3,7 @@
 use crate::flow::Flow;
 use crate::matched::Matched;
 use crate::operands::{
-    give_types, non_null, selected, take_any, take_few, take_reference, take_type, take_types,
+    give_types, non_null, selected, take_any, take_few, take_many, take_reference, take_type,
     turn_types,
 };
 use std::alloc::AllocError;
@@ -20,14 +20,14 @@ impl Flow {
     ghost use Rattle.w_flow.specs.View.{flow_view, flow_if, anything};
 
     /// The type [ins] to [outs], of few types. It fails only when out of memory.
-    pub fn fixed(
+    pub fn turns_few(
         &mut self,
         classes: &Classes,
         ins: &[PackedType],
         outs: &[PackedType],
     ) -> Result<bool, AllocError>
         ensures { IfOk result (λ taken. step classes.now (fixed (row_of ins.now)
-            (row_of outs.now)) self.old.any (row_of self.old.operands.items)
+            (row_of outs.now)) self.old.any (row_of self.old.operands)
             ≡ flow_if taken self.new) }
     {
         if !take_few(classes, self.any, &mut self.operands, ins) {
@@ -38,7 +38,7 @@ impl Flow {
     }
 
     /// The same of types that may be many, as those that a function type names.
-    pub fn turns_all(
+    pub fn turns_many(
         &mut self,
         classes: &Classes,
         matched: &mut Matched,
@@ -47,7 +47,7 @@ impl Flow {
     ) -> Result<bool, AllocError>
         requires { matched.old ≡ classes.now }
         ensures steps { IfOk result (λ taken. step classes.now (fixed (row_of ins.now)
-            (row_of outs.now)) self.old.any (row_of self.old.operands.items)
+            (row_of outs.now)) self.old.any (row_of self.old.operands)
             ≡ flow_if taken self.new) }
         ensures kept { matched.new ≡ matched.old }
     {
@@ -55,7 +55,7 @@ impl Flow {
     }
 
     /// The type [ins top] to [outs], of types that may be many. It fails only when out of memory.
-    pub fn turns_all_below(
+    pub fn turns_many_below(
         &mut self,
         classes: &Classes,
         matched: &mut Matched,
@@ -65,14 +65,14 @@ impl Flow {
     ) -> Result<bool, AllocError>
         requires { matched.old ≡ classes.now }
         ensures steps { IfOk result (λ taken. step classes.now (fixed (row_of ins.now ▹ top)
-            (row_of outs.now)) self.old.any (row_of self.old.operands.items)
+            (row_of outs.now)) self.old.any (row_of self.old.operands)
             ≡ flow_if taken self.new) }
         ensures kept { matched.new ≡ matched.old }
     {
         if !take_type(classes, self.any, &mut self.operands, top) {
             return Ok(false);
         }
-        self.turns_all(classes, matched, ins, outs)
+        self.turns_many(classes, matched, ins, outs)
     }
 
     /// The type [t* ins] to any.
@@ -84,10 +84,10 @@ impl Flow {
     ) -> bool
         requires { matched.old ≡ classes.now }
         ensures steps { step classes.now (polymorphic (row_of ins.now)) self.old.any
-            (row_of self.old.operands.items) ≡ flow_if result self.new }
+            (row_of self.old.operands) ≡ flow_if result self.new }
         ensures kept { matched.new ≡ matched.old }
     {
-        if !take_types(classes, matched, self.any, &mut self.operands, ins) {
+        if !take_many(classes, matched, self.any, &mut self.operands, ins) {
             return false;
         }
         self.leave();
@@ -96,8 +96,8 @@ impl Flow {
 
     /// Takes a number that is tested, as the index of a `br_table`, or what an `if` asks.
     pub fn take_tested(&mut self, classes: &Classes) -> bool
-        ensures left { pops classes.now self.old.any (row_of self.old.operands.items) (ε ▹ val.I32)
-            ≡ (if result then Some (row_of self.new.operands.items) else None) }
+        ensures left { pops classes.now self.old.any (row_of self.old.operands) (ε ▹ val.I32)
+            ≡ (if result then Some (row_of self.new.operands) else None) }
         ensures any { self.new.any ≡ self.old.any }
     {
         take_type(classes, self.any, &mut self.operands, PackedType::I32)
@@ -114,7 +114,7 @@ impl Flow {
     /// The type of `drop`. It compares no types, so the contract has no entries.
     #[inline(always)]
     pub fn drops(&mut self) -> bool
-        ensures { step [] drops self.old.any (row_of self.old.operands.items)
+        ensures { step [] drops self.old.any (row_of self.old.operands)
             ≡ flow_if result self.new }
     {
         take_any(self.any, &mut self.operands).is_some()
@@ -124,7 +124,7 @@ impl Flow {
     #[tactic(auto, using(crate::proofs::RowsOfLists::row_more))]
     pub fn selects(&mut self, classes: &Classes) -> Result<bool, AllocError>
         ensures { IfOk result (λ taken. step classes.now selects self.old.any
-            (row_of self.old.operands.items) ≡ flow_if taken self.new) }
+            (row_of self.old.operands) ≡ flow_if taken self.new) }
     {
         if !take_type(classes, self.any, &mut self.operands, PackedType::I32) {
             return Ok(false);
@@ -146,7 +146,7 @@ impl Flow {
     #[tactic(auto, using(crate::proofs::RowsOfLists::row_more))]
     pub fn tests_null(&mut self) -> Result<bool, AllocError>
         ensures { IfOk result (λ taken. step [] tests_null self.old.any
-            (row_of self.old.operands.items) ≡ flow_if taken self.new) }
+            (row_of self.old.operands) ≡ flow_if taken self.new) }
     {
         if take_reference(self.any, &mut self.operands).is_none() {
             return Ok(false);
@@ -159,7 +159,7 @@ impl Flow {
     #[tactic(auto, using(crate::proofs::RowsOfLists::row_more))]
     pub fn as_non_null(&mut self) -> Result<bool, AllocError>
         ensures { IfOk result (λ taken. step [] as_non_null self.old.any
-            (row_of self.old.operands.items) ≡ flow_if taken self.new) }
+            (row_of self.old.operands) ≡ flow_if taken self.new) }
     {
         let Some(heap) = take_reference(self.any, &mut self.operands) else {
             return Ok(false);
@@ -178,13 +178,13 @@ impl Flow {
     ) -> Result<bool, AllocError>
         requires { matched.old ≡ classes.now }
         ensures steps { IfOk result (λ taken. step classes.now (on_null (row_of label.now)) self.old.any
-            (row_of self.old.operands.items) ≡ flow_if taken self.new) }
+            (row_of self.old.operands) ≡ flow_if taken self.new) }
         ensures kept { matched.new ≡ matched.old }
     {
         let Some(heap) = take_reference(self.any, &mut self.operands) else {
             return Ok(false);
         };
-        if !take_types(classes, matched, self.any, &mut self.operands, label) {
+        if !take_many(classes, matched, self.any, &mut self.operands, label) {
             return Ok(false);
         }
         give_types(&mut self.operands, label)?;

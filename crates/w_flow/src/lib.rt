@@ -5,9 +5,11 @@ mod flow;
 mod instruction_types;
 mod laws;
 mod matched;
+mod operand_list;
 mod operands;
 mod short_types;
 
 pub use flow::Flow;
 pub use laws::exact_step;
 pub use matched::Matched;
+pub use operand_list::OperandList;

@@ -11,6 +11,7 @@ ghost use Rattle.w_flow.specs.Matched.{StandFor};
 ghost use Rattle.w_flow.specs.View.{with_rest};
 
 use crate::matched::Matched;
+use crate::operand_list::OperandList;
 use std::alloc::AllocError;
 use w_canon::Classes;
 use w_rules::{Operand, OperandView};
@@ -115,6 +116,7 @@ fn matches_again(classes: &Classes, found: &mut Match, operand: Operand, wanted:
 
 // How many operands are left when these types are taken one by one, or `None` where they can't be. It compares no more types than
 // there are operands.
+#[inline(always)]
 fn left_by_each(
     classes: &Classes,
     any: bool,
@@ -258,13 +260,13 @@ pub(crate) fn end_with(
 pub(crate) fn take_few(
     classes: &Classes,
     any: bool,
-    operands: &mut Vec<Operand>,
+    operands: &mut OperandList,
     wanted: &[PackedType],
 ) -> bool
-    ensures { pops classes.now any (row_of operands.old.items) (row_of wanted.now)
-        ≡ (if result then Some (row_of operands.new.items) else None) }
+    ensures { pops classes.now any (row_of operands.old) (row_of wanted.now)
+        ≡ (if result then Some (row_of operands.new) else None) }
 {
-    match left_by_each(classes, any, operands, wanted) {
+    match left_by_each(classes, any, operands.as_slice(), wanted) {
         Some(n) => {
             operands.truncate(n);
             true
@@ -274,19 +276,19 @@ pub(crate) fn take_few(
 }
 
 /// Takes these types, which may be many, or answers false.
-pub(crate) fn take_types(
+pub(crate) fn take_many(
     classes: &Classes,
     matched: &mut Matched,
     any: bool,
-    operands: &mut Vec<Operand>,
+    operands: &mut OperandList,
     wanted: &[PackedType],
 ) -> bool
     requires { matched.old ≡ classes.now }
-    ensures left { pops classes.now any (row_of operands.old.items) (row_of wanted.now)
-        ≡ (if result then Some (row_of operands.new.items) else None) }
+    ensures left { pops classes.now any (row_of operands.old) (row_of wanted.now)
+        ≡ (if result then Some (row_of operands.new) else None) }
     ensures kept { matched.new ≡ matched.old }
 {
-    match left(classes, matched, any, operands, wanted) {
+    match left(classes, matched, any, operands.as_slice(), wanted) {
         Some(n) => {
             operands.truncate(n);
             true
@@ -301,11 +303,11 @@ pub(crate) fn take_types(
 pub(crate) fn take_type(
     classes: &Classes,
     any: bool,
-    operands: &mut Vec<Operand>,
+    operands: &mut OperandList,
     wanted: PackedType,
 ) -> bool
-    ensures { pops classes.now any (row_of operands.old.items) (ε ▹ wanted)
-        ≡ (if result then Some (row_of operands.new.items) else None) }
+    ensures { pops classes.now any (row_of operands.old) (ε ▹ wanted)
+        ≡ (if result then Some (row_of operands.new) else None) }
 {
     match operands.pop() {
         Some(operand) => matches_type(classes, operand, wanted),
@@ -316,8 +318,8 @@ pub(crate) fn take_type(
 /// Takes an operand, whatever it is.
 #[tactic(auto, using(crate::proofs::RowsOfLists::row_more))]
 #[inline(always)]
-pub(crate) fn take_any(any: bool, operands: &mut Vec<Operand>) -> Option<Operand>
-    ensures { pop any (row_of operands.old.items) ≡ with_rest (row_of operands.new.items) result }
+pub(crate) fn take_any(any: bool, operands: &mut OperandList) -> Option<Operand>
+    ensures { pop any (row_of operands.old) ≡ with_rest (row_of operands.new) result }
 {
     match operands.pop() {
         Some(operand) => Some(operand),
@@ -340,9 +342,9 @@ fn heap_type(operand: Operand) -> Option<Option<HeapType>>
 }
 
 /// Takes a reference, and gives its heap type.
-pub(crate) fn take_reference(any: bool, operands: &mut Vec<Operand>) -> Option<Option<HeapType>>
-    ensures { pop_ref any (row_of operands.old.items)
-        ≡ with_rest (row_of operands.new.items) result }
+pub(crate) fn take_reference(any: bool, operands: &mut OperandList) -> Option<Option<HeapType>>
+    ensures { pop_ref any (row_of operands.old)
+        ≡ with_rest (row_of operands.new) result }
 {
     let operand = take_any(any, operands)?;
     heap_type(operand)
@@ -398,22 +400,10 @@ pub(crate) fn selected(one: Operand, other: Operand) -> Option<Operand>
     }
 }
 
-// Puts operands of these types into the places from one on. It takes a slice, so that the types are copied some at a time.
-fn put_types(operands: &mut [Operand], from: usize, types: &[PackedType])
-    requires { length operands.old ≡ from + length types.now }
-    ensures put { operands.new ≡ take from operands.old ++ map Known types.now }
-    ensures long { length operands.new ≡ length operands.old }
-{
-    for i in 0..types.len() {
-        let kind = types[i];
-        operands[from + i] = Operand::known(kind);
-    }
-}
-
 // Gives operands of these types, one by one.
-fn give_each(operands: &mut Vec<Operand>, types: &[PackedType]) -> Result<(), AllocError>
-    ensures { IfOk result (λ _. row_of operands.new.items
-        ≡ row_of operands.old.items ⧺ known (row_of types.now)) }
+fn give_each(operands: &mut OperandList, types: &[PackedType]) -> Result<(), AllocError>
+    ensures { IfOk result (λ _. row_of operands.new
+        ≡ row_of operands.old ⧺ known (row_of types.now)) }
 {
     for kind in types {
         operands.push(Operand::known(*kind))?;
@@ -423,30 +413,26 @@ fn give_each(operands: &mut Vec<Operand>, types: &[PackedType]) -> Result<(), Al
 
 /// Gives operands of these types behind the first so many, in the place of those that stand there.
 pub(crate) fn give_behind(
-    operands: &mut Vec<Operand>,
+    operands: &mut OperandList,
     from: usize,
     types: &[PackedType],
 ) -> Result<(), AllocError>
-    requires { from ≤ length operands.old.items }
-    ensures { IfOk result (λ _. row_of operands.new.items
-        ≡ row_of (take from operands.old.items) ⧺ known (row_of types.now)) }
+    requires { from ≤ length operands.old }
+    ensures { IfOk result (λ _. row_of operands.new
+        ≡ row_of (take from operands.old) ⧺ known (row_of types.now)) }
 {
     if types.len() < WIDE {
         operands.truncate(from);
         return give_each(operands, types);
     }
-    operands.resize(from + types.len(), Operand::BOTTOM)?;
-    put_types(operands.as_mut_slice(), from, types);
+    operands.give_behind(from, types)?;
     Ok(())
 }
 
 /// Gives operands of these types.
-pub(crate) fn give_types(
-    operands: &mut Vec<Operand>,
-    types: &[PackedType],
-) -> Result<(), AllocError>
-    ensures { IfOk result (λ _. row_of operands.new.items
-        ≡ row_of operands.old.items ⧺ known (row_of types.now)) }
+pub(crate) fn give_types(operands: &mut OperandList, types: &[PackedType]) -> Result<(), AllocError>
+    ensures { IfOk result (λ _. row_of operands.new
+        ≡ row_of operands.old ⧺ known (row_of types.now)) }
 {
     let from = operands.len();
     give_behind(operands, from, types)
@@ -457,17 +443,17 @@ pub(crate) fn turn_types(
     classes: &Classes,
     matched: &mut Matched,
     any: bool,
-    operands: &mut Vec<Operand>,
+    operands: &mut OperandList,
     wanted: &[PackedType],
     given: &[PackedType],
 ) -> Result<bool, AllocError>
     requires { matched.old ≡ classes.now }
     ensures steps { IfOk result (λ taken. step classes.now (fixed (row_of wanted.now)
-        (row_of given.now)) any (row_of operands.old.items)
-        ≡ (if taken then Some (record { any = any; operands = row_of operands.new.items }) else None)) }
+        (row_of given.now)) any (row_of operands.old)
+        ≡ (if taken then Some (record { any = any; operands = row_of operands.new }) else None)) }
     ensures kept { matched.new ≡ matched.old }
 {
-    let Some(n) = left(classes, matched, any, operands, wanted) else {
+    let Some(n) = left(classes, matched, any, operands.as_slice(), wanted) else {
         return Ok(false);
     };
     give_behind(operands, n, given)?;

@@ -20,7 +20,7 @@ impl Flow {
     #[inline(always)]
     pub fn gives(&mut self, to: PackedType) -> Result<bool, AllocError>
         ensures { IfOk result (λ taken. step [] (fixed ε (ε ▹ to)) self.old.any
-            (row_of self.old.operands.items) ≡ flow_if taken self.new) }
+            (row_of self.old.operands) ≡ flow_if taken self.new) }
     {
         self.operands.push(Operand::known(to))?;
         Ok(true)
@@ -30,7 +30,7 @@ impl Flow {
     #[inline(always)]
     pub fn takes(&mut self, classes: &Classes, from: PackedType) -> bool
         ensures { step classes.now (fixed (ε ▹ from) ε) self.old.any
-            (row_of self.old.operands.items) ≡ flow_if result self.new }
+            (row_of self.old.operands) ≡ flow_if result self.new }
     {
         take_type(classes, self.any, &mut self.operands, from)
     }
@@ -38,12 +38,13 @@ impl Flow {
     /// The type [below top] to [].
     pub fn takes_two(&mut self, classes: &Classes, below: PackedType, top: PackedType) -> bool
         ensures { step classes.now (fixed (ε ▹ below ▹ top) ε) self.old.any
-            (row_of self.old.operands.items) ≡ flow_if result self.new }
+            (row_of self.old.operands) ≡ flow_if result self.new }
     {
         self.takes(classes, top) && self.takes(classes, below)
     }
 
     /// The type [from] to [to]. It fails only when out of memory.
+    #[tactic(auto, using(crate::proofs::RowsOfLists::row_more))]
     #[inline(always)]
     pub fn turns(
         &mut self,
@@ -52,16 +53,15 @@ impl Flow {
         to: PackedType,
     ) -> Result<bool, AllocError>
         ensures { IfOk result (λ taken. step classes.now (fixed (ε ▹ from) (ε ▹ to)) self.old.any
-            (row_of self.old.operands.items) ≡ flow_if taken self.new) }
+            (row_of self.old.operands) ≡ flow_if taken self.new) }
     {
-        let count = self.operands.len();
-        if count == 0 {
+        let Some(top) = self.operands.last() else {
             return if self.any { self.gives(to) } else { Ok(false) };
-        }
-        if !matches_type(classes, self.operands[count - 1], from) {
+        };
+        if !matches_type(classes, top, from) {
             return Ok(false);
         }
-        self.operands[count - 1] = Operand::known(to);
+        self.operands.replace_last(Operand::known(to));
         Ok(true)
     }
 
@@ -74,7 +74,7 @@ impl Flow {
         to: PackedType,
     ) -> Result<bool, AllocError>
         ensures { IfOk result (λ taken. step classes.now (fixed (ε ▹ from ▹ from)
-            (ε ▹ to)) self.old.any (row_of self.old.operands.items) ≡ flow_if taken self.new) }
+            (ε ▹ to)) self.old.any (row_of self.old.operands) ≡ flow_if taken self.new) }
     {
         if !self.takes(classes, from) {
             return Ok(false);

@@ -10,6 +10,7 @@ use crate::types::are_locals_valid;
 use std::alloc::{AllocError, Global};
 use w_bodies::check_body;
 use w_rules::{Context, function_type};
+use w_vplain::Room;
 
 /// What the bodies of functions need, by the index of the function: see `Facts`.
 #[derive(Drop)]
@@ -23,6 +24,7 @@ pub(crate) struct BodyFacts {
 fn measure_function(
     alloc: Global,
     cx: &Context,
+    room: &mut Room,
     index: usize,
 ) -> Result<Option<(u64, u32)>, AllocError>
     requires { IsContextOf cx.now }
@@ -39,7 +41,7 @@ fn measure_function(
         return Ok(None);
     }
     let (params, results) = (kind.params.as_slice(), kind.results.as_slice());
-    check_body(alloc, cx, params, runs, results, &code.body)
+    check_body(alloc, cx, room, params, runs, results, &code.body)
 }
 
 /// The first function that is not valid, if there is one: each index of a type or of code is that of a function. Where there is
@@ -57,8 +59,9 @@ pub(crate) fn first_invalid_function(
         (AreMeasures cx.now.owner.now measures.new.heights.items measures.new.depths.items)) }
 {
     let count = cx.owner.functions.len().max(cx.owner.codes.len());
+    let mut room = Room::new(alloc);
     for index in 0..count {
-        let Some((height, depth)) = measure_function(alloc, cx, index)? else {
+        let Some((height, depth)) = measure_function(alloc, cx, &mut room, index)? else {
             return Ok(Some(index));
         };
         measures.heights.push(height)?;

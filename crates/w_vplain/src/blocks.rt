@@ -11,16 +11,16 @@ ghost use Rattle.w_vplain.specs.Prefixes.{taken_by};
 ghost use Rattle.w_vplain.specs.Measures.{tally};
 ghost use Rattle.w_vplain.specs.View.{frame_view, inner_with, else_with, left_with};
 
-use std::alloc::{AllocError, Global};
+use std::alloc::AllocError;
 use w_canon::Classes;
-use w_flow::{Flow, Matched};
+use w_flow::{Flow, Matched, OperandList};
 use w_rules::Context;
 use w_steps::{Frame, FrameKind, arrow};
 use w_types::PackedType;
 
 // Takes what a block with these parameters takes, and gives the operands at its beginning.
 fn enter_params(
-    alloc: Global,
+    room: OperandList,
     classes: &Classes,
     matched: &mut Matched,
     kind: &FrameKind,
@@ -40,7 +40,7 @@ fn enter_params(
     if matches!(kind, FrameKind::Then(_) | FrameKind::Else(_)) && !flow.take_tested(classes) {
         return Ok(None);
     }
-    flow.enter(alloc, classes, matched, from)
+    flow.enter(room, classes, matched, from)
 }
 
 /// How many operands there are in the block and around it, where its place is counted. It fails where that passes 64 bits, as for want
@@ -61,9 +61,10 @@ pub(crate) fn height(frame: &Frame) -> Result<Option<u64>, AllocError>
     }
 }
 
-/// Takes what a block takes of the operands around it, and gives the frame inside it. `None` where they are not there.
+/// Takes what a block takes of the operands around it, and gives the frame inside it, whose operands stand in this room. `None` where
+/// they are not there.
 pub(crate) fn inner_frame(
-    alloc: Global,
+    room: OperandList,
     cx: &Context,
     matched: &mut Matched,
     results: &[PackedType],
@@ -86,16 +87,16 @@ pub(crate) fn inner_frame(
         return Ok(None);
     };
     let flow = &mut around.flow;
-    let Some(flow) = enter_params(alloc, cx.classes, matched, &kind, flow, from)? else {
+    let Some(flow) = enter_params(room, cx.classes, matched, &kind, flow, from)? else {
         return Ok(None);
     };
     let base = height(around)?;
     Ok(Some(Frame { kind, flow, base }))
 }
 
-/// The frame of an if's second branch, where the first one ends well and has blocks around it.
+/// The frame of an if's second branch, whose operands stand in this room, where the first one ends well and has blocks around it.
 pub(crate) fn else_frame(
-    alloc: Global,
+    room: OperandList,
     cx: &Context,
     matched: &mut Matched,
     results: &[PackedType],
@@ -117,7 +118,7 @@ pub(crate) fn else_frame(
     if !first.flow.ends_with(cx.classes, matched, to) {
         return Ok(None);
     }
-    let flow = Flow::of_types(alloc, from)?;
+    let flow = Flow::of_types(room, from)?;
     Ok(Some(Frame {
         kind: FrameKind::Else(block),
         flow,

@@ -20,9 +20,10 @@ ghost use Rattle.w_vplain.specs.Standing.{StandsFor, HasBases, HasClasses, Leads
 
 use crate::blocks::{else_frame, end_types, height, inner_frame};
 use crate::moves::{InstrRow, Move};
+use crate::room::{Room, keep_room, spare_room};
 use std::alloc::{AllocError, Global};
 use std::mem;
-use w_flow::{Flow, Matched};
+use w_flow::{Flow, Matched, OperandList};
 use w_locals::Locals;
 use w_rules::Context;
 use w_steps::{Frame, FrameKind, Setting, label_of, packed_step};
@@ -39,6 +40,8 @@ pub struct Checker<'a> {
     locals: Locals<'a>,
     outer: Vec<Frame>,
     top: Frame,
+    // for the operands of the next blocks
+    spare: Vec<OperandList>,
     peak: u64,
     depth: u32,
     ended: bool,
@@ -128,10 +131,12 @@ fn row_top(here: Option<u64>, taken: usize, raise: Option<u64>) -> Result<u64, A
 }
 
 impl<'a> Checker<'a> {
-    /// Stands for the empty sequence of a body with these parameters, further locals and results. It fails only when out of memory.
+    /// Stands for the empty sequence of a body with these parameters, further locals and results, and works in this room. It fails only
+    /// when out of memory.
     pub fn begin(
         alloc: Global,
         cx: &'a Context<'a>,
+        room: Room,
         params: &'a [PackedType],
         runs: &'a [LocalRun],
         results: &'a [PackedType],
@@ -143,6 +148,8 @@ impl<'a> Checker<'a> {
             → StandsFor c (set_first params.now runs.now) empty) }
     {
         let locals = Locals::begin(alloc, params, runs)?;
+        let mut outer = room.outer;
+        outer.clear();
         Ok(Checker {
             alloc,
             setting: Setting {
@@ -151,12 +158,13 @@ impl<'a> Checker<'a> {
             },
             results,
             locals,
-            outer: Vec::new(alloc),
+            outer,
             top: Frame {
                 kind: FrameKind::Body,
-                flow: Flow::new(alloc),
+                flow: Flow::new(room.operands),
                 base: Some(0),
             },
+            spare: room.spare,
             peak: 0,
             depth: 1,
             ended: false,
@@ -203,9 +211,10 @@ impl<'a> Checker<'a> {
         ensures uncounted { IsUncounted self.old self.new }
         ensures ended { self.new.ended ≡ self.old.ended }
     {
+        let room = spare_room(self.alloc, &mut self.spare);
         let setting = &mut self.setting;
         let Some(inner) = inner_frame(
-            self.alloc,
+            room,
             setting.cx,
             &mut setting.matched,
             self.results,
@@ -234,15 +243,18 @@ impl<'a> Checker<'a> {
         if self.outer.as_slice().is_empty() {
             return Ok(false);
         }
+        let room = spare_room(self.alloc, &mut self.spare);
         let setting = &mut self.setting;
         match else_frame(
-            self.alloc,
+            room,
             setting.cx,
             &mut setting.matched,
             self.results,
             &self.top,
         )? {
             Some(second) => {
+                let room = self.top.flow.take_room(self.alloc);
+                keep_room(&mut self.spare, room)?;
                 self.top = second;
                 self.locals.leave_block();
                 self.locals.enter_block()?;
@@ -277,7 +289,9 @@ impl<'a> Checker<'a> {
         match self.outer.pop() {
             None => self.ended = true,
             Some(mut around) => {
-                around.flow.give(&mut self.top.flow, to)?;
+                let room = self.top.flow.take_room(self.alloc);
+                let spare = around.flow.give(room, to)?;
+                keep_room(&mut self.spare, spare)?;
                 self.locals.leave_block();
                 self.top = around;
             }
@@ -346,14 +360,14 @@ impl<'a> Checker<'a> {
         let classes = setting.cx.classes;
         let flow = &mut self.top.flow;
         match top {
-            Some(top) => flow.turns_all_below(
+            Some(top) => flow.turns_many_below(
                 classes,
                 &mut setting.matched,
                 ins,
                 PackedType::new(top),
                 outs,
             ),
-            None => flow.turns_all(classes, &mut setting.matched, ins, outs),
+            None => flow.turns_many(classes, &mut setting.matched, ins, outs),
         }
     }
 
@@ -648,6 +662,15 @@ impl<'a> Checker<'a> {
         ensures memory { StaysOutOfMemory self.old result self.new }
     {
         self.call(Move::Packed(&PackedInstr::End))
+    }
+
+    /// The room that it worked in, for the next body.
+    pub fn into_room(self) -> Room {
+        Room {
+            operands: self.top.flow.into_room(),
+            spare: self.spare,
+            outer: self.outer,
+        }
     }
 
     /// The greatest number of operands at a counted place so far, as long as the answers were true.

@@ -4,5 +4,7 @@
 mod blocks;
 mod checker;
 mod moves;
+mod room;
 
 pub use checker::Checker;
+pub use room::Room;

@@ -117,7 +117,7 @@ fn br_if_step(
     ensures kept { matched.new ≡ matched.old }
 {
     match body.label(index) {
-        Some(label) => flow.turns_all_below(
+        Some(label) => flow.turns_many_below(
             body.cx.classes,
             matched,
             label,
@@ -181,7 +181,7 @@ fn br_on_non_null_step(
         nullable: true,
         heap,
     });
-    flow.turns_all_below(body.cx.classes, matched, beneath, reference, beneath)
+    flow.turns_many_below(body.cx.classes, matched, beneath, reference, beneath)
 }
 
 // A call of a function.
@@ -198,7 +198,7 @@ fn call_step(
     ensures kept { matched.new ≡ matched.old }
 {
     match cx.type_of_func(function) {
-        Some(kind) => flow.turns_all(
+        Some(kind) => flow.turns_many(
             cx.classes,
             matched,
             kind.params.as_slice(),
@@ -234,7 +234,7 @@ fn call_indirect_step(
         return Ok(false);
     }
     match cx.func_of(kind) {
-        Some(kind) => flow.turns_all_below(
+        Some(kind) => flow.turns_many_below(
             cx.classes,
             matched,
             kind.params.as_slice(),
@@ -263,7 +263,7 @@ fn call_ref_step(
         heap: HeapType::Index(index),
     });
     match cx.func_of(index) {
-        Some(kind) => flow.turns_all_below(
+        Some(kind) => flow.turns_many_below(
             cx.classes,
             matched,
             kind.params.as_slice(),
@@ -291,7 +291,7 @@ pub(crate) fn control_step(
     let cx = body.cx;
     match op {
         ControlOp::Unreachable => Ok(flow.polymorphic(cx.classes, matched, &[])),
-        ControlOp::Nop => flow.fixed(cx.classes, &[], &[]),
+        ControlOp::Nop => flow.turns_few(cx.classes, &[], &[]),
         ControlOp::Br(index) => match body.label(*index) {
             Some(label) => Ok(flow.polymorphic(cx.classes, matched, label)),
             None => Ok(false),

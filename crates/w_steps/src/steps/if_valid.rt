@@ -26,7 +26,7 @@ pub(crate) fn fixed_if_valid(
     if !test {
         return Ok(false);
     }
-    flow.fixed(classes, ins, outs)
+    flow.turns_few(classes, ins, outs)
 }
 
 /// Gives an operand of this type, where the test holds.

@@ -34,7 +34,7 @@ fn init_step(cx: &Context, flow: &mut Flow, segment: u32, table: u32) -> Result<
     if !cx.classes.matches_ref(element, table.element) {
         return Ok(false);
     }
-    flow.fixed(cx.classes, &THREE, &[])
+    flow.turns_few(cx.classes, &THREE, &[])
 }
 
 // A copy of a part of a table into a table.
@@ -54,7 +54,7 @@ fn copy_step(cx: &Context, flow: &mut Flow, to: u32, from: u32) -> Result<bool, 
     if !cx.classes.matches_ref(from.element, to.element) {
         return Ok(false);
     }
-    flow.fixed(cx.classes, &THREE, &[])
+    flow.turns_few(cx.classes, &THREE, &[])
 }
 
 // The growth of a table.
@@ -66,7 +66,7 @@ fn grow_step(cx: &Context, flow: &mut Flow, index: u32) -> Result<bool, AllocErr
     match cx.table(index) {
         Some(table) => {
             let taken = [PackedType::reference(table.element), PackedType::I32];
-            flow.fixed(cx.classes, &taken, &[PackedType::I32])
+            flow.turns_few(cx.classes, &taken, &[PackedType::I32])
         }
         None => Ok(false),
     }
@@ -85,7 +85,7 @@ fn fill_step(cx: &Context, flow: &mut Flow, index: u32) -> Result<bool, AllocErr
                 PackedType::reference(table.element),
                 PackedType::I32,
             ];
-            flow.fixed(cx.classes, &taken, &[])
+            flow.turns_few(cx.classes, &taken, &[])
         }
         None => Ok(false),
     }
@@ -117,7 +117,7 @@ pub(crate) fn table_step(cx: &Context, flow: &mut Flow, op: TableOp) -> Result<b
         },
         TableOp::Init(segment, table) => init_step(cx, flow, segment, table),
         TableOp::ElemDrop(segment) => match cx.element(segment) {
-            Some(_) => flow.fixed(classes, &[], &[]),
+            Some(_) => flow.turns_few(classes, &[], &[]),
             None => Ok(false),
         },
         TableOp::Copy(to, from) => copy_step(cx, flow, to, from),

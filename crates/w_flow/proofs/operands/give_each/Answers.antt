@@ -6,5 +6,5 @@ use Rattle.w_flow.proofs.operands.give_each.Goals as goal
 
 pub loop-kind-preserved : goal.loop-kind-preserved
 loop-kind-preserved c =
-    ap row_of (c.in_ok-push.ensures.items ∙ ap (λ (o : Operand). c.loop-kind.operands.items ++ o ∷ []) (c.known.ensures ∙ ap Known c.kind-item.is))
-    ∙ given_more (row_of c.args.operands.now.items) c.loop-kind.operands.items c.args.types.now c.loop-kind.kind-index c.kind-item.result (omega arith) c.loop-kind.invariant
+    ap row_of (c.in_ok-push.ensures ∙ ap (λ (o : Operand). c.loop-kind.operands ++ o ∷ []) (c.known.ensures ∙ ap Known c.kind-item.is))
+    ∙ given_more (row_of c.args.operands.now) c.loop-kind.operands c.args.types.now c.loop-kind.kind-index c.kind-item.result (omega arith) c.loop-kind.invariant

@@ -5,4 +5,4 @@ use Rattle.w_flow.proofs.operands.give_each.Given as goal
 
 -- the first types are given
 abbrev pub invariant-loop-kind : goal.invariant-loop-kind
-invariant-loop-kind l = row_of l.operands.items ≡ row_of l.initial.operands.items ⧺ known (row_of (take l.kind-index l.types))
+invariant-loop-kind l = row_of l.operands ≡ row_of l.initial.operands ⧺ known (row_of (take l.kind-index l.types))

@@ -1,7 +1,7 @@
-use Rattle.std.proofs.Common.{ap}
+use Rattle.std.proofs.Common.{ap, take, refl}
 use Rattle.w_flow.specs.View.{reached}
 use Rattle.w_flow.proofs.RowsOfLists.{given_alone}
 use Rattle.w_flow.proofs.flow.Flow.of_types.Goals as goal
 
 pub returns : goal.returns
-returns c = ap reached (given_alone c.new-operands.result.items c.give_types.new.operands.items c.args.types.now c.new-operands.ensures.items c.in_ok-give_types.ensures)
+returns c = ap reached (given_alone (take 0 c.args.room) c.give_behind.new.operands c.args.types.now refl c.in_ok-give_behind.ensures)

@@ -8,5 +8,5 @@ use Rattle.w_vplain.proofs.checker.Checker.begin.Goals as goal
 pub returns-clause-stands : goal.returns-clause-stands
 returns-clause-stands c = λ types.
     let s = set_first c.args.params.now c.args.runs.now in
-    let frames = begin_frames (record { kind = _; flow = c.new-3.result; base = Some 0 }) c.new-2.result.items c.in_ok-locals.locals.sets s refl c.new-3.ensures c.new-2.ensures.items c.in_ok-locals.ensures.sets in
-    begins _ s types (ap (λ (fs : List Frame). Some fs) frames) frames refl refl (bases_none c.new-2.result.items c.new-2.ensures.items)
+    let frames = begin_frames (record { kind = _; flow = c.new-2.result; base = Some 0 }) c.clear.new.self.items c.in_ok-locals.locals.sets s refl c.new-2.ensures c.clear.ensures.items c.in_ok-locals.ensures.sets in
+    begins _ s types (ap (λ (fs : List Frame). Some fs) frames) frames refl refl (bases_none c.clear.new.self.items c.clear.ensures.items)
