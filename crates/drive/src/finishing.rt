@@ -11,6 +11,7 @@ use crate::running::run;
 use crate::source::Source;
 use crate::stop::Stop;
 use std::alloc::Global;
+use std::mem::forget;
 use w_encode::encode;
 use w_outside::Sink;
 use w_rules::Checked;
@@ -47,7 +48,8 @@ pub(crate) fn finish<O: Sink>(
 {
     match action {
         Action::Check => {
-            drop(checked);
+            // the command ends here, and to let the module go would look through each of its bodies once more
+            forget(checked);
             tell(alloc)
         }
         Action::Run { steps, stats } => run(alloc, Source::Module, checked, steps, stats, out),
