@@ -66,6 +66,7 @@ fn run_ends(alloc: Global, start: u64, runs: &[LocalRun]) -> Result<Vec<u64>, Al
 }
 
 // How many runs end at the local or before it.
+#[inline(always)]
 fn runs_before(ends: &[u64], local: u32) -> usize
     requires { IsNonDecreasingBy (λ (end : ℕ). end) ends.now }
     ensures { SplitsAt ends.now local result }
@@ -74,7 +75,7 @@ fn runs_before(ends: &[u64], local: u32) -> usize
 }
 
 // The type of the locals of a run.
-#[inline(never)]
+#[inline(always)]
 fn run_type(runs: &[LocalRun], run: usize) -> Option<PackedType>
     ensures { option_map kind_of (slice_get runs.now run) ≡ result }
 {

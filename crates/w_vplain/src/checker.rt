@@ -388,6 +388,7 @@ impl<'a> Checker<'a> {
     // Counts the operands of the place that was reached.
     #[inline(always)]
     fn count_operands(&mut self) -> Result<(), AllocError>
+        requires { IsFalse self.old.ended }
         ensures raises { OnOk result (HasBases self.old → self.new.peak
             ≡ max self.old.peak (or_none (total (frames_of self.old)) (λ (h : ℕ). h))) }
         ensures depth { self.new.depth ≡ self.old.depth }
@@ -395,9 +396,6 @@ impl<'a> Checker<'a> {
         ensures bases { HasBases self.old → HasBases self.new }
         ensures body { IsSameBody self.old self.new }
     {
-        if self.ended {
-            return Ok(());
-        }
         let here = height(&self.top)?;
         self.peak = self.peak.max(here.unwrap_or(0));
         Ok(())

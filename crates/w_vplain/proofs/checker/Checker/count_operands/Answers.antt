@@ -8,4 +8,4 @@ pub returns-clause-raises : goal.returns-clause-raises
 returns-clause-raises c = λ bases.
     let here = c.args.self.now in
     c.max-self.ensures
-    ∙ peak_told here.ended (top_of here) here.outer.items (outer_sets here.locals.sets) here.peak c.unwrap_or.result here.top.base c.in_ok-here.here c.if-self.false bases.0 c.in_ok-here.ensures c.unwrap_or.ensures
+    ∙ peak_told here.ended (top_of here) here.outer.items (outer_sets here.locals.sets) here.peak c.unwrap_or.result here.top.base c.in_ok-here.here c.requires bases.0 c.in_ok-here.ensures c.unwrap_or.ensures
