@@ -71,6 +71,12 @@ none_by_size (r ▹ t) (suc n) h = eqb-suc-zero n
 pub none_first : (operands : List Operand) (n : ℕ) → n ≤ length operands → nat_eq n 0 ≡ none_left (Some (row_of (take n operands)))
 none_first operands n h = none_by_size (row_of (take n operands)) n (omega (arith, size-row_of (take n operands), length-take n operands))
 
+-- where no types are wanted, there may be no operands
+pub none_wanted_last : (es : List Entry) (p : Bool) (xs : List Operand) (us : List ValType) (n : ℕ) → n ≡ length xs → nat_eq (length us) 0 ≡ true →
+    nat_eq n 0 ≡ none_left (pops es p (row_of xs) (row_of us))
+none_wanted_last es p xs [] n e h = none_by_size (row_of xs) n (size-row_of xs ∙ sym e)
+none_wanted_last es p xs (u ∷ us) n e h = absurd (let f = eqb-suc-zero (length us) in cc)
+
 -- ## Given operands
 
 -- one more is given

@@ -90,6 +90,9 @@ impl Flow {
             (row_of outs.now) }
         ensures kept { matched.new ≡ matched.old }
     {
+        if outs.is_empty() {
+            return self.operands.len() == 0;
+        }
         end_with(classes, matched, self.any, self.operands.as_slice(), outs)
     }
 
@@ -112,6 +115,9 @@ impl Flow {
         ensures any { self.new.any ≡ self.old.any }
         ensures kept { matched.new ≡ matched.old }
     {
+        if ins.is_empty() {
+            return Ok(Some(Flow::new(room)));
+        }
         let Some(count) = left(classes, matched, self.any, self.operands.as_slice(), ins) else {
             return Ok(None);
         };
@@ -133,6 +139,9 @@ impl Flow {
             ≡ row_of self.old.operands ⧺ known (row_of outs.now)) }
         ensures any { self.new.any ≡ self.old.any }
     {
+        if outs.is_empty() {
+            return Ok(room);
+        }
         if outs.len() >= WIDE && self.operands.len() == 0 {
             mem::swap(&mut self.operands, &mut room);
             give_behind(&mut self.operands, 0, outs)?;
