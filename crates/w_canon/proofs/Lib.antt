@@ -12,3 +12,8 @@ pub mod Preorder
 pub mod EqualTypes
 pub mod ComparedRows
 pub mod ShapesOfTypes
+pub mod WordCases
+pub mod WordsOfTypes
+pub mod WordsOfKinds
+pub mod WordsGiven
+pub mod FirstsOfTypes

@@ -52,7 +52,7 @@ module _ {A : Type 0} (f : A → A → Bool) (R : A → A → Type 0) (told : (x
 -- ## Classes and kinds
 
 -- classes are equal
-class_told : (a b : Class) → IsTrue (class_test a b) ↔ (a ≡ b)
+pub class_told : (a b : Class) → IsTrue (class_test a b) ↔ (a ≡ b)
 class_told a b = through
     (both_told (a.group == b.group) (a.position == b.position) (unsigned_Decides a.group b.group) (unsigned_Decides a.position b.position))
     (λ p. one_class a b p.0 p.1, λ e. (ap (λ (c : Class). c.group) e, ap (λ (c : Class). c.position) e))

@@ -9,3 +9,5 @@ pub mod Tests
 pub mod Numbers
 pub mod Compared
 pub mod Shapes
+pub mod Firsts
+pub mod Words

@@ -1,6 +1,8 @@
 //! The classes of the types of a module.
-ghost use Rattle.std.specs.Prelude.{◌≡◌, ◌++◌, ℕ, IfOk, OnOk};
+ghost use Rattle.std.specs.Prelude.{◌≡◌, ◌<◌, ◌++◌, ℕ, length, IfOk, OnOk};
 ghost use Rattle.w_canon.specs.Entries.{kind_of, entries_from};
+ghost use Rattle.w_canon.specs.Firsts.{AreFirsts};
+ghost use Rattle.w_canon.specs.IsClassesOf.{OneClass};
 ghost use Rattle.w_canon.specs.Numbers.{Finds};
 
 use crate::entry::{Class, Entry, Kind};
@@ -15,6 +17,8 @@ use w_types::{CompType, RecGroup};
 #[derive(Debug, Drop)]
 pub struct Classes {
     entries: Vec<Entry>,
+    // of each type the index of one of its class, of them all the same
+    firsts: Vec<usize>,
 }
 
 impl Model for Classes {
@@ -24,6 +28,10 @@ impl Model for Classes {
     ghost Value = { List Entry };
 
     ghost view = { λ a. a.entries.items };
+
+    ghost use Rattle.w_canon.specs.Firsts.{AreFirsts};
+
+    ghost invariant = { λ a. AreFirsts a.entries.items a.firsts.items };
 }
 
 fn kind_of(kind: &CompType) -> Kind
@@ -66,11 +74,38 @@ fn first_with(
     Ok(number)
 }
 
+// The index of a type of this one's class: of the first one, by where groups begin.
+fn first_of(entries: &[Entry], starts: &[usize], index: usize) -> usize
+    requires { index < length entries.now }
+    ensures { OneClass entries.now index result }
+{
+    let class = entries[index].class;
+    if let Some(start) = starts.get(class.group) {
+        let first = start.saturating_add(class.position);
+        if first < entries.len() && entries[first].class == class {
+            return first;
+        }
+    }
+    index
+}
+
+// Of each type the index of one of its class.
+#[tactic(auto, using(crate::proofs::FirstsOfTypes::no_firsts, crate::proofs::FirstsOfTypes::firsts_more))]
+fn firsts_of(alloc: Global, entries: &[Entry], starts: &[usize]) -> Result<Vec<usize>, AllocError>
+    ensures { IfOk result (λ firsts. AreFirsts entries.now firsts.items) }
+{
+    let mut firsts = Vec::new(alloc);
+    for index in 0..entries.len() {
+        firsts.push(first_of(entries, starts, index))?;
+    }
+    Ok(firsts)
+}
+
 impl Classes {
-    ghost use Rattle.std.specs.Prelude.{◌≡◌, ◌↔◌, IsTrue, IfOk, List, slice_get};
+    ghost use Rattle.std.specs.Prelude.{◌≡◌, ◌↔◌, IsTrue, IfOk, IfSome, List, slice_get};
     ghost use Rattle.w_types.specs.declared.types.RecGroup.{RecGroup};
     ghost use Rattle.w_canon.specs.Equivalence.{SameIndex};
-    ghost use Rattle.w_canon.specs.IsClassesOf.{IsClassesOf};
+    ghost use Rattle.w_canon.specs.IsClassesOf.{IsClassesOf, OneClass};
     ghost use Rattle.w_canon.specs.Tests.{one_class_test, same_test, kind_test};
 
     /// Finds the classes of the types of these groups. It fails only for want of memory.
@@ -79,12 +114,15 @@ impl Classes {
     {
         let mut numbers = BTreeMap::new(alloc);
         let mut entries = Vec::new(alloc);
+        let mut starts = Vec::new(alloc);
         for (number, group) in groups.iter().enumerate() {
+            starts.push(entries.len())?;
             let key = key_of(alloc, entries.as_slice(), group)?;
             let first = first_with(&mut numbers, key, number)?;
             push_entries(&mut entries, first, group)?;
         }
-        Ok(Classes { entries })
+        let firsts = firsts_of(alloc, entries.as_slice(), starts.as_slice())?;
+        Ok(Classes { entries, firsts })
     }
 
     // Whether two types have one class.
@@ -103,6 +141,20 @@ impl Classes {
         ensures related { (gs : List RecGroup) → IsClassesOf gs self.now → (IsTrue result ↔ SameIndex gs i j) }
     {
         i == j || self.have_one_class(i, j)
+    }
+
+    // The entry of the type of this index.
+    pub(crate) fn entry(&self, index: u32) -> Option<Entry>
+        ensures { result ≡ slice_get self.now index }
+    {
+        self.entries.get(index as usize).copied()
+    }
+
+    // The index of a type of the class of the one of this index.
+    pub(crate) fn first(&self, index: u32) -> Option<usize>
+        ensures { IfSome result (λ first. OneClass self.now index first) }
+    {
+        self.firsts.get(index as usize).copied()
     }
 
     // Whether the type of this index is of this kind.

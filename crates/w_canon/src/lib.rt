@@ -9,9 +9,11 @@ mod laws;
 mod matching;
 mod rows;
 mod shape;
+mod words;
 
 pub use classes::Classes;
 pub use laws::{
     func_matching_is_a_preorder, result_matching_is_a_preorder, same_is_an_equivalence,
-    val_matching_is_a_preorder,
+    val_matching_is_a_preorder, words_tell_matching,
 };
+pub use words::given_word;
