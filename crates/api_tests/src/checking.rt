@@ -4,7 +4,9 @@ use std::process::Abort;
 use std::test::Fail;
 use w_canon::Classes;
 use w_decode::decode;
+use w_flow::{TypeRow, TypeRows};
 use w_rules::Context;
+use w_steps::Setting;
 use w_syntax::{
     BlockKind, Module, NumericOp, PackedInstr, ShortBlockType, ShortControlOp, ShortSwitchingOp,
 };
@@ -94,7 +96,14 @@ fn push_three(checker: &mut Checker<'_>) -> Result<bool, AllocError> {
 fn row_leaves_one(rt: &impl Abort, checker: &mut Checker<'_>) -> Result<(), Fail> {
     assert!(rt; push_three(checker)?);
     assert_eq!(rt; (checker.height(), checker.depth()), (3, 1));
-    assert!(rt; checker.apply(&[PackedType::I32], Some(ValType::I64), &[], Some(5))?);
+    assert!(rt;
+        checker.apply(
+            TypeRow::bare(&[PackedType::I32]),
+            Some(ValType::I64),
+            TypeRow::bare(&[]),
+            Some(5)
+        )?
+    );
     assert_eq!(rt; checker.height(), 6);
     assert!(rt; checker.end()?);
     Ok(())
@@ -108,7 +117,7 @@ fn all_false(checker: &mut Checker<'_>) -> Result<bool, AllocError> {
             && !checker.other()?
             && !checker.end()?
             && !switch_stacks(checker)?
-            && !checker.apply(&[], None, &[], None)?,
+            && !checker.apply(TypeRow::bare(&[]), None, TypeRow::bare(&[]), None)?,
     )
 }
 
@@ -127,11 +136,11 @@ fn plain_call_refuses_switching(rt: &impl Abort, checker: &mut Checker<'_>) -> R
 // How many values a branch to the label takes, and whether the first is an i32; where there is such a label.
 fn label_of(checker: &Checker<'_>, index: u32) -> Option<(usize, bool)> {
     let label = checker.label(index)?;
-    let begins_with_i32 = match label.first() {
+    let begins_with_i32 = match label.types.first() {
         Some(kind) => matches!(kind.whole(), ValType::I32),
         None => false,
     };
-    Some((label.len(), begins_with_i32))
+    Some((label.types.len(), begins_with_i32))
 }
 
 // Whether each of these calls is true: a constant of i32, a loop that takes it, and a block in that.
@@ -149,7 +158,7 @@ fn labels_are_told(rt: &impl Abort, checker: &mut Checker<'_>) -> Result<(), Fai
     assert_eq!(rt; label_of(checker, 1), Some((1, true)));
     assert_eq!(rt; label_of(checker, 2), Some((1, false)));
     assert_eq!(rt; label_of(checker, 3), None);
-    assert_eq!(rt; checker.context().tables.len(), 0);
+    assert_eq!(rt; checker.setting().cx.tables.len(), 0);
     Ok(())
 }
 
@@ -164,13 +173,20 @@ enum Call {
 fn perform(alloc: Global, rt: &impl Abort, bench: &Bench, call: Call) -> Result<(), Fail> {
     let context = bench.context();
     let results = [PackedType::I64];
-    let mut checker = Checker::begin(alloc, &context, Room::new(alloc), &[], &[], &results)?;
+    let rows = TypeRows::none(alloc);
+    let setting = Setting {
+        cx: &context,
+        rows: &rows,
+        results: TypeRow::bare(&results),
+    };
+    let mut checker = Checker::begin(alloc, setting, Room::new(alloc), &[], &[])?;
     let told = match call {
         Call::Row => row_leaves_one(rt, &mut checker),
         Call::OtherClass => plain_call_refuses_switching(rt, &mut checker),
         Call::Labels => labels_are_told(rt, &mut checker),
     };
     drop(checker);
+    drop(rows);
     told
 }
 

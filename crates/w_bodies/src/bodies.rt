@@ -8,7 +8,7 @@ ghost use Rattle.w_bodies.specs.Measured.{IsMeasure};
 
 use std::alloc::{AllocError, Global};
 use std::mem;
-use w_rules::Context;
+use w_steps::Setting;
 use w_syntax::{Body, Instr, LocalRun, Op, PackedInstr};
 use w_types::PackedType;
 use w_vplain::{Checker, Room};
@@ -57,19 +57,18 @@ fn call(checker: &mut Checker, packed: &PackedInstr) -> Result<bool, AllocError>
 /// memory.
 pub fn check_body(
     alloc: Global,
-    cx: &Context,
+    setting: Setting,
     room: &mut Room,
     params: &[PackedType],
     runs: &[LocalRun],
-    results: &[PackedType],
     body: &Body,
 ) -> Result<Option<(u64, u32)>, AllocError>
-    requires { HasClasses cx.now }
+    requires { HasClasses setting.cx.now }
     ensures { IfOk result (λ measured. IsMeasure
-        (context_in cx.now) params.now runs.now results.now body.now measured) }
+        (context_in setting.entry.cx.now) params.now runs.now setting.entry.results.types.now body.now measured) }
 {
     let kept = mem::replace(room, Room::new(alloc));
-    let mut checker = Checker::begin(alloc, cx, kept, params, runs, results)?;
+    let mut checker = Checker::begin(alloc, setting, kept, params, runs)?;
     for packed in body.instrs() {
         if !call(&mut checker, packed)? {
             return Ok(None);

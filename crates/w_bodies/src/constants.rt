@@ -18,7 +18,9 @@ ghost use Rattle.w_bodies.specs.Constants.{IsOnly, is_const_at, given, fixed_typ
 
 use crate::bodies::check_body;
 use std::alloc::{AllocError, Global};
+use w_flow::{TypeRow, TypeRows};
 use w_rules::Context;
+use w_steps::Setting;
 use w_syntax::{
     Binop, Body, GlobalType, Instr, Mutability, NumericOp, Op, PackedInstr, ReferenceOp, VariableOp,
 };
@@ -248,8 +250,15 @@ fn is_body_typed(
     if !all_const(cx, body) {
         return Ok(false);
     }
+    let rows = TypeRows::none(alloc);
+    let results = [kind];
+    let setting = Setting {
+        cx,
+        rows: &rows,
+        results: TypeRow::bare(&results),
+    };
     let mut room = Room::new(alloc);
-    let measured = check_body(alloc, cx, &mut room, &[], &[], &[kind], body)?;
+    let measured = check_body(alloc, setting, &mut room, &[], &[], body)?;
     Ok(measured.is_some())
 }
 

@@ -4,8 +4,11 @@ pub mod References
 mod Selects
 mod Tables
 pub mod Exact
-pub mod RowsOfLists
 pub mod ShortTypes
-mod SameRows
-mod SameTypes
 pub mod LabelsOfTables
+pub mod SameTypes
+pub mod SameRows
+pub mod WordedOperands
+pub mod RowsOfLists
+pub mod FittingRows
+pub mod ReadyTypes

@@ -10,7 +10,6 @@ use Rattle.w_canon.proofs.ComparedRows.{type_matches}
 use Rattle.w_rules.specs.Operands.{Operand, Known}
 use Rattle.w_rules.specs.Matching.{known}
 use Rattle.w_flow.specs.Flow.{operand_test, pops}
-use Rattle.w_flow.proofs.RowsOfLists.{row_front}
 
 -- ## One operand
 
@@ -27,12 +26,6 @@ onto_known r (t ∷ ts) = onto_known (r ▹ t) ts
 -- the operands of a list of types
 pub row_of_known : (ts : List ValType) → row_of (map Known ts) ≡ known (row_of ts)
 row_of_known ts = onto_known ε ts
-
--- they can be taken, and what stands beneath them is left
-pub pops_known : (es : List Entry) (p : Bool) (ts : Row Operand) (us : Row ValType) → pops es p (ts ⧺ known us) us ≡ Some ts
-pops_known es p ts ε = refl
-pops_known es p ts (us ▹ u) =
-    ap (λ (b : Bool). if b then pops es p (ts ⧺ known us) us else None) (type_matches es u) ∙ pops_known es p ts us
 
 -- as many operands as are wanted stand for them, whatever stands beneath
 pub pops_above : (es : List Entry) (p : Bool) (ts us : Row Operand) (r : Row ValType) → size us ≡ size r → pops es p us r ≡ Some ε → pops es p (ts ⧺ us) r ≡ Some ts
@@ -78,60 +71,3 @@ taken_common es p xs us n m long h =
 -- where no others are wanted
 pub none_wanted : (es : List Entry) (p : Bool) (ts : Row Operand) (us : List ValType) (m : ℕ) → m ≡ 0 → pops es p ts (row_of (take m us)) ≡ Some ts
 none_wanted es p ts us m e = ap (λ (k : ℕ). pops es p ts (row_of (take k us))) e
-
--- operands that are just of the types stand for them
-pub known_whole : (es : List Entry) (p : Bool) (xs : List Operand) (us : List ValType) → xs ≡ map Known us → pops es p (row_of xs) (row_of us) ≡ Some ε
-known_whole es p xs us e =
-    ap (λ (r : Row Operand). pops es p r (row_of us)) (ap row_of e ∙ row_of_known us ∙ sym (unit_left (known (row_of us)))) ∙ pops_known es p ε (row_of us)
-
--- one more stands for the type at its place
-pub match_more : (es : List Entry) (xs : List Operand) (us : List ValType) (i : ℕ) (o : Operand) (t : ValType) → i < length xs → i < length us →
-    o ≡ get_or xs i o → t ≡ get_or us i t → operand_test es o t ≡ true → ((p : Bool) → pops es p (row_of (take i xs)) (row_of (take i us)) ≡ Some ε) →
-    (p : Bool) → pops es p (row_of (take (i + 1) xs)) (row_of (take (i + 1) us)) ≡ Some ε
-match_more es xs us i o t h k a b e same = λ p.
-    ap (λ (r : Row Operand). pops es p r (row_of (take (i + 1) us))) (row_front xs i o h ∙ ap (λ (x : Operand). row_of (take i xs) ▹ x) (sym a))
-    ∙ ap (λ (r : Row ValType). pops es p (row_of (take i xs) ▹ o) r) (row_front us i t k ∙ ap (λ (u : ValType). row_of (take i us) ▹ u) (sym b))
-    ∙ ap (λ (c : Bool). if c then pops es p (row_of (take i xs)) (row_of (take i us)) else None) e ∙ same p
-
--- all do, behind the last
-pub match_all : (es : List Entry) (xs : List Operand) (us : List ValType) (i : ℕ) → length xs ≡ length us → length us ≤ i →
-    ((p : Bool) → pops es p (row_of (take i xs)) (row_of (take i us)) ≡ Some ε) → (p : Bool) → pops es p (row_of xs) (row_of us) ≡ Some ε
-match_all es xs us i same h e = λ p.
-    sym (ap (λ (ys : List Operand). pops es p (row_of ys) (row_of (take i us))) (take_all i xs (omega arith))
-    ∙ ap (λ (vs : List ValType). pops es p (row_of xs) (row_of vs)) (take_all i us h)) ∙ e p
-
--- ## Loops over lists of types
-
--- one more type of a list
-known_more : (ts : List ValType) (i : ℕ) (t : ValType) → i < length ts → t ≡ get_or ts i t →
-    map Known (take (i + 1) ts) ≡ map Known (take i ts) ++ Known t ∷ []
-known_more ts i t h e =
-    ap (map Known) (take_more ts i t h) ∙ map-append Known (take i ts) (get_or ts i t ∷ [])
-    ∙ ap (λ (u : ValType). map Known (take i ts) ++ Known u ∷ []) (sym e)
-
--- the operands up to the next one are just of the types
-pub alike_more : (xs : List Operand) (ts : List ValType) (i : ℕ) (o : Operand) (t : ValType) → i < length xs → i < length ts →
-    o ≡ get_or xs i o → t ≡ get_or ts i t → o ≡ Known t → take i xs ≡ map Known (take i ts) →
-    take (i + 1) xs ≡ map Known (take (i + 1) ts)
-alike_more xs ts i o t h k a b e same =
-    take_more xs i o h ∙ ap (λ (u : Operand). take i xs ++ u ∷ []) (sym a ∙ e)
-    ∙ ap (λ (ys : List Operand). ys ++ Known t ∷ []) same ∙ sym (known_more ts i t k b)
-
--- all are, behind the last
-pub alike_all : (xs : List Operand) (ts : List ValType) (i : ℕ) → length xs ≡ length ts → length ts ≤ i →
-    take i xs ≡ map Known (take i ts) → xs ≡ map Known ts
-alike_all xs ts i same h e =
-    sym (take_all i xs (omega arith)) ∙ e ∙ ap (map Known) (take_all i ts h)
-
--- one more type is put behind those that were
-pub put_more : (before xs : List Operand) (ts : List ValType) (n i : ℕ) (t : ValType) → n + i < length xs → i < length ts →
-    t ≡ get_or ts i t → take (n + i) xs ≡ before ++ map Known (take i ts) →
-    take (n + (i + 1)) (set xs (n + i) (Known t)) ≡ before ++ map Known (take (i + 1) ts)
-put_more before xs ts n i t h k b same =
-    ap (λ (m : ℕ). take m (set xs (n + i) (Known t))) (omega arith) ∙ take_more_set xs (n + i) (Known t) h
-    ∙ ap (λ (ys : List Operand). ys ++ Known t ∷ []) same ∙ append_assoc before (map Known (take i ts)) (Known t ∷ [])
-    ∙ ap (λ (ys : List Operand). before ++ ys) (sym (known_more ts i t k b))
-
--- the row of types that are given behind others
-pub given_row : (before new : List Operand) (ts : List ValType) → new ≡ before ++ map Known ts → row_of new ≡ row_of before ⧺ known (row_of ts)
-given_row before new ts e = ap row_of e ∙ row_of-append before (map Known ts) ∙ ap (λ (r : Row Operand). row_of before ⧺ r) (row_of_known ts)

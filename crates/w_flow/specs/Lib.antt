@@ -1,3 +1,6 @@
+pub mod Fitting
 pub mod Flow
-pub mod Matched
+pub mod Operands
+pub mod TypeRows
 pub mod View
+pub mod OneProof

@@ -1,12 +1,19 @@
 -- What a flow of the program stands for.
-use Rattle.std.specs.Prelude.{Bool, true, false, Option, Some, None, if◌then◌else◌}
-use Rattle.w_types.specs.Rows.{Row, ε, row_of}
+use Rattle.std.specs.Prelude.{Bool, true, false, List, Option, Some, None, if◌then◌else◌}
+use Rattle.w_types.specs.Rows.{Row, ε}
+use Rattle.w_canon.specs.declared.entry.Entry.{Entry}
 use Rattle.w_rules.specs.Operands.{Operand}
+use Rattle.w_flow.specs.declared.operand.Operand as code
 use Rattle.w_flow.specs.declared.flow.Flow as program
 use Rattle.w_flow.specs.Flow.{Flow}
+use Rattle.w_flow.specs.Operands.{type_of, row_in, AreWorded}
 
 abbrev pub flow_view : program.Flow → Flow
-flow_view f = record { any = f.any; operands = row_of f.operands }
+flow_view f = record { any = f.any; operands = row_in f.operands }
+
+-- the words of the operands are those of their types
+abbrev pub HasWords : List Entry → program.Flow → Type 0
+HasWords es f = AreWorded es f.operands
 
 -- the flow, where the answer is true
 abbrev pub flow_if : Bool → program.Flow → Option Flow
@@ -24,3 +31,8 @@ anything = record { any = true; operands = ε }
 abbrev pub with_rest : {A : Type 0} → Row Operand → Option A → Option (Row Operand × A)
 with_rest rest None = None
 with_rest rest (Some x) = Some (rest, x)
+
+-- the same, with an operand's type
+abbrev pub with_type : Row Operand → Option code.Operand → Option (Row Operand × Operand)
+with_type rest None = None
+with_type rest (Some x) = Some (rest, type_of x)

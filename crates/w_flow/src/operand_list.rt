@@ -1,11 +1,9 @@
 //! Lists of operands that keep their room.
-ghost use Rattle.std.specs.Prelude.{◌≡◌, ◌≤◌, ◌+◌, ◌++◌, ◌∷◌, [], length, map, take, OnErr, OnOk};
-ghost use Rattle.w_rules.specs.Operands.{Known};
+ghost use Rattle.std.specs.Prelude.{◌≡◌, ◌≤◌, ◌+◌, ◌++◌, ◌∷◌, [], length, take, OnErr, OnOk};
 
+use crate::operand::Operand;
 use std::alloc::{AllocError, Global};
 use std::marker::Model;
-use w_rules::Operand;
-use w_types::PackedType;
 
 /// The operands of a block, the topmost last. Where operands are taken their places stay, so that the next ones are put there with no
 /// call for room. Contracts see the operands.
@@ -18,9 +16,9 @@ pub struct OperandList {
 
 impl Model for OperandList {
     ghost use Rattle.std.specs.Prelude.{◌≤◌, List, length, take};
-    ghost use Rattle.w_rules.specs.Operands.{Operand as TheType};
+    ghost use Rattle.w_flow.specs.declared.operand.Operand.{Operand};
 
-    ghost Value = { List TheType };
+    ghost Value = { List Operand };
 
     ghost view = { λ a. take a.count a.places.items };
 
@@ -37,22 +35,20 @@ fn add_place(places: &mut Vec<Operand>, operand: Operand) -> Result<(), AllocErr
     Ok(())
 }
 
-// Puts operands of these types into the places from one on. It takes a slice, so that the types are copied some at a time.
-fn put_types(places: &mut [Operand], from: usize, types: &[PackedType])
-    requires { from + length types.now ≤ length places.old }
-    ensures put { take (from + length types.now) places.new
-        ≡ take from places.old ++ map Known types.now }
+// Puts operands into the places from one on. It takes slices, so that they are copied some at a time.
+fn put_operands(places: &mut [Operand], from: usize, operands: &[Operand])
+    requires { from + length operands.now ≤ length places.old }
+    ensures put { take (from + length operands.now) places.new
+        ≡ take from places.old ++ operands.now }
     ensures long { length places.new ≡ length places.old }
 {
-    for i in 0..types.len() {
-        let kind = types[i];
-        places[from + i] = Operand::known(kind);
+    for i in 0..operands.len() {
+        places[from + i] = operands[i];
     }
 }
 
 impl OperandList {
-    ghost use Rattle.std.specs.Prelude.{◌≡◌, ◌≤◌, ◌-◌, ◌<◌, ◌++◌, ◌∷◌, [], length, map, take, IfSome, IfNone, OnOk};
-    ghost use Rattle.w_rules.specs.Operands.{Known};
+    ghost use Rattle.std.specs.Prelude.{◌≡◌, ◌≤◌, ◌-◌, ◌<◌, ◌++◌, ◌∷◌, [], length, take, IfSome, IfNone, OnErr, OnOk};
 
     /// No operands.
     pub fn new(alloc: Global) -> OperandList
@@ -83,7 +79,8 @@ impl OperandList {
     /// One more, as the topmost. It fails only when out of memory.
     #[inline(always)]
     pub(crate) fn push(&mut self, operand: Operand) -> Result<(), AllocError>
-        ensures { OnOk result (self.new ≡ self.old ++ operand ∷ []) }
+        ensures added { OnOk result (self.new ≡ self.old ++ operand ∷ []) }
+        ensures kept { OnErr result (self.new ≡ self.old) }
     {
         let count = self.count;
         if count < self.places.len() {
@@ -113,6 +110,7 @@ impl OperandList {
     pub(crate) fn pop(&mut self) -> Option<Operand>
         ensures some { IfSome result (λ x. self.old ≡ self.new ++ x ∷ []) }
         ensures none { IfNone result ((self.old ≡ []) × (self.new ≡ [])) }
+        ensures rest { self.new ≡ take (length self.old - 1) self.old }
     {
         if self.count == 0 {
             return None;
@@ -146,21 +144,23 @@ impl OperandList {
         self.places[last] = operand;
     }
 
-    /// Gives operands of these types behind the first so many, in the place of those that stand there. It fails only when out of memory.
+    /// Gives operands behind the first so many, in the place of those that stand there. It fails only when out of memory.
     pub(crate) fn give_behind(
         &mut self,
         from: usize,
-        types: &[PackedType],
+        operands: &[Operand],
     ) -> Result<(), AllocError>
         requires { from ≤ length self.old }
-        ensures { OnOk result (self.new ≡ take from self.old ++ map Known types.now) }
+        ensures given { OnOk result (self.new ≡ take from self.old ++ operands.now) }
+        ensures none { OnErr result (self.new ≡ []) }
     {
         let room = self.places.len();
-        let count = from + types.len();
+        let count = from + operands.len();
         if room < count {
+            self.count = 0;
             self.places.resize(count, Operand::BOTTOM)?;
         }
-        put_types(self.places.as_mut_slice(), from, types);
+        put_operands(self.places.as_mut_slice(), from, operands);
         self.count = count;
         Ok(())
     }

@@ -1,20 +1,23 @@
 //! Operands that are taken and given, the topmost last.
-ghost use Rattle.std.specs.Prelude.{◌≡◌, ◌≤◌, ◌<◌, ◌+◌, ◌++◌, length, map, take, Bool, IsTrue, if◌then◌else◌, IfOk, IfSome, Some, None};
+ghost use Rattle.std.specs.Prelude.{◌≡◌, ◌≤◌, ◌<◌, ◌+◌, ◌-◌, ◌++◌, List, length, take, Bool, IsTrue, if◌then◌else◌, IfOk, IfSome, Some, None};
 ghost use Rattle.std.specs.Option.{option_map};
 ghost use Rattle.w_types.specs.Rows.{ε, ◌▹◌, ◌⧺◌, row_of};
+ghost use Rattle.w_canon.specs.declared.entry.Entry.{Entry};
 ghost use Rattle.w_rules.specs.Matching.{known};
 ghost use Rattle.w_rules.specs.Operands.{Known, Bottom};
 ghost use Rattle.w_rules.specs.Typing.{ref_to};
 ghost use Rattle.w_flow.specs.Flow.{operand_test, pops, is_popped, ends, pop, pop_ref, select_of, heap_of, step};
 ghost use Rattle.w_rules.specs.InstructionTypes.{fixed};
-ghost use Rattle.w_flow.specs.Matched.{StandFor};
-ghost use Rattle.w_flow.specs.View.{with_rest};
+ghost use Rattle.w_flow.specs.Operands.{type_of, types_of, row_in, IsWorded, AreWorded};
+ghost use Rattle.w_flow.specs.Fitting.{NoneCommon};
+ghost use Rattle.w_flow.specs.TypeRows.{AreReady, IsReady};
+ghost use Rattle.w_flow.specs.View.{with_rest, with_type};
 
-use crate::matched::Matched;
+use crate::operand::{Operand, OperandView};
 use crate::operand_list::OperandList;
+use crate::type_row::{RowWords, TypeRow};
 use std::alloc::AllocError;
 use w_canon::Classes;
-use w_rules::{Operand, OperandView};
 use w_types::{HeapType, PackedType, RefType, ValType};
 
 /// Rows of so many types are compared and given whole.
@@ -23,7 +26,7 @@ pub(crate) const WIDE: usize = 8;
 // Whether an operand that is not just of this type stands where one of the type is wanted.
 #[inline(never)]
 fn matches_unlike(classes: &Classes, operand: Operand, wanted: PackedType) -> bool
-    ensures { result ≡ operand_test classes.now operand wanted }
+    ensures { result ≡ operand_test classes.now (type_of operand) wanted }
 {
     match operand.view() {
         OperandView::Known(kind) => classes.matches_val(kind, wanted),
@@ -39,7 +42,7 @@ fn matches_unlike(classes: &Classes, operand: Operand, wanted: PackedType) -> bo
 #[tactic(auto, using(crate::proofs::SameTypes::known_matches))]
 #[inline(always)]
 pub(crate) fn matches_type(classes: &Classes, operand: Operand, wanted: PackedType) -> bool
-    ensures { result ≡ operand_test classes.now operand wanted }
+    ensures { result ≡ operand_test classes.now (type_of operand) wanted }
 {
     if operand.is(wanted) {
         return true;
@@ -47,71 +50,18 @@ pub(crate) fn matches_type(classes: &Classes, operand: Operand, wanted: PackedTy
     matches_unlike(classes, operand, wanted)
 }
 
-// Whether operands are just of these types. It goes through all, so that the comparison has no branches.
-fn are_known(operands: &[Operand], types: &[PackedType]) -> bool
-    requires { length operands.now ≡ length types.now }
-    ensures { IsTrue result → operands.now ≡ map Known types.now }
+// Whether no operand has a bit in common with the word at its place. It goes through all, so that the comparison has no branches.
+fn are_apart(operands: &[Operand], words: &[u32]) -> bool
+    requires { length operands.now ≡ length words.now }
+    ensures { IsTrue result → NoneCommon operands.now words.now }
 {
-    let mut difference = 0;
-    for i in 0..types.len() {
+    let mut common = 0;
+    for i in 0..words.len() {
         let operand = operands[i];
-        let kind = types[i];
-        difference |= operand.difference(Operand::known(kind));
+        let word = words[i];
+        common |= operand.word & word;
     }
-    difference == 0
-}
-
-// An operand that stands where one of a type is wanted.
-#[derive(Clone, Copy)]
-struct Match {
-    operand: Operand,
-    kind: PackedType,
-}
-
-// Whether an operand and a type are those of a match.
-#[inline(always)]
-fn is_match(found: (Operand, PackedType), operand: Operand, kind: PackedType) -> bool
-    ensures { IsTrue result → (operand ≡ found.0) × (kind ≡ found.1) }
-{
-    operand.is_same(found.0) && Operand::known(kind).is_same(Operand::known(found.1))
-}
-
-// Whether an operand and a type differ in no more than the indices that they name, and these are of equivalent types. It is asked before
-// matching, which goes by all that types may be.
-#[inline(always)]
-fn is_equivalent(classes: &Classes, operand: Operand, wanted: PackedType) -> bool
-    ensures { IsTrue result → IsTrue (operand_test classes.now operand wanted) }
-{
-    match operand.view() {
-        OperandView::Known(kind) => {
-            kind.kind() == wanted.kind() && classes.same(kind.index(), wanted.index())
-        }
-        OperandView::Bottom | OperandView::BottomRef(_) => false,
-    }
-}
-
-// Whether an operand stands where one of this type is wanted; the last match that was looked up is not looked up again, since in rows
-// that match by subtyping alone the next one is mostly the same.
-#[inline(always)]
-fn matches_again(classes: &Classes, found: &mut Match, operand: Operand, wanted: PackedType) -> bool
-    requires { IsTrue (operand_test classes.now found.old.operand found.old.kind) }
-    ensures told { result ≡ operand_test classes.now operand wanted }
-    ensures found { IsTrue (operand_test classes.now found.new.operand found.new.kind) }
-{
-    if operand.is(wanted)
-        || is_match((found.operand, found.kind), operand, wanted)
-        || is_equivalent(classes, operand, wanted)
-    {
-        return true;
-    }
-    if !matches_unlike(classes, operand, wanted) {
-        return false;
-    }
-    *found = Match {
-        operand,
-        kind: wanted,
-    };
-    true
+    common == 0
 }
 
 // How many operands are left when these types are taken one by one, or `None` where they can't be. It compares no more types than
@@ -123,148 +73,108 @@ fn left_by_each(
     operands: &[Operand],
     wanted: &[PackedType],
 ) -> Option<usize>
-    ensures what { pops classes.now any (row_of operands.now) (row_of wanted.now)
-        ≡ option_map (λ n. row_of (take n operands.now)) result }
+    ensures what { pops classes.now any (row_in operands.now) (row_of wanted.now)
+        ≡ option_map (λ n. row_in (take n operands.now)) result }
     ensures within { IfSome result (λ n. n ≤ length operands.now) }
 {
     let mut i = wanted.len();
     let mut n = operands.len();
-    let mut found = Match {
-        operand: Operand::BOTTOM,
-        kind: PackedType::I32,
-    };
     while i > 0 {
         if n == 0 {
             return if any { Some(0) } else { None };
         }
         i -= 1;
         n -= 1;
-        if !matches_again(classes, &mut found, operands[n], wanted[i]) {
+        if !matches_type(classes, operands[n], wanted[i]) {
             return None;
         }
     }
     Some(n)
 }
 
-// Whether operands stand where these types are wanted, each where the one at its place is.
-fn match_each(classes: &Classes, operands: &[Operand], types: &[PackedType]) -> bool
-    requires { length operands.now ≡ length types.now }
-    ensures { IsTrue result → StandFor classes.now operands.now types.now }
-{
-    let mut found = Match {
-        operand: Operand::BOTTOM,
-        kind: PackedType::I32,
-    };
-    for i in 0..types.len() {
-        let operand = operands[i];
-        let kind = types[i];
-        if !matches_again(classes, &mut found, operand, kind) {
-            return false;
-        }
-    }
-    true
-}
-
-// The same of rows that may be long: those that are just of their types, and those that were found to match last, are compared whole.
-fn match_whole(
+// How many operands are left when these types are taken, or `None` where they can't be, if that shows at once. Where the place cannot be
+// reached there may be fewer operands than types, and those are compared too.
+#[tactic(auto, using(crate::proofs::FittingRows::ready_wanted))]
+fn left_at_once(
     classes: &Classes,
-    matched: &mut Matched,
-    operands: &[Operand],
-    types: &[PackedType],
-) -> bool
-    requires agreed { matched.old ≡ classes.now }
-    requires long { length operands.now ≡ length types.now }
-    requires some { 0 < length types.now }
-    ensures stands { IsTrue result → StandFor classes.now operands.now types.now }
-    ensures kept { matched.new ≡ matched.old }
-{
-    let last = types.len() - 1;
-    if operands[last].is(types[last]) && are_known(operands, types) {
-        return true;
-    }
-    if matched.has(operands, types) {
-        return true;
-    }
-    if !match_each(classes, operands, types) {
-        return false;
-    }
-    matched.remember(operands, types);
-    true
-}
-
-/// How many operands are left when these types are taken, or `None` where they can't be. Where the place cannot be reached there may be
-/// fewer operands than types, and those are compared whole too.
-pub(crate) fn left(
-    classes: &Classes,
-    matched: &mut Matched,
     any: bool,
     operands: &[Operand],
-    wanted: &[PackedType],
-) -> Option<usize>
-    requires { matched.old ≡ classes.now }
-    ensures what { pops classes.now any (row_of operands.now) (row_of wanted.now)
-        ≡ option_map (λ n. row_of (take n operands.now)) result }
-    ensures within { IfSome result (λ n. n ≤ length operands.now) }
-    ensures kept { matched.new ≡ matched.old }
+    types: &[PackedType],
+    words: RowWords,
+) -> Option<Option<usize>>
+    requires worded { AreWorded classes.now operands.now }
+    requires ready { AreReady classes.now types.now words.given.now words.wanted.now }
+    ensures what { IfSome result (λ left. pops classes.now any (row_in operands.now) (row_of types.now)
+        ≡ option_map (λ n. row_in (take n operands.now)) left) }
+    ensures within { IfSome result (λ left. IfSome left (λ n. n ≤ length operands.now)) }
 {
-    let common = operands.len().min(wanted.len());
-    if common >= WIDE {
-        let beneath = operands.len() - common;
-        let made_up = wanted.len() - common;
-        if match_whole(classes, matched, &operands[beneath..], &wanted[made_up..]) {
-            return if made_up == 0 || any {
-                Some(beneath)
-            } else {
-                None
-            };
+    let common = operands.len().min(types.len());
+    let beneath = operands.len() - common;
+    let made_up = types.len() - common;
+    if common < WIDE || !are_apart(&operands[beneath..], &words.wanted[made_up..]) {
+        return None;
+    }
+    if made_up == 0 || any {
+        Some(Some(beneath))
+    } else {
+        Some(None)
+    }
+}
+
+/// How many operands are left when these types are taken, or `None` where they can't be.
+pub(crate) fn left(
+    classes: &Classes,
+    any: bool,
+    operands: &[Operand],
+    wanted: TypeRow,
+) -> Option<usize>
+    requires worded { AreWorded classes.now operands.now }
+    requires ready { IsReady classes.now wanted }
+    ensures what { pops classes.now any (row_in operands.now) (row_of wanted.entry.types.now)
+        ≡ option_map (λ n. row_in (take n operands.now)) result }
+    ensures within { IfSome result (λ n. n ≤ length operands.now) }
+{
+    if let Some(words) = wanted.words {
+        if let Some(left) = left_at_once(classes, any, operands, wanted.types, words) {
+            return left;
         }
     }
-    left_by_each(classes, any, operands, wanted)
+    left_by_each(classes, any, operands, wanted.types)
 }
 
 /// Whether these types can be taken.
-pub(crate) fn can_take(
-    classes: &Classes,
-    matched: &mut Matched,
-    any: bool,
-    operands: &[Operand],
-    wanted: &[PackedType],
-) -> bool
-    requires { matched.old ≡ classes.now }
-    ensures told { result ≡ is_popped (pops classes.now any (row_of operands.now)
-        (row_of wanted.now)) }
-    ensures kept { matched.new ≡ matched.old }
+pub(crate) fn can_take(classes: &Classes, any: bool, operands: &[Operand], wanted: TypeRow) -> bool
+    requires worded { AreWorded classes.now operands.now }
+    requires ready { IsReady classes.now wanted }
+    ensures { result ≡ is_popped (pops classes.now any (row_in operands.now)
+        (row_of wanted.entry.types.now)) }
 {
-    left(classes, matched, any, operands, wanted).is_some()
+    left(classes, any, operands, wanted).is_some()
 }
 
 /// Whether the operands are just of these types.
-pub(crate) fn end_with(
-    classes: &Classes,
-    matched: &mut Matched,
-    any: bool,
-    operands: &[Operand],
-    wanted: &[PackedType],
-) -> bool
-    requires { matched.old ≡ classes.now }
-    ensures told { result ≡ ends classes.now any (row_of operands.now) (row_of wanted.now) }
-    ensures kept { matched.new ≡ matched.old }
+pub(crate) fn end_with(classes: &Classes, any: bool, operands: &[Operand], wanted: TypeRow) -> bool
+    requires worded { AreWorded classes.now operands.now }
+    requires ready { IsReady classes.now wanted }
+    ensures { result ≡ ends classes.now any (row_in operands.now) (row_of wanted.entry.types.now) }
 {
-    match left(classes, matched, any, operands, wanted) {
+    match left(classes, any, operands, wanted) {
         Some(n) => n == 0,
         None => false,
     }
 }
 
 /// Takes these types, which are few, or answers false.
+#[tactic(auto, using(crate::proofs::WordedOperands::worded_taken))]
 pub(crate) fn take_few(
     classes: &Classes,
     any: bool,
     operands: &mut OperandList,
     wanted: &[PackedType],
 ) -> bool
-    ensures { pops classes.now any (row_of operands.old) (row_of wanted.now)
-        ≡ (if result then Some (row_of operands.new) else None) }
+    ensures left { pops classes.now any (row_in operands.old) (row_of wanted.now)
+        ≡ (if result then Some (row_in operands.new) else None) }
+    ensures worded { AreWorded classes.now operands.old → AreWorded classes.now operands.new }
 {
     match left_by_each(classes, any, operands.as_slice(), wanted) {
         Some(n) => {
@@ -276,19 +186,20 @@ pub(crate) fn take_few(
 }
 
 /// Takes these types, which may be many, or answers false.
+#[tactic(auto, using(crate::proofs::WordedOperands::worded_taken))]
 pub(crate) fn take_many(
     classes: &Classes,
-    matched: &mut Matched,
     any: bool,
     operands: &mut OperandList,
-    wanted: &[PackedType],
+    wanted: TypeRow,
 ) -> bool
-    requires { matched.old ≡ classes.now }
-    ensures left { pops classes.now any (row_of operands.old) (row_of wanted.now)
-        ≡ (if result then Some (row_of operands.new) else None) }
-    ensures kept { matched.new ≡ matched.old }
+    requires worded { AreWorded classes.now operands.old }
+    requires ready { IsReady classes.now wanted }
+    ensures left { pops classes.now any (row_in operands.old) (row_of wanted.entry.types.now)
+        ≡ (if result then Some (row_in operands.new) else None) }
+    ensures worded { AreWorded classes.now operands.new }
 {
-    match left(classes, matched, any, operands.as_slice(), wanted) {
+    match left(classes, any, operands.as_slice(), wanted) {
         Some(n) => {
             operands.truncate(n);
             true
@@ -298,7 +209,7 @@ pub(crate) fn take_many(
 }
 
 /// Takes an operand of this type, or answers false.
-#[tactic(auto, using(crate::proofs::RowsOfLists::row_more))]
+#[tactic(auto, using(crate::proofs::WordedOperands::row_pushed, crate::proofs::WordedOperands::worded_taken))]
 #[inline(always)]
 pub(crate) fn take_type(
     classes: &Classes,
@@ -306,8 +217,9 @@ pub(crate) fn take_type(
     operands: &mut OperandList,
     wanted: PackedType,
 ) -> bool
-    ensures { pops classes.now any (row_of operands.old) (ε ▹ wanted)
-        ≡ (if result then Some (row_of operands.new) else None) }
+    ensures left { pops classes.now any (row_in operands.old) (ε ▹ wanted)
+        ≡ (if result then Some (row_in operands.new) else None) }
+    ensures worded { AreWorded classes.now operands.old → AreWorded classes.now operands.new }
 {
     match operands.pop() {
         Some(operand) => matches_type(classes, operand, wanted),
@@ -316,10 +228,11 @@ pub(crate) fn take_type(
 }
 
 /// Takes an operand, whatever it is.
-#[tactic(auto, using(crate::proofs::RowsOfLists::row_more))]
+#[tactic(auto, using(crate::proofs::WordedOperands::row_pushed, crate::proofs::WordedOperands::worded_taken))]
 #[inline(always)]
 pub(crate) fn take_any(any: bool, operands: &mut OperandList) -> Option<Operand>
-    ensures { pop any (row_of operands.old) ≡ with_rest (row_of operands.new) result }
+    ensures taken { pop any (row_in operands.old) ≡ with_type (row_in operands.new) result }
+    ensures rest { operands.new ≡ take (length operands.old - 1) operands.old }
 {
     match operands.pop() {
         Some(operand) => Some(operand),
@@ -330,7 +243,7 @@ pub(crate) fn take_any(any: bool, operands: &mut OperandList) -> Option<Operand>
 
 // The heap type of a reference, `None` inside where that is bottom.
 fn heap_type(operand: Operand) -> Option<Option<HeapType>>
-    ensures { result ≡ heap_of operand }
+    ensures { result ≡ heap_of (type_of operand) }
 {
     match operand.view() {
         OperandView::Bottom | OperandView::BottomRef(_) => Some(None),
@@ -343,119 +256,142 @@ fn heap_type(operand: Operand) -> Option<Option<HeapType>>
 
 /// Takes a reference, and gives its heap type.
 pub(crate) fn take_reference(any: bool, operands: &mut OperandList) -> Option<Option<HeapType>>
-    ensures { pop_ref any (row_of operands.old)
-        ≡ with_rest (row_of operands.new) result }
+    ensures taken { pop_ref any (row_in operands.old) ≡ with_rest (row_in operands.new) result }
+    ensures rest { operands.new ≡ take (length operands.old - 1) operands.old }
 {
     let operand = take_any(any, operands)?;
     heap_type(operand)
 }
 
 /// A reference to this heap type that is not null.
-pub(crate) fn non_null(heap: Option<HeapType>) -> Operand
-    ensures { result ≡ ref_to Bool.false heap }
+pub(crate) fn non_null(classes: &Classes, heap: Option<HeapType>) -> Operand
+    ensures kind { type_of result ≡ ref_to Bool.false heap }
+    ensures worded { IsWorded classes.now result }
 {
     match heap {
-        Some(heap) => Operand::known(PackedType::reference(RefType::non_null(heap))),
+        Some(heap) => Operand::known(classes, PackedType::reference(RefType::non_null(heap))),
         None => Operand::bottom_ref(false),
     }
 }
 
 // The type of a number that a select takes beside one of any type.
-fn selected_alone(kind: PackedType) -> Option<Operand>
-    ensures alone { result ≡ select_of Bottom (Known kind) }
-    ensures below { result ≡ select_of (Known kind) Bottom }
+fn selected_alone(kind: PackedType) -> Option<PackedType>
+    ensures alone { option_map Known result ≡ select_of Bottom (Known kind) }
+    ensures below { option_map Known result ≡ select_of (Known kind) Bottom }
 {
     match kind.whole() {
-        ValType::I32 | ValType::I64 => Some(Operand::known(kind)),
+        ValType::I32 | ValType::I64 => Some(kind),
         ValType::Ref(_) => None,
     }
 }
 
 // The type of two numbers that a select takes.
-fn selected_both(one: PackedType, other: PackedType) -> Option<Operand>
-    ensures { result ≡ select_of (Known one) (Known other) }
+fn selected_both(one: PackedType, other: PackedType) -> Option<PackedType>
+    ensures { option_map Known result ≡ select_of (Known one) (Known other) }
 {
     match (one.whole(), other.whole()) {
-        (ValType::I32, ValType::I32) | (ValType::I64, ValType::I64) => Some(Operand::known(one)),
+        (ValType::I32, ValType::I32) | (ValType::I64, ValType::I64) => Some(one),
         _ => None,
     }
 }
 
 /// The one type of the two numbers that a select takes.
 pub(crate) fn selected(one: Operand, other: Operand) -> Option<Operand>
-    ensures { result ≡ select_of one other }
+    ensures kind { option_map type_of result ≡ select_of (type_of one) (type_of other) }
+    ensures worded { (es : List Entry) → IfSome result (IsWorded es) }
 {
     match one.view() {
         OperandView::Bottom => match other.view() {
             OperandView::Bottom => Some(Operand::BOTTOM),
-            OperandView::Known(kind) => selected_alone(kind),
+            OperandView::Known(kind) => Some(Operand::alone(selected_alone(kind)?)),
             OperandView::BottomRef(_) => None,
         },
         OperandView::Known(one) => match other.view() {
-            OperandView::Bottom => selected_alone(one),
-            OperandView::Known(other) => selected_both(one, other),
+            OperandView::Bottom => Some(Operand::alone(selected_alone(one)?)),
+            OperandView::Known(other) => Some(Operand::alone(selected_both(one, other)?)),
             OperandView::BottomRef(_) => None,
         },
         OperandView::BottomRef(_) => None,
     }
 }
 
-// Gives operands of these types, one by one.
-fn give_each(operands: &mut OperandList, types: &[PackedType]) -> Result<(), AllocError>
-    ensures { IfOk result (λ _. row_of operands.new
-        ≡ row_of operands.old ⧺ known (row_of types.now)) }
+/// Gives operands of these types, one by one.
+#[tactic(auto, using(crate::proofs::WordedOperands::worded_pushed))]
+pub(crate) fn give_each(
+    classes: &Classes,
+    operands: &mut OperandList,
+    types: &[PackedType],
+) -> Result<(), AllocError>
+    ensures given { IfOk result (λ _. row_in operands.new
+        ≡ row_in operands.old ⧺ known (row_of types.now)) }
+    ensures worded { AreWorded classes.now operands.old → AreWorded classes.now operands.new }
 {
     for kind in types {
-        operands.push(Operand::known(*kind))?;
+        operands.push(Operand::known(classes, *kind))?;
     }
     Ok(())
 }
 
 /// Gives operands of these types behind the first so many, in the place of those that stand there.
+#[tactic(auto, using(crate::proofs::WordedOperands::worded_behind, crate::proofs::WordedOperands::worded_none, crate::proofs::WordedOperands::worded_taken, crate::proofs::FittingRows::ready_row, crate::proofs::FittingRows::ready_words))]
 pub(crate) fn give_behind(
+    classes: &Classes,
     operands: &mut OperandList,
     from: usize,
-    types: &[PackedType],
+    types: TypeRow,
 ) -> Result<(), AllocError>
-    requires { from ≤ length operands.old }
-    ensures { IfOk result (λ _. row_of operands.new
-        ≡ row_of (take from operands.old) ⧺ known (row_of types.now)) }
+    requires within { from ≤ length operands.old }
+    requires ready { IsReady classes.now types }
+    ensures given { IfOk result (λ _. row_in operands.new
+        ≡ row_in (take from operands.old) ⧺ known (row_of types.entry.types.now)) }
+    ensures worded { AreWorded classes.now operands.old → AreWorded classes.now operands.new }
 {
-    if types.len() < WIDE {
-        operands.truncate(from);
-        return give_each(operands, types);
+    match types.words {
+        Some(words) => {
+            operands.give_behind(from, words.given)?;
+            Ok(())
+        }
+        None => {
+            operands.truncate(from);
+            give_each(classes, operands, types.types)
+        }
     }
-    operands.give_behind(from, types)?;
-    Ok(())
 }
 
 /// Gives operands of these types.
-pub(crate) fn give_types(operands: &mut OperandList, types: &[PackedType]) -> Result<(), AllocError>
-    ensures { IfOk result (λ _. row_of operands.new
-        ≡ row_of operands.old ⧺ known (row_of types.now)) }
+pub(crate) fn give_types(
+    classes: &Classes,
+    operands: &mut OperandList,
+    types: TypeRow,
+) -> Result<(), AllocError>
+    requires { IsReady classes.now types }
+    ensures given { IfOk result (λ _. row_in operands.new
+        ≡ row_in operands.old ⧺ known (row_of types.entry.types.now)) }
+    ensures worded { AreWorded classes.now operands.old → AreWorded classes.now operands.new }
 {
     let from = operands.len();
-    give_behind(operands, from, types)
+    give_behind(classes, operands, from, types)
 }
 
 /// Takes these types, and gives those, in the place of what was taken; or answers false. Both may be many.
 pub(crate) fn turn_types(
     classes: &Classes,
-    matched: &mut Matched,
     any: bool,
     operands: &mut OperandList,
-    wanted: &[PackedType],
-    given: &[PackedType],
+    wanted: TypeRow,
+    given: TypeRow,
 ) -> Result<bool, AllocError>
-    requires { matched.old ≡ classes.now }
-    ensures steps { IfOk result (λ taken. step classes.now (fixed (row_of wanted.now)
-        (row_of given.now)) any (row_of operands.old)
-        ≡ (if taken then Some (record { any = any; operands = row_of operands.new }) else None)) }
-    ensures kept { matched.new ≡ matched.old }
+    requires worded { AreWorded classes.now operands.old }
+    requires wanted { IsReady classes.now wanted }
+    requires given { IsReady classes.now given }
+    ensures steps { IfOk result (λ taken. step classes.now (fixed (row_of wanted.entry.types.now)
+        (row_of given.entry.types.now)) any (row_in operands.old)
+        ≡ (if taken then Some (record { any = any; operands = row_in operands.new }) else None)) }
+    ensures worded { AreWorded classes.now operands.new }
 {
-    let Some(n) = left(classes, matched, any, operands.as_slice(), wanted) else {
+    let Some(n) = left(classes, any, operands.as_slice(), wanted) else {
         return Ok(false);
     };
-    give_behind(operands, n, given)?;
+    give_behind(classes, operands, n, given)?;
     Ok(true)
 }

@@ -6,4 +6,3 @@ mod SpacesSoFar
 pub mod Marks
 pub mod Contexts
 mod JoinedTypes
-mod PackedOperands

@@ -1,8 +1,5 @@
 pub mod Types
 pub mod Operands
-pub mod PackedOperands
-pub mod PackedOperand
-pub mod OperandView
 pub mod Context
 pub mod Matching
 pub mod InstructionTypes

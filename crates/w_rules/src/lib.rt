@@ -8,7 +8,6 @@ mod functions;
 mod laws;
 mod limits;
 mod named_functions;
-mod operand;
 mod spaces;
 mod types;
 
@@ -19,6 +18,5 @@ pub use functions::{func_type, function_type};
 pub use laws::{joining_keeps_types, one_typing};
 pub use limits::{SizeLimit, limits_of};
 pub use named_functions::declared_functions;
-pub use operand::{Operand, OperandView};
 pub use spaces::Spaces;
 pub use types::{has_heap, has_type};

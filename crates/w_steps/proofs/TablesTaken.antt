@@ -1,6 +1,6 @@
 -- What branches need of the rows of labels.
-use Rattle.std.proofs.Common.{◌≡◌, ℕ, ◌+◌, ◌<◌, Bool, true, false, ◌&&◌, List, [], ◌∷◌, ◌++◌, length, get_or, drop, slice_get, Option, Some, None, if◌then◌else◌, refl, sym, ◌∙◌, ap, eq-eqb, eqb-true}
-use Rattle.std.proofs.lemmas.List.{drop_more}
+use Rattle.std.proofs.Common.{◌≡◌, ℕ, ◌+◌, ◌<◌, Bool, true, false, ◌&&◌, List, [], ◌∷◌, ◌++◌, length, get_or, take, drop, slice_get, Option, Some, None, if◌then◌else◌, refl, sym, ◌∙◌, ap, eq-eqb, eqb-true, arith}
+use Rattle.std.proofs.lemmas.List.{drop_more, take_all, take-append-le}
 use Rattle.w_types.specs.declared.types.ValType.{ValType}
 use Rattle.w_types.specs.declared.types.ValType.TheVariants.{I32}
 use Rattle.w_types.specs.Rows.{Row, ε, ◌▹◌, row_of, size}
@@ -19,6 +19,11 @@ pub top_taken : (label beneath : List ValType) (t u : ValType) → label ≡ ben
     br_on_non_null_type (Some (row_of label)) ≡ br_on_non_null_type (Some (row_of beneath ▹ u))
 top_taken label beneath t u e f =
     ap (λ (r : Row ValType). br_on_non_null_type (Some r)) (ap row_of e ∙ row_of-more beneath t ∙ ap (λ (v : ValType). row_of beneath ▹ v) f)
+
+-- the types before the last
+pub beneath_last : (label beneath : List ValType) (t : ValType) (n : ℕ) → label ≡ beneath ++ t ∷ [] → n ≡ length beneath → take n label ≡ beneath
+beneath_last label beneath t n e f =
+    ap (take n) e ∙ ap (λ (k : ℕ). take k (beneath ++ t ∷ [])) f ∙ take-append-le (length beneath) beneath (t ∷ []) (omega arith) ∙ take_all (length beneath) beneath (omega arith)
 
 -- ## Tests
 

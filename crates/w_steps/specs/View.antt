@@ -1,11 +1,12 @@
 -- What the data of a step stands for.
 use Rattle.std.specs.Prelude.{Bool, true, List, ◌∷◌, map, reverse, Option, Some, None, if◌then◌else◌}
-use Rattle.std.specs.Borrow.{Bor}
 use Rattle.w_types.specs.declared.types.HeapType.{HeapType}
 use Rattle.w_types.specs.declared.types.ValType.{ValType}
 use Rattle.w_types.specs.declared.types.ValType.TheVariants.{Ref}
 use Rattle.w_types.specs.Rows.{ε, ◌▹◌, row_of}
 use Rattle.w_flow.specs.Flow.{Flow}
+use Rattle.w_flow.specs.declared.type_row.TypeRow.{TypeRow}
+use Rattle.w_flow.specs.declared.type_rows.FuncRows.{FuncRows}
 use Rattle.w_rules.specs.Context.{Context, Arrow}
 use Rattle.w_rules.specs.InstructionTypes.{InstrType, fixed, untyped}
 use Rattle.w_rules.specs.Spaces.{in_body}
@@ -20,11 +21,11 @@ outer_kinds fs = map (λ (f : code.Frame). f.kind) (reverse fs)
 
 -- the context where an instruction stands
 abbrev pub context_at : BodyContext → Context
-context_at p = within (in_body (context_in p.cx.now) p.locals.now.types p.results.now) (p.kind.now ∷ outer_kinds p.outer.now)
+context_at p = within (in_body (context_in p.setting.now.cx.now) p.locals.now.types p.setting.now.results.types.now) (p.kind.now ∷ outer_kinds p.outer.now)
 
--- the arrow of two lists
-abbrev pub arrow_view : Bor (List ValType) × Bor (List ValType) → Arrow
-arrow_view r = record { from = row_of r.0.now; to = row_of r.1.now }
+-- the arrow of two rows
+abbrev pub arrow_view : FuncRows → Arrow
+arrow_view r = record { from = row_of r.params.types.now; to = row_of r.results.types.now }
 
 -- a step where an instruction passes its test
 abbrev pub gated : Bool → Option Flow → Option Flow
@@ -36,6 +37,6 @@ takes_type (Some t) = fixed (ε ▹ t) ε
 takes_type None = untyped
 
 -- the type of a branch where the operand is not null, to a label that takes these types beneath a reference to this heap type
-abbrev pub non_null_type : Option (Bor (List ValType) × HeapType) → InstrType
-non_null_type (Some r) = fixed (row_of r.0.now ▹ Ref (record { nullable = true; heap = r.1 })) (row_of r.0.now)
+abbrev pub non_null_type : Option (TypeRow × HeapType) → InstrType
+non_null_type (Some r) = fixed (row_of r.0.types.now ▹ Ref (record { nullable = true; heap = r.1 })) (row_of r.0.types.now)
 non_null_type None = untyped

@@ -1,7 +1,9 @@
 //! Where an instruction stands.
-ghost use Rattle.std.specs.Prelude.{◌≡◌, [], ◌∷◌, slice_get};
+ghost use Rattle.std.specs.Prelude.{◌≡◌, [], ◌∷◌, List, IfSome, slice_get};
 ghost use Rattle.std.specs.Option.{option_map};
 ghost use Rattle.w_types.specs.Rows.{row_of};
+ghost use Rattle.w_canon.specs.declared.entry.Entry.{Entry};
+ghost use Rattle.w_flow.specs.TypeRows.{IsReady, AreReadyRows};
 ghost use Rattle.w_rules.specs.Context.{arrow_of};
 ghost use Rattle.w_rules.specs.Spaces.{in_body};
 ghost use Rattle.w_rules.specs.View.{context_in};
@@ -10,116 +12,119 @@ ghost use Rattle.w_steps.specs.View.{arrow_view, outer_kinds};
 
 use crate::frame::Frame;
 use crate::frame_kind::FrameKind;
+use crate::setting::Setting;
 use std::slice::from_ref;
+use w_flow::{FuncRows, TypeRow};
 use w_locals::Locals;
-use w_rules::Context;
 use w_syntax::{BlockKind, BlockType};
-use w_types::PackedType;
 
 /// What the typing of an instruction goes by, but for the operands: the module, the function's locals and those of them that are
 /// set, its results, the innermost block's kind, and the blocks around it.
 #[derive(Clone, Copy)]
 pub struct BodyContext<'c> {
-    pub cx: &'c Context<'c>,
+    pub setting: &'c Setting<'c>,
     pub locals: &'c Locals<'c>,
-    pub results: &'c [PackedType],
     pub kind: &'c FrameKind,
     pub outer: &'c [Frame],
 }
 
+// No parameters, and these results.
+fn results_alone<'c>(results: TypeRow<'c>) -> FuncRows<'c>
+    ensures from { result.params.types.now ≡ [] }
+    ensures to { result.results.types.now ≡ results.entry.types.now }
+    ensures ready { (es : List Entry) → IsReady es results.entry → AreReadyRows es result }
+{
+    FuncRows {
+        params: TypeRow::bare(&[]),
+        results,
+    }
+}
+
 // What a block of this type takes and gives.
-fn block_arrow<'c>(
-    cx: &'c Context<'c>,
-    block: &'c BlockType,
-) -> Option<(&'c [PackedType], &'c [PackedType])>
-    ensures { arrow_of (context_in cx.now) block.now ≡ option_map arrow_view result }
+fn block_arrow<'c>(setting: &'c Setting<'c>, block: &'c BlockType) -> Option<FuncRows<'c>>
+    ensures arrow { arrow_of (context_in setting.now.cx.now) block.now ≡ option_map arrow_view result }
+    ensures ready { IfSome result (AreReadyRows setting.now.cx.now.classes.now) }
 {
     match block {
-        BlockType::Empty => Some((&[], &[])),
+        BlockType::Empty => Some(results_alone(TypeRow::bare(&[]))),
         BlockType::Value(kind) => {
-            if cx.has_type(*kind) {
-                Some((&[], from_ref(kind)))
+            if setting.cx.has_type(*kind) {
+                Some(results_alone(TypeRow::bare(from_ref(kind))))
             } else {
                 None
             }
         }
-        BlockType::Index(index) => {
-            let kind = cx.func_of(*index)?;
-            Some((kind.params.as_slice(), kind.results.as_slice()))
-        }
+        BlockType::Index(index) => setting.func_of(*index),
     }
 }
 
-/// What a block of this kind takes and gives, in a function of these results.
-pub fn arrow<'c>(
-    cx: &'c Context<'c>,
-    results: &'c [PackedType],
-    kind: &'c FrameKind,
-) -> Option<(&'c [PackedType], &'c [PackedType])>
-    ensures { arrow_at (in_body (context_in cx.now) [] results.now) kind.now
+/// What a block of this kind takes and gives.
+pub fn arrow<'c>(setting: &'c Setting<'c>, kind: &'c FrameKind) -> Option<FuncRows<'c>>
+    ensures arrow { arrow_at (in_body (context_in setting.now.cx.now) [] setting.now.results.types.now) kind.now
         ≡ option_map arrow_view result }
+    ensures ready { IfSome result (AreReadyRows setting.now.cx.now.classes.now) }
 {
     match kind {
-        FrameKind::Body => Some((&[], results)),
+        FrameKind::Body => Some(results_alone(setting.results)),
         FrameKind::Block(_, block) | FrameKind::Then(block) | FrameKind::Else(block) => block_arrow(
-            cx, block,
+            setting, block,
         ),
     }
 }
 
 // What a branch to the label of a block of this kind takes.
-fn label<'c>(
-    cx: &'c Context<'c>,
-    results: &'c [PackedType],
-    kind: &'c FrameKind,
-) -> &'c [PackedType]
-    ensures { label_at (in_body (context_in cx.now) [] results.now) kind.now ≡ row_of result.now }
+fn label<'c>(setting: &'c Setting<'c>, kind: &'c FrameKind) -> TypeRow<'c>
+    ensures label { label_at (in_body (context_in setting.now.cx.now) [] setting.now.results.types.now) kind.now
+        ≡ row_of result.types.now }
+    ensures ready { IsReady setting.now.cx.now.classes.now result }
 {
-    match arrow(cx, results, kind) {
-        Some((from, to)) => {
+    match arrow(setting, kind) {
+        Some(arrow) => {
             if let FrameKind::Block(BlockKind::Loop, _) = kind {
-                from
+                arrow.params
             } else {
-                to
+                arrow.results
             }
         }
-        None => &[],
+        None => TypeRow::bare(&[]),
     }
 }
 
 /// What a branch to a label takes, in a block of this kind with others around it. Labels are counted from the innermost block.
 pub fn label_of<'c>(
-    cx: &'c Context<'c>,
-    results: &'c [PackedType],
+    setting: &'c Setting<'c>,
     kind: &'c FrameKind,
     outer: &'c [Frame],
     index: u32,
-) -> Option<&'c [PackedType]>
-    ensures { slice_get (labels_of (in_body (context_in cx.now) [] results.now) (kind.now
+) -> Option<TypeRow<'c>>
+    ensures label { slice_get (labels_of (in_body (context_in setting.now.cx.now) [] setting.now.results.types.now) (kind.now
         ∷ outer_kinds outer.now)) index
-        ≡ option_map (λ v. row_of v.now) result }
+        ≡ option_map (λ v. row_of v.types.now) result }
+    ensures ready { IfSome result (IsReady setting.now.cx.now.classes.now) }
 {
     if index == 0 {
-        return Some(label(cx, results, kind));
+        return Some(label(setting, kind));
     }
     let back = index as usize;
     if back > outer.len() {
         return None;
     }
-    Some(label(cx, results, &outer[outer.len() - back].kind))
+    Some(label(setting, &outer[outer.len() - back].kind))
 }
 
 impl<'c> BodyContext<'c> {
-    ghost use Rattle.std.specs.Prelude.{◌≡◌, slice_get};
+    ghost use Rattle.std.specs.Prelude.{◌≡◌, IfSome, slice_get};
     ghost use Rattle.std.specs.Option.{option_map};
     ghost use Rattle.w_types.specs.Rows.{row_of};
+    ghost use Rattle.w_flow.specs.TypeRows.{IsReady};
     ghost use Rattle.w_steps.specs.View.{context_at};
 
     /// What a branch to a label takes.
-    pub fn label(&self, index: u32) -> Option<&'c [PackedType]>
-        ensures { slice_get (context_at self.now).labels index
-            ≡ option_map (λ v. row_of v.now) result }
+    pub fn label(&self, index: u32) -> Option<TypeRow<'c>>
+        ensures label { slice_get (context_at self.now).labels index
+            ≡ option_map (λ v. row_of v.types.now) result }
+        ensures ready { IfSome result (IsReady self.now.setting.now.cx.now.classes.now) }
     {
-        label_of(self.cx, self.results, self.kind, self.outer, index)
+        label_of(self.setting, self.kind, self.outer, index)
     }
 }

@@ -1,7 +1,7 @@
 //! What instructions do to the operands.
 ghost use Rattle.std.specs.Prelude.{◌≡◌, ◌∷◌, IfOk, IfSome, IfNone, IsFalse, IsTrue, List, OnOk};
 ghost use Rattle.w_flow.specs.Flow.{step};
-ghost use Rattle.w_flow.specs.View.{flow_view, flow_if};
+ghost use Rattle.w_flow.specs.View.{flow_view, flow_if, HasWords};
 ghost use Rattle.w_rules.specs.InstructionTypes.{instr_type};
 ghost use Rattle.w_locals.specs.Locals.{LocalState, outer_sets};
 ghost use Rattle.w_types.specs.declared.types.ValType.{ValType};
@@ -41,32 +41,31 @@ use w_types::PackedType;
 
 // An instruction that holds no others and does not switch stacks.
 fn plain_step(
-    setting: &mut Setting,
+    setting: &Setting,
     locals: &mut Locals,
-    results: &[PackedType],
     kind: &FrameKind,
     outer: &[Frame],
     flow: &mut Flow,
     op: &Op,
 ) -> Result<bool, AllocError>
-    ensures steps { IfOk result (λ taken. StepsTo setting.old.cx.now locals.old results.now (kind.now
+    requires { HasWords setting.now.cx.now.classes.now flow.old }
+    ensures steps { IfOk result (λ taken. StepsTo setting.now.cx.now locals.old setting.now.results.types.now (kind.now
         ∷ outer_kinds outer.now) op.now flow.old flow.new taken) }
     ensures types { locals.new.types ≡ locals.old.types }
     ensures sets { IfOk result (λ taken. IsTrue taken → SetsBy op.now locals.old locals.new) }
     ensures outer { OnOk result (outer_sets locals.new.sets ≡ outer_sets locals.old.sets) }
-    ensures kept { setting.new.cx ≡ setting.old.cx }
+    ensures words { HasWords setting.now.cx.now.classes.now flow.new }
 {
     let cx = setting.cx;
     match op {
         Op::Control(op) => {
             let body = BodyContext {
-                cx,
+                setting,
                 locals,
-                results,
                 kind,
                 outer,
             };
-            control_step(&body, &mut setting.matched, flow, op)
+            control_step(&body, flow, op)
         }
         Op::Parametric(op) => parametric_step(cx, flow, op),
         Op::Variable(op) => variable_step(cx, locals, flow, *op),
@@ -93,11 +92,12 @@ fn common_step(
     ensures unset { (locals : LocalState) → IfSome result (λ _. PackedSets packed.now locals locals) }
     ensures rare { IfNone result (IsTrue (is_rare packed.now)) }
     ensures nothing { IfNone result (flow.new ≡ flow.old) }
+    ensures words { HasWords cx.now.classes.now flow.old → HasWords cx.now.classes.now flow.new }
 {
     let classes = cx.classes;
     match packed {
-        PackedInstr::I32Const(_) => Some(flow.gives(PackedType::I32)),
-        PackedInstr::I64Const(_) => Some(flow.gives(PackedType::I64)),
+        PackedInstr::I32Const(_) => Some(flow.gives(classes, PackedType::I32)),
+        PackedInstr::I64Const(_) => Some(flow.gives(classes, PackedType::I64)),
         PackedInstr::Eqz(kind) => Some(flow.turns(classes, of_int(*kind), PackedType::I32)),
         PackedInstr::Compare(kind, _) => Some(flow.joins(classes, of_int(*kind), PackedType::I32)),
         PackedInstr::Unary(kind, _) => Some(flow.turns(classes, of_int(*kind), of_int(*kind))),
@@ -116,22 +116,22 @@ fn common_step(
 // Another instruction, where it holds no others and does not switch stacks.
 #[inline(never)]
 fn rare_step(
-    setting: &mut Setting,
+    setting: &Setting,
     locals: &mut Locals,
-    results: &[PackedType],
     kind: &FrameKind,
     outer: &[Frame],
     flow: &mut Flow,
     packed: &PackedInstr,
 ) -> Result<bool, AllocError>
-    requires { IsTrue (is_rare packed.now) }
-    ensures steps { IfOk result (λ taken. PackedSteps setting.old.cx.now locals.old results.now (kind.now
+    requires rare { IsTrue (is_rare packed.now) }
+    requires words { HasWords setting.now.cx.now.classes.now flow.old }
+    ensures steps { IfOk result (λ taken. PackedSteps setting.now.cx.now locals.old setting.now.results.types.now (kind.now
         ∷ outer_kinds outer.now) packed.now flow.old flow.new taken) }
     ensures types { locals.new.types ≡ locals.old.types }
     ensures sets { IfOk result (λ taken. IsTrue taken
         → PackedSets packed.now locals.old locals.new) }
     ensures outer { OnOk result (outer_sets locals.new.sets ≡ outer_sets locals.old.sets) }
-    ensures kept { setting.new.cx ≡ setting.old.cx }
+    ensures words { HasWords setting.now.cx.now.classes.now flow.new }
 {
     let cx = setting.cx;
     match packed {
@@ -139,19 +139,18 @@ fn rare_step(
         PackedInstr::Memory(op) => memory_step(cx, flow, op.whole()),
         PackedInstr::Control(op) => {
             let body = BodyContext {
-                cx,
+                setting,
                 locals,
-                results,
                 kind,
                 outer,
             };
-            control_step(&body, &mut setting.matched, flow, &op.whole())
+            control_step(&body, flow, &op.whole())
         }
         PackedInstr::Select => flow.selects(cx.classes),
         PackedInstr::Table(op) => table_step(cx, flow, *op),
         PackedInstr::Reference(op) => reference_step(cx, flow, *op),
         PackedInstr::Boxed(instr) => match &**instr {
-            Instr::Plain(op) => plain_step(setting, locals, results, kind, outer, flow, op),
+            Instr::Plain(op) => plain_step(setting, locals, kind, outer, flow, op),
             _ => Ok(false),
         },
         // switching has no test here, and the others are not plain
@@ -164,28 +163,28 @@ fn rare_step(
 /// block's kind, and the blocks around it.
 #[inline(always)]
 pub fn packed_step(
-    setting: &mut Setting,
+    setting: &Setting,
     locals: &mut Locals,
-    results: &[PackedType],
     kind: &FrameKind,
     outer: &[Frame],
     flow: &mut Flow,
     packed: &PackedInstr,
 ) -> Result<bool, AllocError>
-    ensures steps { IfOk result (λ taken. PackedSteps setting.old.cx.now locals.old results.now (kind.now
+    requires { HasWords setting.now.cx.now.classes.now flow.old }
+    ensures steps { IfOk result (λ taken. PackedSteps setting.now.cx.now locals.old setting.now.results.types.now (kind.now
         ∷ outer_kinds outer.now) packed.now flow.old flow.new taken) }
     ensures types { locals.new.types ≡ locals.old.types }
     ensures sets { IfOk result (λ taken. IsTrue taken
         → PackedSets packed.now locals.old locals.new) }
     ensures outer { OnOk result (outer_sets locals.new.sets ≡ outer_sets locals.old.sets) }
-    ensures kept { setting.new.cx ≡ setting.old.cx }
+    ensures words { HasWords setting.now.cx.now.classes.now flow.new }
 {
     let cx = setting.cx;
     match packed {
         PackedInstr::Variable(op) => variable_step(cx, locals, flow, *op),
         _ => match common_step(cx, flow, packed) {
             Some(taken) => taken,
-            None => rare_step(setting, locals, results, kind, outer, flow, packed),
+            None => rare_step(setting, locals, kind, outer, flow, packed),
         },
     }
 }

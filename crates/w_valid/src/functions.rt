@@ -1,5 +1,9 @@
 //! Validity of functions.
-ghost use Rattle.std.specs.Prelude.{◌≡◌, [], IfOk, IfNone, OnOk};
+ghost use Rattle.std.specs.Prelude.{◌≡◌, [], IfOk, IfSome, IfNone, OnOk};
+ghost use Rattle.std.specs.Option.{option_map};
+ghost use Rattle.w_types.specs.Groups.{types_of};
+ghost use Rattle.w_syntax.specs.Functions.{type_of_function};
+ghost use Rattle.w_flow.specs.TypeRows.{AreTypeRows, AreReadyRows, rows_type};
 ghost use Rattle.w_rules.specs.Valid.{FunctionItem};
 ghost use Rattle.w_valid.specs.Firsts.{IsFirst};
 ghost use Rattle.w_valid.specs.Judged.{IsContextOf};
@@ -9,7 +13,9 @@ use crate::lists::item_at;
 use crate::types::are_locals_valid;
 use std::alloc::{AllocError, Global};
 use w_bodies::check_body;
-use w_rules::{Context, function_type};
+use w_flow::{FuncRows, TypeRows};
+use w_rules::Context;
+use w_steps::Setting;
 use w_vplain::Room;
 
 /// What the bodies of functions need, by the index of the function: see `Facts`.
@@ -19,18 +25,32 @@ pub(crate) struct BodyFacts {
     pub depths: Vec<u32>,
 }
 
+// The type of the function of this index, of those that the module defines, where its index of a type is that of a function type.
+fn type_of<'r>(cx: &Context<'r>, rows: &'r TypeRows, index: usize) -> Option<FuncRows<'r>>
+    requires { AreTypeRows cx.now.classes.now (types_of cx.now.owner.now.types) rows.now }
+    ensures kind { option_map rows_type result ≡ type_of_function cx.now.owner.now index }
+    ensures ready { IfSome result (AreReadyRows cx.now.classes.now) }
+{
+    match cx.owner.functions.as_slice().get(index) {
+        Some(kind) => rows.func_of(cx, *kind),
+        None => None,
+    }
+}
+
 // Whether the function of this index has a function type, valid locals, and a body of this type (Core, validation, modules), and
 // then its height and its depth.
 fn measure_function(
     alloc: Global,
     cx: &Context,
+    rows: &TypeRows,
     room: &mut Room,
     index: usize,
 ) -> Result<Option<(u64, u32)>, AllocError>
-    requires { IsContextOf cx.now }
+    requires whole { IsContextOf cx.now }
+    requires rows { AreTypeRows cx.now.classes.now (types_of cx.now.owner.now.types) rows.now }
     ensures { IfOk result (λ measured. IsFunctionMeasure cx.now.owner.now index measured) }
 {
-    let Some(kind) = function_type(cx.owner, index) else {
+    let Some(kind) = type_of(cx, rows, index) else {
         return Ok(None);
     };
     let Some(code) = item_at(&cx.owner.codes, index) else {
@@ -40,8 +60,12 @@ fn measure_function(
     if !are_locals_valid(cx.owner.types.type_count(), runs) {
         return Ok(None);
     }
-    let (params, results) = (kind.params.as_slice(), kind.results.as_slice());
-    check_body(alloc, cx, room, params, runs, results, &code.body)
+    let setting = Setting {
+        cx,
+        rows,
+        results: kind.results,
+    };
+    check_body(alloc, setting, room, kind.params.types, runs, &code.body)
 }
 
 /// The first function that is not valid, if there is one: each index of a type or of code is that of a function. Where there is
@@ -59,9 +83,10 @@ pub(crate) fn first_invalid_function(
         (AreMeasures cx.now.owner.now measures.new.heights.items measures.new.depths.items)) }
 {
     let count = cx.owner.functions.len().max(cx.owner.codes.len());
+    let rows = TypeRows::of_types(alloc, cx.classes, &cx.owner.types)?;
     let mut room = Room::new(alloc);
     for index in 0..count {
-        let Some((height, depth)) = measure_function(alloc, cx, &mut room, index)? else {
+        let Some((height, depth)) = measure_function(alloc, cx, &rows, &mut room, index)? else {
             return Ok(Some(index));
         };
         measures.heights.push(height)?;

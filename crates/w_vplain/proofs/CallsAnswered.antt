@@ -176,15 +176,15 @@ answers_packed r old new p next h same ch e = ok_with r _ _ h (λ taken x. answe
 
 counts_by_row : (old new : Checker) (b : Bor InstrRow) (o : Op) (s : List Bool) (w : Prefix) (answer : Bool)
     → IsCall old new (move.Row b) answer → StandsFor old s w
-    → (IsDerivable (context_for old) s w → IsRow (context_for old) s w o (row_with (row_of b.now.ins.now) b.now.top) (row_of b.now.outs.now) b.now.raise) → new.refused ≡ false
+    → (IsDerivable (context_for old) s w → IsRow (context_for old) s w o (row_with (row_of b.now.ins.types.now) b.now.top) (row_of b.now.outs.types.now) b.now.raise) → new.refused ≡ false
     → CountsFor (context_for old) s (frames_of new) (follow (flat.Plain o) w) × (new.peak ≡ peak_of (context_for old) s (follow (flat.Plain o) w)) × HasBases new × IsDeep new
     × (new.depth ≡ depth_of (follow (flat.Plain o) w))
 counts_by_row old new b o s w answer h k found alive =
     let c = context_for old in
     let es = classes_for old in
     let m = move.Row b in
-    let takes = row_with (row_of b.now.ins.now) b.now.top in
-    let gives = row_of b.now.outs.now in
+    let takes = row_with (row_of b.now.ins.types.now) b.now.top in
+    let gives = row_of b.now.outs.types.now in
     let w' = follow (flat.Plain o) w in
     let was = was_alive old new m answer h alive in
     let next_is : row_next es takes gives (frames_of old) ≡ Some (frames_of new) = leads_on old new m answer h alive in
@@ -207,13 +207,13 @@ counts_by_row old new b o s w answer h k found alive =
 -- the call answers for the sequence with each instruction of the row
 pub answers_row : {E : Type 0} (r : Result Bool E) (old new : Checker) (b : Bor InstrRow)
     → IfOk r (λ taken. IsCall old new (move.Row b) taken) → IsSameBody old new
-    → IfOk r (λ taken. AnswersRow old new (row_with (row_of b.now.ins.now) b.now.top) (row_of b.now.outs.now) b.now.raise taken)
+    → IfOk r (λ taken. AnswersRow old new (row_with (row_of b.now.ins.types.now) b.now.top) (row_of b.now.outs.types.now) b.now.raise taken)
 answers_row r old new b call same =
     ok_with r _ _ call (λ taken h s w o k found.
     let c = context_for old in
     let es = classes_for old in
-    let takes = row_with (row_of b.now.ins.now) b.now.top in
-    let gives = row_of b.now.outs.now in
+    let takes = row_with (row_of b.now.ins.types.now) b.now.top in
+    let gives = row_of b.now.outs.types.now in
     let w' = follow (flat.Plain o) w in
     let P : Option (List Frame) → Type 0 = λ x. Knows c s x w' in
     let leads : frames_of_derived new ≡ (frames_of_derived old >>= row_next es takes gives) =

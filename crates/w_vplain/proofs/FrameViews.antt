@@ -11,6 +11,7 @@ use Rattle.w_syntax.specs.declared.instructions.Op.{Op}
 use Rattle.w_syntax.specs.declared.instructions.Op.TheVariants as op
 use Rattle.w_canon.specs.declared.entry.Entry.{Entry}
 use Rattle.w_flow.specs.Flow.{Flow, ◌>>=◌, step}
+use Rattle.w_flow.specs.declared.type_row.TypeRow.{TypeRow}
 use Rattle.w_flow.specs.View.{flow_view}
 use Rattle.w_rules.specs.Operands.{Operand}
 use Rattle.w_rules.specs.Context.{Context}
@@ -148,22 +149,22 @@ alone_told xs ss = by (reverse xs) (length xs) (length-reverse xs)
     by (y ∷ ys) (suc n) e = let t : (suc n == 0) ≡ false = grind (arith, nat_tests) in sym t
 
 module _ (es : List Entry) (c : Context) (f : Frame) where
-  pub left_none : (xs : List code.Frame) (ss : List (List Bool)) (alone : Bool) (o : Option (Bor (List ValType))) → alone ≡ (length xs == 0) → o ≡ None
+  pub left_none : (xs : List code.Frame) (ss : List (List Bool)) (alone : Bool) (o : Option TypeRow) → alone ≡ (length xs == 0) → o ≡ None
       → ((fs : List Frame) → alone ≡ no_frames fs → end_next es c f fs ≡ left_with o fs) → end_next es c f (frames_with (reverse xs) (outer_sets ss)) ≡ None
   left_none xs ss alone o a e n =
       n (frames_with (reverse xs) (outer_sets ss)) (a ∙ sym (alone_told xs (outer_sets ss)))
-      ∙ ap (λ (p : Option (Bor (List ValType))). left_with p (frames_with (reverse xs) (outer_sets ss))) e
+      ∙ ap (λ (p : Option TypeRow). left_with p (frames_with (reverse xs) (outer_sets ss))) e
 
-  pub left_body : (xs : List code.Frame) (ss : List (List Bool)) (alone : Bool) (o : Option (Bor (List ValType))) (to : Bor (List ValType)) → alone ≡ (length xs == 0) → o ≡ Some to → xs ≡ []
+  pub left_body : (xs : List code.Frame) (ss : List (List Bool)) (alone : Bool) (o : Option TypeRow) (to : TypeRow) → alone ≡ (length xs == 0) → o ≡ Some to → xs ≡ []
       → ((fs : List Frame) → alone ≡ no_frames fs → end_next es c f fs ≡ left_with o fs) → end_next es c f (frames_with (reverse xs) (outer_sets ss)) ≡ Some []
   left_body xs ss alone o to a e none n =
       n (frames_with (reverse xs) (outer_sets ss)) (a ∙ sym (alone_told xs (outer_sets ss)))
-      ∙ ap (λ (p : Option (Bor (List ValType))). left_with p (frames_with (reverse xs) (outer_sets ss))) e
-      ∙ ap (λ (ys : List code.Frame). Some (leave (row_of to.now) (frames_with (reverse ys) (outer_sets ss)))) none
+      ∙ ap (λ (p : Option TypeRow). left_with p (frames_with (reverse xs) (outer_sets ss))) e
+      ∙ ap (λ (ys : List code.Frame). Some (leave (row_of to.types.now) (frames_with (reverse ys) (outer_sets ss)))) none
 
-  pub left_block : (xs ws : List code.Frame) (ss l : List (List Bool)) (alone : Bool) (o : Option (Bor (List ValType))) (to : Bor (List ValType)) (g h : code.Frame)
+  pub left_block : (xs ws : List code.Frame) (ss l : List (List Bool)) (alone : Bool) (o : Option TypeRow) (to : TypeRow) (g h : code.Frame)
       → alone ≡ (length xs == 0) → o ≡ Some to → xs ≡ ws ++ g ∷ [] → l ≡ outer_sets ss
-      → h.kind ≡ g.kind → (flow_view h.flow).any ≡ (flow_view g.flow).any → (flow_view h.flow).operands ≡ (flow_view g.flow).operands ⧺ known (row_of to.now)
+      → h.kind ≡ g.kind → (flow_view h.flow).any ≡ (flow_view g.flow).any → (flow_view h.flow).operands ≡ (flow_view g.flow).operands ⧺ known (row_of to.types.now)
       → ((fs : List Frame) → alone ≡ no_frames fs → end_next es c f fs ≡ left_with o fs)
       → end_next es c f (frames_with (reverse xs) (outer_sets ss)) ≡ Some (frame_view h (first_set l) ∷ frames_with (reverse ws) (outer_sets l))
   left_block xs ws ss l alone o to g h a e split m kd an ops n =
@@ -171,9 +172,9 @@ module _ (es : List Entry) (c : Context) (f : Frame) where
       let now : first_set l ≡ first_set (outer_sets ss) = ap first_set m in
       let around : outer_sets l ≡ outer_sets (outer_sets ss) = ap outer_sets m in
       n (frames_with (reverse xs) (outer_sets ss)) (a ∙ sym (alone_told xs (outer_sets ss)))
-      ∙ ap (λ (p : Option (Bor (List ValType))). left_with p (frames_with (reverse xs) (outer_sets ss))) e
-      ∙ ap (λ (ys : List code.Frame). Some (leave (row_of to.now) (frames_with ys (outer_sets ss)))) back
-      ∙ same_frame (h.kind) (g.kind) (flow_view h.flow).any (flow_view g.flow).any (flow_view h.flow).operands ((flow_view g.flow).operands ⧺ known (row_of to.now))
+      ∙ ap (λ (p : Option TypeRow). left_with p (frames_with (reverse xs) (outer_sets ss))) e
+      ∙ ap (λ (ys : List code.Frame). Some (leave (row_of to.types.now) (frames_with ys (outer_sets ss)))) back
+      ∙ same_frame (h.kind) (g.kind) (flow_view h.flow).any (flow_view g.flow).any (flow_view h.flow).operands ((flow_view g.flow).operands ⧺ known (row_of to.types.now))
       (first_set l) (first_set (outer_sets ss)) (frames_with (reverse ws) (outer_sets l)) (frames_with (reverse ws) (outer_sets (outer_sets ss))) kd an ops now (ap (frames_with (reverse ws)) around)
     where
       same_frame : (k k' : FrameKind) (p p' : Bool) (ts ts' : Row Operand) (s s' : List Bool) (gs gs' : List Frame) → k ≡ k' → p ≡ p' → ts ≡ ts' → s ≡ s' → gs ≡ gs'

@@ -20,3 +20,4 @@ pub mod EndsListed
 pub mod FrameViews
 pub mod CallsAnswered
 mod Beginnings
+pub mod WordsOfFrames

@@ -10,6 +10,7 @@ use Rattle.w_rules.specs.Context.{Context}
 use Rattle.w_rules.specs.InstructionTypes.{fixed, untyped, instr_type, sets}
 use Rattle.w_rules.specs.Peak.{or_none, extra}
 use Rattle.w_flow.specs.Flow.{◌>>=◌, step}
+use Rattle.w_flow.specs.TypeRows.{IsReady}
 use Rattle.w_steps.specs.Labels.{within, labels_of}
 use Rattle.w_vplain.specs.Prefixes.{OpenBlock, Prefix, open_at, ended, malformed, kinds_of, set_at}
 use Rattle.w_vplain.specs.Frames.{Frame, next}
@@ -68,9 +69,14 @@ RaisedBy c s taken raise fs gs old new = peak_of c s new ≡ raised_to (peak_of 
 -- the frames after it
 abbrev pub move_next : List Entry → Context → Move → List Frame → Option (List Frame)
 move_next es c (move.Packed p) fs = next es c (unpacked p.now) fs
-move_next es c (move.Row r) fs = row_next es (row_with (row_of r.now.ins.now) r.now.top) (row_of r.now.outs.now) fs
+move_next es c (move.Row r) fs = row_next es (row_with (row_of r.now.ins.types.now) r.now.top) (row_of r.now.outs.types.now) fs
 
 -- what it adds to the operands of its place: of a resume, what the longest label of its clauses takes
 abbrev pub added_by : Move → List Frame → ℕ
 added_by (move.Packed p) fs = 0
-added_by (move.Row r) fs = or_none (total fs) (above (size (row_with (row_of r.now.ins.now) r.now.top)) r.now.raise)
+added_by (move.Row r) fs = or_none (total fs) (above (size (row_with (row_of r.now.ins.types.now) r.now.top)) r.now.raise)
+
+-- what stands ready for its rows is that of their types
+abbrev pub IsReadyMove : List Entry → Move → Type 0
+IsReadyMove es (move.Packed p) = Unit {0}
+IsReadyMove es (move.Row r) = IsReady es r.now.ins × IsReady es r.now.outs

@@ -23,7 +23,7 @@ use Rattle.w_vplain.specs.declared.moves.Move.{Move}
 
 -- the context that a checker types in
 abbrev pub context_for : Checker → Context
-context_for c = in_body (context_in c.setting.cx.now) c.locals.types c.results.now
+context_for c = in_body (context_in c.setting.cx.now) c.locals.types c.setting.results.types.now
 
 -- the entries of the types
 abbrev pub classes_for : Checker → List Entry

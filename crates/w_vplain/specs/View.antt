@@ -1,8 +1,8 @@
 -- What the checker's data stands for.
 use Rattle.std.specs.Prelude.{Bool, List, [], ◌∷◌, Option, Some, None}
-use Rattle.std.specs.Borrow.{Bor}
 use Rattle.w_types.specs.declared.types.ValType.{ValType}
 use Rattle.w_types.specs.Rows.{Row, ◌▹◌, row_of}
+use Rattle.w_flow.specs.declared.type_row.TypeRow.{TypeRow}
 use Rattle.w_flow.specs.View.{flow_view}
 use Rattle.w_vplain.specs.Frames.{Frame, leave}
 use Rattle.w_locals.specs.Locals.{first_set, outer_sets}
@@ -26,9 +26,9 @@ abbrev pub else_with : Option code.Frame → Frame → List Frame → Option (Li
 else_with None g gs = None
 else_with (Some f) g gs = Some (frame_view f g.is_set ∷ g ∷ gs)
 
-abbrev pub left_with : Option (Bor (List ValType)) → List Frame → Option (List Frame)
+abbrev pub left_with : Option TypeRow → List Frame → Option (List Frame)
 left_with None fs = None
-left_with (Some to) fs = Some (leave (row_of to.now) fs)
+left_with (Some to) fs = Some (leave (row_of to.types.now) fs)
 
 -- a row with one more type at its right, where there is one
 abbrev pub row_with : Row ValType → Option ValType → Row ValType

@@ -2,7 +2,8 @@
 ghost use Rattle.std.specs.Prelude.{◌≡◌, ◌∷◌, [], Bool, List, IfOk, IfSome, is_some, if◌then◌else◌};
 ghost use Rattle.w_types.specs.Rows.{row_of};
 ghost use Rattle.w_flow.specs.Flow.{pops};
-ghost use Rattle.w_flow.specs.View.{flow_view, reached};
+ghost use Rattle.w_flow.specs.TypeRows.{IsReady};
+ghost use Rattle.w_flow.specs.View.{flow_view, reached, HasWords};
 ghost use Rattle.w_rules.specs.Matching.{known};
 ghost use Rattle.w_rules.specs.Spaces.{in_body};
 ghost use Rattle.w_rules.specs.View.{context_in};
@@ -13,34 +14,34 @@ ghost use Rattle.w_vplain.specs.View.{frame_view, inner_with, else_with, left_wi
 
 use std::alloc::AllocError;
 use w_canon::Classes;
-use w_flow::{Flow, Matched, OperandList};
-use w_rules::Context;
-use w_steps::{Frame, FrameKind, arrow};
+use w_flow::{Flow, OperandList, TypeRow};
+use w_steps::{Frame, FrameKind, Setting, arrow};
 use w_types::PackedType;
 
 // Takes what a block with these parameters takes, and gives the operands at its beginning.
 fn enter_params(
     room: OperandList,
     classes: &Classes,
-    matched: &mut Matched,
     kind: &FrameKind,
     flow: &mut Flow,
-    from: &[PackedType],
+    from: TypeRow,
 ) -> Result<Option<Flow>, AllocError>
-    requires { matched.old ≡ classes.now }
+    requires words { HasWords classes.now flow.old }
+    requires ready { IsReady classes.now from }
     ensures left { IfOk result (λ inner. pops classes.now (flow_view flow.old).any
         (flow_view flow.old).operands
-        (taken_by kind.now (record { from = row_of from.now; to = row_of [] }))
+        (taken_by kind.now (record { from = row_of from.entry.types.now; to = row_of [] }))
         ≡ (if is_some inner then Some (flow_view flow.new).operands else None)) }
     ensures inner { IfOk result (λ inner. IfSome inner (λ f. flow_view f
-        ≡ reached (known (row_of from.now)))) }
+        ≡ reached (known (row_of from.entry.types.now)))) }
     ensures same { (flow_view flow.new).any ≡ (flow_view flow.old).any }
-    ensures kept { matched.new ≡ matched.old }
+    ensures words { HasWords classes.now flow.new }
+    ensures inner_words { IfOk result (λ inner. IfSome inner (HasWords classes.now)) }
 {
     if matches!(kind, FrameKind::Then(_) | FrameKind::Else(_)) && !flow.take_tested(classes) {
         return Ok(None);
     }
-    flow.enter(room, classes, matched, from)
+    flow.enter(room, classes, from)
 }
 
 /// How many operands there are in the block and around it, where its place is counted. It fails where that passes 64 bits, as for want
@@ -65,15 +66,13 @@ pub(crate) fn height(frame: &Frame) -> Result<Option<u64>, AllocError>
 /// they are not there.
 pub(crate) fn inner_frame(
     room: OperandList,
-    cx: &Context,
-    matched: &mut Matched,
-    results: &[PackedType],
+    setting: &Setting,
     kind: FrameKind,
     around: &mut Frame,
 ) -> Result<Option<Frame>, AllocError>
-    requires { matched.old ≡ cx.now.classes.now }
+    requires { HasWords setting.now.cx.now.classes.now around.old.flow }
     ensures steps { IfOk result (λ inner. (fs : List TheFrame) (s : List Bool) →
-        enter_next cx.now.classes.now (in_body (context_in cx.now) [] results.now) kind
+        enter_next setting.now.cx.now.classes.now (in_body (context_in setting.now.cx.now) [] setting.now.results.types.now) kind
         (frame_view around.old s) fs ≡ inner_with inner around.new s fs) }
     ensures base { IfOk result (λ inner. IfSome inner (λ f. f.base
         ≡ tally (flow_view around.new.flow).any
@@ -81,13 +80,14 @@ pub(crate) fn inner_frame(
     ensures same_base { around.new.base ≡ around.old.base }
     ensures same_kind { around.new.kind ≡ around.old.kind }
     ensures kind { IfOk result (λ inner. IfSome inner (λ f. f.kind ≡ kind)) }
-    ensures kept { matched.new ≡ matched.old }
+    ensures words { HasWords setting.now.cx.now.classes.now around.new.flow }
+    ensures inner_words { IfOk result (λ inner. IfSome inner (λ f. HasWords setting.now.cx.now.classes.now f.flow)) }
 {
-    let Some((from, _)) = arrow(cx, results, &kind) else {
+    let Some(arrow) = arrow(setting, &kind) else {
         return Ok(None);
     };
     let flow = &mut around.flow;
-    let Some(flow) = enter_params(room, cx.classes, matched, &kind, flow, from)? else {
+    let Some(flow) = enter_params(room, setting.cx.classes, &kind, flow, arrow.params)? else {
         return Ok(None);
     };
     let base = height(around)?;
@@ -97,28 +97,26 @@ pub(crate) fn inner_frame(
 /// The frame of an if's second branch, whose operands stand in this room, where the first one ends well and has blocks around it.
 pub(crate) fn else_frame(
     room: OperandList,
-    cx: &Context,
-    matched: &mut Matched,
-    results: &[PackedType],
+    setting: &Setting,
     first: &Frame,
 ) -> Result<Option<Frame>, AllocError>
-    requires { matched.old ≡ cx.now.classes.now }
+    requires { HasWords setting.now.cx.now.classes.now first.now.flow }
     ensures steps { IfOk result (λ second. (g : TheFrame) (gs : List TheFrame) (s : List Bool) →
-        other_next cx.now.classes.now (in_body (context_in cx.now) [] results.now) first.now.kind
+        other_next setting.now.cx.now.classes.now (in_body (context_in setting.now.cx.now) [] setting.now.results.types.now) first.now.kind
         (frame_view first.now s) (g ∷ gs) ≡ else_with second g gs) }
     ensures base { IfOk result (λ second. IfSome second (λ f. f.base ≡ first.now.base)) }
-    ensures kept { matched.new ≡ matched.old }
+    ensures words { IfOk result (λ second. IfSome second (λ f. HasWords setting.now.cx.now.classes.now f.flow)) }
 {
     let FrameKind::Then(block) = first.kind else {
         return Ok(None);
     };
-    let Some((from, to)) = arrow(cx, results, &first.kind) else {
+    let Some(arrow) = arrow(setting, &first.kind) else {
         return Ok(None);
     };
-    if !first.flow.ends_with(cx.classes, matched, to) {
+    if !first.flow.ends_with(setting.cx.classes, arrow.results) {
         return Ok(None);
     }
-    let flow = Flow::of_types(room, from)?;
+    let flow = Flow::of_types(room, setting.cx.classes, arrow.params)?;
     Ok(Some(Frame {
         kind: FrameKind::Else(block),
         flow,
@@ -140,29 +138,32 @@ fn needs_none(classes: &Classes, kind: &FrameKind, from: &[PackedType], to: &[Pa
 
 /// What the innermost block leaves, where it ends well; a body stands alone, and every other block in one.
 pub(crate) fn end_types<'c>(
-    cx: &'c Context<'c>,
-    matched: &mut Matched,
-    results: &'c [PackedType],
+    setting: &'c Setting<'c>,
     kind: &'c FrameKind,
     flow: &Flow,
     alone: bool,
-) -> Option<&'c [PackedType]>
-    requires { matched.old ≡ cx.now.classes.now }
+) -> Option<TypeRow<'c>>
+    requires { HasWords setting.now.cx.now.classes.now flow.now }
     ensures left { (fs : List TheFrame) (s : List Bool) → alone ≡ no_frames fs →
-        end_next cx.now.classes.now (in_body (context_in cx.now) [] results.now)
+        end_next setting.now.cx.now.classes.now (in_body (context_in setting.now.cx.now) [] setting.now.results.types.now)
         (record { kind = kind.now; any = (flow_view flow.now).any; operands = (flow_view flow.now).operands; is_set = s })
         fs ≡ left_with result fs }
-    ensures kept { matched.new ≡ matched.old }
+    ensures ready { IfSome result (IsReady setting.now.cx.now.classes.now) }
 {
-    let (from, to) = arrow(cx, results, kind)?;
+    let arrow = arrow(setting, kind)?;
     if matches!(kind, FrameKind::Body) != alone {
         return None;
     }
-    if !flow.ends_with(cx.classes, matched, to) {
+    if !flow.ends_with(setting.cx.classes, arrow.results) {
         return None;
     }
-    if !needs_none(cx.classes, kind, from, to) {
+    if !needs_none(
+        setting.cx.classes,
+        kind,
+        arrow.params.types,
+        arrow.results.types,
+    ) {
         return None;
     }
-    Some(to)
+    Some(arrow.results)
 }

@@ -2,6 +2,7 @@
 #![tactic(auto)]
 
 mod blocks;
+mod calls;
 mod checker;
 mod moves;
 mod room;

@@ -1,15 +1,16 @@
 //! What a call of the checker is made for.
 
+use w_flow::TypeRow;
 use w_syntax::PackedInstr;
-use w_types::{PackedType, ValType};
+use w_types::ValType;
 
 /// What a caller found that an instruction takes and gives: operands of the types `ins`, the topmost of the type `top`, and those of
 /// `outs`; of a resume also how many the longest label of its clauses takes.
 #[derive(Clone, Copy)]
 pub(crate) struct InstrRow<'m> {
-    pub ins: &'m [PackedType],
+    pub ins: TypeRow<'m>,
     pub top: Option<ValType>,
-    pub outs: &'m [PackedType],
+    pub outs: TypeRow<'m>,
     pub raise: Option<u64>,
 }
 

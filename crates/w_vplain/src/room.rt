@@ -1,6 +1,6 @@
 //! Room that bodies are typed in.
 
-use std::alloc::{AllocError, Global};
+use std::alloc::Global;
 use w_flow::OperandList;
 use w_steps::Frame;
 
@@ -35,10 +35,9 @@ pub(crate) fn spare_room(alloc: Global, spare: &mut Vec<OperandList>) -> Operand
     }
 }
 
-/// Keeps room for blocks to come, where not much is kept. It fails only when out of memory.
-pub(crate) fn keep_room(spare: &mut Vec<OperandList>, room: OperandList) -> Result<(), AllocError> {
+/// Keeps room for blocks to come, where not much is kept, and memory for one more.
+pub(crate) fn keep_room(spare: &mut Vec<OperandList>, room: OperandList) {
     if spare.len() < KEPT {
-        spare.push(room)?;
+        let _kept = spare.push(room).is_ok();
     }
-    Ok(())
 }

@@ -1,7 +1,9 @@
 -- Types that were looked up.
 use Rattle.std.proofs.Common.{◌≡◌, ℕ, List, Option, Some, None, refl, sym, ap, ◌∙◌, subst}
 use Rattle.std.specs.Borrow.{Bor}
-use Rattle.std.specs.Option.{option_copied}
+use Rattle.std.specs.Option.{option_copied, option_map}
+use Rattle.w_flow.specs.TypeRows.{rows_type}
+use Rattle.w_flow.specs.declared.type_rows.FuncRows.{FuncRows}
 use Rattle.w_types.specs.declared.types.FuncType.{FuncType}
 use Rattle.w_types.specs.declared.types.ValType.{ValType}
 use Rattle.w_types.specs.Rows.{Row, ε, ◌▹◌, row_of}
@@ -18,6 +20,13 @@ found o k t e f = sym e ∙ ap option_copied f
 -- and what was not found is not there
 pub missing : (o : Option (Bor FuncType)) (t : Option FuncType) → option_copied o ≡ t → o ≡ None → t ≡ None
 missing o t e f = sym e ∙ ap option_copied f
+
+-- the same of rows that were found
+pub found_rows : (o : Option FuncRows) (k : FuncRows) (t : Option FuncType) → option_map rows_type o ≡ t → o ≡ Some k → t ≡ Some (rows_type k)
+found_rows o k t e f = sym e ∙ ap (option_map rows_type) f
+
+pub missing_rows : (o : Option FuncRows) (t : Option FuncType) → option_map rows_type o ≡ t → o ≡ None → t ≡ None
+missing_rows o t e f = sym e ∙ ap (option_map rows_type) f
 
 -- there is one value alone
 pub one_value : {A : Type 0} (o : Option A) (a b : A) → o ≡ Some a → o ≡ Some b → a ≡ b
@@ -52,3 +61,11 @@ pub with_types : (o : SwitchingOp) (ins outs : Row ValType) (t u v w : ValType) 
 with_types o ins outs t u v w raise c e f r =
     let P : ValType → Type 0 = λ x. RowAt o (ins ▹ u) (outs ▹ x) raise c in
     subst P (sym f) (with_top o ins (outs ▹ v) t u raise c e r)
+
+-- and with the same types by other names
+pub with_rows : (o : SwitchingOp) (ins outs us vs : List ValType) (t : ValType) (raise : Option ℕ) (c : Context) → us ≡ ins → vs ≡ outs →
+    RowAt o (row_of ins ▹ t) (row_of outs) raise c → RowAt o (row_of us ▹ t) (row_of vs) raise c
+with_rows o ins outs us vs t raise c e f r =
+    let P : List ValType → Type 0 = λ xs. RowAt o (row_of us ▹ t) (row_of xs) raise c in
+    let Q : List ValType → Type 0 = λ xs. RowAt o (row_of xs ▹ t) (row_of outs) raise c in
+    subst P (sym f) (subst Q (sym e) r)

@@ -24,7 +24,7 @@ use Rattle.w_vswitch.specs.Rows.{RowAt, RefusedAt}
 pub at_place : (c : Checker) (cx : rt.Context) → cx ≡ c.setting.cx.now → (P : Context → Type 0) → Anywhere cx P → AtEnds c P
 at_place c cx e P h s w k g =
     let Q : rt.Context → Type 0 = λ x. Anywhere x P in
-    subst Q e h k.classes c.locals.types (row_of c.results.now) (labels_in (context_for c) w)
+    subst Q e h k.classes c.locals.types (row_of c.setting.results.types.now) (labels_in (context_for c) w)
 
 -- ## Rows at the end of a sequence
 

@@ -64,10 +64,10 @@ fn clause_fits(checker: &Checker, results: &[PackedType], clause: &Clause) -> bo
 {
     match clause {
         Clause::Label(tag, label) => match checker.label(*label) {
-            Some(types) => label_clause_fits(checker.context(), results, *tag, types),
+            Some(row) => label_clause_fits(checker.setting().cx, results, *tag, row.types),
             None => false,
         },
-        Clause::Switch(tag) => switch_clause_fits(checker.context(), results, *tag),
+        Clause::Switch(tag) => switch_clause_fits(checker.setting().cx, results, *tag),
     }
 }
 
@@ -118,7 +118,7 @@ fn label_size(checker: &Checker, clause: &Clause) -> Option<u64>
 {
     match clause {
         Clause::Label(_, label) => match checker.label(*label) {
-            Some(types) => Some(types.len() as u64),
+            Some(row) => Some(row.types.len() as u64),
             None => None,
         },
         Clause::Switch(_) => None,

@@ -1,5 +1,5 @@
 //! Continuations as types name them.
-ghost use Rattle.std.specs.Prelude.{◌≡◌};
+ghost use Rattle.std.specs.Prelude.{◌≡◌, ◌-◌, length, take, IfSome};
 ghost use Rattle.std.specs.Option.{option_map};
 ghost use Rattle.w_types.specs.Rows.{row_of};
 ghost use Rattle.w_rules.specs.InstructionTypes.{nullable, non_null};
@@ -23,7 +23,8 @@ pub(crate) fn non_null(index: u32) -> PackedType
 
 // These types, and the index in the heap type of what stands behind them.
 fn indexed(beneath: &[PackedType], heap: HeapType) -> Option<(&[PackedType], u32)>
-    ensures { index_of (row_of beneath.now) heap ≡ option_map index_view result }
+    ensures index { index_of (row_of beneath.now) heap ≡ option_map index_view result }
+    ensures beneath { IfSome result (λ p. p.0.now ≡ beneath.now) }
 {
     match heap {
         HeapType::Index(index) => Some((beneath, index)),
@@ -33,7 +34,8 @@ fn indexed(beneath: &[PackedType], heap: HeapType) -> Option<(&[PackedType], u32
 
 /// What types have before a reference to a type by its index, and the index, where they end in one.
 pub(crate) fn last_index(types: &[PackedType]) -> Option<(&[PackedType], u32)>
-    ensures { last_index (row_of types.now) ≡ option_map index_view result }
+    ensures index { last_index (row_of types.now) ≡ option_map index_view result }
+    ensures beneath { IfSome result (λ p. p.0.now ≡ take (length types.now - 1) types.now) }
 {
     let (top, beneath) = types.split_last()?;
     match top.whole() {

@@ -1,8 +1,9 @@
 //! The stack switching instructions (the explainer, validation).
-ghost use Rattle.std.specs.Prelude.{IfOk, Some, None};
+ghost use Rattle.std.specs.Prelude.{IfOk, IfSome, Some, None};
 ghost use Rattle.std.specs.Option.{option_map};
 ghost use Rattle.w_syntax.specs.declared.instructions.SwitchingOp.TheVariants as op;
 ghost use Rattle.w_syntax.specs.Packed.{unpacked};
+ghost use Rattle.w_flow.specs.TypeRows.{IsReady};
 ghost use Rattle.w_vplain.specs.Prefixes.{follow};
 ghost use Rattle.w_vplain.specs.Standing.{Answers, IsSameBody, StaysOutOfMemory};
 ghost use Rattle.w_vswitch.specs.Following.{follow_switching, instr_of};
@@ -12,9 +13,9 @@ ghost use Rattle.w_vswitch.specs.Rows.{BoundBy, SwitchedBy};
 use crate::clauses::{clauses_fit, longest_label};
 use crate::continuations::{last_index, non_null, nullable};
 use std::alloc::AllocError;
-use w_rules::Context;
+use w_flow::TypeRow;
+use w_steps::Setting;
 use w_syntax::{Clause, Instr, Op, PackedInstr, SwitchingOp};
-use w_types::{FuncType, PackedType};
 use w_vplain::Checker;
 
 // A continuation of a function.
@@ -24,25 +25,35 @@ fn cont_new(checker: &mut Checker, index: u32) -> Result<bool, AllocError>
     ensures body { IsSameBody checker.old checker.new }
     ensures memory { StaysOutOfMemory checker.old result checker.new }
 {
-    match checker.context().func_index_of_cont(index) {
-        Some(function) => checker.apply(&[], Some(nullable(function)), &[non_null(index)], None),
+    match checker.setting().cx.func_index_of_cont(index) {
+        Some(function) => checker.apply(
+            TypeRow::bare(&[]),
+            Some(nullable(function)),
+            TypeRow::bare(&[non_null(index)]),
+            None,
+        ),
         None => checker.refuse(),
     }
 }
 
 // The parameters of a continuation that a `cont.bind` of two types binds, where its condition holds.
-fn bound<'a>(cx: &'a Context<'a>, before: u32, after: u32) -> Option<&'a [PackedType]>
-    ensures { Anywhere cx.now (BoundBy before after (option_map (λ v. v.now) result)) }
+fn bound<'a>(setting: &Setting<'a>, before: u32, after: u32) -> Option<TypeRow<'a>>
+    ensures bound { Anywhere setting.now.cx.now (BoundBy before after (option_map (λ v. v.types.now) result)) }
+    ensures ready { IfSome result (IsReady setting.now.cx.now.classes.now) }
 {
-    let one = cx.cont_of(before)?;
-    let other = cx.cont_of(after)?;
-    let count = one.params.len().checked_sub(other.params.len())?;
-    let (front, left) = one.params.as_slice().split_at(count);
-    let classes = cx.classes;
-    if classes.matches_result(other.params.as_slice(), left)
-        && classes.matches_result(one.results.as_slice(), other.results.as_slice())
+    let one = setting.cont_of(before)?;
+    let other = setting.cont_of(after)?;
+    let count = one
+        .params
+        .types
+        .len()
+        .checked_sub(other.params.types.len())?;
+    let (_, left) = one.params.types.split_at(count);
+    let classes = setting.cx.classes;
+    if classes.matches_result(other.params.types, left)
+        && classes.matches_result(one.results.types, other.results.types)
     {
-        Some(front)
+        Some(one.params.front(classes, count))
     } else {
         None
     }
@@ -55,8 +66,13 @@ fn cont_bind(checker: &mut Checker, before: u32, after: u32) -> Result<bool, All
     ensures body { IsSameBody checker.old checker.new }
     ensures memory { StaysOutOfMemory checker.old result checker.new }
 {
-    match bound(checker.context(), before, after) {
-        Some(front) => checker.apply(front, Some(nullable(before)), &[non_null(after)], None),
+    match bound(&checker.setting(), before, after) {
+        Some(front) => checker.apply(
+            front,
+            Some(nullable(before)),
+            TypeRow::bare(&[non_null(after)]),
+            None,
+        ),
         None => checker.refuse(),
     }
 }
@@ -68,11 +84,10 @@ fn suspend(checker: &mut Checker, tag: u32) -> Result<bool, AllocError>
     ensures body { IsSameBody checker.old checker.new }
     ensures memory { StaysOutOfMemory checker.old result checker.new }
 {
-    let Some(kind) = checker.context().type_of_tag(tag) else {
+    let Some(kind) = checker.setting().type_of_tag(tag) else {
         return checker.refuse();
     };
-    let outs = kind.results.as_slice();
-    checker.apply(kind.params.as_slice(), None, outs, None)
+    checker.apply(kind.params, None, kind.results, None)
 }
 
 // A continuation goes on, under a handler of these clauses.
@@ -82,36 +97,32 @@ fn resume(checker: &mut Checker, index: u32, clauses: &[Clause]) -> Result<bool,
     ensures body { IsSameBody checker.old checker.new }
     ensures memory { StaysOutOfMemory checker.old result checker.new }
 {
-    let Some(kind) = checker.context().cont_of(index) else {
+    let Some(kind) = checker.setting().cont_of(index) else {
         return checker.refuse();
     };
-    if !clauses_fit(checker, kind.results.as_slice(), clauses) {
+    if !clauses_fit(checker, kind.results.types, clauses) {
         return checker.refuse();
     }
     let raise = longest_label(checker, clauses);
     let reference = nullable(index);
-    let (ins, outs) = (kind.params.as_slice(), kind.results.as_slice());
-    checker.apply(ins, Some(reference), outs, raise)
+    checker.apply(kind.params, Some(reference), kind.results, raise)
 }
 
 // What a `switch` to a continuation of this type takes beneath it, and what it gives back, where its condition holds.
-fn switched<'a>(
-    cx: &'a Context<'a>,
-    index: u32,
-    tag: u32,
-) -> Option<(&'a [PackedType], &'a [PackedType])>
-    ensures { Anywhere cx.now (SwitchedBy index tag (option_map (λ p. (p.0.now, p.1.now)) result)) }
+fn switched<'a>(setting: &Setting<'a>, index: u32, tag: u32) -> Option<(TypeRow<'a>, TypeRow<'a>)>
+    ensures switched { Anywhere setting.now.cx.now (SwitchedBy index tag (option_map (λ p. (p.0.types.now, p.1.types.now)) result)) }
+    ensures ready { IfSome result (λ p. IsReady setting.now.cx.now.classes.now p.0 × IsReady setting.now.cx.now.classes.now p.1) }
 {
-    let one = cx.cont_of(index)?;
-    let (beneath, back) = last_index(one.params.as_slice())?;
-    let other = cx.cont_of(back)?;
-    let tag = cx.type_of_tag(tag)?;
-    let classes = cx.classes;
-    if tag.params.len() == 0
-        && classes.matches_result(one.results.as_slice(), tag.results.as_slice())
-        && classes.matches_result(tag.results.as_slice(), other.results.as_slice())
+    let one = setting.cont_of(index)?;
+    let (beneath, back) = last_index(one.params.types)?;
+    let other = setting.cont_of(back)?;
+    let tag = setting.type_of_tag(tag)?;
+    let classes = setting.cx.classes;
+    if tag.params.types.len() == 0
+        && classes.matches_result(one.results.types, tag.results.types)
+        && classes.matches_result(tag.results.types, other.results.types)
     {
-        Some((beneath, other.params.as_slice()))
+        Some((one.params.front(classes, beneath.len()), other.params))
     } else {
         None
     }
@@ -124,7 +135,7 @@ fn switch(checker: &mut Checker, index: u32, tag: u32) -> Result<bool, AllocErro
     ensures body { IsSameBody checker.old checker.new }
     ensures memory { StaysOutOfMemory checker.old result checker.new }
 {
-    match switched(checker.context(), index, tag) {
+    match switched(&checker.setting(), index, tag) {
         Some((beneath, back)) => checker.apply(beneath, Some(nullable(index)), back, None),
         None => checker.refuse(),
     }

@@ -3,7 +3,7 @@ ghost use Rattle.std.specs.Prelude.{◌≡◌, IfOk, List};
 ghost use Rattle.w_canon.specs.declared.entry.Entry.{Entry};
 ghost use Rattle.w_types.specs.Rows.{ε, ◌▹◌, row_of};
 ghost use Rattle.w_flow.specs.Flow.{step};
-ghost use Rattle.w_flow.specs.View.{flow_view, flow_if};
+ghost use Rattle.w_flow.specs.View.{flow_view, flow_if, HasWords};
 ghost use Rattle.w_rules.specs.InstructionTypes.{fixed, if_valid};
 
 use std::alloc::AllocError;
@@ -19,9 +19,10 @@ pub(crate) fn fixed_if_valid(
     ins: &[PackedType],
     outs: &[PackedType],
 ) -> Result<bool, AllocError>
-    ensures { IfOk result (λ taken. step classes.now (if_valid test (fixed (row_of ins.now)
+    ensures steps { IfOk result (λ taken. step classes.now (if_valid test (fixed (row_of ins.now)
         (row_of outs.now))) (flow_view flow.old).any (flow_view flow.old).operands
         ≡ flow_if taken flow.new) }
+    ensures words { HasWords classes.now flow.old → HasWords classes.now flow.new }
 {
     if !test {
         return Ok(false);
@@ -31,17 +32,19 @@ pub(crate) fn fixed_if_valid(
 
 /// Gives an operand of this type, where the test holds.
 pub(crate) fn gives_if_valid(
+    classes: &Classes,
     flow: &mut Flow,
     test: bool,
     kind: PackedType,
 ) -> Result<bool, AllocError>
-    ensures { (es : List Entry) → IfOk result (λ taken. step es (if_valid test (fixed ε (ε ▹ kind)))
+    ensures steps { IfOk result (λ taken. step classes.now (if_valid test (fixed ε (ε ▹ kind)))
         (flow_view flow.old).any (flow_view flow.old).operands ≡ flow_if taken flow.new) }
+    ensures words { HasWords classes.now flow.old → HasWords classes.now flow.new }
 {
     if !test {
         return Ok(false);
     }
-    flow.gives(kind)
+    flow.gives(classes, kind)
 }
 
 /// Takes an operand and gives one of these types, where the test holds.
@@ -52,8 +55,9 @@ pub(crate) fn turns_if_valid(
     from: PackedType,
     to: PackedType,
 ) -> Result<bool, AllocError>
-    ensures { IfOk result (λ taken. step classes.now (if_valid test (fixed (ε ▹ from) (ε ▹ to)))
+    ensures steps { IfOk result (λ taken. step classes.now (if_valid test (fixed (ε ▹ from) (ε ▹ to)))
         (flow_view flow.old).any (flow_view flow.old).operands ≡ flow_if taken flow.new) }
+    ensures words { HasWords classes.now flow.old → HasWords classes.now flow.new }
 {
     if !test {
         return Ok(false);
@@ -69,8 +73,9 @@ pub(crate) fn takes_two_if_valid(
     below: PackedType,
     top: PackedType,
 ) -> bool
-    ensures { step classes.now (if_valid test (fixed (ε ▹ below ▹ top) ε))
+    ensures steps { step classes.now (if_valid test (fixed (ε ▹ below ▹ top) ε))
         (flow_view flow.old).any (flow_view flow.old).operands ≡ flow_if result flow.new }
+    ensures words { HasWords classes.now flow.old → HasWords classes.now flow.new }
 {
     if !test {
         return false;

@@ -4,7 +4,7 @@ ghost use Rattle.w_types.specs.Rows.{ε, ◌▹◌};
 ghost use Rattle.w_types.specs.declared.types.ValType.TheVariants as val;
 ghost use Rattle.w_syntax.specs.declared.memory_instructions.MemoryOp.TheVariants as op;
 ghost use Rattle.w_flow.specs.Flow.{step};
-ghost use Rattle.w_flow.specs.View.{flow_view, flow_if};
+ghost use Rattle.w_flow.specs.View.{flow_view, flow_if, HasWords};
 ghost use Rattle.w_rules.specs.InstructionTypes.{load_type as the_load_type, load_width as the_load_width, store_type as the_store_type, store_width as the_store_width, is_access as the_access, fixed, has_memory, if_valid, memory_op_type};
 ghost use Rattle.w_rules.specs.View.{context_in};
 
@@ -92,8 +92,9 @@ fn is_copy(cx: &Context, to: u32, from: u32) -> bool
 
 // Takes a place, a second one or a byte, and a length, where the test holds.
 fn takes_three_if_valid(classes: &Classes, flow: &mut Flow, test: bool) -> Result<bool, AllocError>
-    ensures { IfOk result (λ taken. step classes.now (if_valid test (fixed (ε ▹ val.I32 ▹ val.I32 ▹ val.I32) ε))
+    ensures steps { IfOk result (λ taken. step classes.now (if_valid test (fixed (ε ▹ val.I32 ▹ val.I32 ▹ val.I32) ε))
         (flow_view flow.old).any (flow_view flow.old).operands ≡ flow_if taken flow.new) }
+    ensures words { HasWords classes.now flow.old → HasWords classes.now flow.new }
 {
     let three = [PackedType::I32, PackedType::I32, PackedType::I32];
     fixed_if_valid(classes, flow, test, &three, &[])
@@ -107,9 +108,10 @@ pub(crate) fn load_step(
     align: u8,
     offset: u64,
 ) -> Result<bool, AllocError>
-    ensures { IfOk result (λ taken. step cx.now.classes.now (memory_op_type (context_in cx.now)
+    ensures steps { IfOk result (λ taken. step cx.now.classes.now (memory_op_type (context_in cx.now)
         (op.Load load (record { align = align; offset = offset }))) (flow_view flow.old).any
         (flow_view flow.old).operands ≡ flow_if taken flow.new) }
+    ensures words { HasWords cx.now.classes.now flow.old → HasWords cx.now.classes.now flow.new }
 {
     let access = is_access(cx, load_width(load), align, offset);
     turns_if_valid(cx.classes, flow, access, PackedType::I32, load_type(load))
@@ -123,9 +125,10 @@ pub(crate) fn store_step(
     align: u8,
     offset: u64,
 ) -> bool
-    ensures { step cx.now.classes.now (memory_op_type (context_in cx.now)
+    ensures steps { step cx.now.classes.now (memory_op_type (context_in cx.now)
         (op.Store store (record { align = align; offset = offset }))) (flow_view flow.old).any
         (flow_view flow.old).operands ≡ flow_if result flow.new }
+    ensures words { HasWords cx.now.classes.now flow.old → HasWords cx.now.classes.now flow.new }
 {
     let access = is_access(cx, store_width(store), align, offset);
     takes_two_if_valid(cx.classes, flow, access, PackedType::I32, store_type(store))
@@ -133,8 +136,9 @@ pub(crate) fn store_step(
 
 /// A memory instruction.
 pub(crate) fn memory_step(cx: &Context, flow: &mut Flow, op: MemoryOp) -> Result<bool, AllocError>
-    ensures { IfOk result (λ taken. step cx.now.classes.now (memory_op_type (context_in cx.now) op)
+    ensures steps { IfOk result (λ taken. step cx.now.classes.now (memory_op_type (context_in cx.now) op)
         (flow_view flow.old).any (flow_view flow.old).operands ≡ flow_if taken flow.new) }
+    ensures words { HasWords cx.now.classes.now flow.old → HasWords cx.now.classes.now flow.new }
 {
     match op {
         MemoryOp::Load(load, argument) => {
@@ -143,7 +147,12 @@ pub(crate) fn memory_step(cx: &Context, flow: &mut Flow, op: MemoryOp) -> Result
         MemoryOp::Store(store, argument) => {
             Ok(store_step(cx, flow, store, argument.align, argument.offset))
         }
-        MemoryOp::Size(memory) => gives_if_valid(flow, cx.has_memory(memory), PackedType::I32),
+        MemoryOp::Size(memory) => gives_if_valid(
+            cx.classes,
+            flow,
+            cx.has_memory(memory),
+            PackedType::I32,
+        ),
         MemoryOp::Grow(memory) => turns_if_valid(
             cx.classes,
             flow,

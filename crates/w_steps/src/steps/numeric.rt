@@ -2,7 +2,7 @@
 ghost use Rattle.std.specs.Prelude.{◌≡◌, IfOk};
 ghost use Rattle.w_types.specs.Rows.{ε, ◌▹◌};
 ghost use Rattle.w_flow.specs.Flow.{step};
-ghost use Rattle.w_flow.specs.View.{flow_view, flow_if};
+ghost use Rattle.w_flow.specs.View.{flow_view, flow_if, HasWords};
 ghost use Rattle.w_rules.specs.InstructionTypes.{fixed, of_int as the_type, convert_type, numeric_op_type};
 
 use std::alloc::AllocError;
@@ -41,12 +41,13 @@ pub(crate) fn numeric_step(
     flow: &mut Flow,
     op: NumericOp,
 ) -> Result<bool, AllocError>
-    ensures { IfOk result (λ taken. step classes.now (numeric_op_type op) (flow_view flow.old).any
+    ensures steps { IfOk result (λ taken. step classes.now (numeric_op_type op) (flow_view flow.old).any
         (flow_view flow.old).operands ≡ flow_if taken flow.new) }
+    ensures words { HasWords classes.now flow.old → HasWords classes.now flow.new }
 {
     match op {
-        NumericOp::I32Const(_) => flow.gives(PackedType::I32),
-        NumericOp::I64Const(_) => flow.gives(PackedType::I64),
+        NumericOp::I32Const(_) => flow.gives(classes, PackedType::I32),
+        NumericOp::I64Const(_) => flow.gives(classes, PackedType::I64),
         NumericOp::Eqz(kind) => flow.turns(classes, of_int(kind), PackedType::I32),
         NumericOp::Compare(kind, _) => flow.joins(classes, of_int(kind), PackedType::I32),
         NumericOp::Unary(kind, _) => flow.turns(classes, of_int(kind), of_int(kind)),

@@ -1,7 +1,7 @@
 //! Parametric instructions.
 ghost use Rattle.std.specs.Prelude.{◌≡◌, IfOk};
 ghost use Rattle.w_flow.specs.Flow.{step};
-ghost use Rattle.w_flow.specs.View.{flow_view, flow_if};
+ghost use Rattle.w_flow.specs.View.{flow_view, flow_if, HasWords};
 ghost use Rattle.w_rules.specs.InstructionTypes.{select_type, parametric_op_type};
 ghost use Rattle.w_rules.specs.View.{context_in};
 
@@ -14,9 +14,10 @@ use w_types::PackedType;
 
 // A select with the types that it names.
 fn select_step(cx: &Context, flow: &mut Flow, types: &[PackedType]) -> Result<bool, AllocError>
-    ensures { IfOk result (λ taken. step cx.now.classes.now (select_type
+    ensures steps { IfOk result (λ taken. step cx.now.classes.now (select_type
         (context_in cx.now) types.now) (flow_view flow.old).any (flow_view flow.old).operands
         ≡ flow_if taken flow.new) }
+    ensures words { HasWords cx.now.classes.now flow.old → HasWords cx.now.classes.now flow.new }
 {
     match types {
         [kind] => fixed_if_valid(
@@ -36,9 +37,10 @@ pub(crate) fn parametric_step(
     flow: &mut Flow,
     op: &ParametricOp,
 ) -> Result<bool, AllocError>
-    ensures { IfOk result (λ taken. step cx.now.classes.now (parametric_op_type
+    ensures steps { IfOk result (λ taken. step cx.now.classes.now (parametric_op_type
         (context_in cx.now) op.now) (flow_view flow.old).any (flow_view flow.old).operands
         ≡ flow_if taken flow.new) }
+    ensures words { HasWords cx.now.classes.now flow.old → HasWords cx.now.classes.now flow.new }
 {
     match op {
         ParametricOp::Drop => Ok(flow.drops()),

@@ -1,7 +1,7 @@
 //! Reference instructions.
 ghost use Rattle.std.specs.Prelude.{◌≡◌, IfOk, slice_get};
 ghost use Rattle.w_flow.specs.Flow.{step};
-ghost use Rattle.w_flow.specs.View.{flow_view, flow_if};
+ghost use Rattle.w_flow.specs.View.{flow_view, flow_if, HasWords};
 ghost use Rattle.w_rules.specs.InstructionTypes.{ref_func_type, reference_op_type};
 ghost use Rattle.w_rules.specs.View.{context_in};
 ghost use Rattle.w_locals.specs.Locals.{gives_type};
@@ -35,9 +35,10 @@ pub(crate) fn reference_step(
     flow: &mut Flow,
     op: ReferenceOp,
 ) -> Result<bool, AllocError>
-    ensures { IfOk result (λ taken. step cx.now.classes.now (reference_op_type
+    ensures steps { IfOk result (λ taken. step cx.now.classes.now (reference_op_type
         (context_in cx.now) op) (flow_view flow.old).any (flow_view flow.old).operands
         ≡ flow_if taken flow.new) }
+    ensures words { HasWords cx.now.classes.now flow.old → HasWords cx.now.classes.now flow.new }
 {
     match op {
         ReferenceOp::Null(heap) => {
@@ -49,9 +50,9 @@ pub(crate) fn reference_step(
         }
         ReferenceOp::IsNull => flow.tests_null(),
         ReferenceOp::Func(function) => match function_reference(cx, function) {
-            Some(kind) => flow.gives(kind),
+            Some(kind) => flow.gives(cx.classes, kind),
             None => Ok(false),
         },
-        ReferenceOp::AsNonNull => flow.as_non_null(),
+        ReferenceOp::AsNonNull => flow.as_non_null(cx.classes),
     }
 }

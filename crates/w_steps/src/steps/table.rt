@@ -1,7 +1,7 @@
 //! Table instructions.
 ghost use Rattle.std.specs.Prelude.{◌≡◌, IfOk, slice_get};
 ghost use Rattle.w_flow.specs.Flow.{step};
-ghost use Rattle.w_flow.specs.View.{flow_view, flow_if};
+ghost use Rattle.w_flow.specs.View.{flow_view, flow_if, HasWords};
 ghost use Rattle.w_rules.specs.InstructionTypes.{table_op_type, table_init_type, table_copy_type, table_grow_type, table_fill_type};
 ghost use Rattle.w_rules.specs.View.{context_in};
 ghost use Rattle.w_steps.specs.PlainTests.{init_test, copy_test, table_test};
@@ -18,12 +18,13 @@ const THREE: [PackedType; 3] = [PackedType::I32, PackedType::I32, PackedType::I3
 
 // A copy of an element segment into a table.
 fn init_step(cx: &Context, flow: &mut Flow, segment: u32, table: u32) -> Result<bool, AllocError>
-    ensures { let c = context_in cx.now in IfOk result
+    ensures steps { let c = context_in cx.now in IfOk result
         (λ taken. gated (init_test cx.now.classes.now (slice_get c.elements segment)
         (slice_get c.tables table))
         (step cx.now.classes.now (table_init_type (slice_get c.elements segment)
         (slice_get c.tables table)) (flow_view flow.old).any (flow_view flow.old).operands)
         ≡ flow_if taken flow.new) }
+    ensures words { HasWords cx.now.classes.now flow.old → HasWords cx.now.classes.now flow.new }
 {
     let Some(element) = cx.element(segment) else {
         return Ok(false);
@@ -39,11 +40,12 @@ fn init_step(cx: &Context, flow: &mut Flow, segment: u32, table: u32) -> Result<
 
 // A copy of a part of a table into a table.
 fn copy_step(cx: &Context, flow: &mut Flow, to: u32, from: u32) -> Result<bool, AllocError>
-    ensures { let c = context_in cx.now in IfOk result
+    ensures steps { let c = context_in cx.now in IfOk result
         (λ taken. gated (copy_test cx.now.classes.now (slice_get c.tables to)
         (slice_get c.tables from))
         (step cx.now.classes.now (table_copy_type (slice_get c.tables to) (slice_get c.tables from))
         (flow_view flow.old).any (flow_view flow.old).operands) ≡ flow_if taken flow.new) }
+    ensures words { HasWords cx.now.classes.now flow.old → HasWords cx.now.classes.now flow.new }
 {
     let Some(to) = cx.table(to) else {
         return Ok(false);
@@ -59,9 +61,10 @@ fn copy_step(cx: &Context, flow: &mut Flow, to: u32, from: u32) -> Result<bool, 
 
 // The growth of a table.
 fn grow_step(cx: &Context, flow: &mut Flow, index: u32) -> Result<bool, AllocError>
-    ensures { IfOk result (λ taken. step cx.now.classes.now (table_grow_type (slice_get
+    ensures steps { IfOk result (λ taken. step cx.now.classes.now (table_grow_type (slice_get
         (context_in cx.now).tables index)) (flow_view flow.old).any (flow_view flow.old).operands
         ≡ flow_if taken flow.new) }
+    ensures words { HasWords cx.now.classes.now flow.old → HasWords cx.now.classes.now flow.new }
 {
     match cx.table(index) {
         Some(table) => {
@@ -74,9 +77,10 @@ fn grow_step(cx: &Context, flow: &mut Flow, index: u32) -> Result<bool, AllocErr
 
 // The filling of a part of a table.
 fn fill_step(cx: &Context, flow: &mut Flow, index: u32) -> Result<bool, AllocError>
-    ensures { IfOk result (λ taken. step cx.now.classes.now (table_fill_type (slice_get
+    ensures steps { IfOk result (λ taken. step cx.now.classes.now (table_fill_type (slice_get
         (context_in cx.now).tables index)) (flow_view flow.old).any (flow_view flow.old).operands
         ≡ flow_if taken flow.new) }
+    ensures words { HasWords cx.now.classes.now flow.old → HasWords cx.now.classes.now flow.new }
 {
     match cx.table(index) {
         Some(table) => {
@@ -93,9 +97,10 @@ fn fill_step(cx: &Context, flow: &mut Flow, index: u32) -> Result<bool, AllocErr
 
 /// A table instruction.
 pub(crate) fn table_step(cx: &Context, flow: &mut Flow, op: TableOp) -> Result<bool, AllocError>
-    ensures { IfOk result (λ taken. gated (table_test cx.now.classes.now (context_in cx.now) op)
+    ensures steps { IfOk result (λ taken. gated (table_test cx.now.classes.now (context_in cx.now) op)
         (step cx.now.classes.now (table_op_type (context_in cx.now) op) (flow_view flow.old).any
         (flow_view flow.old).operands) ≡ flow_if taken flow.new) }
+    ensures words { HasWords cx.now.classes.now flow.old → HasWords cx.now.classes.now flow.new }
 {
     let classes = cx.classes;
     match op {
@@ -123,7 +128,7 @@ pub(crate) fn table_step(cx: &Context, flow: &mut Flow, op: TableOp) -> Result<b
         TableOp::Copy(to, from) => copy_step(cx, flow, to, from),
         TableOp::Grow(index) => grow_step(cx, flow, index),
         TableOp::Size(index) => match cx.table(index) {
-            Some(_) => flow.gives(PackedType::I32),
+            Some(_) => flow.gives(classes, PackedType::I32),
             None => Ok(false),
         },
         TableOp::Fill(index) => fill_step(cx, flow, index),

@@ -2,7 +2,7 @@
 ghost use Rattle.std.specs.Prelude.{◌≡◌, [], IfOk, OnOk, IsTrue, slice_get, slice_set, true};
 ghost use Rattle.w_types.specs.Rows.{ε, ◌▹◌};
 ghost use Rattle.w_flow.specs.Flow.{step};
-ghost use Rattle.w_flow.specs.View.{flow_view, flow_if};
+ghost use Rattle.w_flow.specs.View.{flow_view, flow_if, HasWords};
 ghost use Rattle.w_rules.specs.InstructionTypes.{global_set_type, variable_op_type};
 ghost use Rattle.w_syntax.specs.declared.instructions.Op.TheVariants as plain;
 ghost use Rattle.w_locals.specs.Locals.{first_set, outer_sets};
@@ -60,11 +60,12 @@ pub(crate) fn variable_step(
     ensures sets { IfOk result (λ taken. IsTrue taken
         → SetsBy (plain.Variable op) locals.old locals.new) }
     ensures outer { OnOk result (outer_sets locals.new.sets ≡ outer_sets locals.old.sets) }
+    ensures words { HasWords cx.now.classes.now flow.old → HasWords cx.now.classes.now flow.new }
 {
     let classes = cx.classes;
     match op {
         VariableOp::LocalGet(local) => match locals.get_set(local) {
-            Some(kind) => flow.gives(kind),
+            Some(kind) => flow.gives(classes, kind),
             None => Ok(false),
         },
         VariableOp::LocalSet(local) => match locals.get(local) {
@@ -82,7 +83,7 @@ pub(crate) fn variable_step(
             None => Ok(false),
         },
         VariableOp::GlobalGet(global) => match cx.global(global) {
-            Some(found) => flow.gives(found.kind),
+            Some(found) => flow.gives(classes, found.kind),
             None => Ok(false),
         },
         VariableOp::GlobalSet(global) => match variable_global(cx, global) {

@@ -9,13 +9,13 @@ use Rattle.w_bodies.proofs.bodies.check_body.Goals as goal
 
 pub loop-packed-init : goal.loop-packed-init
 loop-packed-init c =
-    let b : Wanted = record { context = context_in c.args.cx.now; params = c.args.params.now; runs = c.args.runs.now; results = c.args.results.now } in
+    let b : Wanted = record { context = context_in c.args.setting.cx.now; params = c.args.params.now; runs = c.args.runs.now; results = c.args.setting.results.types.now } in
     let h = c.in_ok-checker.ensures in
-    begun c.args.cx.now b c.in_ok-checker.checker refl c.requires h.context h.classes h.stands
+    begun c.args.setting.cx.now b c.in_ok-checker.checker refl c.requires h.context h.classes h.stands
 
 pub returns-then-not-branch : goal.returns-then-not-branch
 returns-then-not-branch c =
-    let b : Wanted = record { context = context_in c.args.cx.now; params = c.args.params.now; runs = c.args.runs.now; results = c.args.results.now } in
+    let b : Wanted = record { context = context_in c.args.setting.cx.now; params = c.args.params.now; runs = c.args.runs.now; results = c.args.setting.results.types.now } in
     let is : List Instr = whole c.args.body.now in
     let n : ℕ = c.loop-packed.packed-index in
     let ps = c.instrs-packed-items.result.now in
@@ -27,7 +27,7 @@ returns-then-not-branch c =
 
 pub loop-packed-preserved : goal.loop-packed-preserved
 loop-packed-preserved c =
-    let b : Wanted = record { context = context_in c.args.cx.now; params = c.args.params.now; runs = c.args.runs.now; results = c.args.results.now } in
+    let b : Wanted = record { context = context_in c.args.setting.cx.now; params = c.args.params.now; runs = c.args.runs.now; results = c.args.setting.results.types.now } in
     let is : List Instr = whole c.args.body.now in
     let n : ℕ = c.loop-packed.packed-index in
     let ps = c.instrs-packed-items.result.now in
@@ -39,7 +39,7 @@ loop-packed-preserved c =
 
 pub returns : goal.returns
 returns c =
-    let b : Wanted = record { context = context_in c.args.cx.now; params = c.args.params.now; runs = c.args.runs.now; results = c.args.results.now } in
+    let b : Wanted = record { context = context_in c.args.setting.cx.now; params = c.args.params.now; runs = c.args.runs.now; results = c.args.setting.results.types.now } in
     let is : List Instr = whole c.args.body.now in
     measured b c.loop-packed.checker is c.args.body.now c.loop-packed.packed-index c.height.result c.depth.result refl (omega (arith, ap length c.instrs-packed-items.ensures, unpacked_length c.instrs-packed-items.result.now))
     c.loop-packed.invariant c.height.ensures c.depth.ensures

@@ -7,4 +7,4 @@ use Rattle.w_bodies.proofs.bodies.check_body.Given as goal
 -- the checker stands for the instructions so far, which the rules derive
 abbrev pub invariant-loop-packed : goal.invariant-loop-packed
 invariant-loop-packed l =
-    Reached (record { context = context_in l.cx; params = l.params; runs = l.runs; results = l.results }) l.checker (take l.packed-index (whole l.body))
+    Reached (record { context = context_in l.setting.cx.now; params = l.params; runs = l.runs; results = l.setting.results.types.now }) l.checker (take l.packed-index (whole l.body))

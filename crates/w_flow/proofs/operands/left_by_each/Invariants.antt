@@ -1,15 +1,15 @@
-use Rattle.std.proofs.Common.{◌≡◌, ◌≤◌, IsTrue, length, take}
+use Rattle.std.proofs.Common.{◌≡◌, ◌≤◌, length, take}
 use Rattle.w_types.specs.Rows.{row_of}
-use Rattle.w_flow.specs.Flow.{operand_test, pops}
+use Rattle.w_flow.specs.Flow.{pops}
+use Rattle.w_flow.specs.Operands.{row_in}
 use Rattle.w_flow.proofs.operands.left_by_each.Given as goal
 
--- a match that was found is one, and taking all the types from all the operands is taking the first i from the first n
+-- taking all the types from all the operands is taking the first i from the first n
 abbrev pub invariant-loop-i : goal.invariant-loop-i
 invariant-loop-i l = record {
   types : l.i ≤ length l.wanted;
   operands : l.n ≤ length l.operands;
-  found : IsTrue (operand_test l.classes l.found.operand l.found.kind);
-  same : pops l.classes l.any (row_of l.operands) (row_of l.wanted) ≡ pops l.classes l.any (row_of (take l.n l.operands)) (row_of (take l.i l.wanted));
+  same : pops l.classes l.any (row_in l.operands) (row_of l.wanted) ≡ pops l.classes l.any (row_in (take l.n l.operands)) (row_of (take l.i l.wanted));
 }
 
 abbrev pub decreases-loop-i : goal.decreases-loop-i

@@ -10,7 +10,7 @@ of_each (Ok a) P all = all a
 of_each (Err e) P all = tt
 
 pub returns-in-Some-clause-steps : goal.returns-in-Some-clause-steps
-returns-in-Some-clause-steps c = c.in-Some.ensures.steps c.args.locals.now c.args.results.now (c.args.kind.now ∷ outer_kinds c.args.outer.now)
+returns-in-Some-clause-steps c = c.in-Some.ensures.steps c.args.locals.now c.args.setting.now.results.types.now (c.args.kind.now ∷ outer_kinds c.args.outer.now)
 
 pub returns-in-Some-clause-sets : goal.returns-in-Some-clause-sets
 returns-in-Some-clause-sets c =

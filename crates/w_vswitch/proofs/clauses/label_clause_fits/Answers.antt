@@ -9,6 +9,6 @@ returns-in-Some-cont_of c = λ classes ts rs ls l there.
     clause_told cx.classes.now (placed cx ts rs ls) classes c.args.results.now c.args.tag l c.args.label.now c.in-Some-last_index.beneath.now c.in-Some-last_index.index
     c.in-Some.tag.now c.in-Some-cont_of.target.now there
     (found c.type_of_tag.result c.in-Some.tag _ c.type_of_tag.ensures c.in-Some.is)
-    c.in-Some-last_index.ensures
+    c.in-Some-last_index.ensures.index
     (found c.cont_of.result c.in-Some-cont_of.target _ c.cont_of.ensures c.in-Some-cont_of.is)
     c.label_matches.result c.label_matches.ensures

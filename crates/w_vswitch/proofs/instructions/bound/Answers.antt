@@ -1,19 +1,27 @@
-use Rattle.std.proofs.Common.{◌<◌, ◌≤◌, length, sym, subst, Option, List, arith}
-use Rattle.std.specs.Borrow.{Bor}
+use Rattle.std.proofs.Common.{◌<◌, ◌≤◌, length, sym, subst, Option, arith}
 use Rattle.std.specs.Option.{option_map}
-use Rattle.w_types.specs.declared.types.ValType.{ValType}
+use Rattle.w_flow.specs.TypeRows.{rows_type}
+use Rattle.w_flow.specs.declared.type_row.TypeRow.{TypeRow}
 use Rattle.w_vswitch.specs.Places.{placed}
 use Rattle.w_vswitch.specs.Rows.{BoundBy}
-use Rattle.w_vswitch.proofs.FoundTypes.{found}
-use Rattle.w_vswitch.proofs.Bindings.{no_longer}
+use Rattle.w_vswitch.proofs.FoundTypes.{found_rows}
+use Rattle.w_vswitch.proofs.Bindings.{no_longer, bind_row}
 use Rattle.w_vswitch.proofs.instructions.bound.Goals as goal
 
-pub returns-in_err-count : goal.returns-in_err-count
-returns-in_err-count c = λ classes ts rs ls.
-    let d = placed c.args.cx.now ts rs ls in
-    let P : Option (Bor (List ValType)) → Type 0 = λ o. BoundBy c.args.before c.args.after (option_map (λ v. v.now) o) d in
-    let longer : length c.in_ok-one.one.now.params < length c.in_ok-other.other.now.params =
-    (let gap : c.len-2.result ≤ c.len.result → ⊥ = c.in_err-count.ensures in omega (arith, c.len.ensures, c.len-2.ensures)) in
+pub returns-in_err-count-clause-bound : goal.returns-in_err-count-clause-bound
+returns-in_err-count-clause-bound c = λ classes ts rs ls.
+    let d = placed c.args.setting.now.cx.now ts rs ls in
+    let P : Option TypeRow → Type 0 = λ o. BoundBy c.args.before c.args.after (option_map (λ v. v.types.now) o) d in
+    let longer : length c.in_ok-one.one.params.types.now < length c.in_ok-other.other.params.types.now =
+    (let gap : length c.in_ok-other.other.params.types.now ≤ length c.in_ok-one.one.params.types.now → ⊥ = c.in_err-count.ensures in omega arith) in
     subst P (sym c.from_residual-in_err-count.ensures)
-    (no_longer d c.args.before c.args.after c.in_ok-one.one.now c.in_ok-other.other.now
-    (found c.cont_of.result c.in_ok-one.one _ c.cont_of.ensures c.in_ok-one.was) (found c.cont_of-2.result c.in_ok-other.other _ c.cont_of-2.ensures c.in_ok-other.was) longer)
+    (no_longer d c.args.before c.args.after (rows_type c.in_ok-one.one) (rows_type c.in_ok-other.other)
+    (found_rows c.cont_of.result c.in_ok-one.one _ c.cont_of.ensures.kind c.in_ok-one.was) (found_rows c.cont_of-2.result c.in_ok-other.other _ c.cont_of-2.ensures.kind c.in_ok-other.was) longer)
+
+pub returns-then-matches_result-2-clause-bound : goal.returns-then-matches_result-2-clause-bound
+returns-then-matches_result-2-clause-bound c = λ classes ts rs ls.
+    let d = placed c.args.setting.now.cx.now ts rs ls in
+    bind_row d c.args.before c.args.after c.in_ok-count.count (rows_type c.in_ok-one.one) (rows_type c.in_ok-other.other) c.front.result.types.now _
+    (found_rows c.cont_of.result c.in_ok-one.one _ c.cont_of.ensures.kind c.in_ok-one.was) (found_rows c.cont_of-2.result c.in_ok-other.other _ c.cont_of-2.ensures.kind c.in_ok-other.was)
+    (let e = c.in_ok-count.ensures in omega arith) (let e = c.in_ok-count.ensures in omega arith) c.front.ensures.types c.split_at.ensures.back
+    ((c.matches_result.ensures.related d.types classes).0 c.if-matches_result.true) ((c.matches_result-then-matches_result.ensures.related d.types classes).0 c.if-matches_result-2.true)

@@ -1,29 +1,32 @@
 use Rattle.std.proofs.Common.{List, None, refl, sym, subst, ap, ◌∙◌}
 use Rattle.w_types.specs.declared.types.ValType.{ValType}
 use Rattle.w_types.specs.Rows.{◌▹◌, row_of}
+use Rattle.w_flow.specs.TypeRows.{rows_type}
 use Rattle.w_rules.specs.InstructionTypes.{nullable}
 use Rattle.w_syntax.specs.declared.instructions.SwitchingOp.TheVariants as op
 use Rattle.w_vswitch.specs.Places.{placed}
 use Rattle.w_vswitch.specs.Rows.{RowAt, last_index}
-use Rattle.w_vswitch.proofs.FoundTypes.{found}
-use Rattle.w_vswitch.proofs.Switches.{switch_row, none_there, same_matches}
+use Rattle.w_vswitch.proofs.FoundTypes.{found_rows}
+use Rattle.w_vswitch.proofs.LastTypes.{front_same, front_within}
+use Rattle.w_vswitch.proofs.Switches.{switch_row, none_there}
 use Rattle.w_vswitch.proofs.instructions.switched.Goals as goal
 
-pub returns-then-matches_result-2 : goal.returns-then-matches_result-2
-returns-then-matches_result-2 c = λ classes ts rs ls.
-    let d = placed c.args.cx.now ts rs ls in
-    let one = c.in_ok-one.one.now in
-    let other = c.in_ok-other.other.now in
-    let tag = c.in_ok-tag.tag.now in
-    let P : List ValType → Type 0 = λ us. RowAt (op.Switch c.args.index c.args.tag) (row_of c.in_ok-beneath.beneath.now ▹ nullable c.args.index) (row_of us) None d in
-    let here = c.if-matches_result.ensures in
-    let there = c.if-matches_result-2.ensures in
-    subst P (sym c.as_slice-then-matches_result-2-2.ensures)
+pub front-requires-clause-there : goal.front-requires-clause-there
+front-requires-clause-there c = front_within c.in_ok-one.one.params.types.now c.in_ok-beneath.beneath.now c.in_ok-beneath.ensures.beneath
+
+pub returns-then-matches_result-2-clause-switched : goal.returns-then-matches_result-2-clause-switched
+returns-then-matches_result-2-clause-switched c = λ classes ts rs ls.
+    let d = placed c.args.setting.now.cx.now ts rs ls in
+    let one = rows_type c.in_ok-one.one in
+    let other = rows_type c.in_ok-other.other in
+    let tag = rows_type c.in_ok-tag.tag in
+    let P : List ValType → Type 0 = λ us. RowAt (op.Switch c.args.index c.args.tag) (row_of us ▹ nullable c.args.index) (row_of other.params) None d in
+    subst P (sym (c.front.ensures.types ∙ front_same one.params c.in_ok-beneath.beneath.now c.in_ok-beneath.ensures.beneath))
     (switch_row d c.args.index c.args.tag c.in_ok-beneath.back one other tag c.in_ok-beneath.beneath.now
-    (found c.cont_of.result c.in_ok-one.one _ c.cont_of.ensures c.in_ok-one.was)
-    (ap (λ (us : List ValType). last_index (row_of us)) (sym c.as_slice.ensures) ∙ c.in_ok-beneath.ensures)
-    (found c.cont_of-2.result c.in_ok-other.other _ c.cont_of-2.ensures c.in_ok-other.was)
-    (found c.type_of_tag.result c.in_ok-tag.tag _ c.type_of_tag.ensures c.in_ok-tag.was)
-    (none_there tag.params (sym c.len.ensures ∙ c.if-len-eq0.true))
-    (same_matches d.types _ _ _ _ c.as_slice-then-len-eq0.ensures c.as_slice-then-len-eq0-2.ensures ((here.related d.types classes).0 refl))
-    (same_matches d.types _ _ _ _ c.as_slice-then-matches_result.ensures c.as_slice-then-matches_result-2.ensures ((there.related d.types classes).0 refl)))
+    (found_rows c.cont_of.result c.in_ok-one.one _ c.cont_of.ensures.kind c.in_ok-one.was)
+    c.in_ok-beneath.ensures.index
+    (found_rows c.cont_of-2.result c.in_ok-other.other _ c.cont_of-2.ensures.kind c.in_ok-other.was)
+    (found_rows c.type_of_tag.result c.in_ok-tag.tag _ c.type_of_tag.ensures.kind c.in_ok-tag.was)
+    (none_there tag.params c.if-tag-eq0.true)
+    ((c.matches_result.ensures.related d.types classes).0 c.if-matches_result.true)
+    ((c.matches_result-then-matches_result.ensures.related d.types classes).0 c.if-matches_result-2.true))

@@ -8,5 +8,8 @@ use Rattle.w_vplain.proofs.checker.Checker.begin.Goals as goal
 pub returns-clause-stands : goal.returns-clause-stands
 returns-clause-stands c = λ types.
     let s = set_first c.args.params.now c.args.runs.now in
-    let frames = begin_frames (record { kind = _; flow = c.new-2.result; base = Some 0 }) c.clear.new.self.items c.in_ok-locals.locals.sets s refl c.new-2.ensures c.clear.ensures.items c.in_ok-locals.ensures.sets in
+    let frames = begin_frames (record { kind = _; flow = c.new.result; base = Some 0 }) c.clear.new.self.items c.in_ok-locals.locals.sets s refl c.new.ensures.none c.clear.ensures.items c.in_ok-locals.ensures.sets in
     begins _ s types (ap (λ (fs : List Frame). Some fs) frames) frames refl refl (bases_none c.clear.new.self.items c.clear.ensures.items)
+
+pub invariant_of-result-clause-top_words : goal.invariant_of-result-clause-top_words
+invariant_of-result-clause-top_words c = c.new.ensures.words c.args.setting.cx.now.classes.now

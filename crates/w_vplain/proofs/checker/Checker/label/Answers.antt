@@ -14,6 +14,6 @@ pub returns : goal.returns
 returns c = λ s w k g.
     let here = c.args.self.now in
     let P : List ValType → List Frame → _ = λ (rs : List ValType) (xs : List Frame).
-    slice_get (labels_of (in_body (context_in here.setting.cx.now) [] rs) (here.top.kind ∷ outer_kinds xs)) c.args.index ≡ option_map (λ v. row_of v.now) c.label_of.result in
+    slice_get (labels_of (in_body (context_in here.setting.cx.now) [] rs) (here.top.kind ∷ outer_kinds xs)) c.args.index ≡ option_map (λ v. row_of v.types.now) c.label_of.result in
     label_told here s w c.args.index k g c.if-self.false
-    ∙ subst (P here.results.now) c.as_slice.ensures.value c.label_of.ensures
+    ∙ subst (P here.setting.results.types.now) c.as_slice.ensures.value c.label_of.ensures.label

@@ -1,0 +1,67 @@
+-- That the words of operands and rows are right has one proof at most, so that a struct can keep it.
+use Rattle.std.specs.Prelude.{◌≡◌, ℕ, List, [], ◌∷◌, Option, Some, None, IfSome, true}
+use Rattle.std.specs.Coded.{×_prop, Unit-prop, Coded-set, coded_bool, coded_ℕ}
+use Rattle.w_types.specs.declared.types.CompType.{CompType}
+use Rattle.w_types.specs.declared.types.CompType.TheVariants as comp
+use Rattle.w_types.specs.declared.types.ValType.{ValType}
+use Rattle.w_canon.specs.declared.entry.Entry.{Entry}
+use Rattle.w_rules.specs.Operands.{Operand as TheType, Known, Bottom, BottomRef}
+use Rattle.w_flow.specs.Operands.{type_of, IsWord, AreWorded, AreWanted}
+use Rattle.w_flow.specs.TypeRows.{AreGiven, AreReady, IsReady, IsReadyFor, HasReady, AreReadyTypes, AreTypeRows}
+use Rattle.w_flow.specs.declared.operand.Operand.{Operand}
+use Rattle.w_flow.specs.declared.type_row.RowWords.{RowWords}
+use Rattle.w_flow.specs.declared.type_row.TypeRow.{TypeRow}
+use Rattle.w_flow.specs.declared.type_rows.ReadyRow.{ReadyRow}
+use Rattle.w_flow.specs.declared.type_rows.ReadyType.{ReadyType}
+use Rattle.w_flow.specs.declared.type_rows.TypeRows.{TypeRows}
+
+none-prop : IsProp ⊥
+none-prop x y = absurd x
+
+IsWord-prop : (es : List Entry) (t : TheType) (w : ℕ) → IsProp (IsWord es t w)
+IsWord-prop es (Known t) w = Coded-set coded_bool _ true
+IsWord-prop es Bottom w = Coded-set coded_ℕ w 0
+IsWord-prop es (BottomRef n) w = Coded-set coded_ℕ w _
+
+pub AreWorded-prop : (es : List Entry) (xs : List Operand) → IsProp (AreWorded es xs)
+AreWorded-prop es [] = Unit-prop
+AreWorded-prop es (x ∷ xs) = ×_prop (IsWord-prop es (type_of x) x.word) (AreWorded-prop es xs)
+
+AreWanted-prop : (es : List Entry) (ts : List ValType) (ws : List ℕ) → IsProp (AreWanted es ts ws)
+AreWanted-prop es [] [] = Unit-prop
+AreWanted-prop es [] (w ∷ ws) = none-prop
+AreWanted-prop es (t ∷ ts) [] = none-prop
+AreWanted-prop es (t ∷ ts) (w ∷ ws) = ×_prop (Coded-set coded_bool _ true) (AreWanted-prop es ts ws)
+
+AreGiven-prop : (es : List Entry) (ts : List ValType) (xs : List Operand) → IsProp (AreGiven es ts xs)
+AreGiven-prop es [] [] = Unit-prop
+AreGiven-prop es [] (x ∷ xs) = none-prop
+AreGiven-prop es (t ∷ ts) [] = none-prop
+AreGiven-prop es (t ∷ ts) (x ∷ xs) = ×_prop (×_prop (Coded-set coded_bool _ true) (Coded-set coded_ℕ _ _)) (AreGiven-prop es ts xs)
+
+AreReady-prop : (es : List Entry) (ts : List ValType) (xs : List Operand) (ws : List ℕ) → IsProp (AreReady es ts xs ws)
+AreReady-prop es ts xs ws = ×_prop (AreGiven-prop es ts xs) (AreWanted-prop es ts ws)
+
+by_words : (es : List Entry) (ts : List ValType) (o : Option RowWords) → IsProp (IfSome o (λ (w : RowWords). AreReady es ts w.given.now w.wanted.now))
+by_words es ts None = Unit-prop
+by_words es ts (Some w) = AreReady-prop es ts w.given.now w.wanted.now
+
+pub IsReady-prop : (es : List Entry) (r : TypeRow) → IsProp (IsReady es r)
+IsReady-prop es r = by_words es r.types.now r.words
+
+IsReadyFor-prop : (es : List Entry) (ts : List ValType) (o : Option ReadyRow) → IsProp (IsReadyFor es ts o)
+IsReadyFor-prop es ts None = Unit-prop
+IsReadyFor-prop es ts (Some r) = AreReady-prop es ts r.given.items r.wanted.items
+
+HasReady-prop : (es : List Entry) (t : CompType) (r : ReadyType) → IsProp (HasReady es t r)
+HasReady-prop es (comp.Func f) r = ×_prop (IsReadyFor-prop es f.params r.params) (IsReadyFor-prop es f.results r.results)
+HasReady-prop es (comp.Cont x) r = Unit-prop
+
+AreReadyTypes-prop : (es : List Entry) (ts : List CompType) (rs : List ReadyType) → IsProp (AreReadyTypes es ts rs)
+AreReadyTypes-prop es [] [] = Unit-prop
+AreReadyTypes-prop es [] (r ∷ rs) = none-prop
+AreReadyTypes-prop es (t ∷ ts) [] = Unit-prop
+AreReadyTypes-prop es (t ∷ ts) (r ∷ rs) = ×_prop (HasReady-prop es t r) (AreReadyTypes-prop es ts rs)
+
+pub AreTypeRows-prop : (es : List Entry) (ts : List CompType) (rows : TypeRows) → IsProp (AreTypeRows es ts rows)
+AreTypeRows-prop es ts rows = AreReadyTypes-prop es ts rows.types.items

@@ -1,0 +1,161 @@
+//! What stands ready for the types of a module.
+ghost use Rattle.std.specs.Prelude.{◌≡◌, IfOk};
+ghost use Rattle.w_types.specs.Groups.{types_of};
+ghost use Rattle.w_flow.specs.TypeRows.{AreReady, IsReady, IsReadyFor, HasReady, AreTypeRows};
+
+use crate::operand::Operand;
+use crate::operands::WIDE;
+use crate::type_row::{RowWords, TypeRow};
+use std::alloc::{AllocError, Global};
+use w_canon::Classes;
+use w_rules::Context;
+use w_types::{CompType, PackedType, RecGroups};
+
+/// What stands ready for a row of types.
+#[derive(Drop)]
+pub(crate) struct ReadyRow {
+    given: Vec<Operand>,
+    wanted: Vec<u32>,
+}
+
+/// What stands ready for a function type, where it is wide.
+#[derive(Drop)]
+pub(crate) struct ReadyType {
+    params: Option<ReadyRow>,
+    results: Option<ReadyRow>,
+}
+
+/// Of each function type of a module the parameters and results, of which wide ones stand ready: see `AreTypeRows` of `specs/TypeRows.antt`.
+#[derive(Drop)]
+pub struct TypeRows {
+    types: Vec<ReadyType>,
+}
+
+/// The parameters and the results of a function type.
+#[derive(Clone, Copy)]
+pub struct FuncRows<'r> {
+    pub params: TypeRow<'r>,
+    pub results: TypeRow<'r>,
+}
+
+// What stands ready for these types. It fails only for want of memory.
+fn ready_row(alloc: Global, classes: &Classes, types: &[PackedType]) -> Result<ReadyRow, AllocError>
+    ensures { IfOk result (λ r. AreReady classes.now types.now r.given.items r.wanted.items) }
+{
+    let mut given = Vec::new(alloc);
+    let mut wanted = Vec::new(alloc);
+    for kind in types {
+        given.push(Operand::known(classes, *kind))?;
+        wanted.push(classes.wanted_word(*kind))?;
+    }
+    Ok(ReadyRow { given, wanted })
+}
+
+// The same, where the row is wide.
+fn ready_if_wide(
+    alloc: Global,
+    classes: &Classes,
+    types: &[PackedType],
+) -> Result<Option<ReadyRow>, AllocError>
+    ensures { IfOk result (λ r. IsReadyFor classes.now types.now r) }
+{
+    if types.len() < WIDE {
+        return Ok(None);
+    }
+    Ok(Some(ready_row(alloc, classes, types)?))
+}
+
+// What stands ready for a type, which is a function type or needs nothing. It fails only for want of memory.
+fn ready_type(alloc: Global, classes: &Classes, kind: &CompType) -> Result<ReadyType, AllocError>
+    ensures { IfOk result (HasReady classes.now kind.now) }
+{
+    match kind {
+        CompType::Func(function) => Ok(ReadyType {
+            params: ready_if_wide(alloc, classes, function.params.as_slice())?,
+            results: ready_if_wide(alloc, classes, function.results.as_slice())?,
+        }),
+        CompType::Cont(_) => Ok(ReadyType {
+            params: None,
+            results: None,
+        }),
+    }
+}
+
+// These types, with what stands ready for them.
+fn row_of<'r>(
+    classes: &Classes,
+    types: &'r [PackedType],
+    ready: &'r Option<ReadyRow>,
+) -> TypeRow<'r>
+    requires { IsReadyFor classes.now types.now ready.now }
+    ensures types { result.types.now ≡ types.now }
+    ensures ready { IsReady classes.now result }
+{
+    match ready {
+        Some(ready) => TypeRow {
+            types,
+            words: Some(RowWords {
+                given: ready.given.as_slice(),
+                wanted: ready.wanted.as_slice(),
+            }),
+        },
+        None => TypeRow::bare(types),
+    }
+}
+
+impl TypeRows {
+    ghost use Rattle.std.specs.Prelude.{◌≡◌, List, IfOk, IfSome};
+    ghost use Rattle.std.specs.Option.{option_map};
+    ghost use Rattle.w_types.specs.declared.types.CompType.{CompType};
+    ghost use Rattle.w_types.specs.Groups.{types_of};
+    ghost use Rattle.w_canon.specs.declared.entry.Entry.{Entry};
+    ghost use Rattle.w_rules.specs.Context.{func_of};
+    ghost use Rattle.w_rules.specs.View.{context_in};
+    ghost use Rattle.w_flow.specs.TypeRows.{AreTypeRows, AreReadyRows, rows_type};
+
+    /// Nothing stands ready, whatever the types are.
+    pub fn none(alloc: Global) -> TypeRows
+        ensures { (es : List Entry) (ts : List CompType) → AreTypeRows es ts result }
+    {
+        TypeRows {
+            types: Vec::new(alloc),
+        }
+    }
+
+    /// What stands ready for these types. It fails only for want of memory.
+    pub fn of_types(
+        alloc: Global,
+        classes: &Classes,
+        groups: &RecGroups,
+    ) -> Result<TypeRows, AllocError>
+        ensures { IfOk result (λ rows. AreTypeRows classes.now (types_of groups.now) rows) }
+    {
+        let mut types = Vec::new(alloc);
+        for index in 0..groups.type_count() {
+            match groups.get(index) {
+                Some(kind) => types.push(ready_type(alloc, classes, kind)?)?,
+                None => unreachable!(),
+            }
+        }
+        Ok(TypeRows { types })
+    }
+
+    /// The function type of this index, where the type of this index is one.
+    pub fn func_of<'r>(&'r self, cx: &Context<'r>, index: u32) -> Option<FuncRows<'r>>
+        requires { AreTypeRows cx.now.classes.now (types_of cx.now.owner.now.types) self.now }
+        ensures kind { option_map rows_type result ≡ func_of (context_in cx.now) index }
+        ensures ready { IfSome result (λ rows. AreReadyRows cx.now.classes.now rows) }
+    {
+        let kind = cx.func_of(index)?;
+        match self.types.get(index as usize) {
+            Some(ready) => Some(FuncRows {
+                params: row_of(cx.classes, kind.params.as_slice(), &ready.params),
+                results: row_of(cx.classes, kind.results.as_slice(), &ready.results),
+            }),
+            None => Some(FuncRows {
+                params: TypeRow::bare(kind.params.as_slice()),
+                results: TypeRow::bare(kind.results.as_slice()),
+            }),
+        }
+    }
+}
