@@ -1,7 +1,6 @@
 -- Operands whose words have no bit in common with those of types that are wanted stand for these types.
-use Rattle.std.proofs.Common.{◌≡◌, ℕ, zero, suc, ◌+◌, ◌-◌, ◌<◌, ◌≤◌, Bool, true, false, not, ◌||◌, List, [], ◌∷◌, ◌++◌, length, length-drop, map, take, drop, get_or, bit_and, Option, Some, None, if◌then◌else◌, refl, sym, ap, ◌∙◌, subst, arith}
-use Rattle.std.specs.Prelude.{IsTrue}
-use Rattle.std.proofs.lemmas.List.{map-append, length-map, take_more, take_all, length-take}
+use Rattle.std.proofs.Common.{◌≡◌, ℕ, zero, suc, ◌+◌, ◌-◌, ◌<◌, ◌≤◌, Bool, true, not, List, [], ◌∷◌, ◌++◌, length, length-drop, take, drop, get_or, bit_and, Some, None, if◌then◌else◌, refl, sym, ap, ◌∙◌, subst, arith}
+use Rattle.std.proofs.lemmas.List.{length-map, take_more, take_all, length-take, get_or-map}
 use Rattle.w_types.specs.declared.types.ValType.{ValType}
 use Rattle.w_types.specs.declared.types.ValType.TheVariants.{I32, I64, Ref}
 use Rattle.w_types.specs.Rows.{Row, ε, ◌▹◌, ◌⧺◌, onto, row_of}
@@ -13,9 +12,9 @@ use Rattle.w_canon.proofs.WordsOfTypes.{parts, bit_below, wanted_mark_below, nul
 use Rattle.w_rules.specs.Operands.{Operand as TheType, Known, Bottom, BottomRef}
 use Rattle.w_rules.specs.Matching.{known}
 use Rattle.w_flow.specs.Flow.{operand_test, is_null_test, pops}
-use Rattle.w_flow.specs.Fitting.{NoneCommon}
+use Rattle.w_flow.specs.Fitting.{AreApart, words_of}
 use Rattle.w_flow.specs.TypeRows.{AreGiven, AreReady}
-use Rattle.w_flow.specs.Operands.{type_of, types_of, row_in, IsWord, IsWorded, AreWorded, AreWanted}
+use Rattle.w_flow.specs.Operands.{type_of, types_of, row_in, IsWord, AreWorded, AreWords}
 use Rattle.w_flow.specs.declared.operand.Operand.{Operand}
 use Rattle.w_flow.proofs.SameTypes.{taken_common}
 use Rattle.w_flow.proofs.WordedOperands.{types_take, types_drop, types_length, worded_take, worded_drop, given_types, given_words}
@@ -43,47 +42,67 @@ word_fits es (BottomRef n) w u v g h e = null_fits es n u v (wanted_found es u v
 -- ## Lists
 
 -- one more of each
-pub common_more : (xs : List Operand) (ws : List ℕ) (i : ℕ) (x : Operand) (w : ℕ) → i < length xs → i < length ws →
-    bit_and (get_or xs i x).word (get_or ws i w) ≡ 0 → NoneCommon (take i xs) (take i ws) → NoneCommon (take (i + 1) xs) (take (i + 1) ws)
-common_more xs ws i x w h k e before =
-    subst (λ (ys : List Operand). NoneCommon ys (take (i + 1) ws)) (sym (take_more xs i x h))
-    (subst (λ (vs : List ℕ). NoneCommon (take i xs ++ get_or xs i x ∷ []) vs) (sym (take_more ws i w k))
-    (behind (take i xs) (take i ws) (get_or xs i x) (get_or ws i w) (omega (arith, length-take i xs, length-take i ws)) before e))
+pub apart_more : (vs ws : List ℕ) (i v w : ℕ) → i < length vs → i < length ws → bit_and (get_or vs i v) (get_or ws i w) ≡ 0 →
+    AreApart (take i vs) (take i ws) → AreApart (take (i + 1) vs) (take (i + 1) ws)
+apart_more vs ws i v w h k e before =
+    subst (λ (us : List ℕ). AreApart us (take (i + 1) ws)) (sym (take_more vs i v h))
+    (subst (AreApart (take i vs ++ get_or vs i v ∷ [])) (sym (take_more ws i w k))
+    (behind (take i vs) (take i ws) (get_or vs i v) (get_or ws i w) (omega (arith, length-take i vs, length-take i ws)) before e))
   where
-    behind : (ys : List Operand) (vs : List ℕ) (y : Operand) (v : ℕ) → length ys ≡ length vs → NoneCommon ys vs → bit_and y.word v ≡ 0 → NoneCommon (ys ++ y ∷ []) (vs ++ v ∷ [])
-    behind [] [] y v l n f = (f, tt)
-    behind [] (u ∷ vs) y v l n f = absurd (omega arith)
-    behind (z ∷ ys) [] y v l n f = absurd (omega arith)
-    behind (z ∷ ys) (u ∷ vs) y v l n f = (n.0, behind ys vs y v (omega arith) n.1 f)
+    behind : (us ts : List ℕ) (u t : ℕ) → length us ≡ length ts → AreApart us ts → bit_and u t ≡ 0 → AreApart (us ++ u ∷ []) (ts ++ t ∷ [])
+    behind [] [] u t l n f = (f, tt)
+    behind [] (s ∷ ts) u t l n f = absurd (omega arith)
+    behind (r ∷ us) [] u t l n f = absurd (omega arith)
+    behind (r ∷ us) (s ∷ ts) u t l n f = (n.0, behind us ts u t (omega arith) n.1 f)
+
+-- one more operand, with one more word
+pub operands_apart_more : (xs : List Operand) (ws : List ℕ) (i : ℕ) (x : Operand) (w : ℕ) → i < length xs → i < length ws → bit_and (get_or xs i x).word (get_or ws i w) ≡ 0 →
+    AreApart (take i (words_of xs)) (take i ws) → AreApart (take (i + 1) (words_of xs)) (take (i + 1) ws)
+operands_apart_more xs ws i x w h k e =
+    apart_more (words_of xs) ws i x.word w (omega (arith, length-map xs (λ (o : Operand). o.word))) k
+    (ap (λ (n : ℕ). bit_and n (get_or ws i w)) (get_or-map (λ (o : Operand). o.word) xs i x x.word h) ∙ e)
 
 -- all, behind the last
-pub common_all : (xs : List Operand) (ws : List ℕ) (i : ℕ) → length xs ≡ length ws → length ws ≤ i → NoneCommon (take i xs) (take i ws) → NoneCommon xs ws
-common_all xs ws i same h n =
-    subst (λ (ys : List Operand). NoneCommon ys ws) (take_all i xs (omega arith)) (subst (NoneCommon (take i xs)) (take_all i ws h) n)
+pub apart_all : (vs ws : List ℕ) (i : ℕ) → length vs ≡ length ws → length ws ≤ i → AreApart (take i vs) (take i ws) → AreApart vs ws
+apart_all vs ws i same h n = subst (λ (us : List ℕ). AreApart us ws) (take_all i vs (omega arith)) (subst (AreApart (take i vs)) (take_all i ws h) n)
+
+pub operands_apart : (xs : List Operand) (ws : List ℕ) (i : ℕ) → length xs ≡ length ws → length ws ≤ i → AreApart (take i (words_of xs)) (take i ws) → AreApart (words_of xs) ws
+operands_apart xs ws i same = apart_all (words_of xs) ws i (length-map xs (λ (o : Operand). o.word) ∙ same)
+
+-- ## Lists of words
+
+module _ (P : ValType → ℕ → Type 0) where
+  pub words_take : (n : ℕ) (ts : List ValType) (ws : List ℕ) → AreWords P ts ws → AreWords P (take n ts) (take n ws)
+  words_take zero ts ws a = tt
+  words_take (suc n) [] [] a = tt
+  words_take (suc n) [] (w ∷ ws) a = absurd a
+  words_take (suc n) (t ∷ ts) [] a = absurd a
+  words_take (suc n) (t ∷ ts) (w ∷ ws) a = (a.0, words_take n ts ws a.1)
+
+  pub words_drop : (n : ℕ) (ts : List ValType) (ws : List ℕ) → AreWords P ts ws → AreWords P (drop n ts) (drop n ws)
+  words_drop zero ts ws a = a
+  words_drop (suc n) [] [] a = tt
+  words_drop (suc n) [] (w ∷ ws) a = absurd a
+  words_drop (suc n) (t ∷ ts) [] a = absurd a
+  words_drop (suc n) (t ∷ ts) (w ∷ ws) a = words_drop n ts ws a.1
+
+  pub words_length : (ts : List ValType) (ws : List ℕ) → AreWords P ts ws → length ws ≡ length ts
+  words_length [] [] a = refl
+  words_length [] (w ∷ ws) a = absurd a
+  words_length (t ∷ ts) [] a = absurd a
+  words_length (t ∷ ts) (w ∷ ws) a = ap suc (words_length ts ws a.1)
+
+  pub words_more : (ts : List ValType) (ws : List ℕ) (t : ValType) (w : ℕ) → AreWords P ts ws → P t w → AreWords P (ts ++ t ∷ []) (ws ++ w ∷ [])
+  words_more [] [] t w a b = (b, tt)
+  words_more [] (v ∷ ws) t w a b = absurd a
+  words_more (u ∷ ts) [] t w a b = absurd a
+  words_more (u ∷ ts) (v ∷ ws) t w a b = (a.0, words_more ts ws t w a.1 b)
+
+-- ## Operands for types
 
 module _ (es : List Entry) where
-  pub wanted_take : (n : ℕ) (ts : List ValType) (ws : List ℕ) → AreWanted es ts ws → AreWanted es (take n ts) (take n ws)
-  wanted_take zero ts ws a = tt
-  wanted_take (suc n) [] [] a = tt
-  wanted_take (suc n) [] (w ∷ ws) a = absurd a
-  wanted_take (suc n) (t ∷ ts) [] a = absurd a
-  wanted_take (suc n) (t ∷ ts) (w ∷ ws) a = (a.0, wanted_take n ts ws a.1)
-
-  pub wanted_drop : (n : ℕ) (ts : List ValType) (ws : List ℕ) → AreWanted es ts ws → AreWanted es (drop n ts) (drop n ws)
-  wanted_drop zero ts ws a = a
-  wanted_drop (suc n) [] [] a = tt
-  wanted_drop (suc n) [] (w ∷ ws) a = absurd a
-  wanted_drop (suc n) (t ∷ ts) [] a = absurd a
-  wanted_drop (suc n) (t ∷ ts) (w ∷ ws) a = wanted_drop n ts ws a.1
-
-  pub wanted_length : (ts : List ValType) (ws : List ℕ) → AreWanted es ts ws → length ws ≡ length ts
-  wanted_length [] [] a = refl
-  wanted_length [] (w ∷ ws) a = absurd a
-  wanted_length (t ∷ ts) [] a = absurd a
-  wanted_length (t ∷ ts) (w ∷ ws) a = ap suc (wanted_length ts ws a.1)
-
   -- operands that stand for types, behind others that do
-  stand_onto : (p : Bool) (r : Row TheType) (q : Row ValType) (xs : List Operand) (ts : List ValType) (ws : List ℕ) → AreWorded es xs → AreWanted es ts ws → NoneCommon xs ws →
+  stand_onto : (p : Bool) (r : Row TheType) (q : Row ValType) (xs : List Operand) (ts : List ValType) (ws : List ℕ) → AreWorded es xs → AreWords (IsWanted es) ts ws → AreApart (words_of xs) ws →
       length xs ≡ length ts → pops es p r q ≡ Some ε → pops es p (onto r (types_of xs)) (onto q ts) ≡ Some ε
   stand_onto p r q [] [] ws a b c l e = e
   stand_onto p r q [] (t ∷ ts) ws a b c l e = absurd (omega arith)
@@ -94,18 +113,19 @@ module _ (es : List Entry) where
       (ap (λ (d : Bool). if d then pops es p r q else None) (word_fits es (type_of x) x.word t w a.0 b.0 c.0) ∙ e)
 
   -- operands whose words have no bit in common with those of these types stand for them
-  pub stand_all : (p : Bool) (xs : List Operand) (ts : List ValType) (ws : List ℕ) → AreWorded es xs → AreWanted es ts ws → NoneCommon xs ws →
+  pub stand_all : (p : Bool) (xs : List Operand) (ts : List ValType) (ws : List ℕ) → AreWorded es xs → AreWords (IsWanted es) ts ws → AreApart (words_of xs) ws →
       length xs ≡ length ts → pops es p (row_in xs) (row_of ts) ≡ Some ε
   stand_all p xs ts ws a b c l = stand_onto p ε ε xs ts ws a b c l refl
 
   -- behind so many operands and types the others stand for each other
-  pub taken_apart : (p : Bool) (xs : List Operand) (ts : List ValType) (ws : List ℕ) (n m : ℕ) → AreWorded es xs → AreWanted es ts ws → length xs - n ≡ length ts - m →
-      NoneCommon (take (length xs - n) (drop n xs)) (take (length ws - m) (drop m ws)) →
+  pub taken_apart : (p : Bool) (xs : List Operand) (ts : List ValType) (ws : List ℕ) (n m : ℕ) → AreWorded es xs → AreWords (IsWanted es) ts ws → length xs - n ≡ length ts - m →
+      AreApart (words_of (take (length xs - n) (drop n xs))) (take (length ws - m) (drop m ws)) →
       pops es p (row_in xs) (row_of ts) ≡ pops es p (row_in (take n xs)) (row_of (take m ts))
   taken_apart p xs ts ws n m a b l c =
-      let long : length ws ≡ length ts = wanted_length ts ws b in
-      let wanted : AreWanted es (take (length ts - m) (drop m ts)) (take (length ws - m) (drop m ws)) =
-      subst (λ (k : ℕ). AreWanted es (take (length ts - m) (drop m ts)) (take k (drop m ws))) (omega arith) (wanted_take (length ts - m) (drop m ts) (drop m ws) (wanted_drop m ts ws b)) in
+      let long : length ws ≡ length ts = words_length (IsWanted es) ts ws b in
+      let wanted : AreWords (IsWanted es) (take (length ts - m) (drop m ts)) (take (length ws - m) (drop m ws)) =
+      subst (λ (k : ℕ). AreWords (IsWanted es) (take (length ts - m) (drop m ts)) (take k (drop m ws))) (omega arith)
+      (words_take (IsWanted es) (length ts - m) (drop m ts) (drop m ws) (words_drop (IsWanted es) m ts ws b)) in
       let many : length (take (length xs - n) (drop n xs)) ≡ length (take (length ts - m) (drop m ts)) =
       omega (arith, length-take (length xs - n) (drop n xs), length-take (length ts - m) (drop m ts), length-drop n xs, length-drop m ts) in
       let stand = stand_all p (take (length xs - n) (drop n xs)) (take (length ts - m) (drop m ts)) (take (length ws - m) (drop m ws))
@@ -125,24 +145,47 @@ module _ (es : List Entry) where
   given_take (suc n) (t ∷ ts) [] g = absurd g
   given_take (suc n) (t ∷ ts) (x ∷ xs) g = (g.0, given_take n ts xs g.1)
 
-  pub ready_take : (n : ℕ) (ts : List ValType) (xs : List Operand) (ws : List ℕ) → AreReady es ts xs ws → AreReady es (take n ts) (take n xs) (take n ws)
-  ready_take n ts xs ws r = (given_take n ts xs r.0, wanted_take n ts ws r.1)
+  given_drop : (n : ℕ) (ts : List ValType) (xs : List Operand) → AreGiven es ts xs → AreGiven es (drop n ts) (drop n xs)
+  given_drop zero ts xs g = g
+  given_drop (suc n) [] [] g = tt
+  given_drop (suc n) [] (x ∷ xs) g = absurd g
+  given_drop (suc n) (t ∷ ts) [] g = absurd g
+  given_drop (suc n) (t ∷ ts) (x ∷ xs) g = given_drop n ts xs g.1
+
+  -- what stands ready for the first types, and for the others
+  module _ (n : ℕ) (ts : List ValType) (xs ys : List Operand) (gs hs ws vs : List ℕ) where
+    pub ready_front : ys ≡ take n xs → hs ≡ take n gs → vs ≡ take n ws → AreReady es ts xs gs ws → AreReady es (take n ts) ys hs vs
+    ready_front e f g r =
+        subst (λ (zs : List Operand). AreReady es (take n ts) zs hs vs) (sym e)
+        (subst (λ (us : List ℕ). AreReady es (take n ts) (take n xs) us vs) (sym f)
+        (subst (AreReady es (take n ts) (take n xs) (take n gs)) (sym g)
+        (given_take n ts xs r.0, (words_take (IsGiven es) n ts gs r.1.0, words_take (IsWanted es) n ts ws r.1.1))))
+
+    pub ready_behind : ys ≡ drop n xs → hs ≡ drop n gs → vs ≡ drop n ws → AreReady es ts xs gs ws → AreReady es (drop n ts) ys hs vs
+    ready_behind e f g r =
+        subst (λ (zs : List Operand). AreReady es (drop n ts) zs hs vs) (sym e)
+        (subst (λ (us : List ℕ). AreReady es (drop n ts) (drop n xs) us vs) (sym f)
+        (subst (AreReady es (drop n ts) (drop n xs) (drop n gs)) (sym g)
+        (given_drop n ts xs r.0, (words_drop (IsGiven es) n ts gs r.1.0, words_drop (IsWanted es) n ts ws r.1.1))))
 
   -- there are as many words as types
-  pub ready_wanted : (ts : List ValType) (xs : List Operand) (ws : List ℕ) → AreReady es ts xs ws → length ws ≡ length ts
-  ready_wanted ts xs ws r = wanted_length ts ws r.1
+  pub ready_wanted : (ts : List ValType) (xs : List Operand) (gs ws : List ℕ) → AreReady es ts xs gs ws → length ws ≡ length ts
+  ready_wanted ts xs gs ws r = words_length (IsWanted es) ts ws r.1.1
+
+  pub ready_given : (ts : List ValType) (xs : List Operand) (gs ws : List ℕ) → AreReady es ts xs gs ws → length gs ≡ length ts
+  ready_given ts xs gs ws r = words_length (IsGiven es) ts gs r.1.0
 
   -- and as many operands
-  pub ready_given : (ts : List ValType) (xs : List Operand) (ws : List ℕ) → AreReady es ts xs ws → length xs ≡ length ts
-  ready_given ts xs ws r = sym (types_length xs) ∙ ap length (given_types es ts xs r.0) ∙ length-map ts Known
+  pub ready_operands : (ts : List ValType) (xs : List Operand) (gs ws : List ℕ) → AreReady es ts xs gs ws → length xs ≡ length ts
+  ready_operands ts xs gs ws r = sym (types_length xs) ∙ ap length (given_types es ts xs r.0) ∙ length-map ts Known
 
   -- the row of the operands behind others
-  pub ready_row : (before new : List Operand) (ts : List ValType) (xs : List Operand) (ws : List ℕ) → AreReady es ts xs ws → new ≡ before ++ xs →
+  pub ready_row : (before new : List Operand) (ts : List ValType) (xs : List Operand) (gs ws : List ℕ) → AreReady es ts xs gs ws → new ≡ before ++ xs →
       row_in new ≡ row_in before ⧺ known (row_of ts)
-  ready_row before new ts xs ws r e = given_row before new xs ts e (given_types es ts xs r.0)
+  ready_row before new ts xs gs ws r e = given_row before new xs ts e (given_types es ts xs r.0)
 
-  pub ready_words : (ts : List ValType) (xs : List Operand) (ws : List ℕ) → AreReady es ts xs ws → AreWorded es xs
-  ready_words ts xs ws r = given_words es ts xs r.0
+  pub ready_words : (ts : List ValType) (xs : List Operand) (gs ws : List ℕ) → AreReady es ts xs gs ws → AreWorded es xs
+  ready_words ts xs gs ws r = given_words es ts xs r.0
 
   given_more : (ts : List ValType) (xs : List Operand) (t : ValType) (x : Operand) → AreGiven es ts xs → IsGiven es t x.word → x.index ≡ index_of t → AreGiven es (ts ++ t ∷ []) (xs ++ x ∷ [])
   given_more [] [] t x g a b = ((a, b), tt)
@@ -150,19 +193,14 @@ module _ (es : List Entry) where
   given_more (u ∷ ts) [] t x g a b = absurd g
   given_more (u ∷ ts) (y ∷ xs) t x g a b = (g.0, given_more ts xs t x g.1 a b)
 
-  wanted_more : (ts : List ValType) (ws : List ℕ) (t : ValType) (w : ℕ) → AreWanted es ts ws → IsWanted es t w → AreWanted es (ts ++ t ∷ []) (ws ++ w ∷ [])
-  wanted_more [] [] t w a b = (b, tt)
-  wanted_more [] (v ∷ ws) t w a b = absurd a
-  wanted_more (u ∷ ts) [] t w a b = absurd a
-  wanted_more (u ∷ ts) (v ∷ ws) t w a b = (a.0, wanted_more ts ws t w a.1 b)
-
   -- one type more
-  pub ready_more : (ts : List ValType) (i : ℕ) (t : ValType) (xs ys : List Operand) (ws vs : List ℕ) (x : Operand) (w : ℕ) → i < length ts → t ≡ get_or ts i t →
-      ys ≡ xs ++ x ∷ [] → vs ≡ ws ++ w ∷ [] → IsGiven es t x.word → x.index ≡ index_of t → IsWanted es t w →
-      AreReady es (take i ts) xs ws → AreReady es (take (i + 1) ts) ys vs
-  ready_more ts i t xs ys ws vs x w h at e f a k b r =
+  pub ready_more : (ts : List ValType) (i : ℕ) (t : ValType) (xs ys : List Operand) (gs fs ws vs : List ℕ) (x : Operand) (w : ℕ) → i < length ts → t ≡ get_or ts i t →
+      ys ≡ xs ++ x ∷ [] → fs ≡ gs ++ x.word ∷ [] → vs ≡ ws ++ w ∷ [] → IsGiven es t x.word → x.index ≡ index_of t → IsWanted es t w →
+      AreReady es (take i ts) xs gs ws → AreReady es (take (i + 1) ts) ys fs vs
+  ready_more ts i t xs ys gs fs ws vs x w h at e d f a k b r =
       let types : take (i + 1) ts ≡ take i ts ++ t ∷ [] = take_more ts i t h ∙ ap (λ (u : ValType). take i ts ++ u ∷ []) (sym at) in
-      subst (λ (us : List ValType). AreReady es us ys vs) (sym types)
-      (subst (λ (zs : List Operand). AreReady es (take i ts ++ t ∷ []) zs vs) (sym e)
-      (subst (AreReady es (take i ts ++ t ∷ []) (xs ++ x ∷ [])) (sym f)
-      (given_more (take i ts) xs t x r.0 a k, wanted_more (take i ts) ws t w r.1 b)))
+      subst (λ (us : List ValType). AreReady es us ys fs vs) (sym types)
+      (subst (λ (zs : List Operand). AreReady es (take i ts ++ t ∷ []) zs fs vs) (sym e)
+      (subst (λ (hs : List ℕ). AreReady es (take i ts ++ t ∷ []) (xs ++ x ∷ []) hs vs) (sym d)
+      (subst (AreReady es (take i ts ++ t ∷ []) (xs ++ x ∷ []) (gs ++ x.word ∷ [])) (sym f)
+      (given_more (take i ts) xs t x r.0 a k, (words_more (IsGiven es) (take i ts) gs t x.word r.1.0 a, words_more (IsWanted es) (take i ts) ws t w r.1.1 b)))))

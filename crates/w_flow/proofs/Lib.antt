@@ -11,4 +11,5 @@ pub mod SameRows
 pub mod WordedOperands
 pub mod RowsOfLists
 pub mod FittingRows
+pub mod MatchingRows
 pub mod ReadyTypes

@@ -1,10 +1,9 @@
 -- Operands that are just of the types that are wanted.
-use Rattle.std.proofs.Common.{◌≡◌, ℕ, ◌+◌, ◌-◌, ◌<◌, ◌≤◌, min, Bool, true, false, List, [], ◌∷◌, ◌++◌, length, length-drop, map, append_assoc, take, drop, get_or, set, replicate, Option, Some, None, if◌then◌else◌, refl, sym, ◌∙◌, ap, arith}
-use Rattle.std.proofs.lemmas.List.{map-append, take_more, take_more_set, take_all, take-append-drop, take-append-le, length-take}
-use Rattle.std.proofs.Math.Seq.{take-append_seam}
+use Rattle.std.proofs.Common.{◌≡◌, ℕ, ◌-◌, Bool, true, false, List, [], ◌∷◌, length, length-drop, map, take, drop, Option, Some, None, if◌then◌else◌, refl, sym, ◌∙◌, ap, arith}
+use Rattle.std.proofs.lemmas.List.{take_all, take-append-drop}
 use Rattle.w_types.specs.declared.types.ValType.{ValType}
 use Rattle.w_types.specs.Rows.{Row, ε, ◌▹◌, ◌⧺◌, onto, row_of, size}
-use Rattle.w_types.proofs.Rows.{row_of-append, size-row_of, unit_left}
+use Rattle.w_types.proofs.Rows.{row_of-append, size-row_of}
 use Rattle.w_canon.specs.declared.entry.Entry.{Entry}
 use Rattle.w_canon.proofs.ComparedRows.{type_matches}
 use Rattle.w_rules.specs.Operands.{Operand, Known}

@@ -1,6 +1,6 @@
 -- Operands by their words.
-use Rattle.std.proofs.Common.{◌≡◌, ℕ, zero, suc, ◌+◌, ◌-◌, ◌*◌, ◌/◌, ◌%◌, ◌<◌, ◌≤◌, Bool, true, false, List, [], ◌∷◌, ◌++◌, length, map, take, drop, bit_and, Option, Some, None, if◌then◌else◌, refl, sym, ap, ◌∙◌, subst, arith, eq-eqb, eqb-true}
-use Rattle.std.specs.Prelude.{◌==◌, IsTrue}
+use Rattle.std.proofs.Common.{◌≡◌, ℕ, zero, suc, ◌/◌, ◌%◌, ◌<◌, Bool, true, false, List, [], ◌∷◌, ◌++◌, length, map, take, drop, if◌then◌else◌, refl, sym, ap, ◌∙◌, subst, arith, eq-eqb, eqb-true}
+use Rattle.std.specs.Prelude.{◌==◌}
 use Rattle.w_types.specs.declared.types.HeapType.{HeapType}
 use Rattle.w_types.specs.declared.types.HeapType.TheVariants as heap
 use Rattle.w_types.specs.declared.types.ValType.{ValType}
@@ -8,14 +8,14 @@ use Rattle.w_types.specs.declared.types.ValType.TheVariants.{I32, I64, Ref}
 use Rattle.w_types.specs.PackedTypes.{index_of}
 use Rattle.w_canon.specs.declared.entry.Entry.{Entry}
 use Rattle.w_canon.specs.Words.{joined, bit_of, given_class, given_word, IsGiven}
-use Rattle.w_rules.specs.Operands.{Operand as TheType, Known, Bottom, BottomRef}
-use Rattle.w_types.specs.Rows.{Row, ◌▹◌, row_of, size}
+use Rattle.w_rules.specs.Operands.{Operand as TheType, Known}
+use Rattle.w_types.specs.Rows.{◌▹◌, row_of, size}
 use Rattle.w_types.proofs.Rows.{row_of-more, size-row_of}
 use Rattle.std.proofs.lemmas.List.{map-append}
 use Rattle.w_canon.proofs.WordCases.{GivenBy, given_found}
 use Rattle.w_canon.proofs.WordsGiven.{given_alone}
 use Rattle.w_flow.specs.declared.operand.Operand.{Operand}
-use Rattle.w_flow.specs.Operands.{without_class, with_all, by_parts, type_at, type_of, types_of, row_in, IsWord, IsWorded, AreWorded}
+use Rattle.w_flow.specs.Operands.{by_parts, type_at, type_of, types_of, row_in, IsWord, IsWorded, AreWorded}
 use Rattle.w_flow.specs.TypeRows.{AreGiven}
 
 -- ## One operand

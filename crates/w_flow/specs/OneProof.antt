@@ -1,12 +1,13 @@
 -- That the words of operands and rows are right has one proof at most, so that a struct can keep it.
-use Rattle.std.specs.Prelude.{◌≡◌, ℕ, List, [], ◌∷◌, Option, Some, None, IfSome, true}
+use Rattle.std.specs.Prelude.{ℕ, List, [], ◌∷◌, Option, Some, None, IfSome, true}
 use Rattle.std.specs.Coded.{×_prop, Unit-prop, Coded-set, coded_bool, coded_ℕ}
 use Rattle.w_types.specs.declared.types.CompType.{CompType}
 use Rattle.w_types.specs.declared.types.CompType.TheVariants as comp
 use Rattle.w_types.specs.declared.types.ValType.{ValType}
 use Rattle.w_canon.specs.declared.entry.Entry.{Entry}
 use Rattle.w_rules.specs.Operands.{Operand as TheType, Known, Bottom, BottomRef}
-use Rattle.w_flow.specs.Operands.{type_of, IsWord, AreWorded, AreWanted}
+use Rattle.w_canon.specs.Words.{IsGiven, IsWanted}
+use Rattle.w_flow.specs.Operands.{type_of, IsWord, AreWorded, AreWords}
 use Rattle.w_flow.specs.TypeRows.{AreGiven, AreReady, IsReady, IsReadyFor, HasReady, AreReadyTypes, AreTypeRows}
 use Rattle.w_flow.specs.declared.operand.Operand.{Operand}
 use Rattle.w_flow.specs.declared.type_row.RowWords.{RowWords}
@@ -27,11 +28,11 @@ pub AreWorded-prop : (es : List Entry) (xs : List Operand) → IsProp (AreWorded
 AreWorded-prop es [] = Unit-prop
 AreWorded-prop es (x ∷ xs) = ×_prop (IsWord-prop es (type_of x) x.word) (AreWorded-prop es xs)
 
-AreWanted-prop : (es : List Entry) (ts : List ValType) (ws : List ℕ) → IsProp (AreWanted es ts ws)
-AreWanted-prop es [] [] = Unit-prop
-AreWanted-prop es [] (w ∷ ws) = none-prop
-AreWanted-prop es (t ∷ ts) [] = none-prop
-AreWanted-prop es (t ∷ ts) (w ∷ ws) = ×_prop (Coded-set coded_bool _ true) (AreWanted-prop es ts ws)
+AreWords-prop : (P : ValType → ℕ → Type 0) (one : (t : ValType) (w : ℕ) → IsProp (P t w)) (ts : List ValType) (ws : List ℕ) → IsProp (AreWords P ts ws)
+AreWords-prop P one [] [] = Unit-prop
+AreWords-prop P one [] (w ∷ ws) = none-prop
+AreWords-prop P one (t ∷ ts) [] = none-prop
+AreWords-prop P one (t ∷ ts) (w ∷ ws) = ×_prop (one t w) (AreWords-prop P one ts ws)
 
 AreGiven-prop : (es : List Entry) (ts : List ValType) (xs : List Operand) → IsProp (AreGiven es ts xs)
 AreGiven-prop es [] [] = Unit-prop
@@ -39,19 +40,20 @@ AreGiven-prop es [] (x ∷ xs) = none-prop
 AreGiven-prop es (t ∷ ts) [] = none-prop
 AreGiven-prop es (t ∷ ts) (x ∷ xs) = ×_prop (×_prop (Coded-set coded_bool _ true) (Coded-set coded_ℕ _ _)) (AreGiven-prop es ts xs)
 
-AreReady-prop : (es : List Entry) (ts : List ValType) (xs : List Operand) (ws : List ℕ) → IsProp (AreReady es ts xs ws)
-AreReady-prop es ts xs ws = ×_prop (AreGiven-prop es ts xs) (AreWanted-prop es ts ws)
+AreReady-prop : (es : List Entry) (ts : List ValType) (xs : List Operand) (gs ws : List ℕ) → IsProp (AreReady es ts xs gs ws)
+AreReady-prop es ts xs gs ws =
+    ×_prop (AreGiven-prop es ts xs) (×_prop (AreWords-prop (IsGiven es) (λ t w. Coded-set coded_bool _ true) ts gs) (AreWords-prop (IsWanted es) (λ t w. Coded-set coded_bool _ true) ts ws))
 
-by_words : (es : List Entry) (ts : List ValType) (o : Option RowWords) → IsProp (IfSome o (λ (w : RowWords). AreReady es ts w.given.now w.wanted.now))
+by_words : (es : List Entry) (ts : List ValType) (o : Option RowWords) → IsProp (IfSome o (λ (w : RowWords). AreReady es ts w.operands.now w.given.now w.wanted.now))
 by_words es ts None = Unit-prop
-by_words es ts (Some w) = AreReady-prop es ts w.given.now w.wanted.now
+by_words es ts (Some w) = AreReady-prop es ts w.operands.now w.given.now w.wanted.now
 
 pub IsReady-prop : (es : List Entry) (r : TypeRow) → IsProp (IsReady es r)
 IsReady-prop es r = by_words es r.types.now r.words
 
 IsReadyFor-prop : (es : List Entry) (ts : List ValType) (o : Option ReadyRow) → IsProp (IsReadyFor es ts o)
 IsReadyFor-prop es ts None = Unit-prop
-IsReadyFor-prop es ts (Some r) = AreReady-prop es ts r.given.items r.wanted.items
+IsReadyFor-prop es ts (Some r) = AreReady-prop es ts r.operands.items r.given.items r.wanted.items
 
 HasReady-prop : (es : List Entry) (t : CompType) (r : ReadyType) → IsProp (HasReady es t r)
 HasReady-prop es (comp.Func f) r = ×_prop (IsReadyFor-prop es f.params r.params) (IsReadyFor-prop es f.results r.results)

@@ -1,11 +1,11 @@
 -- The operands of the program: a word that tells what an operand's type matches, and the index of the type that it names.
-use Rattle.std.specs.Prelude.{◌≡◌, ℕ, ◌+◌, ◌*◌, ◌/◌, ◌%◌, ◌==◌, Bool, List, [], ◌∷◌, map, if◌then◌else◌}
+use Rattle.std.specs.Prelude.{◌≡◌, ℕ, ◌/◌, ◌%◌, ◌==◌, Bool, List, [], ◌∷◌, map, if◌then◌else◌}
 use Rattle.w_types.specs.declared.types.HeapType.TheVariants.{Func, NoFunc, Cont, NoCont, Index}
 use Rattle.w_types.specs.declared.types.ValType.{ValType}
 use Rattle.w_types.specs.declared.types.ValType.TheVariants.{I32, I64, Ref}
 use Rattle.w_types.specs.Rows.{Row, row_of}
 use Rattle.w_canon.specs.declared.entry.Entry.{Entry}
-use Rattle.w_canon.specs.Words.{joined, bit_of, IsGiven, IsWanted}
+use Rattle.w_canon.specs.Words.{joined, bit_of, IsGiven}
 use Rattle.w_rules.specs.Operands.{Operand as TheType, Known, Bottom, BottomRef}
 use Rattle.w_flow.specs.declared.operand.Operand.{Operand}
 use Rattle.w_flow.specs.declared.operand.OperandView.{OperandView}
@@ -71,9 +71,9 @@ abbrev pub AreWorded : List Entry → List Operand → Type 0
 AreWorded es [] = Unit {0}
 AreWorded es (x ∷ xs) = IsWorded es x × AreWorded es xs
 
--- these are words of these types where they are wanted, each of the one at its place
-abbrev pub AreWanted : List Entry → List ValType → List ℕ → Type 0
-AreWanted es [] [] = Unit {0}
-AreWanted es [] (w ∷ ws) = ⊥
-AreWanted es (t ∷ ts) [] = ⊥
-AreWanted es (t ∷ ts) (w ∷ ws) = IsWanted es t w × AreWanted es ts ws
+-- these are words of these types, each of the one at its place
+abbrev pub AreWords : (ValType → ℕ → Type 0) → List ValType → List ℕ → Type 0
+AreWords P [] [] = Unit {0}
+AreWords P [] (w ∷ ws) = ⊥
+AreWords P (t ∷ ts) [] = ⊥
+AreWords P (t ∷ ts) (w ∷ ws) = P t w × AreWords P ts ws

@@ -6,8 +6,8 @@ use Rattle.w_types.specs.declared.types.CompType.TheVariants as comp
 use Rattle.w_types.specs.declared.types.FuncType.{FuncType}
 use Rattle.w_types.specs.declared.types.ValType.{ValType}
 use Rattle.w_canon.specs.declared.entry.Entry.{Entry}
-use Rattle.w_canon.specs.Words.{IsGiven}
-use Rattle.w_flow.specs.Operands.{AreWanted}
+use Rattle.w_canon.specs.Words.{IsGiven, IsWanted}
+use Rattle.w_flow.specs.Operands.{AreWords}
 use Rattle.w_flow.specs.declared.operand.Operand.{Operand}
 use Rattle.w_flow.specs.declared.type_row.TypeRow.{TypeRow}
 use Rattle.w_flow.specs.declared.type_row.RowWords.{RowWords}
@@ -23,16 +23,16 @@ AreGiven es [] (x ∷ xs) = ⊥
 AreGiven es (t ∷ ts) [] = ⊥
 AreGiven es (t ∷ ts) (x ∷ xs) = (IsGiven es t x.word × (x.index ≡ index_of t)) × AreGiven es ts xs
 
--- these are operands of these types, and words of the types where they are wanted
-abbrev pub AreReady : List Entry → List ValType → List Operand → List ℕ → Type 0
-AreReady es ts xs ws = AreGiven es ts xs × AreWanted es ts ws
+-- these are operands of these types, and words of the types, first where they are given and then where they are wanted
+abbrev pub AreReady : List Entry → List ValType → List Operand → List ℕ → List ℕ → Type 0
+AreReady es ts xs gs ws = AreGiven es ts xs × (AreWords (IsGiven es) ts gs × AreWords (IsWanted es) ts ws)
 
 -- what stands ready for the row, if something does, is that of its types
 abbrev pub IsReady : List Entry → TypeRow → Type 0
-IsReady es r = IfSome r.words (λ (w : RowWords). AreReady es r.types.now w.given.now w.wanted.now)
+IsReady es r = IfSome r.words (λ (w : RowWords). AreReady es r.types.now w.operands.now w.given.now w.wanted.now)
 
 abbrev pub IsReadyFor : List Entry → List ValType → Option ReadyRow → Type 0
-IsReadyFor es ts o = IfSome o (λ (r : ReadyRow). AreReady es ts r.given.items r.wanted.items)
+IsReadyFor es ts o = IfSome o (λ (r : ReadyRow). AreReady es ts r.operands.items r.given.items r.wanted.items)
 
 -- what stands ready for a type, where it is a function type
 abbrev pub HasReady : List Entry → CompType → ReadyType → Type 0

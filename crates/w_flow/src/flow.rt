@@ -2,7 +2,7 @@
 //! `unreachable`. To enter is `pop_vals` and then `push_vals` in a new part, to give is `push_vals`, and `leave` is `unreachable()`.
 
 use crate::operand_list::OperandList;
-use crate::operands::{WIDE, can_take, end_with, give_behind, give_types, left};
+use crate::operands::{WIDE, give_behind, give_types, left};
 use crate::type_row::TypeRow;
 use std::alloc::{AllocError, Global};
 use std::mem;
@@ -32,7 +32,7 @@ impl Flow {
         ensures none { flow_view result ≡ reached ε }
         ensures words { (es : List Entry) → HasWords es result }
     {
-        room.clear();
+        room.truncate(0);
         Flow {
             any: false,
             operands: room,
@@ -49,7 +49,7 @@ impl Flow {
         ensures types { IfOk result (λ f. flow_view f ≡ reached (known (row_of types.entry.types.now))) }
         ensures words { IfOk result (HasWords classes.now) }
     {
-        room.clear();
+        room.truncate(0);
         give_behind(classes, &mut room, 0, types)?;
         Ok(Flow {
             any: false,
@@ -92,7 +92,7 @@ impl Flow {
         ensures { result ≡ is_popped (pops classes.now self.now.any
             (row_in self.now.operands) (row_of ins.entry.types.now)) }
     {
-        can_take(classes, self.any, self.operands.as_slice(), ins)
+        left(classes, self.any, self.operands.as_slice(), ins).is_some()
     }
 
     /// Whether the operands are just of these types, as at the end of a block.
@@ -105,7 +105,10 @@ impl Flow {
         if outs.types.is_empty() {
             return self.operands.len() == 0;
         }
-        end_with(classes, self.any, self.operands.as_slice(), outs)
+        match left(classes, self.any, self.operands.as_slice(), outs) {
+            Some(count) => count == 0,
+            None => false,
+        }
     }
 
     /// Takes operands of these types where a block begins, and gives those that stand at its beginning; `None` where they cannot be
@@ -136,7 +139,7 @@ impl Flow {
             return Ok(None);
         };
         if count == 0 && ins.types.len() >= WIDE {
-            room.clear();
+            room.truncate(0);
             let kept = mem::replace(&mut self.operands, room);
             return Ok(Some(Flow::of_types(kept, classes, ins)?));
         }
@@ -164,7 +167,7 @@ impl Flow {
             return Ok(room);
         }
         if outs.types.len() >= WIDE && self.operands.len() == 0 {
-            room.clear();
+            room.truncate(0);
             let spare = mem::replace(&mut self.operands, room);
             give_types(classes, &mut self.operands, outs)?;
             return Ok(spare);

@@ -112,7 +112,7 @@ impl Flow {
         ensures words { (es : List Entry) → HasWords es self.new }
     {
         self.any = true;
-        self.operands.clear();
+        self.operands.truncate(0);
     }
 
     /// The type of `drop`. It compares no types, so the contract has no entries.

@@ -35,16 +35,15 @@ fn add_place(places: &mut Vec<Operand>, operand: Operand) -> Result<(), AllocErr
     Ok(())
 }
 
-// Puts operands into the places from one on. It takes slices, so that they are copied some at a time.
+// Puts operands into the places from one on.
 fn put_operands(places: &mut [Operand], from: usize, operands: &[Operand])
     requires { from + length operands.now ≤ length places.old }
     ensures put { take (from + length operands.now) places.new
         ≡ take from places.old ++ operands.now }
     ensures long { length places.new ≡ length places.old }
 {
-    for i in 0..operands.len() {
-        places[from + i] = operands[i];
-    }
+    let count = from + operands.len();
+    places[from..count].copy_from_slice(operands);
 }
 
 impl OperandList {
@@ -125,13 +124,6 @@ impl OperandList {
         ensures { self.new ≡ take count self.old }
     {
         self.count = count;
-    }
-
-    /// Leaves none.
-    pub(crate) fn clear(&mut self)
-        ensures { self.new ≡ [] }
-    {
-        self.count = 0;
     }
 
     /// Puts another operand in the place of the topmost.

@@ -6,10 +6,10 @@ ghost use Rattle.w_canon.specs.declared.entry.Entry.{Entry};
 ghost use Rattle.w_rules.specs.Matching.{known};
 ghost use Rattle.w_rules.specs.Operands.{Known, Bottom};
 ghost use Rattle.w_rules.specs.Typing.{ref_to};
-ghost use Rattle.w_flow.specs.Flow.{operand_test, pops, is_popped, ends, pop, pop_ref, select_of, heap_of, step};
+ghost use Rattle.w_flow.specs.Flow.{operand_test, pops, pop, pop_ref, select_of, heap_of, step};
 ghost use Rattle.w_rules.specs.InstructionTypes.{fixed};
 ghost use Rattle.w_flow.specs.Operands.{type_of, types_of, row_in, IsWorded, AreWorded};
-ghost use Rattle.w_flow.specs.Fitting.{NoneCommon};
+ghost use Rattle.w_flow.specs.Fitting.{AreApart, words_of};
 ghost use Rattle.w_flow.specs.TypeRows.{AreReady, IsReady};
 ghost use Rattle.w_flow.specs.View.{with_rest, with_type};
 
@@ -53,13 +53,13 @@ pub(crate) fn matches_type(classes: &Classes, operand: Operand, wanted: PackedTy
 // Whether no operand has a bit in common with the word at its place. It goes through all, so that the comparison has no branches.
 fn are_apart(operands: &[Operand], words: &[u32]) -> bool
     requires { length operands.now ≡ length words.now }
-    ensures { IsTrue result → NoneCommon operands.now words.now }
+    ensures { IsTrue result → AreApart (words_of operands.now) words.now }
 {
     let mut common = 0;
     for i in 0..words.len() {
-        let operand = operands[i];
-        let word = words[i];
-        common |= operand.word & word;
+        let given = operands[i].word;
+        let wanted = words[i];
+        common |= given & wanted;
     }
     common == 0
 }
@@ -103,7 +103,7 @@ fn left_at_once(
     words: RowWords,
 ) -> Option<Option<usize>>
     requires worded { AreWorded classes.now operands.now }
-    requires ready { AreReady classes.now types.now words.given.now words.wanted.now }
+    requires ready { AreReady classes.now types.now words.operands.now words.given.now words.wanted.now }
     ensures what { IfSome result (λ left. pops classes.now any (row_in operands.now) (row_of types.now)
         ≡ option_map (λ n. row_in (take n operands.now)) left) }
     ensures within { IfSome result (λ left. IfSome left (λ n. n ≤ length operands.now)) }
@@ -140,28 +140,6 @@ pub(crate) fn left(
         }
     }
     left_by_each(classes, any, operands, wanted.types)
-}
-
-/// Whether these types can be taken.
-pub(crate) fn can_take(classes: &Classes, any: bool, operands: &[Operand], wanted: TypeRow) -> bool
-    requires worded { AreWorded classes.now operands.now }
-    requires ready { IsReady classes.now wanted }
-    ensures { result ≡ is_popped (pops classes.now any (row_in operands.now)
-        (row_of wanted.entry.types.now)) }
-{
-    left(classes, any, operands, wanted).is_some()
-}
-
-/// Whether the operands are just of these types.
-pub(crate) fn end_with(classes: &Classes, any: bool, operands: &[Operand], wanted: TypeRow) -> bool
-    requires worded { AreWorded classes.now operands.now }
-    requires ready { IsReady classes.now wanted }
-    ensures { result ≡ ends classes.now any (row_in operands.now) (row_of wanted.entry.types.now) }
-{
-    match left(classes, any, operands, wanted) {
-        Some(n) => n == 0,
-        None => false,
-    }
 }
 
 /// Takes these types, which are few, or answers false.
@@ -348,7 +326,7 @@ pub(crate) fn give_behind(
 {
     match types.words {
         Some(words) => {
-            operands.give_behind(from, words.given)?;
+            operands.give_behind(from, words.operands)?;
             Ok(())
         }
         None => {

@@ -11,10 +11,11 @@ use w_canon::Classes;
 use w_rules::Context;
 use w_types::{CompType, PackedType, RecGroups};
 
-/// What stands ready for a row of types.
+/// What stands ready for a row of types: see `RowWords`.
 #[derive(Drop)]
 pub(crate) struct ReadyRow {
-    given: Vec<Operand>,
+    operands: Vec<Operand>,
+    given: Vec<u32>,
     wanted: Vec<u32>,
 }
 
@@ -38,21 +39,8 @@ pub struct FuncRows<'r> {
     pub results: TypeRow<'r>,
 }
 
-// What stands ready for these types. It fails only for want of memory.
-fn ready_row(alloc: Global, classes: &Classes, types: &[PackedType]) -> Result<ReadyRow, AllocError>
-    ensures { IfOk result (λ r. AreReady classes.now types.now r.given.items r.wanted.items) }
-{
-    let mut given = Vec::new(alloc);
-    let mut wanted = Vec::new(alloc);
-    for kind in types {
-        given.push(Operand::known(classes, *kind))?;
-        wanted.push(classes.wanted_word(*kind))?;
-    }
-    Ok(ReadyRow { given, wanted })
-}
-
-// The same, where the row is wide.
-fn ready_if_wide(
+// What stands ready for these types, where the row is wide. It fails only for want of memory.
+fn ready_row(
     alloc: Global,
     classes: &Classes,
     types: &[PackedType],
@@ -62,7 +50,20 @@ fn ready_if_wide(
     if types.len() < WIDE {
         return Ok(None);
     }
-    Ok(Some(ready_row(alloc, classes, types)?))
+    let mut operands = Vec::new(alloc);
+    let mut given = Vec::new(alloc);
+    let mut wanted = Vec::new(alloc);
+    for kind in types {
+        let operand = Operand::known(classes, *kind);
+        operands.push(operand)?;
+        given.push(operand.word)?;
+        wanted.push(classes.wanted_word(*kind))?;
+    }
+    Ok(Some(ReadyRow {
+        operands,
+        given,
+        wanted,
+    }))
 }
 
 // What stands ready for a type, which is a function type or needs nothing. It fails only for want of memory.
@@ -71,8 +72,8 @@ fn ready_type(alloc: Global, classes: &Classes, kind: &CompType) -> Result<Ready
 {
     match kind {
         CompType::Func(function) => Ok(ReadyType {
-            params: ready_if_wide(alloc, classes, function.params.as_slice())?,
-            results: ready_if_wide(alloc, classes, function.results.as_slice())?,
+            params: ready_row(alloc, classes, function.params.as_slice())?,
+            results: ready_row(alloc, classes, function.results.as_slice())?,
         }),
         CompType::Cont(_) => Ok(ReadyType {
             params: None,
@@ -95,6 +96,7 @@ fn row_of<'r>(
         Some(ready) => TypeRow {
             types,
             words: Some(RowWords {
+                operands: ready.operands.as_slice(),
                 given: ready.given.as_slice(),
                 wanted: ready.wanted.as_slice(),
             }),

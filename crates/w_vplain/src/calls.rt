@@ -1,5 +1,5 @@
 //! The calls of the checker of one body.
-ghost use Rattle.std.specs.Prelude.{◌≡◌, ◌∷◌, ◌++◌, ◌+◌, max, length, slice_get, ℕ, Bool, List, IfOk, OnOk, IsFalse, IsTrue, true, Some, None, is_some, if◌then◌else◌};
+ghost use Rattle.std.specs.Prelude.{◌≡◌, ◌∷◌, ◌++◌, ◌+◌, max, length, slice_get, ℕ, Bool, List, IfOk, IfSome, OnOk, IsFalse, IsTrue, true, Some, None, is_some, if◌then◌else◌};
 ghost use Rattle.w_syntax.specs.declared.instructions.Instr.TheVariants as Flat;
 ghost use Rattle.w_syntax.specs.Packed.{OnPlain, unpacked};
 ghost use Rattle.std.specs.Option.{option_map};
@@ -549,10 +549,11 @@ impl<'a> Checker<'a> {
 
     /// What a branch to a label takes, where the rules derive the sequence so far. Labels are counted from the innermost block.
     pub fn label(&self, index: u32) -> Option<TypeRow<'_>>
-        ensures { (s : List Bool) (w : Prefix) → StandsFor self.now s w
+        ensures label { (s : List Bool) (w : Prefix) → StandsFor self.now s w
             → IsDerivable (context_for self.now) s w
             → slice_get (labels_in (context_for self.now) w) index
             ≡ option_map (λ v. row_of v.types.now) result }
+        ensures ready { IfSome result (IsReady (classes_for self.now)) }
     {
         if self.ended {
             return None;

@@ -2,6 +2,7 @@ mod RowsApplied
 mod LastTypes
 mod FoundTypes
 mod LabelClauses
+mod SwitchClauses
 mod LabelSizes
 mod Bindings
 mod Switches

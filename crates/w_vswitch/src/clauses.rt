@@ -6,68 +6,81 @@ ghost use Rattle.w_rules.specs.Peak.{clause_tops};
 ghost use Rattle.w_vplain.specs.Row.{above};
 ghost use Rattle.w_vswitch.specs.Places.{Anywhere, AtEnds};
 ghost use Rattle.w_vswitch.specs.Rows.{label_test};
+ghost use Rattle.w_vplain.specs.Standing.{classes_for};
+ghost use Rattle.w_flow.specs.TypeRows.{IsReady, AreReadyRows, rows_type};
 
 use crate::continuations::last_index;
 use w_canon::Classes;
-use w_rules::Context;
+use w_flow::{FuncRows, TypeRow};
+use w_steps::Setting;
 use w_syntax::Clause;
-use w_types::{FuncType, PackedType};
 use w_vplain::Checker;
 
 // Whether a tag, what a label takes beneath a continuation, and the continuation's type fit in a resume with these results.
 fn label_matches(
     classes: &Classes,
-    results: &[PackedType],
-    tag: &FuncType,
-    beneath: &[PackedType],
-    target: &FuncType,
+    results: TypeRow,
+    tag: FuncRows,
+    beneath: TypeRow,
+    target: FuncRows,
 ) -> bool
-    ensures { result ≡ label_test classes.now results.now tag.now beneath.now target.now }
+    requires results { IsReady classes.now results }
+    requires tag { AreReadyRows classes.now tag }
+    requires beneath { IsReady classes.now beneath }
+    requires target { AreReadyRows classes.now target }
+    ensures { result ≡ label_test classes.now results.entry.types.now (rows_type tag.entry) beneath.entry.types.now (rows_type target.entry) }
 {
-    classes.matches_result(tag.params.as_slice(), beneath)
-        && classes.matches_result(target.params.as_slice(), tag.results.as_slice())
-        && classes.matches_result(results, target.results.as_slice())
+    tag.params.matches(classes, beneath)
+        && target.params.matches(classes, tag.results)
+        && results.matches(classes, target.results)
 }
 
 // Whether the rules type a clause with a label, which takes these types.
-fn label_clause_fits(cx: &Context, results: &[PackedType], tag: u32, label: &[PackedType]) -> bool
-    ensures { Anywhere cx.now (λ c. (l : ℕ) → slice_get c.labels l ≡ Some (row_of label.now)
-        → IsTrue result ↔ LabelClauseTyped c results.now tag l) }
+fn label_clause_fits(setting: &Setting, results: TypeRow, tag: u32, label: TypeRow) -> bool
+    requires results { IsReady setting.now.cx.now.classes.now results }
+    requires label { IsReady setting.now.cx.now.classes.now label }
+    ensures { Anywhere setting.now.cx.now (λ c. (l : ℕ) → slice_get c.labels l ≡ Some (row_of label.entry.types.now)
+        → IsTrue result ↔ LabelClauseTyped c results.entry.types.now tag l) }
 {
-    let Some(tag) = cx.type_of_tag(tag) else {
+    let Some(tag) = setting.type_of_tag(tag) else {
         return false;
     };
-    let Some((beneath, index)) = last_index(label) else {
+    let Some((beneath, index)) = last_index(label.types) else {
         return false;
     };
-    match cx.cont_of(index) {
-        Some(target) => label_matches(cx.classes, results, tag, beneath, target),
+    let classes = setting.cx.classes;
+    let (beneath, _) = label.split_at(classes, beneath.len());
+    match setting.cont_of(index) {
+        Some(target) => label_matches(classes, results, tag, beneath, target),
         None => false,
     }
 }
 
 // Whether the rules type a clause with `switch`.
-fn switch_clause_fits(cx: &Context, results: &[PackedType], tag: u32) -> bool
-    ensures { Anywhere cx.now (λ c. IsTrue result ↔ SwitchClauseTyped c results.now tag) }
+fn switch_clause_fits(setting: &Setting, results: TypeRow, tag: u32) -> bool
+    requires { IsReady setting.now.cx.now.classes.now results }
+    ensures { Anywhere setting.now.cx.now (λ c. IsTrue result ↔ SwitchClauseTyped c results.entry.types.now tag) }
 {
-    match cx.type_of_tag(tag) {
+    match setting.type_of_tag(tag) {
         Some(tag) => {
-            tag.params.len() == 0 && cx.classes.equals_result(tag.results.as_slice(), results)
+            tag.params.types.len() == 0 && tag.results.equals(setting.cx.classes, results)
         }
         None => false,
     }
 }
 
 // Whether the rules type a clause of a resume with these results, where the checker stands.
-fn clause_fits(checker: &Checker, results: &[PackedType], clause: &Clause) -> bool
-    ensures { AtEnds checker.now (λ c. IsTrue result ↔ ClauseTyped c results.now clause.now) }
+fn clause_fits(checker: &Checker, results: TypeRow, clause: &Clause) -> bool
+    requires { IsReady (classes_for checker.now) results }
+    ensures { AtEnds checker.now (λ c. IsTrue result ↔ ClauseTyped c results.entry.types.now clause.now) }
 {
+    let setting = checker.setting();
     match clause {
         Clause::Label(tag, label) => match checker.label(*label) {
-            Some(row) => label_clause_fits(checker.setting().cx, results, *tag, row.types),
+            Some(row) => label_clause_fits(&setting, results, *tag, row),
             None => false,
         },
-        Clause::Switch(tag) => switch_clause_fits(checker.setting().cx, results, *tag),
+        Clause::Switch(tag) => switch_clause_fits(&setting, results, *tag),
     }
 }
 
@@ -85,17 +98,19 @@ fn is_same(one: &Clause, other: &Clause) -> bool
 }
 
 // Whether the rules type a clause, where they type the last one, which is not judged again if it is the same.
-fn fits_again(checker: &Checker, results: &[PackedType], last: &Clause, clause: &Clause) -> bool
-    ensures { AtEnds checker.now (λ c. ClauseTyped c results.now last.now
-        → IsTrue result ↔ ClauseTyped c results.now clause.now) }
+fn fits_again(checker: &Checker, results: TypeRow, last: &Clause, clause: &Clause) -> bool
+    requires { IsReady (classes_for checker.now) results }
+    ensures { AtEnds checker.now (λ c. ClauseTyped c results.entry.types.now last.now
+        → IsTrue result ↔ ClauseTyped c results.entry.types.now clause.now) }
 {
     is_same(last, clause) || clause_fits(checker, results, clause)
 }
 
 /// Whether the rules type each clause of a resume with these results, where the checker stands.
-pub(crate) fn clauses_fit(checker: &Checker, results: &[PackedType], clauses: &[Clause]) -> bool
+pub(crate) fn clauses_fit(checker: &Checker, results: TypeRow, clauses: &[Clause]) -> bool
+    requires { IsReady (classes_for checker.now) results }
     ensures { AtEnds checker.now (λ c. IsTrue result
-        ↔ All (ClauseTyped c results.now) clauses.now) }
+        ↔ All (ClauseTyped c results.entry.types.now) clauses.now) }
 {
     if clauses.is_empty() {
         return true;

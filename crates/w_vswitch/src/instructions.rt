@@ -48,12 +48,10 @@ fn bound<'a>(setting: &Setting<'a>, before: u32, after: u32) -> Option<TypeRow<'
         .types
         .len()
         .checked_sub(other.params.types.len())?;
-    let (_, left) = one.params.types.split_at(count);
     let classes = setting.cx.classes;
-    if classes.matches_result(other.params.types, left)
-        && classes.matches_result(one.results.types, other.results.types)
-    {
-        Some(one.params.front(classes, count))
+    let (front, left) = one.params.split_at(classes, count);
+    if other.params.matches(classes, left) && one.results.matches(classes, other.results) {
+        Some(front)
     } else {
         None
     }
@@ -100,7 +98,7 @@ fn resume(checker: &mut Checker, index: u32, clauses: &[Clause]) -> Result<bool,
     let Some(kind) = checker.setting().cont_of(index) else {
         return checker.refuse();
     };
-    if !clauses_fit(checker, kind.results.types, clauses) {
+    if !clauses_fit(checker, kind.results, clauses) {
         return checker.refuse();
     }
     let raise = longest_label(checker, clauses);
@@ -119,10 +117,11 @@ fn switched<'a>(setting: &Setting<'a>, index: u32, tag: u32) -> Option<(TypeRow<
     let tag = setting.type_of_tag(tag)?;
     let classes = setting.cx.classes;
     if tag.params.types.len() == 0
-        && classes.matches_result(one.results.types, tag.results.types)
-        && classes.matches_result(tag.results.types, other.results.types)
+        && one.results.matches(classes, tag.results)
+        && tag.results.matches(classes, other.results)
     {
-        Some((one.params.front(classes, beneath.len()), other.params))
+        let (beneath, _) = one.params.split_at(classes, beneath.len());
+        Some((beneath, other.params))
     } else {
         None
     }

@@ -275,6 +275,38 @@ def wide_resume_switch_clauses(size):
     return _resumes(size, [on_switch(1)] * 10, 10)
 
 
+def _turned_types():
+    """The types of a module that resumes, with an equal one for each of the two tags."""
+    return [
+        NOTHING,
+        functype([FUNCREF] * WIDTH, [NULLFUNCREF] * WIDTH),
+        conttype(RESUMED),
+        functype([NULLFUNCREF] * (WIDTH - 1), [FUNCREF] * WIDTH),
+        functype([NULLFUNCREF] * WIDTH, [FUNCREF] * WIDTH),
+        conttype(REST),
+        functype([], [FUNCREF] * (WIDTH - 1) + [nullable(REST_CONTINUATION)]),
+        functype([], [NULLFUNCREF] * WIDTH)]
+
+
+def wide_resume_clauses_by_turns(size):
+    """Resumes of ten clauses each to two blocks by turns, all of whose parts match by subtyping alone."""
+    row = ref_null(RESUMED_CONTINUATION) + resume(RESUMED_CONTINUATION, *[on(0, 0), on(0, 1)] * 500)
+    opening = (b'\x02' + signed(LABEL)) * 2 + NULL * WIDTH
+    return module_of_rows(
+        size, repeat(row), _switching_types(NULLFUNCREF, FUNCREF),
+        opening=opening, closing=(UNREACHABLE + b'\x0b') * 2 + RETURN,
+        imports=[imported(as_tag(TAG)), imported(as_tag(PLAIN_TAG))])
+
+
+def wide_resume_switch_clauses_by_turns(size):
+    """Resumes of a thousand clauses that let switch pass for two tags by turns."""
+    row = ref_null(RESUMED_CONTINUATION) + resume(RESUMED_CONTINUATION, *[on_switch(1), on_switch(2)] * 500)
+    return module_of_rows(
+        size, repeat(row), _switching_types(NULLFUNCREF, FUNCREF),
+        opening=b'\x02' + signed(LABEL) + NULL * WIDTH, closing=UNREACHABLE + b'\x0b' + RETURN,
+        imports=[imported(as_tag(TAG)), imported(as_tag(PLAIN_TAG)), imported(as_tag(PLAIN_TAG))])
+
+
 def wide_suspends(size):
     """Suspends in a row, each of which takes what the one before gave, by subtyping."""
     return module_of_rows(

@@ -144,7 +144,10 @@ fn reference_label<'r>(classes: &Classes, label: TypeRow<'r>) -> Option<(TypeRow
 {
     let (top, beneath) = label.types.split_last()?;
     match top.whole() {
-        ValType::Ref(reference) => Some((label.front(classes, beneath.len()), reference.heap)),
+        ValType::Ref(reference) => {
+            let (beneath, _) = label.split_at(classes, beneath.len());
+            Some((beneath, reference.heap))
+        }
         ValType::I32 | ValType::I64 => None,
     }
 }

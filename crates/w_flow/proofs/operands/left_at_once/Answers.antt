@@ -24,13 +24,13 @@ pub returns-then-any-clause-what : goal.returns-then-any-clause-what
 returns-then-any-clause-what c =
     let n = length c.args.operands.now - c.min-common.result in
     let m = length c.args.types.now - c.min-common.result in
-    taken_apart c.args.classes.now c.args.any c.args.operands.now c.args.types.now c.args.words.wanted.now n m c.requires.worded c.requires.ready.1 (omega arith) (c.are_apart.ensures c.if-not-are_apart.false)
+    taken_apart c.args.classes.now c.args.any c.args.operands.now c.args.types.now c.args.words.wanted.now n m c.requires.worded c.requires.ready.1.1 (omega arith) (c.are_apart.ensures c.if-not-are_apart.false)
     ∙ left_beneath c.args.classes.now c.args.any c.args.operands.now c.args.types.now n m (omega arith) (omega arith) c.if-any.either
 
 pub returns-else-any-clause-what : goal.returns-else-any-clause-what
 returns-else-any-clause-what c =
     let n = length c.args.operands.now - c.min-common.result in
     let m = length c.args.types.now - c.min-common.result in
-    taken_apart c.args.classes.now c.args.any c.args.operands.now c.args.types.now c.args.words.wanted.now n m c.requires.worded c.requires.ready.1 (omega arith) (c.are_apart.ensures c.if-not-are_apart.false)
+    taken_apart c.args.classes.now c.args.any c.args.operands.now c.args.types.now c.args.words.wanted.now n m c.requires.worded c.requires.ready.1.1 (omega arith) (c.are_apart.ensures c.if-not-are_apart.false)
     ∙ none_there c.args.classes.now c.args.any c.args.operands.now c.args.types.now n m (omega arith) (omega arith) (omega arith)
     ∙ decided c.args.any false _ _ c.if-any.false.1

@@ -1,4 +1,4 @@
-use Rattle.std.proofs.Common.{◌-◌, get_or, slice_index_or, ap, ◌∙◌, sym, arith}
+use Rattle.std.proofs.Common.{◌-◌, get_or, ap, ◌∙◌, sym, arith}
 use Rattle.w_flow.specs.Operands.{type_of}
 use Rattle.w_flow.specs.declared.operand.Operand.{Operand}
 use Rattle.w_flow.specs.Flow.{operand_test}

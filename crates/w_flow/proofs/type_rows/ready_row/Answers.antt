@@ -4,5 +4,6 @@ use Rattle.w_flow.proofs.type_rows.ready_row.Goals as goal
 
 pub loop-kind-preserved : goal.loop-kind-preserved
 loop-kind-preserved c =
-    ready_more c.args.classes.now c.args.types.now c.loop-kind.kind-index c.kind-item.result c.loop-kind.given.items c.push.new.self.items c.loop-kind.wanted.items c.push-in-loop-kind.new.self.items
-    c.known.result c.wanted_word.result (omega arith) c.kind-item.is c.in_ok-push.ensures.items c.in_ok-push-2.ensures.items c.known.ensures.given c.known.ensures.index c.wanted_word.ensures c.loop-kind.invariant
+    ready_more c.args.classes.now c.args.types.now c.loop-kind.kind-index c.kind-item.result c.loop-kind.operands.items _ c.loop-kind.given.items _ c.loop-kind.wanted.items _
+    c.known-operand.result c.wanted_word.result (omega arith) c.kind-item.is c.in_ok-push.ensures.items c.in_ok-push-2.ensures.items c.in_ok-push-3.ensures.items
+    c.known-operand.ensures.given c.known-operand.ensures.index c.wanted_word.ensures c.loop-kind.invariant

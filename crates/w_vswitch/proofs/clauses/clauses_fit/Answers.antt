@@ -11,7 +11,7 @@ use Rattle.w_vswitch.proofs.clauses.clauses_fit.Goals as goal
 
 pub loop-index-preserved : goal.loop-index-preserved
 loop-index-preserved c = λ s w k g.
-    let P : Clause → Type 0 = ClauseTyped (at_end (context_for c.args.checker.now) w) c.args.results.now in
+    let P : Clause → Type 0 = ClauseTyped (at_end (context_for c.args.checker.now) w) c.args.results.types.now in
     let i = c.loop-index.index in
     let none = clause.Label 0 0 in
     let last : P (get_or c.args.clauses.now (i - 1) none) =
@@ -21,5 +21,5 @@ loop-index-preserved c = λ s w k g.
 
 pub returns : goal.returns
 returns c = λ s w k g.
-    let P : List Clause → Type 0 = λ hs. All (ClauseTyped (at_end (context_for c.args.checker.now) w) c.args.results.now) hs in
+    let P : List Clause → Type 0 = λ hs. All (ClauseTyped (at_end (context_for c.args.checker.now) w) c.args.results.types.now) hs in
     (λ t. subst P (take_all c.loop-index.index c.args.clauses.now (omega arith)) (c.loop-index.invariant s w k g), λ all. refl)

@@ -10,4 +10,4 @@ pub returns-in-Some : goal.returns-in-Some
 returns-in-Some c = λ s w k g h.
     let labels = labels_in (context_for c.args.checker.now) w in
     ap (λ (x : Clause). clause_tops labels h (x ∷ [])) c.in-Label.is
-    ∙ one_label labels h c.in-Label.field-0 c.in-Label.label c.in-Some.row.types.now (c.in-Some.ensures s w k g)
+    ∙ one_label labels h c.in-Label.field-0 c.in-Label.label c.in-Some.row.types.now (c.in-Some.ensures.label s w k g)

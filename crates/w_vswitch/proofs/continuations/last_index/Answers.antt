@@ -1,5 +1,4 @@
 use Rattle.std.proofs.Common.{inl, inr, sym, ◌∙◌}
-use Rattle.std.specs.Prelude.{IfSome}
 use Rattle.w_types.specs.declared.types.ValType.TheVariants.{I32, I64, Ref}
 use Rattle.w_vswitch.proofs.LastTypes.{by_last, beneath_last, in_option}
 use Rattle.w_vswitch.proofs.continuations.last_index.Goals as goal

@@ -18,10 +18,11 @@ returns-in_err-count-clause-bound c = λ classes ts rs ls.
     (no_longer d c.args.before c.args.after (rows_type c.in_ok-one.one) (rows_type c.in_ok-other.other)
     (found_rows c.cont_of.result c.in_ok-one.one _ c.cont_of.ensures.kind c.in_ok-one.was) (found_rows c.cont_of-2.result c.in_ok-other.other _ c.cont_of-2.ensures.kind c.in_ok-other.was) longer)
 
-pub returns-then-matches_result-2-clause-bound : goal.returns-then-matches_result-2-clause-bound
-returns-then-matches_result-2-clause-bound c = λ classes ts rs ls.
+pub returns-then-matches-2-clause-bound : goal.returns-then-matches-2-clause-bound
+returns-then-matches-2-clause-bound c = λ classes ts rs ls.
     let d = placed c.args.setting.now.cx.now ts rs ls in
-    bind_row d c.args.before c.args.after c.in_ok-count.count (rows_type c.in_ok-one.one) (rows_type c.in_ok-other.other) c.front.result.types.now _
+    bind_row d c.args.before c.args.after c.in_ok-count.count (rows_type c.in_ok-one.one) (rows_type c.in_ok-other.other) c.split_at.result.0.types.now _
     (found_rows c.cont_of.result c.in_ok-one.one _ c.cont_of.ensures.kind c.in_ok-one.was) (found_rows c.cont_of-2.result c.in_ok-other.other _ c.cont_of-2.ensures.kind c.in_ok-other.was)
-    (let e = c.in_ok-count.ensures in omega arith) (let e = c.in_ok-count.ensures in omega arith) c.front.ensures.types c.split_at.ensures.back
-    ((c.matches_result.ensures.related d.types classes).0 c.if-matches_result.true) ((c.matches_result-then-matches_result.ensures.related d.types classes).0 c.if-matches_result-2.true)
+    (let e = c.in_ok-count.ensures in omega arith) (let e = c.in_ok-count.ensures in omega arith) c.split_at.ensures.front c.split_at.ensures.behind
+    ((c.matches.ensures.related d.types classes).0 c.if-matches.true)
+    ((c.matches-then-matches.ensures.related d.types classes).0 c.if-matches-2.true)

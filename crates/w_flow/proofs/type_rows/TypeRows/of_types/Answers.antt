@@ -1,4 +1,4 @@
-use Rattle.std.proofs.Common.{[], ◌∷◌, ◌++◌, ap, length, length-append, ◌∙◌, sym, arith}
+use Rattle.std.proofs.Common.{[], ◌∷◌, ap, length, length-append, ◌∙◌, sym, arith}
 use Rattle.w_types.specs.Groups.{types_of}
 use Rattle.w_flow.proofs.ReadyTypes.{ready_types_more, ready_types_all}
 use Rattle.w_flow.proofs.type_rows.TypeRows.of_types.Goals as goal

@@ -10,7 +10,7 @@ pub returns-in-Ref-clause-kind : goal.returns-in-Ref-clause-kind
 returns-in-Ref-clause-kind c =
     top_taken c.args.label.types.now c.in_ok-top.beneath.now c.in_ok-top.top.now (Ref c.in-Ref.reference) c.in_ok-top.ensures.cases.0 (sym c.whole.ensures ∙ c.in-Ref.is)
     ∙ ap (λ (ts : List ValType). fixed (row_of ts ▹ Ref (record { nullable = true; heap = c.in-Ref.reference.heap })) (row_of ts))
-    (sym (c.front.ensures.types ∙ beneath_last c.args.label.types.now c.in_ok-top.beneath.now c.in_ok-top.top.now _ c.in_ok-top.ensures.cases.0 refl))
+    (sym (c.split_at.ensures.front ∙ beneath_last c.args.label.types.now c.in_ok-top.beneath.now c.in_ok-top.top.now _ c.in_ok-top.ensures.cases.0 refl))
 
 pub returns-in-I32 : goal.returns-in-I32
 returns-in-I32 c = record {

@@ -10,8 +10,8 @@ use Rattle.w_steps.specs.declared.frame.Frame.{Frame}
 use Rattle.w_vplain.proofs.CallsAnswered.{label_told}
 use Rattle.w_vplain.proofs.checker.Checker.label.Goals as goal
 
-pub returns : goal.returns
-returns c = λ s w k g.
+pub returns-clause-label : goal.returns-clause-label
+returns-clause-label c = λ s w k g.
     let here = c.args.self.now in
     let P : List ValType → List Frame → _ = λ (rs : List ValType) (xs : List Frame).
     slice_get (labels_of (in_body (context_in here.setting.cx.now) [] rs) (here.top.kind ∷ outer_kinds xs)) c.args.index ≡ option_map (λ v. row_of v.types.now) c.label_of.result in
