@@ -1,6 +1,5 @@
 -- What a fresh segment needs that invokes a function of the module, and where it goes.
-use Rattle.std.proofs.Common.{◌≡◌, ℕ, ◌<◌, ◌≤◌, List, [], ◌∷◌, length, drop, Some, slice_get, refl, sym, ap, ◌∙◌, subst}
-use Rattle.std.specs.Prelude.{◌^◌}
+use Rattle.std.proofs.Common.{◌≡◌, ℕ, ◌≤◌, List, [], ◌∷◌, length, drop, Some, slice_get, refl, sym, ap, ◌∙◌, subst}
 use Rattle.w_types.specs.Rows.{ε}
 use Rattle.w_types.specs.declared.types.FuncType.{FuncType}
 use Rattle.w_types.specs.declared.value.Value.{Value}
@@ -15,7 +14,6 @@ use Rattle.w_reduce.specs.Terms.{Invoke, Rest, rest_of, Label as InLabel, Frame 
 use Rattle.w_reduce.specs.Reduced.{steps_to}
 use Rattle.w_reduce.specs.Reduce.{next}
 use Rattle.w_stands.specs.Values.{stack, local_vals, store_of}
-use Rattle.w_stands.specs.Code.{instrs}
 use Rattle.w_stands.specs.Stands.{In, body, left, fresh, values, outermost}
 use Rattle.w_stands.specs.Steps.{Follows}
 use Rattle.w_stands.specs.declared.did.Did.TheVariants as did
@@ -45,9 +43,6 @@ module _ (m : Module) (u : instances.Store) (s : Shape) (i : ℕ) (k : Invokes m
       (enter_there k.p u k.e s.operands i k.o.behind
       (λ q. k.at.applies
       (ap (λ (x : Rest). next k.p (store_of u) k.e (stack s.operands) x.ahead x.code) b.rest ∙ own_invoked k.p u k.e s.operands s.func i k.o.behind own ∙ q)))
-
-  pub invoke_short : length (instrs m i) < 2 ^ 32
-  invoke_short = k.at.short i
 
   fits : (s' : Shape) (h : IsEntered m i 0 s.operands s s') → length h.kind.params ≤ length s.operands
   fits s' h =

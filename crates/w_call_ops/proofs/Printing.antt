@@ -101,9 +101,6 @@ module _ (m : Module) (u : instances.Store) (s : Shape) (h : Printer) (k : Invok
       (λ q. k.at.applies
       (ap (λ (x : Rest). next k.p (store_of u) k.e (stack s.operands) x.ahead x.code) b.rest ∙ host_invoked k.p u k.e s.operands s.func h k.o.behind host ∙ q)))
 
-  pub fresh_some : 1 ≤ length s.operands
-  fresh_some = let l = fresh_argument.2 in omega (arith, l)
-
   pub fresh_number : IsNumber (taken_by h) (first s.operands)
   fresh_number = fresh_argument.1
 

@@ -17,7 +17,7 @@ use w_types::{CompType, RecGroup};
 #[derive(Debug, Drop)]
 pub struct Classes {
     entries: Vec<Entry>,
-    // of each type the index of one of its class, of them all the same
+    // of each type the index of one of its class: of the first one, as far as `first_of` finds it
     firsts: Vec<usize>,
 }
 

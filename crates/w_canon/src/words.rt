@@ -8,7 +8,7 @@ use crate::classes::Classes;
 use crate::entry::Kind;
 use w_types::{HeapType, PackedType, ValType};
 
-/// So many classes have bits of their own.
+// So many classes have bits of their own.
 const MOST_CLASSES: usize = 16384;
 
 // The words of each kind where it is given, with no class; those below 3 are of no value type.

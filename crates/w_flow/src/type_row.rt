@@ -122,8 +122,7 @@ impl<'r> TypeRow<'r> {
     {
         match (self.words, other.words) {
             (Some(words), Some(others)) => {
-                words.given.len() == others.wanted.len()
-                    && are_apart(words.given, others.wanted)
+                words.given.len() == others.wanted.len() && are_apart(words.given, others.wanted)
             }
             _ => false,
         }

@@ -102,10 +102,6 @@ module _ {m : Module} {waiting : Option ℕ} {x : Parts} {p : Program} {ks : Lis
 
 -- ## Main's turn
 
-size_nothing : (xs : Row Operand) → size xs ≡ 0 → xs ≡ ε
-size_nothing ε e = refl
-size_nothing (xs ▹ x) e = absurd (cc)
-
 size_beside : (xs ys : Row Operand) → size (xs ⧺ ys) ≡ size xs + size ys
 size_beside xs ε = omega arith
 size_beside xs (ys ▹ y) = omega (arith, size_beside xs ys)

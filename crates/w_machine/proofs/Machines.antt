@@ -35,10 +35,6 @@ module _ {m m' : Module} {functions : List ℕ} {x : Parts} {waiting : Option (B
   pub machine_stands : (es : List Entry) → IsClassesOf m.types es → StandsSomewhere m' x
   machine_stands es classes = subst (λ (y : Module). StandsSomewhere y x) (sym program) (stands_somewhere es classes reached)
 
-  -- its segments are there
-  pub machine_long : 0 < length x.chain
-  machine_long = reached.usable.0
-
   -- it has made few continuations
   pub machine_few : n < most_reductions → length x.conts.entries < most_reductions
   machine_few lt = let few = reached.usable.1 in omega (arith, few, lt)

@@ -213,10 +213,6 @@ module _ {m : Module} {functions : List ℕ} {x : Parts} {waiting : Option (Box 
           subst (λ (u : ℕ). IsReached m functions x waiting (Some y) n u d) (sym made)
           (subst (λ (v : ℕ). IsReached m functions x waiting (Some y) n (length x.conts.entries) v) (sym live) (told_some none_reached y t))
 
-  -- and where nothing is told stays
-  pub tell_stays : IsReached m functions x waiting k n a b
-  tell_stays = h
-
   tells_all : Valid m → (p : Program) (s₀ : Store) (t₀ : Term) → Begins q.program p s₀ t₀ → TellsOn (Run p s₀ t₀ q.taken) r
   tells_all valid = subst (λ (x : Position). (p : Program) (s₀ : Store) (t₀ : Term) → Begins x.program p s₀ t₀ → TellsOn (Run p s₀ t₀ x.taken) r) view (tells_there none_reached valid r told)
 

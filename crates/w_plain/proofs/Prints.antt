@@ -10,16 +10,14 @@ use Rattle.w_segment.specs.Changes.{discarded, staged}
 use Rattle.w_tables.specs.Store as instances
 use Rattle.w_tables.specs.declared.entries.FuncEntry.TheVariants as entry
 use Rattle.w_tables.specs.declared.entries.Printer.{Printer}
-use Rattle.w_reduce.specs.Terms.{Rest, rest_of}
+use Rattle.w_reduce.specs.Terms.{rest_of}
 use Rattle.w_reduce.specs.Calls.{invoked}
-use Rattle.w_reduce.specs.Reduce.{next}
 use Rattle.w_stands.specs.Values.{stack, store_of}
 use Rattle.w_stands.specs.GoingOn.{dropped}
 use Rattle.w_stands.proofs.LookedUp.{found}
 use Rattle.w_stands.proofs.Stepping.{following, applies}
 use Rattle.w_call_ops.specs.Calling.{Calls, Invokes}
 use Rattle.w_call_ops.specs.Printing.{text_of}
-use Rattle.w_call_ops.proofs.Invoking.{begins}
 use Rattle.w_call_ops.proofs.Printing.{print_follows, fresh_follows}
 use Rattle.w_syntax.specs.declared.instructions.Instr.TheVariants as flat
 use Rattle.w_syntax.specs.declared.instructions.Op.TheVariants as op
@@ -54,14 +52,6 @@ callee_there a taken m u s k =
     let f = found (slice_get u.functions a) (λ f. invoked mv.p (store_of u) mv.e (stack (drop taken s.operands)) f (rest_of c))
     (λ q. applies m u s mv.p mv.o mv.e mv.r k.i mv.at mv.stage mv.here (k.rule mv.p mv.e c mv.at.source mv.at.program ∙ q)) in
     slice_get_within u.functions a f.item f.is
-
--- so is that which a fresh segment begins with
-pub invoked_there : (m : Module) (u : instances.Store) (s : Shape) → Invokes m u s → s.func < length u.functions
-invoked_there m u s k =
-    let b = begins k.at.stands k.stage in
-    let f = found (slice_get u.functions s.func) (λ f. invoked k.p (store_of u) k.e (stack s.operands) f k.o.behind)
-    (λ q. k.at.applies (ap (λ (x : Rest). next k.p (store_of u) k.e (stack s.operands) x.ahead x.code) b.rest ∙ q)) in
-    slice_get_within u.functions s.func f.item f.is
 
 -- what they print
 pub call_prints : (a taken : ℕ) (h : Printer) (m : Module) (u : instances.Store) (s : Shape) → Calls a taken m u s → slice_get u.functions a ≡ Some (entry.Printer h) →

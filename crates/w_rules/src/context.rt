@@ -1,7 +1,7 @@
 //! What bodies and expressions are checked in.
 ghost use Rattle.std.specs.Prelude.{◌≡◌, nat_lt, slice_get};
 ghost use Rattle.std.specs.Option.{option_copied};
-ghost use Rattle.w_rules.specs.Context.{func_of, func_index_of_cont, cont_of, type_of_func, type_of_tag, type_count};
+ghost use Rattle.w_rules.specs.Context.{func_of, func_index_of_cont, type_of_func, type_count};
 ghost use Rattle.w_rules.specs.InstructionTypes.{has_memory};
 ghost use Rattle.w_rules.specs.Types.{has_heap, has_type};
 ghost use Rattle.w_rules.specs.View.{context_in};
@@ -47,32 +47,12 @@ impl<'a> Context<'a> {
         }
     }
 
-    /// The function type of the continuation type of this index.
-    pub fn cont_of(&self, index: u32) -> Option<&'a FuncType>
-        ensures { option_copied result ≡ cont_of (context_in self.now) index }
-    {
-        match self.func_index_of_cont(index) {
-            Some(function) => self.func_of(function),
-            None => None,
-        }
-    }
-
     /// The type of the function of this index.
     pub fn type_of_func(&self, index: u32) -> Option<&'a FuncType>
         ensures { option_copied result ≡ type_of_func (context_in self.now) index }
     {
         match self.functions.get(index as usize) {
             Some(type_index) => self.func_of(*type_index),
-            None => None,
-        }
-    }
-
-    /// The type of the tag of this index.
-    pub fn type_of_tag(&self, index: u32) -> Option<&'a FuncType>
-        ensures { option_copied result ≡ type_of_tag (context_in self.now) index }
-    {
-        match self.tags.get(index as usize) {
-            Some(tag) => self.func_of(tag.type_index),
             None => None,
         }
     }

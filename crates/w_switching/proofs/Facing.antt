@@ -1,6 +1,6 @@
 -- A configuration at a switching instruction, and the innermost segment, which stands before it.
 use Rattle.std.proofs.Common.{◌≡◌, ℕ, suc, ◌+◌, ◌<◌, List, [], Some, length, sym, ap, ◌∙◌, subst, add-one}
-use Rattle.std.specs.Prelude.{◌≢◌, ◌^◌}
+use Rattle.std.specs.Prelude.{◌^◌}
 use Rattle.w_types.specs.Rows.{Row}
 use Rattle.w_types.specs.declared.value.Value.{Value}
 use Rattle.w_syntax.specs.Code.{Code, Plain}
@@ -18,7 +18,6 @@ use Rattle.w_reduce.specs.Values.{Val}
 use Rattle.w_reduce.specs.Terms.{Rest, rest_of, Context, Term}
 use Rattle.w_reduce.specs.Store.{Store}
 use Rattle.w_reduce.specs.Program.{Program}
-use Rattle.w_reduce.specs.Reduced.{Stuck}
 use Rattle.w_reduce.specs.Switching.{switching_op}
 use Rattle.w_stands.specs.Values.{stack}
 use Rattle.w_stands.specs.Code.{instrs, instr_of, Reads}
@@ -66,10 +65,6 @@ module _ {o : SwitchingOp} {m : Module} {behind : Rest} {chain : List Link} {con
   -- the rule by the operands of the innermost segment
   pub on_stack : (vs : List Value) → (top chain).shape.operands ≡ vs → switched o p s t c ≡ switching_op p s t.around (stack vs) o c
   on_stack vs h = ap (λ (r : Row Val). switching_op p s t.around r o c) ((head a.stand.term).operands ∙ ap stack h)
-
-  -- so a rule applies to them
-  pub applies_on : (vs : List Value) → (top chain).shape.operands ≡ vs → switching_op p s t.around (stack vs) o c ≢ Stuck
-  applies_on vs h = λ q. a.applies (on_stack vs h ∙ q)
 
   -- the chain stands for the term at the instruction
   pub at_term : Chained m [] behind chain t.around t.operands (rest_of (Plain (op.Switching o) c))

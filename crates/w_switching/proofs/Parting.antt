@@ -10,15 +10,6 @@ use Rattle.w_switching.proofs.Sounding.{hold_drop}
 
 -- ## Lists of segments
 
--- the first segments with another stack inside are those of the chain with it
-take_top_suc : (n : ℕ) (s : Shape) (xs : List Link) → take (suc n) (with_top s xs) ≡ with_top s (take (suc n) xs)
-take_top_suc n s [] = refl
-take_top_suc n s (x ∷ xs) = refl
-
--- the same of n + 1
-pub take_top : (n : ℕ) (s : Shape) (xs : List Link) → take (n + 1) (with_top s xs) ≡ with_top s (take (n + 1) xs)
-take_top n s xs = ap (λ (k : ℕ). take k (with_top s xs)) (add-one n) ∙ take_top_suc n s xs ∙ ap (λ (k : ℕ). with_top s (take k xs)) (sym (add-one n))
-
 -- the innermost of the first segments is that of all
 top_taken_suc : (n : ℕ) (xs : List Link) → top (take (suc n) xs) ≡ top xs
 top_taken_suc n [] = refl

@@ -238,16 +238,6 @@ pub long_clauses : (n : ℕ) (xs : List Link) → length (with_clauses n xs) ≡
 long_clauses n [] = refl
 long_clauses n (x ∷ xs) = refl
 
--- the innermost one is that stack
-pub top_top : (s : Shape) (xs : List Link) → 0 < length xs → (top (with_top s xs)).shape ≡ s
-top_top s [] h = absurd (omega arith)
-top_top s (x ∷ xs) h = refl
-
--- the last of two stacks stays
-pub with_twice : (s s' : Shape) (xs : List Link) → with_top s (with_top s' xs) ≡ with_top s xs
-with_twice s s' [] = refl
-with_twice s s' (x ∷ xs) = refl
-
 -- ## Room
 
 -- the innermost segment has room where its new shape has

@@ -275,21 +275,8 @@ def wide_resume_switch_clauses(size):
     return _resumes(size, [on_switch(1)] * 10, 10)
 
 
-def _turned_types():
-    """The types of a module that resumes, with an equal one for each of the two tags."""
-    return [
-        NOTHING,
-        functype([FUNCREF] * WIDTH, [NULLFUNCREF] * WIDTH),
-        conttype(RESUMED),
-        functype([NULLFUNCREF] * (WIDTH - 1), [FUNCREF] * WIDTH),
-        functype([NULLFUNCREF] * WIDTH, [FUNCREF] * WIDTH),
-        conttype(REST),
-        functype([], [FUNCREF] * (WIDTH - 1) + [nullable(REST_CONTINUATION)]),
-        functype([], [NULLFUNCREF] * WIDTH)]
-
-
 def wide_resume_clauses_by_turns(size):
-    """Resumes of ten clauses each to two blocks by turns, all of whose parts match by subtyping alone."""
+    """Resumes of a thousand clauses each, to two blocks by turns, all of whose parts match by subtyping alone."""
     row = ref_null(RESUMED_CONTINUATION) + resume(RESUMED_CONTINUATION, *[on(0, 0), on(0, 1)] * 500)
     opening = (b'\x02' + signed(LABEL)) * 2 + NULL * WIDTH
     return module_of_rows(
@@ -342,5 +329,5 @@ FORMS = [
     wide_loops_by_subtyping, wide_ifs_by_subtyping, wide_blocks_nested, wide_branches, wide_branches_by_subtyping,
     wide_branches_by_subtyping_shifted, wide_branch_table, wide_branch_table_by_subtyping,
     wide_branch_table_of_many_blocks, wide_branch_tables, wide_branch_tables_not_reached, wide_resumes,
-    wide_resume_clauses_of_the_same, wide_resume_clauses, wide_resume_of_many_clauses, wide_resume_switch_clauses,
-    wide_suspends, wide_binds, wide_switches]
+    wide_resume_clauses_of_the_same, wide_resume_clauses, wide_resume_of_many_clauses, wide_resume_clauses_by_turns,
+    wide_resume_switch_clauses, wide_resume_switch_clauses_by_turns, wide_suspends, wide_binds, wide_switches]

@@ -172,3 +172,29 @@ switched('on-switch/longer-group', '-', cont_index([], [ref(PAIR + 1)]), on_swit
 handled('on-and-on-switch', '+', [I32, ref(CONT_BACK)], CONT_I32, on(TAG_I32_TO_I64, 0), on_switch(TAG_TO_I32))
 handled('on-and-wrong-on-switch', '-', [I32, ref(CONT_BACK)], CONT_I32, on(TAG_I32_TO_I64, 0), on_switch(TAG_EMPTY))
 handled('wrong-on-and-on-switch', '-', [I64, ref(CONT_BACK)], CONT_I32, on_switch(TAG_TO_I32), on(TAG_I32_TO_I64, 0))
+
+# Rows of many types, which are compared otherwise than short ones.
+
+NINE = [ref(FUNC_I32)] * 9
+SAME_NINE = [ref(SAME_FUNC_I32)] * 9
+NINE_FUNCREFS = [FUNCREF] * 9
+TAG_OF_NINE = tag_index(NINE, NINE)
+handled('on/nine-of-each', '+', [*NINE, ref(cont_index(NINE, NINE))], cont_index([], NINE), on(TAG_OF_NINE, 0))
+handled('on/nine-equivalent-of-each', '+', [*SAME_NINE, ref(cont_index(SAME_NINE, SAME_NINE))], cont_index([], NINE),
+        on(TAG_OF_NINE, 0))
+handled('on/nine-arguments-wider-at-the-label', '+', [*NINE_FUNCREFS, ref(cont_index(NINE, []))], CONT_EMPTY,
+        on(TAG_OF_NINE, 0))
+handled('on/one-of-nine-arguments-narrower-at-the-label', '-', [*NINE_FUNCREFS[1:], ref(FUNC_I32), ref(CONT_EMPTY)],
+        CONT_EMPTY, on(tag_index(NINE_FUNCREFS, []), 0))
+handled('on/one-of-nine-results-of-the-tag-is-wider', '+', [ref(cont_index(NINE, []))], CONT_EMPTY,
+        on(tag_index([], [*NINE[1:], FUNCREF]), 0))
+handled('on/one-of-nine-results-of-the-tag-is-narrower', '-', [ref(cont_index(NINE_FUNCREFS, []))], CONT_EMPTY,
+        on(tag_index([], [*NINE_FUNCREFS[1:], nullable(FUNC)]), 0))
+handled('on/one-of-nine-results-of-the-continuation-is-narrower', '-',
+        [ref(cont_index([], [*NINE_FUNCREFS[1:], ref(FUNC_I32)]))], cont_index([], NINE_FUNCREFS), on(TAG_EMPTY, 0))
+switched('on-switch/nine-equal', '+', cont_index([], NINE), on_switch(tag_index([], NINE)))
+switched('on-switch/nine-equivalent', '+', cont_index([], SAME_NINE), on_switch(tag_index([], NINE)))
+switched('on-switch/one-of-nine-matching-but-not-equal', '-', cont_index([], NINE),
+         on_switch(tag_index([], [*NINE[1:], FUNCREF])))
+switched('on-switch/one-of-nine-matched-but-not-equal', '-', cont_index([], [*NINE[1:], FUNCREF]),
+         on_switch(tag_index([], NINE)))

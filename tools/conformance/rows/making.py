@@ -105,6 +105,19 @@ row('cont.bind/result-wider', '+', [nullable(cont_index([], [ref(FUNC_I32)]))], 
     local_get(0) + cont_bind(cont_index([], [ref(FUNC_I32)]), cont_index([], [FUNCREF])) + DROP)
 row('cont.bind/result-narrower', '-', [nullable(cont_index([], [FUNCREF]))], [],
     local_get(0) + cont_bind(cont_index([], [FUNCREF]), cont_index([], [ref(FUNC_I32)])) + DROP)
+NINE = [ref(FUNC_I32)] * 9
+row('cont.bind/nine-of-ten-parameters-bound', '+', [*NINE, nullable(cont_index([*NINE, I32], NINE))], [],
+    local_gets(10) + cont_bind(cont_index([*NINE, I32], NINE), cont_index([I32], NINE)) + DROP)
+row('cont.bind/one-of-nine-bound-is-wider', '-', [FUNCREF, *NINE[1:], nullable(cont_index([*NINE, I32], []))], [],
+    local_gets(10) + cont_bind(cont_index([*NINE, I32], []), CONT_I32) + DROP)
+row('cont.bind/nine-parameters-narrower', '+', [I32, nullable(cont_index([I32, *[FUNCREF] * 9], []))], [],
+    local_gets(2) + cont_bind(cont_index([I32, *[FUNCREF] * 9], []), cont_index(NINE, [])) + DROP)
+row('cont.bind/one-of-nine-parameters-wider', '-', [I32, nullable(cont_index([I32, *NINE], []))], [],
+    local_gets(2) + cont_bind(cont_index([I32, *NINE], []), cont_index([*NINE[1:], FUNCREF], [])) + DROP)
+row('cont.bind/nine-results-wider', '+', [nullable(cont_index([], NINE))], [],
+    local_get(0) + cont_bind(cont_index([], NINE), cont_index([], [FUNCREF] * 9)) + DROP)
+row('cont.bind/one-of-nine-results-narrower', '-', [nullable(cont_index([], [FUNCREF] * 9))], [],
+    local_get(0) + cont_bind(cont_index([], [FUNCREF] * 9), cont_index([], [*[FUNCREF] * 8, ref(FUNC_I32)])) + DROP)
 row('cont.bind/subtype-bound', '+', [ref(FUNC_I32), nullable(cont_index([FUNCREF], []))], [ref(CONT_EMPTY)],
     local_gets(2) + cont_bind(cont_index([FUNCREF], []), CONT_EMPTY))
 row('cont.bind/supertype-bound', '-', [FUNCREF, nullable(cont_index([ref(FUNC_I32)], []))], [ref(CONT_EMPTY)],

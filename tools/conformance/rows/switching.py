@@ -74,3 +74,18 @@ switch_row('back-results-narrower-than-the-tag', '-',
            cont_index([ref(cont_index([], [ref(FUNC_I32)]))], [ref(FUNC_I32)]), tag_index([], [FUNCREF]))
 switch_row('equivalent-results', '+', cont_index([ref(cont_index([], [ref(SAME_FUNC_I32)]))], [ref(FUNC_I32)]),
            tag_index([], [ref(FUNC_I32)]))
+
+# Rows of many types, which are compared otherwise than short ones.
+
+NINE = [ref(FUNC_I32)] * 9
+TAG_TO_NINE = tag_index([], NINE)
+switch_row('nine-results-each-way', '+', cont_index([ref(cont_index([], NINE))], NINE), TAG_TO_NINE)
+switch_row('nine-equivalent-results', '+', cont_index([ref(cont_index([], [ref(SAME_FUNC_I32)] * 9))], NINE), TAG_TO_NINE)
+switch_row('nine-back-results-wider-than-the-tag', '+', cont_index([ref(cont_index([], [FUNCREF] * 9))], NINE), TAG_TO_NINE)
+switch_row('one-of-nine-back-results-narrower-than-the-tag', '-',
+           cont_index([ref(cont_index([], [FUNCREF, *NINE[1:]]))], [FUNCREF] * 9), tag_index([], [FUNCREF] * 9))
+switch_row('one-of-nine-target-results-wider-than-the-tag', '-',
+           cont_index([ref(cont_index([], [FUNCREF] * 9))], [*NINE[1:], FUNCREF]), TAG_TO_NINE)
+switch_row('nine-parameters-beneath', '+', cont_index([*NINE, ref(CONT_EMPTY)], []), TAG_EMPTY, NINE)
+switch_row('one-of-nine-parameters-beneath-is-wider', '-', cont_index([*NINE, ref(CONT_EMPTY)], []), TAG_EMPTY,
+           [FUNCREF, *NINE[1:]])
