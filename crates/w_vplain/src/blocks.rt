@@ -2,11 +2,12 @@
 ghost use Rattle.std.specs.Prelude.{◌≡◌, ◌∷◌, [], Bool, List, IfOk, IfSome, is_some, if◌then◌else◌};
 ghost use Rattle.w_types.specs.Rows.{row_of};
 ghost use Rattle.w_flow.specs.Flow.{pops};
-ghost use Rattle.w_flow.specs.TypeRows.{IsReady};
+ghost use Rattle.w_flow.specs.TypeRows.{IsReady, AreReadyRows};
 ghost use Rattle.w_flow.specs.View.{flow_view, reached, HasWords};
 ghost use Rattle.w_rules.specs.Matching.{known};
 ghost use Rattle.w_rules.specs.Spaces.{in_body};
 ghost use Rattle.w_rules.specs.View.{context_in};
+ghost use Rattle.w_steps.specs.View.{arrow_view};
 ghost use Rattle.w_vplain.specs.Frames.{Frame as TheFrame, enter_next, other_next, end_test as needs_no_branch, end_next, no_frames};
 ghost use Rattle.w_vplain.specs.Prefixes.{taken_by};
 ghost use Rattle.w_vplain.specs.Measures.{tally};
@@ -14,9 +15,8 @@ ghost use Rattle.w_vplain.specs.View.{frame_view, inner_with, else_with, left_wi
 
 use std::alloc::AllocError;
 use w_canon::Classes;
-use w_flow::{Flow, OperandList, TypeRow};
+use w_flow::{Flow, FuncRows, OperandList, TypeRow};
 use w_steps::{Frame, FrameKind, Setting, arrow};
-use w_types::PackedType;
 
 // Takes what a block with these parameters takes, and gives the operands at its beginning.
 fn enter_params(
@@ -126,12 +126,12 @@ pub(crate) fn else_frame(
 
 // Whether a block without a second branch needs none.
 #[tactic(auto, using(crate::proofs::EndsListed::ends_listed))]
-fn needs_none(classes: &Classes, kind: &FrameKind, from: &[PackedType], to: &[PackedType]) -> bool
-    ensures { result ≡ needs_no_branch classes.now kind.now
-        (record { from = row_of from.now; to = row_of to.now }) }
+fn needs_none(classes: &Classes, kind: &FrameKind, arrow: FuncRows) -> bool
+    requires { AreReadyRows classes.now arrow }
+    ensures { result ≡ needs_no_branch classes.now kind.now (arrow_view arrow.entry) }
 {
     match kind {
-        FrameKind::Then(_) => classes.matches_result(from, to),
+        FrameKind::Then(_) => arrow.params.matches(classes, arrow.results),
         FrameKind::Body | FrameKind::Block(_, _) | FrameKind::Else(_) => true,
     }
 }
@@ -157,12 +157,7 @@ pub(crate) fn end_types<'c>(
     if !flow.ends_with(setting.cx.classes, arrow.results) {
         return None;
     }
-    if !needs_none(
-        setting.cx.classes,
-        kind,
-        arrow.params.types,
-        arrow.results.types,
-    ) {
+    if !needs_none(setting.cx.classes, kind, arrow) {
         return None;
     }
     Some(arrow.results)
