@@ -38,6 +38,12 @@ def _rows_of_calls(size, wide, operand, row, before=(), behind=(), **others):
         imports=[imported(as_func(1 + len(before)))], **others)
 
 
+def _thousand_types():
+    """A thousand function types, no two of them the same, and references to them where they stand behind NOTHING."""
+    types = [functype([I32] * (place % 40), [I64] * (place // 40)) for place in range(WIDTH)]
+    return types, [nullable(1 + place) for place in range(WIDTH)]
+
+
 def wide_calls(size):
     """Calls in a row, each of which takes what the one before gave."""
     return _rows_of_calls(size, SAME, NUMBER, call(0))
@@ -73,8 +79,7 @@ def wide_calls_of_mixed_types_shifted(size):
 
 def wide_calls_of_a_thousand_types_shifted(size):
     """Calls whose results are references to a thousand types, each of which matches func in its own way."""
-    types = [functype([I32] * (place % 40), [I64] * (place // 40)) for place in range(WIDTH)]
-    results = [nullable(1 + place) for place in range(WIDTH)]
+    types, results = _thousand_types()
     return _rows_of_calls(size, functype([FUNCREF] * WIDTH, results), NULL, NULL + call(0), before=types)
 
 
@@ -87,8 +92,7 @@ def wide_calls_of_equal_types_shifted(size):
 
 def wide_calls_of_a_thousand_types_by_turns(size):
     """Calls of two functions by turns, whose results are references to a thousand types, in one order and in the other."""
-    types = [functype([I32] * (place % 40), [I64] * (place // 40)) for place in range(WIDTH)]
-    results = [nullable(1 + place) for place in range(WIDTH)]
+    types, results = _thousand_types()
     turns = [functype([FUNCREF] * WIDTH, results), functype([FUNCREF] * WIDTH, results[::-1])]
     return module_of_rows(
         size, repeat((call(0) + call(1)) * CHUNK), [NOTHING, *types, *turns], opening=NULL * WIDTH, closing=RETURN,
@@ -147,6 +151,20 @@ def wide_ifs_by_subtyping(size):
     """Ifs with an else, both branches of which match the results by subtyping."""
     turn = functype([NULLFUNCREF] * WIDTH, [FUNCREF] * WIDTH)
     return _rows_of_calls(size, BELOW, NULL, call(0) + NUMBER + if_(signed(2), b'', b''), behind=[turn])
+
+
+def wide_ifs_without_else(size):
+    """Ifs without an else, whose parameters are references to a thousand types, and whose results are of func."""
+    types, parameters = _thousand_types()
+    turn = functype(parameters, [FUNCREF] * WIDTH)
+    row = call(0) + NUMBER + if_(signed(2 + WIDTH), b'')
+    return _rows_of_calls(size, functype([FUNCREF] * WIDTH, parameters), NULL, row, before=types, behind=[turn])
+
+
+def wide_ifs_not_reached(size):
+    """Ifs without an else in code that isn't reached, each of which tests the last of what the one before gave."""
+    return module_of_rows(
+        size, repeat(if_(signed(1), b'') * CHUNK), [NOTHING, SAME], opening=UNREACHABLE, closing=RETURN)
 
 
 def wide_blocks_nested(size):
@@ -325,9 +343,11 @@ FORMS = [
     wide_calls, wide_calls_shifted, wide_calls_by_subtyping, wide_calls_by_subtyping_shifted,
     wide_calls_by_subtyping_replaced, wide_calls_of_mixed_types_shifted, wide_calls_of_a_thousand_types_shifted,
     wide_calls_of_equal_types_shifted, wide_calls_of_a_thousand_types_by_turns, wide_calls_not_reached,
-    wide_calls_indirect, wide_calls_by_reference, wide_results_dropped, wide_blocks, wide_blocks_by_subtyping, wide_blocks_by_subtyping_shifted,
-    wide_loops_by_subtyping, wide_ifs_by_subtyping, wide_blocks_nested, wide_branches, wide_branches_by_subtyping,
-    wide_branches_by_subtyping_shifted, wide_branch_table, wide_branch_table_by_subtyping,
-    wide_branch_table_of_many_blocks, wide_branch_tables, wide_branch_tables_not_reached, wide_resumes,
-    wide_resume_clauses_of_the_same, wide_resume_clauses, wide_resume_of_many_clauses, wide_resume_clauses_by_turns,
-    wide_resume_switch_clauses, wide_resume_switch_clauses_by_turns, wide_suspends, wide_binds, wide_switches]
+    wide_calls_indirect, wide_calls_by_reference, wide_results_dropped,
+    wide_blocks, wide_blocks_by_subtyping, wide_blocks_by_subtyping_shifted, wide_blocks_nested,
+    wide_loops_by_subtyping, wide_ifs_by_subtyping, wide_ifs_without_else, wide_ifs_not_reached,
+    wide_branches, wide_branches_by_subtyping, wide_branches_by_subtyping_shifted,
+    wide_branch_table, wide_branch_table_by_subtyping, wide_branch_table_of_many_blocks, wide_branch_tables,
+    wide_branch_tables_not_reached, wide_resumes, wide_resume_clauses_of_the_same, wide_resume_clauses,
+    wide_resume_clauses_by_turns, wide_resume_of_many_clauses, wide_resume_switch_clauses,
+    wide_resume_switch_clauses_by_turns, wide_suspends, wide_binds, wide_switches]

@@ -189,7 +189,7 @@ handled('on/one-of-nine-arguments-narrower-at-the-label', '-', [*NINE_FUNCREFS[1
 handled('on/one-of-nine-results-of-the-tag-is-wider', '+', [ref(cont_index(NINE, []))], CONT_EMPTY,
         on(tag_index([], [*NINE[1:], FUNCREF]), 0))
 handled('on/one-of-nine-results-of-the-tag-is-narrower', '-', [ref(cont_index(NINE_FUNCREFS, []))], CONT_EMPTY,
-        on(tag_index([], [*NINE_FUNCREFS[1:], nullable(FUNC)]), 0))
+        on(tag_index([], [*NINE_FUNCREFS[1:], ref(FUNC_I32)]), 0))
 handled('on/one-of-nine-results-of-the-continuation-is-narrower', '-',
         [ref(cont_index([], [*NINE_FUNCREFS[1:], ref(FUNC_I32)]))], cont_index([], NINE_FUNCREFS), on(TAG_EMPTY, 0))
 switched('on-switch/nine-equal', '+', cont_index([], NINE), on_switch(tag_index([], NINE)))

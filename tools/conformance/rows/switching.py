@@ -86,6 +86,7 @@ switch_row('one-of-nine-back-results-narrower-than-the-tag', '-',
            cont_index([ref(cont_index([], [FUNCREF, *NINE[1:]]))], [FUNCREF] * 9), tag_index([], [FUNCREF] * 9))
 switch_row('one-of-nine-target-results-wider-than-the-tag', '-',
            cont_index([ref(cont_index([], [FUNCREF] * 9))], [*NINE[1:], FUNCREF]), TAG_TO_NINE)
-switch_row('nine-parameters-beneath', '+', cont_index([*NINE, ref(CONT_EMPTY)], []), TAG_EMPTY, NINE)
-switch_row('one-of-nine-parameters-beneath-is-wider', '-', cont_index([*NINE, ref(CONT_EMPTY)], []), TAG_EMPTY,
-           [FUNCREF, *NINE[1:]])
+TARGET_OF_NINE = cont_index([*NINE, ref(CONT_EMPTY)], [])
+switch_row('nine-parameters-beneath', '+', TARGET_OF_NINE, TAG_EMPTY, NINE)
+row('switch/one-of-nine-parameters-beneath-is-wider', '-', [FUNCREF, *NINE[1:], nullable(TARGET_OF_NINE)], [],
+    local_gets(10) + switch(TARGET_OF_NINE, TAG_EMPTY))
