@@ -93,6 +93,12 @@ CONT_I32_I64 = cont_index([I32, I64], [I64])
 SAME_FUNC_I32 = TYPES.add(functype([I32], [I32]))
 SAME_CONT_I32 = TYPES.add(conttype(SAME_FUNC_I32))
 
+# Rows of nine types, which the checker compares otherwise than short ones. The first two are equal, and match the
+# third.
+NINE = [ref(FUNC_I32)] * 9
+SAME_NINE = [ref(SAME_FUNC_I32)] * 9
+NINE_FUNCREFS = [FUNCREF] * 9
+
 # Groups that begin with a function type and the type of its continuations: two equal ones, and two that have a third.
 PAIR = _add_pair()
 SAME_PAIR = _add_pair()

@@ -7,7 +7,8 @@ from assembler.types import (
     CONTREF, FUNC, FUNCREF, I32, I64, NULLCONTREF, NULLFUNCREF, conttype, functype, nullable, ref)
 from rows.sections import FunctionSection, local_gets
 from surroundings import (
-    CONTINUATIONS, CONT_EMPTY, CONT_I32, CONT_I64, FUNC_I32, FUNC_I64, OUT_OF_RANGE, PAIR, SAME_FUNC_I32, SAME_PAIR,
+    CONTINUATIONS, CONT_EMPTY, CONT_I32, CONT_I64, FUNC_I32, FUNC_I64, NINE, NINE_FUNCREFS,
+    OUT_OF_RANGE, PAIR, SAME_FUNC_I32, SAME_NINE, SAME_PAIR,
     TAG_EMPTY, TAG_I32_I64, TAG_I32_TO_I64, TAG_TO_I32, TRIPLE, TYPES, block_type, cont_index, func_index, tag_index)
 
 SECTION = FunctionSection('handling')
@@ -173,11 +174,8 @@ handled('on-and-on-switch', '+', [I32, ref(CONT_BACK)], CONT_I32, on(TAG_I32_TO_
 handled('on-and-wrong-on-switch', '-', [I32, ref(CONT_BACK)], CONT_I32, on(TAG_I32_TO_I64, 0), on_switch(TAG_EMPTY))
 handled('wrong-on-and-on-switch', '-', [I64, ref(CONT_BACK)], CONT_I32, on_switch(TAG_TO_I32), on(TAG_I32_TO_I64, 0))
 
-# Rows of many types, which are compared otherwise than short ones.
+# Rows of nine types.
 
-NINE = [ref(FUNC_I32)] * 9
-SAME_NINE = [ref(SAME_FUNC_I32)] * 9
-NINE_FUNCREFS = [FUNCREF] * 9
 TAG_OF_NINE = tag_index(NINE, NINE)
 handled('on/nine-of-each', '+', [*NINE, ref(cont_index(NINE, NINE))], cont_index([], NINE), on(TAG_OF_NINE, 0))
 handled('on/nine-equivalent-of-each', '+', [*SAME_NINE, ref(cont_index(SAME_NINE, SAME_NINE))], cont_index([], NINE),

@@ -5,7 +5,8 @@ from assembler.instructions import (
 from assembler.types import CONT, CONTREF, FUNC, FUNCREF, I32, I64, NOCONT, NOFUNC, nullable, ref
 from rows.sections import FunctionSection, local_gets
 from surroundings import (
-    CONT_EMPTY, CONT_I32, CONT_I32_I64, CONT_I64, FUNC_EMPTY, FUNC_I32, FUNC_I32_I64, FUNC_I64, OUT_OF_RANGE, PAIR,
+    CONT_EMPTY, CONT_I32, CONT_I32_I64, CONT_I64, FUNC_EMPTY, FUNC_I32, FUNC_I32_I64, FUNC_I64, NINE, NINE_FUNCREFS,
+    OUT_OF_RANGE, PAIR,
     SAME_CONT_I32, SAME_FUNC_I32, SAME_PAIR, TRIPLE, TWO_CONTINUATIONS, cont_index)
 
 SECTION = FunctionSection('making')
@@ -105,19 +106,18 @@ row('cont.bind/result-wider', '+', [nullable(cont_index([], [ref(FUNC_I32)]))], 
     local_get(0) + cont_bind(cont_index([], [ref(FUNC_I32)]), cont_index([], [FUNCREF])) + DROP)
 row('cont.bind/result-narrower', '-', [nullable(cont_index([], [FUNCREF]))], [],
     local_get(0) + cont_bind(cont_index([], [FUNCREF]), cont_index([], [ref(FUNC_I32)])) + DROP)
-NINE = [ref(FUNC_I32)] * 9
 row('cont.bind/nine-of-ten-parameters-bound', '+', [*NINE, nullable(cont_index([*NINE, I32], NINE))], [],
     local_gets(10) + cont_bind(cont_index([*NINE, I32], NINE), cont_index([I32], NINE)) + DROP)
 row('cont.bind/one-of-nine-bound-is-wider', '-', [FUNCREF, *NINE[1:], nullable(cont_index([*NINE, I32], []))], [],
     local_gets(10) + cont_bind(cont_index([*NINE, I32], []), CONT_I32) + DROP)
-row('cont.bind/nine-parameters-narrower', '+', [I32, nullable(cont_index([I32, *[FUNCREF] * 9], []))], [],
-    local_gets(2) + cont_bind(cont_index([I32, *[FUNCREF] * 9], []), cont_index(NINE, [])) + DROP)
+row('cont.bind/nine-parameters-narrower', '+', [I32, nullable(cont_index([I32, *NINE_FUNCREFS], []))], [],
+    local_gets(2) + cont_bind(cont_index([I32, *NINE_FUNCREFS], []), cont_index(NINE, [])) + DROP)
 row('cont.bind/one-of-nine-parameters-wider', '-', [I32, nullable(cont_index([I32, *NINE], []))], [],
     local_gets(2) + cont_bind(cont_index([I32, *NINE], []), cont_index([*NINE[1:], FUNCREF], [])) + DROP)
 row('cont.bind/nine-results-wider', '+', [nullable(cont_index([], NINE))], [],
-    local_get(0) + cont_bind(cont_index([], NINE), cont_index([], [FUNCREF] * 9)) + DROP)
-row('cont.bind/one-of-nine-results-narrower', '-', [nullable(cont_index([], [FUNCREF] * 9))], [],
-    local_get(0) + cont_bind(cont_index([], [FUNCREF] * 9), cont_index([], [*[FUNCREF] * 8, ref(FUNC_I32)])) + DROP)
+    local_get(0) + cont_bind(cont_index([], NINE), cont_index([], NINE_FUNCREFS)) + DROP)
+row('cont.bind/one-of-nine-results-narrower', '-', [nullable(cont_index([], NINE_FUNCREFS))], [],
+    local_get(0) + cont_bind(cont_index([], NINE_FUNCREFS), cont_index([], [*NINE_FUNCREFS[1:], ref(FUNC_I32)])) + DROP)
 row('cont.bind/subtype-bound', '+', [ref(FUNC_I32), nullable(cont_index([FUNCREF], []))], [ref(CONT_EMPTY)],
     local_gets(2) + cont_bind(cont_index([FUNCREF], []), CONT_EMPTY))
 row('cont.bind/supertype-bound', '-', [FUNCREF, nullable(cont_index([ref(FUNC_I32)], []))], [ref(CONT_EMPTY)],

@@ -4,8 +4,8 @@ from assembler.instructions import UNREACHABLE, i32_const, ref_null, switch
 from assembler.types import CONT, CONTREF, FUNCREF, I32, I64, NOCONT, NULLCONTREF, nullable, ref
 from rows.sections import FunctionSection, local_gets
 from surroundings import (
-    CONT_EMPTY, CONT_I32, CONT_I64, FUNC_EMPTY, FUNC_I32, OUT_OF_RANGE, SAME_FUNC_I32, TAG_EMPTY, TAG_TO_I32,
-    cont_index, func_index, tag_index)
+    CONT_EMPTY, CONT_I32, CONT_I64, FUNC_EMPTY, FUNC_I32, NINE, NINE_FUNCREFS, OUT_OF_RANGE, SAME_FUNC_I32,
+    SAME_NINE, TAG_EMPTY, TAG_TO_I32, cont_index, func_index, tag_index)
 
 SECTION = FunctionSection('switching')
 row = SECTION.row
@@ -75,17 +75,17 @@ switch_row('back-results-narrower-than-the-tag', '-',
 switch_row('equivalent-results', '+', cont_index([ref(cont_index([], [ref(SAME_FUNC_I32)]))], [ref(FUNC_I32)]),
            tag_index([], [ref(FUNC_I32)]))
 
-# Rows of many types, which are compared otherwise than short ones.
+# Rows of nine types.
 
-NINE = [ref(FUNC_I32)] * 9
 TAG_TO_NINE = tag_index([], NINE)
 switch_row('nine-results-each-way', '+', cont_index([ref(cont_index([], NINE))], NINE), TAG_TO_NINE)
-switch_row('nine-equivalent-results', '+', cont_index([ref(cont_index([], [ref(SAME_FUNC_I32)] * 9))], NINE), TAG_TO_NINE)
-switch_row('nine-back-results-wider-than-the-tag', '+', cont_index([ref(cont_index([], [FUNCREF] * 9))], NINE), TAG_TO_NINE)
+switch_row('nine-equivalent-results', '+', cont_index([ref(cont_index([], SAME_NINE))], NINE), TAG_TO_NINE)
+switch_row('nine-back-results-wider-than-the-tag', '+', cont_index([ref(cont_index([], NINE_FUNCREFS))], NINE),
+           TAG_TO_NINE)
 switch_row('one-of-nine-back-results-narrower-than-the-tag', '-',
-           cont_index([ref(cont_index([], [FUNCREF, *NINE[1:]]))], [FUNCREF] * 9), tag_index([], [FUNCREF] * 9))
+           cont_index([ref(cont_index([], [FUNCREF, *NINE[1:]]))], NINE_FUNCREFS), tag_index([], NINE_FUNCREFS))
 switch_row('one-of-nine-target-results-wider-than-the-tag', '-',
-           cont_index([ref(cont_index([], [FUNCREF] * 9))], [*NINE[1:], FUNCREF]), TAG_TO_NINE)
+           cont_index([ref(cont_index([], NINE_FUNCREFS))], [*NINE[1:], FUNCREF]), TAG_TO_NINE)
 TARGET_OF_NINE = cont_index([*NINE, ref(CONT_EMPTY)], [])
 switch_row('nine-parameters-beneath', '+', TARGET_OF_NINE, TAG_EMPTY, NINE)
 row('switch/one-of-nine-parameters-beneath-is-wider', '-', [FUNCREF, *NINE[1:], nullable(TARGET_OF_NINE)], [],
