@@ -1,8 +1,8 @@
 -- Numeric and memory instructions are tokens: no table before theirs has their first bytes.
-use Rattle.std.proofs.Common.{◌≡◌, ℕ, ◌≤◌, Bool, true, false, ◌&&◌, ◌||◌, cond, List, [], ◌∷◌, Some, refl, sym, ap, ◌∙◌, arith}
-use Rattle.std.specs.Prelude.{nat_eq, nat_lt}
-use Rattle.std.proofs.lemmas.Bool.Decides.{nat_tests}
+use Rattle.std.proofs.Common.{◌≡◌, ℕ, ◌≤◌, ◌<◌, ◌⊎◌, inl, inr, Bool, true, false, cond, List, [], ◌∷◌, Some, refl, sym, ap, ◌∙◌, arith}
+use Rattle.std.specs.Prelude.{nat_eq}
 use Rattle.w_leb.specs.Format.{Format, Reading, byte, then, image, chosen, never}
+use Rattle.w_leb.specs.Formats.{constant}
 use Rattle.w_syntax.specs.Types.{entries_of}
 use Rattle.w_syntax.specs.Tokens.{accesses, controls, instruction, memory_op, numeric_op, other, others, plain, token, tokens_by_byte}
 use Rattle.w_syntax.specs.declared.instructions.Op.{Op}
@@ -13,27 +13,9 @@ use Rattle.w_syntax.specs.declared.instructions.Token.TheVariants as tok
 use Rattle.w_syntax.specs.declared.memory_instructions.MemoryOp.{MemoryOp}
 use Rattle.w_syntax.specs.declared.numeric.NumericOp.{NumericOp}
 use Rattle.w_code.proofs.ShortItems.{in_front}
-
--- ## A table without some bytes
-
--- no entry has a byte from lo to hi
-abbrev free : {A : Type 0} → ℕ → ℕ → List (ℕ × Format A) → Bool
-free lo hi [] = true
-free lo hi (e ∷ es) = (nat_lt e.0 lo || nat_lt hi e.0) && free lo hi es
-
-outside : (n lo hi k : ℕ) → (nat_lt n lo || nat_lt hi n) ≡ true → lo ≤ k → k ≤ hi → nat_eq k n ≡ false
-outside n lo hi k f l h = grind (arith, nat_tests)
-
-both : (a b : Bool) → (a && b) ≡ true → (a ≡ true) × (b ≡ true)
-both true b e = (refl, e)
-both false b e = absurd (cc)
-
--- such a byte is read by what stands behind the table
-passes : {A : Type 0} (t : List (ℕ × Format A)) (r : Reading A) (lo hi k : ℕ) (all rest : List ℕ) → free lo hi t ≡ true → lo ≤ k → k ≤ hi → chosen t r k all rest ≡ r all
-passes [] r lo hi k all rest f l h = refl
-passes (e ∷ es) r lo hi k all rest f l h =
-    let s = both (nat_lt e.0 lo || nat_lt hi e.0) (free lo hi es) f in
-    ap (λ (b : Bool). cond b (e.1.read rest) (chosen es r k all rest)) (outside e.0 lo hi k s.0 l h) ∙ passes es r lo hi k all rest s.1 l h
+use Rattle.w_code.specs.Opcodes.{Between, Selects}
+use Rattle.w_code.proofs.NumericBytes.{none_at}
+use Rattle.w_code.proofs.OpcodeTables.{around, free, passes, selected}
 
 -- ## Instructions that are neither marks nor control instructions
 
@@ -60,10 +42,24 @@ numeric_byte k rest after o l h e =
     ∙ ap (λ o. then o (λ (x : Op) (more : List ℕ). Some (tok.Plain x, more))) (passes (entries_of op.Memory accesses) (image op.Numeric numeric_op.read) 0x41 0xC4 k (k ∷ rest) rest refl l h)
     ∙ ap (λ o. then (then o (λ (x : NumericOp) (more : List ℕ). Some (op.Numeric x, more))) (λ (x : Op) (more : List ℕ). Some (tok.Plain x, more))) e
 
-pub numeric_token : (b rest after : List ℕ) (k : ℕ) (o : NumericOp) → byte b ≡ Some (k, rest) → 0x41 ≤ k → k ≤ 0xC4 → numeric_op.read b ≡ Some (o, after) → token.read b ≡ Some (tok.Plain (op.Numeric o), after)
-numeric_token b rest after k o s l h e =
+numeric_within : (k : ℕ) (rest after : List ℕ) (o : NumericOp) → k ≤ 0xFF → numeric_op.read (k ∷ rest) ≡ Some (o, after) → Between 0x41 0xC4 k
+numeric_within k rest after o u e = by (around k 0x41 0xC4)
+  where
+    by : (k < 0x41) ⊎ Between 0x41 0xC4 k ⊎ (0xC4 < k) → Between 0x41 0xC4 k
+    by (inl l) = let n = sym (none_at k rest (inl (omega arith))) ∙ e in absurd cc
+    by (inr (inl h)) = h
+    by (inr (inr h)) = let n = sym (none_at k rest (inr (inr (inr (inr (inr (inr (omega arith, u)))))))) ∙ e in absurd cc
+
+pub numeric_token : (b rest after : List ℕ) (k : ℕ) (o : NumericOp) → k ≤ 0xFF → byte b ≡ Some (k, rest) → numeric_op.read b ≡ Some (o, after) → token.read b ≡ Some (tok.Plain (op.Numeric o), after)
+numeric_token b rest after k o u s e =
     let f = in_front b rest k s in
-    ap token.read f ∙ numeric_byte k rest after o l h (sym (ap numeric_op.read f) ∙ e)
+    let n = sym (ap numeric_op.read f) ∙ e in
+    let within = numeric_within k rest after o u n in
+    ap token.read f ∙ numeric_byte k rest after o within.0 within.1 n
+
+-- a numeric instruction that is its opcode alone is such a token
+pub numeric_alone : (k : ℕ) (o : NumericOp) → 0x41 ≤ k → k ≤ 0xC4 → Selects numeric_op k (constant o) → Selects token k (constant (tok.Plain (op.Numeric o)))
+numeric_alone k o l h n rest = numeric_byte k rest rest o l h (n rest)
 
 -- ## Memory instructions
 
@@ -84,36 +80,43 @@ memory_byte k rest after o l h e =
     plain_token 0x28 0x40 k rest refl refl refl l h
     ∙ ap (λ o. then o (λ (x : Op) (more : List ℕ). Some (tok.Plain x, more))) (entries_some op.Memory accesses (image op.Numeric numeric_op.read) k (k ∷ rest) rest after o e)
 
-pub memory_token : (b rest after : List ℕ) (k : ℕ) (o : MemoryOp) → byte b ≡ Some (k, rest) → 0x28 ≤ k → k ≤ 0x40 → memory_op.read b ≡ Some (o, after) → token.read b ≡ Some (tok.Plain (op.Memory o), after)
-memory_token b rest after k o s l h e =
+memory_within : (k : ℕ) (rest after : List ℕ) (o : MemoryOp) → k ≤ 0xFF → memory_op.read (k ∷ rest) ≡ Some (o, after) → Between 0x28 0x40 k
+unfolding memory_op
+memory_within k rest after o u e = by (around k 0x28 0x40)
+  where
+    by : (k < 0x28) ⊎ Between 0x28 0x40 k ⊎ (0x40 < k) → Between 0x28 0x40 k
+    by (inl l) = let n = sym (passes accesses never 0 0x27 k (k ∷ rest) rest refl (omega arith) (omega arith)) ∙ e in absurd cc
+    by (inr (inl h)) = h
+    by (inr (inr h)) = let n = sym (passes accesses never 0x41 0xFF k (k ∷ rest) rest refl (omega arith) u) ∙ e in absurd cc
+
+pub memory_token : (b rest after : List ℕ) (k : ℕ) (o : MemoryOp) → k ≤ 0xFF → byte b ≡ Some (k, rest) → memory_op.read b ≡ Some (o, after) → token.read b ≡ Some (tok.Plain (op.Memory o), after)
+memory_token b rest after k o u s e =
     let f = in_front b rest k s in
-    ap token.read f ∙ memory_byte k rest after o l h (sym (ap memory_op.read f) ∙ e)
+    let m = sym (ap memory_op.read f) ∙ e in
+    let within = memory_within k rest after o u m in
+    ap token.read f ∙ memory_byte k rest after o within.0 within.1 m
 
 -- ## Instructions that are their opcode alone
 
--- a byte that spells this instruction
-abbrev pub IsBare : ℕ → Op → Type 0
-IsBare k o = (rest : List ℕ) → token.read (k ∷ rest) ≡ Some (tok.Plain o, rest)
+pub alone_token : (b rest : List ℕ) (k : ℕ) (o : Op) → byte b ≡ Some (k, rest) → Selects token k (constant (tok.Plain o)) → token.read b ≡ Some (tok.Plain o, rest)
+alone_token b rest k o s h = selected token (constant (tok.Plain o)) b rest k s h
 
-pub bare_token : (b rest : List ℕ) (k : ℕ) (o : Op) → IsBare k o → byte b ≡ Some (k, rest) → token.read b ≡ Some (tok.Plain o, rest)
-bare_token b rest k o bare s = ap token.read (in_front b rest k s) ∙ bare rest
-
-pub bare_unreachable : IsBare 0x00 (op.Control control.Unreachable)
+pub bare_unreachable : Selects token 0x00 (constant (tok.Plain (op.Control control.Unreachable)))
 unfolding token instruction
 bare_unreachable rest = refl
 
-pub bare_nop : IsBare 0x01 (op.Control control.Nop)
+pub bare_nop : Selects token 0x01 (constant (tok.Plain (op.Control control.Nop)))
 unfolding token instruction
 bare_nop rest = refl
 
-pub bare_return : IsBare 0x0F (op.Control control.Return)
+pub bare_return : Selects token 0x0F (constant (tok.Plain (op.Control control.Return)))
 unfolding token instruction
 bare_return rest = refl
 
-pub bare_drop : IsBare 0x1A (op.Parametric parametric.Drop)
+pub bare_drop : Selects token 0x1A (constant (tok.Plain (op.Parametric parametric.Drop)))
 unfolding token instruction other
 bare_drop rest = refl
 
-pub bare_select : IsBare 0x1B (op.Parametric parametric.Select)
+pub bare_select : Selects token 0x1B (constant (tok.Plain (op.Parametric parametric.Select)))
 unfolding token instruction other
 bare_select rest = refl

@@ -1,3 +1,5 @@
 pub mod TokenSteps
 mod ShortItems
+mod OpcodeTables
+mod NumericBytes
 mod CommonTokens

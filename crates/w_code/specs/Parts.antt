@@ -1,13 +1,8 @@
 -- Rows of the grammar's tables of instructions that a reader of their own reads.
 use Rattle.std.specs.Prelude.{ℕ, List, take, drop}
 use Rattle.w_leb.specs.Format.{Format}
-use Rattle.w_syntax.specs.declared.numeric.NumericOp.{NumericOp}
 use Rattle.w_syntax.specs.declared.instructions.Op.{Op}
-use Rattle.w_syntax.specs.Tokens.{arithmetics, others}
-
--- operations on integers of 64 bits, behind those of 32
-abbrev pub i64_arithmetics : List (ℕ × Format NumericOp)
-i64_arithmetics = drop 18 arithmetics
+use Rattle.w_syntax.specs.Tokens.{others}
 
 -- `drop` and both kinds of `select`
 abbrev pub parametrics : List (ℕ × Format Op)

@@ -5,10 +5,13 @@ ghost use Rattle.w_syntax.specs.declared.instructions.Op.TheVariants as op;
 ghost use Rattle.w_syntax.specs.declared.instructions.Token.TheVariants as tok;
 ghost use Rattle.w_syntax.specs.Packed.{control_of};
 ghost use Rattle.w_syntax.specs.Tokens.{token};
-ghost use Rattle.w_code.specs.Common.{IsPlainAt};
+ghost use Rattle.w_code.specs.Common.{IsAlone, IsPlainAt};
 
+use crate::families::{Family, family_of};
 use crate::memory::memory_op_at;
-use crate::numeric::numeric_at;
+use crate::numeric::{
+    binop_of, constant_at, numeric_at, relop_of, tested_type, unop_of, worked_type,
+};
 use w_leb::{read_byte, read_u32};
 use w_syntax::{PackedInstr, ShortControlOp, VariableOp};
 
@@ -52,34 +55,73 @@ fn transfer_at(bytes: &[u8], at: usize) -> Option<(ShortControlOp, usize)>
     }
 }
 
+// An instruction that is its opcode alone, and not a numeric one.
+fn bare_of(tag: u8) -> Option<PackedInstr>
+    ensures { IfSome result (IsAlone tag) }
+{
+    match tag {
+        0x00 => Some(PackedInstr::Control(ShortControlOp::Unreachable)),
+        0x01 => Some(PackedInstr::Control(ShortControlOp::Nop)),
+        0x0F => Some(PackedInstr::Control(ShortControlOp::Return)),
+        0x1A => Some(PackedInstr::Drop),
+        0x1B => Some(PackedInstr::Select),
+        _ => None,
+    }
+}
+
+// A test of two integers.
+#[inline(always)]
+fn relation_of(tag: u8) -> Option<PackedInstr>
+    ensures { IfSome result (IsAlone tag) }
+{
+    match tag {
+        0x46..=0x4F | 0x51..=0x5A => Some(PackedInstr::Compare(tested_type(tag), relop_of(tag))),
+        _ => None,
+    }
+}
+
+// An operation on one or two integers.
+#[inline(always)]
+fn arithmetic_of(tag: u8) -> Option<PackedInstr>
+    ensures { IfSome result (IsAlone tag) }
+{
+    match tag {
+        0x6A..=0x78 | 0x7C..=0x8A => Some(PackedInstr::Binary(worked_type(tag), binop_of(tag))),
+        0x67..=0x69 | 0x79..=0x7B => Some(PackedInstr::Unary(worked_type(tag), unop_of(tag))),
+        _ => None,
+    }
+}
+
 /// A common instruction at a place, which holds no others. `None` says nothing of what stands there.
 #[inline]
 pub(crate) fn common_at(bytes: &[u8], at: usize) -> Option<(PackedInstr, usize)>
     ensures { IfSome result (IsPlainAt bytes.now at) }
 {
     let (tag, next) = read_byte(bytes, at)?;
-    match tag {
-        0x20..=0x24 => {
+    match family_of(tag) {
+        Family::Alone => Some((bare_of(tag)?, next)),
+        Family::Relation => Some((relation_of(tag)?, next)),
+        Family::Arithmetic => Some((arithmetic_of(tag)?, next)),
+        Family::Constant => {
+            let (constant, next) = constant_at(bytes, at)?;
+            Some((PackedInstr::numeric(constant), next))
+        }
+        Family::Variable => {
             let (variable, next) = variable_at(bytes, at)?;
             Some((PackedInstr::Variable(variable), next))
         }
-        0x41..=0xC4 => {
-            let (numeric, next) = numeric_at(bytes, at)?;
-            Some((PackedInstr::numeric(numeric), next))
-        }
-        0x28..=0x40 => {
-            let (memory, next) = memory_op_at(bytes, at)?;
-            Some((PackedInstr::memory(memory), next))
-        }
-        0x00 => Some((PackedInstr::Control(ShortControlOp::Unreachable), next)),
-        0x01 => Some((PackedInstr::Control(ShortControlOp::Nop), next)),
-        0x0F => Some((PackedInstr::Control(ShortControlOp::Return), next)),
-        0x1A => Some((PackedInstr::Drop, next)),
-        0x1B => Some((PackedInstr::Select, next)),
-        0x0C..=0x0D | 0x10 => {
+        Family::Transfer => {
             let (control, next) = transfer_at(bytes, at)?;
             Some((PackedInstr::Control(control), next))
         }
-        _ => None,
+        Family::Memory => {
+            let (memory, next) = memory_op_at(bytes, at)?;
+            Some((PackedInstr::memory(memory), next))
+        }
+        Family::Numeric => {
+            let (numeric, next) = numeric_at(bytes, at)?;
+            Some((PackedInstr::numeric(numeric), next))
+        }
+        Family::Other => None,
     }
 }

@@ -7,6 +7,7 @@ mod common;
 mod control;
 mod datas;
 mod elements;
+mod families;
 mod functions;
 mod globals;
 mod instructions;

@@ -2,6 +2,7 @@
 ghost use Rattle.w_leb.specs.Format.{ReadsAt};
 ghost use Rattle.w_leb.specs.Formats.{◌⇒◌};
 ghost use Rattle.w_syntax.specs.Tokens.{memarg, memory_op};
+ghost use Rattle.w_code.specs.Opcodes.{IsLoad, IsStore, Selects};
 
 use w_leb::{read_byte, read_u32, read_u64};
 use w_syntax::{LoadOp, MemArg, MemoryOp, StoreOp};
@@ -24,27 +25,49 @@ fn memarg_at(bytes: &[u8], at: usize) -> Option<(MemArg, usize)>
     Some((MemArg { align, offset }, next))
 }
 
-// What stands behind the opcode of a load.
-fn load_at(bytes: &[u8], at: usize, load: LoadOp) -> Option<(MemoryOp, usize)>
-    ensures { ReadsAt (memarg ⇒ MemoryOp.Load load).read bytes.now at result }
+// The load. Out of line it is looked up, where a jump would be guessed.
+#[inline(never)]
+#[tactic(auto, unfolding(w_syntax::specs::Tokens::memory_op))]
+fn load_of(tag: u8) -> LoadOp
+    requires { IsLoad tag }
+    ensures { Selects memory_op tag (memarg ⇒ MemoryOp.Load result) }
 {
-    let Some((memarg, next)) = memarg_at(bytes, at) else {
-        return None;
-    };
-    Some((MemoryOp::Load(load, memarg), next))
+    match tag {
+        0x28 => LoadOp::I32Load,
+        0x29 => LoadOp::I64Load,
+        0x2C => LoadOp::I32Load8S,
+        0x2D => LoadOp::I32Load8U,
+        0x2E => LoadOp::I32Load16S,
+        0x2F => LoadOp::I32Load16U,
+        0x30 => LoadOp::I64Load8S,
+        0x31 => LoadOp::I64Load8U,
+        0x32 => LoadOp::I64Load16S,
+        0x33 => LoadOp::I64Load16U,
+        0x34 => LoadOp::I64Load32S,
+        _ => LoadOp::I64Load32U,
+    }
 }
 
-// What stands behind the opcode of a store.
-fn store_at(bytes: &[u8], at: usize, store: StoreOp) -> Option<(MemoryOp, usize)>
-    ensures { ReadsAt (memarg ⇒ MemoryOp.Store store).read bytes.now at result }
+// The store.
+#[inline(never)]
+#[tactic(auto, unfolding(w_syntax::specs::Tokens::memory_op))]
+fn store_of(tag: u8) -> StoreOp
+    requires { IsStore tag }
+    ensures { Selects memory_op tag (memarg ⇒ MemoryOp.Store result) }
 {
-    let Some((memarg, next)) = memarg_at(bytes, at) else {
-        return None;
-    };
-    Some((MemoryOp::Store(store, memarg), next))
+    match tag {
+        0x36 => StoreOp::I32Store,
+        0x37 => StoreOp::I64Store,
+        0x3A => StoreOp::I32Store8,
+        0x3B => StoreOp::I32Store16,
+        0x3C => StoreOp::I64Store8,
+        0x3D => StoreOp::I64Store16,
+        _ => StoreOp::I64Store32,
+    }
 }
 
 /// The load, the store, or the instruction on the size of a memory at a place.
+#[inline(always)]
 #[tactic(auto, unfolding(w_syntax::specs::Tokens::memory_op))]
 pub(crate) fn memory_op_at(bytes: &[u8], at: usize) -> Option<(MemoryOp, usize)>
     ensures { ReadsAt memory_op.read bytes.now at result }
@@ -53,25 +76,18 @@ pub(crate) fn memory_op_at(bytes: &[u8], at: usize) -> Option<(MemoryOp, usize)>
         return None;
     };
     match tag {
-        0x28 => load_at(bytes, next, LoadOp::I32Load),
-        0x29 => load_at(bytes, next, LoadOp::I64Load),
-        0x2C => load_at(bytes, next, LoadOp::I32Load8S),
-        0x2D => load_at(bytes, next, LoadOp::I32Load8U),
-        0x2E => load_at(bytes, next, LoadOp::I32Load16S),
-        0x2F => load_at(bytes, next, LoadOp::I32Load16U),
-        0x30 => load_at(bytes, next, LoadOp::I64Load8S),
-        0x31 => load_at(bytes, next, LoadOp::I64Load8U),
-        0x32 => load_at(bytes, next, LoadOp::I64Load16S),
-        0x33 => load_at(bytes, next, LoadOp::I64Load16U),
-        0x34 => load_at(bytes, next, LoadOp::I64Load32S),
-        0x35 => load_at(bytes, next, LoadOp::I64Load32U),
-        0x36 => store_at(bytes, next, StoreOp::I32Store),
-        0x37 => store_at(bytes, next, StoreOp::I64Store),
-        0x3A => store_at(bytes, next, StoreOp::I32Store8),
-        0x3B => store_at(bytes, next, StoreOp::I32Store16),
-        0x3C => store_at(bytes, next, StoreOp::I64Store8),
-        0x3D => store_at(bytes, next, StoreOp::I64Store16),
-        0x3E => store_at(bytes, next, StoreOp::I64Store32),
+        0x28..=0x29 | 0x2C..=0x35 => {
+            let Some((memarg, next)) = memarg_at(bytes, next) else {
+                return None;
+            };
+            Some((MemoryOp::Load(load_of(tag), memarg), next))
+        }
+        0x36..=0x37 | 0x3A..=0x3E => {
+            let Some((memarg, next)) = memarg_at(bytes, next) else {
+                return None;
+            };
+            Some((MemoryOp::Store(store_of(tag), memarg), next))
+        }
         0x3F => {
             let Some((memory, next)) = read_u32(bytes, next) else {
                 return None;

@@ -1,5 +1,5 @@
 //! Reading one number, or one byte, at a place.
-ghost use Rattle.std.specs.Prelude.{◌≡◌, ◌<◌, ◌≤◌, ◌^◌, IfSome, length};
+ghost use Rattle.std.specs.Prelude.{◌≡◌, ◌<◌, ◌≤◌, ◌^◌, IfSome, Some, length};
 ghost use Rattle.w_leb.specs.Format.{ReadsAt, BeginsAt, byte};
 ghost use Rattle.w_leb.specs.Number.{Unsigned, unsigned, Signed, signed, IsInBits};
 
@@ -37,18 +37,50 @@ fn unsigned_at(bytes: &[u8], at: usize, width: u32) -> Option<(u64, usize)>
     Some((byte as u64 - 128 + 128 * high, next))
 }
 
-// The same, with no call where one byte spells it.
+// The number that is spelled by one byte here. `None` says nothing of what stands here.
+#[inline(always)]
+fn unsigned_byte(bytes: &[u8], at: usize, width: u32) -> Option<(u64, usize)>
+    requires { 7 ≤ width }
+    ensures reads { IfSome result (λ x. ReadsAt (unsigned width) bytes.now at (Some x)) }
+    ensures fits { IfSome result (λ x. x.0 < 2 ^ width) }
+{
+    let (byte, next) = read_byte(bytes, at)?;
+    if byte < 128 {
+        Some((byte as u64, next))
+    } else {
+        None
+    }
+}
+
+// The same of two bytes.
+#[inline(always)]
+fn unsigned_pair(bytes: &[u8], at: usize, width: u32) -> Option<(u64, usize)>
+    requires low { 14 ≤ width }
+    requires high { width ≤ 64 }
+    ensures reads { IfSome result (λ x. ReadsAt (unsigned width) bytes.now at (Some x)) }
+    ensures fits { IfSome result (λ x. x.0 < 2 ^ width) }
+{
+    let (byte, next) = read_byte(bytes, at)?;
+    if byte < 128 {
+        return None;
+    }
+    let (high, next) = unsigned_byte(bytes, next, width - 7)?;
+    Some((byte as u64 - 128 + 128 * high, next))
+}
+
+// The same, with no call where one byte spells it, or two.
 #[inline(always)]
 fn unsigned_from(bytes: &[u8], at: usize, width: u32) -> Option<(u64, usize)>
-    requires low { 7 ≤ width }
+    requires low { 14 ≤ width }
     requires high { width ≤ 64 }
     ensures reads { ReadsAt (unsigned width) bytes.now at result }
     ensures fits { IfSome result (λ x. x.0 < 2 ^ width) }
 {
-    if let Some((byte, next)) = read_byte(bytes, at) {
-        if byte < 128 {
-            return Some((byte as u64, next));
-        }
+    if let Some(found) = unsigned_byte(bytes, at, width) {
+        return Some(found);
+    }
+    if let Some(found) = unsigned_pair(bytes, at, width) {
+        return Some(found);
     }
     unsigned_at(bytes, at, width)
 }
@@ -109,22 +141,53 @@ fn signed_at(bytes: &[u8], at: usize, width: u32) -> Option<(i64, usize)>
     Some(((byte - 128) as i64 + 128 * high, next))
 }
 
-// The same, with no call where one byte spells it.
+// The number that is spelled by one byte here. `None` says nothing of what stands here.
+#[inline(always)]
+fn signed_byte(bytes: &[u8], at: usize, width: u32) -> Option<(i64, usize)>
+    requires { 7 ≤ width }
+    ensures reads { IfSome result (λ x. ReadsAt (signed width) bytes.now at (Some x)) }
+    ensures fits { IfSome result (λ x. IsInBits width x.0) }
+{
+    let (byte, next) = read_byte(bytes, at)?;
+    if byte < 64 {
+        return Some((byte as i64, next));
+    }
+    if byte < 128 {
+        let below = 128 - byte;
+        return Some((-(below as i64), next));
+    }
+    None
+}
+
+// The same of two bytes.
+#[inline(always)]
+fn signed_pair(bytes: &[u8], at: usize, width: u32) -> Option<(i64, usize)>
+    requires low { 14 ≤ width }
+    requires high { width ≤ 64 }
+    ensures reads { IfSome result (λ x. ReadsAt (signed width) bytes.now at (Some x)) }
+    ensures fits { IfSome result (λ x. IsInBits width x.0) }
+{
+    let (byte, next) = read_byte(bytes, at)?;
+    if byte < 128 {
+        return None;
+    }
+    let (high, next) = signed_byte(bytes, next, width - 7)?;
+    Some(((byte - 128) as i64 + 128 * high, next))
+}
+
+// The same, with no call where one byte spells it, or two.
 #[inline(always)]
 fn signed_from(bytes: &[u8], at: usize, width: u32) -> Option<(i64, usize)>
-    requires low { 7 ≤ width }
+    requires low { 14 ≤ width }
     requires high { width ≤ 64 }
     ensures reads { ReadsAt (signed width) bytes.now at result }
     ensures fits { IfSome result (λ x. IsInBits width x.0) }
 {
-    if let Some((byte, next)) = read_byte(bytes, at) {
-        if byte < 64 {
-            return Some((byte as i64, next));
-        }
-        if byte < 128 {
-            let below = 128 - byte;
-            return Some((-(below as i64), next));
-        }
+    if let Some(found) = signed_byte(bytes, at, width) {
+        return Some(found);
+    }
+    if let Some(found) = signed_pair(bytes, at, width) {
+        return Some(found);
     }
     signed_at(bytes, at, width)
 }

@@ -29,6 +29,7 @@ pub struct BodyContext<'c> {
 }
 
 // No parameters, and these results.
+#[inline(always)]
 fn results_alone<'c>(results: TypeRow<'c>) -> FuncRows<'c>
     ensures from { result.params.types.now ≡ [] }
     ensures to { result.results.types.now ≡ results.entry.types.now }
@@ -41,6 +42,7 @@ fn results_alone<'c>(results: TypeRow<'c>) -> FuncRows<'c>
 }
 
 // What a block of this type takes and gives.
+#[inline(always)]
 fn block_arrow<'c>(setting: &'c Setting<'c>, block: &'c BlockType) -> Option<FuncRows<'c>>
     ensures arrow { arrow_of (context_in setting.now.cx.now) block.now ≡ option_map arrow_view result }
     ensures ready { IfSome result (AreReadyRows setting.now.cx.now.classes.now) }
@@ -58,7 +60,8 @@ fn block_arrow<'c>(setting: &'c Setting<'c>, block: &'c BlockType) -> Option<Fun
     }
 }
 
-/// What a block of this kind takes and gives.
+/// What a block of this kind takes and gives. It is inlined, since its rows are two of many words.
+#[inline(always)]
 pub fn arrow<'c>(setting: &'c Setting<'c>, kind: &'c FrameKind) -> Option<FuncRows<'c>>
     ensures arrow { arrow_at (in_body (context_in setting.now.cx.now) [] setting.now.results.types.now) kind.now
         ≡ option_map arrow_view result }
@@ -72,8 +75,8 @@ pub fn arrow<'c>(setting: &'c Setting<'c>, kind: &'c FrameKind) -> Option<FuncRo
     }
 }
 
-// What a branch to the label of a block of this kind takes.
-fn label<'c>(setting: &'c Setting<'c>, kind: &'c FrameKind) -> TypeRow<'c>
+// What a branch to the label of a block of this kind takes, by the block's type.
+fn label_by_type<'c>(setting: &'c Setting<'c>, kind: &'c FrameKind) -> TypeRow<'c>
     ensures label { label_at (in_body (context_in setting.now.cx.now) [] setting.now.results.types.now) kind.now
         ≡ row_of result.types.now }
     ensures ready { IsReady setting.now.cx.now.classes.now result }
@@ -87,6 +90,20 @@ fn label<'c>(setting: &'c Setting<'c>, kind: &'c FrameKind) -> TypeRow<'c>
             }
         }
         None => TypeRow::bare(&[]),
+    }
+}
+
+// What a branch to the label of a block of this kind takes. Most blocks take and give nothing.
+fn label<'c>(setting: &'c Setting<'c>, kind: &'c FrameKind) -> TypeRow<'c>
+    ensures label { label_at (in_body (context_in setting.now.cx.now) [] setting.now.results.types.now) kind.now
+        ≡ row_of result.types.now }
+    ensures ready { IsReady setting.now.cx.now.classes.now result }
+{
+    match kind {
+        FrameKind::Block(_, BlockType::Empty)
+        | FrameKind::Then(BlockType::Empty)
+        | FrameKind::Else(BlockType::Empty) => TypeRow::bare(&[]),
+        _ => label_by_type(setting, kind),
     }
 }
 

@@ -94,14 +94,17 @@ fn common_step(
     ensures nothing { IfNone result (flow.new ≡ flow.old) }
     ensures words { HasWords cx.now.classes.now flow.old → HasWords cx.now.classes.now flow.new }
 {
-    let classes = cx.classes;
     match packed {
-        PackedInstr::I32Const(_) => Some(flow.gives(classes, PackedType::I32)),
-        PackedInstr::I64Const(_) => Some(flow.gives(classes, PackedType::I64)),
-        PackedInstr::Eqz(kind) => Some(flow.turns(classes, of_int(*kind), PackedType::I32)),
-        PackedInstr::Compare(kind, _) => Some(flow.joins(classes, of_int(*kind), PackedType::I32)),
-        PackedInstr::Unary(kind, _) => Some(flow.turns(classes, of_int(*kind), of_int(*kind))),
-        PackedInstr::Binary(kind, _) => Some(flow.joins(classes, of_int(*kind), of_int(*kind))),
+        PackedInstr::I32Const(_) => Some(flow.gives(cx.classes, PackedType::I32)),
+        PackedInstr::I64Const(_) => Some(flow.gives(cx.classes, PackedType::I64)),
+        PackedInstr::Eqz(kind) => Some(flow.turns(cx.classes, of_int(*kind), PackedType::I32)),
+        PackedInstr::Compare(kind, _) => Some(flow.joins(
+            cx.classes,
+            of_int(*kind),
+            PackedType::I32,
+        )),
+        PackedInstr::Unary(kind, _) => Some(flow.turns(cx.classes, of_int(*kind), of_int(*kind))),
+        PackedInstr::Binary(kind, _) => Some(flow.joins(cx.classes, of_int(*kind), of_int(*kind))),
         PackedInstr::Drop => Some(Ok(flow.drops())),
         PackedInstr::Load(load, align, offset) => {
             Some(load_step(cx, flow, *load, *align, *offset))

@@ -14,6 +14,8 @@ use std::marker::Model;
 #[derive(Drop)]
 pub struct Body {
     code: Vec<PackedInstr>,
+    // whether some instruction names a data segment: looked at while the list is new
+    names_data: bool,
 }
 
 // Whether an instruction names a data segment.
@@ -56,6 +58,7 @@ impl Model for Body {
     ghost use Rattle.w_syntax.specs.Code.{Code};
     ghost use Rattle.w_syntax.specs.FlatLaws.{code_code};
     ghost use Rattle.w_syntax.specs.Flat.{tree_of, IsFlat};
+    ghost use Rattle.w_syntax.specs.FlatData.{some_of_data};
     ghost use Rattle.w_syntax.specs.Packed.{unpacked_all};
 
     ghost Value = { Code };
@@ -64,7 +67,7 @@ impl Model for Body {
 
     ghost view = { λ a. tree_of (unpacked_all a.code.items) };
 
-    ghost invariant = { λ a. IsFlat (unpacked_all a.code.items) };
+    ghost invariant = { λ a. IsFlat (unpacked_all a.code.items) × (a.names_data ≡ some_of_data (unpacked_all a.code.items)) };
 }
 
 impl Body {
@@ -78,14 +81,15 @@ impl Body {
         requires { IsFlat (unpacked_all code.items) }
         ensures { result ≡ tree_of (unpacked_all code.items) }
     {
-        Body { code }
+        let names_data = some_is_of_data(code.as_slice());
+        Body { code, names_data }
     }
 
     /// Whether some instruction names a data segment.
     pub fn uses_data(&self) -> bool
         ensures { result ≡ uses_data self.now }
     {
-        some_is_of_data(self.instrs())
+        self.names_data
     }
 
     /// The instructions in one list, with the end behind them.

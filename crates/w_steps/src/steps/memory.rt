@@ -35,7 +35,8 @@ fn load_type(load: LoadOp) -> PackedType
     }
 }
 
-// How many bytes a load reads, as a power of two.
+// How many bytes a load reads, as a power of two. Out of line it is looked up, where a jump would be guessed.
+#[inline(never)]
 fn load_width(load: LoadOp) -> u32
     ensures { result ≡ the_load_width load }
 {
@@ -58,6 +59,7 @@ fn store_type(store: StoreOp) -> PackedType
 }
 
 // How many bytes a store writes, as a power of two.
+#[inline(never)]
 fn store_width(store: StoreOp) -> u32
     ensures { result ≡ the_store_width store }
 {
