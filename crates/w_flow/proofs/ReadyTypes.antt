@@ -7,7 +7,7 @@ use Rattle.w_types.specs.declared.types.CompType.TheVariants as comp
 use Rattle.w_types.specs.declared.types.FuncType.{FuncType}
 use Rattle.w_syntax.specs.Functions.{function_type}
 use Rattle.w_canon.specs.declared.entry.Entry.{Entry}
-use Rattle.w_flow.specs.TypeRows.{IsReadyFor, HasReady, AreReadyTypes}
+use Rattle.w_flow.specs.TypeRows.{HasReady, AreReadyTypes}
 use Rattle.w_flow.specs.declared.type_rows.ReadyType.{ReadyType}
 
 module _ (es : List Entry) where
@@ -42,12 +42,11 @@ module _ (es : List Entry) where
 
   -- what stands ready for a function type is what its rows need
   pub ready_types_at : (ts : List CompType) (rs : List ReadyType) (x : ℕ) (f : FuncType) (r : ReadyType) → AreReadyTypes es ts rs → function_type (slice_get ts x) ≡ Some f → x < length rs → r ≡ get_or rs x r →
-      IsReadyFor es f.params r.params × IsReadyFor es f.results r.results
+      HasReady es (comp.Func f) r
   ready_types_at [] rs x f r a e l k = absurd (cc)
   ready_types_at (t ∷ ts) [] x f r a e l k = absurd (omega arith)
   ready_types_at (comp.Func g ∷ ts) (q ∷ rs) zero f r a e l k =
       let same : g ≡ f = cc in
-      subst (λ (z : FuncType). IsReadyFor es z.params r.params × IsReadyFor es z.results r.results) same
-      (subst (λ (z : ReadyType). IsReadyFor es g.params z.params × IsReadyFor es g.results z.results) (sym k) a.0)
+      subst (λ (z : FuncType). HasReady es (comp.Func z) r) same (subst (λ (z : ReadyType). HasReady es (comp.Func g) z) (sym k) a.0)
   ready_types_at (comp.Cont y ∷ ts) (q ∷ rs) zero f r a e l k = absurd (cc)
   ready_types_at (t ∷ ts) (q ∷ rs) (suc x) f r a e l k = ready_types_at ts rs x f r a.1 e (omega arith) k

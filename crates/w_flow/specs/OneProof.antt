@@ -56,7 +56,7 @@ IsReadyFor-prop es ts None = Unit-prop
 IsReadyFor-prop es ts (Some r) = AreReady-prop es ts r.operands.items r.given.items r.wanted.items
 
 HasReady-prop : (es : List Entry) (t : CompType) (r : ReadyType) → IsProp (HasReady es t r)
-HasReady-prop es (comp.Func f) r = ×_prop (IsReadyFor-prop es f.params r.params) (IsReadyFor-prop es f.results r.results)
+HasReady-prop es (comp.Func f) r = ×_prop (IsReadyFor-prop es f.params r.params) (×_prop (IsReadyFor-prop es f.results r.results) (Coded-set coded_bool _ true))
 HasReady-prop es (comp.Cont x) r = Unit-prop
 
 AreReadyTypes-prop : (es : List Entry) (ts : List CompType) (rs : List ReadyType) → IsProp (AreReadyTypes es ts rs)

@@ -1,11 +1,12 @@
 -- Rows of types that stand ready, both to be given and to be wanted.
-use Rattle.std.specs.Prelude.{◌≡◌, ℕ, List, [], ◌∷◌, Option, IfSome}
+use Rattle.std.specs.Prelude.{◌≡◌, ◌||◌, ℕ, Bool, true, not, List, [], ◌∷◌, Option, IfSome}
 use Rattle.w_types.specs.PackedTypes.{index_of}
 use Rattle.w_types.specs.declared.types.CompType.{CompType}
 use Rattle.w_types.specs.declared.types.CompType.TheVariants as comp
 use Rattle.w_types.specs.declared.types.FuncType.{FuncType}
 use Rattle.w_types.specs.declared.types.ValType.{ValType}
 use Rattle.w_canon.specs.declared.entry.Entry.{Entry}
+use Rattle.w_canon.specs.Tests.{result_test}
 use Rattle.w_canon.specs.Words.{IsGiven, IsWanted}
 use Rattle.w_flow.specs.Operands.{AreWords}
 use Rattle.w_flow.specs.declared.operand.Operand.{Operand}
@@ -34,9 +35,13 @@ IsReady es r = IfSome r.words (λ (w : RowWords). AreReady es r.types.now w.oper
 abbrev pub IsReadyFor : List Entry → List ValType → Option ReadyRow → Type 0
 IsReadyFor es ts o = IfSome o (λ (r : ReadyRow). AreReady es ts r.operands.items r.given.items r.wanted.items)
 
+-- where it is told that these types match those, they do
+abbrev pub FitsIf : List Entry → Bool → List ValType → List ValType → Type 0
+FitsIf es told ts us = (not told || result_test es ts us) ≡ true
+
 -- what stands ready for a type, where it is a function type
 abbrev pub HasReady : List Entry → CompType → ReadyType → Type 0
-HasReady es (comp.Func f) r = IsReadyFor es f.params r.params × IsReadyFor es f.results r.results
+HasReady es (comp.Func f) r = IsReadyFor es f.params r.params × (IsReadyFor es f.results r.results × FitsIf es r.fits f.params f.results)
 HasReady es (comp.Cont x) r = Unit {0}
 
 -- for each of these types, or for the first ones
@@ -57,3 +62,4 @@ rows_type r = record { params = r.params.types.now; results = r.results.types.no
 pub record AreReadyRows (es : List Entry) (r : FuncRows) : Type 0 where
   pub params : IsReady es r.params
   pub results : IsReady es r.results
+  pub fits : FitsIf es r.fits r.params.types.now r.results.types.now

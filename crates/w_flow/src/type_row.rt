@@ -115,8 +115,8 @@ impl<'r> TypeRow<'r> {
         }
     }
 
-    // Whether the types match those of another row, if that shows at once.
-    fn fits(self, other: TypeRow) -> bool
+    /// Whether the types match those of another row, if that shows at once.
+    pub(crate) fn fits(self, other: TypeRow) -> bool
         ensures { (es : List Entry) → IsReady es self.entry → IsReady es other.entry
             → IsTrue result → result_test es self.entry.types.now other.entry.types.now ≡ true }
     {

@@ -24,6 +24,8 @@ pub(crate) struct ReadyRow {
 pub(crate) struct ReadyType {
     params: Option<ReadyRow>,
     results: Option<ReadyRow>,
+    // whether it was found that the parameters match the results, as an if without a second branch needs
+    fits: bool,
 }
 
 /// Of each function type of a module the parameters and results, of which wide ones stand ready: see `AreTypeRows` of `specs/TypeRows.antt`.
@@ -37,6 +39,7 @@ pub struct TypeRows {
 pub struct FuncRows<'r> {
     pub params: TypeRow<'r>,
     pub results: TypeRow<'r>,
+    pub(crate) fits: bool,
 }
 
 // What stands ready for these types, where the row is wide. It fails only for want of memory.
@@ -71,13 +74,22 @@ fn ready_type(alloc: Global, classes: &Classes, kind: &CompType) -> Result<Ready
     ensures { IfOk result (HasReady classes.now kind.now) }
 {
     match kind {
-        CompType::Func(function) => Ok(ReadyType {
-            params: ready_row(alloc, classes, function.params.as_slice())?,
-            results: ready_row(alloc, classes, function.results.as_slice())?,
-        }),
+        CompType::Func(function) => {
+            let params = ready_row(alloc, classes, function.params.as_slice())?;
+            let results = ready_row(alloc, classes, function.results.as_slice())?;
+            let from = row_of(classes, function.params.as_slice(), &params);
+            let to = row_of(classes, function.results.as_slice(), &results);
+            let fits = from.fits(to);
+            Ok(ReadyType {
+                params,
+                results,
+                fits,
+            })
+        }
         CompType::Cont(_) => Ok(ReadyType {
             params: None,
             results: None,
+            fits: false,
         }),
     }
 }
@@ -102,6 +114,38 @@ fn row_of<'r>(
             }),
         },
         None => TypeRow::bare(types),
+    }
+}
+
+impl<'r> FuncRows<'r> {
+    ghost use Rattle.std.specs.Prelude.{◌≡◌, [], List};
+    ghost use Rattle.w_canon.specs.declared.entry.Entry.{Entry};
+    ghost use Rattle.w_canon.specs.Tests.{result_test};
+    ghost use Rattle.w_flow.specs.TypeRows.{AreReadyRows, IsReady};
+
+    /// No parameters, and these results.
+    #[inline(always)]
+    pub fn results_alone(results: TypeRow<'r>) -> FuncRows<'r>
+        ensures from { result.params.types.now ≡ [] }
+        ensures to { result.results.types.now ≡ results.entry.types.now }
+        ensures ready { (es : List Entry) → IsReady es results.entry → AreReadyRows es result }
+    {
+        FuncRows {
+            params: TypeRow::bare(&[]),
+            results,
+            fits: false,
+        }
+    }
+
+    /// Whether the parameters match the results, each the one at its place, and they are as many (Core, validation, matching).
+    pub fn fit(self, classes: &Classes) -> bool
+        requires { AreReadyRows classes.now self }
+        ensures { result ≡ result_test classes.now self.entry.params.types.now self.entry.results.types.now }
+    {
+        if self.fits {
+            return true;
+        }
+        self.params.matches(classes, self.results)
     }
 }
 
@@ -153,10 +197,12 @@ impl TypeRows {
             Some(ready) => Some(FuncRows {
                 params: row_of(cx.classes, kind.params.as_slice(), &ready.params),
                 results: row_of(cx.classes, kind.results.as_slice(), &ready.results),
+                fits: ready.fits,
             }),
             None => Some(FuncRows {
                 params: TypeRow::bare(kind.params.as_slice()),
                 results: TypeRow::bare(kind.results.as_slice()),
+                fits: false,
             }),
         }
     }

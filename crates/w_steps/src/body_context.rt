@@ -28,19 +28,6 @@ pub struct BodyContext<'c> {
     pub outer: &'c [Frame],
 }
 
-// No parameters, and these results.
-#[inline(always)]
-fn results_alone<'c>(results: TypeRow<'c>) -> FuncRows<'c>
-    ensures from { result.params.types.now ≡ [] }
-    ensures to { result.results.types.now ≡ results.entry.types.now }
-    ensures ready { (es : List Entry) → IsReady es results.entry → AreReadyRows es result }
-{
-    FuncRows {
-        params: TypeRow::bare(&[]),
-        results,
-    }
-}
-
 // What a block of this type takes and gives.
 #[inline(always)]
 fn block_arrow<'c>(setting: &'c Setting<'c>, block: &'c BlockType) -> Option<FuncRows<'c>>
@@ -48,10 +35,10 @@ fn block_arrow<'c>(setting: &'c Setting<'c>, block: &'c BlockType) -> Option<Fun
     ensures ready { IfSome result (AreReadyRows setting.now.cx.now.classes.now) }
 {
     match block {
-        BlockType::Empty => Some(results_alone(TypeRow::bare(&[]))),
+        BlockType::Empty => Some(FuncRows::results_alone(TypeRow::bare(&[]))),
         BlockType::Value(kind) => {
             if setting.cx.has_type(*kind) {
-                Some(results_alone(TypeRow::bare(from_ref(kind))))
+                Some(FuncRows::results_alone(TypeRow::bare(from_ref(kind))))
             } else {
                 None
             }
@@ -68,7 +55,7 @@ pub fn arrow<'c>(setting: &'c Setting<'c>, kind: &'c FrameKind) -> Option<FuncRo
     ensures ready { IfSome result (AreReadyRows setting.now.cx.now.classes.now) }
 {
     match kind {
-        FrameKind::Body => Some(results_alone(setting.results)),
+        FrameKind::Body => Some(FuncRows::results_alone(setting.results)),
         FrameKind::Block(_, block) | FrameKind::Then(block) | FrameKind::Else(block) => block_arrow(
             setting, block,
         ),

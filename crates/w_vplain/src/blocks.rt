@@ -131,7 +131,7 @@ fn needs_none(classes: &Classes, kind: &FrameKind, arrow: FuncRows) -> bool
     ensures { result ≡ needs_no_branch classes.now kind.now (arrow_view arrow.entry) }
 {
     match kind {
-        FrameKind::Then(_) => arrow.params.matches(classes, arrow.results),
+        FrameKind::Then(_) => arrow.fit(classes),
         FrameKind::Body | FrameKind::Block(_, _) | FrameKind::Else(_) => true,
     }
 }
