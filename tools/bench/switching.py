@@ -5,8 +5,8 @@ Each is a function from a number of repeats to a module, as in `runs.py`.
 
 from assembler.encoding import signed
 from assembler.instructions import (
-    DROP, I32_ADD, I32_EQZ, RETURN, UNREACHABLE, block, br, br_if, call, cont_new, global_get, global_set, i32_const, if_,
-    local_get, local_set, local_tee, loop, numeric, on, on_switch, ref_func, ref_null, resume, suspend, switch,
+    DROP, I32_ADD, I32_EQZ, RETURN, UNREACHABLE, block, br, br_if, call, cont_new, global_get, global_set, i32_const,
+    if_, local_get, local_set, local_tee, loop, numeric, on, on_switch, ref_func, ref_null, resume, suspend, switch,
     table_get, table_set)
 from assembler.modules import code, export, global_, module, table
 from assembler.segments import declared_functions

@@ -158,6 +158,7 @@ def runs_of_no_local(size):
 
 FORMS = [
     constants_and_drops, constants_of_all_lengths_and_drops, constants_in_one_body, long_constants_and_drops, sums,
-    operands_that_pile_up, one_byte_instructions, locals_got_and_dropped, many_locals_got_and_set, locals_set_in_blocks, locals_set_once,
+    operands_that_pile_up, one_byte_instructions, locals_got_and_dropped, many_locals_got_and_set,
+    locals_set_in_blocks, locals_set_once,
     globals_got_and_set, functions_that_do_nothing, functions_of_many_parameters, functions_of_many_locals,
     functions_of_many_unset_locals, runs_of_one_local, runs_of_no_local]

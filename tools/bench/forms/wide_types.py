@@ -91,7 +91,7 @@ def wide_calls_of_equal_types_shifted(size):
 
 
 def wide_calls_of_a_thousand_types_by_turns(size):
-    """Calls of two functions by turns, whose results are references to a thousand types, in one order and in the other."""
+    """Calls of two functions by turns, whose results are references to a thousand types, in one order and the other."""
     types, results = _thousand_types()
     turns = [functype([FUNCREF] * WIDTH, results), functype([FUNCREF] * WIDTH, results[::-1])]
     return module_of_rows(
