@@ -5,6 +5,8 @@ mod laws;
 mod limit;
 mod trap;
 
-pub use laws::{decomposes, deterministic, finds_innermost, plain_reductions_go_apart};
+pub use laws::{
+    decomposes, deterministic, finds_innermost, only_calls_add_frames, plain_reductions_go_apart,
+};
 pub use limit::{RunLimit, StartLimit};
 pub use trap::Trap;
