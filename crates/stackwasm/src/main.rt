@@ -10,7 +10,14 @@ use w_outside::{HostInputs, HostSink};
 // The words of the command line. Where one is no text there are none, which is no command.
 fn words(rt: &HostRuntime, alloc: Global) -> io::Result<Vec<String>> {
     match env::args(rt) {
-        Ok(args) => Ok(args.collect(alloc)?),
+        Ok(args) => {
+            // one by one: where their number finds no room, `collect` goes on without
+            let mut words = Vec::new(alloc);
+            for word in args {
+                words.push(word)?;
+            }
+            Ok(words)
+        }
         Err(error) if error.kind() == io::ErrorKind::InvalidData => Ok(Vec::new(alloc)),
         Err(error) => Err(error),
     }

@@ -217,8 +217,8 @@ impl<'a> Checker<'a> {
         match else_frame(room, &self.setting, &self.top)? {
             Some(second) => {
                 let room = self.top.flow.take_room(self.alloc);
-                keep_room(&mut self.spare, room);
                 self.top = second;
+                keep_room(&mut self.spare, room)?;
                 self.locals.leave_block();
                 self.locals.enter_block()?;
                 Ok(true)
@@ -249,9 +249,9 @@ impl<'a> Checker<'a> {
             Some(mut around) => {
                 let room = self.top.flow.take_room(self.alloc);
                 let spare = around.flow.give(room, setting.cx.classes, to)?;
-                keep_room(&mut self.spare, spare);
                 self.locals.leave_block();
                 self.top = around;
+                keep_room(&mut self.spare, spare)?;
             }
         }
         Ok(true)

@@ -1,6 +1,6 @@
 //! Room that bodies are typed in.
 
-use std::alloc::Global;
+use std::alloc::{AllocError, Global};
 use w_flow::OperandList;
 use w_steps::Frame;
 
@@ -35,9 +35,10 @@ pub(crate) fn spare_room(alloc: Global, spare: &mut Vec<OperandList>) -> Operand
     }
 }
 
-/// Keeps room for blocks to come, where not much is kept, and memory for one more.
-pub(crate) fn keep_room(spare: &mut Vec<OperandList>, room: OperandList) {
+/// Keeps room for blocks to come, where not much is kept. It fails only for want of memory.
+pub(crate) fn keep_room(spare: &mut Vec<OperandList>, room: OperandList) -> Result<(), AllocError> {
     if spare.len() < KEPT {
-        let _kept = spare.push(room).is_ok();
+        spare.push(room)?;
     }
+    Ok(())
 }

@@ -11,8 +11,8 @@ returns-in_default-clause-steps c =
     left_none (classes_for here) (context_for here) (top_of here) here.outer.items here.locals.sets c.is_empty-alone.result c.end_types.result (c.is_empty-alone.ensures ∙ ap (λ (xs : List Around). length xs == 0) c.as_slice.ensures.value) c.in_default.is
     (λ fs e. c.end_types.ensures.left fs (first_set here.locals.sets) e)
 
-pub returns-in_ok-spare-in-Some-pop-clause-steps : goal.returns-in_ok-spare-in-Some-pop-clause-steps
-returns-in_ok-spare-in-Some-pop-clause-steps c =
+pub returns-in_ok-keep_room-in-Some-pop-clause-steps : goal.returns-in_ok-keep_room-in-Some-pop-clause-steps
+returns-in_ok-keep_room-in-Some-pop-clause-steps c =
     let here = c.args.self.now in
     left_block (classes_for here) (context_for here) (top_of here) here.outer.items c.pop.new.self.items here.locals.sets c.leave_block.new.self.sets c.is_empty-alone.result c.end_types.result c.in-Some.to
     c.in-Some-pop.around (record { kind = c.in-Some-pop.around.kind; flow = c.give.new.self; base = c.in-Some-pop.around.base })
