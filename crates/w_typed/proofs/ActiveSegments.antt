@@ -1,5 +1,5 @@
 -- Active segments keep a store of the module's types.
-use Rattle.std.proofs.Common.{◌≡◌, ℕ, zero, suc, ◌+◌, List, [], ◌∷◌, length, map, Option, Some, None, slice_get, length-set, option_map, refl, ap, subst, ◌∙◌, arith}
+use Rattle.std.proofs.Common.{◌≡◌, ℕ, zero, suc, ◌+◌, List, [], ◌∷◌, length, map, Option, Some, None, slice_get, option_map, refl, ap, subst, ◌∙◌, arith}
 use Rattle.std.proofs.lemmas.Option.{slice_get-map, slice_get_within}
 use Rattle.w_types.specs.declared.types.ValType.TheVariants.{Ref}
 use Rattle.w_syntax.specs.declared.module.Data as syntax_data
@@ -8,13 +8,14 @@ use Rattle.w_syntax.specs.declared.module.DataMode.TheVariants as data_mode
 use Rattle.w_syntax.specs.declared.module.Elem.{Elem}
 use Rattle.w_syntax.specs.declared.module.ElemMode.{ElemMode}
 use Rattle.w_syntax.specs.declared.module.ElemMode.TheVariants as elem_mode
+use Rattle.w_syntax.specs.declared.module.Limits.{Limits}
 use Rattle.w_syntax.specs.declared.module.Module.{Module}
 use Rattle.w_syntax.specs.declared.module.TableType.{TableType}
 use Rattle.w_memory.specs.Memory.{Memory, init}
 use Rattle.w_memory.specs.Parts.{copied}
 use Rattle.w_canon.specs.Matching.{RefMatches, ref}
 use Rattle.w_rules.specs.Conditions.{Holds}
-use Rattle.w_rules.specs.Spaces.{tables_of}
+use Rattle.w_rules.specs.Spaces.{tables_of, memories_of}
 use Rattle.w_rules.specs.Valid.{Valid, ElementItem, ElementValid, IsElemModeValid}
 use Rattle.w_reduce.specs.Values.{Val}
 use Rattle.w_reduce.specs.Store.{Store, Table}
@@ -22,11 +23,16 @@ use Rattle.w_reduce.specs.Program.{Program}
 use Rattle.w_reduce.specs.Constants.{value_of, number_in}
 use Rattle.w_reduce.specs.Memories.{with_memory, without_data}
 use Rattle.w_reduce.specs.Tables.{with_elements, without_elements}
-use Rattle.w_reduce.specs.Start.{elements_put, elements_copied, element_started, data_put, data_copied, data_started, in_order}
-use Rattle.w_typed.specs.Values.{Arrows, AllTyped}
-use Rattle.w_typed.specs.Stores.{TableTyped, SegmentTyped, StoreTyped}
-use Rattle.w_typed.proofs.Elements.{all_copied, all_sub}
-use Rattle.w_typed.proofs.Places.{instance_at, instance_set}
+use Rattle.w_reduce.specs.Start as start
+use Rattle.w_reduce.specs.Start.{elements_copied, element_started, data_put, data_copied, data_started, in_order}
+use Rattle.w_typed.specs.Values.{Arrows}
+use Rattle.w_typed.specs.Stores.{TableTyped, MemoryTyped, SegmentTyped, StoreTyped}
+use Rattle.w_typed.proofs.Elements.{all_sub}
+use Rattle.w_typed.proofs.Memories.{memory_put, data_dropped}
+use Rattle.w_typed.proofs.Pages.{init_typed, data_bytes}
+use Rattle.w_typed.proofs.Places.{instance_at, declaration_of}
+use Rattle.w_typed.proofs.SizedTables.{table_copied}
+use Rattle.w_typed.proofs.Tables.{elements_put, elements_dropped}
 
 -- where there is a store, it is of the module's types
 abbrev Kept : Module → Arrows → Option Store → Type 0
@@ -49,35 +55,17 @@ module _ (p : Program) (y : ℕ) (e : Elem) (there : slice_get p.source.elements
 module _ (p : Program) {K : Arrows} (y : ℕ) (e : Elem) (there : slice_get p.source.elements y ≡ Some e) where
   -- the segment may be dropped
   dropped : (s : Store) → StoreTyped p.source K s → StoreTyped p.source K (without_elements s y)
-  dropped s u = record {
-    functions = u.functions;
-    tables = u.tables;
-    memories = u.memories;
-    globals = u.globals;
-    elements = instance_set y [] e.kind u.elements (kind_there p y e there) tt;
-    datas = u.datas;
-    conts = u.conts;
-  }
+  dropped s u = elements_dropped p.source y e.kind s u (kind_there p y e there)
 
   -- what was copied is of the table's type
   put_typed : (s : Store) (x : ℕ) (t : Table) (k : TableType) (segment : List Val) (d : ℕ) (o : Option (List Val))
       → copied t.elements segment d 0 (length segment) ≡ o → slice_get (tables_of p.source) x ≡ Some k → RefMatches p.source.types e.kind k.element
-      → TableTyped p.source K t k → SegmentTyped p.source K segment e.kind → StoreTyped p.source K s → Kept p.source K (elements_put s x y t segment o)
+      → TableTyped p.source K t k → SegmentTyped p.source K segment e.kind → StoreTyped p.source K s → Kept p.source K (start.elements_put s x y t segment o)
   put_typed s x t k segment d None is at q h w u = none_kept p.source
   put_typed s x t k segment d (Some vs) is at q h w u =
-      let all : AllTyped p.source K (Ref k.element) vs =
-      all_copied p.source K (Ref k.element) d 0 (length segment) t.elements segment vs h (all_sub p.source K (Ref e.kind) (Ref k.element) segment (ref q) w) is in
-      let new : Table = record t { elements = vs } in
-      kept p.source (without_elements (with_elements s x t vs) y)
-      (dropped (with_elements s x t vs) (record {
-        functions = u.functions;
-        tables = instance_set x new k u.tables at all;
-        memories = u.memories;
-        globals = u.globals;
-        elements = u.elements;
-        datas = u.datas;
-        conts = u.conts;
-      }))
+      let sub = all_sub p.source K (Ref e.kind) (Ref k.element) segment (ref q) w in
+      let new = table_copied p.source K k t h d 0 (length segment) segment vs sub is in
+      kept p.source (without_elements (with_elements s x t vs) y) (dropped (with_elements s x t vs) (elements_put p.source x k t vs s u at new))
 
   copied_typed : (s : Store) (x d : ℕ) (t : Option Table) (segment : Option (List Val)) (k : Option TableType) → slice_get s.tables x ≡ t
       → slice_get s.elements y ≡ segment → slice_get (tables_of p.source) x ≡ k
@@ -107,27 +95,27 @@ module _ (p : Program) {K : Arrows} (y : ℕ) (e : Elem) (there : slice_get p.so
 -- ## Data segments
 
 module _ (p : Program) {K : Arrows} where
-  bytes_put : (s : Store) (x y : ℕ) (o : Option Memory) → StoreTyped p.source K s → Kept p.source K (data_put s x y o)
-  bytes_put s x y None u = none_kept p.source
-  bytes_put s x y (Some m) u = kept p.source (without_data (with_memory s x m) y) (record {
-    functions = u.functions;
-    tables = u.tables;
-    memories = length-set s.memories x m ∙ u.memories;
-    globals = u.globals;
-    elements = u.elements;
-    datas = length-set s.datas y [] ∙ u.datas;
-    conts = u.conts;
-  })
+  bytes_put : (s : Store) (x y : ℕ) (l : Limits) (d : syntax_data.Data) (o : Option Memory) → slice_get (memories_of p.source) x ≡ Some l
+      → slice_get p.source.datas y ≡ Some d → ((new : Memory) → o ≡ Some new → MemoryTyped p.source new l) → StoreTyped p.source K s
+      → Kept p.source K (data_put s x y o)
+  bytes_put s x y l d None at is h u = none_kept p.source
+  bytes_put s x y l d (Some n) at is h u =
+      kept p.source (without_data (with_memory s x n) y)
+      (data_dropped p.source y d (with_memory s x n) (memory_put p.source x l n s u at (h n refl)) is)
 
-  bytes_copied : (s : Store) (x y d : ℕ) (m : Option Memory) (bytes : Option (List ℕ)) → StoreTyped p.source K s
-      → Kept p.source K (data_copied s x y d m bytes)
-  bytes_copied s x y d (Some m) (Some bytes) u = bytes_put s x y (init m bytes d 0 (length bytes)) u
-  bytes_copied s x y d (Some m) None u = none_kept p.source
-  bytes_copied s x y d None bytes u = none_kept p.source
+  bytes_there : (s : Store) (x y d : ℕ) (m : Option Memory) (bytes : Option (List ℕ)) → slice_get s.memories x ≡ m → slice_get s.datas y ≡ bytes
+      → StoreTyped p.source K s → Kept p.source K (data_copied s x y d m bytes)
+  bytes_there s x y d (Some n) (Some bytes) a b u =
+      let f = declaration_of x n u.memories a in
+      let g = declaration_of y bytes u.datas b in
+      bytes_put s x y f.item g.item (init n bytes d 0 (length bytes)) f.is g.is
+      (λ new is. init_typed p.source f.item n f.holds bytes d 0 (length bytes) new (data_bytes p.source y g.item bytes g.is g.holds) is) u
+  bytes_there s x y d (Some n) None a b u = none_kept p.source
+  bytes_there s x y d None bytes a b u = none_kept p.source
 
   data_kept : (s : Store) (y : ℕ) (mode : DataMode) → StoreTyped p.source K s → Kept p.source K (data_started p s y mode)
   data_kept s y (data_mode.Active x offset) u =
-      bytes_copied s x y (number_in (value_of p s offset)) (slice_get s.memories x) (slice_get s.datas y) u
+      bytes_there s x y (number_in (value_of p s offset)) (slice_get s.memories x) (slice_get s.datas y) refl refl u
   data_kept s y data_mode.Passive u = kept p.source s u
 
 -- ## All of them

@@ -25,6 +25,7 @@ use Rattle.w_reduce.specs.Terms.{rest_of, Context}
 use Rattle.w_reduce.specs.Program.{Program, Arity, arity_of, function_arity}
 use Rattle.w_reduce.specs.Reduced.{steps_to}
 use Rattle.w_reduce.specs.Branches.{block, label_of}
+use Rattle.w_typed.specs.Ranges.{ConstantsFit, NumbersFit}
 use Rattle.w_typed.specs.Values.{Arrows, ValuesTyped}
 use Rattle.w_typed.specs.Stores.{StoreTyped}
 use Rattle.w_typed.specs.Contexts.{Scope, under, in_scope, IsLow, CodeTyped, code_alone, Subset, Within, label}
@@ -70,6 +71,7 @@ pub record BlockTyped (m : Module) (c : Scope) (set : List Bool) (kind : BlockKi
   pub inside : Derives (labelled (in_scope m c) (rules.label_of kind arrow)) set x (known arrow.from) (known arrow.to)
   pub has_type : HasType m.types (known arrow.from) (known arrow.to) ts ws
   pub behind : CodeTyped m c set k ws out
+  pub inside_fits : NumbersFit m → ConstantsFit x
   pub inside_low : (c.results ≡ None → ⊥) → IsLow m (under (size has_type.beneath) (rules.label_of kind arrow) c) set x (size arrow.from)
   pub again_low : kind ≡ Loop → (c.results ≡ None → ⊥) → IsLow m c set (Block Loop b x k) (size (has_type.beneath ⧺ known arrow.from))
 
@@ -90,15 +92,15 @@ module _ (p : Program) {K : Arrows} (us : Row Operand) where
   block_goes kind.Block {k = k} u still v h n w below args lower taken =
       let m = p.source in
       let gives = as_later m (code_left m h.has_type.gives h.behind) in
-      goes_on m us u still taken (code_alone (record { derives = h.inside; none = λ e. absurd (n e); low = inside_there kind.Block h below lower }))
+      goes_on m us u still taken (code_alone (record { derives = h.inside; none = λ e. absurd (n e); fits = h.inside_fits; low = inside_there kind.Block h below lower }))
       (label h.has_type.beneath (row_refl m.types (known h.arrow.to)) refl lower (rw (after_done k) gives) gives still w)
   block_goes kind.Loop {b = b} {x = x} {k = k} {c = c} {set = set} {ws = ws} {out = out} u still v h n w below args lower taken =
       let m = p.source in
       let from = h.has_type.beneath ⧺ known h.arrow.from in
       let again : Derives (in_scope m c) set (Block kind.Loop b x k) from out = rw h.is (h.inside, (ws, record { beneath = h.has_type.beneath; takes = row_refl m.types from; gives = h.has_type.gives }, h.behind.derives)) in
-      goes_on m us u still taken (code_alone (record { derives = h.inside; none = λ e. absurd (n e); low = inside_there kind.Loop h below lower }))
+      goes_on m us u still taken (code_alone (record { derives = h.inside; none = λ e. absurd (n e); fits = h.inside_fits; low = inside_there kind.Loop h below lower }))
       (label h.has_type.beneath (row_refl m.types (known h.arrow.to)) refl lower
-      (rw (after_block kind.Loop b x k) (record { derives = again; none = λ e. absurd (n e); low = λ i room. h.again_low refl i })) (as_later m (code_left m h.has_type.gives h.behind)) still w)
+      (rw (after_block kind.Loop b x k) (record { derives = again; none = λ e. absurd (n e); fits = λ f. (h.inside_fits f, h.behind.fits f); low = λ i room. h.again_low refl i })) (as_later m (code_left m h.has_type.gives h.behind)) still w)
 
   -- a block is entered, with the operands that it takes
   pub block_safe : (kind : BlockKind) {b : BlockType} {x k : Code} {s : Store} {e : Context} {vs : Row Val} {c : Scope} {set now : List Bool} {ts ws out : Row Operand}

@@ -11,6 +11,7 @@ use Rattle.w_syntax.specs.Code.{Done}
 use Rattle.w_syntax.specs.Functions.{func_type, type_at}
 use Rattle.w_syntax.specs.declared.locals.LocalRun.{LocalRun}
 use Rattle.w_syntax.specs.declared.numeric.IntType.TheVariants as int
+use Rattle.w_syntax.specs.declared.module.Func.{Func}
 use Rattle.w_syntax.specs.declared.module.Module.{Module}
 use Rattle.w_canon.specs.Matching.{IsFunc}
 use Rattle.w_rules.specs.Bodies.{types_of_runs, set_first, has_default}
@@ -33,20 +34,20 @@ use Rattle.w_reduce.specs.Program.{Program}
 use Rattle.w_reduce.specs.Printed.{printed_i32, printed_i64, printed_byte}
 use Rattle.w_reduce.specs.Calls.{defaults, enter, print, invoked, invoke}
 use Rattle.w_typed.specs.Values.{Arrows, ValueTyped, an_i32, an_i64, a_null, a_value, ValuesTyped, no_values, values}
-use Rattle.w_typed.specs.Stores.{StoreTyped, EntryTyped, own, host, printed_type}
+use Rattle.w_typed.specs.Ranges.{ConstantsFit}
+use Rattle.w_typed.specs.Stores.{StoreTyped, printed_type}
 use Rattle.w_reduce.specs.Room.{most_operands, most_labels}
 use Rattle.w_typed.specs.Contexts.{Scope, inside, LaterTyped, code_alone, RestTyped, Subset, LocalTyped, unset, held, LocalsTyped, no_locals, locals, Within, label, frame}
 use Rattle.w_typed.specs.Configurations.{IsSafe}
+use Rattle.w_typed.proofs.Chosen.{some_same}
 use Rattle.w_typed.proofs.TypeKinds.{is_func}
-use Rattle.w_typed.proofs.Places.{instance_at}
+use Rattle.w_typed.proofs.Functions.{EntryTyped, own, host, entries_typed}
+use Rattle.w_typed.proofs.Places.{instance_at, all_there}
 use Rattle.w_typed.proofs.Taken.{values_taken, number_taken}
 use Rattle.w_typed.proofs.Holes.{subset_refl}
 use Rattle.w_typed.proofs.Blocks.{after_done}
 use Rattle.w_typed.proofs.Low.{size_known}
 use Rattle.w_typed.proofs.Onward.{goes_on, goes_printing}
-
-some_same : {A : Type 0} {a b : A} → Some a ≡ Some b → a ≡ b
-some_same e = cc
 
 -- ## The locals of a function that is entered
 
@@ -69,8 +70,8 @@ module _ (m : Module) {K : Arrows} where
   null_or_unset false h = unset
 
   default_typed : (t : ValType) → LocalTyped m K (default_of t) t (has_default t)
-  default_typed type.I32 = held an_i32
-  default_typed type.I64 = held an_i64
+  default_typed type.I32 = held (an_i32 (λ f. omega arith))
+  default_typed type.I64 = held (an_i64 (λ f. omega arith))
   default_typed (type.Ref r) = null_or_unset r.nullable r.heap
 
   run_typed : (n : ℕ) (t : ValType) {ls : List (Option Val)} {ts : List ValType} → LocalsTyped m K ls ts (map has_default ts)
@@ -100,10 +101,10 @@ entry_there : (m : Module) {f : FuncEntry} {x : ℕ} → Valid m → EntryTyped 
 entry_there m valid (own {i = i} {x = x} there) =
     let f : FunctionValid m i = valid (FunctionItem i) (inl (slice_get_within m.functions i x there)) in
     is_func m x f.type (sym (ap (type_at m) there) ∙ f.has_type)
-entry_there m valid (host {x = x} {t = t} has params results) = is_func m x t has
+entry_there m valid (host {x = x} h) = is_func m x h.type h.has_type
 
 pub function_there : (m : Module) {K : Arrows} {s : Store} (a x : ℕ) → Valid m → StoreTyped m K s → slice_get (functions_of m) a ≡ Some x → IsFunc m.types x
-function_there m a x valid u is = let f = instance_at a x u.functions is in entry_there m valid f.holds
+function_there m a x valid u is = let f = instance_at a x (entries_typed m u.functions) is in entry_there m valid f.holds
 
 module _ (p : Program) {K : Arrows} (us : Row Operand) where
   -- a function of the module's own is entered
@@ -117,12 +118,12 @@ module _ (p : Program) {K : Arrows} (us : Row Operand) where
       let as_many = sym (size-row_of f.type.results) in
       let nothing = subst (λ (ts : Row Operand). RowMatches m.types ts (known results)) (sym (unit_left (known results))) (row_refl m.types (known results)) in
       let behind : LaterTyped m (inside i (f.type.params ++ types_of_runs f.func.locals) results) begin Done (ε ⧺ known results) (known results) =
-      record { derives = nothing; none = λ e. refl; low = λ own room. record { operands = room; labels = omega arith } } in
+      record { derives = nothing; none = λ e. refl; fits = λ n. tt; low = λ own room. record { operands = room; labels = omega arith } } in
       let peak_is : most_operands m i ≡ height_of m f.type f.func = rw (f.has_type, f.has_code) refl in
       let depth_is : most_labels m i ≡ depth f.func.body = rw (f.has_type, f.has_code) refl in
       rw (f.has_type, f.has_code)
       (values_taken m us (length f.type.params) vs beneath (known (row_of f.type.params)) _ (sym (size_known (row_of f.type.params) ∙ size-row_of f.type.params)) v
-      (λ below args lower taken. goes_on m us u (subset_refl begin) no_values (code_alone (record { derives = f.body; none = λ e. absurd (cc); low = λ own. record { operands = omega (arith, peak_is); labels = omega (arith, depth_is) } }))
+      (λ below args lower taken. goes_on m us u (subset_refl begin) no_values (code_alone (record { derives = f.body; none = λ e. absurd (cc); fits = λ n. all_there (λ (g : Func). ConstantsFit g.body) m.codes i f.func n.bodies f.has_code; low = λ own. record { operands = omega (arith, peak_is); labels = omega (arith, depth_is) } }))
       (label ε (row_refl m.types (known results)) as_many no_values (rw (after_done Done) behind) behind (subset_refl begin)
       (frame beneath (record { type = f.type; func = f.func; has_type = f.has_type; has_code = f.has_code; locals_are = refl; results_are = refl })
       (row_refl m.types (known results)) as_many (first_locals m f.type.params f.func.locals taken) lower k still w))))
@@ -148,11 +149,11 @@ module _ (p : Program) {K : Arrows} (us : Row Operand) where
       let same : t ≡ f.type = some_same (sym is ∙ ap (type_at m) (sym there) ∙ f.has_type) in
       entered i beneath f u (subst (λ (z : FuncType). ValuesTyped m K vs (beneath ⧺ known (row_of z.params))) same v)
       (subst (λ (z : FuncType). RestTyped m c set rest.ahead rest.code (beneath ⧺ known (row_of z.results)) out) same k) still w
-  entry_invoked {vs = vs} {rest = rest} {c = c} {set = set} {out = out} t beneath valid u (host {p = by} {t = z} has params results) is v k still w =
+  entry_invoked {vs = vs} {rest = rest} {c = c} {set = set} {out = out} t beneath valid u (host {p = by} h) is v k still w =
       let m = p.source in
-      let same : t ≡ z = some_same (sym is ∙ has) in
-      let taken : t.params ≡ printed_type by ∷ [] = ap (λ (f : FuncType). f.params) same ∙ params in
-      let given : t.results ≡ [] = ap (λ (f : FuncType). f.results) same ∙ results in
+      let same : t ≡ h.type = some_same (sym is ∙ h.has_type) in
+      let taken : t.params ≡ printed_type by ∷ [] = ap (λ (f : FuncType). f.params) same ∙ h.params in
+      let given : t.results ≡ [] = ap (λ (f : FuncType). f.results) same ∙ h.results in
       printed by beneath u (subst (λ (ts : List ValType). ValuesTyped m K vs (beneath ⧺ known (row_of ts))) taken v)
       (subst (λ (ts : List ValType). RestTyped m c set rest.ahead rest.code (beneath ⧺ known (row_of ts)) out) given k) still w
 
@@ -162,7 +163,7 @@ module _ (p : Program) {K : Arrows} (us : Row Operand) where
       → Subset set now → Within p.source K us e c now out → IsSafe p.source K us (invoke p s e vs a rest)
   found_invoked a None t beneath valid u there is v k still w = absurd (cc)
   found_invoked a (Some x) t beneath valid u there is v k still w =
-      let f = instance_at a x u.functions there in
+      let f = instance_at a x (entries_typed p.source u.functions) there in
       rw (f.is) (entry_invoked t beneath valid u f.holds is v k still w)
 
   -- an invoke goes on in the function, or prints

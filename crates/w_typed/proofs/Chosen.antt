@@ -1,6 +1,10 @@
 -- What tests and conditions say that came out one way.
 use Rattle.std.proofs.Common.{◌≡◌, Bool, true, false, ◌&&◌, IsTrue, if◌then◌else◌, Option, Some, None, refl}
 
+-- what is there once is the same
+pub some_same : {A : Type 0} {a b : A} → Some a ≡ Some b → a ≡ b
+some_same e = cc
+
 -- two tests that hold
 pub both_hold : (a b : Bool) → IsTrue (a && b) → IsTrue a × IsTrue b
 both_hold true b h = (refl, h)

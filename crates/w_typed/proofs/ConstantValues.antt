@@ -39,9 +39,12 @@ use Rattle.w_reduce.specs.Reference.{reference_op}
 use Rattle.w_reduce.specs.Variable.{variable_op}
 use Rattle.w_reduce.specs.Constants.{operands_after, evaluated, topmost, value_of}
 use Rattle.w_typed.specs.Values.{Arrows, ValueTyped, an_i32, an_i64, a_null, a_function, a_value, ValuesTyped, no_values, values}
-use Rattle.w_typed.specs.Stores.{Instances, EntryTyped, GlobalTyped}
+use Rattle.w_typed.specs.Ranges.{ConstantFits, ConstantsFit, NumbersFit, IsBelow}
+use Rattle.w_typed.specs.Stores.{Instances, FunctionsTyped, GlobalTyped}
 use Rattle.w_typed.proofs.Chosen.{both_hold}
+use Rattle.w_typed.proofs.Functions.{entries_typed}
 use Rattle.w_typed.proofs.Places.{instance_at}
+use Rattle.w_typed.proofs.Ranges.{binop_below, width_there}
 use Rattle.w_typed.proofs.Subsumed.{values_sub}
 use Rattle.w_typed.proofs.Taken.{number_typed}
 use Rattle.w_typed.proofs.References.{if_valid_has}
@@ -52,7 +55,7 @@ knowing m gs = record (context_of m) { globals = gs }
 
 -- a store has the module's functions, and these globals
 pub record Holding (m : Module) (K : Arrows) (gs : List GlobalType) (s : Store) : Type 0 where
-  pub functions : Instances (EntryTyped m) s.functions (functions_of m)
+  pub functions : FunctionsTyped m s.functions
   pub globals : Instances (GlobalTyped m K) s.globals gs
 
 -- operands are there, of these types
@@ -81,28 +84,28 @@ module _ (m : Module) {K : Arrows} (us : Row Operand) where
 
   -- the topmost operand is a number of its type
   number_there : (i : IntType) (vs : Row Val) (beneath : Row Operand) (go : Row Val × ℕ → Reduced) → ValuesTyped m K vs (beneath ▹ Known (of_int i))
-      → ((below : Row Val) (n : ℕ) → ValuesTyped m K below beneath → ThereTyped m K us (operands_after (go (below, n))))
+      → ((below : Row Val) (n : ℕ) → ValuesTyped m K below beneath → IsBelow m n (width i) → ThereTyped m K us (operands_after (go (below, n))))
       → ThereTyped m K us (operands_after (take_number i vs go))
-  number_there int.I32 _ beneath go (values {vs = vs} h (a_value (an_i32 {n}))) k = k vs n h
-  number_there int.I64 _ beneath go (values {vs = vs} h (a_value (an_i64 {n}))) k = k vs n h
+  number_there int.I32 _ beneath go (values {vs = vs} h (a_value (an_i32 {n} r))) k = k vs n h r
+  number_there int.I64 _ beneath go (values {vs = vs} h (a_value (an_i64 {n} r))) k = k vs n h r
 
 module _ (m : Module) {K : Arrows} (gs : List GlobalType) (s : Store) (u : Holding m K gs s) where
   numeric_there : (c : rules.Context) (o : NumericOp) (ts ws : Row Operand) (vs : Row Val) → IsTrue (is_const c (op.Numeric o))
-      → HasInstrType m.types (numeric_op_type o) ts ws → ValuesTyped m K vs ts → ThereTyped m K ws (operands_after (numeric_op s [] vs o Done))
-  numeric_there c (numeric.I32Const z) ts ws vs t h v = values_sub m h.gives (values (values_sub m h.takes v) (a_value an_i32))
-  numeric_there c (numeric.I64Const z) ts ws vs t h v = values_sub m h.gives (values (values_sub m h.takes v) (a_value an_i64))
-  numeric_there c (numeric.Binary i o) ts ws vs t h v =
-      number_there m ws i vs (h.beneath ▹ Known (of_int i)) _ (values_sub m h.takes v) (λ above b k.
-      number_there m ws i above h.beneath _ k (λ below a l.
+      → (NumbersFit m → ConstantFits (op.Numeric o)) → HasInstrType m.types (numeric_op_type o) ts ws → ValuesTyped m K vs ts → ThereTyped m K ws (operands_after (numeric_op s [] vs o Done))
+  numeric_there c (numeric.I32Const z) ts ws vs t fits h v = values_sub m h.gives (values (values_sub m h.takes v) (a_value (an_i32 fits)))
+  numeric_there c (numeric.I64Const z) ts ws vs t fits h v = values_sub m h.gives (values (values_sub m h.takes v) (a_value (an_i64 fits)))
+  numeric_there c (numeric.Binary i o) ts ws vs t fits h v =
+      number_there m ws i vs (h.beneath ▹ Known (of_int i)) _ (values_sub m h.takes v) (λ above b k q.
+      number_there m ws i above h.beneath _ k (λ below a l p.
       let r = has_value o t (width i) a b in
-      rw (r.1) (values_sub m h.gives (values l (number_typed m i r.0)))))
-  numeric_there c _ ts ws vs t h v = absurd (cc)
+      rw (r.1) (values_sub m h.gives (values l (number_typed m i r.0 (λ f. binop_below o (width i) a b r.0 (width_there i) (p f) (q f) r.1))))))
+  numeric_there c _ ts ws vs t fits h v = absurd (cc)
 
   func_there : (x : ℕ) (ts ws : Row Operand) (vs : Row Val) (y : Option ℕ) (d : Option Bool) → slice_get (functions_of m) x ≡ y
       → HasInstrType m.types (ref_func_type y d) ts ws → ValuesTyped m K vs ts
       → ThereTyped m K ws (operands_after (reference_op s [] vs (reference.Func x) Done))
   func_there x ts ws vs (Some y) (Some true) is h v =
-      let f = instance_at x y u.functions is in
+      let f = instance_at x y (entries_typed m u.functions) is in
       rw (f.is) (values_sub m h.gives (values (values_sub m h.takes v) (a_value (a_function is (index (reflexive m.types y))))))
   func_there x ts ws vs (Some y) (Some false) is h v = absurd h
   func_there x ts ws vs (Some y) None is h v = absurd h
@@ -128,27 +131,27 @@ module _ (m : Module) {K : Arrows} (gs : List GlobalType) (s : Store) (u : Holdi
 
 module _ (p : Program) {K : Arrows} (gs : List GlobalType) (s : Store) (u : Holding p.source K gs s) (ls rs : List ValType) where
   instruction_there : (set : List Bool) (o : Op) (ts ws : Row Operand) (vs : Row Val) → IsTrue (is_const (knowing p.source gs) o)
-      → HasInstrType p.source.types (instr_type (in_body (knowing p.source gs) ls rs) set o) ts ws → ValuesTyped p.source K vs ts
+      → (NumbersFit p.source → ConstantFits o) → HasInstrType p.source.types (instr_type (in_body (knowing p.source gs) ls rs) set o) ts ws → ValuesTyped p.source K vs ts
       → ThereTyped p.source K ws (operands_after (instruction p s [] vs o Done))
-  instruction_there set (op.Numeric o) ts ws vs t h v = numeric_there p.source gs s u (knowing p.source gs) o ts ws vs t h v
-  instruction_there set (op.Reference o) ts ws vs t h v =
+  instruction_there set (op.Numeric o) ts ws vs t fits h v = numeric_there p.source gs s u (knowing p.source gs) o ts ws vs t fits h v
+  instruction_there set (op.Reference o) ts ws vs t fits h v =
       reference_there p.source gs s u (knowing p.source gs) (in_body (knowing p.source gs) ls rs) o ts ws vs refl t h v
-  instruction_there set (op.Variable (variable.GlobalGet x)) ts ws vs t h v = global_there p.source gs s u x ts ws vs (slice_get gs x) refl h v
-  instruction_there set _ ts ws vs t h v = absurd (cc)
+  instruction_there set (op.Variable (variable.GlobalGet x)) ts ws vs t fits h v = global_there p.source gs s u x ts ws vs (slice_get gs x) refl h v
+  instruction_there set _ ts ws vs t fits h v = absurd (cc)
 
   -- constant code leads operands of its type to those that it gives
   code_there : (set : List Bool) (k : Code) (ts us : Row Operand) (vs : Row Val) → IsTrue (all_const (knowing p.source gs) k)
-      → Derives (in_body (knowing p.source gs) ls rs) set k ts us → ValuesTyped p.source K vs ts → ThereTyped p.source K us (evaluated p s vs k)
+      → (NumbersFit p.source → ConstantsFit k) → Derives (in_body (knowing p.source gs) ls rs) set k ts us → ValuesTyped p.source K vs ts → ThereTyped p.source K us (evaluated p s vs k)
   unfolding evaluated
-  code_there set Done ts us vs c d v = values_sub p.source d v
-  code_there set (Plain o k) ts us vs c d v =
+  code_there set Done ts us vs c fits d v = values_sub p.source d v
+  code_there set (Plain o k) ts us vs c fits d v =
       let both = both_hold (is_const (knowing p.source gs) o) (all_const (knowing p.source gs) k) c in
-      and_then_there p.source us d.1.0 (λ ws. evaluated p s ws k) _ (instruction_there set o ts d.1.0 vs both.0 d.1.1 v)
-      (λ ws w. code_there (sets o set) k d.1.0 us ws both.1 d.1.2 w)
-  code_there set _ ts us vs c d v = absurd (cc)
+      and_then_there p.source us d.1.0 (λ ws. evaluated p s ws k) _ (instruction_there set o ts d.1.0 vs both.0 (λ f. (fits f).0) d.1.1 v)
+      (λ ws w. code_there (sets o set) k d.1.0 us ws both.1 (λ f. (fits f).1) d.1.2 w)
+  code_there set _ ts us vs c fits d v = absurd (cc)
 
 -- the value of a constant expression is of its type
 pub value_typed : (p : Program) {K : Arrows} (gs : List GlobalType) (s : Store) → Holding p.source K gs s → (k : Code) (t : ValType)
-    → ConstTyped (knowing p.source gs) k t → ValueTyped p.source K (value_of p s k) t
-value_typed p gs s u k t h =
-    topmost_typed p.source t (evaluated p s ε k) (code_there p gs s u [] (t ∷ []) [] k ε (ε ▹ Known t) ε h.constant h.typed no_values)
+    → (NumbersFit p.source → ConstantsFit k) → ConstTyped (knowing p.source gs) k t → ValueTyped p.source K (value_of p s k) t
+value_typed p gs s u k t fits h =
+    topmost_typed p.source t (evaluated p s ε k) (code_there p gs s u [] (t ∷ []) [] k ε (ε ▹ Known t) ε h.constant fits h.typed no_values)

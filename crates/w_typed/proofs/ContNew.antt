@@ -56,7 +56,7 @@ fresh_typed m K a x t is f =
         before = ε;
         after = to;
         operands = no_values;
-        rest = invoke_first ε has takes (code_alone (record { derives = gives; none = λ e. refl; low = λ n. absurd (n refl) }));
+        rest = invoke_first ε has takes (code_alone (record { derives = gives; none = λ e. refl; fits = λ n. tt; low = λ n. absurd (n refl) }));
         around = outside (row_refl m.types to);
       };
     }

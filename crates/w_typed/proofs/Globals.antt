@@ -34,6 +34,7 @@ global_put m x v g s u is h = record {
   tables = u.tables;
   memories = u.memories;
   globals = instance_set x v g u.globals is h;
+  tags = u.tags;
   elements = u.elements;
   datas = u.datas;
   conts = u.conts;

@@ -5,6 +5,7 @@ use Rattle.w_types.specs.declared.types.FuncType.{FuncType}
 use Rattle.w_types.specs.declared.types.HeapType.{HeapType}
 use Rattle.w_types.specs.declared.types.RefType.{RefType}
 use Rattle.w_types.specs.declared.types.ValType.{ValType}
+use Rattle.w_types.specs.declared.types.ValType.TheVariants.{Ref}
 use Rattle.w_types.specs.Rows.{Row}
 use Rattle.w_types.proofs.Lists.{get-front}
 use Rattle.w_syntax.specs.declared.module.GlobalType.{GlobalType}
@@ -16,7 +17,7 @@ use Rattle.w_reduce.specs.Store.{Store, Table, with_conts}
 use Rattle.w_reduce.specs.Terms.{Context, Term, Kept}
 use Rattle.w_typed.specs.Values.{Arrows, Grows, ContinuationTyped, ValueTyped, an_i32, an_i64, a_null, a_function, a_continuation, OperandTyped, a_value, a_bottom, ValuesTyped, no_values, values, AllTyped}
 use Rattle.w_typed.specs.Contexts.{Scope, LocalTyped, unset, held, LocalsTyped, no_locals, locals, Within, outside, label, frame, handle, HoleTyped}
-use Rattle.w_typed.specs.Stores.{Instances, ContTyped, consumed, kept, StoreTyped}
+use Rattle.w_typed.specs.Stores.{Instances, TableTyped, ContTyped, consumed, kept, StoreTyped}
 use Rattle.w_typed.proofs.ManyInstances.{instances_each}
 
 -- a list stays
@@ -40,8 +41,8 @@ module _ (m : Module) {K L : Arrows} (g : Grows K L) where
       record { arrow = c.arrow; is = arrow_stays a c.arrow g c.is; index = c.index; type = c.type; has_type = c.has_type; matches = c.matches; heap = c.heap }
 
   value_grows : {v : Val} {t : ValType} → ValueTyped m K v t → ValueTyped m L v t
-  value_grows an_i32 = an_i32
-  value_grows an_i64 = an_i64
+  value_grows (an_i32 r) = an_i32 r
+  value_grows (an_i64 r) = an_i64 r
   value_grows (a_null n) = a_null n
   value_grows (a_function is h) = a_function is h
   value_grows (a_continuation c) = a_continuation (continuation_grows c)
@@ -99,13 +100,18 @@ module _ (m : Module) {K L : Arrows} (g : Grows K L) where
   cont_grows _ t consumed = consumed
   cont_grows _ t (kept h) = kept (record { takes = h.takes; term = hole_grows h.term })
 
+  -- a table
+  table_grows : (t : Table) (k : TableType) → TableTyped m K t k → TableTyped m L t k
+  table_grows t k q = record { max = q.max; least = q.least; most = q.most; elements = all_grow (Ref k.element) t.elements q.elements }
+
   -- a store with other continuations
   pub store_grows : (s : Store) (ks : List (Option Kept)) → StoreTyped m K s → Instances (ContTyped m L) ks L → StoreTyped m L (with_conts ks s)
   store_grows s ks u h = record {
     functions = u.functions;
-    tables = instances_each (λ (t : Table) (k : TableType) q. all_grow _ t.elements q) u.tables;
+    tables = instances_each table_grows u.tables;
     memories = u.memories;
     globals = instances_each (λ (v : Val) (k : GlobalType) q. value_grows q) u.globals;
+    tags = u.tags;
     elements = instances_each (λ (vs : List Val) (r : RefType) q. all_grow _ vs q) u.elements;
     datas = u.datas;
     conts = h;

@@ -108,7 +108,7 @@ module _ (m : Module) {K : Arrows} where
 
 module _ (m : Module) where
   pub code_left : {c : Scope} {s : List Bool} {k : Code} {ts ts' us : Row Operand} → RowMatches m.types ts' ts → CodeTyped m c s k ts us → CodeTyped m c s k ts' us
-  code_left {c = c} {s = s} {k = k} {ts = ts} {ts' = ts'} {us = us} q h = record { derives = derives_left (in_scope m c) s k ts' ts us q h.derives; none = h.none; low = λ inside. low_sub m q (h.low inside) }
+  code_left {c = c} {s = s} {k = k} {ts = ts} {ts' = ts'} {us = us} q h = record { derives = derives_left (in_scope m c) s k ts' ts us q h.derives; none = h.none; fits = h.fits; low = λ inside. low_sub m q (h.low inside) }
 
   pub rest_left : {c : Scope} {s : List Bool} {ahead : List Administrative} {k : Code} {ts ts' us : Row Operand} → RowMatches m.types ts' ts
       → RestTyped m c s ahead k ts us → RestTyped m c s ahead k ts' us

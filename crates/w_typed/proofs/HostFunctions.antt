@@ -1,7 +1,5 @@
 -- The functions of the first store: those of the host that imports name, and the module's own.
-use Rattle.std.proofs.Common.{◌≡◌, ℕ, zero, suc, ◌≤◌, ◌&&◌, IsTrue, List, [], ◌∷◌, ◌++◌, length, map, flat_map, take, get_or, Option, Some, None, codes, bytes_eq, refl, subst, arith}
-use Rattle.std.proofs.Math.Seq.{take-length, take-suc}
-use Rattle.std.proofs.lemmas.Option.{slice_get-get_or}
+use Rattle.std.proofs.Common.{◌≡◌, ℕ, ◌&&◌, IsTrue, List, [], ◌∷◌, ◌++◌, length, map, flat_map, Option, Some, None, codes, bytes_eq, refl, subst}
 use Rattle.w_types.specs.declared.types.FuncType.{FuncType}
 use Rattle.w_types.specs.declared.types.ValType.{ValType}
 use Rattle.w_types.specs.declared.types.ValType.TheVariants.{I32, I64}
@@ -10,14 +8,13 @@ use Rattle.w_syntax.specs.declared.module.ExternType.{ExternType}
 use Rattle.w_syntax.specs.declared.module.ExternType.TheVariants as imported
 use Rattle.w_syntax.specs.declared.module.Import.{Import}
 use Rattle.w_syntax.specs.declared.module.Module.{Module}
-use Rattle.w_rules.specs.Spaces.{as_function, as_table, as_memory, as_global, functions_of}
+use Rattle.w_rules.specs.Spaces.{as_function, as_table, as_memory, as_global, as_tag}
 use Rattle.w_tables.specs.declared.entries.FuncEntry.TheVariants as function
 use Rattle.w_tables.specs.declared.entries.Printer.{Printer}
 use Rattle.w_tables.specs.declared.entries.Printer.TheVariants as printer
 use Rattle.w_reduce.specs.Imports.{is_i32, is_i64, are_none, are_taken_by, of_type, printer_named, printer_as, printer_of, Found, All, Missing, and_first, printers_of}
 use Rattle.w_reduce.specs.Start.{own}
-use Rattle.w_typed.specs.Stores.{Instances, no_instance, instances, printed_type, EntryTyped, own as of_module, host}
-use Rattle.w_typed.proofs.ManyInstances.{instances_beside}
+use Rattle.w_typed.specs.Stores.{Instances, no_instance, instances, printed_type, PrinterTyped, FunctionsTyped}
 use Rattle.w_typed.proofs.Chosen.{both_hold, chosen}
 
 -- ## One import
@@ -41,20 +38,25 @@ printed_alone printer.Byte ts h = i32_alone ts h
 
 module _ (m : Module) where
   of_its_type : (x : ℕ) (o : Option Printer) (t : Option FuncType) (p : Printer) → func_type m x ≡ t → of_type o t ≡ Some p
-      → EntryTyped m (function.Printer p) x
+      → PrinterTyped m p x
   of_its_type x None t p is h = absurd (cc)
   of_its_type x (Some q) None p is h = absurd (cc)
   of_its_type x (Some q) (Some t) p is h =
       let c = chosen (are_taken_by q t.params && are_none t.results) (Some q) p h in
       let both = both_hold (are_taken_by q t.params) (are_none t.results) c.0 in
       let same : q ≡ p = let e = c.1 in cc in
-      host is (subst (λ r. t.params ≡ printed_type r ∷ []) same (printed_alone q t.params both.0)) (none_there t.results both.1)
+      record {
+        type = t;
+        has_type = is;
+        params = subst (λ r. t.params ≡ printed_type r ∷ []) same (printed_alone q t.params both.0);
+        results = none_there t.results both.1;
+      }
 
   -- an import that names a function of the host's is a function
   pub record Names (e : ExternType) (p : Printer) : Type 0 where
     pub address : ℕ
     pub is : e ≡ imported.Func address
-    pub typed : EntryTyped m (function.Printer p) address
+    pub typed : PrinterTyped m p address
 
   named : (name : List ℕ) (e : ExternType) (p : Printer) → printer_as m name e ≡ Some p → Names e p
   named name (imported.Func x) p h = record { address = x; is = refl; typed = of_its_type x (printer_named name) (func_type m x) p refl h }
@@ -67,10 +69,11 @@ module _ (m : Module) where
 
   -- each of these imports is a function of the host's
   pub record Imported (is : List Import) (ps : List Printer) : Type 0 where
-    pub functions : Instances (EntryTyped m) (map (λ (p : Printer). function.Printer p) ps) (flat_map (λ (i : Import). as_function i.kind) is)
+    pub functions : Instances (PrinterTyped m) ps (flat_map (λ (i : Import). as_function i.kind) is)
     pub tables : flat_map (λ (i : Import). as_table i.kind) is ≡ []
     pub memories : flat_map (λ (i : Import). as_memory i.kind) is ≡ []
     pub globals : flat_map (λ (i : Import). as_global i.kind) is ≡ []
+    pub tags : flat_map (λ (i : Import). as_tag i.kind) is ≡ []
 
   one_more : (i : Import) (is : List Import) (p : Printer) (ps : List Printer) → Names i.kind p → Imported is ps → Imported (i ∷ is) (p ∷ ps)
   one_more i is p ps n h = record {
@@ -78,6 +81,7 @@ module _ (m : Module) where
     tables = rw (n.is) h.tables;
     memories = rw (n.is) h.memories;
     globals = rw (n.is) h.globals;
+    tags = rw (n.is) h.tags;
   }
 
   first_and_rest : (i : Import) (is : List Import) (o : Option Printer) (f : Found) (ps : List Printer)
@@ -92,19 +96,9 @@ module _ (m : Module) where
   pub all_imported : (is : List Import) (ps : List Printer) → printers_of m is ≡ All ps → Imported is ps
   all_imported [] ps h =
       let same : [] ≡ ps = cc in
-      subst (λ (rs : List Printer). Imported [] rs) same (record { functions = no_instance; tables = refl; memories = refl; globals = refl })
+      subst (λ (rs : List Printer). Imported [] rs) same (record { functions = no_instance; tables = refl; memories = refl; globals = refl; tags = refl })
   all_imported (i ∷ is) ps h = first_and_rest i is (printer_of m i) (printers_of m is) ps (all_imported is) refl h
 
-  -- ## The module's own functions
-
-  own_first : (n : ℕ) → n ≤ length m.functions → Instances (EntryTyped m) (own n) (take n m.functions)
-  own_first zero h = no_instance
-  own_first (suc n) h =
-      let last : EntryTyped m (function.Own n) (get_or m.functions n 0) = of_module (slice_get-get_or m.functions n 0 h) in
-      rw (take-suc m.functions n 0 h) (instances_beside (own_first n (omega arith)) (instances last no_instance))
-
-  -- those that the module defines, and those of the host in front of them
-  pub functions_typed : (ps : List Printer) → Imported m.imports ps
-      → Instances (EntryTyped m) (map (λ (p : Printer). function.Printer p) ps ++ own (length m.functions)) (functions_of m)
-  functions_typed ps h =
-      instances_beside h.functions (rw (take-length m.functions) at (own_first (length m.functions) (omega arith)))
+  -- those of the host, and the module's own behind them
+  pub functions_typed : (ps : List Printer) → Imported m.imports ps → FunctionsTyped m (map (λ (p : Printer). function.Printer p) ps ++ own (length m.functions))
+  functions_typed ps h = record { host = ps; are = refl; typed = h.functions }

@@ -96,7 +96,7 @@ module _ (p : Program) {K : Arrows} (us : Row Operand) where
       let table = instance_at x g u.tables there in
       number_taken m us int.I32 vs (h.beneath ⧺ known (row_of t.params)) _ (values_sub m h.takes v) (λ below i b.
       rw (table.is) (trapped_or m us trap.UndefinedElement (slice_get table.item.elements i) _ (λ r at.
-      function_taken trap.NullElement _ q.heap (all_get m K (Ref g.element) i r table.item.elements table.holds at) (λ a f.
+      function_taken trap.NullElement _ q.heap (all_get m K (Ref g.element) i r table.item.elements table.holds.elements at) (λ a f.
       rw (f.is) (unless_other (p.same f.index y) a f.index y t h.beneath refl prog valid u f.is is b (code_left m h.gives d) still w)))))
 
   -- call_indirect invokes a function of an equivalent type, or traps

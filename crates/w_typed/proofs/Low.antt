@@ -115,11 +115,11 @@ module _ (m : Module) {c : Scope} where
 
   -- code that is reached later too
   pub as_later : {s : List Bool} {k : Code} {ts us : Row Operand} → CodeTyped m c s k ts us → LaterTyped m c s k ts us
-  as_later h = record { derives = h.derives; none = h.none; low = λ inside room. h.low inside }
+  as_later h = record { derives = h.derives; none = h.none; fits = h.fits; low = λ inside room. h.low inside }
 
   -- and that is, where its operands are held
   pub reached : {s : List Bool} {k : Code} {ts us : Row Operand} → ((c.results ≡ None → ⊥) → c.base + size ts ≤ most_operands m c.function) → LaterTyped m c s k ts us → CodeTyped m c s k ts us
-  reached room h = record { derives = h.derives; none = h.none; low = λ inside. h.low inside (room inside) }
+  reached room h = record { derives = h.derives; none = h.none; fits = h.fits; low = λ inside. h.low inside (room inside) }
 
   -- operands may be of types that match
   pub low_sub : {s : List Bool} {k : Code} {ts ts' : Row Operand} → RowMatches m.types ts' ts → IsLow m c s k (size ts) → IsLow m c s k (size ts')

@@ -19,6 +19,11 @@ pub instances_made : {A B C : Type 0} {R : A → B → Type 0} (f : C → A) (g 
 instances_made f g [] h = no_instance
 instances_made f g (x ∷ xs) h = instances (h zero x refl) (instances_made f g xs (λ i. h (suc i)))
 
+-- or of a list that are its own declarations
+pub instances_of : {A B : Type 0} {R : A → B → Type 0} (f : B → A) (xs : List B) → ((i : ℕ) (x : B) → slice_get xs i ≡ Some x → R (f x) x) → Instances R (map f xs) xs
+instances_of f [] h = no_instance
+instances_of f (x ∷ xs) h = instances (h zero x refl) (instances_of f xs (λ i. h (suc i)))
+
 -- those of one relation are those of another that follows from it
 pub instances_each : {A B : Type 0} {R Q : A → B → Type 0} {xs : List A} {ys : List B} → ((x : A) (y : B) → R x y → Q x y) → Instances R xs ys
     → Instances Q xs ys

@@ -30,6 +30,7 @@ use Rattle.w_reduce.specs.Reduced.{Reduced, Went}
 use Rattle.w_reduce.specs.Branches.{choice, chosen}
 use Rattle.w_reduce.specs.Variable.{variable_op}
 use Rattle.w_reduce.specs.Reduce.{instruction, next, limited, unless_passed}
+use Rattle.w_typed.specs.Ranges.{ConstantsFit, NumbersFit}
 use Rattle.w_typed.specs.Values.{Arrows, ValuesTyped}
 use Rattle.w_typed.specs.Stores.{StoreTyped}
 use Rattle.w_reduce.specs.Room.{most_operands}
@@ -38,8 +39,9 @@ use Rattle.w_typed.proofs.Switches.{switching_safe}
 use Rattle.w_typed.specs.Configurations.{IsSafe, goes, traps, is_limited, ends, ReductionsAreSafe, NextsAreSafe}
 use Rattle.w_typed.proofs.Subsumed.{values_sub}
 use Rattle.w_typed.proofs.Taken.{number_taken}
-use Rattle.w_typed.proofs.Counted.{leaves, counted}
-use Rattle.w_typed.proofs.Low.{size_above, low_held, low_next, low_extra, low_inside, low_in_if, low_in_else, low_done, taken_among, room}
+use Rattle.w_typed.proofs.Behind.{code_behind}
+use Rattle.w_typed.proofs.Counted.{leaves}
+use Rattle.w_typed.proofs.Low.{size_above, low_held, low_extra, low_inside, low_in_if, low_in_else, low_done, taken_among, room}
 use Rattle.w_typed.proofs.Onward.{onward}
 use Rattle.w_typed.proofs.Numbers.{numeric_safe}
 use Rattle.w_typed.proofs.References.{parametric_safe, reference_safe}
@@ -57,12 +59,12 @@ use Rattle.w_reduce.specs.declared.limit.RunLimit.{RunLimit}
 module _ (m : Module) where
   -- a block's parts, where its type is there
   block_parts : (kind : BlockKind) (b : BlockType) (x k : Code) (c : Scope) (set : List Bool) (ts out : Row Operand) (a : Option Arrow) → arrow_of (in_scope m c) b ≡ a
-      → (c.results ≡ None → ⊥) → ((c.results ≡ None → ⊥) → IsLow m c set (Block kind b x k) (size ts))
+      → (c.results ≡ None → ⊥) → (NumbersFit m → ConstantsFit (Block kind b x k)) → ((c.results ≡ None → ⊥) → IsLow m c set (Block kind b x k) (size ts))
       → Holds a (λ (a : Arrow). Derives (labelled (in_scope m c) (rules.label_of kind a)) set x (known a.from) (known a.to)
       × ((ws : Row Operand) × HasType m.types (known a.from) (known a.to) ts ws × Derives (in_scope m c) set k ws out))
       → (ws : Row Operand) × BlockTyped m c set kind b x k ts ws out
-  block_parts kind b x k c set ts out None is inside low h = absurd h
-  block_parts kind b x k c set ts out (Some a) is inside low (d, (ws, t, r)) =
+  block_parts kind b x k c set ts out None is inside fits low h = absurd h
+  block_parts kind b x k c set ts out (Some a) is inside fits low (d, (ws, t, r)) =
       let before = row_size m.types ts (t.beneath ⧺ known a.from) t.takes in
       let parts : (c.results ≡ None → ⊥) → IsLow m (under (size t.beneath) (rules.label_of kind a) c) set x (size a.from) × IsLow m c set k (size t.beneath + size a.to) =
       λ i. low_inside m kind b a (size t.beneath) is (subst (IsLow m c set (Block kind b x k)) (before ∙ size_above t.beneath a.from) (low i)) in (
@@ -75,8 +77,10 @@ module _ (m : Module) where
           behind = record {
             derives = r;
             none = λ e. absurd (inside e);
+            fits = λ n. (fits n).1;
             low = λ i. subst (IsLow m c set k) (sym (size_above t.beneath a.to) ∙ row_size m.types (t.beneath ⧺ known a.to) ws t.gives) (parts i).1;
           };
+          inside_fits = λ n. (fits n).0;
           inside_low = λ i. (parts i).0;
           again_low = λ e i. subst (λ (z : BlockKind). IsLow m c set (Block z b x k) (size (t.beneath ⧺ known a.from))) e (subst (IsLow m c set (Block kind b x k)) before (low i));
         },
@@ -90,18 +94,21 @@ module _ (m : Module) where
     pub other : Derives (labelled (in_scope m c) arrow.to) set y (known arrow.from) (known arrow.to)
     pub has_type : HasType m.types (known arrow.from ▹ Known I32) (known arrow.to) ts ws
     pub behind : Derives (in_scope m c) set k ws out
+    pub one_fits : NumbersFit m → ConstantsFit x
+    pub other_fits : NumbersFit m → ConstantsFit y
+    pub behind_fits : NumbersFit m → ConstantsFit k
     pub one_low : (c.results ≡ None → ⊥) → IsLow m (under (size has_type.beneath) arrow.to c) set x (size arrow.from)
     pub other_low : (c.results ≡ None → ⊥) → IsLow m (under (size has_type.beneath) arrow.to c) set y (size arrow.from)
     pub behind_low : (c.results ≡ None → ⊥) → IsLow m c set k (size ws)
 
   if_parts : (b : BlockType) (x k : Code) (c : Scope) (set : List Bool) (ts out : Row Operand) (a : Option Arrow) → arrow_of (in_scope m c) b ≡ a
-      → ((c.results ≡ None → ⊥) → IsLow m c set (If b x k) (size ts))
+      → (NumbersFit m → ConstantsFit (If b x k)) → ((c.results ≡ None → ⊥) → IsLow m c set (If b x k) (size ts))
       → Holds a (λ (a : Arrow). RowMatches m.types (known a.from) (known a.to)
       × Derives (labelled (in_scope m c) a.to) set x (known a.from) (known a.to)
       × ((ws : Row Operand) × HasType m.types (known a.from ▹ Known I32) (known a.to) ts ws × Derives (in_scope m c) set k ws out))
       → (ws : Row Operand) × Choice b x Done k c set ts ws out
-  if_parts b x k c set ts out None is low h = absurd h
-  if_parts b x k c set ts out (Some a) is low (r, d, (ws, t, f)) =
+  if_parts b x k c set ts out None is fits low h = absurd h
+  if_parts b x k c set ts out (Some a) is fits low (r, d, (ws, t, f)) =
       let before = row_size m.types ts ((t.beneath ⧺ known a.from) ▹ Known I32) t.takes in
       let parts : (c.results ≡ None → ⊥) → IsLow m (under (size t.beneath) a.to c) set x (size a.from) × IsLow m c set k (size t.beneath + size a.to) =
       λ i. low_in_if m b a (size t.beneath) is (subst (IsLow m c set (If b x k)) (before ∙ ap suc (size_above t.beneath a.from)) (low i)) in (
@@ -113,6 +120,9 @@ module _ (m : Module) where
           other = r;
           has_type = t;
           behind = f;
+          one_fits = λ n. (fits n).0;
+          other_fits = λ n. tt;
+          behind_fits = λ n. (fits n).1;
           one_low = λ i. (parts i).0;
           other_low = λ i. low_done m (parts i).0;
           behind_low = λ i. subst (IsLow m c set k) (sym (size_above t.beneath a.to) ∙ row_size m.types (t.beneath ⧺ known a.to) ws t.gives) (parts i).1;
@@ -120,13 +130,13 @@ module _ (m : Module) where
       )
 
   if_else_parts : (b : BlockType) (x y k : Code) (c : Scope) (set : List Bool) (ts out : Row Operand) (a : Option Arrow) → arrow_of (in_scope m c) b ≡ a
-      → ((c.results ≡ None → ⊥) → IsLow m c set (IfElse b x y k) (size ts))
+      → (NumbersFit m → ConstantsFit (IfElse b x y k)) → ((c.results ≡ None → ⊥) → IsLow m c set (IfElse b x y k) (size ts))
       → Holds a (λ (a : Arrow). Derives (labelled (in_scope m c) a.to) set x (known a.from) (known a.to)
       × Derives (labelled (in_scope m c) a.to) set y (known a.from) (known a.to)
       × ((ws : Row Operand) × HasType m.types (known a.from ▹ Known I32) (known a.to) ts ws × Derives (in_scope m c) set k ws out))
       → (ws : Row Operand) × Choice b x y k c set ts ws out
-  if_else_parts b x y k c set ts out None is low h = absurd h
-  if_else_parts b x y k c set ts out (Some a) is low (d, r, (ws, t, f)) =
+  if_else_parts b x y k c set ts out None is fits low h = absurd h
+  if_else_parts b x y k c set ts out (Some a) is fits low (d, r, (ws, t, f)) =
       let before = row_size m.types ts ((t.beneath ⧺ known a.from) ▹ Known I32) t.takes in
       let parts : (c.results ≡ None → ⊥)
       → IsLow m (under (size t.beneath) a.to c) set x (size a.from) × IsLow m (under (size t.beneath) a.to c) set y (size a.from) × IsLow m c set k (size t.beneath + size a.to) =
@@ -139,6 +149,9 @@ module _ (m : Module) where
           other = r;
           has_type = t;
           behind = f;
+          one_fits = λ n. (fits n).0;
+          other_fits = λ n. (fits n).1;
+          behind_fits = λ n. (fits n).2;
           one_low = λ i. (parts i).0;
           other_low = λ i. (parts i).1;
           behind_low = λ i. subst (IsLow m c set k) (sym (size_above t.beneath a.to) ∙ row_size m.types (t.beneath ⧺ known a.to) ws t.gives) (parts i).2;
@@ -152,7 +165,8 @@ module _ (m : Module) where
     is = h.is;
     inside = h.other;
     has_type = record { beneath = h.has_type.beneath; takes = row_refl m.types (h.has_type.beneath ⧺ known h.arrow.from); gives = h.has_type.gives };
-    behind = record { derives = h.behind; none = λ e. absurd (inside e); low = h.behind_low };
+    behind = record { derives = h.behind; none = λ e. absurd (inside e); fits = h.behind_fits; low = h.behind_low };
+    inside_fits = h.other_fits;
     inside_low = h.other_low;
     again_low = λ e i. absurd (cc);
   }
@@ -161,7 +175,8 @@ module _ (m : Module) where
     is = h.is;
     inside = h.one;
     has_type = record { beneath = h.has_type.beneath; takes = row_refl m.types (h.has_type.beneath ⧺ known h.arrow.from); gives = h.has_type.gives };
-    behind = record { derives = h.behind; none = λ e. absurd (inside e); low = h.behind_low };
+    behind = record { derives = h.behind; none = λ e. absurd (inside e); fits = h.behind_fits; low = h.behind_low };
+    inside_fits = h.one_fits;
     inside_low = h.one_low;
     again_low = λ e i. absurd (cc);
   }
@@ -171,27 +186,25 @@ module _ (p : Program) {K : Arrows} (us : Row Operand) (prog : IsProgram p) (val
       (u : StoreTyped p.source K s) (v : ValuesTyped p.source K vs ts) (still : Subset set now) (w : Within p.source K us e c now out) (inside : c.results ≡ None → ⊥) where
     -- what comes behind an instruction, where it is reached
     coming : (ws : Row Operand) (k : Code) (o : Op) → leaves o ≡ false → HasInstrType p.source.types (instr_type (in_scope p.source c) set o) ts ws
-        → Derives (in_scope p.source c) (sets o set) k ws out → ((c.results ≡ None → ⊥) → IsLow p.source c set (Plain o k) (size ts)) → CodeTyped p.source c (sets o set) k ws out
-    coming ws k o n t d low = record {
-      derives = d;
-      none = λ e. absurd (inside e);
-      low = λ i. low_next p.source ts ws o (low i) t (counted p.source.types ts ws (in_scope p.source c) set o n t);
-    }
+        → Derives (in_scope p.source c) (sets o set) k ws out → (NumbersFit p.source → ConstantsFit (Plain o k))
+        → ((c.results ≡ None → ⊥) → IsLow p.source c set (Plain o k) (size ts)) → CodeTyped p.source c (sets o set) k ws out
+    coming ws k o n t d fits low = code_behind p.source ts ws k o n inside t d fits low
 
     variable_safe : (ws : Row Operand) (k : Code) (o : VariableOp) → HasInstrType p.source.types (variable_op_type (in_scope p.source c) set o) ts ws → Derives (in_scope p.source c) (sets (op.Variable o) set) k ws out
-        → ((c.results ≡ None → ⊥) → IsLow p.source c set (Plain (op.Variable o) k) (size ts)) → IsSafe p.source K us (variable_op s e vs o k)
-    variable_safe ws k (variable.LocalGet x) t d low =
-        local_get_safe p.source us x ts ws s e vs k c set now out u t v still w (onward p.source us still (coming ws k (op.Variable (variable.LocalGet x)) refl t d low) w)
-    variable_safe ws k (variable.LocalSet x) t d low = local_set_safe p.source us x ts ws s e vs k c set now out u t v still w (coming ws k (op.Variable (variable.LocalSet x)) refl t d low)
-    variable_safe ws k (variable.LocalTee x) t d low = local_tee_safe p.source us x ts ws s e vs k c set now out u t v still w (coming ws k (op.Variable (variable.LocalTee x)) refl t d low)
-    variable_safe ws k (variable.GlobalGet x) t d low =
-        global_get_safe p.source us c x ts ws s e vs k u t v (onward p.source us still (coming ws k (op.Variable (variable.GlobalGet x)) refl t d low) w)
-    variable_safe ws k (variable.GlobalSet x) t d low =
-        global_set_safe p.source us c x ts ws s e vs k u t v (onward p.source us still (coming ws k (op.Variable (variable.GlobalSet x)) refl t d low) w)
+        → (NumbersFit p.source → ConstantsFit (Plain (op.Variable o) k)) → ((c.results ≡ None → ⊥) → IsLow p.source c set (Plain (op.Variable o) k) (size ts)) → IsSafe p.source K us (variable_op s e vs o k)
+    variable_safe ws k (variable.LocalGet x) t d fits low =
+        local_get_safe p.source us x ts ws s e vs k c set now out u t v still w (onward p.source us still (coming ws k (op.Variable (variable.LocalGet x)) refl t d fits low) w)
+    variable_safe ws k (variable.LocalSet x) t d fits low = local_set_safe p.source us x ts ws s e vs k c set now out u t v still w (coming ws k (op.Variable (variable.LocalSet x)) refl t d fits low)
+    variable_safe ws k (variable.LocalTee x) t d fits low = local_tee_safe p.source us x ts ws s e vs k c set now out u t v still w (coming ws k (op.Variable (variable.LocalTee x)) refl t d fits low)
+    variable_safe ws k (variable.GlobalGet x) t d fits low =
+        global_get_safe p.source us c x ts ws s e vs k u t v (onward p.source us still (coming ws k (op.Variable (variable.GlobalGet x)) refl t d fits low) w)
+    variable_safe ws k (variable.GlobalSet x) t d fits low =
+        global_set_safe p.source us c x ts ws s e vs k u t v (onward p.source us still (coming ws k (op.Variable (variable.GlobalSet x)) refl t d fits low) w)
 
     instruction_safe : (ws : Row Operand) (k : Code) (o : Op) → Condition (in_scope p.source c) o → HasInstrType p.source.types (instr_type (in_scope p.source c) set o) ts ws
-        → Derives (in_scope p.source c) (sets o set) k ws out → ((c.results ≡ None → ⊥) → IsLow p.source c set (Plain o k) (size ts)) → IsSafe p.source K us (instruction p s e vs o k)
-    instruction_safe ws k (op.Control o) h t d low =
+        → Derives (in_scope p.source c) (sets o set) k ws out → (NumbersFit p.source → ConstantsFit (Plain o k))
+        → ((c.results ≡ None → ⊥) → IsLow p.source c set (Plain o k) (size ts)) → IsSafe p.source K us (instruction p s e vs o k)
+    instruction_safe ws k (op.Control o) h t d fits low =
         control_safe p K us o (record {
           scope = c;
           set = set;
@@ -202,20 +215,20 @@ module _ (p : Program) {K : Arrows} (us : Row Operand) (prog : IsProgram p) (val
           around = w;
           inside = inside;
           leaving = leaves (op.Control o);
-          behind = λ n. coming ws k (op.Control o) n t d low;
+          behind = λ n. coming ws k (op.Control o) n t d fits low;
         }) refl (λ i. low_held p.source (low i)) prog valid h t v
-    instruction_safe ws k (op.Parametric o) h t d low =
-        parametric_safe p.source us c o ts ws s e vs k u t v (onward p.source us still (coming ws k (op.Parametric o) refl t d low) w)
-    instruction_safe ws k (op.Variable o) h t d low = variable_safe ws k o t d low
-    instruction_safe ws k (op.Table o) h t d low =
-        table_safe p.source us c o ts ws s e vs k u h t v (onward p.source us still (coming ws k (op.Table o) refl t d low) w)
-    instruction_safe ws k (op.Memory o) h t d low =
-        memory_safe p.source us c o ts ws s e vs k valid u t v (onward p.source us still (coming ws k (op.Memory o) refl t d low) w)
-    instruction_safe ws k (op.Numeric o) h t d low =
-        numeric_safe p.source us o ts ws s e vs k u t v (onward p.source us still (coming ws k (op.Numeric o) refl t d low) w)
-    instruction_safe ws k (op.Reference o) h t d low =
-        reference_safe p.source us c o ts ws s e vs k u t v (onward p.source us still (coming ws k (op.Reference o) refl t d low) w)
-    instruction_safe ws k (op.Switching o) h t d low =
+    instruction_safe ws k (op.Parametric o) h t d fits low =
+        parametric_safe p.source us c o ts ws s e vs k u t v (onward p.source us still (coming ws k (op.Parametric o) refl t d fits low) w)
+    instruction_safe ws k (op.Variable o) h t d fits low = variable_safe ws k o t d fits low
+    instruction_safe ws k (op.Table o) h t d fits low =
+        table_safe p.source us c o ts ws s e vs k u h t v (onward p.source us still (coming ws k (op.Table o) refl t d fits low) w)
+    instruction_safe ws k (op.Memory o) h t d fits low =
+        memory_safe p.source us c o ts ws s e vs k valid u t v (onward p.source us still (coming ws k (op.Memory o) refl t d fits low) w)
+    instruction_safe ws k (op.Numeric o) h t d fits low =
+        numeric_safe p.source us o ts ws s e vs k u (λ f. (fits f).0) t v (onward p.source us still (coming ws k (op.Numeric o) refl t d fits low) w)
+    instruction_safe ws k (op.Reference o) h t d fits low =
+        reference_safe p.source us c o ts ws s e vs k u t v (onward p.source us still (coming ws k (op.Reference o) refl t d fits low) w)
+    instruction_safe ws k (op.Switching o) h t d fits low =
         switching_safe p K us valid o (record {
           scope = c;
           set = set;
@@ -226,7 +239,7 @@ module _ (p : Program) {K : Arrows} (us : Row Operand) (prog : IsProgram p) (val
           around = w;
           inside = inside;
           leaving = leaves (op.Switching o);
-          behind = λ n. coming ws k (op.Switching o) n t d low;
+          behind = λ n. coming ws k (op.Switching o) n t d fits low;
         }) refl (λ i. low_extra p.source (op.Switching o) (low i)) h t v
 
   choice_safe : {s : Store} {e : Context} {vs : Row Val} {c : Scope} {set now : List Bool} {ts ws out : Row Operand} (b : BlockType) (x y k : Code)
@@ -248,16 +261,16 @@ module _ (p : Program) {K : Arrows} (us : Row Operand) (prog : IsProgram p) (val
       λ i. let held = low_held p.source (h.low i) in let there = held.operands in omega (arith, there, as_many) in
       leave_safe p.source us u fits (values_sub p.source h.derives v) w
   next_safe [] (Plain o k) u v (code_alone h) still w =
-      instruction_safe u v still w (λ e. let d = h.none e in absurd (cc)) h.derives.1.0 k o h.derives.0 h.derives.1.1 h.derives.1.2 h.low
+      instruction_safe u v still w (λ e. let d = h.none e in absurd (cc)) h.derives.1.0 k o h.derives.0 h.derives.1.1 h.derives.1.2 h.fits h.low
   next_safe {c = c} {set = set} {ts = ts} {out = out} [] (Block kind b x k) u v (code_alone h) still w =
       let inside = λ (e : c.results ≡ None). (let d = h.none e in absurd (cc)) in
-      let parts = block_parts p.source kind b x k c set ts out (arrow_of (in_scope p.source c) b) refl inside h.low h.derives in
+      let parts = block_parts p.source kind b x k c set ts out (arrow_of (in_scope p.source c) b) refl inside h.fits h.low h.derives in
       block_safe p us kind u still v parts.1 inside w
   next_safe {c = c} {set = set} {ts = ts} {out = out} [] (If b x k) u v (code_alone h) still w =
-      let parts = if_parts p.source b x k c set ts out (arrow_of (in_scope p.source c) b) refl h.low h.derives in
+      let parts = if_parts p.source b x k c set ts out (arrow_of (in_scope p.source c) b) refl h.fits h.low h.derives in
       choice_safe b x Done k u v still w (λ e. let d = h.none e in absurd (cc)) parts.1
   next_safe {c = c} {set = set} {ts = ts} {out = out} [] (IfElse b x y k) u v (code_alone h) still w =
-      let parts = if_else_parts p.source b x y k c set ts out (arrow_of (in_scope p.source c) b) refl h.low h.derives in
+      let parts = if_else_parts p.source b x y k c set ts out (arrow_of (in_scope p.source c) b) refl h.fits h.low h.derives in
       choice_safe b x y k u v still w (λ e. let d = h.none e in absurd (cc)) parts.1
 
 -- a limit that is passed is safe

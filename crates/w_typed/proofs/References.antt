@@ -1,5 +1,5 @@
 -- Parametric and reference instructions of typed configurations.
-use Rattle.std.proofs.Common.{◌≡◌, ℕ, zero, suc, Bool, true, false, IsTrue, [], ◌∷◌, Option, Some, None, slice_get, refl}
+use Rattle.std.proofs.Common.{◌≡◌, ℕ, zero, suc, Bool, true, false, IsTrue, [], ◌∷◌, Option, Some, None, slice_get, refl, arith}
 use Rattle.w_types.specs.declared.types.HeapType.{HeapType}
 use Rattle.w_types.specs.declared.types.ValType.TheVariants.{I32, Ref}
 use Rattle.w_types.specs.Rows.{Row, ε, ◌▹◌}
@@ -28,7 +28,9 @@ use Rattle.w_typed.specs.Values.{Arrows, a_null, a_function, a_continuation, an_
 use Rattle.w_typed.specs.Stores.{StoreTyped}
 use Rattle.w_typed.specs.Contexts.{Scope, in_scope}
 use Rattle.w_typed.specs.Configurations.{IsSafe, traps}
+use Rattle.w_typed.proofs.Functions.{entries_typed}
 use Rattle.w_typed.proofs.Places.{instance_at}
+use Rattle.w_typed.proofs.Taken.{small_typed}
 use Rattle.w_typed.proofs.Subsumed.{values_sub}
 use Rattle.w_typed.proofs.Onward.{Onward}
 
@@ -65,8 +67,8 @@ module _ (m : Module) {K : Arrows} (us : Row Operand) where
   select_safe : (t : Operand) (ts ws : Row Operand) (s : Store) (e : Context) (vs : Row Val) (k : Code) (beneath : Row Operand) → StoreTyped m K s
       → ValuesTyped m K vs (beneath ▹ t ▹ t ▹ Known I32) → ((below : Row Val) (v : Val) → ValuesTyped m K (below ▹ v) (beneath ▹ t) → ValuesTyped m K (below ▹ v) ws)
       → Onward m K us e ws k → IsSafe m K us (select s e vs k)
-  select_safe t ts ws s e _ k beneath u (values (values {v = w} (values {vs = vs} {v = v} b p) q) (a_value (an_i32 {n = zero}))) f go = go s _ u (f vs w (values b q))
-  select_safe t ts ws s e _ k beneath u (values (values {v = w} (values {vs = vs} {v = v} b p) q) (a_value (an_i32 {n = suc n}))) f go = go s _ u (f vs v (values b p))
+  select_safe t ts ws s e _ k beneath u (values (values {v = w} (values {vs = vs} {v = v} b p) q) (a_value (an_i32 {n = zero} r))) f go = go s _ u (f vs w (values b q))
+  select_safe t ts ws s e _ k beneath u (values (values {v = w} (values {vs = vs} {v = v} b p) q) (a_value (an_i32 {n = suc n} r))) f go = go s _ u (f vs v (values b p))
 
   -- a parametric instruction goes on
   pub parametric_safe : (c : Scope) (o : ParametricOp) (ts ws : Row Operand) (s : Store) (e : Context) (vs : Row Val) (k : Code) → StoreTyped m K s
@@ -90,7 +92,7 @@ module _ (m : Module) {K : Arrows} (us : Row Operand) where
   func_safe x ts ws s e vs k (Some y) None is u h v go = absurd h
   func_safe x ts ws s e vs k (Some y) (Some false) is u h v go = absurd h
   func_safe x ts ws s e vs k (Some y) (Some true) is u h v go =
-      let f = instance_at x y u.functions is in
+      let f = instance_at x y (entries_typed m u.functions) is in
       rw (f.is) (go s _ u (values_sub m h.gives (values (values_sub m h.takes v) (a_value (a_function is (index (reflexive m.types y)))))))
 
   -- the topmost operand is a reference
@@ -108,8 +110,8 @@ module _ (m : Module) {K : Arrows} (us : Row Operand) where
       let g = if_valid_has m (has_heap (type_count (in_scope m c)) x) (fixed ε (ε ▹ Ref (record { nullable = true; heap = x }))) ts ws h in
       go s _ u (values_sub m g.gives (values (values_sub m g.takes v) (a_value (a_null refl))))
   reference_safe c reference.IsNull ts ws s e vs k u (x, h) v go =
-      by_null_safe x vs h.beneath _ _ (values_sub m h.takes v) (λ below b. go s _ u (values_sub m h.gives (values b (a_value an_i32))))
-      (λ below w b q. go s _ u (values_sub m h.gives (values b (a_value an_i32))))
+      by_null_safe x vs h.beneath _ _ (values_sub m h.takes v) (λ below b. go s _ u (values_sub m h.gives (values b (small_typed m 1 (omega arith)))))
+      (λ below w b q. go s _ u (values_sub m h.gives (values b (small_typed m 0 (omega arith)))))
   reference_safe c (reference.Func x) ts ws s e vs k u h v go =
       func_safe x ts ws s e vs k (slice_get (functions_of m) x) (slice_get (declared_of m) x) refl u h v go
   reference_safe c reference.AsNonNull ts ws s e vs k u (x, h) v go =

@@ -90,7 +90,7 @@ module _ (m : Module) where
   main_typed : (main : ℕ) (f : EntryAt m main) → RestTyped m closed [] (Invoke main ∷ []) Done ε (known (row_of f.type.results))
   main_typed main f =
       invoke_typed main f.type [] (known (row_of f.type.results)) (known (row_of f.type.results)) f.has_type f.no_params refl
-      (code_alone (record { derives = row_refl m.types (known (row_of f.type.results)); none = λ e. refl; low = λ n. absurd (n refl) }))
+      (code_alone (record { derives = row_refl m.types (known (row_of f.type.results)); none = λ e. refl; fits = λ n. tt; low = λ n. absurd (n refl) }))
 
   rest_typed : Valid m → (main : ℕ) (f : EntryAt m main) (o : Option ℕ) → m.start ≡ o
       → RestTyped m closed [] (invokes o ++ Invoke main ∷ []) Done ε (known (row_of f.type.results))
@@ -142,17 +142,17 @@ module _ (p : Program) (valid : Valid p.source) (s : Store) (t : Term) where
       after_datas main f (in_order (λ s y (d : syntax_data.Data). data_started p s y d.mode) (Some r) 0 p.source.datas)
       (λ q is. datas_typed p r q (k r refl) is) h
 
-  inside_limits : (ps : List Printer) (main : ℕ) (f : EntryAt p.source main) (o : Option StartLimit) → StoreTyped p.source [] (allocated p ps)
-      → within_limits p ps main o ≡ Ready s t → StartsTyped p.source s t
-  inside_limits ps main f (Some l) u h = absurd (cc)
-  inside_limits ps main f None u h =
+  inside_limits : (ps : List Printer) (main : ℕ) (f : EntryAt p.source main) (o : Option StartLimit) → exceeded p.source ≡ o
+      → (exceeded p.source ≡ None → StoreTyped p.source [] (allocated p ps)) → within_limits p ps main o ≡ Ready s t → StartsTyped p.source s t
+  inside_limits ps main f (Some l) is u h = absurd (cc)
+  inside_limits ps main f None none u h =
       after_elements main f (in_order (λ s y (e : Elem). element_started p s y e.mode) (Some (allocated p ps)) 0 p.source.elements)
-      (λ r is. elements_typed p valid (allocated p ps) r u is) h
+      (λ r is. elements_typed p valid (allocated p ps) r (u none) is) h
 
-  having_entry : (ps : List Printer) (o : Option ℕ) → entry p.source ≡ o → StoreTyped p.source [] (allocated p ps) → with_entry p ps o ≡ Ready s t
+  having_entry : (ps : List Printer) (o : Option ℕ) → entry p.source ≡ o → (exceeded p.source ≡ None → StoreTyped p.source [] (allocated p ps)) → with_entry p ps o ≡ Ready s t
       → StartsTyped p.source s t
   having_entry ps None is u h = absurd (cc)
-  having_entry ps (Some main) is u h = inside_limits ps main (entry_in_typed p.source p.source.exports main is) (exceeded p.source) u h
+  having_entry ps (Some main) is u h = inside_limits ps main (entry_in_typed p.source p.source.exports main is) (exceeded p.source) refl u h
 
   having_imports : (f : Found) → printers_of p.source p.source.imports ≡ f → with_imports p f ≡ Ready s t → StartsTyped p.source s t
   having_imports (Missing i) is h = absurd (cc)

@@ -25,15 +25,16 @@ use Rattle.w_reduce.specs.Values.{Val}
 use Rattle.w_reduce.specs.Store.{Store, Table}
 use Rattle.w_reduce.specs.Terms.{Context}
 use Rattle.w_reduce.specs.Tables.{with_elements, without_elements, table_op}
-use Rattle.w_typed.specs.Values.{Arrows, an_i32, a_value, ValuesTyped, values, AllTyped}
-use Rattle.w_typed.specs.Stores.{StoreTyped}
+use Rattle.w_typed.specs.Values.{Arrows, a_value, ValuesTyped, values}
+use Rattle.w_typed.specs.Stores.{TableTyped, StoreTyped}
 use Rattle.w_typed.specs.Contexts.{Scope, in_scope}
 use Rattle.w_typed.specs.Configurations.{IsSafe}
 use Rattle.w_typed.proofs.Places.{instance_set}
 use Rattle.w_typed.proofs.Subsumed.{values_sub}
-use Rattle.w_typed.proofs.Taken.{number_taken, trapped_or}
+use Rattle.w_typed.proofs.Taken.{number_taken, trapped_or, small_typed}
 use Rattle.w_typed.proofs.Onward.{Onward}
-use Rattle.w_typed.proofs.Elements.{all_sub, all_get, all_filled, all_copied, all_replaced, all_grown}
+use Rattle.w_typed.proofs.Elements.{all_sub, all_get}
+use Rattle.w_typed.proofs.SizedTables.{table_replaced, table_filled, table_copied, table_grown, elements_below, growth_below}
 use Rattle.w_typed.proofs.Memories.{three_taken}
 use Rattle.w_typed.proofs.Globals.{instance_found, value_taken}
 
@@ -46,12 +47,13 @@ segment_types m = map (λ (e : Elem). e.kind) m.elements
 module _ (m : Module) {K : Arrows} where
   -- other elements of a table's type may stand in their place
   pub elements_put : (x : ℕ) (t : TableType) (old : Table) (new : List Val) (s : Store) → StoreTyped m K s → slice_get (tables_of m) x ≡ Some t
-      → AllTyped m K (Ref t.element) new → StoreTyped m K (with_elements s x old new)
+      → TableTyped m K (record old { elements = new }) t → StoreTyped m K (with_elements s x old new)
   elements_put x t old new s u is h = record {
     functions = u.functions;
     tables = instance_set x (record old { elements = new }) t u.tables is h;
     memories = u.memories;
     globals = u.globals;
+    tags = u.tags;
     elements = u.elements;
     datas = u.datas;
     conts = u.conts;
@@ -64,6 +66,7 @@ module _ (m : Module) {K : Arrows} where
     tables = u.tables;
     memories = u.memories;
     globals = u.globals;
+    tags = u.tags;
     elements = instance_set y [] r u.elements is tt;
     datas = u.datas;
     conts = u.conts;
@@ -86,7 +89,7 @@ module _ (m : Module) {K : Arrows} (us : Row Operand) where
       number_taken m us int.I32 vs h.beneath _ (values_sub m h.takes v) (λ below i b.
       instance_found m us x t _ u.tables is (λ old q.
       trapped_or m us trap.TableOutOfBounds (get old.elements i) _ (λ w there.
-      go s _ u (values_sub m h.gives (values b (a_value (all_get m K (Ref t.element) i w old.elements q there)))))))
+      go s _ u (values_sub m h.gives (values b (a_value (all_get m K (Ref t.element) i w old.elements q.elements there)))))))
 
   set_safe : (x : ℕ) (ts ws : Row Operand) (s : Store) (e : Context) (vs : Row Val) (k : Code) (y : Option TableType)
       → slice_get (tables_of m) x ≡ y → StoreTyped m K s → HasInstrType m.types (table_set_type y) ts ws → ValuesTyped m K vs ts
@@ -97,8 +100,7 @@ module _ (m : Module) {K : Arrows} (us : Row Operand) where
       number_taken m us int.I32 above h.beneath _ a (λ below i b.
       instance_found m us x t _ u.tables is (λ old q.
       trapped_or m us trap.TableOutOfBounds (replaced old.elements i w) _ (λ new there.
-      let all = all_replaced m K (Ref t.element) i w old.elements new q r there in
-      go _ _ (elements_put m x t old new s u is all) (values_sub m h.gives b)))))
+      go _ _ (elements_put m x t old new s u is (table_replaced m K t old q i w new r there)) (values_sub m h.gives b)))))
 
   init_safe : (y x : ℕ) (ts ws : Row Operand) (s : Store) (e : Context) (vs : Row Val) (k : Code) (a : Option RefType) (b : Option TableType)
       → slice_get (segment_types m) y ≡ a → slice_get (tables_of m) x ≡ b → StoreTyped m K s
@@ -112,8 +114,7 @@ module _ (m : Module) {K : Arrows} (us : Row Operand) where
       instance_found m us y r _ u.elements from (λ segment w.
       trapped_or m us trap.TableOutOfBounds (copied old.elements segment d j n) _ (λ new there.
       let sub = all_sub m K (Ref r) (Ref t.element) segment (ref p) w in
-      let all = all_copied m K (Ref t.element) d j n old.elements segment new q sub there in
-      go _ _ (elements_put m x t old new s u is all) (values_sub m h.gives b)))))
+      go _ _ (elements_put m x t old new s u is (table_copied m K t old q d j n segment new sub there)) (values_sub m h.gives b)))))
 
   drop_safe : (y : ℕ) (ts ws : Row Operand) (s : Store) (e : Context) (vs : Row Val) (k : Code) (a : Option RefType)
       → slice_get (segment_types m) y ≡ a → StoreTyped m K s → HasInstrType m.types (elem_drop_type a) ts ws → ValuesTyped m K vs ts
@@ -134,9 +135,8 @@ module _ (m : Module) {K : Arrows} (us : Row Operand) where
       instance_found m us x t _ u.tables is (λ old q.
       instance_found m us y r _ u.tables from (λ source w.
       trapped_or m us trap.TableOutOfBounds (copied old.elements source.elements d j n) _ (λ new there.
-      let sub = all_sub m K (Ref r.element) (Ref t.element) source.elements (ref p) w in
-      let all = all_copied m K (Ref t.element) d j n old.elements source.elements new q sub there in
-      go _ _ (elements_put m x t old new s u is all) (values_sub m h.gives b)))))
+      let sub = all_sub m K (Ref r.element) (Ref t.element) source.elements (ref p) w.elements in
+      go _ _ (elements_put m x t old new s u is (table_copied m K t old q d j n source.elements new sub there)) (values_sub m h.gives b)))))
 
   grow_safe : (x : ℕ) (ts ws : Row Operand) (s : Store) (e : Context) (vs : Row Val) (k : Code) (y : Option TableType)
       → slice_get (tables_of m) x ≡ y → StoreTyped m K s → HasInstrType m.types (table_grow_type y) ts ws → ValuesTyped m K vs ts
@@ -147,15 +147,16 @@ module _ (m : Module) {K : Arrows} (us : Row Operand) where
       value_taken m us (Ref t.element) above h.beneath _ a (λ below w b r.
       instance_found m us x t _ u.tables is (λ old q.
       let all = growth_typed m (length old.elements) s (with_elements s x old) (grown old.elements old.max w n) u (λ new there.
-      elements_put m x t old new s u is (all_grown m K (Ref t.element) old.max w n old.elements new q r there)) in
-      go _ _ all (values_sub m h.gives (values b (a_value an_i32))))))
+      elements_put m x t old new s u is (table_grown m K t old q w n new r there)) in
+      let below_there = growth_below (length old.elements) s (with_elements s x old) (grown old.elements old.max w n) (elements_below m K t old q) in
+      go _ _ all (values_sub m h.gives (values b (small_typed m _ below_there))))))
 
   size_safe : (x : ℕ) (ts ws : Row Operand) (s : Store) (e : Context) (vs : Row Val) (k : Code) (y : Option TableType)
       → slice_get (tables_of m) x ≡ y → StoreTyped m K s → HasInstrType m.types (table_size_type y) ts ws → ValuesTyped m K vs ts
       → Onward m K us e ws k → IsSafe m K us (table_op s e vs (table.Size x) k)
   size_safe x ts ws s e vs k None is u h v go = absurd h
   size_safe x ts ws s e vs k (Some t) is u h v go =
-      instance_found m us x t _ u.tables is (λ old q. go s _ u (values_sub m h.gives (values (values_sub m h.takes v) (a_value an_i32))))
+      instance_found m us x t _ u.tables is (λ old q. go s _ u (values_sub m h.gives (values (values_sub m h.takes v) (small_typed m (length old.elements) (elements_below m K t old q)))))
 
   fill_safe : (x : ℕ) (ts ws : Row Operand) (s : Store) (e : Context) (vs : Row Val) (k : Code) (y : Option TableType)
       → slice_get (tables_of m) x ≡ y → StoreTyped m K s → HasInstrType m.types (table_fill_type y) ts ws → ValuesTyped m K vs ts
@@ -167,8 +168,7 @@ module _ (m : Module) {K : Arrows} (us : Row Operand) where
       number_taken m us int.I32 middle h.beneath _ b (λ below i d.
       instance_found m us x t _ u.tables is (λ old q.
       trapped_or m us trap.TableOutOfBounds (filled old.elements i w n) _ (λ new there.
-      let all = all_filled m K (Ref t.element) i w n old.elements new q r there in
-      go _ _ (elements_put m x t old new s u is all) (values_sub m h.gives d))))))
+      go _ _ (elements_put m x t old new s u is (table_filled m K t old q i w n new r there)) (values_sub m h.gives d))))))
 
   -- a table instruction goes on, or traps
   pub table_safe : (c : Scope) (o : TableOp) (ts ws : Row Operand) (s : Store) (e : Context) (vs : Row Val) (k : Code) → StoreTyped m K s

@@ -20,6 +20,7 @@ use Rattle.w_rules.specs.Typing.{Derives}
 use Rattle.w_reduce.specs.Values.{Val}
 use Rattle.w_reduce.specs.Room.{most_operands, most_labels}
 use Rattle.w_reduce.specs.Terms.{Administrative, Invoke, Branch, Rest, Label, Frame, Handle, Context, Term, Kept}
+use Rattle.w_typed.specs.Ranges.{ConstantsFit, NumbersFit}
 use Rattle.w_typed.specs.Values.{Arrows, ValueTyped, ValuesTyped}
 
 -- ## Scopes
@@ -69,16 +70,18 @@ pub record IsLow (m : Module) (c : Scope) (s : List Bool) (k : Code) (n : ℕ) :
 -- ## Sequences
 
 -- the code takes operands of types ts to operands of types us there; s says which locals are set before it; outside functions there
--- is none
+-- is none; its constants are in range where the module's are
 pub record CodeTyped (m : Module) (c : Scope) (s : List Bool) (k : Code) (ts us : Row Operand) : Type 0 where
   pub derives : Derives (in_scope m c) s k ts us
   pub none : c.results ≡ None → k ≡ Done
+  pub fits : NumbersFit m → ConstantsFit k
   pub low : (c.results ≡ None → ⊥) → IsLow m c s k (size ts)
 
 -- the same of code that is reached by a branch or an exit: the frame holds those operands only where it is
 pub record LaterTyped (m : Module) (c : Scope) (s : List Bool) (k : Code) (ts us : Row Operand) : Type 0 where
   pub derives : Derives (in_scope m c) s k ts us
   pub none : c.results ≡ None → k ≡ Done
+  pub fits : NumbersFit m → ConstantsFit k
   pub low : (c.results ≡ None → ⊥) → c.base + size ts ≤ most_operands m c.function → IsLow m c s k (size ts)
 
 -- administrative instructions, and then code

@@ -13,6 +13,7 @@ use Rattle.w_rules.specs.Context.{cont_of}
 use Rattle.w_rules.specs.Operands.{Operand, Known, BottomRef}
 use Rattle.w_rules.specs.Spaces.{functions_of, context_of}
 use Rattle.w_reduce.specs.Values.{Val, I32, I64, Null, Func, Cont}
+use Rattle.w_typed.specs.Ranges.{IsBelow}
 
 -- The function types of the store's continuations, by address: what each takes, and what it gives at its end.
 abbrev pub Arrows : Type 0
@@ -34,10 +35,11 @@ pub record ContinuationTyped (m : Module) (K : Arrows) (a : ℕ) (h : HeapType) 
   pub matches : FuncMatches m.types arrow type
   pub heap : HeapMatches m.types (Index index) h
 
--- A number is of its type. Null is of each reference type that may be null, and a function of each that its own type matches.
+-- A number in its range is of its type. Null is of each reference type that may be null, and a function of each that its own type
+-- matches.
 pub data ValueTyped (m : Module) (K : Arrows) : Val → ValType → Type 0 where
-  an_i32 : {n : ℕ} → ValueTyped m K (I32 n) type.I32
-  an_i64 : {n : ℕ} → ValueTyped m K (I64 n) type.I64
+  an_i32 : {n : ℕ} → IsBelow m n 32 → ValueTyped m K (I32 n) type.I32
+  an_i64 : {n : ℕ} → IsBelow m n 64 → ValueTyped m K (I64 n) type.I64
   a_null : {r : RefType} → IsTrue r.nullable → ValueTyped m K Null (type.Ref r)
   a_function : {a x : ℕ} {r : RefType} → slice_get (functions_of m) a ≡ Some x → HeapMatches m.types (Index x) r.heap → ValueTyped m K (Func a) (type.Ref r)
   a_continuation : {a : ℕ} {r : RefType} → ContinuationTyped m K a r.heap → ValueTyped m K (Cont a) (type.Ref r)

@@ -1,4 +1,5 @@
 //! Laws of the definitions, each the contract of a function that does nothing.
+ghost use Rattle.w_typed.specs.Captures.{KeptContextsAreTerms, SuspendsCaptureTyped, SwitchesCaptureTyped};
 ghost use Rattle.w_typed.specs.Configurations.{FramesHoldNoMore, NextHasRoom, NextsAreSafe, ReductionsAreSafe, RunsAreTyped, StartsAreTyped};
 
 /// Preservation and progress: a reduction of a typed configuration of a valid module leads to one of the same results, to a trap, to a
@@ -32,4 +33,15 @@ pub fn frames_hold_no_more()
 /// enters, no more than its function has at any place.
 pub fn next_has_room()
     ensures { NextHasRoom }
+{}
+
+/// What a suspend or a switch captures up to a handle, with the operands beneath, is a continuation of just the handle's results.
+pub fn captures_are_typed()
+    ensures suspends { SuspendsCaptureTyped }
+    ensures switches { SwitchesCaptureTyped }
+{}
+
+/// A continuation of a typed store, filled with values of its parameters, is a term of its results.
+pub fn kept_contexts_are_terms()
+    ensures { KeptContextsAreTerms }
 {}
