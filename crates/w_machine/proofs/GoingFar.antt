@@ -8,7 +8,7 @@ use Rattle.w_reduce.specs.Run.{Outcome, Running, Values, Traps, Limit, NoRule, R
 use Rattle.w_machine.specs.declared.outcome.Kept.{Kept}
 use Rattle.w_machine.specs.declared.outcome.Kept.TheVariants as kept
 use Rattle.w_machine.specs.Beginning.{Begins}
-use Rattle.w_machine.specs.Position.{Position, Tells, counted, is_fault, Printed, PrintedAtMost, PrintedIf, MayStop, StepsFrom, Steps, ToldBy, RunsFrom, Runs}
+use Rattle.w_machine.specs.Position.{Position, Tells, counted, is_fault, Printed, PrintedAtMost, PrintedIf, PrintedUpTo, RunPrints, HasTakenBy, MayStop, StepsFrom, Steps, ToldBy, RunsFrom, Runs}
 use Rattle.w_machine.proofs.Stopping.{counts_one, output_grows}
 
 -- ## A run that doesn't go on stays
@@ -51,6 +51,7 @@ printed_more {q = q} {a = a} {b = b} {c = c} h k = record {
   grew = grew_more a b c h.text k.text h.grew k.grew;
 }
 
+-- and a first part of one, which is a first part of all that is printed as far as one likes
 part_more : {q r u : RunState} {a b c : Option (List ℕ)} (rest : List ℕ) → Printed q r a b → (k : PrintedAtMost r u b c) → (v : RunState) → v.output ≡ u.output ++ rest → PrintedAtMost q v a c
 part_more {q = q} {r = r} {u = u} {a = a} {b = b} {c = c} rest h k v far = record {
   text = h.text ++ (k.text ++ rest);
@@ -67,6 +68,14 @@ part_more {q = q} {r = r} {u = u} {a = a} {b = b} {c = c} rest h k v far = recor
   };
 }
 
+-- what was printed before a fault is a first part of what the run prints later
+pub printed_part : (p : Program) (s : Store) (t : Term) (from to far : ℕ) (a c : Option (List ℕ)) → to < far → PrintedUpTo (Run p s t) from to a c
+    → PrintedAtMost (Run p s t from) (Run p s t far) a c
+printed_part p s t from to far a c lt h =
+    let rest = output_far p s t (to + 1) (far - (to + 1)) in
+    let e : far - (to + 1) + (to + 1) ≡ far = omega (arith, lt) in
+    part_more rest.0 h.whole h.begun (Run p s t far) (ap (λ (n : ℕ). (Run p s t n).output) (sym e) ∙ rest.1)
+
 -- ## Where memory may run out
 
 -- want of memory counts no reduction, so that it stops a run where the run then stands
@@ -76,6 +85,22 @@ may_stop_there (kept.Limit name) run n m e h = tt
 may_stop_there (kept.Trapped x) run n m e h = tt
 may_stop_there kept.WriteFault run n m e h = tt
 may_stop_there kept.OutOfMemory run n m e h = let same : n ≡ m = omega (arith, e) in subst (λ (i : ℕ). MayStop kept.OutOfMemory (run i).term) same h
+
+-- a fault counts none
+fault_counts_none : (k : Kept) → is_fault k ≡ true → counted k ≡ 0
+fault_counts_none kept.Ended f = absurd (cc)
+fault_counts_none (kept.Limit name) f = absurd (cc)
+fault_counts_none (kept.Trapped x) f = absurd (cc)
+fault_counts_none kept.WriteFault f = refl
+fault_counts_none kept.OutOfMemory f = refl
+
+-- so fewer were taken than were asked for
+taken_before : (k : Kept) (i steps : ℕ) → i < steps → HasTakenBy (is_fault k) (i + counted k) steps
+taken_before kept.Ended i steps lt = omega (arith, lt)
+taken_before (kept.Limit name) i steps lt = omega (arith, lt)
+taken_before (kept.Trapped x) i steps lt = omega (arith, lt)
+taken_before kept.WriteFault i steps lt = omega (arith, lt)
+taken_before kept.OutOfMemory i steps lt = omega (arith, lt)
 
 -- what is no fault may stop it anywhere
 no_fault_stops : (k : Kept) (t : Term) → is_fault k ≡ false → MayStop k t
@@ -130,12 +155,12 @@ module _ (old l new : Position) (i steps : ℕ) (first b a : Option (List ℕ)) 
 
   stop_told : (k : Kept) (f : Bool) → is_fault k ≡ f → (c : ℕ) → c ≡ counted k → c ≤ 1 → i < steps → (p : Program) (s : Store) (t : Term) → Begins old.program p s t
       → Tells k (Run p s t (old.taken + i + c)).outcome → PrintedIf f (Run p s t (old.taken + i)) (Run p s t (old.taken + i + 1)) b a
-      → Tells k (Run p s t (old.taken + steps)).outcome × PrintedIf f (Run p s t old.taken) (Run p s t (old.taken + steps)) first a
+      → Tells k (Run p s t (old.taken + steps)).outcome × RunPrints f (Run p s t) old.taken (i + c) steps first a
   stop_told k true f c count one lt p s t begins tells print =
-      let far = output_far p s t (old.taken + i + 1) (old.taken + steps - (old.taken + i + 1)) in
-      let e : old.taken + steps - (old.taken + i + 1) + (old.taken + i + 1) ≡ old.taken + steps = omega (arith, lt) in (
+      let none = fault_counts_none k f in
+      let e : old.taken + i ≡ old.taken + (i + c) = omega (arith, count, none) in (
         fault_told k (Run p s t (old.taken + steps)).outcome f,
-        part_more far.0 (printed p s t begins) print (Run p s t (old.taken + steps)) (ap (λ (n : ℕ). (Run p s t n).output) (sym e) ∙ far.1),
+        subst (λ (n : ℕ). PrintedUpTo (Run p s t) old.taken n first a) e (record { between = b; whole = printed p s t begins; begun = print }),
       )
   stop_told k false f c count one lt p s t begins tells print =
       let apart = not_running k (Run p s t (old.taken + i + c)).outcome f tells in
@@ -151,7 +176,7 @@ module _ (old l new : Position) (i steps : ℕ) (first b a : Option (List ℕ)) 
       let one = counts_one k in
       let n : old.taken + i + counted k ≡ old.taken + (i + counted k) = omega arith in (
         i + counted k,
-        omega (arith, lt, one),
+        taken_before k i steps lt,
         h.0 ∙ ap (λ (x : ℕ). let q : Position = record old { taken = x; kept = Some k } in q) n,
         λ p s t begins.
             stop_told k (is_fault k) refl (counted k) refl one lt p s t begins (h.1 p s t begins).0 (h.1 p s t begins).1,
@@ -177,11 +202,11 @@ module _ (old l new : Position) (i steps : ℕ) (first b a : Option (List ℕ)) 
   )
   told_from (Some k) e h = (
     i,
-    omega (arith, e),
+    subst (λ (f : Bool). HasTakenBy f i steps) (sym h.1) (let le : i ≤ steps = omega (arith, e) in le),
     h.0,
     λ p s t begins. (
       subst (λ (n : ℕ). Tells k (Run p s t (old.taken + n)).outcome) e (h.2 p s t begins),
-      subst (λ (f : Bool). PrintedIf f (Run p s t old.taken) (Run p s t (old.taken + steps)) first b) (sym h.1)
+      subst (λ (f : Bool). RunPrints f (Run p s t) old.taken i steps first b) (sym h.1)
           (subst (λ (n : ℕ). Printed (Run p s t old.taken) (Run p s t (old.taken + n)) first b) e (printed p s t begins)),
     ),
     λ p s t begins. no_fault_stops k (Run p s t (old.taken + i)).term h.1,

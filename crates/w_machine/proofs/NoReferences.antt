@@ -39,7 +39,7 @@ all_plain m t (v ∷ vs) (h, k) = (value_plain v h, all_plain m t vs k)
 
 tables_plain : {m : Module} (ts : List instances.Table) {us : List TableType} → Instances (TableTyped m []) (map table_of ts) us → TablesHold IsPlain ts
 tables_plain [] no_instance = tt
-tables_plain (t ∷ ts) (more_instances h k) = (all_plain _ _ t.elements h, tables_plain ts k)
+tables_plain (t ∷ ts) (more_instances h k) = (all_plain _ _ t.elements h.elements, tables_plain ts k)
 
 globals_plain : {m : Module} (vs : List Value) {gs : List GlobalType} → Instances (GlobalTyped m []) (vals vs) gs → AllOf IsPlain vs
 globals_plain [] no_instance = tt

@@ -24,6 +24,7 @@ use Rattle.w_plain.specs.Plainness.{switches_at, calls_at}
 use Rattle.w_switching.specs.Sound.{most_segments}
 use Rattle.w_typed.specs.Values.{Arrows}
 use Rattle.w_typed.specs.Configurations.{Typed, IsSafe, goes, traps, is_limited, ends}
+use Rattle.w_typed.proofs.Places.{instance_count}
 use Rattle.w_typed.proofs.Reductions.{reductions_are_safe}
 use Rattle.w_machine.specs.Parts.{Parts, whole}
 use Rattle.w_machine.specs.Standing.{behind_of, Stands, StandsSomewhere}
@@ -79,7 +80,7 @@ module _ {m : Module} {waiting : Option ℕ} {x : Parts} {p : Program} {ks : Lis
 
   -- there is at most one memory
   pub one_memory : Valid m → Stands m waiting x p ks t → length x.store.memories ≤ 1
-  one_memory valid h = let one = (valid MemoryItem tt).one in let same = h.typed.store.memories in subst (λ (n : ℕ). n ≤ 1) (sym same) one
+  one_memory valid h = let one = (valid MemoryItem tt).one in let same = instance_count h.typed.store.memories in subst (λ (n : ℕ). n ≤ 1) (sym same) one
 
   -- there are few segments
   pub few_segments : Stands m waiting x p ks t → length x.chain ≤ most_segments

@@ -1,6 +1,6 @@
 -- The machine as contracts see it: the module that it runs, how many reductions it took, and the outcome that it keeps. It
 -- stands for the run of the module after so many reductions.
-use Rattle.std.specs.Prelude.{◌≡◌, ◌+◌, ◌^◌, ◌≤◌, ℕ, List, ◌++◌, Bool, true, false, ⊤, Option, Some, None, refl}
+use Rattle.std.specs.Prelude.{◌≡◌, ◌+◌, ◌^◌, ◌<◌, ◌≤◌, ℕ, List, ◌++◌, Bool, true, false, ⊤, Option, Some, None, refl}
 use Rattle.std.specs.Coded.{Coded, code_by, coded×, coded_ℕ, coded_option}
 use Rattle.w_types.specs.Rows.{Row}
 use Rattle.w_outside.specs.Outside.{Grew, GrewByFront}
@@ -124,14 +124,30 @@ abbrev pub after_run : Position → ℕ → Option Kept → Position
 after_run old n None = record old { taken = old.taken + n }
 after_run old n (Some k) = record old { taken = old.taken + n; kept = Some k }
 
-abbrev pub RunsOn : (ℕ → RunState) → ℕ → ℕ → Option Kept → Option (List ℕ) → Option (List ℕ) → Type 0
-RunsOn run n steps None before now = ((run (n + steps)).outcome ≡ Running) × Printed (run n) (run (n + steps)) before now
-RunsOn run n steps (Some k) before now = Tells k (run (n + steps)).outcome × PrintedBy k (run n) (run (n + steps)) before now
+-- from one state of a run to a later one: the sink grew by all that the reductions between print, and then by a first part of what the
+-- next one prints
+pub record PrintedUpTo (run : ℕ → RunState) (from to : ℕ) (before now : Option (List ℕ)) : Type 0 where
+  pub between : Option (List ℕ)
+  pub whole : Printed (run from) (run to) before between
+  pub begun : PrintedAtMost (run to) (run (to + 1)) between now
 
--- all of them, or at most these
+-- a fault keeps back no more than a part of the reduction that it stops, the one behind the n that were taken
+abbrev pub RunPrints : Bool → (ℕ → RunState) → (from n steps : ℕ) → Option (List ℕ) → Option (List ℕ) → Type 0
+RunPrints true run from n steps before now = PrintedUpTo run from (from + n) before now
+RunPrints false run from n steps before now = Printed (run from) (run (from + steps)) before now
+
+abbrev pub RunsOn : (ℕ → RunState) → (from n steps : ℕ) → Option Kept → Option (List ℕ) → Option (List ℕ) → Type 0
+RunsOn run from n steps None before now = ((run (from + steps)).outcome ≡ Running) × Printed (run from) (run (from + steps)) before now
+RunsOn run from n steps (Some k) before now = Tells k (run (from + steps)).outcome × RunPrints (is_fault k) run from n steps before now
+
+-- at most all of them, and fewer where a fault stopped it
+abbrev pub HasTakenBy : Bool → ℕ → ℕ → Type 0
+HasTakenBy true n steps = n < steps
+HasTakenBy false n steps = n ≤ steps
+
 abbrev pub HasTaken : ℕ → ℕ → Option Kept → Type 0
 HasTaken n steps None = n ≡ steps
-HasTaken n steps (Some k) = n ≤ steps
+HasTaken n steps (Some k) = HasTakenBy (is_fault k) n steps
 
 -- where want of memory stopped it, what comes next there may take some
 abbrev pub StopsAt : Option Kept → Term → Type 0
@@ -142,7 +158,7 @@ abbrev pub RunsFrom : Option Kept → Position → ℕ → Option Kept → Posit
 RunsFrom (Some k) old steps result new before now = (result ≡ Some k) × (new ≡ old) × (now ≡ before)
 RunsFrom None old steps result new before now =
     (n : ℕ) × HasTaken n steps result × (new ≡ after_run old n result)
-    × ((p : Program) (s : Store) (t : Term) → Begins old.program p s t → RunsOn (Run p s t) old.taken steps result before now)
+    × ((p : Program) (s : Store) (t : Term) → Begins old.program p s t → RunsOn (Run p s t) old.taken n steps result before now)
     × ((p : Program) (s : Store) (t : Term) → Begins old.program p s t → StopsAt result (Run p s t (old.taken + n)).term)
 
 abbrev pub Runs : Position → ℕ → Option Kept → Position → Option (List ℕ) → Option (List ℕ) → Type 0
