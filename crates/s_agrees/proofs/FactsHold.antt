@@ -22,16 +22,15 @@ use Rattle.s_code.specs.Places.{lets, function_layout, return_names, clause_name
 use Rattle.s_code.specs.Temporaries.{high_block}
 use Rattle.s_meaning.specs.Typing.{BlockTyped}
 use Rattle.s_meaning.proofs.Bindings.{among_left, among_right}
-use Rattle.s_meaning.proofs.Good.{is_function, is_handler, good_typed}
+use Rattle.s_meaning.proofs.Good.{is_function, good_typed}
 use Rattle.s_meaning.proofs.Scopes.{bool_of}
 use Rattle.s_valid.proofs.GoodHandlers.{good_handler}
 use Rattle.s_valid.proofs.LayoutTypes.{AllHandled, handled_left, handled_right}
 use Rattle.s_valid.proofs.TypedBodies.{handler_handled}
 use Rattle.s_valid.proofs.TypedHandlers.{HandlerTyped}
-use Rattle.s_agrees.proofs.Literals.{SmallBlock, SmallClauses, SmallLiterals}
 use Rattle.s_agrees.proofs.Standing.{Fine, WellBlock, handler_high}
 use Rattle.s_agrees.proofs.Facts.{Parameters, FunctionFacts, ClauseFacts, ReturnFacts, HandlerFacts, Facts}
-use Rattle.s_agrees.proofs.Unbroken.{small_definition, function_keeps, HandlerKeeps, handler_keeps, effect_few}
+use Rattle.s_agrees.proofs.Unbroken.{function_keeps, HandlerKeeps, handler_keeps, effect_few}
 use Rattle.s_agrees.proofs.Distinct.{Once, body_once}
 use Rattle.s_agrees.proofs.LayoutFacts.{numbered_appended, Located, located_first, located_second, located_left, located_right, located_at, parameters_located, names_located, numbers_located, lets_located, numbers_appended, fine_of_two}
 use Rattle.s_agrees.proofs.Rooms.{many_parameters, function_room, handler_room_is}
@@ -54,7 +53,7 @@ defined_handled (c ∷ ds) x d e =
 function_handled : (ds : List Declaration) (f : Name) (g : Function) → function_of ds f ≡ Some g → AllHandled ds (handled_in_block g.body)
 function_handled ds f g e = defined_handled ds f (definition.Function g) (is_function (definition_of ds f) g e)
 
-module _ (p : Script) (good : Good p) (small : SmallLiterals p.declarations) where
+module _ (p : Script) (good : Good p) where
   -- a function's names are its parameters and, behind them, its lets
   function_facts : (f : Name) (g : Function) → function_of p.declarations f ≡ Some g → FunctionFacts p.declarations g
   function_facts f g is =
@@ -71,8 +70,7 @@ module _ (p : Script) (good : Good p) (small : SmallLiterals p.declarations) whe
       record {
         fine = fine_of_two (function_layout g) ps bs n one (omega arith) (omega (arith, many));
         parameters = parameters_located g.parameters front;
-        well = well_block {p = p} g.body (typed.functions f g is) names lets (omega arith) (function_handled p.declarations f g is)
-            (small_definition p.declarations f (definition.Function g) small (is_function (definition_of p.declarations f) g is));
+        well = well_block {p = p} g.body (typed.functions f g is) names lets (omega arith) (function_handled p.declarations f g is);
         room = function_room g;
         few = keeps.few;
       }
@@ -92,12 +90,6 @@ clause_handled ds [] j c a e = absurd (cc)
 clause_handled ds (d ∷ cs) zero c a e =
     let same : d ≡ c = cc in subst (λ (x : Clause). AllHandled ds (handled_in_block x.body)) same (handled_left (handled_in_block d.body) (handled_in_clauses cs) a)
 clause_handled ds (d ∷ cs) (suc j) c a e = clause_handled ds cs j c (handled_right (handled_in_block d.body) (handled_in_clauses cs) a) e
-
--- and its literals are small where all of theirs are
-clause_small : (cs : List Clause) (j : ℕ) (c : Clause) → SmallClauses cs → slice_get cs j ≡ Some c → SmallBlock c.body
-clause_small [] j c s e = absurd (cc)
-clause_small (d ∷ cs) zero c s e = let same : d ≡ c = cc in subst (λ (x : Clause). SmallBlock x.body) same s.0
-clause_small (d ∷ cs) (suc j) c s e = clause_small cs j c s.1 e
 
 -- where clause j of these is, of which the names of the first are from the local n on
 record PlacedAt (h : Name) (i : Handler) (n : ℕ) (cs : List Clause) (j : ℕ) (q : Placed) : Type 0 where
@@ -136,15 +128,15 @@ module _ (p : Script) (h : Name) (i : Handler) (n : ℕ) (bs front : List Bound)
   body_located : Located (layout_at h i n bs).names n bs
   body_located = located_second n (map parameter i.parameters) bs body_names_once
 
-  body_well : BlockTyped p (map parameter i.parameters ++ front) b → high_block b ≤ handler_high i → AllHandled p.declarations (handled_in_block b) → SmallBlock b
+  body_well : BlockTyped p (map parameter i.parameters ++ front) b → high_block b ≤ handler_high i → AllHandled p.declarations (handled_in_block b)
       → WellBlock p.declarations (layout_at h i n bs) (handler_high i) b
-  body_well typed high handled small =
+  body_well typed high handled =
       let ps = map parameter i.parameters in let Γ = layout_at h i n bs in
       let all : Located Γ.names n (front ++ lets b) = subst (λ (cs : List Bound). Located Γ.names n cs) is body_located in
       let parameters : Numbers Γ ps = numbers_located ps (located_first n ps bs body_names_once) in
       let fronts : Numbers Γ front = numbers_located front (located_left front (lets b) all) in
       let lets : Lets Γ (lets_in b) = lets_located (lets_in b) (located_right front (lets b) all) in
-      well_block {p = p} b typed (numbers_appended ps front parameters fronts) lets high handled small
+      well_block {p = p} b typed (numbers_appended ps front parameters fronts) lets high handled
 
 -- names that lie behind the parameters and what is handled, and below the temporaries
 fine_at : (h : Name) (i : Handler) (n : ℕ) (bs : List Bound) → length i.parameters < n → n + length bs ≤ handler_temporaries h i → Fine (layout_at h i n bs)
@@ -152,15 +144,12 @@ fine_at h i n bs behind room =
     let many = many_parameters i.parameters in
     fine_of_two (layout_at h i n bs) (map parameter i.parameters) bs n refl (omega (arith, many, behind)) room
 
-module _ (p : Script) (good : Good p) (small : SmallLiterals p.declarations) (h : Name) (i : Handler) (is : handler_of p.declarations h ≡ Some i) where
+module _ (p : Script) (good : Good p) (h : Name) (i : Handler) (is : handler_of p.declarations h ≡ Some i) where
   keeps : HandlerKeeps p.declarations h i
   keeps = handler_keeps p good h i is
 
   typed : HandlerTyped p h i
   typed = good_handler p good h i is
-
-  small_bodies : SmallBlock i.return_clause.body × SmallClauses i.clauses
-  small_bodies = small_definition p.declarations h (definition.Handler i) small (is_handler (definition_of p.declarations h) i is)
 
   return_facts : ReturnFacts p.declarations h i
   return_facts =
@@ -170,7 +159,7 @@ module _ (p : Script) (good : Good p) (small : SmallLiterals p.declarations) (h 
         fine = fine_at h i n bs (omega arith) (omega arith);
         parameters = body_parameters p h i n bs (v ∷ []) b refl keeps.returned;
         value = located_at 0 n v (body_located p h i n bs (v ∷ []) b refl keeps.returned) refl (omega arith);
-        well = body_well p h i n bs (v ∷ []) b refl keeps.returned typed.returns (omega arith) handled small_bodies.0;
+        well = body_well p h i n bs (v ∷ []) b refl keeps.returned typed.returns (omega arith) handled;
       }
 
   -- a clause whose names are from the local n on
@@ -194,7 +183,7 @@ module _ (p : Script) (good : Good p) (small : SmallLiterals p.declarations) (h 
         behind = omega (arith, behind);
         arguments = names_located c.arguments (located_left xs (k ∷ lets c.body) located);
         resumption = located_at (length xs + 0) (n + length c.arguments) k located (get-behind xs (k ∷ lets c.body) 0) (omega (arith, many));
-        well = body_well p h i n (clause_names h c) (xs ++ k ∷ []) c.body one body clause.body (omega (arith, high)) handled (clause_small i.clauses j c small_bodies.1 at);
+        well = body_well p h i n (clause_names h c) (xs ++ k ∷ []) c.body one body clause.body (omega (arith, high)) handled;
         few = effect_few p good c.effect (length c.arguments) clause.is_effect;
         effect = clause.is_effect;
       }
@@ -219,5 +208,5 @@ module _ (p : Script) (good : Good p) (small : SmallLiterals p.declarations) (h 
   }
 
 -- a script that breaks no rule
-pub facts : (p : Script) → Good p → SmallLiterals p.declarations → Facts p.declarations
-facts p good small = record { functions = function_facts p good small; handlers = handler_facts p good small }
+pub facts : (p : Script) → Good p → Facts p.declarations
+facts p good = record { functions = function_facts p good; handlers = handler_facts p good }

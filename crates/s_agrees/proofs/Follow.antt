@@ -41,7 +41,6 @@ use Rattle.s_agrees.proofs.Limited.{at, reduce}
 use Rattle.s_agrees.proofs.Whole.{Related, potential, within}
 use Rattle.s_agrees.proofs.Rules.{rules}
 use Rattle.s_agrees.proofs.Stepping.{sim_step}
-use Rattle.s_agrees.proofs.SmallScripts.{small_literals}
 use Rattle.s_agrees.proofs.Agreeing.{follows_by}
 
 module _ (p : Script) (same : ℕ → ℕ → Bool) (typed : ScriptTyped p) (known : Facts p.declarations) where
@@ -105,8 +104,8 @@ module _ (p : Script) (same : ℕ → ℕ → Bool) (typed : ScriptTyped p) (kno
       follows_by p same simulation (start p) (first_store ds) (first_term ds) 1 x path (first_related fn is none_is) (omega arith) N
 
 pub runs_follow : RunsFollow
-runs_follow bytes p good program source =
-    let typed = good_typed p good.good in
-    let all = follows_all p program.same typed (facts p good.good (small_literals bytes p good)) in
+runs_follow p good program source =
+    let typed = good_typed p good in
+    let all = follows_all p program.same typed (facts p good) in
     let is : program_of p program.same ≡ program = ap (λ (m : Module). let q : Program = record { source = m; same = program.same } in q) (sym source) in
     subst (λ (q : Program). RunFollows p q) is all

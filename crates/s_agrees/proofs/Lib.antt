@@ -1,4 +1,3 @@
-pub mod Literals
 pub mod ScriptRows
 pub mod Standing
 pub mod Growing
@@ -23,7 +22,6 @@ pub mod Cutting
 pub mod Bodies
 pub mod StoresGrow
 pub mod Capturing
-pub mod SmallScripts
 pub mod Spending
 pub mod Calling
 pub mod HandlerCalls

@@ -13,13 +13,13 @@ use Rattle.w_num.specs.Arithmetic.{iadd, isub, imul}
 use Rattle.w_num.specs.Division.{quotient_bits}
 use Rattle.w_num.specs.Comparisons as bit
 use Rattle.w_reduce.specs.Numeric.{binop, relop}
+use Rattle.s_syntax.specs.declared.number.Number.{Number}
 use Rattle.s_syntax.specs.declared.operators.Comparison.{Comparison}
 use Rattle.s_syntax.specs.declared.operators.Comparison.TheVariants.{Equal, NotEqual, Less, AtMost, Greater, AtLeast}
 use Rattle.s_syntax.specs.declared.operators.Arithmetic.{Arithmetic}
 use Rattle.s_syntax.specs.declared.operators.Arithmetic.TheVariants.{Add, Subtract, Multiply, Divide, Remainder}
 use Rattle.s_code.specs.Instructions.{binop_of, relop_of}
 use Rattle.s_meaning.specs.Numbers.{DivZero, Overflow, least, minus_one, wrap, holds, truth, compare, Computed, Is, Faulty, compute}
-use Rattle.s_agrees.proofs.Literals.{greatest}
 
 -- ## Readings
 
@@ -49,11 +49,11 @@ signed_injective a b p q e = sym (of_z-to_z w64 a p) ∙ ap (cast_unsigned w64) 
 -- ## Constants
 
 -- a literal is the number of its bits
-pub constant_bits : (k : ℕ) → k ≤ greatest → inverse 64 (pos k) < 2 ^ 64
-constant_bits k h = omega (arith, h)
+pub constant_bits : (k : Number) → inverse 64 (pos k.value) < 2 ^ 64
+constant_bits k = let h = k.small in omega (arith, h)
 
-pub constant_signed : (k : ℕ) → k ≤ greatest → signed 64 (inverse 64 (pos k)) ≡ pos k
-constant_signed k h = signed_low k (omega (arith, h))
+pub constant_signed : (k : Number) → signed 64 (inverse 64 (pos k.value)) ≡ pos k.value
+constant_signed k = let h = k.small in signed_low k.value (omega (arith, h))
 
 pub zero_signed : signed 64 0 ≡ pos 0
 zero_signed = refl

@@ -19,6 +19,7 @@ use Rattle.w_reduce.specs.Numeric.{binop, relop}
 use Rattle.w_reduce.specs.Program.{Program}
 use Rattle.w_reduce.specs.Reduced.{Went, steps_to, unless_fault}
 use Rattle.s_syntax.specs.declared.name.Name.{Name}
+use Rattle.s_syntax.specs.declared.number.Number.{Number as WrittenNumber}
 use Rattle.s_syntax.specs.declared.script.Declaration.{Declaration}
 use Rattle.s_syntax.specs.declared.script.Script.{Script}
 use Rattle.s_syntax.specs.declared.operators.UnaryOperator.{UnaryOperator}
@@ -39,7 +40,6 @@ use Rattle.s_meaning.specs.Terms.{Value, Number, Variable, Handling, Work, Right
 use Rattle.s_meaning.specs.Focus.{Constant, Lookup, OnUnary, OnBinary, Decides, followed_by, left_of, variable_of}
 use Rattle.s_meaning.specs.Steps.{Around, goes_on, whole, rule, or_wrong, unless_faulty}
 use Rattle.following.specs.Steps.{Goes}
-use Rattle.s_agrees.proofs.Literals.{greatest}
 use Rattle.s_agrees.proofs.ScriptRows.{Values}
 use Rattle.s_agrees.proofs.Standing.{config, Same, number, Locals, LocalIs, WellExpr, WellOperands, no_operands, operand, Active, Works, left, connected, Asides, asides_code, Base, Waits, activation, gives, lies, finds, Stores, At}
 use Rattle.s_agrees.proofs.Contexts.{deep_locals, works_deep, base_locals}
@@ -137,9 +137,9 @@ module _ {p : Script} (same : ℕ → ℕ → Bool) {ρ : List ℕ} {σ : script
   at_value v w = record { stands = gives v (activation active w base waits); stores = stores }
 
   -- a literal
-  pub sim_constant : {t k : ℕ} {w : List Work} {ops : Row Val} {c : Code} {e : Context} → k ≤ greatest → Works p.declarations ρ Γ n D0 f t L w ops c e
-      → Matches p same 52 s (config e ops (Plain (constant (pos k)) c)) (rule p (around w) (Constant k))
-  sim_constant {k = k} h w = one_step refl (at_value (number (constant_bits k h) (constant_signed k h)) w)
+  pub sim_constant : {t : ℕ} {w : List Work} {ops : Row Val} {c : Code} {e : Context} (k : WrittenNumber) → Works p.declarations ρ Γ n D0 f t L w ops c e
+      → Matches p same 52 s (config e ops (Plain (constant (pos k.value)) c)) (rule p (around w) (Constant k))
+  sim_constant k w = one_step refl (at_value (number (constant_bits k) (constant_signed k)) w)
 
   -- a variable is in its local
   pub sim_lookup : {t : ℕ} {w : List Work} {ops : Row Val} {c : Code} {e : Context} (x : Name) (v : Variable) → variable_of x vars ≡ Some v → Works p.declarations ρ Γ n D0 f t L w ops c e

@@ -5,6 +5,7 @@ use Rattle.w_syntax.specs.Code.{Code, Done, Plain}
 use Rattle.w_reduce.specs.Values.{Val}
 use Rattle.w_reduce.specs.Terms.{Label, Context}
 use Rattle.s_syntax.specs.declared.name.Name.{Name}
+use Rattle.s_syntax.specs.declared.number.Number.{Number as WrittenNumber}
 use Rattle.s_syntax.specs.declared.script.Declaration.{Declaration}
 use Rattle.s_syntax.specs.declared.operators.UnaryOperator.{UnaryOperator}
 use Rattle.s_syntax.specs.declared.operators.BinaryOperator.TheVariants.{Connects, Compares, Computes}
@@ -23,15 +24,14 @@ use Rattle.s_code.specs.Statements.{ending}
 use Rattle.s_meaning.specs.Numbers.{decided}
 use Rattle.s_meaning.specs.Terms.{Value, Number, Calling, Doing, Handling, Resuming, TailResuming, Use, Work, Among}
 use Rattle.s_meaning.specs.Focus.{Redex, Constant, Lookup, OnUnary, OnBinary, Decides, Applies, Uses, Fails, Ends, followed_by}
-use Rattle.s_agrees.proofs.Literals.{greatest}
 use Rattle.s_agrees.proofs.ScriptRows.{Values, no_values, ◌▸◌, ◌⧻◌, many}
 use Rattle.s_agrees.proofs.Standing as standing
 use Rattle.s_agrees.proofs.Standing.{Same, Sames, Locals, LocalIs, HeldAt, WellExpr, WellOperands, Deep, Asides, asides_code, handle_code, resume_code, tail_code, Works}
 
 -- the redex, with the pending work around it; the code in e is what does it, and then that work
 pub data Ready (ds : List Declaration) (ρ : List ℕ) (Γ : Layout) (n D0 : ℕ) (f : Context) : Redex → ℕ → Locals → List Work → Row Val → Code → Context → Type 0 where
-  constant_ready : {t k : ℕ} {L : Locals} {w : List Work} {ops : Row Val} {c : Code} {e : Context} → k ≤ greatest → Works ds ρ Γ n D0 f t L w ops c e
-      → Ready ds ρ Γ n D0 f (Constant k) t L w ops (Plain (constant (pos k)) c) e
+  constant_ready : {t : ℕ} {k : WrittenNumber} {L : Locals} {w : List Work} {ops : Row Val} {c : Code} {e : Context} → Works ds ρ Γ n D0 f t L w ops c e
+      → Ready ds ρ Γ n D0 f (Constant k) t L w ops (Plain (constant (pos k.value)) c) e
   lookup_ready : {t : ℕ} {x : Name} {L : Locals} {w : List Work} {ops : Row Val} {c : Code} {e : Context} → Works ds ρ Γ n D0 f t L w ops c e
       → Ready ds ρ Γ n D0 f (Lookup x) t L w ops (Plain (local_get (local_number Γ x)) c) e
   -- a first argument of a handle that is read where it lies

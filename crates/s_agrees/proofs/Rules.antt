@@ -79,7 +79,7 @@ module _ (p : Script) (same : ℕ → ℕ → Bool) (facts : Facts p.declaration
       → Stores p.declarations ρ σ s → Active ρ Γ n L vars → Base p.declarations Γ L below c' e' owner D0 f → Waits p.declarations ρ κ below c' e' → StoreTyped p Ξ σ.resumptions → Covers Ξ scope vars
       → Ready p.declarations ρ Γ n D0 f r t L w ops c e → RedexTyped p Ξ scope r w
       → Matches p same 52 s (config e ops c) (rule p (record { store = σ; variables = vars; owner = owner; work = w; outer = κ }) r)
-  matched r stores active base waits typed covers (constant_ready h w) (constant t) = sim_constant same stores active base waits h w
+  matched r stores active base waits typed covers (constant_ready {k = k} w) (constant t) = sim_constant same stores active base waits k w
   matched r stores active base waits typed covers (lookup_ready {x = x} w) (lookup {k = k} q t) = let v = covers.covers x k q in sim_lookup same stores active base waits x v.variable v.there w
   matched r stores active base waits typed covers (aside_ready {x = x} {h = h} ns stays le a w) (lookup {k = k} q t) =
       let v = covers.covers x k q in sim_aside same stores active base waits h ns x v.variable v.there le a w

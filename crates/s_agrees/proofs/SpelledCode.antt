@@ -24,7 +24,6 @@ use Rattle.s_code.specs.Layouts.{Layout, local_number, handler_of_name, stays, s
 use Rattle.s_code.specs.Expressions.{reload, begin, wake, handler_index_of, operator, expr, args, set_aside, operands, set_parameters, tail_resume}
 use Rattle.s_code.specs.Statements.{printer, return, statement, block, ending, body}
 use Rattle.s_code.proofs.Sizes.{some_size, count_within}
-use Rattle.s_agrees.proofs.Literals.{SmallExpr, SmallExprs, SmallOperands, SmallStatement, SmallBlock}
 use Rattle.w_encode.specs.Spelled.{CodeSpelled}
 use Rattle.s_agrees.proofs.SpelledIndices.{limit, fits, SmallIndices, SmallLayout}
 use Rattle.s_agrees.proofs.SpelledTokens.{constant_spelled, minus_one_spelled, is_zero_spelled, is_zero_32_spelled, extend_spelled, unreachable_spelled, nop_spelled, leave_spelled, dropped_spelled, binary_spelled, times_spelled, compare_spelled, branch_spelled, branch_if_spelled, call_spelled, local_get_spelled, local_set_spelled, reference_spelled, new_continuation_spelled, suspend_spelled, bind_continuation_spelled, block_spelled, if_spelled}
@@ -106,50 +105,50 @@ module _ (ds : List Declaration) (Γ : Layout) (S : SmallIndices ds) (L : SmallL
   handler_fits None = omega arith
   handler_fits (Some h) = fits (handler_index ds h) (S.handler h)
 
-  -- an expression before what can be spelled; its literals are small, and it has room
+  -- an expression before what can be spelled, where it has room
   mutual
-    pub expr_spelled : (x : ExprTree) (t : ℕ) (c : Code) → SmallExpr x → t + expr_size x ≤ room → CodeSpelled c → CodeSpelled (expr ds Γ t x c)
-    expr_spelled (Literal n) t c s few h = (constant_spelled n s, h)
-    expr_spelled (Read x) t c s few h = (local_get_spelled (local_number Γ x) (name_fits x), h)
-    expr_spelled (Unary o e) t c s few h = expr_spelled e t (unary_operator o c) s (omega (arith, few)) (unary_spelled o c h)
-    expr_spelled (Run e ps) t c s few h = expr_spelled e t (operands ds Γ t ps c) s.0 (omega (arith, few)) (operands_spelled ps t c s.1 (omega (arith, few)) h)
-    expr_spelled (Call f es) t c s few h =
-        args_spelled es t (Plain (call (function_index ds f)) c) s (omega (arith, few)) (call_spelled (function_index ds f) (fits (function_index ds f) (S.function f)), h)
-    expr_spelled (Do o es) t c s few h =
-        args_spelled es t (Plain (suspend (tag_index ds o)) c) s (omega (arith, few)) (suspend_spelled (tag_index ds o) (fits (tag_index ds o) (S.tag o)), h)
-    expr_spelled (Handle f es g ps) t c s few h =
+    pub expr_spelled : (x : ExprTree) (t : ℕ) (c : Code) → t + expr_size x ≤ room → CodeSpelled c → CodeSpelled (expr ds Γ t x c)
+    expr_spelled (Literal n) t c few h = (constant_spelled n.value n.small, h)
+    expr_spelled (Read x) t c few h = (local_get_spelled (local_number Γ x) (name_fits x), h)
+    expr_spelled (Unary o e) t c few h = expr_spelled e t (unary_operator o c) (omega (arith, few)) (unary_spelled o c h)
+    expr_spelled (Run e ps) t c few h = expr_spelled e t (operands ds Γ t ps c) (omega (arith, few)) (operands_spelled ps t c (omega (arith, few)) h)
+    expr_spelled (Call f es) t c few h =
+        args_spelled es t (Plain (call (function_index ds f)) c) (omega (arith, few)) (call_spelled (function_index ds f) (fits (function_index ds f) (S.function f)), h)
+    expr_spelled (Do o es) t c few h =
+        args_spelled es t (Plain (suspend (tag_index ds o)) c) (omega (arith, few)) (suspend_spelled (tag_index ds o) (fits (tag_index ds o) (S.tag o)), h)
+    expr_spelled (Handle f es g ps) t c few h =
         let last : Code = Plain (call (handler_index ds g)) c in
         let n = count_within es in
         let p = begin_spelled f last (call_spelled (handler_index ds g) (fits (handler_index ds g) (S.handler g)), h) in
         let q = reload_spelled es t (begin ds f last) (omega (arith, few, n)) p in
-        let r = args_spelled ps (t + count es) (reload Γ t es (begin ds f last)) s.1 (omega (arith, few, n)) q in
-        set_aside_spelled es t (args ds Γ (t + count es) ps (reload Γ t es (begin ds f last))) s.0 (omega (arith, few)) r
-    expr_spelled (Resume k e ps) t c s few h =
+        let r = args_spelled ps (t + count es) (reload Γ t es (begin ds f last)) (omega (arith, few, n)) q in
+        set_aside_spelled es t (args ds Γ (t + count es) ps (reload Γ t es (begin ds f last))) (omega (arith, few)) r
+    expr_spelled (Resume k e ps) t c few h =
         let x = handler_index_of ds (handler_of_name Γ k) in
         let last : Code = Plain (call x) c in
         let n = some_size e in
         let there : Γ.temporaries + t < 2 ^ 32 = temporary_fits t (omega (arith, few)) in
         let w = wake_spelled k last (call_spelled x (handler_fits (handler_of_name Γ k)), h) in
-        let p = args_spelled ps (t + 1) (Plain (local_get (Γ.temporaries + t)) (wake Γ k last)) s.1 (omega (arith, few, n)) (local_get_spelled (Γ.temporaries + t) there, w) in
-        expr_spelled e t (Plain (local_set (Γ.temporaries + t)) (args ds Γ (t + 1) ps (Plain (local_get (Γ.temporaries + t)) (wake Γ k last)))) s.0 (omega (arith, few))
+        let p = args_spelled ps (t + 1) (Plain (local_get (Γ.temporaries + t)) (wake Γ k last)) (omega (arith, few, n)) (local_get_spelled (Γ.temporaries + t) there, w) in
+        expr_spelled e t (Plain (local_set (Γ.temporaries + t)) (args ds Γ (t + 1) ps (Plain (local_get (Γ.temporaries + t)) (wake Γ k last)))) (omega (arith, few))
         (local_set_spelled (Γ.temporaries + t) there, p)
 
-    args_spelled : (es : Exprs) (t : ℕ) (c : Code) → SmallExprs es → t + exprs_size es ≤ room → CodeSpelled c → CodeSpelled (args ds Γ t es c)
-    args_spelled NoExprs t c s few h = h
-    args_spelled (MoreExprs e es) t c s few h = expr_spelled e t (args ds Γ t es c) s.0 (omega (arith, few)) (args_spelled es t c s.1 (omega (arith, few)) h)
+    args_spelled : (es : Exprs) (t : ℕ) (c : Code) → t + exprs_size es ≤ room → CodeSpelled c → CodeSpelled (args ds Γ t es c)
+    args_spelled NoExprs t c few h = h
+    args_spelled (MoreExprs e es) t c few h = expr_spelled e t (args ds Γ t es c) (omega (arith, few)) (args_spelled es t c (omega (arith, few)) h)
 
-    set_aside_spelled : (es : Exprs) (t : ℕ) (c : Code) → SmallExprs es → t + exprs_size es ≤ room → CodeSpelled c → CodeSpelled (set_aside ds Γ t es c)
-    set_aside_spelled NoExprs t c s few h = h
-    set_aside_spelled (MoreExprs e es) t c s few h =
+    set_aside_spelled : (es : Exprs) (t : ℕ) (c : Code) → t + exprs_size es ≤ room → CodeSpelled c → CodeSpelled (set_aside ds Γ t es c)
+    set_aside_spelled NoExprs t c few h = h
+    set_aside_spelled (MoreExprs e es) t c few h =
         let n = some_size e in
-        aside_spelled (stays Γ e) (Γ.temporaries + t) (λ (k : Code). expr ds Γ t e k) (λ k i. expr_spelled e t k s.0 (omega (arith, few)) i) (temporary_fits t (omega (arith, few)))
-        (set_aside ds Γ (t + 1) es c) (set_aside_spelled es (t + 1) c s.1 (omega (arith, few, n)) h)
+        aside_spelled (stays Γ e) (Γ.temporaries + t) (λ (k : Code). expr ds Γ t e k) (λ k i. expr_spelled e t k (omega (arith, few)) i) (temporary_fits t (omega (arith, few)))
+        (set_aside ds Γ (t + 1) es c) (set_aside_spelled es (t + 1) c (omega (arith, few, n)) h)
 
-    operands_spelled : (ps : Operands) (t : ℕ) (c : Code) → SmallOperands ps → t + operands_size ps ≤ room → CodeSpelled c → CodeSpelled (operands ds Γ t ps c)
-    operands_spelled NoOperands t c s few h = h
-    operands_spelled (MoreOperands o e ps) t c s few h =
-        operator_spelled o (λ (k : Code). expr ds Γ t e k) (λ k i. expr_spelled e t k s.0 (omega (arith, few)) i) (operands ds Γ t ps c)
-        (operands_spelled ps t c s.1 (omega (arith, few)) h)
+    operands_spelled : (ps : Operands) (t : ℕ) (c : Code) → t + operands_size ps ≤ room → CodeSpelled c → CodeSpelled (operands ds Γ t ps c)
+    operands_spelled NoOperands t c few h = h
+    operands_spelled (MoreOperands o e ps) t c few h =
+        operator_spelled o (λ (k : Code). expr ds Γ t e k) (λ k i. expr_spelled e t k (omega (arith, few)) i) (operands ds Γ t ps c)
+        (operands_spelled ps t c (omega (arith, few)) h)
 
   -- ## Statements
 
@@ -159,9 +158,9 @@ module _ (ds : List Declaration) (Γ : Layout) (S : SmallIndices ds) (L : SmallL
   parameters_spelled (suc n) c few h = (local_set_spelled n (omega (arith, few)), parameters_spelled n c (omega (arith, few)) h)
 
   -- the next turn of a handler's loop
-  tail_spelled : (k : Name) (e : ExprTree) (ps : Exprs) (D : ℕ) (c : Code) → SmallExpr (Resume k e ps) → expr_size (Resume k e ps) ≤ room → D ≤ room → CodeSpelled c
+  tail_spelled : (k : Name) (e : ExprTree) (ps : Exprs) (D : ℕ) (c : Code) → expr_size (Resume k e ps) ≤ room → D ≤ room → CodeSpelled c
       → CodeSpelled (tail_resume ds Γ D k e ps c)
-  tail_spelled k e ps D c s few labels h =
+  tail_spelled k e ps D c few labels h =
       let n = owner_parameters Γ.owner in
       let rest : Code = Plain (local_set n) (set_parameters n (Plain (branch D) c)) in
       let size = some_size e in
@@ -169,57 +168,57 @@ module _ (ds : List Declaration) (Γ : Layout) (S : SmallIndices ds) (L : SmallL
       let there : Γ.temporaries < 2 ^ 32 = omega (arith, temporaries) in
       let q = parameters_spelled n (Plain (branch D) c) L.parameters (branch_spelled D (omega (arith, labels)), h) in
       let w = wake_spelled k rest (local_set_spelled n (fits n L.parameters), q) in
-      let p = args_spelled ps 1 (Plain (local_get Γ.temporaries) (wake Γ k rest)) s.1 (omega (arith, few, size)) (local_get_spelled Γ.temporaries there, w) in
-      expr_spelled e 0 (Plain (local_set Γ.temporaries) (args ds Γ 1 ps (Plain (local_get Γ.temporaries) (wake Γ k rest)))) s.0 (omega (arith, few))
+      let p = args_spelled ps 1 (Plain (local_get Γ.temporaries) (wake Γ k rest)) (omega (arith, few, size)) (local_get_spelled Γ.temporaries there, w) in
+      expr_spelled e 0 (Plain (local_set Γ.temporaries) (args ds Γ 1 ps (Plain (local_get Γ.temporaries) (wake Γ k rest)))) (omega (arith, few))
       (local_set_spelled Γ.temporaries there, p)
 
   -- what is returned
-  plain_spelled : (x : ExprTree) (c : Code) → SmallExpr x → expr_size x ≤ room → CodeSpelled c → CodeSpelled (expr ds Γ 0 x (Plain leave c))
-  plain_spelled x c s few h = expr_spelled x 0 (Plain leave c) s (omega (arith, few)) (leave_spelled, h)
+  plain_spelled : (x : ExprTree) (c : Code) → expr_size x ≤ room → CodeSpelled c → CodeSpelled (expr ds Γ 0 x (Plain leave c))
+  plain_spelled x c few h = expr_spelled x 0 (Plain leave c) (omega (arith, few)) (leave_spelled, h)
 
-  resumed_spelled : (b : Bool) (k : Name) (e : ExprTree) (ps : Exprs) (D : ℕ) (c : Code) → SmallExpr (Resume k e ps) → expr_size (Resume k e ps) ≤ room → D ≤ room → CodeSpelled c
+  resumed_spelled : (b : Bool) (k : Name) (e : ExprTree) (ps : Exprs) (D : ℕ) (c : Code) → expr_size (Resume k e ps) ≤ room → D ≤ room → CodeSpelled c
       → CodeSpelled (if b then tail_resume ds Γ D k e ps c else expr ds Γ 0 (Resume k e ps) (Plain leave c))
-  resumed_spelled true k e ps D c s few labels h = tail_spelled k e ps D c s few labels h
-  resumed_spelled false k e ps D c s few labels h = plain_spelled (Resume k e ps) c s few h
+  resumed_spelled true k e ps D c few labels h = tail_spelled k e ps D c few labels h
+  resumed_spelled false k e ps D c few labels h = plain_spelled (Resume k e ps) c few h
 
-  return_spelled : (x : ExprTree) (D : ℕ) (c : Code) → SmallExpr x → expr_size x ≤ room → D ≤ room → CodeSpelled c → CodeSpelled (return ds Γ D x c)
-  return_spelled (Literal n) D c s few labels h = plain_spelled (Literal n) c s few h
-  return_spelled (Read x) D c s few labels h = plain_spelled (Read x) c s few h
-  return_spelled (Unary o e) D c s few labels h = plain_spelled (Unary o e) c s few h
-  return_spelled (Run e ps) D c s few labels h = plain_spelled (Run e ps) c s few h
-  return_spelled (Call f es) D c s few labels h = plain_spelled (Call f es) c s few h
-  return_spelled (Do o es) D c s few labels h = plain_spelled (Do o es) c s few h
-  return_spelled (Handle f es g ps) D c s few labels h = plain_spelled (Handle f es g ps) c s few h
-  return_spelled (Resume k e ps) D c s few labels h = resumed_spelled (is_own Γ k) k e ps D c s few labels h
+  return_spelled : (x : ExprTree) (D : ℕ) (c : Code) → expr_size x ≤ room → D ≤ room → CodeSpelled c → CodeSpelled (return ds Γ D x c)
+  return_spelled (Literal n) D c few labels h = plain_spelled (Literal n) c few h
+  return_spelled (Read x) D c few labels h = plain_spelled (Read x) c few h
+  return_spelled (Unary o e) D c few labels h = plain_spelled (Unary o e) c few h
+  return_spelled (Run e ps) D c few labels h = plain_spelled (Run e ps) c few h
+  return_spelled (Call f es) D c few labels h = plain_spelled (Call f es) c few h
+  return_spelled (Do o es) D c few labels h = plain_spelled (Do o es) c few h
+  return_spelled (Handle f es g ps) D c few labels h = plain_spelled (Handle f es g ps) c few h
+  return_spelled (Resume k e ps) D c few labels h = resumed_spelled (is_own Γ k) k e ps D c few labels h
 
   -- a statement before what can be spelled
   mutual
-    statement_spelled : (x : StatementTree) (D : ℕ) (c : Code) → SmallStatement x → D + statement_size x ≤ room → CodeSpelled c → CodeSpelled (statement ds Γ D x c)
-    statement_spelled (Let x e) D c s few h =
-        expr_spelled e 0 (Plain (local_set (local_number Γ x)) c) s (omega (arith, few)) (local_set_spelled (local_number Γ x) (name_fits x), h)
-    statement_spelled (Assign x e) D c s few h =
-        expr_spelled e 0 (Plain (local_set (local_number Γ x)) c) s (omega (arith, few)) (local_set_spelled (local_number Γ x) (name_fits x), h)
-    statement_spelled (IfStatement e a b) D c s few h =
-        let q = block_spelled_before b (D + 1) Done s.2 (omega (arith, few)) tt in
-        let r = block_spelled_before a (D + 1) Done s.1 (omega (arith, few)) tt in
-        expr_spelled e 0 (if_zero (block ds Γ (D + 1) b Done) (block ds Γ (D + 1) a Done) c) s.0 (omega (arith, few))
+    statement_spelled : (x : StatementTree) (D : ℕ) (c : Code) → D + statement_size x ≤ room → CodeSpelled c → CodeSpelled (statement ds Γ D x c)
+    statement_spelled (Let x e) D c few h =
+        expr_spelled e 0 (Plain (local_set (local_number Γ x)) c) (omega (arith, few)) (local_set_spelled (local_number Γ x) (name_fits x), h)
+    statement_spelled (Assign x e) D c few h =
+        expr_spelled e 0 (Plain (local_set (local_number Γ x)) c) (omega (arith, few)) (local_set_spelled (local_number Γ x) (name_fits x), h)
+    statement_spelled (IfStatement e a b) D c few h =
+        let q = block_spelled_before b (D + 1) Done (omega (arith, few)) tt in
+        let r = block_spelled_before a (D + 1) Done (omega (arith, few)) tt in
+        expr_spelled e 0 (if_zero (block ds Γ (D + 1) b Done) (block ds Γ (D + 1) a Done) c) (omega (arith, few))
         (is_zero_spelled, (if_spelled block_type.Empty tt, q, r, h))
-    statement_spelled (While e b) D c s few h =
+    statement_spelled (While e b) D c few h =
         let n = some_size e in
-        let q = block_spelled_before b (D + 2) (Plain (branch 0) Done) s.1 (omega (arith, few, n)) (branch_spelled 0 (omega arith), tt) in
-        let p = expr_spelled e 0 (Plain is_zero (Plain (branch_if 1) (block ds Γ (D + 2) b (Plain (branch 0) Done)))) s.0 (omega (arith, few))
+        let q = block_spelled_before b (D + 2) (Plain (branch 0) Done) (omega (arith, few, n)) (branch_spelled 0 (omega arith), tt) in
+        let p = expr_spelled e 0 (Plain is_zero (Plain (branch_if 1) (block ds Γ (D + 2) b (Plain (branch 0) Done)))) (omega (arith, few))
         (is_zero_spelled, (branch_if_spelled 1 (omega arith), q)) in
         (block_spelled kind.Block block_type.Empty tt, (block_spelled kind.Loop block_type.Empty tt, p, tt), h)
-    statement_spelled (Print e) D c s few h = expr_spelled e 0 (Plain (call printer) c) s (omega (arith, few)) (call_spelled printer (omega arith), h)
-    statement_spelled (Return e) D c s few h = return_spelled e D c s (omega (arith, few)) (omega (arith, few)) h
-    statement_spelled Fail D c s few h = (unreachable_spelled, h)
-    statement_spelled (Evaluate e) D c s few h = expr_spelled e 0 (Plain dropped c) s (omega (arith, few)) (dropped_spelled, h)
+    statement_spelled (Print e) D c few h = expr_spelled e 0 (Plain (call printer) c) (omega (arith, few)) (call_spelled printer (omega arith), h)
+    statement_spelled (Return e) D c few h = return_spelled e D c (omega (arith, few)) (omega (arith, few)) h
+    statement_spelled Fail D c few h = (unreachable_spelled, h)
+    statement_spelled (Evaluate e) D c few h = expr_spelled e 0 (Plain dropped c) (omega (arith, few)) (dropped_spelled, h)
 
     -- a block before what can be spelled
-    block_spelled_before : (b : BlockTree) (D : ℕ) (c : Code) → SmallBlock b → D + block_size b ≤ room → CodeSpelled c → CodeSpelled (block ds Γ D b c)
-    block_spelled_before NoStatements D c s few h = h
-    block_spelled_before (x ⨟ b) D c s few h = statement_spelled x D (block ds Γ D b c) s.0 (omega (arith, few)) (block_spelled_before b D c s.1 (omega (arith, few)) h)
+    block_spelled_before : (b : BlockTree) (D : ℕ) (c : Code) → D + block_size b ≤ room → CodeSpelled c → CodeSpelled (block ds Γ D b c)
+    block_spelled_before NoStatements D c few h = h
+    block_spelled_before (x ⨟ b) D c few h = statement_spelled x D (block ds Γ D b c) (omega (arith, few)) (block_spelled_before b D c (omega (arith, few)) h)
 
   -- the code of a body
-  pub body_spelled : (b : BlockTree) (D : ℕ) → SmallBlock b → D + block_size b ≤ room → CodeSpelled (body ds Γ D b)
-  body_spelled b D s few = block_spelled_before b D ending s few (constant_spelled 0 (omega arith), (leave_spelled, tt))
+  pub body_spelled : (b : BlockTree) (D : ℕ) → D + block_size b ≤ room → CodeSpelled (body ds Γ D b)
+  body_spelled b D few = block_spelled_before b D ending few (constant_spelled 0 (omega arith), (leave_spelled, tt))

@@ -30,7 +30,6 @@ use Rattle.s_code.specs.Temporaries.{high_block}
 use Rattle.s_code.specs.Places.{lets, function_names, function_layout, return_names, clause_names, clauses_names, return_place, clauses_place, handler_temporaries, layout_at, return_layout, placed_from, high_clauses}
 use Rattle.s_code.specs.Lowered.{function_code, handler_code, function_code_of, handler_code_of, for_each, lowered}
 use Rattle.s_code.proofs.Highs.{block_high}
-use Rattle.s_agrees.proofs.Literals.{SmallBlock, SmallClauses, SmallDefinition, SmallLiterals}
 use Rattle.w_encode.specs.Spelled.{CodeSpelled, FunctionSpelled, FunctionsSpelled}
 use Rattle.s_agrees.proofs.SpelledIndices.{limit, fits, SmallIndices, small_indices, SmallLayout, names_small, both_small, locals_total, runs_spelled, runs_joined}
 use Rattle.s_agrees.proofs.SpelledCode.{room, body_spelled}
@@ -97,8 +96,8 @@ function_layout_small f few =
     record { name = names_small (function_names f) (omega (arith, few, q, l, m)); temporaries = omega (arith, few, q, l, m); parameters = omega arith }
 
 -- the code of a function that isn't too large
-pub function_spelled : (ds : List Declaration) (f : Function) → SmallIndices ds → SmallBlock f.body → definition_size (definition.Function f) ≤ 50000 → FunctionSpelled (function_code ds f)
-function_spelled ds f S s few =
+pub function_spelled : (ds : List Declaration) (f : Function) → SmallIndices ds → definition_size (definition.Function f) ≤ 50000 → FunctionSpelled (function_code ds f)
+function_spelled ds f S few =
     let q = few_lets f.body in
     let h = block_high f.body in
     let t = locals_total (lets f.body) (high_block f.body) in
@@ -106,7 +105,7 @@ function_spelled ds f S s few =
       runs = runs_spelled (lets f.body) (high_block f.body) (omega (arith, few, q, h));
       alone = runs_joined (lets f.body) (high_block f.body);
       few = omega (arith, t, few, q, h);
-      body = body_spelled ds (function_layout f) S (function_layout_small f few) f.body 0 s (omega (arith, few));
+      body = body_spelled ds (function_layout f) S (function_layout_small f few) f.body 0 (omega (arith, few));
     }
 
 -- ## Handlers
@@ -121,12 +120,12 @@ module _ (ds : List Declaration) (Γ : Layout) (S : SmallIndices ds) (L : SmallL
   names_set (x ∷ xs) c h = names_set xs (Plain (local_set (local_number Γ x)) c) (name_set x c h)
 
   -- a clause, and the return clause
-  clause_spelled : (D : ℕ) (c : Clause) → SmallBlock c.body → D + block_size c.body ≤ room → CodeSpelled (clause_code ds D (record { clause = c; layout = Γ }))
-  clause_spelled D c s few =
-      name_set c.resumption (set_names Γ c.arguments (body ds Γ D c.body)) (names_set c.arguments (body ds Γ D c.body) (body_spelled ds Γ S L c.body D s few))
+  clause_spelled : (D : ℕ) (c : Clause) → D + block_size c.body ≤ room → CodeSpelled (clause_code ds D (record { clause = c; layout = Γ }))
+  clause_spelled D c few =
+      name_set c.resumption (set_names Γ c.arguments (body ds Γ D c.body)) (names_set c.arguments (body ds Γ D c.body) (body_spelled ds Γ S L c.body D few))
 
-  returned_spelled : (D : ℕ) (i : Handler) → SmallBlock i.return_clause.body → D + block_size i.return_clause.body ≤ room → CodeSpelled (return_code ds Γ D i)
-  returned_spelled D i s few = name_set i.return_clause.value (body ds Γ D i.return_clause.body) (body_spelled ds Γ S L i.return_clause.body D s few)
+  returned_spelled : (D : ℕ) (i : Handler) → D + block_size i.return_clause.body ≤ room → CodeSpelled (return_code ds Γ D i)
+  returned_spelled D i few = name_set i.return_clause.value (body ds Γ D i.return_clause.body) (body_spelled ds Γ S L i.return_clause.body D few)
 
 -- as many as there are clauses
 placed_length : (h : Name) (i : Handler) (n : ℕ) (cs : List Clause) → length (placed_from h i n cs) ≡ length cs
@@ -164,10 +163,10 @@ layout_small h i n bs few behind =
 
 module _ (ds : List Declaration) (h : Name) (i : Handler) (S : SmallIndices ds) (few : definition_size (definition.Handler i) ≤ 50000) where
   -- the blocks of clauses, the names of the first one being from the local n on
-  blocks_spelled : (n : ℕ) (cs : List Clause) (c : Code) → SmallClauses cs → n + length (clauses_names h cs) ≤ handler_temporaries h i → sum_by clause_size cs ≤ 50000 → CodeSpelled c
+  blocks_spelled : (n : ℕ) (cs : List Clause) (c : Code) → n + length (clauses_names h cs) ≤ handler_temporaries h i → sum_by clause_size cs ≤ 50000 → CodeSpelled c
       → CodeSpelled (blocks ds (placed_from h i n cs) c)
-  blocks_spelled n [] c s behind size g = g
-  blocks_spelled n (k ∷ cs) c s behind size g =
+  blocks_spelled n [] c behind size g = g
+  blocks_spelled n (k ∷ cs) c behind size g =
       let m = n + length (clause_names h k) in
       let ps = placed_from h i m cs in
       let x = clause_type_index ds (length k.arguments) in
@@ -175,39 +174,38 @@ module _ (ds : List Declaration) (h : Name) (i : Handler) (S : SmallIndices ds) 
       let z = sum_by-cons clause_size k cs in
       let p = placed_length h i m cs in
       let l = few_clauses cs in
-      let b = clause_spelled ds (layout_at h i n (clause_names h k)) S (layout_small h i n (clause_names h k) few (omega (arith, behind, a))) (length ps) k s.0 (omega (arith, size, z, p, l)) in
+      let b = clause_spelled ds (layout_at h i n (clause_names h k)) S (layout_small h i n (clause_names h k) few (omega (arith, behind, a))) (length ps) k (omega (arith, size, z, p, l)) in
       let t = block_spelled kind.Block (block_type.Index x) (fits x (S.type (clause_type (length k.arguments)))) in
-      blocks_spelled m cs (Block kind.Block (block_type.Index x) c (clause_code ds (length ps) (record { clause = k; layout = layout_at h i n (clause_names h k) }))) s.1
+      blocks_spelled m cs (Block kind.Block (block_type.Index x) c (clause_code ds (length ps) (record { clause = k; layout = layout_at h i n (clause_names h k) })))
       (omega (arith, behind, a)) (omega (arith, size, z)) (t, g, b)
 
   -- the resume and the return clause
-  handling_spelled : SmallBlock i.return_clause.body → CodeSpelled (handling ds (return_layout h i) i)
-  handling_spelled s =
+  handling_spelled : CodeSpelled (handling ds (return_layout h i) i)
+  handling_spelled =
       let hs = labels ds 0 i.clauses in
       let l = labels_length ds 0 i.clauses in
       let n = few_clauses i.clauses in
-      let r = returned_spelled ds (return_layout h i) S (layout_small h i (return_place i) (return_names i) few (omega arith)) (length i.clauses) i s (omega (arith, few, n)) in (
+      let r = returned_spelled ds (return_layout h i) S (layout_small h i (return_place i) (return_names i) few (omega arith)) (length i.clauses) i (omega (arith, few, n)) in (
         local_get_spelled (length i.parameters) (omega (arith, few)),
         (resume_spelled computation_type hs (omega arith) (omega (arith, few, l, n)) (labels_small ds S 0 i.clauses (omega (arith, few, n))), r),
       )
 
 -- the code of a handler that isn't too large
-pub handler_spelled : (ds : List Declaration) (h : Name) (i : Handler) → SmallIndices ds → SmallBlock i.return_clause.body → SmallClauses i.clauses → definition_size (definition.Handler i) ≤ 50000
-    → FunctionSpelled (handler_code ds h i)
-handler_spelled ds h i S s cs few =
+pub handler_spelled : (ds : List Declaration) (h : Name) (i : Handler) → SmallIndices ds → definition_size (definition.Handler i) ≤ 50000 → FunctionSpelled (handler_code ds h i)
+handler_spelled ds h i S few =
     let bs = return_names i ++ clauses_names h i.clauses in
     let k = max (high_block i.return_clause.body) (high_clauses i.clauses) in
     let q = handler_few h i in
     let l = length-append (return_names i) (clauses_names h i.clauses) in
     let t = locals_total bs k in
-    let g = handling_spelled ds h i S few s in
+    let g = handling_spelled ds h i S few in
     record {
       runs = runs_spelled bs k (omega (arith, few, q, l));
       alone = runs_joined bs k;
       few = omega (arith, t, few, q, l);
       body = (
         block_spelled kind.Loop (block_type.Value _) refl,
-        blocks_spelled ds h i S few (clauses_place i) i.clauses (handling ds (return_layout h i) i) cs (omega arith) (omega (arith, few)) g,
+        blocks_spelled ds h i S few (clauses_place i) i.clauses (handling ds (return_layout h i) i) (omega arith) (omega (arith, few)) g,
         tt,
       );
     }
@@ -220,33 +218,33 @@ both_spelled [] gs h i = i
 both_spelled (f ∷ fs) gs h i = (h.0, both_spelled fs gs h.1 i)
 
 -- what one declaration adds
-function_of_spelled : (ds : List Declaration) (d : Definition) → SmallIndices ds → SmallDefinition d → definition_size d ≤ 50000 → FunctionsSpelled (function_code_of ds d)
-function_of_spelled ds (definition.Effect n) S s few = tt
-function_of_spelled ds (definition.Function f) S s few = (function_spelled ds f S s few, tt)
-function_of_spelled ds (definition.Handler i) S s few = tt
+function_of_spelled : (ds : List Declaration) (d : Definition) → SmallIndices ds → definition_size d ≤ 50000 → FunctionsSpelled (function_code_of ds d)
+function_of_spelled ds (definition.Effect n) S few = tt
+function_of_spelled ds (definition.Function f) S few = (function_spelled ds f S few, tt)
+function_of_spelled ds (definition.Handler i) S few = tt
 
-handler_of_spelled : (ds : List Declaration) (h : Name) (d : Definition) → SmallIndices ds → SmallDefinition d → definition_size d ≤ 50000 → FunctionsSpelled (handler_code_of ds h d)
-handler_of_spelled ds h (definition.Effect n) S s few = tt
-handler_of_spelled ds h (definition.Function f) S s few = tt
-handler_of_spelled ds h (definition.Handler i) S s few = (handler_spelled ds h i S s.0 s.1 few, tt)
+handler_of_spelled : (ds : List Declaration) (h : Name) (d : Definition) → SmallIndices ds → definition_size d ≤ 50000 → FunctionsSpelled (handler_code_of ds h d)
+handler_of_spelled ds h (definition.Effect n) S few = tt
+handler_of_spelled ds h (definition.Function f) S few = tt
+handler_of_spelled ds h (definition.Handler i) S few = (handler_spelled ds h i S few, tt)
 
 -- how large declarations are
 abbrev sizes : List Declaration → ℕ
 sizes es = sum_by (λ (d : Declaration). definition_size d.definition) es
 
 -- what all declarations add
-each_spelled : (make : Declaration → List Func) → ((d : Declaration) → SmallDefinition d.definition → definition_size d.definition ≤ 50000 → FunctionsSpelled (make d)) → (es : List Declaration)
-    → SmallLiterals es → sizes es ≤ 50000 → FunctionsSpelled (for_each make es)
-each_spelled make m [] s few = tt
-each_spelled make m (e ∷ es) s few =
+each_spelled : (make : Declaration → List Func) → ((d : Declaration) → definition_size d.definition ≤ 50000 → FunctionsSpelled (make d)) → (es : List Declaration)
+    → sizes es ≤ 50000 → FunctionsSpelled (for_each make es)
+each_spelled make m [] few = tt
+each_spelled make m (e ∷ es) few =
     let z = sum_by-cons (λ (d : Declaration). definition_size d.definition) e es in
-    both_spelled (make e) (for_each make es) (m e s.0 (omega (arith, few, z))) (each_spelled make m es s.1 (omega (arith, few, z)))
+    both_spelled (make e) (for_each make es) (m e (omega (arith, few, z))) (each_spelled make m es (omega (arith, few, z)))
 
 -- the code of a script that breaks no rule and isn't too large
-pub codes_spelled : (p : Script) → Good p → Size p ≤ 50000 → SmallLiterals p.declarations → FunctionsSpelled (lowered p).codes
-codes_spelled p good few s =
+pub codes_spelled : (p : Script) → Good p → Size p ≤ 50000 → FunctionsSpelled (lowered p).codes
+codes_spelled p good few =
     let ds = p.declarations in
     let S = small_indices p good few in
     both_spelled (for_each (λ (d : Declaration). function_code_of ds d.definition) ds) (for_each (λ (d : Declaration). handler_code_of ds d.name d.definition) ds)
-    (each_spelled (λ (d : Declaration). function_code_of ds d.definition) (λ d t n. function_of_spelled ds d.definition S t n) ds s few)
-    (each_spelled (λ (d : Declaration). handler_code_of ds d.name d.definition) (λ d t n. handler_of_spelled ds d.name d.definition S t n) ds s few)
+    (each_spelled (λ (d : Declaration). function_code_of ds d.definition) (λ d n. function_of_spelled ds d.definition S n) ds few)
+    (each_spelled (λ (d : Declaration). handler_code_of ds d.name d.definition) (λ d n. handler_of_spelled ds d.name d.definition S n) ds few)

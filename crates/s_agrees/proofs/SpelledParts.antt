@@ -1,10 +1,9 @@
 -- What the module of a script has beside the bodies of its functions is spelled by what is written of it.
-use Rattle.std.proofs.Common.{◌≡◌, ℕ, suc, ◌+◌, ◌^◌, ◌<◌, ◌≤◌, Bool, true, false, cond, if◌then◌else◌, List, [], ◌∷◌, ◌++◌, map, filter, length, codes, refl, ap, arith, length-append}
-use Rattle.std.specs.Prelude.{zero, Some, sum_by, IsTrue, nat_lt, slice_get}
-use Rattle.std.specs.Str.{bytes_eq, is_utf8, chars}
+use Rattle.std.proofs.Common.{◌≡◌, ℕ, suc, ◌^◌, ◌<◌, ◌≤◌, Bool, true, false, cond, if◌then◌else◌, List, [], ◌∷◌, ◌++◌, map, filter, length, codes, refl, ap, arith, length-append}
+use Rattle.std.specs.Prelude.{zero, Some, IsTrue, nat_lt, slice_get}
+use Rattle.std.specs.Str.{is_utf8, chars}
 use lib.Utf8.{encode}
 use Rattle.std.proofs.lemmas.List.{length-map}
-use Rattle.std.proofs.lemmas.List.Sums.{sum_by-cons}
 use Rattle.w_leb.specs.Format.{Format, Counted}
 use Rattle.w_leb.specs.Formats.{number}
 use Rattle.w_leb.specs.Number.{shortest, Unsigned}
@@ -31,12 +30,11 @@ use Rattle.s_syntax.specs.declared.script.Definition.TheVariants as definition
 use Rattle.s_syntax.specs.declared.script.Declaration.{Declaration}
 use Rattle.s_syntax.specs.declared.script.Script.{Script}
 use Rattle.s_check.specs.Refusal.{Good}
-use Rattle.s_check.specs.Size.{definition_size, Size}
-use Rattle.s_index.specs.declared.counts.Counts.{Counts}
+use Rattle.s_check.specs.Size.{Size}
 use Rattle.s_index.specs.Handled.{is_function_among, handled_names, handled}
 use Rattle.s_index.specs.Indices.{function_types, type_table, continuations, parameters_of, function_type_index, handler_type_index, effect_type_index, type_index}
-use Rattle.s_index.specs.Numbers.{no_counts, counted, number_behind, entry_behind, with_entry, counted_all, index_of_function, index_of_handler, index_of_tag, first_handler, function_index, handler_index, tag_index}
-use Rattle.s_index.specs.Types.{same_type, place, with_type, with_types, first_types, function_type, handler_type, effect_type, clause_type, clause_types, types_for, types_for_all, val_type, val_types, numbers, to_continuation, computation_type, resumption_type}
+use Rattle.s_index.specs.Numbers.{function_index}
+use Rattle.s_index.specs.Types.{place, with_type, with_types, first_types, function_type, handler_type, effect_type, clause_type, clause_types, types_for, types_for_all, val_type, val_types, numbers, to_continuation, computation_type, resumption_type}
 use Rattle.s_code.specs.Lowered.{function_type_of, handler_type_of, tag_of, function_code_of, handler_code_of, for_each, group, declared, lowered}
 use Rattle.s_valid.proofs.Declarations.{IsSmall, small}
 use Rattle.s_valid.proofs.ManyTypes.{few_function_types, few_in_table}

@@ -1,5 +1,5 @@
 -- The canonical spelling of the module of a script is a spelling of it; so the script agrees with its module.
-use Rattle.std.proofs.Common.{◌≡◌, ℕ, ◌^◌, ◌≤◌, List, [], ◌∷◌, ◌++◌, length, refl, arith, length-append}
+use Rattle.std.proofs.Common.{◌≡◌, ◌≤◌, List, [], ◌∷◌, length, refl, arith, length-append}
 use Rattle.w_syntax.specs.Spells.{Spells}
 use Rattle.w_encode.specs.Canon.{Canon}
 use Rattle.w_encode.proofs.SpelledModules.{parts_spelled}
@@ -16,8 +16,6 @@ use Rattle.s_valid.proofs.ModuleLimits.{within}
 use Rattle.s_valid.proofs.ShortSpelling.{short_spelling}
 use Rattle.s_valid.proofs.Starts.{starts}
 use Rattle.s_agrees.specs.Agrees.{ScriptsAgree}
-use Rattle.s_agrees.proofs.Literals.{SmallLiterals}
-use Rattle.s_agrees.proofs.SmallScripts.{small_literals}
 use Rattle.w_encode.specs.Spelled.{PartsSpelled}
 use Rattle.s_agrees.proofs.SpelledParts.{types_spelled, imports_spelled, functions_spelled, tags_spelled, exports_spelled, elements_spelled, few_codes}
 use Rattle.s_agrees.proofs.SpelledHandlers.{codes_spelled}
@@ -57,7 +55,7 @@ paired p =
 
 -- ## Modules
 
-module _ (p : Script) (good : Good p) (size : Size p ≤ 50000) (small : SmallLiterals p.declarations) where
+module _ (p : Script) (good : Good p) (size : Size p ≤ 50000) where
   parts : PartsSpelled (lowered p)
   parts = record {
     types = types_spelled p good;
@@ -72,7 +70,7 @@ module _ (p : Script) (good : Good p) (size : Size p ≤ 50000) (small : SmallLi
     elements = elements_spelled p good size;
     paired = paired p;
     few_codes = few_codes p size;
-    codes = codes_spelled p good size small;
+    codes = codes_spelled p good size;
     datas = (omega arith, tt);
   }
 
@@ -80,11 +78,11 @@ module _ (p : Script) (good : Good p) (size : Size p ≤ 50000) (small : SmallLi
   module_spelled = let short = short_spelling p good size in parts_spelled (lowered p) parts (omega (arith, short))
 
 pub scripts_agree : ScriptsAgree
-scripts_agree bytes p good size = record {
-  spelled = module_spelled p good.good size (small_literals bytes p good);
-  short = short_spelling p good.good size;
-  valid = lowered_valid p good.good;
-  within = within p good.good size;
-  begins = starts p good.good;
-  follows = λ program source. runs_follow bytes p good program source;
+scripts_agree p good size = record {
+  spelled = module_spelled p good size;
+  short = short_spelling p good size;
+  valid = lowered_valid p good;
+  within = within p good size;
+  begins = starts p good;
+  follows = runs_follow p good;
 }

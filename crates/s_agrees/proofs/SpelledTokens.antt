@@ -2,9 +2,7 @@
 use Rattle.std.proofs.Common.{◌≡◌, ℕ, pos, negsuc, ◌^◌, ◌<◌, ◌≤◌, ◌⊎◌, inl, inr, Bool, true, false, List, [], ◌∷◌, length, refl, sym, subst, arith}
 use Rattle.std.specs.Prelude.{⊤, nat_eq}
 use Rattle.std.proofs.lemmas.Bool.Decides.{eqb_tells}
-use Rattle.std.specs.List.{flat_map}
-use Rattle.w_leb.specs.Format.{Format, Each, Counted}
-use Rattle.w_leb.specs.Formats.{number, vec, ◌⇒◌}
+use Rattle.w_leb.specs.Formats.{number, ◌⇒◌}
 use Rattle.w_leb.specs.Number.{shortest, Signed}
 use Rattle.w_leb.specs.ShortestLaws.{shortest_spells}
 use Rattle.w_leb.specs.ShortestSignedLaws.{signed_spells}
@@ -42,7 +40,7 @@ use Rattle.s_syntax.specs.declared.script.VariableType.TheVariants.{Int, Resumpt
 use Rattle.s_index.specs.Types.{to_continuation, val_type}
 use Rattle.s_code.specs.Instructions.{constant, is_zero, is_zero_32, extend, binary, compare, unreachable, nop, branch, branch_if, leave, call, dropped, local_get, local_set, function_reference, new_continuation, bind_continuation, suspend, resume, binop_of, relop_of}
 use Rattle.w_encode.proofs.SpelledCode.{list_spells}
-use Rattle.w_encode.specs.Spelled.{EachSpelled, ListSpelled, TokenSpelled}
+use Rattle.w_encode.specs.Spelled.{EachSpelled, TokenSpelled}
 
 -- ## Numbers and lists
 

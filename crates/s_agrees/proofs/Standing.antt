@@ -11,6 +11,7 @@ use Rattle.w_reduce.specs.Values.{Val, I64, Cont}
 use Rattle.w_reduce.specs.Store.{Store, live}
 use Rattle.w_reduce.specs.Terms.{rest_of, Label, Frame, Handle, Context, Term, Kept}
 use Rattle.s_syntax.specs.declared.name.Name.{Name}
+use Rattle.s_syntax.specs.declared.number.Number.{Number as WrittenNumber}
 use Rattle.s_syntax.specs.declared.script.VariableType.TheVariants.{Int}
 use Rattle.s_syntax.specs.declared.script.Handler.{Handler}
 use Rattle.s_syntax.specs.declared.script.Declaration.{Declaration}
@@ -39,7 +40,6 @@ use Rattle.s_meaning.specs.Terms as script
 use Rattle.s_meaning.specs.Terms.{Value, Number, Reference, Variable, Head, Calling, Doing, Handling, Resuming, TailResuming, Use, ToStore, ToPrint, ToDrop, ToReturn, ToChoose, ToTurn, Work, UnderUnary, LeftOf, RightOf, Among, Within, Place, Activation, Handle as Handled, Hole, Gives, Finds, Runs, Configuration}
 use Rattle.s_meaning.specs.Focus.{followed_by, variable_of}
 use Rattle.s_valid.specs.Beginning.{first_store}
-use Rattle.s_agrees.proofs.Literals.{greatest}
 use Rattle.s_agrees.proofs.ScriptRows.{Values, no_values, ◌▸◌, ◌⧻◌, many}
 
 -- code in a context
@@ -107,7 +107,7 @@ pub record HasNumber (Γ : Layout) (x : Name) : Type 0 where
 
 mutual
   pub data WellExpr (ds : List Declaration) (n : ℕ) : ℕ → ExprTree → Type 0 where
-    literal : {t k : ℕ} → k ≤ greatest → WellExpr ds n t (Literal k)
+    literal : {t : ℕ} {k : WrittenNumber} → WellExpr ds n t (Literal k)
     read : {t : ℕ} {x : Name} → WellExpr ds n t (Read x)
     unary : {t : ℕ} {o : UnaryOperator} {e : ExprTree} → WellExpr ds n t e → WellExpr ds n t (Unary o e)
     run : {t : ℕ} {e : ExprTree} {ps : Operands} → WellExpr ds n t e → WellOperands ds n t ps → WellExpr ds n t (Run e ps)

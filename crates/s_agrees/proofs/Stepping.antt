@@ -155,7 +155,7 @@ module _ {ds : List Declaration} {ρ : List ℕ} {Γ : Layout} {n D0 : ℕ} {f :
   mutual
     ready_expr : {t : ℕ} {x : ExprTree} {w : List Work} {ops : Row Val} {c : Code} {e : Context} → WellExpr ds n t x → Works ds ρ Γ n D0 f t L w ops c e
         → ReadyAt ds ρ Γ n D0 f L (in_expr x w) ops (expr ds Γ t x c) e
-    ready_expr (standing.WellExpr.literal h) k = record { used = _; ready = constant_ready h k }
+    ready_expr standing.WellExpr.literal k = record { used = _; ready = constant_ready k }
     ready_expr standing.WellExpr.read k = record { used = _; ready = lookup_ready k }
     ready_expr (standing.WellExpr.unary v) k = ready_expr v (standing.Works.under k)
     ready_expr (standing.WellExpr.run v ps) k = ready_expr v (works_left ps k)

@@ -20,7 +20,6 @@ use Rattle.s_check.specs.Refusal.{first, Has, Good}
 use Rattle.s_meaning.proofs.Good.{parts, when_not, is_function, is_handler}
 use Rattle.s_meaning.proofs.Lists.{get_before}
 use Rattle.s_meaning.proofs.Scopes.{same_is, bool_of}
-use Rattle.s_agrees.proofs.Literals.{SmallDefinition, SmallLiterals}
 
 -- ## Declarations
 
@@ -40,14 +39,6 @@ definition_keeps ds before (c ∷ es) x d none e =
     let same : c.definition ≡ d = cc g in
     ap (λ (y : Name). in_definition ds y d) (same_is x c.name q) ∙ ap (λ (y : Definition). in_definition ds c.name y) (sym same) ∙ u.1)
     (λ q g. definition_keeps ds (c.name ∷ before) es x d (λ n. none (suc n)) g) e
-
--- its literals are small where all are
-pub small_definition : (ds : List Declaration) (x : Name) (d : Definition) → SmallLiterals ds → definition_of ds x ≡ Some d → SmallDefinition d
-small_definition [] x d small e = absurd (cc)
-small_definition (c ∷ ds) x d small e =
-    bool_of (bytes_eq c.name x) (λ b. (if b then Some c.definition else definition_of ds x) ≡ Some d → SmallDefinition d)
-    (λ q g. let same : c.definition ≡ d = cc g in subst (λ (y : Definition). SmallDefinition y) same small.0)
-    (λ q g. small_definition ds x d small.1 g) e
 
 -- ## Counts
 

@@ -1,4 +1,4 @@
--- The bodies of a script have their temporaries and their locals: where no more temporaries are taken than there are, each literal is small,
+-- The bodies of a script have their temporaries and their locals: where no more temporaries are taken than there are,
 -- each name that is bound as a number has a local for one, and what a handle names is handled.
 use Rattle.std.proofs.Common.{◌≡◌, ℕ, ◌+◌, ◌≤◌, Bool, true, ◌||◌, List, [], ◌∷◌, ◌++◌, Some, if◌then◌else◌, sym, ap, subst, arith}
 use Rattle.std.specs.Str.{bytes_eq}
@@ -19,7 +19,6 @@ use Rattle.s_meaning.proofs.Bindings.{among_left, among_right}
 use Rattle.s_meaning.proofs.Scopes.{same_is, same_refl, bool_of}
 use Rattle.s_valid.proofs.LayoutTypes.{AllHandled, handled_left, handled_right, handled_first, handled_later}
 use Rattle.s_valid.proofs.TypedExpressions.{least_args}
-use Rattle.s_agrees.proofs.Literals.{SmallExpr, SmallExprs, SmallOperands, SmallBlock}
 use Rattle.s_agrees.proofs.Standing.{HasNumber, WellExpr, WellArgs, WellAsides, WellOperands, WellBlock, literal, read, unary, run, calls, does, handles, resumes, no_args, arg, no_asides, aside_arg, no_operands, operand, lets, assigns, ifs, whiles, print, return, fail, drop, done, next}
 
 -- ## Expressions
@@ -32,44 +31,44 @@ least_aside (MoreExprs e es) t = let h = least_aside es (t + 1) in omega (arith,
 module _ {ds : List Declaration} {n : ℕ} where
   mutual
     -- an expression that takes at most n temporaries has them
-    pub well_expr : (e : ExprTree) (t : ℕ) → high t e ≤ n → AllHandled ds (handled_in_expr e) → SmallExpr e → WellExpr ds n t e
-    well_expr (Literal k) t h a small = literal small
-    well_expr (Read x) t h a small = read
-    well_expr (Unary o e) t h a small = unary (well_expr e t h a small)
-    well_expr (Run e ps) t h a small =
-        run (well_expr e t (omega (arith, h)) (handled_left (handled_in_expr e) (handled_in_operands ps) a) small.0)
-        (well_operands ps t (omega (arith, h)) (handled_right (handled_in_expr e) (handled_in_operands ps) a) small.1)
-    well_expr (Call f es) t h a small = calls (well_args es t h a small)
-    well_expr (Do op es) t h a small = does (well_args es t h a small)
-    well_expr (Handle f es g bs) t h a small =
+    pub well_expr : (e : ExprTree) (t : ℕ) → high t e ≤ n → AllHandled ds (handled_in_expr e) → WellExpr ds n t e
+    well_expr (Literal k) t h a = literal
+    well_expr (Read x) t h a = read
+    well_expr (Unary o e) t h a = unary (well_expr e t h a)
+    well_expr (Run e ps) t h a =
+        run (well_expr e t (omega (arith, h)) (handled_left (handled_in_expr e) (handled_in_operands ps) a))
+        (well_operands ps t (omega (arith, h)) (handled_right (handled_in_expr e) (handled_in_operands ps) a))
+    well_expr (Call f es) t h a = calls (well_args es t h a)
+    well_expr (Do op es) t h a = does (well_args es t h a)
+    well_expr (Handle f es g bs) t h a =
         let both = handled_later f (handled_in_exprs es ++ handled_in_exprs bs) a in
         handles (handled_first f (handled_in_exprs es ++ handled_in_exprs bs) a)
-        (well_asides es t (omega (arith, h)) (handled_left (handled_in_exprs es) (handled_in_exprs bs) both) small.0)
-        (well_args bs (t + count es) (omega (arith, h)) (handled_right (handled_in_exprs es) (handled_in_exprs bs) both) small.1)
-    well_expr (Resume k e bs) t h a small =
+        (well_asides es t (omega (arith, h)) (handled_left (handled_in_exprs es) (handled_in_exprs bs) both))
+        (well_args bs (t + count es) (omega (arith, h)) (handled_right (handled_in_exprs es) (handled_in_exprs bs) both))
+    well_expr (Resume k e bs) t h a =
         let least = least_args bs (t + 1) in
-        resumes (omega (arith, h, least)) (well_expr e t (omega (arith, h)) (handled_left (handled_in_expr e) (handled_in_exprs bs) a) small.0)
-        (well_args bs (t + 1) (omega (arith, h)) (handled_right (handled_in_expr e) (handled_in_exprs bs) a) small.1)
+        resumes (omega (arith, h, least)) (well_expr e t (omega (arith, h)) (handled_left (handled_in_expr e) (handled_in_exprs bs) a))
+        (well_args bs (t + 1) (omega (arith, h)) (handled_right (handled_in_expr e) (handled_in_exprs bs) a))
 
-    pub well_args : (es : Exprs) (t : ℕ) → high_args t es ≤ n → AllHandled ds (handled_in_exprs es) → SmallExprs es → WellArgs ds n t es
-    well_args NoExprs t h a small = no_args
-    well_args (MoreExprs e es) t h a small =
-        arg (well_expr e t (omega (arith, h)) (handled_left (handled_in_expr e) (handled_in_exprs es) a) small.0)
-        (well_args es t (omega (arith, h)) (handled_right (handled_in_expr e) (handled_in_exprs es) a) small.1)
+    pub well_args : (es : Exprs) (t : ℕ) → high_args t es ≤ n → AllHandled ds (handled_in_exprs es) → WellArgs ds n t es
+    well_args NoExprs t h a = no_args
+    well_args (MoreExprs e es) t h a =
+        arg (well_expr e t (omega (arith, h)) (handled_left (handled_in_expr e) (handled_in_exprs es) a))
+        (well_args es t (omega (arith, h)) (handled_right (handled_in_expr e) (handled_in_exprs es) a))
 
     -- arguments that are put aside
-    pub well_asides : (es : Exprs) (t : ℕ) → high_aside t es ≤ n → AllHandled ds (handled_in_exprs es) → SmallExprs es → WellAsides ds n t es
-    well_asides NoExprs t h a small = no_asides
-    well_asides (MoreExprs e es) t h a small =
+    pub well_asides : (es : Exprs) (t : ℕ) → high_aside t es ≤ n → AllHandled ds (handled_in_exprs es) → WellAsides ds n t es
+    well_asides NoExprs t h a = no_asides
+    well_asides (MoreExprs e es) t h a =
         let least = least_aside es (t + 1) in
-        aside_arg (omega (arith, h, least)) (well_expr e t (omega (arith, h)) (handled_left (handled_in_expr e) (handled_in_exprs es) a) small.0)
-        (well_asides es (t + 1) (omega (arith, h)) (handled_right (handled_in_expr e) (handled_in_exprs es) a) small.1)
+        aside_arg (omega (arith, h, least)) (well_expr e t (omega (arith, h)) (handled_left (handled_in_expr e) (handled_in_exprs es) a))
+        (well_asides es (t + 1) (omega (arith, h)) (handled_right (handled_in_expr e) (handled_in_exprs es) a))
 
-    pub well_operands : (ps : Operands) (t : ℕ) → high_operands t ps ≤ n → AllHandled ds (handled_in_operands ps) → SmallOperands ps → WellOperands ds n t ps
-    well_operands NoOperands t h a small = no_operands
-    well_operands (MoreOperands o e ps) t h a small =
-        operand (well_expr e t (omega (arith, h)) (handled_left (handled_in_expr e) (handled_in_operands ps) a) small.0)
-        (well_operands ps t (omega (arith, h)) (handled_right (handled_in_expr e) (handled_in_operands ps) a) small.1)
+    pub well_operands : (ps : Operands) (t : ℕ) → high_operands t ps ≤ n → AllHandled ds (handled_in_operands ps) → WellOperands ds n t ps
+    well_operands NoOperands t h a = no_operands
+    well_operands (MoreOperands o e ps) t h a =
+        operand (well_expr e t (omega (arith, h)) (handled_left (handled_in_expr e) (handled_in_operands ps) a))
+        (well_operands ps t (omega (arith, h)) (handled_right (handled_in_expr e) (handled_in_operands ps) a))
 
 -- ## Names
 
@@ -101,39 +100,38 @@ numbers_more {Γ} {bs} x h s = record {
 
 module _ {p : Script} {Γ : Layout} {n : ℕ} where
   -- a typed block has its temporaries and its locals
-  pub well_block : (b : BlockTree) {bs : Scope} → BlockTyped p bs b → Numbers Γ bs → Lets Γ (lets_in b) → high_block b ≤ n → AllHandled p.declarations (handled_in_block b) → SmallBlock b
-      → WellBlock p.declarations Γ n b
-  well_block NoStatements script.done s l h a small = done
-  well_block (Let x e ⨟ b) (script.lets q free rest) s l h a small =
+  pub well_block : (b : BlockTree) {bs : Scope} → BlockTyped p bs b → Numbers Γ bs → Lets Γ (lets_in b) → high_block b ≤ n → AllHandled p.declarations (handled_in_block b) → WellBlock p.declarations Γ n b
+  well_block NoStatements script.done s l h a = done
+  well_block (Let x e ⨟ b) (script.lets q free rest) s l h a =
       let first = lets_first x (lets_in b) l in
-      next (lets first (well_expr e 0 (omega (arith, h)) (handled_left (handled_in_expr e) (handled_in_block b) a) small.0))
-      (well_block b rest (numbers_more x first s) (lets_right (x ∷ []) (lets_in b) l) (omega (arith, h)) (handled_right (handled_in_expr e) (handled_in_block b) a) small.1)
-  well_block (Assign x e ⨟ b) (script.assigns q is_int rest) s l h a small =
-      next (assigns (s.each x is_int) (well_expr e 0 (omega (arith, h)) (handled_left (handled_in_expr e) (handled_in_block b) a) small.0))
-      (well_block b rest s l (omega (arith, h)) (handled_right (handled_in_expr e) (handled_in_block b) a) small.1)
-  well_block (If e b d ⨟ k) (script.ifs q one two rest) s l h a small =
+      next (lets first (well_expr e 0 (omega (arith, h)) (handled_left (handled_in_expr e) (handled_in_block b) a)))
+      (well_block b rest (numbers_more x first s) (lets_right (x ∷ []) (lets_in b) l) (omega (arith, h)) (handled_right (handled_in_expr e) (handled_in_block b) a))
+  well_block (Assign x e ⨟ b) (script.assigns q is_int rest) s l h a =
+      next (assigns (s.each x is_int) (well_expr e 0 (omega (arith, h)) (handled_left (handled_in_expr e) (handled_in_block b) a)))
+      (well_block b rest s l (omega (arith, h)) (handled_right (handled_in_expr e) (handled_in_block b) a))
+  well_block (If e b d ⨟ k) (script.ifs q one two rest) s l h a =
       let whole = handled_left (handled_in_expr e ++ (handled_in_block b ++ handled_in_block d)) (handled_in_block k) a in
       let both = handled_right (handled_in_expr e) (handled_in_block b ++ handled_in_block d) whole in
       let within = lets_left (lets_in b ++ lets_in d) (lets_in k) l in
       next
-      (ifs (well_expr e 0 (omega (arith, h)) (handled_left (handled_in_expr e) (handled_in_block b ++ handled_in_block d) whole) small.0.0)
-      (well_block b one s (lets_left (lets_in b) (lets_in d) within) (omega (arith, h)) (handled_left (handled_in_block b) (handled_in_block d) both) small.0.1)
-      (well_block d two s (lets_right (lets_in b) (lets_in d) within) (omega (arith, h)) (handled_right (handled_in_block b) (handled_in_block d) both) small.0.2))
+      (ifs (well_expr e 0 (omega (arith, h)) (handled_left (handled_in_expr e) (handled_in_block b ++ handled_in_block d) whole))
+      (well_block b one s (lets_left (lets_in b) (lets_in d) within) (omega (arith, h)) (handled_left (handled_in_block b) (handled_in_block d) both))
+      (well_block d two s (lets_right (lets_in b) (lets_in d) within) (omega (arith, h)) (handled_right (handled_in_block b) (handled_in_block d) both)))
       (well_block k rest s (lets_right (lets_in b ++ lets_in d) (lets_in k) l) (omega (arith, h))
-      (handled_right (handled_in_expr e ++ (handled_in_block b ++ handled_in_block d)) (handled_in_block k) a) small.1)
-  well_block (While e b ⨟ k) (script.whiles q inner rest) s l h a small =
+      (handled_right (handled_in_expr e ++ (handled_in_block b ++ handled_in_block d)) (handled_in_block k) a))
+  well_block (While e b ⨟ k) (script.whiles q inner rest) s l h a =
       let whole = handled_left (handled_in_expr e ++ handled_in_block b) (handled_in_block k) a in
       next
-      (whiles (well_expr e 0 (omega (arith, h)) (handled_left (handled_in_expr e) (handled_in_block b) whole) small.0.0)
-      (well_block b inner s (lets_left (lets_in b) (lets_in k) l) (omega (arith, h)) (handled_right (handled_in_expr e) (handled_in_block b) whole) small.0.1))
-      (well_block k rest s (lets_right (lets_in b) (lets_in k) l) (omega (arith, h)) (handled_right (handled_in_expr e ++ handled_in_block b) (handled_in_block k) a) small.1)
-  well_block (Print e ⨟ b) (script.prints q rest) s l h a small =
-      next (print (well_expr e 0 (omega (arith, h)) (handled_left (handled_in_expr e) (handled_in_block b) a) small.0))
-      (well_block b rest s l (omega (arith, h)) (handled_right (handled_in_expr e) (handled_in_block b) a) small.1)
-  well_block (Return e ⨟ b) (script.returns q rest) s l h a small =
-      next (return (well_expr e 0 (omega (arith, h)) (handled_left (handled_in_expr e) (handled_in_block b) a) small.0))
-      (well_block b rest s l (omega (arith, h)) (handled_right (handled_in_expr e) (handled_in_block b) a) small.1)
-  well_block (Fail ⨟ b) (script.fails rest) s l h a small = next fail (well_block b rest s l (omega (arith, h)) a small.1)
-  well_block (Evaluate e ⨟ b) (script.drops q rest) s l h a small =
-      next (drop (well_expr e 0 (omega (arith, h)) (handled_left (handled_in_expr e) (handled_in_block b) a) small.0))
-      (well_block b rest s l (omega (arith, h)) (handled_right (handled_in_expr e) (handled_in_block b) a) small.1)
+      (whiles (well_expr e 0 (omega (arith, h)) (handled_left (handled_in_expr e) (handled_in_block b) whole))
+      (well_block b inner s (lets_left (lets_in b) (lets_in k) l) (omega (arith, h)) (handled_right (handled_in_expr e) (handled_in_block b) whole)))
+      (well_block k rest s (lets_right (lets_in b) (lets_in k) l) (omega (arith, h)) (handled_right (handled_in_expr e ++ handled_in_block b) (handled_in_block k) a))
+  well_block (Print e ⨟ b) (script.prints q rest) s l h a =
+      next (print (well_expr e 0 (omega (arith, h)) (handled_left (handled_in_expr e) (handled_in_block b) a)))
+      (well_block b rest s l (omega (arith, h)) (handled_right (handled_in_expr e) (handled_in_block b) a))
+  well_block (Return e ⨟ b) (script.returns q rest) s l h a =
+      next (return (well_expr e 0 (omega (arith, h)) (handled_left (handled_in_expr e) (handled_in_block b) a)))
+      (well_block b rest s l (omega (arith, h)) (handled_right (handled_in_expr e) (handled_in_block b) a))
+  well_block (Fail ⨟ b) (script.fails rest) s l h a = next fail (well_block b rest s l (omega (arith, h)) a)
+  well_block (Evaluate e ⨟ b) (script.drops q rest) s l h a =
+      next (drop (well_expr e 0 (omega (arith, h)) (handled_left (handled_in_expr e) (handled_in_block b) a)))
+      (well_block b rest s l (omega (arith, h)) (handled_right (handled_in_expr e) (handled_in_block b) a))

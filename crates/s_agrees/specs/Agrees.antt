@@ -21,8 +21,8 @@ use Rattle.s_syntax.specs.declared.script.Definition.{Definition}
 use Rattle.s_syntax.specs.declared.script.Definition.TheVariants as definition
 use Rattle.s_syntax.specs.declared.script.Declaration.{Declaration}
 use Rattle.s_syntax.specs.declared.script.Script.{Script}
+use Rattle.s_check.specs.Refusal.{Good}
 use Rattle.s_check.specs.Size.{Size}
-use Rattle.s_judge.specs.Judgements.{IsGood}
 use Rattle.s_meaning.specs.Numbers.{Fault, DivZero, Overflow, Failed, Reused, Unhandled}
 use Rattle.s_meaning.specs.Eval.{Ended, Frames, Handles, Conts, Follows}
 use Rattle.s_code.specs.Lowered.{lowered}
@@ -86,10 +86,10 @@ pub record Agrees (p : Script) (m : Module) : Type 0 where
   pub begins : (program : Program) → program.source ≡ m → Start program ≡ Ready (first_store p.declarations) (first_term p.declarations)
   pub follows : (program : Program) → program.source ≡ m → RunFollows p program
 
--- so the runs follow of each script that bytes spell and that breaks no rule
+-- so the runs follow of each script that breaks no rule
 abbrev pub RunsFollow : Type 0
-RunsFollow = (bytes : List ℕ) (p : Script) → IsGood bytes p → (program : Program) → program.source ≡ lowered p → RunFollows p program
+RunsFollow = (p : Script) → Good p → (program : Program) → program.source ≡ lowered p → RunFollows p program
 
 -- and all of it holds where the script isn't too large
 abbrev pub ScriptsAgree : Type 0
-ScriptsAgree = (bytes : List ℕ) (p : Script) → IsGood bytes p → Size p ≤ 50000 → Agrees p (lowered p)
+ScriptsAgree = (p : Script) → Good p → Size p ≤ 50000 → Agrees p (lowered p)

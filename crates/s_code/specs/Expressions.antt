@@ -46,7 +46,7 @@ operator (Computes o) right c = right (arithmetic o c)
 abbrev mutual
   -- an expression before c, where t temporaries are in use
   pub expr : List Declaration → Layout → ℕ → ExprTree → Code → Code
-  expr ds Γ t (Literal n) c = Plain (constant (pos n)) c
+  expr ds Γ t (Literal n) c = Plain (constant (pos n.value)) c
   expr ds Γ t (Read x) c = Plain (local_get (local_number Γ x)) c
   expr ds Γ t (Unary o e) c = expr ds Γ t e (unary_operator o c)
   expr ds Γ t (Run e ps) c = expr ds Γ t e (operands ds Γ t ps c)

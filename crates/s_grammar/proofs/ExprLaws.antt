@@ -1,7 +1,6 @@
 -- The laws of expressions.
 use Rattle.std.proofs.Common.{ℕ, zero, suc, true, false, List, [], ◌∷◌, ◌++◌, Option, Some, None, refl, arith}
 use Rattle.s_syntax.specs.ExprTree.{Literal, ExprTree, Unary}
-use Rattle.s_syntax.specs.declared.number.Number.{Number}
 use Rattle.s_syntax.specs.declared.operators.UnaryOperator.TheVariants as unary
 use Rattle.s_syntax.specs.declared.token.Kind.{Kind}
 use Rattle.s_syntax.specs.declared.token.Kind.TheVariants as kind
@@ -33,18 +32,18 @@ module _ (bytes : List ℕ) where
   int_laws n = one_laws n (is kind.Int) (number_of bytes) kind.Int refl refl
 
   -- a number is spelled
-  number_sample : Image {A = Number} (λ n. Literal n.value) (INT bytes) (token_of kind.Int ∷ []) (Literal (number_of bytes (token_of kind.Int)).value)
+  number_sample : Image Literal (INT bytes) (token_of kind.Int ∷ []) (Literal (number_of bytes (token_of kind.Int)))
   number_sample = (number_of bytes (token_of kind.Int), (token_of kind.Int, refl, refl, refl), refl)
 
   -- so is an operand
   expr_sample : (E : ℕ → Grammar ExprTree) (A : ℕ → Grammar (List ExprTree)) (m : ℕ) → Begins (Choice (UnaryBy bytes (E m) (A m))) []
   unfolding UnaryBy PrimaryBy
-  expr_sample E A m = (token_of kind.Int ∷ [], Literal (number_of bytes (token_of kind.Int)).value, number_sample)
+  expr_sample E A m = (token_of kind.Int ∷ [], Literal (number_of bytes (token_of kind.Int)), number_sample)
 
   -- and one without an operator in front
   primary_sample : (E : ℕ → Grammar ExprTree) (A : ℕ → Grammar (List ExprTree)) (m : ℕ) → Begins (Choice (PrimaryBy bytes (E m) (A m))) []
   unfolding PrimaryBy
-  primary_sample E A m = (token_of kind.Int ∷ [], Literal (number_of bytes (token_of kind.Int)).value, number_sample)
+  primary_sample E A m = (token_of kind.Int ∷ [], Literal (number_of bytes (token_of kind.Int)), number_sample)
 
   module _ (n : ℕ) (E : ℕ → Grammar ExprTree) (A : ℕ → Grammar (List ExprTree)) (e : Reading ExprTree) (a : Reading (List ExprTree))
       (p : Laws n 1 false (is kind.OpenParenthesis) any_kind E e) (q : Laws n 1 false (is kind.OpenParenthesis) any_kind A a) where
@@ -64,7 +63,7 @@ module _ (bytes : List ℕ) where
         (image_of resume_of
         (led_laws kind.Resume (omega arith) refl refl refl
         (in_turn_of (omega arith) (deeper_laws 1 (omega arith) (name_laws n)) (in_turn_of (omega arith) p (led_laws kind.With (omega arith) refl refl refl q) refl) refl)))
-    primary_laws_by k = wider_of begins_expr ends_primary refl refl (image_of (λ n. Literal n.value) (deeper_laws 1 (omega arith) (int_laws n)))
+    primary_laws_by k = wider_of begins_expr ends_primary refl refl (image_of Literal (deeper_laws 1 (omega arith) (int_laws n)))
 
     -- all of these
     primary_laws : Laws n 0 false begins_expr ends_primary (λ m. Choice (PrimaryBy bytes (E m) (A m))) (choice (primary_by bytes e a))

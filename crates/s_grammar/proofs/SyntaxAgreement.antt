@@ -75,7 +75,7 @@ module _ (bytes : List ℕ) where
   primary_agree e e' a a' h i kind.Do = image_agrees do_of (led_agrees kind.Do (in_turn_agrees (agree_same (name bytes)) i))
   primary_agree e e' a a' h i kind.Handle = image_agrees handle_of (led_agrees kind.Handle (in_turn_agrees (agree_same (name bytes)) (in_turn_agrees i (led_agrees kind.With (in_turn_agrees (agree_same (name bytes)) i)))))
   primary_agree e e' a a' h i kind.Resume = image_agrees resume_of (led_agrees kind.Resume (in_turn_agrees (agree_same (name bytes)) (in_turn_agrees h (led_agrees kind.With i))))
-  primary_agree e e' a a' h i k = agree_same (image (λ n. Literal n.value) (int bytes))
+  primary_agree e e' a a' h i k = agree_same (image Literal (int bytes))
 
   -- operands
   unary_agree : (e e' : Reading ExprTree) (a a' : Reading (List ExprTree)) → Agree e e' → Agree a a' → (k : Kind) → Agree (unary_by bytes e a k) (unary_by bytes e' a' k)

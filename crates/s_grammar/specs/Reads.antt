@@ -69,7 +69,7 @@ module _ (bytes : List ℕ) where
   primary_by e a kind.Do = image do_of (led kind.Do (in_turn name a))
   primary_by e a kind.Handle = image handle_of (led kind.Handle (in_turn name (in_turn a (led kind.With (in_turn name a)))))
   primary_by e a kind.Resume = image resume_of (led kind.Resume (in_turn name (in_turn e (led kind.With a))))
-  primary_by e a k = image (λ n. Literal n.value) int
+  primary_by e a k = image Literal int
 
   unfoldable pub unary_by : Reading ExprTree → Reading (List ExprTree) → Kind → Reading ExprTree
   unary_by e a kind.Minus = image (λ t. Unary unary.Minus t) (led kind.Minus (choice (primary_by e a)))

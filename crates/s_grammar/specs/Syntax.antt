@@ -75,7 +75,7 @@ module _ (bytes : List ℕ) where
   PrimaryBy e a kind.Do = Image do_of (Led kind.Do (InTurn NAME a))
   PrimaryBy e a kind.Handle = Image handle_of (Led kind.Handle (InTurn NAME (InTurn a (Led kind.With (InTurn NAME a)))))
   PrimaryBy e a kind.Resume = Image resume_of (Led kind.Resume (InTurn NAME (InTurn e (Led kind.With a))))
-  PrimaryBy e a k = Image (λ n. Literal n.value) INT
+  PrimaryBy e a k = Image Literal INT
 
   -- ('-' | '!')? primary
   unfoldable pub UnaryBy : Grammar ExprTree → Grammar (List ExprTree) → Kind → Grammar ExprTree

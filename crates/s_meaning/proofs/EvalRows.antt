@@ -1,6 +1,7 @@
 -- The worked scripts: what they print, how they end and after how many steps, and how many activations, active handles and resumptions there are midway.
 use Rattle.std.specs.Int.{int_wrap}
-use Rattle.std.proofs.Common.{◌≡◌, ◌∙◌, ℕ, zero, suc, pos, negsuc, List, [], ◌∷◌, ◌++◌, codes, refl, append-nil, arith}
+use Rattle.std.proofs.Common.{◌≡◌, ◌∙◌, ℕ, zero, suc, pos, negsuc, List, [], ◌∷◌, ◌++◌, codes, refl, append-nil, arith, min}
+use Rattle.std.proofs.Math.Nat.{min-le_right}
 use Rattle.following.specs.Follows.{Going, Value, Fault}
 use Rattle.s_syntax.specs.declared.script.Definition.{Definition}
 use Rattle.s_syntax.specs.declared.script.Definition.TheVariants as definition
@@ -16,6 +17,10 @@ use Rattle.s_syntax.specs.BlockTree.{Let, Assign, If, While, Print, Return, Eval
 use Rattle.s_meaning.specs.Numbers.{line, Overflow, Reused, Unhandled}
 use Rattle.s_meaning.specs.Terms.{acts, hands, kept}
 use Rattle.s_meaning.specs.Eval.{Eval}
+
+-- a literal; a number above the greatest is cut to that
+abbrev int : ℕ → ExprTree
+int n = Literal (record { value = min n 9223372036854775807; small = min-le_right n 9223372036854775807 })
 
 infixr 55 ◌⊕◌
 abbrev ◌⊕◌ : ExprTree → Exprs → Exprs
@@ -41,10 +46,10 @@ unfoldable counts_asks : Script
 counts_asks = record {
   declarations =
       record { name = (codes "ask"); definition = effect_of_0 }
-      ∷ record { name = (codes "body"); definition = definition.Function (record { parameters = ([]); body = (Print (Run (Do (codes "ask") NoExprs) (MoreOperands (Computes Add) (Do (codes "ask") NoExprs) NoOperands)) ⨟ Return (Literal 7) ⨟ Done) }) }
+      ∷ record { name = (codes "body"); definition = definition.Function (record { parameters = ([]); body = (Print (Run (Do (codes "ask") NoExprs) (MoreOperands (Computes Add) (Do (codes "ask") NoExprs) NoOperands)) ⨟ Return (int 7) ⨟ Done) }) }
       ∷ record { name = (codes "one"); definition = definition.Function (record { parameters = ([]); body = (Return (Do (codes "ask") NoExprs) ⨟ Done) }) }
-      ∷ record { name = (codes "h"); definition = definition.Handler (record { parameters = (record { name = (codes "s"); ty = Int } ∷ []); return_clause = record { value = (codes "x"); body = (Return (Run (Read (codes "x")) (MoreOperands (Computes Add) (Read (codes "s")) NoOperands)) ⨟ Done) }; clauses = (record { effect = (codes "ask"); arguments = ([]); resumption = (codes "k"); body = (Return (Resume (codes "k") (Read (codes "s")) ((Run (Read (codes "s")) (MoreOperands (Computes Add) (Literal 1) NoOperands)) ⊕ NoExprs)) ⨟ Done) } ∷ []) }) }
-      ∷ record { name = (codes "main"); definition = definition.Function (record { parameters = ([]); body = (Return (Handle (codes "body") NoExprs (codes "h") ((Literal 10) ⊕ NoExprs)) ⨟ Done) }) }
+      ∷ record { name = (codes "h"); definition = definition.Handler (record { parameters = (record { name = (codes "s"); ty = Int } ∷ []); return_clause = record { value = (codes "x"); body = (Return (Run (Read (codes "x")) (MoreOperands (Computes Add) (Read (codes "s")) NoOperands)) ⨟ Done) }; clauses = (record { effect = (codes "ask"); arguments = ([]); resumption = (codes "k"); body = (Return (Resume (codes "k") (Read (codes "s")) ((Run (Read (codes "s")) (MoreOperands (Computes Add) (int 1) NoOperands)) ⊕ NoExprs)) ⨟ Done) } ∷ []) }) }
+      ∷ record { name = (codes "main"); definition = definition.Function (record { parameters = ([]); body = (Return (Handle (codes "body") NoExprs (codes "h") ((int 10) ⊕ NoExprs)) ⨟ Done) }) }
       ∷ [];
 }
 
@@ -75,7 +80,7 @@ counts_asks-kept = refl
 unfoldable one : Script
 one = record {
   declarations =
-      record { name = (codes "main"); definition = definition.Function (record { parameters = ([]); body = (Return (Literal 1) ⨟ Done) }) }
+      record { name = (codes "main"); definition = definition.Function (record { parameters = ([]); body = (Return (int 1) ⨟ Done) }) }
       ∷ [];
 }
 
@@ -95,10 +100,10 @@ unfoldable a_loop_of_asks : Script
 a_loop_of_asks = record {
   declarations =
       record { name = (codes "ask"); definition = effect_of_0 }
-      ∷ record { name = (codes "body"); definition = definition.Function (record { parameters = ([]); body = (Let (codes "i") (Literal 0) ⨟ While (Run (Read (codes "i")) (MoreOperands (Compares Less) (Literal 5) NoOperands)) (Evaluate (Do (codes "ask") NoExprs) ⨟ Assign (codes "i") (Run (Read (codes "i")) (MoreOperands (Computes Add) (Literal 1) NoOperands)) ⨟ Done) ⨟ Return (Read (codes "i")) ⨟ Done) }) }
+      ∷ record { name = (codes "body"); definition = definition.Function (record { parameters = ([]); body = (Let (codes "i") (int 0) ⨟ While (Run (Read (codes "i")) (MoreOperands (Compares Less) (int 5) NoOperands)) (Evaluate (Do (codes "ask") NoExprs) ⨟ Assign (codes "i") (Run (Read (codes "i")) (MoreOperands (Computes Add) (int 1) NoOperands)) ⨟ Done) ⨟ Return (Read (codes "i")) ⨟ Done) }) }
       ∷ record { name = (codes "one"); definition = definition.Function (record { parameters = ([]); body = (Return (Do (codes "ask") NoExprs) ⨟ Done) }) }
-      ∷ record { name = (codes "h"); definition = definition.Handler (record { parameters = (record { name = (codes "s"); ty = Int } ∷ []); return_clause = record { value = (codes "x"); body = (Return (Run (Read (codes "x")) (MoreOperands (Computes Add) (Read (codes "s")) NoOperands)) ⨟ Done) }; clauses = (record { effect = (codes "ask"); arguments = ([]); resumption = (codes "k"); body = (Return (Resume (codes "k") (Read (codes "s")) ((Run (Read (codes "s")) (MoreOperands (Computes Add) (Literal 1) NoOperands)) ⊕ NoExprs)) ⨟ Done) } ∷ []) }) }
-      ∷ record { name = (codes "main"); definition = definition.Function (record { parameters = ([]); body = (Return (Handle (codes "body") NoExprs (codes "h") ((Literal 0) ⊕ NoExprs)) ⨟ Done) }) }
+      ∷ record { name = (codes "h"); definition = definition.Handler (record { parameters = (record { name = (codes "s"); ty = Int } ∷ []); return_clause = record { value = (codes "x"); body = (Return (Run (Read (codes "x")) (MoreOperands (Computes Add) (Read (codes "s")) NoOperands)) ⨟ Done) }; clauses = (record { effect = (codes "ask"); arguments = ([]); resumption = (codes "k"); body = (Return (Resume (codes "k") (Read (codes "s")) ((Run (Read (codes "s")) (MoreOperands (Computes Add) (int 1) NoOperands)) ⊕ NoExprs)) ⨟ Done) } ∷ []) }) }
+      ∷ record { name = (codes "main"); definition = definition.Function (record { parameters = ([]); body = (Return (Handle (codes "body") NoExprs (codes "h") ((int 0) ⊕ NoExprs)) ⨟ Done) }) }
       ∷ [];
 }
 
@@ -130,10 +135,10 @@ unfoldable a_resumed_value_is_used : Script
 a_resumed_value_is_used = record {
   declarations =
       record { name = (codes "ask"); definition = effect_of_0 }
-      ∷ record { name = (codes "body"); definition = definition.Function (record { parameters = ([]); body = (Print (Run (Do (codes "ask") NoExprs) (MoreOperands (Computes Add) (Do (codes "ask") NoExprs) NoOperands)) ⨟ Return (Literal 7) ⨟ Done) }) }
+      ∷ record { name = (codes "body"); definition = definition.Function (record { parameters = ([]); body = (Print (Run (Do (codes "ask") NoExprs) (MoreOperands (Computes Add) (Do (codes "ask") NoExprs) NoOperands)) ⨟ Return (int 7) ⨟ Done) }) }
       ∷ record { name = (codes "one"); definition = definition.Function (record { parameters = ([]); body = (Return (Do (codes "ask") NoExprs) ⨟ Done) }) }
-      ∷ record { name = (codes "h"); definition = definition.Handler (record { parameters = (record { name = (codes "s"); ty = Int } ∷ []); return_clause = record { value = (codes "x"); body = (Return (Run (Read (codes "x")) (MoreOperands (Computes Add) (Read (codes "s")) NoOperands)) ⨟ Done) }; clauses = (record { effect = (codes "ask"); arguments = ([]); resumption = (codes "k"); body = (Return (Run (Literal 100) (MoreOperands (Computes Add) (Resume (codes "k") (Read (codes "s")) ((Run (Read (codes "s")) (MoreOperands (Computes Add) (Literal 1) NoOperands)) ⊕ NoExprs)) NoOperands)) ⨟ Done) } ∷ []) }) }
-      ∷ record { name = (codes "main"); definition = definition.Function (record { parameters = ([]); body = (Return (Handle (codes "body") NoExprs (codes "h") ((Literal 10) ⊕ NoExprs)) ⨟ Done) }) }
+      ∷ record { name = (codes "h"); definition = definition.Handler (record { parameters = (record { name = (codes "s"); ty = Int } ∷ []); return_clause = record { value = (codes "x"); body = (Return (Run (Read (codes "x")) (MoreOperands (Computes Add) (Read (codes "s")) NoOperands)) ⨟ Done) }; clauses = (record { effect = (codes "ask"); arguments = ([]); resumption = (codes "k"); body = (Return (Run (int 100) (MoreOperands (Computes Add) (Resume (codes "k") (Read (codes "s")) ((Run (Read (codes "s")) (MoreOperands (Computes Add) (int 1) NoOperands)) ⊕ NoExprs)) NoOperands)) ⨟ Done) } ∷ []) }) }
+      ∷ record { name = (codes "main"); definition = definition.Function (record { parameters = ([]); body = (Return (Handle (codes "body") NoExprs (codes "h") ((int 10) ⊕ NoExprs)) ⨟ Done) }) }
       ∷ [];
 }
 
@@ -165,10 +170,10 @@ unfoldable resumed_twice : Script
 resumed_twice = record {
   declarations =
       record { name = (codes "ask"); definition = effect_of_0 }
-      ∷ record { name = (codes "body"); definition = definition.Function (record { parameters = ([]); body = (Print (Run (Do (codes "ask") NoExprs) (MoreOperands (Computes Add) (Do (codes "ask") NoExprs) NoOperands)) ⨟ Return (Literal 7) ⨟ Done) }) }
+      ∷ record { name = (codes "body"); definition = definition.Function (record { parameters = ([]); body = (Print (Run (Do (codes "ask") NoExprs) (MoreOperands (Computes Add) (Do (codes "ask") NoExprs) NoOperands)) ⨟ Return (int 7) ⨟ Done) }) }
       ∷ record { name = (codes "one"); definition = definition.Function (record { parameters = ([]); body = (Return (Do (codes "ask") NoExprs) ⨟ Done) }) }
       ∷ record { name = (codes "h"); definition = definition.Handler (record { parameters = (record { name = (codes "s"); ty = Int } ∷ []); return_clause = record { value = (codes "x"); body = (Return (Run (Read (codes "x")) (MoreOperands (Computes Add) (Read (codes "s")) NoOperands)) ⨟ Done) }; clauses = (record { effect = (codes "ask"); arguments = ([]); resumption = (codes "k"); body = (Let (codes "a") (Resume (codes "k") (Read (codes "s")) ((Read (codes "s")) ⊕ NoExprs)) ⨟ Return (Resume (codes "k") (Read (codes "s")) ((Read (codes "s")) ⊕ NoExprs)) ⨟ Done) } ∷ []) }) }
-      ∷ record { name = (codes "main"); definition = definition.Function (record { parameters = ([]); body = (Return (Handle (codes "one") NoExprs (codes "h") ((Literal 10) ⊕ NoExprs)) ⨟ Done) }) }
+      ∷ record { name = (codes "main"); definition = definition.Function (record { parameters = ([]); body = (Return (Handle (codes "one") NoExprs (codes "h") ((int 10) ⊕ NoExprs)) ⨟ Done) }) }
       ∷ [];
 }
 
@@ -201,11 +206,11 @@ two_handlers = record {
   declarations =
       record { name = (codes "a"); definition = effect_of_0 }
       ∷ record { name = (codes "b"); definition = effect_of_0 }
-      ∷ record { name = (codes "inner"); definition = definition.Function (record { parameters = ([]); body = (Return (Run (Run (Do (codes "a") NoExprs) (MoreOperands (Computes Multiply) (Literal 10) NoOperands)) (MoreOperands (Computes Add) (Do (codes "b") NoExprs) NoOperands)) ⨟ Done) }) }
+      ∷ record { name = (codes "inner"); definition = definition.Function (record { parameters = ([]); body = (Return (Run (Run (Do (codes "a") NoExprs) (MoreOperands (Computes Multiply) (int 10) NoOperands)) (MoreOperands (Computes Add) (Do (codes "b") NoExprs) NoOperands)) ⨟ Done) }) }
       ∷ record { name = (codes "hb"); definition = definition.Handler (record { parameters = (record { name = (codes "v"); ty = Int } ∷ []); return_clause = record { value = (codes "x"); body = (Return (Read (codes "x")) ⨟ Done) }; clauses = (record { effect = (codes "b"); arguments = ([]); resumption = (codes "k"); body = (Return (Resume (codes "k") (Read (codes "v")) ((Read (codes "v")) ⊕ NoExprs)) ⨟ Done) } ∷ []) }) }
-      ∷ record { name = (codes "mid"); definition = definition.Function (record { parameters = ([]); body = (Return (Handle (codes "inner") NoExprs (codes "hb") ((Literal 3) ⊕ NoExprs)) ⨟ Done) }) }
+      ∷ record { name = (codes "mid"); definition = definition.Function (record { parameters = ([]); body = (Return (Handle (codes "inner") NoExprs (codes "hb") ((int 3) ⊕ NoExprs)) ⨟ Done) }) }
       ∷ record { name = (codes "ha"); definition = definition.Handler (record { parameters = (record { name = (codes "v"); ty = Int } ∷ []); return_clause = record { value = (codes "x"); body = (Return (Read (codes "x")) ⨟ Done) }; clauses = (record { effect = (codes "a"); arguments = ([]); resumption = (codes "k"); body = (Return (Resume (codes "k") (Read (codes "v")) ((Read (codes "v")) ⊕ NoExprs)) ⨟ Done) } ∷ []) }) }
-      ∷ record { name = (codes "main"); definition = definition.Function (record { parameters = ([]); body = (Return (Handle (codes "mid") NoExprs (codes "ha") ((Literal 4) ⊕ NoExprs)) ⨟ Done) }) }
+      ∷ record { name = (codes "main"); definition = definition.Function (record { parameters = ([]); body = (Return (Handle (codes "mid") NoExprs (codes "ha") ((int 4) ⊕ NoExprs)) ⨟ Done) }) }
       ∷ [];
 }
 
@@ -236,8 +241,8 @@ two_handlers-kept = refl
 unfoldable recursion : Script
 recursion = record {
   declarations =
-      record { name = (codes "f"); definition = definition.Function (record { parameters = (record { name = (codes "n"); ty = Int } ∷ []); body = (If (Read (codes "n")) (Return (Call (codes "f") ((Run (Read (codes "n")) (MoreOperands (Computes Subtract) (Literal 1) NoOperands)) ⊕ NoExprs)) ⨟ Done) (Done) ⨟ Return (Literal 0) ⨟ Done) }) }
-      ∷ record { name = (codes "main"); definition = definition.Function (record { parameters = ([]); body = (Return (Call (codes "f") ((Literal 6) ⊕ NoExprs)) ⨟ Done) }) }
+      record { name = (codes "f"); definition = definition.Function (record { parameters = (record { name = (codes "n"); ty = Int } ∷ []); body = (If (Read (codes "n")) (Return (Call (codes "f") ((Run (Read (codes "n")) (MoreOperands (Computes Subtract) (int 1) NoOperands)) ⊕ NoExprs)) ⨟ Done) (Done) ⨟ Return (int 0) ⨟ Done) }) }
+      ∷ record { name = (codes "main"); definition = definition.Function (record { parameters = ([]); body = (Return (Call (codes "f") ((int 6) ⊕ NoExprs)) ⨟ Done) }) }
       ∷ [];
 }
 
@@ -268,7 +273,7 @@ recursion-kept = refl
 unfoldable overflow : Script
 overflow = record {
   declarations =
-      record { name = (codes "main"); definition = definition.Function (record { parameters = ([]); body = (Return (Run (Run (Literal 0) (MoreOperands (Computes Subtract) (Literal 9223372036854775807) (MoreOperands (Computes Subtract) (Literal 1) NoOperands))) (MoreOperands (Computes Divide) (Run (Literal 0) (MoreOperands (Computes Subtract) (Literal 1) NoOperands)) NoOperands)) ⨟ Done) }) }
+      record { name = (codes "main"); definition = definition.Function (record { parameters = ([]); body = (Return (Run (Run (int 0) (MoreOperands (Computes Subtract) (int 9223372036854775807) (MoreOperands (Computes Subtract) (int 1) NoOperands))) (MoreOperands (Computes Divide) (Run (int 0) (MoreOperands (Computes Subtract) (int 1) NoOperands)) NoOperands)) ⨟ Done) }) }
       ∷ [];
 }
 
@@ -299,9 +304,9 @@ overflow-kept = refl
 unfoldable handlers_in_one_another : Script
 handlers_in_one_another = record {
   declarations =
-      record { name = (codes "f"); definition = definition.Function (record { parameters = (record { name = (codes "n"); ty = Int } ∷ []); body = (If (Read (codes "n")) (Return (Handle (codes "f") ((Run (Read (codes "n")) (MoreOperands (Computes Subtract) (Literal 1) NoOperands)) ⊕ NoExprs) (codes "id") NoExprs) ⨟ Done) (Done) ⨟ Return (Literal 0) ⨟ Done) }) }
+      record { name = (codes "f"); definition = definition.Function (record { parameters = (record { name = (codes "n"); ty = Int } ∷ []); body = (If (Read (codes "n")) (Return (Handle (codes "f") ((Run (Read (codes "n")) (MoreOperands (Computes Subtract) (int 1) NoOperands)) ⊕ NoExprs) (codes "id") NoExprs) ⨟ Done) (Done) ⨟ Return (int 0) ⨟ Done) }) }
       ∷ record { name = (codes "id"); definition = definition.Handler (record { parameters = ([]); return_clause = record { value = (codes "x"); body = (Return (Read (codes "x")) ⨟ Done) }; clauses = ([]) }) }
-      ∷ record { name = (codes "main"); definition = definition.Function (record { parameters = ([]); body = (Return (Call (codes "f") ((Literal 5) ⊕ NoExprs)) ⨟ Done) }) }
+      ∷ record { name = (codes "main"); definition = definition.Function (record { parameters = ([]); body = (Return (Call (codes "f") ((int 5) ⊕ NoExprs)) ⨟ Done) }) }
       ∷ [];
 }
 
@@ -333,7 +338,7 @@ unfoldable unhandled : Script
 unhandled = record {
   declarations =
       record { name = (codes "ask"); definition = effect_of_0 }
-      ∷ record { name = (codes "main"); definition = definition.Function (record { parameters = ([]); body = (Print (Literal 5) ⨟ Return (Do (codes "ask") NoExprs) ⨟ Done) }) }
+      ∷ record { name = (codes "main"); definition = definition.Function (record { parameters = ([]); body = (Print (int 5) ⨟ Return (Do (codes "ask") NoExprs) ⨟ Done) }) }
       ∷ [];
 }
 
@@ -365,11 +370,11 @@ unfoldable a_resumption_is_handed_over : Script
 a_resumption_is_handed_over = record {
   declarations =
       record { name = (codes "ask"); definition = effect_of_0 }
-      ∷ record { name = (codes "body"); definition = definition.Function (record { parameters = ([]); body = (Print (Run (Do (codes "ask") NoExprs) (MoreOperands (Computes Add) (Do (codes "ask") NoExprs) NoOperands)) ⨟ Return (Literal 7) ⨟ Done) }) }
+      ∷ record { name = (codes "body"); definition = definition.Function (record { parameters = ([]); body = (Print (Run (Do (codes "ask") NoExprs) (MoreOperands (Computes Add) (Do (codes "ask") NoExprs) NoOperands)) ⨟ Return (int 7) ⨟ Done) }) }
       ∷ record { name = (codes "go"); definition = definition.Function (record { parameters = (record { name = (codes "k"); ty = (Resumption (codes "h")) } ∷ record { name = (codes "v"); ty = Int } ∷ []); body = (Return (Resume (codes "k") (Read (codes "v")) ((Read (codes "v")) ⊕ NoExprs)) ⨟ Done) }) }
       ∷ record { name = (codes "one"); definition = definition.Function (record { parameters = ([]); body = (Return (Do (codes "ask") NoExprs) ⨟ Done) }) }
-      ∷ record { name = (codes "h"); definition = definition.Handler (record { parameters = (record { name = (codes "s"); ty = Int } ∷ []); return_clause = record { value = (codes "x"); body = (Return (Run (Read (codes "x")) (MoreOperands (Computes Add) (Read (codes "s")) NoOperands)) ⨟ Done) }; clauses = (record { effect = (codes "ask"); arguments = ([]); resumption = (codes "k"); body = (Return (Call (codes "go") ((Read (codes "k")) ⊕ ((Literal 5) ⊕ NoExprs))) ⨟ Done) } ∷ []) }) }
-      ∷ record { name = (codes "main"); definition = definition.Function (record { parameters = ([]); body = (Return (Handle (codes "one") NoExprs (codes "h") ((Literal 10) ⊕ NoExprs)) ⨟ Done) }) }
+      ∷ record { name = (codes "h"); definition = definition.Handler (record { parameters = (record { name = (codes "s"); ty = Int } ∷ []); return_clause = record { value = (codes "x"); body = (Return (Run (Read (codes "x")) (MoreOperands (Computes Add) (Read (codes "s")) NoOperands)) ⨟ Done) }; clauses = (record { effect = (codes "ask"); arguments = ([]); resumption = (codes "k"); body = (Return (Call (codes "go") ((Read (codes "k")) ⊕ ((int 5) ⊕ NoExprs))) ⨟ Done) } ∷ []) }) }
+      ∷ record { name = (codes "main"); definition = definition.Function (record { parameters = ([]); body = (Return (Handle (codes "one") NoExprs (codes "h") ((int 10) ⊕ NoExprs)) ⨟ Done) }) }
       ∷ [];
 }
 
@@ -401,11 +406,11 @@ unfoldable resumptions_handed_down : Script
 resumptions_handed_down = record {
   declarations =
       record { name = (codes "ask"); definition = effect_of_0 }
-      ∷ record { name = (codes "body"); definition = definition.Function (record { parameters = ([]); body = (Print (Run (Do (codes "ask") NoExprs) (MoreOperands (Computes Add) (Do (codes "ask") NoExprs) NoOperands)) ⨟ Return (Literal 7) ⨟ Done) }) }
-      ∷ record { name = (codes "go"); definition = definition.Function (record { parameters = (record { name = (codes "k"); ty = (Resumption (codes "h")) } ∷ record { name = (codes "n"); ty = Int } ∷ []); body = (If (Read (codes "n")) (Return (Run (Literal 0) (MoreOperands (Computes Add) (Call (codes "go") ((Read (codes "k")) ⊕ ((Run (Read (codes "n")) (MoreOperands (Computes Subtract) (Literal 1) NoOperands)) ⊕ NoExprs))) NoOperands)) ⨟ Done) (Done) ⨟ Return (Resume (codes "k") (Read (codes "n")) ((Read (codes "n")) ⊕ NoExprs)) ⨟ Done) }) }
+      ∷ record { name = (codes "body"); definition = definition.Function (record { parameters = ([]); body = (Print (Run (Do (codes "ask") NoExprs) (MoreOperands (Computes Add) (Do (codes "ask") NoExprs) NoOperands)) ⨟ Return (int 7) ⨟ Done) }) }
+      ∷ record { name = (codes "go"); definition = definition.Function (record { parameters = (record { name = (codes "k"); ty = (Resumption (codes "h")) } ∷ record { name = (codes "n"); ty = Int } ∷ []); body = (If (Read (codes "n")) (Return (Run (int 0) (MoreOperands (Computes Add) (Call (codes "go") ((Read (codes "k")) ⊕ ((Run (Read (codes "n")) (MoreOperands (Computes Subtract) (int 1) NoOperands)) ⊕ NoExprs))) NoOperands)) ⨟ Done) (Done) ⨟ Return (Resume (codes "k") (Read (codes "n")) ((Read (codes "n")) ⊕ NoExprs)) ⨟ Done) }) }
       ∷ record { name = (codes "one"); definition = definition.Function (record { parameters = ([]); body = (Return (Do (codes "ask") NoExprs) ⨟ Done) }) }
-      ∷ record { name = (codes "h"); definition = definition.Handler (record { parameters = (record { name = (codes "s"); ty = Int } ∷ []); return_clause = record { value = (codes "x"); body = (Return (Run (Read (codes "x")) (MoreOperands (Computes Add) (Read (codes "s")) NoOperands)) ⨟ Done) }; clauses = (record { effect = (codes "ask"); arguments = ([]); resumption = (codes "k"); body = (Let (codes "a") (Resume (codes "k") (Read (codes "s")) ((Read (codes "s")) ⊕ NoExprs)) ⨟ Return (Run (Literal 0) (MoreOperands (Computes Add) (Call (codes "go") ((Read (codes "k")) ⊕ ((Literal 7) ⊕ NoExprs))) NoOperands)) ⨟ Done) } ∷ []) }) }
-      ∷ record { name = (codes "main"); definition = definition.Function (record { parameters = ([]); body = (Return (Handle (codes "one") NoExprs (codes "h") ((Literal 10) ⊕ NoExprs)) ⨟ Done) }) }
+      ∷ record { name = (codes "h"); definition = definition.Handler (record { parameters = (record { name = (codes "s"); ty = Int } ∷ []); return_clause = record { value = (codes "x"); body = (Return (Run (Read (codes "x")) (MoreOperands (Computes Add) (Read (codes "s")) NoOperands)) ⨟ Done) }; clauses = (record { effect = (codes "ask"); arguments = ([]); resumption = (codes "k"); body = (Let (codes "a") (Resume (codes "k") (Read (codes "s")) ((Read (codes "s")) ⊕ NoExprs)) ⨟ Return (Run (int 0) (MoreOperands (Computes Add) (Call (codes "go") ((Read (codes "k")) ⊕ ((int 7) ⊕ NoExprs))) NoOperands)) ⨟ Done) } ∷ []) }) }
+      ∷ record { name = (codes "main"); definition = definition.Function (record { parameters = ([]); body = (Return (Handle (codes "one") NoExprs (codes "h") ((int 10) ⊕ NoExprs)) ⨟ Done) }) }
       ∷ [];
 }
 
@@ -437,10 +442,10 @@ unfoldable ticks : Script
 ticks = record {
   declarations =
       record { name = (codes "tick"); definition = effect_of_1 }
-      ∷ record { name = (codes "task"); definition = definition.Function (record { parameters = (record { name = (codes "id"); ty = Int } ∷ record { name = (codes "n"); ty = Int } ∷ []); body = (Let (codes "i") (Literal 0) ⨟ While (Run (Read (codes "i")) (MoreOperands (Compares Less) (Read (codes "n")) NoOperands)) (Evaluate (Do (codes "tick") ((Read (codes "id")) ⊕ NoExprs)) ⨟ Assign (codes "i") (Run (Read (codes "i")) (MoreOperands (Computes Add) (Literal 1) NoOperands)) ⨟ Done) ⨟ Return (Literal 0) ⨟ Done) }) }
-      ∷ record { name = (codes "count"); definition = definition.Handler (record { parameters = (record { name = (codes "ticks"); ty = Int } ∷ record { name = (codes "total"); ty = Int } ∷ []); return_clause = record { value = (codes "x"); body = (Print (Read (codes "ticks")) ⨟ Return (Read (codes "total")) ⨟ Done) }; clauses = (record { effect = (codes "tick"); arguments = ((codes "w") ∷ []); resumption = (codes "k"); body = (Return (Resume (codes "k") (Literal 0) ((Run (Read (codes "ticks")) (MoreOperands (Computes Add) (Literal 1) NoOperands)) ⊕ ((Run (Read (codes "total")) (MoreOperands (Computes Add) (Read (codes "w")) NoOperands)) ⊕ NoExprs))) ⨟ Done) } ∷ []) }) }
-      ∷ record { name = (codes "all"); definition = definition.Function (record { parameters = ([]); body = (Evaluate (Call (codes "task") ((Literal 1) ⊕ ((Literal 3) ⊕ NoExprs))) ⨟ Done) }) }
-      ∷ record { name = (codes "main"); definition = definition.Function (record { parameters = ([]); body = (Print (Literal 1) ⨟ Return (Handle (codes "all") NoExprs (codes "count") ((Literal 0) ⊕ ((Literal 0) ⊕ NoExprs))) ⨟ Done) }) }
+      ∷ record { name = (codes "task"); definition = definition.Function (record { parameters = (record { name = (codes "id"); ty = Int } ∷ record { name = (codes "n"); ty = Int } ∷ []); body = (Let (codes "i") (int 0) ⨟ While (Run (Read (codes "i")) (MoreOperands (Compares Less) (Read (codes "n")) NoOperands)) (Evaluate (Do (codes "tick") ((Read (codes "id")) ⊕ NoExprs)) ⨟ Assign (codes "i") (Run (Read (codes "i")) (MoreOperands (Computes Add) (int 1) NoOperands)) ⨟ Done) ⨟ Return (int 0) ⨟ Done) }) }
+      ∷ record { name = (codes "count"); definition = definition.Handler (record { parameters = (record { name = (codes "ticks"); ty = Int } ∷ record { name = (codes "total"); ty = Int } ∷ []); return_clause = record { value = (codes "x"); body = (Print (Read (codes "ticks")) ⨟ Return (Read (codes "total")) ⨟ Done) }; clauses = (record { effect = (codes "tick"); arguments = ((codes "w") ∷ []); resumption = (codes "k"); body = (Return (Resume (codes "k") (int 0) ((Run (Read (codes "ticks")) (MoreOperands (Computes Add) (int 1) NoOperands)) ⊕ ((Run (Read (codes "total")) (MoreOperands (Computes Add) (Read (codes "w")) NoOperands)) ⊕ NoExprs))) ⨟ Done) } ∷ []) }) }
+      ∷ record { name = (codes "all"); definition = definition.Function (record { parameters = ([]); body = (Evaluate (Call (codes "task") ((int 1) ⊕ ((int 3) ⊕ NoExprs))) ⨟ Done) }) }
+      ∷ record { name = (codes "main"); definition = definition.Function (record { parameters = ([]); body = (Print (int 1) ⨟ Return (Handle (codes "all") NoExprs (codes "count") ((int 0) ⊕ ((int 0) ⊕ NoExprs))) ⨟ Done) }) }
       ∷ [];
 }
 
@@ -473,10 +478,10 @@ another_handler = record {
   declarations =
       record { name = (codes "a"); definition = effect_of_0 }
       ∷ record { name = (codes "b"); definition = effect_of_0 }
-      ∷ record { name = (codes "f"); definition = definition.Function (record { parameters = ([]); body = (Return (Run (Do (codes "a") NoExprs) (MoreOperands (Computes Add) (Literal 1) NoOperands)) ⨟ Done) }) }
-      ∷ record { name = (codes "f2"); definition = definition.Function (record { parameters = ([]); body = (Return (Run (Do (codes "b") NoExprs) (MoreOperands (Computes Add) (Literal 2) NoOperands)) ⨟ Done) }) }
-      ∷ record { name = (codes "h"); definition = definition.Handler (record { parameters = ([]); return_clause = record { value = (codes "x"); body = (Return (Run (Read (codes "x")) (MoreOperands (Computes Add) (Literal 10) NoOperands)) ⨟ Done) }; clauses = (record { effect = (codes "a"); arguments = ([]); resumption = (codes "k"); body = (Return (Handle (codes "f2") NoExprs (codes "g") ((Read (codes "k")) ⊕ NoExprs)) ⨟ Done) } ∷ []) }) }
-      ∷ record { name = (codes "g"); definition = definition.Handler (record { parameters = (record { name = (codes "k"); ty = (Resumption (codes "h")) } ∷ []); return_clause = record { value = (codes "x"); body = (Return (Run (Read (codes "x")) (MoreOperands (Computes Add) (Literal 100) NoOperands)) ⨟ Done) }; clauses = (record { effect = (codes "b"); arguments = ([]); resumption = (codes "j"); body = (Return (Resume (codes "k") (Literal 1) NoExprs) ⨟ Done) } ∷ []) }) }
+      ∷ record { name = (codes "f"); definition = definition.Function (record { parameters = ([]); body = (Return (Run (Do (codes "a") NoExprs) (MoreOperands (Computes Add) (int 1) NoOperands)) ⨟ Done) }) }
+      ∷ record { name = (codes "f2"); definition = definition.Function (record { parameters = ([]); body = (Return (Run (Do (codes "b") NoExprs) (MoreOperands (Computes Add) (int 2) NoOperands)) ⨟ Done) }) }
+      ∷ record { name = (codes "h"); definition = definition.Handler (record { parameters = ([]); return_clause = record { value = (codes "x"); body = (Return (Run (Read (codes "x")) (MoreOperands (Computes Add) (int 10) NoOperands)) ⨟ Done) }; clauses = (record { effect = (codes "a"); arguments = ([]); resumption = (codes "k"); body = (Return (Handle (codes "f2") NoExprs (codes "g") ((Read (codes "k")) ⊕ NoExprs)) ⨟ Done) } ∷ []) }) }
+      ∷ record { name = (codes "g"); definition = definition.Handler (record { parameters = (record { name = (codes "k"); ty = (Resumption (codes "h")) } ∷ []); return_clause = record { value = (codes "x"); body = (Return (Run (Read (codes "x")) (MoreOperands (Computes Add) (int 100) NoOperands)) ⨟ Done) }; clauses = (record { effect = (codes "b"); arguments = ([]); resumption = (codes "j"); body = (Return (Resume (codes "k") (int 1) NoExprs) ⨟ Done) } ∷ []) }) }
       ∷ record { name = (codes "main"); definition = definition.Function (record { parameters = ([]); body = (Return (Handle (codes "f") NoExprs (codes "h") NoExprs) ⨟ Done) }) }
       ∷ [];
 }
@@ -509,7 +514,7 @@ unfoldable connectives : Script
 connectives = record {
   declarations =
       record { name = (codes "t"); definition = definition.Function (record { parameters = (record { name = (codes "x"); ty = Int } ∷ []); body = (Print (Read (codes "x")) ⨟ Return (Read (codes "x")) ⨟ Done) }) }
-      ∷ record { name = (codes "main"); definition = definition.Function (record { parameters = ([]); body = (Print (Run (Call (codes "t") ((Literal 0) ⊕ NoExprs)) (MoreOperands (Connects And) (Call (codes "t") ((Literal 1) ⊕ NoExprs)) NoOperands)) ⨟ Print (Run (Call (codes "t") ((Literal 2) ⊕ NoExprs)) (MoreOperands (Connects And) (Call (codes "t") ((Literal 3) ⊕ NoExprs)) (MoreOperands (Connects And) (Call (codes "t") ((Literal 0) ⊕ NoExprs)) (MoreOperands (Connects And) (Call (codes "t") ((Literal 9) ⊕ NoExprs)) NoOperands)))) ⨟ Print (Run (Call (codes "t") ((Literal 0) ⊕ NoExprs)) (MoreOperands (Connects Or) (Call (codes "t") ((Literal 4) ⊕ NoExprs)) NoOperands)) ⨟ Print (Run (Call (codes "t") ((Literal 5) ⊕ NoExprs)) (MoreOperands (Connects Or) (Call (codes "t") ((Literal 6) ⊕ NoExprs)) NoOperands)) ⨟ Print (Run (Literal 1) (MoreOperands (Connects And) (Run (Literal 0) (MoreOperands (Connects Or) (Literal 7) NoOperands)) NoOperands)) ⨟ Return (Run (Unary Not (Literal 3)) (MoreOperands (Computes Add) (Unary Minus (Literal 2)) NoOperands)) ⨟ Done) }) }
+      ∷ record { name = (codes "main"); definition = definition.Function (record { parameters = ([]); body = (Print (Run (Call (codes "t") ((int 0) ⊕ NoExprs)) (MoreOperands (Connects And) (Call (codes "t") ((int 1) ⊕ NoExprs)) NoOperands)) ⨟ Print (Run (Call (codes "t") ((int 2) ⊕ NoExprs)) (MoreOperands (Connects And) (Call (codes "t") ((int 3) ⊕ NoExprs)) (MoreOperands (Connects And) (Call (codes "t") ((int 0) ⊕ NoExprs)) (MoreOperands (Connects And) (Call (codes "t") ((int 9) ⊕ NoExprs)) NoOperands)))) ⨟ Print (Run (Call (codes "t") ((int 0) ⊕ NoExprs)) (MoreOperands (Connects Or) (Call (codes "t") ((int 4) ⊕ NoExprs)) NoOperands)) ⨟ Print (Run (Call (codes "t") ((int 5) ⊕ NoExprs)) (MoreOperands (Connects Or) (Call (codes "t") ((int 6) ⊕ NoExprs)) NoOperands)) ⨟ Print (Run (int 1) (MoreOperands (Connects And) (Run (int 0) (MoreOperands (Connects Or) (int 7) NoOperands)) NoOperands)) ⨟ Return (Run (Unary Not (int 3)) (MoreOperands (Computes Add) (Unary Minus (int 2)) NoOperands)) ⨟ Done) }) }
       ∷ [];
 }
 

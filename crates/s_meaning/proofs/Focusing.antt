@@ -1,6 +1,7 @@
 -- What is done next in a typed term is typed.
-use Rattle.std.proofs.Common.{◌≡◌, ℕ, suc, List, [], ◌∷◌, ◌++◌, length, Option, Some, if◌then◌else◌, refl, ap, ◌∙◌, subst}
+use Rattle.std.proofs.Common.{◌≡◌, suc, List, [], ◌∷◌, ◌++◌, length, Option, Some, if◌then◌else◌, refl, ap, ◌∙◌, subst}
 use Rattle.s_syntax.specs.declared.name.Name.{Name}
+use Rattle.s_syntax.specs.declared.number.Number.{Number}
 use Rattle.s_syntax.specs.declared.script.VariableType.{VariableType}
 use Rattle.s_syntax.specs.declared.script.VariableType.TheVariants.{Int}
 use Rattle.s_syntax.specs.declared.operators.UnaryOperator.{UnaryOperator}
@@ -23,7 +24,7 @@ use Rattle.s_meaning.specs.Typed.{World, HasKind, FirstHave, begun, further, Use
 
 -- a redex and the pending work around it
 pub data RedexTyped (p : Script) (Ξ : World) (Γ : Scope) : Redex → List Work → Type 0 where
-  constant : {n : ℕ} {w : List Work} → WorkTyped p Ξ Γ w Int → RedexTyped p Ξ Γ (Constant n) w
+  constant : {n : Number} {w : List Work} → WorkTyped p Ξ Γ w Int → RedexTyped p Ξ Γ (Constant n) w
   lookup : {x : Name} {k : VariableType} {w : List Work} → type_in Γ x ≡ Some k → WorkTyped p Ξ Γ w k → RedexTyped p Ξ Γ (Lookup x) w
   on_unary : {o : UnaryOperator} {v : Value} {w : List Work} → HasKind Ξ v Int → WorkTyped p Ξ Γ w Int → RedexTyped p Ξ Γ (OnUnary o v) w
   on_binary : {o : BinaryOperator} {u v : Value} {w : List Work} → HasKind Ξ u Int → HasKind Ξ v Int → WorkTyped p Ξ Γ w Int → RedexTyped p Ξ Γ (OnBinary o u v) w

@@ -1,7 +1,8 @@
 -- What is done next in an activation: a term is E[r] in one way. Finding r takes no step.
-use Rattle.std.specs.Prelude.{ℕ, Bool, false, List, [], ◌∷◌, Option, Some, None, if◌then◌else◌}
+use Rattle.std.specs.Prelude.{Bool, false, List, [], ◌∷◌, Option, Some, None, if◌then◌else◌}
 use Rattle.std.specs.Str.{bytes_eq}
 use Rattle.s_syntax.specs.declared.name.Name.{Name}
+use Rattle.s_syntax.specs.declared.number.Number.{Number}
 use Rattle.s_syntax.specs.declared.script.VariableType.{VariableType}
 use Rattle.s_syntax.specs.declared.script.VariableType.TheVariants.{Int, Resumption}
 use Rattle.s_syntax.specs.declared.operators.UnaryOperator.{UnaryOperator}
@@ -16,7 +17,7 @@ use Rattle.s_meaning.specs.Terms.{Value, Row, ε, ◌▹◌, Variable, Head, Cal
 -- r: what one step does, where all that it needs are values
 pub data Redex : Type 0 where
   -- n; x
-  Constant : (n : ℕ) → Redex
+  Constant : (n : Number) → Redex
   Lookup : (x : Name) → Redex
   -- op v; v op w
   OnUnary : UnaryOperator → Value → Redex

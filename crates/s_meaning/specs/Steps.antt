@@ -224,7 +224,7 @@ uses e (ToTurn c body) v rest = do
 
 abbrev pub rule : Script → Around → Redex → Step
 -- E[n]  ⟶  E[n]
-rule p e (Constant n) = goes_on e (Gives (Number (pos n)))
+rule p e (Constant n) = goes_on e (Gives (Number (pos n.value)))
 -- E[x]  ⟶  E[v]   where x is v
 rule p e (Lookup x) = do
   v ← or_wrong (variable_of x e.variables)

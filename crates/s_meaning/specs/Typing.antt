@@ -1,6 +1,7 @@
 -- Typed scripts: what the rules come to for a script that breaks none.
 use Rattle.std.specs.Prelude.{◌≡◌, ◌≢◌, ℕ, zero, suc, List, [], ◌∷◌, map, length, codes, Some}
 use Rattle.s_syntax.specs.declared.name.Name.{Name}
+use Rattle.s_syntax.specs.declared.number.Number.{Number}
 use Rattle.s_syntax.specs.declared.script.VariableType.{VariableType}
 use Rattle.s_syntax.specs.declared.script.VariableType.TheVariants.{Int, Resumption}
 use Rattle.s_syntax.specs.declared.operators.UnaryOperator.{UnaryOperator}
@@ -28,7 +29,7 @@ numbers (suc n) = Int ∷ numbers n
 mutual
   -- an expression that has a number
   pub data ExprTyped (p : Script) (Γ : Scope) : ExprTree → Type 0 where
-    literal : {n : ℕ} → ExprTyped p Γ (Literal n)
+    literal : {n : Number} → ExprTyped p Γ (Literal n)
     read : {x : Name} → type_in Γ x ≡ Some Int → ExprTyped p Γ (Read x)
     unary : {o : UnaryOperator} {e : ExprTree} → ExprTyped p Γ e → ExprTyped p Γ (Unary o e)
     run : {e : ExprTree} {es : Operands} → ExprTyped p Γ e → OperandsTyped p Γ es → ExprTyped p Γ (Run e es)

@@ -3,8 +3,8 @@ use Rattle.std.proofs.Common.{◌≡◌, ℕ, zero, suc, List, [], ◌∷◌, �
 use Rattle.std.proofs.lemmas.List.{append-nil}
 use Rattle.std.specs.Coded.{Coded, code_by, coded_list, coded×, coded_ℕ}
 use Rattle.s_syntax.specs.declared.name.Name.{Name}
-use Rattle.s_syntax.specs.ExprTree.{ExprTree, Literal}
-use Rattle.s_syntax.specs.ExprCode.{name_code, expr_code}
+use Rattle.s_syntax.specs.ExprTree.{ExprTree}
+use Rattle.s_syntax.specs.ExprCode.{zero_literal, name_code, expr_code}
 use Rattle.s_syntax.specs.BlockTree.{StatementTree, BlockTree, Let, Assign, If, While, Print, Return, Fail, Evaluate, Done, ◌⨟◌}
 
 -- ## Parts
@@ -71,7 +71,7 @@ abbrev pub of_expr : ExprTree → Says
 of_expr e = ([], e)
 
 abbrev pub nothing : Says
-nothing = of_expr (Literal 0)
+nothing = of_expr zero_literal
 
 -- ## From a tree
 

@@ -1,13 +1,15 @@
 -- A code for trees of expressions: a list of their parts, each before its own parts, and the tree that such a list gives back.
-use Rattle.std.proofs.Common.{◌≡◌, ℕ, zero, suc, List, [], ◌∷◌, ◌++◌, refl, sym, ap, ◌∙◌, append_assoc}
+use Rattle.std.proofs.Common.{◌≡◌, ℕ, zero, suc, List, [], ◌∷◌, ◌++◌, refl, sym, ap, ◌∙◌, append_assoc, lit≤}
 use Rattle.std.proofs.lemmas.List.{append-nil}
 use Rattle.std.specs.Coded.{Coded, code_by, coded_list, coded×, coded_ℕ}
 use Rattle.s_syntax.specs.declared.name.Name.{Name}
+use Rattle.s_syntax.specs.declared.number.Number.{Number}
 use Rattle.s_syntax.specs.declared.operators.UnaryOperator.{UnaryOperator}
 use Rattle.s_syntax.specs.declared.operators.UnaryOperator.TheVariants as unary
 use Rattle.s_syntax.specs.declared.operators.Connective.TheVariants as connective
 use Rattle.s_syntax.specs.declared.operators.BinaryOperator.{BinaryOperator}
 use Rattle.s_syntax.specs.declared.operators.BinaryOperator.TheVariants as binary
+use Rattle.s_syntax.specs.contracts.number.Number as written
 use Rattle.s_syntax.specs.contracts.operators.UnaryOperator as unary_operator
 use Rattle.s_syntax.specs.contracts.operators.BinaryOperator as binary_operator
 use Rattle.s_syntax.specs.ExprTree.{ExprTree, Exprs, Operands, Literal, Read, Unary, Run, Call, Do, Handle, Resume, NoExprs, MoreExprs, NoOperands, MoreOperands}
@@ -76,28 +78,34 @@ tag_code = code_by ℕ coded_ℕ number tag tag-number
 
 -- what is said of one part: its number, its names and its operators, some of which only fill their places
 abbrev pub Says : Type 0
-Says = ℕ × ((Name × Name) × (UnaryOperator × BinaryOperator))
+Says = Number × ((Name × Name) × (UnaryOperator × BinaryOperator))
 
 abbrev pub Cell : Type 0
 Cell = Tag × Says
 
+abbrev pub zero_number : Number
+zero_number = record { value = 0; small = lit≤ tt }
+
+abbrev pub zero_literal : ExprTree
+zero_literal = Literal zero_number
+
 abbrev pub no_operator : BinaryOperator
 no_operator = binary.Connects connective.Or
 
-abbrev pub numbered : ℕ → Says
+abbrev pub numbered : Number → Says
 numbered n = (n, (([], []), (unary.Minus, no_operator)))
 
 abbrev pub named : Name → Name → Says
-named x y = (0, ((x, y), (unary.Minus, no_operator)))
+named x y = (zero_number, ((x, y), (unary.Minus, no_operator)))
 
 abbrev pub by_unary : UnaryOperator → Says
-by_unary o = (0, (([], []), (o, no_operator)))
+by_unary o = (zero_number, (([], []), (o, no_operator)))
 
 abbrev pub by_binary : BinaryOperator → Says
-by_binary o = (0, (([], []), (unary.Minus, o)))
+by_binary o = (zero_number, (([], []), (unary.Minus, o)))
 
 abbrev pub nothing : Says
-nothing = numbered 0
+nothing = numbered zero_number
 
 -- ## From a tree
 
@@ -146,7 +154,7 @@ with_operands k (expr_part e ∷ s) = []
 with_operands k (exprs_part es ∷ s) = []
 with_operands k (operands_part ps ∷ s) = k ps s
 
-abbrev pub put_as : Tag → ℕ → Name → Name → UnaryOperator → BinaryOperator → List Part → List Part
+abbrev pub put_as : Tag → Number → Name → Name → UnaryOperator → BinaryOperator → List Part → List Part
 put_as literal_tag n x y o p s = expr_part (Literal n) ∷ s
 put_as read_tag n x y o p s = expr_part (Read x) ∷ s
 put_as unary_tag n x y o p s = with_expr (λ e s. expr_part (Unary o e) ∷ s) s
@@ -168,10 +176,10 @@ begun [] = []
 begun (c ∷ cs) = put c.0 c.1 (begun cs)
 
 abbrev pub first_expr : List Part → ExprTree
-first_expr [] = Literal 0
+first_expr [] = zero_literal
 first_expr (expr_part e ∷ s) = e
-first_expr (exprs_part es ∷ s) = Literal 0
-first_expr (operands_part ps ∷ s) = Literal 0
+first_expr (exprs_part es ∷ s) = zero_literal
+first_expr (operands_part ps ∷ s) = zero_literal
 
 abbrev pub read_back : List Cell → ExprTree
 read_back cs = first_expr (begun cs)
@@ -207,7 +215,7 @@ abbrev pub name_code : Coded Name
 name_code = coded_list coded_ℕ
 
 abbrev pub says_code : Coded Says
-says_code = coded× coded_ℕ (coded× (coded× name_code name_code) (coded× unary_operator.the_row.coded binary_operator.the_row.coded))
+says_code = coded× written.the_row.coded (coded× (coded× name_code name_code) (coded× unary_operator.the_row.coded binary_operator.the_row.coded))
 
 abbrev pub expr_code : Coded ExprTree
 expr_code = code_by (List Cell) (coded_list (coded× tag_code says_code)) laid read_back read_back-laid

@@ -4,7 +4,7 @@ use Rattle.s_syntax.specs.declared.expr.Node.TheVariants as node
 use Rattle.s_syntax.specs.ExprTree.{ExprTree, Literal, Read, Unary, Run, Call, Do, Handle, Resume, exprs, operands}
 
 abbrev pub expr_of : Node → ExprTree
-expr_of (node.Literal n) = Literal n.value
+expr_of (node.Literal n) = Literal n
 expr_of (node.Read x) = Read x
 expr_of (node.Unary o e) = Unary o e.value
 expr_of (node.Run e ps) = Run e.value (operands ps.items)

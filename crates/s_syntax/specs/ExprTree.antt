@@ -1,12 +1,13 @@
 -- Expressions as trees. Parentheses leave nothing in one.
 use Rattle.std.specs.Prelude.{ℕ, ◌+◌, max, List, [], ◌∷◌}
 use Rattle.s_syntax.specs.declared.name.Name.{Name}
+use Rattle.s_syntax.specs.declared.number.Number.{Number}
 use Rattle.s_syntax.specs.declared.operators.UnaryOperator.{UnaryOperator}
 use Rattle.s_syntax.specs.declared.operators.BinaryOperator.{BinaryOperator}
 
 mutual
   pub data ExprTree : Type 0 where
-    Literal : (n : ℕ) → ExprTree
+    Literal : (n : Number) → ExprTree
     Read : (x : Name) → ExprTree
     Unary : UnaryOperator → ExprTree → ExprTree
     -- e op e op e .., operators of one level, which group from the left

@@ -152,7 +152,7 @@ module _ (ds : List Declaration) (Γ : Layout) where
 
   mutual
     expr_short : (x : ExprTree) (t : ℕ) (c : Code) → code_bytes (expr ds Γ t x c) + 22 ≤ 80 * expr_size x + code_bytes c
-    expr_short (Literal n) t c = let q = signed_short (pos n) in omega (arith, q)
+    expr_short (Literal n) t c = let q = signed_short (pos n.value) in omega (arith, q)
     expr_short (Read x) t c = let q = get_short (local_number Γ x) c in omega (arith, q)
     expr_short (Unary o e) t c = let p = expr_short e t (unary_operator o c) in let q = unary_short o c in omega (arith, p, q)
     expr_short (Run e ps) t c = let p = expr_short e t (operands ds Γ t ps c) in let q = operands_short ps t c in omega (arith, p, q)

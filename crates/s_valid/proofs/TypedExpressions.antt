@@ -159,7 +159,7 @@ module _ {p : Script} {L : Layout} {Γ : Scope} {n : ℕ} where
   mutual
     pub expr_typed : (e : ExprTree) {D : ℕ} {C : Context} {vs us : Row Operand} {c : Code} (t : ℕ) → Scoped p.declarations L Γ n D C → ExprTyped p Γ e → high t e ≤ n
         → AllHandled p.declarations (handled_in_expr e) → Rest C c (vs ▹ Known I64) us → Rest C (expr p.declarations L t e c) vs us
-    expr_typed (Literal m) t s literal h a r = constant_typed (pos m) r
+    expr_typed (Literal m) t s literal h a r = constant_typed (pos m.value) r
     expr_typed (Read x) t s (read e) h a r = name_typed {p = p} s x Int e r
     expr_typed (Unary o e) t s (unary q) h a r = expr_typed e t s q h a (unary_typed o r)
     expr_typed (Run e ps) t s (run q qs) h a r =
