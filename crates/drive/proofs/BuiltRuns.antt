@@ -1,8 +1,5 @@
 -- A run of what `build` writes of a script is alike the run of the script.
-use Rattle.std.proofs.Common.{◌≡◌, ℕ, Bool, true, false, List, ◌++◌, inl, inr, refl, ap, subst, ◌∙◌, arith}
-use Rattle.w_syntax.specs.declared.module.Module.{Module}
-use Rattle.w_decode.proofs.ReadingExact.{one_module}
-use Rattle.w_encode.specs.Canon.{Canon}
+use Rattle.std.proofs.Common.{◌≡◌, ℕ, Bool, true, false, List, ◌++◌, inl, inr, refl, ap, ◌∙◌, arith}
 use Rattle.w_reduce.specs.Run.{Outcome, Running, Values, Traps, Limit, NoRule, RunState, Run}
 use Rattle.words.specs.declared.request.Action.TheVariants.{Run as RunFor}
 use Rattle.s_syntax.specs.declared.script.Script.{Script}
@@ -10,11 +7,10 @@ use Rattle.s_check.specs.Refusal.{Good}
 use Rattle.s_code.specs.Lowered.{lowered}
 use Rattle.s_valid.specs.Beginning.{first_store, first_term}
 use Rattle.s_valid.proofs.Starts.{starts}
-use Rattle.s_agrees.specs.Agrees.{Agrees}
 use Rattle.s_agrees.proofs.SpelledScripts.{scripts_agree}
-use Rattle.drive.specs.Answer.{Reply, HasModuleFault, RunGives, BytesGive, start_reply, run_gives, run_reply, with_stats, behind, end_reply, faulted, trapped, gives}
+use Rattle.drive.specs.Answer.{Reply, RunGives, start_reply, run_gives, run_reply, with_stats, behind, end_reply, faulted, trapped}
 use Rattle.drive.specs.Meaning.{BuiltRunsAreAlike}
-use Rattle.drive.proofs.BuiltAgain.{no_fault, spelled_or_not}
+use Rattle.drive.proofs.CanonicalFiles.{only_gives}
 use Rattle.drive.proofs.Programs.{one_program}
 
 -- the second writes the same to out as the first and ends with the same status
@@ -55,18 +51,10 @@ runs_alike p good steps stats reply other h g =
     let second : other ≡ run_reply trapped stats r = g.3 ∙ ap (run_gives trapped steps stats) same ∙ ap (start_reply trapped steps stats q) begun in
     rw (first, second) (run_alike p stats r)
 
-module _ (p : Script) (agrees : Agrees p (lowered p)) (good : Good p) (steps : ℕ) (stats : Bool) (reply other : Reply) (given : RunGives (faulted p) steps false (lowered p) reply) where
-  -- what its bytes give is by the module alone
-  bytes_alike : BytesGive (gives (RunFor steps stats)) (Canon (lowered p)) other → Alike reply other
-  bytes_alike (inl h) =
-      let same : h.0 ≡ lowered p = one_module (Canon (lowered p)) h.0 (lowered p) h.1 agrees.spelled in
-      runs_alike p good steps stats reply other given (h.4.0, h.4.1 ∙ same, h.4.2, h.4.3)
-  bytes_alike (inr (inl h)) =
-      let same : h.0 ≡ lowered p = one_module (Canon (lowered p)) h.0 (lowered p) h.1 agrees.spelled in
-      absurd (no_fault (lowered p) h.2.0 agrees.within agrees.valid (subst (λ (m : Module). HasModuleFault m h.2.0) same h.2.1))
-  bytes_alike (inr (inr h)) = absurd (spelled_or_not (Canon (lowered p)) (lowered p) h.0 agrees.spelled h.1)
-
+-- and so is a run of its file, whose bytes give what the module gives
 pub built_runs : BuiltRunsAreAlike
-built_runs bytes p good small steps stats more reply other (inr h) a = absurd (omega (arith, h.0, small))
-built_runs bytes p good small steps stats more reply other (inl h) (inr a) = let e : true ≡ false = a.0 in absurd (cc)
-built_runs bytes p good small steps stats more reply other (inl h) (inl a) = bytes_alike p (scripts_agree bytes p good small) good.good steps more reply other h.1 a.1
+built_runs p good small steps stats more reply other (inr h) a = absurd (omega (arith, h.0, small))
+built_runs p good small steps stats more reply other (inl h) (inr a) = let e : true ≡ false = a.0 in absurd (cc)
+built_runs p good small steps stats more reply other (inl h) (inl a) =
+    let agrees = scripts_agree p good small in
+    runs_alike p good steps more reply other h.1 (only_gives (lowered p) agrees.spelled agrees.within agrees.valid (RunFor steps more) other a.1)

@@ -8,8 +8,11 @@ pub mod Replies
 pub mod Programs
 pub mod OneAnswer
 pub mod SomeAnswer
-pub mod BuiltAgain
+pub mod CanonicalFiles
+pub mod BuiltFiles
 pub mod ScriptRuns
 pub mod Acting
 pub mod Meanings
 pub mod BuiltRuns
+pub mod AnswersMeant
+pub mod OutsMeant

@@ -1,22 +1,20 @@
 -- What the run of a script gives is told by the script's meaning.
-use Rattle.std.proofs.Common.{◌≡◌, ◌<◌, ◌≤◌, ℕ, ℤ, false, List, [], ◌++◌, Option, Some, None, inl, inr, codes, refl, sym, ap, ◌∙◌, subst, arith, append-nil}
-use Rattle.std.specs.Prelude.{slice_get, option_map, flat_map}
+use Rattle.std.proofs.Common.{◌≡◌, ℕ, false, List, [], ◌++◌, Option, Some, None, inl, inr, codes, refl, ap, ◌∙◌, arith, append-nil}
+use Rattle.std.specs.Prelude.{slice_get, option_map}
 use Rattle.std.specs.Fmt.{signed_decimal}
 use Rattle.following.specs.Follows.{Going, Value, Fault as Faulty, Is, Limit}
 use Rattle.std.specs.Int.{w64, cast_signed}
-use Rattle.w_types.specs.Rows.{Row, ε, ◌▹◌, listed}
+use Rattle.w_types.specs.Rows.{Row, ε, ◌▹◌}
 use Rattle.w_reduce.specs.declared.limit.RunLimit.{RunLimit}
 use Rattle.w_reduce.specs.declared.limit.RunLimit.TheVariants as limit
 use Rattle.w_reduce.specs.declared.trap.Trap.{Trap}
 use Rattle.w_reduce.specs.declared.trap.Trap.TheVariants as trap
-use Rattle.w_reduce.specs.Program.{Program}
 use Rattle.w_reduce.specs.Run.{Outcome, Running, Values, Traps, Limit as LimitMet, NoRule, Run}
 use Rattle.w_reduce.specs.Values.{Val, I32, I64, Null, Func, Cont}
 use Rattle.s_syntax.specs.declared.script.Script.{Script}
 use Rattle.s_syntax.specs.declared.name.Name.{Name}
 use Rattle.s_meaning.specs.Numbers.{Fault, Unhandled}
 use Rattle.s_meaning.specs.Eval.{Ended}
-use Rattle.s_code.specs.Lowered.{lowered}
 use Rattle.s_valid.specs.Beginning.{first_store, first_term}
 use Rattle.s_valid.proofs.Starts.{starts}
 use Rattle.s_agrees.specs.Agrees.{effect_names, fault_of, limit_of, end_of_fault, end_of_values, end_of}
@@ -83,10 +81,10 @@ end_told p (LimitMet name) end e = let same : Limit (limit_of name) ≡ end = cc
 end_told p NoRule end e = absurd (cc)
 
 pub runs_mean : RunsMean
-runs_mean bytes p good small steps stats reply (inr h) = absurd (omega (arith, h.0, small))
-runs_mean bytes p good small steps stats reply (inl h) =
+runs_mean p good small steps stats reply (inr h) = absurd (omega (arith, h.0, small))
+runs_mean p good small steps stats reply (inl h) =
     let program = h.1.0 in
-    let begun = starts p good.good program h.1.1 in
+    let begun = starts p good program h.1.1 in
     let r = Run program (first_store p.declarations) (first_term p.declarations) steps in
-    let a = runs_follow bytes p good program h.1.1 steps in
+    let a = runs_follow p good program h.1.1 steps in
     (r.output, a.0, a.2, h.1.3 ∙ ap (start_reply (faulted p) steps false program) begun ∙ ap (behind r.output) (end_told p r.outcome a.0 a.1))

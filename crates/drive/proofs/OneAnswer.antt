@@ -23,7 +23,7 @@ use Rattle.words.specs.declared.request.Action.TheVariants.{Check, Run as RunFor
 use Rattle.s_code.specs.Lowered.{lowered}
 use Rattle.s_generate.specs.Generated.{generated as generated_script}
 use Rattle.words.specs.Line.{on_file as line_on_file, generated, bad}
-use Rattle.drive.specs.Answer.{Reply, HasModuleFault, OnFile, OnBytes, BytesGive, ScriptGives, ActionGives, Teller, gives, script_gives, RunGives, Compiled, trapped, faulted, built, run_gives, malformed, invalid, bad_script, generated_steps}
+use Rattle.drive.specs.Answer.{Reply, HasModuleFault, OnFile, OnBytes, BytesGive, ScriptGives, ActionGives, Teller, gives, script_gives, RunGives, Compiled, trapped, faulted, built, run_gives, malformed, invalid, bad_script, generated_steps, ok_script}
 use Rattle.drive.specs.Laws.{OneAnswer}
 use Rattle.drive.proofs.Programs.{one_program}
 
@@ -173,7 +173,7 @@ compiled_once Accepted one p r s (inr h) (inl k) = absurd (omega (arith, h.0, k.
 compiled_once Accepted one p r s (inr h) (inr k) = h.1 ∙ sym k.1
 
 script_given_once : (action : Action) (p : Script) → IsOne (script_gives action p)
-script_given_once Check p r s h k = h ∙ sym k
+script_given_once Check p r s h k = compiled_once (λ m reply. reply ≡ ok_script) (λ m r s h k. h ∙ sym k) p r s h k
 script_given_once (RunFor steps stats) p r s h k = compiled_once (RunGives (faulted p) steps false) (one_run (faulted p) steps false) p r s h k
 script_given_once Build p r s h k = compiled_once (λ m reply. reply ≡ built m) (λ m r s h k. h ∙ sym k) p r s h k
 

@@ -1,5 +1,5 @@
 -- What a run gives, from what the machine came to.
-use Rattle.std.proofs.Common.{◌≡◌, ◌≤◌, ◌+◌, ℕ, Bool, false, List, [], ◌∷◌, ◌++◌, flat_map, Option, Some, None, Result, Ok, Err, inr, refl, sym, ap, subst, ◌∙◌, zero-add, append_assoc, arith}
+use Rattle.std.proofs.Common.{◌≡◌, ◌≤◌, ◌+◌, ℕ, Bool, true, false, List, [], ◌∷◌, ◌++◌, flat_map, Option, Some, None, Result, Ok, Err, inr, refl, sym, ap, subst, ◌∙◌, zero-add, append_assoc, arith}
 use Rattle.std.specs.Prelude.{IsErrAnd}
 use Rattle.w_outside.specs.Outside.{Grew, GrewByFront, IsFront}
 use Rattle.w_syntax.specs.declared.module.Module.{Module}
@@ -14,8 +14,8 @@ use Rattle.w_stands.specs.Values.{vals}
 use Rattle.w_machine.specs.declared.outcome.Kept.{Kept}
 use Rattle.w_machine.specs.declared.outcome.Kept.TheVariants as kept
 use Rattle.w_machine.specs.Beginning.{Begins}
-use Rattle.w_machine.specs.Position.{Position, Tells, is_fault, IsNoFault, HasTaken, after_run, Printed, PrintedAtMost, RunsOn, Runs}
-use Rattle.w_machine.proofs.GoingFar.{settled_at}
+use Rattle.w_machine.specs.Position.{Position, Tells, is_fault, IsNoFault, HasTaken, HasTakenBy, after_run, Printed, PrintedAtMost, PrintedIf, PrintedBy, RunPrints, RunsOn, Runs}
+use Rattle.w_machine.proofs.GoingFar.{settled_at, printed_part}
 use Rattle.w_machine.specs.Results.{HasResults}
 use Rattle.drive.specs.declared.output.Output.{Output}
 use Rattle.drive.specs.declared.stop.Stop.{Stop}
@@ -32,12 +32,27 @@ use Rattle.drive.proofs.Replies.{front_first}
 abbrev First : Module → Position
 First m = record { program = m; taken = 0; kept = None }
 
--- what is told of a run from its first reduction on
+-- of a whole run from its first reduction on: it is running, or what is told of it; and all that it prints was printed, or where a fault
+-- stopped it a first part
+abbrev pub IsToldWhole : (ℕ → RunState) → ℕ → Option Kept → Option (List ℕ) → Option (List ℕ) → Type 0
+IsToldWhole run steps None before now = ((run (0 + steps)).outcome ≡ Running) × Printed (run 0) (run (0 + steps)) before now
+IsToldWhole run steps (Some k) before now = Tells k (run (0 + steps)).outcome × PrintedBy k (run 0) (run (0 + steps)) before now
+
+module _ (p : Program) (s : Store) (t : Term) (n steps : ℕ) (before now : Option (List ℕ)) where
+  as_part : (f : Bool) → HasTakenBy f n steps → RunPrints f (Run p s t) 0 n steps before now → PrintedIf f (Run p s t 0) (Run p s t (0 + steps)) before now
+  as_part true taken h = printed_part p s t 0 (0 + n) (0 + steps) before now (omega (arith, taken)) h
+  as_part false taken h = h
+
+  told_whole : (k : Option Kept) → HasTaken n steps k → RunsOn (Run p s t) 0 n steps k before now → IsToldWhole (Run p s t) steps k before now
+  told_whole None taken h = h
+  told_whole (Some k) taken h = (h.0, as_part (is_fault k) taken h.1)
+
+-- so it is told of a machine that has taken no reduction
 pub from_first : (m : Module) (p : Program) (s : Store) (t : Term) (steps : ℕ) (q new : Position) (k : Option Kept) (before now : Option (List ℕ)) → q ≡ First m
-    → Begins q.program p s t → Runs q steps k new before now → RunsOn (Run p s t) 0 steps k before now
+    → Begins q.program p s t → Runs q steps k new before now → IsToldWhole (Run p s t) steps k before now
 from_first m p s t steps q new k before now first begins runs =
     let h = subst (λ (z : Position). Runs z steps k new before now) first runs in
-    h.3 p s t (subst (λ (z : Position). Begins z.program p s t) first begins)
+    told_whole p s t h.0 steps before now k h.1 (h.3 p s t (subst (λ (z : Position). Begins z.program p s t) first begins))
 
 -- a run that ended keeps that, and took no more reductions than were asked for
 pub record IsDone (p : Program) (s : Store) (t : Term) (steps : ℕ) (new : Position) : Type 0 where
@@ -76,7 +91,9 @@ first_after m steps q new k before now first runs none =
   where
     after : (o : Option Kept) (n : ℕ) → HasTaken n steps o → IsNoFault o → IsAfter (after_run (First m) n o) steps
     after None n is none = zero-add n ∙ is
-    after (Some x) n le none = (let e = zero-add n in omega (arith, e, le), none)
+    after (Some x) n taken none =
+        let le : n ≤ steps = subst (λ (f : Bool). HasTakenBy f n steps) none taken in
+        (let e = zero-add n in omega (arith, e, le), none)
 
 not_running : (k : Kept) (o : Outcome) → is_fault k ≡ false → Tells k o → o ≡ Running → ⊥
 not_running kept.Ended o sound tells runs = let e = tells.1 in absurd (cc)
@@ -144,7 +161,7 @@ module _ (say : Teller) (p : Program) (s : Store) (t : Term) (steps : ℕ) (befo
 
   -- one that ended leaves its results, a line each
   pub run_ended : (output : Output) (vs : List Val) → Printed (Run p s t 0) (Run p s t (0 + steps)) before now → HasResults (Run p s t steps).outcome vs
-      → joined output.pieces.items ≡ flat_map result_line vs → output.told.items ≡ [] → Leaves IsDue (Ok output) (Grew before now) rose
+      → joined output.pieces.items ≡ flat_map result_line vs → joined output.told.items ≡ [] → Leaves IsDue (Ok output) (Grew before now) rose
   run_ended output vs print h lines none = (
     print.text,
     print.grew,

@@ -25,7 +25,7 @@ use Rattle.words.specs.declared.request.Action.TheVariants.{Check, Run as RunFor
 use Rattle.s_code.specs.Lowered.{lowered}
 use Rattle.s_generate.specs.Generated.{generated as generated_script}
 use Rattle.words.specs.Line.{on_file as line_on_file, generated, bad}
-use Rattle.drive.specs.Answer.{Reply, HasModuleFault, OnFile, OnBytes, BytesGive, ScriptGives, ActionGives, Teller, is_module, gives, script_gives, RunGives, Compiled, compiled_size, trapped, faulted, built, generated_steps, input_limit}
+use Rattle.drive.specs.Answer.{Reply, HasModuleFault, OnFile, OnBytes, BytesGive, ScriptGives, ActionGives, Teller, is_module, gives, script_gives, RunGives, Compiled, compiled_size, trapped, faulted, built, generated_steps, input_limit, ok_script}
 use Rattle.drive.specs.Laws.{SomeAnswer}
 use Rattle.drive.proofs.Programs.{some_program}
 
@@ -246,7 +246,7 @@ compiled_total Accepted total p none = elim (cases_lt compiled_size (Size p)) [
 ]
 
 some_script_given : (action : Action) (p : Script) → IsTotal (script_gives action p)
-some_script_given Check p none = none _ refl
+some_script_given Check p none = compiled_total (λ m reply. reply ≡ ok_script) (λ m none. none _ refl) p none
 some_script_given (RunFor steps stats) p none = compiled_total (RunGives (faulted p) steps false) (some_run (faulted p) steps false) p none
 some_script_given Build p none = compiled_total (λ m reply. reply ≡ built m) (λ m none. none _ refl) p none
 

@@ -262,12 +262,16 @@ bad_script script_fault.OutOfMemory = refusal [] 5
 abbrev pub ScriptRefusal : List ℕ → Reply → Type 0
 ScriptRefusal bytes reply = (fault : ScriptFault) × script.HasFault bytes fault × (reply ≡ bad_script fault)
 
--- the most that the size of a script may be that is compiled
+-- the most that the size of a script may be
 abbrev pub compiled_size : ℕ
 compiled_size = 50000
 
 abbrev pub limit_size : Reply
 limit_size = limit (codes "limit size")
+
+-- a script that breaks no rule, where one that isn't too large gives this
+abbrev pub Sized : (Reply → Type 0) → Script → Reply → Type 0
+Sized Gives p reply = ((Size p ≤ compiled_size) × Gives reply) ⊎ ((compiled_size < Size p) × (reply ≡ limit_size))
 
 -- a script that breaks no rule, compiled, where its module gives this
 abbrev pub Compiled : (Module → Reply → Type 0) → Script → Reply → Type 0
@@ -292,7 +296,7 @@ faulted p t = refusal (fault_text p t) 1
 
 -- what an action gives of a script that breaks no rule; no statistics are told of its run
 abbrev pub script_gives : Action → Script → Reply → Type 0
-script_gives Check p reply = reply ≡ ok_script
+script_gives Check p reply = Sized (λ r. r ≡ ok_script) p reply
 script_gives (RunFor steps stats) p reply = Compiled (RunGives (faulted p) steps false) p reply
 script_gives Build p reply = Compiled (λ m reply. reply ≡ built m) p reply
 

@@ -2,7 +2,7 @@ pub mod Status
 pub mod InputFault
 pub mod Pieces
 pub mod Answer
-pub mod Idempotent
+pub mod Built
 pub mod Laws
 pub mod Delivery
 pub mod Stop

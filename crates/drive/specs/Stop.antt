@@ -11,10 +11,10 @@ use Rattle.drive.specs.Pieces.{joined}
 use Rattle.drive.specs.Status.{code_of}
 
 abbrev pub reply_with : Output → Reply
-reply_with output = record { out = joined output.pieces.items; err = output.told.items; status = 0 }
+reply_with output = record { out = joined output.pieces.items; err = joined output.told.items; status = 0 }
 
 abbrev pub reply_of_refusal : Refusal → Reply
-reply_of_refusal refusal = record { out = []; err = refusal.text.items; status = code_of refusal.status }
+reply_of_refusal refusal = record { out = []; err = joined refusal.lines.items; status = code_of refusal.status }
 
 -- a status with which a call ends by itself
 abbrev pub Ends : Status → Type 0
@@ -47,7 +47,7 @@ IsReply (Err (Refused refusal)) = ⊤
 IsReply (Err WriteFault) = ⊥
 IsReply (Err OutOfMemory) = ⊥
 
--- an answer that writes a text more to err than the old one; memory may run out
+-- an answer that writes a line more to err than the old one; memory may run out
 abbrev pub WritesMore : List ℕ → Result Output Stop → Result Output Stop → Type 0
 WritesMore text old (Ok output) = (before : Output) × (old ≡ Ok before) × (reply_with output ≡ with_more text (reply_with before))
 WritesMore text old (Err (Refused refusal)) =

@@ -37,11 +37,11 @@ pub(crate) fn deliver<O: Sink, E: Sink>(
     match answer {
         Ok(output) => {
             write_pieces(output.pieces.as_slice(), out)?;
-            put(err, output.told.as_slice())?;
+            write_pieces(output.told.as_slice(), err)?;
             Ok(Status::Done)
         }
         Err(Stop::Refused(refusal)) => {
-            put(err, refusal.text.as_slice())?;
+            write_pieces(refusal.lines.as_slice(), err)?;
             Ok(refusal.status)
         }
         Err(Stop::WriteFault) => Err(Fault::Failed),

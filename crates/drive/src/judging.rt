@@ -9,7 +9,7 @@ ghost use Rattle.drive.specs.Stop.{Ends, Refuses};
 
 use crate::lines::{invalid_line, malformed_line};
 use crate::status::Status;
-use crate::stop::{Refusal, Stop};
+use crate::stop::{Stop, refuse_by};
 use std::alloc::Global;
 use w_decode::{DecodeFault, decode};
 use w_rules::Checked;
@@ -68,10 +68,7 @@ fn refusal_of(alloc: Global, fault: ValidFault) -> Stop
         return Stop::OutOfMemory;
     }
     match invalid_line(alloc, fault) {
-        Ok(text) => Stop::Refused(Refusal {
-            text,
-            status: invalid_status(fault),
-        }),
+        Ok(line) => refuse_by(alloc, line, invalid_status(fault)),
         Err(_) => Stop::OutOfMemory,
     }
 }
@@ -100,11 +97,8 @@ pub(crate) fn judge(alloc: Global, bytes: &[u8]) -> Result<Checked, Stop>
         Ok(candidate) => accept(alloc, candidate),
         Err(DecodeFault::OutOfMemory) => Err(Stop::OutOfMemory),
         Err(fault) => {
-            let text = malformed_line(alloc, fault)?;
-            Err(Stop::Refused(Refusal {
-                text,
-                status: Status::Malformed,
-            }))
+            let line = malformed_line(alloc, fault)?;
+            Err(refuse_by(alloc, line, Status::Malformed))
         }
     }
 }

@@ -1,12 +1,7 @@
 //! Laws of the definitions, each the contract of a function that does nothing.
-ghost use Rattle.drive.specs.Idempotent.{BuildIsIdempotent};
+ghost use Rattle.drive.specs.Built.{BuildIsIdempotent, BuiltFilesAreAccepted, BuiltScriptsAreShort};
 ghost use Rattle.drive.specs.Laws.{OneAnswer, SomeAnswer};
-ghost use Rattle.drive.specs.Meaning.{BuiltRunsAreAlike, RunsMean};
-
-/// What `build` wrote of a file, it writes again.
-pub fn build_is_idempotent()
-    ensures { BuildIsIdempotent }
-{}
+ghost use Rattle.drive.specs.Meaning.{AnswersMean, BuiltRunsAreAlike, RunsMean, StoppedRunsMean};
 
 /// Where something is told of each name, a line has one answer.
 pub fn one_answer()
@@ -18,6 +13,21 @@ pub fn some_answer()
     ensures { SomeAnswer }
 {}
 
+/// What `build` wrote of a file, it writes again.
+pub fn build_is_idempotent()
+    ensures { BuildIsIdempotent }
+{}
+
+/// `check` of a file of what `build` wrote says that it is a module.
+pub fn built_files_are_accepted()
+    ensures { BuiltFilesAreAccepted }
+{}
+
+/// What `build` writes of a script is never too long for a file.
+pub fn built_scripts_are_short()
+    ensures { BuiltScriptsAreShort }
+{}
+
 /// The run of a script prints, faults and ends as its meaning says, for each number of reductions.
 pub fn runs_of_scripts_mean()
     ensures { RunsMean }
@@ -26,4 +36,15 @@ pub fn runs_of_scripts_mean()
 /// The run of what `build` writes of a script prints what the run of the script prints, and ends with the same status.
 pub fn built_runs_are_alike()
     ensures { BuiltRunsAreAlike }
+{}
+
+/// Each answer to `run` on a file of a script is told by the script's meaning.
+pub fn answers_to_scripts_mean()
+    ensures { AnswersMean }
+{}
+
+/// Where a write fault or want of memory stops the run of a script, what was written to out begins what the script prints, with the line of
+/// its value behind it.
+pub fn stopped_runs_of_scripts_mean()
+    ensures { StoppedRunsMean }
 {}

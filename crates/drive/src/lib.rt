@@ -18,7 +18,9 @@ mod stop;
 
 pub use input::{InputFault, read_input};
 pub use laws::{
-    build_is_idempotent, built_runs_are_alike, one_answer, runs_of_scripts_mean, some_answer,
+    answers_to_scripts_mean, build_is_idempotent, built_files_are_accepted, built_runs_are_alike,
+    built_scripts_are_short, one_answer, runs_of_scripts_mean, some_answer,
+    stopped_runs_of_scripts_mean,
 };
 pub use program::command;
 pub use status::Status;

@@ -4,18 +4,18 @@ ghost use Rattle.drive.specs.Pieces.{joined};
 
 use std::alloc::{AllocError, Global};
 
-/// What is written to out, these pieces in their order, and behind it a text to err.
+/// What is written to out, and behind it to err: pieces, in their order.
 #[derive(Drop)]
 pub(crate) struct Output {
     pub(crate) pieces: Vec<Vec<u8>>,
-    pub(crate) told: Vec<u8>,
+    pub(crate) told: Vec<Vec<u8>>,
 }
 
 impl Output {
     /// One piece, and nothing to err.
     pub(crate) fn of_piece(alloc: Global, piece: Vec<u8>) -> Result<Output, AllocError>
         ensures piece { IfOk result (λ output. joined output.pieces.items ≡ piece.items) }
-        ensures told { IfOk result (λ output. output.told.items ≡ []) }
+        ensures told { IfOk result (λ output. joined output.told.items ≡ []) }
     {
         let mut pieces = Vec::new(alloc);
         pieces.push(piece)?;

@@ -20,7 +20,7 @@ use crate::lines::{printer_line, run_limit_line, start_limit_line, stats_line, v
 use crate::output::Output;
 use crate::source::Source;
 use crate::status::Status;
-use crate::stop::{Refusal, Stop, refuse, with_more};
+use crate::stop::{Stop, refuse, refuse_by, with_more};
 use std::alloc::{AllocError, Global};
 use w_inst::{InstFault, Instance, instantiate};
 use w_machine::{Machine, Outcome};
@@ -34,10 +34,7 @@ fn trap_refusal(alloc: Global, source: Source, trap: Trap) -> Stop
     ensures { Refuses (λ reply. reply ≡ told_of source.entry trap) result }
 {
     match source.trap_line(alloc, trap) {
-        Ok(text) => Stop::Refused(Refusal {
-            text,
-            status: Status::Trap,
-        }),
+        Ok(line) => refuse_by(alloc, line, Status::Trap),
         Err(_) => Stop::OutOfMemory,
     }
 }
@@ -108,7 +105,7 @@ fn with_stats(
         machine.consumed(),
         machine.live(),
     )?;
-    with_more(answer, line.as_slice())
+    with_more(answer, line)
 }
 
 // Runs a module from its first store. The machine is let go in one place, since each such place is proved anew.
@@ -141,10 +138,7 @@ fn no_run(alloc: Global, source: Source, fault: InstFault) -> Stop
 {
     match fault {
         InstFault::Import(index) => match printer_line(alloc, index) {
-            Ok(text) => Stop::Refused(Refusal {
-                text,
-                status: Status::Invalid,
-            }),
+            Ok(line) => refuse_by(alloc, line, Status::Invalid),
             Err(_) => Stop::OutOfMemory,
         },
         InstFault::NoEntry => refuse(alloc, b"no entry\n", Status::Invalid),

@@ -5,7 +5,7 @@ ghost use Rattle.w_machine.specs.Position.{most_reductions};
 ghost use Rattle.s_check.specs.Size.{Size};
 ghost use Rattle.s_code.specs.Lowered.{lowered};
 ghost use Rattle.words.specs.Request.{IsWithinSteps};
-ghost use Rattle.drive.specs.Answer.{Compiled, RunGives, ScriptGives, bad_script, built, compiled_size, faulted, is_module as begins_module, limit_size, ok_script, script_gives};
+ghost use Rattle.drive.specs.Answer.{Compiled, RunGives, ScriptGives, Sized, bad_script, built, compiled_size, faulted, is_module as begins_module, limit_size, ok_script, script_gives};
 ghost use Rattle.drive.specs.Leaving.{Leaves};
 ghost use Rattle.drive.specs.Status.{code_of};
 ghost use Rattle.drive.specs.Stop.{Ends, Gives, Refuses};
@@ -17,14 +17,18 @@ use crate::output::Output;
 use crate::running::run;
 use crate::source::Source;
 use crate::status::Status;
-use crate::stop::{Refusal, Stop, refuse};
+use crate::stop::{Stop, refuse, refuse_by};
 use s_check::CheckedScript;
-use s_judge::{ScriptFault, check, judge};
+use s_judge::{ScriptFault, judge};
 use s_lower::{LowerFault, lower};
+use s_size::is_within;
 use std::alloc::Global;
 use w_outside::Sink;
 use w_syntax::Module;
 use words::Action;
+
+/// The greatest size of a script.
+const SIZE_LIMIT: u32 = 50_000;
 
 // Whether bytes are a module; others are a script.
 pub(crate) fn is_module(bytes: &[u8]) -> bool
@@ -53,23 +57,28 @@ fn script_refusal(alloc: Global, fault: ScriptFault) -> Stop
     ensures { Refuses (λ reply. reply ≡ bad_script fault) result }
 {
     match script_line(alloc, fault) {
-        Ok(text) => Stop::Refused(Refusal {
-            text,
-            status: script_status(fault),
-        }),
+        Ok(line) => refuse_by(alloc, line, script_status(fault)),
         Err(_) => Stop::OutOfMemory,
     }
 }
 
+// Checks the size of a script that breaks no rule.
+fn check_good(alloc: Global, script: &CheckedScript) -> Result<Output, Stop>
+    ensures gives { Gives (Sized (λ reply. reply ≡ ok_script) script.now) result }
+{
+    if !is_within(script.script(), SIZE_LIMIT) {
+        return Err(refuse(alloc, b"limit size\n", Status::Limit));
+    }
+    let line = Vec::from_slice(alloc, b"ok script\n")?;
+    Ok(Output::of_piece(alloc, line)?)
+}
+
 // Checks a script.
 fn check_script(alloc: Global, bytes: &[u8]) -> Result<Output, Stop>
-    ensures gives { Gives (ScriptGives (λ p reply. reply ≡ ok_script) bytes.now) result }
+    ensures gives { Gives (ScriptGives (Sized (λ reply. reply ≡ ok_script)) bytes.now) result }
 {
-    match check(alloc, bytes) {
-        Ok(()) => {
-            let line = Vec::from_slice(alloc, b"ok script\n")?;
-            Ok(Output::of_piece(alloc, line)?)
-        }
+    match judge(alloc, bytes) {
+        Ok(script) => check_good(alloc, &script),
         Err(ScriptFault::OutOfMemory) => Err(Stop::OutOfMemory),
         Err(fault) => Err(script_refusal(alloc, fault)),
     }

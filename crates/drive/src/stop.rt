@@ -1,5 +1,6 @@
 //! Why there is no output.
-ghost use Rattle.std.specs.Prelude.{◌≡◌, []};
+ghost use Rattle.std.specs.Prelude.{◌≡◌, ◌∷◌, ◌++◌, [], IfOk, OnOk};
+ghost use Rattle.drive.specs.Pieces.{joined};
 ghost use Rattle.drive.specs.Status.{code_of};
 ghost use Rattle.drive.specs.Stop.{Ends, Refuses, WritesMore};
 ghost use Rattle.drive.specs.declared.stop.Stop.TheVariants.{OutOfMemory};
@@ -8,10 +9,10 @@ use crate::output::Output;
 use crate::status::Status;
 use std::alloc::{AllocError, Global};
 
-/// A text that is written to err, and the status that goes with it.
+/// Lines that are written to err, each as one piece, and the status that goes with them.
 #[derive(Drop)]
 pub(crate) struct Refusal {
-    pub(crate) text: Vec<u8>,
+    pub(crate) lines: Vec<Vec<u8>>,
     pub(crate) status: Status,
 }
 
@@ -34,28 +35,63 @@ impl From<AllocError> for Stop {
     }
 }
 
+// A line more.
+fn push_line(lines: &mut Vec<Vec<u8>>, line: Vec<u8>) -> Result<(), AllocError>
+    ensures { OnOk result (lines.new.items ≡ lines.old.items ++ line ∷ []) }
+{
+    lines.push(line)?;
+    Ok(())
+}
+
+impl Refusal {
+    /// A refusal by one line.
+    pub(crate) fn of_line(
+        alloc: Global,
+        line: Vec<u8>,
+        status: Status,
+    ) -> Result<Refusal, AllocError>
+        ensures lines { IfOk result (λ refusal. joined refusal.lines.items ≡ line.items) }
+        ensures status { IfOk result (λ refusal. refusal.status ≡ status) }
+    {
+        let mut lines = Vec::new(alloc);
+        push_line(&mut lines, line)?;
+        Ok(Refusal { lines, status })
+    }
+}
+
+/// A refusal by a line that was made.
+pub(crate) fn refuse_by(alloc: Global, line: Vec<u8>, status: Status) -> Stop
+    requires { Ends status }
+    ensures { Refuses (λ reply. reply ≡ record { out = []; err = line.items; status = code_of status }) result }
+{
+    match Refusal::of_line(alloc, line, status) {
+        Ok(refusal) => Stop::Refused(refusal),
+        Err(_) => Stop::OutOfMemory,
+    }
+}
+
 /// A refusal by a line.
 pub(crate) fn refuse(alloc: Global, line: &[u8], status: Status) -> Stop
     requires { Ends status }
     ensures { Refuses (λ reply. reply ≡ record { out = []; err = line.now; status = code_of status }) result }
 {
     match Vec::from_slice(alloc, line) {
-        Ok(text) => Stop::Refused(Refusal { text, status }),
+        Ok(line) => refuse_by(alloc, line, status),
         Err(_) => Stop::OutOfMemory,
     }
 }
 
-/// An answer that writes a text more to err.
-pub(crate) fn with_more(answer: Result<Output, Stop>, text: &[u8]) -> Result<Output, Stop>
-    ensures { WritesMore text.now answer result }
+/// An answer that writes a line more to err.
+pub(crate) fn with_more(answer: Result<Output, Stop>, line: Vec<u8>) -> Result<Output, Stop>
+    ensures { WritesMore line.items answer result }
 {
     match answer {
         Ok(mut output) => {
-            output.told.extend_from_slice(text)?;
+            push_line(&mut output.told, line)?;
             Ok(output)
         }
         Err(Stop::Refused(mut refusal)) => {
-            refusal.text.extend_from_slice(text)?;
+            push_line(&mut refusal.lines, line)?;
             Err(Stop::Refused(refusal))
         }
         Err(Stop::WriteFault) => Err(Stop::WriteFault),

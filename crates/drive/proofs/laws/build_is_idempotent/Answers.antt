@@ -1,4 +1,4 @@
-use Rattle.drive.proofs.BuiltAgain.{build_is_idempotent}
+use Rattle.drive.proofs.BuiltFiles.{build_is_idempotent}
 use Rattle.drive.proofs.laws.build_is_idempotent.Goals as goal
 
 pub returns : goal.returns

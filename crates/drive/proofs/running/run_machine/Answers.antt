@@ -4,6 +4,7 @@ use Rattle.w_reduce.specs.Run.{Running, Traps, Limit}
 use Rattle.w_stands.specs.Values.{vals}
 use Rattle.w_machine.specs.declared.outcome.Kept.TheVariants.{Ended, Limit as KeptLimit, Trapped as KeptTrapped, WriteFault as KeptWriteFault, OutOfMemory as KeptOutOfMemory}
 use Rattle.w_machine.specs.Position.{Position}
+use Rattle.drive.specs.Pieces.{joined}
 use Rattle.drive.specs.Source.{told_of}
 use Rattle.drive.proofs.Refusals.{refuses_same, same_refusal}
 use Rattle.drive.proofs.Runs.{from_first, first_ended, first_after, first_program, lines_of_vals, run_refused, run_ended, run_unlisted, run_failed, run_out}
@@ -20,7 +21,7 @@ returns-in_ok-pieces-in-Ended-clause-leaves g c = λ p s t begins.
     let h = from_first _ p s t c.args.steps c.args.machine.now c.run.new.self _ (g.O.Sink.held c.args.out.now) (g.O.Sink.held c.run.new.out) c.requires.first begins c.in-Ended.ensures.runs in
     let done = first_ended _ p s t c.args.steps c.args.machine.now c.run.new.self (g.O.Sink.held c.args.out.now) (g.O.Sink.held c.run.new.out) c.requires.first begins c.in-Ended.ensures.runs in
     run_ended (told_of c.args.source) p s t c.args.steps (g.O.Sink.held c.args.out.now) (g.O.Sink.held c.run.new.out) (Rose (g.O.Sink.faults c.args.out.now) (g.O.Sink.faults c.run.new.out)) (record { pieces = c.in_ok-pieces-in-Ended.pieces; told = c.new.result }) (vals c.results.result.now) h.1
-    (c.results.ensures.ended done.kept p s t done.begins c.args.steps done.within) (c.in_ok-pieces-in-Ended.ensures ∙ lines_of_vals c.results.result.now) c.new.ensures.items
+    (c.results.ensures.ended done.kept p s t done.begins c.args.steps done.within) (c.in_ok-pieces-in-Ended.ensures ∙ lines_of_vals c.results.result.now) (ap joined c.new.ensures.items)
 
 pub returns-in-Running-clause-leaves : goal.returns-in-Running-clause-leaves
 returns-in-Running-clause-leaves g c = λ p s t begins.

@@ -12,8 +12,8 @@ returns-in_err-line-clause-told c = λ _ p s t steps begins after. more_unwritte
 pub returns-clause-told : goal.returns-clause-told
 returns-clause-told c = λ _ p s t steps begins after.
     let q = c.args.machine.now in
-    more_same c.as_slice.result.now (stats_line (Run p s t steps)) c.args.answer c.with_more.result
-    (λ reply. c.as_slice.ensures.value ∙ c.in_ok-line.ensures
+    more_same c.in_ok-line.line.items (stats_line (Run p s t steps)) c.args.answer c.with_more.result
+    (λ reply. c.in_ok-line.ensures
     ∙ counts_are (Run p s t q.taken) c.taken.result c.made.result c.consumed.result c.live.result
     (ap (λ (n : ℕ). (Run p s t n).taken) (sym c.taken.ensures.value) ∙ c.taken.ensures.counts p s t begins)
     (c.made.ensures.value p s t begins) (c.consumed.ensures.value p s t begins) (c.live.ensures.value p s t begins)

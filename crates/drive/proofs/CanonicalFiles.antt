@@ -1,5 +1,6 @@
--- What `build` wrote, it writes again.
-use Rattle.std.proofs.Common.{◌≡◌, ◌≤◌, ℕ, List, length, inl, inr, Result, Ok, Err, refl, sym, ap, subst, ◌∙◌, arith}
+-- What a file of the canonical spelling of a module gives: just what the module gives.
+use Rattle.std.proofs.Common.{◌≡◌, ◌≤◌, ℕ, true, false, List, length, inl, inr, Result, Ok, Err, refl, sym, subst, ◌∙◌, arith}
+use Rattle.std.specs.Prelude.{◌↔◌}
 use Rattle.w_outside.specs.Outside.{holds}
 use Rattle.w_syntax.specs.declared.module.Module.{Module}
 use Rattle.w_syntax.specs.Spells.{Spells}
@@ -12,10 +13,8 @@ use Rattle.w_rules.specs.declared.limits.SizeLimit.TheVariants.{Types, Params, L
 use Rattle.w_valid.specs.declared.fault.ValidFault.{ValidFault}
 use Rattle.w_valid.specs.declared.fault.ValidFault.TheVariants as valid
 use Rattle.w_encode.specs.Canon.{Canon}
-use Rattle.w_encode.proofs.Canonical.{canon_spells}
-use Rattle.words.specs.declared.request.Action.TheVariants.{Build}
-use Rattle.drive.specs.Answer.{Reply, OnFile, BytesGive, gives, built, input_limit, HasModuleFault}
-use Rattle.drive.specs.Idempotent.{BuildIsIdempotent}
+use Rattle.words.specs.declared.request.Action.{Action}
+use Rattle.drive.specs.Answer.{Reply, OnFile, BytesGive, ActionGives, gives, input_limit, HasModuleFault}
 
 no_item : (m : Module) (x : Item) → Valid m → IsInvalidAt m x → ⊥
 no_item m x v i = i.invalid (v x i.item)
@@ -39,19 +38,25 @@ no_fault m (valid.Function i) w v h = no_item m _ v h.1.1
 no_fault m valid.OutOfMemory w v h = h.0 refl
 
 -- bytes that spell a module have no fault
-pub spelled_or_not : (b : List ℕ) (m : Module) (f : DecodeFault) → Spells b m → HasFault b f → ⊥
+spelled_or_not : (b : List ℕ) (m : Module) (f : DecodeFault) → Spells b m → HasFault b f → ⊥
 spelled_or_not b m f s h = let e : ◌≡◌ {A = Result Module DecodeFault} (Ok m) (Err f) = sym ((spelled_exactly b m).1 s) ∙ (fault_exactly b f).1 h in absurd cc
 
-only_built : (m : Module) (reply : Reply) → Spells (Canon m) m → Within m → Valid m → BytesGive (gives Build) (Canon m) reply → reply ≡ built m
-only_built m reply s w v (inl h) = h.4 ∙ ap built (one_module (Canon m) h.0 m h.1 s)
-only_built m reply s w v (inr (inl h)) = absurd (no_fault m h.2.0 w v (subst (λ (n : Module). HasModuleFault n h.2.0) (one_module (Canon m) h.0 m h.1 s) h.2.1))
-only_built m reply s w v (inr (inr h)) = absurd (spelled_or_not (Canon m) m h.0 s h.1)
+module _ (m : Module) (spelled : Spells (Canon m) m) (within : Within m) (v : Valid m) (action : Action) (reply : Reply) where
+  -- by its bytes
+  pub only_gives : BytesGive (gives action) (Canon m) reply → gives action m reply
+  only_gives (inl h) = subst (λ (n : Module). gives action n reply) (one_module (Canon m) h.0 m h.1 spelled) h.4
+  only_gives (inr (inl h)) =
+      absurd (no_fault m h.2.0 within v (subst (λ (n : Module). HasModuleFault n h.2.0) (one_module (Canon m) h.0 m h.1 spelled) h.2.1))
+  only_gives (inr (inr h)) = absurd (spelled_or_not (Canon m) m h.0 spelled h.1)
 
-on_file : (m : Module) (reply : Reply) → Spells (Canon m) m → Within m → Valid m → length (Canon m) ≤ input_limit → OnFile (holds (Canon m)) (BytesGive (gives Build)) reply → reply ≡ built m
-on_file m reply s w v le (inl h) = only_built m reply s w v h.1
-on_file m reply s w v le (inr h) = absurd (omega (arith, le, h.0))
+  -- which begin as a module does
+  of_bytes : ActionGives action (Canon m) reply → gives action m reply
+  of_bytes (inl h) = only_gives h.1
+  of_bytes (inr h) = let e : true ≡ false = h.0 in absurd (cc)
 
-pub build_is_idempotent : BuildIsIdempotent
-build_is_idempotent bytes m s w v small le reply =
-    let c = canon_spells bytes m s (omega arith) in
-    (λ h. on_file m reply c w v le h, λ e. inl (le, inl (m, c, w, v, e)))
+  of_file : length (Canon m) ≤ input_limit → OnFile (holds (Canon m)) (ActionGives action) reply → gives action m reply
+  of_file short (inl h) = of_bytes h.1
+  of_file short (inr h) = absurd (omega (arith, short, h.0))
+
+  pub file_gives : length (Canon m) ≤ input_limit → OnFile (holds (Canon m)) (ActionGives action) reply ↔ gives action m reply
+  file_gives short = (of_file short, λ g. inl (short, inl (refl, inl (m, spelled, within, v, g))))
