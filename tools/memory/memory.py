@@ -2,6 +2,7 @@
 
 import argparse
 import collections
+import contextlib
 import os
 import subprocess
 import sys
@@ -23,6 +24,10 @@ from row_files import rows_of     # noqa: E402
 SWITCHING = [
     'running_clauses', 'running_continuations', 'running_coroutines', 'running_passing', 'running_suspends',
     'running_switches', 'running_switching_limits', 'running_switching_traps']
+# Runs of which each refusal is answered by want of memory: the files of their rows, and the rows' names.
+EACH = [
+    ('calls', 'a continuation is resumed twice'), ('calls', 'two coroutines switch to one another'),
+    ('script_runs', 'asking')]
 MAY_ASK = {'call', 'call_indirect', 'call_ref', 'invoke', 'cont.new', 'memory.grow', 'table.grow'}
 RUNNING, WANTING = 10, 8      # statuses
 MOST_SECONDS = 60
@@ -48,35 +53,73 @@ class Program:
         return (made.returncode, made.stdout, made.stderr), asked
 
 
+def rows_in(name):
+    """The rows of a file."""
+    return rows_of((ROOT / 'crates' / 'conformance' / 'data' / f'{name}.rows').read_text())
+
+
+@contextlib.contextmanager
+def folder_of(row):
+    """A folder that has the files of a row."""
+    with tempfile.TemporaryDirectory() as folder:
+        for file, held in row.files.items():
+            (Path(folder) / file).write_bytes(held)
+        yield Path(folder)
+
+
 def runs(names):
     """The rows of these files that run something, each with a folder of its own that has its files."""
     for name in names:
-        text = (ROOT / 'crates' / 'conformance' / 'data' / f'{name}.rows').read_text()
-        for row in rows_of(text):
+        for row in rows_in(name):
             if row.words[1:2] == ['run'] and not row.fails:
-                with tempfile.TemporaryDirectory() as folder:
-                    for file, held in row.files.items():
-                        (Path(folder) / file).write_bytes(held)
-                    yield name, row, Path(folder)
+                with folder_of(row) as folder:
+                    yield name, row, folder
+
+
+def answers_where_refused(program, row, folder, places, workers):
+    """The answers of the call of a row where these growths are refused, one for each call."""
+    with ThreadPoolExecutor(workers) as pool:
+        return list(pool.map(lambda at: program.call(row.words[1:], folder, at)[0], places))
+
+
+def is_wanting(answer, whole):
+    """Whether an answer is want of memory, with a first part of what the whole answer has, out before err."""
+    (status, out, err), (_, whole_out, whole_err) = answer, whole
+    is_part = whole_out.startswith(out) and whole_err.startswith(err) and (out == whole_out or not err)
+    return status == WANTING and is_part
 
 
 def refuse(program, names, workers, most):
-    """Refuses each growth in turn, or so many of a row that has more. The answer is the whole one, or want of memory with a first part
-    of out."""
+    """Refuses each growth in turn, or so many of a row that has more. The answer is the whole one, or want of memory
+    with a first part of it."""
     told, odd = collections.Counter(), []
     for name, row, folder in runs(names):
         whole, asked = program.call(row.words[1:], folder)
-        with ThreadPoolExecutor(workers) as pool:
-            places = range(1, asked + 1, max(1, asked // most))
-            answers = pool.map(lambda at: program.call(row.words[1:], folder, at)[0], places)
-            for at, answer in zip(places, answers):
-                status, out, err = answer
-                is_part = status == WANTING and whole[1].startswith(out) and whole[2].startswith(err)
-                told['the whole answer' if answer == whole else 'want of memory' if is_part else 'odd'] += 1
-                if answer != whole and not is_part:
-                    odd.append(f'{name}, {row.name}: refused at {at} it answers {answer}')
+        places = range(1, asked + 1, max(1, asked // most))
+        for at, answer in zip(places, answers_where_refused(program, row, folder, places, workers)):
+            wanting = is_wanting(answer, whole)
+            told['the whole answer' if answer == whole else 'want of memory' if wanting else 'odd'] += 1
+            if answer != whole and not wanting:
+                odd.append(f'{name}, {row.name}: refused at {at} it answers {answer}')
         told['rows'] += 1
     return told, odd
+
+
+def each(program, workers):
+    """Refuses each growth of some runs in turn, and prints how many each has, and how many are answered by want of
+    memory. All are to be, so that the whole answer is odd."""
+    odd = []
+    for name, row_name in EACH:
+        row, = (row for row in rows_in(name) if row.name == row_name)
+        with folder_of(row) as folder:
+            whole, asked = program.call(row.words[1:], folder)
+            answers = answers_where_refused(program, row, folder, range(1, asked + 1), workers)
+        wrong = [(at, answer) for at, answer in enumerate(answers, 1) if not is_wanting(answer, whole)]
+        print(f'{name}, {row_name}: {asked} growths, {asked - len(wrong)} answered by want of memory')
+        if whole != (row.status, row.out, row.err) or not asked:
+            odd.append(f'{name}, {row_name}: with no growth refused it answers {whole}')
+        odd += [f'{name}, {row_name}: refused at {at} it answers {answer}' for at, answer in wrong]
+    return odd
 
 
 def reductions(module_bytes, most):
@@ -117,7 +160,7 @@ def ask(program, names, workers, most):
 
 def main():
     parser = argparse.ArgumentParser(description=__doc__)
-    parser.add_argument('what', choices=['refuse', 'ask'])
+    parser.add_argument('what', choices=['refuse', 'each', 'ask'])
     parser.add_argument('--program', default=ROOT / 'crates' / 'stackwasm' / 'out' / 'stackwasm')
     parser.add_argument('--rows', nargs='+', default=SWITCHING, metavar='NAME')
     parser.add_argument('--most', type=int, default=300)
@@ -125,9 +168,13 @@ def main():
     options = parser.parse_args()
     with tempfile.TemporaryDirectory() as folder:
         program = Program(Path(options.program).resolve(), Path(folder))
-        told, odd = {'refuse': refuse, 'ask': ask}[options.what](program, options.rows, options.workers, options.most)
-    for what, often in told.most_common():
-        print(what, often)
+        if options.what == 'each':
+            odd = each(program, options.workers)
+        else:
+            kind = {'refuse': refuse, 'ask': ask}[options.what]
+            told, odd = kind(program, options.rows, options.workers, options.most)
+            for what, often in told.most_common():
+                print(what, often)
     print('\n'.join(odd))
     sys.exit(1 if odd else 0)
 

@@ -13,7 +13,8 @@ from rows import (
     equivalence, matching, limits, arithmetic, sizes, long_runs, running_numbers, running_memory, running_tables,
     running_control, running_instances, running_suspends, running_clauses, running_switches, running_continuations,
     running_passing, running_switching_traps, running_coroutines, running_switching_limits, scripts, script_rules,
-    script_sizes, script_names, script_modules, script_runs, script_operators, script_effects, script_random, examples)
+    script_sizes, script_names, script_modules, script_runs, script_operators, script_effects, script_random,
+    script_edges, examples)
 from surroundings import pieces
 
 
@@ -111,13 +112,16 @@ _FILES = [
     _modules('script_tokens', 'Bytes that are cut into tokens, and bytes that are not.', scripts.LEXING),
     _modules('script_grammar', 'Tokens that are a script, and tokens that are none.', scripts.GRAMMAR, scripts.NESTING),
     _modules('script_rules', 'Rules of scripts that are broken, and their neighbours.', script_rules.SECTION, script_rules.ORDER),
-    _modules('script_sizes', 'Scripts as long as one may be.', script_sizes.SECTION),
+    _modules('script_sizes', 'Scripts as long or as large as one may be.', script_sizes.SECTION),
     lambda: RowFile('script_names', 'Scripts of many names.', script_names.PIECES, [script_names.SECTION]),
     _modules('script_modules', 'Scripts that are compiled.', script_modules.SECTION),
     _modules(
         'script_runs', 'Runs of scripts, and of their modules.', script_runs.CALLS, script_runs.LIMITS,
         script_runs.GENERATED, script_operators.OPERATORS, script_operators.STATEMENTS, script_operators.FAULTS,
         script_effects.EFFECTS, script_effects.RESUMPTIONS, script_effects.HANDLES, script_random.SECTION),
+    _modules(
+        'script_edges', 'Scripts at the edges of what the language says.', script_edges.TEXTS, script_edges.NAMES,
+        script_edges.ORDER, script_edges.HANDLERS, script_edges.LIMITS),
     _modules('examples', 'The scripts of examples/.', examples.SECTION),
 ]
 

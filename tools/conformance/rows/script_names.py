@@ -33,7 +33,7 @@ PIECES = [
 row('10-000-functions', '@functions @main @end', 'ok script')
 row('10-000-functions-and-the-first-again', f'@functions {spelled("fn f0() { }")} @main @end', 'rule 10000 1')
 row('10-000-functions-without-main', '@functions', 'rule 10000 18')
-row('100-000-names', '@main @lets @end', 'ok script')
+row('100-000-names', '@main @lets @end', 'limit size')
 row('100-000-names-and-the-first-again', f'@main @lets {spelled("let aaa=2;")} @end', 'rule 0 6')
 row('100-000-names-and-one-that-is-not-bound', f'@main @lets {spelled("print aaaa;")} @end', 'rule 0 10')
 row('100-000-names-behind-their-block', f'@main {spelled("if 1 {")} @lets {spelled("} print aab;")} @end', 'rule 0 10')

@@ -108,8 +108,8 @@ class ScriptRunSection(Section):
 
 
 def data_of(text):
-    """The bytes of a script, which ends with one end of a line."""
-    return (text.strip() + '\n').encode()
+    """The bytes of a script: text ends with one end of a line, and bytes stay as they are."""
+    return text if isinstance(text, bytes) else (text.strip() + '\n').encode()
 
 
 def _command(steps):

@@ -1,4 +1,4 @@
-"""Scripts as long as one may be. What is to be said of them is clear without a reader."""
+"""Scripts as long or as large as one may be. What is to be said of them is clear without a reader."""
 
 from rows.sections import CallRow, Section, answered
 
@@ -28,12 +28,15 @@ row('separators', [(' ', LENGTH)], 'rule 0 18')
 row('separators-and-main', filled('fn main() { }', ' ', ''), 'ok script')
 row('a-comment', filled('fn main() { } #', 'a', ''), 'ok script')
 row('comments', filled('fn main() { }', '#\n', ''), 'ok script')
-row('one-run-of-operators', filled('fn main() { return 1', '+1', '; }'), 'ok script')
-row('one-run-of-connectives', filled('fn main() { return 1', '||1', '; }'), 'ok script')
+row('one-run-of-operators', filled('fn main() { return 1', '+1', '; }'), 'limit size')
+row('one-run-of-connectives', filled('fn main() { return 1', '||1', '; }'), 'limit size')
 row('24-999-statements', [('fn main() { ', 1), ('1;', 24999), ('}', 1)], 'ok script')
-row('statements', filled('fn main() { ', '1;', '}'), 'ok script')
-row('assignments', filled('fn main() { let x=1; ', 'x=x;', '}'), 'ok script')
-row('blocks-nested-as-far-as-may-be', filled('fn main() { ', 'if 1{' * 63 + '}' * 63, '}'), 'ok script')
+row('24-999-statements-and-a-fail', [('fn main() { ', 1), ('1;', 24999), ('fail; }', 1)], 'ok script')
+row('25-000-statements', [('fn main() { ', 1), ('1;', 25000), ('}', 1)], 'limit size')
+row('25-000-statements-and-a-rule', [('fn main() { ', 1), ('1;', 25000), ('x; }', 1)], 'rule 0 10')
+row('statements', filled('fn main() { ', '1;', '}'), 'limit size')
+row('assignments', filled('fn main() { let x=1; ', 'x=x;', '}'), 'limit size')
+row('blocks-nested-as-far-as-may-be', filled('fn main() { ', 'if 1{' * 63 + '}' * 63, '}'), 'limit size')
 row('parentheses-nested-as-far-as-may-be', filled('fn main() { ', '(' * 63 + '1' + ')' * 63 + ';', '}'), 'ok script')
 row('one-name', filled('fn main() { let ', 'a', '=1; }'), 'ok script')
 row('one-name-read', filled('fn main() { return ', 'a', '; }'), 'rule 0 10')

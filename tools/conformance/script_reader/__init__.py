@@ -1,7 +1,7 @@
 """A second reader of scripts: it says what `check` is to say of one.
 
-It rests on the grammar and the rules as `docs/SPECIFICATION.md` tells them. Whether tokens begin a script is found out
-by all derivations of the grammar at once, and not by a parser that looks ahead.
+It rests on the grammar, the rules and the size of scripts as `docs/SPECIFICATION.md` tells them. Whether tokens begin a
+script is found out by all derivations of the grammar at once, and not by a parser that looks ahead.
 """
 
 import sys
@@ -10,6 +10,7 @@ from functools import lru_cache
 from script_reader.derivations import Derivations
 from script_reader.grammar import PRODUCTIONS
 from script_reader.rules import broken, declarations_in
+from script_reader.sizes import GREATEST_SIZE, size_of
 from script_reader.tokens import NoToken, tokens_of
 
 MODULE_FRONT = bytes.fromhex('0061736D')
@@ -32,7 +33,7 @@ def answer(data):
 
 @lru_cache(maxsize=64)
 def read(data):
-    """What is to be said of these bytes as a script, and its declarations where it breaks no rule."""
+    """What is to be said of these bytes as a script, and its declarations where nothing is said against it."""
     if len(data) > GREATEST_LENGTH:
         return 'limit script', None
     try:
@@ -47,7 +48,9 @@ def read(data):
         return f'parse {wrong}', None
     declarations = declarations_in(derivations.tree(tokens))
     refused = broken(declarations)
-    return (VALID, declarations) if refused is None else (f'rule {refused[0]} {refused[1]}', None)
+    if refused is not None:
+        return f'rule {refused[0]} {refused[1]}', None
+    return (VALID, declarations) if size_of(declarations) <= GREATEST_SIZE else ('limit size', None)
 
 
 def _first_deep(tokens):

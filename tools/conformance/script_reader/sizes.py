@@ -1,11 +1,13 @@
 """The size of scripts."""
 
-from script_reader.trees import Run, parts_of
+from script_reader.trees import Run, parts_of, with_trees
+
+GREATEST_SIZE = 50000
 
 
 def size_of(declarations):
-    """The size of a script of these declarations, whose bodies are trees."""
-    return sum(map(_declaration_size, declarations))
+    """The size of a script of these declarations, whose bodies are as they are in the tree of its tokens."""
+    return sum(_declaration_size(with_trees(each)) for each in declarations)
 
 
 def _declaration_size(declaration):
