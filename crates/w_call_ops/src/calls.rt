@@ -14,7 +14,8 @@ use w_segment::Stack;
 use w_tables::Store;
 
 /// Invokes the function of the module that an instruction calls, by its address and its index among the module's own, once so many
-/// operands are gone. It fails only when out of memory, and then the stack is as it was but for room.
+/// operands are gone. It fails only when out of memory, or where there is no room and none may be asked for, and then the stack is as it was
+/// but for room.
 #[inline(always)]
 pub fn call_own(
     program: &Checked,
@@ -23,6 +24,7 @@ pub fn call_own(
     address: u32,
     function: u32,
     taken: usize,
+    may_grow: bool,
 ) -> Result<(), AllocError>
     requires call { Calls address taken program.now store.now stack.old }
     requires own { slice_get store.now.functions address ≡ Some (entry.Own function) }
@@ -32,7 +34,7 @@ pub fn call_own(
 {
     let _store = store;
     let back = stack.place() + 1;
-    enter(program, stack, function, taken, back)
+    enter(program, stack, function, taken, back, may_grow)
 }
 
 /// Invokes the function of the module that a fresh segment begins with, by its index among the module's own. It fails only when out of
@@ -51,5 +53,5 @@ pub fn invoke_own(
     ensures err { OnErr result (Roomier stack.old stack.new) }
 {
     let _store = store;
-    enter(program, stack, function, 0, 0)
+    enter(program, stack, function, 0, 0, true)
 }

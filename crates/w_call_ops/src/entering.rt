@@ -52,13 +52,14 @@ fn add_runs(stack: &mut Stack, runs: &[LocalRun])
     }
 }
 
-// Takes room for a frame with so many operands, labels and locals, where there is none.
+// Takes room for a frame with so many operands, labels and locals, where there is none and more may be asked for.
 #[inline(always)]
 fn room_for_frame(
     stack: &mut Stack,
     operands: u64,
     labels: u32,
     locals: usize,
+    may_grow: bool,
 ) -> Result<(), AllocError>
     ensures roomier { Roomier stack.old stack.new }
     ensures ok { OnOk result (Fits operands (labels + 1) locals stack.new) }
@@ -67,12 +68,15 @@ fn room_for_frame(
     if stack.fits(operands, levels, locals) {
         return Ok(());
     }
+    if !may_grow {
+        return Err(AllocError);
+    }
     stack.reserve(operands, levels, locals)
 }
 
 /// Enters a function of the module, by its index among the module's own, once so many operands are gone; its arguments stand beneath
 /// them. The function that ran before goes on at `back`. The frame gets room for all that its function needs. It fails only when out of
-/// memory, and then the stack is as it was but for room.
+/// memory, or where there is no room and none may be asked for, and then the stack is as it was but for room.
 #[inline(never)]
 pub(crate) fn enter(
     program: &Checked,
@@ -80,6 +84,7 @@ pub(crate) fn enter(
     function: u32,
     taken: usize,
     back: u32,
+    may_grow: bool,
 ) -> Result<(), AllocError>
     requires taken { taken ≤ length stack.old.operands }
     requires there { CanEnter program.now function (drop taken stack.old.operands) }
@@ -97,7 +102,7 @@ pub(crate) fn enter(
     let locals = params as usize + count_locals(runs);
     let height = program.height(function);
     let depth = program.depth(function);
-    room_for_frame(stack, height, depth, locals)?;
+    room_for_frame(stack, height, depth, locals, may_grow)?;
     stack.discard(taken);
     stack.go(back);
     stack.enter(Entry::Frame {

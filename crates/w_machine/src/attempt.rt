@@ -36,6 +36,6 @@ pub(crate) fn hasten(
         // but for a call no frame is added, so that the limit still holds
         Progress::Went => Some(true),
         Progress::Entered => Some(chain.frames() <= MOST_FRAMES),
-        Progress::Trapped | Progress::Rare | Progress::OutOfMemory => None,
+        Progress::Trapped | Progress::Rare | Progress::NoRoom => None,
     }
 }

@@ -28,15 +28,15 @@ use Rattle.w_plain.specs.Stepped.{Takes}
 abbrev pub attempt_of : Result Did AllocError → Progress
 attempt_of (Ok did.Went) = progress.Went
 attempt_of (Ok (did.Trapped t)) = progress.Trapped
-attempt_of (Err e) = progress.OutOfMemory
+attempt_of (Err e) = progress.NoRoom
 
--- its reduction was taken, or all is as it was but for room: it traps, or none was attempted, or memory ran out
+-- its reduction was taken, or all is as it was but for room: it traps, or none was attempted, or there was no room for it
 abbrev pub Attempted : Progress → Module → instances.Store → Shape → instances.Store → Shape → Type 0
 Attempted progress.Went m u s u' s' = Takes did.Went m [] u s u' s'
 Attempted progress.Entered m u s u' s' = Takes did.Went m [] u s u' s'
 Attempted progress.Trapped m u s u' s' = (u' ≡ u) × Roomier s s' × ((t : Trap) × Follows (did.Trapped t) m [] u s u s)
 Attempted progress.Rare m u s u' s' = (u' ≡ u) × Roomier s s'
-Attempted progress.OutOfMemory m u s u' s' = (u' ≡ u) × Roomier s s'
+Attempted progress.NoRoom m u s u' s' = (u' ≡ u) × Roomier s s'
 
 -- ## When one is made
 

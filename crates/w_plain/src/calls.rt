@@ -31,7 +31,15 @@ pub(crate) fn call<O: Sink>(
 {
     match store.function(address) {
         FuncEntry::Own(function) => {
-            match call_own(program.checked, store, stack, address, function, taken) {
+            match call_own(
+                program.checked,
+                store,
+                stack,
+                address,
+                function,
+                taken,
+                true,
+            ) {
                 Ok(()) => Ok(Did::Went),
                 Err(_) => Err(Stop::OutOfMemory),
             }

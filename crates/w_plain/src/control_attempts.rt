@@ -30,7 +30,7 @@ pub(crate) fn told(outcome: Result<Did, AllocError>) -> Progress
     match outcome {
         Ok(Did::Went) => Progress::Went,
         Ok(Did::Trapped(_)) => Progress::Trapped,
-        Err(_) => Progress::OutOfMemory,
+        Err(_) => Progress::NoRoom,
     }
 }
 
@@ -52,9 +52,10 @@ fn call(
 {
     match store.function(address) {
         FuncEntry::Own(function) => {
-            match call_own(checked, store, stack, address, function, 0) {
+            // where it has no room the whole step asks for it, so that each growth is asked for once
+            match call_own(checked, store, stack, address, function, 0, false) {
                 Ok(()) => Progress::Entered,
-                Err(_) => Progress::OutOfMemory,
+                Err(_) => Progress::NoRoom,
             }
         }
         FuncEntry::Printer(_) => Progress::Rare,

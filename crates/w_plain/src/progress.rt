@@ -11,6 +11,6 @@ pub enum Progress {
     Trapped,
     /// None was attempted: what is there is rarer.
     Rare,
-    /// Memory ran out, and it was not taken.
-    OutOfMemory,
+    /// There is no room for what it needs, and it was not taken.
+    NoRoom,
 }
