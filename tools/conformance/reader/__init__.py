@@ -4,10 +4,12 @@ It rests on the standard alone. It shares nothing with the assembler, not even t
 of them shows.
 """
 
+from typing import NamedTuple
+
 from reader.byte_source import Malformed
 from reader.context import Context, Invalid
 from reader.items import items
-from reader.module_decoding import decode
+from reader.module_decoding import Module, decode
 from reader.types import FuncType
 
 FUNCTION_EXPORT = 0
@@ -16,37 +18,62 @@ GREATEST_PARAMETERS = 1000      # and results
 GREATEST_LOCALS = 50000         # parameters among them
 
 
+class Limit(NamedTuple):
+    """A limit that is passed: its name, what passes it, the number found, and the greatest that is allowed."""
+
+    name: str
+    what: str
+    found: int
+    greatest: int
+
+
+class Reading(NamedTuple):
+    """What is to be said of a module, and the fault; the module and its context where they are known."""
+
+    said: str
+    fault: Malformed | Limit | Invalid | None = None
+    module: Module | None = None
+    context: Context | None = None
+
+
 def answer(data):
     """What is to be said of the module that these bytes spell."""
+    return reading_of(data).said
+
+
+def reading_of(data):
+    """The reading of these bytes as a module."""
     try:
         module = decode(data)
     except Malformed as fault:
-        return f'malformed {fault}'
+        return Reading(f'malformed {fault}', fault)
     context = _context(module)
     limit = _passed_limit(module, context.types)
     if limit is not None:
-        return f'limit {limit}'
+        return Reading(f'limit {limit.name}', limit, module, context)
     for name, check in items(module, context):
         try:
             check()
-        except Invalid:
-            return f'invalid {name}'
-    return 'ok module'
+        except Invalid as fault:
+            return Reading(f'invalid {name}', fault, module, context)
+    return Reading('ok module', None, module, context)
 
 
 def _passed_limit(module, types):
     """The first limit that the module passes, or nothing."""
     if len(types) > GREATEST_TYPES:
-        return 'types'
-    functions = [each for each in types if isinstance(each, FuncType)]
-    if any(max(len(each.parameters), len(each.results)) > GREATEST_PARAMETERS for each in functions):
-        return 'params'
-    for function, code in zip(module.functions, module.codes):
+        return Limit('types', 'the types of the module', len(types), GREATEST_TYPES)
+    for number, each in enumerate(types):
+        if isinstance(each, FuncType):
+            for name, row in ('parameters', each.parameters), ('results', each.results):
+                if len(row) > GREATEST_PARAMETERS:
+                    return Limit('params', f'the {name} of type {number}', len(row), GREATEST_PARAMETERS)
+    for number, (function, code) in enumerate(zip(module.functions, module.codes)):
         count = sum(count for count, _ in code.runs)
         if function < len(types) and isinstance(types[function], FuncType):
             count += len(types[function].parameters)
         if count > GREATEST_LOCALS:
-            return 'locals'
+            return Limit('locals', f'the locals of function {number}', count, GREATEST_LOCALS)
     return None
 
 

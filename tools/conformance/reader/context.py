@@ -6,18 +6,24 @@ from reader.types import ContType, FuncType, Ref
 
 
 class Invalid(Exception):
-    """A rule that doesn't hold."""
+    """A rule that doesn't hold: what it wants, and the places of instructions where it does, from the innermost one."""
+
+    def __init__(self, wanted):
+        super().__init__(wanted)
+        self.wanted = wanted
+        self.places = []
 
 
-def require(condition):
-    """Go on where the condition holds."""
+def require(condition, wanted):
+    """Go on where the condition holds; else this is wanted."""
     if not condition:
-        raise Invalid
+        raise Invalid(wanted)
 
 
-def entry(entries, index):
-    """The entry with this index, which has to be there."""
-    require(index < len(entries))
+def entry(entries, index, kind):
+    """The entry of this kind with this index, which has to be there."""
+    if index >= len(entries):
+        raise Invalid(f'{kind} {index}, which is not there; their number is {len(entries)}')
     return entries[index]
 
 
@@ -52,14 +58,14 @@ class Context:
 
     def function_type(self, index):
         """The function type with this index."""
-        function_type = entry(self.types, index)
-        require(isinstance(function_type, FuncType))
+        function_type = entry(self.types, index, 'type')
+        require(isinstance(function_type, FuncType), f'a function type; type {index} is none')
         return function_type
 
     def continuation_type(self, index):
         """The continuation type with this index."""
-        continuation_type = entry(self.types, index)
-        require(isinstance(continuation_type, ContType))
+        continuation_type = entry(self.types, index, 'type')
+        require(isinstance(continuation_type, ContType), f'a continuation type; type {index} is none')
         return continuation_type
 
     def continued(self, index):
@@ -68,4 +74,4 @@ class Context:
 
     def tag(self, index):
         """The type of the tag with this index."""
-        return self.function_type(entry(self.tags, index))
+        return self.function_type(entry(self.tags, index, 'tag'))

@@ -1,8 +1,8 @@
 """The rules of blocks, branches and calls. Each is a function of the block around and of the immediates."""
 
-from reader.context import entry, require
+from reader.context import Invalid, entry, require
 from reader.matching import all_match, matches
-from reader.types import FUNCREF, I32, BottomRef, Ref
+from reader.types import FUNCREF, I32, BottomRef, Ref, spelled_row
 
 
 def unreachable(block):
@@ -16,7 +16,7 @@ def nop(_block):
 def _arrow(context, block_type):
     """The parameters and the results of a block type."""
     if isinstance(block_type, list):
-        require(all(context.has_type(result) for result in block_type))
+        require(all(context.has_type(result) for result in block_type), f'a result below type {len(context.types)}')
         return [], block_type
     function_type = context.function_type(block_type)
     return function_type.parameters, function_type.results
@@ -25,46 +25,48 @@ def _arrow(context, block_type):
 def block_(block, block_type, instructions):
     parameters, results = _arrow(block.context, block_type)
     block.take(*parameters)
-    block.judge_inner(instructions, results, parameters, results)
+    block.judge_inner('block', instructions, results, parameters, results)
     block.give(*results)
 
 
 def loop(block, block_type, instructions):
     parameters, results = _arrow(block.context, block_type)
     block.take(*parameters)
-    block.judge_inner(instructions, parameters, parameters, results)
+    block.judge_inner('loop', instructions, parameters, parameters, results)
     block.give(*results)
 
 
 def if_(block, block_type, then, otherwise):
     parameters, results = _arrow(block.context, block_type)
     block.take(*parameters, I32)
-    block.judge_inner(then, results, parameters, results)
+    block.judge_inner('then branch', then, results, parameters, results)
     if otherwise is None:
-        require(all_match(block.context, parameters, results))
+        require(all_match(block.context, parameters, results), 'an else, since the parameters don\'t match the results')
     else:
-        block.judge_inner(otherwise, results, parameters, results)
+        block.judge_inner('else branch', otherwise, results, parameters, results)
     block.give(*results)
 
 
 def br(block, label):
-    block.take(*entry(block.labels, label))
+    block.take(*block.label(label))
     block.leave()
 
 
 def br_if(block, label):
-    taken = entry(block.labels, label)
+    taken = block.label(label)
     block.take(*taken, I32)
     block.give(*taken)
 
 
 def br_table(block, labels, default):
-    taken = [entry(block.labels, label) for label in [*labels, default]]
+    taken = [block.label(label) for label in [*labels, default]]
     block.take(I32)
     count = len(taken[0])
-    require(all(len(types) == count for types in taken))
+    require(all(len(types) == count for types in taken), 'labels that take as many operands as one another')
     operands = [block.pop() for _ in range(count)][::-1]
-    require(all(all_match(block.context, operands, types) for types in taken))
+    for types in taken:
+        if not all_match(block.context, operands, types):
+            raise Invalid(f'operands {spelled_row(types)}, which a label takes')
     block.leave()
 
 
@@ -74,7 +76,7 @@ def return_(block):
 
 
 def br_on_null(block, label):
-    taken = entry(block.labels, label)
+    taken = block.label(label)
     operand = block.pop_ref()
     block.take(*taken)
     block.give(*taken, not_null(operand))
@@ -86,14 +88,14 @@ def not_null(ref_type):
 
 
 def br_on_non_null(block, label):
-    taken = entry(block.labels, label)
-    require(taken and isinstance(taken[-1], Ref))
+    taken = block.label(label)
+    require(taken and isinstance(taken[-1], Ref), 'a label that takes a reference as its last operand')
     block.take(*taken[:-1], Ref(True, taken[-1].heap))
     block.give(*taken[:-1])
 
 
 def call(block, function):
-    _apply(block, block.context.function_type(entry(block.context.functions, function)))
+    _apply(block, block.context.function_type(entry(block.context.functions, function, 'function')))
 
 
 def _apply(block, function_type, *callee):
@@ -103,7 +105,8 @@ def _apply(block, function_type, *callee):
 
 
 def call_indirect(block, function_type, table):
-    require(matches(block.context, entry(block.context.tables, table), FUNCREF))
+    is_callable = matches(block.context, entry(block.context.tables, table, 'table'), FUNCREF)
+    require(is_callable, 'a table of functions')
     _apply(block, block.context.function_type(function_type), I32)
 
 

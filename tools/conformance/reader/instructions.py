@@ -73,9 +73,10 @@ def _i64(source):
 
 
 def _alignment(source):
+    start = source.position
     exponent = source.unsigned()
     if exponent >= 64:
-        raise Malformed('align')
+        raise Malformed(start, f'an exponent of the alignment, below 64; this one is {exponent}')
     return exponent
 
 
@@ -102,7 +103,7 @@ def _handler(source):
         return 'on', index(source), index(source)
     if byte == 1:
         return 'switch', index(source)
-    raise Malformed('clause')
+    raise source.wrong('a clause: 00 for a tag and a label, or 01 for switch')
 
 
 # All other instructions but the blocks, by opcode: name, and what reads each immediate.
@@ -138,9 +139,9 @@ class _Open:
         self.then = None            # what stands before the else, once this is read
         self.sequence = []
 
-    def begin_else(self):
+    def begin_else(self, source):
         if self.opcode != IF or self.then is not None:
-            raise Malformed('else')
+            raise source.wrong('no else, which stands in an if, and once')
         self.then, self.sequence = self.sequence, []
 
     def block(self):
@@ -164,7 +165,7 @@ def expression(source):
             ended, inner = inner, around.pop()
             inner.sequence.append(ended.block())
         elif opcode == ELSE:
-            inner.begin_else()
+            inner.begin_else(source)
         elif opcode in BLOCKS or opcode == IF:
             around.append(inner)
             inner = _Open(opcode, block_type(source))
@@ -175,14 +176,15 @@ def expression(source):
 def _instruction(source, opcode):
     """The instruction with this opcode, whose immediates are read. It holds no others."""
     if opcode == PREFIX:
+        start = source.position
         number = source.unsigned()
         if number not in PREFIXED:
-            raise Malformed('fc')
+            raise Malformed(start, f'a number from 8 to 17 behind FC; this one is {number}')
         name, *immediates = PREFIXED[number]
     elif opcode in PLAIN:
         name, *immediates = PLAIN[opcode]
     else:
-        raise Malformed(f'op {opcode:x}')
+        raise source.wrong('an instruction; no instruction has this opcode')
     return Instruction(name, tuple(read(source) for read in immediates))
 
 

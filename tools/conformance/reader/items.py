@@ -3,11 +3,12 @@
 from dataclasses import replace
 from functools import partial
 
-from reader.blocks import Block
-from reader.context import entry, require
+from reader.blocks import Block, Place
+from reader.context import Invalid, entry, require
 from reader.matching import matches, type_keys
-from reader.types import I32, FuncType, Ref
+from reader.types import I32, FuncType, Ref, spelled
 
+EXPORT_KINDS = ['function', 'table', 'memory', 'global', 'tag']
 GREATEST_TABLE = 2 ** 32 - 1
 GREATEST_MEMORY = 65536     # in pages
 
@@ -57,20 +58,33 @@ def _check_type(context, comp_type, end):
     """A type may name those before the end of its group."""
     if isinstance(comp_type, FuncType):
         for value_type in comp_type.parameters + comp_type.results:
-            require(not isinstance(value_type, Ref) or value_type.index is None or value_type.index < end)
+            if isinstance(value_type, Ref) and value_type.index is not None:
+                require(value_type.index < end, _below(end))
     else:
-        require(comp_type.function < end)
+        require(comp_type.function < end, _below(end))
         context.function_type(comp_type.function)
 
 
+def _below(end):
+    return f'indices of types before the end of the group, so below {end}'
+
+
 def _check_limits(greatest, limits):
-    require(limits.minimum <= greatest)
-    require(limits.maximum is None or limits.minimum <= limits.maximum <= greatest)
+    require(limits.minimum <= greatest, f'a minimum of at most {greatest}; it is {limits.minimum}')
+    if limits.maximum is not None:
+        require(
+            limits.minimum <= limits.maximum <= greatest,
+            f'a maximum from the minimum, {limits.minimum}, to {greatest}; it is {limits.maximum}')
+
+
+def _check_in_range(context, value_type):
+    if not context.has_type(value_type):
+        raise Invalid(f'a type whose index is below {len(context.types)}; here is {spelled(value_type)}')
 
 
 def _check_table_type(context, ref_type, limits):
     _check_limits(GREATEST_TABLE, limits)
-    require(context.has_type(ref_type))
+    _check_in_range(context, ref_type)
 
 
 def _check_import(context, kind, described, *more):
@@ -81,19 +95,19 @@ def _check_import(context, kind, described, *more):
     elif kind == 'memory':
         _check_limits(GREATEST_MEMORY, described)
     else:
-        require(context.has_type(described))
+        _check_in_range(context, described)
 
 
 def _check_table(context, table):
     _check_table_type(context, table.type, table.limits)
     if table.initial is None:
-        require(table.type.nullable)
+        require(table.type.nullable, 'an initial expression, since its elements can\'t be null')
     else:
-        _check_constant(context, table.initial, table.type)
+        _check_constant('initial expression', context, table.initial, table.type)
 
 
 def _check_memories(context, memories):
-    require(len(context.memories) <= 1)
+    require(len(context.memories) <= 1, f'one memory at most; there are {len(context.memories)}')
     for limits in memories:
         _check_limits(GREATEST_MEMORY, limits)
 
@@ -107,58 +121,70 @@ def _global_items(module, context):
 
 
 def _check_global(context, defined):
-    require(context.has_type(defined.type))
-    _check_constant(context, defined.initial, defined.type)
+    _check_in_range(context, defined.type)
+    _check_constant('initial expression', context, defined.initial, defined.type)
 
 
 def _check_element(context, element):
-    require(context.has_type(element.type))
+    _check_in_range(context, element.type)
     if element.active is not None:
-        require(matches(context, element.type, entry(context.tables, element.active.index)))
-        _check_constant(context, element.active.offset, I32)
-    for item in element.items:
-        _check_constant(context, item, element.type)
+        table_type = entry(context.tables, element.active.index, 'table')
+        require(matches(context, element.type, table_type), 'elements whose type matches that of the table')
+        _check_constant('offset', context, element.active.offset, I32)
+    for number, item in enumerate(element.items):
+        _check_constant(f'item {number}', context, item, element.type)
 
 
 def _check_data(context, active):
     if active is not None:
-        entry(context.memories, active.index)
-        _check_constant(context, active.offset, I32)
+        entry(context.memories, active.index, 'memory')
+        _check_constant('offset', context, active.offset, I32)
 
 
 def _check_start(context, function):
-    function_type = context.function_type(entry(context.functions, function))
-    require(not function_type.parameters and not function_type.results)
+    function_type = context.function_type(entry(context.functions, function, 'function'))
+    require(
+        not function_type.parameters and not function_type.results,
+        f'a function of type [] -> []; function {function} is of another')
 
 
 def _check_export(context, export, names):
     """An export of a name that none of those in front of it has."""
     spaces = [context.functions, context.tables, context.memories, context.globals, context.tags]
-    entry(spaces[export.kind], export.index)
-    require(export.name not in names)
+    entry(spaces[export.kind], export.index, EXPORT_KINDS[export.kind])
+    require(export.name not in names, 'a name that no export before it has')
 
 
-def _check_constant(context, instructions, value_type):
-    """A constant expression of a value of this type."""
-    for instruction in instructions:
-        if instruction.name == 'global.get':
-            _, mutable = entry(context.globals, *instruction.immediates)
-            require(not mutable)
-        else:
-            require(instruction.name in CONSTANT)
-    _judge_body(context, [], [], [value_type], instructions)
+def _check_constant(name, context, instructions, value_type):
+    """A constant expression of this name, of a value of this type."""
+    for number, instruction in enumerate(instructions):
+        try:
+            _check_is_constant(context, instruction)
+        except Invalid as fault:
+            fault.places.append(Place(number, instruction, None, Block(name, context, [], [], [], [])))
+            raise
+    _judge_body(name, context, [], [], [value_type], instructions)
+
+
+def _check_is_constant(context, instruction):
+    if instruction.name == 'global.get':
+        _, mutable = entry(context.globals, *instruction.immediates, 'global')
+        require(not mutable, 'a global that is constant')
+    else:
+        require(instruction.name in CONSTANT, 'an instruction of constant expressions')
 
 
 def _check_function(context, function, code):
     function_type = context.function_type(function)
     for count, value_type in code.runs:
-        require(count == 0 or context.has_type(value_type))
+        if count:
+            _check_in_range(context, value_type)
     declared = [value_type for count, value_type in code.runs for _ in range(count)]
-    _judge_body(context, function_type.parameters, declared, function_type.results, code.body)
+    _judge_body('body', context, function_type.parameters, declared, function_type.results, code.body)
 
 
-def _judge_body(context, parameters, declared, results, instructions):
-    """Judge the instructions of a function with these parameters, further locals and results."""
+def _judge_body(name, context, parameters, declared, results, instructions):
+    """Judge the instructions of a body of this name with these parameters, further locals and results."""
     defaults = [not isinstance(value_type, Ref) or value_type.nullable for value_type in declared]
     set_locals = [True] * len(parameters) + defaults
-    Block(context, parameters + declared, set_locals, results, [results]).judge(instructions, results)
+    Block(name, context, parameters + declared, set_locals, results, [results]).judge(instructions, results)

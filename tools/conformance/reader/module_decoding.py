@@ -1,5 +1,6 @@
 """Reads a module from bytes."""
 
+import os
 from dataclasses import dataclass, field
 from typing import NamedTuple
 
@@ -11,6 +12,14 @@ from reader.types import FUNCREF, Limits, Ref
 
 HEADER = b'\x00asm\x01\x00\x00\x00'
 GREATEST_KIND = 4       # of exports
+
+
+class Section(NamedTuple):
+    """A section: its number from 0, its id, and the byte with which it begins."""
+
+    number: int
+    id: int
+    start: int
 
 
 class Import(NamedTuple):
@@ -102,7 +111,7 @@ def _table(source):
     if source.peek() == 0x40:
         source.byte()
         if source.byte():
-            raise Malformed('table')
+            raise source.wrong('00, behind the 40 of a table with an initial expression')
         return Table(ref_type(source), limits(source), expression(source))
     return Table(ref_type(source), limits(source), None)
 
@@ -112,16 +121,18 @@ def _global(source):
 
 
 def _export(source):
-    export = Export(source.name(), source.byte(), index(source))
-    if export.kind > GREATEST_KIND:
-        raise Malformed('exportkind')
+    name, kind, place = source.name(), source.byte(), source.position
+    export = Export(name, kind, index(source))
+    if kind > GREATEST_KIND:
+        raise Malformed(place - 1, 'a kind of export: 00 function, 01 table, 02 memory, 03 global or 04 tag')
     return export
 
 
 def _element(source):
+    start = source.position
     flag = index(source)
     if flag > 7:
-        raise Malformed('elem')
+        raise Malformed(start, f'the flag of an element segment, from 0 to 7; this one is {flag}')
     active = None
     if not flag & 1:
         active = Active(index(source) if flag & 2 else 0, expression(source))
@@ -131,15 +142,16 @@ def _element(source):
         segment_type = ref_type(source) if tells_type else FUNCREF
         return Element(segment_type, active, declarative, source.vector(expression))
     if tells_type and source.byte():
-        raise Malformed('elemkind')
+        raise source.wrong('00, behind which functions are listed')
     items = [[Instruction('ref.func', (function,))] for function in source.vector(index)]
     return Element(Ref(False, 'func'), active, declarative, items)
 
 
 def _data(source):
+    start = source.position
     flag = index(source)
     if flag > 2:
-        raise Malformed('data')
+        raise Malformed(start, f'the flag of a data segment, from 0 to 2; this one is {flag}')
     active = None
     if flag != 1:
         active = Active(index(source) if flag == 2 else 0, expression(source))
@@ -151,17 +163,18 @@ def _run(source):
 
 
 def _code(source):
-    return read_code(source.part('size'))
+    return read_code(source.part('a body'))
 
 
 def read_code(source):
     """The code of a function, which takes up the whole source."""
+    start = source.position
     runs = source.vector(_run)
-    if sum(count for count, _ in runs) >= 2 ** 32:
-        raise Malformed('locals')
+    count = sum(count for count, _ in runs)
+    if count >= 2 ** 32:
+        raise Malformed(start, f'locals, fewer than 2^32 together; here there are {count}')
     body = expression(source)
-    if source.position != source.end:
-        raise Malformed('junk')
+    source.ended('a body, whose last instruction is read')
     return Code(runs, body)
 
 
@@ -187,35 +200,39 @@ def decode(data):
     A fault tells the first section, counted from 0, that is not framed in its place, or whose contents say nothing.
     """
     if not data.startswith(HEADER):
-        raise Malformed('header')
+        alike = len(os.path.commonprefix([data, HEADER]))
+        raise Malformed(alike, f'the header of a module, {HEADER.hex(" ").upper()}', 'header')
     module = Module()
     source = ByteSource(data, len(HEADER))
     last = -1
     number = 0
     while source.position < source.end:
-        section, last, contents = _told('frame', number, _frame, source, last)
-        _told('content', number, _read_contents, module, section, contents)
+        place = Section(number, source.peek(), source.position)
+        section, last, contents = _told('frame', place, _frame, source, last)
+        _told('content', place, _read_contents, module, section, contents)
         number += 1
-    _check_counts(module)
+    _check_counts(module, source)
     return module
 
 
-def _told(part, number, read, *arguments):
+def _told(part, place, read, *arguments):
     """What is read, or the fault that this part of this section has."""
     try:
         return read(*arguments)
-    except Malformed:
-        raise Malformed(f'{part} {number}') from None
+    except Malformed as fault:
+        raise Malformed(fault.at, fault.wanted, f'{part} {place.number}', place, fault.entry) from None
 
 
 def _frame(source, last):
     """A section that may stand behind the last one: its id, what is the last place from now on, and its contents."""
     section = source.byte()
     if section == CUSTOM:
-        return section, last, source.part('section')
-    if section not in ORDER or ORDER.index(section) <= last:
-        raise Malformed('order')
-    return section, ORDER.index(section), source.part('section')
+        return section, last, source.part('the section')
+    if section not in ORDER:
+        raise source.wrong('the id of a section: 00 to 0D')
+    if ORDER.index(section) <= last:
+        raise source.wrong('the id of a section that may stand here; each stands once, in their order')
+    return section, ORDER.index(section), source.part('the section')
 
 
 def _read_contents(module, section, contents):
@@ -225,17 +242,20 @@ def _read_contents(module, section, contents):
         return
     name, read = SECTIONS[section]
     setattr(module, name, read(contents))
-    if contents.position != contents.end:
-        raise Malformed('junk')
+    contents.ended('the section, which is read')
 
 
-def _check_counts(module):
+def _check_counts(module, source):
     """Refuse a module whose sections tell unlike numbers of the same things."""
-    if len(module.functions) != len(module.codes):
-        raise Malformed('counts')
+    functions, codes, segments = len(module.functions), len(module.codes), len(module.datas)
+    if functions != codes:
+        wanted = f'as many bodies as functions; the functions are {functions}, the bodies {codes}'
+        raise Malformed(source.end, wanted, 'counts')
     if module.data_count is None:
         instructions = (each for code in module.codes for each in all_instructions(code.body))
-        if any(instruction.name in ('memory.init', 'data.drop') for instruction in instructions):
-            raise Malformed('counts')
-    elif module.data_count != len(module.datas):
-        raise Malformed('counts')
+        named = {each.name for each in instructions} & {'memory.init', 'data.drop'}
+        if named:
+            raise Malformed(source.end, f'a data count, since a body has {min(named)}', 'counts')
+    elif module.data_count != segments:
+        wanted = f'as many data segments as the data count tells, {module.data_count}; there are {segments}'
+        raise Malformed(source.end, wanted, 'counts')

@@ -5,11 +5,11 @@ Each is a function of the block around and of the immediates.
 
 from functools import partial
 
-from reader.context import entry, require
+from reader.context import Invalid, entry, require
 from reader.control_rules import not_null
 from reader.instructions import LOADS, NUMERIC, STORES
 from reader.matching import matches
-from reader.types import BOTTOM, I32, I64, Ref
+from reader.types import BOTTOM, I32, I64, Ref, spelled
 
 
 def drop(block):
@@ -20,27 +20,27 @@ def select(block):
     block.take(I32)
     second = block.pop()
     first = block.pop()
-    require(first in (BOTTOM, I32, I64) and second in (BOTTOM, I32, I64))
-    require(first == second or BOTTOM in (first, second))
+    require(first in (BOTTOM, I32, I64) and second in (BOTTOM, I32, I64), 'two numbers beneath the i32')
+    require(first == second or BOTTOM in (first, second), 'two numbers of one type beneath the i32')
     block.give(first if second == BOTTOM else second)
 
 
 def select_of(block, value_types):
-    require(len(value_types) == 1)
+    require(len(value_types) == 1, 'one type')
     value_type = value_types[0]
-    require(block.context.has_type(value_type))
+    require(block.context.has_type(value_type), f'a type whose index is below {len(block.context.types)}')
     block.take(value_type, value_type, I32)
     block.give(value_type)
 
 
 def local_get(block, local):
-    value_type = entry(block.local_types, local)
-    require(block.set_locals[local])
+    value_type = entry(block.local_types, local, 'local')
+    require(block.set_locals[local], 'a local that is set')
     block.give(value_type)
 
 
 def local_set(block, local):
-    block.take(entry(block.local_types, local))
+    block.take(entry(block.local_types, local, 'local'))
     block.set_locals[local] = True
 
 
@@ -50,13 +50,13 @@ def local_tee(block, local):
 
 
 def global_get(block, index):
-    value_type, _ = entry(block.context.globals, index)
+    value_type, _ = entry(block.context.globals, index, 'global')
     block.give(value_type)
 
 
 def global_set(block, index):
-    value_type, mutable = entry(block.context.globals, index)
-    require(mutable)
+    value_type, mutable = entry(block.context.globals, index, 'global')
+    require(mutable, 'a global that is a variable')
     block.take(value_type)
 
 
@@ -66,9 +66,9 @@ def _numeric(operands, result, block):
 
 
 def _check_access(block, width, alignment, offset):
-    require(block.context.memories)
-    require(alignment <= width)
-    require(offset < 2 ** 32)
+    require(block.context.memories, 'a memory')
+    require(alignment <= width, f'an exponent of the alignment of at most {width}')
+    require(offset < 2 ** 32, 'an offset below 2^32')
 
 
 def _load(value_type, width, block, alignment, offset):
@@ -83,28 +83,29 @@ def _store(value_type, width, block, alignment, offset):
 
 
 def memory_size(block, memory):
-    entry(block.context.memories, memory)
+    entry(block.context.memories, memory, 'memory')
     block.give(I32)
 
 
 def memory_grow(block, memory):
-    entry(block.context.memories, memory)
+    entry(block.context.memories, memory, 'memory')
     block.take(I32)
     block.give(I32)
 
 
 def memory_fill(block, memory):
-    entry(block.context.memories, memory)
+    entry(block.context.memories, memory, 'memory')
     block.take(I32, I32, I32)
 
 
 def memory_copy(block, destination, source):
-    entry(block.context.memories, destination)
+    entry(block.context.memories, destination, 'memory')
     memory_fill(block, source)
 
 
 def data_drop(block, segment):
-    require(segment < block.context.data_segments)
+    segments = block.context.data_segments
+    require(segment < segments, f'data segment {segment}, which is not there; their number is {segments}')
 
 
 def memory_init(block, segment, memory):
@@ -113,45 +114,47 @@ def memory_init(block, segment, memory):
 
 
 def table_get(block, table):
-    element_type = entry(block.context.tables, table)
+    element_type = entry(block.context.tables, table, 'table')
     block.take(I32)
     block.give(element_type)
 
 
 def table_set(block, table):
-    block.take(I32, entry(block.context.tables, table))
+    block.take(I32, entry(block.context.tables, table, 'table'))
 
 
 def table_size(block, table):
-    entry(block.context.tables, table)
+    entry(block.context.tables, table, 'table')
     block.give(I32)
 
 
 def table_grow(block, table):
-    block.take(entry(block.context.tables, table), I32)
+    block.take(entry(block.context.tables, table, 'table'), I32)
     block.give(I32)
 
 
 def table_fill(block, table):
-    block.take(I32, entry(block.context.tables, table), I32)
+    block.take(I32, entry(block.context.tables, table, 'table'), I32)
 
 
 def _copied(block, copied_type, table):
     """Take a destination, a source and a length, for elements of a type that go into a table."""
-    require(matches(block.context, copied_type, entry(block.context.tables, table)))
+    table_type = entry(block.context.tables, table, 'table')
+    if not matches(block.context, copied_type, table_type):
+        raise Invalid(f'elements of {spelled(table_type)}, as the table has; these are of {spelled(copied_type)}')
     block.take(I32, I32, I32)
 
 
 def table_copy(block, destination, source):
-    _copied(block, entry(block.context.tables, source), destination)
+    _copied(block, entry(block.context.tables, source, 'table'), destination)
 
 
 def table_init(block, segment, table):
-    _copied(block, entry(block.context.elements, segment), table)
+    _copied(block, entry(block.context.elements, segment, 'element segment'), table)
 
 
 def elem_drop(block, segment):
-    entry(block.context.elements, segment)
+    entry(block.context.elements, segment, 'element segment')
 
 
 def const(value_type, block, _number):
@@ -160,7 +163,7 @@ def const(value_type, block, _number):
 
 def ref_null(block, heap):
     null_type = Ref(True, heap)
-    require(block.context.has_type(null_type))
+    require(block.context.has_type(null_type), f'a heap type whose index is below {len(block.context.types)}')
     block.give(null_type)
 
 
@@ -170,8 +173,9 @@ def ref_is_null(block):
 
 
 def ref_func(block, function):
-    function_type = entry(block.context.functions, function)
-    require(function in block.context.declared)
+    function_type = entry(block.context.functions, function, 'function')
+    wanted = 'a function that an export, an element segment, a global or a table names'
+    require(function in block.context.declared, wanted)
     block.give(Ref(False, function_type))
 
 

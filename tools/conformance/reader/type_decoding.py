@@ -16,14 +16,15 @@ def index(source):
 def heap_type(source):
     if source.peek() in HEAP_TYPES:
         return HEAP_TYPES[source.byte()]
-    return _signed_index(source, 'heap')
+    return _signed_index(source, 'a heap type: 70, 73, 68, 75 or an index')
 
 
-def _signed_index(source, fault):
-    """An index that is spelled as a signed number; where this is negative, the fault is raised."""
+def _signed_index(source, wanted):
+    """An index that is spelled as a signed number, which is not to be negative."""
+    start = source.position
     number = source.signed(33)
     if number < 0:
-        raise Malformed(fault)
+        raise Malformed(start, wanted)
     return number
 
 
@@ -35,13 +36,14 @@ def value_type(source):
         return Ref(byte == NULLABLE, heap_type(source))
     if byte in HEAP_TYPES:
         return Ref(True, HEAP_TYPES[byte])
-    raise Malformed(f'valtype {byte:x}')
+    raise source.wrong('a value type: 7F, 7E, 63, 64, 70, 73, 68 or 75')
 
 
 def ref_type(source):
+    start = source.position
     read = value_type(source)
     if not isinstance(read, Ref):
-        raise Malformed('reftype')
+        raise Malformed(start, 'a reference type: 63, 64, 70, 73, 68 or 75')
     return read
 
 
@@ -51,7 +53,7 @@ def _comp_type(source):
         return FuncType(source.vector(value_type), source.vector(value_type))
     if byte == 0x5d:
         return ContType(index(source))
-    raise Malformed('comptype')
+    raise source.wrong('a type: 60 for a function, 5D for a continuation, or 4E for a group')
 
 
 def rec_group(source):
@@ -68,20 +70,20 @@ def limits(source):
         return Limits(source.unsigned(64), None)
     if flag == 1:
         return Limits(source.unsigned(64), source.unsigned(64))
-    raise Malformed('limits')
+    raise source.wrong('limits: 00 without a maximum, or 01 with one')
 
 
 def mutability(source):
     byte = source.byte()
     if byte > 1:
-        raise Malformed('mut')
+        raise source.wrong('00 for a constant, or 01 for a variable')
     return byte == 1
 
 
 def tag_type(source):
     """The index of a tag's type."""
     if source.byte():
-        raise Malformed('tag')
+        raise source.wrong('00, with which a tag begins')
     return index(source)
 
 
@@ -98,7 +100,7 @@ def extern_type(source):
         return 'global', value_type(source), mutability(source)
     if byte == 4:
         return 'tag', tag_type(source)
-    raise Malformed('extern')
+    raise source.wrong('a kind of import: 00 function, 01 table, 02 memory, 03 global or 04 tag')
 
 
 def block_type(source):
@@ -109,4 +111,4 @@ def block_type(source):
         return []
     if byte in NUMBER_TYPES or byte in (NULLABLE, NOT_NULL) or byte in HEAP_TYPES:
         return [value_type(source)]
-    return _signed_index(source, 'blocktype')
+    return _signed_index(source, 'the type of a block: 40, a value type or an index')

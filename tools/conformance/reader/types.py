@@ -27,6 +27,19 @@ class BottomRef:
     nullable: bool
 
 
+def spelled(value_type):
+    """A type as the text of the standard spells it; `bottom` is its own."""
+    if isinstance(value_type, (Ref, BottomRef)):
+        heap = value_type.heap if isinstance(value_type, Ref) else BOTTOM
+        return f'(ref null {heap})' if value_type.nullable else f'(ref {heap})'
+    return value_type
+
+
+def spelled_row(value_types):
+    """Types in a row."""
+    return f'[{" ".join(map(spelled, value_types))}]'
+
+
 FUNCREF = Ref(True, 'func')
 
 

@@ -32,7 +32,7 @@ class Derivations:
     """The chart of kinds of tokens, by productions of which only the first name may derive none.
 
     `first_wrong` is the number of the first one with which no sentence begins, the end counted as the last one; nothing
-    where they are a sentence."""
+    where they are a sentence. `end_fits` says whether those in front of it are a sentence."""
 
     def __init__(self, productions, first, kinds):
         self.productions = {name: [tuple(row) for row in rows] for name, rows in productions.items()}
@@ -46,8 +46,17 @@ class Derivations:
                 return
             self.columns.append({})
             self._column(number + 1, [item.moved() for item in shifted], [self.columns[-2][item] for item in shifted])
-        if not self._ends():
+        if not self.end_fits:
             self.first_wrong = len(kinds)
+
+    @property
+    def end_fits(self):
+        return bool(self._ends())
+
+    def fitting(self):
+        """The tokens with which some sentence goes on behind those that fit, as words of rows."""
+        following = {item.next for item in self.columns[-1] if item.next is not None}
+        return following - self.productions.keys()
 
     def _column(self, at, items, derived=None):
         """Fill the column of a token with these items and what follows from them: each with the nodes and the number of

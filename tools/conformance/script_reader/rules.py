@@ -1,6 +1,5 @@
 """The rules of scripts, over trees."""
 
-from collections import Counter
 from typing import NamedTuple
 
 from script_reader.derivations import Node
@@ -11,14 +10,16 @@ RUNS = ('expr', 'and', 'cmp', 'sum', 'prod')
 
 
 class Parameter(NamedTuple):
-    """A parameter of a function or a handler."""
+    """A parameter of a function or a handler, and the tokens of its name and of the one behind `res`."""
 
     name: str
     type: object
+    tokens: tuple = ()
 
 
 class Declaration(NamedTuple):
-    """A declaration: effect, fn or handler; its number of arguments, or its parameters, bodies and clauses."""
+    """A declaration: effect, fn or handler; its number of arguments, or its parameters, bodies and clauses. Its tokens
+    are those that stand in no part of it."""
 
     kind: str
     name: str
@@ -27,15 +28,30 @@ class Declaration(NamedTuple):
     body: object
     result: str
     clauses: list
+    tokens: tuple = ()
+
+    @property
+    def token(self):
+        """The token of its name."""
+        return self.tokens[1]
 
 
 class Clause(NamedTuple):
-    """A clause of a handler for an effect."""
+    """A clause of a handler for an effect, and the tokens of its names."""
 
     effect: str
     arguments: list
     resumption: str
     body: object
+    tokens: tuple = ()
+
+
+class Breach(NamedTuple):
+    """The number of a declaration, the rule that it breaks, and the token at which it does; nothing at the end."""
+
+    declaration: int
+    rule: int
+    token: Token | None
 
 
 def declarations_in(tree):
@@ -43,8 +59,8 @@ def declarations_in(tree):
     return [_declaration(node) for node in tree.parts]
 
 
-def broken(declarations):
-    """The first declaration that breaks a rule, and the least rule that it breaks, or nothing."""
+def breach_in(declarations):
+    """The breach of the first declaration that breaks a rule, of the least rule that it breaks, or nothing."""
     firsts = {}
     for declaration in declarations:
         firsts.setdefault(declaration.name, declaration)
@@ -52,10 +68,11 @@ def broken(declarations):
         rules = _Rules(firsts)
         rules.declaration(declaration, declarations[:number])
         if rules.broken:
-            return number, min(rules.broken)
+            rule = min(rules.broken)
+            return Breach(number, rule, rules.broken[rule])
     main = firsts.get('main')
     if main is None or main.kind != 'fn' or main.parameters:
-        return len(declarations), 18
+        return Breach(len(declarations), 18, None if main is None else main.token)
     return None
 
 
@@ -67,8 +84,21 @@ def _nodes(node, name):
     return [part for part in node.parts if isinstance(part, Node) and part.name == name]
 
 
+def _tokens(node):
+    return tuple(part for part in node.parts if isinstance(part, Token))
+
+
+def _name_tokens(node):
+    return tuple(token for token in _tokens(node) if token.kind == 'NAME')
+
+
 def _names(node):
-    return [part.text for part in node.parts if isinstance(part, Token) and part.kind == 'NAME']
+    return [token.text for token in _name_tokens(node)]
+
+
+def _first_token(node):
+    """The token with which a node begins."""
+    return node if isinstance(node, Token) else _first_token(node.parts[0])
 
 
 def _declaration(node):
@@ -78,65 +108,79 @@ def _declaration(node):
     blocks = _nodes(node, 'block')
     return Declaration(
         kind, name, count, parameters, blocks[0] if blocks else None, more[0] if more else None,
-        [_clause(each) for each in _nodes(node, 'clause')])
+        [_clause(each) for each in _nodes(node, 'clause')], _tokens(node))
 
 
 def _parameter(node):
     name, *handler = _names(node)
-    return Parameter(name, ('res', handler[0]) if handler else INT)
+    return Parameter(name, ('res', handler[0]) if handler else INT, _name_tokens(node))
 
 
 def _clause(node):
     effect, *arguments, resumption = _names(node)
-    return Clause(effect, arguments, resumption, _nodes(node, 'block')[0])
+    return Clause(effect, arguments, resumption, _nodes(node, 'block')[0], _name_tokens(node))
+
+
+def _number(token):
+    """A name that is bound to a number."""
+    return Parameter(token.text, INT, (token,))
 
 
 class _Rules:
-    """The rules that a declaration breaks. Value names are bound in scopes, the innermost last."""
+    """The rules that a declaration breaks, each with the first token at which it does. Value names are bound in scopes,
+    the innermost last."""
 
     def __init__(self, firsts):
         self.firsts = firsts
-        self.broken = set()
+        self.broken = {}
 
     def found(self, kind, name):
         """The declaration of a name, where it is of this kind."""
         declaration = self.firsts.get(name)
         return declaration if declaration is not None and declaration.kind == kind else None
 
-    def test(self, rule, holds):
+    def test(self, rule, token, holds):
         if holds:
-            self.broken.add(rule)
+            self.broken.setdefault(rule, token)
+
+    def test_count(self, rule, parts, greatest):
+        """Break a rule with the first part of a list that is too many."""
+        if len(parts) > greatest:
+            self.test(rule, parts[greatest].tokens[0], True)
 
     def declaration(self, declaration, earlier):
-        self.test(1, any(other.name == declaration.name for other in earlier))
+        self.test(1, declaration.token, any(other.name == declaration.name for other in earlier))
         if declaration.kind == 'effect':
-            self.test(2, declaration.count > 8)
+            self.test(2, declaration.tokens[3], declaration.count > 8)
             return
-        self.test(3, len(declaration.parameters) > 8)
+        self.test_count(3, declaration.parameters, 8)
         for parameter in declaration.parameters:
-            self.test(5, parameter.type != INT and not self.found('handler', parameter.type[1]))
+            absent = parameter.type != INT and not self.found('handler', parameter.type[1])
+            self.test(5, parameter.tokens[-1], absent)
         bound = [*declaration.parameters]
         if declaration.kind == 'handler':
-            self.test(4, len(declaration.clauses) > 16)
+            self.test_count(4, declaration.clauses, 16)
             self.clauses(declaration)
-            bound.append(Parameter(declaration.result, INT))
+            bound.append(_number(next(each for each in declaration.tokens[2:] if each.kind == 'NAME')))
         self.body(bound, declaration.body)
 
     def clauses(self, handler):
-        effects = Counter(clause.effect for clause in handler.clauses)
+        effects = set()
         for clause in handler.clauses:
             effect = self.found('effect', clause.effect)
-            self.test(8, effect is None)
-            self.test(7, effect is not None and effects[clause.effect] > 1)
-            self.test(9, effect is not None and len(clause.arguments) != effect.count)
-            bound = [Parameter(name, INT) for name in clause.arguments]
-            bound.append(Parameter(clause.resumption, ('res', handler.name)))
+            name, *arguments, resumption = clause.tokens
+            self.test(8, name, effect is None)
+            self.test(7, name, effect is not None and clause.effect in effects)
+            self.test(9, name, effect is not None and len(clause.arguments) != effect.count)
+            effects.add(clause.effect)
+            bound = [*map(_number, arguments), Parameter(clause.resumption, ('res', handler.name), (resumption,))]
             self.body([*handler.parameters, *bound], clause.body)
 
     def body(self, bound, block):
-        names = Counter(parameter.name for parameter in bound)
-        names.update(_lets(block))
-        self.test(6, any(count > 1 for count in names.values()))
+        names = set()
+        for token in [parameter.tokens[0] for parameter in bound] + _lets(block):
+            self.test(6, token, token.text in names)
+            names.add(token.text)
         self.block({parameter.name: parameter.type for parameter in bound}, block)
 
     def block(self, scope, block):
@@ -153,12 +197,12 @@ class _Rules:
         if kinds[0] == 'let':
             scope[_names(statement)[0]] = INT
         elif kinds[0] == 'NAME':
-            self.name(scope, _names(statement)[0])
+            self.name(scope, _name_tokens(statement)[0])
 
-    def name(self, scope, name, whole=False):
+    def name(self, scope, token, whole=False):
         """A name that is assigned, or read, as a whole argument or not."""
-        self.test(10, name not in scope)
-        self.test(11, not whole and scope.get(name, INT) != INT)
+        self.test(10, token, token.text not in scope)
+        self.test(11, token, not whole and scope.get(token.text, INT) != INT)
 
     def expression(self, scope, node, whole=False):
         if node.name != 'prim':
@@ -169,18 +213,18 @@ class _Rules:
         self.primary(scope, node, whole)
 
     def primary(self, scope, node, whole):
-        kinds, names = _kinds(node), _names(node)
+        kinds, names = _kinds(node), _name_tokens(node)
         if kinds == ['NAME']:
             self.name(scope, names[0], whole)
         elif kinds[0] == 'NAME':
-            self.call(scope, 12, self.found('fn', names[0]), self.lists(node)[0])
+            self.call(scope, 12, 'fn', names[0], self.lists(node)[0])
         elif kinds[0] == '(':
             self.expression(scope, node.parts[1], whole)
         elif kinds[0] == 'do':
-            self.do(scope, self.found('effect', names[0]), self.lists(node)[0])
+            self.do(scope, names[0], self.lists(node)[0])
         elif kinds[0] == 'handle':
-            self.call(scope, 12, self.found('fn', names[0]), self.lists(node)[0])
-            self.call(scope, 14, self.found('handler', names[1]), self.lists(node)[1])
+            self.call(scope, 12, 'fn', names[0], self.lists(node)[0])
+            self.call(scope, 14, 'handler', names[1], self.lists(node)[1])
         elif kinds[0] == 'resume':
             self.resume(scope, node, names[0])
 
@@ -192,34 +236,37 @@ class _Rules:
                 lists.append(_nodes(node.parts[place + 1], 'expr') if kinds[place + 1] == 'args' else [])
         return lists
 
-    def resume(self, scope, node, name):
+    def resume(self, scope, node, token):
         self.expression(scope, _nodes(node, 'expr')[0])
-        self.test(10, name not in scope)
-        self.test(17, scope.get(name) == INT)
-        bound = scope.get(name, INT)
+        self.test(10, token, token.text not in scope)
+        self.test(17, token, scope.get(token.text) == INT)
+        bound = scope.get(token.text, INT)
         handler = None if bound == INT else self.found('handler', bound[1])
-        self.arguments(scope, handler, self.lists(node)[-1])
+        self.arguments(scope, token, handler, self.lists(node)[-1])
 
-    def call(self, scope, rule, declaration, arguments):
-        self.test(rule, declaration is None)
-        self.arguments(scope, declaration, arguments)
+    def call(self, scope, rule, kind, token, arguments):
+        declaration = self.found(kind, token.text)
+        self.test(rule, token, declaration is None)
+        self.arguments(scope, token, declaration, arguments)
 
-    def do(self, scope, effect, arguments):
-        self.test(13, effect is None)
-        self.test(15, effect is not None and len(arguments) != effect.count)
+    def do(self, scope, token, arguments):
+        effect = self.found('effect', token.text)
+        self.test(13, token, effect is None)
+        self.test(15, token, effect is not None and len(arguments) != effect.count)
         for argument in arguments:
             self.expression(scope, argument)
 
-    def arguments(self, scope, declaration, arguments):
-        """Arguments for the parameters of a declaration, where it is there."""
+    def arguments(self, scope, token, declaration, arguments):
+        """Arguments behind a name for the parameters of its declaration, where it is there."""
         for argument in arguments:
             self.expression(scope, argument, whole=True)
         if declaration is None:
             return
-        self.test(15, len(arguments) != len(declaration.parameters))
+        self.test(15, token, len(arguments) != len(declaration.parameters))
         if len(arguments) == len(declaration.parameters):
             for parameter, argument in zip(declaration.parameters, arguments):
-                self.test(16, not _suits(scope, parameter.type, _bare_name(argument)))
+                unsuited = not _suits(scope, parameter.type, _bare_name(argument))
+                self.test(16, _first_token(argument), unsuited)
 
 
 def _suits(scope, wanted, name):
@@ -241,7 +288,7 @@ def _bare_name(node):
 
 
 def _lets(node):
-    """The names that lets bind within."""
+    """The tokens of the names that lets bind within."""
     if node.name == 'stmt' and _kinds(node)[0] == 'let':
-        return _names(node)
-    return [name for part in node.parts if isinstance(part, Node) for name in _lets(part)]
+        return list(_name_tokens(node))
+    return [token for part in node.parts if isinstance(part, Node) for token in _lets(part)]

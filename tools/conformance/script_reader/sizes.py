@@ -7,10 +7,12 @@ GREATEST_SIZE = 50000
 
 def size_of(declarations):
     """The size of a script of these declarations, whose bodies are as they are in the tree of its tokens."""
-    return sum(_declaration_size(with_trees(each)) for each in declarations)
+    return sum(map(declaration_size, declarations))
 
 
-def _declaration_size(declaration):
+def declaration_size(declaration):
+    """The size of one declaration of them."""
+    declaration = with_trees(declaration)
     size = 1 + len(declaration.parameters) + _body_size(declaration.body)
     if declaration.kind == 'handler':
         return_clause_and_its_name = 2

@@ -14,14 +14,20 @@ _SYMBOL = re.compile(b'|'.join(re.escape(symbol.encode()) for symbol in sorted(S
 
 
 class Token(NamedTuple):
-    """A token: NAME, INT, or itself where it is a keyword or a symbol."""
+    """A token: NAME, INT, or itself where it is a keyword or a symbol; its text, and the bytes that it takes."""
 
     kind: str
     text: str
+    start: int
+    end: int
 
 
 class NoToken(Exception):
-    """At this byte no token, separator or comment begins."""
+    """At this byte no token, separator or comment begins, for this reason."""
+
+    def __init__(self, at, reason):
+        super().__init__(at)
+        self.at, self.reason = at, reason
 
 
 def tokens_of(data):
@@ -33,7 +39,7 @@ def tokens_of(data):
             at = separator.end()
             continue
         kind, end = _token_at(data, at)
-        tokens.append(Token(kind, data[at:end].decode()))
+        tokens.append(Token(kind, data[at:end].decode(), at, end))
         at = end
     return tokens
 
@@ -44,9 +50,12 @@ def _token_at(data, at):
         text = word[0].decode()
         return (text if text in KEYWORDS else 'NAME'), word.end()
     if number := _NUMBER.match(data, at):
-        if int(number[0]) > GREATEST_NUMBER or _WORD.match(data, number.end()):
-            raise NoToken(at)
+        if _WORD.match(data, number.end()):
+            raise NoToken(at, 'a letter stands right behind this number')
+        digits = number[0].lstrip(b'0')
+        if len(digits) > len(str(GREATEST_NUMBER)) or int(digits or b'0') > GREATEST_NUMBER:
+            raise NoToken(at, f'this number is above {GREATEST_NUMBER}')
         return 'INT', number.end()
     if symbol := _SYMBOL.match(data, at):
         return symbol[0].decode(), symbol.end()
-    raise NoToken(at)
+    raise NoToken(at, 'no token begins with this byte')
