@@ -112,7 +112,12 @@ def _immediates(instruction):
         return [f'align={1 << alignment}', f'offset={offset}']
     if name == 'resume':
         return [str(immediates[0]), *(f'({" ".join(map(str, clause))})' for clause in immediates[1])]
-    return [f'[{" ".join(map(str, map(spelled, each)))}]' if isinstance(each, list) else str(each) for each in immediates]
+    return [_spelled_list(each) if isinstance(each, list) else str(each) for each in immediates]
+
+
+def _spelled_list(immediates):
+    """A list of indices or of types."""
+    return f'[{" ".join(str(spelled(each)) for each in immediates)}]'
 
 
 def _innermost_lines(place, wanted):

@@ -141,7 +141,7 @@ class _Open:
 
     def begin_else(self, source):
         if self.opcode != IF or self.then is not None:
-            raise source.wrong('no else, which stands in an if, and once')
+            raise source.wrong('an instruction or the end; an else stands in an if, and once')
         self.then, self.sequence = self.sequence, []
 
     def block(self):

@@ -1,6 +1,6 @@
 """The rules of stack switching. Each is a function of the block around and of the immediates."""
 
-from reader.context import Invalid, entry, require
+from reader.context import Invalid, require
 from reader.matching import all_equal, all_match
 from reader.types import Ref, spelled_row
 
