@@ -23,17 +23,17 @@ static MODULE: [u8; 18] = [
 // The module, and the classes of its types.
 #[derive(Drop)]
 struct Bench {
-    owner: Module,
+    candidate: Module,
     classes: Classes,
 }
 
 impl Bench {
     fn new(alloc: Global) -> Result<Bench, Fail> {
-        let owner = decode(alloc, &MODULE)?;
-        match Classes::of_groups(alloc, owner.types.as_slice()) {
-            Ok(classes) => Ok(Bench { owner, classes }),
+        let candidate = decode(alloc, &MODULE)?;
+        match Classes::of_groups(alloc, candidate.types.as_slice()) {
+            Ok(classes) => Ok(Bench { candidate, classes }),
             Err(error) => {
-                drop(owner);
+                drop(candidate);
                 Err(Fail::from(error))
             }
         }
@@ -42,7 +42,7 @@ impl Bench {
     // With nothing but these types.
     fn context(&self) -> Context<'_> {
         Context {
-            owner: &self.owner,
+            candidate: &self.candidate,
             classes: &self.classes,
             functions: &[],
             tables: &[],
@@ -152,7 +152,10 @@ fn open_two(checker: &mut Checker<'_>) -> Result<bool, AllocError> {
     )
 }
 
-fn labels_are_told(rt: &impl Abort, checker: &mut Checker<'_>) -> Result<(), Fail> {
+fn labels_are_known_with_their_size(
+    rt: &impl Abort,
+    checker: &mut Checker<'_>,
+) -> Result<(), Fail> {
     assert!(rt; open_two(checker)?);
     assert_eq!(rt; label_of(checker, 0), Some((0, false)));
     assert_eq!(rt; label_of(checker, 1), Some((1, true)));
@@ -180,14 +183,14 @@ fn perform(alloc: Global, rt: &impl Abort, bench: &Bench, call: Call) -> Result<
         results: TypeRow::bare(&results),
     };
     let mut checker = Checker::begin(alloc, setting, Room::new(alloc), &[], &[])?;
-    let told = match call {
+    let result = match call {
         Call::Row => row_leaves_one(rt, &mut checker),
         Call::OtherClass => plain_call_refuses_switching(rt, &mut checker),
-        Call::Labels => labels_are_told(rt, &mut checker),
+        Call::Labels => labels_are_known_with_their_size(rt, &mut checker),
     };
     drop(checker);
     drop(rows);
-    told
+    result
 }
 
 fn perform_all(alloc: Global, rt: &impl Abort, bench: &Bench) -> Result<(), Fail> {
@@ -199,7 +202,7 @@ fn perform_all(alloc: Global, rt: &impl Abort, bench: &Bench) -> Result<(), Fail
 #[test]
 fn a_checker_answers_call_by_call(rt: HostRuntime) -> Result<(), Fail> {
     let bench = Bench::new(rt.alloc())?;
-    let told = perform_all(rt.alloc(), &rt, &bench);
+    let result = perform_all(rt.alloc(), &rt, &bench);
     drop(bench);
-    told
+    result
 }

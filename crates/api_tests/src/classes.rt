@@ -53,7 +53,7 @@ fn tell(alloc: Global, rt: &impl Abort, module: &Module) -> Result<(), Fail> {
 #[test]
 fn types_are_told_apart(rt: HostRuntime) -> Result<(), Fail> {
     let module = decode(rt.alloc(), &MODULE)?;
-    let told = tell(rt.alloc(), &rt, &module);
+    let result = tell(rt.alloc(), &rt, &module);
     drop(module);
-    told
+    result
 }

@@ -8,7 +8,7 @@ use w_rules::SizeLimit;
 use w_valid::ValidFault;
 
 #[test]
-fn faults_of_bytes_are_told_with_their_section(rt: HostRuntime) -> Result<(), Fail> {
+fn faults_of_bytes_name_their_section(rt: HostRuntime) -> Result<(), Fail> {
     let rows = [
         (
             DecodeFault::Header,
@@ -32,7 +32,7 @@ fn faults_of_bytes_are_told_with_their_section(rt: HostRuntime) -> Result<(), Fa
 }
 
 #[test]
-fn faults_of_modules_are_told_with_their_item(rt: HostRuntime) -> Result<(), Fail> {
+fn faults_of_modules_name_their_item(rt: HostRuntime) -> Result<(), Fail> {
     let rows = [
         (ValidFault::Limit(SizeLimit::Types), "limit Types is passed"),
         (ValidFault::TypeAt(1), "type 1 is not valid"),
@@ -55,7 +55,7 @@ fn faults_of_modules_are_told_with_their_item(rt: HostRuntime) -> Result<(), Fai
 }
 
 #[test]
-fn faults_of_runs_and_of_the_outside_are_told(rt: HostRuntime) -> Result<(), Fail> {
+fn faults_of_runs_and_of_the_outside_are_said(rt: HostRuntime) -> Result<(), Fail> {
     let alloc = rt.alloc();
     let rows = [
         (

@@ -13,7 +13,7 @@ mod classes;
 #[cfg(test)]
 mod errors;
 #[cfg(test)]
-mod lists;
+mod lists_and_names;
 #[cfg(test)]
 mod modules;
 #[cfg(test)]

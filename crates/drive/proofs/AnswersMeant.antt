@@ -1,17 +1,18 @@
 -- An answer to `run` on a file of a script is told by the script's meaning.
-use Rattle.std.proofs.Common.{◌≡◌, ◌≤◌, ℕ, Bool, false, List, inl, inr, Result, Ok, Err, subst, arith}
+use Rattle.std.proofs.Common.{◌≡◌, ◌≤◌, ℕ, Bool, false, List, inl, inr, Result, Ok, Err, refl, subst, arith}
 use Rattle.w_outside.specs.Outside.{Known, holds}
 use Rattle.words.specs.declared.request.Action.TheVariants.{Run as RunFor}
 use Rattle.s_syntax.specs.declared.script.Script.{Script}
-use Rattle.s_check.specs.Size.{Size}
+use Rattle.s_check.specs.Size.{Size, size_limit}
 use Rattle.s_judge.specs.Judgements.{IsGood}
 use Rattle.s_judge.specs.declared.fault.ScriptFault.{ScriptFault}
-use Rattle.s_judge.proofs.Judged.{one_judgement}
-use Rattle.drive.specs.Answer.{Reply, OnFile, ScriptGives, ActionGives, script_gives, is_module, compiled_size}
+use Rattle.s_judge.proofs.OneJudgement.{one_judgement}
+use Rattle.drive.specs.Answer.{Reply, OnFile, ScriptGives, ActionGives, script_gives, is_module}
 use Rattle.drive.specs.Meaning.{MeansRun, AnswersMean}
-use Rattle.drive.proofs.Meanings.{runs_mean}
+use Rattle.drive.proofs.MeaningsOfRuns.{runs_mean}
+use Rattle.drive.proofs.WhatActionsGive.{is_then_script}
 
-module _ (bytes : List ℕ) (p : Script) (good : IsGood bytes p) (small : Size p ≤ compiled_size) (steps : ℕ) (stats : Bool) (reply : Reply) where
+module _ (bytes : List ℕ) (p : Script) (good : IsGood bytes p) (small : Size p ≤ size_limit) (steps : ℕ) (stats : Bool) (reply : Reply) where
   of_script : ScriptGives (script_gives (RunFor steps stats)) bytes reply → MeansRun p steps reply
   of_script (inl k) =
       let e : ◌≡◌ {A = Result Script ScriptFault} (Ok k.0) (Ok p) = one_judgement bytes (Ok k.0) (Ok p) k.1 good in
@@ -21,7 +22,7 @@ module _ (bytes : List ℕ) (p : Script) (good : IsGood bytes p) (small : Size p
       let e : ◌≡◌ {A = Result Script ScriptFault} (Ok p) (Err k.0) = one_judgement bytes (Ok p) (Err k.0) good k.1 in absurd (cc)
 
   of_bytes : is_module bytes ≡ false → ActionGives (RunFor steps stats) bytes reply → MeansRun p steps reply
-  of_bytes script (inl h) = let m = h.0 in absurd (cc)
+  of_bytes script (inl h) = let m = h.0 in let n = is_then_script (RunFor steps stats) bytes refl script in absurd (cc)
   of_bytes script (inr h) = of_script h.1
 
   of_file : is_module bytes ≡ false → OnFile (holds bytes) (ActionGives (RunFor steps stats)) reply → MeansRun p steps reply

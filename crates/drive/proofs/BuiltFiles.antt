@@ -22,6 +22,7 @@ use Rattle.s_agrees.proofs.SpelledScripts.{scripts_agree}
 use Rattle.drive.specs.Answer.{Reply, OnFile, OnBytes, BytesGive, ScriptGives, ActionGives, script_gives, gives, built, malformed, invalid, bad_script, ok_module, is_module, input_limit, limit_input, limit_size, read_fault}
 use Rattle.drive.specs.Built.{HoldsBuilt, BuildIsIdempotent, BuiltFilesAreAccepted, BuiltScriptsAreShort}
 use Rattle.drive.proofs.CanonicalFiles.{file_gives}
+use Rattle.drive.proofs.WhatActionsGive.{is_then_script}
 
 -- ## Refusals have a status of their own
 
@@ -155,7 +156,7 @@ module _ (bytes : List ℕ) (written : Reply) where
   short_script (inr h) = nothing_written written (bad_script h.0) h.2 (script_writes_nothing h.0)
 
   short_bytes : is_module bytes ≡ false → OnBytes (ActionGives Build) bytes written → length written.out ≤ input_limit
-  short_bytes script (inl (short, inl h)) = let m = h.0 in absurd (cc)
+  short_bytes script (inl (short, inl h)) = let m = h.0 in let n = is_then_script Build bytes refl script in absurd (cc)
   short_bytes script (inl (short, inr h)) = short_script h.1
   short_bytes script (inr h) = nothing_written written limit_input h.1 refl
 

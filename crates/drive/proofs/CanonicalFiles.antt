@@ -8,34 +8,16 @@ use Rattle.w_decode.specs.Faults.{HasFault}
 use Rattle.w_decode.specs.declared.fault.DecodeFault.{DecodeFault}
 use Rattle.w_decode.proofs.ReadingExact.{spelled_exactly, fault_exactly, one_module}
 use Rattle.w_rules.specs.Limits.{Within}
-use Rattle.w_rules.specs.Valid.{Valid, IsInvalidAt, Item}
-use Rattle.w_rules.specs.declared.limits.SizeLimit.TheVariants.{Types, Params, Locals}
+use Rattle.w_rules.specs.Valid.{Valid}
 use Rattle.w_valid.specs.declared.fault.ValidFault.{ValidFault}
-use Rattle.w_valid.specs.declared.fault.ValidFault.TheVariants as valid
+use Rattle.w_valid.proofs.Faults.{no_fault as no_fault_of}
 use Rattle.w_encode.specs.Canon.{Canon}
 use Rattle.words.specs.declared.request.Action.{Action}
 use Rattle.drive.specs.Answer.{Reply, OnFile, BytesGive, ActionGives, gives, input_limit, HasModuleFault}
 
-no_item : (m : Module) (x : Item) → Valid m → IsInvalidAt m x → ⊥
-no_item m x v i = i.invalid (v x i.item)
-
 -- a valid module within its limits has no fault
 pub no_fault : (m : Module) (f : ValidFault) → Within m → Valid m → HasModuleFault m f → ⊥
-no_fault m (valid.Limit Types) w v h = h.1 w.types
-no_fault m (valid.Limit Params) w v h = h.1.1 w.params
-no_fault m (valid.Limit Locals) w v h = h.1.2 w.locals
-no_fault m (valid.TypeAt i) w v h = no_item m _ v h.1.1
-no_fault m (valid.Import i) w v h = no_item m _ v h.1.1
-no_fault m (valid.Table i) w v h = no_item m _ v h.1.1
-no_fault m valid.Memory w v h = no_item m _ v h.1.1
-no_fault m (valid.Tag i) w v h = no_item m _ v h.1.1
-no_fault m (valid.Global i) w v h = no_item m _ v h.1.1
-no_fault m (valid.Element i) w v h = no_item m _ v h.1.1
-no_fault m (valid.Data i) w v h = no_item m _ v h.1.1
-no_fault m valid.Start w v h = no_item m _ v h.1.1
-no_fault m (valid.Export i) w v h = no_item m _ v h.1.1
-no_fault m (valid.Function i) w v h = no_item m _ v h.1.1
-no_fault m valid.OutOfMemory w v h = h.0 refl
+no_fault m f w v h = no_fault_of m f w v h.0 h.1
 
 -- bytes that spell a module have no fault
 spelled_or_not : (b : List ℕ) (m : Module) (f : DecodeFault) → Spells b m → HasFault b f → ⊥
@@ -52,7 +34,7 @@ module _ (m : Module) (spelled : Spells (Canon m) m) (within : Within m) (v : Va
   -- which begin as a module does
   of_bytes : ActionGives action (Canon m) reply → gives action m reply
   of_bytes (inl h) = only_gives h.1
-  of_bytes (inr h) = let e : true ≡ false = h.0 in absurd (cc)
+  of_bytes (inr h) = let e : false ≡ true = h.0 in absurd (cc)
 
   of_file : length (Canon m) ≤ input_limit → OnFile (holds (Canon m)) (ActionGives action) reply → gives action m reply
   of_file short (inl h) = of_bytes h.1

@@ -1,7 +1,7 @@
 pub mod LongFiles
 pub mod FileReplies
 pub mod Refusals
-pub mod Joined
+pub mod TextInPieces
 pub mod Runs
 pub mod Statistics
 pub mod Replies
@@ -11,8 +11,8 @@ pub mod SomeAnswer
 pub mod CanonicalFiles
 pub mod BuiltFiles
 pub mod ScriptRuns
-pub mod Acting
-pub mod Meanings
+pub mod WhatActionsGive
+pub mod MeaningsOfRuns
 pub mod BuiltRuns
 pub mod AnswersMeant
 pub mod OutsMeant

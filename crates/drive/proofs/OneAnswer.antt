@@ -1,21 +1,16 @@
 -- What is told of a file leaves one answer.
-use Rattle.std.proofs.Common.{◌≡◌, ◌⊎◌, ◌<◌, ℕ, List, Bool, false, inl, inr, Result, Ok, Err, refl, sym, ap, subst, ◌∙◌, arith}
-use Rattle.std.specs.Prelude.{◌≢◌, nat_eq, cond}
-use Rattle.std.proofs.lemmas.Bool.{cases_order}
+use Rattle.std.proofs.Common.{◌≡◌, ℕ, List, Bool, false, inl, inr, Result, Ok, Err, refl, sym, ap, subst, ◌∙◌, arith}
+use Rattle.std.specs.Prelude.{◌≢◌}
 use Rattle.w_outside.specs.Outside.{Known, untold, missing, holds}
 use Rattle.w_syntax.specs.declared.module.Module.{Module}
 use Rattle.w_syntax.specs.Spells.{Spells}
 use Rattle.w_decode.specs.Faults.{HasFault}
 use Rattle.w_decode.specs.declared.fault.DecodeFault.{DecodeFault}
 use Rattle.w_decode.proofs.ReadingExact.{spelled_exactly, fault_exactly, one_module}
-use Rattle.w_rules.specs.Limits.{Within, Passes}
-use Rattle.w_rules.specs.Valid.{Valid, IsInvalidAt, Item, TypeItem, ImportItem, TableItem, MemoryItem, TagItem, GlobalItem, ElementItem, DataItem, StartItem, ExportItem, FunctionItem, place_of}
-use Rattle.w_rules.specs.declared.limits.SizeLimit.{SizeLimit}
-use Rattle.w_rules.specs.declared.limits.SizeLimit.TheVariants.{Types, Params, Locals}
-use Rattle.w_valid.specs.Faults.{IsRefusedAt, fault_of}
 use Rattle.w_valid.specs.declared.fault.ValidFault.{ValidFault}
+use Rattle.w_valid.proofs.Faults.{one_fault as one_fault_of, no_fault as no_fault_of}
 use Rattle.w_valid.specs.declared.fault.ValidFault.TheVariants as valid
-use Rattle.s_judge.proofs.Judged.{one_judgement}
+use Rattle.s_judge.proofs.OneJudgement.{one_judgement}
 use Rattle.s_judge.specs.declared.fault.ScriptFault.{ScriptFault}
 use Rattle.s_syntax.specs.declared.script.Script.{Script}
 use Rattle.words.specs.declared.request.Action.{Action}
@@ -23,109 +18,14 @@ use Rattle.words.specs.declared.request.Action.TheVariants.{Check, Run as RunFor
 use Rattle.s_code.specs.Lowered.{lowered}
 use Rattle.s_generate.specs.Generated.{generated as generated_script}
 use Rattle.words.specs.Line.{on_file as line_on_file, generated, bad}
-use Rattle.drive.specs.Answer.{Reply, HasModuleFault, OnFile, OnBytes, BytesGive, ScriptGives, ActionGives, Teller, gives, script_gives, RunGives, Compiled, trapped, faulted, built, run_gives, malformed, invalid, bad_script, generated_steps, ok_script}
+use Rattle.drive.specs.Answer.{Reply, HasModuleFault, OnFile, OnBytes, BytesGive, ScriptGives, ActionGives, TrapReply, gives, script_gives, RunGives, Compiled, trapped, faulted, built, run_gives, malformed, invalid, bad_script, generated_steps, ok_script}
 use Rattle.drive.specs.Laws.{OneAnswer}
 use Rattle.drive.proofs.Programs.{one_program}
 
--- ## The least item without a derivation
-
--- the item at a place of the order
-abbrev at : ℕ → ℕ → Item
-at k i =
-    cond (nat_eq k 0) (TypeItem i)
-    (cond (nat_eq k 1) (ImportItem i)
-    (cond (nat_eq k 2) (TableItem i)
-    (cond (nat_eq k 3) MemoryItem
-    (cond (nat_eq k 4) (TagItem i)
-    (cond (nat_eq k 5) (GlobalItem i)
-    (cond (nat_eq k 6) (ElementItem i)
-    (cond (nat_eq k 7) (DataItem i)
-    (cond (nat_eq k 8) StartItem
-    (cond (nat_eq k 9) (ExportItem i)
-    (FunctionItem i))))))))))
-
-kind_is : (y : Item) → y ≡ at (place_of y).0 (place_of y).1
-kind_is (TypeItem i) = refl
-kind_is (ImportItem i) = refl
-kind_is (TableItem i) = refl
-kind_is MemoryItem = refl
-kind_is (TagItem i) = refl
-kind_is (GlobalItem i) = refl
-kind_is (ElementItem i) = refl
-kind_is (DataItem i) = refl
-kind_is StartItem = refl
-kind_is (ExportItem i) = refl
-kind_is (FunctionItem i) = refl
-
-one_place : (x y : Item) → (place_of x).0 ≡ (place_of y).0 → (place_of x).1 ≡ (place_of y).1 → x ≡ y
-one_place x y k i = kind_is x ∙ ap (λ (n : ℕ). at n (place_of x).1) k ∙ ap (at (place_of y).0) i ∙ sym (kind_is y)
-
-in_kind : (m : Module) (x y : Item) → IsInvalidAt m x → IsInvalidAt m y → (place_of x).0 ≡ (place_of y).0
-    → ((place_of x).1 ≡ (place_of y).1) ⊎ (((place_of x).1 < (place_of y).1) ⊎ ((place_of y).1 < (place_of x).1)) → x ≡ y
-in_kind m x y h k e (inl i) = one_place x y e i
-in_kind m x y h k e (inr (inl lt)) = absurd (h.invalid (k.least x h.item (inr (e, lt))))
-in_kind m x y h k e (inr (inr lt)) = absurd (k.invalid (h.least y k.item (inr (sym e, lt))))
-
-by_kinds : (m : Module) (x y : Item) → IsInvalidAt m x → IsInvalidAt m y
-    → ((place_of x).0 ≡ (place_of y).0) ⊎ (((place_of x).0 < (place_of y).0) ⊎ ((place_of y).0 < (place_of x).0)) → x ≡ y
-by_kinds m x y h k (inl e) = in_kind m x y h k e (cases_order (place_of x).1 (place_of y).1)
-by_kinds m x y h k (inr (inl lt)) = absurd (h.invalid (k.least x h.item (inl lt)))
-by_kinds m x y h k (inr (inr lt)) = absurd (k.invalid (h.least y k.item (inl lt)))
-
-one_least : (m : Module) (x y : Item) → IsInvalidAt m x → IsInvalidAt m y → x ≡ y
-one_least m x y h k = by_kinds m x y h k (cases_order (place_of x).0 (place_of y).0)
-
--- ## The first limit that is passed
-
-one_limit : (m : Module) (a b : SizeLimit) → Passes m a → Passes m b → a ≡ b
-one_limit m Types Types p q = refl
-one_limit m Types Params p q = absurd (p q.0)
-one_limit m Types Locals p q = absurd (p q.0)
-one_limit m Params Types p q = absurd (q p.0)
-one_limit m Params Params p q = refl
-one_limit m Params Locals p q = absurd (p.1 q.1)
-one_limit m Locals Types p q = absurd (q p.0)
-one_limit m Locals Params p q = absurd (q.1 p.1)
-one_limit m Locals Locals p q = refl
-
-not_within : (m : Module) (a : SizeLimit) → Passes m a → Within m → ⊥
-not_within m Types p w = p w.types
-not_within m Params p w = p.1 w.params
-not_within m Locals p w = p.2 w.locals
-
 -- ## A module has one fault
 
-abbrev Names : Module → ValidFault → Type 0
-Names m f = ((name : SizeLimit) × (f ≡ valid.Limit name) × Passes m name) ⊎ ((x : Item) × (f ≡ fault_of x) × IsRefusedAt m x)
-
-names : (m : Module) (f : ValidFault) → HasModuleFault m f → Names m f
-names m (valid.Limit name) h = inl (name, refl, h.1)
-names m (valid.TypeAt i) h = inr (TypeItem i, refl, h.1)
-names m (valid.Import i) h = inr (ImportItem i, refl, h.1)
-names m (valid.Table i) h = inr (TableItem i, refl, h.1)
-names m valid.Memory h = inr (MemoryItem, refl, h.1)
-names m (valid.Tag i) h = inr (TagItem i, refl, h.1)
-names m (valid.Global i) h = inr (GlobalItem i, refl, h.1)
-names m (valid.Element i) h = inr (ElementItem i, refl, h.1)
-names m (valid.Data i) h = inr (DataItem i, refl, h.1)
-names m valid.Start h = inr (StartItem, refl, h.1)
-names m (valid.Export i) h = inr (ExportItem i, refl, h.1)
-names m (valid.Function i) h = inr (FunctionItem i, refl, h.1)
-names m valid.OutOfMemory h = absurd (h.0 refl)
-
-one_name : (m : Module) (f g : ValidFault) → Names m f → Names m g → f ≡ g
-one_name m f g (inl p) (inl q) = p.1 ∙ ap valid.Limit (one_limit m p.0 q.0 p.2 q.2) ∙ sym q.1
-one_name m f g (inl p) (inr q) = absurd (not_within m p.0 p.2 q.2.0)
-one_name m f g (inr p) (inl q) = absurd (not_within m q.0 q.2 p.2.0)
-one_name m f g (inr p) (inr q) = p.1 ∙ ap fault_of (one_least m p.0 q.0 p.2.1 q.2.1) ∙ sym q.1
-
 one_module_fault : (m : Module) (f g : ValidFault) → HasModuleFault m f → HasModuleFault m g → f ≡ g
-one_module_fault m f g h k = one_name m f g (names m f h) (names m g k)
-
--- a valid module within its limits has none
-no_name : (m : Module) (f : ValidFault) → Within m → Valid m → Names m f → ⊥
-no_name m f w v (inl p) = not_within m p.0 p.2 w
-no_name m f w v (inr p) = p.2.1.invalid (v p.0 p.2.1.item)
+one_module_fault m f g h k = one_fault_of m f g h.0 k.0 h.1 k.1
 
 -- ## Bytes
 
@@ -147,16 +47,16 @@ accepted_once Accepted one m n r s e h k = one m r s h (subst (λ (x : Module). 
 
 one_reply : (Accepted : Module → Reply → Type 0) → ((m : Module) → IsOne (Accepted m)) → (b : List ℕ) → IsOne (BytesGive Accepted b)
 one_reply Accepted one b r s (inl h) (inl k) = accepted_once Accepted one h.0 k.0 r s (one_module b h.0 k.0 h.1 k.1) h.4 k.4
-one_reply Accepted one b r s (inl h) (inr (inl k)) = absurd (no_name h.0 k.2.0 h.2 h.3 (names h.0 k.2.0 (moved b h.0 k.0 k.2.0 h.1 k.1 k.2.1)))
+one_reply Accepted one b r s (inl h) (inr (inl k)) = let f = moved b h.0 k.0 k.2.0 h.1 k.1 k.2.1 in absurd (no_fault_of h.0 k.2.0 h.2 h.3 f.0 f.1)
 one_reply Accepted one b r s (inl h) (inr (inr k)) = absurd (not_both b h.0 k.0 h.1 k.1)
-one_reply Accepted one b r s (inr (inl h)) (inl k) = absurd (no_name k.0 h.2.0 k.2 k.3 (names k.0 h.2.0 (moved b k.0 h.0 h.2.0 k.1 h.1 h.2.1)))
+one_reply Accepted one b r s (inr (inl h)) (inl k) = let f = moved b k.0 h.0 h.2.0 k.1 h.1 h.2.1 in absurd (no_fault_of k.0 h.2.0 k.2 k.3 f.0 f.1)
 one_reply Accepted one b r s (inr (inl h)) (inr (inl k)) = h.2.2 ∙ ap invalid (one_module_fault h.0 h.2.0 k.2.0 h.2.1 (moved b h.0 k.0 k.2.0 h.1 k.1 k.2.1)) ∙ sym k.2.2
 one_reply Accepted one b r s (inr (inl h)) (inr (inr k)) = absurd (not_both b h.0 k.0 h.1 k.1)
 one_reply Accepted one b r s (inr (inr h)) (inl k) = absurd (not_both b k.0 h.0 k.1 h.1)
 one_reply Accepted one b r s (inr (inr h)) (inr (inl k)) = absurd (not_both b k.0 h.0 k.1 h.1)
 one_reply Accepted one b r s (inr (inr h)) (inr (inr k)) = h.2 ∙ ap malformed (one_fault b h.0 k.0 h.1 k.1) ∙ sym k.2
 
-one_run : (say : Teller) (steps : ℕ) (stats : Bool) (m : Module) → IsOne (RunGives say steps stats m)
+one_run : (say : TrapReply) (steps : ℕ) (stats : Bool) (m : Module) → IsOne (RunGives say steps stats m)
 one_run say steps stats m r s h k = h.3 ∙ ap (run_gives say steps stats) (one_program m h.0 k.0 h.1 k.1 h.2 k.2) ∙ sym k.3
 
 one_given : (action : Action) (m : Module) → IsOne (gives action m)

@@ -21,7 +21,7 @@ begins_more part out printed more same h =
     (h.0 ++ more, ap (λ (l : List ℕ). l ++ more) (sym same ∙ sym (append-nil out) ∙ h.1) ∙ append_assoc part h.0 more)
 
 module _ (p : Script) (N : ℕ) (out part : List ℕ) where
-  -- where no value is told
+  -- where no value is last
   printed_only : (end : Ended) → Follows p N out end → IsPrefix part (out ++ []) → BeginsMeaning p part
   printed_only end f h = let q = f.prints in (q.0, begins_more part out (Eval p q.0).printed (result_of (Eval p q.0).outcome) q.1 h)
 
@@ -29,10 +29,10 @@ module _ (p : Script) (N : ℕ) (out part : List ℕ) where
   begins (Is Going) f h = printed_only (Is Going) f h
   begins (Is (Value z)) f h =
       let q = f.ends (Value z) (λ e. cc e) refl in
-      let told = line (codes "= " ++ signed_decimal z) in (
+      let last = line (codes "= " ++ signed_decimal z) in (
         q.0,
         subst (λ (l : List ℕ). IsPrefix part l)
-            (ap (λ (l : List ℕ). l ++ told) q.2 ∙ ap (λ (l : List ℕ). (Eval p q.0).printed ++ l) (sym (ap result_of q.1))) h,
+            (ap (λ (l : List ℕ). l ++ last) q.2 ∙ ap (λ (l : List ℕ). (Eval p q.0).printed ++ l) (sym (ap result_of q.1))) h,
       )
   begins (Is (Faulty x)) f h = printed_only (Is (Faulty x)) f h
   begins (Limit l) f h = printed_only (Limit l) f h

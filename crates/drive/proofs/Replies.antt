@@ -101,11 +101,11 @@ module _ (OutGrew ErrGrew : List ℕ → Type 0) (rose : Type 0) (answer : Resul
   refusal_delivered refusal is h = subst (λ (a : Result Output Stop). Delivers a result OutGrew ErrGrew rose) (sym is) h
 
 -- what is written is the reply
-pub output_is : (output : Output) (pieces told : List (Vec ℕ Global)) → pieces ≡ output.pieces.items → told ≡ output.told.items
-    → ◌≡◌ {A = Reply} (record { out = joined pieces; err = joined told; status = 0 }) (reply_with output)
-output_is output pieces told same told_same =
-    ap (λ (p : List (Vec ℕ Global)). let reply : Reply = record { out = joined p; err = joined told; status = 0 } in reply) same
-    ∙ ap (λ (l : List (Vec ℕ Global)). let reply : Reply = record { out = joined output.pieces.items; err = joined l; status = 0 } in reply) told_same
+pub output_is : (output : Output) (pieces err : List (Vec ℕ Global)) → pieces ≡ output.pieces.items → err ≡ output.err.items
+    → ◌≡◌ {A = Reply} (record { out = joined pieces; err = joined err; status = 0 }) (reply_with output)
+output_is output pieces err same err_same =
+    ap (λ (p : List (Vec ℕ Global)). let reply : Reply = record { out = joined p; err = joined err; status = 0 } in reply) same
+    ∙ ap (λ (l : List (Vec ℕ Global)). let reply : Reply = record { out = joined output.pieces.items; err = joined l; status = 0 } in reply) err_same
 
 pub refusal_is : (refusal : Refusal) (lines : List (Vec ℕ Global)) → lines ≡ refusal.lines.items
     → ◌≡◌ {A = Reply} (record { out = []; err = joined lines; status = code_of refusal.status }) (reply_of_refusal refusal)

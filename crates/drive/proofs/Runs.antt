@@ -11,16 +11,16 @@ use Rattle.w_reduce.specs.Program.{Program, IsProgram}
 use Rattle.w_reduce.specs.Run.{Outcome, Running, RunState, Run}
 use Rattle.w_reduce.specs.Start.{Start, Ready}
 use Rattle.w_stands.specs.Values.{vals}
-use Rattle.w_machine.specs.declared.outcome.Kept.{Kept}
-use Rattle.w_machine.specs.declared.outcome.Kept.TheVariants as kept
+use Rattle.w_machine.specs.declared.outcome.RunStop.{RunStop}
+use Rattle.w_machine.specs.declared.outcome.RunStop.TheVariants as run_stop
 use Rattle.w_machine.specs.Beginning.{Begins}
-use Rattle.w_machine.specs.Position.{Position, Tells, is_fault, IsNoFault, HasTaken, HasTakenBy, after_run, Printed, PrintedAtMost, PrintedIf, PrintedBy, RunPrints, RunsOn, Runs}
-use Rattle.w_machine.proofs.GoingFar.{settled_at, printed_part}
+use Rattle.w_machine.specs.Position.{Position, Tells, is_fault, IsNoFault, HasTaken, HasTakenBy, after_run, PrintedBetween, PrintedAtMost, PrintedIf, PrintedBy, RunPrints, RunsOn, Runs}
+use Rattle.w_machine.proofs.RunsOfMany.{settled_at, printed_part}
 use Rattle.w_machine.specs.Results.{HasResults}
 use Rattle.drive.specs.declared.output.Output.{Output}
 use Rattle.drive.specs.declared.stop.Stop.{Stop}
 use Rattle.drive.specs.declared.stop.Stop.TheVariants.{Refused, WriteFault, OutOfMemory}
-use Rattle.drive.specs.Answer.{Reply, Teller, counts_line, stats_line, result_line, behind, end_reply, run_reply, start_reply, run_gives, RunGives}
+use Rattle.drive.specs.Answer.{Reply, TrapReply, counts_line, stats_line, result_line, behind, end_reply, run_reply, start_reply, run_gives, RunGives}
 use Rattle.drive.specs.Leaving.{IsBegun, Leaves}
 use Rattle.drive.specs.Pieces.{joined}
 use Rattle.drive.specs.Running.{IsAfter, IsAfterBy}
@@ -30,84 +30,84 @@ use Rattle.drive.proofs.Replies.{front_first}
 -- ## Runs from the start
 
 abbrev First : Module → Position
-First m = record { program = m; taken = 0; kept = None }
+First m = record { program = m; taken = 0; stop = None }
 
 -- of a whole run from its first reduction on: it is running, or what is told of it; and all that it prints was printed, or where a fault
 -- stopped it a first part
-abbrev pub IsToldWhole : (ℕ → RunState) → ℕ → Option Kept → Option (List ℕ) → Option (List ℕ) → Type 0
-IsToldWhole run steps None before now = ((run (0 + steps)).outcome ≡ Running) × Printed (run 0) (run (0 + steps)) before now
-IsToldWhole run steps (Some k) before now = Tells k (run (0 + steps)).outcome × PrintedBy k (run 0) (run (0 + steps)) before now
+abbrev pub HasRunWhole : (ℕ → RunState) → ℕ → Option RunStop → Option (List ℕ) → Option (List ℕ) → Type 0
+HasRunWhole run steps None before now = ((run (0 + steps)).outcome ≡ Running) × PrintedBetween (run 0) (run (0 + steps)) before now
+HasRunWhole run steps (Some k) before now = Tells k (run (0 + steps)).outcome × PrintedBy k (run 0) (run (0 + steps)) before now
 
 module _ (p : Program) (s : Store) (t : Term) (n steps : ℕ) (before now : Option (List ℕ)) where
   as_part : (f : Bool) → HasTakenBy f n steps → RunPrints f (Run p s t) 0 n steps before now → PrintedIf f (Run p s t 0) (Run p s t (0 + steps)) before now
   as_part true taken h = printed_part p s t 0 (0 + n) (0 + steps) before now (omega (arith, taken)) h
   as_part false taken h = h
 
-  told_whole : (k : Option Kept) → HasTaken n steps k → RunsOn (Run p s t) 0 n steps k before now → IsToldWhole (Run p s t) steps k before now
-  told_whole None taken h = h
-  told_whole (Some k) taken h = (h.0, as_part (is_fault k) taken h.1)
+  as_whole : (k : Option RunStop) → HasTaken n steps k → RunsOn (Run p s t) 0 n steps k before now → HasRunWhole (Run p s t) steps k before now
+  as_whole None taken h = h
+  as_whole (Some k) taken h = (h.0, as_part (is_fault k) taken h.1)
 
 -- so it is told of a machine that has taken no reduction
-pub from_first : (m : Module) (p : Program) (s : Store) (t : Term) (steps : ℕ) (q new : Position) (k : Option Kept) (before now : Option (List ℕ)) → q ≡ First m
-    → Begins q.program p s t → Runs q steps k new before now → IsToldWhole (Run p s t) steps k before now
+pub from_first : (m : Module) (p : Program) (s : Store) (t : Term) (steps : ℕ) (q new : Position) (k : Option RunStop) (before now : Option (List ℕ)) → q ≡ First m
+    → Begins q.program p s t → Runs q steps k new before now → HasRunWhole (Run p s t) steps k before now
 from_first m p s t steps q new k before now first begins runs =
     let h = subst (λ (z : Position). Runs z steps k new before now) first runs in
-    told_whole p s t h.0 steps before now k h.1 (h.3 p s t (subst (λ (z : Position). Begins z.program p s t) first begins))
+    as_whole p s t h.0 steps before now k h.1 (h.3 p s t (subst (λ (z : Position). Begins z.program p s t) first begins))
 
 -- a run that ended keeps that, and took no more reductions than were asked for
 pub record IsDone (p : Program) (s : Store) (t : Term) (steps : ℕ) (new : Position) : Type 0 where
-  pub kept : new.kept ≡ Some kept.Ended
+  pub stop : new.stop ≡ Some run_stop.Ended
   pub begins : Begins new.program p s t
   pub within : new.taken ≤ steps
 
 pub first_ended : (m : Module) (p : Program) (s : Store) (t : Term) (steps : ℕ) (q new : Position) (before now : Option (List ℕ)) → q ≡ First m
-    → Begins q.program p s t → Runs q steps (Some kept.Ended) new before now → IsDone p s t steps new
+    → Begins q.program p s t → Runs q steps (Some run_stop.Ended) new before now → IsDone p s t steps new
 first_ended m p s t steps q new before now first begins runs =
-    let h = subst (λ (z : Position). Runs z steps (Some kept.Ended) new before now) first runs in
+    let h = subst (λ (z : Position). Runs z steps (Some run_stop.Ended) new before now) first runs in
     let there = ap (λ (z : Position). z.taken) h.2 in
     record {
-      kept = ap (λ (z : Position). z.kept) h.2;
+      stop = ap (λ (z : Position). z.stop) h.2;
       begins = subst (λ (n : Module). Begins n p s t) (ap (λ (z : Position). z.program) first ∙ sym (ap (λ (z : Position). z.program) h.2)) begins;
       within = omega (arith, there, h.1);
     }
 
 -- it is that of the same module
-pub first_program : (m : Module) (steps : ℕ) (q new : Position) (k : Option Kept) (before now : Option (List ℕ)) → q ≡ First m → Runs q steps k new before now
+pub first_program : (m : Module) (steps : ℕ) (q new : Position) (k : Option RunStop) (before now : Option (List ℕ)) → q ≡ First m → Runs q steps k new before now
     → new.program ≡ q.program
 first_program m steps q new k before now first runs =
     let h = subst (λ (z : Position). Runs z steps k new before now) first runs in
     ap (λ (z : Position). z.program) h.2 ∙ same k h.0 ∙ sym (ap (λ (z : Position). z.program) first)
   where
-    same : (o : Option Kept) (n : ℕ) → (after_run (First m) n o).program ≡ m
+    same : (o : Option RunStop) (n : ℕ) → (after_run (First m) n o).program ≡ m
     same None n = refl
     same (Some x) n = refl
 
 -- it is the run of so many reductions, where no fault stopped it
-pub first_after : (m : Module) (steps : ℕ) (q new : Position) (k : Option Kept) (before now : Option (List ℕ)) → q ≡ First m → Runs q steps k new before now
+pub first_after : (m : Module) (steps : ℕ) (q new : Position) (k : Option RunStop) (before now : Option (List ℕ)) → q ≡ First m → Runs q steps k new before now
     → IsNoFault k → IsAfter new steps
 first_after m steps q new k before now first runs none =
     let h = subst (λ (z : Position). Runs z steps k new before now) first runs in
     subst (λ (z : Position). IsAfter z steps) (sym h.2) (after k h.0 h.1 none)
   where
-    after : (o : Option Kept) (n : ℕ) → HasTaken n steps o → IsNoFault o → IsAfter (after_run (First m) n o) steps
+    after : (o : Option RunStop) (n : ℕ) → HasTaken n steps o → IsNoFault o → IsAfter (after_run (First m) n o) steps
     after None n is none = zero-add n ∙ is
     after (Some x) n taken none =
         let le : n ≤ steps = subst (λ (f : Bool). HasTakenBy f n steps) none taken in
         (let e = zero-add n in omega (arith, e, le), none)
 
-not_running : (k : Kept) (o : Outcome) → is_fault k ≡ false → Tells k o → o ≡ Running → ⊥
-not_running kept.Ended o sound tells runs = let e = tells.1 in absurd (cc)
-not_running (kept.Limit name) o sound tells runs = absurd (cc)
-not_running (kept.Trapped t) o sound tells runs = absurd (cc)
-not_running kept.WriteFault o sound tells runs = absurd (cc)
-not_running kept.OutOfMemory o sound tells runs = absurd (cc)
+not_running : (k : RunStop) (o : Outcome) → is_fault k ≡ false → Tells k o → o ≡ Running → ⊥
+not_running run_stop.Ended o sound tells runs = let e = tells.1 in absurd (cc)
+not_running (run_stop.Limit name) o sound tells runs = absurd (cc)
+not_running (run_stop.Trapped t) o sound tells runs = absurd (cc)
+not_running run_stop.WriteFault o sound tells runs = absurd (cc)
+not_running run_stop.OutOfMemory o sound tells runs = absurd (cc)
 
 -- so the run of the reductions that a machine took is that of so many
 pub run_after : (q : Position) (p : Program) (s : Store) (t : Term) (steps : ℕ) → IsAfter q steps
-    → ((k : Kept) → q.kept ≡ Some k → Tells k (Run p s t q.taken).outcome) → Run p s t q.taken ≡ Run p s t steps
-run_after q p s t steps after tells = go q.kept refl after
+    → ((k : RunStop) → q.stop ≡ Some k → Tells k (Run p s t q.taken).outcome) → Run p s t q.taken ≡ Run p s t steps
+run_after q p s t steps after tells = go q.stop refl after
   where
-    go : (o : Option Kept) → q.kept ≡ o → IsAfterBy o q.taken steps → Run p s t q.taken ≡ Run p s t steps
+    go : (o : Option RunStop) → q.stop ≡ o → IsAfterBy o q.taken steps → Run p s t q.taken ≡ Run p s t steps
     go None e is = ap (Run p s t) is
     go (Some k) e is = sym (settled_at p s t q.taken steps is.0 (not_running k _ is.1 (tells k e)))
 
@@ -117,7 +117,7 @@ counts_are r a b c d ea eb ec ed = rw (← ea, ← eb, ← ec, ← ed) refl
 
 -- ## What is left to write behind what was printed
 
-module _ (say : Teller) (p : Program) (s : Store) (t : Term) (steps : ℕ) (before now : Option (List ℕ)) (rose : Type 0) where
+module _ (say : TrapReply) (p : Program) (s : Store) (t : Term) (steps : ℕ) (before now : Option (List ℕ)) (rose : Type 0) where
   abbrev IsDue : Reply → Type 0
   IsDue reply = reply ≡ run_reply say false (Run p s t steps)
 
@@ -152,16 +152,16 @@ module _ (say : Teller) (p : Program) (s : Store) (t : Term) (steps : ℕ) (befo
   all_begun text e grew = (run_reply say false (Run p s t steps), refl, (text, subst (λ (l : List ℕ). IsFront text (l ++ (end_reply say (Run p s t steps).outcome).out)) e (front_first text _), grew))
 
   -- a run that stops leaves a line on it
-  pub run_refused : (o : Outcome) (stop : Stop) → Printed (Run p s t 0) (Run p s t (0 + steps)) before now → (Run p s t (0 + steps)).outcome ≡ o
+  pub run_refused : (o : Outcome) (stop : Stop) → PrintedBetween (Run p s t 0) (Run p s t (0 + steps)) before now → (Run p s t (0 + steps)).outcome ≡ o
       → Refuses (λ reply. reply ≡ end_reply say o) stop → Leaves IsDue (Err stop) (Grew before now) rose
-  run_refused o (Refused refusal) print told h =
-      (h.0, (print.text, print.grew, behind_same print.text (reply_of_refusal refusal) (is_output print.text print.is) (h.1 ∙ ap (end_reply say) (sym told ∙ ap (λ (r : RunState). r.outcome) from_zero))))
-  run_refused o WriteFault print told h = absurd h
-  run_refused o OutOfMemory print told h = inr (all_begun print.text (is_output print.text print.is) print.grew)
+  run_refused o (Refused refusal) print is_due h =
+      (h.0, (print.text, print.grew, behind_same print.text (reply_of_refusal refusal) (is_output print.text print.is) (h.1 ∙ ap (end_reply say) (sym is_due ∙ ap (λ (r : RunState). r.outcome) from_zero))))
+  run_refused o WriteFault print is_due h = absurd h
+  run_refused o OutOfMemory print is_due h = inr (all_begun print.text (is_output print.text print.is) print.grew)
 
   -- one that ended leaves its results, a line each
-  pub run_ended : (output : Output) (vs : List Val) → Printed (Run p s t 0) (Run p s t (0 + steps)) before now → HasResults (Run p s t steps).outcome vs
-      → joined output.pieces.items ≡ flat_map result_line vs → joined output.told.items ≡ [] → Leaves IsDue (Ok output) (Grew before now) rose
+  pub run_ended : (output : Output) (vs : List Val) → PrintedBetween (Run p s t 0) (Run p s t (0 + steps)) before now → HasResults (Run p s t steps).outcome vs
+      → joined output.pieces.items ≡ flat_map result_line vs → joined output.err.items ≡ [] → Leaves IsDue (Ok output) (Grew before now) rose
   run_ended output vs print h lines none = (
     print.text,
     print.grew,
@@ -170,10 +170,10 @@ module _ (say : Teller) (p : Program) (s : Store) (t : Term) (steps : ℕ) (befo
   )
     where
       results_reply : List ℕ → List ℕ → Reply
-      results_reply text told = record { out = text; err = told; status = 0 }
+      results_reply text more = record { out = text; err = more; status = 0 }
 
   -- where memory ran out behind it, all that it printed was written
-  pub run_unlisted : (answer : Result Output Stop) → Printed (Run p s t 0) (Run p s t (0 + steps)) before now → IsErrAnd answer (λ e. e ≡ OutOfMemory)
+  pub run_unlisted : (answer : Result Output Stop) → PrintedBetween (Run p s t 0) (Run p s t (0 + steps)) before now → IsErrAnd answer (λ e. e ≡ OutOfMemory)
       → Leaves IsDue answer (Grew before now) rose
   run_unlisted (Ok output) print is = absurd is
   run_unlisted (Err stop) print is =
@@ -196,10 +196,10 @@ lines_of_vals (v ∷ vs) = ap (λ (l : List ℕ). result_line (val v) ++ l) (lin
 -- ## What a module gives
 
 -- where its run begins, what the run gives
-pub ready_gives : (say : Teller) (m : Module) (steps : ℕ) (stats : Bool) (p : Program) (s : Store) (t : Term) → p.source ≡ m → IsProgram p → Start p ≡ Ready s t → (reply : Reply)
+pub ready_gives : (say : TrapReply) (m : Module) (steps : ℕ) (stats : Bool) (p : Program) (s : Store) (t : Term) → p.source ≡ m → IsProgram p → Start p ≡ Ready s t → (reply : Reply)
     → reply ≡ run_reply say stats (Run p s t steps) → RunGives say steps stats m reply
-ready_gives say m steps stats p s t source told start reply is = (p, source, told, is ∙ sym (ap (start_reply say steps stats p) start))
+ready_gives say m steps stats p s t source known start reply is = (p, source, known, is ∙ sym (ap (start_reply say steps stats p) start))
 
 -- and else its refusal
-pub refused_gives : (say : Teller) (m : Module) (steps : ℕ) (stats : Bool) (p : Program) → p.source ≡ m → IsProgram p → (reply : Reply) → reply ≡ run_gives say steps stats p → RunGives say steps stats m reply
-refused_gives say m steps stats p source told reply is = (p, source, told, is)
+pub refused_gives : (say : TrapReply) (m : Module) (steps : ℕ) (stats : Bool) (p : Program) → p.source ≡ m → IsProgram p → (reply : Reply) → reply ≡ run_gives say steps stats p → RunGives say steps stats m reply
+refused_gives say m steps stats p source known reply is = (p, source, known, is)

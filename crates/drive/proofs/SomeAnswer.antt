@@ -13,19 +13,20 @@ use Rattle.w_rules.specs.Valid.{Item, TypeItem, ImportItem, TableItem, MemoryIte
 use Rattle.w_types.specs.Groups.{types_of}
 use Rattle.std.specs.Prelude.{nat_eq, cond}
 use Rattle.std.proofs.lemmas.Bool.{cases_lt}
+use Rattle.w_valid.proofs.Items.{item_at, item_at-place_of}
 use Rattle.w_valid.specs.declared.fault.ValidFault.{ValidFault}
 use Rattle.w_valid.specs.declared.fault.ValidFault.TheVariants as valid
-use Rattle.s_judge.proofs.Judged.{some_judgement}
+use Rattle.s_judge.proofs.OneJudgement.{some_judgement}
 use Rattle.s_judge.specs.Judgements as script
 use Rattle.s_judge.specs.declared.fault.ScriptFault.{ScriptFault}
 use Rattle.s_syntax.specs.declared.script.Script.{Script}
-use Rattle.s_check.specs.Size.{Size}
+use Rattle.s_check.specs.Size.{Size, size_limit}
 use Rattle.words.specs.declared.request.Action.{Action}
 use Rattle.words.specs.declared.request.Action.TheVariants.{Check, Run as RunFor, Build}
 use Rattle.s_code.specs.Lowered.{lowered}
 use Rattle.s_generate.specs.Generated.{generated as generated_script}
 use Rattle.words.specs.Line.{on_file as line_on_file, generated, bad}
-use Rattle.drive.specs.Answer.{Reply, HasModuleFault, OnFile, OnBytes, BytesGive, ScriptGives, ActionGives, Teller, is_module, gives, script_gives, RunGives, Compiled, compiled_size, trapped, faulted, built, generated_steps, input_limit, ok_script}
+use Rattle.drive.specs.Answer.{Reply, HasModuleFault, OnFile, OnBytes, BytesGive, ScriptGives, ActionGives, TrapReply, is_script, gives, script_gives, RunGives, Compiled, trapped, faulted, built, generated_steps, input_limit, ok_script}
 use Rattle.drive.specs.Laws.{SomeAnswer}
 use Rattle.drive.proofs.Programs.{some_program}
 
@@ -65,21 +66,7 @@ IsFine m x = IsItem m x → ItemValid m x
 least_invalid : (m : Module) (x : Item) → ((y : Item) → Before y x → IsFine m y) → (IsInvalidAt m x → ⊥) → (IsFine m x → ⊥) → ⊥
 least_invalid m x below none k = k (λ is. absurd (none (record { item = is; invalid = λ t. k (λ _. t); least = λ y there before. below y before there })))
 
--- the item at a place of the order, and how many places there are for a kind
-abbrev at : ℕ → ℕ → Item
-at k i =
-    cond (nat_eq k 0) (TypeItem i)
-    (cond (nat_eq k 1) (ImportItem i)
-    (cond (nat_eq k 2) (TableItem i)
-    (cond (nat_eq k 3) MemoryItem
-    (cond (nat_eq k 4) (TagItem i)
-    (cond (nat_eq k 5) (GlobalItem i)
-    (cond (nat_eq k 6) (ElementItem i)
-    (cond (nat_eq k 7) (DataItem i)
-    (cond (nat_eq k 8) StartItem
-    (cond (nat_eq k 9) (ExportItem i)
-    (FunctionItem i))))))))))
-
+-- how many places there are for a kind
 abbrev places : Module → ℕ → ℕ
 places m k =
     cond (nat_eq k 0) (length (types_of m.types))
@@ -94,18 +81,8 @@ places m k =
     (cond (nat_eq k 9) (length m.exports)
     (length m.functions + length m.codes))))))))))
 
-kind_is : (y : Item) → y ≡ at (place_of y).0 (place_of y).1
-kind_is (TypeItem i) = refl
-kind_is (ImportItem i) = refl
-kind_is (TableItem i) = refl
-kind_is MemoryItem = refl
-kind_is (TagItem i) = refl
-kind_is (GlobalItem i) = refl
-kind_is (ElementItem i) = refl
-kind_is (DataItem i) = refl
-kind_is StartItem = refl
-kind_is (ExportItem i) = refl
-kind_is (FunctionItem i) = refl
+kind_is : (y : Item) → y ≡ item_at (place_of y).0 (place_of y).1
+kind_is y = sym (item_at-place_of y)
 
 abbrev EachKind : (ℕ → Type 0) → Type 0
 EachKind Q = Q 0 × Q 1 × Q 2 × Q 3 × Q 4 × Q 5 × Q 6 × Q 7 × Q 8 × Q 9 × Q 10
@@ -143,14 +120,14 @@ is_below m i (inr h) = omega (arith, h)
 
 -- an item of the kind k at the place i stands there in the order
 abbrev StandsAt : ℕ → Type 0
-StandsAt k = (i : ℕ) → ((place_of (at k i)).0 ≡ k) × ((place_of (at k i)).1 ≤ i)
+StandsAt k = (i : ℕ) → ((place_of (item_at k i)).0 ≡ k) × ((place_of (item_at k i)).1 ≤ i)
 
 stands_at : (k : ℕ) → k < 11 → StandsAt k
 stands_at = by_kind StandsAt (λ i. (refl, omega arith), λ i. (refl, omega arith), λ i. (refl, omega arith), λ i. (refl, omega arith), λ i. (refl, omega arith), λ i. (refl, omega arith), λ i. (refl, omega arith), λ i. (refl, omega arith), λ i. (refl, omega arith), λ i. (refl, omega arith), λ i. (refl, omega arith))
 
 -- items are fine where they are fine at the places of their kind
 abbrev IsEnough : Module → ℕ → Type 0
-IsEnough m k = ((i : ℕ) → i < places m k → IsFine m (at k i)) → (i : ℕ) → IsFine m (at k i)
+IsEnough m k = ((i : ℕ) → i < places m k → IsFine m (item_at k i)) → (i : ℕ) → IsFine m (item_at k i)
 
 is_enough : (m : Module) (k : ℕ) → k < 11 → IsEnough m k
 is_enough m = by_kind (IsEnough m) (
@@ -167,27 +144,27 @@ is_enough m = by_kind (IsEnough m) (
   λ h i is. h i (is_below m i is) is,
 )
 
-before_is_fine : (m : Module) (k n : ℕ) → k < 11 → ((j : ℕ) → j < k → j < 11 → (i : ℕ) → IsFine m (at j i)) → ((i : ℕ) → i < n → IsFine m (at k i)) → (y : Item) → Before y (at k n) → IsFine m y
+before_is_fine : (m : Module) (k n : ℕ) → k < 11 → ((j : ℕ) → j < k → j < 11 → (i : ℕ) → IsFine m (item_at j i)) → ((i : ℕ) → i < n → IsFine m (item_at k i)) → (y : Item) → Before y (item_at k n) → IsFine m y
 before_is_fine m k n lt lower below y (inl h) =
     let stands = stands_at k lt n in
     subst (IsFine m) (sym (kind_is y)) (lower (place_of y).0 (omega (arith, h, stands.0)) (kind_below y) (place_of y).1)
 before_is_fine m k n lt lower below y (inr h) =
     let stands = stands_at k lt n in
     let same : k ≡ (place_of y).0 = sym stands.0 ∙ sym h.0 in
-    subst (IsFine m) (sym (kind_is y)) (subst (λ (j : ℕ). IsFine m (at j (place_of y).1)) same (below (place_of y).1 (omega (arith, h.1, stands.1))))
+    subst (IsFine m) (sym (kind_is y)) (subst (λ (j : ℕ). IsFine m (item_at j (place_of y).1)) same (below (place_of y).1 (omega (arith, h.1, stands.1))))
 
-kind_fine : (m : Module) → ((x : Item) → IsInvalidAt m x → ⊥) → (k : ℕ) → k < 11 → ((j : ℕ) → j < k → j < 11 → (i : ℕ) → IsFine m (at j i)) → (((i : ℕ) → IsFine m (at k i)) → ⊥) → ⊥
+kind_fine : (m : Module) → ((x : Item) → IsInvalidAt m x → ⊥) → (k : ℕ) → k < 11 → ((j : ℕ) → j < k → j < 11 → (i : ℕ) → IsFine m (item_at j i)) → (((i : ℕ) → IsFine m (item_at k i)) → ⊥) → ⊥
 kind_fine m none k lt lower never =
-    below_all (λ (i : ℕ). IsFine m (at k i)) (λ n below. least_invalid m (at k n) (before_is_fine m k n lt lower below) (none (at k n))) (places m k)
+    below_all (λ (i : ℕ). IsFine m (item_at k i)) (λ n below. least_invalid m (item_at k n) (before_is_fine m k n lt lower below) (none (item_at k n))) (places m k)
     (λ fine. never (is_enough m k lt fine))
 
-any_kind_fine : (m : Module) → ((x : Item) → IsInvalidAt m x → ⊥) → (k : ℕ) → (k < 11) ⊎ (11 ≤ k) → ((j : ℕ) → j < k → j < 11 → (i : ℕ) → IsFine m (at j i)) → ((k < 11 → (i : ℕ) → IsFine m (at k i)) → ⊥) → ⊥
+any_kind_fine : (m : Module) → ((x : Item) → IsInvalidAt m x → ⊥) → (k : ℕ) → (k < 11) ⊎ (11 ≤ k) → ((j : ℕ) → j < k → j < 11 → (i : ℕ) → IsFine m (item_at j i)) → ((k < 11 → (i : ℕ) → IsFine m (item_at k i)) → ⊥) → ⊥
 any_kind_fine m none k (inl lt) lower never = kind_fine m none k lt lower (λ fine. never (λ _. fine))
 any_kind_fine m none k (inr le) lower never = never (λ lt. absurd (omega (arith, lt, le)))
 
 valid_or_not : (m : Module) → (Valid m → ⊥) → ((x : Item) → IsInvalidAt m x → ⊥) → ⊥
 valid_or_not m never none =
-    below_all (λ (k : ℕ). k < 11 → (i : ℕ) → IsFine m (at k i)) (λ k lower. any_kind_fine m none k (cases_lt k 11) lower) 11
+    below_all (λ (k : ℕ). k < 11 → (i : ℕ) → IsFine m (item_at k i)) (λ k lower. any_kind_fine m none k (cases_lt k 11) lower) 11
     (λ fine. never (λ y. subst (IsFine m) (sym (kind_is y)) (fine (place_of y).0 (kind_below y) (kind_below y) (place_of y).1)))
 
 within_or_not : (m : Module) → (Within m → ⊥) → (Passes m Types → ⊥) → (Passes m Params → ⊥) → (Passes m Locals → ⊥) → ⊥
@@ -229,7 +206,7 @@ bytes_total Accepted total bytes none = elim (spelled_or_not bytes) [
   | inr h ↦ none _ (inr (inr (h.0, h.1, refl)))
 ]
 
-some_run : (say : Teller) (steps : ℕ) (stats : Bool) (m : Module) → IsTotal (RunGives say steps stats m)
+some_run : (say : TrapReply) (steps : ℕ) (stats : Bool) (m : Module) → IsTotal (RunGives say steps stats m)
 some_run say steps stats m none = some_program m (λ p source is. none _ (p, source, is, refl))
 
 some_given : (action : Action) (m : Module) → IsTotal (gives action m)
@@ -240,7 +217,7 @@ some_given Build m none = none _ refl
 -- ## Scripts
 
 compiled_total : (Accepted : Module → Reply → Type 0) → ((m : Module) → IsTotal (Accepted m)) → (p : Script) → IsTotal (Compiled Accepted p)
-compiled_total Accepted total p none = elim (cases_lt compiled_size (Size p)) [
+compiled_total Accepted total p none = elim (cases_lt size_limit (Size p)) [
   | inl large ↦ none _ (inr (large, refl))
   | inr small ↦ total (lowered p) (λ r h. none r (inl (small, h)))
 ]
@@ -259,11 +236,11 @@ script_total Accepted total bytes none = let j = some_judgement bytes in by j.0 
 
 -- a module or a script
 some_done : (action : Action) (bytes : List ℕ) → IsTotal (ActionGives action bytes)
-some_done action bytes none = by (is_module bytes) refl
+some_done action bytes none = by (is_script action bytes) refl
   where
-    by : (b : Bool) → is_module bytes ≡ b → ⊥
-    by true e = bytes_total (gives action) (some_given action) bytes (λ r h. none r (inl (e, h)))
-    by false e = script_total (script_gives action) (some_script_given action) bytes (λ r h. none r (inr (e, h)))
+    by : (b : Bool) → is_script action bytes ≡ b → ⊥
+    by false e = bytes_total (gives action) (some_given action) bytes (λ r h. none r (inl (e, h)))
+    by true e = script_total (script_gives action) (some_script_given action) bytes (λ r h. none r (inr (e, h)))
 
 pub some_answer : SomeAnswer
 some_answer (line_on_file name action) files none = on_file (files name) (ActionGives action) (some_done action) none

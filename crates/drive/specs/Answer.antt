@@ -1,11 +1,11 @@
 -- What the program answers to a line, given what is told of the files.
-use Rattle.std.specs.Prelude.{◌≡◌, ◌≢◌, ◌⊎◌, ◌<◌, ◌≤◌, ℕ, nat_eq, Bool, true, false, ◌&&◌, List, [], ◌∷◌, ◌++◌, codes, decimal, length, flat_map, slice_get, Option, Some, None}
+use Rattle.std.specs.Prelude.{◌≡◌, ◌≢◌, ◌⊎◌, ◌<◌, ◌≤◌, ℕ, nat_eq, Bool, true, false, not, ◌&&◌, List, [], ◌∷◌, ◌++◌, codes, decimal, length, flat_map, slice_get, Option, Some, None}
 use Rattle.std.specs.Int.{w32, w64, cast_signed}
 use Rattle.std.specs.Fmt.{signed_decimal}
 use Rattle.w_outside.specs.Outside.{Known, untold, missing, holds}
 use Rattle.w_syntax.specs.declared.module.Module.{Module}
 use Rattle.w_syntax.specs.Spells.{Spells}
-use Rattle.w_types.specs.Rows.{listed}
+use Rattle.lists.specs.Rows.{listed}
 use Rattle.w_decode.specs.Faults.{HasFault}
 use Rattle.w_decode.specs.declared.fault.DecodeFault.{DecodeFault}
 use Rattle.w_decode.specs.declared.fault.DecodeFault.TheVariants as decode
@@ -31,13 +31,14 @@ use Rattle.w_encode.specs.Canon.{Canon}
 use Rattle.s_syntax.specs.declared.name.Name.{Name}
 use Rattle.s_syntax.specs.declared.script.Script.{Script}
 use Rattle.s_check.specs.Refusal.{number_of}
-use Rattle.s_check.specs.Size.{Size}
+use Rattle.s_check.specs.Size.{Size, size_limit}
 use Rattle.s_code.specs.Lowered.{lowered}
 use Rattle.s_agrees.specs.Agrees.{effect_names}
 use Rattle.s_generate.specs.Generated.{generated as generated_script}
 use Rattle.s_judge.specs.Judgements as script
 use Rattle.s_judge.specs.declared.fault.ScriptFault.{ScriptFault}
 use Rattle.s_judge.specs.declared.fault.ScriptFault.TheVariants as script_fault
+use Rattle.words.specs.Request.{takes_scripts}
 use Rattle.words.specs.declared.request.Action.{Action}
 use Rattle.words.specs.declared.request.Action.TheVariants.{Check, Run as RunFor, Build}
 use Rattle.words.specs.Line.{Line, on_file, generated, bad}
@@ -161,17 +162,17 @@ value_text (Cont a) = codes "cont " ++ decimal a
 abbrev pub result_line : Val → List ℕ
 result_line v = line (codes "= " ++ value_text v)
 
--- how a trap of a run is told
-abbrev pub Teller : Type 0
-Teller = Trap → Reply
+-- what a trap of a run is replied with
+abbrev pub TrapReply : Type 0
+TrapReply = Trap → Reply
 
 -- what the end of a run gives; no run of a valid module comes to NoRule, and 11 is no status
-abbrev pub end_reply : Teller → Outcome → Reply
-end_reply told (Values vs) = record { out = flat_map result_line (listed vs); err = []; status = 0 }
-end_reply told Running = running
-end_reply told (Traps t) = told t
-end_reply told (Limit name) = limit (run_limit_text name)
-end_reply told NoRule = refusal [] 11
+abbrev pub end_reply : TrapReply → Outcome → Reply
+end_reply on_trap (Values vs) = record { out = flat_map result_line (listed vs); err = []; status = 0 }
+end_reply on_trap Running = running
+end_reply on_trap (Traps t) = on_trap t
+end_reply on_trap (Limit name) = limit (run_limit_text name)
+end_reply on_trap NoRule = refusal [] 11
 
 -- a reply that comes behind a text that was printed
 abbrev pub behind : List ℕ → Reply → Reply
@@ -190,31 +191,31 @@ abbrev pub stats_line : RunState → List ℕ
 stats_line r = counts_line r.taken (made r.store) (consumed r.store) (live r.store)
 
 -- a reply that writes a text more to err
-abbrev pub with_more : List ℕ → Reply → Reply
-with_more text reply = record reply { err = reply.err ++ text }
+abbrev pub with_err : List ℕ → Reply → Reply
+with_err text reply = record reply { err = reply.err ++ text }
 
 -- with statistics, where they are asked for
 abbrev pub with_stats : Bool → RunState → Reply → Reply
-with_stats true r reply = with_more (stats_line r) reply
+with_stats true r reply = with_err (stats_line r) reply
 with_stats false r reply = reply
 
-abbrev pub run_reply : Teller → Bool → RunState → Reply
-run_reply told stats r = with_stats stats r (behind r.output (end_reply told r.outcome))
+abbrev pub run_reply : TrapReply → Bool → RunState → Reply
+run_reply on_trap stats r = with_stats stats r (behind r.output (end_reply on_trap r.outcome))
 
 -- what a run gives of at most so many steps, by where it begins
-abbrev pub start_reply : Teller → ℕ → Bool → Program → Started → Reply
-start_reply told steps stats p (Ready s t) = run_reply told stats (Run p s t steps)
-start_reply told steps stats p (NoPrinter i) = no_printer i
-start_reply told steps stats p NoEntry = no_entry
-start_reply told steps stats p (Exceeds name) = limit (start_limit_text name)
-start_reply told steps stats p (StartTraps t) = told t
+abbrev pub start_reply : TrapReply → ℕ → Bool → Program → Started → Reply
+start_reply on_trap steps stats p (Ready s t) = run_reply on_trap stats (Run p s t steps)
+start_reply on_trap steps stats p (NoPrinter i) = no_printer i
+start_reply on_trap steps stats p NoEntry = no_entry
+start_reply on_trap steps stats p (Exceeds name) = limit (start_limit_text name)
+start_reply on_trap steps stats p (StartTraps t) = on_trap t
 
-abbrev pub run_gives : Teller → ℕ → Bool → Program → Reply
-run_gives told steps stats p = start_reply told steps stats p (Start p)
+abbrev pub run_gives : TrapReply → ℕ → Bool → Program → Reply
+run_gives on_trap steps stats p = start_reply on_trap steps stats p (Start p)
 
 -- so a module gives, by which of its types are equivalent
-abbrev pub RunGives : Teller → ℕ → Bool → Module → Reply → Type 0
-RunGives told steps stats m reply = (p : Program) × (p.source ≡ m) × IsProgram p × (reply ≡ run_gives told steps stats p)
+abbrev pub RunGives : TrapReply → ℕ → Bool → Module → Reply → Type 0
+RunGives on_trap steps stats m reply = (p : Program) × (p.source ≡ m) × IsProgram p × (reply ≡ run_gives on_trap steps stats p)
 
 -- a module that is valid, written again
 abbrev pub built : Module → Reply
@@ -262,20 +263,16 @@ bad_script script_fault.OutOfMemory = refusal [] 5
 abbrev pub ScriptRefusal : List ℕ → Reply → Type 0
 ScriptRefusal bytes reply = (fault : ScriptFault) × script.HasFault bytes fault × (reply ≡ bad_script fault)
 
--- the most that the size of a script may be
-abbrev pub compiled_size : ℕ
-compiled_size = 50000
-
 abbrev pub limit_size : Reply
 limit_size = limit (codes "limit size")
 
 -- a script that breaks no rule, where one that isn't too large gives this
 abbrev pub Sized : (Reply → Type 0) → Script → Reply → Type 0
-Sized Gives p reply = ((Size p ≤ compiled_size) × Gives reply) ⊎ ((compiled_size < Size p) × (reply ≡ limit_size))
+Sized Gives p reply = ((Size p ≤ size_limit) × Gives reply) ⊎ ((size_limit < Size p) × (reply ≡ limit_size))
 
 -- a script that breaks no rule, compiled, where its module gives this
 abbrev pub Compiled : (Module → Reply → Type 0) → Script → Reply → Type 0
-Compiled Gives p reply = ((Size p ≤ compiled_size) × Gives (lowered p) reply) ⊎ ((compiled_size < Size p) × (reply ≡ limit_size))
+Compiled Gives p reply = Sized (Gives (lowered p)) p reply
 
 -- the name at a place; each tag has one
 abbrev pub name_or_none : Option Name → Name
@@ -311,14 +308,18 @@ begins_with [] bytes = true
 begins_with (m ∷ ms) [] = false
 begins_with (m ∷ ms) (b ∷ bytes) = nat_eq b m && begins_with ms bytes
 
--- a file that begins so is a module, and every other one a script
+-- modules begin so
 abbrev pub is_module : List ℕ → Bool
 is_module = begins_with (0 ∷ 97 ∷ 115 ∷ 109 ∷ [])
 
--- what an action gives of bytes that are a module or a script
+-- what begins otherwise is a script, where the action takes scripts
+abbrev pub is_script : Action → List ℕ → Bool
+is_script action bytes = not (is_module bytes) && takes_scripts action
+
+-- what an action gives of bytes; of those that are no script it says what is wrong with them as a module
 abbrev pub ActionGives : Action → List ℕ → Reply → Type 0
 ActionGives action bytes reply =
-    ((is_module bytes ≡ true) × BytesGive (gives action) bytes reply) ⊎ ((is_module bytes ≡ false) × ScriptGives (script_gives action) bytes reply)
+    ((is_script action bytes ≡ false) × BytesGive (gives action) bytes reply) ⊎ ((is_script action bytes ≡ true) × ScriptGives (script_gives action) bytes reply)
 
 -- ## Files
 

@@ -9,5 +9,5 @@ pub mod Stop
 pub mod Leaving
 pub mod Reading
 pub mod Running
-pub mod Source
+pub mod Origin
 pub mod Meaning

@@ -8,12 +8,12 @@ use Rattle.words.specs.declared.request.Action.TheVariants.{Run as RunFor}
 use Rattle.words.specs.Line.{on_file}
 use Rattle.s_syntax.specs.declared.script.Script.{Script}
 use Rattle.s_check.specs.Refusal.{Good}
-use Rattle.s_check.specs.Size.{Size}
+use Rattle.s_check.specs.Size.{Size, size_limit}
 use Rattle.s_judge.specs.Judgements.{IsGood}
 use Rattle.s_meaning.specs.Numbers.{Fault, DivZero, Overflow, Failed, Reused, Unhandled}
 use Rattle.s_meaning.specs.Eval.{Ended, RunLimit, Frames, Handles, Conts, Eval, Follows}
 use Rattle.s_code.specs.Lowered.{lowered}
-use Rattle.drive.specs.Answer.{Reply, line, refusal, limit, running, behind, compiled_size, script_gives, is_module, ActionGives, Answer}
+use Rattle.drive.specs.Answer.{Reply, line, refusal, limit, running, behind, script_gives, is_module, ActionGives, Answer}
 use Rattle.drive.specs.declared.status.Status.{Status}
 use Rattle.drive.specs.Delivery.{MayFail, Stopped}
 use Rattle.drive.specs.Stop.{Ends}
@@ -43,12 +43,12 @@ MeansRun p N reply = (out : List ℕ) × (end : Ended) × Follows p N out end ×
 
 -- so it is of each script that breaks no rule and isn't too large
 abbrev pub RunsMean : Type 0
-RunsMean = (p : Script) → Good p → Size p ≤ compiled_size → (steps : ℕ) (stats : Bool) (reply : Reply) → script_gives (RunFor steps stats) p reply → MeansRun p steps reply
+RunsMean = (p : Script) → Good p → Size p ≤ size_limit → (steps : ℕ) (stats : Bool) (reply : Reply) → script_gives (RunFor steps stats) p reply → MeansRun p steps reply
 
 -- a run of a file of what `build` writes of a script prints the same and ends with the same status, whatever statistics are asked for
 abbrev pub BuiltRunsAreAlike : Type 0
 BuiltRunsAreAlike =
-    (p : Script) → Good p → Size p ≤ compiled_size → (steps : ℕ) (stats other_stats : Bool) (reply other : Reply)
+    (p : Script) → Good p → Size p ≤ size_limit → (steps : ℕ) (stats other_stats : Bool) (reply other : Reply)
     → script_gives (RunFor steps stats) p reply → ActionGives (RunFor steps other_stats) (Canon (lowered p)) other
     → (other.out ≡ reply.out) × (other.status ≡ reply.status)
 
@@ -66,7 +66,7 @@ pub record HoldsScript (files : List ℕ → Known) (name : List ℕ) (p : Scrip
   pub held : files name ≡ holds bytes
   pub no_module : is_module bytes ≡ false
   pub good : IsGood bytes p
-  pub small : Size p ≤ compiled_size
+  pub small : Size p ≤ size_limit
 
 -- each answer to `run` on it is told by the meaning of the script
 abbrev pub AnswersMean : Type 0

@@ -6,12 +6,12 @@ use Rattle.drive.specs.declared.status.Status.TheVariants as status
 use Rattle.drive.specs.declared.stop.Refusal.{Refusal}
 use Rattle.drive.specs.declared.stop.Stop.{Stop}
 use Rattle.drive.specs.declared.stop.Stop.TheVariants.{Refused, WriteFault, OutOfMemory}
-use Rattle.drive.specs.Answer.{Reply, with_more}
+use Rattle.drive.specs.Answer.{Reply, with_err}
 use Rattle.drive.specs.Pieces.{joined}
 use Rattle.drive.specs.Status.{code_of}
 
 abbrev pub reply_with : Output → Reply
-reply_with output = record { out = joined output.pieces.items; err = joined output.told.items; status = 0 }
+reply_with output = record { out = joined output.pieces.items; err = joined output.err.items; status = 0 }
 
 abbrev pub reply_of_refusal : Refusal → Reply
 reply_of_refusal refusal = record { out = []; err = joined refusal.lines.items; status = code_of refusal.status }
@@ -49,9 +49,9 @@ IsReply (Err OutOfMemory) = ⊥
 
 -- an answer that writes a line more to err than the old one; memory may run out
 abbrev pub WritesMore : List ℕ → Result Output Stop → Result Output Stop → Type 0
-WritesMore text old (Ok output) = (before : Output) × (old ≡ Ok before) × (reply_with output ≡ with_more text (reply_with before))
+WritesMore text old (Ok output) = (before : Output) × (old ≡ Ok before) × (reply_with output ≡ with_err text (reply_with before))
 WritesMore text old (Err (Refused refusal)) =
     (before : Refusal) × (old ≡ Err (Refused before)) × (refusal.status ≡ before.status)
-    × (reply_of_refusal refusal ≡ with_more text (reply_of_refusal before))
+    × (reply_of_refusal refusal ≡ with_err text (reply_of_refusal before))
 WritesMore text old (Err WriteFault) = old ≡ Err WriteFault
 WritesMore text old (Err OutOfMemory) = ⊤

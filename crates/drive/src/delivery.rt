@@ -37,7 +37,7 @@ pub(crate) fn deliver<O: Sink, E: Sink>(
     match answer {
         Ok(output) => {
             write_pieces(output.pieces.as_slice(), out)?;
-            write_pieces(output.told.as_slice(), err)?;
+            write_pieces(output.err.as_slice(), err)?;
             Ok(Status::Done)
         }
         Err(Stop::Refused(refusal)) => {

@@ -6,9 +6,9 @@ ghost use Rattle.drive.specs.Answer.{gives, ok_module, built};
 ghost use Rattle.drive.specs.Leaving.{Leaves};
 ghost use Rattle.drive.specs.Stop.{Gives};
 
+use crate::origin::Origin;
 use crate::output::Output;
 use crate::running::run;
-use crate::source::Source;
 use crate::stop::Stop;
 use std::alloc::Global;
 use std::mem::forget;
@@ -52,7 +52,7 @@ pub(crate) fn finish<O: Sink>(
             forget(checked);
             tell(alloc)
         }
-        Action::Run { steps, stats } => run(alloc, Source::Module, checked, steps, stats, out),
+        Action::Run { steps, stats } => run(alloc, Origin::Module, checked, steps, stats, out),
         Action::Build => {
             let output = build(alloc, checked.module());
             drop(checked);

@@ -8,11 +8,11 @@ mod input;
 mod judging;
 mod laws;
 mod lines;
+mod origin;
 mod output;
 mod program;
 mod running;
 mod scripts;
-mod source;
 mod status;
 mod stop;
 

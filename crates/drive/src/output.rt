@@ -8,20 +8,20 @@ use std::alloc::{AllocError, Global};
 #[derive(Drop)]
 pub(crate) struct Output {
     pub(crate) pieces: Vec<Vec<u8>>,
-    pub(crate) told: Vec<Vec<u8>>,
+    pub(crate) err: Vec<Vec<u8>>,
 }
 
 impl Output {
     /// One piece, and nothing to err.
     pub(crate) fn of_piece(alloc: Global, piece: Vec<u8>) -> Result<Output, AllocError>
         ensures piece { IfOk result (λ output. joined output.pieces.items ≡ piece.items) }
-        ensures told { IfOk result (λ output. joined output.told.items ≡ []) }
+        ensures err { IfOk result (λ output. joined output.err.items ≡ []) }
     {
         let mut pieces = Vec::new(alloc);
         pieces.push(piece)?;
         Ok(Output {
             pieces,
-            told: Vec::new(alloc),
+            err: Vec::new(alloc),
         })
     }
 }

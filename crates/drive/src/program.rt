@@ -14,7 +14,7 @@ use crate::files::open;
 use crate::finishing::finish;
 use crate::judging::judge;
 use crate::output::Output;
-use crate::scripts::{is_module, judge_script};
+use crate::scripts::{act_on_script, is_script};
 use crate::status::Status;
 use crate::stop::{Stop, refuse};
 use s_generate::generate;
@@ -35,8 +35,8 @@ fn act<O: Sink>(alloc: Global, action: Action, bytes: &[u8], out: &mut O) -> Res
         (Grew (O.held out.old) (O.held out.new)) (Rose (O.faults out.old) (O.faults out.new)) }
     ensures later { O.faults out.old ≤ O.faults out.new }
 {
-    if !is_module(bytes) {
-        return judge_script(alloc, action, bytes, out);
+    if is_script(action, bytes) {
+        return act_on_script(alloc, action, bytes, out);
     }
     let checked = judge(alloc, bytes)?;
     finish(alloc, action, checked, out)

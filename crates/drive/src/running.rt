@@ -13,14 +13,14 @@ ghost use Rattle.drive.specs.Answer.{result_line, stats_line as the_stats_line, 
 ghost use Rattle.drive.specs.Leaving.{Leaves};
 ghost use Rattle.drive.specs.Pieces.{joined};
 ghost use Rattle.drive.specs.Running.{IsAfter, IsFirst};
-ghost use Rattle.drive.specs.Source.{told_of};
+ghost use Rattle.drive.specs.Origin.{trap_reply_of};
 ghost use Rattle.drive.specs.Stop.{IsReply, Refuses, WritesMore};
 
 use crate::lines::{printer_line, run_limit_line, start_limit_line, stats_line, value_line};
+use crate::origin::Origin;
 use crate::output::Output;
-use crate::source::Source;
 use crate::status::Status;
-use crate::stop::{Stop, refuse, refuse_by, with_more};
+use crate::stop::{Stop, refuse, refuse_by, with_err};
 use std::alloc::{AllocError, Global};
 use w_inst::{InstFault, Instance, instantiate};
 use w_machine::{Machine, Outcome};
@@ -30,10 +30,10 @@ use w_rules::Checked;
 use w_types::Value;
 
 // The refusal by a trap.
-fn trap_refusal(alloc: Global, source: Source, trap: Trap) -> Stop
-    ensures { Refuses (λ reply. reply ≡ told_of source.entry trap) result }
+fn trap_refusal(alloc: Global, origin: Origin, trap: Trap) -> Stop
+    ensures { Refuses (λ reply. reply ≡ trap_reply_of origin.entry trap) result }
 {
-    match source.trap_line(alloc, trap) {
+    match origin.trap_line(alloc, trap) {
         Ok(line) => refuse_by(alloc, line, Status::Trap),
         Err(_) => Stop::OutOfMemory,
     }
@@ -54,7 +54,7 @@ fn result_lines(alloc: Global, values: &[Value]) -> Result<Vec<Vec<u8>>, AllocEr
 // machine's run is that of so many steps.
 fn run_machine<O: Sink>(
     alloc: Global,
-    source: Source,
+    origin: Origin,
     machine: &mut Machine,
     steps: u64,
     out: &mut O,
@@ -62,7 +62,7 @@ fn run_machine<O: Sink>(
     requires within { steps ≤ most_reductions }
     requires first { IsFirst machine.old }
     ensures leaves { (p : Program) (s : Store) (t : Term) → Begins machine.old.program p s t
-        → Leaves (λ reply. reply ≡ run_reply (told_of source.entry) false (Run p s t steps)) result
+        → Leaves (λ reply. reply ≡ run_reply (trap_reply_of origin.entry) false (Run p s t steps)) result
         (Grew (O.held out.old) (O.held out.new)) (Rose (O.faults out.old) (O.faults out.new)) }
     ensures after { IsReply result → IsAfter machine.new steps }
     ensures program { machine.new.program ≡ machine.old.program }
@@ -73,12 +73,12 @@ fn run_machine<O: Sink>(
             let pieces = result_lines(alloc, machine.results())?;
             Ok(Output {
                 pieces,
-                told: Vec::new(alloc),
+                err: Vec::new(alloc),
             })
         }
         Outcome::Running => Err(refuse(alloc, b"running\n", Status::Running)),
         Outcome::Limit(name) => Err(refuse(alloc, run_limit_line(name), Status::Limit)),
-        Outcome::Trapped(trap) => Err(trap_refusal(alloc, source, trap)),
+        Outcome::Trapped(trap) => Err(trap_refusal(alloc, origin, trap)),
         Outcome::WriteFault => Err(Stop::WriteFault),
         Outcome::OutOfMemory => Err(Stop::OutOfMemory),
     }
@@ -91,9 +91,9 @@ fn with_stats(
     machine: &Machine,
     answer: Result<Output, Stop>,
 ) -> Result<Output, Stop>
-    ensures told { stats ≡ true → (p : Program) (s : Store) (t : Term) (steps : ℕ) → Begins machine.now.program p s t
+    ensures asked { stats ≡ true → (p : Program) (s : Store) (t : Term) (steps : ℕ) → Begins machine.now.program p s t
         → (IsReply answer → IsAfter machine.now steps) → WritesMore (the_stats_line (Run p s t steps)) answer result }
-    ensures untold { stats ≡ false → result ≡ answer }
+    ensures unasked { stats ≡ false → result ≡ answer }
 {
     if !stats {
         return answer;
@@ -105,13 +105,13 @@ fn with_stats(
         machine.consumed(),
         machine.live(),
     )?;
-    with_more(answer, line)
+    with_err(answer, line)
 }
 
 // Runs a module from its first store. The machine is let go in one place, since each such place is proved anew.
 fn run_from<O: Sink>(
     alloc: Global,
-    source: Source,
+    origin: Origin,
     checked: Checked,
     instance: Instance,
     steps: u64,
@@ -121,20 +121,20 @@ fn run_from<O: Sink>(
     requires within { steps ≤ most_reductions }
     requires first { BeginsWith checked instance.store instance.main }
     ensures leaves { (p : Program) (s : Store) (t : Term) → Begins checked p s t
-        → Leaves (λ reply. reply ≡ run_reply (told_of source.entry) stats (Run p s t steps)) result
+        → Leaves (λ reply. reply ≡ run_reply (trap_reply_of origin.entry) stats (Run p s t steps)) result
         (Grew (O.held out.old) (O.held out.new)) (Rose (O.faults out.old) (O.faults out.new)) }
     ensures later { O.faults out.old ≤ O.faults out.new }
 {
     let mut machine = Machine::new(alloc, checked, instance)?;
-    let answer = run_machine(alloc, source, &mut machine, steps, out);
-    let told = with_stats(alloc, stats, &machine, answer);
+    let answer = run_machine(alloc, origin, &mut machine, steps, out);
+    let replied = with_stats(alloc, stats, &machine, answer);
     drop(machine);
-    told
+    replied
 }
 
 // Why a module has no run.
-fn no_run(alloc: Global, source: Source, fault: InstFault) -> Stop
-    ensures { (p : Program) (steps : ℕ) (stats : Bool) → BeginsAs p (Err fault) → Refuses (λ reply. reply ≡ run_gives (told_of source.entry) steps stats p) result }
+fn no_run(alloc: Global, origin: Origin, fault: InstFault) -> Stop
+    ensures { (p : Program) (steps : ℕ) (stats : Bool) → BeginsAs p (Err fault) → Refuses (λ reply. reply ≡ run_gives (trap_reply_of origin.entry) steps stats p) result }
 {
     match fault {
         InstFault::Import(index) => match printer_line(alloc, index) {
@@ -143,7 +143,7 @@ fn no_run(alloc: Global, source: Source, fault: InstFault) -> Stop
         },
         InstFault::NoEntry => refuse(alloc, b"no entry\n", Status::Invalid),
         InstFault::Limit(name) => refuse(alloc, start_limit_line(name), Status::Limit),
-        InstFault::Trap(trap) => trap_refusal(alloc, source, trap),
+        InstFault::Trap(trap) => trap_refusal(alloc, origin, trap),
         InstFault::OutOfMemory => Stop::OutOfMemory,
     }
 }
@@ -151,24 +151,24 @@ fn no_run(alloc: Global, source: Source, fault: InstFault) -> Stop
 /// Runs a module, where it has a run. What is printed goes to out; the answer is what is left to write.
 pub(crate) fn run<O: Sink>(
     alloc: Global,
-    source: Source,
+    origin: Origin,
     checked: Checked,
     steps: u64,
     stats: bool,
     out: &mut O,
 ) -> Result<Output, Stop>
     requires { steps ≤ most_reductions }
-    ensures leaves { Leaves (RunGives (told_of source.entry) steps stats checked) result
+    ensures leaves { Leaves (RunGives (trap_reply_of origin.entry) steps stats checked) result
         (Grew (O.held out.old) (O.held out.new)) (Rose (O.faults out.old) (O.faults out.new)) }
     ensures later { O.faults out.old ≤ O.faults out.new }
 {
     // Which types are equivalent is known.
     let _classes = checked.classes();
     match instantiate(alloc, &checked) {
-        Ok(instance) => run_from(alloc, source, checked, instance, steps, stats, out),
+        Ok(instance) => run_from(alloc, origin, checked, instance, steps, stats, out),
         Err(fault) => {
             drop(checked);
-            Err(no_run(alloc, source, fault))
+            Err(no_run(alloc, origin, fault))
         }
     }
 }

@@ -2,10 +2,10 @@
 ghost use Rattle.std.specs.Prelude.{◌≡◌, ◌<◌, ◌≤◌, false, IfOk, IfErr};
 ghost use Rattle.w_outside.specs.Outside.{Grew, Rose};
 ghost use Rattle.w_machine.specs.Position.{most_reductions};
-ghost use Rattle.s_check.specs.Size.{Size};
+ghost use Rattle.s_check.specs.Size.{Size, size_limit};
 ghost use Rattle.s_code.specs.Lowered.{lowered};
 ghost use Rattle.words.specs.Request.{IsWithinSteps};
-ghost use Rattle.drive.specs.Answer.{Compiled, RunGives, ScriptGives, Sized, bad_script, built, compiled_size, faulted, is_module as begins_module, limit_size, ok_script, script_gives};
+ghost use Rattle.drive.specs.Answer.{Compiled, RunGives, ScriptGives, Sized, bad_script, built, faulted, is_module as begins_module, is_script as a_script, limit_size, ok_script, script_gives};
 ghost use Rattle.drive.specs.Leaving.{Leaves};
 ghost use Rattle.drive.specs.Status.{code_of};
 ghost use Rattle.drive.specs.Stop.{Ends, Gives, Refuses};
@@ -13,28 +13,32 @@ ghost use Rattle.drive.specs.Stop.{Ends, Gives, Refuses};
 use crate::finishing::build;
 use crate::judging::accept;
 use crate::lines::script_line;
+use crate::origin::Origin;
 use crate::output::Output;
 use crate::running::run;
-use crate::source::Source;
 use crate::status::Status;
 use crate::stop::{Stop, refuse, refuse_by};
 use s_check::CheckedScript;
 use s_judge::{ScriptFault, judge};
-use s_lower::{LowerFault, lower};
+use s_lower::{LowerFault, SIZE_LIMIT, lower};
 use s_size::is_within;
 use std::alloc::Global;
 use w_outside::Sink;
 use w_syntax::Module;
 use words::Action;
 
-/// The greatest size of a script.
-const SIZE_LIMIT: u32 = 50_000;
-
-// Whether bytes are a module; others are a script.
-pub(crate) fn is_module(bytes: &[u8]) -> bool
+// Whether bytes begin as modules do.
+fn is_module(bytes: &[u8]) -> bool
     ensures value { result ≡ begins_module bytes.now }
 {
     matches!(bytes, [0x00, 0x61, 0x73, 0x6D, ..])
+}
+
+// Whether bytes are a script to the action; else they are judged as a module.
+pub(crate) fn is_script(action: Action, bytes: &[u8]) -> bool
+    ensures value { result ≡ a_script action bytes.now }
+{
+    !is_module(bytes) && action.takes_scripts()
 }
 
 // The status of a script that is refused.
@@ -63,7 +67,7 @@ fn script_refusal(alloc: Global, fault: ScriptFault) -> Stop
 }
 
 // Checks the size of a script that breaks no rule.
-fn check_good(alloc: Global, script: &CheckedScript) -> Result<Output, Stop>
+fn check_size(alloc: Global, script: &CheckedScript) -> Result<Output, Stop>
     ensures gives { Gives (Sized (λ reply. reply ≡ ok_script) script.now) result }
 {
     if !is_within(script.script(), SIZE_LIMIT) {
@@ -78,7 +82,7 @@ fn check_script(alloc: Global, bytes: &[u8]) -> Result<Output, Stop>
     ensures gives { Gives (ScriptGives (Sized (λ reply. reply ≡ ok_script)) bytes.now) result }
 {
     match judge(alloc, bytes) {
-        Ok(script) => check_good(alloc, &script),
+        Ok(script) => check_size(alloc, &script),
         Err(ScriptFault::OutOfMemory) => Err(Stop::OutOfMemory),
         Err(fault) => Err(script_refusal(alloc, fault)),
     }
@@ -86,9 +90,9 @@ fn check_script(alloc: Global, bytes: &[u8]) -> Result<Output, Stop>
 
 // The module of a script that breaks no rule.
 fn compile(alloc: Global, script: &CheckedScript) -> Result<Module, Stop>
-    ensures small { IfOk result (λ m. Size script.now ≤ compiled_size) }
+    ensures small { IfOk result (λ m. Size script.now ≤ size_limit) }
     ensures module_of { IfOk result (λ m. m ≡ lowered script.now) }
-    ensures refused { IfErr result (Refuses (λ reply. (compiled_size < Size script.now) × (reply ≡ limit_size))) }
+    ensures refused { IfErr result (Refuses (λ reply. (size_limit < Size script.now) × (reply ≡ limit_size))) }
 {
     match lower(alloc, script) {
         Ok(module) => Ok(module),
@@ -98,7 +102,7 @@ fn compile(alloc: Global, script: &CheckedScript) -> Result<Module, Stop>
 }
 
 // Compiles a script that breaks no rule, and writes its module.
-fn build_good(alloc: Global, script: &CheckedScript) -> Result<Output, Stop>
+fn build_checked(alloc: Global, script: &CheckedScript) -> Result<Output, Stop>
     ensures gives { Gives (Compiled (λ m reply. reply ≡ built m) script.now) result }
 {
     let module = compile(alloc, script)?;
@@ -112,14 +116,14 @@ fn build_script(alloc: Global, bytes: &[u8]) -> Result<Output, Stop>
     ensures gives { Gives (ScriptGives (Compiled (λ m reply. reply ≡ built m)) bytes.now) result }
 {
     match judge(alloc, bytes) {
-        Ok(script) => build_good(alloc, &script),
+        Ok(script) => build_checked(alloc, &script),
         Err(ScriptFault::OutOfMemory) => Err(Stop::OutOfMemory),
         Err(fault) => Err(script_refusal(alloc, fault)),
     }
 }
 
 // Compiles a script that breaks no rule, and runs its module, which is valid.
-fn run_good<O: Sink>(
+fn run_checked<O: Sink>(
     alloc: Global,
     script: &CheckedScript,
     steps: u64,
@@ -130,10 +134,10 @@ fn run_good<O: Sink>(
         (Grew (O.held out.old) (O.held out.new)) (Rose (O.faults out.old) (O.faults out.new)) }
     ensures later { O.faults out.old ≤ O.faults out.new }
 {
-    let source = Source::Script(script.script());
+    let origin = Origin::Script(script.script());
     let module = compile(alloc, script)?;
     let checked = accept(alloc, module)?;
-    run(alloc, source, checked, steps, false, out)
+    run(alloc, origin, checked, steps, false, out)
 }
 
 // Runs a script.
@@ -144,14 +148,14 @@ fn run_script<O: Sink>(alloc: Global, bytes: &[u8], steps: u64, out: &mut O) -> 
     ensures later { O.faults out.old ≤ O.faults out.new }
 {
     match judge(alloc, bytes) {
-        Ok(script) => run_good(alloc, &script, steps, out),
+        Ok(script) => run_checked(alloc, &script, steps, out),
         Err(ScriptFault::OutOfMemory) => Err(Stop::OutOfMemory),
         Err(fault) => Err(script_refusal(alloc, fault)),
     }
 }
 
 /// Does with a script what is asked for. What a run prints goes to out; the answer is what is left to write.
-pub(crate) fn judge_script<O: Sink>(
+pub(crate) fn act_on_script<O: Sink>(
     alloc: Global,
     action: Action,
     bytes: &[u8],

@@ -82,12 +82,12 @@ pub(crate) fn refuse(alloc: Global, line: &[u8], status: Status) -> Stop
 }
 
 /// An answer that writes a line more to err.
-pub(crate) fn with_more(answer: Result<Output, Stop>, line: Vec<u8>) -> Result<Output, Stop>
+pub(crate) fn with_err(answer: Result<Output, Stop>, line: Vec<u8>) -> Result<Output, Stop>
     ensures { WritesMore line.items answer result }
 {
     match answer {
         Ok(mut output) => {
-            push_line(&mut output.told, line)?;
+            push_line(&mut output.err, line)?;
             Ok(output)
         }
         Err(Stop::Refused(mut refusal)) => {

@@ -7,7 +7,7 @@ use Rattle.s_syntax.specs.BlockTree.{BlockTree}
 use Rattle.s_code.specs.Layouts.{Layout}
 use Rattle.s_code.specs.Statements.{block, body}
 use Rattle.s_meaning.specs.Steps.{◌⨟⨟◌}
-use Rattle.s_agrees.proofs.Standing.{WellBlock, done, next, Rest, ends, does}
+use Rattle.s_agrees.proofs.StandsFor.{WellBlock, done, next, Rest, ends, does}
 
 -- a block before the rest of a body
 pub rest_block : {ds : List Declaration} {Γ : Layout} {n D0 D : ℕ} {f e : Context} {b rest : BlockTree} {c : Code} → WellBlock ds Γ n b → Rest ds Γ n D0 f D rest c e

@@ -1,7 +1,7 @@
 -- Related contexts: changed beyond their labels, cut at what they end in, and with more resumptions.
 use Rattle.std.proofs.Common.{◌≡◌, ℕ, suc, ◌+◌, ◌≤◌, List, [], ◌∷◌, ◌++◌, length, Option, Some, refl, sym, ap, ◌∙◌, subst, arith}
 use Rattle.std.specs.Prelude.{slice_set}
-use Rattle.w_types.specs.Rows.{Row, ε}
+use Rattle.lists.specs.Rows.{Row, ε}
 use Rattle.w_syntax.specs.Code.{Code, Done}
 use Rattle.w_reduce.specs.Values.{Val}
 use Rattle.w_reduce.specs.Terms.{rest_of, Label, Frame, Handle, Context, locals_of, with_local}
@@ -15,9 +15,9 @@ use Rattle.s_code.specs.Places.{return_layout, placed_clauses}
 use Rattle.s_meaning.specs.Terms.{Value, Use, Work, Activation, Handle as Handled}
 use Rattle.s_meaning.specs.Terms as script
 use Rattle.s_meaning.proofs.Lists.{length_set}
-use Rattle.s_agrees.proofs.Standing.{Locals, Deep, here, label, Rest, ends, does, leaves, while_loop, Uses, sets, prints, drops, returns, chooses, Works, under, left, compared, computed, connected, calling, doing, handling_first, handling_second, resuming_first, resuming_second, tail_first, tail_second, within, clause_labels, loop_code, in_loop, Base, function, clause, Waits, outside, activation, handle}
-use Rattle.s_agrees.proofs.Standing as standing
-use Rattle.s_agrees.proofs.Growing.{Grows, same_grows, sames_grow, local_grows, held_grows, held_at_grows, active_grows, asides_grow, local_kept, held_at_kept, asides_kept}
+use Rattle.s_agrees.proofs.StandsFor.{Locals, Deep, here, label, Rest, ends, does, leaves, while_loop, Uses, sets, prints, drops, returns, chooses, Works, under, left, compared, computed, connected, calling, doing, handling_first, handling_second, resuming_first, resuming_second, tail_first, tail_second, within, clause_labels, loop_code, in_loop, Base, function, clause, Waits, outside, activation, handle}
+use Rattle.s_agrees.proofs.StandsFor as standing
+use Rattle.s_agrees.proofs.MoreResumptions.{Grows, same_grows, sames_grow, local_grows, held_grows, held_at_grows, active_grows, asides_grow, local_kept, held_at_kept, asides_kept}
 
 -- ## A change of contexts that leaves labels as they are
 

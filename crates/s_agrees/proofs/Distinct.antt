@@ -9,7 +9,7 @@ use Rattle.s_check.specs.Rules.{when, in_block, in_body}
 use Rattle.s_check.specs.Scopes.{Bound, bind_all, number as number_name, lets_in, is_among, some_twice}
 use Rattle.s_code.specs.Layouts.{Local, local_of}
 use Rattle.s_code.specs.Places.{lets}
-use Rattle.s_meaning.proofs.Bindings.{or_left, or_right, twice_of}
+use Rattle.s_meaning.proofs.BoundInTurn.{or_left, or_right, twice_of}
 use Rattle.s_meaning.proofs.Good.{parts, when_not}
 use Rattle.s_meaning.proofs.Scopes.{same_refl, bool_of}
 

@@ -15,7 +15,7 @@ use Rattle.s_code.specs.Layouts.{Layout, local_of}
 use Rattle.s_code.specs.Handlers.{Placed}
 use Rattle.s_code.specs.Places.{function_layout, function_locals, return_layout, placed_clauses, handler_temporaries, handler_locals}
 use Rattle.s_code.specs.Temporaries.{high_block}
-use Rattle.s_agrees.proofs.Standing.{Fine, WellBlock, own, handler_high, handler_room}
+use Rattle.s_agrees.proofs.StandsFor.{Fine, WellBlock, own, handler_high, handler_room}
 
 -- parameters are the first locals
 pub record Parameters (Γ : Layout) (ps : List Parameter) : Type 0 where

@@ -1,7 +1,7 @@
 -- What is fixed in a script holds in each script that breaks no rule.
 use Rattle.std.proofs.Common.{◌≡◌, ℕ, zero, suc, ◌+◌, ◌<◌, ◌≤◌, max, List, [], ◌∷◌, ◌++◌, map, length, Some, slice_get, if◌then◌else◌, refl, sym, ap, ◌∙◌, subst, arith, append_assoc, length-append}
 use Rattle.std.specs.Str.{bytes_eq}
-use Rattle.w_types.proofs.Lists.{get-behind}
+use Rattle.lists.proofs.Lists.{get-behind}
 use Rattle.s_syntax.specs.declared.name.Name.{Name}
 use Rattle.s_syntax.specs.declared.script.Function.{Function}
 use Rattle.s_syntax.specs.declared.script.Clause.{Clause}
@@ -21,14 +21,14 @@ use Rattle.s_code.specs.Layouts.{Local, Layout, numbered}
 use Rattle.s_code.specs.Places.{lets, function_layout, return_names, clause_names, clauses_names, return_place, clauses_place, handler_temporaries, layout_at, placed_from, placed_clauses, high_clauses}
 use Rattle.s_code.specs.Temporaries.{high_block}
 use Rattle.s_meaning.specs.Typing.{BlockTyped}
-use Rattle.s_meaning.proofs.Bindings.{among_left, among_right}
+use Rattle.s_meaning.proofs.BoundInTurn.{among_left, among_right}
 use Rattle.s_meaning.proofs.Good.{is_function, good_typed}
 use Rattle.s_meaning.proofs.Scopes.{bool_of}
 use Rattle.s_valid.proofs.GoodHandlers.{good_handler}
 use Rattle.s_valid.proofs.LayoutTypes.{AllHandled, handled_left, handled_right}
 use Rattle.s_valid.proofs.TypedBodies.{handler_handled}
 use Rattle.s_valid.proofs.TypedHandlers.{HandlerTyped}
-use Rattle.s_agrees.proofs.Standing.{Fine, WellBlock, handler_high}
+use Rattle.s_agrees.proofs.StandsFor.{Fine, WellBlock, handler_high}
 use Rattle.s_agrees.proofs.Facts.{Parameters, FunctionFacts, ClauseFacts, ReturnFacts, HandlerFacts, Facts}
 use Rattle.s_agrees.proofs.Unbroken.{function_keeps, HandlerKeeps, handler_keeps, effect_few}
 use Rattle.s_agrees.proofs.Distinct.{Once, body_once}

@@ -2,7 +2,7 @@
 use Rattle.std.proofs.Common.{◌≡◌, ℕ, ◌-◌, ℤ, Bool, List, [], codes, length, Some, refl, sym, ap, subst, arith}
 use Rattle.following.specs.Steps as steps
 use Rattle.following.specs.Steps.{Reductions, StepSimulation}
-use Rattle.w_types.specs.Rows.{ε}
+use Rattle.lists.specs.Rows.{ε}
 use Rattle.w_syntax.specs.Code.{Done}
 use Rattle.w_reduce.specs.Program.{Program}
 use Rattle.w_reduce.specs.Reduced.{Went}
@@ -23,25 +23,25 @@ use Rattle.s_meaning.specs.Typing.{ScriptTyped}
 use Rattle.s_meaning.specs.Eval as eval
 use Rattle.s_meaning.specs.Eval.{Ended, Passes, body_or_none, start, Eval, Follows}
 use Rattle.s_meaning.proofs.Good.{good_typed}
-use Rattle.s_meaning.proofs.Running.{start_typed}
+use Rattle.s_meaning.proofs.TypedRuns.{start_typed}
 use Rattle.s_meaning.proofs.Sound.{step_good}
 use Rattle.s_valid.specs.Beginning.{first_store, first_term}
-use Rattle.s_valid.proofs.Stored.{function_stored}
+use Rattle.s_valid.proofs.FirstStores.{function_stored}
 use Rattle.s_agrees.specs.Agrees.{RunFollows, RunsFollow}
 use Rattle.s_agrees.proofs.ScriptRows.{no_values}
-use Rattle.s_agrees.proofs.Standing.{config, none, function, outside, runs, Stores}
+use Rattle.s_agrees.proofs.StandsFor.{config, none, function, outside, runs, Stores}
 use Rattle.s_agrees.proofs.Facts.{Facts}
 use Rattle.s_agrees.proofs.FactsHold.{facts}
 use Rattle.s_agrees.proofs.Paths.{program_of}
 use Rattle.s_agrees.proofs.Paths as paths
 use Rattle.s_agrees.proofs.Bodies.{rest_body}
-use Rattle.s_agrees.proofs.Entering.{entered, invoke_step}
-use Rattle.s_agrees.proofs.Calling.{entered_active}
-use Rattle.s_agrees.proofs.Limited.{at, reduce}
+use Rattle.s_agrees.proofs.EnteredBodies.{entered, invoke_step}
+use Rattle.s_agrees.proofs.Calls.{entered_active}
+use Rattle.s_agrees.proofs.WithinLimits.{at, reduce}
 use Rattle.s_agrees.proofs.Whole.{Related, potential, within}
 use Rattle.s_agrees.proofs.Rules.{rules}
-use Rattle.s_agrees.proofs.Stepping.{sim_step}
-use Rattle.s_agrees.proofs.Agreeing.{follows_by}
+use Rattle.s_agrees.proofs.EachStep.{sim_step}
+use Rattle.s_agrees.proofs.RunsOfModules.{follows_by}
 
 module _ (p : Script) (same : ℕ → ℕ → Bool) (typed : ScriptTyped p) (known : Facts p.declarations) where
   -- each step is matched

@@ -1,7 +1,7 @@
 -- Calls of handlers' functions: the parameters are their first locals, and behind them lies what is handled.
 use Rattle.std.proofs.Common.{◌≡◌, ℕ, ◌≤◌, Bool, true, List, [], ◌∷◌, ◌++◌, length, Some, ap, ◌∙◌, arith, length-append}
 use Rattle.std.specs.Prelude.{slice_get}
-use Rattle.w_types.specs.Rows.{Row, ε, ◌▹◌, ◌⧺◌, size, listed as vals_listed}
+use Rattle.lists.specs.Rows.{Row, ε, ◌▹◌, ◌⧺◌, size, listed as vals_listed}
 use Rattle.w_syntax.specs.Code.{Code, Done, Plain}
 use Rattle.w_reduce.specs.Calls.{defaults}
 use Rattle.w_reduce.specs.Values.{Val, Cont}
@@ -18,16 +18,16 @@ use Rattle.s_index.specs.Types.{computation_type, to_continuation, val_types}
 use Rattle.s_code.specs.Instructions.{call}
 use Rattle.s_code.specs.Lowered.{handler_code}
 use Rattle.s_code.specs.Places.{handler_locals}
-use Rattle.s_valid.proofs.Stored.{handler_stored}
+use Rattle.s_valid.proofs.FirstStores.{handler_stored}
 use Rattle.s_meaning.specs.Terms.{Value, Reference, listed, Variable, Resuming, Work, Activation, Handle as Handled, Gives}
 use Rattle.s_meaning.specs.Terms as script
 use Rattle.s_meaning.proofs.Lists.{get_before, get_last}
 use Rattle.s_agrees.proofs.ScriptRows.{Values, many}
-use Rattle.s_agrees.proofs.Standing.{config, Sames, Locals, Held, handler_place, loop_code, handler_room, Stores}
+use Rattle.s_agrees.proofs.StandsFor.{config, Sames, Locals, Held, handler_place, loop_code, handler_room, Stores}
 use Rattle.s_agrees.proofs.Paths.{program_of, step}
 use Rattle.s_agrees.proofs.Facts.{HandlerFacts}
-use Rattle.s_agrees.proofs.Entering.{sames_many, listed_size, first_locals, many_locals, value_at, get_mapped, invoke_step}
-use Rattle.s_agrees.proofs.Calling.{types_many}
+use Rattle.s_agrees.proofs.EnteredBodies.{sames_many, listed_size, first_locals, many_locals, value_at, get_mapped, invoke_step}
+use Rattle.s_agrees.proofs.Calls.{types_many}
 
 -- its locals: the parameters, and what it handles
 abbrev pub handler_first : Name → Handler → Row Val → ℕ → Locals

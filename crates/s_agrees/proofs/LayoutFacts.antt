@@ -1,7 +1,7 @@
 -- Where names are among the locals: names that are bound once are found at their places, and each name has a local of its own.
 use Rattle.std.proofs.Common.{◌≡◌, ℕ, zero, suc, ◌+◌, ◌<◌, ◌≤◌, true, ◌||◌, List, [], ◌∷◌, ◌++◌, map, length, Some, slice_get, if◌then◌else◌, ◌⊎◌, inl, inr, refl, sym, ap, ◌∙◌, subst, arith}
 use Rattle.std.specs.Str.{bytes_eq}
-use Rattle.w_types.proofs.Lists.{get-behind}
+use Rattle.lists.proofs.Lists.{get-behind}
 use Rattle.s_syntax.specs.declared.name.Name.{Name}
 use Rattle.s_syntax.specs.declared.script.VariableType.{VariableType}
 use Rattle.s_syntax.specs.declared.script.VariableType.TheVariants.{Int}
@@ -10,7 +10,7 @@ use Rattle.s_check.specs.Scopes.{Bound, Scope, type_in, number as number_name, p
 use Rattle.s_code.specs.Layouts.{Local, Layout, numbered, local_of}
 use Rattle.s_meaning.proofs.Lists.{get_before}
 use Rattle.s_meaning.proofs.Scopes.{same_is, bool_of}
-use Rattle.s_agrees.proofs.Standing.{Fine, HasNumber}
+use Rattle.s_agrees.proofs.StandsFor.{Fine, HasNumber}
 use Rattle.s_agrees.proofs.Facts.{Parameters, Names}
 use Rattle.s_agrees.proofs.Distinct.{names, Once, local_names, once_found}
 use Rattle.s_agrees.proofs.WellBodies.{Numbers, Lets}

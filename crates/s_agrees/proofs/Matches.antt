@@ -2,7 +2,7 @@
 use Rattle.std.proofs.Common.{◌≡◌, ℕ, ℤ, suc, ◌+◌, ◌≤◌, max, Bool, List, [], Some, arith}
 use Rattle.following.specs.Steps.{Goes, Returns, Faults}
 use Rattle.std.specs.Int.{w64, cast_signed}
-use Rattle.w_types.specs.Rows.{ε, ◌▹◌}
+use Rattle.lists.specs.Rows.{ε, ◌▹◌}
 use Rattle.w_reduce.specs.declared.trap.Trap.{Trap}
 use Rattle.w_reduce.specs.Values.{I64}
 use Rattle.w_reduce.specs.Store.{Store, live}
@@ -13,8 +13,8 @@ use Rattle.s_meaning.specs.Numbers.{Fault}
 use Rattle.s_meaning.specs.Terms.{Configuration}
 use Rattle.s_meaning.specs.Steps.{Step}
 use Rattle.s_agrees.specs.Agrees.{fault_of}
-use Rattle.s_agrees.proofs.Standing.{At}
-use Rattle.s_agrees.proofs.Counting.{labels, weight}
+use Rattle.s_agrees.proofs.StandsFor.{At}
+use Rattle.s_agrees.proofs.CountedContexts.{labels, weight}
 use Rattle.s_agrees.proofs.Paths.{program_of, step, Caps, Under, Path, go, path_wider}
 
 -- between two configurations: no more frames and handles than one of the two, and one continuation more at most

@@ -1,7 +1,7 @@
 -- Reductions one after another, with caps on what they count, and what single instructions do.
 use Rattle.std.proofs.Common.{◌≡◌, ℕ, zero, suc, ◌+◌, ◌≤◌, Bool, [], Option, Some, refl, ap, ◌∙◌, subst, arith}
 use Rattle.std.specs.Prelude.{slice_get}
-use Rattle.w_types.specs.Rows.{Row, ε, ◌▹◌, ◌⧺◌, size}
+use Rattle.lists.specs.Rows.{Row, ε, ◌▹◌, ◌⧺◌, size}
 use Rattle.w_syntax.specs.Code.{Code, Plain}
 use Rattle.w_reduce.specs.Values.{Val}
 use Rattle.w_reduce.specs.Store.{Store, live}
@@ -12,8 +12,8 @@ use Rattle.w_reduce.specs.Reduce.{next}
 use Rattle.s_syntax.specs.declared.script.Script.{Script}
 use Rattle.s_code.specs.Instructions.{local_get, local_set}
 use Rattle.s_code.specs.Lowered.{lowered}
-use Rattle.s_agrees.proofs.Standing.{config, Locals}
-use Rattle.s_agrees.proofs.Counting.{frames_set, handles_set}
+use Rattle.s_agrees.proofs.StandsFor.{config, Locals}
+use Rattle.s_agrees.proofs.CountedContexts.{frames_set, handles_set}
 
 -- the module of a script, with a test of which types are equivalent
 abbrev pub program_of : Script → (ℕ → ℕ → Bool) → Program

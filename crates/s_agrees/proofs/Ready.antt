@@ -1,6 +1,6 @@
 -- Where a redex of the script stands in the machine's term: all that it needs are values.
 use Rattle.std.proofs.Common.{◌≡◌, ℕ, ◌+◌, ◌≤◌, true, false, ℤ, pos, List, [], ◌∷◌}
-use Rattle.w_types.specs.Rows.{Row, ε, ◌▹◌, ◌⧺◌}
+use Rattle.lists.specs.Rows.{Row, ε, ◌▹◌, ◌⧺◌}
 use Rattle.w_syntax.specs.Code.{Code, Done, Plain}
 use Rattle.w_reduce.specs.Values.{Val}
 use Rattle.w_reduce.specs.Terms.{Label, Context}
@@ -25,8 +25,8 @@ use Rattle.s_meaning.specs.Numbers.{decided}
 use Rattle.s_meaning.specs.Terms.{Value, Number, Calling, Doing, Handling, Resuming, TailResuming, Use, Work, Among}
 use Rattle.s_meaning.specs.Focus.{Redex, Constant, Lookup, OnUnary, OnBinary, Decides, Applies, Uses, Fails, Ends, followed_by}
 use Rattle.s_agrees.proofs.ScriptRows.{Values, no_values, ◌▸◌, ◌⧻◌, many}
-use Rattle.s_agrees.proofs.Standing as standing
-use Rattle.s_agrees.proofs.Standing.{Same, Sames, Locals, LocalIs, HeldAt, WellExpr, WellOperands, Deep, Asides, asides_code, handle_code, resume_code, tail_code, Works}
+use Rattle.s_agrees.proofs.StandsFor as standing
+use Rattle.s_agrees.proofs.StandsFor.{Same, Sames, Locals, LocalIs, HeldAt, WellExpr, WellOperands, Deep, Asides, asides_code, handle_code, resume_code, tail_code, Works}
 
 -- the redex, with the pending work around it; the code in e is what does it, and then that work
 pub data Ready (ds : List Declaration) (ρ : List ℕ) (Γ : Layout) (n D0 : ℕ) (f : Context) : Redex → ℕ → Locals → List Work → Row Val → Code → Context → Type 0 where

@@ -13,8 +13,8 @@ use Rattle.s_syntax.specs.declared.script.Handler.{Handler}
 use Rattle.s_check.specs.Scopes.{Bound, parameter}
 use Rattle.s_code.specs.Places.{run, name_runs, locals_for, lets, function_layout, function_locals, return_names, clauses_names, handler_locals}
 use Rattle.s_code.specs.Temporaries.{high_block}
-use Rattle.s_valid.proofs.JoinedRuns.{types_of-joined}
-use Rattle.s_agrees.proofs.Standing.{handler_high, handler_room}
+use Rattle.w_rules.proofs.JoinedTypes.{types_of-joined}
+use Rattle.s_agrees.proofs.StandsFor.{handler_high, handler_room}
 
 replicated : {A : Type 0} (n : ℕ) (a : A) → length (replicate n a) ≡ n
 replicated zero a = refl

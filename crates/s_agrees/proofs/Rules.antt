@@ -1,7 +1,7 @@
 -- Each rule of the script is matched where its redex stands ready and is typed.
 use Rattle.std.proofs.Common.{◌≡◌, ℕ, zero, suc, ◌+◌, Bool, List, [], ◌∷◌, length, Option, Some, refl, ap, ◌∙◌, arith, length-append}
 use Rattle.std.specs.Prelude.{slice_get}
-use Rattle.w_types.specs.Rows.{Row}
+use Rattle.lists.specs.Rows.{Row}
 use Rattle.w_syntax.specs.Code.{Code}
 use Rattle.w_reduce.specs.Values.{Val}
 use Rattle.w_reduce.specs.Store.{Store}
@@ -19,21 +19,21 @@ use Rattle.s_meaning.specs.Typing.{kinds, numbers}
 use Rattle.s_meaning.specs.Typed.{World, HasKind, int, reference, FirstHave, begun, further, calling, doing, handling, resuming, tail_resuming, StoreTyped, Covers}
 use Rattle.s_meaning.specs.Focus.{Redex}
 use Rattle.s_meaning.specs.Steps.{rule}
-use Rattle.s_meaning.proofs.Focusing.{RedexTyped, constant, lookup, on_unary, on_binary, decides, applying, using, failing, ending}
+use Rattle.s_meaning.proofs.TypedFocus.{RedexTyped, constant, lookup, on_unary, on_binary, decides, applying, using, failing, ending}
 use Rattle.s_agrees.proofs.ScriptRows.{Values, no_values, ◌▸◌, many, both_many}
-use Rattle.s_agrees.proofs.Standing.{config, Active, Base, Waits, Stores}
-use Rattle.s_agrees.proofs.Standing as standing
+use Rattle.s_agrees.proofs.StandsFor.{config, Active, Base, Waits, Stores}
+use Rattle.s_agrees.proofs.StandsFor as standing
 use Rattle.s_agrees.proofs.Facts.{Facts}
 use Rattle.s_agrees.proofs.Matches.{Matches}
 use Rattle.s_agrees.proofs.Ready.{Ready, constant_ready, lookup_ready, aside_ready, unary_ready, comparison_ready, arithmetic_ready, truth_ready, decides_ready, call_ready, do_ready, handle_ready, resume_ready, tail_ready, use_ready, fail_ready, end_ready}
-use Rattle.s_agrees.proofs.Operating.{sim_constant, sim_lookup, sim_aside, sim_unary, sim_comparison, sim_arithmetic, sim_truth, sim_decides}
-use Rattle.s_agrees.proofs.Calling.{sim_call}
-use Rattle.s_agrees.proofs.Capturing.{sim_do}
-use Rattle.s_agrees.proofs.Handling.{sim_handling}
-use Rattle.s_agrees.proofs.Resuming.{sim_resuming}
-use Rattle.s_agrees.proofs.TailResuming.{sim_tail}
-use Rattle.s_agrees.proofs.Using.{sim_use, sim_fail, sim_end}
-use Rattle.s_agrees.proofs.Stepping.{RulesMatched}
+use Rattle.s_agrees.proofs.StepsInPlace.{sim_constant, sim_lookup, sim_aside, sim_unary, sim_comparison, sim_arithmetic, sim_truth, sim_decides}
+use Rattle.s_agrees.proofs.Calls.{sim_call}
+use Rattle.s_agrees.proofs.Captures.{sim_do}
+use Rattle.s_agrees.proofs.Handles.{sim_handling}
+use Rattle.s_agrees.proofs.Resumptions.{sim_resuming}
+use Rattle.s_agrees.proofs.TailResumptions.{sim_tail}
+use Rattle.s_agrees.proofs.UsesOfValues.{sim_use, sim_fail, sim_end}
+use Rattle.s_agrees.proofs.EachStep.{RulesMatched}
 
 -- ## How many arguments there are
 

@@ -19,13 +19,14 @@ use Rattle.s_check.specs.Size.{expr_size, exprs_size, operands_size, statement_s
 use Rattle.s_index.specs.Numbers.{function_index, handler_index, tag_index}
 use Rattle.s_index.specs.Types.{resumption_type, computation_type}
 use Rattle.s_index.specs.Indices.{continuation_index, function_type_index, parameters_of}
+use Rattle.s_index.specs.Limits.{number_limit as limit}
 use Rattle.s_code.specs.Instructions.{call, local_get, local_set, nop, suspend, branch, branch_if, is_zero, leave, dropped, truth, unary_operator, comparison, arithmetic, if_zero}
 use Rattle.s_code.specs.Layouts.{Layout, local_number, handler_of_name, stays, slot, is_own, owner_parameters}
 use Rattle.s_code.specs.Expressions.{reload, begin, wake, handler_index_of, operator, expr, args, set_aside, operands, set_parameters, tail_resume}
 use Rattle.s_code.specs.Statements.{printer, return, statement, block, ending, body}
 use Rattle.s_code.proofs.Sizes.{some_size, count_within}
 use Rattle.w_encode.specs.Spelled.{CodeSpelled}
-use Rattle.s_agrees.proofs.SpelledIndices.{limit, fits, SmallIndices, SmallLayout}
+use Rattle.s_agrees.proofs.SpelledIndices.{fits, SmallIndices, SmallLayout}
 use Rattle.s_agrees.proofs.SpelledTokens.{constant_spelled, minus_one_spelled, is_zero_spelled, is_zero_32_spelled, extend_spelled, unreachable_spelled, nop_spelled, leave_spelled, dropped_spelled, binary_spelled, times_spelled, compare_spelled, branch_spelled, branch_if_spelled, call_spelled, local_get_spelled, local_set_spelled, reference_spelled, new_continuation_spelled, suspend_spelled, bind_continuation_spelled, block_spelled, if_spelled}
 
 -- ## Operators

@@ -18,10 +18,11 @@ use Rattle.s_syntax.specs.declared.script.Script.{Script}
 use Rattle.s_syntax.specs.BlockTree.{StatementTree, BlockTree, Let, Assign, If as IfStatement, While, Print, Return, Fail, Evaluate, Done as NoStatements, ◌⨟◌}
 use Rattle.s_check.specs.Refusal.{Good}
 use Rattle.s_check.specs.Scopes.{Bound, number, parameter, resumption, lets_of, lets_in}
-use Rattle.s_check.specs.Size.{statement_size, block_size, clause_size, definition_size, Size}
+use Rattle.s_check.specs.Size.{statement_size, block_size, clause_size, definition_size, Size, size_limit}
 use Rattle.s_index.specs.Numbers.{tag_index}
 use Rattle.s_index.specs.Types.{computation_type, clause_type}
 use Rattle.s_index.specs.Indices.{clause_type_index}
+use Rattle.s_index.specs.Limits.{number_limit as limit}
 use Rattle.s_code.specs.Instructions.{local_set}
 use Rattle.s_code.specs.Layouts.{Layout, local_number}
 use Rattle.s_code.specs.Statements.{body}
@@ -31,7 +32,7 @@ use Rattle.s_code.specs.Places.{lets, function_names, function_layout, return_na
 use Rattle.s_code.specs.Lowered.{function_code, handler_code, function_code_of, handler_code_of, for_each, lowered}
 use Rattle.s_code.proofs.Highs.{block_high}
 use Rattle.w_encode.specs.Spelled.{CodeSpelled, FunctionSpelled, FunctionsSpelled}
-use Rattle.s_agrees.proofs.SpelledIndices.{limit, fits, SmallIndices, small_indices, SmallLayout, names_small, both_small, locals_total, runs_spelled, runs_joined}
+use Rattle.s_agrees.proofs.SpelledIndices.{fits, SmallIndices, small_indices, SmallLayout, names_small, both_small, locals_total, runs_spelled, runs_joined}
 use Rattle.s_agrees.proofs.SpelledCode.{room, body_spelled}
 use Rattle.s_agrees.proofs.SpelledTokens.{ClausesSmall, local_get_spelled, local_set_spelled, resume_spelled, block_spelled}
 
@@ -88,7 +89,7 @@ few_clauses (c ∷ cs) = let q = few_clauses cs in let s = sum_by-cons clause_si
 -- ## Functions
 
 -- the names of a function, and its temporaries
-function_layout_small : (f : Function) → definition_size (definition.Function f) ≤ 50000 → SmallLayout (function_layout f)
+function_layout_small : (f : Function) → definition_size (definition.Function f) ≤ size_limit → SmallLayout (function_layout f)
 function_layout_small f few =
     let q = few_lets f.body in
     let l = length-append (map parameter f.parameters) (lets f.body) in
@@ -96,7 +97,7 @@ function_layout_small f few =
     record { name = names_small (function_names f) (omega (arith, few, q, l, m)); temporaries = omega (arith, few, q, l, m); parameters = omega arith }
 
 -- the code of a function that isn't too large
-pub function_spelled : (ds : List Declaration) (f : Function) → SmallIndices ds → definition_size (definition.Function f) ≤ 50000 → FunctionSpelled (function_code ds f)
+pub function_spelled : (ds : List Declaration) (f : Function) → SmallIndices ds → definition_size (definition.Function f) ≤ size_limit → FunctionSpelled (function_code ds f)
 function_spelled ds f S few =
     let q = few_lets f.body in
     let h = block_high f.body in
@@ -151,7 +152,7 @@ handler_few h i =
     omega (arith, q, r, s, t)
 
 -- the names of a clause lie before the temporaries
-layout_small : (h : Name) (i : Handler) (n : ℕ) (bs : List Bound) → definition_size (definition.Handler i) ≤ 50000 → n + length bs ≤ handler_temporaries h i → SmallLayout (layout_at h i n bs)
+layout_small : (h : Name) (i : Handler) (n : ℕ) (bs : List Bound) → definition_size (definition.Handler i) ≤ size_limit → n + length bs ≤ handler_temporaries h i → SmallLayout (layout_at h i n bs)
 layout_small h i n bs few behind =
     let t = handler_few h i in
     let m = length-map i.parameters parameter in
@@ -161,9 +162,9 @@ layout_small h i n bs few behind =
       parameters = omega (arith, few);
     }
 
-module _ (ds : List Declaration) (h : Name) (i : Handler) (S : SmallIndices ds) (few : definition_size (definition.Handler i) ≤ 50000) where
+module _ (ds : List Declaration) (h : Name) (i : Handler) (S : SmallIndices ds) (few : definition_size (definition.Handler i) ≤ size_limit) where
   -- the blocks of clauses, the names of the first one being from the local n on
-  blocks_spelled : (n : ℕ) (cs : List Clause) (c : Code) → n + length (clauses_names h cs) ≤ handler_temporaries h i → sum_by clause_size cs ≤ 50000 → CodeSpelled c
+  blocks_spelled : (n : ℕ) (cs : List Clause) (c : Code) → n + length (clauses_names h cs) ≤ handler_temporaries h i → sum_by clause_size cs ≤ size_limit → CodeSpelled c
       → CodeSpelled (blocks ds (placed_from h i n cs) c)
   blocks_spelled n [] c behind size g = g
   blocks_spelled n (k ∷ cs) c behind size g =
@@ -191,7 +192,7 @@ module _ (ds : List Declaration) (h : Name) (i : Handler) (S : SmallIndices ds) 
       )
 
 -- the code of a handler that isn't too large
-pub handler_spelled : (ds : List Declaration) (h : Name) (i : Handler) → SmallIndices ds → definition_size (definition.Handler i) ≤ 50000 → FunctionSpelled (handler_code ds h i)
+pub handler_spelled : (ds : List Declaration) (h : Name) (i : Handler) → SmallIndices ds → definition_size (definition.Handler i) ≤ size_limit → FunctionSpelled (handler_code ds h i)
 handler_spelled ds h i S few =
     let bs = return_names i ++ clauses_names h i.clauses in
     let k = max (high_block i.return_clause.body) (high_clauses i.clauses) in
@@ -218,12 +219,12 @@ both_spelled [] gs h i = i
 both_spelled (f ∷ fs) gs h i = (h.0, both_spelled fs gs h.1 i)
 
 -- what one declaration adds
-function_of_spelled : (ds : List Declaration) (d : Definition) → SmallIndices ds → definition_size d ≤ 50000 → FunctionsSpelled (function_code_of ds d)
+function_of_spelled : (ds : List Declaration) (d : Definition) → SmallIndices ds → definition_size d ≤ size_limit → FunctionsSpelled (function_code_of ds d)
 function_of_spelled ds (definition.Effect n) S few = tt
 function_of_spelled ds (definition.Function f) S few = (function_spelled ds f S few, tt)
 function_of_spelled ds (definition.Handler i) S few = tt
 
-handler_of_spelled : (ds : List Declaration) (h : Name) (d : Definition) → SmallIndices ds → definition_size d ≤ 50000 → FunctionsSpelled (handler_code_of ds h d)
+handler_of_spelled : (ds : List Declaration) (h : Name) (d : Definition) → SmallIndices ds → definition_size d ≤ size_limit → FunctionsSpelled (handler_code_of ds h d)
 handler_of_spelled ds h (definition.Effect n) S few = tt
 handler_of_spelled ds h (definition.Function f) S few = tt
 handler_of_spelled ds h (definition.Handler i) S few = (handler_spelled ds h i S few, tt)
@@ -233,15 +234,15 @@ abbrev sizes : List Declaration → ℕ
 sizes es = sum_by (λ (d : Declaration). definition_size d.definition) es
 
 -- what all declarations add
-each_spelled : (make : Declaration → List Func) → ((d : Declaration) → definition_size d.definition ≤ 50000 → FunctionsSpelled (make d)) → (es : List Declaration)
-    → sizes es ≤ 50000 → FunctionsSpelled (for_each make es)
+each_spelled : (make : Declaration → List Func) → ((d : Declaration) → definition_size d.definition ≤ size_limit → FunctionsSpelled (make d)) → (es : List Declaration)
+    → sizes es ≤ size_limit → FunctionsSpelled (for_each make es)
 each_spelled make m [] few = tt
 each_spelled make m (e ∷ es) few =
     let z = sum_by-cons (λ (d : Declaration). definition_size d.definition) e es in
     both_spelled (make e) (for_each make es) (m e (omega (arith, few, z))) (each_spelled make m es (omega (arith, few, z)))
 
 -- the code of a script that breaks no rule and isn't too large
-pub codes_spelled : (p : Script) → Good p → Size p ≤ 50000 → FunctionsSpelled (lowered p).codes
+pub codes_spelled : (p : Script) → Good p → Size p ≤ size_limit → FunctionsSpelled (lowered p).codes
 codes_spelled p good few =
     let ds = p.declarations in
     let S = small_indices p good few in

@@ -22,20 +22,17 @@ use Rattle.s_syntax.specs.declared.script.Declaration.{Declaration}
 use Rattle.s_syntax.specs.declared.script.Script.{Script}
 use Rattle.s_check.specs.Refusal.{Good}
 use Rattle.s_check.specs.Scopes.{Bound}
-use Rattle.s_check.specs.Size.{definition_size, Size}
+use Rattle.s_check.specs.Size.{definition_size, Size, size_limit}
 use Rattle.s_index.specs.declared.counts.Counts.{Counts}
 use Rattle.s_index.specs.Numbers.{no_counts, counted, counted_all, counts_of, number_behind, Entry, entry_behind, entry_of, index_of_function, index_of_handler, index_of_tag, with_entry, function_index, first_handler, handler_index, tag_index}
 use Rattle.s_index.specs.Types.{val_type, same_type, place}
 use Rattle.s_index.specs.Indices.{type_table, type_index}
+use Rattle.s_index.specs.Limits.{number_limit as limit}
 use Rattle.s_code.specs.Layouts.{Local, Layout, numbered, local_of, number_in, local_number, owner_parameters}
 use Rattle.s_code.specs.Places.{run, name_runs, locals_for}
 use Rattle.s_valid.proofs.ManyTypes.{few_in_table}
 use Rattle.w_encode.specs.Spelled.{EachSpelled, ListSpelled}
 use Rattle.s_agrees.proofs.SpelledTokens.{run_spelled}
-
--- no number of a module is greater
-abbrev pub limit : ℕ
-limit = 1000000
 
 -- what is at most that can be spelled
 pub fits : (n : ℕ) → n ≤ limit → n < 2 ^ 32
@@ -140,7 +137,7 @@ few_declarations (d ∷ ds) =
     omega (arith, q, r, s)
 
 -- where declarations and types are few
-indices_small : (ds : List Declaration) → length ds ≤ 50000 → length (type_table ds) ≤ 2091 → SmallIndices ds
+indices_small : (ds : List Declaration) → length ds ≤ size_limit → length (type_table ds) ≤ 2091 → SmallIndices ds
 indices_small ds few table =
     let entry : (x : Name) → EntrySmall (length ds) (entry_of ds x) = λ x. entry_small no_counts ds x (length ds) (omega arith) in
     let functions = few_functions ds in
@@ -154,7 +151,7 @@ indices_small ds few table =
     }
 
 -- those of a script that breaks no rule and isn't too large
-pub small_indices : (p : Script) → Good p → Size p ≤ 50000 → SmallIndices p.declarations
+pub small_indices : (p : Script) → Good p → Size p ≤ size_limit → SmallIndices p.declarations
 small_indices p good few =
     let q = few_declarations p.declarations in
     let t = few_in_table p good in

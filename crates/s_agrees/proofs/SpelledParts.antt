@@ -30,7 +30,7 @@ use Rattle.s_syntax.specs.declared.script.Definition.TheVariants as definition
 use Rattle.s_syntax.specs.declared.script.Declaration.{Declaration}
 use Rattle.s_syntax.specs.declared.script.Script.{Script}
 use Rattle.s_check.specs.Refusal.{Good}
-use Rattle.s_check.specs.Size.{Size}
+use Rattle.s_check.specs.Size.{Size, size_limit}
 use Rattle.s_index.specs.Handled.{is_function_among, handled_names, handled}
 use Rattle.s_index.specs.Indices.{function_types, type_table, continuations, parameters_of, function_type_index, handler_type_index, effect_type_index, type_index}
 use Rattle.s_index.specs.Numbers.{function_index}
@@ -171,13 +171,13 @@ types_spelled p good =
 -- ## Functions and tags
 
 -- indices of types and of functions are small
-small_type : (p : Script) → Good p → Size p ≤ 50000 → (t : CompType) → type_index p.declarations t < 2 ^ 32
+small_type : (p : Script) → Good p → Size p ≤ size_limit → (t : CompType) → type_index p.declarations t < 2 ^ 32
 small_type p good size t = let i = small_indices p good size in fits (type_index p.declarations t) (i.type t)
 
-small_function : (p : Script) → Good p → Size p ≤ 50000 → (f : Name) → function_index p.declarations f < 2 ^ 32
+small_function : (p : Script) → Good p → Size p ≤ size_limit → (f : Name) → function_index p.declarations f < 2 ^ 32
 small_function p good size f = let i = small_indices p good size in fits (function_index p.declarations f) (i.function f)
 
-module _ (p : Script) (good : Good p) (size : Size p ≤ 50000) where
+module _ (p : Script) (good : Good p) (size : Size p ≤ size_limit) where
   function_spelled : (d : Definition) → EachSpelled (number 32) shortest (function_type_of p.declarations d)
   function_spelled (definition.Effect n) = tt
   function_spelled (definition.Function f) = (u32_spelled (function_type_index p.declarations f.parameters) (small_type p good size (function_type f.parameters)), tt)
@@ -219,7 +219,7 @@ one_handler_code ds h (definition.Effect n) = omega arith
 one_handler_code ds h (definition.Function f) = omega arith
 one_handler_code ds h (definition.Handler i) = omega arith
 
-pub functions_spelled : (p : Script) → Good p → Size p ≤ 50000 → ListSpelled (number 32) shortest (lowered p).functions
+pub functions_spelled : (p : Script) → Good p → Size p ≤ size_limit → ListSpelled (number 32) shortest (lowered p).functions
 functions_spelled p good size =
     let ds = p.declarations in
     let functions : List ℕ = for_each (λ (d : Declaration). function_type_of ds d.definition) ds in
@@ -234,14 +234,14 @@ functions_spelled p good size =
           (each_of_all (number 32) shortest (λ (d : Declaration). handler_type_of ds d.definition) (λ d. handler_spelled p good size d.definition) ds),
     )
 
-pub tags_spelled : (p : Script) → Good p → Size p ≤ 50000 → ListSpelled tag tag_written (lowered p).tags
+pub tags_spelled : (p : Script) → Good p → Size p ≤ size_limit → ListSpelled tag tag_written (lowered p).tags
 tags_spelled p good size =
     let ds = p.declarations in
     let a = few_of_all (λ (d : Declaration). tag_of ds d.definition) (λ d. one_tag ds d.definition) ds in
     let few = few_declarations ds in
     (omega (arith, a, few, size), each_of_all tag tag_written (λ (d : Declaration). tag_of ds d.definition) (λ d. tag_spelled p good size d.definition) ds)
 
-pub few_codes : (p : Script) → Size p ≤ 50000 → length (lowered p).codes < 2 ^ 32
+pub few_codes : (p : Script) → Size p ≤ size_limit → length (lowered p).codes < 2 ^ 32
 few_codes p size =
     let ds = p.declarations in
     let l = length-append (for_each (λ (d : Declaration). function_code_of ds d.definition) ds) (for_each (λ (d : Declaration). handler_code_of ds d.name d.definition) ds) in
@@ -297,7 +297,7 @@ main_spelled : (x : ℕ) → x < 2 ^ 32 → externidx.Spells (externidx_written 
 unfolding externidx
 main_spelled x h = (x, u32_spelled x h, refl)
 
-pub exports_spelled : (p : Script) → Good p → Size p ≤ 50000 → ListSpelled export export_written (lowered p).exports
+pub exports_spelled : (p : Script) → Good p → Size p ≤ size_limit → ListSpelled export export_written (lowered p).exports
 unfolding export
 exports_spelled p good size =
     let x : ℕ = function_index p.declarations (codes "main") in (
@@ -354,7 +354,7 @@ segment_spelled items are h =
     )
 
 -- there is at most one
-declared_spelled : (p : Script) → Good p → Size p ≤ 50000 → (es : List Declaration) → length es ≤ 50000 → ListSpelled elem elem_written (declared p.declarations es)
+declared_spelled : (p : Script) → Good p → Size p ≤ size_limit → (es : List Declaration) → length es ≤ size_limit → ListSpelled elem elem_written (declared p.declarations es)
 declared_spelled p good size [] few = (omega arith, tt)
 declared_spelled p good size (e ∷ es) few =
     let f : Declaration → ℕ = λ (d : Declaration). function_index p.declarations d.name in
@@ -363,7 +363,7 @@ declared_spelled p good size (e ∷ es) few =
       (segment_spelled (references f (e ∷ es)) (references_are_functions f (e ∷ es)) (omega (arith, l, few), references_spelled f (λ d. small_function p good size d.name) (e ∷ es)), tt),
     )
 
-pub elements_spelled : (p : Script) → Good p → Size p ≤ 50000 → ListSpelled elem elem_written (lowered p).elements
+pub elements_spelled : (p : Script) → Good p → Size p ≤ size_limit → ListSpelled elem elem_written (lowered p).elements
 elements_spelled p good size =
     let few = few_declarations p.declarations in
     let q = few_filtered (λ (d : Declaration). is_function_among (handled_names p.declarations) d d.definition) p.declarations in

@@ -9,7 +9,7 @@ use Rattle.s_syntax.specs.declared.script.Definition.TheVariants as definition
 use Rattle.s_syntax.specs.declared.script.Declaration.{Declaration}
 use Rattle.s_syntax.specs.declared.script.Script.{Script}
 use Rattle.s_check.specs.Refusal.{Good}
-use Rattle.s_check.specs.Size.{Size}
+use Rattle.s_check.specs.Size.{Size, size_limit}
 use Rattle.s_code.specs.Lowered.{function_type_of, handler_type_of, function_code_of, handler_code_of, for_each, lowered}
 use Rattle.s_valid.proofs.LoweredValid.{lowered_valid}
 use Rattle.s_valid.proofs.ModuleLimits.{within}
@@ -55,7 +55,7 @@ paired p =
 
 -- ## Modules
 
-module _ (p : Script) (good : Good p) (size : Size p ≤ 50000) where
+module _ (p : Script) (good : Good p) (size : Size p ≤ size_limit) where
   parts : PartsSpelled (lowered p)
   parts = record {
     types = types_spelled p good;

@@ -3,40 +3,40 @@ use Rattle.std.proofs.Common.{◌≡◌, ℕ, zero, suc, ◌+◌, ◌<◌, List,
 use Rattle.std.specs.Prelude.{slice_get}
 use Rattle.std.proofs.lemmas.Option.{slice_get_within}
 use Rattle.w_reduce.specs.Store.{Store, next_cont, with_cont}
-use Rattle.w_reduce.specs.Terms.{Kept}
+use Rattle.w_reduce.specs.Terms.{Continuation}
 use Rattle.s_syntax.specs.declared.script.Declaration.{Declaration}
 use Rattle.s_meaning.specs.Terms as script
 use Rattle.s_meaning.specs.Steps.{with_kept}
 use Rattle.s_meaning.proofs.Lists.{get_before, get_last}
-use Rattle.s_agrees.proofs.Standing.{KeptAs, Entry, consumed, keeps, Stores}
-use Rattle.s_agrees.proofs.Growing.{Grows, grows_more}
+use Rattle.s_agrees.proofs.StandsFor.{KeptAs, Entry, consumed, keeps, Stores}
+use Rattle.s_agrees.proofs.MoreResumptions.{Grows, grows_more}
 use Rattle.s_agrees.proofs.Contexts.{waits_grow}
-use Rattle.s_agrees.proofs.Counting.{live_more, full_more}
+use Rattle.s_agrees.proofs.CountedContexts.{live_more, full_more}
 
 -- ## Entries
 
-pub kept_grows : {ds : List Declaration} {ρ ρ' : List ℕ} {κ : script.Context} {k : Kept} → Grows ρ ρ' → KeptAs ds ρ κ k → KeptAs ds ρ' κ k
+pub kept_grows : {ds : List Declaration} {ρ ρ' : List ℕ} {κ : script.Context} {k : Continuation} → Grows ρ ρ' → KeptAs ds ρ κ k → KeptAs ds ρ' κ k
 kept_grows g h = record { takes = h.takes; ahead = h.ahead; waits = waits_grow g h.waits }
 
-pub entry_grows : {ds : List Declaration} {ρ ρ' : List ℕ} {o : Option (Option script.Context)} {q : Option (Option Kept)} → Grows ρ ρ' → Entry ds ρ o q → Entry ds ρ' o q
+pub entry_grows : {ds : List Declaration} {ρ ρ' : List ℕ} {o : Option (Option script.Context)} {q : Option (Option Continuation)} → Grows ρ ρ' → Entry ds ρ o q → Entry ds ρ' o q
 entry_grows g consumed = consumed
 entry_grows g (keeps h) = keeps (kept_grows g h)
 
 -- both sides are there
-pub record Sides (ds : List Declaration) (ρ : List ℕ) (o : Option (Option script.Context)) (q : Option (Option Kept)) : Type 0 where
+pub record Sides (ds : List Declaration) (ρ : List ℕ) (o : Option (Option script.Context)) (q : Option (Option Continuation)) : Type 0 where
   pub left : Option script.Context
-  pub right : Option Kept
+  pub right : Option Continuation
   pub left_is : o ≡ Some left
   pub right_is : q ≡ Some right
   pub entry : Entry ds ρ (Some left) (Some right)
 
-pub sides : {ds : List Declaration} {ρ : List ℕ} {o : Option (Option script.Context)} {q : Option (Option Kept)} → Entry ds ρ o q → Sides ds ρ o q
+pub sides : {ds : List Declaration} {ρ : List ℕ} {o : Option (Option script.Context)} {q : Option (Option Continuation)} → Entry ds ρ o q → Sides ds ρ o q
 sides consumed = record { left = None; right = None; left_is = refl; right_is = refl; entry = consumed }
 sides (keeps {κ = κ} {k = k} h) = record { left = Some κ; right = Some k; left_is = refl; right_is = refl; entry = keeps h }
 
 -- an entry whose sides are found at other places
-pub entry_at : {ds : List Declaration} {ρ : List ℕ} {o o' : Option (Option script.Context)} {q q' : Option (Option Kept)} → o' ≡ o → q' ≡ q → Entry ds ρ o q → Entry ds ρ o' q'
-entry_at {ds} {ρ} {o} {o'} {q} {q'} x y h = subst (λ (z : Option (Option script.Context)). Entry ds ρ z q') (sym x) (subst (λ (z : Option (Option Kept)). Entry ds ρ o z) (sym y) h)
+pub entry_at : {ds : List Declaration} {ρ : List ℕ} {o o' : Option (Option script.Context)} {q q' : Option (Option Continuation)} → o' ≡ o → q' ≡ q → Entry ds ρ o q → Entry ds ρ o' q'
+entry_at {ds} {ρ} {o} {o'} {q} {q'} x y h = subst (λ (z : Option (Option script.Context)). Entry ds ρ z q') (sym x) (subst (λ (z : Option (Option Continuation)). Entry ds ρ o z) (sym y) h)
 
 -- ## A list with one item more
 
@@ -52,7 +52,7 @@ old_or_new (y ∷ xs) x (suc a) e q = further (old_or_new xs x a e q)
 
 -- ## Stores
 
-module _ {ds : List Declaration} {ρ : List ℕ} {σ : script.Store} {s : Store} (h : Stores ds ρ σ s) {κ : script.Context} {k : Kept} (kept : KeptAs ds ρ κ k) where
+module _ {ds : List Declaration} {ρ : List ℕ} {σ : script.Store} {s : Store} (h : Stores ds ρ σ s) {κ : script.Context} {k : Continuation} (kept : KeptAs ds ρ κ k) where
   -- an address of the store, so not the next one
   earlier : (a b : ℕ) → slice_get ρ a ≡ Some b → b < next_cont s
   earlier a b e = let z = sides (h.each a b e) in slice_get_within s.conts b z.right z.right_is

@@ -10,7 +10,7 @@ use Rattle.s_check.specs.Definitions.{definition_of, as_effect, effect_of}
 use Rattle.s_index.specs.declared.counts.Counts.{Counts}
 use Rattle.s_index.specs.Numbers.{Entry, no_counts, counted, with_entry, index_of_tag, tag_index}
 use Rattle.s_code.specs.Lowered.{for_each}
-use Rattle.s_valid.proofs.Numbering.{found}
+use Rattle.s_valid.proofs.NumbersInModules.{found}
 use Rattle.s_agrees.specs.Agrees.{effect_names}
 use Rattle.s_agrees.specs.Agrees as agrees
 

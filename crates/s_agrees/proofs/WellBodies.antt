@@ -15,11 +15,11 @@ use Rattle.s_code.specs.Layouts.{Layout}
 use Rattle.s_code.specs.Temporaries.{high, high_args, high_aside, high_operands, high_block}
 use Rattle.s_meaning.specs.Typing.{BlockTyped}
 use Rattle.s_meaning.specs.Typing as script
-use Rattle.s_meaning.proofs.Bindings.{among_left, among_right}
+use Rattle.s_meaning.proofs.BoundInTurn.{among_left, among_right}
 use Rattle.s_meaning.proofs.Scopes.{same_is, same_refl, bool_of}
 use Rattle.s_valid.proofs.LayoutTypes.{AllHandled, handled_left, handled_right, handled_first, handled_later}
 use Rattle.s_valid.proofs.TypedExpressions.{least_args}
-use Rattle.s_agrees.proofs.Standing.{HasNumber, WellExpr, WellArgs, WellAsides, WellOperands, WellBlock, literal, read, unary, run, calls, does, handles, resumes, no_args, arg, no_asides, aside_arg, no_operands, operand, lets, assigns, ifs, whiles, print, return, fail, drop, done, next}
+use Rattle.s_agrees.proofs.StandsFor.{HasNumber, WellExpr, WellArgs, WellAsides, WellOperands, WellBlock, literal, read, unary, run, calls, does, handles, resumes, no_args, arg, no_asides, aside_arg, no_operands, operand, lets, assigns, ifs, whiles, print, return, fail, drop, done, next}
 
 -- ## Expressions
 

@@ -2,7 +2,7 @@
 use Rattle.std.proofs.Common.{◌≡◌, ℕ, ℤ, zero, suc, ◌+◌, ◌<◌, ◌≤◌, Bool, List, [], inl, inr, Some, refl, ap, subst, arith}
 use Rattle.following.specs.Follows.{Is, Limit, Value, Fault as Faulty}
 use Rattle.following.specs.Steps as steps
-use Rattle.following.specs.Steps.{Stops, Over, Reducing, Reductions, StepMatched, StepSimulation, goes, returns, faults, stops_before, stops_after, Goes, Returns, Faults, told_before}
+use Rattle.following.specs.Steps.{Stops, Over, Reducing, Reductions, StepMatched, StepSimulation, goes, returns, faults, stops_before, stops_after, Goes, Returns, Faults, ending_before}
 use Rattle.following.proofs.Reductions.{silent_then}
 use Rattle.w_reduce.specs.Store.{Store}
 use Rattle.w_reduce.specs.Terms.{Term}
@@ -14,11 +14,11 @@ use Rattle.s_meaning.specs.Typed.{World, Typed}
 use Rattle.s_meaning.specs.Laws.{StepGood, on}
 use Rattle.s_meaning.specs.Eval as eval
 use Rattle.s_meaning.specs.Eval.{Passes, start}
-use Rattle.s_agrees.proofs.Standing.{At}
-use Rattle.s_agrees.proofs.Counting.{weight}
+use Rattle.s_agrees.proofs.StandsFor.{At}
+use Rattle.s_agrees.proofs.CountedContexts.{weight}
 use Rattle.s_agrees.proofs.Matches.{Matches, went, prints, faulted, caps_of}
 use Rattle.s_agrees.proofs.Matches as matches
-use Rattle.s_agrees.proofs.Limited.{Config, at, reduce, Walked, all, part, walked, Went_on, goes_on, stopped, one, passes_here, passes_either}
+use Rattle.s_agrees.proofs.WithinLimits.{Config, at, reduce, Walked, all, part, walked, Went_on, goes_on, stopped, one, passes_here, passes_either}
 
 -- what stands for one another, the script's configuration being typed
 pub record Related (p : Script) (σ : Configuration) (x : Config) : Type 0 where

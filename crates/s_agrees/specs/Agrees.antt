@@ -2,7 +2,7 @@
 use Rattle.std.specs.Prelude.{◌≡◌, ℕ, ◌≤◌, List, [], ◌∷◌, ◌++◌, length, slice_get, Option, Some, None, option_map}
 use Rattle.following.specs.Follows.{Going, Value, Fault as Faulted, Is, Limit}
 use Rattle.std.specs.Int.{w64, cast_signed}
-use Rattle.w_types.specs.Rows.{Row, ε, ◌▹◌}
+use Rattle.lists.specs.Rows.{Row, ε, ◌▹◌}
 use Rattle.w_syntax.specs.declared.module.Module.{Module}
 use Rattle.w_syntax.specs.Spells.{Spells}
 use Rattle.w_encode.specs.Canon.{Canon}
@@ -22,7 +22,7 @@ use Rattle.s_syntax.specs.declared.script.Definition.TheVariants as definition
 use Rattle.s_syntax.specs.declared.script.Declaration.{Declaration}
 use Rattle.s_syntax.specs.declared.script.Script.{Script}
 use Rattle.s_check.specs.Refusal.{Good}
-use Rattle.s_check.specs.Size.{Size}
+use Rattle.s_check.specs.Size.{Size, size_limit}
 use Rattle.s_meaning.specs.Numbers.{Fault, DivZero, Overflow, Failed, Reused, Unhandled}
 use Rattle.s_meaning.specs.Eval.{Ended, Frames, Handles, Conts, Follows}
 use Rattle.s_code.specs.Lowered.{lowered}
@@ -92,4 +92,4 @@ RunsFollow = (p : Script) → Good p → (program : Program) → program.source 
 
 -- and all of it holds where the script isn't too large
 abbrev pub ScriptsAgree : Type 0
-ScriptsAgree = (p : Script) → Good p → Size p ≤ 50000 → Agrees p (lowered p)
+ScriptsAgree = (p : Script) → Good p → Size p ≤ size_limit → Agrees p (lowered p)

@@ -6,11 +6,11 @@ use Rattle.s_syntax.specs.declared.script.Handler.{Handler}
 use Rattle.s_syntax.specs.declared.script.Declaration.{Declaration}
 use Rattle.s_check.specs.declared.rule.Rule.{Rule}
 use Rattle.s_check.specs.Definitions.{effect_of}
-use Rattle.s_check.specs.Least.{least_of, told_first, first_broken}
+use Rattle.s_check.specs.Least.{least_of, first_or, first_broken}
 use Rattle.s_check.specs.Rules.{in_head, in_body, in_clauses, in_declaration, in_declarations, in_main}
 use Rattle.s_check.specs.Scopes.{of_clause}
 use Rattle.s_check.proofs.Least.{least_append}
-use Rattle.s_check.proofs.Lists.{cell}
+use Rattle.lists.proofs.Lists.{cell}
 
 pub not_not : (b : Bool) → not (not b) ≡ b
 not_not true = refl
@@ -36,18 +36,18 @@ abbrev pub found_from : List Declaration → List Name → ℕ → Option (ℕ �
 found_from ds seen i = first_broken i (in_declarations ds seen (drop i ds) ++ in_main ds ∷ [])
 
 module _ (ds : List Declaration) (i : ℕ) (d : Declaration) (seen : List Name) (below : i < length ds) (is : d ≡ get_or ds i d) where
-  found_here : found_from ds seen i ≡ told_first i (least_of None (in_declaration ds seen d)) (found_from ds (d.name ∷ seen) (i + 1))
+  found_here : found_from ds seen i ≡ first_or i (least_of None (in_declaration ds seen d)) (found_from ds (d.name ∷ seen) (i + 1))
   found_here =
       ap (λ (l : List Declaration). first_broken i (in_declarations ds seen l ++ in_main ds ∷ [])) (cell ds i d below is)
-      ∙ ap (λ (k : ℕ). told_first i (least_of None (in_declaration ds seen d)) (first_broken k (in_declarations ds (d.name ∷ seen) (drop (i + 1) ds) ++ in_main ds ∷ []))) (sym (add-one i))
+      ∙ ap (λ (k : ℕ). first_or i (least_of None (in_declaration ds seen d)) (first_broken k (in_declarations ds (d.name ∷ seen) (drop (i + 1) ds) ++ in_main ds ∷ []))) (sym (add-one i))
 
   -- it breaks a rule
-  pub declaration_told : (r : Rule) (all : Option (ℕ × Rule)) → least_of None (in_declaration ds seen d) ≡ Some r → found_from ds seen i ≡ all → Some (i, r) ≡ all
-  declaration_told r all e inv = sym (ap (λ (o : Option Rule). told_first i o (found_from ds (d.name ∷ seen) (i + 1))) e) ∙ sym found_here ∙ inv
+  pub declaration_found : (r : Rule) (all : Option (ℕ × Rule)) → least_of None (in_declaration ds seen d) ≡ Some r → found_from ds seen i ≡ all → Some (i, r) ≡ all
+  declaration_found r all e inv = sym (ap (λ (o : Option Rule). first_or i o (found_from ds (d.name ∷ seen) (i + 1))) e) ∙ sym found_here ∙ inv
 
   -- or none
   pub declaration_more : (all : Option (ℕ × Rule)) → least_of None (in_declaration ds seen d) ≡ None → found_from ds seen i ≡ all → found_from ds (d.name ∷ seen) (i + 1) ≡ all
-  declaration_more all e inv = sym (ap (λ (o : Option Rule). told_first i o (found_from ds (d.name ∷ seen) (i + 1))) e) ∙ sym found_here ∙ inv
+  declaration_more all e inv = sym (ap (λ (o : Option Rule). first_or i o (found_from ds (d.name ∷ seen) (i + 1))) e) ∙ sym found_here ∙ inv
 
 pub nothing : {A : Type 0} (o : Option A) → ((x : A) → o ≡ Some x → ⊥) → o ≡ None
 nothing None h = refl

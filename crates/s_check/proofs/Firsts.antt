@@ -8,7 +8,7 @@ use Rattle.s_check.specs.declared.refused.Refused.{Refused}
 use Rattle.s_check.specs.declared.refused.Refused.TheVariants as refused
 use Rattle.s_check.specs.declared.rule.Rule.{Rule}
 use Rattle.s_check.specs.declared.rule.Rule.TheVariants as rule
-use Rattle.s_check.specs.Least.{lesser, least_of, told_first, first_broken}
+use Rattle.s_check.specs.Least.{lesser, least_of, first_or, first_broken}
 use Rattle.s_check.specs.Refusal.{number_of, IsOf, first, later, Has, Least, Good, Broken, Means, IsAnswer}
 use Rattle.s_check.specs.Rules.{broken_rules}
 
@@ -50,9 +50,9 @@ least_one (Some p) q rs r h = by (nat_lt (number_of q) (number_of p)) refl h
       ];
     }
 
-least_told : (o : Option Rule) (rs : List Rule) (r : Rule) → least_of o rs ≡ Some r → IsLeastOf o rs r
-least_told o [] r e = record { among = inl e; known = λ s f lt. (let same : s ≡ r = cc in let n : number_of s ≡ number_of r = ap number_of same in omega (arith, n, lt)); others = λ s i lt. none_of s i }
-least_told o (q ∷ rs) r e = least_one o q rs r (least_told (lesser o q) rs r e)
+least_found : (o : Option Rule) (rs : List Rule) (r : Rule) → least_of o rs ≡ Some r → IsLeastOf o rs r
+least_found o [] r e = record { among = inl e; known = λ s f lt. (let same : s ≡ r = cc in let n : number_of s ≡ number_of r = ap number_of same in omega (arith, n, lt)); others = λ s i lt. none_of s i }
+least_found o (q ∷ rs) r e = least_one o q rs r (least_found (lesser o q) rs r e)
 
 lesser_some : (o : Option Rule) (q : Rule) → (p : Rule) × (lesser o q ≡ Some p)
 lesser_some None q = (q, refl)
@@ -80,14 +80,14 @@ has_later : (rs : List Rule) (lists : List (List Rule)) (d : ℕ) (s : Rule) →
 has_later rs lists d s h = record { rules = h.rules; there = h.there; is = h.is }
 
 -- no list has a rule
-pub none_told : (n : ℕ) (lists : List (List Rule)) → first_broken n lists ≡ None → (d : ℕ) (s : Rule) → Has lists d s → ⊥
-none_told n [] e d s h = (let t = h.there in absurd (cc))
-none_told n (rs ∷ lists) e d s h = by (least_of None rs) refl (none_told (suc n) lists) d h
+pub none_broken : (n : ℕ) (lists : List (List Rule)) → first_broken n lists ≡ None → (d : ℕ) (s : Rule) → Has lists d s → ⊥
+none_broken n [] e d s h = (let t = h.there in absurd (cc))
+none_broken n (rs ∷ lists) e d s h = by (least_of None rs) refl (none_broken (suc n) lists) d h
   where
     by : (o : Option Rule) → least_of None rs ≡ o → (first_broken (suc n) lists ≡ None → (c : ℕ) (q : Rule) → Has lists c q → ⊥) → (c : ℕ) → Has (rs ∷ lists) c s → ⊥
-    by (Some r) l rest c k = (let t : told_first n (Some r) (first_broken (suc n) lists) ≡ None = ap (λ (x : Option Rule). told_first n x (first_broken (suc n) lists)) (sym l) ∙ e in absurd (cc))
+    by (Some r) l rest c k = (let t : first_or n (Some r) (first_broken (suc n) lists) ≡ None = ap (λ (x : Option Rule). first_or n x (first_broken (suc n) lists)) (sym l) ∙ e in absurd (cc))
     by None l rest zero k = none_least rs s l (has_first rs lists s k)
-    by None l rest (suc c) k = rest (ap (λ (x : Option Rule). told_first n x (first_broken (suc n) lists)) (sym l) ∙ e) c s (has_later rs lists c s k)
+    by None l rest (suc c) k = rest (ap (λ (x : Option Rule). first_or n x (first_broken (suc n) lists)) (sym l) ∙ e) c s (has_later rs lists c s k)
 
 abbrev number_in : ℕ → Option (ℕ × Rule) → ℕ
 number_in k None = k
@@ -97,17 +97,17 @@ abbrev rule_in : Rule → Option (ℕ × Rule) → Rule
 rule_in r None = r
 rule_in r (Some p) = p.1
 
-told_same : (n m : ℕ) (q r : Rule) → ◌≡◌ {A = Option (ℕ × Rule)} (Some (n, q)) (Some (m, r)) → (n ≡ m) × (q ≡ r)
-told_same n m q r e = (ap (number_in n) e, ap (rule_in q) e)
+same_first : (n m : ℕ) (q r : Rule) → ◌≡◌ {A = Option (ℕ × Rule)} (Some (n, q)) (Some (m, r)) → (n ≡ m) × (q ≡ r)
+same_first n m q r e = (ap (number_in n) e, ap (rule_in q) e)
 
 -- the first that has one, and the least of it
-pub first_told : (n : ℕ) (lists : List (List Rule)) (m : ℕ) (r : Rule) → first_broken n lists ≡ Some (m, r) → (d : ℕ) × (m ≡ n + d) × Least lists d r
-first_told n [] m r e = absurd (cc)
-first_told n (rs ∷ lists) m r e = by (least_of None rs) refl (first_told (suc n) lists m r)
+pub first_found : (n : ℕ) (lists : List (List Rule)) (m : ℕ) (r : Rule) → first_broken n lists ≡ Some (m, r) → (d : ℕ) × (m ≡ n + d) × Least lists d r
+first_found n [] m r e = absurd (cc)
+first_found n (rs ∷ lists) m r e = by (least_of None rs) refl (first_found (suc n) lists m r)
   where
     here : (q : Rule) → least_of None rs ≡ Some q → Least (rs ∷ lists) 0 q
     here q l =
-        let t = least_told None rs q l in
+        let t = least_found None rs q l in
         record {
           has = record { rules = rs; there = refl; is = elim t.among [ inl f ↦ absurd (cc) | inr i ↦ i ] };
           first = λ c s lt h. absurd (omega (arith, lt));
@@ -127,22 +127,22 @@ first_told n (rs ∷ lists) m r e = by (least_of None rs) refl (first_told (suc 
 
     by : (o : Option Rule) → least_of None rs ≡ o → (first_broken (suc n) lists ≡ Some (m, r) → (d : ℕ) × (m ≡ suc n + d) × Least lists d r) → (d : ℕ) × (m ≡ n + d) × Least (rs ∷ lists) d r
     by (Some q) l rest =
-        (let t : told_first n (Some q) (first_broken (suc n) lists) ≡ Some (m, r) = ap (λ (x : Option Rule). told_first n x (first_broken (suc n) lists)) (sym l) ∙ e in
-        let one = told_same n m q r t in let at = one.0 in let same = one.1 in
+        (let t : first_or n (Some q) (first_broken (suc n) lists) ≡ Some (m, r) = ap (λ (x : Option Rule). first_or n x (first_broken (suc n) lists)) (sym l) ∙ e in
+        let one = same_first n m q r t in let at = one.0 in let same = one.1 in
         (0, omega (arith, at), subst (λ (x : Rule). Least (rs ∷ lists) 0 x) same (here q l)))
     by None l rest =
-        (let p = rest (ap (λ (x : Option Rule). told_first n x (first_broken (suc n) lists)) (sym l) ∙ e) in
+        (let p = rest (ap (λ (x : Option Rule). first_or n x (first_broken (suc n) lists)) (sym l) ∙ e) in
         let at = p.1 in
         (suc p.0, omega (arith, at), further l p.0 p.2))
 
 -- ## Scripts
 
 pub good : (p : Script) → first_broken 0 (broken_rules p.declarations) ≡ None → Good p
-good p e = record { none = none_told 0 (broken_rules p.declarations) e }
+good p e = record { none = none_broken 0 (broken_rules p.declarations) e }
 
 pub broken : (p : Script) (d : ℕ) (r : Rule) → first_broken 0 (broken_rules p.declarations) ≡ Some (d, r) → Broken p d r
 broken p d r e =
-    let t = first_told 0 (broken_rules p.declarations) d r e in
+    let t = first_found 0 (broken_rules p.declarations) d r e in
     let same : t.0 ≡ d = (let q = t.1 in omega (arith, q)) in
     subst (λ (k : ℕ). Broken p k r) same t.2
 

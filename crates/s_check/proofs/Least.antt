@@ -2,7 +2,7 @@
 use Rattle.std.proofs.Common.{◌≡◌, ℕ, ◌+◌, ◌<◌, List, [], ◌∷◌, ◌++◌, length, drop, get_or, Option, refl, sym, ap, ◌∙◌}
 use Rattle.s_check.specs.declared.rule.Rule.{Rule}
 use Rattle.s_check.specs.Least.{lesser, least_of}
-use Rattle.s_check.proofs.Lists.{cell}
+use Rattle.lists.proofs.Lists.{cell}
 
 -- of some and then of others
 pub least_append : (least : Option Rule) (rs ss : List Rule) → least_of least (rs ++ ss) ≡ least_of (least_of least rs) ss

@@ -1,7 +1,7 @@
-mod Lists
+mod ArgumentCounts
 mod Least
 mod Greater
-mod Names
+pub mod Names
 mod Clauses
 pub mod Firsts
 mod Scopes

@@ -80,20 +80,20 @@ is_bound (c ∷ bs) x (suc i) b is name alone =
     by false e later = later
 
 module _ (m : BTreeMap (Bor (List ℕ)) ℕ) (bs : List Binding) (places : Places m bs) (x : Name) where
-  place_told : (i : ℕ) (b : Binding) → slice_get bs i ≡ Some b → b.name.now ≡ x → place_of m x ≡ Some i
-  place_told i b is name = subst (λ (n : Name). place_of m n ≡ Some i) name (places i b is)
+  place_found : (i : ℕ) (b : Binding) → slice_get bs i ≡ Some b → b.name.now ≡ x → place_of m x ≡ Some i
+  place_found i b is name = subst (λ (n : Name). place_of m n ≡ Some i) name (places i b is)
 
   -- a name without a place isn't bound
   pub not_placed : place_of m x ≡ None → type_in (scope_of bs) x ≡ None
-  not_placed none = not_bound bs x (λ i b is name. let p = place_told i b is name in absurd (cc))
+  not_placed none = not_bound bs x (λ i b is name. let p = place_found i b is name in absurd (cc))
 
   -- nor is one at whose place nothing stands, or another name
   pub placed_outside : (i : ℕ) → place_of m x ≡ Some i → slice_get bs i ≡ None → type_in (scope_of bs) x ≡ None
-  placed_outside i at out = not_bound bs x (λ j b is name. let p = place_told j b is name in let same : i ≡ j = cc in (let q : slice_get bs j ≡ None = subst (λ (k : ℕ). slice_get bs k ≡ None) same out in absurd (cc)))
+  placed_outside i at out = not_bound bs x (λ j b is name. let p = place_found j b is name in let same : i ≡ j = cc in (let q : slice_get bs j ≡ None = subst (λ (k : ℕ). slice_get bs k ≡ None) same out in absurd (cc)))
 
   pub placed_other : (i : ℕ) (b : Binding) → place_of m x ≡ Some i → slice_get bs i ≡ Some b → bytes_eq b.name.now x ≡ false → type_in (scope_of bs) x ≡ None
   placed_other i b at is other = not_bound bs x (λ j c there name.
-      let p = place_told j c there name in
+      let p = place_found j c there name in
       let same : i ≡ j = cc in
       let q : slice_get bs j ≡ Some b = subst (λ (k : ℕ). slice_get bs k ≡ Some b) same is in
       let e : b ≡ c = cc in
@@ -102,7 +102,7 @@ module _ (m : BTreeMap (Bor (List ℕ)) ℕ) (bs : List Binding) (places : Place
 
   -- it is bound at its place
   pub placed : (i : ℕ) (b : Binding) → place_of m x ≡ Some i → slice_get bs i ≡ Some b → bytes_eq b.name.now x ≡ true → type_in (scope_of bs) x ≡ Some (type_of b.ty)
-  placed i b at is same = is_bound bs x i b is ((bytes_eq-Decides b.name.now x).0 same) (λ j c there name. let p = place_told j c there name in cc)
+  placed i b at is same = is_bound bs x i b is ((bytes_eq-Decides b.name.now x).0 same) (λ j c there name. let p = place_found j c there name in cc)
 
   -- the type at its place is that of the name
   typed_at : (i : ℕ) (o : Option Binding) → place_of m x ≡ Some i → slice_get bs i ≡ o → option_map type_of (type_at o x) ≡ type_in (scope_of bs) x

@@ -6,7 +6,7 @@ use Rattle.s_check.specs.Rules.{bound_after}
 use Rattle.s_check.specs.declared.bound.Binding.{Binding}
 use Rattle.s_check.specs.Scopes.{Bound, Scope, type_in, number}
 use Rattle.s_check.specs.Views.{bound_of, scope_of}
-use Rattle.s_check.proofs.Lists.{cell}
+use Rattle.lists.proofs.Lists.{cell}
 use Rattle.s_check.proofs.Names.{scope_more}
 
 -- what was bound at first stays in front, where more is bound

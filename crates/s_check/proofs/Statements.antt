@@ -11,7 +11,7 @@ use Rattle.s_check.specs.Parts.{in_front, in_blocks}
 use Rattle.s_check.specs.Rules.{in_expr, in_statement, in_block, bound_after}
 use Rattle.s_check.specs.Scopes.{Scope, lets_of, lets_in}
 use Rattle.s_check.proofs.Least.{least_append}
-use Rattle.s_check.proofs.Lists.{cell}
+use Rattle.lists.proofs.Lists.{cell}
 
 -- ## Names that lets bind
 

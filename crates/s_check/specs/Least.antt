@@ -14,10 +14,10 @@ least_of least (r ∷ rs) = least_of (lesser least r) rs
 
 -- ## The first of lists that has a rule, where the first list has number n, and its least rule
 
-abbrev pub told_first : ℕ → Option Rule → Option (ℕ × Rule) → Option (ℕ × Rule)
-told_first n None later = later
-told_first n (Some r) later = Some (n, r)
+abbrev pub first_or : ℕ → Option Rule → Option (ℕ × Rule) → Option (ℕ × Rule)
+first_or n None later = later
+first_or n (Some r) later = Some (n, r)
 
 abbrev pub first_broken : ℕ → List (List Rule) → Option (ℕ × Rule)
 first_broken n [] = None
-first_broken n (rs ∷ lists) = told_first n (least_of None rs) (first_broken (suc n) lists)
+first_broken n (rs ∷ lists) = first_or n (least_of None rs) (first_broken (suc n) lists)

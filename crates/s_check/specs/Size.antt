@@ -55,3 +55,7 @@ definition_size (definition.Handler h) = 1 + length h.parameters + (1 + 1 + bloc
 
 abbrev pub Size : Script → ℕ
 Size p = sum_by (λ (d : Declaration). definition_size d.definition) p.declarations
+
+-- the greatest size of a script that is checked, and compiled
+abbrev pub size_limit : ℕ
+size_limit = 50000

@@ -17,7 +17,7 @@ use Rattle.s_code.specs.Handlers.{Placed, clause_code, blocks, set_names}
 use Rattle.s_code.specs.Instructions.{local_set}
 use Rattle.s_code.specs.Layouts.{Layout, local_number}
 use Rattle.s_code.specs.Writes.{Writes}
-use Rattle.s_index.proofs.Lists.{cell, cell_back}
+use Rattle.lists.proofs.Lists.{cell, cell_back}
 
 -- the last name of a list is set first
 pub set_last : (Γ : Layout) (xs : List Name) (x : Name) (c : Code) → set_names Γ (xs ++ x ∷ []) c ≡ Plain (local_set (local_number Γ x)) (set_names Γ xs c)

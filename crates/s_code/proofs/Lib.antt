@@ -1,7 +1,7 @@
-pub mod Writing
+pub mod WrittenBehind
 pub mod Sizes
 pub mod Highs
 mod Locals
-mod Handling
+mod HandlesWritten
 mod Blocks
-mod Walking
+mod BuiltFromTokens

@@ -6,7 +6,7 @@ use Rattle.s_syntax.specs.ExprTree.{ExprTree, Literal, Read, Unary, Run, Call, D
 use Rattle.s_syntax.specs.BlockOf.{statement_of, block_of}
 use Rattle.s_check.specs.Rules.{count}
 use Rattle.s_check.specs.Size.{expr_size, exprs_size, operands_size, statement_size, block_size}
-use Rattle.s_index.proofs.Lists.{cell}
+use Rattle.lists.proofs.Lists.{cell}
 
 -- an expression has a size
 pub some_size : (e : ExprTree) → 1 ≤ expr_size e

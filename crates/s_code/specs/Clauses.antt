@@ -8,6 +8,7 @@ use Rattle.w_syntax.specs.Expr.{tokens}
 use Rattle.s_syntax.specs.declared.script.Declaration.{Declaration}
 use Rattle.s_check.specs.Size.{block_size}
 use Rattle.s_index.specs.Indices.{clause_type_index}
+use Rattle.s_index.specs.Limits.{number_limit}
 use Rattle.s_code.specs.declared.handler.Placed.{Placed as Kept}
 use Rattle.s_code.specs.Handlers.{Placed, clause_code}
 
@@ -30,4 +31,4 @@ closes ds (p ∷ ps) = tok.End ∷ (tokens (clause_code ds (length ps) p) ++ clo
 
 -- each clause has room for its temporaries and labels
 abbrev pub AllFit : List Kept → Type 0
-AllFit ps = (i : ℕ) (p : Kept) → slice_get ps i ≡ Some p → p.layout.temporaries + length ps + block_size p.clause.now.body ≤ 1000000
+AllFit ps = (i : ℕ) (p : Kept) → slice_get ps i ≡ Some p → p.layout.temporaries + length ps + block_size p.clause.now.body ≤ number_limit

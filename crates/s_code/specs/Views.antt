@@ -9,13 +9,13 @@ use Rattle.std.specs.Ordering.{nat_cmp}
 use Rattle.s_syntax.specs.declared.name.Name.{Name}
 use Rattle.s_syntax.specs.declared.script.VariableType.{VariableType}
 use Rattle.s_syntax.specs.declared.script.VariableType.TheVariants.{Int, Resumption}
-use Rattle.s_code.specs.declared.layout.ValueType.{ValueType}
-use Rattle.s_code.specs.declared.layout.ValueType.TheVariants as value
+use Rattle.s_code.specs.declared.layout.LocalType.{LocalType}
+use Rattle.s_code.specs.declared.layout.LocalType.TheVariants as value
 use Rattle.s_code.specs.declared.layout.LocalName.{LocalName}
 use Rattle.s_code.specs.declared.layout.OwnHandler.{OwnHandler}
 use Rattle.s_code.specs.Layouts.{Local, Owner, Layout, local_of}
 
-abbrev pub type_of : ValueType → VariableType
+abbrev pub type_of : LocalType → VariableType
 type_of value.Int = Int
 type_of (value.Resumption h) = Resumption h.now
 

@@ -5,6 +5,7 @@ ghost use Rattle.w_syntax.specs.Builds.{Builds};
 ghost use Rattle.w_syntax.specs.Expr.{Top, tokens as tokens_of};
 ghost use Rattle.s_check.specs.Size.{block_size};
 ghost use Rattle.s_code.specs.Statements.{body as body_code};
+ghost use Rattle.s_index.specs.Limits.{number_limit};
 
 use crate::layout::Layout;
 use crate::statement::write_body;
@@ -43,7 +44,7 @@ pub fn function_body<'a>(
     layout: &Layout<'a>,
     body: &'a Block,
 ) -> Result<Body, AllocError>
-    requires { layout.now.temporaries + block_size body.now ≤ 1000000 }
+    requires { layout.now.temporaries + block_size body.now ≤ number_limit }
     ensures value { IfOk result (λ made. made ≡ body_code program.now layout.now 0 body.now) }
 {
     let mut tokens = Vec::new(alloc);

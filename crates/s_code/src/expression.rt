@@ -9,6 +9,7 @@ ghost use Rattle.s_code.specs.Expressions.{aside, operator as operator_code, rel
 ghost use Rattle.s_code.specs.Instructions.{connective as connective_code, truth};
 ghost use Rattle.s_code.specs.Layouts.{handler_of_name};
 ghost use Rattle.s_code.specs.Writes.{Writes};
+ghost use Rattle.s_index.specs.Limits.{number_limit};
 
 use crate::layout::Layout;
 use crate::operators::{
@@ -28,7 +29,7 @@ fn write_reload<'a>(
     items: &'a [Expr],
     out: &mut Vec<Token>,
 ) -> Result<(), AllocError>
-    requires { layout.now.temporaries + used + exprs_size (exprs items.now) ≤ 1000000 }
+    requires { layout.now.temporaries + used + exprs_size (exprs items.now) ≤ number_limit }
     ensures writes { OnOk result ((c : Code) → Writes out.old.items (reload layout.now used (exprs items.now) c) out.new.items c) }
 {
     let mut next = used;
@@ -85,7 +86,7 @@ pub(crate) fn write_expr<'a>(
     expression: &'a Expr,
     out: &mut Vec<Token>,
 ) -> Result<(), AllocError>
-    requires { layout.now.temporaries + used + expr_size expression.now ≤ 1000000 }
+    requires { layout.now.temporaries + used + expr_size expression.now ≤ number_limit }
     ensures writes { OnOk result ((c : Code) → Writes out.old.items (expr program.now layout.now used expression.now c) out.new.items c) }
 {
     write_node(program, layout, used, expression.node(), out)
@@ -99,7 +100,7 @@ fn write_node<'a>(
     node: &'a Node,
     out: &mut Vec<Token>,
 ) -> Result<(), AllocError>
-    requires { layout.now.temporaries + used + expr_size (expr_of node.now) ≤ 1000000 }
+    requires { layout.now.temporaries + used + expr_size (expr_of node.now) ≤ number_limit }
     ensures writes { OnOk result ((c : Code) → Writes out.old.items (expr program.now layout.now used (expr_of node.now) c) out.new.items c) }
 {
     match node {
@@ -166,7 +167,7 @@ pub(crate) fn write_args<'a>(
     items: &'a [Expr],
     out: &mut Vec<Token>,
 ) -> Result<(), AllocError>
-    requires { layout.now.temporaries + used + exprs_size (exprs items.now) ≤ 1000000 }
+    requires { layout.now.temporaries + used + exprs_size (exprs items.now) ≤ number_limit }
     ensures writes { OnOk result ((c : Code) → Writes out.old.items (args program.now layout.now used (exprs items.now) c) out.new.items c) }
 {
     for item in items {
@@ -184,7 +185,7 @@ fn write_one_aside<'a>(
     item: &'a Expr,
     out: &mut Vec<Token>,
 ) -> Result<(), AllocError>
-    requires { layout.now.temporaries + used + expr_size item.now ≤ 1000000 }
+    requires { layout.now.temporaries + used + expr_size item.now ≤ number_limit }
     ensures writes { OnOk result ((c : Code) → Writes out.old.items (aside layout.now used item.now (λ (k : Code). expr program.now layout.now used item.now k) c) out.new.items c) }
 {
     if layout.stays(item) {
@@ -203,7 +204,7 @@ fn write_aside<'a>(
     items: &'a [Expr],
     out: &mut Vec<Token>,
 ) -> Result<(), AllocError>
-    requires { layout.now.temporaries + used + exprs_size (exprs items.now) ≤ 1000000 }
+    requires { layout.now.temporaries + used + exprs_size (exprs items.now) ≤ number_limit }
     ensures writes { OnOk result ((c : Code) → Writes out.old.items (set_aside program.now layout.now used (exprs items.now) c) out.new.items c) }
 {
     let mut next = used;
@@ -224,7 +225,7 @@ fn write_connective<'a>(
     right: &'a Expr,
     out: &mut Vec<Token>,
 ) -> Result<(), AllocError>
-    requires { layout.now.temporaries + used + expr_size right.now ≤ 1000000 }
+    requires { layout.now.temporaries + used + expr_size right.now ≤ number_limit }
     ensures writes { OnOk result ((c : Code) → Writes out.old.items (connective_code connective (expr program.now layout.now used right.now truth) c) out.new.items c) }
 {
     write_numeric(NumericOp::Eqz(IntType::I64), out)?;
@@ -259,7 +260,7 @@ fn write_operand<'a>(
     right: &'a Expr,
     out: &mut Vec<Token>,
 ) -> Result<(), AllocError>
-    requires { layout.now.temporaries + used + expr_size right.now ≤ 1000000 }
+    requires { layout.now.temporaries + used + expr_size right.now ≤ number_limit }
     ensures writes { OnOk result ((c : Code) → Writes out.old.items (operator_code operator (λ (k : Code). expr program.now layout.now used right.now k) c) out.new.items c) }
 {
     match operator {
@@ -286,7 +287,7 @@ fn write_operands<'a>(
     rest: &'a [(BinaryOperator, Expr)],
     out: &mut Vec<Token>,
 ) -> Result<(), AllocError>
-    requires { layout.now.temporaries + used + operands_size (operands rest.now) ≤ 1000000 }
+    requires { layout.now.temporaries + used + operands_size (operands rest.now) ≤ number_limit }
     ensures writes { OnOk result ((c : Code) → Writes out.old.items (operands_code program.now layout.now used (operands rest.now) c) out.new.items c) }
 {
     for item in rest {
@@ -315,7 +316,7 @@ pub(crate) fn write_tail_resume<'a>(
     parameters: &'a [Expr],
     out: &mut Vec<Token>,
 ) -> Result<(), AllocError>
-    requires { layout.now.temporaries + 1 + expr_size argument.now + exprs_size (exprs parameters.now) ≤ 1000000 }
+    requires { layout.now.temporaries + 1 + expr_size argument.now + exprs_size (exprs parameters.now) ≤ number_limit }
     ensures writes { OnOk result ((c : Code) → Writes out.old.items (tail_resume program.now layout.now labels resumption.now argument.now (exprs parameters.now) c) out.new.items c) }
 {
     write_expr(program, layout, 0, argument, out)?;

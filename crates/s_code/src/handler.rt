@@ -5,16 +5,18 @@ ghost use Rattle.s_check.specs.Size.{block_size};
 ghost use Rattle.s_code.specs.Handlers.{set_names, clause_code, labels as labels_code, handling, turn, handler_body as handler_body_code};
 ghost use Rattle.s_code.specs.Clauses.{placed_in, placed_all, opens, closes, AllFit};
 ghost use Rattle.s_code.specs.Writes.{Writes};
+ghost use Rattle.s_index.specs.Limits.{number_limit};
 
 use crate::body::body_of;
 use crate::layout::Layout;
 use crate::operators::{write_get, write_set, write_switching, write_token};
 use crate::statement::write_body;
+use lists::ListOf;
 use s_index::{COMPUTATION, Program};
 use s_syntax::{Clause, Handler, Name};
 use std::alloc::{AllocError, Global};
 use w_syntax::{BlockKind, BlockType, Body, Clause as HandlerClause, SwitchingOp, Token};
-use w_types::{ListOf, PackedType};
+use w_types::PackedType;
 
 /// A clause, with where its names are.
 #[derive(Drop)]
@@ -45,7 +47,7 @@ fn write_clause<'a>(
     placed: &Placed<'a>,
     out: &mut Vec<Token>,
 ) -> Result<(), AllocError>
-    requires { placed.now.layout.temporaries + labels + block_size placed.now.clause.now.body ≤ 1000000 }
+    requires { placed.now.layout.temporaries + labels + block_size placed.now.clause.now.body ≤ number_limit }
     ensures writes { OnOk result (Writes out.old.items (clause_code program.now labels (placed_in placed.now)) out.new.items Done) }
 {
     let clause = placed.clause;
@@ -77,7 +79,7 @@ fn close_blocks<'a>(
     out: &mut Vec<Token>,
 ) -> Result<(), AllocError>
     requires fit { AllFit all.now }
-    requires few { length all.now ≤ 1000000 }
+    requires few { length all.now ≤ number_limit }
     ensures closes { OnOk result (out.new.items ≡ out.old.items ++ closes program.now (placed_all all.now)) }
 {
     for index in 0..all.len() {
@@ -95,7 +97,7 @@ fn labels<'a>(
     program: &Program<'a>,
     clauses: &'a [Clause],
 ) -> Result<ListOf<HandlerClause>, AllocError>
-    requires { length clauses.now ≤ 1000000 }
+    requires { length clauses.now ≤ number_limit }
     ensures value { IfOk result (λ all. all ≡ labels_code program.now 0 clauses.now) }
 {
     let mut all = Vec::new(alloc);
@@ -113,8 +115,8 @@ fn write_handling<'a>(
     handler: &'a Handler,
     out: &mut Vec<Token>,
 ) -> Result<(), AllocError>
-    requires returns { layout.now.temporaries + length handler.now.clauses + block_size handler.now.return_clause.body ≤ 1000000 }
-    requires parameters { length handler.now.parameters ≤ 1000000 }
+    requires returns { layout.now.temporaries + length handler.now.clauses + block_size handler.now.return_clause.body ≤ number_limit }
+    requires parameters { length handler.now.parameters ≤ number_limit }
     ensures writes { OnOk result (Writes out.old.items (handling program.now layout.now handler.now) out.new.items Done) }
 {
     write_get(handler.parameters.len() as u32, out)?;
@@ -141,9 +143,9 @@ fn write_turn<'a>(
     out: &mut Vec<Token>,
 ) -> Result<(), AllocError>
     requires clauses { AllFit placed.now }
-    requires few { length placed.now ≤ 1000000 }
-    requires returns { layout.now.temporaries + length handler.now.clauses + block_size handler.now.return_clause.body ≤ 1000000 }
-    requires parameters { length handler.now.parameters ≤ 1000000 }
+    requires few { length placed.now ≤ number_limit }
+    requires returns { layout.now.temporaries + length handler.now.clauses + block_size handler.now.return_clause.body ≤ number_limit }
+    requires parameters { length handler.now.parameters ≤ number_limit }
     ensures writes { OnOk result (Writes out.old.items (turn program.now layout.now handler.now (placed_all placed.now)) out.new.items Done) }
 {
     open_blocks(program, placed, out)?;
@@ -160,9 +162,9 @@ pub fn handler_body<'a>(
     placed: &[Placed<'a>],
 ) -> Result<Body, AllocError>
     requires clauses { AllFit placed.now }
-    requires few { length placed.now ≤ 1000000 }
-    requires returns { layout.now.temporaries + length handler.now.clauses + block_size handler.now.return_clause.body ≤ 1000000 }
-    requires parameters { length handler.now.parameters ≤ 1000000 }
+    requires few { length placed.now ≤ number_limit }
+    requires returns { layout.now.temporaries + length handler.now.clauses + block_size handler.now.return_clause.body ≤ number_limit }
+    requires parameters { length handler.now.parameters ≤ number_limit }
     ensures value { IfOk result (λ made. made ≡ handler_body_code program.now layout.now handler.now (placed_all placed.now)) }
 {
     let mut tokens = Vec::new(alloc);

@@ -9,7 +9,7 @@ use std::marker::Model;
 
 /// The type of a value name.
 #[derive(Clone, Copy)]
-pub enum ValueType<'a> {
+pub enum LocalType<'a> {
     /// A number.
     Int,
     /// A resumption of the handler of this name.
@@ -20,7 +20,7 @@ pub enum ValueType<'a> {
 #[derive(Clone, Copy)]
 pub struct LocalName<'a> {
     pub name: &'a Name,
-    pub ty: ValueType<'a>,
+    pub ty: LocalType<'a>,
     pub number: u32,
 }
 
@@ -124,7 +124,7 @@ impl<'a> Layout<'a> {
             Some(
                 LocalName {
                     name: _,
-                    ty: ValueType::Resumption(handler),
+                    ty: LocalType::Resumption(handler),
                     number: _,
                 },
             ) => Some(handler),

@@ -11,5 +11,5 @@ mod temporaries;
 
 pub use body::function_body;
 pub use handler::{Placed, handler_body};
-pub use layout::{Layout, LocalName, OwnHandler, ValueType};
+pub use layout::{Layout, LocalName, LocalType, OwnHandler};
 pub use temporaries::high_block;

@@ -20,7 +20,7 @@ pub(crate) fn write_token(token: Token, out: &mut Vec<Token>) -> Result<(), Allo
 }
 
 /// Writes an instruction that holds no others.
-#[tactic(auto, using(crate::proofs::Writing::plain_written))]
+#[tactic(auto, using(crate::proofs::WrittenBehind::plain_written))]
 pub(crate) fn write_op(op: Op, out: &mut Vec<Token>) -> Result<(), AllocError>
     ensures writes { OnOk result ((c : Code) → Writes out.old.items (Plain op c) out.new.items c) }
 {

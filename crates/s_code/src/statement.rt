@@ -6,6 +6,7 @@ ghost use Rattle.s_syntax.specs.BlockOf.{statement_of, block_of};
 ghost use Rattle.s_check.specs.Size.{expr_size, statement_size, block_size};
 ghost use Rattle.s_code.specs.Statements.{return as return_code, statement as statement_code, block as block_code, body as body_code, ending};
 ghost use Rattle.s_code.specs.Writes.{Writes};
+ghost use Rattle.s_index.specs.Limits.{number_limit};
 
 use crate::expression::{write_expr, write_tail_resume};
 use crate::layout::Layout;
@@ -26,7 +27,7 @@ fn write_return<'a>(
     value: &'a Expr,
     out: &mut Vec<Token>,
 ) -> Result<(), AllocError>
-    requires { layout.now.temporaries + 1 + expr_size value.now ≤ 1000000 }
+    requires { layout.now.temporaries + 1 + expr_size value.now ≤ number_limit }
     ensures writes { OnOk result ((c : Code) → Writes out.old.items (return_code program.now layout.now labels value.now c) out.new.items c) }
 {
     if let Node::Resume {
@@ -57,7 +58,7 @@ fn write_if<'a>(
     else_block: &'a Block,
     out: &mut Vec<Token>,
 ) -> Result<(), AllocError>
-    requires { layout.now.temporaries + labels + statement_size (If condition.now then_block.now else_block.now) ≤ 1000000 }
+    requires { layout.now.temporaries + labels + statement_size (If condition.now then_block.now else_block.now) ≤ number_limit }
     ensures writes { OnOk result ((c : Code) → Writes out.old.items (statement_code program.now layout.now labels (If condition.now then_block.now else_block.now) c) out.new.items c) }
 {
     write_expr(program, layout, 0, condition, out)?;
@@ -80,7 +81,7 @@ fn write_while<'a>(
     body: &'a Block,
     out: &mut Vec<Token>,
 ) -> Result<(), AllocError>
-    requires { layout.now.temporaries + labels + statement_size (While condition.now body.now) ≤ 1000000 }
+    requires { layout.now.temporaries + labels + statement_size (While condition.now body.now) ≤ number_limit }
     ensures writes { OnOk result ((c : Code) → Writes out.old.items (statement_code program.now layout.now labels (While condition.now body.now) c) out.new.items c) }
 {
     write_token(Token::Block(BlockKind::Block, BlockType::Empty), out)?;
@@ -104,7 +105,7 @@ fn write_statement<'a>(
     statement: &'a Statement,
     out: &mut Vec<Token>,
 ) -> Result<(), AllocError>
-    requires { layout.now.temporaries + labels + statement_size (statement_of statement.now) ≤ 1000000 }
+    requires { layout.now.temporaries + labels + statement_size (statement_of statement.now) ≤ number_limit }
     ensures writes { OnOk result ((c : Code) → Writes out.old.items (statement_code program.now layout.now labels (statement_of statement.now) c) out.new.items c) }
 {
     match statement {
@@ -144,7 +145,7 @@ fn write_block<'a>(
     block: &'a Block,
     out: &mut Vec<Token>,
 ) -> Result<(), AllocError>
-    requires { layout.now.temporaries + labels + block_size block.now ≤ 1000000 }
+    requires { layout.now.temporaries + labels + block_size block.now ≤ number_limit }
     ensures writes { OnOk result ((c : Code) → Writes out.old.items (block_code program.now layout.now labels block.now c) out.new.items c) }
 {
     for statement in block.statements() {
@@ -161,7 +162,7 @@ pub(crate) fn write_body<'a>(
     body: &'a Block,
     out: &mut Vec<Token>,
 ) -> Result<(), AllocError>
-    requires { layout.now.temporaries + labels + block_size body.now ≤ 1000000 }
+    requires { layout.now.temporaries + labels + block_size body.now ≤ number_limit }
     ensures writes { OnOk result (Writes out.old.items (body_code program.now layout.now labels body.now) out.new.items Done) }
 {
     write_block(program, layout, labels, body, out)?;

@@ -5,13 +5,14 @@ ghost use Rattle.s_syntax.specs.ExprOf.{expr_of};
 ghost use Rattle.s_syntax.specs.ExprTree.{exprs, operands};
 ghost use Rattle.s_check.specs.Size.{expr_size, exprs_size, operands_size, statement_size, block_size};
 ghost use Rattle.s_code.specs.Temporaries.{high, high_args, high_aside, high_operands, high_statement, high_block};
+ghost use Rattle.s_index.specs.Limits.{number_limit};
 
 use s_syntax::{BinaryOperator, Block, Expr, Node, Statement};
 
 // The first temporary that an expression doesn't use, where so many are in use.
 #[cycle(expressions)]
 fn high(used: u32, expr: &Expr) -> u32
-    requires { used + expr_size expr.now ≤ 1000000 }
+    requires { used + expr_size expr.now ≤ number_limit }
     ensures value { result ≡ high used expr.now }
 {
     high_node(used, expr.node())
@@ -19,7 +20,7 @@ fn high(used: u32, expr: &Expr) -> u32
 
 #[cycle(expressions)]
 fn high_node(used: u32, node: &Node) -> u32
-    requires { used + expr_size (expr_of node.now) ≤ 1000000 }
+    requires { used + expr_size (expr_of node.now) ≤ number_limit }
     ensures value { result ≡ high used (expr_of node.now) }
 {
     match node {
@@ -54,7 +55,7 @@ fn high_node(used: u32, node: &Node) -> u32
 // That of arguments on the stack.
 #[cycle(expressions)]
 fn high_args(used: u32, items: &[Expr]) -> u32
-    requires { used + exprs_size (exprs items.now) ≤ 1000000 }
+    requires { used + exprs_size (exprs items.now) ≤ number_limit }
     ensures value { result ≡ high_args used (exprs items.now) }
 {
     let mut most = 0;
@@ -67,7 +68,7 @@ fn high_args(used: u32, items: &[Expr]) -> u32
 // That of arguments that are put aside, each a temporary further.
 #[cycle(expressions)]
 fn high_aside(used: u32, items: &[Expr]) -> u32
-    requires { used + exprs_size (exprs items.now) ≤ 1000000 }
+    requires { used + exprs_size (exprs items.now) ≤ number_limit }
     ensures value { result ≡ high_aside used (exprs items.now) }
 {
     let mut most = 0;
@@ -82,7 +83,7 @@ fn high_aside(used: u32, items: &[Expr]) -> u32
 // That of operands.
 #[cycle(expressions)]
 fn high_operands(used: u32, rest: &[(BinaryOperator, Expr)]) -> u32
-    requires { used + operands_size (operands rest.now) ≤ 1000000 }
+    requires { used + operands_size (operands rest.now) ≤ number_limit }
     ensures value { result ≡ high_operands used (operands rest.now) }
 {
     let mut most = 0;
@@ -95,7 +96,7 @@ fn high_operands(used: u32, rest: &[(BinaryOperator, Expr)]) -> u32
 // That of a statement.
 #[cycle(statements)]
 fn high_statement(statement: &Statement) -> u32
-    requires { statement_size (statement_of statement.now) ≤ 1000000 }
+    requires { statement_size (statement_of statement.now) ≤ number_limit }
     ensures value { result ≡ high_statement (statement_of statement.now) }
 {
     match statement {
@@ -116,7 +117,7 @@ fn high_statement(statement: &Statement) -> u32
 // How many temporaries a block takes.
 #[cycle(statements)]
 fn high_in_block(block: &Block) -> u32
-    requires { block_size block.now ≤ 1000000 }
+    requires { block_size block.now ≤ number_limit }
     ensures value { result ≡ high_block block.now }
 {
     let mut most = 0;
@@ -129,7 +130,7 @@ fn high_in_block(block: &Block) -> u32
 /// How many temporaries a body takes, at most its size.
 #[tactic(auto, using(crate::proofs::Highs::block_high))]
 pub fn high_block(body: &Block) -> u32
-    requires { block_size body.now ≤ 1000000 }
+    requires { block_size body.now ≤ number_limit }
     ensures value { result ≡ high_block body.now }
     ensures few { result ≤ block_size body.now }
 {

@@ -1,6 +1,6 @@
 pub mod Tokens
 pub mod Loops
-pub mod Listed
-pub mod Enclosed
-pub mod Graded
-pub mod Shrinking
+pub mod ListsWithCommas
+pub mod BetweenBrackets
+pub mod LoosestLevel
+pub mod ItemsTakeTokens

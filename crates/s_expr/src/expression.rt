@@ -27,7 +27,7 @@ fn run_of(alloc: Global, first: Expr, rest: Vec<(BinaryOperator, Expr)>) -> Resu
 
 /// An expression, where so many brackets may be opened.
 #[cycle(expr)]
-#[tactic(auto, using(crate::proofs::Graded::expr_is))]
+#[tactic(auto, using(crate::proofs::LoosestLevel::expr_is))]
 pub fn expr_at(
     alloc: Global,
     bytes: &[u8],

@@ -7,7 +7,7 @@ use Rattle.s_grammar.specs.Grammar.{Grammar, Choice}
 use Rattle.s_grammar.specs.Kinds.{kind_of, Kinds}
 use Rattle.s_grammar.specs.Reading.{Why, Wrong, TooDeep, Reading, Answer, choice, Got, Refused}
 use Rattle.s_grammar.proofs.InTurn.{no_tokens}
-use Rattle.s_grammar.proofs.ReadingLaws.{Begins, must, Told, Laws}
+use Rattle.s_grammar.proofs.ReadingLaws.{Begins, must, Known, Laws}
 use Rattle.s_grammar.proofs.Walks.{front_kind}
 
 -- what the first token's grammar spells is spelled by the choice
@@ -34,16 +34,16 @@ must_beyond TooDeep [] = refl
 must_beyond TooDeep (t ∷ ts) = refl
 
 -- what reading by the first token tells
-choice_told : {A : Type 0} (n : ℕ) (G : Kind → ℕ → Grammar A) (r : Kind → Reading A) (ts : List Token) → ((m : ℕ) (x : A) → G (kind_of ts) m [] x → ⊥) → ((m : ℕ) → n + 3 ≤ m → Begins (Choice (λ k. G k m)) [])
-    → (o : Answer A) → Told n (G (kind_of ts)) (r (kind_of ts)) ts o → Told n (λ m. Choice (λ k. G k m)) (choice r) ts o
-choice_told n G r ts solid sample (Got x rest) t = record {
+choice_known : {A : Type 0} (n : ℕ) (G : Kind → ℕ → Grammar A) (r : Kind → Reading A) (ts : List Token) → ((m : ℕ) (x : A) → G (kind_of ts) m [] x → ⊥) → ((m : ℕ) → n + 3 ≤ m → Begins (Choice (λ k. G k m)) [])
+    → (o : Answer A) → Known n (G (kind_of ts)) (r (kind_of ts)) ts o → Known n (λ m. Choice (λ k. G k m)) (choice r) ts o
+choice_known n G r ts solid sample (Got x rest) t = record {
   front = t.front;
   parts = t.parts;
   spelled = λ m l. choice_spelled (λ k. G k m) t.front ts rest x t.parts (solid m x) (t.spelled m l);
   level = t.level;
   again = λ s k. ap (λ (j : Kind). r j (t.front ++ s)) (front_kind t.front s rest k ∙ ap kind_of (sym t.parts)) ∙ t.again s k;
 }
-choice_told n G r ts solid sample (Refused w rest) t = record {
+choice_known n G r ts solid sample (Refused w rest) t = record {
   front = t.front;
   parts = t.parts;
   begins = λ m l. choice_begins (λ k. G k m) (t.front ++ must w rest) ts (beyond w rest) (t.parts ∙ ap (λ (u : List Token). t.front ++ u) (must_beyond w rest) ∙ sym (append_assoc t.front (must w rest) (beyond w rest))) (sample m l) (t.begins m l);
@@ -67,7 +67,7 @@ choice_empties g x h = h
 pub choice_laws : {A : Type 0} (n d j : ℕ) (first stops : Kinds) (G : Kind → ℕ → Grammar A) (r : Kind → Reading A) → d ≤ 3 → ((k : Kind) → Laws n j false first stops (G k) (r k))
     → ((m : ℕ) → d ≤ m → Begins (Choice (λ k. G k m)) []) → Laws n d false first stops (λ m. Choice (λ k. G k m)) (choice r)
 choice_laws n d j first stops G r small p sample = record {
-  told = λ ts. choice_told n G r ts (no_tokens (p (kind_of ts))) (λ m l. sample m (omega arith)) (r (kind_of ts) ts) ((p (kind_of ts)).told ts);
+  known = λ ts. choice_known n G r ts (no_tokens (p (kind_of ts))) (λ m l. sample m (omega arith)) (r (kind_of ts) ts) ((p (kind_of ts)).known ts);
   only = choice_only n j first stops G r p;
   sample = sample;
   starts = λ m t b x g. (p t.kind).starts m t b x g;

@@ -8,7 +8,7 @@ use Rattle.s_grammar.specs.Grammar.{Grammar, Between, Inside}
 use Rattle.s_grammar.specs.Kinds.{Kinds, is, kind_of, turn, Opens, Turn, Closes}
 use Rattle.s_grammar.specs.Reading.{Reading, between, Refused, Wrong, opened, behind, TooDeep, closed, Got, Answer, and_then}
 use Rattle.s_grammar.proofs.KindSets.{Within, opening, closing, opens_is, within, closes_is, any_kind}
-use Rattle.s_grammar.proofs.ReadingLaws.{Begins, Laws, GotAt, Told, must}
+use Rattle.s_grammar.proofs.ReadingLaws.{Begins, Laws, GotAt, Known, must}
 use Rattle.s_grammar.proofs.OneToken.{token_of, one_got, one_refused}
 use Rattle.s_grammar.proofs.Walks.{walk, walk_by, walk_append}
 
@@ -95,7 +95,7 @@ between_closes o c H t v x p q k h (suc m) l =
 -- what follows the value inside is the bracket, or is wrong
 between_by : {A : Type 0} (k : ℕ) (o c : Kind) → AreBrackets o c → (H : ℕ → Grammar A) (r : Reading A) (t : Token) (ts : List Token) → is o t.kind ≡ true
     → (x : A) (rest : List Token) → GotAt k H r ts x rest → (u : Token) (more : List Token) → rest ≡ u ∷ more → (v : Bool) → is c u.kind ≡ v
-    → Told (suc k) (λ m. Between o c (Inside H m)) (between o c (Some r)) (t ∷ ts) (and_then (if v then Got u more else Refused Wrong (u ∷ more)) (λ _ z. Got x z))
+    → Known (suc k) (λ m. Between o c (Inside H m)) (between o c (Some r)) (t ∷ ts) (and_then (if v then Got u more else Refused Wrong (u ∷ more)) (λ _ z. Got x z))
 between_by k o c b H r t ts e x rest g u more same true h = record {
   front = t ∷ (g.front ++ u ∷ []);
   parts = ap (λ (l : List Token). t ∷ l) (g.parts ∙ ap (λ (l : List Token). g.front ++ l) same ∙ sym (append_assoc g.front (u ∷ []) more));
@@ -115,7 +115,7 @@ between_by k o c b H r t ts e x rest g u more same false h = record {
 
 -- what follows the value within, or the end
 between_after : {A : Type 0} (k : ℕ) (o c : Kind) → AreBrackets o c → (H : ℕ → Grammar A) (r : Reading A) (t : Token) (ts : List Token) → is o t.kind ≡ true
-    → (x : A) (rest : List Token) → GotAt k H r ts x rest → (l : List Token) → rest ≡ l → Told (suc k) (λ m. Between o c (Inside H m)) (between o c (Some r)) (t ∷ ts) (closed c x l)
+    → (x : A) (rest : List Token) → GotAt k H r ts x rest → (l : List Token) → rest ≡ l → Known (suc k) (λ m. Between o c (Inside H m)) (between o c (Some r)) (t ∷ ts) (closed c x l)
 between_after k o c b H r t ts e x rest g [] same = record {
   front = t ∷ g.front;
   parts = ap (λ (l : List Token). t ∷ l) (g.parts ∙ ap (λ (l : List Token). g.front ++ l) same);
@@ -129,7 +129,7 @@ between_after k o c b H r t ts e x rest g (u ∷ more) same = between_by k o c b
 
 -- what reading within tells, told with brackets
 between_inner : {A : Type 0} (k : ℕ) (o c : Kind) → AreBrackets o c → (H : ℕ → Grammar A) (r : Reading A) (t : Token) (ts : List Token) → is o t.kind ≡ true
-    → (a : Answer A) → Told k H r ts a → Told (suc k) (λ m. Between o c (Inside H m)) (between o c (Some r)) (t ∷ ts) (and_then a (closed c))
+    → (a : Answer A) → Known k H r ts a → Known (suc k) (λ m. Between o c (Inside H m)) (between o c (Some r)) (t ∷ ts) (and_then a (closed c))
 between_inner k o c b H r t ts e (Got x rest) g = between_after k o c b H r t ts e x rest g rest refl
 between_inner k o c b H r t ts e (Refused w rest) g = record {
   front = t ∷ g.front;
@@ -159,9 +159,9 @@ between_starts o c b d H h t e zero l = absurd (omega arith)
 between_starts o c b d H h t e (suc m) l = let q = h m (omega arith) in (q.0 ++ token_of c ∷ [], q.1, (t, q.0, token_of c, refl, e, q.2, b.close_is))
 
 -- what is told by whether a bracket opens
-between_told_open : {A : Type 0} (n d : ℕ) (e : Bool) (first stops : Kinds) (o c : Kind) → AreBrackets o c → d ≤ 2 → (H : ℕ → Grammar A) (r : Option (Reading A)) → InsideLaws n d e first stops H r
-    → (t : Token) (ts : List Token) (v : Bool) → is o t.kind ≡ v → Told n (λ m. Between o c (Inside H m)) (between o c r) (t ∷ ts) (opened v c r (t ∷ ts) ts)
-between_told_open n d e first stops o c b small H r p t ts false h = record {
+between_known_open : {A : Type 0} (n d : ℕ) (e : Bool) (first stops : Kinds) (o c : Kind) → AreBrackets o c → d ≤ 2 → (H : ℕ → Grammar A) (r : Option (Reading A)) → InsideLaws n d e first stops H r
+    → (t : Token) (ts : List Token) (v : Bool) → is o t.kind ≡ v → Known n (λ m. Between o c (Inside H m)) (between o c r) (t ∷ ts) (opened v c r (t ∷ ts) ts)
+between_known_open n d e first stops o c b small H r p t ts false h = record {
   front = [];
   parts = refl;
   begins = λ m l. between_begin o c b d H (inside_begins n d e first stops H r p) m (omega arith);
@@ -170,7 +170,7 @@ between_told_open n d e first stops o c b small H r p t ts false h = record {
   cause = tt;
   again = λ s same. between_wrong o c r s (ap (is o) same ∙ h);
 }
-between_told_open zero d e first stops o c b small H None p t ts true h = record {
+between_known_open zero d e first stops o c b small H None p t ts true h = record {
   front = [];
   parts = refl;
   begins = λ m l. between_starts o c b d H p t h m (omega arith);
@@ -179,14 +179,14 @@ between_told_open zero d e first stops o c b small H None p t ts true h = record
   cause = (refl, turn_opens o c b t.kind h);
   again = λ s same. between_deep o c s b.no_end (ap (is o) same ∙ h);
 }
-between_told_open zero d e first stops o c b small H (Some r) p t ts true h = absurd p
-between_told_open (suc n) d e first stops o c b small H None p t ts true h = absurd p
-between_told_open (suc n) d e first stops o c b small H (Some r) p t ts true h = between_inner n o c b H r t ts h (r ts) (p.told ts)
+between_known_open zero d e first stops o c b small H (Some r) p t ts true h = absurd p
+between_known_open (suc n) d e first stops o c b small H None p t ts true h = absurd p
+between_known_open (suc n) d e first stops o c b small H (Some r) p t ts true h = between_inner n o c b H r t ts h (r ts) (p.known ts)
 
 -- what reading between brackets tells
-between_told : {A : Type 0} (n d : ℕ) (e : Bool) (first stops : Kinds) (o c : Kind) → AreBrackets o c → d ≤ 2 → (H : ℕ → Grammar A) (r : Option (Reading A)) → InsideLaws n d e first stops H r
-    → (ts : List Token) → Told n (λ m. Between o c (Inside H m)) (between o c r) ts (between o c r ts)
-between_told n d e first stops o c b small H r p [] = record {
+between_known : {A : Type 0} (n d : ℕ) (e : Bool) (first stops : Kinds) (o c : Kind) → AreBrackets o c → d ≤ 2 → (H : ℕ → Grammar A) (r : Option (Reading A)) → InsideLaws n d e first stops H r
+    → (ts : List Token) → Known n (λ m. Between o c (Inside H m)) (between o c r) ts (between o c r ts)
+between_known n d e first stops o c b small H r p [] = record {
   front = [];
   parts = refl;
   begins = λ m l. between_begin o c b d H (inside_begins n d e first stops H r p) m (omega arith);
@@ -195,7 +195,7 @@ between_told n d e first stops o c b small H r p [] = record {
   cause = tt;
   again = λ s same. between_wrong o c r s (ap (is o) same ∙ b.no_end);
 }
-between_told n d e first stops o c b small H r p (t ∷ ts) = between_told_open n d e first stops o c b small H r p t ts (is o t.kind) refl
+between_known n d e first stops o c b small H r p (t ∷ ts) = between_known_open n d e first stops o c b small H r p t ts (is o t.kind) refl
 
 -- what is spelled is read
 between_only : {A : Type 0} (n d : ℕ) (e : Bool) (first stops : Kinds) (o c : Kind) → AreBrackets o c → (H : ℕ → Grammar A) (r : Option (Reading A)) → InsideLaws n d e first stops H r → Within (is c) stops
@@ -218,7 +218,7 @@ between_none o c g x h = cc (h.3)
 pub between_laws : {A : Type 0} (n d : ℕ) (e : Bool) (first stops : Kinds) (o c : Kind) → AreBrackets o c → d ≤ 2 → (H : ℕ → Grammar A) (r : Option (Reading A)) → InsideLaws n d e first stops H r → Within (is c) stops
     → Laws n (suc d) false (is o) any_kind (λ m. Between o c (Inside H m)) (between o c r)
 between_laws n d e first stops o c b small H r p w = record {
-  told = between_told n d e first stops o c b small H r p;
+  known = between_known n d e first stops o c b small H r p;
   only = λ l x s g k. between_only n d e first stops o c b H r p w l x s g;
   sample = between_begin o c b d H (inside_begins n d e first stops H r p);
   starts = λ m t l x g. between_first o c (Inside H m) t l x g;

@@ -11,7 +11,7 @@ use Rattle.s_grammar.specs.Operators.{operator_of}
 use Rattle.s_grammar.specs.Parts.{itself, latter, former, or_nothing, run_of, once_of}
 use Rattle.s_grammar.specs.Reading.{Reading, in_turn, image, maybe, many, cons, one, Got, inside}
 use Rattle.s_grammar.specs.Reads.{key, led, ended, listed, run, once}
-use Rattle.s_grammar.specs.Syntax.{Key, Led, Ended, Listed, RunOf, OnceOf}
+use Rattle.s_grammar.specs.Syntax.{Key, Led, ClosedBy, Listed, RunOf, OnceOf}
 use Rattle.s_grammar.proofs.Enclosures.{AreBrackets, InsideLaws}
 use Rattle.s_grammar.proofs.Ends.{begins_expr}
 use Rattle.s_grammar.proofs.Images.{image_laws, wider_laws, deeper_laws, fewer_laws, image_got}
@@ -45,7 +45,7 @@ unfolding led
 led_laws {n = n} {d = d} k small p q w l = image_of latter (in_turn_of small (deeper_laws d (omega arith) (key_laws n k p q)) l w)
 
 -- a part with a token behind it
-pub ended_laws : {A : Type 0} {n d : ℕ} {first stops : Kinds} {G : ℕ → Grammar A} {r : Reading A} (k : Kind) → d ≤ 3 → Within (is k) plain → IsTrue (is k k) → Within (is k) stops → Laws n d false first stops G r → Laws n d false first any_kind (λ m. Ended (G m) k) (ended r k)
+pub ended_laws : {A : Type 0} {n d : ℕ} {first stops : Kinds} {G : ℕ → Grammar A} {r : Reading A} (k : Kind) → d ≤ 3 → Within (is k) plain → IsTrue (is k k) → Within (is k) stops → Laws n d false first stops G r → Laws n d false first any_kind (λ m. ClosedBy (G m) k) (ended r k)
 unfolding ended
 ended_laws {n = n} {d = d} k small p q w l = image_of former (in_turn_of small l (deeper_laws d (omega arith) (key_laws n k p q)) w)
 

@@ -7,7 +7,7 @@ use Rattle.s_grammar.specs.Grammar.{Grammar, InTurn}
 use Rattle.s_grammar.specs.Kinds.{kind_of, Kinds}
 use Rattle.s_grammar.specs.Reading.{Reading, Got, in_turn, Answer, and_then, Why, Refused}
 use Rattle.s_grammar.proofs.KindSets.{both, and_parts, Within, within}
-use Rattle.s_grammar.proofs.ReadingLaws.{GotAt, Told, must, Begins, Laws}
+use Rattle.s_grammar.proofs.ReadingLaws.{GotAt, Known, must, Begins, Laws}
 use Rattle.s_grammar.proofs.Walks.{front_kind, walk_append}
 
 -- both are read
@@ -33,7 +33,7 @@ regroup a b c d = simp append_assoc
 
 -- what the second tells, behind what the first read
 in_turn_by : {A B : Type 0} (n : ℕ) (G : ℕ → Grammar A) (H : ℕ → Grammar B) (r : Reading A) (s : Reading B) (ts : List Token) (x : A) (rest : List Token)
-    → GotAt n G r ts x rest → (p : Answer B) → Told n H s rest p → Told n (λ m. InTurn (G m) (H m)) (in_turn r s) ts (and_then p (λ y more. Got (x, y) more))
+    → GotAt n G r ts x rest → (p : Answer B) → Known n H s rest p → Known n (λ m. InTurn (G m) (H m)) (in_turn r s) ts (and_then p (λ y more. Got (x, y) more))
 in_turn_by n G H r s ts x rest t (Got y more) u = record {
   front = t.front ++ u.front;
   parts = t.parts ∙ ap (λ (l : List Token). t.front ++ l) u.parts ∙ sym (append_assoc t.front u.front more);
@@ -52,11 +52,11 @@ in_turn_by n G H r s ts x rest t (Refused w more) u = record {
 }
 
 -- what both tell
-pub in_turn_told : {A B : Type 0} (n : ℕ) (G : ℕ → Grammar A) (H : ℕ → Grammar B) (r : Reading A) (s : Reading B) → ((m : ℕ) → n + 3 ≤ m → Begins (H m) [])
-    → (ts : List Token) (o : Answer A) → Told n G r ts o → ((x : A) (rest : List Token) → o ≡ Got x rest → GotAt n G r ts x rest → Told n H s rest (s rest))
-    → Told n (λ m. InTurn (G m) (H m)) (in_turn r s) ts (and_then o (λ x rest. and_then (s rest) (λ y more. Got (x, y) more)))
-in_turn_told n G H r s sample ts (Got x rest) t u = in_turn_by n G H r s ts x rest t (s rest) (u x rest refl t)
-in_turn_told n G H r s sample ts (Refused w rest) t u = record {
+pub in_turn_known : {A B : Type 0} (n : ℕ) (G : ℕ → Grammar A) (H : ℕ → Grammar B) (r : Reading A) (s : Reading B) → ((m : ℕ) → n + 3 ≤ m → Begins (H m) [])
+    → (ts : List Token) (o : Answer A) → Known n G r ts o → ((x : A) (rest : List Token) → o ≡ Got x rest → GotAt n G r ts x rest → Known n H s rest (s rest))
+    → Known n (λ m. InTurn (G m) (H m)) (in_turn r s) ts (and_then o (λ x rest. and_then (s rest) (λ y more. Got (x, y) more)))
+in_turn_known n G H r s sample ts (Got x rest) t u = in_turn_by n G H r s ts x rest t (s rest) (u x rest refl t)
+in_turn_known n G H r s sample ts (Refused w rest) t u = record {
   front = t.front;
   parts = t.parts;
   begins = λ m l. let q = t.begins m l in let p = sample m l in (q.0 ++ p.0, (q.1, p.1), ((t.front ++ must w rest) ++ q.0, p.0, sym (append_assoc (t.front ++ must w rest) q.0 p.0), q.2, p.2));
@@ -119,7 +119,7 @@ in_turn_only n e d first a second b G H r s p q w u v x y z g h k =
 pub in_turn_laws : {A B : Type 0} (n d : ℕ) (e : Bool) (first a second b : Kinds) (G : ℕ → Grammar A) (H : ℕ → Grammar B) (r : Reading A) (s : Reading B)
     → d ≤ 3 → Laws n d false first a G r → Laws n d e second b H s → Within second a → Laws n d false first (stopped e a b) (λ m. InTurn (G m) (H m)) (in_turn r s)
 in_turn_laws n d e first a second b G H r s small p q w = record {
-  told = λ ts. in_turn_told n G H r s (λ m l. q.sample m (omega arith)) ts (r ts) (p.told ts) (λ x rest o t. q.told rest);
+  known = λ ts. in_turn_known n G H r s (λ m l. q.sample m (omega arith)) ts (r ts) (p.known ts) (λ x rest o t. q.known rest);
   only = λ c x z g k. ap (λ (l : List Token). in_turn r s (l ++ z)) g.2 ∙ in_turn_only n e d first a second b G H r s p q w g.0 g.1 x.0 x.1 z g.3 g.4 k;
   sample = λ m l. let i = p.sample m l in let j = q.sample m l in (i.0 ++ j.0, (i.1, j.1), (i.0, j.0, refl, i.2, j.2));
   starts = λ m t c x g. in_turn_starts first (G m) (H m) (p.starts m) (no_tokens p m) t c g.0 g.1 x.0 g.2 g.3;

@@ -13,7 +13,7 @@ use Rattle.s_grammar.specs.Operators.{or_operators, and_operators, comparisons, 
 use Rattle.s_grammar.specs.Parts.{assign_of, read_or_call, former, itself, latter}
 use Rattle.s_grammar.specs.Reading.{Why, Answer, Got, Refused, Reading, choice, in_turn, maybe, Wrong, image, and_then}
 use Rattle.s_grammar.specs.Reads.{assigned, evaluated, unary_by, primary_by, name, expr_by, ands, compares, sums, products, expr, in_parentheses, listed, ended, key, ahead, led}
-use Rattle.s_grammar.specs.Syntax.{AssignOf, EvaluateOf, Expr, ExprOf, UnaryBy, PrimaryBy, InParentheses, Listed, Ended}
+use Rattle.s_grammar.specs.Syntax.{AssignOf, EvaluateOf, Expr, ExprOf, UnaryBy, PrimaryBy, InParentheses, Listed, ClosedBy}
 use Rattle.s_grammar.specs.Texts.{name_of}
 use Rattle.s_grammar.proofs.Ends.{begins_expr, ends_expr}
 use Rattle.s_grammar.proofs.ExprLaws.{name_laws, expr_laws}
@@ -21,7 +21,7 @@ use Rattle.s_grammar.proofs.ForParts.{image_of, in_turn_of, led_laws, ended_laws
 use Rattle.s_grammar.proofs.Images.{image_got, image_refused}
 use Rattle.s_grammar.proofs.InTurn.{in_turn_got, in_turn_second, no_tokens}
 use Rattle.s_grammar.proofs.KindSets.{any_kind, is_kind}
-use Rattle.s_grammar.proofs.ReadingLaws.{Laws, Told, must, Begins}
+use Rattle.s_grammar.proofs.ReadingLaws.{Laws, Known, must, Begins}
 use Rattle.s_grammar.proofs.OneToken.{token_of, one_got, one_refused}
 use Rattle.s_grammar.proofs.Optional.{maybe_nothing}
 use Rattle.s_grammar.proofs.Walks.{front_kind, walk, walk_by}
@@ -168,7 +168,7 @@ module _ (bytes : List ℕ) where
       got_refused (Evaluate (Read (name_of bytes t))) [] w (t ∷ semicolon ∷ []) (sym yes ∙ other_than)
 
   -- what is told of the expression is told of the statement
-  named_by_evaluate : (n : ℕ) (ts : List Token) → is kind.Name (kind_of ts) ≡ true → is kind.Assign (kind_of (drop 1 ts)) ≡ false → (o : Answer StatementTree) → Told n (λ m. EvaluateOf (Expr bytes m)) (evaluated (expr bytes n)) ts o → Told n NameOf (named n) ts o
+  named_by_evaluate : (n : ℕ) (ts : List Token) → is kind.Name (kind_of ts) ≡ true → is kind.Assign (kind_of (drop 1 ts)) ≡ false → (o : Answer StatementTree) → Known n (λ m. EvaluateOf (Expr bytes m)) (evaluated (expr bytes n)) ts o → Known n NameOf (named n) ts o
   unfolding NameOf
   named_by_evaluate n ts h k (Got x rest) g =
       let solid : g.front ≡ [] → ⊥ = λ e. no_tokens (semicolon_laws n) n x (subst (λ (l : List Token). EvaluateOf (Expr bytes n) l x) e (g.spelled n (omega arith))) in
@@ -212,12 +212,12 @@ module _ (bytes : List ℕ) where
       ∙ assign_prefix t u (r z)
 
   -- and spelled so
-  assigns : (m : ℕ) (t u : Token) (b : List Token) (x : ExprTree) → t.kind ≡ kind.Name → u.kind ≡ kind.Assign → Ended (Expr bytes m) kind.Semicolon b x → AssignOf bytes (Expr bytes m) (t ∷ u ∷ b) (Assign (name_of bytes t) x)
+  assigns : (m : ℕ) (t u : Token) (b : List Token) (x : ExprTree) → t.kind ≡ kind.Name → u.kind ≡ kind.Assign → ClosedBy (Expr bytes m) kind.Semicolon b x → AssignOf bytes (Expr bytes m) (t ∷ u ∷ b) (Assign (name_of bytes t) x)
   assigns m t u b x h k g = ((name_of bytes t, x), (t ∷ [], u ∷ b, refl, (t, refl, ap (is kind.Name) h, refl), ((u, x), (u ∷ [], b, refl, (u, refl, ap (is kind.Assign) k, refl), g), refl)), refl)
 
   -- what is told behind the `=` is told of the statement
-  named_by_assign : (n : ℕ) (t u : Token) (z : List Token) → t.kind ≡ kind.Name → u.kind ≡ kind.Assign → (o : Answer ExprTree) → Told n (λ m. Ended (Expr bytes m) kind.Semicolon) (ended (expr bytes n) kind.Semicolon) z o
-      → Told n NameOf (named n) (t ∷ u ∷ z) (and_then o (λ x rest. Got (Assign (name_of bytes t) x) rest))
+  named_by_assign : (n : ℕ) (t u : Token) (z : List Token) → t.kind ≡ kind.Name → u.kind ≡ kind.Assign → (o : Answer ExprTree) → Known n (λ m. ClosedBy (Expr bytes m) kind.Semicolon) (ended (expr bytes n) kind.Semicolon) z o
+      → Known n NameOf (named n) (t ∷ u ∷ z) (and_then o (λ x rest. Got (Assign (name_of bytes t) x) rest))
   unfolding NameOf
   named_by_assign n t u z h k (Got x rest) g = record {
     front = t ∷ u ∷ g.front;
@@ -237,7 +237,7 @@ module _ (bytes : List ℕ) where
   }
 
   -- an expression and a semicolon
-  pub end_laws : (n : ℕ) → Laws n 0 false begins_expr any_kind (λ m. Ended (Expr bytes m) kind.Semicolon) (ended (expr bytes n) kind.Semicolon)
+  pub end_laws : (n : ℕ) → Laws n 0 false begins_expr any_kind (λ m. ClosedBy (Expr bytes m) kind.Semicolon) (ended (expr bytes n) kind.Semicolon)
   end_laws n = ended_laws kind.Semicolon (omega arith) refl refl refl (expr_laws bytes n)
 
   -- a statement that begins with a name is always spelled
@@ -246,9 +246,9 @@ module _ (bytes : List ℕ) where
   named_begins m = let t : Token = token_of kind.Name in (t ∷ semicolon ∷ [], Evaluate (Read (name_of bytes t)), (refl, inr (name_statement m t refl)))
 
   -- what is told, by whether a name stands and whether `=` follows
-  named_told_by : (n : ℕ) (ts : List Token) (v w : Bool) → is kind.Name (kind_of ts) ≡ v → is kind.Assign (kind_of (drop 1 ts)) ≡ w
-      → Told n NameOf (named n) ts (if v then (if w then (assigned bytes) (expr bytes n) ts else evaluated (expr bytes n) ts) else Refused Wrong ts)
-  named_told_by n ts false w h k = record {
+  named_known_by : (n : ℕ) (ts : List Token) (v w : Bool) → is kind.Name (kind_of ts) ≡ v → is kind.Assign (kind_of (drop 1 ts)) ≡ w
+      → Known n NameOf (named n) ts (if v then (if w then (assigned bytes) (expr bytes n) ts else evaluated (expr bytes n) ts) else Refused Wrong ts)
+  named_known_by n ts false w h k = record {
     front = [];
     parts = refl;
     begins = λ m l. named_begins m;
@@ -257,18 +257,18 @@ module _ (bytes : List ℕ) where
     cause = tt;
     again = λ s same. named_wrong n s (ap (is kind.Name) same ∙ h);
   }
-  named_told_by n ts true false h k = named_by_evaluate n ts h k (evaluated (expr bytes n) ts) ((semicolon_laws n).told ts)
-  named_told_by n [] true true h k = false_true h
-  named_told_by n (t ∷ []) true true h k = false_true k
-  named_told_by n (t ∷ u ∷ z) true true h k =
+  named_known_by n ts true false h k = named_by_evaluate n ts h k (evaluated (expr bytes n) ts) ((semicolon_laws n).known ts)
+  named_known_by n [] true true h k = false_true h
+  named_known_by n (t ∷ []) true true h k = false_true k
+  named_known_by n (t ∷ u ∷ z) true true h k =
       let p = is_kind kind.Name t.kind h in
       let q = is_kind kind.Assign u.kind k in
-      subst (Told n NameOf (named n) (t ∷ u ∷ z)) (sym (assign_reads n t u z p q)) (named_by_assign n t u z p q (ended (expr bytes n) kind.Semicolon z) ((end_laws n).told z))
+      subst (Known n NameOf (named n) (t ∷ u ∷ z)) (sym (assign_reads n t u z p q)) (named_by_assign n t u z p q (ended (expr bytes n) kind.Semicolon z) ((end_laws n).known z))
 
   -- what reading tells
-  named_told : (n : ℕ) (ts : List Token) → Told n NameOf (named n) ts (named n ts)
+  named_known : (n : ℕ) (ts : List Token) → Known n NameOf (named n) ts (named n ts)
   unfolding named
-  named_told n ts = named_told_by n ts (is kind.Name (kind_of ts)) (is kind.Assign (kind_of (drop 1 ts))) refl refl
+  named_known n ts = named_known_by n ts (is kind.Name (kind_of ts)) (is kind.Assign (kind_of (drop 1 ts))) refl refl
 
   -- an assignment has `=` behind its name
   assign_second : (e : Grammar ExprTree) (b : List Token) (x : StatementTree) (s : List Token) → AssignOf bytes e b x → is kind.Assign (kind_of (drop 1 (b ++ s))) ≡ true
@@ -314,7 +314,7 @@ module _ (bytes : List ℕ) where
   -- the laws of such statements
   pub name_of_laws : (n : ℕ) → Laws n 0 false (is kind.Name) any_kind NameOf (named n)
   name_of_laws n = record {
-    told = named_told n;
+    known = named_known n;
     only = λ b x s g k. named_only n b x s g;
     sample = λ m l. named_begins m;
     starts = named_starts;

@@ -8,7 +8,7 @@ use Rattle.s_grammar.specs.Grammar.{One}
 use Rattle.s_grammar.specs.Kinds.{Kinds, kind_of, turn, Passes, Turn, is}
 use Rattle.s_grammar.specs.Reading.{one, Got, Refused, Wrong}
 use Rattle.s_grammar.proofs.KindSets.{Within, plain, within, is_pass, passes_is, any_kind}
-use Rattle.s_grammar.proofs.ReadingLaws.{Begins, Told, Laws}
+use Rattle.s_grammar.proofs.ReadingLaws.{Begins, Known, Laws}
 use Rattle.s_grammar.proofs.Walks.{walk, walk_by}
 
 -- a token of the set is read
@@ -33,16 +33,16 @@ walk_one : (n : ℕ) (t : Token) → turn t.kind ≡ Passes → walk n (t ∷ []
 walk_one n t e = ap (λ (u : Turn). walk_by u n (λ j. Some j)) e
 
 -- what is told by whether the token is of the set
-one_told : {A : Type 0} (n : ℕ) (ks : Kinds) (f : Token → A) → ks kind.End ≡ false → ((k : Kind) → IsTrue (ks k) → turn k ≡ Passes) → (k : Kind) → IsTrue (ks k)
-    → (t : Token) (ts : List Token) (v : Bool) → ks t.kind ≡ v → Told n (λ m. One ks f) (one ks f) (t ∷ ts) (if v then Got (f t) ts else Refused Wrong (t ∷ ts))
-one_told n ks f no_end flat k h t ts true e = record {
+one_known : {A : Type 0} (n : ℕ) (ks : Kinds) (f : Token → A) → ks kind.End ≡ false → ((k : Kind) → IsTrue (ks k) → turn k ≡ Passes) → (k : Kind) → IsTrue (ks k)
+    → (t : Token) (ts : List Token) (v : Bool) → ks t.kind ≡ v → Known n (λ m. One ks f) (one ks f) (t ∷ ts) (if v then Got (f t) ts else Refused Wrong (t ∷ ts))
+one_known n ks f no_end flat k h t ts true e = record {
   front = t ∷ [];
   parts = refl;
   spelled = λ m l. (t, refl, e, refl);
   level = walk_one n t (flat t.kind e);
   again = λ s same. one_got ks f t s e;
 }
-one_told n ks f no_end flat k h t ts false e = record {
+one_known n ks f no_end flat k h t ts false e = record {
   front = [];
   parts = refl;
   begins = λ m l. one_sample ks f k h;
@@ -53,9 +53,9 @@ one_told n ks f no_end flat k h t ts false e = record {
 }
 
 -- what reading tells
-one_told_at : {A : Type 0} (n : ℕ) (ks : Kinds) (f : Token → A) → ks kind.End ≡ false → ((k : Kind) → IsTrue (ks k) → turn k ≡ Passes) → (k : Kind) → IsTrue (ks k)
-    → (ts : List Token) → Told n (λ m. One ks f) (one ks f) ts (one ks f ts)
-one_told_at n ks f no_end flat k h [] = record {
+one_known_at : {A : Type 0} (n : ℕ) (ks : Kinds) (f : Token → A) → ks kind.End ≡ false → ((k : Kind) → IsTrue (ks k) → turn k ≡ Passes) → (k : Kind) → IsTrue (ks k)
+    → (ts : List Token) → Known n (λ m. One ks f) (one ks f) ts (one ks f ts)
+one_known_at n ks f no_end flat k h [] = record {
   front = [];
   parts = refl;
   begins = λ m l. one_sample ks f k h;
@@ -64,7 +64,7 @@ one_told_at n ks f no_end flat k h [] = record {
   cause = tt;
   again = λ s same. one_refused ks f s (ap ks same ∙ no_end);
 }
-one_told_at n ks f no_end flat k h (t ∷ ts) = one_told n ks f no_end flat k h t ts (ks t.kind) refl
+one_known_at n ks f no_end flat k h (t ∷ ts) = one_known n ks f no_end flat k h t ts (ks t.kind) refl
 
 -- what is spelled is read
 one_only : {A : Type 0} (ks : Kinds) (f : Token → A) (b : List Token) (x : A) (s : List Token) → One ks f b x → one ks f (b ++ s) ≡ Got x s
@@ -94,7 +94,7 @@ not_true false h = refl
 -- the laws of one token
 pub one_laws : {A : Type 0} (n : ℕ) (ks : Kinds) (f : Token → A) (k : Kind) → Within ks plain → IsTrue (ks k) → Laws n 0 false ks any_kind (λ m. One ks f) (one ks f)
 one_laws n ks f k w h = record {
-  told = one_told_at n ks f (not_true (ks kind.End) (λ p. absurd (let q : false ≡ true = within ks plain w kind.End p in cc))) (plain_turn ks w) k h;
+  known = one_known_at n ks f (not_true (ks kind.End) (λ p. absurd (let q : false ≡ true = within ks plain w kind.End p in cc))) (plain_turn ks w) k h;
   only = λ b x s g p. one_only ks f b x s g;
   sample = λ m l. one_sample ks f k h;
   starts = λ m t b x g. one_starts ks f t b x g;

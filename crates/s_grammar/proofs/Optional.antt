@@ -5,10 +5,10 @@ use Rattle.s_syntax.specs.declared.token.Token.{Token}
 use Rattle.s_grammar.specs.Grammar.{Grammar, Maybe, Image}
 use Rattle.s_grammar.specs.Kinds.{Kinds, kind_of}
 use Rattle.s_grammar.specs.Reading.{Reading, maybe, Got, image}
-use Rattle.s_grammar.proofs.Images.{told_as, image_told, image_got}
+use Rattle.s_grammar.proofs.Images.{known_as, image_known, image_got}
 use Rattle.s_grammar.proofs.InTurn.{no_tokens}
 use Rattle.s_grammar.proofs.KindSets.{Within, within}
-use Rattle.s_grammar.proofs.ReadingLaws.{Told, Laws}
+use Rattle.s_grammar.proofs.ReadingLaws.{Known, Laws}
 
 -- nothing is read where the part may not begin
 pub maybe_nothing : {A : Type 0} (go : Kinds) (r : Reading A) (s : List Token) → go (kind_of s) ≡ false → maybe go r s ≡ Got None s
@@ -19,12 +19,12 @@ maybe_one : {A : Type 0} (go : Kinds) (r : Reading A) (s : List Token) → go (k
 maybe_one go r s e = ap (λ (v : Bool). if v then image (λ x. Some x) r s else Got None s) e
 
 -- what is told by whether it may
-maybe_told : {A : Type 0} (n : ℕ) (go : Kinds) (G : ℕ → Grammar A) (r : Reading A) (ts : List Token) → Told n G r ts (r ts) → (v : Bool) → go (kind_of ts) ≡ v
-    → Told n (λ m. Maybe (G m)) (maybe go r) ts (if v then image (λ x. Some x) r ts else Got None ts)
-maybe_told n go G r ts t true e =
-    told_as n (λ m. Image (λ x. Some x) (G m)) (λ m. Maybe (G m)) (image (λ x. Some x) r) (maybe go r) ts
-    (λ m b x g. subst (Maybe (G m) b) g.2 g.1) (λ z k. maybe_one go r z (ap go k ∙ e)) (image (λ x. Some x) r ts) (image_told n (λ x. Some x) G r ts (r ts) t)
-maybe_told n go G r ts t false e = record {
+maybe_known : {A : Type 0} (n : ℕ) (go : Kinds) (G : ℕ → Grammar A) (r : Reading A) (ts : List Token) → Known n G r ts (r ts) → (v : Bool) → go (kind_of ts) ≡ v
+    → Known n (λ m. Maybe (G m)) (maybe go r) ts (if v then image (λ x. Some x) r ts else Got None ts)
+maybe_known n go G r ts t true e =
+    known_as n (λ m. Image (λ x. Some x) (G m)) (λ m. Maybe (G m)) (image (λ x. Some x) r) (maybe go r) ts
+    (λ m b x g. subst (Maybe (G m) b) g.2 g.1) (λ z k. maybe_one go r z (ap go k ∙ e)) (image (λ x. Some x) r ts) (image_known n (λ x. Some x) G r ts (r ts) t)
+maybe_known n go G r ts t false e = record {
   front = [];
   parts = refl;
   spelled = λ m l. refl;
@@ -62,7 +62,7 @@ maybe_starts first g starts t b (Some x) h = starts t b x h
 -- the laws of a part or nothing
 pub maybe_laws : {A : Type 0} (n d : ℕ) (first stops go : Kinds) (G : ℕ → Grammar A) (r : Reading A) → Laws n d false first stops G r → Within first go → Laws n 0 true first (halted go stops) (λ m. Maybe (G m)) (maybe go r)
 maybe_laws n d first stops go G r p w = record {
-  told = λ ts. maybe_told n go G r ts (p.told ts) (go (kind_of ts)) refl;
+  known = λ ts. maybe_known n go G r ts (p.known ts) (go (kind_of ts)) refl;
   only = maybe_only n d first stops go G r p w;
   sample = λ m l. ([], None, refl);
   starts = λ m t b x g. maybe_starts first (G m) (p.starts m) t b x g;

@@ -46,14 +46,14 @@ pub record RefusedAt {A : Type 0} (n : ℕ) (G : ℕ → Grammar A) (r : Reading
   pub again : (s : List Token) → kind_of s ≡ kind_of rest → r (front ++ s) ≡ Refused w s
 
 -- what is known of an answer
-abbrev pub Told : {A : Type 0} → ℕ → (ℕ → Grammar A) → Reading A → List Token → Answer A → Type 0
-Told n G r ts (Got x rest) = GotAt n G r ts x rest
-Told n G r ts (Refused w rest) = RefusedAt n G r ts w rest
+abbrev pub Known : {A : Type 0} → ℕ → (ℕ → Grammar A) → Reading A → List Token → Answer A → Type 0
+Known n G r ts (Got x rest) = GotAt n G r ts x rest
+Known n G r ts (Refused w rest) = RefusedAt n G r ts w rest
 
 -- n brackets may be opened; something is spelled where d may be; e: no tokens may spell something; what is spelled begins
 -- with a token of first; and it is read where a token of stops follows.
 pub record Laws {A : Type 0} (n d : ℕ) (e : Bool) (first stops : Kinds) (G : ℕ → Grammar A) (r : Reading A) : Type 0 where
-  pub told : (ts : List Token) → Told n G r ts (r ts)
+  pub known : (ts : List Token) → Known n G r ts (r ts)
   pub only : (b : List Token) (x : A) (s : List Token) → G n b x → IsTrue (stops (kind_of s)) → r (b ++ s) ≡ Got x s
   pub sample : (m : ℕ) → d ≤ m → Begins (G m) []
   pub starts : (m : ℕ) (t : Token) (b : List Token) (x : A) → G m (t ∷ b) x → IsTrue (first t.kind)

@@ -6,10 +6,10 @@ use Rattle.s_syntax.specs.declared.token.Token.{Token}
 use Rattle.s_grammar.specs.Grammar.{Grammar, Image, InTurn, Each}
 use Rattle.s_grammar.specs.Kinds.{Kinds, kind_of}
 use Rattle.s_grammar.specs.Reading.{Reading, Got, Answer, and_then, Refused, image, cons, in_turn, many_by, many}
-use Rattle.s_grammar.proofs.Images.{told_as, image_told, image_got}
-use Rattle.s_grammar.proofs.InTurn.{no_tokens, in_turn_told, in_turn_starts, in_turn_got, next_stops}
+use Rattle.s_grammar.proofs.Images.{known_as, image_known, image_got}
+use Rattle.s_grammar.proofs.InTurn.{no_tokens, in_turn_known, in_turn_starts, in_turn_got, next_stops}
 use Rattle.s_grammar.proofs.KindSets.{both, Within}
-use Rattle.s_grammar.proofs.ReadingLaws.{GotAt, Laws, Told}
+use Rattle.s_grammar.proofs.ReadingLaws.{GotAt, Laws, Known}
 use Rattle.s_grammar.proofs.Optional.{halted, halted_parts, goes_on}
 use Rattle.s_grammar.proofs.Walks.{shorter}
 
@@ -24,7 +24,7 @@ got_shrinks n G r solid ts x rest t = shorter t.front ts rest t.parts (λ e. sol
 -- so does any part with such laws
 pub shrinks : {A : Type 0} (n d : ℕ) (first stops : Kinds) (G : ℕ → Grammar A) (r : Reading A) → Laws n d false first stops G r → Shrinks r
 unfolding Shrinks
-shrinks n d first stops G r p ts x rest e = got_shrinks n G r (no_tokens p n) ts x rest (subst (Told n G r ts) e (p.told ts))
+shrinks n d first stops G r p ts x rest e = got_shrinks n G r (no_tokens p n) ts x rest (subst (Known n G r ts) e (p.known ts))
 
 -- readings that are the same behind the first are the same
 in_turn_same : {A B : Type 0} (s s' : Reading B) (o : Answer A) → ((x : A) (rest : List Token) → o ≡ Got x rest → s rest ≡ s' rest)
@@ -66,16 +66,16 @@ each_cons : {A : Type 0} (g : Grammar A) (b : List Token) (xs : List A) → Imag
 each_cons g b xs h = subst (Each g b) h.2 h.1
 
 -- what is told by whether it goes on
-many_told_by : {A : Type 0} (n : ℕ) (go : Kinds) (G : ℕ → Grammar A) (r : Reading A) → Shrinks r → (ts : List Token) → Told n G r ts (r ts)
-    → ((x : A) (rest : List Token) → r ts ≡ Got x rest → GotAt n G r ts x rest → Told n (λ m. Each (G m)) (many go r) rest (many go r rest))
-    → (v : Bool) → go (kind_of ts) ≡ v → Told n (λ m. Each (G m)) (many go r) ts (if v then image cons (in_turn r (many go r)) ts else Got [] ts)
-many_told_by n go G r h ts t u true e =
-    told_as n (λ m. Image cons (InTurn (G m) (Each (G m)))) (λ m. Each (G m)) (image cons (in_turn r (many go r))) (many go r) ts
+many_known_by : {A : Type 0} (n : ℕ) (go : Kinds) (G : ℕ → Grammar A) (r : Reading A) → Shrinks r → (ts : List Token) → Known n G r ts (r ts)
+    → ((x : A) (rest : List Token) → r ts ≡ Got x rest → GotAt n G r ts x rest → Known n (λ m. Each (G m)) (many go r) rest (many go r rest))
+    → (v : Bool) → go (kind_of ts) ≡ v → Known n (λ m. Each (G m)) (many go r) ts (if v then image cons (in_turn r (many go r)) ts else Got [] ts)
+many_known_by n go G r h ts t u true e =
+    known_as n (λ m. Image cons (InTurn (G m) (Each (G m)))) (λ m. Each (G m)) (image cons (in_turn r (many go r))) (many go r) ts
     (λ m. each_cons (G m)) (λ z k. many_step go r h z ∙ step_on go r (many go r) z (ap go k ∙ e))
     (image cons (in_turn r (many go r)) ts)
-    (image_told n cons (λ m. InTurn (G m) (Each (G m))) (in_turn r (many go r)) ts (in_turn r (many go r) ts)
-    (in_turn_told n G (λ m. Each (G m)) r (many go r) (λ m l. ([], [], refl)) ts (r ts) t u))
-many_told_by n go G r h ts t u false e = record {
+    (image_known n cons (λ m. InTurn (G m) (Each (G m))) (in_turn r (many go r)) ts (in_turn r (many go r) ts)
+    (in_turn_known n G (λ m. Each (G m)) r (many go r) (λ m l. ([], [], refl)) ts (r ts) t u))
+many_known_by n go G r h ts t u false e = record {
   front = [];
   parts = refl;
   spelled = λ m l. refl;
@@ -84,11 +84,11 @@ many_told_by n go G r h ts t u false e = record {
 }
 
 -- what reading tells
-many_told : {A : Type 0} (n : ℕ) (go : Kinds) (G : ℕ → Grammar A) (r : Reading A) → Shrinks r → ((ts : List Token) → Told n G r ts (r ts)) → (k : ℕ) (ts : List Token) → length ts < k → Told n (λ m. Each (G m)) (many go r) ts (many go r ts)
-many_told n go G r h t zero ts l = absurd (omega arith)
-many_told n go G r h t (suc k) ts l =
-    subst (Told n (λ m. Each (G m)) (many go r) ts) (sym (many_step go r h ts))
-    (many_told_by n go G r h ts (t ts) (λ x rest e g. let s : length rest < length ts = unfold Shrinks in h ts x rest e in many_told n go G r h t k rest (omega arith)) (go (kind_of ts)) refl)
+many_known : {A : Type 0} (n : ℕ) (go : Kinds) (G : ℕ → Grammar A) (r : Reading A) → Shrinks r → ((ts : List Token) → Known n G r ts (r ts)) → (k : ℕ) (ts : List Token) → length ts < k → Known n (λ m. Each (G m)) (many go r) ts (many go r ts)
+many_known n go G r h t zero ts l = absurd (omega arith)
+many_known n go G r h t (suc k) ts l =
+    subst (Known n (λ m. Each (G m)) (many go r) ts) (sym (many_step go r h ts))
+    (many_known_by n go G r h ts (t ts) (λ x rest e g. let s : length rest < length ts = unfold Shrinks in h ts x rest e in many_known n go G r h t k rest (omega arith)) (go (kind_of ts)) refl)
 
 -- it begins as the part does
 each_starts : {A : Type 0} (first : Kinds) (g : Grammar A) → ((t : Token) (b : List Token) (x : A) → g (t ∷ b) x → IsTrue (first t.kind)) → ((x : A) → g [] x → ⊥) → (t : Token) (b : List Token) (xs : List A) → Each g (t ∷ b) xs → IsTrue (first t.kind)
@@ -121,7 +121,7 @@ many_only n d first stops go G r p w v b (x ∷ xs) s g k =
 -- the laws of any number of parts
 pub many_laws : {A : Type 0} (n d : ℕ) (first stops go : Kinds) (G : ℕ → Grammar A) (r : Reading A) → Laws n d false first stops G r → Within first go → Within first stops → Laws n 0 true first (halted go stops) (λ m. Each (G m)) (many go r)
 many_laws n d first stops go G r p w v = record {
-  told = λ ts. many_told n go G r (shrinks n d first stops G r p) p.told (suc (length ts)) ts (omega arith);
+  known = λ ts. many_known n go G r (shrinks n d first stops G r p) p.known (suc (length ts)) ts (omega arith);
   only = many_only n d first stops go G r p w v;
   sample = λ m l. ([], [], refl);
   starts = λ m t b x g. each_starts first (G m) (p.starts m) (no_tokens p m) t b x g;

@@ -9,7 +9,7 @@ use Rattle.s_grammar.specs.Kinds.{kind_of, is, other_than}
 use Rattle.s_grammar.specs.Parts.{let_of, if_of, while_of, block_tree}
 use Rattle.s_grammar.specs.Reading.{Reading, choice}
 use Rattle.s_grammar.specs.Reads.{expr, ended, statement_by, statements_by, in_braces, block}
-use Rattle.s_grammar.specs.Syntax.{StatementBy, Expr, Ended, StatementsOf, Block}
+use Rattle.s_grammar.specs.Syntax.{StatementBy, Expr, ClosedBy, StatementsOf, Block}
 use Rattle.s_grammar.proofs.Choices.{choice_laws}
 use Rattle.s_grammar.proofs.Enclosures.{InsideLaws, between_laws}
 use Rattle.s_grammar.proofs.Ends.{begins_expr, ends_expr, begins_statement, ends_statement}
@@ -62,7 +62,7 @@ module _ (bytes : List ℕ) where
     expr_one = deeper_laws 1 (omega arith) (expr_laws bytes n)
 
     -- an expression and a semicolon, where one may be
-    ended_one : Laws n 1 false begins_expr any_kind (λ m. Ended (Expr bytes m) kind.Semicolon) (ended (expr bytes n) kind.Semicolon)
+    ended_one : Laws n 1 false begins_expr any_kind (λ m. ClosedBy (Expr bytes m) kind.Semicolon) (ended (expr bytes n) kind.Semicolon)
     ended_one = deeper_laws 1 (omega arith) (end_laws bytes n)
 
     -- statements by their first token

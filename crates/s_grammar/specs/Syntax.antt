@@ -30,8 +30,8 @@ abbrev pub Led : {A : Type 0} → Kind → Grammar A → Grammar A
 Led k g = Image latter (InTurn (Key k) g)
 
 -- g, and then a token of kind k
-abbrev pub Ended : {A : Type 0} → Grammar A → Kind → Grammar A
-Ended g k = Image former (InTurn g (Key k))
+abbrev pub ClosedBy : {A : Type 0} → Grammar A → Kind → Grammar A
+ClosedBy g k = Image former (InTurn g (Key k))
 
 -- (g (',' g)*)?
 abbrev pub Listed : {A : Type 0} → Grammar A → Grammar (List A)
@@ -55,7 +55,7 @@ OnceOf ops g = Image once_of (InTurn g (Maybe (InTurn (One ops operator_of) g)))
 
 -- e ';'
 abbrev pub EvaluateOf : Grammar ExprTree → Grammar StatementTree
-EvaluateOf e = Image (λ t. Evaluate t) (Ended e kind.Semicolon)
+EvaluateOf e = Image (λ t. Evaluate t) (ClosedBy e kind.Semicolon)
 
 -- ## Productions, of tokens of these bytes
 
@@ -96,15 +96,15 @@ module _ (bytes : List ℕ) where
 
   -- NAME '=' e ';'
   abbrev pub AssignOf : Grammar ExprTree → Grammar StatementTree
-  AssignOf e = Image assign_of (InTurn NAME (Led kind.Assign (Ended e kind.Semicolon)))
+  AssignOf e = Image assign_of (InTurn NAME (Led kind.Assign (ClosedBy e kind.Semicolon)))
 
   -- 'let' NAME '=' e ';' | 'if' e b ('else' b)? | 'while' e b | 'print' e ';' | 'return' e ';' | 'fail' ';' | NAME '=' e ';' | e ';'
   unfoldable pub StatementBy : Grammar ExprTree → Grammar BlockTree → Kind → Grammar StatementTree
-  StatementBy e b kind.Let = Image let_of (Led kind.Let (InTurn NAME (Led kind.Assign (Ended e kind.Semicolon))))
+  StatementBy e b kind.Let = Image let_of (Led kind.Let (InTurn NAME (Led kind.Assign (ClosedBy e kind.Semicolon))))
   StatementBy e b kind.If = Image if_of (Led kind.If (InTurn e (InTurn b (Maybe (Led kind.Else b)))))
   StatementBy e b kind.While = Image while_of (Led kind.While (InTurn e b))
-  StatementBy e b kind.Print = Image (λ t. Print t) (Led kind.Print (Ended e kind.Semicolon))
-  StatementBy e b kind.Return = Image (λ t. Return t) (Led kind.Return (Ended e kind.Semicolon))
+  StatementBy e b kind.Print = Image (λ t. Print t) (Led kind.Print (ClosedBy e kind.Semicolon))
+  StatementBy e b kind.Return = Image (λ t. Return t) (Led kind.Return (ClosedBy e kind.Semicolon))
   StatementBy e b kind.Fail = Image (λ _. Fail) (Led kind.Fail (Key kind.Semicolon))
   StatementBy e b kind.Name = λ ts s. AssignOf e ts s ⊎ EvaluateOf e ts s
   StatementBy e b k = EvaluateOf e
@@ -150,7 +150,7 @@ module _ (bytes : List ℕ) where
   unfoldable pub DeclarationBy : ℕ → Kind → Grammar Declaration
   DeclarationBy m kind.Fn = Image function_of (Led kind.Fn (InTurn NAME (InTurn (Parameters m) (Block m))))
   DeclarationBy m kind.Handler = Image handler_of (Led kind.Handler (InTurn NAME (InTurn (Parameters m) (InBraces (Inside Clauses m)))))
-  DeclarationBy m k = Image effect_of (Led kind.Effect (InTurn NAME (Led kind.Slash (Ended INT kind.Semicolon))))
+  DeclarationBy m k = Image effect_of (Led kind.Effect (InTurn NAME (Led kind.Slash (ClosedBy INT kind.Semicolon))))
 
   -- declaration*
   unfoldable pub ScriptOf : ℕ → Grammar Script

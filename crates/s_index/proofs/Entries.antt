@@ -17,7 +17,8 @@ use Rattle.s_index.specs.declared.counts.Counts.{Counts}
 use Rattle.s_index.specs.declared.declarations.Numbered.{Numbered}
 use Rattle.s_index.specs.Numbers.{Entry, no_counts, counted, number_behind, entry_behind, entry_of}
 use Rattle.s_index.specs.Views.{entry_in, entry_at, found, or_else, entry_named}
-use Rattle.s_index.proofs.Counting.{total, one_more}
+use Rattle.s_index.proofs.CountedDeclarations.{total, one_more}
+use Rattle.s_check.specs.Size.{size_limit}
 
 pub or_none : {A : Type 0} (o : Option A) → or_else o None ≡ o
 or_none None = refl
@@ -47,7 +48,7 @@ entry_within n (d ∷ ds) x e is = by (bytes_eq d.name x) refl (entry_within (co
         omega (arith, w, m)
 
 -- a name's number is at most that of all declarations
-pub number_small : (ds : List Declaration) (x : Name) (o : Option Numbered) → entry_at o ≡ entry_of ds x → length ds ≤ 50000 → IfSome o (λ m. m.number ≤ 50000)
+pub number_small : (ds : List Declaration) (x : Name) (o : Option Numbered) → entry_at o ≡ entry_of ds x → length ds ≤ size_limit → IfSome o (λ m. m.number ≤ size_limit)
 number_small ds x None is few = tt
 number_small ds x (Some m) is few = let w = entry_within no_counts ds x (entry_in m) (sym is) in omega (arith, w, few)
 

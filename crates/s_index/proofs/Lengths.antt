@@ -9,7 +9,7 @@ use Rattle.s_syntax.specs.declared.script.Clause.{Clause}
 use Rattle.s_syntax.specs.declared.script.Definition.{Definition}
 use Rattle.s_syntax.specs.declared.script.Definition.TheVariants as definition
 use Rattle.s_syntax.specs.declared.script.Declaration.{Declaration}
-use Rattle.s_check.specs.Size.{clause_size, definition_size}
+use Rattle.s_check.specs.Size.{clause_size, definition_size, size_limit}
 use Rattle.s_index.specs.Handled.{handled, handled_names, is_function_among}
 use Rattle.s_index.specs.Indices.{function_types, continuations, type_table}
 use Rattle.s_index.specs.Types.{numbers, place, with_type, with_types, first_types, clause_types, types_for, types_for_all}
@@ -80,11 +80,11 @@ continuations_length ds [] = refl
 continuations_length ds (e ∷ es) = ap suc (continuations_length ds es)
 
 -- the function types of a script of this size
-pub few_function_types : (ds : List Declaration) → sum_by (λ (d : Declaration). definition_size d.definition) ds ≤ 50000 → length (function_types ds) ≤ 50005
+pub few_function_types : (ds : List Declaration) → sum_by (λ (d : Declaration). definition_size d.definition) ds ≤ size_limit → length (function_types ds) ≤ 50005
 few_function_types ds h = let q = with_length first_types (types_for_all ds) in let f = few_types ds in omega (arith, q, f, h)
 
 -- and all its types
-pub few_in_table : (ds : List Declaration) → sum_by (λ (d : Declaration). definition_size d.definition) ds ≤ 50000 → length (type_table ds) ≤ 100005
+pub few_in_table : (ds : List Declaration) → sum_by (λ (d : Declaration). definition_size d.definition) ds ≤ size_limit → length (type_table ds) ≤ 100005
 few_in_table ds h =
     let q = with_length (function_types ds) (continuations ds (handled ds)) in
     let f = few_function_types ds h in

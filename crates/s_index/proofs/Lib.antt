@@ -1,7 +1,4 @@
-pub mod Lists
-mod Counting
-mod Handling
+mod CountedDeclarations
 mod Entries
-mod Sets
 mod Lengths
 mod SameTypes

@@ -3,3 +3,4 @@ pub mod Numbers
 pub mod Types
 pub mod Indices
 pub mod Views
+pub mod Limits

@@ -31,8 +31,8 @@ abbrev pub entry_named : Declaration → ℕ → Name → Option Entry
 entry_named d n x = if bytes_eq d.name x then Some (record { definition = d.definition; number = n }) else None
 
 -- each name finds its entry
-abbrev pub Found : BTreeMap (Bor (List ℕ)) Numbered → List Declaration → Type 0
-Found m ds = (x : Name) → found m x ≡ entry_of ds x
+abbrev pub FindsEntries : BTreeMap (Bor (List ℕ)) Numbered → List Declaration → Type 0
+FindsEntries m ds = (x : Name) → found m x ≡ entry_of ds x
 
 -- names by their bytes
 abbrev pub names_of : List (Bor Name) → List Name

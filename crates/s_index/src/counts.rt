@@ -1,6 +1,7 @@
 //! How many declarations there are of each kind.
 ghost use Rattle.std.specs.Prelude.{◌≡◌, ◌<◌, ◌+◌, length, ◌≤◌};
 ghost use Rattle.s_index.specs.Numbers.{no_counts, counted, counts_of, number_behind};
+ghost use Rattle.s_index.specs.Limits.{number_limit};
 
 use s_syntax::{Declaration, Definition};
 
@@ -26,7 +27,7 @@ impl Counts {
 
     /// One more, of the kind of this definition.
     pub(crate) fn counted(self, definition: &Definition) -> Counts
-        requires { self.effects + self.functions + self.handlers < 1000000 }
+        requires { self.effects + self.functions + self.handlers < number_limit }
         ensures value { result ≡ counted self definition.now }
     {
         match definition {

@@ -2,7 +2,8 @@
 ghost use Rattle.std.specs.Prelude.{◌≡◌, ◌≤◌, IfOk, OnOk, length};
 ghost use Rattle.s_syntax.specs.declared.name.Name.{Name as TheName};
 ghost use Rattle.s_index.specs.Numbers.{counts_of};
-ghost use Rattle.s_index.specs.Views.{Found, found, or_else, entry_named};
+ghost use Rattle.s_index.specs.Views.{FindsEntries, found, or_else, entry_named};
+ghost use Rattle.s_check.specs.Size.{size_limit};
 
 use crate::counts::Counts;
 use s_syntax::{Declaration, Definition, Name, Parameter};
@@ -19,7 +20,7 @@ pub(crate) struct Numbered<'a> {
 
 /// The declarations of a script, by name. Contracts see them as they stand in the script.
 #[derive(Drop)]
-pub(crate) struct Declarations<'a> {
+pub(crate) struct NumberedDeclarations<'a> {
     all: &'a [Declaration],
     first: BTreeMap<&'a [u8], Numbered<'a>>,
     counts: Counts,
@@ -31,11 +32,12 @@ struct Numbering<'a> {
     counts: Counts,
 }
 
-impl<'a> Model for Declarations<'a> {
+impl<'a> Model for NumberedDeclarations<'a> {
     ghost use Rattle.std.specs.Prelude.{◌≡◌, ◌≤◌, List, length};
     ghost use Rattle.s_syntax.specs.declared.script.Declaration.{Declaration};
     ghost use Rattle.s_index.specs.Numbers.{counts_of};
-    ghost use Rattle.s_index.specs.Views.{Found};
+    ghost use Rattle.s_index.specs.Views.{FindsEntries};
+    ghost use Rattle.s_check.specs.Size.{size_limit};
 
     ghost Value = { List Declaration };
 
@@ -46,7 +48,7 @@ impl<'a> Model for Declarations<'a> {
 
     ghost view = { λ a. a.all.now };
 
-    ghost invariant = { λ a. Found a.first a.all.now × (a.counts ≡ counts_of a.all.now) × (length a.all.now ≤ 50000) };
+    ghost invariant = { λ a. FindsEntries a.first a.all.now × (a.counts ≡ counts_of a.all.now) × (length a.all.now ≤ size_limit) };
 }
 
 // Keeps what a name stands for, where it doesn't stand for anything yet.
@@ -67,8 +69,8 @@ fn keep_first<'a>(
 
 // The first definition of each name.
 fn number_all<'a>(alloc: Global, all: &'a [Declaration]) -> Result<Numbering<'a>, AllocError>
-    requires { length all.now ≤ 50000 }
-    ensures found { IfOk result (λ n. Found n.first all.now) }
+    requires { length all.now ≤ size_limit }
+    ensures found { IfOk result (λ n. FindsEntries n.first all.now) }
     ensures counts { IfOk result (λ n. n.counts ≡ counts_of all.now) }
 {
     let mut first: BTreeMap<&'a [u8], Numbered<'a>> = BTreeMap::new(alloc);
@@ -81,19 +83,23 @@ fn number_all<'a>(alloc: Global, all: &'a [Declaration]) -> Result<Numbering<'a>
     Ok(Numbering { first, counts })
 }
 
-impl<'a> Declarations<'a> {
+impl<'a> NumberedDeclarations<'a> {
     ghost use Rattle.std.specs.Prelude.{◌≡◌, ◌≤◌, IfOk, IfSome, length};
     ghost use Rattle.s_index.specs.Numbers.{counts_of, entry_of, function_index, handler_index, tag_index, first_handler};
     ghost use Rattle.s_index.specs.Indices.{parameters_of};
     ghost use Rattle.s_index.specs.Views.{entry_at};
+    ghost use Rattle.s_check.specs.Size.{size_limit};
 
     /// Those of a script. It fails only for want of memory.
-    pub fn new(alloc: Global, all: &'a [Declaration]) -> Result<Declarations<'a>, AllocError>
-        requires { length all.now ≤ 50000 }
+    pub fn new(
+        alloc: Global,
+        all: &'a [Declaration],
+    ) -> Result<NumberedDeclarations<'a>, AllocError>
+        requires { length all.now ≤ size_limit }
         ensures value { IfOk result (λ declarations. declarations ≡ all.now) }
     {
         let Numbering { first, counts } = number_all(alloc, all)?;
-        Ok(Declarations { all, first, counts })
+        Ok(NumberedDeclarations { all, first, counts })
     }
 
     /// The declarations, in order.
@@ -106,7 +112,7 @@ impl<'a> Declarations<'a> {
     // What a name stands for.
     fn find(&self, name: &'a Name) -> Option<Numbered<'a>>
         ensures value { entry_at result ≡ entry_of self.now name.now }
-        ensures small { IfSome result (λ n. n.number ≤ 50000) }
+        ensures small { IfSome result (λ n. n.number ≤ size_limit) }
     {
         self.first.get(&name.as_bytes()).copied()
     }

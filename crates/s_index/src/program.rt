@@ -8,7 +8,7 @@ ghost use Rattle.s_index.specs.Indices.{function_types, continuations, type_tabl
 ghost use Rattle.s_index.specs.Types.{clause_types, types_for, with_types, function_type, place};
 ghost use Rattle.s_index.specs.Views.{names_of};
 
-use crate::declarations::Declarations;
+use crate::declarations::NumberedDeclarations;
 use crate::handled::handled_names;
 use crate::table::{add_type, first_types, place};
 use crate::types::{clause_type, effect_type, function_type, handler_type};
@@ -23,7 +23,7 @@ use w_types::CompType;
 #[derive(Drop)]
 pub struct Program<'a> {
     alloc: Global,
-    declarations: Declarations<'a>,
+    declarations: NumberedDeclarations<'a>,
     handled: BTreeSet<&'a [u8]>,
     types: Vec<CompType>,
 }
@@ -129,7 +129,7 @@ fn continuation_type(
 // The types of continuations of the functions that are handled, in order.
 fn continuation_types<'a>(
     alloc: Global,
-    declarations: &Declarations<'a>,
+    declarations: &NumberedDeclarations<'a>,
     names: &BTreeSet<&'a [u8]>,
     functions: &[CompType],
 ) -> Result<Vec<CompType>, AllocError>
@@ -161,17 +161,17 @@ fn add_types(types: &mut Vec<CompType>, more: Vec<CompType>) -> Result<(), Alloc
 impl<'a> Program<'a> {
     ghost use Rattle.std.specs.Prelude.{◌≡◌, ◌≤◌, IfOk, sum_by};
     ghost use Rattle.s_syntax.specs.declared.script.Declaration.{Declaration as TheDeclaration};
-    ghost use Rattle.s_check.specs.Size.{definition_size};
+    ghost use Rattle.s_check.specs.Size.{definition_size, size_limit};
     ghost use Rattle.s_index.specs.Numbers.{function_index, handler_index, tag_index};
     ghost use Rattle.s_index.specs.Handled.{handled_names, is_function_among};
     ghost use Rattle.s_index.specs.Indices.{type_table, type_index, clause_type_index, continuation_index};
 
-    /// Those of a script whose size is at most 50,000. It fails only for want of memory.
+    /// Those of a script whose size is within the limit. It fails only for want of memory.
     pub fn new(alloc: Global, all: &'a [Declaration]) -> Result<Program<'a>, AllocError>
-        requires { sum_by (λ (d : TheDeclaration). definition_size d.definition) all.now ≤ 50000 }
+        requires { sum_by (λ (d : TheDeclaration). definition_size d.definition) all.now ≤ size_limit }
         ensures value { IfOk result (λ program. program ≡ all.now) }
     {
-        let declarations = Declarations::new(alloc, all)?;
+        let declarations = NumberedDeclarations::new(alloc, all)?;
         let names = handled_names(alloc, all)?;
         let handled = set_of(alloc, names.as_slice())?;
         let mut types = function_types(alloc, all)?;

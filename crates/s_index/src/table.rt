@@ -4,8 +4,9 @@ ghost use Rattle.w_types.specs.declared.types.ValType.TheVariants.{I64};
 ghost use Rattle.w_syntax.specs.Locals.{same_kind};
 ghost use Rattle.s_index.specs.Types.{same_kinds, same_type, place, with_type, first_types, from_to};
 
+use lists::ListOf;
 use std::alloc::{AllocError, Global};
-use w_types::{CompType, FuncType, ListOf, PackedType};
+use w_types::{CompType, FuncType, PackedType};
 
 // Whether two value types are one.
 fn is_same_kind(one: PackedType, other: PackedType) -> bool

@@ -3,9 +3,10 @@ ghost use Rattle.std.specs.Prelude.{◌≡◌, [], ◌∷◌, true, IfOk};
 ghost use Rattle.w_types.specs.declared.types.ValType.TheVariants.{I64};
 ghost use Rattle.s_index.specs.Types.{val_type, val_types, numbers, to_continuation, resumption_type, from_to, function_type, handler_type, effect_type, clause_type};
 
+use lists::ListOf;
 use s_syntax::{Parameter, VariableType};
 use std::alloc::{AllocError, Global};
-use w_types::{CompType, FuncType, HeapType, ListOf, PackedType, RefType};
+use w_types::{CompType, FuncType, HeapType, PackedType, RefType};
 
 /// The index of the type of resumptions.
 pub const RESUMPTION: u32 = 1;

@@ -30,7 +30,7 @@ pub record Misspelled (bytes : List ℕ) (e : ParseFault) : Type 0 where
   pub refused : refusal.HasFault bytes tokens e
 
 -- a script breaks this rule
-pub record Breaks (bytes : List ℕ) (d : ℕ) (r : Rule) : Type 0 where
+pub record BreaksRule (bytes : List ℕ) (d : ℕ) (r : Rule) : Type 0 where
   pub script : Script
   pub spelled : Spelled bytes script
   pub broken : Broken script d r
@@ -48,7 +48,7 @@ HasFault bytes fault.TooLong = length_limit < length bytes
 HasFault bytes (fault.Lex at) = (length bytes ≤ length_limit) × Lexes 0 bytes (Err (lexing.Lex at))
 HasFault bytes (fault.Parse a) = (length bytes ≤ length_limit) × Misspelled bytes (parsing.Parse a)
 HasFault bytes fault.Deep = (length bytes ≤ length_limit) × Misspelled bytes parsing.Deep
-HasFault bytes (fault.Rule d r) = (length bytes ≤ length_limit) × Breaks bytes d r
+HasFault bytes (fault.Rule d r) = (length bytes ≤ length_limit) × BreaksRule bytes d r
 HasFault bytes fault.OutOfMemory = ⊥
 
 -- what an answer to bytes says

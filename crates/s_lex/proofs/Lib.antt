@@ -4,7 +4,7 @@ pub mod Tables
 pub mod Longest
 pub mod PieceLaw
 pub mod Places
-pub mod Cutting
+pub mod BytesIntoTokens
 pub mod SomeWay
 pub mod TokenTexts
 mod PieceRows

@@ -6,7 +6,7 @@ use Rattle.s_lex.specs.declared.piece.Piece.{Piece}
 use Rattle.s_lex.specs.declared.piece.Piece.TheVariants as piece
 use Rattle.s_lex.specs.Lexes.{Lexed, Lexes, with_token, ended, blank, token, bad}
 use Rattle.s_lex.specs.Pieces.{piece_of}
-use Rattle.s_lex.proofs.Cutting.{token_takes, blank_takes}
+use Rattle.s_lex.proofs.BytesIntoTokens.{token_takes, blank_takes}
 use Rattle.s_lex.proofs.PieceLaw.{token_from, blank_from}
 
 -- by so many pieces at most

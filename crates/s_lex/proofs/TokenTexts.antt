@@ -10,7 +10,7 @@ use Rattle.s_lex.specs.Texts as text
 use Rattle.s_lex.specs.Stands.{TokenStands, word, number, symbol}
 use Rattle.s_lex.specs.Lexes.{Lexed, with_token, Lexes, ended, blank, token, bad, AreInOrder, IsAnswer}
 use Rattle.s_lex.proofs.PieceLaw.{token_from, blank_from}
-use Rattle.s_lex.proofs.Cutting.{token_takes, blank_takes, one_lexing}
+use Rattle.s_lex.proofs.BytesIntoTokens.{token_takes, blank_takes, one_lexing}
 
 -- what stands in front is a text
 text_of : {bs : List ℕ} {k : Kind} {n : ℕ} → TokenStands bs k n → IsText k (take n bs)

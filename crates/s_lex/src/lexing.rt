@@ -11,9 +11,9 @@ use crate::bytes::{ByteClass, end_of, is_digit, is_letter, is_separator};
 use crate::fault::LexFault;
 use crate::piece::Piece;
 use crate::words::{long_symbol, number_of, short_symbol, word_kind};
+use lists::ListOf;
 use s_syntax::{Kind, Token};
 use std::alloc::Global;
-use w_types::ListOf;
 
 // Whether a letter stands at the place.
 fn letter_at(bytes: &[u8], at: usize) -> bool

@@ -8,7 +8,7 @@ use Rattle.w_syntax.specs.Items.{reference_to}
 use Rattle.s_syntax.specs.declared.script.Declaration.{Declaration}
 use Rattle.s_index.specs.Numbers.{function_index}
 use Rattle.s_code.specs.Lowered.{for_each, declared}
-use Rattle.s_index.proofs.Lists.{cell}
+use Rattle.lists.proofs.Lists.{cell}
 
 -- the items of one declaration more
 pub one_more : {A : Type 0} (make : Declaration → List A) (ds : List Declaration) (i : ℕ) (d : Declaration) (old new before : List A) → i < length ds → d ≡ get_or ds i d

@@ -11,7 +11,7 @@ use Rattle.s_check.specs.Scopes.{Bound, number, resumption, lets_of, lets_in}
 use Rattle.s_check.specs.Size.{statement_size, block_size, clause_size}
 use Rattle.s_code.specs.Places.{lets, return_names, clause_names, clauses_names, high_clauses}
 use Rattle.s_code.proofs.Highs.{block_high}
-use Rattle.s_lower.specs.declared.names.Binding.{Binding}
+use Rattle.s_lower.specs.declared.names.TypedName.{TypedName}
 use Rattle.s_lower.specs.Views.{bound_of, bounds_of}
 
 mutual
@@ -55,9 +55,9 @@ clauses_few [] = omega arith
 clauses_few (c ∷ cs) = let r = clauses_few cs in let s = sum_by-cons clause_size c cs in omega (arith, r, s)
 
 -- as many as there are
-pub as_many : (bs : List Binding) (us : List Bound) → bounds_of bs ≡ us → length bs ≡ length us
+pub as_many : (bs : List TypedName) (us : List Bound) → bounds_of bs ≡ us → length bs ≡ length us
 as_many bs us e = let m = length-map bs bound_of in let l = ap (λ (vs : List Bound). length vs) e in omega (arith, m, l)
 
 -- names put behind others
-pub grown : (old new : List Binding) (us : List Bound) → bounds_of new ≡ bounds_of old ++ us → length new ≡ length old + length us
+pub grown : (old new : List TypedName) (us : List Bound) → bounds_of new ≡ bounds_of old ++ us → length new ≡ length old + length us
 grown old new us e = let n = as_many new (bounds_of old ++ us) e in let m = length-map old bound_of in let l = length-append (bounds_of old) us in omega (arith, n, m, l)

@@ -1,6 +1,6 @@
 mod Lengths
-mod Numbering
+mod NumberedNames
 mod Runs
 mod Each
-mod Bindings
-mod Assembled
+mod NamesBehindOthers
+mod ModulesOfParts

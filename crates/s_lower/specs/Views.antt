@@ -9,13 +9,13 @@ use Rattle.s_code.specs.Lowered.{lowered_all}
 use Rattle.s_code.specs.Places.{clause_names}
 use Rattle.s_code.specs.Layouts.{Owner, Layout, numbered}
 use Rattle.s_check.specs.Scopes.{Bound}
-use Rattle.s_lower.specs.declared.names.Binding.{Binding}
+use Rattle.s_lower.specs.declared.names.TypedName.{TypedName}
 use Rattle.s_code.specs.Views.{type_of}
 
-abbrev pub bound_of : Binding → Bound
+abbrev pub bound_of : TypedName → Bound
 bound_of b = record { name = b.name.now; ty = type_of b.ty }
 
-abbrev pub bounds_of : List Binding → List Bound
+abbrev pub bounds_of : List TypedName → List Bound
 bounds_of bs = map bound_of bs
 
 -- the names ps from the first local on, and bs from the local `from` on

@@ -2,7 +2,7 @@
 ghost use Rattle.std.specs.Prelude.{◌≡◌, ◌≤◌, ◌+◌, ◌++◌, ◌∷◌, [], length, map, max, sum_by, IfOk, OnOk};
 ghost use Rattle.std.specs.Option.{option_map};
 ghost use Rattle.s_check.specs.Scopes.{parameter};
-ghost use Rattle.s_check.specs.Size.{block_size, clause_size, definition_size};
+ghost use Rattle.s_check.specs.Size.{block_size, clause_size, definition_size, size_limit};
 ghost use Rattle.s_syntax.specs.declared.script.Definition.TheVariants.{Handler as AHandler};
 ghost use Rattle.s_code.specs.Clauses.{placed_all};
 ghost use Rattle.s_code.specs.Handlers.{handler_body};
@@ -12,9 +12,10 @@ ghost use Rattle.s_code.specs.Statements.{body};
 ghost use Rattle.s_code.specs.Temporaries.{high_block};
 ghost use Rattle.s_code.specs.Views.{owner_in};
 ghost use Rattle.s_lower.specs.Views.{bounds_of, layout_of, placed_by};
+ghost use Rattle.s_index.specs.Limits.{number_limit};
 
 use crate::names::{
-    Binding, body_names, handler_names, locals_for, parameters, push_clause_names, push_numbered,
+    TypedName, body_names, handler_names, locals_for, parameters, push_clause_names, push_numbered,
     return_names,
 };
 use s_code::{Layout, OwnHandler, Placed, function_body, handler_body, high_block};
@@ -26,13 +27,13 @@ use w_syntax::{Body, Func, Locals};
 // Where these names are, the own ones from the local `from` on.
 fn layout<'a>(
     alloc: Global,
-    parameters: &[Binding<'a>],
+    parameters: &[TypedName<'a>],
     from: u32,
-    own: &[Binding<'a>],
+    own: &[TypedName<'a>],
     temporaries: u32,
     owner: Option<OwnHandler<'a>>,
 ) -> Result<Layout<'a>, AllocError>
-    requires { from + length parameters.now + length own.now ≤ 1000000 }
+    requires { from + length parameters.now + length own.now ≤ number_limit }
     ensures value { IfOk result (λ made. made ≡ layout_of (bounds_of parameters.now) (bounds_of own.now) from temporaries (option_map owner_in owner.entry)) }
 {
     let mut names = Vec::new(alloc);
@@ -46,8 +47,8 @@ fn body_with<'a>(
     alloc: Global,
     program: &Program<'a>,
     function: &'a Function,
-    parameters: &[Binding<'a>],
-    own: &[Binding<'a>],
+    parameters: &[TypedName<'a>],
+    own: &[TypedName<'a>],
 ) -> Result<Body, AllocError>
     requires few { length parameters.now + length own.now + block_size function.now.body ≤ 200000 }
     requires parameters { bounds_of parameters.now ≡ map parameter function.now.parameters }
@@ -66,7 +67,7 @@ pub(crate) fn function_code<'a>(
     program: &Program<'a>,
     function: &'a Function,
 ) -> Result<Func, AllocError>
-    requires { length function.now.parameters + block_size function.now.body ≤ 50000 }
+    requires { length function.now.parameters + block_size function.now.body ≤ size_limit }
     ensures value { IfOk result (λ code. code ≡ function_code program.now function.now) }
 {
     let parameters = parameters(alloc, function.parameters.as_slice())?;
@@ -80,7 +81,7 @@ pub(crate) fn function_code<'a>(
 // How many temporaries clauses take.
 #[tactic(auto, using(crate::proofs::Lengths::clauses_high, crate::proofs::Lengths::clauses_few))]
 fn high_clauses(clauses: &[Clause]) -> u32
-    requires { sum_by clause_size clauses.now ≤ 50000 }
+    requires { sum_by clause_size clauses.now ≤ size_limit }
     ensures value { result ≡ high_clauses clauses.now }
     ensures few { result ≤ sum_by clause_size clauses.now }
     ensures many { length clauses.now ≤ sum_by clause_size clauses.now }
@@ -96,7 +97,7 @@ fn high_clauses(clauses: &[Clause]) -> u32
 fn push_placed<'a>(
     alloc: Global,
     handler: &'a Name,
-    parameters: &[Binding<'a>],
+    parameters: &[TypedName<'a>],
     clause: &'a Clause,
     from: u32,
     temporaries: u32,
@@ -129,7 +130,7 @@ fn push_placed<'a>(
 fn push_all_placed<'a>(
     alloc: Global,
     handler: &'a Name,
-    parameters: &[Binding<'a>],
+    parameters: &[TypedName<'a>],
     clauses: &'a [Clause],
     from: u32,
     temporaries: u32,
@@ -159,11 +160,11 @@ fn handler_body_with<'a>(
     program: &Program<'a>,
     name: &'a Name,
     handler: &'a Handler,
-    parameters: &[Binding<'a>],
-    own: &[Binding<'a>],
+    parameters: &[TypedName<'a>],
+    own: &[TypedName<'a>],
     temporaries: u32,
 ) -> Result<Body, AllocError>
-    requires small { definition_size (AHandler handler.now) ≤ 50000 }
+    requires small { definition_size (AHandler handler.now) ≤ size_limit }
     requires few { length parameters.now + length own.now ≤ 100000 }
     requires parameters { bounds_of parameters.now ≡ map parameter handler.now.parameters }
     requires own { bounds_of own.now ≡ return_names handler.now }
@@ -194,8 +195,12 @@ fn handler_body_with<'a>(
 }
 
 // The locals of a handler whose names behind the parameters these are.
-fn handler_locals(alloc: Global, handler: &Handler, names: &[Binding]) -> Result<Locals, AllocError>
-    requires small { definition_size (AHandler handler.now) ≤ 50000 }
+fn handler_locals(
+    alloc: Global,
+    handler: &Handler,
+    names: &[TypedName],
+) -> Result<Locals, AllocError>
+    requires small { definition_size (AHandler handler.now) ≤ size_limit }
     requires few { length names.now ≤ 100000 }
     ensures value { IfOk result (λ locals. locals ≡ locals_for (bounds_of names.now) (max (high_block handler.now.return_clause.body) (high_clauses handler.now.clauses))) }
 {
@@ -211,7 +216,7 @@ pub(crate) fn handler_code<'a>(
     name: &'a Name,
     handler: &'a Handler,
 ) -> Result<Func, AllocError>
-    requires { definition_size (AHandler handler.now) ≤ 50000 }
+    requires { definition_size (AHandler handler.now) ≤ size_limit }
     ensures value { IfOk result (λ code. code ≡ handler_code program.now name.now handler.now) }
 {
     let parameters = parameters(alloc, handler.parameters.as_slice())?;

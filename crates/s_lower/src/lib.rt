@@ -8,4 +8,4 @@ mod names;
 mod parts;
 
 pub use fault::LowerFault;
-pub use lowering::lower;
+pub use lowering::{SIZE_LIMIT, lower};

@@ -3,7 +3,7 @@ ghost use Rattle.std.specs.Prelude.{◌≡◌, ◌≤◌, codes, sum_by, IfOk, O
 ghost use Rattle.w_syntax.specs.Module.{empty_module};
 ghost use Rattle.s_syntax.specs.declared.script.Script.{Script as TheScript};
 ghost use Rattle.s_syntax.specs.declared.script.Declaration.{Declaration as TheDeclaration};
-ghost use Rattle.s_check.specs.Size.{Size, definition_size};
+ghost use Rattle.s_check.specs.Size.{Size, definition_size, size_limit};
 ghost use Rattle.s_code.specs.Lowered.{lowered};
 ghost use Rattle.s_lower.specs.Answers.{Answers};
 ghost use Rattle.s_lower.specs.Views.{untyped};
@@ -20,8 +20,8 @@ use s_syntax::{Name, Script};
 use std::alloc::{AllocError, Global};
 use w_syntax::Module;
 
-/// The greatest size of a script that has a module.
-const SIZE_LIMIT: u32 = 50_000;
+/// The greatest size of a script that is checked, and compiled.
+pub const SIZE_LIMIT: u32 = 50_000;
 
 // Puts what is no type into a module that is empty yet.
 fn add_parts<'a>(
@@ -31,7 +31,7 @@ fn add_parts<'a>(
     compiled: &mut Module,
 ) -> Result<(), AllocError>
     requires main { main.now ≡ codes "main" }
-    requires few { sum_by (λ (d : TheDeclaration). definition_size d.definition) program.now ≤ 50000 }
+    requires few { sum_by (λ (d : TheDeclaration). definition_size d.definition) program.now ≤ size_limit }
     requires empty { compiled.now ≡ empty_module }
     ensures value { OnOk result (compiled.new ≡ untyped program.now) }
 {
@@ -48,7 +48,7 @@ fn add_parts<'a>(
 
 // Makes an empty module that of a script whose size is within the limit.
 fn fill(alloc: Global, script: &Script, compiled: &mut Module) -> Result<(), AllocError>
-    requires small { Size script.now ≤ 50000 }
+    requires small { Size script.now ≤ size_limit }
     requires empty { compiled.now ≡ empty_module }
     ensures value { OnOk result (compiled.new ≡ lowered script.now) }
 {
@@ -61,7 +61,7 @@ fn fill(alloc: Global, script: &Script, compiled: &mut Module) -> Result<(), All
 
 // The module of a script whose size is within the limit.
 fn module(alloc: Global, script: &Script) -> Result<Module, AllocError>
-    requires { Size script.now ≤ 50000 }
+    requires { Size script.now ≤ size_limit }
     ensures value { IfOk result (λ made. made ≡ lowered script.now) }
 {
     let mut module = Module::empty(alloc);

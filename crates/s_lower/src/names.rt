@@ -7,9 +7,10 @@ ghost use Rattle.s_code.specs.Layouts.{numbered};
 ghost use Rattle.s_code.specs.Places.{lets, name_runs, locals_for, clause_names, clauses_names, return_names};
 ghost use Rattle.s_code.specs.Views.{locals_in, type_of};
 ghost use Rattle.s_index.specs.Types.{val_type};
+ghost use Rattle.s_index.specs.Limits.{number_limit};
 ghost use Rattle.s_lower.specs.Views.{bound_of, bounds_of};
 
-use s_code::{LocalName, ValueType};
+use s_code::{LocalName, LocalType};
 use s_index::resumption_local;
 use s_syntax::{Block, Clause, Handler, Name, Parameter, Statement, VariableType};
 use std::alloc::{AllocError, Global};
@@ -18,28 +19,28 @@ use w_types::PackedType;
 
 /// A value name and its type.
 #[derive(Clone, Copy)]
-pub(crate) struct Binding<'a> {
+pub(crate) struct TypedName<'a> {
     pub name: &'a Name,
-    pub ty: ValueType<'a>,
+    pub ty: LocalType<'a>,
 }
 
 // A name of a number.
-fn number<'a>(name: &'a Name) -> Binding<'a>
+fn number<'a>(name: &'a Name) -> TypedName<'a>
     ensures value { bound_of result ≡ number name.now }
 {
-    Binding {
+    TypedName {
         name,
-        ty: ValueType::Int,
+        ty: LocalType::Int,
     }
 }
 
 // The type of a parameter.
-fn type_of(ty: &VariableType) -> ValueType<'_>
+fn type_of(ty: &VariableType) -> LocalType<'_>
     ensures value { type_of result ≡ ty.now }
 {
     match ty {
-        VariableType::Int => ValueType::Int,
-        VariableType::Resumption(handler) => ValueType::Resumption(handler),
+        VariableType::Int => LocalType::Int,
+        VariableType::Resumption(handler) => LocalType::Resumption(handler),
     }
 }
 
@@ -47,13 +48,13 @@ fn type_of(ty: &VariableType) -> ValueType<'_>
 pub(crate) fn parameters<'a>(
     alloc: Global,
     all: &'a [Parameter],
-) -> Result<Vec<Binding<'a>>, AllocError>
+) -> Result<Vec<TypedName<'a>>, AllocError>
     ensures value { IfOk result (λ names. bounds_of names.items ≡ map parameter all.now) }
     ensures many { IfOk result (λ names. length names.items ≡ length all.now) }
 {
     let mut names = Vec::new(alloc);
     for parameter in all {
-        names.push(Binding {
+        names.push(TypedName {
             name: &parameter.name,
             ty: type_of(&parameter.ty),
         })?;
@@ -62,7 +63,7 @@ pub(crate) fn parameters<'a>(
 }
 
 // Puts names of numbers behind the others.
-fn push_numbers<'a>(all: &'a [Name], names: &mut Vec<Binding<'a>>) -> Result<(), AllocError>
+fn push_numbers<'a>(all: &'a [Name], names: &mut Vec<TypedName<'a>>) -> Result<(), AllocError>
     ensures value { OnOk result (bounds_of names.new.items ≡ bounds_of names.old.items ++ map number all.now) }
 {
     for name in all {
@@ -75,7 +76,7 @@ fn push_numbers<'a>(all: &'a [Name], names: &mut Vec<Binding<'a>>) -> Result<(),
 #[cycle(lets)]
 fn push_lets_of<'a>(
     statement: &'a Statement,
-    names: &mut Vec<Binding<'a>>,
+    names: &mut Vec<TypedName<'a>>,
 ) -> Result<(), AllocError>
     ensures value { OnOk result (bounds_of names.new.items ≡ bounds_of names.old.items ++ map number (lets_of (statement_of statement.now))) }
 {
@@ -103,7 +104,7 @@ fn push_lets_of<'a>(
 
 // Puts the names that a block binds behind the others.
 #[cycle(lets)]
-fn push_lets<'a>(block: &'a Block, names: &mut Vec<Binding<'a>>) -> Result<(), AllocError>
+fn push_lets<'a>(block: &'a Block, names: &mut Vec<TypedName<'a>>) -> Result<(), AllocError>
     ensures value { OnOk result (bounds_of names.new.items ≡ bounds_of names.old.items ++ map number (lets_in block.now)) }
 {
     for statement in block.statements() {
@@ -114,7 +115,10 @@ fn push_lets<'a>(block: &'a Block, names: &mut Vec<Binding<'a>>) -> Result<(), A
 
 /// The names that the body of a function binds. It fails only for want of memory.
 #[tactic(auto, using(crate::proofs::Lengths::lets_within, crate::proofs::Lengths::as_many))]
-pub(crate) fn body_names<'a>(alloc: Global, body: &'a Block) -> Result<Vec<Binding<'a>>, AllocError>
+pub(crate) fn body_names<'a>(
+    alloc: Global,
+    body: &'a Block,
+) -> Result<Vec<TypedName<'a>>, AllocError>
     ensures value { IfOk result (λ names. bounds_of names.items ≡ lets body.now) }
     ensures few { IfOk result (λ names. length names.items ≤ block_size body.now) }
 {
@@ -127,7 +131,7 @@ pub(crate) fn body_names<'a>(alloc: Global, body: &'a Block) -> Result<Vec<Bindi
 #[tactic(auto, using(crate::proofs::Lengths::return_within))]
 fn push_return_names<'a>(
     handler: &'a Handler,
-    names: &mut Vec<Binding<'a>>,
+    names: &mut Vec<TypedName<'a>>,
 ) -> Result<(), AllocError>
     ensures value { OnOk result (bounds_of names.new.items ≡ bounds_of names.old.items ++ return_names handler.now) }
     ensures many { OnOk result (length names.new.items ≡ length names.old.items + length (return_names handler.now)) }
@@ -142,16 +146,16 @@ fn push_return_names<'a>(
 pub(crate) fn push_clause_names<'a>(
     handler: &'a Name,
     clause: &'a Clause,
-    names: &mut Vec<Binding<'a>>,
+    names: &mut Vec<TypedName<'a>>,
 ) -> Result<(), AllocError>
     ensures value { OnOk result (bounds_of names.new.items ≡ bounds_of names.old.items ++ clause_names handler.now clause.now) }
     ensures many { OnOk result (length names.new.items ≡ length names.old.items + length (clause_names handler.now clause.now)) }
     ensures few { length (clause_names handler.now clause.now) ≤ clause_size clause.now }
 {
     push_numbers(clause.arguments.as_slice(), names)?;
-    names.push(Binding {
+    names.push(TypedName {
         name: &clause.resumption,
-        ty: ValueType::Resumption(handler),
+        ty: LocalType::Resumption(handler),
     })?;
     push_lets(&clause.body, names)
 }
@@ -160,7 +164,7 @@ pub(crate) fn push_clause_names<'a>(
 fn push_clauses_names<'a>(
     handler: &'a Name,
     clauses: &'a [Clause],
-    names: &mut Vec<Binding<'a>>,
+    names: &mut Vec<TypedName<'a>>,
 ) -> Result<(), AllocError>
     ensures value { OnOk result (bounds_of names.new.items ≡ bounds_of names.old.items ++ clauses_names handler.now clauses.now) }
     ensures many { OnOk result (length names.new.items ≡ length names.old.items + length (clauses_names handler.now clauses.now)) }
@@ -176,7 +180,7 @@ fn push_clauses_names<'a>(
 pub(crate) fn return_names<'a>(
     alloc: Global,
     handler: &'a Handler,
-) -> Result<Vec<Binding<'a>>, AllocError>
+) -> Result<Vec<TypedName<'a>>, AllocError>
     ensures value { IfOk result (λ names. bounds_of names.items ≡ return_names handler.now) }
     ensures many { IfOk result (λ names. length names.items ≡ length (return_names handler.now)) }
     ensures few { length (return_names handler.now) ≤ 1 + block_size handler.now.return_clause.body }
@@ -191,7 +195,7 @@ pub(crate) fn handler_names<'a>(
     alloc: Global,
     name: &'a Name,
     handler: &'a Handler,
-) -> Result<Vec<Binding<'a>>, AllocError>
+) -> Result<Vec<TypedName<'a>>, AllocError>
     ensures value { IfOk result (λ names. bounds_of names.items ≡ return_names handler.now ++ clauses_names name.now handler.now.clauses) }
     ensures few { IfOk result (λ names. length names.items ≤ 1 + block_size handler.now.return_clause.body + sum_by clause_size handler.now.clauses) }
 {
@@ -204,10 +208,10 @@ pub(crate) fn handler_names<'a>(
 /// Puts names behind those that have locals, with the locals from `from` on. It fails only for want of memory.
 pub(crate) fn push_numbered<'a>(
     from: u32,
-    names: &[Binding<'a>],
+    names: &[TypedName<'a>],
     locals: &mut Vec<LocalName<'a>>,
 ) -> Result<(), AllocError>
-    requires { from + length names.now ≤ 1000000 }
+    requires { from + length names.now ≤ number_limit }
     ensures value { OnOk result (locals_in locals.new.items ≡ locals_in locals.old.items ++ numbered from (bounds_of names.now)) }
 {
     let mut next = from;
@@ -223,17 +227,17 @@ pub(crate) fn push_numbered<'a>(
 }
 
 // The type of the local of a name.
-fn local_type(ty: ValueType) -> PackedType
+fn local_type(ty: LocalType) -> PackedType
     ensures value { result ≡ val_type (type_of ty.entry) }
 {
     match ty {
-        ValueType::Int => PackedType::I64,
-        ValueType::Resumption(_) => resumption_local(),
+        LocalType::Int => PackedType::I64,
+        LocalType::Resumption(_) => resumption_local(),
     }
 }
 
 // The locals of names, one each.
-fn name_runs(alloc: Global, names: &[Binding]) -> Result<Vec<LocalRun>, AllocError>
+fn name_runs(alloc: Global, names: &[TypedName]) -> Result<Vec<LocalRun>, AllocError>
     ensures value { IfOk result (λ runs. runs.items ≡ name_runs (bounds_of names.now)) }
 {
     let mut runs = Vec::new(alloc);
@@ -249,10 +253,10 @@ fn name_runs(alloc: Global, names: &[Binding]) -> Result<Vec<LocalRun>, AllocErr
 /// The locals for these names, one each, and so many temporaries. It fails only for want of memory.
 pub(crate) fn locals_for(
     alloc: Global,
-    names: &[Binding],
+    names: &[TypedName],
     temporaries: u32,
 ) -> Result<Locals, AllocError>
-    requires { length names.now + temporaries ≤ 1000000 }
+    requires { length names.now + temporaries ≤ number_limit }
     ensures value { IfOk result (λ locals. locals ≡ locals_for (bounds_of names.now) temporaries) }
 {
     let mut runs = name_runs(alloc, names)?;

@@ -3,16 +3,17 @@ ghost use Rattle.std.specs.Prelude.{◌≡◌, ◌≤◌, ◌∷◌, ◌++◌, [
 ghost use Rattle.s_index.specs.Indices.{function_type_index, handler_type_index, effect_type_index};
 ghost use Rattle.s_index.specs.Numbers.{function_index};
 ghost use Rattle.s_syntax.specs.declared.script.Declaration.{Declaration as TheDeclaration};
-ghost use Rattle.s_check.specs.Size.{definition_size};
+ghost use Rattle.s_check.specs.Size.{definition_size, size_limit};
 ghost use Rattle.s_index.specs.Handled.{handled};
 ghost use Rattle.s_code.specs.Lowered.{function_type_of, handler_type_of, tag_of, function_code_of, handler_code_of, for_each, group, printer_import, main_export, declared};
 
 use crate::code::{function_code, handler_code};
+use lists::ListOf;
 use s_index::{PRINTER, Program, effect_type, function_type, handler_type};
 use s_syntax::{Declaration, Definition, Name as DeclaredName, Number, Parameter};
 use std::alloc::{AllocError, Global};
 use w_syntax::{Elem, ElemMode, Export, ExternIndex, ExternType, Func, Import, Items, Name, Tag};
-use w_types::{CompType, ListOf, RecGroup, RecGroups, RefType};
+use w_types::{CompType, RecGroup, RecGroups, RefType};
 
 // Puts this type in a group of its own behind the others.
 fn push_group(alloc: Global, ty: CompType, groups: &mut Vec<RecGroup>) -> Result<(), AllocError>
@@ -217,7 +218,7 @@ pub(crate) fn push_function_codes(
     program: &Program,
     all: &mut ListOf<Func>,
 ) -> Result<(), AllocError>
-    requires { sum_by (λ (d : TheDeclaration). definition_size d.definition) program.now ≤ 50000 }
+    requires { sum_by (λ (d : TheDeclaration). definition_size d.definition) program.now ≤ size_limit }
     ensures value { OnOk result (all.new ≡ all.old ++ for_each (λ (d : TheDeclaration). function_code_of program.now d.definition) program.now) }
 {
     for declaration in program.declarations() {
@@ -234,7 +235,7 @@ pub(crate) fn push_handler_codes(
     program: &Program,
     all: &mut ListOf<Func>,
 ) -> Result<(), AllocError>
-    requires { sum_by (λ (d : TheDeclaration). definition_size d.definition) program.now ≤ 50000 }
+    requires { sum_by (λ (d : TheDeclaration). definition_size d.definition) program.now ≤ size_limit }
     ensures value { OnOk result (all.new ≡ all.old ++ for_each (λ (d : TheDeclaration). handler_code_of program.now d.name d.definition) program.now) }
 {
     for declaration in program.declarations() {

@@ -24,7 +24,7 @@ use Rattle.s_check.specs.Refusal.{first, Has, Good}
 use Rattle.s_meaning.specs.Steps.{clause_of}
 use Rattle.s_meaning.specs.Typing.{kinds, numbers, ExprTyped, OperandsTyped, ArgsTyped, literal, read, unary, run, call, does, handle, resume, no_more, next, no_args, number, resumption, IsFree, BlockTyped, done, lets, assigns, ifs, whiles, prints, returns, drops, fails, ClauseTyped, ScriptTyped}
 use Rattle.s_meaning.proofs.Scopes.{same_is, same_refl, bool_of, more_block}
-use Rattle.s_meaning.proofs.Bindings.{extends_agree, starts_agree, let_agrees, res_before, or_left, or_right, among_left, among_right, twice_of, type_among}
+use Rattle.s_meaning.proofs.BoundInTurn.{extends_agree, starts_agree, let_agrees, res_before, or_left, or_right, among_left, among_right, twice_of, type_among}
 
 -- ## No rule
 

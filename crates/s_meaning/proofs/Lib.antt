@@ -1,10 +1,10 @@
 pub mod EvalRows
 pub mod Scopes
-pub mod Bindings
+pub mod BoundInTurn
 pub mod Good
 pub mod Variables
 pub mod Lists
 pub mod Worlds
-pub mod Focusing
+pub mod TypedFocus
 pub mod Sound
-pub mod Running
+pub mod TypedRuns

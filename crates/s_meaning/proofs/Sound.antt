@@ -22,7 +22,7 @@ use Rattle.s_meaning.specs.Laws.{StepGood, on, over, faulty}
 use Rattle.s_meaning.proofs.Lists.{get_before, get_last, get_appended, get_set, length_set}
 use Rattle.s_meaning.proofs.Variables.{covers_stored}
 use Rattle.s_meaning.proofs.Worlds.{Grows, all_grows, context_grows, entry_grows, context_append, listed_typed, taken_typed, dropped_typed, Match, no_names, name, match_append, match_covers, bound_typed, ints_typed}
-use Rattle.s_meaning.proofs.Focusing.{RedexTyped, constant, lookup, on_unary, on_binary, decides, applying, using, failing, ending, left_typed, next_typed}
+use Rattle.s_meaning.proofs.TypedFocus.{RedexTyped, constant, lookup, on_unary, on_binary, decides, applying, using, failing, ending, left_typed, next_typed}
 
 module _ (p : Script) (typed : ScriptTyped p) where
   gives_typed : {Ξ : World} {v : Value} {κ : Context} {place : Place} → HasKind Ξ v Int → ContextTyped p Ξ (place ∷ κ) → TermTyped p Ξ (Gives v) (place ∷ κ)

@@ -9,13 +9,13 @@ use Rattle.s_grammar.specs.Syntax.{Spells, ScriptOf}
 use Rattle.s_grammar.proofs.DeclarationLaws.{script_laws}
 use Rattle.s_grammar.proofs.NamedStatements.{append_none}
 use Rattle.s_grammar.proofs.OneScript.{settled, got_parts}
-use Rattle.s_grammar.proofs.ReadingLaws.{Begins, RefusedAt, must, Told}
+use Rattle.s_grammar.proofs.ReadingLaws.{Begins, RefusedAt, must, Known}
 use Rattle.s_grammar.proofs.Walks.{walk}
 use Rattle.s_parse.specs.Parsed.{verdict, parsed}
 use Rattle.s_parse.specs.Refusal.{BeginsScript, with_end, HasFault, Nests, opened_brackets, closed_brackets, Means}
 use Rattle.s_parse.specs.declared.fault.ParseFault.TheVariants as fault
 use Rattle.s_parse.proofs.Fronts.{take_drop, same_front, goes_on_same, before, take_front, drop_none}
-use Rattle.s_parse.proofs.Nesting.{walk_bounds, walk_counts, one_open, opened_append, closed_append, bounds_all}
+use Rattle.s_parse.proofs.CountedBrackets.{walk_bounds, walk_counts, one_open, opened_append, closed_append, bounds_all}
 
 module _ (bytes : List ℕ) where
   -- what is spelled begins with each front of its tokens
@@ -71,21 +71,21 @@ module _ (bytes : List ℕ) where
       (subst (λ (l : List Token). Begins (ScriptOf bytes 67) (t.front ++ must TooDeep l)) e (t.begins 67 (omega arith)))
 
   -- what is told of reading is what its verdict means
-  told_means : (ts : List Token) (o : Answer (Script)) → Told 64 (ScriptOf bytes) (script bytes 64) ts o → Means bytes ts (verdict (length ts) o)
-  told_means ts (Got p []) t =
+  verdict_means : (ts : List Token) (o : Answer (Script)) → Known 64 (ScriptOf bytes) (script bytes 64) ts o → Means bytes ts (verdict (length ts) o)
+  verdict_means ts (Got p []) t =
       let e : ts ≡ t.front = t.parts ∙ append_none t.front in
       let w : walk 64 ts ≡ Some 64 = ap (walk 64) e ∙ t.level in
       ((64, subst (λ (l : List Token). ScriptOf bytes 64 l p) (sym e) (t.spelled 64 (omega arith))), λ k. bounds_all ts 64 64 (suc k) w)
-  told_means ts (Got p (u ∷ rest)) t =
+  verdict_means ts (Got p (u ∷ rest)) t =
       wrong_at ts t.front (u ∷ rest) t.parts 64 t.level (nothing_after t.front (u ∷ rest) p (λ h. cc (h)) t.again)
       (λ k l. begin_by (suc k) t.front [] (u ∷ rest) p l (64, subst (λ (l : List Token). ScriptOf bytes 64 l p) (sym (append_none t.front)) (t.spelled 64 (omega arith))))
-  told_means ts (Refused Wrong rest) t =
+  verdict_means ts (Refused Wrong rest) t =
       let q = t.begins 67 (omega arith) in
       wrong_at ts t.front rest t.parts t.left t.level (nothing_goes_on t.front rest t.again)
       (λ k l. begin_by (suc k) t.front q.0 rest q.1 l (67, subst (λ (l : List Token). ScriptOf bytes 67 l q.1) (drop_none t.front [] q.0 refl) q.2))
-  told_means ts (Refused TooDeep rest) t = deep_means ts rest t rest refl
+  verdict_means ts (Refused TooDeep rest) t = deep_means ts rest t rest refl
 
   -- what is read is what is meant
   pub parsed_means : (ts : List Token) → Means bytes ts (parsed bytes ts)
   unfolding parsed
-  parsed_means ts = told_means ts (script bytes 64 ts) ((script_laws bytes 64).told ts)
+  parsed_means ts = verdict_means ts (script bytes 64 ts) ((script_laws bytes 64).known ts)

@@ -1,7 +1,7 @@
 pub mod Second
 pub mod Blocks
-pub mod Shrinking
-pub mod Nesting
+pub mod ItemsTakeTokens
+pub mod CountedBrackets
 pub mod Fronts
 pub mod Exact
 pub mod OneAnswer

@@ -9,10 +9,10 @@ ghost use Rattle.s_parse.specs.Items.{declaration};
 use crate::handler::braced_clauses_at;
 use crate::parameter::parameters_at;
 use crate::statement::block_at;
+use lists::ListOf;
 use s_expr::{Stop, expect, int_at, is_kind, kind_at, name_at};
 use s_syntax::{Declaration, Definition, Function, Handler, Kind, Script, Token};
 use std::alloc::Global;
-use w_types::ListOf;
 
 // An effect.
 #[tactic(auto, unfolding(s_grammar::specs::Reads::declaration_by, s_grammar::specs::Reads::led, s_grammar::specs::Reads::ended))]

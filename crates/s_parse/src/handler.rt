@@ -7,10 +7,10 @@ ghost use Rattle.s_parse.specs.Items.{effect_clauses, braced_clauses};
 
 use crate::parameter::{names_at, value_name_at};
 use crate::statement::block_at;
+use lists::ListOf;
 use s_expr::{Stop, expect, is_kind, kind_at, name_at};
 use s_syntax::{Clause, Kind, ReturnClause, Token};
 use std::alloc::Global;
-use w_types::ListOf;
 
 // What a handler does for an effect.
 #[tactic(auto, unfolding(s_grammar::specs::Reads::clause, s_grammar::specs::Reads::led))]

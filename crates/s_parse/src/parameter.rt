@@ -5,10 +5,10 @@ ghost use Rattle.s_lex.specs.Lexes.{AreInOrder};
 ghost use Rattle.s_grammar.specs.Reads.{name, parameter, parameters, names, value_name, listed, led};
 ghost use Rattle.s_expr.specs.Places.{ReadsAt};
 
+use lists::ListOf;
 use s_expr::{Stop, expect, is_kind, kind_at, name_at};
 use s_syntax::{Kind, Name, Parameter, Token, VariableType};
 use std::alloc::Global;
-use w_types::ListOf;
 
 // A parameter, which is a number where no type stands behind it.
 #[tactic(auto, unfolding(s_grammar::specs::Reads::parameter, s_grammar::specs::Reads::led))]

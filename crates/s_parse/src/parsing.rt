@@ -9,10 +9,10 @@ ghost use Rattle.s_parse.specs.Refusal.{IsScript, HasFault, Means, IsAnswer};
 
 use crate::declaration::script_at;
 use crate::fault::ParseFault;
+use lists::ListOf;
 use s_expr::Stop;
 use s_syntax::{Script, Token};
 use std::alloc::Global;
-use w_types::ListOf;
 
 // What reading the tokens gives.
 fn parse_exactly(alloc: Global, bytes: &[u8], tokens: &[Token]) -> Result<Script, ParseFault>

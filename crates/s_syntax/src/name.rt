@@ -1,8 +1,8 @@
 //! Names.
 
+use lists::ListOf;
 use std::alloc::{AllocError, Global};
 use std::marker::Model;
-use w_types::ListOf;
 
 /// A name, by its bytes. Contracts see the list of bytes.
 #[derive(Drop)]

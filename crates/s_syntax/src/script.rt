@@ -3,7 +3,7 @@
 use crate::name::Name;
 use crate::number::Number;
 use crate::statement::Block;
-use w_types::ListOf;
+use lists::ListOf;
 
 /// The type of a variable.
 #[derive(Drop)]

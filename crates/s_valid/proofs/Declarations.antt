@@ -18,7 +18,7 @@ use Rattle.s_check.specs.Refusal.{first, Has, Good}
 use Rattle.s_check.specs.Rules.{when, in_types, in_parameters, in_head, in_clauses, in_body, in_header, in_bodies, in_definition, in_declaration, in_declarations, in_main, broken_rules}
 use Rattle.s_check.specs.Scopes.{is_among, of_clause, of_return}
 use Rattle.s_meaning.proofs.Scopes.{same_refl}
-use Rattle.s_valid.proofs.Numbering.{get_left}
+use Rattle.s_valid.proofs.NumbersInModules.{get_left}
 
 -- ## No rule
 

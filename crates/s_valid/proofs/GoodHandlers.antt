@@ -1,7 +1,7 @@
 -- The handlers of a script that breaks no rule are typed, and what their clauses bind has the types that they bind it with.
 use Rattle.std.proofs.Common.{◌≡◌, ℕ, zero, suc, ◌+◌, Bool, true, false, ◌||◌, not, nat_eq, List, [], ◌∷◌, ◌++◌, map, length, Option, Some, None, slice_get, if◌then◌else◌, sym, ap, ◌∙◌, subst}
 use Rattle.std.specs.Str.{bytes_eq}
-use Rattle.w_types.proofs.Lists.{get-behind}
+use Rattle.lists.proofs.Lists.{get-behind}
 use Rattle.s_syntax.specs.declared.name.Name.{Name}
 use Rattle.s_syntax.specs.declared.script.VariableType.TheVariants.{Int, Resumption}
 use Rattle.s_syntax.specs.declared.script.Clause.{Clause}
@@ -16,7 +16,7 @@ use Rattle.s_check.specs.Rules.{when, in_block, in_body, in_head, in_clauses}
 use Rattle.s_check.specs.Scopes.{Bound, Scope, type_in, bind_all, number as number_name, parameter, resumption, of_clause, of_return, lets_in, is_among, some_twice}
 use Rattle.s_meaning.specs.Steps.{clause_of}
 use Rattle.s_meaning.specs.Typing.{ScriptTyped}
-use Rattle.s_meaning.proofs.Bindings.{or_left, or_right, among_left, twice_of}
+use Rattle.s_meaning.proofs.BoundInTurn.{or_left, or_right, among_left, twice_of}
 use Rattle.s_meaning.proofs.Good.{parts, when_not, Handler_empty, handler_empty, good_typed}
 use Rattle.s_meaning.proofs.Lists.{get_before}
 use Rattle.s_meaning.proofs.Scopes.{same_refl, bool_of}

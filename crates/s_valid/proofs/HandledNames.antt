@@ -8,7 +8,7 @@ use Rattle.std.proofs.lemmas.Option.{slice_get-map}
 use Rattle.w_syntax.specs.Items.{reference_to}
 use Rattle.w_syntax.specs.declared.module.Elem.{Elem}
 use Rattle.w_rules.specs.Spaces.{declared_of, functions_of, named_in, named_of}
-use Rattle.w_rules.proofs.Marks.{declared_told}
+use Rattle.w_rules.proofs.Marks.{declared_decided}
 use Rattle.s_syntax.specs.declared.name.Name.{Name}
 use Rattle.s_syntax.specs.declared.script.Function.{Function}
 use Rattle.s_syntax.specs.declared.script.Definition.{Definition}
@@ -108,5 +108,5 @@ handled_declared ds f within s =
     ∙ ap (λ (o : Option Declaration). option_map (λ (d : Declaration). function_index ds d.name) o) s.is
     ∙ ap (λ (x : Name). Some (function_index ds x)) (sym s.named) in
     is_marked (declared_of (lowered_all ds)) (function_index ds f)
-    ((declared_told (lowered_all ds) (function_index ds f) (slice_index_or (declared_of (lowered_all ds)) (function_index ds f) false) refl).1
+    ((declared_decided (lowered_all ds) (function_index ds f) (slice_index_or (declared_of (lowered_all ds)) (function_index ds f) false) refl).1
     (record { is_there = within; is_named = named_in_module ds (function_index ds f) s.place at }))

@@ -3,7 +3,7 @@ use Rattle.std.proofs.Common.{◌≡◌, ℕ, zero, suc, ◌+◌, ◌<◌, Bool,
 use Rattle.std.specs.Str.{bytes_eq}
 use Rattle.w_types.specs.declared.types.ValType.{ValType}
 use Rattle.w_types.specs.declared.types.ValType.TheVariants.{I64}
-use Rattle.w_types.specs.Rows.{Row, ε, ◌▹◌, ◌⧺◌, row_of, onto}
+use Rattle.lists.specs.Rows.{Row, ε, ◌▹◌, ◌⧺◌, row_of, onto}
 use Rattle.w_rules.specs.Operands.{Operand}
 use Rattle.w_rules.specs.Matching.{known}
 use Rattle.w_rules.specs.Context.{Context, labelled}
@@ -21,7 +21,7 @@ use Rattle.s_index.specs.Types.{val_type, val_types, numbers, to_continuation, c
 use Rattle.s_code.specs.Layouts.{Local, Owner, Layout, local_of, local_number, number_in, handler_in, handler_in_type, handler_of_name}
 use Rattle.s_meaning.specs.Typing.{kinds, IsFree}
 use Rattle.s_meaning.specs.Typing as script
-use Rattle.s_meaning.proofs.Bindings.{among_left, among_right}
+use Rattle.s_meaning.proofs.BoundInTurn.{among_left, among_right}
 use Rattle.s_meaning.proofs.Scopes.{same_is, same_refl, bool_of}
 use Rattle.s_valid.specs.Offers.{Offers}
 use Rattle.s_valid.proofs.Rests.{pushed}

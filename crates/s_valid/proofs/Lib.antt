@@ -1,6 +1,6 @@
 pub mod MadeOnce
 pub mod TypeTable
-pub mod Numbering
+pub mod NumbersInModules
 pub mod HandledNames
 pub mod Declarations
 pub mod TypesValid
@@ -8,7 +8,6 @@ pub mod ModuleItems
 pub mod ManyTypes
 pub mod ModuleLimits
 pub mod ModuleOffers
-pub mod JoinedRuns
 pub mod Rests
 pub mod LayoutTypes
 pub mod TypedExpressions
@@ -20,6 +19,6 @@ pub mod GoodHandlers
 pub mod GoodBodies
 pub mod LoweredValid
 pub mod Starts
-pub mod Stored
+pub mod FirstStores
 pub mod ShortCode
 pub mod ShortSpelling

@@ -3,15 +3,15 @@ use Rattle.std.proofs.Common.{◌≡◌, ℕ, zero, suc, ◌+◌, ◌<◌, Bool,
 use Rattle.std.specs.Str.{bytes_eq}
 use Rattle.w_types.specs.declared.types.ValType.{ValType}
 use Rattle.w_types.specs.declared.types.ValType.TheVariants.{I64}
-use Rattle.w_types.specs.Rows.{ε, row_of}
-use Rattle.w_types.proofs.Lists.{get-behind}
+use Rattle.lists.specs.Rows.{ε, row_of}
+use Rattle.lists.proofs.Lists.{get-behind}
 use Rattle.w_syntax.specs.Code.{Code}
 use Rattle.w_rules.specs.Bodies.{types_of_runs, has_default, BodyTyped}
 use Rattle.w_rules.specs.Context.{Context}
 use Rattle.w_rules.specs.Matching.{known}
 use Rattle.w_rules.specs.Spaces.{in_body}
 use Rattle.w_rules.specs.Typing.{Derives}
-use Rattle.s_valid.proofs.JoinedRuns.{types_of-joined}
+use Rattle.w_rules.proofs.JoinedTypes.{types_of-joined}
 use Rattle.s_syntax.specs.declared.name.Name.{Name}
 use Rattle.s_syntax.specs.declared.script.VariableType.{VariableType}
 use Rattle.s_syntax.specs.declared.script.VariableType.TheVariants.{Int, Resumption}

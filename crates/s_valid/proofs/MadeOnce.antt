@@ -8,33 +8,12 @@ use Rattle.w_types.specs.declared.types.ValType.{ValType}
 use Rattle.w_types.specs.declared.types.ValType.TheVariants as val
 use Rattle.w_types.specs.declared.types.CompType.{CompType}
 use Rattle.w_types.specs.declared.types.CompType.TheVariants.{Func, Cont}
-use Rattle.w_types.proofs.Tests.{each_of}
+use Rattle.lists.proofs.Tests.{each_of}
 use Rattle.w_syntax.specs.Locals.{same_heap, same_kind}
+use Rattle.w_rules.proofs.JoinedTypes.{one_kind}
 use Rattle.s_index.specs.Types.{same_kinds, same_type, place, with_type, with_types}
 
 -- ## Types that are told alike are one
-
-one_heap : (a b : HeapType) → same_heap a b ≡ true → a ≡ b
-one_heap heap.Func heap.Func e = refl
-one_heap heap.NoFunc heap.NoFunc e = refl
-one_heap heap.Cont heap.Cont e = refl
-one_heap heap.NoCont heap.NoCont e = refl
-one_heap (heap.Index x) (heap.Index y) e = ap heap.Index (eqb-true x y e)
-one_heap _ _ e = absurd (cc)
-
-one_nullability : (m n : Bool) → cond m n (not n) ≡ true → m ≡ n
-one_nullability true n e = sym e
-one_nullability false true e = absurd (cc)
-one_nullability false false e = refl
-
-one_kind : (t u : ValType) → same_kind t u ≡ true → t ≡ u
-one_kind val.I32 val.I32 e = refl
-one_kind val.I64 val.I64 e = refl
-one_kind (val.Ref r) (val.Ref s) e =
-    let both = each_of (cond r.nullable s.nullable (not s.nullable)) (same_heap r.heap s.heap) e in
-    ap (λ (n : Bool). val.Ref (record { nullable = n; heap = r.heap })) (one_nullability r.nullable s.nullable both.0)
-    ∙ ap (λ (h : HeapType). val.Ref (record { nullable = s.nullable; heap = h })) (one_heap r.heap s.heap both.1)
-one_kind _ _ e = absurd (cc)
 
 one_kinds : (ts us : List ValType) → same_kinds ts us ≡ true → ts ≡ us
 one_kinds [] [] e = refl

@@ -23,7 +23,7 @@ use Rattle.s_index.specs.Indices.{function_types, type_table, parameters_of, con
 use Rattle.s_index.specs.Handled.{handled}
 use Rattle.s_valid.proofs.Declarations.{IsSmall, small}
 use Rattle.s_valid.proofs.MadeOnce.{IsThere, stands, one_type, here, behind, there_cases, there_left, there_right, there_either, there_at, made_of}
-use Rattle.s_valid.proofs.Numbering.{get_left, get_right}
+use Rattle.s_valid.proofs.NumbersInModules.{get_left, get_right}
 use Rattle.s_valid.proofs.TypesValid.{continued_there}
 
 -- ## Types that are made once are different

@@ -11,7 +11,7 @@ use Rattle.w_types.specs.declared.types.CompType.TheVariants.{Func, Cont}
 use Rattle.w_types.specs.declared.types.FuncType.{FuncType}
 use Rattle.w_types.specs.declared.types.RecGroup.{RecGroup}
 use Rattle.w_types.specs.Groups.{types_of}
-use Rattle.w_types.specs.Rows.{ε, ◌▹◌}
+use Rattle.lists.specs.Rows.{ε, ◌▹◌}
 use Rattle.w_syntax.specs.Code.{Code}
 use Rattle.w_syntax.specs.Functions.{function_type as function_type_in, type_at, type_of_function, code_of_function}
 use Rattle.w_syntax.specs.Items.{reference_to}

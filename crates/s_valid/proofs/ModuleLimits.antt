@@ -25,7 +25,7 @@ use Rattle.s_check.specs.Definitions.{definition_of}
 use Rattle.s_check.specs.Refusal.{Good}
 use Rattle.s_check.specs.Rules.{count}
 use Rattle.s_check.specs.Scopes.{Bound, number, resumption, lets_of, lets_in}
-use Rattle.s_check.specs.Size.{expr_size, exprs_size, operands_size, statement_size, block_size, clause_size, definition_size, Size}
+use Rattle.s_check.specs.Size.{expr_size, exprs_size, operands_size, statement_size, block_size, clause_size, definition_size, Size, size_limit}
 use Rattle.s_index.specs.Types.{val_type, val_types, to_continuation, computation_type}
 use Rattle.s_index.specs.Indices.{type_table}
 use Rattle.s_code.specs.Lowered.{lowered}
@@ -168,7 +168,7 @@ part (c ∷ ds) (suc k) d e = let q = part ds k d e in let s = sum_by-cons (λ (
 part_of : (p : Script) (d : Definition) → Declares p.declarations d → definition_size d ≤ Size p
 part_of p d k = let q = part p.declarations k.place k.declaration k.is in subst (λ (e : Definition). definition_size e ≤ Size p) k.defines q
 
-locals_by : (p : Script) (i : ℕ) → Size p ≤ 50000 → StandsAt p.declarations i → locals_of (lowered p) i ≤ 50000
+locals_by : (p : Script) (i : ℕ) → Size p ≤ size_limit → StandsAt p.declarations i → locals_of (lowered p) i ≤ size_limit
 locals_by p i few (of_function f g e t c) =
     let r = function_room g in
     let s = part_of p (definition.Function g) (declares p.declarations f (definition.Function g) (is_function (definition_of p.declarations f) g e)) in
@@ -184,7 +184,7 @@ locals_by p i few (of_handler h j e t c) =
 
 -- ## All limits
 
-pub within : (p : Script) → Good p → Size p ≤ 50000 → Within (lowered p)
+pub within : (p : Script) → Good p → Size p ≤ size_limit → Within (lowered p)
 within p good few = record {
   types = subst (λ (ts : List CompType). length ts ≤ 10000) (sym (types_of_groups (type_table p.declarations))) (let q = few_in_table p good in omega (arith, q));
   params = subst (All IsNarrow) (sym (types_of_groups (type_table p.declarations))) (all_narrow p good);

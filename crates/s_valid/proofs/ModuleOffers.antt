@@ -31,7 +31,7 @@ use Rattle.s_code.specs.Lowered.{function_type_of, handler_type_of, tag_of, for_
 use Rattle.s_valid.specs.Offers.{arrow, OffersHandled, Offers}
 use Rattle.s_valid.proofs.HandledNames.{handled_stands, continuation_there, handled_declared}
 use Rattle.s_valid.proofs.MadeOnce.{IsThere, here, behind, adds}
-use Rattle.s_valid.proofs.Numbering.{get_left, get_right, Found, found, all_made}
+use Rattle.s_valid.proofs.NumbersInModules.{get_left, get_right, Found, found, all_made}
 use Rattle.s_valid.proofs.TypeTable.{is_function, is_handler, types_among, in_function_types, in_table, type_there, func_there, first_type, clause_among}
 
 -- ## What declarations add, and what is counted

@@ -7,7 +7,7 @@ use Rattle.w_types.specs.declared.types.ValType.TheVariants.{I32, I64}
 use Rattle.w_types.specs.declared.types.CompType.{CompType}
 use Rattle.w_types.specs.declared.types.CompType.TheVariants.{Cont}
 use Rattle.w_types.specs.declared.types.RecGroup.{RecGroup}
-use Rattle.w_types.specs.Rows.{Row, ε, ◌▹◌, ◌⧺◌, row_of}
+use Rattle.lists.specs.Rows.{Row, ε, ◌▹◌, ◌⧺◌, row_of}
 use Rattle.w_syntax.specs.Code.{Code, Done, Plain, Block}
 use Rattle.w_syntax.specs.declared.instructions.Op.{Op}
 use Rattle.w_syntax.specs.declared.instructions.BlockKind.TheVariants as kind

@@ -34,7 +34,7 @@ use Rattle.s_syntax.specs.declared.script.Script.{Script}
 use Rattle.s_syntax.specs.BlockTree.{StatementTree, BlockTree, Let, Assign, If, While, Print, Return, Fail, Evaluate, Done, ◌⨟◌}
 use Rattle.s_check.specs.Refusal.{Good}
 use Rattle.s_check.specs.Scopes.{Bound, number, resumption, lets_of, lets_in}
-use Rattle.s_check.specs.Size.{statement_size, block_size, clause_size, definition_size, Size}
+use Rattle.s_check.specs.Size.{statement_size, block_size, clause_size, definition_size, Size, size_limit}
 use Rattle.s_index.specs.Handled.{handled_names, is_function_among, handled}
 use Rattle.s_index.specs.Indices.{function_types, continuations, parameters_of, type_table, function_type_index, handler_type_index, effect_type_index}
 use Rattle.s_index.specs.Numbers.{function_index}
@@ -505,5 +505,5 @@ pub spelled_short : (p : Script) → Good p → length (Canon (lowered p)) ≤ 2
 spelled_short p good = spelling_short p.declarations (small p good)
 
 -- that of a script of size 50000 has at most 2^24 bytes
-pub short_spelling : (p : Script) → Good p → Size p ≤ 50000 → length (Canon (lowered p)) ≤ 16777216
+pub short_spelling : (p : Script) → Good p → Size p ≤ size_limit → length (Canon (lowered p)) ≤ 16777216
 short_spelling p good within = let q = spelled_short p good in omega (arith, q, within)

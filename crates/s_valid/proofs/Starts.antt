@@ -28,7 +28,7 @@ use Rattle.s_code.specs.Lowered.{declared, lowered_all, lowered}
 use Rattle.s_meaning.proofs.Good.{good_typed}
 use Rattle.s_valid.specs.Offers.{arrow}
 use Rattle.s_valid.specs.Beginning.{segments_left, store_with, first_store, first_term}
-use Rattle.s_valid.proofs.Numbering.{get_left, get_right}
+use Rattle.s_valid.proofs.NumbersInModules.{get_left, get_right}
 use Rattle.s_valid.proofs.TypeTable.{func_there, first_type}
 use Rattle.s_valid.proofs.ModuleOffers.{function_at, function_type_there}
 

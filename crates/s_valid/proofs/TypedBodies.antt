@@ -22,7 +22,7 @@ use Rattle.s_code.specs.Places.{lets, function_names, function_layout, function_
 use Rattle.s_code.specs.Statements.{body}
 use Rattle.s_code.specs.Temporaries.{high_block}
 use Rattle.s_meaning.specs.Typing.{ScriptTyped}
-use Rattle.s_meaning.proofs.Bindings.{among_left, among_right}
+use Rattle.s_meaning.proofs.BoundInTurn.{among_left, among_right}
 use Rattle.s_meaning.proofs.Good.{is_function, is_handler}
 use Rattle.s_meaning.proofs.Scopes.{bool_of}
 use Rattle.s_valid.specs.Offers.{Offers}

@@ -3,8 +3,8 @@ use Rattle.std.proofs.Common.{◌≡◌, ℕ, ◌+◌, ◌<◌, ◌≤◌, Bool,
 use Rattle.w_types.specs.declared.types.CompType.{CompType}
 use Rattle.w_types.specs.declared.types.ValType.{ValType}
 use Rattle.w_types.specs.declared.types.ValType.TheVariants.{I64}
-use Rattle.w_types.specs.Rows.{Row, ε, ◌▹◌, ◌⧺◌, row_of}
-use Rattle.w_types.proofs.Rows.{row_of-more}
+use Rattle.lists.specs.Rows.{Row, ε, ◌▹◌, ◌⧺◌, row_of}
+use Rattle.lists.proofs.Rows.{row_of-more}
 use Rattle.w_syntax.specs.Code.{Code, Plain}
 use Rattle.w_syntax.specs.declared.numeric.Binop.TheVariants as binop
 use Rattle.w_rules.specs.Operands.{Operand}

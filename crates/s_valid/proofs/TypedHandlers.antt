@@ -5,9 +5,9 @@ use Rattle.w_types.specs.declared.types.CompType.{CompType}
 use Rattle.w_types.specs.declared.types.FuncType.{FuncType}
 use Rattle.w_types.specs.declared.types.ValType.{ValType}
 use Rattle.w_types.specs.declared.types.ValType.TheVariants.{I64}
-use Rattle.w_types.specs.Rows.{Row, ε, ◌▹◌, ◌⧺◌, row_of}
-use Rattle.w_types.proofs.Lists.{get-behind}
-use Rattle.w_types.proofs.Rows.{row_of-more, listed-row_of}
+use Rattle.lists.specs.Rows.{Row, ε, ◌▹◌, ◌⧺◌, row_of}
+use Rattle.lists.proofs.Lists.{get-behind}
+use Rattle.lists.proofs.Rows.{row_of-more, listed-row_of}
 use Rattle.w_syntax.specs.Code.{Code, Block}
 use Rattle.w_syntax.specs.declared.instructions.BlockKind.TheVariants as kind
 use Rattle.w_syntax.specs.declared.instructions.BlockType.TheVariants as block_type

@@ -2,8 +2,8 @@
 use Rattle.std.proofs.Common.{◌≡◌, ℕ, suc, ◌+◌, ◌<◌, ◌≤◌, Bool, true, pos, ◌++◌, List, [], ◌∷◌, length, Option, Some, None, slice_get, if◌then◌else◌, refl, sym, ap, ◌∙◌, subst, arith}
 use Rattle.w_types.specs.declared.types.ValType.{ValType}
 use Rattle.w_types.specs.declared.types.ValType.TheVariants.{I64}
-use Rattle.w_types.specs.Rows.{Row, ε, ◌▹◌, ◌⧺◌, row_of, onto, size}
-use Rattle.w_types.proofs.Rows.{size-row_of}
+use Rattle.lists.specs.Rows.{Row, ε, ◌▹◌, ◌⧺◌, row_of, onto, size}
+use Rattle.lists.proofs.Rows.{size-row_of}
 use Rattle.w_syntax.specs.Code.{Code, Plain}
 use Rattle.w_rules.specs.Operands.{Operand}
 use Rattle.w_rules.specs.Operands.{Known}

@@ -29,7 +29,7 @@ use Rattle.s_index.specs.Handled.{handled}
 use Rattle.s_index.specs.Numbers.{Entry, no_counts, counted, number_behind, entry_behind, entry_of, parameters_in}
 use Rattle.s_code.specs.Lowered.{group, lowered_all}
 use Rattle.s_valid.proofs.MadeOnce.{IsThere, stands, here, behind, there_cases, there_either, keeps}
-use Rattle.s_valid.proofs.Numbering.{get_left}
+use Rattle.s_valid.proofs.NumbersInModules.{get_left}
 use Rattle.s_valid.proofs.TypeTable.{types_of_groups, types_among, in_function_types}
 
 -- an item of a list

@@ -1,6 +1,6 @@
 -- What a run of the module of a script begins with: its store and its term.
 use Rattle.std.specs.Prelude.{List, [], ◌∷◌, codes, length, map}
-use Rattle.w_types.specs.Rows.{ε}
+use Rattle.lists.specs.Rows.{ε}
 use Rattle.w_syntax.specs.Code.{Done}
 use Rattle.w_syntax.specs.declared.module.Tag.{Tag}
 use Rattle.w_tables.specs.declared.entries.FuncEntry.TheVariants as entry_of

@@ -7,17 +7,17 @@ use Rattle.w_reduce.specs.Program.{Program}
 use Rattle.w_reduce.specs.Start.{Start, Ready}
 use Rattle.s_syntax.specs.declared.script.Script.{Script}
 use Rattle.s_check.specs.Refusal.{Good}
-use Rattle.s_check.specs.Size.{Size}
+use Rattle.s_check.specs.Size.{Size, size_limit}
 use Rattle.s_code.specs.Lowered.{lowered}
 use Rattle.s_valid.specs.Beginning.{first_store, first_term}
 
 -- they are valid, and within the limits of modules
 abbrev pub ModulesValid : Type 0
-ModulesValid = (p : Script) → Good p → Size p ≤ 50000 → Valid (lowered p) × Within (lowered p)
+ModulesValid = (p : Script) → Good p → Size p ≤ size_limit → Valid (lowered p) × Within (lowered p)
 
 -- a file has room for their canonical spelling
 abbrev pub SpellingsShort : Type 0
-SpellingsShort = (p : Script) → Good p → Size p ≤ 50000 → length (Canon (lowered p)) ≤ 16777216
+SpellingsShort = (p : Script) → Good p → Size p ≤ size_limit → length (Canon (lowered p)) ≤ 16777216
 
 -- runs of them begin with this store and this term, whatever tells which types are equivalent: nothing that they import is missing, and no
 -- segment traps

@@ -2,7 +2,7 @@
 use Rattle.std.proofs.Common.{◌≡◌, ℕ, ◌+◌, ◌<◌, ◌≤◌, Bool, true, false, None, List, [], ◌∷◌, ◌++◌, length, take, take_all, drop, get_or, Some, sym, ap, subst, ◌∙◌}
 use Rattle.std.proofs.lemmas.List.{take_more, take-append-drop}
 use Rattle.w_types.specs.declared.types.ValType.{ValType}
-use Rattle.w_types.specs.Rows.{ε}
+use Rattle.lists.specs.Rows.{ε}
 use Rattle.w_syntax.specs.Code.{Code}
 use Rattle.w_syntax.specs.Flat.{whole}
 use Rattle.w_syntax.specs.declared.instructions.Instr.{Instr}
@@ -47,13 +47,13 @@ empty_derivable : (c : Context) (s : List Bool) → IsDerivable c s empty
 empty_derivable c s = ((ε, (tt, none)), tt)
 
 classes_known : (cx : rt.Context) (b : Wanted) (c : Checker) → b.context ≡ context_in cx → HasClasses cx → standing.context_for c ≡ inner b
-    → standing.classes_for c ≡ cx.classes.now → standing.HasClasses c
+    → standing.classes_for c ≡ cx.classes.now → standing.KnowsClasses c
 classes_known cx b c of classes e f =
-    let types : (standing.context_for c).types ≡ cx.owner.now.types = ap (λ (d : Context). d.types) e ∙ ap (λ (d : Context). d.types) of in
+    let types : (standing.context_for c).types ≡ cx.candidate.now.types = ap (λ (d : Context). d.types) e ∙ ap (λ (d : Context). d.types) of in
     subst (λ es. IsClassesOf (standing.context_for c).types es) (sym f) (subst (λ gs. IsClassesOf gs cx.classes.now) (sym types) classes)
 
 pub begun : (cx : rt.Context) (b : Wanted) (c : Checker) → b.context ≡ context_in cx → HasClasses cx → standing.context_for c ≡ inner b
-    → standing.classes_for c ≡ cx.classes.now → (standing.HasClasses c → standing.StandsFor c (first b) empty) → Reached b c []
+    → standing.classes_for c ≡ cx.classes.now → (standing.KnowsClasses c → standing.StandsFor c (first b) empty) → Reached b c []
 begun cx b c of classes e f h = record {
   context = e;
   stands = h (classes_known cx b c of classes e f);
@@ -69,9 +69,9 @@ followed_more is n i lt e =
     ∙ follow_all-append (take n is) (get_or is n i ∷ []) empty
     ∙ ap (λ (j : Instr). follow j (follow_all (take n is) empty)) (sym e)
 
-pub one_more : (b : Wanted) (c d : Checker) (is : List Instr) (n : ℕ) (i : Instr) (taken : Bool) → taken ≡ true → n < length is → i ≡ get_or is n i → Reached b c (take n is)
-    → standing.Answers c d (follow i) taken → standing.IsSameBody c d → Reached b d (take (n + 1) is)
-one_more b c d is n i taken held lt e r answers same =
+pub one_more : (b : Wanted) (c d : Checker) (is : List Instr) (n : ℕ) (i : Instr) (applies : Bool) → applies ≡ true → n < length is → i ≡ get_or is n i → Reached b c (take n is)
+    → standing.Answers c d (follow i) applies → standing.IsSameBody c d → Reached b d (take (n + 1) is)
+one_more b c d is n i applies held lt e r answers same =
     let w : Prefix = follow_all (take n is) empty in
     let more : follow_all (take (n + 1) is) empty ≡ follow i w = followed_more is n i lt e in
     record {
@@ -92,10 +92,10 @@ prefix_derivable c s is n g =
     sym (ap (λ (js : List Instr). follow_all js empty) (take-append-drop n is)) ∙ follow_all-append (take n is) (drop n is) empty in
     derivable_before_all c s (drop n is) (follow_all (take n is) empty) (subst (IsDerivable c s) split g)
 
-pub refused : (b : Wanted) (c d : Checker) (is : List Instr) (k : Code) (n : ℕ) (i : Instr) (taken : Bool) → taken ≡ false → is ≡ whole k → n < length is → i ≡ get_or is n i → Reached b c (take n is)
-    → standing.Answers c d (follow i) taken
+pub refused : (b : Wanted) (c d : Checker) (is : List Instr) (k : Code) (n : ℕ) (i : Instr) (applies : Bool) → applies ≡ false → is ≡ whole k → n < length is → i ≡ get_or is n i → Reached b c (take n is)
+    → standing.Answers c d (follow i) applies
     → IsMeasure b.context b.params b.runs b.results k None
-refused b c d is k n i taken denied of lt e r answers typed =
+refused b c d is k n i applies denied of lt e r answers typed =
     let w : Prefix = follow_all (take n is) empty in
     let all : IsDerivable (inner b) (first b) (follow_all is empty) = subst (IsDerivable (inner b) (first b)) (sym (all_followed is k of)) typed in
     let here : IsDerivable (inner b) (first b) (follow i w) = subst (IsDerivable (inner b) (first b)) (followed_more is n i lt e) (prefix_derivable (inner b) (first b) is (n + 1) all) in

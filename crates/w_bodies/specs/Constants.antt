@@ -1,6 +1,6 @@
 -- Constant expressions, as lists, and those of one instruction.
 use Rattle.std.specs.Prelude.{◌≡◌, Bool, true, false, cond, Option, Some, None, slice_get}
-use Rattle.w_types.specs.Rows.{ε, ◌▹◌}
+use Rattle.lists.specs.Rows.{ε, ◌▹◌}
 use Rattle.w_types.specs.declared.types.ValType.{ValType}
 use Rattle.w_types.specs.declared.types.ValType.TheVariants.{I32, I64}
 use Rattle.w_syntax.specs.Code.{Code, Done, Plain}

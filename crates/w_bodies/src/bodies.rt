@@ -21,8 +21,8 @@ fn call_boxed(
     instr: &Instr,
 ) -> Result<bool, AllocError>
     requires { unpacked packed.now ≡ instr.now }
-    ensures answers { IfOk result (λ taken. Answers checker.old checker.new (follow
-        (unpacked packed.now)) taken) }
+    ensures answers { IfOk result (λ applies. Answers checker.old checker.new (follow
+        (unpacked packed.now)) applies) }
     ensures body { IsSameBody checker.old checker.new }
 {
     match instr {
@@ -36,8 +36,8 @@ fn call_boxed(
 
 // One instruction more: whether the rules derive the sequence with it.
 fn call(checker: &mut Checker, packed: &PackedInstr) -> Result<bool, AllocError>
-    ensures answers { IfOk result (λ taken. Answers checker.old checker.new (follow
-        (unpacked packed.now)) taken) }
+    ensures answers { IfOk result (λ applies. Answers checker.old checker.new (follow
+        (unpacked packed.now)) applies) }
     ensures body { IsSameBody checker.old checker.new }
 {
     match packed {

@@ -2,7 +2,7 @@
 use Rattle.std.proofs.Common.{◌≡◌, ℕ, zero, suc, ◌⊎◌, inl, inr, ◌<◌, List, [], ◌∷◌, length, drop, map, Option, Some, None, Bool, true, false, slice_get, refl, sym, ap, ◌∙◌, subst, arith}
 use Rattle.std.specs.Prelude.{◌≢◌, ◌↔◌, IsTrue}
 use Rattle.std.specs.Option.{option_map}
-use Rattle.w_types.specs.Rows.{Row}
+use Rattle.lists.specs.Rows.{Row}
 use Rattle.w_types.specs.declared.value.Value.{Value}
 use Rattle.w_types.specs.declared.value.Value.TheVariants as value
 use Rattle.w_syntax.specs.Code.{Code}
@@ -34,8 +34,8 @@ use Rattle.w_stands.specs.Steps.{MovesAt, Follows}
 use Rattle.w_stands.specs.declared.did.Did.TheVariants as did
 use Rattle.w_stands.proofs.Locals.{mapped_get}
 use Rattle.w_stands.proofs.LookedUp.{found, mapped_found}
-use Rattle.w_stands.proofs.Taking.{all_taken}
-use Rattle.w_stands.proofs.Following.{Needs, take_needs, take_traps}
+use Rattle.w_stands.proofs.TakenOperands.{all_taken}
+use Rattle.w_stands.proofs.NextInstructions.{Needs, take_needs, take_traps}
 use Rattle.w_call_ops.specs.Calling.{Calls}
 
 -- ## An instruction that takes one operand and then invokes what it leads to

@@ -12,7 +12,7 @@ use Rattle.w_rules.specs.Peak.{depth}
 use Rattle.w_reduce.proofs.Deep.{one_deep}
 use Rattle.w_reduce.specs.Room.{most_operands, most_labels}
 use Rattle.w_stands.specs.Room.{FramesFit, HasRoom}
-use Rattle.w_stands.proofs.Fitting.{grown_fit}
+use Rattle.w_stands.proofs.RoomOfFrames.{grown_fit}
 use Rattle.w_call_ops.specs.Entering.{HasFrameRoom, IsEntered, IsFunction}
 
 -- what holds of both where it succeeded
@@ -30,14 +30,14 @@ entered_room m i back given s s' h g room =
     (subst (FramesFit m s'.capacity i) (sym h.levels) (omega (arith, below, operands), g.levels, outer))
 
 -- with so much room taken before
-pub framed_room : (i h d locals taken params arity back target : ℕ) (ks : List (Option Value)) (r s' : Shape) → Fits h (d + 1) locals r
-    → s' ≡ labelled 0 arity target (with_more ks (framed i params params arity (moved back (discarded taken r))))
+pub framed_room : (i h d locals popped params arity back target : ℕ) (ks : List (Option Value)) (r s' : Shape) → Fits h (d + 1) locals r
+    → s' ≡ labelled 0 arity target (with_more ks (framed i params params arity (moved back (discarded popped r))))
     → (s'.capacity ≡ r.capacity) × (below_all s'.levels + h ≤ s'.capacity.operands) × (suc (length r.levels) + d ≤ s'.capacity.levels)
-framed_room i h d locals taken params arity back target ks r s' fits is =
+framed_room i h d locals popped params arity back target ks r s' fits is =
     let capacity : s'.capacity ≡ r.capacity = ap (λ (x : Shape). x.capacity) is in
     let below = ap (λ (x : Shape). below_all x.levels) is in
-    let a = length-drop taken r.operands in
-    let b = length-drop params (drop taken r.operands) in
+    let a = length-drop popped r.operands in
+    let b = length-drop params (drop popped r.operands) in
     let p = fits.operands in
     let q = fits.levels in
     let x : s'.capacity.operands ≡ r.capacity.operands = ap (λ (c : Capacity). c.operands) capacity in
@@ -53,9 +53,9 @@ needed m i h d t f is height deep =
     (a ∙ sym height, b ∙ sym deep, omega (arith, one, deep))
 
 -- behind the frame, and its locals, there is room for the label of the body
-pub label_room : (i h d locals taken params arity back : ℕ) (ks : List (Option Value)) (r s' : Shape) → Fits h (d + 1) locals r → 1 ≤ d
-    → s' ≡ with_more ks (framed i params params arity (moved back (discarded taken r))) → length s'.levels < s'.capacity.levels
-label_room i h d locals taken params arity back ks r s' fits one is =
+pub label_room : (i h d locals popped params arity back : ℕ) (ks : List (Option Value)) (r s' : Shape) → Fits h (d + 1) locals r → 1 ≤ d
+    → s' ≡ with_more ks (framed i params params arity (moved back (discarded popped r))) → length s'.levels < s'.capacity.levels
+label_room i h d locals popped params arity back ks r s' fits one is =
     let a = ap (λ (x : Shape). length x.levels) is in
     let b = ap (λ (x : Shape). x.capacity.levels) is in
     let q = fits.levels in

@@ -1,7 +1,7 @@
 -- A stack that entered a function stands where its rule leads.
 use Rattle.std.proofs.Common.{◌≡◌, ℕ, suc, ◌≤◌, List, [], ◌∷◌, ◌++◌, length, take, drop, reverse, map, Option, Some, None, slice_get, refl, sym, ap, ◌∙◌, subst, arith, length-append}
 use Rattle.std.specs.Prelude.{◌≢◌}
-use Rattle.w_types.specs.Rows.{Row, ε, listed}
+use Rattle.lists.specs.Rows.{Row, ε, listed}
 use Rattle.w_types.specs.declared.types.FuncType.{FuncType}
 use Rattle.w_types.specs.declared.value.Value.{Value}
 use Rattle.w_syntax.specs.Code.{Done, after}
@@ -22,10 +22,10 @@ use Rattle.w_reduce.specs.Reduced.{Reduced, Stuck, steps_to, or_stuck, take_valu
 use Rattle.w_reduce.specs.Calls.{defaults, enter}
 use Rattle.w_stands.specs.Values.{stack, local_vals, store_of}
 use Rattle.w_stands.specs.Code.{instrs, instrs_in, IsMark, Reads, stop, at_end}
-use Rattle.w_stands.specs.Stands.{Around, In, body, label}
+use Rattle.w_stands.specs.Stands.{LevelsAre, StackIs, body, label}
 use Rattle.w_stands.proofs.Bodies.{read_whole}
 use Rattle.w_call_ops.specs.Entering.{IsFunction, CanEnter, first_values}
-use Rattle.w_stands.proofs.TakingMany.{stack_take, stack_enough}
+use Rattle.w_stands.proofs.ManyTakenOperands.{stack_take, stack_enough}
 use Rattle.w_call_ops.proofs.Arguments.{entered_locals}
 
 -- ## The rule
@@ -100,13 +100,13 @@ module _ (m : Module) (i : ℕ) (t : FuncType) (c : Func) (f : IsFunction m i t 
   again = subst (λ (n : ℕ). Reads (instrs m i) n Done (suc (size c.body))) (sym target_is) nothing
 
   -- in the label, in the frame
-  pub in_body : (outer : Context) (behind : Rest) (s' : Shape) (e : Context) (ls : List Level) → Around m outer behind i (suc (size c.body)) ls e →
+  pub in_body : (outer : Context) (behind : Rest) (s' : Shape) (e : Context) (ls : List Level) → LevelsAre m outer behind i (suc (size c.body)) ls e →
       s'.levels ≡ Label [] (length t.results) (length (whole c.body)) ∷ ls → s'.func ≡ i → s'.place ≡ 0 → s'.stage ≡ Body →
-      In m outer behind s' (InLabel ε (length t.results) Done Done ∷ e) (rest_of c.body)
+      StackIs m outer behind s' (InLabel ε (length t.results) Done Done ∷ e) (rest_of c.body)
   in_body outer behind s' e ls w l a b g =
-      let inside : Around m outer behind i (size c.body) (Label [] (length t.results) (length (whole c.body)) ∷ ls) (InLabel ε (length t.results) Done Done ∷ e) =
+      let inside : LevelsAre m outer behind i (size c.body) (Label [] (length t.results) (length (whole c.body)) ∷ ls) (InLabel ε (length t.results) Done Done ∷ e) =
       label (at_end ends) nothing again w in
       body g
       (subst (λ (x : ℕ). Reads (instrs m s'.func) x c.body (size c.body)) (sym b) (subst (λ (x : ℕ). Reads (instrs m x) 0 c.body (size c.body)) (sym a) read))
-      (subst (λ (x : List Level). Around m outer behind s'.func (size c.body) x (InLabel ε (length t.results) Done Done ∷ e)) (sym l)
-      (subst (λ (x : ℕ). Around m outer behind x (size c.body) (Label [] (length t.results) (length (whole c.body)) ∷ ls) (InLabel ε (length t.results) Done Done ∷ e)) (sym a) inside))
+      (subst (λ (x : List Level). LevelsAre m outer behind s'.func (size c.body) x (InLabel ε (length t.results) Done Done ∷ e)) (sym l)
+      (subst (λ (x : ℕ). LevelsAre m outer behind x (size c.body) (Label [] (length t.results) (length (whole c.body)) ∷ ls) (InLabel ε (length t.results) Done Done ∷ e)) (sym a) inside))

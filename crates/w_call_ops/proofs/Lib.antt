@@ -3,7 +3,7 @@ mod FirstValues
 mod FrameRoom
 mod Arguments
 mod InFunctions
-pub mod Calling
-pub mod Invoking
+pub mod OwnCalls
+pub mod Invocations
 mod FindingCallees
-pub mod Printing
+pub mod HostCalls

@@ -13,16 +13,16 @@ use Rattle.w_reduce.specs.Calls.{invoke}
 use Rattle.w_reduce.specs.Entering.{is_call}
 use Rattle.w_reduce.specs.Reduce.{instruction}
 use Rattle.w_stands.specs.Values.{stack, store_of}
-use Rattle.w_stands.specs.Steps.{Outside, At, MovesAt}
+use Rattle.w_stands.specs.Steps.{Outside, Configured, MovesAt}
 
 -- The instruction that comes next invokes the function of address a, once so many operands are gone.
-pub record Calls (a taken : ℕ) (m : Module) (u : instances.Store) (s : Shape) : Type 0 where
+pub record Calls (a popped : ℕ) (m : Module) (u : instances.Store) (s : Shape) : Type 0 where
   pub i : Op
   pub calls : is_call i ≡ true
   pub moves : MovesAt (flat.Plain i) m u s
-  pub there : taken ≤ length s.operands
+  pub there : popped ≤ length s.operands
   pub rule : (p : Program) (e : Context) (c : Code) → p.source ≡ m → IsProgram p →
-      instruction p (store_of u) e (stack s.operands) i c ≡ invoke p (store_of u) e (stack (drop taken s.operands)) a (rest_of c)
+      instruction p (store_of u) e (stack s.operands) i c ≡ invoke p (store_of u) e (stack (drop popped s.operands)) a (rest_of c)
 
 -- The function that a fresh segment invokes comes next, by its address, with the segment's operands as arguments.
 pub record Invokes (m : Module) (u : instances.Store) (s : Shape) : Type 0 where
@@ -31,4 +31,4 @@ pub record Invokes (m : Module) (u : instances.Store) (s : Shape) : Type 0 where
   pub o : Outside
   pub e : Context
   pub r : Rest
-  pub at : At m u s p o e r
+  pub at : Configured m u s p o e r

@@ -28,4 +28,4 @@ first (v ∷ vs) = v
 
 -- what it prints of the topmost operand, once so many are gone
 abbrev pub text_of : Printer → ℕ → List Value → List ℕ
-text_of k taken vs = printed k (bits_in (first (drop taken vs)))
+text_of k popped vs = printed k (bits_in (first (drop popped vs)))

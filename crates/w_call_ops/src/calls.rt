@@ -23,10 +23,10 @@ pub fn call_own(
     stack: &mut Stack,
     address: u32,
     function: u32,
-    taken: usize,
+    popped: usize,
     may_grow: bool,
 ) -> Result<(), AllocError>
-    requires call { Calls address taken program.now store.now stack.old }
+    requires call { Calls address popped program.now store.now stack.old }
     requires own { slice_get store.now.functions address ≡ Some (entry.Own function) }
     ensures goes { OnOk result (Follows did.Went program.now [] store.now stack.old store.now stack.new) }
     ensures keeps { OnOk result (Keeps stack.old stack.new) }
@@ -34,7 +34,7 @@ pub fn call_own(
 {
     let _store = store;
     let back = stack.place() + 1;
-    enter(program, stack, function, taken, back, may_grow)
+    enter(program, stack, function, popped, back, may_grow)
 }
 
 /// Invokes the function of the module that a fresh segment begins with, by its index among the module's own. It fails only when out of

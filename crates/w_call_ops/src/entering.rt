@@ -82,15 +82,15 @@ pub(crate) fn enter(
     program: &Checked,
     stack: &mut Stack,
     function: u32,
-    taken: usize,
+    popped: usize,
     back: u32,
     may_grow: bool,
 ) -> Result<(), AllocError>
-    requires taken { taken ≤ length stack.old.operands }
-    requires there { CanEnter program.now function (drop taken stack.old.operands) }
+    requires popped { popped ≤ length stack.old.operands }
+    requires there { CanEnter program.now function (drop popped stack.old.operands) }
     requires short { length (instrs program.now function) < 2 ^ 32 }
     ensures room { OnOk result (HasFrameRoom program.now function stack.old stack.new) }
-    ensures after { OnOk result (IsEntered program.now function back (drop taken stack.old.operands) stack.old stack.new) }
+    ensures after { OnOk result (IsEntered program.now function back (drop popped stack.old.operands) stack.old stack.new) }
     ensures keeps { OnOk result (Keeps stack.old stack.new) }
     ensures err { OnErr result (Roomier stack.old stack.new) }
 {
@@ -103,7 +103,7 @@ pub(crate) fn enter(
     let height = program.height(function);
     let depth = program.depth(function);
     room_for_frame(stack, height, depth, locals, may_grow)?;
-    stack.discard(taken);
+    stack.discard(popped);
     stack.go(back);
     stack.enter(Entry::Frame {
         func: function,

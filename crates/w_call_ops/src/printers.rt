@@ -48,12 +48,12 @@ fn spelled(printer: Printer, value: Value) -> ArrayVec<u8, 41>
 }
 
 // The topmost operand but so many.
-fn argument(stack: &Stack, taken: usize) -> Value
-    requires { taken < length stack.now.operands }
-    ensures { result ≡ first (drop taken stack.now.operands) }
+fn argument(stack: &Stack, popped: usize) -> Value
+    requires { popped < length stack.now.operands }
+    ensures { result ≡ first (drop popped stack.now.operands) }
 {
     let _count = stack.count();
-    let tops = stack.tops(taken + 1);
+    let tops = stack.tops(popped + 1);
     tops[0]
 }
 
@@ -66,23 +66,23 @@ pub fn call_printer<O: Sink>(
     out: &mut O,
     address: u32,
     printer: Printer,
-    taken: usize,
+    popped: usize,
 ) -> Result<(), Fault>
-    requires call { Calls address taken program.now store.now stack.old }
+    requires call { Calls address popped program.now store.now stack.old }
     requires host { slice_get store.now.functions address ≡ Some (entry.Printer printer) }
-    ensures goes { OnOk result (Follows did.Went program.now (text_of printer taken stack.old.operands) store.now stack.old store.now stack.new) }
-    ensures printed { OnOk result (Grew (O.held out.old) (O.held out.new) (text_of printer taken stack.old.operands)) }
+    ensures goes { OnOk result (Follows did.Went program.now (text_of printer popped stack.old.operands) store.now stack.old store.now stack.new) }
+    ensures printed { OnOk result (Grew (O.held out.old) (O.held out.new) (text_of printer popped stack.old.operands)) }
     ensures keeps { OnOk result (Keeps stack.old stack.new) }
     ensures stack { OnErr result (stack.new ≡ stack.old) }
-    ensures part { OnErr result (GrewByFront (O.held out.old) (O.held out.new) (text_of printer taken stack.old.operands)) }
+    ensures part { OnErr result (GrewByFront (O.held out.old) (O.held out.new) (text_of printer popped stack.old.operands)) }
     ensures cause { HasCause (O.faults out.old) (O.faults out.new) result }
     ensures memory { IsErrOf result Fault.OutOfMemory → O.allocates }
 {
     let (_program, _store, _address) = (program, store, address);
     let _count = stack.count();
-    let text = spelled(printer, argument(stack, taken));
+    let text = spelled(printer, argument(stack, popped));
     put(out, text.as_slice())?;
-    drop_next(stack, taken + 1);
+    drop_next(stack, popped + 1);
     Ok(())
 }
 

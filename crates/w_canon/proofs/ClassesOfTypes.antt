@@ -19,7 +19,7 @@ use Rattle.w_canon.specs.IsClassesOf.{OneClass, IsClassesOf}
 use Rattle.w_canon.proofs.EntriesOfTypes.{kinds-entries_from, class-entries_from}
 use Rattle.w_canon.proofs.KeysOfGroups.{ClassedBy, one_key}
 use Rattle.w_canon.proofs.Orders.{one_class}
-use Rattle.w_types.proofs.Lists.{get-front, get-behind}
+use Rattle.lists.proofs.Lists.{get-front, get-behind}
 use Rattle.w_canon.proofs.Places.{types_of-append, types_of-cons, types_of-nil, count, count-append, count-split, within_all, front_within, place, place_wider, one_place}
 
 abbrev pub Numbers : Type 0
@@ -271,8 +271,8 @@ classed_alike gs es i j h s =
     (a.0, b.0, a.1, b.1, (h.classes i j a.0 b.0 a.1 b.1).1 (inr s))
 
 -- different types are equivalent exactly where they have one class
-pub told_by_class : (gs : List RecGroup) (es : List Entry) (i j : ℕ) → IsClassesOf gs es → (i ≡ j → ⊥) → OneClass es i j ↔ SameIndex gs i j
-told_by_class gs es i j h apart = (
+pub decided_by_class : (gs : List RecGroup) (es : List Entry) (i j : ℕ) → IsClassesOf gs es → (i ≡ j → ⊥) → OneClass es i j ↔ SameIndex gs i j
+decided_by_class gs es i j h apart = (
   λ (o : OneClass es i j). (h.classes i j o.0 o.1 o.2 o.3).0 o.4,
   λ (s : SameIndex gs i j). elim s [ inl e ↦ absurd (apart e) | inr r ↦ classed_alike gs es i j h r ],
 )

@@ -1,5 +1,5 @@
 pub mod Orders
-pub mod Inserted
+pub mod OneMoreKey
 pub mod EntriesOfTypes
 pub mod KeysOfGroups
 pub mod Places

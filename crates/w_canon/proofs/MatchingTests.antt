@@ -24,37 +24,37 @@ use Rattle.w_canon.specs.Equality as equality
 use Rattle.w_canon.specs.IsClassesOf.{IsClassesOf}
 use Rattle.w_canon.specs.Tests.{pairwise_test, class_test, one_class_test, same_test, one_kind_test, has_kind_test, kind_test, heap_test, ref_test, val_test, result_test, func_test, heap_same_test, ref_same_test, val_same_test, result_same_test}
 use Rattle.w_canon.proofs.Orders.{one_class}
-use Rattle.w_canon.proofs.ClassesOfTypes.{told_by_class}
-use Rattle.w_types.proofs.Tests.{both_told, either_told, implied_told}
+use Rattle.w_canon.proofs.ClassesOfTypes.{decided_by_class}
+use Rattle.lists.proofs.Tests.{both_decided, either_decided, implied_decided}
 use Rattle.w_canon.proofs.Matches.{through, func_by_entry, cont_by_entry}
 
 -- ## Lists
 
-module _ {A : Type 0} (f : A → A → Bool) (R : A → A → Type 0) (told : (x y : A) → IsTrue (f x y) ↔ R x y) where
+module _ {A : Type 0} (f : A → A → Bool) (R : A → A → Type 0) (decided : (x y : A) → IsTrue (f x y) ↔ R x y) where
   -- where each pair passes, each is related
   pairwise_found : (xs ys : List A) → IsTrue (pairwise_test f xs ys) → Pairwise R xs ys
   pairwise_found [] [] t = none
   pairwise_found [] (y ∷ ys) t = absurd (cc)
   pairwise_found (x ∷ xs) [] t = absurd (cc)
   pairwise_found (x ∷ xs) (y ∷ ys) t =
-      let p = (both_told (f x y) (pairwise_test f xs ys) (told x y) (λ u. u, λ u. u)).0 t in
+      let p = (both_decided (f x y) (pairwise_test f xs ys) (decided x y) (λ u. u, λ u. u)).0 t in
       more p.0 (pairwise_found xs ys p.1)
 
   -- where each pair is related, each passes
   pairwise_holds : {xs ys : List A} → Pairwise R xs ys → IsTrue (pairwise_test f xs ys)
   pairwise_holds none = refl
-  pairwise_holds (more {x} {y} {xs} {ys} h t) = (both_told (f x y) (pairwise_test f xs ys) (told x y) (λ u. u, λ u. u)).1 (h, pairwise_holds t)
+  pairwise_holds (more {x} {y} {xs} {ys} h t) = (both_decided (f x y) (pairwise_test f xs ys) (decided x y) (λ u. u, λ u. u)).1 (h, pairwise_holds t)
 
   -- a test of all pairs
-  pub pairwise_told : (xs ys : List A) → IsTrue (pairwise_test f xs ys) ↔ Pairwise R xs ys
-  pairwise_told xs ys = (pairwise_found xs ys, pairwise_holds)
+  pub pairwise_decided : (xs ys : List A) → IsTrue (pairwise_test f xs ys) ↔ Pairwise R xs ys
+  pairwise_decided xs ys = (pairwise_found xs ys, pairwise_holds)
 
 -- ## Classes and kinds
 
 -- classes are equal
-pub class_told : (a b : Class) → IsTrue (class_test a b) ↔ (a ≡ b)
-class_told a b = through
-    (both_told (a.group == b.group) (a.position == b.position) (unsigned_Decides a.group b.group) (unsigned_Decides a.position b.position))
+pub class_decided : (a b : Class) → IsTrue (class_test a b) ↔ (a ≡ b)
+class_decided a b = through
+    (both_decided (a.group == b.group) (a.position == b.position) (unsigned_Decides a.group b.group) (unsigned_Decides a.position b.position))
     (λ p. one_class a b p.0 p.1, λ e. (ap (λ (c : Class). c.group) e, ap (λ (c : Class). c.position) e))
 
 -- both are entries, and have one class
@@ -62,42 +62,42 @@ abbrev OneClassOf : Option Entry → Option Entry → Type 0
 OneClassOf o p = (a : Entry) × (b : Entry) × (o ≡ Some a) × (p ≡ Some b) × (a.class ≡ b.class)
 
 -- entries have one class
-one_class_told : (o p : Option Entry) → IsTrue (one_class_test o p) ↔ OneClassOf o p
-one_class_told None p = (λ t. absurd (cc), λ q. let e = q.2 in absurd (cc))
-one_class_told (Some a) None = (λ t. absurd (cc), λ q. let e = q.3 in absurd (cc))
-one_class_told (Some a) (Some b) = (
-  λ t. (a, b, refl, refl, (class_told a.class b.class).0 t),
-  λ q. (class_told a.class b.class).1 (let e = q.2 in let f = q.3 in let g = q.4 in cc),
+one_class_decided : (o p : Option Entry) → IsTrue (one_class_test o p) ↔ OneClassOf o p
+one_class_decided None p = (λ t. absurd (cc), λ q. let e = q.2 in absurd (cc))
+one_class_decided (Some a) None = (λ t. absurd (cc), λ q. let e = q.3 in absurd (cc))
+one_class_decided (Some a) (Some b) = (
+  λ t. (a, b, refl, refl, (class_decided a.class b.class).0 t),
+  λ q. (class_decided a.class b.class).1 (let e = q.2 in let f = q.3 in let g = q.4 in cc),
 )
 
 -- kinds are equal
-one_kind_told : (k l : Kind) → IsTrue (one_kind_test k l) ↔ (k ≡ l)
-one_kind_told kind.Func kind.Func = (λ t. refl, λ e. refl)
-one_kind_told kind.Func kind.Cont = (λ t. absurd (cc), λ e. absurd (cc))
-one_kind_told kind.Cont kind.Func = (λ t. absurd (cc), λ e. absurd (cc))
-one_kind_told kind.Cont kind.Cont = (λ t. refl, λ e. refl)
+one_kind_decided : (k l : Kind) → IsTrue (one_kind_test k l) ↔ (k ≡ l)
+one_kind_decided kind.Func kind.Func = (λ t. refl, λ e. refl)
+one_kind_decided kind.Func kind.Cont = (λ t. absurd (cc), λ e. absurd (cc))
+one_kind_decided kind.Cont kind.Func = (λ t. absurd (cc), λ e. absurd (cc))
+one_kind_decided kind.Cont kind.Cont = (λ t. refl, λ e. refl)
 
 -- an entry has a kind
-has_kind_told : (o : Option Entry) (k : Kind) → IsTrue (has_kind_test o k) ↔ (option_map (λ (e : Entry). e.kind) o ≡ Some k)
-has_kind_told None k = (λ t. absurd (cc), λ e. absurd (cc))
-has_kind_told (Some e) k = through (one_kind_told e.kind k) (λ h. ap Some h, λ h. cc)
+has_kind_decided : (o : Option Entry) (k : Kind) → IsTrue (has_kind_test o k) ↔ (option_map (λ (e : Entry). e.kind) o ≡ Some k)
+has_kind_decided None k = (λ t. absurd (cc), λ e. absurd (cc))
+has_kind_decided (Some e) k = through (one_kind_decided e.kind k) (λ h. ap Some h, λ h. cc)
 
 module _ (gs : List RecGroup) (es : List Entry) (h : IsClassesOf gs es) where
   -- ## Indices
 
   -- types are equivalent
-  pub same_told : (i j : ℕ) → IsTrue (same_test es i j) ↔ SameIndex gs i j
-  same_told i j = either_told (i == j) (one_class_test (slice_get es i) (slice_get es j))
+  pub same_decided : (i j : ℕ) → IsTrue (same_test es i j) ↔ SameIndex gs i j
+  same_decided i j = either_decided (i == j) (one_class_test (slice_get es i) (slice_get es j))
       (λ t. inl ((unsigned_Decides i j).0 t))
-      (λ f. through (one_class_told (slice_get es i) (slice_get es j)) (told_by_class gs es i j h (λ e. let t = (unsigned_Decides i j).1 e in cc)))
+      (λ f. through (one_class_decided (slice_get es i) (slice_get es j)) (decided_by_class gs es i j h (λ e. let t = (unsigned_Decides i j).1 e in cc)))
 
   -- a type is a function type
-  pub func_kind_told : (i : ℕ) → IsTrue (kind_test es i kind.Func) ↔ IsFunc gs i
-  func_kind_told i = through (has_kind_told (slice_get es i) kind.Func) (func_by_entry gs es i h)
+  pub func_kind_decided : (i : ℕ) → IsTrue (kind_test es i kind.Func) ↔ IsFunc gs i
+  func_kind_decided i = through (has_kind_decided (slice_get es i) kind.Func) (func_by_entry gs es i h)
 
   -- a type is a continuation type
-  pub cont_kind_told : (i : ℕ) → IsTrue (kind_test es i kind.Cont) ↔ IsCont gs i
-  cont_kind_told i = through (has_kind_told (slice_get es i) kind.Cont) (cont_by_entry gs es i h)
+  pub cont_kind_decided : (i : ℕ) → IsTrue (kind_test es i kind.Cont) ↔ IsCont gs i
+  cont_kind_decided i = through (has_kind_decided (slice_get es i) kind.Cont) (cont_by_entry gs es i h)
 
   -- ## Matching
 
@@ -107,17 +107,17 @@ module _ (gs : List RecGroup) (es : List Entry) (h : IsClassesOf gs es) where
   heap_found Func b t = absurd (cc)
   heap_found NoFunc Func t = matching.HeapMatches.no_func_func
   heap_found NoFunc NoFunc t = matching.HeapMatches.no_func
-  heap_found NoFunc (Index y) t = matching.HeapMatches.no_func_index ((func_kind_told y).0 t)
+  heap_found NoFunc (Index y) t = matching.HeapMatches.no_func_index ((func_kind_decided y).0 t)
   heap_found NoFunc b t = absurd (cc)
   heap_found Cont Cont t = matching.HeapMatches.cont
   heap_found Cont b t = absurd (cc)
   heap_found NoCont Cont t = matching.HeapMatches.no_cont_cont
   heap_found NoCont NoCont t = matching.HeapMatches.no_cont
-  heap_found NoCont (Index y) t = matching.HeapMatches.no_cont_index ((cont_kind_told y).0 t)
+  heap_found NoCont (Index y) t = matching.HeapMatches.no_cont_index ((cont_kind_decided y).0 t)
   heap_found NoCont b t = absurd (cc)
-  heap_found (Index x) Func t = matching.HeapMatches.index_func ((func_kind_told x).0 t)
-  heap_found (Index x) Cont t = matching.HeapMatches.index_cont ((cont_kind_told x).0 t)
-  heap_found (Index x) (Index y) t = matching.HeapMatches.index ((same_told x y).0 t)
+  heap_found (Index x) Func t = matching.HeapMatches.index_func ((func_kind_decided x).0 t)
+  heap_found (Index x) Cont t = matching.HeapMatches.index_cont ((cont_kind_decided x).0 t)
+  heap_found (Index x) (Index y) t = matching.HeapMatches.index ((same_decided x y).0 t)
   heap_found (Index x) b t = absurd (cc)
 
   -- heap types that match pass the test
@@ -126,22 +126,22 @@ module _ (gs : List RecGroup) (es : List Entry) (h : IsClassesOf gs es) where
   heap_holds matching.HeapMatches.no_func = refl
   heap_holds matching.HeapMatches.cont = refl
   heap_holds matching.HeapMatches.no_cont = refl
-  heap_holds (matching.HeapMatches.index {x} {y} s) = (same_told x y).1 s
-  heap_holds (matching.HeapMatches.index_func {x} f) = (func_kind_told x).1 f
-  heap_holds (matching.HeapMatches.index_cont {x} f) = (cont_kind_told x).1 f
+  heap_holds (matching.HeapMatches.index {x} {y} s) = (same_decided x y).1 s
+  heap_holds (matching.HeapMatches.index_func {x} f) = (func_kind_decided x).1 f
+  heap_holds (matching.HeapMatches.index_cont {x} f) = (cont_kind_decided x).1 f
   heap_holds matching.HeapMatches.no_func_func = refl
-  heap_holds (matching.HeapMatches.no_func_index {x} f) = (func_kind_told x).1 f
+  heap_holds (matching.HeapMatches.no_func_index {x} f) = (func_kind_decided x).1 f
   heap_holds matching.HeapMatches.no_cont_cont = refl
-  heap_holds (matching.HeapMatches.no_cont_index {x} f) = (cont_kind_told x).1 f
+  heap_holds (matching.HeapMatches.no_cont_index {x} f) = (cont_kind_decided x).1 f
 
   -- heap types match
-  pub heap_told : (a b : HeapType) → IsTrue (heap_test es a b) ↔ HeapMatches gs a b
-  heap_told a b = (heap_found a b, heap_holds)
+  pub heap_decided : (a b : HeapType) → IsTrue (heap_test es a b) ↔ HeapMatches gs a b
+  heap_decided a b = (heap_found a b, heap_holds)
 
   -- reference types match
-  pub ref_told : (r q : RefType) → IsTrue (ref_test es r q) ↔ RefMatches gs r q
-  ref_told r q = through
-      (both_told (not r.nullable || q.nullable) (heap_test es r.heap q.heap) (implied_told r.nullable q.nullable) (heap_told r.heap q.heap))
+  pub ref_decided : (r q : RefType) → IsTrue (ref_test es r q) ↔ RefMatches gs r q
+  ref_decided r q = through
+      (both_decided (not r.nullable || q.nullable) (heap_test es r.heap q.heap) (implied_decided r.nullable q.nullable) (heap_decided r.heap q.heap))
       (λ p. record { nullable = p.0; heap = p.1 }, λ (m : RefMatches gs r q). (m.nullable, m.heap))
 
   -- value types that pass the test match
@@ -150,27 +150,27 @@ module _ (gs : List RecGroup) (es : List Entry) (h : IsClassesOf gs es) where
   val_found I32 b t = absurd (cc)
   val_found I64 I64 t = matching.ValMatches.i64
   val_found I64 b t = absurd (cc)
-  val_found (Ref r) (Ref q) t = matching.ValMatches.ref ((ref_told r q).0 t)
+  val_found (Ref r) (Ref q) t = matching.ValMatches.ref ((ref_decided r q).0 t)
   val_found (Ref r) b t = absurd (cc)
 
   -- value types that match pass the test
   val_holds : {a b : ValType} → ValMatches gs a b → IsTrue (val_test es a b)
   val_holds matching.ValMatches.i32 = refl
   val_holds matching.ValMatches.i64 = refl
-  val_holds (matching.ValMatches.ref {r} {q} m) = (ref_told r q).1 m
+  val_holds (matching.ValMatches.ref {r} {q} m) = (ref_decided r q).1 m
 
   -- value types match
-  pub val_told : (a b : ValType) → IsTrue (val_test es a b) ↔ ValMatches gs a b
-  val_told a b = (val_found a b, val_holds)
+  pub val_decided : (a b : ValType) → IsTrue (val_test es a b) ↔ ValMatches gs a b
+  val_decided a b = (val_found a b, val_holds)
 
   -- result types match
-  pub result_told : (ts us : List ValType) → IsTrue (result_test es ts us) ↔ ResultMatches gs ts us
-  result_told ts us = pairwise_told (val_test es) (ValMatches gs) val_told ts us
+  pub result_decided : (ts us : List ValType) → IsTrue (result_test es ts us) ↔ ResultMatches gs ts us
+  result_decided ts us = pairwise_decided (val_test es) (ValMatches gs) val_decided ts us
 
   -- function types match
-  pub func_told : (f g : FuncType) → IsTrue (func_test es f g) ↔ FuncMatches gs f g
-  func_told f g = through
-      (both_told (result_test es g.params f.params) (result_test es f.results g.results) (result_told g.params f.params) (result_told f.results g.results))
+  pub func_decided : (f g : FuncType) → IsTrue (func_test es f g) ↔ FuncMatches gs f g
+  func_decided f g = through
+      (both_decided (result_test es g.params f.params) (result_test es f.results g.results) (result_decided g.params f.params) (result_decided f.results g.results))
       (λ p. record { params = p.0; results = p.1 }, λ (m : FuncMatches gs f g). (m.params, m.results))
 
   -- ## Equality
@@ -185,7 +185,7 @@ module _ (gs : List RecGroup) (es : List Entry) (h : IsClassesOf gs es) where
   heap_same_found Cont b t = absurd (cc)
   heap_same_found NoCont NoCont t = equality.HeapEqual.no_cont
   heap_same_found NoCont b t = absurd (cc)
-  heap_same_found (Index x) (Index y) t = equality.HeapEqual.index ((same_told x y).0 t)
+  heap_same_found (Index x) (Index y) t = equality.HeapEqual.index ((same_decided x y).0 t)
   heap_same_found (Index x) b t = absurd (cc)
 
   -- heap types that are equal pass the test
@@ -194,16 +194,16 @@ module _ (gs : List RecGroup) (es : List Entry) (h : IsClassesOf gs es) where
   heap_same_holds equality.HeapEqual.no_func = refl
   heap_same_holds equality.HeapEqual.cont = refl
   heap_same_holds equality.HeapEqual.no_cont = refl
-  heap_same_holds (equality.HeapEqual.index {x} {y} s) = (same_told x y).1 s
+  heap_same_holds (equality.HeapEqual.index {x} {y} s) = (same_decided x y).1 s
 
   -- heap types are equal
-  pub heap_same_told : (a b : HeapType) → IsTrue (heap_same_test es a b) ↔ HeapEqual gs a b
-  heap_same_told a b = (heap_same_found a b, heap_same_holds)
+  pub heap_same_decided : (a b : HeapType) → IsTrue (heap_same_test es a b) ↔ HeapEqual gs a b
+  heap_same_decided a b = (heap_same_found a b, heap_same_holds)
 
   -- reference types are equal
-  pub ref_same_told : (r q : RefType) → IsTrue (ref_same_test es r q) ↔ RefEqual gs r q
-  ref_same_told r q = through
-      (both_told (beq r.nullable q.nullable) (heap_same_test es r.heap q.heap) (booleans_Decides r.nullable q.nullable) (heap_same_told r.heap q.heap))
+  pub ref_same_decided : (r q : RefType) → IsTrue (ref_same_test es r q) ↔ RefEqual gs r q
+  ref_same_decided r q = through
+      (both_decided (beq r.nullable q.nullable) (heap_same_test es r.heap q.heap) (booleans_Decides r.nullable q.nullable) (heap_same_decided r.heap q.heap))
       (λ p. record { nullable = p.0; heap = p.1 }, λ (m : RefEqual gs r q). (m.nullable, m.heap))
 
   -- value types that pass the test are equal
@@ -212,19 +212,19 @@ module _ (gs : List RecGroup) (es : List Entry) (h : IsClassesOf gs es) where
   val_same_found I32 b t = absurd (cc)
   val_same_found I64 I64 t = equality.ValEqual.i64
   val_same_found I64 b t = absurd (cc)
-  val_same_found (Ref r) (Ref q) t = equality.ValEqual.ref ((ref_same_told r q).0 t)
+  val_same_found (Ref r) (Ref q) t = equality.ValEqual.ref ((ref_same_decided r q).0 t)
   val_same_found (Ref r) b t = absurd (cc)
 
   -- value types that are equal pass the test
   val_same_holds : {a b : ValType} → ValEqual gs a b → IsTrue (val_same_test es a b)
   val_same_holds equality.ValEqual.i32 = refl
   val_same_holds equality.ValEqual.i64 = refl
-  val_same_holds (equality.ValEqual.ref {r} {q} m) = (ref_same_told r q).1 m
+  val_same_holds (equality.ValEqual.ref {r} {q} m) = (ref_same_decided r q).1 m
 
   -- value types are equal
-  pub val_same_told : (a b : ValType) → IsTrue (val_same_test es a b) ↔ ValEqual gs a b
-  val_same_told a b = (val_same_found a b, val_same_holds)
+  pub val_same_decided : (a b : ValType) → IsTrue (val_same_test es a b) ↔ ValEqual gs a b
+  val_same_decided a b = (val_same_found a b, val_same_holds)
 
   -- result types are equal
-  pub result_same_told : (ts us : List ValType) → IsTrue (result_same_test es ts us) ↔ ResultEqual gs ts us
-  result_same_told ts us = pairwise_told (val_same_test es) (ValEqual gs) val_same_told ts us
+  pub result_same_decided : (ts us : List ValType) → IsTrue (result_same_test es ts us) ↔ ResultEqual gs ts us
+  result_same_decided ts us = pairwise_decided (val_same_test es) (ValEqual gs) val_same_decided ts us

@@ -10,7 +10,7 @@ use Rattle.w_canon.specs.declared.entry.Entry.{Entry}
 use Rattle.w_canon.specs.IsClassesOf.{OneClass}
 use Rattle.w_canon.specs.Tests.{kind_test, one_class_test}
 use Rattle.w_canon.specs.Words.{joined, bit_of, most_classes, given_class, wanted_class, given_word, wanted_word, class_in, class_wanted_in, tells_given, IsGiven, tells_wanted, IsWanted}
-use Rattle.w_canon.proofs.MatchingTests.{class_told}
+use Rattle.w_canon.proofs.MatchingTests.{class_decided}
 
 -- ## Cases
 
@@ -61,11 +61,11 @@ class_found es x c t = by (slice_get es x) (slice_get es c) refl refl t
     by : (o p : Option Entry) → slice_get es x ≡ o → slice_get es c ≡ p → IsTrue (one_class_test o p) → OneClass es x c
     by None p e f t = absurd (cc)
     by (Some a) None e f t = absurd (cc)
-    by (Some a) (Some b) e f t = (a, b, e, f, (class_told a.class b.class).0 t)
+    by (Some a) (Some b) e f t = (a, b, e, f, (class_decided a.class b.class).0 t)
 
 pub class_holds : (es : List Entry) (x c : ℕ) → OneClass es x c → IsTrue (one_class_test (slice_get es x) (slice_get es c))
 class_holds es x c (a, b, e, f, h) =
-    ap (λ (o : Option Entry). one_class_test o (slice_get es c)) e ∙ ap (one_class_test (Some a)) f ∙ (class_told a.class b.class).1 h
+    ap (λ (o : Option Entry). one_class_test o (slice_get es c)) e ∙ ap (one_class_test (Some a)) f ∙ (class_decided a.class b.class).1 h
 
 module _ (es : List Entry) where
   concrete_found : (x c w : ℕ) (n : Bool) → IsTrue (tells_given es x n c w) → GivenBy es (Ref (record { nullable = n; heap = Index x })) w

@@ -13,7 +13,7 @@ use Rattle.w_canon.specs.IsClassesOf.{IsClassesOf, OneClass}
 use Rattle.w_canon.specs.Matching.{ValMatches}
 use Rattle.w_canon.specs.Tests.{kind_test, one_class_test, heap_test, val_test}
 use Rattle.w_canon.specs.Words.{joined, bit_of, all_classes, given_class, wanted_class, given_classes, given_mark, given_word, IsGiven, wanted_classes, wanted_mark, wanted_word, IsWanted}
-use Rattle.w_canon.proofs.MatchingTests.{class_told, val_told}
+use Rattle.w_canon.proofs.MatchingTests.{class_decided, val_decided}
 use Rattle.w_canon.proofs.WordCases.{GivenBy, WantedBy, given_found, wanted_found}
 
 -- ## Bits
@@ -177,13 +177,13 @@ same_class : (es : List Entry) (x y c : ℕ) → OneClass es x c → OneClass es
 same_class es x y c (a, b, f, g, h) (d, e, i, j, k) =
     let one : b ≡ e = let s : Some b ≡ Some e = sym g ∙ j in cc in
     let same : a.class ≡ d.class = h ∙ ap (λ (z : Entry). z.class) one ∙ sym k in
-    let told : IsTrue (one_class_test (slice_get es x) (slice_get es y)) =
-    ap (λ (o : Option Entry). one_class_test o (slice_get es y)) f ∙ ap (one_class_test (Some a)) i ∙ (class_told a.class d.class).1 same in
-    either (x == y) told
+    let decided : IsTrue (one_class_test (slice_get es x) (slice_get es y)) =
+    ap (λ (o : Option Entry). one_class_test o (slice_get es y)) f ∙ ap (one_class_test (Some a)) i ∙ (class_decided a.class d.class).1 same in
+    either (x == y) decided
   where
     either : (t : Bool) → IsTrue (one_class_test (slice_get es x) (slice_get es y)) → IsTrue (t || one_class_test (slice_get es x) (slice_get es y))
-    either true told = refl
-    either false told = told
+    either true decided = refl
+    either false decided = decided
 
 -- ## Words
 
@@ -217,34 +217,34 @@ module _ (es : List Entry) where
       references r.nullable q.nullable r.heap q.heap p.1.1 (heaps_alone es r.heap q.heap p.0 p.1.0)
 
   -- a concrete type that is given, of either kind
-  told_given : (n : Bool) (x c m : ℕ) (u : ValType) → m < 8 → (bit_and m 1 ≡ 0 → ⊥) →
+  given_decided : (n : Bool) (x c m : ℕ) (u : ValType) → m < 8 → (bit_and m 1 ≡ 0 → ⊥) →
       ((b : HeapType) → bit_and (given_class c) (wanted_classes b) ≡ 0 → bit_and m (wanted_mark b) ≡ 0 → IsTrue (heap_test es (Index x) b)) →
       bit_and (joined (given_class c) m (bit_of n)) (wanted_word u) ≡ 0 → IsTrue (val_test es (Ref (record { nullable = n; heap = Index x })) u)
-  told_given n x c m I32 l k f e =
+  given_decided n x c m I32 l k f e =
       absurd (k (parts (given_class c) (wanted_class 0) m 1 (bit_of n) 0 l (omega arith) (bit_below n) (omega arith) e).1.0)
-  told_given n x c m I64 l k f e =
+  given_decided n x c m I64 l k f e =
       absurd (k (parts (given_class c) (wanted_class 1) m 1 (bit_of n) 0 l (omega arith) (bit_below n) (omega arith) e).1.0)
-  told_given n x c m (Ref q) l k f e =
+  given_decided n x c m (Ref q) l k f e =
       let p = parts (given_class c) (wanted_classes q.heap) m (wanted_mark q.heap) (bit_of n) (bit_of (not q.nullable)) l (wanted_mark_below q.heap) (bit_below n) (bit_below (not q.nullable)) e in
       references n q.nullable (Index x) q.heap p.1.1 (f q.heap p.0 p.1.0)
 
   -- and one that is wanted
-  told_wanted : (t : ValType) (m : Bool) (y d k : ℕ) → k < 8 → (bit_and 6 k ≡ 0 → ⊥) →
+  wanted_decided : (t : ValType) (m : Bool) (y d k : ℕ) → k < 8 → (bit_and 6 k ≡ 0 → ⊥) →
       ((a : HeapType) → bit_and (given_classes a) (wanted_class d) ≡ 0 → bit_and (given_mark a) k ≡ 0 → IsTrue (heap_test es a (Index y))) →
       bit_and (given_word t) (joined (wanted_class d) k (bit_of (not m))) ≡ 0 → IsTrue (val_test es t (Ref (record { nullable = m; heap = Index y })))
-  told_wanted I32 m y d k l h f e =
+  wanted_decided I32 m y d k l h f e =
       absurd (h (parts (given_class 0) (wanted_class d) 6 k 0 (bit_of (not m)) (omega arith) l (omega arith) (bit_below (not m)) e).1.0)
-  told_wanted I64 m y d k l h f e =
+  wanted_decided I64 m y d k l h f e =
       absurd (h (parts (given_class 1) (wanted_class d) 6 k 0 (bit_of (not m)) (omega arith) l (omega arith) (bit_below (not m)) e).1.0)
-  told_wanted (Ref r) m y d k l h f e =
+  wanted_decided (Ref r) m y d k l h f e =
       let p = parts (given_classes r.heap) (wanted_class d) (given_mark r.heap) k (bit_of r.nullable) (bit_of (not m)) (given_mark_below r.heap) l (bit_below r.nullable) (bit_below (not m)) e in
       references r.nullable m r.heap (Index y) p.1.1 (f r.heap p.0 p.1.0)
 
   -- two concrete types of one kind
-  told_both : (n m : Bool) (x y c d k l : ℕ) → OneClass es x c → OneClass es y d → c < 16384 → d < 16384 → k < 8 → l < 8 →
+  wide_decided : (n m : Bool) (x y c d k l : ℕ) → OneClass es x c → OneClass es y d → c < 16384 → d < 16384 → k < 8 → l < 8 →
       bit_and (joined (given_class c) k (bit_of n)) (joined (wanted_class d) l (bit_of (not m))) ≡ 0 →
       IsTrue (val_test es (Ref (record { nullable = n; heap = Index x })) (Ref (record { nullable = m; heap = Index y })))
-  told_both n m x y c d k l one other hc hd hk hl e =
+  wide_decided n m x y c d k l one other hc hd hk hl e =
       let p = parts (given_class c) (wanted_class d) k l (bit_of n) (bit_of (not m)) hk hl (bit_below n) (bit_below (not m)) e in
       let same : c ≡ d = one_class c d hc hd p.0 in
       references n m (Index x) (Index y) p.1.1 (same_class es x y d (ap_class same one) other)
@@ -255,17 +255,17 @@ module _ (es : List Entry) where
   cases_fit : (t u : ValType) (w v : ℕ) → GivenBy es t w → WantedBy es u v → bit_and w v ≡ 0 → IsTrue (val_test es t u)
   cases_fit t u _ _ GivenBy.alone WantedBy.alone e = both_alone t u e
   cases_fit _ u _ _ (GivenBy.of_func {n} {x} {c} o k l) WantedBy.alone e =
-      told_given n x c 5 u (omega arith) (λ z. omega arith) (λ b. func_given es x c b k l) e
+      given_decided n x c 5 u (omega arith) (λ z. omega arith) (λ b. func_given es x c b k l) e
   cases_fit _ u _ _ (GivenBy.of_cont {n} {x} {c} o k l) WantedBy.alone e =
-      told_given n x c 3 u (omega arith) (λ z. omega arith) (λ b. cont_given es x c b k l) e
+      given_decided n x c 3 u (omega arith) (λ z. omega arith) (λ b. cont_given es x c b k l) e
   cases_fit t _ _ _ GivenBy.alone (WantedBy.of_func {n = m} {x = y} {c = d} o k l) e =
-      told_wanted t m y d 2 (omega arith) (λ z. omega arith) (λ a. func_wanted es a y d k l) e
+      wanted_decided t m y d 2 (omega arith) (λ z. omega arith) (λ a. func_wanted es a y d k l) e
   cases_fit t _ _ _ GivenBy.alone (WantedBy.of_cont {n = m} {x = y} {c = d} o k l) e =
-      told_wanted t m y d 4 (omega arith) (λ z. omega arith) (λ a. cont_wanted es a y d k l) e
+      wanted_decided t m y d 4 (omega arith) (λ z. omega arith) (λ a. cont_wanted es a y d k l) e
   cases_fit _ _ _ _ (GivenBy.of_func {n} {x} {c} o k l) (WantedBy.of_func {n = m} {x = y} {c = d} p i j) e =
-      told_both n m x y c d 5 2 o p l j (omega arith) (omega arith) e
+      wide_decided n m x y c d 5 2 o p l j (omega arith) (omega arith) e
   cases_fit _ _ _ _ (GivenBy.of_cont {n} {x} {c} o k l) (WantedBy.of_cont {n = m} {x = y} {c = d} p i j) e =
-      told_both n m x y c d 3 4 o p l j (omega arith) (omega arith) e
+      wide_decided n m x y c d 3 4 o p l j (omega arith) (omega arith) e
   cases_fit _ _ _ _ (GivenBy.of_func {n} {x} {c} o k l) (WantedBy.of_cont {n = m} {x = y} {c = d} p i j) e =
       absurd (let q = (parts (given_class c) (wanted_class d) 5 4 (bit_of n) (bit_of (not m)) (omega arith) (omega arith) (bit_below n) (bit_below (not m)) e).1.0 in omega arith)
   cases_fit _ _ _ _ (GivenBy.of_cont {n} {x} {c} o k l) (WantedBy.of_func {n = m} {x = y} {c = d} p i j) e =
@@ -277,4 +277,4 @@ module _ (es : List Entry) where
 
 -- and then the types match by the rules
 pub words_match : (gs : List RecGroup) (es : List Entry) (t u : ValType) (w v : ℕ) → IsClassesOf gs es → IsGiven es t w → IsWanted es u v → bit_and w v ≡ 0 → ValMatches gs t u
-words_match gs es t u w v h g k e = (val_told gs es h t u).0 (words_fit es t u w v g k e)
+words_match gs es t u w v h g k e = (val_decided gs es h t u).0 (words_fit es t u w v g k e)

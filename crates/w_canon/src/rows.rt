@@ -127,7 +127,7 @@ impl Classes {
         other: PackedType,
     ) -> bool
         requires { IsTrue (compared self.now how found.old.one found.old.other) }
-        ensures told { result ≡ compared self.now how one other }
+        ensures decided { result ≡ compared self.now how one other }
         ensures found { IsTrue (compared self.now how found.new.one found.new.other) }
     {
         if is_alike(found, one, other) {

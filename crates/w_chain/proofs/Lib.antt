@@ -1,3 +1,3 @@
-pub mod Counting
-pub mod Moving
-pub mod Searching
+pub mod CountsKept
+pub mod MovedSegments
+pub mod InnermostLayer

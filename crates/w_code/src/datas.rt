@@ -5,11 +5,11 @@ ghost use Rattle.w_leb.specs.Formats.{bytes as byte_string};
 ghost use Rattle.w_syntax.specs.Fields.{data_segment};
 
 use crate::bodies::expr_at;
+use lists::ListOf;
 use std::alloc::{AllocError, Global};
 use w_fields::{Field, sized_at};
 use w_leb::read_u32;
 use w_syntax::{Data, DataMode};
-use w_types::ListOf;
 
 // The bytes behind their count.
 fn byte_string_at(

@@ -19,13 +19,13 @@ use Rattle.w_reduce.specs.Branches.{label_of, block}
 use Rattle.w_stands.specs.Values.{stack, store_of}
 use Rattle.w_stands.specs.declared.did.Did.TheVariants as did
 use Rattle.w_stands.specs.Code.{instrs, IsMark, Reads, stop, plain, block as reads_block, choice as reads_choice, choices as reads_choices, at_end}
-use Rattle.w_stands.specs.Stands.{Around, label}
-use Rattle.w_stands.specs.Steps.{Outside, next_of, At, MovesAlone, FollowsAlone}
-use Rattle.w_stands.proofs.Fitting.{same_room, room_for_label}
-use Rattle.w_stands.proofs.Reading.{here, onward}
-use Rattle.w_stands.proofs.Stepping.{place_fits}
+use Rattle.w_stands.specs.Stands.{LevelsAre, label}
+use Rattle.w_stands.specs.Steps.{Outside, next_of, Configured, MovesAlone, FollowsAlone}
+use Rattle.w_stands.proofs.RoomOfFrames.{same_room, room_for_label}
+use Rattle.w_stands.proofs.AtInstructions.{here, onward}
+use Rattle.w_stands.proofs.PlainSteps.{place_fits}
 use Rattle.w_control_ops.specs.Entering.{kept_by, target_of, IsLabelled}
-use Rattle.w_control_ops.proofs.Entering.{Enters, enters, entered, enters_with}
+use Rattle.w_control_ops.proofs.EnteredLabels.{Enters, enters, entered, enters_with}
 
 -- ## What stands there
 
@@ -60,8 +60,8 @@ shows_block k b (reads_choices h x t y z r) g = absurd cc
 
 -- what stands around its contents
 around_contents : {m : Module} {outer : Context} {behind : Rest} {f p q z : ℕ} {b : BlockType} {x d : Code} {ls : List Level} {e : Context} (k : BlockKind) (a : Arity) (below : List Value) →
-    slice_get (instrs m f) z ≡ Some flat.End → Reads (instrs m f) (suc z) d q → Reads (instrs m f) p (Block k b x d) q → Around m outer behind f q ls e →
-    Around m outer behind f z (Label below (kept_by k a.params a.results) (target_of k p z) ∷ ls) (label_of k b a x (stack below) d e)
+    slice_get (instrs m f) z ≡ Some flat.End → Reads (instrs m f) (suc z) d q → Reads (instrs m f) p (Block k b x d) q → LevelsAre m outer behind f q ls e →
+    LevelsAre m outer behind f z (Label below (kept_by k a.params a.results) (target_of k p z) ∷ ls) (label_of k b a x (stack below) d e)
 unfolding after
 around_contents {m} {f = f} {q = q} {z = z} {d = d} kind.Block a below g r s w = label (at_end g) r (subst (λ (n : ℕ). Reads (instrs m f) n d q) (sym (add-one z)) r) w
 around_contents kind.Loop a below g r s w = label (at_end g) r s w
@@ -70,7 +70,7 @@ around_contents kind.Loop a below g r s w = label (at_end g) r s w
 
 module _ (m : Module) (s : Shape) (k : BlockKind) (b : BlockType) (z : ℕ) (mv : MovesAlone (flat.Block k b z) m s) where
   -- what comes in any configuration
-  shown : (u : instances.Store) (p : Program) (o : Outside) (e : Context) (r : Rest) (a : At m u s p o e r) →
+  shown : (u : instances.Store) (p : Program) (o : Outside) (e : Context) (r : Rest) (a : Configured m u s p o e r) →
       let h = here a.stands mv.moves.stage in (w : ShowsBlock (instrs m s.func) s.place h.code h.end k b z)
       × (next_of p u s e r ≡ block p (store_of u) e (stack s.operands) k b w.contents w.following)
   shown u p o e r a =

@@ -2,7 +2,7 @@
 use Rattle.std.proofs.Common.{rules, ◌≡◌, ℕ, zero, suc, ◌+◌, ◌<◌, ◌≤◌, List, [], ◌∷◌, Option, Some, None, length, slice_get, refl, sym, ap, ◌∙◌, subst, arith, add-one, drop, take}
 use Rattle.std.specs.Prelude.{◌^◌, IsSome}
 use Rattle.std.proofs.lemmas.Option.{slice_get_within}
-use Rattle.w_types.specs.Rows.{Row}
+use Rattle.lists.specs.Rows.{Row}
 use Rattle.w_types.specs.declared.value.Value.{Value}
 use Rattle.w_syntax.specs.Code.{Code, Done, If, IfElse, after}
 use Rattle.w_syntax.specs.declared.instructions.BlockKind.TheVariants as kind
@@ -24,14 +24,14 @@ use Rattle.w_stands.specs.Values.{stack, store_of}
 use Rattle.w_stands.specs.Numbers.{IsNumber, bits_in}
 use Rattle.w_stands.specs.declared.did.Did.TheVariants as did
 use Rattle.w_stands.specs.Code.{instrs, IsMark, Reads, stop, plain, block as reads_block, choice as reads_choice, choices as reads_choices, Behind, at_end, at_else}
-use Rattle.w_stands.specs.Stands.{Around, label}
-use Rattle.w_stands.specs.Steps.{Outside, next_of, At, MovesAlone, FollowsAlone}
+use Rattle.w_stands.specs.Stands.{LevelsAre, label}
+use Rattle.w_stands.specs.Steps.{Outside, next_of, Configured, MovesAlone, FollowsAlone}
 use Rattle.w_stands.proofs.Numbers.{TakesNumber, number_there, number_top}
-use Rattle.w_stands.proofs.Fitting.{same_room, room_for_label}
-use Rattle.w_stands.proofs.Reading.{here, onward}
-use Rattle.w_stands.proofs.Stepping.{place_fits}
+use Rattle.w_stands.proofs.RoomOfFrames.{same_room, room_for_label}
+use Rattle.w_stands.proofs.AtInstructions.{here, onward}
+use Rattle.w_stands.proofs.PlainSteps.{place_fits}
 use Rattle.w_control_ops.specs.Entering.{start_of, IsLabelled}
-use Rattle.w_control_ops.proofs.Entering.{Enters, enters, entered, enters_with}
+use Rattle.w_control_ops.proofs.EnteredLabels.{Enters, enters, entered, enters_with}
 
 -- ## What stands there
 
@@ -103,8 +103,8 @@ shows_if {is} {p} {q} {z} b y (reads_choices {y = y'} {z = z'} {b = b'} {x = x} 
 
 -- what stands around the contents that are chosen
 around_chosen : {m : Module} {outer : Context} {behind : Rest} {f q w z : ℕ} {d : Code} {ls : List Level} {e : Context} (b : BlockType) (x : Code) (a : Arity) (below : List Value) →
-    Behind (instrs m f) w (z + 1) (suc z) → Reads (instrs m f) (suc z) d q → Around m outer behind f q ls e →
-    Around m outer behind f w (Label below a.results (z + 1) ∷ ls) (label_of kind.Block b a x (stack below) d e)
+    Behind (instrs m f) w (z + 1) (suc z) → Reads (instrs m f) (suc z) d q → LevelsAre m outer behind f q ls e →
+    LevelsAre m outer behind f w (Label below a.results (z + 1) ∷ ls) (label_of kind.Block b a x (stack below) d e)
 unfolding after
 around_chosen {m} {f = f} {q = q} {z = z} {d = d} b x a below g r w = label g r (subst (λ (n : ℕ). Reads (instrs m f) n d q) (sym (add-one z)) r) w
 
@@ -112,7 +112,7 @@ around_chosen {m} {f = f} {q = q} {z = z} {d = d} b x a below g r w = label g r 
 
 module _ (m : Module) (s : Shape) (b : BlockType) (y : Option ℕ) (z : ℕ) (mv : MovesAlone (flat.If b y z) m s) where
   -- what comes in any configuration
-  shown : (u : instances.Store) (p : Program) (o : Outside) (e : Context) (r : Rest) (a : At m u s p o e r) →
+  shown : (u : instances.Store) (p : Program) (o : Outside) (e : Context) (r : Rest) (a : Configured m u s p o e r) →
       let h = here a.stands mv.moves.stage in (w : ShowsIf (instrs m s.func) s.place h.code h.end b y z)
       × (next_of p u s e r ≡ choice p (store_of u) e (stack s.operands) b w.contents w.other w.following)
   shown u p o e r a =
@@ -154,7 +154,7 @@ module _ (m : Module) (s : Shape) (b : BlockType) (y : Option ℕ) (z : ℕ) (mv
     choice_number = let t = choice_takes in let e : t.top ∷ t.rest ≡ v ∷ vs = sym t.is ∙ is in let q : t.top ≡ v = cc e in subst (IsNumber int.I32) q t.number
 
     -- the block that is chosen
-    choice_is : (u : instances.Store) (p : Program) (o : Outside) (e : Context) (r : Rest) (a : At m u s p o e r) →
+    choice_is : (u : instances.Store) (p : Program) (o : Outside) (e : Context) (r : Rest) (a : Configured m u s p o e r) →
         let w = (shown u p o e r a).0 in
         next_of p u s e r ≡ block p (store_of u) e (stack vs) kind.Block b (chosen (bits_in v) w.contents w.other) w.following
     choice_is u p o e r a =

@@ -1,7 +1,7 @@
 -- Instructions that take one operand, and branch or go on by it: what they need, and where they go.
 use Rattle.std.proofs.Common.{◌≡◌, ℕ, zero, suc, ◌+◌, ◌<◌, List, [], ◌∷◌, ◌++◌, true, false, length, refl, sym, ap, ◌∙◌, arith, drop, slice_get}
 use Rattle.std.specs.Prelude.{◌≢◌, ◌^◌}
-use Rattle.w_types.specs.Rows.{◌▹◌}
+use Rattle.lists.specs.Rows.{◌▹◌}
 use Rattle.w_types.specs.declared.value.Value.{Value}
 use Rattle.w_types.specs.declared.value.Value.TheVariants as value
 use Rattle.w_syntax.specs.Code.{Code}
@@ -13,7 +13,7 @@ use Rattle.w_syntax.specs.declared.instructions.ControlOp.TheVariants as control
 use Rattle.w_syntax.specs.declared.module.Module.{Module}
 use Rattle.w_segment.specs.Shape.{Shape, IsAt}
 use Rattle.w_segment.specs.Changes.{discarded}
-use Rattle.w_segment.proofs.Holding.{discarded_holds}
+use Rattle.w_segment.proofs.FactsOfValues.{discarded_holds}
 use Rattle.w_tables.specs.Store as instances
 use Rattle.w_reduce.specs.Values.{Val, val, Null, I32, I64, Func, Cont}
 use Rattle.w_reduce.specs.Terms.{rest_of, Context}
@@ -29,9 +29,9 @@ use Rattle.w_stands.specs.Keeps.{Keeps}
 use Rattle.w_stands.specs.GoingOn.{dropped, IsBehind}
 use Rattle.w_stands.specs.Steps.{MovesAlone, FollowsAlone}
 use Rattle.w_stands.specs.Taking.{Kind, Number, Any, Bits, Is, Going, IsTaking, AreOf, taken_of}
-use Rattle.w_stands.proofs.Following.{dropped_behind, take_needs, take_follows}
+use Rattle.w_stands.proofs.NextInstructions.{dropped_behind, take_needs, take_follows}
 use Rattle.w_stands.specs.References.{is_null}
-use Rattle.w_control_ops.proofs.Branching.{Beneath, IsBranched, IsBranching, taken_there, taken_follows, branch_keeps}
+use Rattle.w_control_ops.proofs.Branches.{Beneath, IsBranched, IsBranching, taken_there, taken_follows, branch_keeps}
 
 -- ## The rules, by the operand that they take
 

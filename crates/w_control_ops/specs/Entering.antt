@@ -23,9 +23,9 @@ start_of (suc n) p y z = p + 1
 
 -- so many operands are taken off, and a label with this arity and target stands around so many of those beneath; the stack stands at
 -- the place
-pub record IsLabelled (taken params arity target start : ℕ) (s s' : Shape) : Type 0 where
-  pub levels : s'.levels ≡ Label (drop params (drop taken s.operands)) arity target ∷ s.levels
-  pub operands : s'.operands ≡ take params (drop taken s.operands)
+pub record IsLabelled (popped params arity target start : ℕ) (s s' : Shape) : Type 0 where
+  pub levels : s'.levels ≡ Label (drop params (drop popped s.operands)) arity target ∷ s.levels
+  pub operands : s'.operands ≡ take params (drop popped s.operands)
   pub func : s'.func ≡ s.func
   pub place : s'.place ≡ start
   pub stage : s'.stage ≡ s.stage

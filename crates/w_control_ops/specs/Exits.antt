@@ -9,7 +9,7 @@ use Rattle.w_tables.specs.Store as instances
 use Rattle.w_reduce.specs.Terms.{Rest, Context}
 use Rattle.w_reduce.specs.Program.{Program}
 use Rattle.w_stands.specs.Code.{instr_of, IsMark}
-use Rattle.w_stands.specs.Steps.{Outside, At}
+use Rattle.w_stands.specs.Steps.{Outside, Configured}
 
 -- some configuration, with some store, in which the stack stands where a sequence ends, and to which a rule applies
 pub record ExitsAlone (m : Module) (s : Shape) : Type 0 where
@@ -20,7 +20,7 @@ pub record ExitsAlone (m : Module) (s : Shape) : Type 0 where
   pub o : Outside
   pub e : Context
   pub r : Rest
-  pub at : At m u s p o e r
+  pub at : Configured m u s p o e r
 
 -- an end, or nothing
 abbrev pub IsEnd : Option Instr → Type 0

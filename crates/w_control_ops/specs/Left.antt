@@ -6,7 +6,7 @@ use Rattle.w_segment.specs.Shape.{Shape}
 use Rattle.w_tables.specs.Store as instances
 use Rattle.w_reduce.specs.Terms.{Rest, Context}
 use Rattle.w_reduce.specs.Program.{Program}
-use Rattle.w_stands.specs.Steps.{Outside, At}
+use Rattle.w_stands.specs.Steps.{Outside, Configured}
 
 -- some configuration in which the stack stands at such a branch, and to which a rule applies
 pub record BranchLeft (l : ℕ) (m : Module) (s : Shape) : Type 0 where
@@ -16,4 +16,4 @@ pub record BranchLeft (l : ℕ) (m : Module) (s : Shape) : Type 0 where
   pub o : Outside
   pub e : Context
   pub r : Rest
-  pub at : At m u s p o e r
+  pub at : Configured m u s p o e r

@@ -16,7 +16,7 @@ use w_types::FuncType;
 
 // How many operands a block takes and gives.
 #[derive(Clone, Copy)]
-struct Arity {
+struct BlockArity {
     params: u32,
     results: u32,
 }
@@ -30,12 +30,12 @@ struct Label {
 }
 
 // The arity of a block of a function type, which has fewer than 2^32 parameters and results.
-fn function_arity(kind: &FuncType) -> Arity
+fn function_arity(kind: &FuncType) -> BlockArity
     requires params { length kind.now.params < 2 ^ 32 }
     requires results { length kind.now.results < 2 ^ 32 }
     ensures { function_arity (Some kind.now) ≡ Some (record { params = result.params; results = result.results }) }
 {
-    Arity {
+    BlockArity {
         params: kind.params.len() as u32,
         results: kind.results.len() as u32,
     }
@@ -43,17 +43,17 @@ fn function_arity(kind: &FuncType) -> Arity
 
 // The arity of a block type, where it has one.
 #[inline(always)]
-fn block_arity(program: &Module, block_type: BlockType) -> Arity
+fn block_arity(program: &Module, block_type: BlockType) -> BlockArity
     requires narrow { AreNarrow program.now }
     requires known { IsSome (arity_of program.now block_type) }
     ensures { arity_of program.now block_type ≡ Some (record { params = result.params; results = result.results }) }
 {
     match block_type {
-        BlockType::Empty => Arity {
+        BlockType::Empty => BlockArity {
             params: 0,
             results: 0,
         },
-        BlockType::Value(_) => Arity {
+        BlockType::Value(_) => BlockArity {
             params: 0,
             results: 1,
         },
@@ -66,12 +66,12 @@ fn block_arity(program: &Module, block_type: BlockType) -> Arity
 
 // Takes operands off, enters a label around those beneath, where there is room for it, and goes to a place.
 #[inline(always)]
-fn enter(stack: &mut Stack, taken: usize, label: Label, place: u32)
-    requires there { taken + label.params ≤ length stack.old.operands }
+fn enter(stack: &mut Stack, popped: usize, label: Label, place: u32)
+    requires there { popped + label.params ≤ length stack.old.operands }
     requires room { length stack.old.levels < stack.old.capacity.levels }
-    ensures after { IsLabelled taken label.params label.arity label.target place stack.old stack.new }
+    ensures after { IsLabelled popped label.params label.arity label.target place stack.old stack.new }
 {
-    stack.discard(taken);
+    stack.discard(popped);
     stack.enter(Entry::Label {
         params: label.params,
         arity: label.arity,
@@ -82,7 +82,7 @@ fn enter(stack: &mut Stack, taken: usize, label: Label, place: u32)
 
 // The label of a block at a place: it leads behind the block's end with the results, and that of a loop back to it with the parameters.
 #[inline(always)]
-fn label_of(kind: BlockKind, arity: Arity, place: u32, end: u32) -> Label
+fn label_of(kind: BlockKind, arity: BlockArity, place: u32, end: u32) -> Label
     requires end { end + 1 < 2 ^ 32 }
     ensures params { result.params ≡ arity.params }
     ensures arity { result.arity ≡ kept_by kind arity.params arity.results }

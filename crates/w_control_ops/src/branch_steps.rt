@@ -12,10 +12,10 @@ ghost use Rattle.w_stands.specs.declared.did.Did.TheVariants as did;
 ghost use Rattle.w_control_ops.specs.Left.{BranchLeft};
 
 use crate::outside::end_outside;
+use lists::ListOf;
 use w_segment::{Stack, Stage};
 use w_stands::{drop_next, i32_of};
 use w_syntax::Module;
-use w_types::ListOf;
 
 /// `br` (Core, execution, control instructions: br).
 #[inline(always)]

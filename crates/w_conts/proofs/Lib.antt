@@ -1,7 +1,7 @@
-pub mod Finding
+pub mod SerialsAmongSlots
 pub mod Entries
-pub mod Counting
+pub mod EntryCounts
 pub mod References
-pub mod Opened
-pub mod Putting
-pub mod Taking
+pub mod OpenedStores
+pub mod PutContinuations
+pub mod TakenContinuations

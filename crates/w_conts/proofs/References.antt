@@ -6,7 +6,7 @@ use Rattle.std.proofs.Math.Seq.{get_or-append_seam}
 use Rattle.std.specs.Prelude.{slice_set}
 use Rattle.w_types.specs.declared.value.ContRef.{ContRef}
 use Rattle.w_conts.specs.Conts.{Conts, entry_at, with_entry, without_entry, IsOf, KeepsReferences}
-use Rattle.w_conts.proofs.Finding.{serial_is}
+use Rattle.w_conts.proofs.SerialsAmongSlots.{serial_is}
 
 module _ {T : Type 0} where
   -- each entry before stays, the new one stands behind them, and there is one more

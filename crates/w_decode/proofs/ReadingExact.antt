@@ -3,7 +3,7 @@ use Rattle.std.proofs.Common.{◌≡◌, ℕ, zero, suc, ◌+◌, ◌-◌, ◌<�
 use Rattle.std.specs.Prelude.{nat_eq, IsFalse}
 use Rattle.std.proofs.lemmas.Bool.{eqb-true}
 use Rattle.std.proofs.lemmas.List.{append-nil, length-append}
-use Rattle.w_types.proofs.Tests.{each_of}
+use Rattle.lists.proofs.Tests.{each_of}
 use Rattle.w_leb.specs.Format.{Each}
 use Rattle.w_leb.specs.FormatLaws.{then_some, some_parts}
 use Rattle.w_syntax.specs.Contents.{Contents, IsChosen}

@@ -1,5 +1,5 @@
 mod Cases
-mod Appended
+mod BytesBehindBytes
 mod Written
 mod ItemsWritten
 mod TypesCanonical

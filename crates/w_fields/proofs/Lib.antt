@@ -1,3 +1,3 @@
 mod Loop
-mod Cutting
+mod SizedBytes
 mod Utf8

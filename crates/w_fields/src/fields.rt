@@ -4,9 +4,9 @@ ghost use Rattle.w_leb.specs.Format.{Format, ReadsAt, BeginsAt, whole};
 ghost use Rattle.w_leb.specs.Formats.{number, vec};
 ghost use Rattle.w_fields.specs.Places.{CutAt};
 
+use lists::ListOf;
 use std::alloc::{AllocError, Global};
 use w_leb::read_u32;
-use w_types::ListOf;
 
 /// A kind of field (Core, binary format, conventions).
 pub trait Field {

@@ -3,10 +3,10 @@ use Rattle.std.proofs.Common.{Bool, true, false, List, Some, IsTrue, if◌then�
 use Rattle.w_types.specs.declared.types.RecGroup.{RecGroup}
 use Rattle.w_types.specs.declared.types.ValType.{ValType}
 use Rattle.w_types.specs.declared.types.ValType.TheVariants.{I32, I64, Ref}
-use Rattle.w_types.specs.Rows.{Row, ε, ◌▹◌, ◌⧺◌}
+use Rattle.lists.specs.Rows.{Row, ε, ◌▹◌, ◌⧺◌}
 use Rattle.w_canon.specs.declared.entry.Entry.{Entry}
 use Rattle.w_canon.specs.IsClassesOf.{IsClassesOf}
-use Rattle.w_canon.proofs.MatchingTests.{val_told}
+use Rattle.w_canon.proofs.MatchingTests.{val_decided}
 use Rattle.w_rules.specs.Operands.{Operand}
 use Rattle.w_rules.specs.Operands.{Known, Bottom, BottomRef}
 use Rattle.w_rules.specs.Conditions.{Holds}
@@ -44,7 +44,7 @@ null_found false m h k = absurd (cc)
 module _ (gs : List RecGroup) (es : List Entry) (s : IsClassesOf gs es) where
   -- an operand that passes the test matches
   pub operand_found : (t : Operand) (u : ValType) → IsTrue (operand_test es t u) → OperandMatches gs t (Known u)
-  operand_found (Known t) u h = value ((val_told gs es s t u).0 h)
+  operand_found (Known t) u h = value ((val_decided gs es s t u).0 h)
   operand_found Bottom u h = bottom
   operand_found (BottomRef true) (Ref r) h = bottom_ref (λ k. h)
   operand_found (BottomRef false) (Ref r) h = bottom_ref (λ k. absurd (cc))
@@ -53,7 +53,7 @@ module _ (gs : List RecGroup) (es : List Entry) (s : IsClassesOf gs es) where
 
   -- an operand that matches passes the test
   pub operand_holds : (t : Operand) (u : ValType) → OperandMatches gs t (Known u) → IsTrue (operand_test es t u)
-  operand_holds _ _ (value {t} {u} h) = (val_told gs es s t u).1 h
+  operand_holds _ _ (value {t} {u} h) = (val_decided gs es s t u).1 h
   operand_holds _ u bottom = refl
   operand_holds _ _ (bottom_ref {n = true} f) = f refl
   operand_holds _ _ (bottom_ref {n = false} f) = refl

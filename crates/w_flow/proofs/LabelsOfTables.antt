@@ -2,7 +2,7 @@
 use Rattle.std.proofs.Common.{◌≡◌, ℕ, Bool, true, false, ◌&&◌, List, [], ◌∷◌, nat_eq, slice_get, Option, Some, None, if◌then◌else◌, refl, sym, ◌∙◌, ap}
 use Rattle.w_types.specs.declared.types.ValType.{ValType}
 use Rattle.w_types.specs.declared.types.ValType.TheVariants.{I32}
-use Rattle.w_types.specs.Rows.{Row, ε, ◌▹◌, size}
+use Rattle.lists.specs.Rows.{Row, ε, ◌▹◌, size}
 use Rattle.w_canon.specs.declared.entry.Entry.{Entry}
 use Rattle.w_rules.specs.Operands.{Operand}
 use Rattle.w_rules.specs.InstructionTypes.{with_label, labels_at, br_table_type}

@@ -13,7 +13,7 @@ use Rattle.w_canon.specs.Words.{IsGiven, IsWanted}
 use Rattle.w_canon.specs.Equality.{ResultEqual}
 use Rattle.w_canon.specs.IsClassesOf.{IsClassesOf}
 use Rattle.w_canon.specs.Matching.{ResultMatches}
-use Rattle.w_canon.proofs.MatchingTests.{result_told, result_same_told}
+use Rattle.w_canon.proofs.MatchingTests.{result_decided, result_same_decided}
 use Rattle.w_canon.proofs.WordCases.{and_both}
 use Rattle.w_canon.proofs.WordsOfTypes.{words_fit}
 use Rattle.w_flow.specs.Fitting.{AreApart}
@@ -111,7 +111,7 @@ module _ (es : List Entry) where
 -- ## By the rules
 
 pub matches_related : (es : List Entry) (ts us : List ValType) → result_test es ts us ≡ true → (gs : List RecGroup) → IsClassesOf gs es → IsTrue true ↔ ResultMatches gs ts us
-matches_related es ts us e gs st = (λ t. (result_told gs es st ts us).0 e, λ m. refl)
+matches_related es ts us e gs st = (λ t. (result_decided gs es st ts us).0 e, λ m. refl)
 
 pub equals_related : (es : List Entry) (ts us : List ValType) → result_same_test es ts us ≡ true → (gs : List RecGroup) → IsClassesOf gs es → IsTrue true ↔ ResultEqual gs ts us
-equals_related es ts us e gs st = (λ t. (result_same_told gs es st ts us).0 e, λ m. refl)
+equals_related es ts us e gs st = (λ t. (result_same_decided gs es st ts us).0 e, λ m. refl)

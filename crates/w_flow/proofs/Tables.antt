@@ -2,7 +2,7 @@
 use Rattle.std.proofs.Common.{◌≡◌, ℕ, zero, suc, Bool, true, false, List, [], ◌∷◌, Option, Some, None, IsTrue, if◌then◌else◌, refl, sym, ◌∙◌, ap, subst, eq-eqb, eqb-true}
 use Rattle.w_types.specs.declared.types.RecGroup.{RecGroup}
 use Rattle.w_types.specs.declared.types.ValType.{ValType}
-use Rattle.w_types.specs.Rows.{Row, ε, ◌▹◌, ◌⧺◌, size}
+use Rattle.lists.specs.Rows.{Row, ε, ◌▹◌, ◌⧺◌, size}
 use Rattle.w_canon.specs.declared.entry.Entry.{Entry}
 use Rattle.w_canon.specs.IsClassesOf.{IsClassesOf}
 use Rattle.w_rules.specs.Operands.{Operand}

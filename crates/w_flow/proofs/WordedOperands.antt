@@ -9,8 +9,8 @@ use Rattle.w_types.specs.PackedTypes.{index_of}
 use Rattle.w_canon.specs.declared.entry.Entry.{Entry}
 use Rattle.w_canon.specs.Words.{joined, bit_of, given_class, given_word, IsGiven}
 use Rattle.w_rules.specs.Operands.{Operand as TheType, Known}
-use Rattle.w_types.specs.Rows.{◌▹◌, row_of, size}
-use Rattle.w_types.proofs.Rows.{row_of-more, size-row_of}
+use Rattle.lists.specs.Rows.{◌▹◌, row_of, size}
+use Rattle.lists.proofs.Rows.{row_of-more, size-row_of}
 use Rattle.std.proofs.lemmas.List.{map-append}
 use Rattle.w_canon.proofs.WordCases.{GivenBy, given_found}
 use Rattle.w_canon.proofs.WordsGiven.{given_alone}

@@ -3,7 +3,7 @@ use Rattle.std.specs.Prelude.{◌≡◌, ℕ, ◌/◌, ◌%◌, ◌==◌, Bool, 
 use Rattle.w_types.specs.declared.types.HeapType.TheVariants.{Func, NoFunc, Cont, NoCont, Index}
 use Rattle.w_types.specs.declared.types.ValType.{ValType}
 use Rattle.w_types.specs.declared.types.ValType.TheVariants.{I32, I64, Ref}
-use Rattle.w_types.specs.Rows.{Row, row_of}
+use Rattle.lists.specs.Rows.{Row, row_of}
 use Rattle.w_canon.specs.declared.entry.Entry.{Entry}
 use Rattle.w_canon.specs.Words.{joined, bit_of, IsGiven}
 use Rattle.w_rules.specs.Operands.{Operand as TheType, Known, Bottom, BottomRef}

@@ -35,9 +35,9 @@ IsReady es r = IfSome r.words (λ (w : RowWords). AreReady es r.types.now w.oper
 abbrev pub IsReadyFor : List Entry → List ValType → Option ReadyRow → Type 0
 IsReadyFor es ts o = IfSome o (λ (r : ReadyRow). AreReady es ts r.operands.items r.given.items r.wanted.items)
 
--- where it is told that these types match those, they do
+-- where it is known that these types match those, they do
 abbrev pub FitsIf : List Entry → Bool → List ValType → List ValType → Type 0
-FitsIf es told ts us = (not told || result_test es ts us) ≡ true
+FitsIf es known ts us = (not known || result_test es ts us) ≡ true
 
 -- what stands ready for a type, where it is a function type
 abbrev pub HasReady : List Entry → CompType → ReadyType → Type 0

@@ -19,7 +19,7 @@ pub struct Flow {
 
 impl Flow {
     ghost use Rattle.std.specs.Prelude.{◌≡◌, [], if◌then◌else◌, is_some, List, IfOk, IfSome, Some, None};
-    ghost use Rattle.w_types.specs.Rows.{ε, ◌⧺◌, row_of, size};
+    ghost use Rattle.lists.specs.Rows.{ε, ◌⧺◌, row_of, size};
     ghost use Rattle.w_canon.specs.declared.entry.Entry.{Entry};
     ghost use Rattle.w_rules.specs.Matching.{known};
     ghost use Rattle.w_flow.specs.Flow.{pops, is_popped, ends};

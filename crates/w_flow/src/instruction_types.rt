@@ -13,7 +13,7 @@ use w_types::PackedType;
 
 impl Flow {
     ghost use Rattle.std.specs.Prelude.{◌≡◌, if◌then◌else◌, [], List, IfOk, Some, None};
-    ghost use Rattle.w_types.specs.Rows.{ε, ◌▹◌, row_of};
+    ghost use Rattle.lists.specs.Rows.{ε, ◌▹◌, row_of};
     ghost use Rattle.w_types.specs.declared.types.ValType.TheVariants as val;
     ghost use Rattle.w_canon.specs.declared.entry.Entry.{Entry};
     ghost use Rattle.w_rules.specs.InstructionTypes.{fixed, polymorphic, drops, selects, tests_null, as_non_null, on_null};
@@ -29,9 +29,9 @@ impl Flow {
         ins: &[PackedType],
         outs: &[PackedType],
     ) -> Result<bool, AllocError>
-        ensures steps { IfOk result (λ taken. step classes.now (fixed (row_of ins.now)
+        ensures steps { IfOk result (λ applies. step classes.now (fixed (row_of ins.now)
             (row_of outs.now)) self.old.any (row_in self.old.operands)
-            ≡ flow_if taken self.new) }
+            ≡ flow_if applies self.new) }
         ensures words { HasWords classes.now self.old → HasWords classes.now self.new }
     {
         if !take_few(classes, self.any, &mut self.operands, ins) {
@@ -51,9 +51,9 @@ impl Flow {
         requires words { HasWords classes.now self.old }
         requires ins { IsReady classes.now ins }
         requires outs { IsReady classes.now outs }
-        ensures steps { IfOk result (λ taken. step classes.now (fixed (row_of ins.entry.types.now)
+        ensures steps { IfOk result (λ applies. step classes.now (fixed (row_of ins.entry.types.now)
             (row_of outs.entry.types.now)) self.old.any (row_in self.old.operands)
-            ≡ flow_if taken self.new) }
+            ≡ flow_if applies self.new) }
         ensures words { HasWords classes.now self.new }
     {
         turn_types(classes, self.any, &mut self.operands, ins, outs)
@@ -70,9 +70,9 @@ impl Flow {
         requires words { HasWords classes.now self.old }
         requires ins { IsReady classes.now ins }
         requires outs { IsReady classes.now outs }
-        ensures steps { IfOk result (λ taken. step classes.now (fixed (row_of ins.entry.types.now ▹ top)
+        ensures steps { IfOk result (λ applies. step classes.now (fixed (row_of ins.entry.types.now ▹ top)
             (row_of outs.entry.types.now)) self.old.any (row_in self.old.operands)
-            ≡ flow_if taken self.new) }
+            ≡ flow_if applies self.new) }
         ensures words { HasWords classes.now self.new }
     {
         if !take_type(classes, self.any, &mut self.operands, top) {
@@ -128,8 +128,8 @@ impl Flow {
     /// The type of a `select` without a type. It fails only when out of memory.
     #[tactic(auto, using(crate::proofs::WordedOperands::row_pushed, crate::proofs::WordedOperands::worded_pushed, crate::proofs::WordedOperands::worded_taken, crate::proofs::WordedOperands::worded_same))]
     pub fn selects(&mut self, classes: &Classes) -> Result<bool, AllocError>
-        ensures steps { IfOk result (λ taken. step classes.now selects self.old.any
-            (row_in self.old.operands) ≡ flow_if taken self.new) }
+        ensures steps { IfOk result (λ applies. step classes.now selects self.old.any
+            (row_in self.old.operands) ≡ flow_if applies self.new) }
         ensures words { HasWords classes.now self.old → HasWords classes.now self.new }
     {
         if !take_type(classes, self.any, &mut self.operands, PackedType::I32) {
@@ -151,8 +151,8 @@ impl Flow {
     /// The type of `ref.is_null`. It compares no types, so the contract has no entries. It fails only when out of memory.
     #[tactic(auto, using(crate::proofs::WordedOperands::row_pushed, crate::proofs::WordedOperands::worded_pushed, crate::proofs::WordedOperands::worded_taken, crate::proofs::WordedOperands::worded_same))]
     pub fn tests_null(&mut self) -> Result<bool, AllocError>
-        ensures steps { IfOk result (λ taken. step [] tests_null self.old.any
-            (row_in self.old.operands) ≡ flow_if taken self.new) }
+        ensures steps { IfOk result (λ applies. step [] tests_null self.old.any
+            (row_in self.old.operands) ≡ flow_if applies self.new) }
         ensures words { (es : List Entry) → HasWords es self.old → HasWords es self.new }
     {
         if take_reference(self.any, &mut self.operands).is_none() {
@@ -165,8 +165,8 @@ impl Flow {
     /// The type of `ref.as_non_null`. It fails only when out of memory.
     #[tactic(auto, using(crate::proofs::WordedOperands::row_pushed, crate::proofs::WordedOperands::worded_pushed, crate::proofs::WordedOperands::worded_taken, crate::proofs::WordedOperands::worded_same))]
     pub fn as_non_null(&mut self, classes: &Classes) -> Result<bool, AllocError>
-        ensures steps { IfOk result (λ taken. step classes.now as_non_null self.old.any
-            (row_in self.old.operands) ≡ flow_if taken self.new) }
+        ensures steps { IfOk result (λ applies. step classes.now as_non_null self.old.any
+            (row_in self.old.operands) ≡ flow_if applies self.new) }
         ensures words { HasWords classes.now self.old → HasWords classes.now self.new }
     {
         let Some(heap) = take_reference(self.any, &mut self.operands) else {
@@ -181,8 +181,8 @@ impl Flow {
     pub fn on_null(&mut self, classes: &Classes, label: TypeRow) -> Result<bool, AllocError>
         requires words { HasWords classes.now self.old }
         requires ready { IsReady classes.now label }
-        ensures steps { IfOk result (λ taken. step classes.now (on_null (row_of label.entry.types.now)) self.old.any
-            (row_in self.old.operands) ≡ flow_if taken self.new) }
+        ensures steps { IfOk result (λ applies. step classes.now (on_null (row_of label.entry.types.now)) self.old.any
+            (row_in self.old.operands) ≡ flow_if applies self.new) }
         ensures words { HasWords classes.now self.new }
     {
         let Some(heap) = take_reference(self.any, &mut self.operands) else {

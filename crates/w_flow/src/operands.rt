@@ -1,7 +1,7 @@
 //! Operands that are taken and given, the topmost last.
 ghost use Rattle.std.specs.Prelude.{◌≡◌, ◌≤◌, ◌<◌, ◌+◌, ◌-◌, ◌++◌, List, length, take, Bool, IsTrue, if◌then◌else◌, IfOk, IfSome, Some, None};
 ghost use Rattle.std.specs.Option.{option_map};
-ghost use Rattle.w_types.specs.Rows.{ε, ◌▹◌, ◌⧺◌, row_of};
+ghost use Rattle.lists.specs.Rows.{ε, ◌▹◌, ◌⧺◌, row_of};
 ghost use Rattle.w_canon.specs.declared.entry.Entry.{Entry};
 ghost use Rattle.w_rules.specs.Matching.{known};
 ghost use Rattle.w_rules.specs.Operands.{Known, Bottom};
@@ -209,7 +209,7 @@ pub(crate) fn take_type(
 #[tactic(auto, using(crate::proofs::WordedOperands::row_pushed, crate::proofs::WordedOperands::worded_taken))]
 #[inline(always)]
 pub(crate) fn take_any(any: bool, operands: &mut OperandList) -> Option<Operand>
-    ensures taken { pop any (row_in operands.old) ≡ with_type (row_in operands.new) result }
+    ensures popped { pop any (row_in operands.old) ≡ with_type (row_in operands.new) result }
     ensures rest { operands.new ≡ take (length operands.old - 1) operands.old }
 {
     match operands.pop() {
@@ -234,7 +234,7 @@ fn heap_type(operand: Operand) -> Option<Option<HeapType>>
 
 /// Takes a reference, and gives its heap type.
 pub(crate) fn take_reference(any: bool, operands: &mut OperandList) -> Option<Option<HeapType>>
-    ensures taken { pop_ref any (row_in operands.old) ≡ with_rest (row_in operands.new) result }
+    ensures popped { pop_ref any (row_in operands.old) ≡ with_rest (row_in operands.new) result }
     ensures rest { operands.new ≡ take (length operands.old - 1) operands.old }
 {
     let operand = take_any(any, operands)?;
@@ -362,9 +362,9 @@ pub(crate) fn turn_types(
     requires worded { AreWorded classes.now operands.old }
     requires wanted { IsReady classes.now wanted }
     requires given { IsReady classes.now given }
-    ensures steps { IfOk result (λ taken. step classes.now (fixed (row_of wanted.entry.types.now)
+    ensures steps { IfOk result (λ applies. step classes.now (fixed (row_of wanted.entry.types.now)
         (row_of given.entry.types.now)) any (row_in operands.old)
-        ≡ (if taken then Some (record { any = any; operands = row_in operands.new }) else None)) }
+        ≡ (if applies then Some (record { any = any; operands = row_in operands.new }) else None)) }
     ensures worded { AreWorded classes.now operands.new }
 {
     let Some(n) = left(classes, any, operands.as_slice(), wanted) else {

@@ -10,7 +10,7 @@ use w_types::PackedType;
 
 impl Flow {
     ghost use Rattle.std.specs.Prelude.{◌≡◌, IfOk, List};
-    ghost use Rattle.w_types.specs.Rows.{ε, ◌▹◌};
+    ghost use Rattle.lists.specs.Rows.{ε, ◌▹◌};
     ghost use Rattle.w_canon.specs.declared.entry.Entry.{Entry};
     ghost use Rattle.w_rules.specs.InstructionTypes.{fixed};
     ghost use Rattle.w_flow.specs.Flow.{step};
@@ -21,8 +21,8 @@ impl Flow {
     #[tactic(auto, using(crate::proofs::WordedOperands::row_pushed, crate::proofs::WordedOperands::worded_pushed, crate::proofs::WordedOperands::worded_replaced, crate::proofs::WordedOperands::worded_same))]
     #[inline(always)]
     pub fn gives(&mut self, classes: &Classes, to: PackedType) -> Result<bool, AllocError>
-        ensures steps { IfOk result (λ taken. step classes.now (fixed ε (ε ▹ to)) self.old.any
-            (row_in self.old.operands) ≡ flow_if taken self.new) }
+        ensures steps { IfOk result (λ applies. step classes.now (fixed ε (ε ▹ to)) self.old.any
+            (row_in self.old.operands) ≡ flow_if applies self.new) }
         ensures words { HasWords classes.now self.old → HasWords classes.now self.new }
     {
         self.operands.push(Operand::known(classes, to))?;
@@ -57,8 +57,8 @@ impl Flow {
         from: PackedType,
         to: PackedType,
     ) -> Result<bool, AllocError>
-        ensures steps { IfOk result (λ taken. step classes.now (fixed (ε ▹ from) (ε ▹ to)) self.old.any
-            (row_in self.old.operands) ≡ flow_if taken self.new) }
+        ensures steps { IfOk result (λ applies. step classes.now (fixed (ε ▹ from) (ε ▹ to)) self.old.any
+            (row_in self.old.operands) ≡ flow_if applies self.new) }
         ensures words { HasWords classes.now self.old → HasWords classes.now self.new }
     {
         let Some(top) = self.operands.last() else {
@@ -83,8 +83,8 @@ impl Flow {
         from: PackedType,
         to: PackedType,
     ) -> Result<bool, AllocError>
-        ensures steps { IfOk result (λ taken. step classes.now (fixed (ε ▹ from ▹ from)
-            (ε ▹ to)) self.old.any (row_in self.old.operands) ≡ flow_if taken self.new) }
+        ensures steps { IfOk result (λ applies. step classes.now (fixed (ε ▹ from ▹ from)
+            (ε ▹ to)) self.old.any (row_in self.old.operands) ≡ flow_if applies self.new) }
         ensures words { HasWords classes.now self.old → HasWords classes.now self.new }
     {
         if !self.takes(classes, from) {

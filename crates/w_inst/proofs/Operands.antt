@@ -2,8 +2,8 @@
 use Rattle.std.proofs.Common.{◌≡◌, ℕ, zero, suc, List, [], ◌∷◌, ◌++◌, length, refl, subst, sym, ap, ◌∙◌, arith}
 use Rattle.std.specs.Prelude.{Bool, true, false, Option, Some, None, Ok, Err, Result, slice_get, option_map, ◌<◌, IfOk, ℤ}
 use Rattle.std.proofs.lemmas.List.{map-append}
-use Rattle.w_types.specs.Rows.{Row, ◌▹◌, row_of}
-use Rattle.w_types.proofs.Rows.{row_of-more}
+use Rattle.lists.specs.Rows.{Row, ◌▹◌, row_of}
+use Rattle.lists.proofs.Rows.{row_of-more}
 use Rattle.w_types.specs.declared.types.HeapType.{HeapType}
 use Rattle.w_types.specs.declared.value.Value.{Value}
 use Rattle.w_types.specs.declared.value.Value.TheVariants as value

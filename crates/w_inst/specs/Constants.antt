@@ -1,6 +1,6 @@
 -- Constant expressions, and what is seen of a store while their values are found.
 use Rattle.std.specs.Prelude.{◌≡◌, ℕ, Bool, true, false, IsTrue, List, [], length, Option, Some, None}
-use Rattle.w_types.specs.Rows.{Row, row_of}
+use Rattle.lists.specs.Rows.{Row, row_of}
 use Rattle.w_types.specs.declared.value.Value.{Value}
 use Rattle.w_syntax.specs.Code.{Code, Done}
 use Rattle.w_syntax.specs.declared.instructions.Instr.{Instr}

@@ -1,6 +1,6 @@
 //! The values of constant expressions. They ask only for the number of functions and for the globals so far.
 ghost use Rattle.std.specs.Prelude.{◌≡◌, ℕ, Ok, Some, IfOk, IsTrue, slice_get};
-ghost use Rattle.w_types.specs.Rows.{Row};
+ghost use Rattle.lists.specs.Rows.{Row};
 ghost use Rattle.w_types.specs.declared.value.Value.TheVariants as value;
 ghost use Rattle.w_syntax.specs.declared.instructions.Op.TheVariants as ops;
 ghost use Rattle.w_syntax.specs.declared.numeric.IntType.TheVariants as int;

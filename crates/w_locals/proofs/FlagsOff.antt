@@ -9,7 +9,7 @@ use Rattle.w_rules.specs.Bodies.{types_of_runs, has_default, set_first}
 use Rattle.w_rules.specs.InstructionTypes.{get_type}
 use Rattle.w_rules.specs.Spaces.{marked}
 use Rattle.w_locals.specs.Locals.{Declared, LocalState, types_in, first_in, first_set, gives_type, is_logged, is_off, is_set_run, set_in_first, snapshots}
-use Rattle.w_locals.proofs.InitLog.{flag_told, stays_set, with}
+use Rattle.w_locals.proofs.InitLog.{flag_by_log, stays_set, with}
 
 -- ## Where the body begins
 
@@ -78,12 +78,12 @@ module _ (gone : Bool) (s : List Bool) (log marks : List ℕ) (x : ℕ) (n : Lis
     where
       by : (g : Bool) → g ≡ gone → is_off (slice_get (first_set (here g s log marks)) x) ≡ false
       by true e = refl
-      by false e = ap is_off (flag_told s log x) ∙ still_on (is_logged log x) (slice_get s x) h
+      by false e = ap is_off (flag_by_log s log x) ∙ still_on (is_logged log x) (slice_get s x) h
 
   -- what is off at first is off where the log does not have it
   pub unset_by_log : here gone s log marks ≡ n → gone ≡ false → is_off (slice_get s x) ≡ true → not (is_logged log x) ≡ is_off (slice_get (first_set n) x)
   unset_by_log v e h =
-      sym (ap is_off (flag_told s log x) ∙ off_unless (is_logged log x) (slice_get s x) h)
+      sym (ap is_off (flag_by_log s log x) ∙ off_unless (is_logged log x) (slice_get s x) h)
       ∙ ap (λ (g : Bool). is_off (slice_get (first_set (here g s log marks)) x)) (sym e)
       ∙ ap (λ (m : List (List Bool)). is_off (slice_get (first_set m) x)) v
 
@@ -93,7 +93,7 @@ module _ (gone : Bool) (s : List Bool) (log marks : List ℕ) (x : ℕ) (n : Lis
     where
       by : (g : Bool) → is_off (slice_get (first_set (here g s log marks)) x) ≡ true → is_logged log x ≡ false
       by true k = absurd (cc)
-      by false k = off_alone (is_logged log x) (slice_get s x) (ap is_off (sym (flag_told s log x)) ∙ k)
+      by false k = off_alone (is_logged log x) (slice_get s x) (ap is_off (sym (flag_by_log s log x)) ∙ k)
 
 -- ## The type of a local that is set
 
@@ -107,7 +107,7 @@ got_open : (d : Declared) (log : List ℕ) (x : ℕ) (r : Option ValType) → is
 got_open d log x None off t = ap (λ (o : Option ValType). get_type o (slice_get (marked (first_in d) log) x)) t
 got_open d log x (Some u) off t =
     let there = flag_there d.params d.runs x u t in
-    let flag : slice_get (marked (first_in d) log) x ≡ Some (there.0 || is_logged log x) = flag_told (first_in d) log x ∙ ap (with (is_logged log x)) there.1 in
+    let flag : slice_get (marked (first_in d) log) x ≡ Some (there.0 || is_logged log x) = flag_by_log (first_in d) log x ∙ ap (with (is_logged log x)) there.1 in
     ap (λ (o : Option ValType). get_type o (slice_get (marked (first_in d) log) x)) t ∙ ap (get_type (Some u)) flag
     ∙ typed_on u (there.0 || is_logged log x) (ap is_off (sym flag) ∙ off)
 

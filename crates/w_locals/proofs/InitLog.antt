@@ -50,9 +50,9 @@ flag_set (b ∷ s) (suc y) zero = let other : (suc y == 0) ≡ false = grind (ar
 flag_set (b ∷ s) (suc y) (suc x) = let same : (y == x) ≡ (suc y == suc x) = grind (arith, nat_tests) in flag_set s y x ∙ ap (λ (c : Bool). with c (slice_get s x)) same
 
 -- a local is set where it was at first, or where the log has it
-pub flag_told : (s : List Bool) (log : List ℕ) (x : ℕ) → slice_get (marked s log) x ≡ with (is_logged log x) (slice_get s x)
-flag_told s [] x = sym (with_none (slice_get s x))
-flag_told s (y ∷ log) x = flag_told (slice_set s y true) log x ∙ ap (with (is_logged log x)) (flag_set s y x) ∙ with_both (y == x) (is_logged log x) (slice_get s x)
+pub flag_by_log : (s : List Bool) (log : List ℕ) (x : ℕ) → slice_get (marked s log) x ≡ with (is_logged log x) (slice_get s x)
+flag_by_log s [] x = sym (with_none (slice_get s x))
+flag_by_log s (y ∷ log) x = flag_by_log (slice_set s y true) log x ∙ ap (with (is_logged log x)) (flag_set s y x) ∙ with_both (y == x) (is_logged log x) (slice_get s x)
 
 -- the local set last
 set_last : (s : List Bool) (log : List ℕ) (x : ℕ) → marked s (log ++ x ∷ []) ≡ slice_set (marked s log) x true
@@ -178,8 +178,8 @@ placed_otherwise m log x i p e other = not_true (is_logged log x) (λ t.
     other (subst (λ (j : ℕ). slice_get log j ≡ Some x) same w.1)))
 
 -- what stands at the place of a local tells whether the log has it
-pub told_at : (m : BTreeMap ℕ ℕ) (log : List ℕ) (x i y : ℕ) → Places m log → tree.get nat_cmp m x ≡ Some i → slice_get log i ≡ Some y → (y == x) ≡ is_logged log x
-told_at m log x i y p e f = by (y == x) refl
+pub logged_by_place : (m : BTreeMap ℕ ℕ) (log : List ℕ) (x i y : ℕ) → Places m log → tree.get nat_cmp m x ≡ Some i → slice_get log i ≡ Some y → (y == x) ≡ is_logged log x
+logged_by_place m log x i y p e f = by (y == x) refl
   where
     by : (b : Bool) → b ≡ (y == x) → b ≡ is_logged log x
     by true t = let same : y ≡ x = grind (arith, nat_tests, t) in sym (logged_at log i x (f ∙ ap Some same))

@@ -6,7 +6,7 @@ use Rattle.std.specs.BTreeMap.{BTreeMap}
 use Rattle.std.specs.BTreeMap as tree
 use Rattle.w_types.specs.declared.types.ValType.{ValType}
 use Rattle.w_syntax.specs.declared.locals.LocalRun.{LocalRun}
-use Rattle.w_types.specs.Rows.{ε, ◌▹◌}
+use Rattle.lists.specs.Rows.{ε, ◌▹◌}
 use Rattle.w_rules.specs.Bodies.{types_of_runs}
 use Rattle.w_rules.specs.InstructionTypes.{InstrType, fixed, untyped}
 use Rattle.w_rules.specs.Spaces.{marked}

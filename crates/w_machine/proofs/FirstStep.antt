@@ -2,7 +2,7 @@
 use Rattle.std.proofs.Common.{◌≡◌, ℕ, List, [], ◌∷◌, ◌++◌, Option, Some, None, refl, sym, ap, subst, subst₂, ◌∙◌, arith}
 use Rattle.std.specs.Prelude.{Box}
 use Rattle.std.specs.declared.alloc.Global.{Global}
-use Rattle.w_types.specs.Rows.{ε, row_of}
+use Rattle.lists.specs.Rows.{ε, row_of}
 use Rattle.w_syntax.specs.Code.{Done}
 use Rattle.w_syntax.specs.declared.module.Module.{Module}
 use Rattle.w_rules.specs.Matching.{known}
@@ -22,7 +22,7 @@ use Rattle.w_stands.specs.Code.{AllShort, AreNarrow}
 use Rattle.w_stands.specs.Stands.{fresh}
 use Rattle.w_stands.specs.Values.{store_of}
 use Rattle.w_typed.specs.Configurations.{Typed, StartsTyped}
-use Rattle.w_typed.proofs.Starting.{starts_typed}
+use Rattle.w_typed.proofs.FirstConfigurations.{starts_typed}
 use Rattle.w_machine.specs.Parts.{Parts, parts}
 use Rattle.w_conts.specs.Conts.{Conts}
 use Rattle.w_switching.specs.declared.stored.Stored.{Stored}
@@ -33,7 +33,7 @@ use Rattle.w_machine.proofs.NoReferences.{IsPlain, begins_plain}
 use Rattle.w_canon.specs.declared.entry.Entry.{Entry}
 use Rattle.w_canon.specs.IsClassesOf.{IsClassesOf}
 use Rattle.w_machine.specs.Beginning.{Begins, BeginsWith}
-use Rattle.w_machine.specs.Reached.{waiting_of, IsFresh, IsAt, AreFirst, IsReached}
+use Rattle.w_machine.specs.Reached.{waiting_of, IsFresh, IsReachedAt, AreFirst, IsReached}
 
 -- which function runs first, and which waits
 pub data First (m : Module) (main : ℕ) : ℕ → Option ℕ → Type 0 where
@@ -67,7 +67,7 @@ first_parts u f c = parts u (one (fresh_shape f c) 0) (record { entries = []; sp
 
 -- the run begins where the parts stand
 first_at : {m : Module} {u : instances.Store} {main f : ℕ} {waiting : Option ℕ} (c : Capacity) → Valid m → AllShort m → AreNarrow m → StoreHolds IsPlain u → BeginsWith m u main → First m main f waiting
-    → (p : Program) (s₀ : Store) (t₀ : Term) → Begins m p s₀ t₀ → IsAt m waiting (first_parts u f c) 0 p (Run p s₀ t₀ 0)
+    → (p : Program) (s₀ : Store) (t₀ : Term) → Begins m p s₀ t₀ → IsReachedAt m waiting (first_parts u f c) 0 p (Run p s₀ t₀ 0)
 first_at {m = m} {u = u} {main = main} {f = f} {waiting = waiting} c valid short narrow bare with_this first p s₀ t₀ begins =
     let one : Ready s₀ t₀ ≡ Ready (store_of u) (start_term m main) = sym begins.start ∙ with_this p begins.source in
     let store : s₀ ≡ store_of u = cc in

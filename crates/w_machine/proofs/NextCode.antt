@@ -1,4 +1,4 @@
--- What comes next in code that is kept in one list is told by the instruction at the place.
+-- What comes next in code that is kept in one list is seen from the instruction at the place.
 use Rattle.std.proofs.Common.{◌≡◌, ℕ, List, [], Option, Some, None, slice_get, refl, sym, ap, ◌∙◌}
 use Rattle.w_syntax.specs.Code.{Code, Done, Plain, Block, If, IfElse}
 use Rattle.w_syntax.specs.declared.instructions.BlockKind.{BlockKind}
@@ -14,7 +14,7 @@ use Rattle.w_stands.specs.Room.{operands_of, labels_of}
 use Rattle.w_plain.specs.Plainness.{switches_at, takes_at, calls_at}
 
 -- what g says of code, f says of the instruction that it begins with; a mark is to f as if none were there
-record IsTold {A : Type 0} (g : Code → A) (f : Option Instr → A) : Type 0 where
+record IsSeenBy {A : Type 0} (g : Code → A) (f : Option Instr → A) : Type 0 where
   done : g Done ≡ f None
   at_end : f (Some flat.End) ≡ f None
   at_else : f (Some flat.Else) ≡ f None
@@ -24,40 +24,40 @@ record IsTold {A : Type 0} (g : Code → A) (f : Option Instr → A) : Type 0 wh
   at_if_else : (b : BlockType) (y z : ℕ) (x w k : Code) → g (IfElse b x w k) ≡ f (Some (flat.If b (Some y) z))
 
 -- at a mark f says what it says where there is no instruction
-mark_told : {A : Type 0} {g : Code → A} {f : Option Instr → A} → IsTold g f → (i : Option Instr) → IsMark i → f i ≡ f None
-mark_told told None h = refl
-mark_told told (Some flat.End) h = told.at_end
-mark_told told (Some flat.Else) h = told.at_else
-mark_told told (Some (flat.Plain o)) h = absurd h
-mark_told told (Some (flat.Block k b z)) h = absurd h
-mark_told told (Some (flat.If b y z)) h = absurd h
+mark_seen : {A : Type 0} {g : Code → A} {f : Option Instr → A} → IsSeenBy g f → (i : Option Instr) → IsMark i → f i ≡ f None
+mark_seen seen None h = refl
+mark_seen seen (Some flat.End) h = seen.at_end
+mark_seen seen (Some flat.Else) h = seen.at_else
+mark_seen seen (Some (flat.Plain o)) h = absurd h
+mark_seen seen (Some (flat.Block k b z)) h = absurd h
+mark_seen seen (Some (flat.If b y z)) h = absurd h
 
 -- of code that is read from a place on, f at the place says what g says
-read_told : {A : Type 0} {g : Code → A} {f : Option Instr → A} {is : List Instr} {p q : ℕ} {c : Code} → IsTold g f → Reads is p c q → g c ≡ f (slice_get is p)
-read_told {is = is} {p = p} told (stop h) = told.done ∙ sym (mark_told told (slice_get is p) h)
-read_told {f = f} told (plain {o = o} {c = c} at k) = told.at_plain o c ∙ ap f (sym at)
-read_told {f = f} told (block {z = z} {k = kind} {b = b} {x = x} {c = c} at h j k) = told.at_block kind b z x c ∙ ap f (sym at)
-read_told {f = f} told (choice {z = z} {b = b} {x = x} {c = c} at h j k) = told.at_if b z x c ∙ ap f (sym at)
-read_told {f = f} told (choices {y = y} {z = z} {b = b} {x = x} {w = w} {c = c} at h j k l n) = told.at_if_else b y z x w c ∙ ap f (sym at)
+read_seen : {A : Type 0} {g : Code → A} {f : Option Instr → A} {is : List Instr} {p q : ℕ} {c : Code} → IsSeenBy g f → Reads is p c q → g c ≡ f (slice_get is p)
+read_seen {is = is} {p = p} seen (stop h) = seen.done ∙ sym (mark_seen seen (slice_get is p) h)
+read_seen {f = f} seen (plain {o = o} {c = c} at k) = seen.at_plain o c ∙ ap f (sym at)
+read_seen {f = f} seen (block {z = z} {k = kind} {b = b} {x = x} {c = c} at h j k) = seen.at_block kind b z x c ∙ ap f (sym at)
+read_seen {f = f} seen (choice {z = z} {b = b} {x = x} {c = c} at h j k) = seen.at_if b z x c ∙ ap f (sym at)
+read_seen {f = f} seen (choices {y = y} {z = z} {b = b} {x = x} {w = w} {c = c} at h j k l n) = seen.at_if_else b y z x w c ∙ ap f (sym at)
 
--- ## What is told so
+-- ## What is seen there
 
--- whether code switches stacks next is told by the instruction at its place
+-- whether code switches stacks next is seen from the instruction at its place
 pub read_switches : {is : List Instr} {p q : ℕ} {c : Code} → Reads is p c q → switches [] c ≡ switches_at (slice_get is p)
 read_switches r =
-    read_told {g = switches []} {f = switches_at}
+    read_seen {g = switches []} {f = switches_at}
     (record { done = refl; at_end = refl; at_else = refl; at_plain = λ o k. refl; at_block = λ kind b z x k. refl; at_if = λ b z x k. refl; at_if_else = λ b y z x w k. refl }) r
 
 -- and so is whether it calls a function
 pub read_calls : {is : List Instr} {p q : ℕ} {c : Code} → Reads is p c q → calls [] c ≡ calls_at (slice_get is p)
 read_calls r =
-    read_told {g = calls []} {f = calls_at}
+    read_seen {g = calls []} {f = calls_at}
     (record { done = refl; at_end = refl; at_else = refl; at_plain = λ o k. refl; at_block = λ kind b z x k. refl; at_if = λ b z x k. refl; at_if_else = λ b y z x w k. refl }) r
 
 -- and whether it may take memory
 pub read_takes : {is : List Instr} {p q : ℕ} {c : Code} → Reads is p c q → may_take_memory [] c ≡ takes_at (slice_get is p)
 read_takes r =
-    read_told {g = may_take_memory []} {f = takes_at}
+    read_seen {g = may_take_memory []} {f = takes_at}
     (record { done = refl; at_end = refl; at_else = refl; at_plain = λ o k. refl; at_block = λ kind b z x k. refl; at_if = λ b z x k. refl; at_if_else = λ b y z x w k. refl }) r
 
 -- how many operands more the instruction at a place leaves; none where there is none
@@ -69,7 +69,7 @@ operands_at None = 0
 pub read_operands : {is : List Instr} {p q : ℕ} {c : Code} → Reads is p c q → (i : Instr) → slice_get is p ≡ Some i → more_operands c ≡ operands_of i
 unfolding operands_at
 read_operands r i at =
-    read_told {g = more_operands} {f = operands_at}
+    read_seen {g = more_operands} {f = operands_at}
     (record { done = refl; at_end = refl; at_else = refl; at_plain = λ o k. refl; at_block = λ kind b z x k. refl; at_if = λ b z x k. refl; at_if_else = λ b y z x w k. refl }) r
     ∙ ap operands_at at
 
@@ -82,6 +82,6 @@ labels_at None = 0
 pub read_labels : {is : List Instr} {p q : ℕ} {c : Code} → Reads is p c q → (i : Instr) → slice_get is p ≡ Some i → more_labels c ≡ labels_of i
 unfolding labels_at
 read_labels r i at =
-    read_told {g = more_labels} {f = labels_at}
+    read_seen {g = more_labels} {f = labels_at}
     (record { done = refl; at_end = refl; at_else = refl; at_plain = λ o k. refl; at_block = λ kind b z x k. refl; at_if = λ b z x k. refl; at_if_else = λ b y z x w k. refl }) r
     ∙ ap labels_at at

@@ -17,10 +17,10 @@ use Rattle.w_stands.specs.Values.{vals, table_of, store_of}
 use Rattle.w_stands.specs.Keeps.{TablesHold, SegmentsHold, StoreHolds}
 use Rattle.w_typed.specs.Values.{ValueTyped, a_continuation, AllTyped}
 use Rattle.w_typed.specs.Stores.{Instances, no_instance, instances as more_instances, TableTyped, GlobalTyped, SegmentTyped, StoreTyped}
-use Rattle.w_typed.proofs.Starting.{starts_typed}
+use Rattle.w_typed.proofs.FirstConfigurations.{starts_typed}
 use Rattle.w_switching.specs.Sound.{is_of}
 use Rattle.w_machine.specs.Beginning.{BeginsWith}
-use Rattle.w_machine.proofs.Advancing.{program_by, is_program}
+use Rattle.w_machine.proofs.OneMoreReduction.{program_by, is_program}
 
 abbrev pub IsPlain : Value → Type 0
 IsPlain v = is_of (record { entries = []; spare = 0 }) v ≡ true

@@ -4,28 +4,28 @@ use Rattle.std.proofs.lemmas.List.{reverse-append}
 use Rattle.std.specs.Prelude.{Box}
 use Rattle.std.specs.declared.alloc.Global.{Global}
 use Rattle.w_types.specs.declared.value.Value.{Value}
-use Rattle.w_types.specs.Rows.{listed}
+use Rattle.lists.specs.Rows.{listed}
 use Rattle.w_syntax.specs.declared.module.Module.{Module}
 use Rattle.w_segment.specs.declared.segment.Segment.{Segment}
 use Rattle.w_segment.specs.Link.{top}
 use Rattle.w_segment.specs.Shape.{Shape}
 use Rattle.w_reduce.specs.Values.{Val, val}
 use Rattle.w_reduce.specs.Store.{Store, live_in, consumed_in, consumed}
-use Rattle.w_reduce.specs.Terms.{Term, Kept as TheKept}
+use Rattle.w_reduce.specs.Terms.{Term, Continuation}
 use Rattle.w_reduce.specs.Program.{Program}
 use Rattle.w_reduce.specs.Run.{RunState, Run}
 use Rattle.w_stands.specs.Values.{stack, vals}
-use Rattle.w_machine.specs.declared.outcome.Kept.{Kept}
-use Rattle.w_machine.specs.declared.outcome.Kept.TheVariants as kept
+use Rattle.w_machine.specs.declared.outcome.RunStop.{RunStop}
+use Rattle.w_machine.specs.declared.outcome.RunStop.TheVariants as run_stop
 use Rattle.w_machine.specs.Beginning.{Begins}
 use Rattle.w_machine.specs.Position.{Position, Tells}
 use Rattle.w_machine.specs.Reached.{waiting_of, Counts, IsReached, IsReachedBy}
 use Rattle.w_machine.specs.Results.{HasResults}
-use Rattle.w_machine.proofs.GoingFar.{settled_at}
-use Rattle.w_machine.specs.Kept.{is_ended}
+use Rattle.w_machine.proofs.RunsOfMany.{settled_at}
+use Rattle.w_machine.specs.RunStop.{is_ended}
 use Rattle.w_machine.specs.Parts.{Parts}
 use Rattle.w_conts.specs.Conts.{live_of}
-use Rattle.w_machine.proofs.Stopping.{counts_here, tells_so}
+use Rattle.w_machine.proofs.StoppedMachines.{counts_here, tells_so}
 
 map_end : (xs : List Value) (x : Value) → vals (xs ++ x ∷ []) ≡ vals xs ++ val x ∷ []
 map_end [] x = refl
@@ -37,13 +37,13 @@ listed_stack [] = refl
 listed_stack (v ∷ vs) = ap vals (reverse-append (v ∷ []) vs) ∙ map_end (reverse vs) v ∙ ap (λ (l : List Val). l ++ val v ∷ []) (listed_stack vs)
 
 -- they are the run's, and stay so however long it is
-pub machine_results : {m : Module} {functions : List ℕ} {x : Parts} {waiting : Option (Box Segment Global)} {n a b : ℕ} {k : Option Kept}
-    (q : Position) (s : Shape) (values : List Value) → IsReached m functions x waiting k n a b → record { program = m; taken = n; kept = k } ≡ q
-    → s ≡ (top x.chain).shape → values ≡ reverse s.operands → q.kept ≡ Some kept.Ended
+pub machine_results : {m : Module} {functions : List ℕ} {x : Parts} {waiting : Option (Box Segment Global)} {n a b : ℕ} {k : Option RunStop}
+    (q : Position) (s : Shape) (values : List Value) → IsReached m functions x waiting k n a b → record { program = m; taken = n; stop = k } ≡ q
+    → s ≡ (top x.chain).shape → values ≡ reverse s.operands → q.stop ≡ Some run_stop.Ended
     → (p : Program) (s₀ : Store) (t₀ : Term) → Begins q.program p s₀ t₀ → (l : ℕ) → q.taken ≤ l → HasResults (Run p s₀ t₀ l).outcome (vals values)
 machine_results {m = m} {functions = functions} {x = x} {waiting = waiting} {n = n} {a = a} {b = b} {k = k} q s values h view here are ended =
-    let kept_is : k ≡ Some kept.Ended = ap (λ (x : Position). x.kept) view ∙ ended in
-    let done = subst (λ (o : Option Kept). IsReached m functions x waiting o n a b) kept_is h in
+    let kept_is : k ≡ Some run_stop.Ended = ap (λ (x : Position). x.stop) view ∙ ended in
+    let done = subst (λ (o : Option RunStop). IsReached m functions x waiting o n a b) kept_is h in
     subst (λ (y : Position). (p : Program) (s₀ : Store) (t₀ : Term) → Begins y.program p s₀ t₀ → (l : ℕ) → y.taken ≤ l → HasResults (Run p s₀ t₀ l).outcome (vals values)) view
     (λ p s₀ t₀ begins l le.
     let is = (done.reached p s₀ t₀ begins).0 in
@@ -54,23 +54,23 @@ machine_results {m = m} {functions = functions} {x = x} {waiting = waiting} {n =
     ))
 
 -- a machine whose run ended has a segment
-pub ended_long : {m : Module} {functions : List ℕ} {x : Parts} {waiting : Option (Box Segment Global)} {n a b : ℕ} (k : Option Kept) → true ≡ is_ended k
+pub ended_long : {m : Module} {functions : List ℕ} {x : Parts} {waiting : Option (Box Segment Global)} {n a b : ℕ} (k : Option RunStop) → true ≡ is_ended k
     → IsReached m functions x waiting k n a b → 0 < length x.chain
-ended_long (Some kept.Ended) e h = h.usable
+ended_long (Some run_stop.Ended) e h = h.usable
 ended_long None e h = absurd (cc)
-ended_long (Some (kept.Limit name)) e h = absurd (cc)
-ended_long (Some (kept.Trapped t)) e h = absurd (cc)
-ended_long (Some kept.WriteFault) e h = absurd (cc)
-ended_long (Some kept.OutOfMemory) e h = absurd (cc)
+ended_long (Some (run_stop.Limit name)) e h = absurd (cc)
+ended_long (Some (run_stop.Trapped t)) e h = absurd (cc)
+ended_long (Some run_stop.WriteFault) e h = absurd (cc)
+ended_long (Some run_stop.OutOfMemory) e h = absurd (cc)
 
 -- ## The run's own counts
 
-counted_by : (m : Module) (waiting : Option ℕ) (x : Parts) (n a b : ℕ) (k : Option Kept) (p : Program) (r : RunState) → IsReachedBy k m waiting x n a b p r → r.taken ≡ n
+counted_by : (m : Module) (waiting : Option ℕ) (x : Parts) (n a b : ℕ) (k : Option RunStop) (p : Program) (r : RunState) → IsReachedBy k m waiting x n a b p r → r.taken ≡ n
 counted_by m waiting x n a b None p r h = ap (λ (y : RunState). y.taken) h.is
 counted_by m waiting x n a b (Some k) p r h = h.1
 
-module _ {m : Module} {functions : List ℕ} {x : Parts} {waiting : Option (Box Segment Global)} {n a b : ℕ} {k : Option Kept} (q : Position)
-    (h : IsReached m functions x waiting k n a b) (view : record { program = m; taken = n; kept = k } ≡ q) where
+module _ {m : Module} {functions : List ℕ} {x : Parts} {waiting : Option (Box Segment Global)} {n a b : ℕ} {k : Option RunStop} (q : Position)
+    (h : IsReached m functions x waiting k n a b) (view : record { program = m; taken = n; stop = k } ≡ q) where
   here : (p : Program) (s₀ : Store) (t₀ : Term) → Begins q.program p s₀ t₀ → IsReachedBy k m (waiting_of waiting) x n a b p (Run p s₀ t₀ n)
   here p s₀ t₀ begins = h.reached p s₀ t₀ (subst (λ (m : Module). Begins m p s₀ t₀) (sym (ap (λ (x : Position). x.program) view)) begins)
 
@@ -78,18 +78,18 @@ module _ {m : Module} {functions : List ℕ} {x : Parts} {waiting : Option (Box 
   pub machine_counts : (p : Program) (s₀ : Store) (t₀ : Term) → Begins q.program p s₀ t₀ → (Run p s₀ t₀ n).taken ≡ n
   machine_counts p s₀ t₀ begins = counted_by _ _ _ n a b k p (Run p s₀ t₀ n) (here p s₀ t₀ begins)
 
-  -- an outcome that is kept is told of the run
-  pub machine_told : (p : Program) (s₀ : Store) (t₀ : Term) → Begins q.program p s₀ t₀ → (j : Kept) → q.kept ≡ Some j → Tells j (Run p s₀ t₀ n).outcome
-  machine_told p s₀ t₀ begins j is =
+  -- what stopped it is what the run came to
+  pub machine_tells : (p : Program) (s₀ : Store) (t₀ : Term) → Begins q.program p s₀ t₀ → (j : RunStop) → q.stop ≡ Some j → Tells j (Run p s₀ t₀ n).outcome
+  machine_tells p s₀ t₀ begins j is =
       tells_so j x.chain (Run p s₀ t₀ n).outcome
-      (subst (λ (o : Option Kept). IsReachedBy o m (waiting_of waiting) x n a b p (Run p s₀ t₀ n)) (ap (λ (x : Position). x.kept) view ∙ is) (here p s₀ t₀ begins)).0
+      (subst (λ (o : Option RunStop). IsReachedBy o m (waiting_of waiting) x n a b p (Run p s₀ t₀ n)) (ap (λ (x : Position). x.stop) view ∙ is) (here p s₀ t₀ begins)).0
 
   -- of continuations, by whether an outcome is kept
   pub counts_kept : true ≡ is_some k → (p : Program) (s₀ : Store) (t₀ : Term) → Begins q.program p s₀ t₀ → Counts (Run p s₀ t₀ q.taken) a b
   counts_kept some p s₀ t₀ begins =
       subst (λ (y : Position). Counts (Run p s₀ t₀ y.taken) a b) view (by k some (here p s₀ t₀ begins))
     where
-      by : (o : Option Kept) → true ≡ is_some o → IsReachedBy o m (waiting_of waiting) x n a b p (Run p s₀ t₀ n) → Counts (Run p s₀ t₀ n) a b
+      by : (o : Option RunStop) → true ≡ is_some o → IsReachedBy o m (waiting_of waiting) x n a b p (Run p s₀ t₀ n) → Counts (Run p s₀ t₀ n) a b
       by None e g = absurd (cc)
       by (Some y) e g = g.2
 
@@ -97,12 +97,12 @@ module _ {m : Module} {functions : List ℕ} {x : Parts} {waiting : Option (Box 
   counts_going none p s₀ t₀ begins =
       subst (λ (y : Position). Counts (Run p s₀ t₀ y.taken) (length x.conts.entries) (live_of x.conts)) view (by k none (here p s₀ t₀ begins))
     where
-      by : (o : Option Kept) → false ≡ is_some o → IsReachedBy o m (waiting_of waiting) x n a b p (Run p s₀ t₀ n) → Counts (Run p s₀ t₀ n) (length x.conts.entries) (live_of x.conts)
+      by : (o : Option RunStop) → false ≡ is_some o → IsReachedBy o m (waiting_of waiting) x n a b p (Run p s₀ t₀ n) → Counts (Run p s₀ t₀ n) (length x.conts.entries) (live_of x.conts)
       by None e g = counts_here p s₀ t₀ g refl
       by (Some y) e g = absurd (cc)
 
 -- what isn't consumed and what is are all that was made
-all_made : (ks : List (Option TheKept)) → consumed_in ks + live_in ks ≡ length ks
+all_made : (ks : List (Option Continuation)) → consumed_in ks + live_in ks ≡ length ks
 all_made [] = refl
 all_made (None ∷ ks) = let i = all_made ks in omega (arith, i)
 all_made (Some k ∷ ks) = let i = all_made ks in omega (arith, i)

@@ -2,8 +2,8 @@
 -- anywhere, and want of memory stops nothing but what may take some.
 use Rattle.std.proofs.Common.{◌≡◌, ◌<◌, ◌+◌, ℕ, zero, suc, true, false, List, length, Option, Some, slice_get, refl, sym, ap, subst, subst₂, ◌∙◌, arith}
 use Rattle.w_types.specs.declared.types.FuncType.{FuncType}
-use Rattle.w_types.specs.Rows.{Row, ε, row_of, size}
-use Rattle.w_types.proofs.Rows.{size-row_of}
+use Rattle.lists.specs.Rows.{Row, ε, row_of, size}
+use Rattle.lists.proofs.Rows.{size-row_of}
 use Rattle.w_syntax.specs.Code.{Done}
 use Rattle.w_syntax.specs.declared.module.Module.{Module}
 use Rattle.w_rules.specs.Matching.{known}
@@ -17,17 +17,17 @@ use Rattle.w_reduce.specs.Reduced.{Reduced}
 use Rattle.w_reduce.specs.Reduce.{next}
 use Rattle.w_reduce.specs.Room.{FrameHolds, Holding, HoldsAfter, function_in, more_operands, more_labels, invokes_next, may_take_memory}
 use Rattle.w_reduce.specs.Store.{Store}
-use Rattle.w_reduce.specs.Terms.{Rest, rest_of, Context, Term, Kept}
+use Rattle.w_reduce.specs.Terms.{Rest, rest_of, Context, Term, Continuation}
 use Rattle.w_reduce.specs.Values.{Val}
 use Rattle.w_stands.specs.Code.{instr_of}
 use Rattle.w_stands.specs.Room.{NextFits, operands_of, labels_of}
-use Rattle.w_stands.specs.Stands.{In, body, left, fresh, values}
-use Rattle.w_stands.proofs.Fitting.{measured, stack_size}
-use Rattle.w_stands.proofs.Reading.{here}
+use Rattle.w_stands.specs.Stands.{StackIs, body, left, fresh, values}
+use Rattle.w_stands.proofs.RoomOfFrames.{measured, stack_size}
+use Rattle.w_stands.proofs.AtInstructions.{here}
 use Rattle.w_plain.specs.Plainness.{takes_at, MayTakeAt, MayTake}
 use Rattle.w_switching.specs.Sound.{HasRoomFor}
 use Rattle.w_switching.specs.Standing.{Chained, only, around}
-use Rattle.w_switching.proofs.Exiting.{exit_room}
+use Rattle.w_switching.proofs.LeftHandles.{exit_room}
 use Rattle.w_switching.proofs.Rooms.{links_top}
 use Rattle.w_typed.specs.Values.{Arrows}
 use Rattle.w_typed.specs.Stores.{ContTyped, kept, Instances, no_instance, instances}
@@ -42,8 +42,8 @@ use Rattle.w_machine.proofs.Tops.{top_of}
 
 -- ## What comes next
 
--- whether what comes next may take memory is told by where the stack stands
-pub may_take_in : {m : Module} {outer : Context} {behind : Rest} {s : Shape} {e : Context} {r : Rest} → In m outer behind s e r → MayTake m s → may_take_memory r.ahead r.code ≡ true
+-- whether what comes next may take memory shows in where the stack stands
+pub may_take_in : {m : Module} {outer : Context} {behind : Rest} {s : Shape} {e : Context} {r : Rest} → StackIs m outer behind s e r → MayTake m s → may_take_memory r.ahead r.code ≡ true
 may_take_in {m = m} {s = s} (body h k w) f = let takes : takes_at (instr_of m s.func s.place) ≡ true = subst (λ y. MayTakeAt y (instr_of m s.func s.place)) h f in read_takes k ∙ takes
 may_take_in {m = m} {s = s} (left h k w) f = absurd (subst (λ y. MayTakeAt y (instr_of m s.func s.place)) h f)
 may_take_in (fresh h k) f = refl
@@ -56,7 +56,7 @@ no_more {m} {f} {e} is h = subst (λ (x : ℕ). FrameHolds m f e x 0) is h
 
 -- one continuation of a typed store
 module _ {m : Module} {K : Arrows} where
-  kept_holds : {k : Kept} {t : FuncType} → ContTyped m K (Some k) t → (f : ℕ) → function_in k.term.around ≡ Some f → invokes_next k.term.rest.ahead ≡ false
+  kept_holds : {k : Continuation} {t : FuncType} → ContTyped m K (Some k) t → (f : ℕ) → function_in k.term.around ≡ Some f → invokes_next k.term.rest.ahead ≡ false
       → FrameHolds m f k.term.around (size k.term.operands + k.takes) 0
   kept_holds {k = k} {t = t} (kept h) f is none =
       let ps = known (row_of t.params) in
@@ -66,10 +66,10 @@ module _ {m : Module} {K : Arrows} where
       let many : size k.term.operands + size ps ≡ size k.term.operands + k.takes = omega (arith, known_size, row_size, takes) in
       no_more many (frames_hold m K ps (known (row_of t.results)) k.term h.term f is none)
 
-  stored_holds : {ks : List (Option Kept)} {ts : List FuncType} → Instances (ContTyped m K) ks ts → (a : ℕ) (k : Kept) → slice_get ks a ≡ Some (Some k)
+  stored_holds : {ks : List (Option Continuation)} {ts : List FuncType} → Instances (ContTyped m K) ks ts → (a : ℕ) (k : Continuation) → slice_get ks a ≡ Some (Some k)
       → (f : ℕ) → function_in k.term.around ≡ Some f → invokes_next k.term.rest.ahead ≡ false → FrameHolds m f k.term.around (size k.term.operands + k.takes) 0
   stored_holds no_instance a k at f is none = absurd (cc)
-  stored_holds (instances {x = o} {y = t} g h) zero k at f is none = kept_holds (subst (λ (y : Option Kept). ContTyped m K y t) (let e : o ≡ Some k = cc in e) g) f is none
+  stored_holds (instances {x = o} {y = t} g h) zero k at f is none = kept_holds (subst (λ (y : Option Continuation). ContTyped m K y t) (let e : o ≡ Some k = cc in e) g) f is none
   stored_holds (instances g h) (suc a) k at f is none = stored_holds h a k at f is none
 
   -- a typed configuration
@@ -86,7 +86,7 @@ holds_safe traps = λ o v w is. absurd (cc)
 holds_safe is_limited = λ o v w is. absurd (cc)
 holds_safe (ends h) = λ o v w is. absurd (cc)
 
-module _ {m : Module} {waiting : Option ℕ} {x : Parts} {p : Program} {ks : List (Option Kept)} {t : Term} where
+module _ {m : Module} {waiting : Option ℕ} {x : Parts} {p : Program} {ks : List (Option Continuation)} {t : Term} where
   -- after the next reduction no frame holds more
   pub holds_next : Valid m → Stands m waiting x p ks t → HoldsAfter m (next p (whole x.store ks) t.around t.operands t.rest.ahead t.rest.code)
   holds_next valid h =
@@ -111,7 +111,7 @@ module _ {m : Module} {waiting : Option ℕ} {x : Parts} {p : Program} {ks : Lis
 
 -- ## The exit of a handle
 
-values_rest : {m : Module} {outer : Context} {behind : Rest} {s : Shape} {e : Context} {r : Rest} → In m outer behind s e r → s.stage ≡ Values → r ≡ behind
+values_rest : {m : Module} {outer : Context} {behind : Rest} {s : Shape} {e : Context} {r : Rest} → StackIs m outer behind s e r → s.stage ≡ Values → r ≡ behind
 values_rest (body h k w) b = absurd (cc)
 values_rest (left h k w) b = absurd (cc)
 values_rest (fresh h k) b = absurd (cc)

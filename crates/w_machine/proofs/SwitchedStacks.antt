@@ -23,29 +23,29 @@ use Rattle.w_reduce.specs.Program.{Program}
 use Rattle.w_reduce.specs.Reduced.{Went}
 use Rattle.w_reduce.specs.Reduce.{next, reduce, limited, unless_passed}
 use Rattle.w_reduce.specs.Room.{HoldsAfter, takes_memory, may_take_memory}
-use Rattle.w_reduce.specs.Terms.{Rest, rest_of, Context, Term, Kept as TheKept}
+use Rattle.w_reduce.specs.Terms.{Rest, rest_of, Context, Term, Continuation}
 use Rattle.w_stands.specs.declared.did.Did.{Did}
 use Rattle.w_stands.specs.declared.did.Did.TheVariants as did
 use Rattle.w_stands.specs.Code.{instr_of}
 use Rattle.w_stands.specs.Keeps.{TablesHold, SegmentsHold, StoreHolds}
-use Rattle.w_stands.specs.Stands.{In}
-use Rattle.w_stands.proofs.Reading.{here, shows_plain}
+use Rattle.w_stands.specs.Stands.{StackIs}
+use Rattle.w_stands.proofs.AtInstructions.{here, shows_plain}
 use Rattle.w_switching.specs.declared.stored.Stored.{Stored}
 use Rattle.w_switching.specs.Moved.{SameLinks}
 use Rattle.w_switching.specs.Reductions.{switched, StandsAt, SwitchesAt, Switches}
 use Rattle.w_switching.specs.Sound.{is_of, Sound, Roomy, most_segments}
-use Rattle.w_switching.proofs.Joining.{kept_long}
+use Rattle.w_switching.proofs.SegmentsInOthers.{kept_long}
 use Rattle.w_switching.proofs.SameButRoom.{same_links}
-use Rattle.w_switching.proofs.Sounding.{more_of}
-use Rattle.w_machine.specs.declared.outcome.Kept.{Kept}
-use Rattle.w_machine.specs.declared.outcome.Kept.TheVariants as kept
+use Rattle.w_switching.proofs.References.{more_of}
+use Rattle.w_machine.specs.declared.outcome.RunStop.{RunStop}
+use Rattle.w_machine.specs.declared.outcome.RunStop.TheVariants as run_stop
 use Rattle.w_machine.specs.Parts.{Parts, parts, whole}
 use Rattle.w_machine.specs.Standing.{behind_of, Stands, StandsSomewhere}
-use Rattle.w_machine.specs.Reducing.{Reduces, TakesEnough, told_with}
-use Rattle.w_machine.proofs.Counting.{passed_is}
+use Rattle.w_machine.specs.Reducing.{PartsReduce, TakesEnough, switching_stop_by}
+use Rattle.w_machine.proofs.ConfigurationCounts.{passed_is}
 use Rattle.w_machine.proofs.MadeConts.{MakesOne, made_one, makes_one}
 use Rattle.w_machine.proofs.Rooms.{holds_next}
-use Rattle.w_machine.proofs.Standing.{rule_applies, few_segments, head}
+use Rattle.w_machine.proofs.PartsOfRuns.{rule_applies, few_segments, head}
 use Rattle.w_machine.proofs.TakingEnough.{takes_enough}
 
 -- ## The values of a store
@@ -78,13 +78,13 @@ record Comes (o : SwitchingOp) (r : Rest) : Type 0 where
   code : Code
   is : r ≡ rest_of (Plain (op.Switching o) code)
 
-comes_in : {m : Module} {outer : Context} {behind : Rest} {s : Shape} {e : Context} {r : Rest} (o : SwitchingOp) → In m outer behind s e r → s.stage ≡ Body
+comes_in : {m : Module} {outer : Context} {behind : Rest} {s : Shape} {e : Context} {r : Rest} (o : SwitchingOp) → StackIs m outer behind s e r → s.stage ≡ Body
     → instr_of m s.func s.place ≡ Some (flat.Plain (op.Switching o)) → Comes o r
 comes_in o k b h = let there = here k b in let at = shows_plain (op.Switching o) there.reads h in record { code = at.following; is = there.rest ∙ ap rest_of at.is }
 
 module _ {m : Module} {x : Parts} (valid : Valid m) (o : SwitchingOp) (b : (top x.chain).shape.stage ≡ Body)
     (at : instr_of m (top x.chain).shape.func (top x.chain).shape.place ≡ Some (flat.Plain (op.Switching o))) where
-  module _ {waiting : Option ℕ} {p : Program} {ks : List (Option TheKept)} {t : Term} (h : Stands m waiting x p ks t) where
+  module _ {waiting : Option ℕ} {p : Program} {ks : List (Option Continuation)} {t : Term} (h : Stands m waiting x p ks t) where
     comes : Comes o t.rest
     comes = comes_in o (head h).stands b at
 
@@ -117,7 +117,7 @@ module _ {m : Module} {x : Parts} (valid : Valid m) (o : SwitchingOp) (b : (top 
   module _ (chain' : List Link) (conts' : Conts Stored) (sound : Sound chain' conts') (room : Roomy m chain' conts') (keeps : KeepsReferences x.conts conts') where
     -- it went on
     went_by : (l : Option RunLimit) → l ≡ first_passed (nat_le (frames_in_all chain') most_frames) (nat_le (length chain' - 1) most_handles) (nat_le (live_of conts') most_conts)
-        → Switches did.Went o m x.chain x.conts chain' conts' → (held : Option (List ℕ)) → Reduces (told_with (Ok did.Went) l) m x (parts x.store chain' conts') held held
+        → Switches did.Went o m x.chain x.conts chain' conts' → (held : Option (List ℕ)) → PartsReduce (switching_stop_by (Ok did.Went) l) m x (parts x.store chain' conts') held held
     went_by None none goes held waiting p ks t h =
         let to = goes (behind_of waiting) p (whole x.store ks) t (comes h).code (at_it h) in
         let s' = whole x.store to.conts_after in
@@ -143,11 +143,11 @@ module _ {m : Module} {x : Parts} (valid : Valid m) (o : SwitchingOp) (b : (top 
         let past : passed s' to.t.around ≡ Some name = passed_is to.stand ∙ sym some in
         (reduce_is h ∙ ap limited to.is ∙ ap (λ (l : Option RunLimit). unless_passed l (Went [] s' to.t)) past, refl)
 
-    -- what is told of it is what the rules do
+    -- what it comes to is what the rules do
     switched_by : (d : Result Did AllocError) (l : Option RunLimit)
         → l ≡ first_passed (nat_le (frames_in_all chain') most_frames) (nat_le (length chain' - 1) most_handles) (nat_le (live_of conts') most_conts)
         → IfOk d (λ d. Switches d o m x.chain x.conts chain' conts') → OnErr d (chain' ≡ x.chain) → OnErr d (conts' ≡ x.conts)
-        → OnErr d (takes_memory (op.Switching o) ≡ true) → (held : Option (List ℕ)) → Reduces (told_with d l) m x (parts x.store chain' conts') held held
+        → OnErr d (takes_memory (op.Switching o) ≡ true) → (held : Option (List ℕ)) → PartsReduce (switching_stop_by d l) m x (parts x.store chain' conts') held held
     switched_by (Ok did.Went) l is goes links same takes held = went_by l is goes held
     switched_by (Ok (did.Trapped y)) l is goes links same takes held = λ waiting p ks t h.
         (reduce_is h ∙ ap limited (goes.2 (behind_of waiting) p (whole x.store ks) t (comes h).code (at_it h)), refl)
@@ -157,20 +157,20 @@ module _ {m : Module} {x : Parts} (valid : Valid m) (o : SwitchingOp) (b : (top 
     )
 
     -- the same, with the call's own words
-    pub switched_told : (d : Result Did AllocError) (l : Option RunLimit) (k : Option Kept)
-        → l ≡ first_passed (nat_le (frames_in_all chain') most_frames) (nat_le (length chain' - 1) most_handles) (nat_le (live_of conts') most_conts) → k ≡ told_with d l
+    pub switched_stop : (d : Result Did AllocError) (l : Option RunLimit) (k : Option RunStop)
+        → l ≡ first_passed (nat_le (frames_in_all chain') most_frames) (nat_le (length chain' - 1) most_handles) (nat_le (live_of conts') most_conts) → k ≡ switching_stop_by d l
         → IfOk d (λ d. Switches d o m x.chain x.conts chain' conts') → OnErr d (chain' ≡ x.chain) → OnErr d (conts' ≡ x.conts)
-        → OnErr d (takes_memory (op.Switching o) ≡ true) → (held : Option (List ℕ)) → Reduces k m x (parts x.store chain' conts') held held
-    switched_told d l k is told goes links same takes held =
-        subst (λ (y : Option Kept). Reduces y m x (parts x.store chain' conts') held held) (sym told) (switched_by d l is goes links same takes held)
+        → OnErr d (takes_memory (op.Switching o) ≡ true) → (held : Option (List ℕ)) → PartsReduce k m x (parts x.store chain' conts') held held
+    switched_stop d l k is result_is goes links same takes held =
+        subst (λ (y : Option RunStop). PartsReduce y m x (parts x.store chain' conts') held held) (sym result_is) (switched_by d l is goes links same takes held)
 
 -- there are few segments wherever the parts stand
 pub few_there : {m : Module} {x : Parts} → StandsSomewhere m x → length x.chain ≤ most_segments
 few_there h = few_segments h.stands
 
--- no fault of the sink's is told
-pub no_fault_told : (d : Result Did AllocError) (l : Option RunLimit) → told_with d l ≢ Some kept.WriteFault
-no_fault_told (Ok did.Went) None h = absurd (cc)
-no_fault_told (Ok did.Went) (Some name) h = absurd (cc)
-no_fault_told (Ok (did.Trapped t)) l h = absurd (cc)
-no_fault_told (Err e) l h = absurd (cc)
+-- no fault of the sink's stops it
+pub never_a_fault : (d : Result Did AllocError) (l : Option RunLimit) → switching_stop_by d l ≢ Some run_stop.WriteFault
+never_a_fault (Ok did.Went) None h = absurd (cc)
+never_a_fault (Ok did.Went) (Some name) h = absurd (cc)
+never_a_fault (Ok (did.Trapped t)) l h = absurd (cc)
+never_a_fault (Err e) l h = absurd (cc)

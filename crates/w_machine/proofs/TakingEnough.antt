@@ -6,8 +6,8 @@ use Rattle.w_types.specs.declared.types.ValType.{ValType}
 use Rattle.w_types.specs.declared.value.ContRef.{ContRef}
 use Rattle.w_types.specs.declared.value.Value.{Value}
 use Rattle.w_types.specs.declared.value.Value.TheVariants as value
-use Rattle.w_types.specs.Rows.{Row, ε, ◌▹◌, size, row_of}
-use Rattle.w_types.proofs.Rows.{size-row_of}
+use Rattle.lists.specs.Rows.{Row, ε, ◌▹◌, size, row_of}
+use Rattle.lists.proofs.Rows.{size-row_of}
 use Rattle.w_syntax.specs.Code.{Code, Plain}
 use Rattle.w_syntax.specs.declared.instructions.Op.TheVariants as op
 use Rattle.w_syntax.specs.declared.instructions.SwitchingOp.{SwitchingOp}
@@ -24,7 +24,7 @@ use Rattle.w_rules.specs.Valid.{Valid}
 use Rattle.w_segment.specs.Link.{top}
 use Rattle.w_conts.specs.Conts.{kept_at}
 use Rattle.w_reduce.specs.Store.{Store}
-use Rattle.w_reduce.specs.Terms.{Rest, rest_of, Term, Kept}
+use Rattle.w_reduce.specs.Terms.{Rest, rest_of, Term, Continuation}
 use Rattle.w_reduce.specs.Values.{Val, Cont}
 use Rattle.w_stands.specs.Values.{stack}
 use Rattle.w_switching.specs.declared.stored.Stored.{Stored}
@@ -35,15 +35,15 @@ use Rattle.w_typed.specs.Configurations.{Typed}
 use Rattle.w_typed.proofs.Indirect.{one_type}
 use Rattle.w_typed.proofs.Places.{instance_at}
 use Rattle.w_typed.proofs.References.{if_valid_has, if_valid_holds}
-use Rattle.w_typed.proofs.Subsumed.{values_sub}
+use Rattle.w_typed.proofs.Subsumption.{values_sub}
 use Rattle.w_typed.proofs.ContTypes.{SameCont, same_cont}
 use Rattle.w_reduce.specs.Program.{Program}
-use Rattle.w_switching.proofs.Consuming.{KeptThere, kept_there}
-use Rattle.w_switching.proofs.Sounding.{reference_of}
+use Rattle.w_switching.proofs.ReferenceFirst.{KeptThere, kept_there}
+use Rattle.w_switching.proofs.References.{reference_of}
 use Rattle.w_machine.specs.Parts.{Parts, whole}
 use Rattle.w_machine.specs.Standing.{Stands}
 use Rattle.w_machine.specs.Reducing.{TakesEnough}
-use Rattle.w_machine.proofs.Standing.{head}
+use Rattle.w_machine.proofs.PartsOfRuns.{head}
 
 -- ## The instruction that comes next
 
@@ -71,7 +71,7 @@ typed_next {m = m} o c h is =
 le_of : (n k : ℕ) → nat_le n k ≡ true → n ≤ k
 le_of n k h = grind (arith, h)
 
-kept_takes : {m : Module} {K : Arrows} {k : Kept} {f : FuncType} → ContTyped m K (Some k) f → k.takes ≡ length f.params
+kept_takes : {m : Module} {K : Arrows} {k : Continuation} {f : FuncType} → ContTyped m K (Some k) f → k.takes ≡ length f.params
 kept_takes (kept h) = h.takes
 
 -- the topmost operand refers to a continuation of this type
@@ -106,12 +106,12 @@ switched_typed x beneath other h v = fixed_typed x beneath (row_of other.params)
 
 module _ {m : Module} (valid : Valid m) {K : Arrows} {s : Store} (u : StoreTyped m K s) where
   -- it takes as many values as that has parameters
-  takes_params : (a x : ℕ) (type : FuncType) (k : Kept) → cont_of (context_of m) x ≡ Some type → ContinuationTyped m K a (Index x) → slice_get s.conts a ≡ Some (Some k)
+  takes_params : (a x : ℕ) (type : FuncType) (k : Continuation) → cont_of (context_of m) x ≡ Some type → ContinuationTyped m K a (Index x) → slice_get s.conts a ≡ Some (Some k)
       → k.takes ≡ length type.params
   takes_params a x type k is c there =
       let here = instance_at a c.arrow u.conts c.is in
       let item : here.item ≡ Some k = let q = here.is in cc in
-      let takes = kept_takes (subst (λ (o : Option Kept). ContTyped m K o c.arrow) item here.holds) in
+      let takes = kept_takes (subst (λ (o : Option Continuation). ContTyped m K o c.arrow) item here.holds) in
       let same : SameCont m c.index type = same_cont m valid c.index x (one_type m c.heap) type is in
       let one : c.type ≡ same.type = let p = c.has_type in let q = same.has_type in cc in
       let first = one_length c.matches.params in
@@ -119,7 +119,7 @@ module _ {m : Module} (valid : Valid m) {K : Arrows} {s : Store} (u : StoreTyped
       takes ∙ sym first ∙ ap (λ (f : FuncType). length f.params) one ∙ sym second
 
   -- what cont.bind takes has as many parameters as what it gives, or more
-  bind_takes : (x y a : ℕ) (k : Kept) (t : FuncType) {vs : Row Val} → TypedNext m K (vs ▹ Cont a) (switching.ContBind x y) → slice_get s.conts a ≡ Some (Some k)
+  bind_takes : (x y a : ℕ) (k : Continuation) (t : FuncType) {vs : Row Val} → TypedNext m K (vs ▹ Cont a) (switching.ContBind x y) → slice_get s.conts a ≡ Some (Some k)
       → cont_of (context_of m) y ≡ Some t → length t.params ≤ k.takes
   bind_takes x y a k t n there is =
       let c : BindTyped (in_scope m n.scope) x y = n.condition in
@@ -131,7 +131,7 @@ module _ {m : Module} (valid : Valid m) {K : Arrows} {s : Store} (u : StoreTyped
       omega (arith, takes, less, long)
 
   -- what switch takes has the parameter that the reference goes to
-  switch_takes : (x e a : ℕ) (k : Kept) {vs : Row Val} → TypedNext m K (vs ▹ Cont a) (switching.Switch x e) → slice_get s.conts a ≡ Some (Some k) → 1 ≤ k.takes
+  switch_takes : (x e a : ℕ) (k : Continuation) {vs : Row Val} → TypedNext m K (vs ▹ Cont a) (switching.Switch x e) → slice_get s.conts a ≡ Some (Some k) → 1 ≤ k.takes
   switch_takes x e a k n there =
       let c : SwitchTyped (in_scope m n.scope) x e = n.condition in
       let top = switched_typed x c.beneath c.other (rw (c.has_one, c.params, c.has_other) at n.has_type) n.operands in
@@ -142,7 +142,7 @@ module _ {m : Module} (valid : Valid m) {K : Arrows} {s : Store} (u : StoreTyped
 
 -- ## Operands of a segment
 
-module _ {m : Module} (valid : Valid m) {waiting : Option ℕ} {x : Parts} {p : Program} {ks : List (Option Kept)} {t : Term} (h : Stands m waiting x p ks t) where
+module _ {m : Module} (valid : Valid m) {waiting : Option ℕ} {x : Parts} {p : Program} {ks : List (Option Continuation)} {t : Term} (h : Stands m waiting x p ks t) where
   -- the continuation on top, as the configuration has it
   there : (r : ContRef) (vs : List Value) (b : Stored) → (top x.chain).shape.operands ≡ value.Cont r ∷ vs → kept_at x.conts r.serial ≡ Some b → KeptThere m (whole x.store ks) r.serial b
   there r vs b on is = kept_there h.stand r (reference_of x.chain x.conts r vs h.sound on) b is

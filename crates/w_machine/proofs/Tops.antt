@@ -1,13 +1,13 @@
 -- The innermost segment of a chain, with what stands outside it.
 use Rattle.std.proofs.Common.{◌≡◌, ◌∷◌, List, refl}
-use Rattle.w_types.specs.Rows.{Row}
+use Rattle.lists.specs.Rows.{Row}
 use Rattle.w_syntax.specs.Code.{Done}
 use Rattle.w_syntax.specs.declared.module.Module.{Module}
 use Rattle.w_segment.specs.Shape.{Shape}
 use Rattle.w_segment.specs.Link.{Link, top, with_top}
 use Rattle.w_reduce.specs.Values.{Val}
 use Rattle.w_reduce.specs.Terms.{Rest, rest_of, Handle, Context}
-use Rattle.w_stands.specs.Stands.{In}
+use Rattle.w_stands.specs.Stands.{StackIs}
 use Rattle.w_stands.specs.Steps.{Outside}
 use Rattle.w_stands.specs.Values.{stack}
 use Rattle.w_switching.specs.Standing.{Chained, only, around}
@@ -15,9 +15,9 @@ use Rattle.w_switching.specs.Standing.{Chained, only, around}
 -- It stands inside this, its operands are those at the hole, and the chain stands wherever another shape of it stands inside the same.
 pub record Top (m : Module) (outer : Context) (behind : Rest) (chain : List Link) (e : Context) (vs : Row Val) (r : Rest) : Type 0 where
   pub o : Outside
-  pub stands : In m o.outer o.behind (top chain).shape e r
+  pub stands : StackIs m o.outer o.behind (top chain).shape e r
   pub operands : vs ≡ stack (top chain).shape.operands
-  pub back : (s : Shape) (e' : Context) (r' : Rest) → In m o.outer o.behind s e' r' → Chained m outer behind (with_top s chain) e' (stack s.operands) r'
+  pub back : (s : Shape) (e' : Context) (r' : Rest) → StackIs m o.outer o.behind s e' r' → Chained m outer behind (with_top s chain) e' (stack s.operands) r'
 
 -- of each chain
 pub top_of : {m : Module} {outer : Context} {behind : Rest} {chain : List Link} {e : Context} {vs : Row Val} {r : Rest} → Chained m outer behind chain e vs r → Top m outer behind chain e vs r

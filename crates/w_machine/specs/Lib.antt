@@ -1,10 +1,10 @@
 pub mod Parts
 pub mod Standing
 pub mod Reducing
-pub mod Kept
+pub mod RunStop
 pub mod Beginning
 pub mod Position
 pub mod Reached
 pub mod Results
-pub mod Hastening
-pub mod HasteningOn
+pub mod AttemptedStep
+pub mod AttemptedStepOn

@@ -1,8 +1,8 @@
--- The machine as contracts see it: the module that it runs, how many reductions it took, and the outcome that it keeps. It
+-- The machine as contracts see it: the module that it runs, how many reductions it took, and what stopped it, if anything did. It
 -- stands for the run of the module after so many reductions.
 use Rattle.std.specs.Prelude.{◌≡◌, ◌+◌, ◌^◌, ◌<◌, ◌≤◌, ℕ, List, ◌++◌, Bool, true, false, ⊤, Option, Some, None, refl}
 use Rattle.std.specs.Coded.{Coded, code_by, coded×, coded_ℕ, coded_option}
-use Rattle.w_types.specs.Rows.{Row}
+use Rattle.lists.specs.Rows.{Row}
 use Rattle.w_outside.specs.Outside.{Grew, GrewByFront}
 use Rattle.w_syntax.specs.declared.module.Module.{Module}
 use Rattle.w_syntax.specs.contracts.module.Module as module_contract
@@ -12,20 +12,20 @@ use Rattle.w_reduce.specs.Terms.{Term}
 use Rattle.w_reduce.specs.Program.{Program}
 use Rattle.w_reduce.specs.Room.{may_take_memory}
 use Rattle.w_reduce.specs.Run.{Outcome, Running, Values, Traps, Limit, RunState, Run}
-use Rattle.w_machine.specs.declared.outcome.Kept.{Kept}
-use Rattle.w_machine.specs.declared.outcome.Kept.TheVariants as kept
-use Rattle.w_machine.specs.contracts.outcome.Kept as kept_contract
+use Rattle.w_machine.specs.declared.outcome.RunStop.{RunStop}
+use Rattle.w_machine.specs.declared.outcome.RunStop.TheVariants as run_stop
+use Rattle.w_machine.specs.contracts.outcome.RunStop as run_stop_contract
 use Rattle.w_machine.specs.Beginning.{Begins}
 
 pub record Position : Type 0 where
   pub program : Module
   pub taken : ℕ
-  pub kept : Option Kept
+  pub stop : Option RunStop
 
 -- a position is stored as the tuple of its fields
 abbrev pub position_code : Coded Position
-position_code = code_by (Module × (ℕ × Option Kept)) (coded× module_contract.the_row.coded (coded× coded_ℕ (coded_option kept_contract.the_row.coded)))
-    (λ p. (p.program, (p.taken, p.kept))) (λ q. record { program = q.0; taken = q.1.0; kept = q.1.1 }) (λ _. refl)
+position_code = code_by (Module × (ℕ × Option RunStop)) (coded× module_contract.the_row.coded (coded× coded_ℕ (coded_option run_stop_contract.the_row.coded)))
+    (λ p. (p.program, (p.taken, p.stop))) (λ q. record { program = q.0; taken = q.1.0; stop = q.1.1 }) (λ _. refl)
 
 -- the most reductions that a machine takes
 abbrev pub most_reductions : ℕ
@@ -33,30 +33,30 @@ most_reductions = 2 ^ 40
 
 -- ## What stops a machine
 
--- what is told of a run that stopped so
-abbrev pub Tells : Kept → Outcome → Type 0
-Tells kept.Ended o = (vs : Row Val) × (o ≡ Values vs)
-Tells (kept.Limit name) o = o ≡ Limit name
-Tells (kept.Trapped t) o = o ≡ Traps t
-Tells kept.WriteFault o = ⊤
-Tells kept.OutOfMemory o = ⊤
+-- what the run came to, where a machine stopped so
+abbrev pub Tells : RunStop → Outcome → Type 0
+Tells run_stop.Ended o = (vs : Row Val) × (o ≡ Values vs)
+Tells (run_stop.Limit name) o = o ≡ Limit name
+Tells (run_stop.Trapped t) o = o ≡ Traps t
+Tells run_stop.WriteFault o = ⊤
+Tells run_stop.OutOfMemory o = ⊤
 
 -- a reduction that passes a limit or traps counts
-abbrev pub counted : Kept → ℕ
-counted (kept.Limit name) = 1
-counted (kept.Trapped t) = 1
+abbrev pub counted : RunStop → ℕ
+counted (run_stop.Limit name) = 1
+counted (run_stop.Trapped t) = 1
 counted k = 0
 
 -- the sink failed, or memory ran out
-abbrev pub is_fault : Kept → Bool
-is_fault kept.WriteFault = true
-is_fault kept.OutOfMemory = true
+abbrev pub is_fault : RunStop → Bool
+is_fault run_stop.WriteFault = true
+is_fault run_stop.OutOfMemory = true
 is_fault k = false
 
 -- ## What was printed
 
 -- from one state of a run to a later one: the sink grew by it
-pub record Printed (r r' : RunState) (before now : Option (List ℕ)) : Type 0 where
+pub record PrintedBetween (r r' : RunState) (before now : Option (List ℕ)) : Type 0 where
   pub text : List ℕ
   pub is : r'.output ≡ r.output ++ text
   pub grew : Grew before now text
@@ -69,75 +69,75 @@ pub record PrintedAtMost (r r' : RunState) (before now : Option (List ℕ)) : Ty
 
 abbrev pub PrintedIf : Bool → RunState → RunState → Option (List ℕ) → Option (List ℕ) → Type 0
 PrintedIf true r r' before now = PrintedAtMost r r' before now
-PrintedIf false r r' before now = Printed r r' before now
+PrintedIf false r r' before now = PrintedBetween r r' before now
 
-abbrev pub PrintedBy : Kept → RunState → RunState → Option (List ℕ) → Option (List ℕ) → Type 0
+abbrev pub PrintedBy : RunStop → RunState → RunState → Option (List ℕ) → Option (List ℕ) → Type 0
 PrintedBy k r r' before now = PrintedIf (is_fault k) r r' before now
 
--- ## One step, where no outcome is kept
+-- ## One step, where nothing stopped it
 
-abbrev pub after_step : Position → Option Kept → Position
+abbrev pub after_step : Position → Option RunStop → Position
 after_step old None = record old { taken = old.taken + 1 }
-after_step old (Some k) = record old { taken = old.taken + counted k; kept = Some k }
+after_step old (Some k) = record old { taken = old.taken + counted k; stop = Some k }
 
 -- want of memory stops nothing but a reduction that may take some
-abbrev pub MayStop : Kept → Term → Type 0
-MayStop kept.OutOfMemory t = may_take_memory t.rest.ahead t.rest.code ≡ true
-MayStop k t = ⊤
+abbrev pub MayStopAt : RunStop → Term → Type 0
+MayStopAt run_stop.OutOfMemory t = may_take_memory t.rest.ahead t.rest.code ≡ true
+MayStopAt k t = ⊤
 
--- of a run: it was running, or what is told of it; and what was printed
-abbrev pub StepsOn : (ℕ → RunState) → ℕ → Option Kept → Option (List ℕ) → Option (List ℕ) → Type 0
-StepsOn run n None before now = ((run n).outcome ≡ Running) × Printed (run n) (run (n + 1)) before now
-StepsOn run n (Some k) before now = Tells k (run (n + counted k)).outcome × PrintedBy k (run n) (run (n + 1)) before now × MayStop k (run n).term
+-- of a run: it was running, or what it came to; and what was printed
+abbrev pub StepsOn : (ℕ → RunState) → ℕ → Option RunStop → Option (List ℕ) → Option (List ℕ) → Type 0
+StepsOn run n None before now = ((run n).outcome ≡ Running) × PrintedBetween (run n) (run (n + 1)) before now
+StepsOn run n (Some k) before now = Tells k (run (n + counted k)).outcome × PrintedBy k (run n) (run (n + 1)) before now × MayStopAt k (run n).term
 
--- an outcome that is kept is told again, and nothing changes
-abbrev pub StepsFrom : Option Kept → Position → Option Kept → Position → Option (List ℕ) → Option (List ℕ) → Type 0
+-- one that is stopped answers the same again, and nothing changes
+abbrev pub StepsFrom : Option RunStop → Position → Option RunStop → Position → Option (List ℕ) → Option (List ℕ) → Type 0
 StepsFrom (Some k) old result new before now = (result ≡ Some k) × (new ≡ old) × (now ≡ before)
 StepsFrom None old result new before now =
     (new ≡ after_step old result) × ((p : Program) (s : Store) (t : Term) → Begins old.program p s t → StepsOn (Run p s t) old.taken result before now)
 
-abbrev pub Steps : Position → Option Kept → Position → Option (List ℕ) → Option (List ℕ) → Type 0
-Steps old result new before now = StepsFrom old.kept old result new before now
+abbrev pub Steps : Position → Option RunStop → Position → Option (List ℕ) → Option (List ℕ) → Type 0
+Steps old result new before now = StepsFrom old.stop old result new before now
 
--- ## What is told with no reduction taken, where no outcome is kept
+-- ## Whether it has ended, with no reduction taken, where nothing stopped it
 
-abbrev pub after_telling : Position → Option Kept → Position
+abbrev pub after_telling : Position → Option RunStop → Position
 after_telling old None = old
-after_telling old (Some k) = record old { kept = Some k }
+after_telling old (Some k) = record old { stop = Some k }
 
-abbrev pub TellsOn : RunState → Option Kept → Type 0
+abbrev pub TellsOn : RunState → Option RunStop → Type 0
 TellsOn r None = r.outcome ≡ Running
 TellsOn r (Some k) = Tells k r.outcome
 
-abbrev pub IsNoFault : Option Kept → Type 0
+abbrev pub IsNoFault : Option RunStop → Type 0
 IsNoFault None = ⊤
 IsNoFault (Some k) = is_fault k ≡ false
 
-abbrev pub ToldBy : Position → Option Kept → Position → Type 0
+abbrev pub ToldBy : Position → Option RunStop → Position → Type 0
 ToldBy old result new =
     (new ≡ after_telling old result) × IsNoFault result × ((p : Program) (s : Store) (t : Term) → Begins old.program p s t → TellsOn (Run p s t old.taken) result)
 
 -- ## A run of so many reductions at most
 
 -- where n of them were taken
-abbrev pub after_run : Position → ℕ → Option Kept → Position
+abbrev pub after_run : Position → ℕ → Option RunStop → Position
 after_run old n None = record old { taken = old.taken + n }
-after_run old n (Some k) = record old { taken = old.taken + n; kept = Some k }
+after_run old n (Some k) = record old { taken = old.taken + n; stop = Some k }
 
 -- from one state of a run to a later one: the sink grew by all that the reductions between print, and then by a first part of what the
 -- next one prints
 pub record PrintedUpTo (run : ℕ → RunState) (from to : ℕ) (before now : Option (List ℕ)) : Type 0 where
   pub between : Option (List ℕ)
-  pub whole : Printed (run from) (run to) before between
+  pub whole : PrintedBetween (run from) (run to) before between
   pub begun : PrintedAtMost (run to) (run (to + 1)) between now
 
 -- a fault keeps back no more than a part of the reduction that it stops, the one behind the n that were taken
 abbrev pub RunPrints : Bool → (ℕ → RunState) → (from n steps : ℕ) → Option (List ℕ) → Option (List ℕ) → Type 0
 RunPrints true run from n steps before now = PrintedUpTo run from (from + n) before now
-RunPrints false run from n steps before now = Printed (run from) (run (from + steps)) before now
+RunPrints false run from n steps before now = PrintedBetween (run from) (run (from + steps)) before now
 
-abbrev pub RunsOn : (ℕ → RunState) → (from n steps : ℕ) → Option Kept → Option (List ℕ) → Option (List ℕ) → Type 0
-RunsOn run from n steps None before now = ((run (from + steps)).outcome ≡ Running) × Printed (run from) (run (from + steps)) before now
+abbrev pub RunsOn : (ℕ → RunState) → (from n steps : ℕ) → Option RunStop → Option (List ℕ) → Option (List ℕ) → Type 0
+RunsOn run from n steps None before now = ((run (from + steps)).outcome ≡ Running) × PrintedBetween (run from) (run (from + steps)) before now
 RunsOn run from n steps (Some k) before now = Tells k (run (from + steps)).outcome × RunPrints (is_fault k) run from n steps before now
 
 -- at most all of them, and fewer where a fault stopped it
@@ -145,21 +145,21 @@ abbrev pub HasTakenBy : Bool → ℕ → ℕ → Type 0
 HasTakenBy true n steps = n < steps
 HasTakenBy false n steps = n ≤ steps
 
-abbrev pub HasTaken : ℕ → ℕ → Option Kept → Type 0
+abbrev pub HasTaken : ℕ → ℕ → Option RunStop → Type 0
 HasTaken n steps None = n ≡ steps
 HasTaken n steps (Some k) = HasTakenBy (is_fault k) n steps
 
 -- where want of memory stopped it, what comes next there may take some
-abbrev pub StopsAt : Option Kept → Term → Type 0
+abbrev pub StopsAt : Option RunStop → Term → Type 0
 StopsAt None t = ⊤
-StopsAt (Some k) t = MayStop k t
+StopsAt (Some k) t = MayStopAt k t
 
-abbrev pub RunsFrom : Option Kept → Position → ℕ → Option Kept → Position → Option (List ℕ) → Option (List ℕ) → Type 0
+abbrev pub RunsFrom : Option RunStop → Position → ℕ → Option RunStop → Position → Option (List ℕ) → Option (List ℕ) → Type 0
 RunsFrom (Some k) old steps result new before now = (result ≡ Some k) × (new ≡ old) × (now ≡ before)
 RunsFrom None old steps result new before now =
     (n : ℕ) × HasTaken n steps result × (new ≡ after_run old n result)
     × ((p : Program) (s : Store) (t : Term) → Begins old.program p s t → RunsOn (Run p s t) old.taken n steps result before now)
     × ((p : Program) (s : Store) (t : Term) → Begins old.program p s t → StopsAt result (Run p s t (old.taken + n)).term)
 
-abbrev pub Runs : Position → ℕ → Option Kept → Position → Option (List ℕ) → Option (List ℕ) → Type 0
-Runs old steps result new before now = RunsFrom old.kept old steps result new before now
+abbrev pub Runs : Position → ℕ → Option RunStop → Position → Option (List ℕ) → Option (List ℕ) → Type 0
+Runs old steps result new before now = RunsFrom old.stop old steps result new before now

@@ -9,14 +9,14 @@ use Rattle.w_segment.specs.Link.{Link, IsNew, top, one}
 use Rattle.w_segment.specs.declared.segment.Segment.{Segment}
 use Rattle.w_segment.specs.Shape.{Capacity, fresh_shape}
 use Rattle.w_reduce.specs.Store.{Store, made, live}
-use Rattle.w_reduce.specs.Terms.{Term, Kept as TheKept}
+use Rattle.w_reduce.specs.Terms.{Term, Continuation}
 use Rattle.w_reduce.specs.Program.{Program}
 use Rattle.w_reduce.specs.Run.{Outcome, Values, RunState, state_at, Run}
 use Rattle.w_reduce.specs.Start.{Start, Ready}
 use Rattle.w_stands.specs.Code.{AllShort}
 use Rattle.w_stands.specs.Values.{stack}
-use Rattle.w_machine.specs.declared.outcome.Kept.{Kept}
-use Rattle.w_machine.specs.declared.outcome.Kept.TheVariants as kept
+use Rattle.w_machine.specs.declared.outcome.RunStop.{RunStop}
+use Rattle.w_machine.specs.declared.outcome.RunStop.TheVariants as run_stop
 use Rattle.w_machine.specs.Parts.{Parts, whole}
 use Rattle.w_machine.specs.Standing.{Stands}
 use Rattle.w_machine.specs.Beginning.{Begins}
@@ -67,15 +67,15 @@ pub record IsBeginning (m : Module) (main : ℕ) (functions : List ℕ) (chain :
 -- ## The run
 
 -- the run went on for n reductions, to the configuration that the parts stand for
-pub record IsAt (m : Module) (waiting : Option ℕ) (x : Parts) (n : ℕ) (p : Program) (r : RunState) : Type 0 where
-  pub ks : List (Option TheKept)
+pub record IsReachedAt (m : Module) (waiting : Option ℕ) (x : Parts) (n : ℕ) (p : Program) (r : RunState) : Type 0 where
+  pub ks : List (Option Continuation)
   pub t : Term
   pub stands : Stands m waiting x p ks t
   pub is : r ≡ state_at p n r.output (whole x.store ks) t
 
 -- where the run ended, the operands are its results
-abbrev pub EndsAt : Kept → List Link → Outcome → Type 0
-EndsAt kept.Ended chain o = o ≡ Values (stack (top chain).shape.operands)
+abbrev pub EndsAt : RunStop → List Link → Outcome → Type 0
+EndsAt run_stop.Ended chain o = o ≡ Values (stack (top chain).shape.operands)
 EndsAt k chain o = Tells k o
 
 -- the run has so many continuations, so many of which aren't consumed
@@ -83,9 +83,9 @@ pub record Counts (r : RunState) (made_then live_then : ℕ) : Type 0 where
   pub made : made r.store ≡ made_then
   pub live : live r.store ≡ live_then
 
--- where an outcome is kept, the run has as many continuations as before what stopped it
-abbrev pub IsReachedBy : Option Kept → Module → Option ℕ → Parts → ℕ → ℕ → ℕ → Program → RunState → Type 0
-IsReachedBy None m waiting x n made_then live_then p r = IsAt m waiting x n p r
+-- where something stopped it, the run has as many continuations as before what stopped it
+abbrev pub IsReachedBy : Option RunStop → Module → Option ℕ → Parts → ℕ → ℕ → ℕ → Program → RunState → Type 0
+IsReachedBy None m waiting x n made_then live_then p r = IsReachedAt m waiting x n p r
 IsReachedBy (Some k) m waiting x n made_then live_then p r = EndsAt k x.chain r.outcome × (r.taken ≡ n) × Counts r made_then live_then
 
 -- a run of the module begins, whatever tells which types are equivalent
@@ -93,16 +93,16 @@ abbrev pub IsStarted : Module → Type 0
 IsStarted m = (p : Program) → p.source ≡ m → (s : Store) × (t : Term) × (Start p ≡ Ready s t)
 
 -- A machine that goes on has segments, and made no more continuations than it took reductions; one whose run ended has a segment.
-abbrev pub IsUsable : Option Kept → Parts → ℕ → Type 0
+abbrev pub IsUsable : Option RunStop → Parts → ℕ → Type 0
 IsUsable None x n = (0 < length x.chain) × (length x.conts.entries ≤ n)
-IsUsable (Some kept.Ended) x n = 0 < length x.chain
+IsUsable (Some run_stop.Ended) x n = 0 < length x.chain
 IsUsable (Some k) x n = ⊤
 
-pub record IsReached (m : Module) (functions : List ℕ) (x : Parts) (waiting : Option (Box Segment Global)) (kept : Option Kept) (n made_then live_then : ℕ) : Type 0 where
+pub record IsReached (m : Module) (functions : List ℕ) (x : Parts) (waiting : Option (Box Segment Global)) (stop : Option RunStop) (n made_then live_then : ℕ) : Type 0 where
   pub functions_are : functions ≡ functions_of m
   pub fresh : IsFresh waiting
   pub bound : n ≤ most_reductions
-  pub usable : IsUsable kept x n
+  pub usable : IsUsable stop x n
   pub started : IsStarted m
   pub fewer : live_then ≤ made_then
-  pub reached : (p : Program) (s₀ : Store) (t₀ : Term) → Begins m p s₀ t₀ → IsReachedBy kept m (waiting_of waiting) x n made_then live_then p (Run p s₀ t₀ n)
+  pub reached : (p : Program) (s₀ : Store) (t₀ : Term) → Begins m p s₀ t₀ → IsReachedBy stop m (waiting_of waiting) x n made_then live_then p (Run p s₀ t₀ n)

@@ -14,7 +14,7 @@ use Rattle.w_reduce.specs.declared.limit.RunLimit.{RunLimit}
 use Rattle.w_reduce.specs.declared.limit.RunLimit.TheVariants.{Frames}
 use Rattle.w_reduce.specs.Limits.{most_frames}
 use Rattle.w_reduce.specs.Store.{Store}
-use Rattle.w_reduce.specs.Terms.{Rest, Term, Kept as TheKept}
+use Rattle.w_reduce.specs.Terms.{Rest, Term, Continuation}
 use Rattle.w_reduce.specs.Program.{Program}
 use Rattle.w_reduce.specs.Reduced.{Reduced, Went, Trapped, Limited, Ended}
 use Rattle.w_reduce.specs.Reduce.{reduce}
@@ -26,22 +26,22 @@ use Rattle.w_stands.specs.Keeps.{StoreHolds}
 use Rattle.w_stands.specs.Values.{stack}
 use Rattle.w_plain.specs.Plainness.{switches_at}
 use Rattle.w_plain.specs.declared.stop.Stop.{Stop}
-use Rattle.w_plain.specs.declared.stop.Stop.TheVariants as stop
+use Rattle.w_plain.specs.declared.stop.Stop.TheVariants as plain_stop
 use Rattle.w_switching.specs.declared.stored.Stored.{Stored}
 use Rattle.w_switching.specs.Moved.{SameLinks}
 use Rattle.w_switching.specs.Reductions.{TakesAtLeast, TakesParams}
 use Rattle.w_switching.specs.Standing.{Stand}
 use Rattle.w_switching.specs.Sound.{is_of, Sound, Roomy}
-use Rattle.w_machine.specs.declared.outcome.Kept.{Kept}
-use Rattle.w_machine.specs.declared.outcome.Kept.TheVariants as kept
+use Rattle.w_machine.specs.declared.outcome.RunStop.{RunStop}
+use Rattle.w_machine.specs.declared.outcome.RunStop.TheVariants as run_stop
 use Rattle.w_machine.specs.Parts.{Parts, whole}
 use Rattle.w_machine.specs.Standing.{behind_of, Stands}
 
 -- It was taken: the parts stand for what it leads to, at most one continuation more was made than the n before, and the sink grew by what
 -- it prints.
-pub record Takes (m : Module) (waiting : Option ℕ) (p : Program) (d : Reduced) (n : ℕ) (x : Parts) (before now : Option (List ℕ)) : Type 0 where
+pub record TakesReduction (m : Module) (waiting : Option ℕ) (p : Program) (d : Reduced) (n : ℕ) (x : Parts) (before now : Option (List ℕ)) : Type 0 where
   pub text : List ℕ
-  pub ks : List (Option TheKept)
+  pub ks : List (Option Continuation)
   pub t : Term
   pub is : d ≡ Went text (whole x.store ks) t
   pub stand : Stand m (behind_of waiting) x.chain x.conts p (whole x.store ks) t
@@ -72,49 +72,49 @@ pub record Fails (d : Reduced) (x x' : Parts) (before now : Option (List ℕ)) :
   pub sink : (now ≡ before) ⊎ Begun d before now
 
 -- in a configuration where r comes next, whose reduction comes to d; it fails for want of memory only where that may take some
-abbrev pub ComesTo : Option Kept → Module → Option ℕ → Program → Reduced → Rest → Parts → Parts → Option (List ℕ) → Option (List ℕ) → Type 0
-ComesTo None m waiting p d r x x' before now = Takes m waiting p d (length x.conts.entries) x' before now
-ComesTo (Some kept.Ended) m waiting p d r x x' before now = (d ≡ Ended (stack (top x.chain).shape.operands)) × Unchanged x x' before now
-ComesTo (Some (kept.Limit name)) m waiting p d r x x' before now = (d ≡ Limited name) × (now ≡ before)
-ComesTo (Some (kept.Trapped t)) m waiting p d r x x' before now = (d ≡ Trapped t) × (now ≡ before)
-ComesTo (Some kept.WriteFault) m waiting p d r x x' before now = Fails d x x' before now
-ComesTo (Some kept.OutOfMemory) m waiting p d r x x' before now = Fails d x x' before now × (may_take_memory r.ahead r.code ≡ true)
+abbrev pub ComesTo : Option RunStop → Module → Option ℕ → Program → Reduced → Rest → Parts → Parts → Option (List ℕ) → Option (List ℕ) → Type 0
+ComesTo None m waiting p d r x x' before now = TakesReduction m waiting p d (length x.conts.entries) x' before now
+ComesTo (Some run_stop.Ended) m waiting p d r x x' before now = (d ≡ Ended (stack (top x.chain).shape.operands)) × Unchanged x x' before now
+ComesTo (Some (run_stop.Limit name)) m waiting p d r x x' before now = (d ≡ Limited name) × (now ≡ before)
+ComesTo (Some (run_stop.Trapped t)) m waiting p d r x x' before now = (d ≡ Trapped t) × (now ≡ before)
+ComesTo (Some run_stop.WriteFault) m waiting p d r x x' before now = Fails d x x' before now
+ComesTo (Some run_stop.OutOfMemory) m waiting p d r x x' before now = Fails d x x' before now × (may_take_memory r.ahead r.code ≡ true)
 
 -- in each configuration that they stand for
-abbrev pub Reduces : Option Kept → Module → Parts → Parts → Option (List ℕ) → Option (List ℕ) → Type 0
-Reduces result m x x' before now = (waiting : Option ℕ) (p : Program) (ks : List (Option TheKept)) (t : Term) → Stands m waiting x p ks t
+abbrev pub PartsReduce : Option RunStop → Module → Parts → Parts → Option (List ℕ) → Option (List ℕ) → Type 0
+PartsReduce result m x x' before now = (waiting : Option ℕ) (p : Program) (ks : List (Option Continuation)) (t : Term) → Stands m waiting x p ks t
     → ComesTo result m waiting p (reduce p (whole x.store ks) t) t.rest x x' before now
 
--- ## What is told
+-- ## What a call answers
 
 -- no stacks are switched next, and the segment isn't values
 abbrev pub IsPlainAt : Module → Shape → Type 0
 IsPlainAt m s = (s.stage ≡ Body → switches_at (instr_of m s.func s.place) ≡ false) × (s.stage ≢ Values)
 
--- what is told of a run that stands here, with no reduction taken: it stops where one segment is left, and that is values
-abbrev pub outlook_by : Stage → List Link → Option Kept
-outlook_by Values [] = None
-outlook_by Values (x ∷ []) = Some kept.Ended
-outlook_by Values (x ∷ y ∷ ys) = None
-outlook_by Body xs = None
-outlook_by Fresh xs = None
-outlook_by (Branch l) xs = None
+-- whether a run that stands here has ended: one segment is left, and that is values
+abbrev pub end_by : Stage → List Link → Option RunStop
+end_by Values [] = None
+end_by Values (x ∷ []) = Some run_stop.Ended
+end_by Values (x ∷ y ∷ ys) = None
+end_by Body xs = None
+end_by Fresh xs = None
+end_by (Branch l) xs = None
 
-abbrev pub outlook_of : List Link → Option Kept
-outlook_of xs = outlook_by (top xs).shape.stage xs
+abbrev pub end_at : List Link → Option RunStop
+end_at xs = end_by (top xs).shape.stage xs
 
--- what is told of a plain reduction that came to this, where its result has so many frames
-abbrev pub told_of : Result Did Stop → ℕ → Option Kept
-told_of (Ok did.Went) n = if nat_le n most_frames then None else Some (kept.Limit Frames)
-told_of (Ok (did.Trapped t)) n = Some (kept.Trapped t)
-told_of (Err stop.WriteFault) n = Some kept.WriteFault
-told_of (Err stop.OutOfMemory) n = Some kept.OutOfMemory
+-- what stops a run at a plain reduction that came to this, where its result has so many frames
+abbrev pub stop_by : Result Did Stop → ℕ → Option RunStop
+stop_by (Ok did.Went) n = if nat_le n most_frames then None else Some (run_stop.Limit Frames)
+stop_by (Ok (did.Trapped t)) n = Some (run_stop.Trapped t)
+stop_by (Err plain_stop.WriteFault) n = Some run_stop.WriteFault
+stop_by (Err plain_stop.OutOfMemory) n = Some run_stop.OutOfMemory
 
 -- and of one that switches stacks, where its result passes this limit, if any
-abbrev pub told_with : Result Did AllocError → Option RunLimit → Option Kept
-told_with (Ok did.Went) o = option_map (λ (l : RunLimit). kept.Limit l) o
-told_with (Ok (did.Trapped t)) o = Some (kept.Trapped t)
-told_with (Err e) o = Some kept.OutOfMemory
+abbrev pub switching_stop_by : Result Did AllocError → Option RunLimit → Option RunStop
+switching_stop_by (Ok did.Went) o = option_map (λ (l : RunLimit). run_stop.Limit l) o
+switching_stop_by (Ok (did.Trapped t)) o = Some (run_stop.Trapped t)
+switching_stop_by (Err e) o = Some run_stop.OutOfMemory
 
 -- what types of continuations tell of the operands of an instruction that switches stacks
 abbrev pub TakesEnough : SwitchingOp → Module → List Link → Conts Stored → Type 0

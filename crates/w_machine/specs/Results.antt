@@ -1,6 +1,6 @@
 -- The results of a run.
 use Rattle.std.specs.Prelude.{◌≡◌, List}
-use Rattle.w_types.specs.Rows.{Row, listed}
+use Rattle.lists.specs.Rows.{Row, listed}
 use Rattle.w_reduce.specs.Values.{Val}
 use Rattle.w_reduce.specs.Run.{Outcome, Values}
 

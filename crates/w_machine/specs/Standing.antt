@@ -1,7 +1,7 @@
 -- Where a run stands: its parts, read as a configuration.
 use Rattle.std.specs.Prelude.{◌≡◌, ℕ, true, List, [], length, Option, Some, None}
 use Rattle.w_types.specs.declared.types.FuncType.{FuncType}
-use Rattle.w_types.specs.Rows.{Row, row_of}
+use Rattle.lists.specs.Rows.{Row, row_of}
 use Rattle.w_syntax.specs.Code.{Done}
 use Rattle.w_syntax.specs.declared.module.Module.{Module}
 use Rattle.w_rules.specs.Context.{type_of_func}
@@ -11,7 +11,7 @@ use Rattle.w_rules.specs.Spaces.{context_of}
 use Rattle.w_segment.specs.declared.entry.Stage.TheVariants.{Values}
 use Rattle.w_segment.specs.Link.{Link, top}
 use Rattle.w_reduce.specs.Limits.{IsWithin}
-use Rattle.w_reduce.specs.Terms.{Rest, Term, Kept}
+use Rattle.w_reduce.specs.Terms.{Rest, Term, Continuation}
 use Rattle.w_reduce.specs.Program.{Program}
 use Rattle.w_reduce.specs.Start.{invokes}
 use Rattle.w_stands.specs.Keeps.{StoreHolds}
@@ -39,7 +39,7 @@ IsLast chain = (length chain ≡ 1) × ((top chain).shape.stage ≡ Values)
 -- The parts stand for this configuration, where `waiting` is the function that is invoked once all segments are left. It is typed and
 -- passes no limit; each reference to a continuation, also in tables and globals, is of the store; and each frame has room for what its
 -- function needs.
-pub record Stands (m : Module) (waiting : Option ℕ) (x : Parts) (p : Program) (ks : List (Option Kept)) (t : Term) : Type 0 where
+pub record Stands (m : Module) (waiting : Option ℕ) (x : Parts) (p : Program) (ks : List (Option Continuation)) (t : Term) : Type 0 where
   pub stand : Stand m (behind_of waiting) x.chain x.conts p (whole x.store ks) t
   pub results : Row Operand
   pub arrows : Arrows
@@ -55,6 +55,6 @@ pub record Stands (m : Module) (waiting : Option ℕ) (x : Parts) (p : Program) 
 pub record StandsSomewhere (m : Module) (x : Parts) : Type 0 where
   pub waiting : Option ℕ
   pub p : Program
-  pub ks : List (Option Kept)
+  pub ks : List (Option Continuation)
   pub t : Term
   pub stands : Stands m waiting x p ks t

@@ -2,9 +2,10 @@
 #![tactic(auto)]
 
 mod attempt;
+mod configuration;
 mod machine;
 mod outcome;
 mod reduction;
 
 pub use machine::Machine;
-pub use outcome::{Kept, Outcome, Stepped};
+pub use outcome::{Outcome, RunStop, Stepped};

@@ -9,28 +9,27 @@ ghost use Rattle.w_rules.specs.Spaces.{functions_of};
 ghost use Rattle.w_stands.specs.Code.{AllShort};
 ghost use Rattle.w_stands.specs.Values.{vals};
 ghost use Rattle.w_machine.specs.Beginning.{Begins, BeginsWith};
-ghost use Rattle.w_machine.specs.Kept.{stopped_at, stopped_in};
-ghost use Rattle.w_machine.specs.HasteningOn.{HastensOn};
+ghost use Rattle.w_machine.specs.RunStop.{stopped_at, stopped_in};
+ghost use Rattle.w_machine.specs.AttemptedStepOn.{AttemptsStepOn};
 ghost use Rattle.w_machine.specs.Position.{Steps, Tells, ToldBy, Runs, counted, most_reductions};
 ghost use Rattle.w_machine.specs.Results.{HasResults};
 ghost use Rattle.w_machine.specs.Reached.{AreFirst, IsBeginning, IsTurned, IsFresh, is_last};
 
-use crate::attempt::hasten;
-use crate::outcome::{Kept, Outcome, Stepped, as_outcome, as_stepped, has_ended};
-use crate::reduction::{outlook, reduce};
+use crate::attempt::attempt_step;
+use crate::configuration::Configuration;
+use crate::outcome::{Outcome, RunStop, Stepped, as_outcome, as_stepped, has_ended};
+use crate::reduction::{end_of, reduce};
 use std::alloc::{AllocError, Global};
 use std::marker::Model;
 use w_chain::Chain;
 use w_conts::ContStore;
 use w_inst::Instance;
 use w_outside::Sink;
-use w_plain::Program;
+use w_plain::KnownProgram;
 use w_reduce::RunLimit;
 use w_rules::{Checked, Spaces};
 use w_segment::{Segment, Stage};
-use w_switching::Stored;
 use w_syntax::Module;
-use w_tables::Store;
 use w_types::Value;
 
 /// A run of a module. After so many steps it stands for the run of so many reductions.
@@ -40,14 +39,11 @@ pub struct Machine {
     checked: Checked,
     /// The index of each function's type, imported functions in front.
     functions: Vec<u32>,
-    store: Store,
-    /// The segments that run.
-    chain: Chain,
-    conts: ContStore<Stored>,
+    configuration: Configuration,
     /// The segment of main, while the start function runs.
     waiting: Option<Box<Segment>>,
     taken: u64,
-    kept: Option<Kept>,
+    stop: Option<RunStop>,
     /// How many continuations were made, and weren't consumed, before what stopped it.
     made: u64,
     live: u64,
@@ -55,16 +51,15 @@ pub struct Machine {
 
 impl Model for Machine {
     ghost use Rattle.w_machine.specs.Position.{Position, position_code};
-    ghost use Rattle.w_machine.specs.Parts.{parts};
     ghost use Rattle.w_machine.specs.Reached.{IsReached};
 
     ghost Value = { Position };
 
     ghost coded = { position_code };
 
-    ghost view = { λ a. record { program = a.checked; taken = a.taken; kept = a.kept } };
+    ghost view = { λ a. record { program = a.checked; taken = a.taken; stop = a.stop } };
 
-    ghost invariant = { λ a. IsReached a.checked a.functions.items (parts a.store a.chain a.conts) a.waiting a.kept a.taken a.made a.live };
+    ghost invariant = { λ a. IsReached a.checked a.functions.items a.configuration a.waiting a.stop a.taken a.made a.live };
 }
 
 // Whether each body has fewer than 2^32 instructions, so that their places are numbers of 32 bits.
@@ -135,7 +130,7 @@ fn turn(chain: &mut Chain, waiting: &mut Option<Box<Segment>>)
     ensures stays { is_last chain.old ≡ false → (chain.new ≡ chain.old) × (waiting.new ≡ waiting.old) }
     ensures turns { is_last chain.old ≡ true → IsTurned waiting.old chain.old chain.new × (waiting.new ≡ None) }
 {
-    // mostly none waits, which is told sooner than where the last one stands
+    // mostly none waits, which is found sooner than where the last one stands
     if waiting.is_none() {
         return;
     }
@@ -150,11 +145,11 @@ fn turn(chain: &mut Chain, waiting: &mut Option<Box<Segment>>)
 }
 
 // How many reductions an outcome counts that stops a machine.
-fn count(kept: Kept) -> u64
-    ensures { result ≡ counted kept }
+fn count(stop: RunStop) -> u64
+    ensures { result ≡ counted stop }
 {
-    match kept {
-        Kept::Limit(_) | Kept::Trapped(_) => 1,
+    match stop {
+        RunStop::Limit(_) | RunStop::Trapped(_) => 1,
         _ => 0,
     }
 }
@@ -164,7 +159,7 @@ impl Machine {
     /// instructions or more.
     pub fn new(alloc: Global, checked: Checked, instance: Instance) -> Result<Machine, AllocError>
         requires { BeginsWith checked instance.store instance.main }
-        ensures { IfOk result (λ machine. machine ≡ record { program = checked; taken = 0; kept = None }) }
+        ensures { IfOk result (λ machine. machine ≡ record { program = checked; taken = 0; stop = None }) }
     {
         let module = checked.module();
         let _classes = checked.classes();
@@ -173,12 +168,14 @@ impl Machine {
                 alloc,
                 checked,
                 functions: beginning.functions,
-                store: instance.store,
-                chain: beginning.chain,
-                conts: ContStore::new(alloc),
+                configuration: Configuration {
+                    store: instance.store,
+                    chain: beginning.chain,
+                    conts: ContStore::new(alloc),
+                },
                 waiting: beginning.waiting,
                 taken: 0,
-                kept: None,
+                stop: None,
                 made: 0,
                 live: 0,
             }),
@@ -195,9 +192,9 @@ impl Machine {
         ensures value { result ≡ self.now.taken }
         // So many the run counts itself.
         ensures counts { (p : TheProgram) (s : TheStore) (t : Term) → Begins self.now.program p s t → (Run p s t result).taken ≡ result }
-        // Where an outcome is kept, it is told of the run after so many.
-        ensures told { (p : TheProgram) (s : TheStore) (t : Term) → Begins self.now.program p s t
-            → (k : Kept) → self.now.kept ≡ Some k → Tells k (Run p s t result).outcome }
+        // Where something stopped it, that is what the run came to after so many.
+        ensures stopped { (p : TheProgram) (s : TheStore) (t : Term) → Begins self.now.program p s t
+            → (k : RunStop) → self.now.stop ≡ Some k → Tells k (Run p s t result).outcome }
     {
         self.taken
     }
@@ -206,10 +203,10 @@ impl Machine {
     pub fn made(&self) -> u64
         ensures value { (p : TheProgram) (s : TheStore) (t : Term) → Begins self.now.program p s t → made (Run p s t self.now.taken).store ≡ result }
     {
-        if self.kept.is_some() {
+        if self.stop.is_some() {
             self.made
         } else {
-            self.conts.made()
+            self.configuration.conts.made()
         }
     }
 
@@ -217,10 +214,10 @@ impl Machine {
     pub fn live(&self) -> u64
         ensures value { (p : TheProgram) (s : TheStore) (t : Term) → Begins self.now.program p s t → live (Run p s t self.now.taken).store ≡ result }
     {
-        if self.kept.is_some() {
+        if self.stop.is_some() {
             self.live
         } else {
-            self.conts.live()
+            self.configuration.conts.live()
         }
     }
 
@@ -228,10 +225,10 @@ impl Machine {
     pub fn consumed(&self) -> u64
         ensures value { (p : TheProgram) (s : TheStore) (t : Term) → Begins self.now.program p s t → consumed (Run p s t self.now.taken).store ≡ result }
     {
-        if self.kept.is_some() {
+        if self.stop.is_some() {
             self.made - self.live
         } else {
-            self.conts.consumed()
+            self.configuration.conts.consumed()
         }
     }
 
@@ -239,38 +236,37 @@ impl Machine {
     #[inline(never)]
     fn advance_slowly<O: Sink>(&mut self, out: &mut O) -> bool
         requires { self.old.taken < most_reductions }
-        ensures steps { Steps self.old self.new.kept self.new (O.held out.old) (O.held out.new) }
-        ensures stops { result ≡ is_some self.new.kept }
-        ensures cause { self.old.kept ≡ None → self.new.kept ≡ Some Kept.WriteFault → Rose (O.faults out.old) (O.faults out.new) }
+        ensures steps { Steps self.old self.new.stop self.new (O.held out.old) (O.held out.new) }
+        ensures stops { result ≡ is_some self.new.stop }
+        ensures cause { self.old.stop ≡ None → self.new.stop ≡ Some RunStop.WriteFault → Rose (O.faults out.old) (O.faults out.new) }
         ensures later { O.faults out.old ≤ O.faults out.new }
     {
-        if self.kept.is_some() {
+        if self.stop.is_some() {
             return true;
         }
-        let program = Program {
+        let program = KnownProgram {
             source: self.checked.module(),
             checked: &self.checked,
-            classes: self.checked.classes(),
             functions: self.functions.as_slice(),
         };
-        let (made, live) = (self.conts.made(), self.conts.live());
+        let _classes = self.checked.classes();
+        let conts = &self.configuration.conts;
+        let (made, live) = (conts.made(), conts.live());
         let stopped = reduce(
             program,
             self.alloc,
-            &mut self.store,
-            &mut self.chain,
-            &mut self.conts,
+            &mut self.configuration,
             out,
-            &mut self.kept,
+            &mut self.stop,
         );
         if !stopped {
-            turn(&mut self.chain, &mut self.waiting);
+            turn(&mut self.configuration.chain, &mut self.waiting);
             self.taken += 1;
             return false;
         }
-        match self.kept {
-            Some(kept) => {
-                self.taken += count(kept);
+        match self.stop {
+            Some(stop) => {
+                self.taken += count(stop);
                 self.made = made;
                 self.live = live;
                 true
@@ -281,22 +277,22 @@ impl Machine {
 
     // Attempts one of the commonest reductions, and says whether it stopped the machine. `None`: none was taken, and the machine is as it was.
     #[inline(always)]
-    fn hasten(&mut self) -> Option<bool>
+    fn attempt_step(&mut self) -> Option<bool>
         requires few { self.old.taken < most_reductions }
-        requires none { self.old.kept ≡ None }
-        ensures hastens { HastensOn result self.old self.new }
+        requires none { self.old.stop ≡ None }
+        ensures attempts { AttemptsStepOn result self.old self.new }
     {
         let _module = self.checked.module();
         let _classes = self.checked.classes();
-        let within = hasten(&self.checked, &mut self.store, &mut self.chain, &self.conts)?;
+        let within = attempt_step(&self.checked, &mut self.configuration)?;
         self.taken += 1;
         if within {
-            turn(&mut self.chain, &mut self.waiting);
+            turn(&mut self.configuration.chain, &mut self.waiting);
             return Some(false);
         }
-        self.kept = Some(Kept::Limit(RunLimit::Frames));
-        self.made = self.conts.made();
-        self.live = self.conts.live();
+        self.stop = Some(RunStop::Limit(RunLimit::Frames));
+        self.made = self.configuration.conts.made();
+        self.live = self.configuration.conts.live();
         Some(true)
     }
 
@@ -304,48 +300,48 @@ impl Machine {
     #[inline(always)]
     fn advance<O: Sink>(&mut self, out: &mut O) -> bool
         requires few { self.old.taken < most_reductions }
-        requires none { self.old.kept ≡ None }
-        ensures steps { Steps self.old self.new.kept self.new (O.held out.old) (O.held out.new) }
-        ensures stops { result ≡ is_some self.new.kept }
-        ensures cause { self.old.kept ≡ None → self.new.kept ≡ Some Kept.WriteFault → Rose (O.faults out.old) (O.faults out.new) }
+        requires none { self.old.stop ≡ None }
+        ensures steps { Steps self.old self.new.stop self.new (O.held out.old) (O.held out.new) }
+        ensures stops { result ≡ is_some self.new.stop }
+        ensures cause { self.old.stop ≡ None → self.new.stop ≡ Some RunStop.WriteFault → Rose (O.faults out.old) (O.faults out.new) }
         ensures later { O.faults out.old ≤ O.faults out.new }
     {
-        match self.hasten() {
+        match self.attempt_step() {
             Some(stopped) => stopped,
             None => self.advance_slowly(out),
         }
     }
 
     // Says what stops the run, with no reduction taken.
-    fn tell(&mut self) -> Option<Kept>
-        requires { self.old.kept ≡ None }
+    fn tell(&mut self) -> Option<RunStop>
+        requires { self.old.stop ≡ None }
         ensures { ToldBy self.old result self.new }
     {
         // the run of a valid module is never stuck
         let _module = self.checked.module();
-        let stopped = outlook(&self.chain);
+        let stopped = end_of(&self.configuration.chain);
         if stopped.is_some() {
-            self.kept = stopped;
-            self.made = self.conts.made();
-            self.live = self.conts.live();
+            self.stop = stopped;
+            self.made = self.configuration.conts.made();
+            self.live = self.configuration.conts.live();
         }
         stopped
     }
 
     // Takes so many reductions at most, or says what stops it.
-    fn go<O: Sink>(&mut self, steps: u64, out: &mut O) -> Option<Kept>
+    fn go<O: Sink>(&mut self, steps: u64, out: &mut O) -> Option<RunStop>
         requires { self.old.taken + steps ≤ most_reductions }
         ensures runs { Runs self.old steps result self.new (O.held out.old) (O.held out.new) }
-        ensures cause { self.old.kept ≡ None → result ≡ Some Kept.WriteFault → Rose (O.faults out.old) (O.faults out.new) }
+        ensures cause { self.old.stop ≡ None → result ≡ Some RunStop.WriteFault → Rose (O.faults out.old) (O.faults out.new) }
         ensures later { O.faults out.old ≤ O.faults out.new }
     {
-        if self.kept.is_some() {
-            return self.kept;
+        if self.stop.is_some() {
+            return self.stop;
         }
         let end = self.taken + steps;
         while self.taken < end {
             if self.advance(out) {
-                return self.kept;
+                return self.stop;
             }
         }
         self.tell()
@@ -353,12 +349,12 @@ impl Machine {
 
     /// The values that the run ended with, in order; none before.
     pub fn results(&self) -> &[Value]
-        ensures ended { self.now.kept ≡ Some Kept.Ended → (p : TheProgram) (s : TheStore) (t : Term) → Begins self.now.program p s t
+        ensures ended { self.now.stop ≡ Some RunStop.Ended → (p : TheProgram) (s : TheStore) (t : Term) → Begins self.now.program p s t
             → (n : ℕ) → self.now.taken ≤ n → HasResults (Run p s t n).outcome (vals result.now) }
-        ensures none { self.now.kept ≢ Some Kept.Ended → result.now ≡ [] }
+        ensures none { self.now.stop ≢ Some RunStop.Ended → result.now ≡ [] }
     {
-        if has_ended(self.kept) {
-            self.chain.stack().operands()
+        if has_ended(self.stop) {
+            self.configuration.chain.stack().operands()
         } else {
             &[]
         }
@@ -368,7 +364,7 @@ impl Machine {
     pub fn run<O: Sink>(&mut self, steps: u64, out: &mut O) -> Outcome
         requires { self.old.taken + steps ≤ most_reductions }
         ensures runs { Runs self.old steps (stopped_in result) self.new (O.held out.old) (O.held out.new) }
-        ensures cause { self.old.kept ≡ None → result ≡ Outcome.WriteFault → Rose (O.faults out.old) (O.faults out.new) }
+        ensures cause { self.old.stop ≡ None → result ≡ Outcome.WriteFault → Rose (O.faults out.old) (O.faults out.new) }
         ensures later { O.faults out.old ≤ O.faults out.new }
     {
         as_outcome(self.go(steps, out))
@@ -378,12 +374,12 @@ impl Machine {
     pub fn step<O: Sink>(&mut self, out: &mut O) -> Stepped
         requires { self.old.taken < most_reductions }
         ensures steps { Steps self.old (stopped_at result) self.new (O.held out.old) (O.held out.new) }
-        ensures cause { self.old.kept ≡ None → result ≡ Stepped.WriteFault → Rose (O.faults out.old) (O.faults out.new) }
+        ensures cause { self.old.stop ≡ None → result ≡ Stepped.WriteFault → Rose (O.faults out.old) (O.faults out.new) }
         ensures later { O.faults out.old ≤ O.faults out.new }
     {
-        if self.kept.is_none() {
+        if self.stop.is_none() {
             self.advance(out);
         }
-        as_stepped(self.kept)
+        as_stepped(self.stop)
     }
 }

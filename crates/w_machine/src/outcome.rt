@@ -1,12 +1,12 @@
 //! How steps and runs end.
 ghost use Rattle.std.specs.Prelude.{◌≡◌};
-ghost use Rattle.w_machine.specs.Kept.{stepped_of, outcome_of, is_ended};
+ghost use Rattle.w_machine.specs.RunStop.{stepped_of, outcome_of, is_ended};
 
 use w_reduce::{RunLimit, Trap};
 
-/// An outcome that a machine keeps: it answers the same ever after, and changes nothing.
+/// What stopped a machine: it answers the same ever after, and changes nothing.
 #[derive(Clone, Copy)]
-pub enum Kept {
+pub enum RunStop {
     /// The term is values.
     Ended,
     /// The result of the last reduction passed this limit.
@@ -54,37 +54,37 @@ pub enum Outcome {
     OutOfMemory,
 }
 
-/// Whether the outcome that is kept, if one is, is that the term is values.
-pub(crate) fn has_ended(kept: Option<Kept>) -> bool
-    ensures { result ≡ is_ended kept }
+/// Whether what stopped it, if anything did, is that the term is values.
+pub(crate) fn has_ended(stop: Option<RunStop>) -> bool
+    ensures { result ≡ is_ended stop }
 {
-    matches!(kept, Some(Kept::Ended))
+    matches!(stop, Some(RunStop::Ended))
 }
 
 /// What a step answers that stopped so, or took a reduction.
-pub(crate) fn as_stepped(stopped: Option<Kept>) -> Stepped
+pub(crate) fn as_stepped(stopped: Option<RunStop>) -> Stepped
     ensures { result ≡ stepped_of stopped }
 {
     match stopped {
         None => Stepped::Went,
-        Some(Kept::Ended) => Stepped::Ended,
-        Some(Kept::Limit(name)) => Stepped::Limit(name),
-        Some(Kept::Trapped(trap)) => Stepped::Trapped(trap),
-        Some(Kept::WriteFault) => Stepped::WriteFault,
-        Some(Kept::OutOfMemory) => Stepped::OutOfMemory,
+        Some(RunStop::Ended) => Stepped::Ended,
+        Some(RunStop::Limit(name)) => Stepped::Limit(name),
+        Some(RunStop::Trapped(trap)) => Stepped::Trapped(trap),
+        Some(RunStop::WriteFault) => Stepped::WriteFault,
+        Some(RunStop::OutOfMemory) => Stepped::OutOfMemory,
     }
 }
 
 /// What a run answers that stopped so, or took its reductions.
-pub(crate) fn as_outcome(stopped: Option<Kept>) -> Outcome
+pub(crate) fn as_outcome(stopped: Option<RunStop>) -> Outcome
     ensures { result ≡ outcome_of stopped }
 {
     match stopped {
         None => Outcome::Running,
-        Some(Kept::Ended) => Outcome::Ended,
-        Some(Kept::Limit(name)) => Outcome::Limit(name),
-        Some(Kept::Trapped(trap)) => Outcome::Trapped(trap),
-        Some(Kept::WriteFault) => Outcome::WriteFault,
-        Some(Kept::OutOfMemory) => Outcome::OutOfMemory,
+        Some(RunStop::Ended) => Outcome::Ended,
+        Some(RunStop::Limit(name)) => Outcome::Limit(name),
+        Some(RunStop::Trapped(trap)) => Outcome::Trapped(trap),
+        Some(RunStop::WriteFault) => Outcome::WriteFault,
+        Some(RunStop::OutOfMemory) => Outcome::OutOfMemory,
     }
 }

@@ -1,37 +1,34 @@
 //! One reduction of a run, with its limits.
-ghost use Rattle.std.specs.Prelude.{◌≡◌, ◌≢◌, ◌-◌, ◌<◌, ◌≤◌, ◌^◌, ℕ, true, nat_le, List, length, Option, Some, None, is_some, is_none, option_map, IfOk, OnErr};
+ghost use Rattle.std.specs.Prelude.{◌≡◌, ◌≢◌, ◌-◌, ◌<◌, ◌≤◌, ◌^◌, ℕ, true, nat_le, List, length, Option, Some, None, is_some, option_map, IfOk, OnErr};
 ghost use Rattle.w_syntax.specs.Packed.{unpacked};
 ghost use Rattle.w_syntax.specs.declared.instructions.Instr.TheVariants as flat;
 ghost use Rattle.w_syntax.specs.declared.instructions.Op.TheVariants as op;
 ghost use Rattle.w_outside.specs.Outside.{Rose};
-ghost use Rattle.w_rules.specs.Valid.{Valid};
 ghost use Rattle.w_segment.specs.declared.entry.Stage.TheVariants.{Body, Values};
 ghost use Rattle.w_segment.specs.Link.{top};
 ghost use Rattle.w_chain.specs.Counts.{frames_in_all};
 ghost use Rattle.w_conts.specs.Conts.{live_of, KeepsReferences};
 ghost use Rattle.w_stands.specs.Code.{instr_of};
-ghost use Rattle.w_plain.specs.Known.{IsKnown};
 ghost use Rattle.w_plain.specs.Plainness.{switches_at};
 ghost use Rattle.w_switching.specs.Reductions.{SwitchesAt, Switches};
 ghost use Rattle.w_switching.specs.Sound.{Sound, Roomy, most_segments};
 ghost use Rattle.w_reduce.specs.Room.{takes_memory};
 ghost use Rattle.w_reduce.specs.Limits.{most_frames, most_handles, most_conts, first_passed};
-ghost use Rattle.w_machine.specs.Parts.{parts};
 ghost use Rattle.w_machine.specs.Standing.{StandsSomewhere};
-ghost use Rattle.w_machine.specs.Reducing.{Reduces, TakesEnough, IsPlainAt, outlook_of, told_of, told_with};
+ghost use Rattle.w_machine.specs.Reducing.{PartsReduce, TakesEnough, IsPlainAt, end_at, stop_by, switching_stop_by};
 
-use crate::outcome::Kept;
+use crate::configuration::Configuration;
+use crate::outcome::RunStop;
 use std::alloc::{AllocError, Global};
 use w_chain::Chain;
 use w_conts::ContStore;
 use w_outside::Sink;
-use w_plain::{Program, Stop, instr_at, plain};
+use w_plain::{KnownProgram, Stop, instr_at, plain};
 use w_reduce::RunLimit;
 use w_segment::Stage;
 use w_stands::Did;
 use w_switching::{Stored, cont_bind, cont_new, exit_handle, resume, suspend, switch};
 use w_syntax::{Instr, Module, Op, PackedInstr, SwitchingOp};
-use w_tables::Store;
 
 /// The most frames of a term.
 pub(crate) const MOST_FRAMES: u64 = 20_000;
@@ -55,15 +52,15 @@ fn passed(chain: &Chain, conts: &ContStore<Stored>) -> Option<RunLimit>
     }
 }
 
-/// What is told of a run that stands here, with no reduction taken: it stops where one segment is left, and that is values.
-pub(crate) fn outlook(chain: &Chain) -> Option<Kept>
+/// Whether a run that stands here has ended: one segment is left, and that is values.
+pub(crate) fn end_of(chain: &Chain) -> Option<RunStop>
     requires some { 0 < length chain.now }
-    ensures { result ≡ outlook_of chain.now }
+    ensures { result ≡ end_at chain.now }
 {
     match chain.stack().stage() {
         Stage::Values => {
             if chain.handles() == 0 {
-                Some(Kept::Ended)
+                Some(RunStop::Ended)
             } else {
                 None
             }
@@ -74,88 +71,92 @@ pub(crate) fn outlook(chain: &Chain) -> Option<Kept>
 
 // What a plain reduction that was taken, or wasn't, comes to, where its result has so many frames.
 #[inline(always)]
-fn told(taken: Result<Did, Stop>, frames: u64) -> Option<Kept>
-    ensures { result ≡ told_of taken frames }
+fn stop_of(outcome: Result<Did, Stop>, frames: u64) -> Option<RunStop>
+    ensures { result ≡ stop_by outcome frames }
 {
-    match taken {
+    match outcome {
         Ok(Did::Went) => {
             if frames <= MOST_FRAMES {
                 None
             } else {
-                Some(Kept::Limit(RunLimit::Frames))
+                Some(RunStop::Limit(RunLimit::Frames))
             }
         }
-        Ok(Did::Trapped(trap)) => Some(Kept::Trapped(trap)),
-        Err(Stop::WriteFault) => Some(Kept::WriteFault),
-        Err(Stop::OutOfMemory) => Some(Kept::OutOfMemory),
+        Ok(Did::Trapped(trap)) => Some(RunStop::Trapped(trap)),
+        Err(Stop::WriteFault) => Some(RunStop::WriteFault),
+        Err(Stop::OutOfMemory) => Some(RunStop::OutOfMemory),
     }
 }
 
 // The same of one that switches stacks, where its result passes this limit, if any.
-fn told_switched(taken: Result<Did, AllocError>, limit: Option<RunLimit>) -> Option<Kept>
-    ensures { result ≡ told_with taken limit }
+fn switching_stop_of(outcome: Result<Did, AllocError>, limit: Option<RunLimit>) -> Option<RunStop>
+    ensures { result ≡ switching_stop_by outcome limit }
 {
-    match taken {
+    match outcome {
         Ok(Did::Went) => match limit {
-            Some(name) => Some(Kept::Limit(name)),
+            Some(name) => Some(RunStop::Limit(name)),
             None => None,
         },
-        Ok(Did::Trapped(trap)) => Some(Kept::Trapped(trap)),
-        Err(_) => Some(Kept::OutOfMemory),
+        Ok(Did::Trapped(trap)) => Some(RunStop::Trapped(trap)),
+        Err(_) => Some(RunStop::OutOfMemory),
     }
 }
 
 // Whether a plain reduction was taken, whose result has so many frames, and no limit is passed. It is asked first, so that what stops a run,
 // which takes more than two words, is made only where something does.
 #[inline(always)]
-fn went(taken: Result<Did, Stop>, frames: u64) -> bool
-    ensures { result ≡ true → told_of taken frames ≡ None }
+fn goes_on(outcome: Result<Did, Stop>, frames: u64) -> bool
+    ensures { result ≡ true → stop_by outcome frames ≡ None }
 {
-    match taken {
+    match outcome {
         Ok(Did::Went) => frames <= MOST_FRAMES,
         _ => false,
     }
 }
 
-// Keeps what stops a run, if anything does, and says whether it does.
+// Sets what stops a run, if anything does, and says whether it does.
 #[inline(always)]
-fn keep(stopped: Option<Kept>, kept: &mut Option<Kept>) -> bool
-    ensures kept { kept.new ≡ stopped }
+fn set_stop(stopped: Option<RunStop>, stop: &mut Option<RunStop>) -> bool
+    ensures stop { stop.new ≡ stopped }
     ensures stops { result ≡ is_some stopped }
 {
-    *kept = stopped;
+    *stop = stopped;
     stopped.is_some()
 }
 
 // One reduction inside the innermost segment.
 #[inline(always)]
-fn inside<O: Sink>(
-    program: Program,
-    store: &mut Store,
-    chain: &mut Chain,
-    conts: &ContStore<Stored>,
+fn plain_reduction<O: Sink>(
+    program: KnownProgram,
+    configuration: &mut Configuration,
     out: &mut O,
     found: Option<&PackedInstr>,
-    kept: &mut Option<Kept>,
+    stop: &mut Option<RunStop>,
 ) -> bool
-    requires known { IsKnown program.source.now program.checked.now program.classes.now program.functions.now }
-    requires valid { Valid program.source.now }
-    requires stands { StandsSomewhere program.source.now (parts store.old chain.old conts.now) }
-    requires none { kept.old ≡ None }
-    requires plain { IsPlainAt program.source.now (top chain.old).shape }
-    requires found { (top chain.old).shape.stage ≡ Body → option_map (λ p. unpacked p.now) found ≡ instr_of program.source.now (top chain.old).shape.func (top chain.old).shape.place }
-    ensures reduces { Reduces kept.new program.entry.source.now (parts store.old chain.old conts.now) (parts store.new chain.new conts.now) (O.held out.old) (O.held out.new) }
-    ensures stops { result ≡ is_some kept.new }
-    ensures cause { kept.new ≡ Some Kept.WriteFault → Rose (O.faults out.old) (O.faults out.new) }
+    requires stands { StandsSomewhere program.source.now configuration.old }
+    requires none { stop.old ≡ None }
+    requires plain { IsPlainAt program.source.now (top configuration.old.chain).shape }
+    requires found { (top configuration.old.chain).shape.stage ≡ Body → option_map (λ p. unpacked p.now) found ≡ instr_of program.source.now (top configuration.old.chain).shape.func (top configuration.old.chain).shape.place }
+    ensures reduces { PartsReduce stop.new program.entry.source.now configuration.old configuration.new (O.held out.old) (O.held out.new) }
+    ensures stops { result ≡ is_some stop.new }
+    ensures cause { stop.new ≡ Some RunStop.WriteFault → Rose (O.faults out.old) (O.faults out.new) }
     ensures later { O.faults out.old ≤ O.faults out.new }
+    ensures conts { configuration.new.conts ≡ configuration.old.conts }
 {
-    let _conts = conts;
-    let taken = plain(program, store, chain.stack_mut(), out, found);
-    let frames = chain.frames();
-    if went(taken, frames) {
+    // a module that was checked is valid
+    let _module = program.checked.module();
+    let outcome = plain(
+        program,
+        &mut configuration.store,
+        configuration.chain.stack_mut(),
+        out,
+        found,
+    );
+    let frames = configuration.chain.frames();
+    if goes_on(outcome, frames) {
         return false;
     }
-    keep(told(taken, frames), kept)
+    set_stop(stop_of(outcome, frames), stop)
 }
 
 // One of the five instructions that switch stacks.
@@ -194,37 +195,43 @@ fn switch_by(
 // One reduction at an instruction that switches stacks.
 #[inline(never)]
 fn switching(
-    program: &Module,
+    program: KnownProgram,
     alloc: Global,
-    store: &Store,
-    chain: &mut Chain,
-    conts: &mut ContStore<Stored>,
+    configuration: &mut Configuration,
     operation: &SwitchingOp,
-) -> Option<Kept>
-    requires valid { Valid program.now }
-    requires stands { StandsSomewhere program.now (parts store.now chain.old conts.old) }
-    requires made { length conts.old.entries < 2 ^ 40 }
-    requires body { (top chain.old).shape.stage ≡ Body }
-    requires here { instr_of program.now (top chain.old).shape.func (top chain.old).shape.place ≡ Some (flat.Plain (op.Switching operation.now)) }
-    ensures reduces { (held : Option (List ℕ)) → Reduces result program.now (parts store.now chain.old conts.old) (parts store.now chain.new conts.new) held held }
-    ensures no_fault { result ≢ Some Kept.WriteFault }
+) -> Option<RunStop>
+    requires stands { StandsSomewhere program.source.now configuration.old }
+    requires made { length configuration.old.conts.entries < 2 ^ 40 }
+    requires body { (top configuration.old.chain).shape.stage ≡ Body }
+    requires here { instr_of program.source.now (top configuration.old.chain).shape.func (top configuration.old.chain).shape.place ≡ Some (flat.Plain (op.Switching operation.now)) }
+    ensures reduces { (held : Option (List ℕ)) → PartsReduce result program.entry.source.now configuration.old configuration.new held held }
+    ensures no_fault { result ≢ Some RunStop.WriteFault }
+    ensures store { configuration.new.store ≡ configuration.old.store }
 {
-    let _store = store;
-    let taken = switch_by(program, alloc, chain, conts, operation);
-    told_switched(taken, passed(chain, conts))
+    // a module that was checked is valid
+    let _module = program.checked.module();
+    let outcome = switch_by(
+        program.source,
+        alloc,
+        &mut configuration.chain,
+        &mut configuration.conts,
+        operation,
+    );
+    switching_stop_of(outcome, passed(&configuration.chain, &configuration.conts))
 }
 
 // The exit of a handle.
 #[inline(never)]
-fn leave_handle(program: &Module, store: &Store, chain: &mut Chain, conts: &mut ContStore<Stored>)
-    requires valid { Valid program.now }
-    requires stands { StandsSomewhere program.now (parts store.now chain.old conts.old) }
-    requires values { (top chain.old).shape.stage ≡ Values }
-    requires two { 1 < length chain.old }
-    ensures reduces { (held : Option (List ℕ)) → Reduces None program.now (parts store.now chain.old conts.old) (parts store.now chain.new conts.new) held held }
+fn leave_handle(program: KnownProgram, configuration: &mut Configuration)
+    requires stands { StandsSomewhere program.source.now configuration.old }
+    requires values { (top configuration.old.chain).shape.stage ≡ Values }
+    requires two { 1 < length configuration.old.chain }
+    ensures reduces { (held : Option (List ℕ)) → PartsReduce None program.entry.source.now configuration.old configuration.new held held }
+    ensures store { configuration.new.store ≡ configuration.old.store }
 {
-    let (_program, _store) = (program, store);
-    exit_handle(chain, conts);
+    // a module that was checked is valid
+    let _module = program.checked.module();
+    exit_handle(&mut configuration.chain, &mut configuration.conts);
 }
 
 // Whether the instruction that was found switches stacks.
@@ -245,35 +252,30 @@ fn switches(found: Option<&PackedInstr>) -> bool
 // One reduction at an instruction that was found to switch stacks.
 #[inline(never)]
 fn switching_at(
-    program: &Module,
+    program: KnownProgram,
     alloc: Global,
-    store: &Store,
-    chain: &mut Chain,
-    conts: &mut ContStore<Stored>,
+    configuration: &mut Configuration,
     found: Option<&PackedInstr>,
-    kept: &mut Option<Kept>,
+    stop: &mut Option<RunStop>,
 ) -> bool
-    requires valid { Valid program.now }
-    requires stands { StandsSomewhere program.now (parts store.now chain.old conts.old) }
-    requires made { length conts.old.entries < 2 ^ 40 }
-    requires body { (top chain.old).shape.stage ≡ Body }
-    requires found { option_map (λ p. unpacked p.now) found ≡ instr_of program.now (top chain.old).shape.func (top chain.old).shape.place }
+    requires stands { StandsSomewhere program.source.now configuration.old }
+    requires made { length configuration.old.conts.entries < 2 ^ 40 }
+    requires body { (top configuration.old.chain).shape.stage ≡ Body }
+    requires found { option_map (λ p. unpacked p.now) found ≡ instr_of program.source.now (top configuration.old.chain).shape.func (top configuration.old.chain).shape.place }
     requires switches { switches_at (option_map (λ p. unpacked p.now) found) ≡ true }
-    ensures reduces { (held : Option (List ℕ)) → Reduces kept.new program.now (parts store.now chain.old conts.old) (parts store.now chain.new conts.new) held held }
-    ensures stops { result ≡ is_some kept.new }
-    ensures no_fault { kept.new ≢ Some Kept.WriteFault }
+    ensures reduces { (held : Option (List ℕ)) → PartsReduce stop.new program.entry.source.now configuration.old configuration.new held held }
+    ensures stops { result ≡ is_some stop.new }
+    ensures no_fault { stop.new ≢ Some RunStop.WriteFault }
+    ensures store { configuration.new.store ≡ configuration.old.store }
 {
     match found {
         Some(PackedInstr::Switching(operation)) => {
-            let stopped = switching(program, alloc, store, chain, conts, &operation.whole());
-            keep(stopped, kept)
+            let stopped = switching(program, alloc, configuration, &operation.whole());
+            set_stop(stopped, stop)
         }
         Some(PackedInstr::Boxed(instruction)) => match &**instruction {
             Instr::Plain(Op::Switching(operation)) => {
-                keep(
-                    switching(program, alloc, store, chain, conts, operation),
-                    kept,
-                )
+                set_stop(switching(program, alloc, configuration, operation), stop)
             }
             _ => unreachable!(),
         },
@@ -284,90 +286,78 @@ fn switching_at(
 // One reduction in the body where the innermost segment stands.
 #[inline(always)]
 fn in_body<O: Sink>(
-    program: Program,
+    program: KnownProgram,
     alloc: Global,
-    store: &mut Store,
-    chain: &mut Chain,
-    conts: &mut ContStore<Stored>,
+    configuration: &mut Configuration,
     out: &mut O,
-    kept: &mut Option<Kept>,
+    stop: &mut Option<RunStop>,
 ) -> bool
-    requires known { IsKnown program.source.now program.checked.now program.classes.now program.functions.now }
-    requires valid { Valid program.source.now }
-    requires stands { StandsSomewhere program.source.now (parts store.old chain.old conts.old) }
-    requires none { kept.old ≡ None }
-    requires made { length conts.old.entries < 2 ^ 40 }
-    requires body { (top chain.old).shape.stage ≡ Body }
-    ensures reduces { Reduces kept.new program.entry.source.now (parts store.old chain.old conts.old) (parts store.new chain.new conts.new) (O.held out.old) (O.held out.new) }
-    ensures stops { result ≡ is_some kept.new }
-    ensures cause { kept.new ≡ Some Kept.WriteFault → Rose (O.faults out.old) (O.faults out.new) }
+    requires stands { StandsSomewhere program.source.now configuration.old }
+    requires none { stop.old ≡ None }
+    requires made { length configuration.old.conts.entries < 2 ^ 40 }
+    requires body { (top configuration.old.chain).shape.stage ≡ Body }
+    ensures reduces { PartsReduce stop.new program.entry.source.now configuration.old configuration.new (O.held out.old) (O.held out.new) }
+    ensures stops { result ≡ is_some stop.new }
+    ensures cause { stop.new ≡ Some RunStop.WriteFault → Rose (O.faults out.old) (O.faults out.new) }
     ensures later { O.faults out.old ≤ O.faults out.new }
 {
-    let source = program.source;
-    let stack = chain.stack();
-    let found = instr_at(source, stack.func(), stack.place());
+    let stack = configuration.chain.stack();
+    let found = instr_at(program.source, stack.func(), stack.place());
     if switches(found) {
-        switching_at(source, alloc, store, chain, conts, found, kept)
+        switching_at(program, alloc, configuration, found, stop)
     } else {
-        inside(program, store, chain, conts, out, found, kept)
+        plain_reduction(program, configuration, out, found, stop)
     }
 }
 
 // One reduction where the innermost segment is fresh, or a branch comes next: in no body.
 #[inline(never)]
 fn before_code<O: Sink>(
-    program: Program,
-    store: &mut Store,
-    chain: &mut Chain,
-    conts: &ContStore<Stored>,
+    program: KnownProgram,
+    configuration: &mut Configuration,
     out: &mut O,
-    kept: &mut Option<Kept>,
+    stop: &mut Option<RunStop>,
 ) -> bool
-    requires known { IsKnown program.source.now program.checked.now program.classes.now program.functions.now }
-    requires valid { Valid program.source.now }
-    requires stands { StandsSomewhere program.source.now (parts store.old chain.old conts.now) }
-    requires none { kept.old ≡ None }
-    requires code { (top chain.old).shape.stage ≢ Body }
-    requires values { (top chain.old).shape.stage ≢ Values }
-    ensures reduces { Reduces kept.new program.entry.source.now (parts store.old chain.old conts.now) (parts store.new chain.new conts.now) (O.held out.old) (O.held out.new) }
-    ensures stops { result ≡ is_some kept.new }
-    ensures cause { kept.new ≡ Some Kept.WriteFault → Rose (O.faults out.old) (O.faults out.new) }
+    requires stands { StandsSomewhere program.source.now configuration.old }
+    requires none { stop.old ≡ None }
+    requires code { (top configuration.old.chain).shape.stage ≢ Body }
+    requires values { (top configuration.old.chain).shape.stage ≢ Values }
+    ensures reduces { PartsReduce stop.new program.entry.source.now configuration.old configuration.new (O.held out.old) (O.held out.new) }
+    ensures stops { result ≡ is_some stop.new }
+    ensures cause { stop.new ≡ Some RunStop.WriteFault → Rose (O.faults out.old) (O.faults out.new) }
     ensures later { O.faults out.old ≤ O.faults out.new }
+    ensures conts { configuration.new.conts ≡ configuration.old.conts }
 {
-    inside(program, store, chain, conts, out, None, kept)
+    plain_reduction(program, configuration, out, None, stop)
 }
 
-/// Takes one reduction, or keeps why none is taken, or that it traps or passes a limit, and says whether it does.
+/// Takes one reduction, or sets why none is taken, or that it traps or passes a limit, and says whether it does.
 #[inline(always)]
 pub(crate) fn reduce<O: Sink>(
-    program: Program,
+    program: KnownProgram,
     alloc: Global,
-    store: &mut Store,
-    chain: &mut Chain,
-    conts: &mut ContStore<Stored>,
+    configuration: &mut Configuration,
     out: &mut O,
-    kept: &mut Option<Kept>,
+    stop: &mut Option<RunStop>,
 ) -> bool
-    requires known { IsKnown program.source.now program.checked.now program.classes.now program.functions.now }
-    requires valid { Valid program.source.now }
-    requires stands { StandsSomewhere program.source.now (parts store.old chain.old conts.old) }
-    requires none { kept.old ≡ None }
-    requires made { length conts.old.entries < 2 ^ 40 }
-    ensures reduces { Reduces kept.new program.entry.source.now (parts store.old chain.old conts.old) (parts store.new chain.new conts.new) (O.held out.old) (O.held out.new) }
-    ensures stops { result ≡ is_some kept.new }
-    ensures cause { kept.new ≡ Some Kept.WriteFault → Rose (O.faults out.old) (O.faults out.new) }
+    requires stands { StandsSomewhere program.source.now configuration.old }
+    requires none { stop.old ≡ None }
+    requires made { length configuration.old.conts.entries < 2 ^ 40 }
+    ensures reduces { PartsReduce stop.new program.entry.source.now configuration.old configuration.new (O.held out.old) (O.held out.new) }
+    ensures stops { result ≡ is_some stop.new }
+    ensures cause { stop.new ≡ Some RunStop.WriteFault → Rose (O.faults out.old) (O.faults out.new) }
     ensures later { O.faults out.old ≤ O.faults out.new }
 {
-    match chain.stack().stage() {
-        Stage::Body => in_body(program, alloc, store, chain, conts, out, kept),
-        Stage::Fresh => before_code(program, store, chain, conts, out, kept),
-        Stage::Branch(_) => before_code(program, store, chain, conts, out, kept),
+    match configuration.chain.stack().stage() {
+        Stage::Body => in_body(program, alloc, configuration, out, stop),
+        Stage::Fresh => before_code(program, configuration, out, stop),
+        Stage::Branch(_) => before_code(program, configuration, out, stop),
         Stage::Values => {
-            if chain.handles() == 0 {
-                keep(Some(Kept::Ended), kept)
+            if configuration.chain.handles() == 0 {
+                set_stop(Some(RunStop::Ended), stop)
             } else {
-                leave_handle(program.source, store, chain, conts);
-                keep(None, kept)
+                leave_handle(program, configuration);
+                set_stop(None, stop)
             }
         }
     }

@@ -1,7 +1,7 @@
 -- What instructions need that change the memory and give nothing, and where they go.
 use Rattle.std.proofs.Common.{◌≡◌, ℕ, ◌<◌, ◌≤◌, List, [], ◌++◌, Option, Some, None, Bool, true, length, slice_get, sym, ap, ◌∙◌, subst}
 use Rattle.std.specs.Prelude.{◌≢◌, IfSome, IfNone, if◌then◌else◌}
-use Rattle.w_types.specs.Rows.{Row}
+use Rattle.lists.specs.Rows.{Row}
 use Rattle.w_types.specs.declared.value.Value.{Value}
 use Rattle.w_memory.specs.Memory.{Memory, left_by}
 use Rattle.w_syntax.specs.Code.{Code}
@@ -23,7 +23,7 @@ use Rattle.w_stands.specs.declared.did.Did.{Did}
 use Rattle.w_stands.specs.declared.did.Did.TheVariants as did
 use Rattle.w_stands.specs.Steps.{MovesAt, Follows}
 use Rattle.w_stands.specs.Taking.{Kind, Taken, Going, IsTaking, AreOf, taken_of}
-use Rattle.w_stands.proofs.Following.{Needs, take_needs, take_follows, take_traps, dropped_behind}
+use Rattle.w_stands.proofs.NextInstructions.{Needs, take_needs, take_follows, take_traps, dropped_behind}
 use Rattle.w_memory_ops.specs.Changing.{source_of, Change, changing, did_of, finished}
 use Rattle.w_stands.proofs.LookedUp.{found}
 use Rattle.w_memory_ops.proofs.Parts.{is_true, is_first, some_there, source_is, source_within, same_memory}

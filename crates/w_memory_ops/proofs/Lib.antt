@@ -3,6 +3,6 @@ mod Addresses
 mod Rules
 mod Operands
 mod Changes
-mod Loading
-mod Sizing
-mod Dropping
+mod Loads
+mod MemorySizes
+mod DataDrop

@@ -9,7 +9,7 @@ use Rattle.w_tables.specs.Store as instances
 use Rattle.w_reduce.specs.Reduced.{Stuck}
 use Rattle.w_stands.specs.Values.{stack, store_of}
 use Rattle.w_stands.specs.Taking.{Kind, Going, Taken, taken_of}
-use Rattle.w_stands.proofs.Following.{Needs}
+use Rattle.w_stands.proofs.NextInstructions.{Needs}
 
 -- some operands, as the rule sees them, with which it applies
 pub record Applies (m : Module) (u : instances.Store) (s : Shape) (ks : List Kind) (go : Going) (n : Needs m u s ks go) : Type 0 where

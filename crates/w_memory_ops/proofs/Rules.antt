@@ -1,6 +1,6 @@
 -- The rules of memory instructions, by the operands that they take.
 use Rattle.std.proofs.Common.{ℕ, ◌+◌, ◌%◌, List, [], ◌∷◌, Some, None, true, nat_eq, slice_get, refl}
-use Rattle.w_types.specs.Rows.{◌▹◌}
+use Rattle.lists.specs.Rows.{◌▹◌}
 use Rattle.w_memory.specs.Memory.{page_count, load, store, fill, copy, init, grow}
 use Rattle.w_num.specs.Signed.{inverse}
 use Rattle.w_syntax.specs.declared.numeric.IntType.TheVariants as int

@@ -1,4 +1,4 @@
 pub mod Later
-pub mod Leading
-pub mod Emptied
-pub mod Consumed
+pub mod LaterStores
+pub mod EmptiedByReductions
+pub mod EmptiedByRuns

@@ -1,6 +1,6 @@
 -- Which continuations the reductions of a run consume (stack-switching explainer, execution: a continuation is one-shot).
 use Rattle.std.specs.Prelude.{◌≡◌, ◌≢◌, ℕ, zero, suc, ⊤, Bool, true, false, List, [], ◌∷◌, ◌++◌, length, Option, Some, None, slice_get}
-use Rattle.w_types.specs.Rows.{Row, ◌▹◌}
+use Rattle.lists.specs.Rows.{Row, ◌▹◌}
 use Rattle.w_syntax.specs.Code.{Code, Plain}
 use Rattle.w_syntax.specs.declared.instructions.Op.TheVariants as op
 use Rattle.w_syntax.specs.declared.instructions.SwitchingOp.{SwitchingOp}
@@ -9,7 +9,7 @@ use Rattle.w_rules.specs.Valid.{Valid}
 use Rattle.w_reduce.specs.declared.trap.Trap.TheVariants.{ConsumedContinuation}
 use Rattle.w_reduce.specs.Values.{Val, Cont}
 use Rattle.w_reduce.specs.Store.{Store, consumed}
-use Rattle.w_reduce.specs.Terms.{Context, Term, Kept, rest_of}
+use Rattle.w_reduce.specs.Terms.{Context, Term, Continuation, rest_of}
 use Rattle.w_reduce.specs.Program.{Program, IsProgram}
 use Rattle.w_reduce.specs.Reduced.{Trapped}
 use Rattle.w_reduce.specs.Reduce.{reduce}
@@ -17,7 +17,7 @@ use Rattle.w_reduce.specs.Run.{Run}
 use Rattle.w_reduce.specs.Start.{Start, Ready}
 
 -- of the addresses from a on, those whose continuation was there before and is consumed now
-abbrev pub emptied_from : ℕ → List (Option Kept) → List (Option Kept) → List ℕ
+abbrev pub emptied_from : ℕ → List (Option Continuation) → List (Option Continuation) → List ℕ
 emptied_from a [] now = []
 emptied_from a (o ∷ before) [] = []
 emptied_from a (None ∷ before) (o ∷ now) = emptied_from (suc a) before now
@@ -44,7 +44,7 @@ Once [] = ⊤
 Once (a ∷ xs) = Each (λ b. a ≢ b) xs × Once xs
 
 -- the continuation at this address was consumed
-abbrev pub IsConsumed : List (Option Kept) → ℕ → Type 0
+abbrev pub IsConsumed : List (Option Continuation) → ℕ → Type 0
 IsConsumed conts a = slice_get conts a ≡ Some None
 
 -- ## Laws

@@ -17,7 +17,7 @@ Rose before now = min (before + 1) (2 ^ 64 - 1) ≤ now
 -- the count didn't fall, it stands where the call came to its end, and `Failed` was answered only where it rose
 pub record HasCause {T : Type 0} (before now : ℕ) (result : Result T Fault) : Type 0 where
   pub later : before ≤ now
-  pub kept : OnOk result (now ≡ before)
+  pub stays : OnOk result (now ≡ before)
   pub failed : IsErrOf result Failed → Rose before now
 
 -- what an opened name leaves to be read

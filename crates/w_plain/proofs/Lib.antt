@@ -2,5 +2,5 @@ mod Steps
 mod Places
 mod Prints
 mod Ends
-mod Applying
-mod Attempting
+mod StacksAtRules
+mod AttemptedReductions

@@ -15,10 +15,10 @@ use Rattle.w_reduce.specs.Calls.{invoked}
 use Rattle.w_stands.specs.Values.{stack, store_of}
 use Rattle.w_stands.specs.GoingOn.{dropped}
 use Rattle.w_stands.proofs.LookedUp.{found}
-use Rattle.w_stands.proofs.Stepping.{following, applies}
+use Rattle.w_stands.proofs.PlainSteps.{following, applies}
 use Rattle.w_call_ops.specs.Calling.{Calls, Invokes}
 use Rattle.w_call_ops.specs.Printing.{text_of}
-use Rattle.w_call_ops.proofs.Printing.{print_follows, fresh_follows}
+use Rattle.w_call_ops.proofs.HostCalls.{print_follows, fresh_follows}
 use Rattle.w_syntax.specs.declared.instructions.Instr.TheVariants as flat
 use Rattle.w_syntax.specs.declared.instructions.Op.TheVariants as op
 use Rattle.w_syntax.specs.declared.instructions.ControlOp.TheVariants as control
@@ -28,7 +28,7 @@ use Rattle.w_stands.specs.declared.did.Did.{Did}
 use Rattle.w_stands.specs.declared.did.Did.TheVariants as did
 use Rattle.w_stands.specs.Keeps.{Keeps}
 use Rattle.w_stands.specs.Steps.{MovesAt, Follows, FollowsAlone}
-use Rattle.w_plain.specs.Stepped.{Takes, Stepped}
+use Rattle.w_plain.specs.Stepped.{Takes, HasStepped}
 use Rattle.w_plain.specs.declared.stop.Stop.{Stop}
 use Rattle.w_plain.specs.declared.stop.Stop.TheVariants as stop
 use Rattle.w_plain.specs.Plainness.{MayTake}
@@ -45,20 +45,20 @@ pub same_parts : (s s' : Shape) → s' ≡ s → SameParts s s'
 same_parts s s' e = subst (SameParts s) (sym e) (record { levels = refl; operands = refl; func = refl; place = refl; stage = refl })
 
 -- the function that an instruction calls is there
-pub callee_there : (a taken : ℕ) (m : Module) (u : instances.Store) (s : Shape) → Calls a taken m u s → a < length u.functions
-callee_there a taken m u s k =
+pub callee_there : (a outcome : ℕ) (m : Module) (u : instances.Store) (s : Shape) → Calls a outcome m u s → a < length u.functions
+callee_there a outcome m u s k =
     let mv = k.moves in
     let c = following m u s mv.p mv.o mv.e mv.r k.i mv.at mv.stage mv.here in
-    let f = found (slice_get u.functions a) (λ f. invoked mv.p (store_of u) mv.e (stack (drop taken s.operands)) f (rest_of c))
+    let f = found (slice_get u.functions a) (λ f. invoked mv.p (store_of u) mv.e (stack (drop outcome s.operands)) f (rest_of c))
     (λ q. applies m u s mv.p mv.o mv.e mv.r k.i mv.at mv.stage mv.here (k.rule mv.p mv.e c mv.at.source mv.at.program ∙ q)) in
     slice_get_within u.functions a f.item f.is
 
 -- what they print
-pub call_prints : (a taken : ℕ) (h : Printer) (m : Module) (u : instances.Store) (s : Shape) → Calls a taken m u s → slice_get u.functions a ≡ Some (entry.Printer h) →
-    Prints (text_of h taken s.operands) m u s
-call_prints a taken h m u s k host = λ p o e r at.
-    let t = print_follows m u s a taken h k host (dropped (taken + 1) s) refl p o e r at in
-    (store_of u, record { around = t.around; operands = stack (dropped (taken + 1) s).operands; rest = t.rest }, t.is)
+pub call_prints : (a outcome : ℕ) (h : Printer) (m : Module) (u : instances.Store) (s : Shape) → Calls a outcome m u s → slice_get u.functions a ≡ Some (entry.Printer h) →
+    Prints (text_of h outcome s.operands) m u s
+call_prints a outcome h m u s k host = λ p o e r at.
+    let t = print_follows m u s a outcome h k host (dropped (outcome + 1) s) refl p o e r at in
+    (store_of u, record { around = t.around; operands = stack (dropped (outcome + 1) s).operands; rest = t.rest }, t.is)
 
 pub invoke_prints : (h : Printer) (m : Module) (u : instances.Store) (s : Shape) → Invokes m u s → slice_get u.functions s.func ≡ Some (entry.Printer h) →
     Prints (text_of h 0 s.operands) m u s
@@ -81,7 +81,7 @@ pub printed_trap : (t : Trap) (m : Module) (u : instances.Store) (s : Shape) (he
     (text : List ℕ) × Takes (did.Trapped t) m text u s u s × Grew held held text
 printed_trap t m u s held g = ([], record { goes = g; keeps = λ test on h k. (h, k); memories = refl }, grew_nothing held)
 
-pub printed_step : (r : Result Did AllocError) (m : Module) (u u' : instances.Store) (s s' : Shape) (held : Option (List ℕ)) → Stepped r m u s u' s' → Printed (widened r) held held m u s u' s'
+pub printed_step : (r : Result Did AllocError) (m : Module) (u u' : instances.Store) (s s' : Shape) (held : Option (List ℕ)) → HasStepped r m u s u' s' → Printed (widened r) held held m u s u' s'
 printed_step (Ok d) m u u' s s' held h = ([], h, grew_nothing held)
 printed_step (Err e) m u u' s s' held h = (h.0, same_parts s s' h.1, inl refl, h.2)
 

@@ -1,4 +1,4 @@
--- Calls on a stack alone, and on a stack with a store, told in one way.
+-- Calls on a stack alone, and on a stack with a store, said in one way.
 use Rattle.std.proofs.Common.{◌≡◌, ℕ, true, List, [], length, Option, refl, sym, ap, subst}
 use Rattle.w_syntax.specs.declared.instructions.Instr.{Instr}
 use Rattle.w_syntax.specs.declared.instructions.Instr.TheVariants as flat
@@ -47,7 +47,7 @@ call_takes (op.Numeric o) h = absurd (cc)
 call_takes (op.Reference o) h = absurd (cc)
 call_takes (op.Switching o) h = absurd (cc)
 
-pub calls_take : {m : Module} {u : instances.Store} {s : Shape} {a taken : ℕ} → Calls a taken m u s → MayTake m s
+pub calls_take : {m : Module} {u : instances.Store} {s : Shape} {a outcome : ℕ} → Calls a outcome m u s → MayTake m s
 calls_take k = may_take k.moves (call_takes k.i k.calls)
 
 -- so does the invoke of a fresh segment

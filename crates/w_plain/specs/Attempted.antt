@@ -35,13 +35,13 @@ abbrev pub Attempted : Progress → Module → instances.Store → Shape → ins
 Attempted progress.Went m u s u' s' = Takes did.Went m [] u s u' s'
 Attempted progress.Entered m u s u' s' = Takes did.Went m [] u s u' s'
 Attempted progress.Trapped m u s u' s' = (u' ≡ u) × Roomier s s' × ((t : Trap) × Follows (did.Trapped t) m [] u s u s)
-Attempted progress.Rare m u s u' s' = (u' ≡ u) × Roomier s s'
+Attempted progress.NotAttempted m u s u' s' = (u' ≡ u) × Roomier s s'
 Attempted progress.NoRoom m u s u' s' = (u' ≡ u) × Roomier s s'
 
 -- ## When one is made
 
 abbrev pub was_made : Progress → Bool
-was_made progress.Rare = false
+was_made progress.NotAttempted = false
 was_made a = true
 
 abbrev pub is_own : Option FuncEntry → Bool

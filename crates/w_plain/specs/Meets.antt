@@ -8,7 +8,7 @@ use Rattle.w_tables.specs.Store as instances
 use Rattle.w_reduce.specs.Terms.{Rest, Context}
 use Rattle.w_reduce.specs.Program.{Program}
 use Rattle.w_stands.specs.Code.{instr_of}
-use Rattle.w_stands.specs.Steps.{Outside, At}
+use Rattle.w_stands.specs.Steps.{Outside, Configured}
 
 -- some configuration in which the stack stands in a body, at a place of which this holds, and to which a rule applies
 pub record Meets (P : Option Instr → Type 0) (m : Module) (u : instances.Store) (s : Shape) : Type 0 where
@@ -18,7 +18,7 @@ pub record Meets (P : Option Instr → Type 0) (m : Module) (u : instances.Store
   pub o : Outside
   pub e : Context
   pub r : Rest
-  pub at : At m u s p o e r
+  pub at : Configured m u s p o e r
 
 -- some configuration in which the stack stands, and to which a rule applies
 pub record Applies (m : Module) (u : instances.Store) (s : Shape) : Type 0 where
@@ -26,4 +26,4 @@ pub record Applies (m : Module) (u : instances.Store) (s : Shape) : Type 0 where
   pub o : Outside
   pub e : Context
   pub r : Rest
-  pub at : At m u s p o e r
+  pub at : Configured m u s p o e r

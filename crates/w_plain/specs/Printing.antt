@@ -9,7 +9,7 @@ use Rattle.w_reduce.specs.Terms.{Rest, Context, Term}
 use Rattle.w_reduce.specs.Program.{Program}
 use Rattle.w_reduce.specs.Reduced.{Went}
 use Rattle.w_stands.specs.declared.did.Did.{Did}
-use Rattle.w_stands.specs.Steps.{Outside, At, next_of}
+use Rattle.w_stands.specs.Steps.{Outside, Configured, next_of}
 use Rattle.std.specs.declared.alloc.AllocError.{AllocError}
 use Rattle.w_plain.specs.declared.stop.Stop.{Stop}
 use Rattle.w_plain.specs.declared.stop.Stop.TheVariants as stop
@@ -18,7 +18,7 @@ use Rattle.w_plain.specs.Stepped.{Takes}
 
 -- the reduction prints these bytes, in each configuration in which the stack stands
 abbrev pub Prints : List ℕ → Module → instances.Store → Shape → Type 0
-Prints text m u s = (p : Program) (o : Outside) (e : Context) (r : Rest) → At m u s p o e r → (v : Store) × (t : Term) × (next_of p u s e r ≡ Went text v t)
+Prints text m u s = (p : Program) (o : Outside) (e : Context) (r : Rest) → Configured m u s p o e r → (v : Store) × (t : Term) × (next_of p u s e r ≡ Went text v t)
 
 -- what the sink held before and holds now: a first part of what the reduction prints, or nothing more
 abbrev pub Began : Option (List ℕ) → Option (List ℕ) → Module → instances.Store → Shape → Type 0
@@ -34,7 +34,7 @@ abbrev pub Printed : Result Did Stop → Option (List ℕ) → Option (List ℕ)
 Printed (Ok d) before now m u s u' s' = (text : List ℕ) × Takes d m text u s u' s' × Grew before now text
 Printed (Err e) before now m u s u' s' = (u' ≡ u) × SameParts s s' × Began before now m u s × MayStop e m s
 
--- what a call that prints nothing comes to, told with the others
+-- what a call that prints nothing comes to, as one that may print
 abbrev pub widened : Result Did AllocError → Result Did Stop
 widened (Ok d) = Ok d
 widened (Err e) = Err stop.OutOfMemory

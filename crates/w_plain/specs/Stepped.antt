@@ -16,6 +16,6 @@ pub record Takes (d : Did) (m : Module) (text : List ℕ) (u : instances.Store) 
   pub memories : length u'.memories ≡ length u.memories
 
 -- it took its reduction, which prints nothing, or memory ran out, which that may take, and all is as it was
-abbrev pub Stepped : Result Did AllocError → Module → instances.Store → Shape → instances.Store → Shape → Type 0
-Stepped (Ok d) m u s u' s' = Takes d m [] u s u' s'
-Stepped (Err e) m u s u' s' = (u' ≡ u) × (s' ≡ s) × MayTake m s
+abbrev pub HasStepped : Result Did AllocError → Module → instances.Store → Shape → instances.Store → Shape → Type 0
+HasStepped (Ok d) m u s u' s' = Takes d m [] u s u' s'
+HasStepped (Err e) m u s u' s' = (u' ≡ u) × (s' ≡ s) × MayTake m s

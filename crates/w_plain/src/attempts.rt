@@ -1,4 +1,4 @@
-//! Attempts at the commonest reductions, of which nothing but what each came to is told.
+//! Attempts at the commonest reductions, of which nothing but what each came to is answered.
 ghost use Rattle.std.specs.Prelude.{◌≡◌, ◌≤◌, true, false, length, Some, option_map};
 ghost use Rattle.w_syntax.specs.Packed.{unpacked};
 ghost use Rattle.w_syntax.specs.declared.instructions.Instr.TheVariants as flat;
@@ -13,7 +13,7 @@ ghost use Rattle.w_plain.specs.declared.progress.Progress.TheVariants as progres
 ghost use Rattle.w_plain.specs.Attempted.{Attempted, IsAttempt, was_made, is_attempted_at};
 
 use crate::blocks::{enter_block, enter_choice};
-use crate::control_attempts::{boxed, control, told};
+use crate::control_attempts::{attempt_boxed, control, progress_of};
 use crate::exits::{leave_else, leave_end};
 use crate::families::{in_memory, number, parametric};
 use crate::progress::Progress;
@@ -25,7 +25,7 @@ use w_tables::Store;
 
 // Attempts the reduction at an instruction. One match over all of them looks at the instruction once.
 #[inline(always)]
-#[tactic(auto, using(crate::proofs::Attempting::common_attempt, crate::proofs::Ends::end_meets, crate::proofs::Attempting::rare_attempt, crate::proofs::Attempting::short_calls_none))]
+#[tactic(auto, using(crate::proofs::AttemptedReductions::common_attempt, crate::proofs::Ends::end_meets, crate::proofs::AttemptedReductions::rare_attempt, crate::proofs::AttemptedReductions::short_calls_none))]
 fn at_instruction(
     program: &Module,
     checked: &Checked,
@@ -39,59 +39,83 @@ fn at_instruction(
     ensures attempt { IsAttempt result packed.now program.now store.old stack.old store.new stack.new }
 {
     match packed {
-        PackedInstr::Variable(operation) => told(Ok(variable(program, store, stack, *operation))),
-        PackedInstr::Drop => told(Ok(parametric(program, store, stack, &ParametricOp::Drop))),
-        PackedInstr::Select => told(Ok(parametric(program, store, stack, &ParametricOp::Select))),
+        PackedInstr::Variable(operation) => progress_of(Ok(variable(
+            program, store, stack, *operation,
+        ))),
+        PackedInstr::Drop => progress_of(Ok(parametric(
+            program,
+            store,
+            stack,
+            &ParametricOp::Drop,
+        ))),
+        PackedInstr::Select => progress_of(Ok(parametric(
+            program,
+            store,
+            stack,
+            &ParametricOp::Select,
+        ))),
         PackedInstr::Load(operation, align, offset) => {
             let (align, offset) = (*align, *offset);
             let operation = MemoryOp::Load(*operation, MemArg { align, offset });
-            told(in_memory(program, store, stack, operation))
+            progress_of(in_memory(program, store, stack, operation))
         }
         PackedInstr::Store(operation, align, offset) => {
             let (align, offset) = (*align, *offset);
             let operation = MemoryOp::Store(*operation, MemArg { align, offset });
-            told(in_memory(program, store, stack, operation))
+            progress_of(in_memory(program, store, stack, operation))
         }
-        PackedInstr::I32Const(value) => told(Ok(number(
+        PackedInstr::I32Const(value) => progress_of(Ok(number(
             program,
             store,
             stack,
             NumericOp::I32Const(*value),
         ))),
-        PackedInstr::I64Const(value) => told(Ok(number(
+        PackedInstr::I64Const(value) => progress_of(Ok(number(
             program,
             store,
             stack,
             NumericOp::I64Const(*value),
         ))),
-        PackedInstr::Eqz(kind) => told(Ok(number(program, store, stack, NumericOp::Eqz(*kind)))),
+        PackedInstr::Eqz(kind) => progress_of(Ok(number(
+            program,
+            store,
+            stack,
+            NumericOp::Eqz(*kind),
+        ))),
         PackedInstr::Compare(kind, operation) => {
-            told(Ok(number(program, store, stack, NumericOp::Compare(*kind, *operation))))
+            progress_of(Ok(number(program, store, stack, NumericOp::Compare(*kind, *operation))))
         }
         PackedInstr::Unary(kind, operation) => {
-            told(Ok(number(program, store, stack, NumericOp::Unary(*kind, *operation))))
+            progress_of(Ok(number(program, store, stack, NumericOp::Unary(*kind, *operation))))
         }
         PackedInstr::Binary(kind, operation) => {
-            told(Ok(number(program, store, stack, NumericOp::Binary(*kind, *operation))))
+            progress_of(Ok(number(program, store, stack, NumericOp::Binary(*kind, *operation))))
         }
         PackedInstr::Convert(operation) => {
-            told(Ok(number(program, store, stack, NumericOp::Convert(*operation))))
+            progress_of(Ok(number(program, store, stack, NumericOp::Convert(*operation))))
         }
         PackedInstr::Block(kind, block_type, end) => {
-            told(Ok(enter_block(program, store, stack, *kind, block_type.whole(), *end)))
+            progress_of(Ok(enter_block(program, store, stack, *kind, block_type.whole(), *end)))
         }
         PackedInstr::If(block_type, end) => {
-            told(Ok(enter_choice(program, store, stack, block_type.whole(), None, *end)))
+            progress_of(Ok(enter_choice(program, store, stack, block_type.whole(), None, *end)))
         }
         PackedInstr::IfElse(block_type, otherwise, end) => {
             let otherwise = Some(*otherwise);
-            told(Ok(enter_choice(program, store, stack, block_type.whole(), otherwise, *end)))
+            progress_of(Ok(enter_choice(
+                program,
+                store,
+                stack,
+                block_type.whole(),
+                otherwise,
+                *end,
+            )))
         }
-        PackedInstr::Else => told(Ok(leave_else(program, store, stack))),
-        PackedInstr::End => told(Ok(leave_end(program, store, stack))),
+        PackedInstr::Else => progress_of(Ok(leave_else(program, store, stack))),
+        PackedInstr::End => progress_of(Ok(leave_end(program, store, stack))),
         PackedInstr::Control(operation) => control(program, checked, store, stack, *operation),
-        PackedInstr::Boxed(instr) => boxed(program, store, stack, instr),
-        _ => Progress::Rare,
+        PackedInstr::Boxed(instr) => attempt_boxed(program, store, stack, instr),
+        _ => Progress::NotAttempted,
     }
 }
 
@@ -100,7 +124,7 @@ fn at_instruction(
 /// of the module by its index. Where it wasn't taken all is as it was but for room: another call takes it, or tells why it is not taken.
 /// Nothing is made in memory here, so that a run goes fastest by this. `found` is what `instr_at` finds there.
 #[inline(always)]
-#[tactic(auto, using(crate::proofs::Attempting::moves_at, crate::proofs::Attempting::ends_at, crate::proofs::Attempting::attempted_step, crate::proofs::Attempting::made, crate::proofs::Attempting::attempted_plain, crate::proofs::Attempting::calls_there))]
+#[tactic(auto, using(crate::proofs::AttemptedReductions::moves_at, crate::proofs::AttemptedReductions::ends_at, crate::proofs::AttemptedReductions::attempted_step, crate::proofs::AttemptedReductions::made, crate::proofs::AttemptedReductions::attempted_plain, crate::proofs::AttemptedReductions::calls_there))]
 pub fn attempt(
     program: &Checked,
     store: &mut Store,
@@ -121,6 +145,6 @@ pub fn attempt(
     let source = program.module();
     match found {
         Some(packed) => at_instruction(source, program, store, stack, packed),
-        None => told(Ok(leave_end(source, store, stack))),
+        None => progress_of(Ok(leave_end(source, store, stack))),
     }
 }

@@ -2,10 +2,9 @@
 ghost use Rattle.std.specs.Prelude.{◌≡◌, ◌≤◌, Err};
 ghost use Rattle.w_outside.specs.Outside.{Rose};
 ghost use Rattle.w_call_ops.specs.Calling.{Calls, Invokes};
-ghost use Rattle.w_plain.specs.Known.{IsKnown};
 ghost use Rattle.w_plain.specs.Printing.{Printed};
 
-use crate::program::Program;
+use crate::program::KnownProgram;
 use crate::stop::Stop;
 use w_call_ops::{call_own, call_printer, invoke_own, invoke_printer};
 use w_outside::Sink;
@@ -16,15 +15,14 @@ use w_tables::{FuncEntry, Store};
 /// Invokes the function that an instruction calls, by its address, once so many operands are gone.
 #[inline(always)]
 pub(crate) fn call<O: Sink>(
-    program: Program,
+    program: KnownProgram,
     store: &mut Store,
     stack: &mut Stack,
     out: &mut O,
     address: u32,
-    taken: usize,
+    popped: usize,
 ) -> Result<Did, Stop>
-    requires known { IsKnown program.source.now program.checked.now program.classes.now program.functions.now }
-    requires call { Calls address taken program.source.now store.old stack.old }
+    requires call { Calls address popped program.source.now store.old stack.old }
     ensures step { Printed result (O.held out.old) (O.held out.new) program.entry.source.now store.old stack.old store.new stack.new }
     ensures cause { result ≡ Err Stop.WriteFault → Rose (O.faults out.old) (O.faults out.new) }
     ensures later { O.faults out.old ≤ O.faults out.new }
@@ -37,7 +35,7 @@ pub(crate) fn call<O: Sink>(
                 stack,
                 address,
                 function,
-                taken,
+                popped,
                 true,
             ) {
                 Ok(()) => Ok(Did::Went),
@@ -45,7 +43,7 @@ pub(crate) fn call<O: Sink>(
             }
         }
         FuncEntry::Printer(printer) => {
-            match call_printer(program.source, store, stack, out, address, printer, taken) {
+            match call_printer(program.source, store, stack, out, address, printer, popped) {
                 Ok(()) => Ok(Did::Went),
                 Err(fault) => Err(Stop::of_fault(fault)),
             }
@@ -56,12 +54,11 @@ pub(crate) fn call<O: Sink>(
 /// Invokes the function that a fresh segment begins with.
 #[inline(always)]
 pub(crate) fn invoke<O: Sink>(
-    program: Program,
+    program: KnownProgram,
     store: &mut Store,
     stack: &mut Stack,
     out: &mut O,
 ) -> Result<Did, Stop>
-    requires known { IsKnown program.source.now program.checked.now program.classes.now program.functions.now }
     requires invoke { Invokes program.source.now store.old stack.old }
     ensures step { Printed result (O.held out.old) (O.held out.new) program.entry.source.now store.old stack.old store.new stack.new }
     ensures cause { result ≡ Err Stop.WriteFault → Rose (O.faults out.old) (O.faults out.new) }

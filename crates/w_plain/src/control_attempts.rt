@@ -24,7 +24,7 @@ use w_tables::{FuncEntry, Store};
 
 /// The attempt at a reduction that came to this.
 #[inline(always)]
-pub(crate) fn told(outcome: Result<Did, AllocError>) -> Progress
+pub(crate) fn progress_of(outcome: Result<Did, AllocError>) -> Progress
     ensures { result ≡ attempt_of outcome }
 {
     match outcome {
@@ -58,13 +58,13 @@ fn call(
                 Err(_) => Progress::NoRoom,
             }
         }
-        FuncEntry::Printer(_) => Progress::Rare,
+        FuncEntry::Printer(_) => Progress::NotAttempted,
     }
 }
 
 /// A control instruction that holds no list.
 #[inline(always)]
-#[tactic(auto, using(crate::proofs::Steps::alone, crate::proofs::Attempting::nothing_attempted))]
+#[tactic(auto, using(crate::proofs::Steps::alone, crate::proofs::AttemptedReductions::nothing_attempted))]
 pub(crate) fn control(
     program: &Module,
     checked: &Checked,
@@ -80,16 +80,16 @@ pub(crate) fn control(
 {
     match operation {
         ShortControlOp::Call(function) => call(program, checked, store, stack, function),
-        ShortControlOp::CallIndirect(_, _) => Progress::Rare,
-        ShortControlOp::CallRef(_) => Progress::Rare,
-        _ => told(Ok(branching(program, stack, operation))),
+        ShortControlOp::CallIndirect(_, _) => Progress::NotAttempted,
+        ShortControlOp::CallRef(_) => Progress::NotAttempted,
+        _ => progress_of(Ok(branching(program, stack, operation))),
     }
 }
 
 /// A `br_table`.
 #[inline(always)]
-#[tactic(auto, using(crate::proofs::Steps::alone, crate::proofs::Attempting::attempted_alone, crate::proofs::Attempting::nothing_attempted))]
-pub(crate) fn boxed(
+#[tactic(auto, using(crate::proofs::Steps::alone, crate::proofs::AttemptedReductions::attempted_alone, crate::proofs::AttemptedReductions::nothing_attempted))]
+pub(crate) fn attempt_boxed(
     program: &Module,
     store: &mut Store,
     stack: &mut Stack,
@@ -105,5 +105,5 @@ pub(crate) fn boxed(
         br_table(program, stack, labels, *last);
         return Progress::Went;
     }
-    Progress::Rare
+    Progress::NotAttempted
 }

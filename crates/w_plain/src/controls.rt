@@ -7,11 +7,10 @@ ghost use Rattle.w_outside.specs.Outside.{Rose};
 ghost use Rattle.w_stands.specs.Keeps.{Keeps};
 ghost use Rattle.w_stands.specs.Steps.{MovesAt, MovesAlone, FollowsAlone};
 ghost use Rattle.w_plain.specs.Commonness.{is_call};
-ghost use Rattle.w_plain.specs.Known.{IsKnown};
 ghost use Rattle.w_plain.specs.Printing.{Printed};
 
 use crate::calls::call;
-use crate::program::Program;
+use crate::program::KnownProgram;
 use crate::stop::Stop;
 use w_call_ops::{callee_by_reference, callee_by_table};
 use w_control_ops::{br, br_if, br_on_non_null, br_on_null, nop, return_, unreachable};
@@ -46,13 +45,12 @@ pub(crate) fn branching(program: &Module, stack: &mut Stack, operation: ShortCon
 #[inline(always)]
 #[tactic(auto, using(crate::proofs::Steps::alone, crate::proofs::Prints::printed_alone, crate::proofs::Prints::printed_trap, crate::proofs::Prints::call_calls))]
 pub(crate) fn control<O: Sink>(
-    program: Program,
+    program: KnownProgram,
     store: &mut Store,
     stack: &mut Stack,
     out: &mut O,
     operation: ShortControlOp,
 ) -> Result<Did, Stop>
-    requires known { IsKnown program.source.now program.checked.now program.classes.now program.functions.now }
     requires moves { MovesAt (flat.Plain (op.Control (control_of operation))) program.source.now store.old stack.old }
     ensures step { Printed result (O.held out.old) (O.held out.new) program.entry.source.now store.old stack.old store.new stack.new }
     ensures cause { result ≡ Err Stop.WriteFault → Rose (O.faults out.old) (O.faults out.new) }
@@ -64,7 +62,7 @@ pub(crate) fn control<O: Sink>(
         ShortControlOp::CallIndirect(kind, table) => {
             match callee_by_table(
                 source,
-                program.classes,
+                program.checked.classes(),
                 program.functions,
                 store,
                 stack,

@@ -1,9 +1,9 @@
-//! Families of instructions that print nothing, each told in one way.
+//! Families of instructions that print nothing, each said in one way.
 ghost use Rattle.std.specs.Prelude.{◌≤◌, [], length};
 ghost use Rattle.w_syntax.specs.declared.instructions.Instr.TheVariants as flat;
 ghost use Rattle.w_syntax.specs.declared.instructions.Op.TheVariants as op;
 ghost use Rattle.w_stands.specs.Steps.{MovesAt};
-ghost use Rattle.w_plain.specs.Stepped.{Stepped, Takes};
+ghost use Rattle.w_plain.specs.Stepped.{HasStepped, Takes};
 
 use std::alloc::AllocError;
 use w_memory_ops::memory;
@@ -41,7 +41,7 @@ pub(crate) fn in_memory(
 ) -> Result<Did, AllocError>
     requires moves { MovesAt (flat.Plain (op.Memory operation)) program.now store.old stack.old }
     requires one { length store.old.memories ≤ 1 }
-    ensures step { Stepped result program.now store.old stack.old store.new stack.new }
+    ensures step { HasStepped result program.now store.old stack.old store.new stack.new }
 {
     memory(program, store, stack, operation)
 }
@@ -56,7 +56,7 @@ pub(crate) fn in_table(
     operation: TableOp,
 ) -> Result<Did, AllocError>
     requires moves { MovesAt (flat.Plain (op.Table operation)) program.now store.old stack.old }
-    ensures step { Stepped result program.now store.old stack.old store.new stack.new }
+    ensures step { HasStepped result program.now store.old stack.old store.new stack.new }
 {
     table(program, store, stack, operation)
 }

@@ -20,7 +20,7 @@ mod values;
 
 pub use attempts::attempt;
 pub use instructions::instr_at;
-pub use program::Program;
+pub use program::KnownProgram;
 pub use progress::Progress;
 pub use reduction::plain;
 pub use stop::Stop;

@@ -5,14 +5,13 @@ ghost use Rattle.w_syntax.specs.declared.instructions.Op.TheVariants as op;
 ghost use Rattle.w_syntax.specs.Packed.{unpacked};
 ghost use Rattle.w_outside.specs.Outside.{Rose};
 ghost use Rattle.w_stands.specs.Steps.{MovesAt};
-ghost use Rattle.w_plain.specs.Known.{IsKnown};
 ghost use Rattle.w_plain.specs.Plainness.{switches_at};
 ghost use Rattle.w_plain.specs.Printing.{Printed, widened};
 
 use crate::controls::control;
-use crate::program::Program;
-use crate::rare::rare;
-use crate::silent::{silent, silent_packed};
+use crate::program::KnownProgram;
+use crate::rare::step_rare;
+use crate::silent::{silent_packed, step_silent};
 use crate::stop::Stop;
 use std::alloc::AllocError;
 use w_control_ops::br_table;
@@ -22,9 +21,9 @@ use w_stands::Did;
 use w_syntax::{ControlOp, Instr, Op, PackedInstr, ShortControlOp};
 use w_tables::Store;
 
-// What a call that prints nothing came to, told with the others.
+// What a call that prints nothing came to, as one that may print.
 #[inline(always)]
-fn widen(outcome: Result<Did, AllocError>) -> Result<Did, Stop>
+fn or_stop(outcome: Result<Did, AllocError>) -> Result<Did, Stop>
     ensures { result ≡ widened outcome }
 {
     match outcome {
@@ -36,13 +35,12 @@ fn widen(outcome: Result<Did, AllocError>) -> Result<Did, Stop>
 // A control instruction that stands in a box.
 #[tactic(auto, using(crate::proofs::Steps::alone, crate::proofs::Prints::printed_alone))]
 fn control_op<O: Sink>(
-    program: Program,
+    program: KnownProgram,
     store: &mut Store,
     stack: &mut Stack,
     out: &mut O,
     operation: &ControlOp,
 ) -> Result<Did, Stop>
-    requires known { IsKnown program.source.now program.checked.now program.classes.now program.functions.now }
     requires moves { MovesAt (flat.Plain (op.Control operation.now)) program.source.now store.old stack.old }
     ensures step { Printed result (O.held out.old) (O.held out.new) program.entry.source.now store.old stack.old store.new stack.new }
     ensures cause { result ≡ Err Stop.WriteFault → Rose (O.faults out.old) (O.faults out.new) }
@@ -70,14 +68,13 @@ fn control_op<O: Sink>(
 // An instruction that stands in a box.
 #[inline(never)]
 #[tactic(auto, using(crate::proofs::Prints::printed_step))]
-fn standing<O: Sink>(
-    program: Program,
+fn boxed_control_or_silent<O: Sink>(
+    program: KnownProgram,
     store: &mut Store,
     stack: &mut Stack,
     out: &mut O,
     instr: &Instr,
 ) -> Result<Did, Stop>
-    requires known { IsKnown program.source.now program.checked.now program.classes.now program.functions.now }
     requires moves { MovesAt instr.now program.source.now store.old stack.old }
     requires plain { switches_at (Some instr.now) ≡ false }
     requires one { length store.old.memories ≤ 1 }
@@ -87,21 +84,20 @@ fn standing<O: Sink>(
 {
     match instr {
         Instr::Plain(Op::Control(operation)) => control_op(program, store, stack, out, operation),
-        _ => widen(silent(program.source, store, stack, instr)),
+        _ => or_stop(step_silent(program.source, store, stack, instr)),
     }
 }
 
 // An instruction that stands in a box: a `br_table` at once, and any other one apart.
 #[inline(always)]
 #[tactic(auto, using(crate::proofs::Steps::alone, crate::proofs::Prints::printed_alone))]
-fn boxed<O: Sink>(
-    program: Program,
+fn step_boxed<O: Sink>(
+    program: KnownProgram,
     store: &mut Store,
     stack: &mut Stack,
     out: &mut O,
     operation: &Instr,
 ) -> Result<Did, Stop>
-    requires known { IsKnown program.source.now program.checked.now program.classes.now program.functions.now }
     requires moves { MovesAt operation.now program.source.now store.old stack.old }
     requires plain { switches_at (Some operation.now) ≡ false }
     requires one { length store.old.memories ≤ 1 }
@@ -113,20 +109,19 @@ fn boxed<O: Sink>(
         br_table(program.source, stack, labels, *last);
         return Ok(Did::Went);
     }
-    standing(program, store, stack, out, operation)
+    boxed_control_or_silent(program, store, stack, out, operation)
 }
 
 /// One reduction at the instruction where the stack stands, as a body keeps it.
 #[inline(always)]
 #[tactic(auto, using(crate::proofs::Prints::printed_step))]
 pub(crate) fn instruction<O: Sink>(
-    program: Program,
+    program: KnownProgram,
     store: &mut Store,
     stack: &mut Stack,
     out: &mut O,
     packed: &PackedInstr,
 ) -> Result<Did, Stop>
-    requires known { IsKnown program.source.now program.checked.now program.classes.now program.functions.now }
     requires moves { MovesAt (unpacked packed.now) program.source.now store.old stack.old }
     requires plain { switches_at (Some (unpacked packed.now)) ≡ false }
     requires one { length store.old.memories ≤ 1 }
@@ -138,10 +133,10 @@ pub(crate) fn instruction<O: Sink>(
     match packed {
         PackedInstr::Control(operation) => control(program, store, stack, out, *operation),
         PackedInstr::Table(_) | PackedInstr::Memory(_) | PackedInstr::Reference(_) => {
-            widen(rare(source, store, stack, packed))
+            or_stop(step_rare(source, store, stack, packed))
         }
         PackedInstr::Switching(_) => unreachable!(),
-        PackedInstr::Boxed(instr) => boxed(program, store, stack, out, instr),
-        _ => widen(silent_packed(source, store, stack, packed)),
+        PackedInstr::Boxed(instr) => step_boxed(program, store, stack, out, instr),
+        _ => or_stop(silent_packed(source, store, stack, packed)),
     }
 }

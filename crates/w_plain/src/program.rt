@@ -1,14 +1,14 @@
 //! The program that a machine runs.
-use w_canon::Classes;
+ghost use Rattle.w_plain.specs.Known.{IsKnown, IsKnown-prop};
+
 use w_rules::Checked;
 use w_syntax::Module;
 
-/// A module, and what is known of it: what the check of it found out, the classes of its types, and the index of each function's type,
-/// imported functions in front.
+/// A module, with what the check of it found out, and the index of each function's type, imported functions in front.
 #[derive(Clone, Copy)]
-pub struct Program<'a> {
+pub struct KnownProgram<'a> {
     pub source: &'a Module,
     pub checked: &'a Checked,
-    pub classes: &'a Classes,
     pub functions: &'a [u32],
+    pub ghost known: { IsKnown source.now checked.now functions.now } by { IsKnown-prop source.now checked.now functions.now },
 }

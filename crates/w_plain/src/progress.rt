@@ -10,7 +10,7 @@ pub enum Progress {
     /// It traps, and was not taken.
     Trapped,
     /// None was attempted: what is there is rarer.
-    Rare,
+    NotAttempted,
     /// There is no room for what it needs, and it was not taken.
     NoRoom,
 }

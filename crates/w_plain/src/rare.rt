@@ -3,7 +3,7 @@ ghost use Rattle.std.specs.Prelude.{◌≡◌, ◌≤◌, true, length};
 ghost use Rattle.w_syntax.specs.Packed.{unpacked};
 ghost use Rattle.w_stands.specs.Steps.{MovesAt};
 ghost use Rattle.w_plain.specs.Commonness.{is_rare};
-ghost use Rattle.w_plain.specs.Stepped.{Stepped};
+ghost use Rattle.w_plain.specs.Stepped.{HasStepped};
 
 use crate::families::{in_memory, in_table};
 use crate::values::reference;
@@ -16,7 +16,7 @@ use w_tables::Store;
 /// One reduction at a rarer instruction, as a body keeps it. A function that is entered at each step writes zeros over what it keeps in
 /// memory, for all of its arms: so what these need there is kept by a function of its own.
 #[inline(never)]
-pub(crate) fn rare(
+pub(crate) fn step_rare(
     program: &Module,
     store: &mut Store,
     stack: &mut Stack,
@@ -25,7 +25,7 @@ pub(crate) fn rare(
     requires rare { is_rare packed.now ≡ true }
     requires moves { MovesAt (unpacked packed.now) program.now store.old stack.old }
     requires one { length store.old.memories ≤ 1 }
-    ensures step { Stepped result program.now store.old stack.old store.new stack.new }
+    ensures step { HasStepped result program.now store.old stack.old store.new stack.new }
 {
     match packed {
         PackedInstr::Table(operation) => in_table(program, store, stack, *operation),

@@ -4,7 +4,6 @@ ghost use Rattle.w_syntax.specs.Packed.{unpacked};
 ghost use Rattle.w_stands.specs.Code.{instr_of};
 ghost use Rattle.w_segment.specs.declared.entry.Stage.TheVariants.{Body, Values};
 ghost use Rattle.w_outside.specs.Outside.{Rose};
-ghost use Rattle.w_plain.specs.Known.{IsKnown};
 ghost use Rattle.w_plain.specs.Meets.{Applies};
 ghost use Rattle.w_plain.specs.Plainness.{switches_at};
 ghost use Rattle.w_plain.specs.Printing.{Printed};
@@ -12,7 +11,7 @@ ghost use Rattle.w_plain.specs.Printing.{Printed};
 use crate::calls::invoke;
 use crate::exits::leave_end;
 use crate::packed_steps::instruction;
-use crate::program::Program;
+use crate::program::KnownProgram;
 use crate::stop::Stop;
 use w_control_ops::branch_left;
 use w_outside::Sink;
@@ -23,15 +22,14 @@ use w_tables::Store;
 
 /// One reduction in the body where the stack stands.
 #[inline(always)]
-#[tactic(auto, using(crate::proofs::Applying::at_instruction, crate::proofs::Applying::behind_all, crate::proofs::Prints::printed_takes))]
+#[tactic(auto, using(crate::proofs::StacksAtRules::at_instruction, crate::proofs::StacksAtRules::behind_all, crate::proofs::Prints::printed_takes))]
 fn in_body<O: Sink>(
-    program: Program,
+    program: KnownProgram,
     store: &mut Store,
     stack: &mut Stack,
     out: &mut O,
     found: Option<&PackedInstr>,
 ) -> Result<Did, Stop>
-    requires known { IsKnown program.source.now program.checked.now program.classes.now program.functions.now }
     requires applies { Applies program.source.now store.old stack.old }
     requires body { stack.old.stage ≡ Body }
     requires found { option_map (λ p. unpacked p.now) found ≡ instr_of program.source.now stack.old.func stack.old.place }
@@ -52,15 +50,14 @@ fn in_body<O: Sink>(
 /// reduction was taken, all is as it was but for room, and the sink has a first part of what the reduction prints, or nothing more.
 /// `found` is what `instr_at` finds where the stack stands in a body.
 #[inline(always)]
-#[tactic(auto, using(crate::proofs::Applying::invokes, crate::proofs::Applying::branches, crate::proofs::Prints::printed_alone))]
+#[tactic(auto, using(crate::proofs::StacksAtRules::invokes, crate::proofs::StacksAtRules::branches, crate::proofs::Prints::printed_alone))]
 pub fn plain<O: Sink>(
-    program: Program,
+    program: KnownProgram,
     store: &mut Store,
     stack: &mut Stack,
     out: &mut O,
     found: Option<&PackedInstr>,
 ) -> Result<Did, Stop>
-    requires known { IsKnown program.source.now program.checked.now program.classes.now program.functions.now }
     requires applies { Applies program.source.now store.old stack.old }
     requires inside { stack.old.stage ≢ Values }
     requires found { stack.old.stage ≡ Body → option_map (λ p. unpacked p.now) found ≡ instr_of program.source.now stack.old.func stack.old.place }

@@ -4,7 +4,7 @@ ghost use Rattle.w_syntax.specs.Packed.{unpacked};
 ghost use Rattle.w_syntax.specs.declared.instructions.Instr.TheVariants as flat;
 ghost use Rattle.w_stands.specs.Steps.{MovesAt};
 ghost use Rattle.w_plain.specs.Commonness.{is_silent};
-ghost use Rattle.w_plain.specs.Stepped.{Stepped, Takes};
+ghost use Rattle.w_plain.specs.Stepped.{HasStepped, Takes};
 
 use crate::blocks::{enter_block, enter_choice};
 use crate::exits::{leave_else, leave_end};
@@ -26,7 +26,7 @@ fn silent_op(
     requires silent { is_silent (flat.Plain operation.now) ≡ true }
     requires moves { MovesAt (flat.Plain operation.now) program.now store.old stack.old }
     requires one { length store.old.memories ≤ 1 }
-    ensures step { Stepped result program.now store.old stack.old store.new stack.new }
+    ensures step { HasStepped result program.now store.old stack.old store.new stack.new }
 {
     match operation {
         Op::Parametric(operation) => Ok(parametric(program, store, stack, operation)),
@@ -63,7 +63,7 @@ fn silent_if(
 
 /// One reduction at such an instruction. It fails only where a memory or a table grows, when out of memory, and then all is as it was.
 #[tactic(auto, using(crate::proofs::Ends::end_meets))]
-pub(crate) fn silent(
+pub(crate) fn step_silent(
     program: &Module,
     store: &mut Store,
     stack: &mut Stack,
@@ -72,7 +72,7 @@ pub(crate) fn silent(
     requires silent { is_silent instr.now ≡ true }
     requires moves { MovesAt instr.now program.now store.old stack.old }
     requires one { length store.old.memories ≤ 1 }
-    ensures step { Stepped result program.now store.old stack.old store.new stack.new }
+    ensures step { HasStepped result program.now store.old stack.old store.new stack.new }
 {
     match instr {
         Instr::Plain(operation) => silent_op(program, store, stack, operation),
@@ -105,10 +105,10 @@ pub(crate) fn silent_packed(
     requires silent { is_silent (unpacked packed.now) ≡ true }
     requires moves { MovesAt (unpacked packed.now) program.now store.old stack.old }
     requires one { length store.old.memories ≤ 1 }
-    ensures step { Stepped result program.now store.old stack.old store.new stack.new }
+    ensures step { HasStepped result program.now store.old stack.old store.new stack.new }
 {
     let view = packed.view();
-    let taken = silent(program, store, stack, view.instr());
+    let outcome = step_silent(program, store, stack, view.instr());
     drop(view);
-    taken
+    outcome
 }

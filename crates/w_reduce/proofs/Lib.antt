@@ -1,5 +1,6 @@
 pub mod Trees
-pub mod Finding
+pub mod InnermostHandle
+pub mod GoesOn
 pub mod Plainly
-pub mod Passing
+pub mod PassedLimits
 pub mod Deep

@@ -1,8 +1,8 @@
 -- What a reduction by no rule of switching prints, and that it goes on apart from the store's continuations: one that prints leaves its
 -- context as it was, and every other prints nothing; it neither looks at continuations nor changes them; and but for a call it adds no frame.
-use Rattle.std.proofs.Common.{◌≡◌, ◌≤◌, ℕ, ℤ, zero, suc, ◌+◌, ◌%◌, Bool, true, false, List, [], ◌∷◌, length, Option, Some, None, Result, Ok, Err, refl, sym, subst, arith}
-use Rattle.std.specs.Prelude.{nat_eq, if◌then◌else◌, slice_get}
-use Rattle.w_types.specs.Rows.{Row, ε, ◌▹◌, size}
+use Rattle.std.proofs.Common.{◌≡◌, ◌≤◌, ℕ, ℤ, zero, suc, ◌+◌, ◌%◌, Bool, true, false, List, [], ◌∷◌, length, Option, Some, None, refl, sym, subst, arith}
+use Rattle.std.specs.Prelude.{nat_eq, slice_get}
+use Rattle.lists.specs.Rows.{Row, ε, ◌▹◌, size}
 use Rattle.w_syntax.specs.Code.{Code, Done, Plain, Block, If, IfElse}
 use Rattle.w_syntax.specs.Functions.{type_of_function, code_of_function}
 use Rattle.w_syntax.specs.declared.instructions.BlockKind.{BlockKind}
@@ -26,7 +26,6 @@ use Rattle.w_syntax.specs.declared.numeric.IntType.{IntType}
 use Rattle.w_syntax.specs.declared.numeric.IntType.TheVariants as int
 use Rattle.w_syntax.specs.declared.numeric.NumericOp.{NumericOp}
 use Rattle.w_syntax.specs.declared.numeric.NumericOp.TheVariants as numeric
-use Rattle.w_num.specs.declared.fault.NumFault.{NumFault}
 use Rattle.w_memory.specs.Memory.{load, store, fill, copy, init}
 use Rattle.w_tables.specs.declared.entries.FuncEntry.{FuncEntry}
 use Rattle.w_tables.specs.declared.entries.FuncEntry.TheVariants as entry
@@ -38,29 +37,30 @@ use Rattle.w_num.specs.Signed.{inverse}
 use Rattle.w_rules.specs.Spaces.{functions_of}
 use Rattle.w_reduce.specs.declared.limit.RunLimit.{RunLimit}
 use Rattle.w_reduce.specs.declared.trap.Trap.{Trap}
-use Rattle.w_reduce.specs.Values.{Val, I32, I64, Null, Func, Cont}
+use Rattle.w_reduce.specs.Values.{Val, I32, I64, Null, Func}
 use Rattle.w_reduce.specs.Store.{Store, Table, with_conts}
-use Rattle.w_reduce.specs.Terms.{Administrative, Invoke, Branch, Rest, rest_of, Label, Frame, Handle, Context, Term, Kept, locals_of, with_local, frames}
+use Rattle.w_reduce.specs.Terms.{Administrative, Invoke, Branch, Rest, rest_of, Label, Frame, Handle, Context, Term, Continuation, locals_of, with_local, frames}
 use Rattle.w_reduce.specs.Program.{Program, arity_of}
 use Rattle.w_reduce.specs.Reduced.{Reduced, Went, Trapped, Limited, Ended, Stuck}
-use Rattle.w_reduce.specs.Reduced.{steps_to, or_stuck, or_trap, take_value, take_values, take_number, unless_fault, as_function}
+use Rattle.w_reduce.specs.Reduced.{steps_to}
 use Rattle.w_reduce.specs.Numeric.{numeric_op, width, binop, taken_by}
 use Rattle.w_reduce.specs.Parametric.{parametric_op, select}
 use Rattle.w_reduce.specs.Variable.{variable_op}
 use Rattle.w_reduce.specs.Memories.{memory_op, loaded_size, stored_type, stored_size}
 use Rattle.w_reduce.specs.Tables.{table_op, with_elements}
-use Rattle.w_reduce.specs.Reference.{reference_op, by_null}
+use Rattle.w_reduce.specs.Reference.{reference_op}
 use Rattle.w_reduce.specs.Branches.{block, chosen, choice, branch, returns}
 use Rattle.w_reduce.specs.Calls.{enter, print, invoked, invoke}
-use Rattle.w_reduce.specs.Control.{control_op, unless_zero, call_indirect, label_in}
+use Rattle.w_reduce.specs.Control.{control_op, call_indirect, label_in}
 use Rattle.w_reduce.specs.Exits.{leave}
 use Rattle.w_reduce.specs.Reduce.{instruction, next}
 use Rattle.w_reduce.specs.Apart.{is_switching, switches, apart, PlainReductionsGoApart}
 use Rattle.w_reduce.specs.Entering.{is_call, calls, OnlyCallsAddFrames}
+use Rattle.w_reduce.proofs.GoesOn.{Relates, both_or_stuck, both_or_trap, both_unless_fault, both_take_value, both_take_values, both_take_number, both_take_three, both_as_function, both_if, both_unless_zero, both_by_null}
 
 -- Of two reductions that see the same store but for its continuations, ks in the second: both do the same, print nothing or leave the
 -- context as it was, have so many frames at most where they don't leave it, and change no continuation; they may be the end where that is said.
-pub data Plainly (ks : List (Option Kept)) (e : Context) (last : Bool) (most : ℕ) : Reduced → Reduced → Type 0 where
+pub data Plainly (ks : List (Option Continuation)) (e : Context) (last : Bool) (most : ℕ) : Reduced → Reduced → Type 0 where
   silent : {s : Store} {t : Term} → frames t.around ≤ most → Plainly ks e last most (Went [] s t) (Went [] (with_conts ks s) t)
   stays : {out : List ℕ} {s : Store} {t : Term} → t.around ≡ e → Plainly ks e last most (Went out s t) (Went out (with_conts ks s) t)
   silent_trap : {t : Trap} → Plainly ks e last most (Trapped t) (Trapped t)
@@ -91,84 +91,10 @@ with_local_frames x v (Label below n again rest ∷ e) = with_local_frames x v e
 with_local_frames x v (Frame below n g locals rest ∷ e) = refl
 with_local_frames x v (Handle below hs rest ∷ e) = refl
 
-module _ (ks : List (Option Kept)) (e : Context) (last : Bool) (most : ℕ) (few : frames e ≤ most) where
-  -- ## What goes on does so plainly where what it goes on with does
-
-  -- looking up
-  pub plainly_or_stuck : {A : Type 0} (o : Option A) (go go' : A → Reduced) → ((a : A) → Plainly ks e last most (go a) (go' a)) → Plainly ks e last most (or_stuck o go) (or_stuck o go')
-  plainly_or_stuck None go go' h = silent_stuck
-  plainly_or_stuck (Some a) go go' h = h a
-
-  -- looking up, or a trap
-  pub plainly_or_trap : {A : Type 0} (t : Trap) (o : Option A) (go go' : A → Reduced) → ((a : A) → Plainly ks e last most (go a) (go' a)) → Plainly ks e last most (or_trap t o go) (or_trap t o go')
-  plainly_or_trap t None go go' h = silent_trap
-  plainly_or_trap t (Some a) go go' h = h a
-
-  -- a number, or a fault
-  pub plainly_unless_fault : (r : Result ℕ NumFault) (go go' : ℕ → Reduced) → ((n : ℕ) → Plainly ks e last most (go n) (go' n)) → Plainly ks e last most (unless_fault r go) (unless_fault r go')
-  plainly_unless_fault (Ok n) go go' h = h n
-  plainly_unless_fault (Err f) go go' h = silent_trap
-
-  -- taking an operand
-  pub plainly_take_value : (vs : Row Val) (go go' : Row Val × Val → Reduced) → ((q : Row Val × Val) → Plainly ks e last most (go q) (go' q)) → Plainly ks e last most (take_value vs go) (take_value vs go')
-  plainly_take_value ε go go' h = silent_stuck
-  plainly_take_value (vs ▹ v) go go' h = h (vs, v)
-
-  -- taking n operands
-  pub plainly_take_values : (n : ℕ) (vs : Row Val) (go go' : Row Val × Row Val → Reduced) → ((q : Row Val × Row Val) → Plainly ks e last most (go q) (go' q))
-      → Plainly ks e last most (take_values n vs go) (take_values n vs go')
-  plainly_take_values zero vs go go' h = h (vs, ε)
-  plainly_take_values (suc n) ε go go' h = silent_stuck
-  plainly_take_values (suc n) (vs ▹ v) go go' h = plainly_take_values n vs (λ p. go (p.0, p.1 ▹ v)) (λ p. go' (p.0, p.1 ▹ v)) (λ p. h (p.0, p.1 ▹ v))
-
-  -- taking a number
-  pub plainly_take_number : (i : IntType) (vs : Row Val) (go go' : Row Val × ℕ → Reduced) → ((q : Row Val × ℕ) → Plainly ks e last most (go q) (go' q))
-      → Plainly ks e last most (take_number i vs go) (take_number i vs go')
-  plainly_take_number i ε go go' h = silent_stuck
-  plainly_take_number int.I32 (vs ▹ I32 n) go go' h = h (vs, n)
-  plainly_take_number int.I32 (vs ▹ I64 n) go go' h = silent_stuck
-  plainly_take_number int.I32 (vs ▹ Null) go go' h = silent_stuck
-  plainly_take_number int.I32 (vs ▹ Func a) go go' h = silent_stuck
-  plainly_take_number int.I32 (vs ▹ Cont a) go go' h = silent_stuck
-  plainly_take_number int.I64 (vs ▹ I32 n) go go' h = silent_stuck
-  plainly_take_number int.I64 (vs ▹ I64 n) go go' h = h (vs, n)
-  plainly_take_number int.I64 (vs ▹ Null) go go' h = silent_stuck
-  plainly_take_number int.I64 (vs ▹ Func a) go go' h = silent_stuck
-  plainly_take_number int.I64 (vs ▹ Cont a) go go' h = silent_stuck
-
-  -- taking three numbers
-  pub plainly_take_three : (vs : Row Val) (go go' : Row Val × ℕ → Row Val × ℕ → Row Val × ℕ → Reduced)
-      → ((p q r : Row Val × ℕ) → Plainly ks e last most (go p q r) (go' p q r))
-      → Plainly ks e last most (take_number int.I32 vs (λ p. take_number int.I32 p.0 (λ q. take_number int.I32 q.0 (λ r. go p q r))))
-      (take_number int.I32 vs (λ p. take_number int.I32 p.0 (λ q. take_number int.I32 q.0 (λ r. go' p q r))))
-  plainly_take_three vs go go' h =
-      plainly_take_number int.I32 vs _ _ (λ p. plainly_take_number int.I32 p.0 _ _ (λ q. plainly_take_number int.I32 q.0 _ _ (λ r. h p q r)))
-
-  -- the address of a function, or a trap
-  pub plainly_as_function : (t : Trap) (v : Val) (go go' : ℕ → Reduced) → ((a : ℕ) → Plainly ks e last most (go a) (go' a)) → Plainly ks e last most (as_function t v go) (as_function t v go')
-  plainly_as_function t (I32 n) go go' h = silent_stuck
-  plainly_as_function t (I64 n) go go' h = silent_stuck
-  plainly_as_function t Null go go' h = silent_trap
-  plainly_as_function t (Func a) go go' h = h a
-  plainly_as_function t (Cont a) go go' h = silent_stuck
-
-  -- both ways of a test
-  pub plainly_if : (b : Bool) (taken passed taken' passed' : Reduced) → Plainly ks e last most taken taken' → Plainly ks e last most passed passed' → Plainly ks e last most (if b then taken else passed) (if b then taken' else passed')
-  plainly_if true taken passed taken' passed' h k = h
-  plainly_if false taken passed taken' passed' h k = k
-
-  -- both ways of a number
-  pub plainly_unless_zero : (n : ℕ) (taken passed taken' passed' : Reduced) → Plainly ks e last most taken taken' → Plainly ks e last most passed passed' → Plainly ks e last most (unless_zero n taken passed) (unless_zero n taken' passed')
-  plainly_unless_zero zero taken passed taken' passed' h k = k
-  plainly_unless_zero (suc n) taken passed taken' passed' h k = h
-
-  -- both ways of a reference
-  pub plainly_by_null : (v : Val) (null other null' other' : Reduced) → Plainly ks e last most null null' → Plainly ks e last most other other' → Plainly ks e last most (by_null v null other) (by_null v null' other')
-  plainly_by_null (I32 n) null other null' other' h k = silent_stuck
-  plainly_by_null (I64 n) null other null' other' h k = silent_stuck
-  plainly_by_null Null null other null' other' h k = h
-  plainly_by_null (Func a) null other null' other' h k = k
-  plainly_by_null (Cont a) null other null' other' h k = k
+module _ (ks : List (Option Continuation)) (e : Context) (last : Bool) (most : ℕ) (few : frames e ≤ most) where
+  -- where there is no rule, and where both trap, both do the same
+  closed : Relates (Plainly ks e last most)
+  closed = record { stuck = silent_stuck; traps = λ t. silent_trap }
 
   -- ## Instructions that hold no others
 
@@ -176,19 +102,19 @@ module _ (ks : List (Option Kept)) (e : Context) (last : Bool) (most : ℕ) (few
   pub plainly_numeric : (s : Store) (vs : Row Val) (o : NumericOp) (k : Code) → Plainly ks e last most (numeric_op s e vs o k) (numeric_op (with_conts ks s) e vs o k)
   plainly_numeric s vs (numeric.I32Const z) k = stays refl
   plainly_numeric s vs (numeric.I64Const z) k = stays refl
-  plainly_numeric s vs (numeric.Eqz t) k = plainly_take_number t vs _ _ (λ p. stays refl)
-  plainly_numeric s vs (numeric.Compare t o) k = plainly_take_number t vs _ _ (λ p. plainly_take_number t p.0 _ _ (λ q. stays refl))
-  plainly_numeric s vs (numeric.Unary t o) k = plainly_take_number t vs _ _ (λ p. stays refl)
+  plainly_numeric s vs (numeric.Eqz t) k = both_take_number closed t vs _ _ (λ p. stays refl)
+  plainly_numeric s vs (numeric.Compare t o) k = both_take_number closed t vs _ _ (λ p. both_take_number closed t p.0 _ _ (λ q. stays refl))
+  plainly_numeric s vs (numeric.Unary t o) k = both_take_number closed t vs _ _ (λ p. stays refl)
   plainly_numeric s vs (numeric.Binary t o) k =
-      plainly_take_number t vs _ _ (λ p. plainly_take_number t p.0 _ _ (λ q. plainly_unless_fault (binop o (width t) q.1 p.1) _ _ (λ r. stays refl)))
-  plainly_numeric s vs (numeric.Convert o) k = plainly_take_number (taken_by o) vs _ _ (λ p. stays refl)
+      both_take_number closed t vs _ _ (λ p. both_take_number closed t p.0 _ _ (λ q. both_unless_fault closed (binop o (width t) q.1 p.1) _ _ (λ r. stays refl)))
+  plainly_numeric s vs (numeric.Convert o) k = both_take_number closed (taken_by o) vs _ _ (λ p. stays refl)
 
   plainly_select : (s : Store) (vs : Row Val) (k : Code) → Plainly ks e last most (select s e vs k) (select (with_conts ks s) e vs k)
-  plainly_select s vs k = plainly_take_number int.I32 vs _ _ (λ p. plainly_take_value p.0 _ _ (λ q. plainly_take_value q.0 _ _ (λ r. stays refl)))
+  plainly_select s vs k = both_take_number closed int.I32 vs _ _ (λ p. both_take_value closed p.0 _ _ (λ q. both_take_value closed q.0 _ _ (λ r. stays refl)))
 
   -- parametric instructions
   pub plainly_parametric : (s : Store) (vs : Row Val) (o : ParametricOp) (k : Code) → Plainly ks e last most (parametric_op s e vs o k) (parametric_op (with_conts ks s) e vs o k)
-  plainly_parametric s vs parametric.Drop k = plainly_take_value vs _ _ (λ p. stays refl)
+  plainly_parametric s vs parametric.Drop k = both_take_value closed vs _ _ (λ p. stays refl)
   plainly_parametric s vs parametric.Select k = plainly_select s vs k
   plainly_parametric s vs (parametric.SelectOf ts) k = plainly_select s vs k
 
@@ -197,31 +123,31 @@ module _ (ks : List (Option Kept)) (e : Context) (last : Bool) (most : ℕ) (few
 
   -- variable instructions
   pub plainly_variable : (s : Store) (vs : Row Val) (o : VariableOp) (k : Code) → Plainly ks e last most (variable_op s e vs o k) (variable_op (with_conts ks s) e vs o k)
-  plainly_variable s vs (variable.LocalGet x) k = plainly_or_stuck (slice_get (locals_of e) x) _ _ (λ l. plainly_or_stuck l _ _ (λ v. stays refl))
-  plainly_variable s vs (variable.LocalSet x) k = plainly_or_stuck (slice_get (locals_of e) x) _ _ (λ l. plainly_take_value vs _ _ (λ p. silent (in_local x p.1)))
-  plainly_variable s vs (variable.LocalTee x) k = plainly_or_stuck (slice_get (locals_of e) x) _ _ (λ l. plainly_take_value vs _ _ (λ p. silent (in_local x p.1)))
-  plainly_variable s vs (variable.GlobalGet x) k = plainly_or_stuck (slice_get s.globals x) _ _ (λ v. stays refl)
-  plainly_variable s vs (variable.GlobalSet x) k = plainly_or_stuck (slice_get s.globals x) _ _ (λ v. plainly_take_value vs _ _ (λ p. stays refl))
+  plainly_variable s vs (variable.LocalGet x) k = both_or_stuck closed (slice_get (locals_of e) x) _ _ (λ l. both_or_stuck closed l _ _ (λ v. stays refl))
+  plainly_variable s vs (variable.LocalSet x) k = both_or_stuck closed (slice_get (locals_of e) x) _ _ (λ l. both_take_value closed vs _ _ (λ p. silent (in_local x p.1)))
+  plainly_variable s vs (variable.LocalTee x) k = both_or_stuck closed (slice_get (locals_of e) x) _ _ (λ l. both_take_value closed vs _ _ (λ p. silent (in_local x p.1)))
+  plainly_variable s vs (variable.GlobalGet x) k = both_or_stuck closed (slice_get s.globals x) _ _ (λ v. stays refl)
+  plainly_variable s vs (variable.GlobalSet x) k = both_or_stuck closed (slice_get s.globals x) _ _ (λ v. both_take_value closed vs _ _ (λ p. stays refl))
 
   -- memory instructions
   pub plainly_memory : (s : Store) (vs : Row Val) (o : MemoryOp) (k : Code) → Plainly ks e last most (memory_op s e vs o k) (memory_op (with_conts ks s) e vs o k)
   plainly_memory s vs (memory.Load o arg) k =
-      plainly_take_number int.I32 vs _ _ (λ p. plainly_or_stuck (slice_get s.memories 0) _ _ (λ m.
-      plainly_or_trap _ (load m (p.1 + arg.offset) (loaded_size o)) _ _ (λ n. stays refl)))
+      both_take_number closed int.I32 vs _ _ (λ p. both_or_stuck closed (slice_get s.memories 0) _ _ (λ m.
+      both_or_trap closed _ (load m (p.1 + arg.offset) (loaded_size o)) _ _ (λ n. stays refl)))
   plainly_memory s vs (memory.Store o arg) k =
-      plainly_take_number (stored_type o) vs _ _ (λ p. plainly_take_number int.I32 p.0 _ _ (λ q. plainly_or_stuck (slice_get s.memories 0) _ _ (λ m.
-      plainly_or_trap _ (store m (q.1 + arg.offset) (stored_size o) p.1) _ _ (λ n. stays refl))))
-  plainly_memory s vs (memory.Size x) k = plainly_or_stuck (slice_get s.memories x) _ _ (λ m. stays refl)
-  plainly_memory s vs (memory.Grow x) k = plainly_take_number int.I32 vs _ _ (λ p. plainly_or_stuck (slice_get s.memories x) _ _ (λ m. stays refl))
+      both_take_number closed (stored_type o) vs _ _ (λ p. both_take_number closed int.I32 p.0 _ _ (λ q. both_or_stuck closed (slice_get s.memories 0) _ _ (λ m.
+      both_or_trap closed _ (store m (q.1 + arg.offset) (stored_size o) p.1) _ _ (λ n. stays refl))))
+  plainly_memory s vs (memory.Size x) k = both_or_stuck closed (slice_get s.memories x) _ _ (λ m. stays refl)
+  plainly_memory s vs (memory.Grow x) k = both_take_number closed int.I32 vs _ _ (λ p. both_or_stuck closed (slice_get s.memories x) _ _ (λ m. stays refl))
   plainly_memory s vs (memory.Init y x) k =
-      plainly_take_three vs _ _ (λ n j d. plainly_or_stuck (slice_get s.memories x) _ _ (λ m. plainly_or_stuck (slice_get s.datas y) _ _ (λ bytes.
-      plainly_or_trap _ (init m bytes d.1 j.1 n.1) _ _ (λ new. stays refl))))
-  plainly_memory s vs (memory.DataDrop y) k = plainly_or_stuck (slice_get s.datas y) _ _ (λ bytes. stays refl)
+      both_take_three closed vs _ _ (λ n j d. both_or_stuck closed (slice_get s.memories x) _ _ (λ m. both_or_stuck closed (slice_get s.datas y) _ _ (λ bytes.
+      both_or_trap closed _ (init m bytes d.1 j.1 n.1) _ _ (λ new. stays refl))))
+  plainly_memory s vs (memory.DataDrop y) k = both_or_stuck closed (slice_get s.datas y) _ _ (λ bytes. stays refl)
   plainly_memory s vs (memory.Copy x y) k =
-      plainly_take_three vs _ _ (λ n j d. plainly_or_stuck (slice_get s.memories x) _ _ (λ m.
-      plainly_or_trap _ (copy m d.1 j.1 n.1) _ _ (λ new. plainly_if (nat_eq x y) _ _ _ _ (stays refl) silent_stuck)))
+      both_take_three closed vs _ _ (λ n j d. both_or_stuck closed (slice_get s.memories x) _ _ (λ m.
+      both_or_trap closed _ (copy m d.1 j.1 n.1) _ _ (λ new. both_if closed (nat_eq x y) _ _ _ _ (stays refl) silent_stuck)))
   plainly_memory s vs (memory.Fill x) k =
-      plainly_take_three vs _ _ (λ n b d. plainly_or_stuck (slice_get s.memories x) _ _ (λ m. plainly_or_trap _ (fill m d.1 (b.1 % 256) n.1) _ _ (λ new. stays refl)))
+      both_take_three closed vs _ _ (λ n b d. both_or_stuck closed (slice_get s.memories x) _ _ (λ m. both_or_trap closed _ (fill m d.1 (b.1 % 256) n.1) _ _ (λ new. stays refl)))
 
   -- a table that grew, or did not
   plainly_grown : (s : Store) (x : ℕ) (t : Table) (vs : Row Val) (k : Code) (o : Option (List Val)) → Plainly ks e last most (with_growth e vs k (growth (length t.elements) s (with_elements s x t) o))
@@ -234,47 +160,47 @@ module _ (ks : List (Option Kept)) (e : Context) (last : Bool) (most : ℕ) (few
   pub plainly_table : (s : Store) (vs : Row Val) (o : TableOp) (k : Code) → Plainly ks e last most (table_op s e vs o k) (table_op (with_conts ks s) e vs o k)
   unfolding with_growth
   plainly_table s vs (table.Get x) k =
-      plainly_take_number int.I32 vs _ _ (λ i. plainly_or_stuck (slice_get s.tables x) _ _ (λ t. plainly_or_trap _ (get t.elements i.1) _ _ (λ v. stays refl)))
+      both_take_number closed int.I32 vs _ _ (λ i. both_or_stuck closed (slice_get s.tables x) _ _ (λ t. both_or_trap closed _ (get t.elements i.1) _ _ (λ v. stays refl)))
   plainly_table s vs (table.Set x) k =
-      plainly_take_value vs _ _ (λ v. plainly_take_number int.I32 v.0 _ _ (λ i. plainly_or_stuck (slice_get s.tables x) _ _ (λ t.
-      plainly_or_trap _ (replaced t.elements i.1 v.1) _ _ (λ new. stays refl))))
+      both_take_value closed vs _ _ (λ v. both_take_number closed int.I32 v.0 _ _ (λ i. both_or_stuck closed (slice_get s.tables x) _ _ (λ t.
+      both_or_trap closed _ (replaced t.elements i.1 v.1) _ _ (λ new. stays refl))))
   plainly_table s vs (table.Init y x) k =
-      plainly_take_three vs _ _ (λ n j d. plainly_or_stuck (slice_get s.tables x) _ _ (λ t. plainly_or_stuck (slice_get s.elements y) _ _ (λ segment.
-      plainly_or_trap _ (copied t.elements segment d.1 j.1 n.1) _ _ (λ new. stays refl))))
-  plainly_table s vs (table.ElemDrop y) k = plainly_or_stuck (slice_get s.elements y) _ _ (λ segment. stays refl)
+      both_take_three closed vs _ _ (λ n j d. both_or_stuck closed (slice_get s.tables x) _ _ (λ t. both_or_stuck closed (slice_get s.elements y) _ _ (λ segment.
+      both_or_trap closed _ (copied t.elements segment d.1 j.1 n.1) _ _ (λ new. stays refl))))
+  plainly_table s vs (table.ElemDrop y) k = both_or_stuck closed (slice_get s.elements y) _ _ (λ segment. stays refl)
   plainly_table s vs (table.Copy x y) k =
-      plainly_take_three vs _ _ (λ n j d. plainly_or_stuck (slice_get s.tables x) _ _ (λ t. plainly_or_stuck (slice_get s.tables y) _ _ (λ source.
-      plainly_or_trap _ (copied t.elements source.elements d.1 j.1 n.1) _ _ (λ new. stays refl))))
+      both_take_three closed vs _ _ (λ n j d. both_or_stuck closed (slice_get s.tables x) _ _ (λ t. both_or_stuck closed (slice_get s.tables y) _ _ (λ source.
+      both_or_trap closed _ (copied t.elements source.elements d.1 j.1 n.1) _ _ (λ new. stays refl))))
   plainly_table s vs (table.Grow x) k =
-      plainly_take_number int.I32 vs _ _ (λ n. plainly_take_value n.0 _ _ (λ v. plainly_or_stuck (slice_get s.tables x) _ _ (λ t.
+      both_take_number closed int.I32 vs _ _ (λ n. both_take_value closed n.0 _ _ (λ v. both_or_stuck closed (slice_get s.tables x) _ _ (λ t.
       plainly_grown s x t v.0 k (grown t.elements t.max v.1 n.1))))
-  plainly_table s vs (table.Size x) k = plainly_or_stuck (slice_get s.tables x) _ _ (λ t. stays refl)
+  plainly_table s vs (table.Size x) k = both_or_stuck closed (slice_get s.tables x) _ _ (λ t. stays refl)
   plainly_table s vs (table.Fill x) k =
-      plainly_take_number int.I32 vs _ _ (λ n. plainly_take_value n.0 _ _ (λ v. plainly_take_number int.I32 v.0 _ _ (λ i.
-      plainly_or_stuck (slice_get s.tables x) _ _ (λ t. plainly_or_trap _ (filled t.elements i.1 v.1 n.1) _ _ (λ new. stays refl)))))
+      both_take_number closed int.I32 vs _ _ (λ n. both_take_value closed n.0 _ _ (λ v. both_take_number closed int.I32 v.0 _ _ (λ i.
+      both_or_stuck closed (slice_get s.tables x) _ _ (λ t. both_or_trap closed _ (filled t.elements i.1 v.1 n.1) _ _ (λ new. stays refl)))))
 
   -- reference instructions
   pub plainly_reference : (s : Store) (vs : Row Val) (o : ReferenceOp) (k : Code) → Plainly ks e last most (reference_op s e vs o k) (reference_op (with_conts ks s) e vs o k)
   plainly_reference s vs (reference.Null x) k = stays refl
-  plainly_reference s vs reference.IsNull k = plainly_take_value vs _ _ (λ p. plainly_by_null p.1 _ _ _ _ (stays refl) (stays refl))
-  plainly_reference s vs (reference.Func x) k = plainly_or_stuck (slice_get s.functions x) _ _ (λ f. stays refl)
-  plainly_reference s vs reference.AsNonNull k = plainly_take_value vs _ _ (λ p. plainly_by_null p.1 _ _ _ _ silent_trap (stays refl))
+  plainly_reference s vs reference.IsNull k = both_take_value closed vs _ _ (λ p. both_by_null closed p.1 _ _ _ _ (stays refl) (stays refl))
+  plainly_reference s vs (reference.Func x) k = both_or_stuck closed (slice_get s.functions x) _ _ (λ f. stays refl)
+  plainly_reference s vs reference.AsNonNull k = both_take_value closed vs _ _ (λ p. both_by_null closed p.1 _ _ _ _ silent_trap (stays refl))
 
   -- ## Blocks, branches and exits
 
   -- a block
   pub plainly_block : (p : Program) (s : Store) (vs : Row Val) (b : BlockKind) (t : BlockType) (x k : Code) → Plainly ks e last most (block p s e vs b t x k) (block p (with_conts ks s) e vs b t x k)
-  plainly_block p s vs kind.Block t x k = plainly_or_stuck (arity_of p.source t) _ _ (λ a. plainly_take_values a.params vs _ _ (λ q. silent few))
-  plainly_block p s vs kind.Loop t x k = plainly_or_stuck (arity_of p.source t) _ _ (λ a. plainly_take_values a.params vs _ _ (λ q. silent few))
+  plainly_block p s vs kind.Block t x k = both_or_stuck closed (arity_of p.source t) _ _ (λ a. both_take_values closed a.params vs _ _ (λ q. silent few))
+  plainly_block p s vs kind.Loop t x k = both_or_stuck closed (arity_of p.source t) _ _ (λ a. both_take_values closed a.params vs _ _ (λ q. silent few))
 
   -- a choice of two blocks
   pub plainly_choice : (p : Program) (s : Store) (vs : Row Val) (t : BlockType) (x y k : Code) → Plainly ks e last most (choice p s e vs t x y k) (choice p (with_conts ks s) e vs t x y k)
-  plainly_choice p s vs t x y k = plainly_take_number int.I32 vs _ _ (λ q. plainly_block p s q.0 kind.Block t (chosen q.1 x y) k)
+  plainly_choice p s vs t x y k = both_take_number closed int.I32 vs _ _ (λ q. plainly_block p s q.0 kind.Block t (chosen q.1 x y) k)
 
   -- a branch out of any context
   pub plainly_branch : (s : Store) (l : ℕ) (f : Context) (vs : Row Val) → frames f ≤ most → Plainly ks e last most (branch s l f vs) (branch (with_conts ks s) l f vs)
   plainly_branch s l [] vs h = silent_stuck
-  plainly_branch s zero (Label below a again rest ∷ f) vs h = plainly_take_values a vs _ _ (λ q. silent h)
+  plainly_branch s zero (Label below a again rest ∷ f) vs h = both_take_values closed a vs _ _ (λ q. silent h)
   plainly_branch s (suc l) (Label below a again rest ∷ f) vs h = plainly_branch s l f vs h
   plainly_branch s l (Frame below a g locals rest ∷ f) vs h = silent_stuck
   plainly_branch s l (Handle below hs rest ∷ f) vs h = silent_stuck
@@ -283,7 +209,7 @@ module _ (ks : List (Option Kept)) (e : Context) (last : Bool) (most : ℕ) (few
   pub plainly_returns : (s : Store) (f : Context) (vs : Row Val) → frames f ≤ most → Plainly ks e last most (returns s f vs) (returns (with_conts ks s) f vs)
   plainly_returns s [] vs h = silent_stuck
   plainly_returns s (Label below a again rest ∷ f) vs h = plainly_returns s f vs h
-  plainly_returns s (Frame below a g locals rest ∷ f) vs h = let fewer : frames f ≤ most = omega (arith, h) in plainly_take_values a vs _ _ (λ q. silent fewer)
+  plainly_returns s (Frame below a g locals rest ∷ f) vs h = let fewer : frames f ≤ most = omega (arith, h) in both_take_values closed a vs _ _ (λ q. silent fewer)
   plainly_returns s (Handle below hs rest ∷ f) vs h = silent_stuck
 
   -- ## Calls
@@ -291,14 +217,14 @@ module _ (ks : List (Option Kept)) (e : Context) (last : Bool) (most : ℕ) (few
   -- a call of a function of the module
   pub plainly_enter : (p : Program) (s : Store) (vs : Row Val) (i : ℕ) (r : Rest) → suc (frames e) ≤ most → Plainly ks e last most (enter p s e vs i r) (enter p (with_conts ks s) e vs i r)
   plainly_enter p s vs i r more =
-      plainly_or_stuck (type_of_function p.source i) _ _ (λ t. plainly_or_stuck (code_of_function p.source i) _ _ (λ code.
-      plainly_take_values (length t.params) vs _ _ (λ q. silent more)))
+      both_or_stuck closed (type_of_function p.source i) _ _ (λ t. both_or_stuck closed (code_of_function p.source i) _ _ (λ code.
+      both_take_values closed (length t.params) vs _ _ (λ q. silent more)))
 
   -- a call of a function of the host's prints, and its context stays
   pub plainly_print : (s : Store) (vs : Row Val) (o : Printer) (r : Rest) → Plainly ks e last most (print s e vs o r) (print (with_conts ks s) e vs o r)
-  plainly_print s vs printer.I32 r = plainly_take_number int.I32 vs _ _ (λ q. stays refl)
-  plainly_print s vs printer.I64 r = plainly_take_number int.I64 vs _ _ (λ q. stays refl)
-  plainly_print s vs printer.Byte r = plainly_take_number int.I32 vs _ _ (λ q. stays refl)
+  plainly_print s vs printer.I32 r = both_take_number closed int.I32 vs _ _ (λ q. stays refl)
+  plainly_print s vs printer.I64 r = both_take_number closed int.I64 vs _ _ (λ q. stays refl)
+  plainly_print s vs printer.Byte r = both_take_number closed int.I32 vs _ _ (λ q. stays refl)
 
   plainly_invoked : (p : Program) (s : Store) (vs : Row Val) (f : FuncEntry) (r : Rest) → suc (frames e) ≤ most → Plainly ks e last most (invoked p s e vs f r) (invoked p (with_conts ks s) e vs f r)
   plainly_invoked p s vs (entry.Own i) r more = plainly_enter p s vs i r more
@@ -306,32 +232,32 @@ module _ (ks : List (Option Kept)) (e : Context) (last : Bool) (most : ℕ) (few
 
   -- a call
   pub plainly_invoke : (p : Program) (s : Store) (vs : Row Val) (a : ℕ) (r : Rest) → suc (frames e) ≤ most → Plainly ks e last most (invoke p s e vs a r) (invoke p (with_conts ks s) e vs a r)
-  plainly_invoke p s vs a r more = plainly_or_stuck (slice_get s.functions a) _ _ (λ f. plainly_invoked p s vs f r more)
+  plainly_invoke p s vs a r more = both_or_stuck closed (slice_get s.functions a) _ _ (λ f. plainly_invoked p s vs f r more)
 
   plainly_call_indirect : (p : Program) (s : Store) (vs : Row Val) (y x : ℕ) (k : Code) → suc (frames e) ≤ most → Plainly ks e last most (call_indirect p s e vs y x k) (call_indirect p (with_conts ks s) e vs y x k)
   plainly_call_indirect p s vs y x k more =
-      plainly_take_number int.I32 vs _ _ (λ q. plainly_or_stuck (slice_get s.tables x) _ _ (λ t. plainly_or_trap _ (slice_get t.elements q.1) _ _ (λ r.
-      plainly_as_function _ r _ _ (λ a. plainly_or_stuck (slice_get (functions_of p.source) a) _ _ (λ z.
-      plainly_if (p.same z y) _ _ _ _ (plainly_invoke p s q.0 a (rest_of k) more) silent_trap)))))
+      both_take_number closed int.I32 vs _ _ (λ q. both_or_stuck closed (slice_get s.tables x) _ _ (λ t. both_or_trap closed _ (slice_get t.elements q.1) _ _ (λ r.
+      both_as_function closed _ r _ _ (λ a. both_or_stuck closed (slice_get (functions_of p.source) a) _ _ (λ z.
+      both_if closed (p.same z y) _ _ _ _ (plainly_invoke p s q.0 a (rest_of k) more) silent_trap)))))
 
   -- control instructions that hold no others
   pub plainly_control : (p : Program) (s : Store) (vs : Row Val) (o : ControlOp) (k : Code) → (is_call (op.Control o) ≡ true → suc (frames e) ≤ most) → Plainly ks e last most (control_op p s e vs o k) (control_op p (with_conts ks s) e vs o k)
   plainly_control p s vs control.Unreachable k more = silent_trap
   plainly_control p s vs control.Nop k more = stays refl
   plainly_control p s vs (control.Br l) k more = plainly_branch s l e vs few
-  plainly_control p s vs (control.BrIf l) k more = plainly_take_number int.I32 vs _ _ (λ q. plainly_unless_zero q.1 _ _ _ _ (plainly_branch s l e q.0 few) (stays refl))
-  plainly_control p s vs (control.BrTable ls l) k more = plainly_take_number int.I32 vs _ _ (λ q. plainly_branch s (label_in (slice_get ls q.1) l) e q.0 few)
+  plainly_control p s vs (control.BrIf l) k more = both_take_number closed int.I32 vs _ _ (λ q. both_unless_zero closed q.1 _ _ _ _ (plainly_branch s l e q.0 few) (stays refl))
+  plainly_control p s vs (control.BrTable ls l) k more = both_take_number closed int.I32 vs _ _ (λ q. plainly_branch s (label_in (slice_get ls q.1) l) e q.0 few)
   plainly_control p s vs control.Return k more = plainly_returns s e vs few
-  plainly_control p s vs (control.BrOnNull l) k more = plainly_take_value vs _ _ (λ q. plainly_by_null q.1 _ _ _ _ (plainly_branch s l e q.0 few) (stays refl))
-  plainly_control p s vs (control.BrOnNonNull l) k more = plainly_take_value vs _ _ (λ q. plainly_by_null q.1 _ _ _ _ (stays refl) (plainly_branch s l e (q.0 ▹ q.1) few))
+  plainly_control p s vs (control.BrOnNull l) k more = both_take_value closed vs _ _ (λ q. both_by_null closed q.1 _ _ _ _ (plainly_branch s l e q.0 few) (stays refl))
+  plainly_control p s vs (control.BrOnNonNull l) k more = both_take_value closed vs _ _ (λ q. both_by_null closed q.1 _ _ _ _ (stays refl) (plainly_branch s l e (q.0 ▹ q.1) few))
   plainly_control p s vs (control.Call x) k more = plainly_invoke p s vs x (rest_of k) (more refl)
   plainly_control p s vs (control.CallIndirect y x) k more = plainly_call_indirect p s vs y x k (more refl)
-  plainly_control p s vs (control.CallRef y) k more = plainly_take_value vs _ _ (λ q. plainly_as_function _ q.1 _ _ (λ a. plainly_invoke p s q.0 a (rest_of k) (more refl)))
+  plainly_control p s vs (control.CallRef y) k more = both_take_value closed vs _ _ (λ q. both_as_function closed _ q.1 _ _ (λ a. plainly_invoke p s q.0 a (rest_of k) (more refl)))
 
 -- ## One reduction
 
 -- an instruction that holds no others, and has no rule of switching
-pub plainly_instruction : (ks : List (Option Kept)) (p : Program) (s : Store) (e : Context) (vs : Row Val) (o : Op) (k : Code) → is_switching o ≡ false
+pub plainly_instruction : (ks : List (Option Continuation)) (p : Program) (s : Store) (e : Context) (vs : Row Val) (o : Op) (k : Code) → is_switching o ≡ false
     → Plainly ks e false (frames_after (is_call o) e) (instruction p s e vs o k) (instruction p (with_conts ks s) e vs o k)
 plainly_instruction ks p s e vs (op.Control o) k h =
     plainly_control ks e false (frames_after (is_call (op.Control o)) e) (at_least (is_call (op.Control o)) e) p s vs o k (one_more (is_call (op.Control o)) e)
@@ -349,14 +275,14 @@ is_last [] [] Done = true
 is_last e ahead k = false
 
 -- the exit of a label, of a frame and of a handle
-plainly_leave : (ks : List (Option Kept)) (s : Store) (e : Context) (vs : Row Val) → Plainly ks e (is_last e [] Done) (frames e) (leave s e vs) (leave (with_conts ks s) e vs)
+plainly_leave : (ks : List (Option Continuation)) (s : Store) (e : Context) (vs : Row Val) → Plainly ks e (is_last e [] Done) (frames e) (leave s e vs) (leave (with_conts ks s) e vs)
 plainly_leave ks s [] vs = silent_end refl
 plainly_leave ks s (Label below n again rest ∷ e) vs = silent (at_least false e)
 plainly_leave ks s (Frame below n g locals rest ∷ e) vs =
-    plainly_if ks (Frame below n g locals rest ∷ e) false (suc (frames e)) (at_least false (Frame below n g locals rest ∷ e)) (nat_eq (size vs) n) _ _ _ _ (silent (at_least true e)) silent_stuck
+    both_if (closed ks (Frame below n g locals rest ∷ e) false (suc (frames e)) (at_least false (Frame below n g locals rest ∷ e))) (nat_eq (size vs) n) _ _ _ _ (silent (at_least true e)) silent_stuck
 plainly_leave ks s (Handle below hs rest ∷ e) vs = silent (at_least false e)
 
-plainly_code : (ks : List (Option Kept)) (p : Program) (s : Store) (e : Context) (vs : Row Val) (k : Code) → switches [] k ≡ false
+plainly_code : (ks : List (Option Continuation)) (p : Program) (s : Store) (e : Context) (vs : Row Val) (k : Code) → switches [] k ≡ false
     → Plainly ks e (is_last e [] k) (frames_after (calls [] k) e) (next p s e vs [] k) (next p (with_conts ks s) e vs [] k)
 plainly_code ks p s [] vs (Plain o k) h = plainly_instruction ks p s [] vs o k h
 plainly_code ks p s [] vs (Block b t x k) h = plainly_block ks [] false (frames []) (at_least false []) p s vs b t x k
@@ -369,7 +295,7 @@ plainly_code ks p s (l ∷ e) vs (If t x k) h = plainly_choice ks (l ∷ e) fals
 plainly_code ks p s (l ∷ e) vs (IfElse t x y k) h = plainly_choice ks (l ∷ e) false (frames (l ∷ e)) (at_least false (l ∷ e)) p s vs t x y k
 plainly_code ks p s (l ∷ e) vs Done h = plainly_leave ks s (l ∷ e) vs
 
-plainly_ahead : (ks : List (Option Kept)) (p : Program) (s : Store) (e : Context) (vs : Row Val) (a : Administrative) (ahead : List Administrative) (k : Code)
+plainly_ahead : (ks : List (Option Continuation)) (p : Program) (s : Store) (e : Context) (vs : Row Val) (a : Administrative) (ahead : List Administrative) (k : Code)
     → Plainly ks e (is_last e (a ∷ ahead) k) (frames_after (calls (a ∷ ahead) k) e) (next p s e vs (a ∷ ahead) k) (next p (with_conts ks s) e vs (a ∷ ahead) k)
 plainly_ahead ks p s [] vs (Invoke a) ahead k = plainly_invoke ks [] false (suc (frames [])) (at_least true []) p s vs a (record { ahead = ahead; code = k }) (one_more true [] refl)
 plainly_ahead ks p s (l ∷ e) vs (Invoke a) ahead k = plainly_invoke ks (l ∷ e) false (suc (frames (l ∷ e))) (at_least true (l ∷ e)) p s vs a (record { ahead = ahead; code = k }) (one_more true (l ∷ e) refl)
@@ -377,25 +303,25 @@ plainly_ahead ks p s [] vs (Branch l) ahead k = silent_stuck
 plainly_ahead ks p s (f ∷ e) vs (Branch l) ahead k = plainly_branch ks (f ∷ e) false (frames (f ∷ e)) (at_least false (f ∷ e)) s l (f ∷ e) vs (at_least false (f ∷ e))
 
 -- what comes next, where that is no instruction that switches stacks; it is the end only where nothing is left
-pub plainly_next : (ks : List (Option Kept)) (p : Program) (s : Store) (e : Context) (vs : Row Val) (ahead : List Administrative) (k : Code) → switches ahead k ≡ false
+pub plainly_next : (ks : List (Option Continuation)) (p : Program) (s : Store) (e : Context) (vs : Row Val) (ahead : List Administrative) (k : Code) → switches ahead k ≡ false
     → Plainly ks e (is_last e ahead k) (frames_after (calls ahead k) e) (next p s e vs ahead k) (next p (with_conts ks s) e vs ahead k)
 plainly_next ks p s e vs [] k h = plainly_code ks p s e vs k h
 plainly_next ks p s e vs (a ∷ ahead) k h = plainly_ahead ks p s e vs a ahead k
 
 -- so it goes on apart from continuations
-told_apart : {ks : List (Option Kept)} {e : Context} {last : Bool} {most : ℕ} {r r' : Reduced} → Plainly ks e last most r r' → r' ≡ apart ks r
-told_apart (silent few) = refl
-told_apart (stays is) = refl
-told_apart silent_trap = refl
-told_apart silent_limit = refl
-told_apart (silent_end is) = refl
-told_apart silent_stuck = refl
+goes_apart : {ks : List (Option Continuation)} {e : Context} {last : Bool} {most : ℕ} {r r' : Reduced} → Plainly ks e last most r r' → r' ≡ apart ks r
+goes_apart (silent few) = refl
+goes_apart (stays is) = refl
+goes_apart silent_trap = refl
+goes_apart silent_limit = refl
+goes_apart (silent_end is) = refl
+goes_apart silent_stuck = refl
 
 pub plain_apart : PlainReductionsGoApart
-plain_apart ks p s e vs ahead k h = told_apart (plainly_next ks p s e vs ahead k h)
+plain_apart ks p s e vs ahead k h = goes_apart (plainly_next ks p s e vs ahead k h)
 
 -- with no more frames, where its context has none more
-few_after : {ks : List (Option Kept)} {e : Context} {last : Bool} {most : ℕ} {r r' : Reduced} → frames e ≤ most → Plainly ks e last most r r'
+few_after : {ks : List (Option Continuation)} {e : Context} {last : Bool} {most : ℕ} {r r' : Reduced} → frames e ≤ most → Plainly ks e last most r r'
     → (out : List ℕ) (v : Store) (t : Term) → r ≡ Went out v t → frames t.around ≤ most
 few_after {most = most} few (silent {t = old} h) out v t is = let same : old ≡ t = cc in subst (λ (y : Term). frames y.around ≤ most) same h
 few_after {most = most} few (stays {t = old} h) out v t is =

@@ -1,13 +1,13 @@
 -- Terms are read as trees without loss: a tree is taken apart again.
 use Rattle.std.proofs.Common.{◌≡◌, List, [], ◌∷◌, refl, sym, ap, ◌∙◌}
 use Rattle.w_syntax.specs.Code.{Code, Done, Plain, Block, If, IfElse}
-use Rattle.w_types.specs.Rows.{Row, ε, ◌▹◌, ◌⧺◌}
+use Rattle.lists.specs.Rows.{Row, ε, ◌▹◌, ◌⧺◌}
 use Rattle.w_reduce.specs.Values.{Val}
 use Rattle.w_reduce.specs.Terms.{Administrative, Rest, Label, Frame, Handle, Context, Term}
 use Rattle.w_reduce.specs.Reduced.{Went}
 use Rattle.w_reduce.specs.Reduce.{reduce}
 use Rattle.w_reduce.specs.Tree.{Const, Admin, Instr, InstrBlock, InstrIf, InstrIfElse, InLabel, InFrame, InHandle, Sequence, Nil, ◌∙∙◌, values_then, instructions_of, admin_then, sequence_of, plugged, tree, Decomposes, Deterministic}
-use Rattle.w_types.proofs.Rows.{unit_left}
+use Rattle.lists.proofs.Rows.{unit_left}
 
 -- the code, and the rest of a sequence, that instructions are
 code_in : Sequence → Code

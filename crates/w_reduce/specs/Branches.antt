@@ -1,6 +1,6 @@
 -- Blocks, branches and returns (Core, execution, control instructions and blocks).
 use Rattle.std.specs.Prelude.{ℕ, zero, suc, [], ◌∷◌}
-use Rattle.w_types.specs.Rows.{Row, ◌⧺◌}
+use Rattle.lists.specs.Rows.{Row, ◌⧺◌}
 use Rattle.w_syntax.specs.Code.{Code, Done, Block, after}
 use Rattle.w_syntax.specs.declared.instructions.BlockKind.{BlockKind}
 use Rattle.w_syntax.specs.declared.instructions.BlockKind.TheVariants as kind
@@ -13,6 +13,7 @@ use Rattle.w_reduce.specs.Reduced.{Reduced, Stuck, steps_to, ◌>>=◌, or_stuck
 
 -- ## Entering
 
+-- [Step_read/block, loop]
 -- v^m (block bt x)  ↪  label_n{} v^m x end,   v^m (loop bt x)  ↪  label_m{loop bt x} v^m x end
 -- where bt has m parameters and n results
 abbrev pub label_of : BlockKind → BlockType → Arity → Code → Row Val → Code → Context → Context
@@ -30,6 +31,7 @@ abbrev pub chosen : ℕ → Code → Code → Code
 chosen zero x y = y
 chosen (suc n) x y = x
 
+-- [Step_pure/if-true, if-false]
 -- (i32.const n) (if bt x else y)  ↪  (block bt x) where n isn't 0, and else (block bt y), and that is reduced at once
 abbrev pub choice : Program → Store → Context → Row Val → BlockType → Code → Code → Code → Reduced
 choice p s e vs b x y c = do
@@ -38,6 +40,7 @@ choice p s e vs b x y c = do
 
 -- ## Leaving
 
+-- [Step_pure/br-label-zero, br-label-succ]
 -- label_n{again} B^l[vs v^n (br l)] end  ↪  v^n again
 abbrev pub branch : Store → ℕ → Context → Row Val → Reduced
 branch s l [] vs = Stuck
@@ -48,6 +51,7 @@ branch s (suc l) (Label below n again rest ∷ e) vs = branch s l e vs
 branch s l (Frame below n f locals rest ∷ e) vs = Stuck
 branch s l (Handle below hs rest ∷ e) vs = Stuck
 
+-- [Step_pure/return-frame, return-label]
 -- frame_n{F} B*[vs v^n return] end  ↪  v^n
 abbrev pub returns : Store → Context → Row Val → Reduced
 returns s [] vs = Stuck

@@ -1,6 +1,6 @@
 -- Function calls (Core, execution, function calls).
 use Rattle.std.specs.Prelude.{ℕ, List, ◌∷◌, ◌++◌, length, map, flat_map, replicate, Option, Some, slice_get}
-use Rattle.w_types.specs.Rows.{Row, ε, listed}
+use Rattle.lists.specs.Rows.{Row, ε, listed}
 use Rattle.w_syntax.specs.Code.{Done}
 use Rattle.w_syntax.specs.Functions.{type_of_function, code_of_function}
 use Rattle.w_syntax.specs.declared.locals.LocalRun.{LocalRun}
@@ -19,6 +19,7 @@ use Rattle.w_reduce.specs.Reduced.{Reduced, Went, steps_to, ◌>>=◌, or_stuck,
 abbrev pub defaults : List LocalRun → List (Option Val)
 defaults = flat_map (λ (r : LocalRun). replicate r.count (default_of r.kind))
 
+-- [Step_read/call_ref-func]
 -- v^n (invoke a)  ↪  frame_k{v^n, default^t} label_k{} body end end
 -- where the function of address a has n parameters, k results, and locals of types t
 abbrev pub enter : Program → Store → Context → Row Val → ℕ → Rest → Reduced

@@ -1,7 +1,7 @@
 -- The values of constant expressions (Core, execution, instantiation).
 use Rattle.std.specs.Prelude.{ℕ, [], Option, Some, None}
 use Rattle.std.specs.Option.{option_and_then}
-use Rattle.w_types.specs.Rows.{Row, ε, ◌▹◌}
+use Rattle.lists.specs.Rows.{Row, ε, ◌▹◌}
 use Rattle.w_syntax.specs.Code.{Code, Done, Plain, Block, If, IfElse}
 use Rattle.w_reduce.specs.Values.{Val, I32, Null}
 use Rattle.w_reduce.specs.Store.{Store}

@@ -1,6 +1,6 @@
 -- Control instructions that hold no others (Core, execution, control instructions).
 use Rattle.std.specs.Prelude.{ℕ, zero, suc, Bool, if◌then◌else◌, Option, Some, None, slice_get}
-use Rattle.w_types.specs.Rows.{Row, ◌▹◌}
+use Rattle.lists.specs.Rows.{Row, ◌▹◌}
 use Rattle.w_syntax.specs.Code.{Code}
 use Rattle.w_syntax.specs.declared.instructions.ControlOp.{ControlOp}
 use Rattle.w_syntax.specs.declared.instructions.ControlOp.TheVariants as control
@@ -41,31 +41,42 @@ call_indirect p s e vs y x c = do
   unless_mismatch (p.same z y) (invoke p s e vs a (rest_of c))
 
 abbrev pub control_op : Program → Store → Context → Row Val → ControlOp → Code → Reduced
+-- [Step_pure/unreachable]
 -- unreachable  ↪  trap
 control_op p s e vs control.Unreachable c = Trapped trap.Unreachable
+-- [Step_pure/nop]
 -- nop  ↪  ε
 control_op p s e vs control.Nop c = steps_to s e vs (rest_of c)
+-- [Step_pure/br-label-zero, br-label-succ]
 control_op p s e vs (control.Br l) c = branch s l e vs
+-- [Step_pure/br_if-true, br_if-false]
 -- (i32.const n) (br_if l)  ↪  (br l) where n isn't 0, and that is reduced at once; else ε
 control_op p s e vs (control.BrIf l) c = do
   (vs, n) ← take_i32 vs
   unless_zero n (branch s l e vs) (steps_to s e vs (rest_of c))
+-- [Step_pure/br_table-lt, br_table-ge]
 -- (i32.const i) (br_table l* l)  ↪  (br l*[i]), and (br l) where there is no such label
 control_op p s e vs (control.BrTable ls l) c = do
   (vs, i) ← take_i32 vs
   branch s (label_in (slice_get ls i) l) e vs
+-- [Step_pure/return-frame, return-label]
 control_op p s e vs control.Return c = returns s e vs
+-- [Step_pure/br_on_null-null, br_on_null-addr]
 -- ref (br_on_null l)  ↪  (br l) where it is null, and that is reduced at once; else ref
 control_op p s e vs (control.BrOnNull l) c = do
   (vs, r) ← take_value vs
   by_null r (branch s l e vs) (steps_to s e (vs ▹ r) (rest_of c))
+-- [Step_pure/br_on_non_null-null, br_on_non_null-addr]
 -- ref (br_on_non_null l)  ↪  ε where it is null; else ref (br l), and that is reduced at once
 control_op p s e vs (control.BrOnNonNull l) c = do
   (vs, r) ← take_value vs
   by_null r (steps_to s e vs (rest_of c)) (branch s l e (vs ▹ r))
+-- [Step_read/call]
 -- v^n (call x)  ↪  v^n (invoke a), and that is reduced at once; a is the address of function x, its index
 control_op p s e vs (control.Call x) c = invoke p s e vs x (rest_of c)
+-- [Step_pure/call_indirect]
 control_op p s e vs (control.CallIndirect y x) c = call_indirect p s e vs y x c
+-- [Step_read/call_ref-null, call_ref-func]
 -- v^n (ref.func a) (call_ref y)  ↪  v^n (invoke a), and that is reduced at once; a trap at null
 control_op p s e vs (control.CallRef y) c = do
   (vs, r) ← take_value vs

@@ -1,6 +1,6 @@
 -- Memory instructions (Core, execution, memory instructions). A module has at most one memory.
 use Rattle.std.specs.Prelude.{ℕ, ◌+◌, ◌%◌, nat_eq, if◌then◌else◌, [], slice_get, slice_set}
-use Rattle.w_types.specs.Rows.{Row, ◌▹◌}
+use Rattle.lists.specs.Rows.{Row, ◌▹◌}
 use Rattle.w_num.specs.Signed.{inverse}
 use Rattle.w_num.specs.Conversions.{extend_s}
 use Rattle.w_memory.specs.Memory.{Memory, page_count, load, store, fill, copy, init, grow}
@@ -79,12 +79,14 @@ abbrev pub without_data : Store → ℕ → Store
 without_data s y = record s { datas = slice_set s.datas y [] }
 
 abbrev pub memory_op : Store → Context → Row Val → MemoryOp → Code → Reduced
+-- [Step_read/load-num-oob, load-num-val, load-pack-oob, load-pack-val]
 -- S; (i32.const i) (t.loadN_sx ao)  ↪  S; (t.const c)   where c is read at i + ao.offset
 memory_op s e vs (memory.Load o arg) c = do
   (vs, i) ← take_i32 vs
   m ← or_stuck (slice_get s.memories 0)
   n ← or_trap trap.MemoryOutOfBounds (load m (i + arg.offset) (loaded_size o))
   steps_to s e (vs ▹ number (loaded_type o) (loaded o n)) (rest_of c)
+-- [Step/store-num-oob, store-num-val, store-pack-oob, store-pack-val]
 -- S; (i32.const i) (t.const c) (t.storeN ao)  ↪  S'; ε   where S' = S with the low bytes of c at i + ao.offset
 memory_op s e vs (memory.Store o arg) c = do
   (vs, n) ← take_number (stored_type o) vs
@@ -92,16 +94,19 @@ memory_op s e vs (memory.Store o arg) c = do
   m ← or_stuck (slice_get s.memories 0)
   m ← or_trap trap.MemoryOutOfBounds (store m (i + arg.offset) (stored_size o) n)
   steps_to (with_memory s 0 m) e vs (rest_of c)
+-- [Step_read/memory.size]
 -- S; (memory.size x)  ↪  S; (i32.const n)   where memory x has n pages
 memory_op s e vs (memory.Size x) c = do
   m ← or_stuck (slice_get s.memories x)
   steps_to s e (vs ▹ I32 (page_count m)) (rest_of c)
+-- [Step/memory.grow-succeed, memory.grow-fail]
 -- S; (i32.const n) (memory.grow x)  ↪  S'; (i32.const k)   where S' = S with n pages more, which were k; or  ↪  S; (i32.const -1)
 memory_op s e vs (memory.Grow x) c = do
   (vs, n) ← take_i32 vs
   m ← or_stuck (slice_get s.memories x)
   let g = grow m n in
       steps_to (with_memory s x g.1) e (vs ▹ I32 (inverse 32 g.0)) (rest_of c)
+-- [Step_read/memory.init-oob, memory.init-zero, memory.init-succ]
 -- S; (i32.const d) (i32.const j) (i32.const n) (memory.init y x)  ↪  S'; ε
 memory_op s e vs (memory.Init y x) c = do
   (vs, n) ← take_i32 vs
@@ -111,10 +116,12 @@ memory_op s e vs (memory.Init y x) c = do
   segment ← or_stuck (slice_get s.datas y)
   m ← or_trap trap.MemoryOutOfBounds (init m segment d j n)
   steps_to (with_memory s x m) e vs (rest_of c)
+-- [Step/data.drop]
 -- S; (data.drop y)  ↪  S'; ε   where S' = S with data segment y empty
 memory_op s e vs (memory.DataDrop y) c = do
   segment ← or_stuck (slice_get s.datas y)
   steps_to (without_data s y) e vs (rest_of c)
+-- [Step_read/memory.copy-oob, memory.copy-zero, memory.copy-le, memory.copy-gt]
 -- S; (i32.const d) (i32.const j) (i32.const n) (memory.copy x x)  ↪  S'; ε
 memory_op s e vs (memory.Copy x y) c = do
   (vs, n) ← take_i32 vs
@@ -123,6 +130,7 @@ memory_op s e vs (memory.Copy x y) c = do
   m ← or_stuck (slice_get s.memories x)
   m ← or_trap trap.MemoryOutOfBounds (copy m d j n)
   if nat_eq x y then steps_to (with_memory s x m) e vs (rest_of c) else Stuck
+-- [Step_read/memory.fill-oob, memory.fill-zero, memory.fill-succ]
 -- S; (i32.const d) val (i32.const n) (memory.fill x)  ↪  S'; ε
 memory_op s e vs (memory.Fill x) c = do
   (vs, n) ← take_i32 vs

@@ -1,6 +1,6 @@
 -- Numeric instructions (Core, execution, numeric instructions).
 use Rattle.std.specs.Prelude.{ℕ, Result, Ok}
-use Rattle.w_types.specs.Rows.{Row, ◌▹◌}
+use Rattle.lists.specs.Rows.{Row, ◌▹◌}
 use Rattle.w_syntax.specs.Code.{Code}
 use Rattle.w_syntax.specs.declared.numeric.IntType.{IntType}
 use Rattle.w_syntax.specs.declared.numeric.IntType.TheVariants as int
@@ -105,25 +105,30 @@ abbrev pub numeric_op : Store → Context → Row Val → NumericOp → Code →
 -- (i32.const z)  ↪  c,  (i64.const z)  ↪  c
 numeric_op s e vs (numeric.I32Const z) c = steps_to s e (vs ▹ I32 (inverse 32 z)) (rest_of c)
 numeric_op s e vs (numeric.I64Const z) c = steps_to s e (vs ▹ I64 (inverse 64 z)) (rest_of c)
+-- [Step_pure/testop]
 -- (t.const a) t.eqz  ↪  (i32.const c)
 numeric_op s e vs (numeric.Eqz t) c = do
   (vs, a) ← take_number t vs
   steps_to s e (vs ▹ I32 (ieqz (width t) a)) (rest_of c)
+-- [Step_pure/relop]
 -- (t.const a) (t.const b) t.relop  ↪  (i32.const c)
 numeric_op s e vs (numeric.Compare t o) c = do
   (vs, b) ← take_number t vs
   (vs, a) ← take_number t vs
   steps_to s e (vs ▹ I32 (relop o (width t) a b)) (rest_of c)
+-- [Step_pure/unop-val]
 -- (t.const a) t.unop  ↪  (t.const c)
 numeric_op s e vs (numeric.Unary t o) c = do
   (vs, a) ← take_number t vs
   steps_to s e (vs ▹ number t (unop o (width t) a)) (rest_of c)
+-- [Step_pure/binop-val, binop-trap]
 -- (t.const a) (t.const b) t.binop  ↪  (t.const c), or a trap
 numeric_op s e vs (numeric.Binary t o) c = do
   (vs, b) ← take_number t vs
   (vs, a) ← take_number t vs
   r ← unless_fault (binop o (width t) a b)
   steps_to s e (vs ▹ number t r) (rest_of c)
+-- [Step_pure/cvtop-val]
 -- (t.const a) t'.cvtop_t  ↪  (t'.const c)
 numeric_op s e vs (numeric.Convert o) c = do
   (vs, a) ← take_number (taken_by o) vs

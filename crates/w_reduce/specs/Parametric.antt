@@ -1,6 +1,6 @@
 -- Parametric instructions (Core, execution, parametric instructions).
 use Rattle.std.specs.Prelude.{ℕ, zero, suc}
-use Rattle.w_types.specs.Rows.{Row, ◌▹◌}
+use Rattle.lists.specs.Rows.{Row, ◌▹◌}
 use Rattle.w_syntax.specs.Code.{Code}
 use Rattle.w_syntax.specs.declared.instructions.ParametricOp.{ParametricOp}
 use Rattle.w_syntax.specs.declared.instructions.ParametricOp.TheVariants as parametric
@@ -14,6 +14,7 @@ abbrev pub selected : {A : Type 0} → ℕ → A → A → A
 selected zero a b = b
 selected (suc n) a b = a
 
+-- [Step_pure/select-true, select-false]
 -- v1 v2 (i32.const c) select  ↪  v1 where c isn't 0, and else v2
 abbrev pub select : Store → Context → Row Val → Code → Reduced
 select s e vs c = do
@@ -23,6 +24,7 @@ select s e vs c = do
   steps_to s e (vs ▹ selected n a b) (rest_of c)
 
 abbrev pub parametric_op : Store → Context → Row Val → ParametricOp → Code → Reduced
+-- [Step_pure/drop]
 -- v drop  ↪  ε
 parametric_op s e vs parametric.Drop c = do
   (vs, v) ← take_value vs

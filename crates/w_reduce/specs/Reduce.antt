@@ -1,7 +1,8 @@
 -- The reduction rules (Core, execution). A chapter has its rules in a file of its own, each with the rule as the standard
--- writes it; here they are one reduction of a term.
+-- writes it; here they are one reduction of a term. In brackets stand the names that rules have in the specification's own source
+-- (SpecTec), where Step/pure, Step/read and the rules of contexts, Step/ctxt-*, are `reduce` itself. The explainer names no rules.
 use Rattle.std.specs.Prelude.{List, [], ◌∷◌, Option, Some, None}
-use Rattle.w_types.specs.Rows.{Row}
+use Rattle.lists.specs.Rows.{Row}
 use Rattle.w_syntax.specs.Code.{Code, Done, Plain, Block, If, IfElse}
 use Rattle.w_syntax.specs.declared.instructions.Op.{Op}
 use Rattle.w_syntax.specs.declared.instructions.Op.TheVariants as op

@@ -1,6 +1,6 @@
 -- What one reduction comes to, and taking operands (Core, execution, conventions).
 use Rattle.std.specs.Prelude.{ℕ, zero, suc, List, [], Option, Some, None, Result, Ok, Err, slice_get}
-use Rattle.w_types.specs.Rows.{Row, ε, ◌▹◌}
+use Rattle.lists.specs.Rows.{Row, ε, ◌▹◌}
 use Rattle.w_num.specs.declared.fault.NumFault.{NumFault}
 use Rattle.w_num.specs.declared.fault.NumFault.TheVariants as fault
 use Rattle.w_syntax.specs.declared.numeric.IntType.{IntType}
@@ -10,7 +10,7 @@ use Rattle.w_reduce.specs.declared.trap.Trap.{Trap}
 use Rattle.w_reduce.specs.declared.trap.Trap.TheVariants as trap
 use Rattle.w_reduce.specs.Values.{Val, I32, I64, Null, Func, Cont}
 use Rattle.w_reduce.specs.Store.{Store}
-use Rattle.w_reduce.specs.Terms.{Rest, Context, Term, Kept}
+use Rattle.w_reduce.specs.Terms.{Rest, Context, Term, Continuation}
 
 -- what one reduction comes to
 pub data Reduced : Type 0 where
@@ -100,13 +100,13 @@ as_function t Null go = Trapped t
 as_function t (Func a) go = go a
 as_function t _ go = Stuck
 
-abbrev pub unless_consumed : Option (Option Kept) → (Kept → Reduced) → Reduced
+abbrev pub unless_consumed : Option (Option Continuation) → (Continuation → Reduced) → Reduced
 unless_consumed None go = Stuck
 unless_consumed (Some None) go = Trapped trap.ConsumedContinuation
 unless_consumed (Some (Some k)) go = go k
 
 -- the address of a continuation, and what it keeps; a trap at null, and else where it was consumed
-abbrev pub as_continuation : Store → Val → (ℕ × Kept → Reduced) → Reduced
+abbrev pub as_continuation : Store → Val → (ℕ × Continuation → Reduced) → Reduced
 as_continuation s Null go = Trapped trap.NullReference
 as_continuation s (Cont a) go = unless_consumed (slice_get s.conts a) (λ k. go (a, k))
 as_continuation s _ go = Stuck

@@ -1,6 +1,6 @@
 -- The room that a frame needs, as validation counts it, and what of it is taken.
 use Rattle.std.specs.Prelude.{◌≡◌, ◌≤◌, ℕ, suc, ◌+◌, Bool, true, false, List, [], ◌∷◌, if◌then◌else◌, Option, Some, None, slice_get}
-use Rattle.w_types.specs.Rows.{size}
+use Rattle.lists.specs.Rows.{size}
 use Rattle.w_types.specs.declared.types.FuncType.{FuncType}
 use Rattle.w_syntax.specs.Code.{Code, Plain, Block, If, IfElse}
 use Rattle.w_syntax.specs.Functions.{type_of_function, code_of_function}
@@ -19,7 +19,7 @@ use Rattle.w_rules.specs.Peak.{depth}
 use Rattle.w_reduce.specs.Entering.{is_call}
 use Rattle.w_reduce.specs.Reduced.{Reduced, Went}
 use Rattle.w_reduce.specs.Store.{Store}
-use Rattle.w_reduce.specs.Terms.{Administrative, Invoke, Branch, Label, Frame, Handle, Context, Term, Kept}
+use Rattle.w_reduce.specs.Terms.{Administrative, Invoke, Branch, Label, Frame, Handle, Context, Term, Continuation}
 
 -- ## What a function needs
 
@@ -76,7 +76,7 @@ invokes_next [] = false
 -- The innermost frame of a term, and of each continuation once it has what it takes, holds no more, where no function is invoked next.
 pub record Holding (m : Module) (s : Store) (t : Term) : Type 0 where
   pub running : (f : ℕ) → function_in t.around ≡ Some f → invokes_next t.rest.ahead ≡ false → FrameHolds m f t.around (size t.operands) 0
-  pub stored : (a : ℕ) (k : Kept) → slice_get s.conts a ≡ Some (Some k) → (f : ℕ) → function_in k.term.around ≡ Some f → invokes_next k.term.rest.ahead ≡ false
+  pub stored : (a : ℕ) (k : Continuation) → slice_get s.conts a ≡ Some (Some k) → (f : ℕ) → function_in k.term.around ≡ Some f → invokes_next k.term.rest.ahead ≡ false
       → FrameHolds m f k.term.around (size k.term.operands + k.takes) 0
 
 -- where a reduction goes on, the result is such

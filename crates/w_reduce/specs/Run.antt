@@ -1,6 +1,6 @@
 -- Runs: what at most n reductions come to.
 use Rattle.std.specs.Prelude.{ℕ, zero, suc, List, [], ◌++◌}
-use Rattle.w_types.specs.Rows.{Row, listed}
+use Rattle.lists.specs.Rows.{Row, listed}
 use Rattle.w_reduce.specs.declared.limit.RunLimit.{RunLimit}
 use Rattle.w_reduce.specs.declared.trap.Trap.{Trap}
 use Rattle.w_reduce.specs.Values.{Val}

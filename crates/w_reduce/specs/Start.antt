@@ -5,7 +5,7 @@ use Rattle.std.specs.Str.{bytes_eq}
 use Rattle.w_types.specs.declared.types.FuncType.{FuncType}
 use Rattle.w_types.specs.declared.types.ValType.{ValType}
 use Rattle.w_types.specs.declared.types.ValType.TheVariants as val
-use Rattle.w_types.specs.Rows.{ε}
+use Rattle.lists.specs.Rows.{ε}
 use Rattle.w_syntax.specs.Code.{Code, Done}
 use Rattle.w_syntax.specs.Functions.{type_at}
 use Rattle.w_syntax.specs.declared.module.Data as syntax_data

@@ -3,7 +3,7 @@ use Rattle.std.specs.Prelude.{ℕ, suc, List, [], ◌∷◌, ◌++◌, length, O
 use Rattle.w_memory.specs.Memory.{Memory}
 use Rattle.w_tables.specs.declared.entries.FuncEntry.{FuncEntry}
 use Rattle.w_reduce.specs.Values.{Val}
-use Rattle.w_reduce.specs.Terms.{Kept}
+use Rattle.w_reduce.specs.Terms.{Continuation}
 
 -- A table instance: its elements, and the maximum of its type.
 pub record Table : Type 0 where
@@ -21,7 +21,7 @@ pub record Store : Type 0 where
   pub tags : List ℕ
   pub elements : List (List Val)
   pub datas : List (List ℕ)
-  pub conts : List (Option Kept)
+  pub conts : List (Option Continuation)
 
 -- ## Continuations (stack-switching explainer, execution)
 
@@ -30,21 +30,21 @@ abbrev pub next_cont : Store → ℕ
 next_cont s = length s.conts
 
 -- the store with one more, which has the next address
-abbrev pub with_cont : Kept → Store → Store
+abbrev pub with_cont : Continuation → Store → Store
 with_cont k s = record s { conts = s.conts ++ Some k ∷ [] }
 
 -- the store with one consumed
 abbrev pub without_cont : ℕ → Store → Store
 without_cont a s = record s { conts = slice_set s.conts a None }
 
-abbrev pub with_conts : List (Option Kept) → Store → Store
+abbrev pub with_conts : List (Option Continuation) → Store → Store
 with_conts ks s = record s { conts = ks }
 
 -- how many were made
 abbrev pub made : Store → ℕ
 made s = length s.conts
 
-abbrev pub live_in : List (Option Kept) → ℕ
+abbrev pub live_in : List (Option Continuation) → ℕ
 live_in [] = 0
 live_in (None ∷ ks) = live_in ks
 live_in (Some k ∷ ks) = suc (live_in ks)
@@ -53,7 +53,7 @@ live_in (Some k ∷ ks) = suc (live_in ks)
 abbrev pub live : Store → ℕ
 live s = live_in s.conts
 
-abbrev pub consumed_in : List (Option Kept) → ℕ
+abbrev pub consumed_in : List (Option Continuation) → ℕ
 consumed_in [] = 0
 consumed_in (None ∷ ks) = suc (consumed_in ks)
 consumed_in (Some k ∷ ks) = consumed_in ks

@@ -1,6 +1,6 @@
 -- Terms and contexts (Core, execution, runtime structure).
 use Rattle.std.specs.Prelude.{ℕ, suc, List, [], ◌∷◌, ◌++◌, Option, Some, slice_set}
-use Rattle.w_types.specs.Rows.{Row, ε, ◌⧺◌}
+use Rattle.lists.specs.Rows.{Row, ε, ◌⧺◌}
 use Rattle.w_syntax.specs.Code.{Code, Done}
 use Rattle.w_syntax.specs.declared.instructions.Clause.{Clause}
 use Rattle.w_reduce.specs.Values.{Val}
@@ -49,7 +49,7 @@ in_context e t = record t { around = t.around ++ e }
 
 -- A context with one hole, as the term around it: the hole stands between its operands and what comes next; and how many values it
 -- takes.
-pub record Kept : Type 0 where
+pub record Continuation : Type 0 where
   pub takes : ℕ
   pub term : Term
 
@@ -58,8 +58,8 @@ abbrev pub filled : Term → Row Val → Term
 filled t vs = record t { operands = t.operands ⧺ vs }
 
 -- [ ] (invoke a), which takes n values
-abbrev pub fresh : ℕ → ℕ → Kept
-fresh a n = record { takes = n; term = record { around = []; operands = ε; rest = record { ahead = Invoke a ∷ []; code = Done } } }
+abbrev pub fresh_continuation : ℕ → ℕ → Continuation
+fresh_continuation a n = record { takes = n; term = record { around = []; operands = ε; rest = record { ahead = Invoke a ∷ []; code = Done } } }
 
 -- ## The locals: those of the innermost frame
 

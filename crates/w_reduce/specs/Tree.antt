@@ -7,7 +7,7 @@ use Rattle.w_syntax.specs.declared.instructions.BlockKind.{BlockKind}
 use Rattle.w_syntax.specs.declared.instructions.BlockType.{BlockType}
 use Rattle.w_syntax.specs.declared.instructions.Clause.{Clause}
 use Rattle.w_reduce.specs.Program.{Program}
-use Rattle.w_types.specs.Rows.{Row, ε, ◌▹◌}
+use Rattle.lists.specs.Rows.{Row, ε, ◌▹◌}
 use Rattle.w_reduce.specs.Values.{Val}
 use Rattle.w_reduce.specs.Store.{Store}
 use Rattle.w_reduce.specs.Terms.{Administrative, Rest, Label, Frame, Handle, Context, Term}

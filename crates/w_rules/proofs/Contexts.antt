@@ -7,7 +7,7 @@ use Rattle.w_rules.specs.View.{context_in}
 
 -- it is of this module and has all that the module has, but for the globals
 pub record IsOf (cx : rt.Context) (m : Module) : Type 0 where
-  pub owner : cx.owner.now ≡ m
+  pub candidate : cx.candidate.now ≡ m
   pub functions : cx.functions.now ≡ functions_of m
   pub tables : cx.tables.now ≡ tables_of m
   pub memories : cx.memories.now ≡ memories_of m

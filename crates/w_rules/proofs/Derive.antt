@@ -2,8 +2,8 @@
 use Rattle.std.proofs.Common.{◌≡◌, Bool, true, false, List, Option, Some, None, refl, sym, subst}
 use Rattle.w_types.specs.declared.types.RecGroup.{RecGroup}
 use Rattle.w_types.specs.declared.types.ValType.TheVariants.{I32}
-use Rattle.w_types.specs.Rows.{Row, ε, ◌▹◌, ◌⧺◌}
-use Rattle.w_types.proofs.Rows.{beside_assoc}
+use Rattle.lists.specs.Rows.{Row, ε, ◌▹◌, ◌⧺◌}
+use Rattle.lists.proofs.Rows.{beside_assoc}
 use Rattle.w_syntax.specs.Code.{Code, Done, Plain, Block, If, IfElse, after}
 use Rattle.w_rules.specs.Operands.{Operand}
 use Rattle.w_rules.specs.Operands.{Known}

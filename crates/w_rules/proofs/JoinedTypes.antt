@@ -7,12 +7,12 @@ use Rattle.w_types.specs.declared.types.HeapType.{HeapType}
 use Rattle.w_types.specs.declared.types.HeapType.TheVariants as heap
 use Rattle.w_types.specs.declared.types.ValType.{ValType}
 use Rattle.w_types.specs.declared.types.ValType.TheVariants as val
-use Rattle.w_types.proofs.Tests.{each_of}
+use Rattle.lists.proofs.Tests.{each_of}
 use Rattle.w_syntax.specs.declared.locals.LocalRun.{LocalRun}
 use Rattle.w_syntax.specs.Locals.{same_heap, same_kind, join, join_all, joined}
 use Rattle.w_rules.specs.Bodies.{types_of_runs}
 
--- types that are told alike are one
+-- types that are alike by the test are one
 
 one_heap : (a b : HeapType) → same_heap a b ≡ true → a ≡ b
 one_heap heap.Func heap.Func e = refl
@@ -27,7 +27,7 @@ one_nullability true n e = sym e
 one_nullability false true e = absurd (cc)
 one_nullability false false e = refl
 
-one_kind : (t u : ValType) → same_kind t u ≡ true → t ≡ u
+pub one_kind : (t u : ValType) → same_kind t u ≡ true → t ≡ u
 one_kind val.I32 val.I32 e = refl
 one_kind val.I64 val.I64 e = refl
 one_kind (val.Ref r) (val.Ref s) e =

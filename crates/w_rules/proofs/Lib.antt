@@ -5,4 +5,4 @@ mod Rules
 mod SpacesSoFar
 pub mod Marks
 pub mod Contexts
-mod JoinedTypes
+pub mod JoinedTypes

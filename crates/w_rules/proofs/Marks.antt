@@ -143,8 +143,8 @@ none_set (suc n) zero t = cc
 none_set (suc n) (suc x) t = none_set n x t
 
 -- the flags of a module are those of the functions that are declared
-pub declared_told : (m : Module) (x : ℕ) (b : Bool) → b ≡ slice_index_or (declared_of m) x false → (b ≡ true) ↔ IsDeclared m x
-declared_told m x b e = (
+pub declared_decided : (m : Module) (x : ℕ) (b : Bool) → b ≡ slice_index_or (declared_of m) x false → (b ≡ true) ↔ IsDeclared m x
+declared_decided m x b e = (
   (λ t. elim (is_marked (replicate (length (functions_of m)) false) (named_of m) x (sym e ∙ t)) [
     | inl u ↦ absurd (none_set (length (functions_of m)) x u)
     | inr p ↦ record { is_there = omega (arith, p.0, length-replicate (length (functions_of m)) false); is_named = p.1 }

@@ -1,7 +1,7 @@
 -- Matching of operands and of rows of them is a preorder.
 use Rattle.std.proofs.Common.{◌≡◌, List, suc, refl, ap}
 use Rattle.w_types.specs.declared.types.RecGroup.{RecGroup}
-use Rattle.w_types.specs.Rows.{Row, ε, ◌▹◌, ◌⧺◌, size}
+use Rattle.lists.specs.Rows.{Row, ε, ◌▹◌, ◌⧺◌, size}
 use Rattle.w_canon.specs.Matching.{ref}
 use Rattle.w_canon.proofs.Preorder.{val_refl, val_trans}
 use Rattle.w_rules.specs.Operands.{Operand}

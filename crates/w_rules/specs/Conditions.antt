@@ -5,7 +5,7 @@ use Rattle.w_types.specs.declared.types.HeapType.TheVariants.{Func, Index}
 use Rattle.w_types.specs.declared.types.RefType.{RefType}
 use Rattle.w_types.specs.declared.types.ValType.{ValType}
 use Rattle.w_types.specs.declared.types.ValType.TheVariants.{Ref}
-use Rattle.w_types.specs.Rows.{Row, ◌▹◌, row_of, listed}
+use Rattle.lists.specs.Rows.{Row, ◌▹◌, row_of, listed}
 use Rattle.w_syntax.specs.declared.instructions.Clause.{Clause}
 use Rattle.w_syntax.specs.declared.instructions.Clause.TheVariants as clause
 use Rattle.w_syntax.specs.declared.instructions.ControlOp.{ControlOp}

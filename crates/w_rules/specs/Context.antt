@@ -7,7 +7,7 @@ use Rattle.w_types.specs.declared.types.RecGroup.{RecGroup}
 use Rattle.w_types.specs.declared.types.RefType.{RefType}
 use Rattle.w_types.specs.declared.types.ValType.{ValType}
 use Rattle.w_types.specs.Groups.{types_of}
-use Rattle.w_types.specs.Rows.{Row, ε, ◌▹◌, row_of}
+use Rattle.lists.specs.Rows.{Row, ε, ◌▹◌, row_of}
 use Rattle.w_syntax.specs.Functions.{function_type}
 use Rattle.w_syntax.specs.declared.instructions.BlockKind.{BlockKind}
 use Rattle.w_syntax.specs.declared.instructions.BlockKind.TheVariants as kind

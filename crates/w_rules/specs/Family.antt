@@ -5,7 +5,7 @@ use Rattle.w_types.specs.declared.types.HeapType.{HeapType}
 use Rattle.w_types.specs.declared.types.RecGroup.{RecGroup}
 use Rattle.w_types.specs.declared.types.ValType.{ValType}
 use Rattle.w_types.specs.declared.types.ValType.TheVariants.{I32}
-use Rattle.w_types.specs.Rows.{Row, ε, ◌▹◌, ◌⧺◌}
+use Rattle.lists.specs.Rows.{Row, ε, ◌▹◌, ◌⧺◌}
 use Rattle.w_syntax.specs.declared.instructions.BlockKind.{BlockKind}
 use Rattle.w_syntax.specs.declared.instructions.BlockType.{BlockType}
 use Rattle.w_syntax.specs.declared.instructions.Op.{Op}
@@ -31,19 +31,25 @@ pub data Has (gs : List RecGroup) : InstrType → Row Operand → Row Operand �
   has_on_null : (vs : Row ValType) (h : Option HeapType) → Has gs (on_null vs) (known vs ▹ ref_to true h) (known vs ▹ ref_to false h)
 
 pub data Typed : Context → List Bool → Code → Row Operand → Row Operand → Type 0 where
+  -- [Instrs_ok/empty]
   empty : (c : Context) (s : List Bool) → Typed c s Done ε ε
   instruction : (c : Context) (s : List Bool) (o : Op) (ts us : Row Operand)
       → Condition c o → Has c.types (instr_type c s o) ts us → Typed c s (Plain o Done) ts us
+  -- [Instr_ok/block, loop]
   block : (c : Context) (s : List Bool) (kind : BlockKind) (x : BlockType) (a : Arrow) (b : Code) → arrow_of c x ≡ Some a
       → Typed (labelled c (label_of kind a)) s b (known a.from) (known a.to) → Typed c s (Block kind x b Done) (known a.from) (known a.to)
+  -- [Instr_ok/if, without an else]
   if_then : (c : Context) (s : List Bool) (x : BlockType) (a : Arrow) (b : Code) → arrow_of c x ≡ Some a
       → RowMatches c.types (known a.from) (known a.to) → Typed (labelled c a.to) s b (known a.from) (known a.to)
       → Typed c s (If x b Done) (known a.from ▹ Known I32) (known a.to)
+  -- [Instr_ok/if]
   if_else : (c : Context) (s : List Bool) (x : BlockType) (a : Arrow) (b d : Code) → arrow_of c x ≡ Some a
       → Typed (labelled c a.to) s b (known a.from) (known a.to) → Typed (labelled c a.to) s d (known a.from) (known a.to)
       → Typed c s (IfElse x b d Done) (known a.from ▹ Known I32) (known a.to)
+  -- [Instrs_ok/seq]
   composition : (c : Context) (s : List Bool) (k l : Code) (ts us vs : Row Operand)
       → Typed c s k ts us → Typed c (set_by k s) l us vs → Typed c s (after k l) ts vs
+  -- [Instrs_ok/sub, frame]
   subsumption : (c : Context) (s : List Bool) (k : Code) (beneath ts us ts' us' : Row Operand)
       → Typed c s k ts us → RowMatches c.types ts' (beneath ⧺ ts) → RowMatches c.types (beneath ⧺ us) us' → Typed c s k ts' us'
 

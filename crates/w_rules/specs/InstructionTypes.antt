@@ -1,4 +1,5 @@
 -- The table of instructions (Core, validation, instructions): the type of each instruction that holds no others.
+-- In brackets stand the names that rules have in the specification's own source (SpecTec); the explainer names no rules.
 use Rattle.std.specs.Prelude.{ℕ, ◌^◌, nat_lt, nat_le, Bool, true, false, ◌&&◌, List, [], ◌∷◌, ◌-◌, length, take, Option, Some, None, slice_get, slice_set}
 use Rattle.w_types.specs.declared.types.FuncType.{FuncType}
 use Rattle.w_types.specs.declared.types.HeapType.{HeapType}
@@ -6,7 +7,7 @@ use Rattle.w_types.specs.declared.types.HeapType.TheVariants.{Index}
 use Rattle.w_types.specs.declared.types.RefType.{RefType}
 use Rattle.w_types.specs.declared.types.ValType.{ValType}
 use Rattle.w_types.specs.declared.types.ValType.TheVariants.{I32, I64, Ref}
-use Rattle.w_types.specs.Rows.{Row, ε, ◌▹◌, row_of}
+use Rattle.lists.specs.Rows.{Row, ε, ◌▹◌, row_of}
 use Rattle.w_syntax.specs.declared.instructions.ControlOp.{ControlOp}
 use Rattle.w_syntax.specs.declared.instructions.ControlOp.TheVariants as control
 use Rattle.w_syntax.specs.declared.instructions.ParametricOp.{ParametricOp}
@@ -91,12 +92,18 @@ convert_type convert.I64Extend16S = fixed (ε ▹ I64) (ε ▹ I64)
 convert_type convert.I64Extend32S = fixed (ε ▹ I64) (ε ▹ I64)
 
 abbrev pub numeric_op_type : NumericOp → InstrType
+-- [Instr_ok/const]
 numeric_op_type (numeric.I32Const z) = fixed ε (ε ▹ I32)
 numeric_op_type (numeric.I64Const z) = fixed ε (ε ▹ I64)
+-- [Instr_ok/testop]
 numeric_op_type (numeric.Eqz t) = fixed (ε ▹ of_int t) (ε ▹ I32)
+-- [Instr_ok/relop]
 numeric_op_type (numeric.Compare t o) = fixed (ε ▹ of_int t ▹ of_int t) (ε ▹ I32)
+-- [Instr_ok/unop]
 numeric_op_type (numeric.Unary t o) = fixed (ε ▹ of_int t) (ε ▹ of_int t)
+-- [Instr_ok/binop]
 numeric_op_type (numeric.Binary t o) = fixed (ε ▹ of_int t ▹ of_int t) (ε ▹ of_int t)
+-- [Instr_ok/cvtop]
 numeric_op_type (numeric.Convert o) = convert_type o
 
 -- ## Parametric instructions
@@ -107,8 +114,11 @@ select_type c [] = untyped
 select_type c (t ∷ u ∷ us) = untyped
 
 abbrev pub parametric_op_type : Context → ParametricOp → InstrType
+-- [Instr_ok/drop]
 parametric_op_type c parametric.Drop = drops
+-- [Instr_ok/select-impl]
 parametric_op_type c parametric.Select = selects
+-- [Instr_ok/select-expl]
 parametric_op_type c (parametric.SelectOf ts) = select_type c ts
 
 -- ## Variable instructions; s says which locals are set
@@ -140,10 +150,15 @@ global_set_type (Some g) = write_type g.mutability g.kind
 global_set_type None = untyped
 
 abbrev pub variable_op_type : Context → List Bool → VariableOp → InstrType
+-- [Instr_ok/local.get]
 variable_op_type c s (variable.LocalGet x) = get_type (slice_get c.locals x) (slice_get s x)
+-- [Instr_ok/local.set]
 variable_op_type c s (variable.LocalSet x) = set_type (slice_get c.locals x)
+-- [Instr_ok/local.tee]
 variable_op_type c s (variable.LocalTee x) = tee_type (slice_get c.locals x)
+-- [Instr_ok/global.get]
 variable_op_type c s (variable.GlobalGet x) = global_get_type (slice_get c.globals x)
+-- [Instr_ok/global.set]
 variable_op_type c s (variable.GlobalSet x) = global_set_type (slice_get c.globals x)
 
 -- ## Memory instructions
@@ -204,13 +219,21 @@ abbrev pub is_access : Context → ℕ → MemArg → Bool
 is_access c width a = has_memory c 0 && (nat_le a.align width && nat_lt a.offset (2 ^ 32))
 
 abbrev pub memory_op_type : Context → MemoryOp → InstrType
+-- [Instr_ok/load-val, load-pack]
 memory_op_type c (memory.Load o a) = if_valid (is_access c (load_width o) a) (fixed (ε ▹ I32) (ε ▹ load_type o))
+-- [Instr_ok/store-val, store-pack]
 memory_op_type c (memory.Store o a) = if_valid (is_access c (store_width o) a) (fixed (ε ▹ I32 ▹ store_type o) ε)
+-- [Instr_ok/memory.size]
 memory_op_type c (memory.Size x) = if_valid (has_memory c x) (fixed ε (ε ▹ I32))
+-- [Instr_ok/memory.grow]
 memory_op_type c (memory.Grow x) = if_valid (has_memory c x) (fixed (ε ▹ I32) (ε ▹ I32))
+-- [Instr_ok/memory.init]
 memory_op_type c (memory.Init d x) = if_valid (has_memory c x && nat_lt d c.datas) (fixed (ε ▹ I32 ▹ I32 ▹ I32) ε)
+-- [Instr_ok/data.drop]
 memory_op_type c (memory.DataDrop d) = if_valid (nat_lt d c.datas) (fixed ε ε)
+-- [Instr_ok/memory.copy]
 memory_op_type c (memory.Copy x y) = if_valid (has_memory c x && has_memory c y) (fixed (ε ▹ I32 ▹ I32 ▹ I32) ε)
+-- [Instr_ok/memory.fill]
 memory_op_type c (memory.Fill x) = if_valid (has_memory c x) (fixed (ε ▹ I32 ▹ I32 ▹ I32) ε)
 
 -- ## Table instructions
@@ -250,13 +273,21 @@ table_fill_type (Some t) = fixed (ε ▹ I32 ▹ Ref t.element ▹ I32) ε
 table_fill_type None = untyped
 
 abbrev pub table_op_type : Context → TableOp → InstrType
+-- [Instr_ok/table.get]
 table_op_type c (table.Get x) = table_get_type (slice_get c.tables x)
+-- [Instr_ok/table.set]
 table_op_type c (table.Set x) = table_set_type (slice_get c.tables x)
+-- [Instr_ok/table.init]
 table_op_type c (table.Init e x) = table_init_type (slice_get c.elements e) (slice_get c.tables x)
+-- [Instr_ok/elem.drop]
 table_op_type c (table.ElemDrop e) = elem_drop_type (slice_get c.elements e)
+-- [Instr_ok/table.copy]
 table_op_type c (table.Copy x y) = table_copy_type (slice_get c.tables x) (slice_get c.tables y)
+-- [Instr_ok/table.grow]
 table_op_type c (table.Grow x) = table_grow_type (slice_get c.tables x)
+-- [Instr_ok/table.size]
 table_op_type c (table.Size x) = table_size_type (slice_get c.tables x)
+-- [Instr_ok/table.fill]
 table_op_type c (table.Fill x) = table_fill_type (slice_get c.tables x)
 
 -- ## Reference instructions
@@ -268,9 +299,13 @@ ref_func_type (Some y) None = untyped
 ref_func_type None o = untyped
 
 abbrev pub reference_op_type : Context → ReferenceOp → InstrType
+-- [Instr_ok/ref.null]
 reference_op_type c (reference.Null h) = if_valid (has_heap (type_count c) h) (fixed ε (ε ▹ Ref (record { nullable = true; heap = h })))
+-- [Instr_ok/ref.is_null]
 reference_op_type c reference.IsNull = tests_null
+-- [Instr_ok/ref.func]
 reference_op_type c (reference.Func x) = ref_func_type (slice_get c.functions x) (slice_get c.declared x)
+-- [Instr_ok/ref.as_non_null]
 reference_op_type c reference.AsNonNull = as_non_null
 
 -- ## Control instructions
@@ -325,16 +360,27 @@ call_ref_type x (Some t) = fixed (row_of t.params ▹ nullable x) (row_of t.resu
 call_ref_type x None = untyped
 
 abbrev pub control_op_type : Context → ControlOp → InstrType
+-- [Instr_ok/unreachable]
 control_op_type c control.Unreachable = polymorphic ε
+-- [Instr_ok/nop]
 control_op_type c control.Nop = fixed ε ε
+-- [Instr_ok/br]
 control_op_type c (control.Br l) = br_type (slice_get c.labels l)
+-- [Instr_ok/br_if]
 control_op_type c (control.BrIf l) = br_if_type (slice_get c.labels l)
+-- [Instr_ok/br_table]
 control_op_type c (control.BrTable ls l) = br_table_type (slice_get c.labels l) (labels_at c.labels ls)
+-- [Instr_ok/return]
 control_op_type c control.Return = polymorphic c.results
+-- [Instr_ok/br_on_null]
 control_op_type c (control.BrOnNull l) = br_on_null_type (slice_get c.labels l)
+-- [Instr_ok/br_on_non_null]
 control_op_type c (control.BrOnNonNull l) = br_on_non_null_type (slice_get c.labels l)
+-- [Instr_ok/call]
 control_op_type c (control.Call x) = call_type (type_of_func c x)
+-- [Instr_ok/call_indirect]
 control_op_type c (control.CallIndirect y x) = call_indirect_type (slice_get c.tables x) (func_of c y)
+-- [Instr_ok/call_ref]
 control_op_type c (control.CallRef y) = call_ref_type y (func_of c y)
 
 -- ## Stack switching instructions (the explainer, validation)

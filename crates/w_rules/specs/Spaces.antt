@@ -1,7 +1,7 @@
 -- The context of a module (Core, validation, modules): in each list what is imported stands in front of what the module defines.
 use Rattle.std.specs.Prelude.{ℕ, ◌<◌, Contains, Bool, true, false, List, [], ◌∷◌, ◌++◌, map, flat_map, replicate, take, length, slice_set}
 use Rattle.w_types.specs.declared.types.ValType.{ValType}
-use Rattle.w_types.specs.Rows.{ε, row_of}
+use Rattle.lists.specs.Rows.{ε, row_of}
 use Rattle.w_syntax.specs.Code.{Code, Done, Plain, Block, If, IfElse}
 use Rattle.w_syntax.specs.declared.instructions.Op.{Op}
 use Rattle.w_syntax.specs.declared.instructions.Op.TheVariants as op

@@ -16,7 +16,7 @@ use w_types::{CompType, FuncType, HeapType, PackedType, RefType};
 /// module defines, as in `Spaces`.
 #[derive(Clone, Copy)]
 pub struct Context<'a> {
-    pub owner: &'a Module,
+    pub candidate: &'a Module,
     /// The classes of the module's types.
     pub classes: &'a Classes,
     /// The index of each function's type.
@@ -34,14 +34,14 @@ impl<'a> Context<'a> {
     pub fn func_of(&self, index: u32) -> Option<&'a FuncType>
         ensures { option_copied result ≡ func_of (context_in self.now) index }
     {
-        func_type(self.owner, index as usize)
+        func_type(self.candidate, index as usize)
     }
 
     /// The index of the function type of the continuation type of this index.
     pub fn func_index_of_cont(&self, index: u32) -> Option<u32>
         ensures { result ≡ func_index_of_cont (context_in self.now) index }
     {
-        match self.owner.types.get(index as usize) {
+        match self.candidate.types.get(index as usize) {
             Some(CompType::Cont(function)) => Some(*function),
             Some(CompType::Func(_)) | None => None,
         }
@@ -82,7 +82,7 @@ impl<'a> Context<'a> {
     pub fn element(&self, index: u32) -> Option<RefType>
         ensures { result ≡ slice_get (context_in self.now).elements index }
     {
-        match self.owner.elements.as_slice().get(index as usize) {
+        match self.candidate.elements.as_slice().get(index as usize) {
             Some(element) => Some(element.kind),
             None => None,
         }
@@ -99,20 +99,20 @@ impl<'a> Context<'a> {
     pub fn has_data(&self, index: u32) -> bool
         ensures { result ≡ nat_lt index (context_in self.now).datas }
     {
-        (index as usize) < self.owner.datas.len()
+        (index as usize) < self.candidate.datas.len()
     }
 
     /// Whether the types that a heap type names are there (Core, validation, heap types).
     pub fn has_heap(&self, kind: HeapType) -> bool
         ensures { result ≡ has_heap (type_count (context_in self.now)) kind }
     {
-        types::has_heap(self.owner.types.type_count(), kind)
+        types::has_heap(self.candidate.types.type_count(), kind)
     }
 
     /// Whether the types that a value type names are there (Core, validation, value types).
     pub fn has_type(&self, kind: PackedType) -> bool
         ensures { result ≡ has_type (type_count (context_in self.now)) kind }
     {
-        types::has_type(self.owner.types.type_count(), kind)
+        types::has_type(self.candidate.types.type_count(), kind)
     }
 }

@@ -135,25 +135,25 @@ fn mark_tables(declared: &mut [bool], tables: &[Table])
 }
 
 // Marks the functions that a module names outside of the bodies of functions.
-fn mark_named(declared: &mut [bool], owner: &Module)
-    ensures { declared.new ≡ marked declared.old (named_of owner.now) }
+fn mark_named(declared: &mut [bool], candidate: &Module)
+    ensures { declared.new ≡ marked declared.old (named_of candidate.now) }
 {
-    mark_exports(declared, owner.exports.as_slice());
-    mark_elements(declared, owner.elements.as_slice());
-    mark_globals(declared, owner.globals.as_slice());
-    mark_tables(declared, owner.tables.as_slice());
+    mark_exports(declared, candidate.exports.as_slice());
+    mark_elements(declared, candidate.elements.as_slice());
+    mark_globals(declared, candidate.globals.as_slice());
+    mark_tables(declared, candidate.tables.as_slice());
 }
 
 /// Of each of so many functions, whether `ref.func` may name it: those that are exported, and those that elements and the
 /// expressions of globals and tables name (Core, validation, modules). It fails only when out of memory.
 pub fn declared_functions(
     alloc: Global,
-    owner: &Module,
+    candidate: &Module,
     count: usize,
 ) -> Result<Vec<bool>, AllocError>
-    ensures { IfOk result (λ d. d.items ≡ marked (replicate count false) (named_of owner.now)) }
+    ensures { IfOk result (λ d. d.items ≡ marked (replicate count false) (named_of candidate.now)) }
 {
     let mut declared = vec![in alloc; false; count]?;
-    mark_named(&mut declared, owner);
+    mark_named(&mut declared, candidate);
     Ok(declared)
 }

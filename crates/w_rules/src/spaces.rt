@@ -94,23 +94,23 @@ impl Spaces {
     }
 
     /// The index spaces of a module. It fails only when out of memory.
-    pub fn of_module(alloc: Global, owner: &Module) -> Result<Spaces, AllocError>
-        ensures functions { IfOk result (λ s. s.functions.items ≡ functions_of owner.now) }
-        ensures tables { IfOk result (λ s. s.tables.items ≡ tables_of owner.now) }
-        ensures memories { IfOk result (λ s. s.memories.items ≡ memories_of owner.now) }
-        ensures globals { IfOk result (λ s. s.globals.items ≡ globals_of owner.now) }
-        ensures tags { IfOk result (λ s. s.tags.items ≡ tags_of owner.now) }
+    pub fn of_module(alloc: Global, candidate: &Module) -> Result<Spaces, AllocError>
+        ensures functions { IfOk result (λ s. s.functions.items ≡ functions_of candidate.now) }
+        ensures tables { IfOk result (λ s. s.tables.items ≡ tables_of candidate.now) }
+        ensures memories { IfOk result (λ s. s.memories.items ≡ memories_of candidate.now) }
+        ensures globals { IfOk result (λ s. s.globals.items ≡ globals_of candidate.now) }
+        ensures tags { IfOk result (λ s. s.tags.items ≡ tags_of candidate.now) }
     {
-        let mut spaces = Spaces::of_imports(alloc, owner.imports.as_slice())?;
+        let mut spaces = Spaces::of_imports(alloc, candidate.imports.as_slice())?;
         spaces
             .functions
-            .extend_from_slice(owner.functions.as_slice())?;
-        push_tables(&mut spaces.tables, owner.tables.as_slice())?;
+            .extend_from_slice(candidate.functions.as_slice())?;
+        push_tables(&mut spaces.tables, candidate.tables.as_slice())?;
         spaces
             .memories
-            .extend_from_slice(owner.memories.as_slice())?;
-        push_globals(&mut spaces.globals, owner.globals.as_slice())?;
-        spaces.tags.extend_from_slice(owner.tags.as_slice())?;
+            .extend_from_slice(candidate.memories.as_slice())?;
+        push_globals(&mut spaces.globals, candidate.globals.as_slice())?;
+        spaces.tags.extend_from_slice(candidate.tags.as_slice())?;
         Ok(spaces)
     }
 }

@@ -4,10 +4,11 @@ ghost use Rattle.w_leb.specs.Format.{ReadsAt, BeginsAt};
 ghost use Rattle.w_leb.specs.Formats.{vec};
 ghost use Rattle.w_syntax.specs.Types.{functype, comptype, rectype};
 
+use lists::ListOf;
 use std::alloc::{AllocError, Global};
 use w_fields::{Field, ValTypeField, vec_at};
 use w_leb::{read_byte, read_u32};
-use w_types::{CompType, FuncType, ListOf, RecGroup, RecGroups};
+use w_types::{CompType, FuncType, RecGroup, RecGroups};
 
 /// A function type, as a kind of field: what stands behind its byte.
 pub struct FuncTypeField;

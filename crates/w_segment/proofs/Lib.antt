@@ -7,6 +7,6 @@ mod SameShapes
 mod LeftLevels
 mod FramedLevels
 mod ReturnedFrames
-pub mod Holding
+pub mod FactsOfValues
 pub mod MoreLocals
 mod StackRows

@@ -3,7 +3,7 @@ use Rattle.std.proofs.Common.{◌≡◌, ℕ, suc, ◌+◌, ◌-◌, ◌<◌, �
 use Rattle.std.proofs.lemmas.List.{length-take-le, length-reverse}
 use Rattle.w_types.specs.declared.value.Value.{Value}
 use Rattle.w_segment.specs.declared.stack.Mark.{Mark}
-use Rattle.w_segment.specs.Shape.{Caller, frame_at}
+use Rattle.w_segment.specs.Shape.{ReturnTarget, frame_at}
 use Rattle.w_segment.specs.Flat.{base, own, levels_of, Ordered, frames_in, inner_in, Nested}
 use Rattle.w_segment.proofs.PartsOfLists.{take_take, reverse_take, some_is}
 use Rattle.w_segment.proofs.OwnOperands.{kept_top, kept_levels, ordered_more}
@@ -11,7 +11,7 @@ use Rattle.w_segment.proofs.LabelsOfMarks.{mark_at}
 use Rattle.w_segment.specs.declared.stack.Mark.TheVariants as mark
 
 -- the mark that the innermost frame is, with so many labels in it
-pub record Around (es : List Mark) (vs : List Value) (ls : List (Option Value)) (k : ℕ) (c : Caller) : Type 0 where
+pub record Around (es : List Mark) (vs : List Value) (ls : List (Option Value)) (k : ℕ) (c : ReturnTarget) : Type 0 where
   pub labels : ℕ
   pub at : ℕ
   pub first : ℕ
@@ -29,7 +29,7 @@ pub record Around (es : List Mark) (vs : List Value) (ls : List (Option Value)) 
   pub nested : Nested es → (out ≡ inner_in (drop (suc labels) es)) × Nested (drop (suc labels) es)
 
 -- a frame that is there has its mark outside its labels'
-pub around : (es : List Mark) (vs : List Value) (ls : List (Option Value)) (k : ℕ) (c : Caller) → Ordered es (length vs) (length ls) k
+pub around : (es : List Mark) (vs : List Value) (ls : List (Option Value)) (k : ℕ) (c : ReturnTarget) → Ordered es (length vs) (length ls) k
     → frame_at (levels_of es vs ls k) ≡ Some c → Around es vs ls k c
 around [] vs ls k c o h = absurd cc
 around (mark.Frame n f p b j u ∷ es) vs ls k c o h =
@@ -41,9 +41,9 @@ around (mark.Frame n f p b j u ∷ es) vs ls k c o h =
       out = u;
       count = omega arith;
       some = omega arith;
-      is = ap (λ (x : Caller). Some (mark.Frame x.arity x.caller x.back b j u)) e;
-      below = sym (ap (λ (x : Caller). x.below) e);
-      outer = sym (ap (λ (x : Caller). x.outer) e);
+      is = ap (λ (x : ReturnTarget). Some (mark.Frame x.arity x.caller x.back b j u)) e;
+      below = sym (ap (λ (x : ReturnTarget). x.below) e);
+      outer = sym (ap (λ (x : ReturnTarget). x.outer) e);
       low = omega arith;
       under = o.1;
       within = o.2;
@@ -78,7 +78,7 @@ around (mark.Label n u b ∷ es) vs ls k c o h =
 
 -- the mark at place p, with these parts, is that of the innermost frame, from which c is where a return goes; es are the marks outside
 -- it; marks stand innermost last
-pub record IsFrame (xs es : List Mark) (vs : List Value) (ls : List (Option Value)) (k p : ℕ) (c : Caller) (n f q b j u : ℕ) : Type 0 where
+pub record IsFrame (xs es : List Mark) (vs : List Value) (ls : List (Option Value)) (k p : ℕ) (c : ReturnTarget) (n f q b j u : ℕ) : Type 0 where
   pub arity : n ≡ c.arity
   pub caller : f ≡ c.caller
   pub back : q ≡ c.back
@@ -93,12 +93,12 @@ pub record IsFrame (xs es : List Mark) (vs : List Value) (ls : List (Option Valu
   pub marks : reverse (take p xs) ≡ es
 
 -- it is among the marks
-pub inner_within : (es : List Mark) (vs : List Value) (ls : List (Option Value)) (k : ℕ) (c : Caller) → Ordered es (length vs) (length ls) k
+pub inner_within : (es : List Mark) (vs : List Value) (ls : List (Option Value)) (k : ℕ) (c : ReturnTarget) → Ordered es (length vs) (length ls) k
     → frame_at (levels_of es vs ls k) ≡ Some c → (0 < inner_in es) × (inner_in es ≤ length es)
 inner_within es vs ls k c o h = let r = around es vs ls k c o h in let a = r.some in let b = r.count in (a, omega (arith, b))
 
 -- the mark at the place that a stack keeps is that one
-frame_mark : (xs : List Mark) (vs : List Value) (ls : List (Option Value)) (k p : ℕ) (c : Caller) (e : Mark) (r : Around (reverse xs) vs ls k c)
+frame_mark : (xs : List Mark) (vs : List Value) (ls : List (Option Value)) (k p : ℕ) (c : ReturnTarget) (e : Mark) (r : Around (reverse xs) vs ls k c)
     → p ≡ inner_in (reverse xs) - 1 → e ≡ get_or xs p e → e ≡ mark.Frame c.arity c.caller c.back r.at r.first r.out
 frame_mark xs vs ls k p c e r q i =
     let l = length-reverse xs in
@@ -107,7 +107,7 @@ frame_mark xs vs ls k p c e r q i =
     let g = mark_at xs r.labels p (mark.Frame c.arity c.caller c.back r.at r.first r.out) e r.is (omega (arith, l, n, s, q)) i in g.1
 
 -- it has the innermost frame's parts
-pub frame_is : (xs : List Mark) (vs : List Value) (ls : List (Option Value)) (k p : ℕ) (c : Caller) (e : Mark) (n f q b j u : ℕ) → Ordered (reverse xs) (length vs) (length ls) k
+pub frame_is : (xs : List Mark) (vs : List Value) (ls : List (Option Value)) (k p : ℕ) (c : ReturnTarget) (e : Mark) (n f q b j u : ℕ) → Ordered (reverse xs) (length vs) (length ls) k
     → frame_at (levels_of (reverse xs) vs ls k) ≡ Some c → p ≡ inner_in (reverse xs) - 1 → e ≡ get_or xs p e → e ≡ mark.Frame n f q b j u
     → IsFrame xs (reverse (take p xs)) vs ls k p c n f q b j u
 frame_is xs vs ls k p c e n f q b j u o h w i m =
@@ -138,7 +138,7 @@ frame_is xs vs ls k p c e n f q b j u o h w i m =
     }
 
 -- and not that of a label
-pub frame_is_no_label : (xs : List Mark) (vs : List Value) (ls : List (Option Value)) (k p : ℕ) (c : Caller) (e : Mark) (n u b : ℕ) → Ordered (reverse xs) (length vs) (length ls) k
+pub frame_is_no_label : (xs : List Mark) (vs : List Value) (ls : List (Option Value)) (k p : ℕ) (c : ReturnTarget) (e : Mark) (n u b : ℕ) → Ordered (reverse xs) (length vs) (length ls) k
     → frame_at (levels_of (reverse xs) vs ls k) ≡ Some c → p ≡ inner_in (reverse xs) - 1 → e ≡ get_or xs p e → e ≡ mark.Label n u b → ⊥
 frame_is_no_label xs vs ls k p c e n u b o h w i m =
     let r = around (reverse xs) vs ls k c o h in
@@ -147,7 +147,7 @@ frame_is_no_label xs vs ls k p c e n u b o h w i m =
 
 -- ## The flat lists after the return
 
-module _ {xs es ys : List Mark} {vs : List Value} {ls : List (Option Value)} {k p n f q b j u : ℕ} {c : Caller} where
+module _ {xs es ys : List Mark} {vs : List Value} {ls : List (Option Value)} {k p n f q b j u : ℕ} {c : ReturnTarget} where
   -- a frame less
   pub returned_frames : IsFrame xs es vs ls k p c n f q b j u → ys ≡ take p xs → suc (frames_in (reverse ys)) ≡ frames_in (reverse xs)
   returned_frames r e = ap (λ (zs : List Mark). suc (frames_in zs)) (ap reverse e ∙ r.marks) ∙ r.frames

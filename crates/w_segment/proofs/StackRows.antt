@@ -4,7 +4,7 @@ use Rattle.w_types.specs.declared.value.Value.{Value}
 use Rattle.w_types.specs.declared.value.Value.TheVariants.{I32}
 use Rattle.w_segment.specs.declared.entry.Entry.TheVariants as entry
 use Rattle.w_segment.specs.declared.entry.Stage.TheVariants.{Body}
-use Rattle.w_segment.specs.Shape.{Shape, Capacity, Level, Label, Frame, Target, Caller, fresh_shape, label_at, frame_at}
+use Rattle.w_segment.specs.Shape.{Shape, Capacity, Level, Label, Frame, Target, ReturnTarget, fresh_shape, label_at, frame_at}
 use Rattle.w_segment.specs.Changes.{pushed_all, left, branched, returned, with_locals}
 use Rattle.w_segment.specs.Entered.{entered}
 
@@ -39,7 +39,7 @@ within = Label (I32 5 ∷ []) 0 10 ∷ Label (I32 4 ∷ []) 1 20 ∷ Frame (I32 
 abbrev the_label_around : Target
 the_label_around = record { below = I32 4 ∷ []; arity = 1; target = 20; outer = Frame (I32 3 ∷ []) 1 [] 7 4 ∷ [] }
 
-abbrev the_frame_around : Caller
+abbrev the_frame_around : ReturnTarget
 the_frame_around = record { below = I32 3 ∷ []; arity = 1; caller = 7; back = 4; outer = [] }
 
 label_one_is_the_outer_one : label_at 1 within ≡ Some the_label_around

@@ -3,7 +3,7 @@ use Rattle.std.specs.Prelude.{ℕ, ◌-◌, List, [], ◌∷◌, ◌++◌, take,
 use Rattle.w_types.specs.declared.value.Value.{Value}
 use Rattle.w_segment.specs.declared.entry.Stage.{Stage}
 use Rattle.w_segment.specs.declared.entry.Stage.TheVariants.{Body}
-use Rattle.w_segment.specs.Shape.{Level, Label, Frame, Shape, Target, Caller}
+use Rattle.w_segment.specs.Shape.{Level, Label, Frame, Shape, Target, ReturnTarget}
 
 -- ## Operands
 
@@ -56,7 +56,7 @@ abbrev pub branched : Target → Shape → Shape
 branched t s = record s { levels = t.outer; operands = take t.arity s.operands ++ t.below; place = t.target }
 
 -- without the innermost frame
-abbrev pub returned : Caller → Shape → Shape
+abbrev pub returned : ReturnTarget → Shape → Shape
 returned c s = record s { levels = c.outer; operands = take c.arity s.operands ++ c.below; func = c.caller; place = c.back }
 
 -- ## Locals and places

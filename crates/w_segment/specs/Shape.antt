@@ -83,14 +83,14 @@ label_at (suc l) (Label below n t ∷ ls) = label_at l ls
 label_at l (Frame below n locals f p ∷ ls) = None
 
 -- where a return goes: what stands below the innermost frame and around it
-pub record Caller : Type 0 where
+pub record ReturnTarget : Type 0 where
   pub below : List Value
   pub arity : ℕ
   pub caller : ℕ
   pub back : ℕ
   pub outer : List Level
 
-abbrev pub frame_at : List Level → Option Caller
+abbrev pub frame_at : List Level → Option ReturnTarget
 frame_at [] = None
 frame_at (Label below n t ∷ ls) = frame_at ls
 frame_at (Frame below n locals f p ∷ ls) = Some (record { below = below; arity = n; caller = f; back = p; outer = ls })
@@ -101,7 +101,7 @@ IsAt l s = (t : Target) × (label_at l s.levels ≡ Some t) × (t.arity ≤ leng
 
 -- there is a frame, and its arity of operands
 abbrev pub IsIn : Shape → Type 0
-IsIn s = (c : Caller) × (frame_at s.levels ≡ Some c) × (c.arity ≤ length s.operands)
+IsIn s = (c : ReturnTarget) × (frame_at s.levels ≡ Some c) × (c.arity ≤ length s.operands)
 
 -- ## What it takes of its capacity
 

@@ -1,12 +1,12 @@
 //! Labels and frames: entering and leaving them, branches and returns.
 
 use crate::entry::{Entry, Stage};
-use crate::lists::{keep_top, push_arguments, push_copies};
 use crate::stack::{Mark, Stack};
+use crate::values::{keep_top, push_arguments, push_copies};
 
 impl Stack {
     ghost use Rattle.std.specs.Prelude.{◌≡◌, ◌+◌, ◌<◌, ◌≤◌, Some, length};
-    ghost use Rattle.w_segment.specs.Shape.{locals_all, label_at, frame_at, is_in_label, target_of, Target, Caller, IsAt, IsIn};
+    ghost use Rattle.w_segment.specs.Shape.{locals_all, label_at, frame_at, is_in_label, target_of, Target, ReturnTarget, IsAt, IsIn};
     ghost use Rattle.w_segment.specs.Changes.{labelled, framed, left, branched, returned};
     ghost use Rattle.w_segment.specs.Entered.{params_of, LocalsFit, entered};
 
@@ -147,7 +147,7 @@ impl Stack {
     #[inline(always)]
     pub fn returns(&mut self)
         requires there { IsIn self.old }
-        ensures after { (c : Caller) → frame_at self.old.levels ≡ Some c → self.new ≡ returned c self.old }
+        ensures after { (c : ReturnTarget) → frame_at self.old.levels ≡ Some c → self.new ≡ returned c self.old }
     {
         let frame = self.inner - 1;
         match self.marks[frame] {

@@ -3,11 +3,11 @@
 
 mod entry;
 mod levels;
-mod lists;
 mod locals;
 mod operands;
 mod segment;
 mod stack;
+mod values;
 
 pub use entry::{Entry, Stage};
 pub use segment::Segment;

@@ -1,7 +1,7 @@
 //! The locals of the innermost frame.
 
-use crate::lists::push_copies;
 use crate::stack::Stack;
+use crate::values::push_copies;
 use w_types::Value;
 
 impl Stack {

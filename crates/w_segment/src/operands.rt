@@ -1,7 +1,7 @@
 //! The operands inside the innermost label or frame.
 
-use crate::lists::push_values;
 use crate::stack::{Stack, below};
+use crate::values::push_values;
 use w_types::Value;
 
 impl Stack {

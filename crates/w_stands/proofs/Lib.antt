@@ -1,11 +1,11 @@
 pub mod Bodies
-pub mod Reading
-pub mod Fitting
+pub mod AtInstructions
+pub mod RoomOfFrames
 pub mod Narrow
-pub mod Stepping
+pub mod PlainSteps
 pub mod Locals
 pub mod Numbers
-pub mod Taking
-pub mod TakingMany
-pub mod Following
+pub mod TakenOperands
+pub mod ManyTakenOperands
+pub mod NextInstructions
 pub mod LookedUp

@@ -11,25 +11,25 @@ use Rattle.w_stands.specs.Code.{instrs, Reads, Behind}
 
 -- In a function whose innermost sequence ends at q, the levels are the context e. `outer` stands around the segment, and `behind` comes
 -- next behind its outermost frame.
-pub data Around (m : Module) (outer : Context) (behind : Rest) : (f q : ℕ) → List Level → Context → Type 0 where
+pub data LevelsAre (m : Module) (outer : Context) (behind : Rest) : (f q : ℕ) → List Level → Context → Type 0 where
   label : {f q z q' n target : ℕ} {below : List Value} {again rest : Code} {ls : List Level} {e : Context} →
-      Behind (instrs m f) q target z → Reads (instrs m f) z rest q' → Reads (instrs m f) target (after again rest) q' → Around m outer behind f q' ls e →
-      Around m outer behind f q (Label below n target ∷ ls) (InLabel (stack below) n again rest ∷ e)
+      Behind (instrs m f) q target z → Reads (instrs m f) z rest q' → Reads (instrs m f) target (after again rest) q' → LevelsAre m outer behind f q' ls e →
+      LevelsAre m outer behind f q (Label below n target ∷ ls) (InLabel (stack below) n again rest ∷ e)
   frame : {f q q' n caller back : ℕ} {below : List Value} {locals : List (Option Value)} {rest : Code} {ls : List Level} {e : Context} →
-      slice_get (instrs m f) q ≡ None → Reads (instrs m caller) back rest q' → Around m outer behind caller q' ls e →
-      Around m outer behind f q (Frame below n locals caller back ∷ ls) (InFrame (stack below) n f (local_vals locals) (rest_of rest) ∷ e)
+      slice_get (instrs m f) q ≡ None → Reads (instrs m caller) back rest q' → LevelsAre m outer behind caller q' ls e →
+      LevelsAre m outer behind f q (Frame below n locals caller back ∷ ls) (InFrame (stack below) n f (local_vals locals) (rest_of rest) ∷ e)
   -- the frame of the function that a fresh continuation, or the run, invoked
   outermost : {f q n caller back : ℕ} {below : List Value} {locals : List (Option Value)} →
       slice_get (instrs m f) q ≡ None →
-      Around m outer behind f q (Frame below n locals caller back ∷ []) (InFrame (stack below) n f (local_vals locals) behind ∷ outer)
+      LevelsAre m outer behind f q (Frame below n locals caller back ∷ []) (InFrame (stack below) n f (local_vals locals) behind ∷ outer)
 
 -- the segment's stack is the context, and what comes next
-pub data In (m : Module) (outer : Context) (behind : Rest) (s : Shape) : Context → Rest → Type 0 where
-  body : {q : ℕ} {c : Code} {e : Context} → s.stage ≡ Body → Reads (instrs m s.func) s.place c q → Around m outer behind s.func q s.levels e →
-      In m outer behind s e (rest_of c)
+pub data StackIs (m : Module) (outer : Context) (behind : Rest) (s : Shape) : Context → Rest → Type 0 where
+  body : {q : ℕ} {c : Code} {e : Context} → s.stage ≡ Body → Reads (instrs m s.func) s.place c q → LevelsAre m outer behind s.func q s.levels e →
+      StackIs m outer behind s e (rest_of c)
   -- a caught suspend left a branch in front of the code behind its resume
-  left : {l q : ℕ} {c : Code} {e : Context} → s.stage ≡ AtBranch l → Reads (instrs m s.func) s.place c q → Around m outer behind s.func q s.levels e →
-      In m outer behind s e (record { ahead = Branch l ∷ []; code = c })
+  left : {l q : ℕ} {c : Code} {e : Context} → s.stage ≡ AtBranch l → Reads (instrs m s.func) s.place c q → LevelsAre m outer behind s.func q s.levels e →
+      StackIs m outer behind s e (record { ahead = Branch l ∷ []; code = c })
   -- a fresh one tells of its function by the address
-  fresh : s.stage ≡ Fresh → s.levels ≡ [] → In m outer behind s outer (record { ahead = Invoke s.func ∷ behind.ahead; code = behind.code })
-  values : s.stage ≡ Values → s.levels ≡ [] → In m outer behind s outer behind
+  fresh : s.stage ≡ Fresh → s.levels ≡ [] → StackIs m outer behind s outer (record { ahead = Invoke s.func ∷ behind.ahead; code = behind.code })
+  values : s.stage ≡ Values → s.levels ≡ [] → StackIs m outer behind s outer behind

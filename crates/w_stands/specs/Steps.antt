@@ -13,7 +13,7 @@ use Rattle.w_stands.specs.declared.did.Did.{Did}
 use Rattle.w_stands.specs.declared.did.Did.TheVariants as did
 use Rattle.w_stands.specs.Values.{stack, store_of}
 use Rattle.w_stands.specs.Code.{instr_of, AllShort, AreNarrow}
-use Rattle.w_stands.specs.Stands.{In}
+use Rattle.w_stands.specs.Stands.{StackIs}
 use Rattle.w_stands.specs.Room.{HasRoom, NextFits}
 
 -- what stands around a segment, and what comes behind its outermost frame
@@ -26,22 +26,22 @@ abbrev pub next_of : Program → instances.Store → Shape → Context → Rest 
 next_of p u s e r = next p (store_of u) e (stack s.operands) r.ahead r.code
 
 -- a configuration in which the stack stands, with room, and to which a rule applies
-pub record At (m : Module) (u : instances.Store) (s : Shape) (p : Program) (o : Outside) (e : Context) (r : Rest) : Type 0 where
+pub record Configured (m : Module) (u : instances.Store) (s : Shape) (p : Program) (o : Outside) (e : Context) (r : Rest) : Type 0 where
   pub source : p.source ≡ m
   pub program : IsProgram p
   pub short : AllShort m
   pub narrow : AreNarrow m
-  pub stands : In m o.outer o.behind s e r
+  pub stands : StackIs m o.outer o.behind s e r
   pub applies : next_of p u s e r ≢ Stuck
   pub room : HasRoom m s
   pub fits : NextFits m s
 
 -- it goes on, printing these bytes, with the store u and where the stack s stands, in which frames have room
-pub record To (m : Module) (o : Outside) (out : List ℕ) (u : instances.Store) (s : Shape) (d : Reduced) : Type 0 where
+pub record LeadsTo (m : Module) (o : Outside) (out : List ℕ) (u : instances.Store) (s : Shape) (d : Reduced) : Type 0 where
   pub around : Context
   pub rest : Rest
   pub is : d ≡ Went out (store_of u) (record { around = around; operands = stack s.operands; rest = rest })
-  pub stands : In m o.outer o.behind s around rest
+  pub stands : StackIs m o.outer o.behind s around rest
   pub room : HasRoom m s
 
 -- some configuration in which the stack stands at the instruction, and to which a rule applies
@@ -52,12 +52,12 @@ pub record MovesAt (i : Instr) (m : Module) (u : instances.Store) (s : Shape) : 
   pub o : Outside
   pub e : Context
   pub r : Rest
-  pub at : At m u s p o e r
+  pub at : Configured m u s p o e r
 
 -- it did what the rules do, printing these bytes; a trap changed nothing
 abbrev pub Follows : Did → Module → List ℕ → instances.Store → Shape → instances.Store → Shape → Type 0
-Follows did.Went m out u s u' s' = (p : Program) (o : Outside) (e : Context) (r : Rest) → At m u s p o e r → To m o out u' s' (next_of p u s e r)
-Follows (did.Trapped t) m out u s u' s' = ((p : Program) (o : Outside) (e : Context) (r : Rest) → At m u s p o e r → next_of p u s e r ≡ Trapped t)
+Follows did.Went m out u s u' s' = (p : Program) (o : Outside) (e : Context) (r : Rest) → Configured m u s p o e r → LeadsTo m o out u' s' (next_of p u s e r)
+Follows (did.Trapped t) m out u s u' s' = ((p : Program) (o : Outside) (e : Context) (r : Rest) → Configured m u s p o e r → next_of p u s e r ≡ Trapped t)
     × (out ≡ []) × (u' ≡ u) × (s' ≡ s)
 
 -- ## Calls that touch the stack alone: the same with every store

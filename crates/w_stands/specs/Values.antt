@@ -1,7 +1,7 @@
 -- Values of the program, read as those of the definitions.
 use Rattle.std.specs.Prelude.{List, [], ◌∷◌, map, Option}
 use Rattle.std.specs.Option.{option_map}
-use Rattle.w_types.specs.Rows.{Row, ε, ◌▹◌}
+use Rattle.lists.specs.Rows.{Row, ε, ◌▹◌}
 use Rattle.w_types.specs.declared.value.Value.{Value}
 use Rattle.w_tables.specs.Store as instances
 use Rattle.w_reduce.specs.Values.{Val, val}

@@ -3,8 +3,8 @@ use Rattle.std.proofs.Common.{◌≡◌, ℕ, ◌+◌, ◌<◌, Bool, true, fals
 use Rattle.std.proofs.lemmas.List.{drop_more, take_all, take-append-le}
 use Rattle.w_types.specs.declared.types.ValType.{ValType}
 use Rattle.w_types.specs.declared.types.ValType.TheVariants.{I32}
-use Rattle.w_types.specs.Rows.{Row, ε, ◌▹◌, row_of, size}
-use Rattle.w_types.proofs.Rows.{row_of-more, size-row_of}
+use Rattle.lists.specs.Rows.{Row, ε, ◌▹◌, row_of, size}
+use Rattle.lists.proofs.Rows.{row_of-more, size-row_of}
 use Rattle.w_canon.specs.declared.entry.Entry.{Entry}
 use Rattle.w_rules.specs.Operands.{Operand}
 use Rattle.w_rules.specs.InstructionTypes.{labels_at, br_table_type, br_on_non_null_type}
@@ -65,11 +65,11 @@ module _ (es : List Entry) (labels : List (Row ValType)) (p : Bool) (ts : Row Op
 
 -- the step where the index is taken, and the last label can be taken, by whether the others fit
 pub table_answer : (es : List Entry) (labels : List (Row ValType)) (p q : Bool) (ts rest : Row Operand) (label : List ValType) (d : ℕ) (xs : List ℕ)
-    (taken can fit : Bool) →
-    pops es p ts (ε ▹ I32) ≡ (if taken then Some rest else None) → taken ≡ true → q ≡ p → slice_get labels d ≡ Some (row_of label) →
+    (applies can fit : Bool) →
+    pops es p ts (ε ▹ I32) ≡ (if applies then Some rest else None) → applies ≡ true → q ≡ p → slice_get labels d ≡ Some (row_of label) →
     can ≡ is_popped (pops es q rest (row_of label)) → can ≡ true → fit ≡ fit_each es labels q rest (length label) xs →
     step es (br_table_type (slice_get labels d) (labels_at labels xs)) p ts ≡ (if fit then Some anything else None)
-table_answer es labels p q ts rest label d xs taken can fit left all same found tested passed others =
+table_answer es labels p q ts rest label d xs applies can fit left all same found tested passed others =
     let last : is_popped (pops es p rest (row_of label)) ≡ true =
     ap (λ (x : Bool). is_popped (pops es x rest (row_of label))) (sym same) ∙ sym tested ∙ passed in
     table_step es labels p ts rest (row_of label) d xs (left ∙ ap (λ (b : Bool). if b then Some rest else None) all) found

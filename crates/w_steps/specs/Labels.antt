@@ -1,7 +1,7 @@
 -- What blocks take and give, and the labels inside them (Core, validation, control instructions).
 use Rattle.std.specs.Prelude.{List, [], ◌∷◌, Option, Some, None}
 use Rattle.w_types.specs.declared.types.ValType.{ValType}
-use Rattle.w_types.specs.Rows.{Row, ε}
+use Rattle.lists.specs.Rows.{Row, ε}
 use Rattle.w_rules.specs.Context.{Context, Arrow, arrow_of, label_of}
 use Rattle.w_steps.specs.declared.frame_kind.FrameKind.{FrameKind}
 use Rattle.w_steps.specs.declared.frame_kind.FrameKind.TheVariants as kind

@@ -22,22 +22,22 @@ use Rattle.w_steps.specs.declared.frame_kind.FrameKind.{FrameKind}
 
 -- the step of its type in this context, where it passes its test
 abbrev pub StepsIn : List Entry → Context → List Bool → Op → Flow → Flow → Bool → Type 0
-StepsIn es c s o old new taken =
-    gated (plain_test es c o) (step es (instr_type c s o) (flow_view old).any (flow_view old).operands) ≡ flow_if taken new
+StepsIn es c s o old new applies =
+    gated (plain_test es c o) (step es (instr_type c s o) (flow_view old).any (flow_view old).operands) ≡ flow_if applies new
 
 -- the same in a body of these locals and results, inside these blocks
 abbrev pub StepsTo : program.Context → LocalState → List ValType → List FrameKind → Op → Flow → Flow → Bool → Type 0
-StepsTo cx locals results ks o old new taken =
-    StepsIn cx.classes.now (within (in_body (context_in cx) locals.types results) ks) (first_set locals.sets) o old new taken
+StepsTo cx locals results ks o old new applies =
+    StepsIn cx.classes.now (within (in_body (context_in cx) locals.types results) ks) (first_set locals.sets) o old new applies
 
 -- the same of a packed instruction
 abbrev pub PackedSteps : program.Context → LocalState → List ValType → List FrameKind → PackedInstr → Flow → Flow → Bool → Type 0
-PackedSteps cx locals results ks p old new taken =
-    OnPlain (λ (o : Op). StepsTo cx locals results ks o old new taken) (unpacked p)
+PackedSteps cx locals results ks p old new applies =
+    OnPlain (λ (o : Op). StepsTo cx locals results ks o old new applies) (unpacked p)
 
 -- the same whatever the results and the blocks are
 abbrev pub StepsAnywhere : program.Context → LocalState → PackedInstr → Flow → Flow → Bool → Type 0
-StepsAnywhere cx locals p old new taken = (results : List ValType) (ks : List FrameKind) → PackedSteps cx locals results ks p old new taken
+StepsAnywhere cx locals p old new applies = (results : List ValType) (ks : List FrameKind) → PackedSteps cx locals results ks p old new applies
 
 -- the locals are set as the instruction sets them
 abbrev pub SetsBy : Op → LocalState → LocalState → Type 0

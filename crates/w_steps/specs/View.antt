@@ -3,7 +3,7 @@ use Rattle.std.specs.Prelude.{Bool, true, List, ◌∷◌, map, reverse, Option,
 use Rattle.w_types.specs.declared.types.HeapType.{HeapType}
 use Rattle.w_types.specs.declared.types.ValType.{ValType}
 use Rattle.w_types.specs.declared.types.ValType.TheVariants.{Ref}
-use Rattle.w_types.specs.Rows.{ε, ◌▹◌, row_of}
+use Rattle.lists.specs.Rows.{ε, ◌▹◌, row_of}
 use Rattle.w_flow.specs.Flow.{Flow}
 use Rattle.w_flow.specs.declared.type_row.TypeRow.{TypeRow}
 use Rattle.w_flow.specs.declared.type_rows.FuncRows.{FuncRows}

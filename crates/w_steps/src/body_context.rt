@@ -1,7 +1,7 @@
 //! Where an instruction stands.
 ghost use Rattle.std.specs.Prelude.{◌≡◌, [], ◌∷◌, List, IfSome, slice_get};
 ghost use Rattle.std.specs.Option.{option_map};
-ghost use Rattle.w_types.specs.Rows.{row_of};
+ghost use Rattle.lists.specs.Rows.{row_of};
 ghost use Rattle.w_canon.specs.declared.entry.Entry.{Entry};
 ghost use Rattle.w_flow.specs.TypeRows.{IsReady, AreReadyRows};
 ghost use Rattle.w_rules.specs.Context.{arrow_of};
@@ -119,7 +119,7 @@ pub fn label_of<'c>(
 impl<'c> BodyContext<'c> {
     ghost use Rattle.std.specs.Prelude.{◌≡◌, IfSome, slice_get};
     ghost use Rattle.std.specs.Option.{option_map};
-    ghost use Rattle.w_types.specs.Rows.{row_of};
+    ghost use Rattle.lists.specs.Rows.{row_of};
     ghost use Rattle.w_flow.specs.TypeRows.{IsReady};
     ghost use Rattle.w_steps.specs.View.{context_at};
 

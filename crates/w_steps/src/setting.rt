@@ -13,7 +13,7 @@ pub struct Setting<'a> {
     pub cx: &'a Context<'a>,
     pub rows: &'a TypeRows,
     pub results: TypeRow<'a>,
-    ghost rows_ready: { AreTypeRows cx.now.classes.now (types_of cx.now.owner.now.types) rows.now } by { AreTypeRows-prop cx.now.classes.now (types_of cx.now.owner.now.types) rows.now },
+    ghost rows_ready: { AreTypeRows cx.now.classes.now (types_of cx.now.candidate.now.types) rows.now } by { AreTypeRows-prop cx.now.classes.now (types_of cx.now.candidate.now.types) rows.now },
     ghost results_ready: { IsReady cx.now.classes.now results } by { IsReady-prop cx.now.classes.now results },
 }
 

@@ -49,10 +49,10 @@ fn plain_step(
     op: &Op,
 ) -> Result<bool, AllocError>
     requires { HasWords setting.now.cx.now.classes.now flow.old }
-    ensures steps { IfOk result (λ taken. StepsTo setting.now.cx.now locals.old setting.now.results.types.now (kind.now
-        ∷ outer_kinds outer.now) op.now flow.old flow.new taken) }
+    ensures steps { IfOk result (λ applies. StepsTo setting.now.cx.now locals.old setting.now.results.types.now (kind.now
+        ∷ outer_kinds outer.now) op.now flow.old flow.new applies) }
     ensures types { locals.new.types ≡ locals.old.types }
-    ensures sets { IfOk result (λ taken. IsTrue taken → SetsBy op.now locals.old locals.new) }
+    ensures sets { IfOk result (λ applies. IsTrue applies → SetsBy op.now locals.old locals.new) }
     ensures outer { OnOk result (outer_sets locals.new.sets ≡ outer_sets locals.old.sets) }
     ensures words { HasWords setting.now.cx.now.classes.now flow.new }
 {
@@ -87,8 +87,8 @@ fn common_step(
 ) -> Option<Result<bool, AllocError>>
     requires { IsFalse (is_variable packed.now) }
     ensures steps { (locals : LocalState) (results : List ValType) (ks : List FrameKind)
-        → IfSome result (λ told. IfOk told (λ taken. PackedSteps cx.now locals results ks packed.now
-        flow.old flow.new taken)) }
+        → IfSome result (λ stepped. IfOk stepped (λ applies. PackedSteps cx.now locals results ks packed.now
+        flow.old flow.new applies)) }
     ensures unset { (locals : LocalState) → IfSome result (λ _. PackedSets packed.now locals locals) }
     ensures rare { IfNone result (IsTrue (is_rare packed.now)) }
     ensures nothing { IfNone result (flow.new ≡ flow.old) }
@@ -128,10 +128,10 @@ fn rare_step(
 ) -> Result<bool, AllocError>
     requires rare { IsTrue (is_rare packed.now) }
     requires words { HasWords setting.now.cx.now.classes.now flow.old }
-    ensures steps { IfOk result (λ taken. PackedSteps setting.now.cx.now locals.old setting.now.results.types.now (kind.now
-        ∷ outer_kinds outer.now) packed.now flow.old flow.new taken) }
+    ensures steps { IfOk result (λ applies. PackedSteps setting.now.cx.now locals.old setting.now.results.types.now (kind.now
+        ∷ outer_kinds outer.now) packed.now flow.old flow.new applies) }
     ensures types { locals.new.types ≡ locals.old.types }
-    ensures sets { IfOk result (λ taken. IsTrue taken
+    ensures sets { IfOk result (λ applies. IsTrue applies
         → PackedSets packed.now locals.old locals.new) }
     ensures outer { OnOk result (outer_sets locals.new.sets ≡ outer_sets locals.old.sets) }
     ensures words { HasWords setting.now.cx.now.classes.now flow.new }
@@ -174,10 +174,10 @@ pub fn packed_step(
     packed: &PackedInstr,
 ) -> Result<bool, AllocError>
     requires { HasWords setting.now.cx.now.classes.now flow.old }
-    ensures steps { IfOk result (λ taken. PackedSteps setting.now.cx.now locals.old setting.now.results.types.now (kind.now
-        ∷ outer_kinds outer.now) packed.now flow.old flow.new taken) }
+    ensures steps { IfOk result (λ applies. PackedSteps setting.now.cx.now locals.old setting.now.results.types.now (kind.now
+        ∷ outer_kinds outer.now) packed.now flow.old flow.new applies) }
     ensures types { locals.new.types ≡ locals.old.types }
-    ensures sets { IfOk result (λ taken. IsTrue taken
+    ensures sets { IfOk result (λ applies. IsTrue applies
         → PackedSets packed.now locals.old locals.new) }
     ensures outer { OnOk result (outer_sets locals.new.sets ≡ outer_sets locals.old.sets) }
     ensures words { HasWords setting.now.cx.now.classes.now flow.new }
@@ -186,7 +186,7 @@ pub fn packed_step(
     match packed {
         PackedInstr::Variable(op) => variable_step(cx, locals, flow, *op),
         _ => match common_step(cx, flow, packed) {
-            Some(taken) => taken,
+            Some(applies) => applies,
             None => rare_step(setting, locals, kind, outer, flow, packed),
         },
     }

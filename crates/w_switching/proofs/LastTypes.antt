@@ -2,8 +2,8 @@
 use Rattle.std.proofs.Common.{◌≡◌, ◌≤◌, ℕ, length, List, [], ◌∷◌, ◌++◌, Option, Some, None, refl, ap, ◌∙◌}
 use Rattle.w_types.specs.declared.types.FuncType.{FuncType}
 use Rattle.w_types.specs.declared.types.ValType.{ValType}
-use Rattle.w_types.specs.Rows.{◌▹◌, row_of}
-use Rattle.w_types.proofs.Rows.{row_of-more}
+use Rattle.lists.specs.Rows.{◌▹◌, row_of}
+use Rattle.lists.proofs.Rows.{row_of-more}
 use Rattle.w_syntax.specs.declared.module.Module.{Module}
 use Rattle.w_rules.specs.Context.{cont_of}
 use Rattle.w_rules.specs.Limits.{most_params}

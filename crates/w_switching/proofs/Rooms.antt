@@ -1,6 +1,6 @@
 -- Room, as segments and entries change.
 use Rattle.std.proofs.Common.{◌≡◌, ◌≤◌, ℕ, zero, suc, ◌+◌, List, [], ◌∷◌, ◌++◌, Some, length, slice_get, refl, sym, subst, take, drop}
-use Rattle.w_types.specs.Rows.{Row}
+use Rattle.lists.specs.Rows.{Row}
 use Rattle.w_types.specs.declared.value.Value.{Value}
 use Rattle.w_syntax.specs.Code.{Code}
 use Rattle.w_syntax.specs.declared.module.Module.{Module}
@@ -13,14 +13,14 @@ use Rattle.w_reduce.specs.Room.{most_operands, function_in, held_in}
 use Rattle.w_reduce.specs.Values.{Val}
 use Rattle.w_reduce.specs.Terms.{Rest, rest_of, Context}
 use Rattle.w_stands.specs.Room.{HasRoom}
-use Rattle.w_stands.proofs.Fitting.{measured}
-use Rattle.w_stands.proofs.Reading.{here}
+use Rattle.w_stands.proofs.RoomOfFrames.{measured}
+use Rattle.w_stands.proofs.AtInstructions.{here}
 use Rattle.w_switching.specs.declared.stored.Stored.{Stored}
 use Rattle.w_switching.specs.Moved.{passed, merged, Bound, Captured, Exchanged}
 use Rattle.w_switching.specs.Standing.{Chained}
 use Rattle.w_switching.specs.Sound.{LinksRoom, Roomy}
-use Rattle.w_switching.proofs.Facing.{head}
-use Rattle.w_switching.proofs.Sounding.{each_at, each_with, each_without}
+use Rattle.w_switching.proofs.AtSwitchingInstruction.{head}
+use Rattle.w_switching.proofs.References.{each_at, each_with, each_without}
 
 -- ## Lists of segments
 

@@ -3,7 +3,7 @@ use Rattle.std.proofs.Common.{◌≡◌, ℕ, suc, Bool, true, List, [], ◌∷�
 use Rattle.w_types.specs.declared.value.Value.{Value}
 use Rattle.w_segment.specs.Shape.{Shape, SameParts}
 use Rattle.w_segment.specs.Link.{Link, top, with_top}
-use Rattle.w_segment.proofs.Holding.{same_holds}
+use Rattle.w_segment.proofs.FactsOfValues.{same_holds}
 use Rattle.w_conts.specs.Conts.{Conts}
 use Rattle.w_switching.specs.declared.stored.Stored.{Stored}
 use Rattle.w_switching.specs.Moved.{SameLinks}

@@ -1,7 +1,7 @@
 -- The type of the continuation that a switch gives to its target (stack-switching explainer, validation: switch).
 use Rattle.std.specs.Prelude.{ℕ, Option, Some, None}
 use Rattle.w_types.specs.declared.types.FuncType.{FuncType}
-use Rattle.w_types.specs.Rows.{row_of}
+use Rattle.lists.specs.Rows.{row_of}
 use Rattle.w_syntax.specs.declared.module.Module.{Module}
 use Rattle.w_rules.specs.Context.{cont_of}
 use Rattle.w_rules.specs.Spaces.{context_of}

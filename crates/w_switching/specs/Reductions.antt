@@ -15,7 +15,7 @@ use Rattle.w_rules.specs.Spaces.{context_of}
 use Rattle.w_segment.specs.declared.entry.Stage.TheVariants.{Body}
 use Rattle.w_segment.specs.Link.{Link, top}
 use Rattle.w_conts.specs.Conts.{Conts, kept_at}
-use Rattle.w_reduce.specs.Terms.{Rest, rest_of, Term, Kept}
+use Rattle.w_reduce.specs.Terms.{Rest, rest_of, Term, Continuation}
 use Rattle.w_reduce.specs.Store.{Store, with_conts}
 use Rattle.w_reduce.specs.Program.{Program}
 use Rattle.w_reduce.specs.Reduced.{Reduced, Went, Trapped, Stuck}
@@ -52,7 +52,7 @@ pub record SwitchesAt (o : SwitchingOp) (m : Module) (chain : List Link) (conts 
 
 -- it goes on, printing nothing, where chain and store stand; of the definitions' store only continuations change
 pub record WentTo (m : Module) (behind : Rest) (chain : List Link) (conts : Conts Stored) (p : Program) (s : Store) (d : Reduced) : Type 0 where
-  pub conts_after : List (Option Kept)
+  pub conts_after : List (Option Continuation)
   pub t : Term
   pub is : d ≡ Went [] (with_conts conts_after s) t
   pub stand : Stand m behind chain conts p (with_conts conts_after s) t

@@ -3,7 +3,7 @@ ghost use Rattle.std.specs.Prelude.{◌≡◌, slice_get};
 ghost use Rattle.std.specs.Option.{option_copied};
 ghost use Rattle.w_rules.specs.Context.{cont_of, type_of_tag};
 ghost use Rattle.w_rules.specs.Spaces.{context_of, tags_of};
-ghost use Rattle.w_types.specs.Rows.{row_of};
+ghost use Rattle.lists.specs.Rows.{row_of};
 ghost use Rattle.w_reduce.specs.Switching.{back_type, heap_index};
 ghost use Rattle.w_switching.specs.BackTypes.{back_of};
 

@@ -1,5 +1,5 @@
 mod DataNamed
-mod Joining
+mod JoinedRuns
 mod SameKind
 pub mod Totals
 pub mod Steps

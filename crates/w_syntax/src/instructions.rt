@@ -2,7 +2,8 @@
 
 use crate::memory_instructions::MemoryOp;
 use crate::numeric::NumericOp;
-use w_types::{HeapType, ListOf, PackedType};
+use lists::ListOf;
+use w_types::{HeapType, PackedType};
 
 /// A control instruction that holds no others (Core, instructions, control instructions). A label is counted from the
 /// innermost one outwards.

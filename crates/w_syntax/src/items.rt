@@ -3,9 +3,10 @@ ghost use Rattle.std.specs.Prelude.{◌≡◌, ◌<◌, Some, IfOk, length, map,
 ghost use Rattle.w_syntax.specs.Items.{reference_to, null_of, code_of};
 
 use crate::body::Body;
+use lists::ListOf;
 use std::alloc::{AllocError, Global};
 use std::marker::Model;
-use w_types::{HeapType, ListOf};
+use w_types::HeapType;
 
 // How an item is kept.
 #[derive(Drop)]

@@ -4,8 +4,9 @@ use crate::body::Body;
 use crate::items::Items;
 use crate::locals::Locals;
 use crate::name::Name;
+use lists::ListOf;
 use std::alloc::Global;
-use w_types::{ListOf, PackedType, RecGroups, RefType};
+use w_types::{PackedType, RecGroups, RefType};
 
 /// The least and the greatest size of a table or a memory (Core, types, limits).
 #[derive(Clone, Copy)]

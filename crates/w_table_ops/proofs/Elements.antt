@@ -2,7 +2,7 @@
 use Rattle.std.proofs.Common.{◌≡◌, ℕ, ◌<◌, List, [], ◌∷◌, length, drop, map, Option, Some, None, slice_get, refl, sym, ap, ◌∙◌, true}
 use Rattle.std.specs.Option.{option_map}
 use Rattle.std.proofs.lemmas.List.{length-map}
-use Rattle.w_types.specs.Rows.{◌▹◌}
+use Rattle.lists.specs.Rows.{◌▹◌}
 use Rattle.w_types.specs.declared.value.Value.{Value}
 use Rattle.w_types.specs.declared.value.Value.TheVariants as value
 use Rattle.w_syntax.specs.Code.{Code}
@@ -27,12 +27,12 @@ use Rattle.w_stands.specs.Keeps.{KeepsAll}
 use Rattle.w_stands.specs.Steps.{MovesAt, Follows}
 use Rattle.w_stands.specs.Taking.{Kind, Number, Bits, AreOf}
 use Rattle.w_stands.specs.GoingOn.{replaced, IsPushedNext}
-use Rattle.w_stands.proofs.Following.{Needs, take_needs, take_follows, take_traps, replaced_behind, pushed_behind}
+use Rattle.w_stands.proofs.NextInstructions.{Needs, take_needs, take_follows, take_traps, replaced_behind, pushed_behind}
 use Rattle.w_stands.proofs.LookedUp.{mapped_found, goes_on}
-use Rattle.w_table_ops.proofs.Mapped.{table_there}
+use Rattle.w_table_ops.proofs.MappedElements.{table_there}
 use Rattle.w_stands.proofs.Locals.{mapped_get}
 use Rattle.w_table_ops.proofs.Rules.{getting, get_rule, sizing, size_rule}
-use Rattle.w_table_ops.proofs.Kept.{all_get, table_holds, keeps_behind}
+use Rattle.w_table_ops.proofs.FactsOfElements.{all_get, table_holds, keeps_behind}
 
 -- ## table.get
 

@@ -2,7 +2,7 @@
 use Rattle.std.proofs.Common.{◌≡◌, ℕ, ◌<◌, [], ◌∷◌, length, drop, map, Some, slice_get, refl, ap, ◌∙◌, true}
 use Rattle.std.specs.Prelude.{slice_index_or}
 use Rattle.std.specs.Option.{option_map}
-use Rattle.w_types.specs.Rows.{◌▹◌}
+use Rattle.lists.specs.Rows.{◌▹◌}
 use Rattle.w_types.specs.declared.value.Value.{Value}
 use Rattle.w_types.specs.declared.value.Value.TheVariants as value
 use Rattle.w_syntax.specs.Code.{Code}
@@ -25,13 +25,13 @@ use Rattle.w_stands.specs.Keeps.{KeepsAll}
 use Rattle.w_stands.specs.Steps.{MovesAt, Follows}
 use Rattle.w_stands.specs.Taking.{Any}
 use Rattle.w_stands.specs.GoingOn.{dropped, IsPushedNext}
-use Rattle.w_stands.proofs.Following.{Needs, take_needs, take_follows, dropped_behind, pushed_behind}
+use Rattle.w_stands.proofs.NextInstructions.{Needs, take_needs, take_follows, dropped_behind, pushed_behind}
 use Rattle.w_stands.proofs.LookedUp.{mapped_found, goes_on}
-use Rattle.w_table_ops.proofs.Mapped.{store_set}
+use Rattle.w_table_ops.proofs.MappedElements.{store_set}
 use Rattle.w_stands.proofs.Locals.{mapped_get}
 use Rattle.std.proofs.lemmas.Option.{slice_get-get_or}
 use Rattle.w_table_ops.proofs.Rules.{reading, global_get_rule, assigning, global_set_rule}
-use Rattle.w_table_ops.proofs.Kept.{all_get, tops_hold, keeps_behind, set_holds}
+use Rattle.w_table_ops.proofs.FactsOfElements.{all_get, tops_hold, keeps_behind, set_holds}
 
 module _ (m : Module) (u : instances.Store) (s : Shape) (x : ℕ) (k : MovesAt (flat.Plain (op.Variable (variable.GlobalGet x))) m u s) where
   -- what it needs

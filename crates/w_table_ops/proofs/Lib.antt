@@ -1,9 +1,9 @@
-mod Mapped
+mod MappedElements
 mod Rules
-mod Kept
-mod Writing
-mod Written
+mod FactsOfElements
+mod TableWrites
+mod ElementsWritten
 mod Elements
-mod Growing
+mod TableGrow
 mod Segments
 mod Globals

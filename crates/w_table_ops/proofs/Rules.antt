@@ -1,6 +1,6 @@
 -- The rules of table instructions and of globals, as ones that take operands.
 use Rattle.std.proofs.Common.{◌≡◌, ℕ, List, [], ◌∷◌, length, Option, Some, None, slice_get, refl}
-use Rattle.w_types.specs.Rows.{Row, ε, ◌▹◌}
+use Rattle.lists.specs.Rows.{Row, ε, ◌▹◌}
 use Rattle.w_num.specs.Signed.{inverse}
 use Rattle.w_tables.specs.Elements.{get, replaced, filled, copied, grown}
 use Rattle.w_tables.specs.Outcomes.{growth}

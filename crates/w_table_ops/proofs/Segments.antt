@@ -17,11 +17,11 @@ use Rattle.w_stands.specs.declared.did.Did.TheVariants as did
 use Rattle.w_stands.specs.Keeps.{KeepsAll}
 use Rattle.w_stands.specs.Steps.{MovesAt, Follows}
 use Rattle.w_stands.specs.GoingOn.{IsBehind}
-use Rattle.w_stands.proofs.Following.{Needs, take_needs, take_follows}
+use Rattle.w_stands.proofs.NextInstructions.{Needs, take_needs, take_follows}
 use Rattle.w_stands.proofs.LookedUp.{mapped_found, goes_on}
-use Rattle.w_table_ops.proofs.Mapped.{store_dropped, segment_there}
+use Rattle.w_table_ops.proofs.MappedElements.{store_dropped, segment_there}
 use Rattle.w_table_ops.proofs.Rules.{dropping, drop_rule}
-use Rattle.w_table_ops.proofs.Kept.{keeps_behind, dropped_holds}
+use Rattle.w_table_ops.proofs.FactsOfElements.{keeps_behind, dropped_holds}
 
 module _ (m : Module) (u : instances.Store) (s : Shape) (y : ℕ) (k : MovesAt (flat.Plain (op.Table (table.ElemDrop y))) m u s) where
   -- what it needs

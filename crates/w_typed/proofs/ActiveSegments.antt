@@ -35,15 +35,15 @@ use Rattle.w_typed.proofs.SizedTables.{table_copied}
 use Rattle.w_typed.proofs.Tables.{elements_put, elements_dropped}
 
 -- where there is a store, it is of the module's types
-abbrev Kept : Module → Arrows → Option Store → Type 0
-Kept m K o = (s : Store) → o ≡ Some s → StoreTyped m K s
+abbrev StaysTyped : Module → Arrows → Option Store → Type 0
+StaysTyped m K o = (s : Store) → o ≡ Some s → StoreTyped m K s
 
 -- a store is itself
-kept : (m : Module) {K : Arrows} (s : Store) → StoreTyped m K s → Kept m K (Some s)
-kept m {K} s u r is = subst (StoreTyped m K) (cc) u
+stays_typed : (m : Module) {K : Arrows} (s : Store) → StoreTyped m K s → StaysTyped m K (Some s)
+stays_typed m {K} s u r is = subst (StoreTyped m K) (cc) u
 
-none_kept : (m : Module) {K : Arrows} → Kept m K None
-none_kept m r is = absurd (cc)
+none_stays_typed : (m : Module) {K : Arrows} → StaysTyped m K None
+none_stays_typed m r is = absurd (cc)
 
 -- ## Element segments
 
@@ -60,19 +60,19 @@ module _ (p : Program) {K : Arrows} (y : ℕ) (e : Elem) (there : slice_get p.so
   -- what was copied is of the table's type
   put_typed : (s : Store) (x : ℕ) (t : Table) (k : TableType) (segment : List Val) (d : ℕ) (o : Option (List Val))
       → copied t.elements segment d 0 (length segment) ≡ o → slice_get (tables_of p.source) x ≡ Some k → RefMatches p.source.types e.kind k.element
-      → TableTyped p.source K t k → SegmentTyped p.source K segment e.kind → StoreTyped p.source K s → Kept p.source K (start.elements_put s x y t segment o)
-  put_typed s x t k segment d None is at q h w u = none_kept p.source
+      → TableTyped p.source K t k → SegmentTyped p.source K segment e.kind → StoreTyped p.source K s → StaysTyped p.source K (start.elements_put s x y t segment o)
+  put_typed s x t k segment d None is at q h w u = none_stays_typed p.source
   put_typed s x t k segment d (Some vs) is at q h w u =
       let sub = all_sub p.source K (Ref e.kind) (Ref k.element) segment (ref q) w in
       let new = table_copied p.source K k t h d 0 (length segment) segment vs sub is in
-      kept p.source (without_elements (with_elements s x t vs) y) (dropped (with_elements s x t vs) (elements_put p.source x k t vs s u at new))
+      stays_typed p.source (without_elements (with_elements s x t vs) y) (dropped (with_elements s x t vs) (elements_put p.source x k t vs s u at new))
 
   copied_typed : (s : Store) (x d : ℕ) (t : Option Table) (segment : Option (List Val)) (k : Option TableType) → slice_get s.tables x ≡ t
       → slice_get s.elements y ≡ segment → slice_get (tables_of p.source) x ≡ k
       → Holds k (λ (t : TableType). RefMatches p.source.types e.kind t.element) → StoreTyped p.source K s
-      → Kept p.source K (elements_copied s x y d t segment)
-  copied_typed s x d None segment k a b at q u = none_kept p.source
-  copied_typed s x d (Some t) None k a b at q u = none_kept p.source
+      → StaysTyped p.source K (elements_copied s x y d t segment)
+  copied_typed s x d None segment k a b at q u = none_stays_typed p.source
+  copied_typed s x d (Some t) None k a b at q u = none_stays_typed p.source
   copied_typed s x d (Some t) (Some segment) None a b at q u = absurd q
   copied_typed s x d (Some t) (Some segment) (Some k) a b at q u =
       let f = instance_at x k u.tables at in
@@ -85,46 +85,46 @@ module _ (p : Program) {K : Arrows} (y : ℕ) (e : Elem) (there : slice_get p.so
 
   -- what a segment's mode asks for is done
   element_kept : (s : Store) (mode : ElemMode) → IsElemModeValid p.source e.kind mode → StoreTyped p.source K s
-      → Kept p.source K (element_started p s y mode)
+      → StaysTyped p.source K (element_started p s y mode)
   element_kept s (elem_mode.Active x offset) q u =
       let d = number_in (value_of p s offset) in
       copied_typed s x d (slice_get s.tables x) (slice_get s.elements y) (slice_get (tables_of p.source) x) refl refl refl q.0 u
-  element_kept s elem_mode.Passive q u = kept p.source s u
-  element_kept s elem_mode.Declarative q u = kept p.source (without_elements s y) (dropped s u)
+  element_kept s elem_mode.Passive q u = stays_typed p.source s u
+  element_kept s elem_mode.Declarative q u = stays_typed p.source (without_elements s y) (dropped s u)
 
 -- ## Data segments
 
 module _ (p : Program) {K : Arrows} where
   bytes_put : (s : Store) (x y : ℕ) (l : Limits) (d : syntax_data.Data) (o : Option Memory) → slice_get (memories_of p.source) x ≡ Some l
       → slice_get p.source.datas y ≡ Some d → ((new : Memory) → o ≡ Some new → MemoryTyped p.source new l) → StoreTyped p.source K s
-      → Kept p.source K (data_put s x y o)
-  bytes_put s x y l d None at is h u = none_kept p.source
+      → StaysTyped p.source K (data_put s x y o)
+  bytes_put s x y l d None at is h u = none_stays_typed p.source
   bytes_put s x y l d (Some n) at is h u =
-      kept p.source (without_data (with_memory s x n) y)
+      stays_typed p.source (without_data (with_memory s x n) y)
       (data_dropped p.source y d (with_memory s x n) (memory_put p.source x l n s u at (h n refl)) is)
 
   bytes_there : (s : Store) (x y d : ℕ) (m : Option Memory) (bytes : Option (List ℕ)) → slice_get s.memories x ≡ m → slice_get s.datas y ≡ bytes
-      → StoreTyped p.source K s → Kept p.source K (data_copied s x y d m bytes)
+      → StoreTyped p.source K s → StaysTyped p.source K (data_copied s x y d m bytes)
   bytes_there s x y d (Some n) (Some bytes) a b u =
       let f = declaration_of x n u.memories a in
       let g = declaration_of y bytes u.datas b in
       bytes_put s x y f.item g.item (init n bytes d 0 (length bytes)) f.is g.is
       (λ new is. init_typed p.source f.item n f.holds bytes d 0 (length bytes) new (data_bytes p.source y g.item bytes g.is g.holds) is) u
-  bytes_there s x y d (Some n) None a b u = none_kept p.source
-  bytes_there s x y d None bytes a b u = none_kept p.source
+  bytes_there s x y d (Some n) None a b u = none_stays_typed p.source
+  bytes_there s x y d None bytes a b u = none_stays_typed p.source
 
-  data_kept : (s : Store) (y : ℕ) (mode : DataMode) → StoreTyped p.source K s → Kept p.source K (data_started p s y mode)
+  data_kept : (s : Store) (y : ℕ) (mode : DataMode) → StoreTyped p.source K s → StaysTyped p.source K (data_started p s y mode)
   data_kept s y (data_mode.Active x offset) u =
       bytes_there s x y (number_in (value_of p s offset)) (slice_get s.memories x) (slice_get s.datas y) refl refl u
-  data_kept s y data_mode.Passive u = kept p.source s u
+  data_kept s y data_mode.Passive u = stays_typed p.source s u
 
 -- ## All of them
 
 -- Where each step keeps a store's types, all of them do. Q is what is known of the items by their places.
 in_order_typed : {A : Type 0} (m : Module) {K : Arrows} (Q : ℕ → A → Type 0) (f : Store → ℕ → A → Option Store)
-    → ((s : Store) (y : ℕ) (x : A) → Q y x → StoreTyped m K s → Kept m K (f s y x)) → (y : ℕ) (xs : List A)
-    → ((i : ℕ) (x : A) → slice_get xs i ≡ Some x → Q (y + i) x) → (o : Option Store) → Kept m K o → Kept m K (in_order f o y xs)
-in_order_typed m Q f k y xs q None u = none_kept m
+    → ((s : Store) (y : ℕ) (x : A) → Q y x → StoreTyped m K s → StaysTyped m K (f s y x)) → (y : ℕ) (xs : List A)
+    → ((i : ℕ) (x : A) → slice_get xs i ≡ Some x → Q (y + i) x) → (o : Option Store) → StaysTyped m K o → StaysTyped m K (in_order f o y xs)
+in_order_typed m Q f k y xs q None u = none_stays_typed m
 in_order_typed m Q f k y [] q (Some s) u = u
 in_order_typed m Q f k y (x ∷ xs) q (Some s) u =
     let first : Q y x = subst (λ n. Q n x) (omega arith) (q zero x refl) in
@@ -142,11 +142,11 @@ module _ (p : Program) {K : Arrows} where
       let same : w.element ≡ e = let a = w.is in cc in
       let mode = subst (λ (x : Elem). IsElemModeValid p.source x.kind x.mode) same w.mode in
       element_kept p y e there s e.mode mode v)
-      0 p.source.elements (λ i e there. subst (λ n. here n e) (omega arith) there) (Some s) (kept p.source s u) r is
+      0 p.source.elements (λ i e there. subst (λ n. here n e) (omega arith) there) (Some s) (stays_typed p.source s u) r is
 
   -- and with all active data segments in their memories
   pub datas_typed : (s r : Store) → StoreTyped p.source K s
       → in_order (λ s y (d : syntax_data.Data). data_started p s y d.mode) (Some s) 0 p.source.datas ≡ Some r → StoreTyped p.source K r
   datas_typed s r u is =
       in_order_typed p.source (λ y d. Unit {0}) (λ s y (d : syntax_data.Data). data_started p s y d.mode) (λ s y d t v. data_kept p s y d.mode v)
-      0 p.source.datas (λ i d there. tt) (Some s) (kept p.source s u) r is
+      0 p.source.datas (λ i d there. tt) (Some s) (stays_typed p.source s u) r is

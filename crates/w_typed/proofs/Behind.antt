@@ -1,6 +1,6 @@
 -- The code behind an instruction that is reached.
 use Rattle.std.proofs.Common.{◌≡◌, Bool, false, List, [], None}
-use Rattle.w_types.specs.Rows.{Row, size}
+use Rattle.lists.specs.Rows.{Row, size}
 use Rattle.w_syntax.specs.Code.{Code, Plain}
 use Rattle.w_syntax.specs.declared.instructions.Op.{Op}
 use Rattle.w_syntax.specs.declared.module.Module.{Module}
@@ -9,7 +9,7 @@ use Rattle.w_rules.specs.Operands.{Operand}
 use Rattle.w_rules.specs.Typing.{HasInstrType, Derives}
 use Rattle.w_typed.specs.Ranges.{ConstantsFit, NumbersFit}
 use Rattle.w_typed.specs.Contexts.{Scope, in_scope, IsLow, CodeTyped, RestTyped, code_alone}
-use Rattle.w_typed.proofs.Counted.{leaves, counted}
+use Rattle.w_typed.proofs.OperandCounts.{leaves, counted}
 use Rattle.w_typed.proofs.Low.{low_next}
 
 -- it is typed for what the instruction gives

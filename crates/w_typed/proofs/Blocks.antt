@@ -2,8 +2,8 @@
 use Rattle.std.proofs.Common.{◌≡◌, ℕ, subst, Bool, true, false, cond, List, Option, Some, None, option_map, refl, sym, ap}
 use Rattle.w_types.specs.declared.types.FuncType.{FuncType}
 use Rattle.w_types.specs.declared.types.ValType.{ValType}
-use Rattle.w_types.specs.Rows.{Row, ε, ◌▹◌, ◌⧺◌, size}
-use Rattle.w_types.proofs.Rows.{size-row_of}
+use Rattle.lists.specs.Rows.{Row, ε, ◌▹◌, ◌⧺◌, size}
+use Rattle.lists.proofs.Rows.{size-row_of}
 use Rattle.w_syntax.specs.Code.{Code, Done, Block, after}
 use Rattle.w_syntax.specs.Functions.{func_type}
 use Rattle.w_syntax.specs.declared.instructions.BlockKind.{BlockKind}
@@ -30,8 +30,8 @@ use Rattle.w_typed.specs.Values.{Arrows, ValuesTyped}
 use Rattle.w_typed.specs.Stores.{StoreTyped}
 use Rattle.w_typed.specs.Contexts.{Scope, under, in_scope, IsLow, CodeTyped, code_alone, Subset, Within, label}
 use Rattle.w_typed.specs.Configurations.{IsSafe}
-use Rattle.w_typed.proofs.Subsumed.{values_sub}
-use Rattle.w_typed.proofs.Taken.{values_taken}
+use Rattle.w_typed.proofs.Subsumption.{values_sub}
+use Rattle.w_typed.proofs.TypedOperands.{values_taken}
 use Rattle.w_typed.proofs.Holes.{code_left}
 use Rattle.w_typed.proofs.Low.{as_later, size_known}
 use Rattle.w_typed.proofs.Branches.{values_size}

@@ -2,7 +2,7 @@
 use Rattle.std.proofs.Common.{◌≡◌, ◌≤◌, ◌+◌, ℕ, zero, suc, Bool, true, nat_eq, List, Some, None, slice_get, refl, sym, ap, subst, ◌∙◌, arith}
 use Rattle.std.proofs.lemmas.Bool.{eq-eqb}
 use Rattle.w_types.specs.declared.types.ValType.{ValType}
-use Rattle.w_types.specs.Rows.{Row, ◌⧺◌, size}
+use Rattle.lists.specs.Rows.{Row, ◌⧺◌, size}
 use Rattle.w_syntax.specs.declared.module.Module.{Module}
 use Rattle.w_rules.specs.Matching.{known}
 use Rattle.w_rules.specs.Operands.{Operand}
@@ -17,8 +17,8 @@ use Rattle.w_typed.specs.Stores.{StoreTyped}
 use Rattle.w_reduce.specs.Room.{most_operands}
 use Rattle.w_typed.specs.Contexts.{Scope, code_alone, Within, outside, label, frame, handle}
 use Rattle.w_typed.specs.Configurations.{IsSafe, ends}
-use Rattle.w_typed.proofs.Subsumed.{values_sub, values_beside}
-use Rattle.w_typed.proofs.Taken.{values_taken}
+use Rattle.w_typed.proofs.Subsumption.{values_sub, values_beside}
+use Rattle.w_typed.proofs.TypedOperands.{values_taken}
 use Rattle.w_typed.proofs.Low.{size_beside, size_known, reached}
 use Rattle.w_typed.proofs.Onward.{goes_on}
 

@@ -9,7 +9,7 @@ use Rattle.w_memory.specs.Bytes.{bytes_of, number_of}
 use Rattle.w_memory.specs.Memory.{Memory, load}
 use Rattle.w_memory.specs.Parts.{is_within, part, written, filled, copied}
 use Rattle.w_typed.specs.Ranges.{AreBytes}
-use Rattle.w_typed.proofs.Chosen.{chosen}
+use Rattle.w_typed.proofs.OneWay.{chosen}
 
 abbrev IsByte : ℕ → Type 0
 IsByte b = b < 256

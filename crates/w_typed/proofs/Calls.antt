@@ -5,8 +5,8 @@ use Rattle.w_types.specs.declared.types.FuncType.{FuncType}
 use Rattle.w_types.specs.declared.types.HeapType.{HeapType}
 use Rattle.w_types.specs.declared.types.ValType.{ValType}
 use Rattle.w_types.specs.declared.types.ValType.TheVariants as type
-use Rattle.w_types.specs.Rows.{Row, ε, ◌▹◌, ◌⧺◌, row_of, listed}
-use Rattle.w_types.proofs.Rows.{size-row_of, listed-row_of, unit_left}
+use Rattle.lists.specs.Rows.{Row, ε, ◌▹◌, ◌⧺◌, row_of, listed}
+use Rattle.lists.proofs.Rows.{size-row_of, listed-row_of, unit_left}
 use Rattle.w_syntax.specs.Code.{Done}
 use Rattle.w_syntax.specs.Functions.{func_type, type_at}
 use Rattle.w_syntax.specs.declared.locals.LocalRun.{LocalRun}
@@ -39,11 +39,11 @@ use Rattle.w_typed.specs.Stores.{StoreTyped, printed_type}
 use Rattle.w_reduce.specs.Room.{most_operands, most_labels}
 use Rattle.w_typed.specs.Contexts.{Scope, inside, LaterTyped, code_alone, RestTyped, Subset, LocalTyped, unset, held, LocalsTyped, no_locals, locals, Within, label, frame}
 use Rattle.w_typed.specs.Configurations.{IsSafe}
-use Rattle.w_typed.proofs.Chosen.{some_same}
+use Rattle.w_typed.proofs.OneWay.{some_same}
 use Rattle.w_typed.proofs.TypeKinds.{is_func}
 use Rattle.w_typed.proofs.Functions.{EntryTyped, own, host, entries_typed}
 use Rattle.w_typed.proofs.Places.{instance_at, all_there}
-use Rattle.w_typed.proofs.Taken.{values_taken, number_taken}
+use Rattle.w_typed.proofs.TypedOperands.{values_taken, number_taken}
 use Rattle.w_typed.proofs.Holes.{subset_refl}
 use Rattle.w_typed.proofs.Blocks.{after_done}
 use Rattle.w_typed.proofs.Low.{size_known}

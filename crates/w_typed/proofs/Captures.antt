@@ -2,8 +2,8 @@
 use Rattle.std.proofs.Common.{◌≡◌, ℕ, ◌+◌, Bool, List, length, Option, Some, None, slice_get, refl, sym, ap, subst, ◌∙◌, arith}
 use Rattle.w_types.specs.declared.types.FuncType.{FuncType}
 use Rattle.w_types.specs.declared.types.ValType.{ValType}
-use Rattle.w_types.specs.Rows.{Row, ε, ◌▹◌, ◌⧺◌, size, row_of}
-use Rattle.w_types.proofs.Rows.{size-row_of}
+use Rattle.lists.specs.Rows.{Row, ε, ◌▹◌, ◌⧺◌, size, row_of}
+use Rattle.lists.proofs.Rows.{size-row_of}
 use Rattle.w_syntax.specs.Code.{Code, Plain}
 use Rattle.w_syntax.specs.declared.instructions.Op.TheVariants as op
 use Rattle.w_syntax.specs.declared.instructions.SwitchingOp.TheVariants as switching
@@ -18,24 +18,24 @@ use Rattle.w_rules.specs.Typing.{HasInstrType}
 use Rattle.w_rules.proofs.Preorder.{row_refl}
 use Rattle.w_reduce.specs.Values.{Val}
 use Rattle.w_reduce.specs.Store.{Store}
-use Rattle.w_reduce.specs.Terms.{rest_of, Context, Kept, filled}
+use Rattle.w_reduce.specs.Terms.{rest_of, Context, Continuation, filled}
 use Rattle.w_reduce.specs.Handlers.{Handler, label_clause, switch_clause, find}
-use Rattle.w_reduce.specs.Switching.{captured, back_type}
-use Rattle.w_reduce.proofs.Finding.{finding}
+use Rattle.w_reduce.specs.Switching.{continuation_at, back_type}
+use Rattle.w_reduce.proofs.InnermostHandle.{finding}
 use Rattle.w_typed.specs.Values.{Arrows, ValuesTyped, values}
 use Rattle.w_typed.specs.Contexts.{Scope, in_scope, CodeTyped, code_alone, Subset, TermTyped, KeptTyped}
 use Rattle.w_typed.specs.Stores.{ContTyped, consumed, kept, StoreTyped}
 use Rattle.w_typed.specs.Captures.{CaptureTyped, SuspendsCaptureTyped, SwitchesCaptureTyped, KeptContextsAreTerms}
 use Rattle.w_typed.proofs.Behind.{code_behind, code_here}
 use Rattle.w_typed.proofs.Low.{size_known}
-use Rattle.w_typed.proofs.Chosen.{some_same}
-use Rattle.w_typed.proofs.Cutting.{HandleTyped, cut_found}
-use Rattle.w_typed.proofs.Filling.{hole_filled}
+use Rattle.w_typed.proofs.OneWay.{some_same}
+use Rattle.w_typed.proofs.CutContexts.{HandleTyped, cut_found}
+use Rattle.w_typed.proofs.FilledTerms.{hole_filled}
 use Rattle.w_typed.proofs.Holes.{code_left}
 use Rattle.w_typed.proofs.Places.{instance_at}
 use Rattle.w_typed.proofs.ResultRows.{size_types}
-use Rattle.w_typed.proofs.Subsumed.{values_sub}
-use Rattle.w_typed.proofs.Suspending.{captured_typed}
+use Rattle.w_typed.proofs.Subsumption.{values_sub}
+use Rattle.w_typed.proofs.Suspend.{captured_typed}
 
 module _ (m : Module) (K : Arrows) where
   -- ## Captures
@@ -54,7 +54,7 @@ module _ (m : Module) (K : Arrows) where
     -- a context cut at its handle, with values and code that takes params above them
     capture_typed : {A : Type 0} (params : List ValType) (vs : Row Val) (k : Code) (f : Handler A) (beneath : Row Operand) {c : Scope} {set now : List Bool} {out : Row Operand}
         → HandleTyped m K us c now out f.inner f.below f.clauses f.rest f.outer → Subset set now → ValuesTyped m K vs beneath
-        → CodeTyped m c set k (beneath ⧺ known (row_of params)) out → CaptureTyped m K us f params (captured (length params) f.inner vs k)
+        → CodeTyped m c set k (beneath ⧺ known (row_of params)) out → CaptureTyped m K us f params (continuation_at (length params) f.inner vs k)
     capture_typed params vs k f beneath cut still v d = record {
       results = cut.results;
       kept = captured_typed m K (record { params = params; results = cut.results }) beneath still v d cut.inside;
@@ -76,7 +76,7 @@ module _ (m : Module) (K : Arrows) where
     suspend_captures : (e : Context) (vs ws : Row Val) (x : ℕ) (k : Code) (t : FuncType) (f : Handler ℕ)
         → TermTyped m K us (record { around = e; operands = vs ⧺ ws; rest = rest_of (Plain (op.Switching (switching.Suspend x)) k) })
         → type_of_tag (context_of m) x ≡ Some t → size ws ≡ length t.params → find (label_clause x) e ≡ Some f
-        → CaptureTyped m K us f t.results (captured (length t.results) f.inner vs k)
+        → CaptureTyped m K us f t.results (continuation_at (length t.results) f.inner vs k)
     suspend_captures e vs ws x k t f h is many found =
         let d = code_here h.rest in
         let given = d.derives.1.0 in
@@ -92,7 +92,7 @@ module _ (m : Module) (K : Arrows) where
     switch_typed_captures : (e : Context) (vs ws : Row Val) (u : Val) (x y : ℕ) (k : Code) (f : Handler (Unit {0}))
         (h : TermTyped m K us (record { around = e; operands = (vs ⧺ ws) ▹ u; rest = rest_of (Plain (op.Switching (switching.Switch x y)) k) }))
         (c : SwitchTyped (in_scope m h.scope) x y) → size ws + 1 ≡ length c.one.params → find (switch_clause y) e ≡ Some f
-        → CaptureTyped m K us f c.other.params (captured (length c.other.params) f.inner vs k)
+        → CaptureTyped m K us f c.other.params (continuation_at (length c.other.params) f.inner vs k)
     switch_typed_captures e vs ws u x y k f h c many found =
         let d = code_here h.rest in
         let given = d.derives.1.0 in
@@ -108,23 +108,23 @@ module _ (m : Module) (K : Arrows) where
     switch_captures : (e : Context) (vs ws : Row Val) (u : Val) (x y z : ℕ) (k : Code) (t back : FuncType) (f : Handler (Unit {0}))
         → TermTyped m K us (record { around = e; operands = (vs ⧺ ws) ▹ u; rest = rest_of (Plain (op.Switching (switching.Switch x y)) k) })
         → cont_of (context_of m) x ≡ Some t → size ws + 1 ≡ length t.params → back_type (row_of t.params) ≡ Some z → cont_of (context_of m) z ≡ Some back
-        → find (switch_clause y) e ≡ Some f → CaptureTyped m K us f back.params (captured (length back.params) f.inner vs k)
+        → find (switch_clause y) e ≡ Some f → CaptureTyped m K us f back.params (continuation_at (length back.params) f.inner vs k)
     switch_captures e vs ws u x y z k t back f h is many at there found =
         let c : SwitchTyped (in_scope m h.scope) x y = (code_here h.rest).derives.0 in
         let one : t ≡ c.one = let p = c.has_one in cc in
         let as_many : size ws + 1 ≡ length c.one.params = many ∙ ap (λ (g : FuncType). length g.params) one in
         let same : z ≡ c.index = some_same (sym at ∙ ap (λ (g : FuncType). back_type (row_of g.params)) one ∙ ap back_type c.params) in
         let other : c.other ≡ back = some_same (sym c.has_other ∙ ap (cont_of (context_of m)) (sym same) ∙ there) in
-        subst (λ (g : FuncType). CaptureTyped m K us f g.params (captured (length g.params) f.inner vs k)) other
+        subst (λ (g : FuncType). CaptureTyped m K us f g.params (continuation_at (length g.params) f.inner vs k)) other
         (switch_typed_captures e vs ws u x y k f h c as_many found)
 
   -- ## What is kept
 
-  kept_there : (o : Option Kept) (k : Kept) (t : FuncType) → ContTyped m K o t → o ≡ Some k → KeptTyped m K k t
+  kept_there : (o : Option Continuation) (k : Continuation) (t : FuncType) → ContTyped m K o t → o ≡ Some k → KeptTyped m K k t
   kept_there _ k t consumed is = absurd (cc)
-  kept_there _ k t (kept h) is = subst (λ (x : Kept). KeptTyped m K x t) (some_same is) h
+  kept_there _ k t (kept h) is = subst (λ (x : Continuation). KeptTyped m K x t) (some_same is) h
 
-  kept_filled : (s : Store) → StoreTyped m K s → (a : ℕ) (k : Kept) (t : FuncType) (vs : Row Val) → slice_get s.conts a ≡ Some (Some k)
+  kept_filled : (s : Store) → StoreTyped m K s → (a : ℕ) (k : Continuation) (t : FuncType) (vs : Row Val) → slice_get s.conts a ≡ Some (Some k)
       → slice_get K a ≡ Some t → ValuesTyped m K vs (known (row_of t.params)) → TermTyped m K (known (row_of t.results)) (filled k.term vs)
   kept_filled s u a k t vs is at v =
       let f = instance_at a t u.conts at in

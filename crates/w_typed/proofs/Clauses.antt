@@ -9,11 +9,11 @@ use Rattle.w_syntax.specs.declared.module.Module.{Module}
 use Rattle.w_rules.specs.Conditions.{ClauseTyped, LabelClauseTyped, SwitchClauseTyped}
 use Rattle.w_rules.specs.Context as rules
 use Rattle.w_rules.specs.Operands.{Operand}
-use Rattle.w_types.specs.Rows.{Row}
+use Rattle.lists.specs.Rows.{Row}
 use Rattle.w_reduce.specs.Reduced.{Reduced}
 use Rattle.w_reduce.specs.Terms.{Context}
 use Rattle.w_reduce.specs.Handlers.{Handler, label_clause, has_switch, switch_clause, find, IsInnermost}
-use Rattle.w_reduce.proofs.Finding.{finding}
+use Rattle.w_reduce.proofs.InnermostHandle.{finding}
 use Rattle.w_reduce.specs.Switching.{or_unhandled}
 use Rattle.w_typed.specs.Values.{Arrows}
 use Rattle.w_typed.specs.Configurations.{IsSafe, traps}

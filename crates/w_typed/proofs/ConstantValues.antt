@@ -2,7 +2,7 @@
 use Rattle.std.proofs.Common.{◌≡◌, ℕ, Bool, true, false, IsTrue, List, [], ◌∷◌, Option, Some, None, Ok, slice_get, option_and_then, refl}
 use Rattle.w_types.specs.declared.types.ValType.{ValType}
 use Rattle.w_types.specs.declared.types.ValType.TheVariants.{Ref}
-use Rattle.w_types.specs.Rows.{Row, ε, ◌▹◌}
+use Rattle.lists.specs.Rows.{Row, ε, ◌▹◌}
 use Rattle.w_syntax.specs.Code.{Code, Done, Plain}
 use Rattle.w_syntax.specs.declared.instructions.Op.{Op}
 use Rattle.w_syntax.specs.declared.instructions.Op.TheVariants as op
@@ -41,12 +41,12 @@ use Rattle.w_reduce.specs.Constants.{operands_after, evaluated, topmost, value_o
 use Rattle.w_typed.specs.Values.{Arrows, ValueTyped, an_i32, an_i64, a_null, a_function, a_value, ValuesTyped, no_values, values}
 use Rattle.w_typed.specs.Ranges.{ConstantFits, ConstantsFit, NumbersFit, IsBelow}
 use Rattle.w_typed.specs.Stores.{Instances, FunctionsTyped, GlobalTyped}
-use Rattle.w_typed.proofs.Chosen.{both_hold}
+use Rattle.w_typed.proofs.OneWay.{both_hold}
 use Rattle.w_typed.proofs.Functions.{entries_typed}
 use Rattle.w_typed.proofs.Places.{instance_at}
 use Rattle.w_typed.proofs.Ranges.{binop_below, width_there}
-use Rattle.w_typed.proofs.Subsumed.{values_sub}
-use Rattle.w_typed.proofs.Taken.{number_typed}
+use Rattle.w_typed.proofs.Subsumption.{values_sub}
+use Rattle.w_typed.proofs.TypedOperands.{number_typed}
 use Rattle.w_typed.proofs.References.{if_valid_has}
 
 -- the context of a module with these globals alone

@@ -1,8 +1,8 @@
 -- cont.new, of typed configurations.
 use Rattle.std.proofs.Common.{◌≡◌, ℕ, false, [], ◌∷◌, ◌++◌, length, Option, Some, None, slice_get, refl, ap, ◌∙◌}
 use Rattle.w_types.specs.declared.types.FuncType.{FuncType}
-use Rattle.w_types.specs.Rows.{Row, ε, ◌▹◌, ◌⧺◌, row_of}
-use Rattle.w_types.proofs.Rows.{unit_left}
+use Rattle.lists.specs.Rows.{Row, ε, ◌▹◌, ◌⧺◌, row_of}
+use Rattle.lists.proofs.Rows.{unit_left}
 use Rattle.w_syntax.specs.Code.{Code}
 use Rattle.w_syntax.specs.declared.instructions.SwitchingOp.TheVariants as switching
 use Rattle.w_syntax.specs.declared.module.Module.{Module}
@@ -19,15 +19,15 @@ use Rattle.w_rules.proofs.Preorder.{row_refl}
 use Rattle.w_reduce.specs.declared.trap.Trap.TheVariants as trap
 use Rattle.w_reduce.specs.Values.{Val}
 use Rattle.w_reduce.specs.Store.{Store}
-use Rattle.w_reduce.specs.Terms.{Context, fresh}
+use Rattle.w_reduce.specs.Terms.{Context, fresh_continuation}
 use Rattle.w_reduce.specs.Program.{Program}
 use Rattle.w_reduce.specs.Switching.{switching_op}
 use Rattle.w_typed.specs.Values.{Arrows, a_value, a_continuation, ValuesTyped, no_values, values}
 use Rattle.w_typed.specs.Contexts.{closed, code_alone, invoke_first, outside, KeptTyped}
 use Rattle.w_typed.specs.Configurations.{IsSafe}
-use Rattle.w_typed.proofs.Subsumed.{values_sub}
+use Rattle.w_typed.proofs.Subsumption.{values_sub}
 use Rattle.w_typed.proofs.Holes.{subset_refl}
-use Rattle.w_typed.proofs.Growing.{grows_more, values_grow}
+use Rattle.w_typed.proofs.MoreContinuations.{grows_more, values_grow}
 use Rattle.w_typed.proofs.TypeKinds.{is_func}
 use Rattle.w_typed.proofs.SameTypes.{SameFunction, same_function, result_rows}
 use Rattle.w_typed.proofs.Indirect.{function_taken, one_type}
@@ -37,7 +37,7 @@ use Rattle.w_typed.proofs.Control.{Here, here_left}
 
 -- a fresh continuation is of each function type that the function's own matches
 fresh_typed : (m : Module) (K : Arrows) (a x : ℕ) (t : FuncType) → slice_get (functions_of m) a ≡ Some x → SameFunction m x t
-    → KeptTyped m K (fresh a (length t.params)) t
+    → KeptTyped m K (fresh_continuation a (length t.params)) t
 fresh_typed m K a x t is f =
     let has : type_of_func (context_of m) a ≡ Some f.type = ap (func_at (context_of m)) is ∙ f.has_type in
     let from : Row Operand = known (row_of t.params) in
@@ -71,7 +71,7 @@ module _ (p : Program) (K : Arrows) (us : Row Operand) {s : Store} {e : Context}
       function_taken p us trap.NullReference _ (index_func (is_func m f t c.has_func)) q (λ a g.
       let same : SameFunction m g.index t = same_function m valid g.index f (one_type m g.matches) t c.has_func in
       let one = grows_more K t in
-      rw (c.has_cont) (goes_with_more m one (cont_made m (fresh a (length t.params)) t s h.store (fresh_typed m (K ++ t ∷ []) a g.index t g.is same)) h.still
+      rw (c.has_cont) (goes_with_more m one (cont_made m (fresh_continuation a (length t.params)) t s h.store (fresh_typed m (K ++ t ∷ []) a g.index t g.is same)) h.still
       (values (values_grow m one b) (a_value (a_continuation (made_reference m t t x s h.store c.has_cont (func_refl m.types t)))))
       (code_alone (h.behind n)) h.around))
 

@@ -4,7 +4,7 @@ use Rattle.w_types.specs.declared.types.FuncType.{FuncType}
 use Rattle.w_types.specs.declared.types.RefType.{RefType}
 use Rattle.w_types.specs.declared.types.ValType.{ValType}
 use Rattle.w_types.specs.declared.types.ValType.TheVariants.{I32, I64, Ref}
-use Rattle.w_types.specs.Rows.{Row, ε, ◌▹◌, ◌⧺◌, size}
+use Rattle.lists.specs.Rows.{Row, ε, ◌▹◌, ◌⧺◌, size}
 use Rattle.w_syntax.specs.Code.{Code}
 use Rattle.w_syntax.specs.declared.instructions.ControlOp.{ControlOp}
 use Rattle.w_syntax.specs.declared.instructions.ControlOp.TheVariants as control
@@ -33,9 +33,9 @@ use Rattle.w_typed.specs.Values.{Arrows, OperandTyped, ValuesTyped, values}
 use Rattle.w_typed.specs.Stores.{StoreTyped}
 use Rattle.w_typed.specs.Contexts.{Scope, returned, in_scope, IsHeld, CodeTyped, code_alone, Subset, Within}
 use Rattle.w_typed.specs.Configurations.{IsSafe, traps}
-use Rattle.w_typed.proofs.Subsumed.{values_sub, operand_sub}
-use Rattle.w_typed.proofs.Taken.{number_taken}
-use Rattle.w_typed.proofs.Counted.{leaves}
+use Rattle.w_typed.proofs.Subsumption.{values_sub, operand_sub}
+use Rattle.w_typed.proofs.TypedOperands.{number_taken}
+use Rattle.w_typed.proofs.OperandCounts.{leaves}
 use Rattle.w_typed.proofs.Low.{room, taken_among, taken_below, one_among, ins_below}
 use Rattle.w_typed.proofs.Holes.{code_left}
 use Rattle.w_typed.proofs.Branches.{branch_safe, returns_safe}

@@ -2,7 +2,7 @@
 use Rattle.std.proofs.Common.{◌≡◌, ℕ, Bool, List, [], ◌∷◌, ◌++◌, Option, Some, None, slice_get, sym, subst}
 use Rattle.w_types.specs.declared.types.FuncType.{FuncType}
 use Rattle.w_types.specs.declared.types.HeapType.TheVariants.{Index}
-use Rattle.w_types.specs.Rows.{Row}
+use Rattle.lists.specs.Rows.{Row}
 use Rattle.w_syntax.specs.declared.module.Module.{Module}
 use Rattle.w_canon.specs.Matching.{FuncMatches, index}
 use Rattle.w_canon.proofs.Preorder.{func_trans}
@@ -14,7 +14,7 @@ use Rattle.w_rules.specs.Spaces.{context_of}
 use Rattle.w_rules.specs.Valid.{Valid}
 use Rattle.w_reduce.specs.Values.{Val}
 use Rattle.w_reduce.specs.Store.{Store, next_cont, with_cont, without_cont}
-use Rattle.w_reduce.specs.Terms.{Rest, Context, Kept}
+use Rattle.w_reduce.specs.Terms.{Rest, Context, Continuation}
 use Rattle.w_reduce.specs.Reduced.{Reduced, steps_to, unless_consumed, as_continuation}
 use Rattle.w_typed.specs.Values.{Arrows, Grows, ContinuationTyped, ValueTyped, a_null, a_function, a_continuation, ValuesTyped}
 use Rattle.w_typed.specs.Contexts.{Scope, RestTyped, Subset, Within, KeptTyped}
@@ -22,7 +22,7 @@ use Rattle.w_typed.specs.Stores.{no_instance, instances, ContTyped, consumed, ke
 use Rattle.w_typed.specs.Configurations.{IsSafe, goes, traps}
 use Rattle.w_typed.proofs.Places.{instance_at, instance_set, instance_count}
 use Rattle.w_typed.proofs.ManyInstances.{instances_beside, instances_each, seam}
-use Rattle.w_typed.proofs.Growing.{grows_refl, grows_more, within_grows, cont_grows, store_grows}
+use Rattle.w_typed.proofs.MoreContinuations.{grows_refl, grows_more, within_grows, cont_grows, store_grows}
 use Rattle.w_typed.proofs.Indirect.{one_type}
 use Rattle.w_typed.proofs.TypeKinds.{func_no_cont}
 use Rattle.w_typed.proofs.Calls.{function_there}
@@ -36,7 +36,7 @@ module _ (m : Module) {K : Arrows} where
   cont_consumed a t s u is = store_grows m (grows_refl K) s _ u (instance_set a None t u.conts is consumed)
 
   -- one more may be made, typed among all
-  pub cont_made : (k : Kept) (t : FuncType) (s : Store) → StoreTyped m K s → KeptTyped m (K ++ t ∷ []) k t → StoreTyped m (K ++ t ∷ []) (with_cont k s)
+  pub cont_made : (k : Continuation) (t : FuncType) (s : Store) → StoreTyped m K s → KeptTyped m (K ++ t ∷ []) k t → StoreTyped m (K ++ t ∷ []) (with_cont k s)
   cont_made k t s u h =
       store_grows m (grows_more K t) s _ u (instances_beside (instances_each (cont_grows m (grows_more K t)) u.conts) (instances (kept h) no_instance))
 
@@ -66,15 +66,15 @@ module _ (m : Module) {K : Arrows} where
 
   module _ (us : Row Operand) where
     -- what the store has of a continuation: it was consumed, which traps, or is kept
-    kept_or_consumed : {k : Option Kept} {t : FuncType} (go : Kept → Reduced) → ContTyped m K k t → ((k : Kept) → KeptTyped m K k t → IsSafe m K us (go k))
+    kept_or_consumed : {k : Option Continuation} {t : FuncType} (go : Continuation → Reduced) → ContTyped m K k t → ((k : Continuation) → KeptTyped m K k t → IsSafe m K us (go k))
         → IsSafe m K us (unless_consumed (Some k) go)
     kept_or_consumed go consumed f = traps
     kept_or_consumed go (kept {k = k} h) f = f k h
 
     -- a reference to a continuation type is null, or that of a continuation, which was consumed, or is of a function type that matches
-    pub continuation_taken : {v : Val} {s : Store} (x : ℕ) (type : FuncType) (go : ℕ × Kept → Reduced) → Valid m → StoreTyped m K s
+    pub continuation_taken : {v : Val} {s : Store} (x : ℕ) (type : FuncType) (go : ℕ × Continuation → Reduced) → Valid m → StoreTyped m K s
         → cont_of (context_of m) x ≡ Some type → ValueTyped m K v (nullable x)
-        → ((a : ℕ) (k : Kept) (t : FuncType) → slice_get K a ≡ Some t → KeptTyped m K k t → FuncMatches m.types t type → IsSafe m K us (go (a, k)))
+        → ((a : ℕ) (k : Continuation) (t : FuncType) → slice_get K a ≡ Some t → KeptTyped m K k t → FuncMatches m.types t type → IsSafe m K us (go (a, k)))
         → IsSafe m K us (as_continuation s v go)
     continuation_taken x type go valid u is (a_null n) f = traps
     continuation_taken x type go valid u is (a_function {a = a} {x = y} there h) f = absurd (func_no_cont m y x (function_there m a y valid u there) (one_type m h) type is)

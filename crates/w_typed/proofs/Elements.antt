@@ -8,7 +8,7 @@ use Rattle.w_memory.specs.Parts.{is_within, part, written}
 use Rattle.w_tables.specs.Elements.{filled, copied, replaced, grown, most_elements}
 use Rattle.w_reduce.specs.Values.{Val}
 use Rattle.w_typed.specs.Values.{Arrows, ValueTyped, AllTyped}
-use Rattle.w_typed.proofs.Subsumed.{value_sub}
+use Rattle.w_typed.proofs.Subsumption.{value_sub}
 
 -- values of a type are values of each type that it matches
 pub all_sub : (m : Module) (K : Arrows) (t u : ValType) (vs : List Val) → ValMatches m.types t u → AllTyped m K t vs → AllTyped m K u vs

@@ -23,7 +23,7 @@ use Rattle.w_rules.specs.Valid.{Valid, GlobalItem, TableItem, MemoryItem, Elemen
 use Rattle.w_tables.specs.declared.entries.Printer.{Printer}
 use Rattle.w_reduce.specs.Values.{Val}
 use Rattle.w_reduce.specs.Store.{Store}
-use Rattle.w_reduce.specs.Terms.{Kept}
+use Rattle.w_reduce.specs.Terms.{Continuation}
 use Rattle.w_reduce.specs.Program.{Program}
 use Rattle.w_reduce.specs.Constants.{value_of}
 use Rattle.w_reduce.specs.Start.{bare, with_globals, filling, table_of, with_tables, allocated, exceeded}
@@ -181,5 +181,5 @@ module _ (p : Program) (valid : Valid p.source) where
             ∙ ap (λ (l : List Tag). map (λ (t : Tag). t.type_index) (l ++ p.source.tags)) (sym h.tags);
         elements = segments_made (with_tables p s) (record { functions = all.functions; globals = all.globals });
         datas = subst (λ (bs : List (List ℕ)). Instances DataTyped bs p.source.datas) (sym (datas_kept (bare p.source ps) p.source.globals)) datas_made;
-        conts = subst (λ (ks : List (Option Kept)). Instances (ContTyped p.source []) ks []) (sym (conts_kept (bare p.source ps) p.source.globals)) no_instance;
+        conts = subst (λ (ks : List (Option Continuation)). Instances (ContTyped p.source []) ks []) (sym (conts_kept (bare p.source ps) p.source.globals)) no_instance;
       }

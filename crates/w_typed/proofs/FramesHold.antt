@@ -1,7 +1,7 @@
 -- The innermost frame of a typed term holds no more than its function has anywhere, and has room for what comes next.
 use Rattle.std.proofs.Common.{◌≡◌, ◌≤◌, ◌+◌, ℕ, Bool, true, false, List, [], length, Some, None, refl, ap, subst, arith}
 use Rattle.std.specs.Prelude.{if◌then◌else◌}
-use Rattle.w_types.specs.Rows.{Row, ◌⧺◌, size}
+use Rattle.lists.specs.Rows.{Row, ◌⧺◌, size}
 use Rattle.w_syntax.specs.Code.{Code, Done, Plain, Block, If, IfElse}
 use Rattle.w_syntax.specs.declared.instructions.Op.{Op}
 use Rattle.w_syntax.specs.declared.module.Module.{Module}
@@ -15,8 +15,8 @@ use Rattle.w_typed.specs.Contexts.{Scope, in_scope, IsHeld, CodeTyped, RestTyped
 use Rattle.w_typed.specs.Configurations.{FramesHoldNoMore, NextHasRoom}
 use Rattle.w_typed.proofs.Branches.{values_size}
 use Rattle.w_typed.proofs.Low.{size_beside, low_held, low_next, counts_of}
-use Rattle.w_typed.proofs.Counted.{counted}
-use Rattle.w_typed.proofs.Giving.{gives_more, gives_stays}
+use Rattle.w_typed.proofs.OperandCounts.{counted}
+use Rattle.w_typed.proofs.GivesOne.{gives_more, gives_stays}
 
 -- ## Scopes and contexts
 

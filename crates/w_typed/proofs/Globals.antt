@@ -1,7 +1,7 @@
 -- Global instructions of typed configurations.
 use Rattle.std.proofs.Common.{◌≡◌, ℕ, List, Option, Some, None, slice_get, refl}
 use Rattle.w_types.specs.declared.types.ValType.{ValType}
-use Rattle.w_types.specs.Rows.{Row, ◌▹◌}
+use Rattle.lists.specs.Rows.{Row, ◌▹◌}
 use Rattle.w_syntax.specs.Code.{Code}
 use Rattle.w_syntax.specs.declared.instructions.VariableOp.TheVariants as variable
 use Rattle.w_syntax.specs.declared.module.GlobalType.{GlobalType}
@@ -23,7 +23,7 @@ use Rattle.w_typed.specs.Stores.{Instances, StoreTyped}
 use Rattle.w_typed.specs.Contexts.{Scope}
 use Rattle.w_typed.specs.Configurations.{IsSafe}
 use Rattle.w_typed.proofs.Places.{instance_at, instance_set}
-use Rattle.w_typed.proofs.Subsumed.{values_sub}
+use Rattle.w_typed.proofs.Subsumption.{values_sub}
 use Rattle.w_typed.proofs.Onward.{Onward}
 
 -- another value of a global's type may stand in its place

@@ -1,7 +1,7 @@
 -- Typed contexts: what fills one, and the locals of its innermost frame.
 use Rattle.std.proofs.Common.{◌≡◌, ℕ, zero, suc, Bool, true, List, [], ◌∷◌, ◌⊎◌, inl, inr, Option, Some, slice_get, slice_set, refl, sym, ap, subst}
 use Rattle.w_types.specs.declared.types.ValType.{ValType}
-use Rattle.w_types.specs.Rows.{Row, ◌⧺◌, row_of}
+use Rattle.lists.specs.Rows.{Row, ◌⧺◌, row_of}
 use Rattle.w_syntax.specs.Code.{Code}
 use Rattle.w_syntax.specs.declared.module.Module.{Module}
 use Rattle.w_rules.specs.Matching.{RowMatches, known}

@@ -15,7 +15,7 @@ use Rattle.w_tables.specs.declared.entries.Printer.TheVariants as printer
 use Rattle.w_reduce.specs.Imports.{is_i32, is_i64, are_none, are_taken_by, of_type, printer_named, printer_as, printer_of, Found, All, Missing, and_first, printers_of}
 use Rattle.w_reduce.specs.Start.{own}
 use Rattle.w_typed.specs.Stores.{Instances, no_instance, instances, printed_type, PrinterTyped, FunctionsTyped}
-use Rattle.w_typed.proofs.Chosen.{both_hold, chosen}
+use Rattle.w_typed.proofs.OneWay.{both_hold, chosen}
 
 -- ## One import
 

@@ -4,7 +4,7 @@ use Rattle.w_types.specs.declared.types.FuncType.{FuncType}
 use Rattle.w_types.specs.declared.types.HeapType.TheVariants.{Func, Index}
 use Rattle.w_types.specs.declared.types.RefType.{RefType}
 use Rattle.w_types.specs.declared.types.ValType.TheVariants.{Ref}
-use Rattle.w_types.specs.Rows.{Row, ◌▹◌, ◌⧺◌, row_of}
+use Rattle.lists.specs.Rows.{Row, ◌▹◌, ◌⧺◌, row_of}
 use Rattle.w_syntax.specs.Code.{Code}
 use Rattle.w_syntax.specs.Functions.{func_type}
 use Rattle.w_syntax.specs.declared.instructions.ControlOp.TheVariants as control
@@ -38,8 +38,8 @@ use Rattle.w_typed.specs.Contexts.{Scope, CodeTyped, code_alone, Subset, Within}
 use Rattle.w_typed.specs.Configurations.{IsSafe, traps}
 use Rattle.w_typed.proofs.Elements.{all_get}
 use Rattle.w_typed.proofs.Places.{instance_at}
-use Rattle.w_typed.proofs.Subsumed.{values_sub}
-use Rattle.w_typed.proofs.Taken.{number_taken, trapped_or}
+use Rattle.w_typed.proofs.Subsumption.{values_sub}
+use Rattle.w_typed.proofs.TypedOperands.{number_taken, trapped_or}
 use Rattle.w_typed.proofs.Holes.{code_left}
 use Rattle.w_typed.proofs.Calls.{invoke_safe}
 use Rattle.w_typed.proofs.TypeKinds.{is_func, cont_no_func}

@@ -5,7 +5,7 @@ use Rattle.std.proofs.lemmas.Bool.{leb-true}
 use Rattle.std.proofs.lemmas.List.{length-append, length-take, length-drop, length-replicate, length-set}
 use Rattle.w_memory.specs.Parts.{is_within, part, written, filled, copied}
 use Rattle.w_tables.specs.Elements.{replaced, grown, most_elements}
-use Rattle.w_typed.proofs.Chosen.{both_hold, chosen}
+use Rattle.w_typed.proofs.OneWay.{both_hold, chosen}
 
 -- what is written in place of others that don't pass the end
 pub length-written : {A : Type 0} (at : ℕ) (xs new : List A) → at + length new ≤ length xs → length (written xs at new) ≡ length xs

@@ -1,7 +1,7 @@
 -- Local instructions of typed configurations.
 use Rattle.std.proofs.Common.{◌≡◌, ℕ, Bool, true, false, List, Option, Some, None, slice_get, slice_set, refl}
 use Rattle.w_types.specs.declared.types.ValType.{ValType}
-use Rattle.w_types.specs.Rows.{Row, ◌▹◌}
+use Rattle.lists.specs.Rows.{Row, ◌▹◌}
 use Rattle.w_syntax.specs.Code.{Code}
 use Rattle.w_syntax.specs.declared.instructions.VariableOp.TheVariants as variable
 use Rattle.w_syntax.specs.declared.module.Module.{Module}
@@ -18,7 +18,7 @@ use Rattle.w_typed.specs.Values.{Arrows, ValueTyped, a_value, ValuesTyped, value
 use Rattle.w_typed.specs.Stores.{StoreTyped}
 use Rattle.w_typed.specs.Contexts.{Scope, Subset, LocalTyped, unset, held, CodeTyped, code_alone, Within}
 use Rattle.w_typed.specs.Configurations.{IsSafe}
-use Rattle.w_typed.proofs.Subsumed.{values_sub}
+use Rattle.w_typed.proofs.Subsumption.{values_sub}
 use Rattle.w_typed.proofs.Holes.{local_within, put_within, set_still}
 use Rattle.w_typed.proofs.Onward.{Onward, goes_on}
 

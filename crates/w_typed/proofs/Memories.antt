@@ -5,8 +5,8 @@ use Rattle.std.proofs.lemmas.Bool.{eq-eqb, ltb-true}
 use Rattle.std.proofs.lemmas.Option.{slice_get-get_or}
 use Rattle.std.proofs.Math.Nat.{mod-lt}
 use Rattle.w_types.specs.declared.types.ValType.TheVariants.{I32}
-use Rattle.w_types.specs.Rows.{Row, ε, ◌▹◌}
-use Rattle.w_types.proofs.Tests.{each_of}
+use Rattle.lists.specs.Rows.{Row, ε, ◌▹◌}
+use Rattle.lists.proofs.Tests.{each_of}
 use Rattle.w_syntax.specs.Code.{Code}
 use Rattle.w_syntax.specs.declared.memory_instructions.LoadOp.{LoadOp}
 use Rattle.w_syntax.specs.declared.memory_instructions.LoadOp.TheVariants as load_op
@@ -38,8 +38,8 @@ use Rattle.w_typed.specs.Values.{Arrows, OperandTyped, ValuesTyped, values}
 use Rattle.w_typed.specs.Stores.{MemoryTyped, StoreTyped}
 use Rattle.w_typed.specs.Contexts.{Scope, in_scope}
 use Rattle.w_typed.specs.Configurations.{IsSafe}
-use Rattle.w_typed.proofs.Subsumed.{values_sub}
-use Rattle.w_typed.proofs.Taken.{number_taken, number_typed, small_typed, trapped_or}
+use Rattle.w_typed.proofs.Subsumption.{values_sub}
+use Rattle.w_typed.proofs.TypedOperands.{number_taken, number_typed, small_typed, trapped_or}
 use Rattle.w_typed.proofs.Bytes.{loaded_bytes}
 use Rattle.w_typed.proofs.Pages.{store_typed, fill_typed, copy_typed, init_typed, grow_typed, pages_below, grow_below, data_bytes}
 use Rattle.w_typed.proofs.Places.{instance_at, instance_set}

@@ -1,6 +1,6 @@
 -- Numeric instructions of typed configurations.
 use Rattle.std.proofs.Common.{◌≡◌, ℕ, Ok, Err, Result, refl, subst}
-use Rattle.w_types.specs.Rows.{Row, ε, ◌▹◌}
+use Rattle.lists.specs.Rows.{Row, ε, ◌▹◌}
 use Rattle.w_syntax.specs.Code.{Code}
 use Rattle.w_syntax.specs.declared.instructions.Op.TheVariants as op
 use Rattle.w_syntax.specs.declared.numeric.Cvtop.{Cvtop}
@@ -22,9 +22,9 @@ use Rattle.w_typed.specs.Ranges.{ConstantFits, NumbersFit}
 use Rattle.w_typed.specs.Values.{Arrows, ValuesTyped, values, a_value, an_i32, an_i64}
 use Rattle.w_typed.specs.Stores.{StoreTyped}
 use Rattle.w_typed.specs.Configurations.{IsSafe, traps}
-use Rattle.w_typed.proofs.Subsumed.{values_sub}
+use Rattle.w_typed.proofs.Subsumption.{values_sub}
 use Rattle.w_typed.proofs.Ranges.{unop_below, binop_below, truth_below, relop_below, cvtop_below, width_there}
-use Rattle.w_typed.proofs.Taken.{number_in_range, number_taken, number_typed, small_typed}
+use Rattle.w_typed.proofs.TypedOperands.{number_in_range, number_taken, number_typed, small_typed}
 use Rattle.w_typed.proofs.Onward.{Onward}
 
 -- a conversion's type is that of what it takes and gives

@@ -1,6 +1,6 @@
 -- How a typed configuration goes on.
 use Rattle.std.proofs.Common.{ℕ, Bool, List, []}
-use Rattle.w_types.specs.Rows.{Row}
+use Rattle.lists.specs.Rows.{Row}
 use Rattle.w_syntax.specs.Code.{Code}
 use Rattle.w_syntax.specs.declared.module.Module.{Module}
 use Rattle.w_rules.specs.Operands.{Operand}
@@ -12,7 +12,7 @@ use Rattle.w_typed.specs.Values.{Arrows, ValuesTyped}
 use Rattle.w_typed.specs.Stores.{StoreTyped}
 use Rattle.w_typed.specs.Contexts.{Scope, CodeTyped, RestTyped, code_alone, Subset, Within}
 use Rattle.w_typed.specs.Configurations.{IsSafe, goes}
-use Rattle.w_typed.proofs.Growing.{grows_refl}
+use Rattle.w_typed.proofs.MoreContinuations.{grows_refl}
 
 -- with any typed store and operands of these types, it goes on there
 abbrev pub Onward : Module → Arrows → Row Operand → Context → Row Operand → Code → Type 0

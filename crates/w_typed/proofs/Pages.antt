@@ -14,7 +14,7 @@ use Rattle.w_memory.specs.Parts.{is_within, written, filled, copied}
 use Rattle.w_typed.specs.Ranges.{AreBytes, NumbersFit}
 use Rattle.w_typed.specs.Stores.{MemoryTyped, DataTyped}
 use Rattle.w_typed.proofs.Bytes.{bytes_written, bytes_same, bytes_spelled, length-low_bytes, bytes_filled, bytes_copied}
-use Rattle.w_typed.proofs.Chosen.{chosen}
+use Rattle.w_typed.proofs.OneWay.{chosen}
 use Rattle.w_typed.proofs.Lengths.{length-written, length-filled, length-copied}
 use Rattle.w_typed.proofs.Places.{all_there}
 

@@ -1,7 +1,7 @@
 -- Each reduction of a typed configuration is safe.
 use Rattle.std.proofs.Common.{◌≡◌, ◌≤◌, ◌+◌, ℕ, zero, suc, Bool, false, List, [], Option, Some, None, refl, sym, ap, subst, ◌∙◌, arith}
 use Rattle.w_types.specs.declared.types.ValType.TheVariants.{I32}
-use Rattle.w_types.specs.Rows.{Row, ◌▹◌, ◌⧺◌, size}
+use Rattle.lists.specs.Rows.{Row, ◌▹◌, ◌⧺◌, size}
 use Rattle.w_syntax.specs.Code.{Code, Done, Plain, Block, If, IfElse}
 use Rattle.w_syntax.specs.declared.instructions.BlockKind.{BlockKind}
 use Rattle.w_syntax.specs.declared.instructions.BlockKind.TheVariants as kind
@@ -37,10 +37,10 @@ use Rattle.w_reduce.specs.Room.{most_operands}
 use Rattle.w_typed.specs.Contexts.{Scope, under, in_scope, IsLow, CodeTyped, RestTyped, code_alone, invoke_first, branch_first, Subset, Within}
 use Rattle.w_typed.proofs.Switches.{switching_safe}
 use Rattle.w_typed.specs.Configurations.{IsSafe, goes, traps, is_limited, ends, ReductionsAreSafe, NextsAreSafe}
-use Rattle.w_typed.proofs.Subsumed.{values_sub}
-use Rattle.w_typed.proofs.Taken.{number_taken}
+use Rattle.w_typed.proofs.Subsumption.{values_sub}
+use Rattle.w_typed.proofs.TypedOperands.{number_taken}
 use Rattle.w_typed.proofs.Behind.{code_behind}
-use Rattle.w_typed.proofs.Counted.{leaves}
+use Rattle.w_typed.proofs.OperandCounts.{leaves}
 use Rattle.w_typed.proofs.Low.{size_above, low_held, low_extra, low_inside, low_in_if, low_in_else, low_done, taken_among, room}
 use Rattle.w_typed.proofs.Onward.{onward}
 use Rattle.w_typed.proofs.Numbers.{numeric_safe}

@@ -2,7 +2,7 @@
 use Rattle.std.proofs.Common.{◌≡◌, ℕ, zero, suc, Bool, true, false, IsTrue, [], ◌∷◌, Option, Some, None, slice_get, refl, arith}
 use Rattle.w_types.specs.declared.types.HeapType.{HeapType}
 use Rattle.w_types.specs.declared.types.ValType.TheVariants.{I32, Ref}
-use Rattle.w_types.specs.Rows.{Row, ε, ◌▹◌}
+use Rattle.lists.specs.Rows.{Row, ε, ◌▹◌}
 use Rattle.w_syntax.specs.Code.{Code}
 use Rattle.w_syntax.specs.declared.instructions.ParametricOp.{ParametricOp}
 use Rattle.w_syntax.specs.declared.instructions.ParametricOp.TheVariants as parametric
@@ -30,8 +30,8 @@ use Rattle.w_typed.specs.Contexts.{Scope, in_scope}
 use Rattle.w_typed.specs.Configurations.{IsSafe, traps}
 use Rattle.w_typed.proofs.Functions.{entries_typed}
 use Rattle.w_typed.proofs.Places.{instance_at}
-use Rattle.w_typed.proofs.Taken.{small_typed}
-use Rattle.w_typed.proofs.Subsumed.{values_sub}
+use Rattle.w_typed.proofs.TypedOperands.{small_typed}
+use Rattle.w_typed.proofs.Subsumption.{values_sub}
 use Rattle.w_typed.proofs.Onward.{Onward}
 
 -- what has the type has it where the test holds

@@ -3,8 +3,8 @@ use Rattle.std.proofs.Common.{◌≡◌, ℕ, zero, suc, List, ◌++◌, length,
 use Rattle.std.proofs.lemmas.List.{take-append-drop}
 use Rattle.w_types.specs.declared.types.RecGroup.{RecGroup}
 use Rattle.w_types.specs.declared.types.ValType.{ValType}
-use Rattle.w_types.specs.Rows.{Row, ε, ◌▹◌, ◌⧺◌, size, row_of, listed}
-use Rattle.w_types.proofs.Rows.{size-row_of, row_of-more, row_of-append}
+use Rattle.lists.specs.Rows.{Row, ε, ◌▹◌, ◌⧺◌, size, row_of, listed}
+use Rattle.lists.proofs.Rows.{size-row_of, row_of-more, row_of-append}
 use Rattle.w_canon.specs.Relations.{Pairwise, none, more}
 use Rattle.w_canon.specs.Matching.{ResultMatches}
 use Rattle.w_rules.specs.Matching.{RowMatches, known}

@@ -3,14 +3,14 @@ use Rattle.std.proofs.Common.{◌≡◌, inl, inr, ℕ, zero, suc, ◌+◌, ◌<
 use Rattle.std.specs.Prelude.{Some, slice_get, option_map}
 use Rattle.std.proofs.lemmas.List.{length-append}
 use Rattle.std.proofs.lemmas.Option.{slice_get-map, slice_get_within}
-use Rattle.w_types.proofs.Lists.{get-front, get-behind}
+use Rattle.lists.proofs.Lists.{get-front, get-behind}
 use Rattle.w_types.specs.declared.types.ValType.{ValType}
 use Rattle.w_types.specs.declared.types.FuncType.{FuncType}
 use Rattle.w_types.specs.declared.types.CompType.{CompType}
 use Rattle.w_types.specs.declared.types.CompType.TheVariants as comp
 use Rattle.w_types.specs.declared.types.RecGroup.{RecGroup}
 use Rattle.w_types.specs.Groups.{types_of}
-use Rattle.w_types.specs.Rows.{Row, ε, ◌▹◌, onto, row_of}
+use Rattle.lists.specs.Rows.{Row, ε, ◌▹◌, onto, row_of}
 use Rattle.w_syntax.specs.Functions.{function_type, func_type}
 use Rattle.w_syntax.specs.declared.module.Module.{Module}
 use Rattle.w_canon.specs.Relations.{none, more}

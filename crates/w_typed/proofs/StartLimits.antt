@@ -12,7 +12,7 @@ use Rattle.w_tables.specs.Elements.{table_limit, most_elements}
 use Rattle.w_reduce.specs.declared.limit.StartLimit.{StartLimit}
 use Rattle.w_reduce.specs.declared.limit.StartLimit.TheVariants as limit
 use Rattle.w_reduce.specs.Start.{none_above, exceeded}
-use Rattle.w_typed.proofs.Chosen.{both_hold}
+use Rattle.w_typed.proofs.OneWay.{both_hold}
 
 -- where none is above a number, the one at a place isn't
 not_above : (most : ℕ) (ns : List ℕ) (i n : ℕ) → IsTrue (none_above most ns) → slice_get ns i ≡ Some n → n ≤ most

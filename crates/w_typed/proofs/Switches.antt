@@ -1,6 +1,6 @@
 -- The instructions that switch stacks are safe.
 use Rattle.std.proofs.Common.{◌≡◌, ◌≤◌, ◌+◌, false, None}
-use Rattle.w_types.specs.Rows.{Row, size}
+use Rattle.lists.specs.Rows.{Row, size}
 use Rattle.w_syntax.specs.Code.{Code}
 use Rattle.w_syntax.specs.declared.instructions.Op.TheVariants as op
 use Rattle.w_syntax.specs.declared.instructions.SwitchingOp.{SwitchingOp}
@@ -22,8 +22,8 @@ use Rattle.w_typed.specs.Contexts.{in_scope}
 use Rattle.w_typed.specs.Configurations.{IsSafe}
 use Rattle.w_typed.proofs.Control.{Here}
 use Rattle.w_typed.proofs.ContNew.{cont_new_safe}
-use Rattle.w_typed.proofs.Resuming.{resume_safe, cont_bind_safe}
-use Rattle.w_typed.proofs.Suspending.{suspend_safe}
+use Rattle.w_typed.proofs.Resume.{resume_safe, cont_bind_safe}
+use Rattle.w_typed.proofs.Suspend.{suspend_safe}
 use Rattle.w_typed.proofs.SwitchingStacks.{switch_safe}
 
 module _ (p : Program) (K : Arrows) (us : Row Operand) (valid : Valid p.source) {s : Store} {e : Context} {vs : Row Val} where

@@ -5,7 +5,7 @@ use Rattle.w_types.specs.declared.types.HeapType.TheVariants.{Index}
 use Rattle.w_types.specs.declared.types.RecGroup.{RecGroup}
 use Rattle.w_types.specs.declared.types.ValType.{ValType}
 use Rattle.w_types.specs.declared.types.ValType.TheVariants.{Ref}
-use Rattle.w_types.specs.Rows.{Row, ε, ◌▹◌, ◌⧺◌, size, row_of}
+use Rattle.lists.specs.Rows.{Row, ε, ◌▹◌, ◌⧺◌, size, row_of}
 use Rattle.w_syntax.specs.Code.{Code}
 use Rattle.w_syntax.specs.declared.instructions.SwitchingOp.TheVariants as switching
 use Rattle.w_canon.specs.Equality.{ResultEqual}
@@ -23,24 +23,24 @@ use Rattle.w_rules.specs.Valid.{Valid}
 use Rattle.w_rules.proofs.Preorder.{row_refl, row_beside}
 use Rattle.w_reduce.specs.Values.{Val, Cont}
 use Rattle.w_reduce.specs.Store.{Store, next_cont, with_cont, without_cont}
-use Rattle.w_reduce.specs.Terms.{Handle, Context, Kept, filled, in_context}
+use Rattle.w_reduce.specs.Terms.{Handle, Context, Continuation, filled, in_context}
 use Rattle.w_reduce.specs.Program.{Program}
 use Rattle.w_reduce.specs.Reduced.{Went}
 use Rattle.w_reduce.specs.Handlers.{Handler, switch_clause}
-use Rattle.w_reduce.specs.Switching.{switching_op, captured}
+use Rattle.w_reduce.specs.Switching.{switching_op, continuation_at}
 use Rattle.w_typed.specs.Values.{Arrows, OperandTyped, a_value, a_continuation, ValuesTyped, values}
 use Rattle.w_typed.specs.Contexts.{in_scope, CodeTyped, handle, KeptTyped}
 use Rattle.w_typed.specs.Configurations.{IsSafe, goes}
-use Rattle.w_typed.proofs.Subsumed.{operand_sub, values_sub}
-use Rattle.w_typed.proofs.Taken.{values_taken}
-use Rattle.w_typed.proofs.Growing.{grows_more, values_grow, within_grows, hole_grows}
+use Rattle.w_typed.proofs.Subsumption.{operand_sub, values_sub}
+use Rattle.w_typed.proofs.TypedOperands.{values_taken}
+use Rattle.w_typed.proofs.MoreContinuations.{grows_more, values_grow, within_grows, hole_grows}
 use Rattle.w_typed.proofs.SameTypes.{result_rows}
 use Rattle.w_typed.proofs.ResultRows.{size_types}
-use Rattle.w_typed.proofs.Filling.{hole_filled, hole_within}
-use Rattle.w_typed.proofs.Cutting.{HandleTyped, cut_found}
+use Rattle.w_typed.proofs.FilledTerms.{hole_filled, hole_within}
+use Rattle.w_typed.proofs.CutContexts.{HandleTyped, cut_found}
 use Rattle.w_typed.proofs.Clauses.{switch_found, handle_found}
 use Rattle.w_typed.proofs.Conts.{cont_consumed, cont_made, made_reference, continuation_taken}
-use Rattle.w_typed.proofs.Suspending.{captured_typed}
+use Rattle.w_typed.proofs.Suspend.{captured_typed}
 use Rattle.w_typed.proofs.Control.{Here, here_left}
 
 -- the last operand of a row that others match
@@ -57,13 +57,13 @@ last_of gs (more {us = us} {u = u} r h) = record { first = us; last = u; is = re
 
 module _ (p : Program) (K : Arrows) (us : Row Operand) {s : Store} {e : Context} {k : Code} where
   -- with its handle found
-  switched : {below args : Row Val} (x y a : ℕ) (beneath : Row Operand) (own : FuncType) (cont : Kept) (f : Handler (Unit {0})) {ws : Row Operand}
+  switched : {below args : Row Val} (x y a : ℕ) (beneath : Row Operand) (own : FuncType) (cont : Continuation) (f : Handler (Unit {0})) {ws : Row Operand}
       (h : Here p K us s e k ws) (c : SwitchTyped (in_scope p.source h.scope) x y) → h.leaving ≡ false → ws ≡ beneath ⧺ known (row_of c.other.params)
       → slice_get K a ≡ Some own → KeptTyped p.source K cont own → FuncMatches p.source.types own c.one → switch_clause y f.clauses ≡ Some f.answer
       → HandleTyped p.source K us h.scope h.now h.out f.inner f.below f.clauses f.rest f.outer
       → (last : LastOf p.source.types (known c.beneath) (Known (Ref (record { nullable = c.is_null; heap = Index c.index }))) (known (row_of own.params)))
       → ValuesTyped p.source K below beneath → ValuesTyped p.source K args last.first
-      → IsSafe p.source K us (Went [] (with_cont (captured (length c.other.params) f.inner below k) (without_cont a s))
+      → IsSafe p.source K us (Went [] (with_cont (continuation_at (length c.other.params) f.inner below k) (without_cont a s))
       (in_context (Handle f.below f.clauses f.rest ∷ f.outer) (filled cont.term (args ▹ Cont (next_cont s)))))
   switched {below} {args} x y a beneath own cont f h c n gives there kt matches found cut last lower taken =
       let m = p.source in
@@ -87,7 +87,7 @@ module _ (p : Program) (K : Arrows) (us : Row Operand) {s : Store} {e : Context}
       let handed : ValuesTyped m (K ++ new ∷ []) (args ▹ Cont (next_cont s)) ps =
       subst (λ (r : Row Operand). ValuesTyped m (K ++ new ∷ []) (args ▹ Cont (next_cont s)) r) (sym last.is) (values (values_grow m g taken) reference) in
       goes g (record {
-        store = cont_made m (captured (length c.other.params) f.inner below k) new (without_cont a s) (cont_consumed m a own s h.store there) back;
+        store = cont_made m (continuation_at (length c.other.params) f.inner below k) new (without_cont a s) (cont_consumed m a own s h.store there) back;
         term = hole_within m (filled cont.term (args ▹ Cont (next_cont s)))
             (hole_filled m ps ε cont.term (hole_grows m g kt.term) (row_refl m.types ps) handed)
             (λ any. handle cut.results cut.beneath (result_rows m.types up) cut.clauses cut.tops (values_grow m g cut.values) cut.behind cut.still (within_grows m g cut.around));

@@ -2,7 +2,7 @@
 use Rattle.std.proofs.Common.{◌≡◌, ℕ, List, [], map, length, Option, Some, None, slice_get, refl}
 use Rattle.w_types.specs.declared.types.RefType.{RefType}
 use Rattle.w_types.specs.declared.types.ValType.TheVariants.{I32, Ref}
-use Rattle.w_types.specs.Rows.{Row, ◌▹◌}
+use Rattle.lists.specs.Rows.{Row, ◌▹◌}
 use Rattle.w_syntax.specs.Code.{Code}
 use Rattle.w_syntax.specs.declared.instructions.TableOp.{TableOp}
 use Rattle.w_syntax.specs.declared.instructions.TableOp.TheVariants as table
@@ -30,8 +30,8 @@ use Rattle.w_typed.specs.Stores.{TableTyped, StoreTyped}
 use Rattle.w_typed.specs.Contexts.{Scope, in_scope}
 use Rattle.w_typed.specs.Configurations.{IsSafe}
 use Rattle.w_typed.proofs.Places.{instance_set}
-use Rattle.w_typed.proofs.Subsumed.{values_sub}
-use Rattle.w_typed.proofs.Taken.{number_taken, trapped_or, small_typed}
+use Rattle.w_typed.proofs.Subsumption.{values_sub}
+use Rattle.w_typed.proofs.TypedOperands.{number_taken, trapped_or, small_typed}
 use Rattle.w_typed.proofs.Onward.{Onward}
 use Rattle.w_typed.proofs.Elements.{all_sub, all_get}
 use Rattle.w_typed.proofs.SizedTables.{table_replaced, table_filled, table_copied, table_grown, elements_below, growth_below}

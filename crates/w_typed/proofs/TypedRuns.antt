@@ -1,6 +1,6 @@
 -- Runs of typed configurations stay typed.
 use Rattle.std.proofs.Common.{◌≡◌, ◌≢◌, ℕ, zero, suc, List, [], ◌++◌, refl}
-use Rattle.w_types.specs.Rows.{Row}
+use Rattle.lists.specs.Rows.{Row}
 use Rattle.w_rules.specs.Operands.{Operand}
 use Rattle.w_rules.specs.Valid.{Valid}
 use Rattle.w_reduce.specs.Store.{Store}

@@ -1,7 +1,7 @@
 -- Typed configurations, and what one reduction makes of them (Core, appendix, soundness: configuration validity and theorems).
 use Rattle.std.specs.Prelude.{◌≡◌, ◌≢◌, ◌+◌, ℕ, false, List, [], Some}
 use Rattle.w_types.specs.declared.types.FuncType.{FuncType}
-use Rattle.w_types.specs.Rows.{Row, row_of, size}
+use Rattle.lists.specs.Rows.{Row, row_of, size}
 use Rattle.w_syntax.specs.declared.module.Module.{Module}
 use Rattle.w_rules.specs.Context.{type_of_func}
 use Rattle.w_rules.specs.Matching.{known}

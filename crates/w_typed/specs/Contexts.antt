@@ -2,7 +2,7 @@
 use Rattle.std.specs.Prelude.{◌≡◌, ◌≤◌, ◌+◌, ℕ, suc, All, Bool, true, false, List, [], ◌∷◌, ◌++◌, Option, Some, None, slice_get, length}
 use Rattle.w_types.specs.declared.types.FuncType.{FuncType}
 use Rattle.w_types.specs.declared.types.ValType.{ValType}
-use Rattle.w_types.specs.Rows.{Row, ε, ◌⧺◌, size, row_of}
+use Rattle.lists.specs.Rows.{Row, ε, ◌⧺◌, size, row_of}
 use Rattle.w_syntax.specs.Code.{Code, Done, after}
 use Rattle.w_syntax.specs.declared.instructions.Clause.{Clause}
 use Rattle.w_syntax.specs.Functions.{type_of_function, code_of_function}
@@ -19,7 +19,7 @@ use Rattle.w_rules.specs.Spaces.{context_of}
 use Rattle.w_rules.specs.Typing.{Derives}
 use Rattle.w_reduce.specs.Values.{Val}
 use Rattle.w_reduce.specs.Room.{most_operands, most_labels}
-use Rattle.w_reduce.specs.Terms.{Administrative, Invoke, Branch, Rest, Label, Frame, Handle, Context, Term, Kept}
+use Rattle.w_reduce.specs.Terms.{Administrative, Invoke, Branch, Rest, Label, Frame, Handle, Context, Term, Continuation}
 use Rattle.w_typed.specs.Ranges.{ConstantsFit, NumbersFit}
 use Rattle.w_typed.specs.Values.{Arrows, ValueTyped, ValuesTyped}
 
@@ -162,6 +162,6 @@ abbrev pub TermTyped : Module → Arrows → Row Operand → Term → Type 0
 TermTyped m K us t = HoleTyped m K ε us t
 
 -- a continuation of a function type: it takes as many values as that has parameters, and filled with values of them gives its results
-pub record KeptTyped (m : Module) (K : Arrows) (k : Kept) (t : FuncType) : Type 0 where
+pub record KeptTyped (m : Module) (K : Arrows) (k : Continuation) (t : FuncType) : Type 0 where
   pub takes : k.takes ≡ length t.params
   pub term : HoleTyped m K (known (row_of t.params)) (known (row_of t.results)) k.term

@@ -22,7 +22,7 @@ use Rattle.w_tables.specs.declared.entries.Printer.TheVariants as printer
 use Rattle.w_reduce.specs.Values.{Val}
 use Rattle.w_reduce.specs.Start.{own}
 use Rattle.w_reduce.specs.Store.{Store, Table}
-use Rattle.w_reduce.specs.Terms.{Kept}
+use Rattle.w_reduce.specs.Terms.{Continuation}
 use Rattle.w_typed.specs.Ranges.{AreBytes, NumbersFit}
 use Rattle.w_typed.specs.Values.{Arrows, ValueTyped, AllTyped}
 use Rattle.w_typed.specs.Contexts.{KeptTyped}
@@ -86,9 +86,9 @@ abbrev pub DataTyped : List ℕ → Data → Type 0
 DataTyped bytes d = (bytes ≡ d.bytes) ⊎ (bytes ≡ [])
 
 -- a continuation of a function type, and one of that type that was consumed
-pub data ContTyped (m : Module) (K : Arrows) : Option Kept → FuncType → Type 0 where
+pub data ContTyped (m : Module) (K : Arrows) : Option Continuation → FuncType → Type 0 where
   consumed : {t : FuncType} → ContTyped m K None t
-  kept : {k : Kept} {t : FuncType} → KeptTyped m K k t → ContTyped m K (Some k) t
+  kept : {k : Continuation} {t : FuncType} → KeptTyped m K k t → ContTyped m K (Some k) t
 
 -- ## Stores
 

@@ -2,7 +2,7 @@
 use Rattle.std.proofs.Common.{◌≡◌, ◌⊎◌, inl, inr, ℕ, zero, suc, ◌+◌, ◌-◌, ◌<◌, ◌≤◌, List, [], ◌∷◌, ◌++◌, length, drop, Option, Some, None, get_or, slice_get, refl, sym, ap, subst, ◌∙◌, append_assoc, arith}
 use Rattle.std.proofs.lemmas.Bool.{cases_lt}
 use Rattle.std.proofs.lemmas.List.{append-nil, length-append, drop_more, drop_all}
-use Rattle.w_types.proofs.Lists.{get-front, get-behind}
+use Rattle.lists.proofs.Lists.{get-front, get-behind}
 use Rattle.w_types.specs.declared.types.RecGroup.{RecGroup}
 use Rattle.w_types.specs.declared.groups.Place.{Place}
 use Rattle.w_types.specs.Groups.{types_of, places_in, places_of, in_group, type_at}

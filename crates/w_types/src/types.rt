@@ -1,8 +1,8 @@
 //! Types.
 ghost use Rattle.std.specs.Prelude.{◌≡◌, true, false};
 
-use crate::list::ListOf;
 use crate::packed_type::PackedType;
+use lists::ListOf;
 
 /// A heap type (Core, types, heap types; the explainer adds continuations). An index is that of a type of the module.
 #[derive(Clone, Copy, PartialEq, Eq)]

@@ -78,6 +78,28 @@ named m (fault.Export i) h = item (ExportItem i) h
 named m (fault.Function i) h = item (FunctionItem i) h
 named m fault.OutOfMemory h = memory
 
+both_named : {m : Module} {f g : ValidFault} → Named m f → Named m g → (f ≡ fault.OutOfMemory → ⊥) → (g ≡ fault.OutOfMemory → ⊥) → f ≡ g
+both_named {m} (limit a p) (limit b q) x y = ap fault.Limit (one_limit m a b p q)
+both_named {m} (limit a p) (item z q) x y = absurd (not_within m a q.0 p)
+both_named (limit a p) memory x y = absurd (y refl)
+both_named {m} (item z p) (limit a q) x y = absurd (not_within m a p.0 q)
+both_named {m} (item z p) (item w q) x y = ap fault_of (one_item m z w p.1 q.1)
+both_named (item z p) memory x y = absurd (y refl)
+both_named memory q x y = absurd (x refl)
+
+-- two that are not out of memory are one
+pub one_fault : (m : Module) (f g : ValidFault) → (f ≡ fault.OutOfMemory → ⊥) → (g ≡ fault.OutOfMemory → ⊥) → IsFaultOf m f → IsFaultOf m g → f ≡ g
+one_fault m f g x y p q = both_named (named m f p) (named m g q) x y
+
+none_named : {m : Module} {f : ValidFault} → Within m → Valid m → Named m f → (f ≡ fault.OutOfMemory → ⊥) → ⊥
+none_named {m} w v (limit name p) x = not_within m name w p
+none_named {m} w v (item z p) x = not_valid m z v p.1
+none_named w v memory x = x refl
+
+-- a valid module within its limits has none
+pub no_fault : (m : Module) (f : ValidFault) → Within m → Valid m → (f ≡ fault.OutOfMemory → ⊥) → IsFaultOf m f → ⊥
+no_fault m f w v x p = none_named w v (named m f p) x
+
 -- ## Answers
 
 ok_named : {m : Module} {g : ValidFault} → Within m → Valid m → Named m g → IsAnswer (Ok m) (Err g)

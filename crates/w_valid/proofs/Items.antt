@@ -39,7 +39,7 @@ item_at k i =
     (cond (nat_eq k 8) StartItem
     (cond (nat_eq k 9) (ExportItem i) (FunctionItem i))))))))))
 
-item_at-place_of : (x : Item) → item_at (place_of x).0 (place_of x).1 ≡ x
+pub item_at-place_of : (x : Item) → item_at (place_of x).0 (place_of x).1 ≡ x
 item_at-place_of (TypeItem i) = refl
 item_at-place_of (ImportItem i) = refl
 item_at-place_of (TableItem i) = refl

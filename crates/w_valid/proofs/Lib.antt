@@ -2,6 +2,6 @@ pub mod FunctionsMeasured
 pub mod GlobalsBelow
 pub mod Names
 pub mod Items
-pub mod Judging
+pub mod Judgements
 pub mod Faults
 pub mod TypesOfGroups

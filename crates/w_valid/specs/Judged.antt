@@ -8,7 +8,7 @@ use Rattle.w_rules.specs.View.{context_in, HasClasses}
 
 -- the context is that of its module, with the classes of its types
 pub record IsContextOf (cx : rt.Context) : Type 0 where
-  pub context : context_in cx ≡ context_of cx.owner.now
+  pub context : context_in cx ≡ context_of cx.candidate.now
   pub classes : HasClasses cx
 
 -- the index spaces are those of the module

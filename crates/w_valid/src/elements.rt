@@ -8,7 +8,7 @@ ghost use Rattle.w_rules.specs.Spaces.{context_of};
 ghost use Rattle.w_rules.specs.Valid.{ElementValid, IsElemModeValid};
 ghost use Rattle.w_valid.specs.Judged.{IsContextOf};
 
-use crate::lists::item_at;
+use crate::by_index::item_at;
 use std::alloc::{AllocError, Global};
 use w_bodies::{is_const_typed, is_reference_typed};
 use w_rules::Context;
@@ -23,7 +23,7 @@ fn is_mode_typed(
     mode: &ElemMode,
 ) -> Result<bool, AllocError>
     requires { IsContextOf cx.now }
-    ensures { IfOk result (λ typed. IsTrue typed ↔ IsElemModeValid cx.now.owner.now kind mode.now) }
+    ensures { IfOk result (λ typed. IsTrue typed ↔ IsElemModeValid cx.now.candidate.now kind mode.now) }
 {
     match mode {
         ElemMode::Active(table, offset) => {
@@ -48,7 +48,7 @@ fn is_item_typed(
 ) -> Result<bool, AllocError>
     requires { IsContextOf cx.now }
     ensures { IfOk result (λ typed. IsTrue typed
-        ↔ ConstTyped (context_of cx.now.owner.now) (code_of item.entry) (val.Ref kind)) }
+        ↔ ConstTyped (context_of cx.now.candidate.now) (code_of item.entry) (val.Ref kind)) }
 {
     let kind = PackedType::reference(kind);
     match item {
@@ -69,7 +69,7 @@ fn are_items_typed(
 ) -> Result<bool, AllocError>
     requires { IsContextOf cx.now }
     ensures { IfOk result (λ typed. IsTrue typed
-        ↔ All (λ (k : Code). ConstTyped (context_of cx.now.owner.now) k (val.Ref kind)) items.now) }
+        ↔ All (λ (k : Code). ConstTyped (context_of cx.now.candidate.now) k (val.Ref kind)) items.now) }
 {
     for place in 0..items.len() {
         if !is_item_typed(alloc, cx, kind, items.at(place))? {
@@ -83,9 +83,9 @@ fn are_items_typed(
 /// its table and its offset fit.
 pub(crate) fn is_valid(alloc: Global, cx: &Context, index: usize) -> Result<bool, AllocError>
     requires { IsContextOf cx.now }
-    ensures { IfOk result (λ typed. IsTrue typed ↔ ElementValid cx.now.owner.now index) }
+    ensures { IfOk result (λ typed. IsTrue typed ↔ ElementValid cx.now.candidate.now index) }
 {
-    let Some(element) = item_at(&cx.owner.elements, index) else {
+    let Some(element) = item_at(&cx.candidate.elements, index) else {
         return Ok(false);
     };
     if !cx.has_heap(element.kind.heap) {

@@ -12,7 +12,7 @@ use w_syntax::ExternIndex;
 // Whether what is exported is there.
 fn is_there(cx: &Context, index: ExternIndex) -> bool
     requires { IsContextOf cx.now }
-    ensures { IsTrue result ↔ IsThere cx.now.owner.now index }
+    ensures { IsTrue result ↔ IsThere cx.now.candidate.now index }
 {
     match index {
         ExternIndex::Func(function) => (function as usize) < cx.functions.len(),
@@ -26,10 +26,10 @@ fn is_there(cx: &Context, index: ExternIndex) -> bool
 /// The first export that is not valid, if there is one: what it exports is not there, or its name stands at a lower index.
 pub(crate) fn first_invalid_export(alloc: Global, cx: &Context) -> Result<Option<usize>, AllocError>
     requires { IsContextOf cx.now }
-    ensures { IfOk result (λ first. IsFirst cx.now.owner.now ExportItem first) }
+    ensures { IfOk result (λ first. IsFirst cx.now.candidate.now ExportItem first) }
 {
     let mut names: BTreeSet<&str> = BTreeSet::new(alloc);
-    for (index, export) in cx.owner.exports.as_slice().iter().enumerate() {
+    for (index, export) in cx.candidate.exports.as_slice().iter().enumerate() {
         if !is_there(cx, export.index) {
             return Ok(Some(index));
         }

@@ -9,7 +9,7 @@ ghost use Rattle.w_valid.specs.Firsts.{IsFirst};
 ghost use Rattle.w_valid.specs.Judged.{IsContextOf};
 ghost use Rattle.w_valid.specs.Measured.{IsFunctionMeasure, AreMeasures};
 
-use crate::lists::item_at;
+use crate::by_index::item_at;
 use crate::types::are_locals_valid;
 use std::alloc::{AllocError, Global};
 use w_bodies::check_body;
@@ -27,11 +27,11 @@ pub(crate) struct BodyFacts {
 
 // The type of the function of this index, of those that the module defines, where its index of a type is that of a function type.
 fn type_of<'r>(cx: &Context<'r>, rows: &'r TypeRows, index: usize) -> Option<FuncRows<'r>>
-    requires { AreTypeRows cx.now.classes.now (types_of cx.now.owner.now.types) rows.now }
-    ensures kind { option_map rows_type result ≡ type_of_function cx.now.owner.now index }
+    requires { AreTypeRows cx.now.classes.now (types_of cx.now.candidate.now.types) rows.now }
+    ensures kind { option_map rows_type result ≡ type_of_function cx.now.candidate.now index }
     ensures ready { IfSome result (AreReadyRows cx.now.classes.now) }
 {
-    match cx.owner.functions.as_slice().get(index) {
+    match cx.candidate.functions.as_slice().get(index) {
         Some(kind) => rows.func_of(cx, *kind),
         None => None,
     }
@@ -47,17 +47,17 @@ fn measure_function(
     index: usize,
 ) -> Result<Option<(u64, u32)>, AllocError>
     requires whole { IsContextOf cx.now }
-    requires rows { AreTypeRows cx.now.classes.now (types_of cx.now.owner.now.types) rows.now }
-    ensures { IfOk result (λ measured. IsFunctionMeasure cx.now.owner.now index measured) }
+    requires rows { AreTypeRows cx.now.classes.now (types_of cx.now.candidate.now.types) rows.now }
+    ensures { IfOk result (λ measured. IsFunctionMeasure cx.now.candidate.now index measured) }
 {
     let Some(kind) = type_of(cx, rows, index) else {
         return Ok(None);
     };
-    let Some(code) = item_at(&cx.owner.codes, index) else {
+    let Some(code) = item_at(&cx.candidate.codes, index) else {
         return Ok(None);
     };
     let runs = code.locals.as_slice();
-    if !are_locals_valid(cx.owner.types.type_count(), runs) {
+    if !are_locals_valid(cx.candidate.types.type_count(), runs) {
         return Ok(None);
     }
     let setting = Setting {
@@ -78,12 +78,12 @@ pub(crate) fn first_invalid_function(
     requires whole { IsContextOf cx.now }
     requires no_heights { measures.old.heights.items ≡ [] }
     requires no_depths { measures.old.depths.items ≡ [] }
-    ensures first { IfOk result (λ first. IsFirst cx.now.owner.now FunctionItem first) }
+    ensures first { IfOk result (λ first. IsFirst cx.now.candidate.now FunctionItem first) }
     ensures measured { IfOk result (λ first. IfNone first
-        (AreMeasures cx.now.owner.now measures.new.heights.items measures.new.depths.items)) }
+        (AreMeasures cx.now.candidate.now measures.new.heights.items measures.new.depths.items)) }
 {
-    let count = cx.owner.functions.len().max(cx.owner.codes.len());
-    let rows = TypeRows::of_types(alloc, cx.classes, &cx.owner.types)?;
+    let count = cx.candidate.functions.len().max(cx.candidate.codes.len());
+    let rows = TypeRows::of_types(alloc, cx.classes, &cx.candidate.types)?;
     let mut room = Room::new(alloc);
     for index in 0..count {
         let Some((height, depth)) = measure_function(alloc, cx, &rows, &mut room, index)? else {

@@ -3,7 +3,7 @@ ghost use Rattle.std.specs.Prelude.{◌≡◌, ◌↔◌, IfOk, IsTrue};
 ghost use Rattle.w_rules.specs.Valid.{GlobalValid};
 ghost use Rattle.w_valid.specs.Judged.{IsContextOf};
 
-use crate::lists::item_at;
+use crate::by_index::item_at;
 use std::alloc::{AllocError, Global};
 use w_bodies::is_const_typed;
 use w_rules::Context;
@@ -11,16 +11,16 @@ use w_rules::Context;
 /// Whether the global of this index is valid: its type is, and what it begins with is constant and of this type.
 pub(crate) fn is_valid(alloc: Global, cx: &Context, index: usize) -> Result<bool, AllocError>
     requires { IsContextOf cx.now }
-    ensures { IfOk result (λ typed. IsTrue typed ↔ GlobalValid cx.now.owner.now index) }
+    ensures { IfOk result (λ typed. IsTrue typed ↔ GlobalValid cx.now.candidate.now index) }
 {
-    let Some(global) = item_at(&cx.owner.globals, index) else {
+    let Some(global) = item_at(&cx.candidate.globals, index) else {
         return Ok(false);
     };
     if !cx.has_type(global.kind.kind) {
         return Ok(false);
     }
     // what it begins with gets only globals of lower index
-    let imported = cx.globals.len() - cx.owner.globals.len();
+    let imported = cx.globals.len() - cx.candidate.globals.len();
     let below = Context {
         globals: &cx.globals[..imported + index],
         ..*cx

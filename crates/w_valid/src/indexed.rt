@@ -22,28 +22,28 @@ pub(crate) enum ItemKind {
 }
 
 // How many items of this kind the module has.
-fn count(owner: &Module, kind: ItemKind) -> usize
-    ensures { result ≡ count_of owner.now kind }
+fn count(candidate: &Module, kind: ItemKind) -> usize
+    ensures { result ≡ count_of candidate.now kind }
 {
     match kind {
-        ItemKind::Import => owner.imports.len(),
-        ItemKind::Table => owner.tables.len(),
-        ItemKind::Tag => owner.tags.len(),
-        ItemKind::Global => owner.globals.len(),
-        ItemKind::Element => owner.elements.len(),
-        ItemKind::Data => owner.datas.len(),
+        ItemKind::Import => candidate.imports.len(),
+        ItemKind::Table => candidate.tables.len(),
+        ItemKind::Tag => candidate.tags.len(),
+        ItemKind::Global => candidate.globals.len(),
+        ItemKind::Element => candidate.elements.len(),
+        ItemKind::Data => candidate.datas.len(),
     }
 }
 
 // Whether the item of this kind and index is valid.
 fn is_valid(alloc: Global, cx: &Context, kind: ItemKind, index: usize) -> Result<bool, AllocError>
     requires { IsContextOf cx.now }
-    ensures { IfOk result (λ typed. IsTrue typed ↔ ItemValid cx.now.owner.now (item_of kind index)) }
+    ensures { IfOk result (λ typed. IsTrue typed ↔ ItemValid cx.now.candidate.now (item_of kind index)) }
 {
     match kind {
         ItemKind::Import => Ok(imports::is_valid(cx, index)),
         ItemKind::Table => tables::is_valid(alloc, cx, index),
-        ItemKind::Tag => Ok(tags::is_valid(cx.owner, index)),
+        ItemKind::Tag => Ok(tags::is_valid(cx.candidate, index)),
         ItemKind::Global => globals::is_valid(alloc, cx, index),
         ItemKind::Element => elements::is_valid(alloc, cx, index),
         ItemKind::Data => datas::is_valid(alloc, cx, index),
@@ -57,9 +57,9 @@ pub(crate) fn first_invalid(
     kind: ItemKind,
 ) -> Result<Option<usize>, AllocError>
     requires { IsContextOf cx.now }
-    ensures { IfOk result (λ first. IsFirst cx.now.owner.now (item_of kind) first) }
+    ensures { IfOk result (λ first. IsFirst cx.now.candidate.now (item_of kind) first) }
 {
-    for index in 0..count(cx.owner, kind) {
+    for index in 0..count(cx.candidate, kind) {
         if !is_valid(alloc, cx, kind, index)? {
             return Ok(Some(index));
         }

@@ -1,6 +1,7 @@
 //! Validation of modules.
 #![tactic(auto)]
 
+mod by_index;
 mod datas;
 mod elements;
 mod exports;
@@ -10,7 +11,6 @@ mod globals;
 mod imports;
 mod indexed;
 mod limits;
-mod lists;
 mod memories;
 mod start;
 mod tables;

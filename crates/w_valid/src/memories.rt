@@ -19,7 +19,7 @@ fn are_valid(memories: &[Limits]) -> bool
 /// Whether the memories are valid: there is at most one with those imported, and its limits are valid.
 pub(crate) fn are_memories_valid(cx: &Context) -> bool
     requires { IsContextOf cx.now }
-    ensures { IsTrue result ↔ MemoryValid cx.now.owner.now }
+    ensures { IsTrue result ↔ MemoryValid cx.now.candidate.now }
 {
-    cx.memories.len() <= 1 && are_valid(cx.owner.memories.as_slice())
+    cx.memories.len() <= 1 && are_valid(cx.candidate.memories.as_slice())
 }

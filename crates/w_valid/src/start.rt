@@ -8,11 +8,11 @@ use w_rules::Context;
 /// Whether the start is valid, where there is one: its function takes nothing and gives nothing.
 pub(crate) fn is_start_valid(cx: &Context) -> bool
     requires { IsContextOf cx.now }
-    ensures typed { IsTrue result → IsSome cx.now.owner.now.start → StartValid cx.now.owner.now }
-    ensures invalid { IsFalse result → IsSome cx.now.owner.now.start × (StartValid cx.now.owner.now
+    ensures typed { IsTrue result → IsSome cx.now.candidate.now.start → StartValid cx.now.candidate.now }
+    ensures invalid { IsFalse result → IsSome cx.now.candidate.now.start × (StartValid cx.now.candidate.now
         → ⊥) }
 {
-    let Some(function) = cx.owner.start else {
+    let Some(function) = cx.candidate.start else {
         return true;
     };
     match cx.type_of_func(function) {

@@ -3,8 +3,8 @@ ghost use Rattle.std.specs.Prelude.{◌≡◌, ◌↔◌, IfOk, IsTrue};
 ghost use Rattle.w_rules.specs.Valid.{TableValid, IsInitValid, IsTableTypeValid};
 ghost use Rattle.w_valid.specs.Judged.{IsContextOf};
 
+use crate::by_index::item_at;
 use crate::limits::{MOST_ELEMENTS, are_limits_valid};
-use crate::lists::item_at;
 use std::alloc::{AllocError, Global};
 use w_bodies::is_const_typed;
 use w_rules::Context;
@@ -13,7 +13,7 @@ use w_types::{PackedType, RefType};
 
 /// Whether the type of a table is valid (Core, validation, table types).
 pub(crate) fn is_table_type_valid(cx: &Context, kind: TableType) -> bool
-    ensures { IsTrue result ↔ IsTableTypeValid cx.now.owner.now kind }
+    ensures { IsTrue result ↔ IsTableTypeValid cx.now.candidate.now kind }
 {
     are_limits_valid(MOST_ELEMENTS, kind.limits) && cx.has_heap(kind.element.heap)
 }
@@ -26,7 +26,7 @@ fn is_init_typed(
     init: &Option<Body>,
 ) -> Result<bool, AllocError>
     requires { IsContextOf cx.now }
-    ensures { IfOk result (λ typed. IsTrue typed ↔ IsInitValid cx.now.owner.now kind init.now) }
+    ensures { IfOk result (λ typed. IsTrue typed ↔ IsInitValid cx.now.candidate.now kind init.now) }
 {
     match init {
         Some(body) => is_const_typed(alloc, cx, body, PackedType::reference(kind)),
@@ -37,9 +37,9 @@ fn is_init_typed(
 /// Whether the table of this index is valid: its type is, and what its elements begin with is constant and of their type.
 pub(crate) fn is_valid(alloc: Global, cx: &Context, index: usize) -> Result<bool, AllocError>
     requires { IsContextOf cx.now }
-    ensures { IfOk result (λ typed. IsTrue typed ↔ TableValid cx.now.owner.now index) }
+    ensures { IfOk result (λ typed. IsTrue typed ↔ TableValid cx.now.candidate.now index) }
 {
-    let Some(table) = item_at(&cx.owner.tables, index) else {
+    let Some(table) = item_at(&cx.candidate.tables, index) else {
         return Ok(false);
     };
     if !is_table_type_valid(cx, table.kind) {

@@ -26,32 +26,32 @@ pub(crate) fn are_locals_valid(count: usize, runs: &[LocalRun]) -> bool
 }
 
 /// Whether the type of this index is a function type.
-pub(crate) fn is_function_type(owner: &Module, index: u32) -> bool
-    ensures { IsTrue result ↔ IsFunctionType owner.now index }
+pub(crate) fn is_function_type(candidate: &Module, index: u32) -> bool
+    ensures { IsTrue result ↔ IsFunctionType candidate.now index }
 {
-    func_type(owner, index as usize).is_some()
+    func_type(candidate, index as usize).is_some()
 }
 
 // Whether a composite type of the module is valid, where its group ends at this index.
-fn is_composite_valid(owner: &Module, end: usize, kind: &CompType) -> bool
-    ensures { IsTrue result ↔ IsValidCompType (types_of owner.now.types) end kind.now }
+fn is_composite_valid(candidate: &Module, end: usize, kind: &CompType) -> bool
+    ensures { IsTrue result ↔ IsValidCompType (types_of candidate.now.types) end kind.now }
 {
     match kind {
         CompType::Func(kind) => {
             are_valid(end, kind.params.as_slice()) && are_valid(end, kind.results.as_slice())
         }
         CompType::Cont(index) => {
-            (*index as usize) < end && func_type(owner, *index as usize).is_some()
+            (*index as usize) < end && func_type(candidate, *index as usize).is_some()
         }
     }
 }
 
 // The position of the first type that is not valid, of those of a group that ends at this index.
-fn first_in_group(owner: &Module, end: usize, types: &[CompType]) -> Option<usize>
-    ensures { IsFirstFailing (IsValidCompType (types_of owner.now.types) end) types.now result }
+fn first_in_group(candidate: &Module, end: usize, types: &[CompType]) -> Option<usize>
+    ensures { IsFirstFailing (IsValidCompType (types_of candidate.now.types) end) types.now result }
 {
     for (position, kind) in types.iter().enumerate() {
-        if !is_composite_valid(owner, end, kind) {
+        if !is_composite_valid(candidate, end, kind) {
             return Some(position);
         }
     }
@@ -59,15 +59,15 @@ fn first_in_group(owner: &Module, end: usize, types: &[CompType]) -> Option<usiz
 }
 
 /// The first type that is not valid, if there is one.
-pub(crate) fn first_invalid_type(owner: &Module) -> Option<usize>
-    ensures { IsFirst owner.now TypeItem result }
+pub(crate) fn first_invalid_type(candidate: &Module) -> Option<usize>
+    ensures { IsFirst candidate.now TypeItem result }
 {
     // no index of a type, nor the end of a group, is above it
-    let _count = owner.types.type_count();
+    let _count = candidate.types.type_count();
     let mut start = 0;
-    for group in owner.types.as_slice() {
+    for group in candidate.types.as_slice() {
         let end = start + group.types.len();
-        if let Some(position) = first_in_group(owner, end, group.types.as_slice()) {
+        if let Some(position) = first_in_group(candidate, end, group.types.as_slice()) {
             return Some(start + position);
         }
         start = end;

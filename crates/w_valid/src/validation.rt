@@ -24,10 +24,10 @@ use w_syntax::Module;
 // The first item before the exports that is not valid, if there is one.
 fn first_invalid_definition(alloc: Global, cx: &Context) -> Result<Option<ValidFault>, AllocError>
     requires whole { IsContextOf cx.now }
-    requires within { Within cx.now.owner.now }
-    ensures { IfOk result (λ first. IsFaultBefore cx.now.owner.now (ExportItem 0) first) }
+    requires within { Within cx.now.candidate.now }
+    ensures { IfOk result (λ first. IsFaultBefore cx.now.candidate.now (ExportItem 0) first) }
 {
-    if let Some(index) = first_invalid_type(cx.owner) {
+    if let Some(index) = first_invalid_type(cx.candidate) {
         return Ok(Some(ValidFault::TypeAt(index)));
     }
     if let Some(index) = first_invalid(alloc, cx, ItemKind::Import)? {
@@ -60,13 +60,13 @@ fn first_invalid_definition(alloc: Global, cx: &Context) -> Result<Option<ValidF
 // Finds the first item that is not valid, and else adds what the bodies of the functions need.
 fn judge_items(alloc: Global, cx: &Context, measures: &mut BodyFacts) -> Result<(), ValidFault>
     requires whole { IsContextOf cx.now }
-    requires within { Within cx.now.owner.now }
+    requires within { Within cx.now.candidate.now }
     requires no_heights { measures.old.heights.items ≡ [] }
     requires no_depths { measures.old.depths.items ≡ [] }
-    ensures valid { OnOk result (Valid cx.now.owner.now) }
-    ensures measured { OnOk result (AreMeasures cx.now.owner.now measures.new.heights.items
+    ensures valid { OnOk result (Valid cx.now.candidate.now) }
+    ensures measured { OnOk result (AreMeasures cx.now.candidate.now measures.new.heights.items
         measures.new.depths.items) }
-    ensures err { IfErr result (λ fault. IsFaultOf cx.now.owner.now fault) }
+    ensures err { IfErr result (λ fault. IsFaultOf cx.now.candidate.now fault) }
 {
     if let Some(fault) = first_invalid_definition(alloc, cx)? {
         return Err(fault);
@@ -91,7 +91,7 @@ fn judge_by(alloc: Global, candidate: &Module, spaces: &Spaces) -> Result<Facts,
     let declared = declared_functions(alloc, candidate, spaces.functions.len())?;
     let classes = Classes::of_groups(alloc, candidate.types.as_slice())?;
     let cx = Context {
-        owner: candidate,
+        candidate,
         classes: &classes,
         functions: spaces.functions.as_slice(),
         tables: spaces.tables.as_slice(),

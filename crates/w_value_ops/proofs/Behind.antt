@@ -4,7 +4,7 @@ use Rattle.w_types.specs.declared.value.Value.{Value}
 use Rattle.w_segment.specs.declared.entry.Stage.TheVariants.{Body}
 use Rattle.w_segment.specs.Shape.{Shape}
 use Rattle.w_segment.specs.Changes.{moved, discarded}
-use Rattle.w_stands.proofs.Stepping.{Next}
+use Rattle.w_stands.proofs.PlainSteps.{Next}
 use Rattle.w_stands.specs.GoingOn.{replaced}
 
 -- with a value in place of operands

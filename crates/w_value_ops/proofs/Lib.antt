@@ -1,9 +1,9 @@
 mod Behind
 mod Operands
-mod Turning
-mod Joining
-mod Giving
-mod Keeping
-mod Selecting
+mod NumericOps
+mod JoinedNumbers
+mod GivenValues
+mod FactsOfValues
+mod DropAndSelect
 mod LocalsRead
-mod Referring
+mod ReferenceOps

@@ -3,7 +3,7 @@ use Rattle.std.proofs.Common.{◌≡◌, ℕ, suc, ◌+◌, ◌<◌, List, [], �
 use Rattle.std.specs.Prelude.{◌^◌, ◌≢◌}
 use Rattle.std.specs.Option.{option_map}
 use Rattle.std.proofs.lemmas.Option.{slice_get_within}
-use Rattle.w_types.specs.Rows.{Row, ◌▹◌}
+use Rattle.lists.specs.Rows.{Row, ◌▹◌}
 use Rattle.w_types.specs.declared.value.Value.{Value}
 use Rattle.w_syntax.specs.Code.{Code}
 use Rattle.w_syntax.specs.declared.instructions.Instr.TheVariants as flat
@@ -21,11 +21,11 @@ use Rattle.w_reduce.specs.Reduced.{Reduced, Stuck, steps_to, or_stuck, take_valu
 use Rattle.w_reduce.specs.Reduce.{instruction}
 use Rattle.w_stands.specs.Values.{stack, store_of}
 use Rattle.w_stands.specs.declared.did.Did.TheVariants as did
-use Rattle.w_stands.specs.Steps.{Outside, At, MovesAlone, FollowsAlone}
+use Rattle.w_stands.specs.Steps.{Outside, Configured, MovesAlone, FollowsAlone}
 use Rattle.w_stands.proofs.Locals.{local_seen, around_set}
-use Rattle.w_stands.proofs.Reading.{onward}
-use Rattle.w_stands.proofs.Fitting.{same_room, local_fit}
-use Rattle.w_stands.proofs.Stepping.{there, shown, following, next_is, applies, went, place_fits}
+use Rattle.w_stands.proofs.AtInstructions.{onward}
+use Rattle.w_stands.proofs.RoomOfFrames.{same_room, local_fit}
+use Rattle.w_stands.proofs.PlainSteps.{there, shown, following, next_is, applies, went, place_fits}
 use Rattle.w_stands.specs.GoingOn.{IsPushedNext}
 
 -- a local that is read, as a value of the definitions
@@ -45,7 +45,7 @@ module _ (m : Module) (s : Shape) (x : ℕ) (k : MovesAlone (flat.Plain (op.Vari
   abbrev i : Op
   i = op.Variable (variable.LocalGet x)
 
-  found : (u : instances.Store) (p : Program) (o : Outside) (e : Context) (r : Rest) (a : At m u s p o e r) →
+  found : (u : instances.Store) (p : Program) (o : Outside) (e : Context) (r : Rest) (a : Configured m u s p o e r) →
       instruction p (store_of u) e (stack s.operands) i (following m u s p o e r i a k.moves.stage k.moves.here)
       ≡ getting u e (stack s.operands) (following m u s p o e r i a k.moves.stage k.moves.here) (seen (slice_get (locals_of s.levels) x))
   found u p o e r a =
@@ -96,7 +96,7 @@ IsSetting j x left = (p : Program) (u : instances.Store) (e : Context) (vs : Row
     instruction p (store_of u) e vs j c ≡ setting u e x vs c left (slice_get (locals_in e) x)
 
 module _ (m : Module) (s : Shape) (j : Op) (x : ℕ) (left : Row Val → Val → Row Val) (rule : IsSetting j x left) (k : MovesAlone (flat.Plain j) m s) where
-  sets : (u : instances.Store) (p : Program) (o : Outside) (e : Context) (r : Rest) (a : At m u s p o e r) →
+  sets : (u : instances.Store) (p : Program) (o : Outside) (e : Context) (r : Rest) (a : Configured m u s p o e r) →
       instruction p (store_of u) e (stack s.operands) j (following m u s p o e r j a k.moves.stage k.moves.here)
       ≡ setting u e x (stack s.operands) (following m u s p o e r j a k.moves.stage k.moves.here) left (seen (slice_get (locals_of s.levels) x))
   sets u p o e r a =

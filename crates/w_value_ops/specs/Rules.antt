@@ -1,6 +1,6 @@
 -- What the rules of some instructions have in common.
 use Rattle.std.specs.Prelude.{◌≡◌, List}
-use Rattle.w_types.specs.Rows.{◌▹◌}
+use Rattle.lists.specs.Rows.{◌▹◌}
 use Rattle.w_types.specs.declared.value.Value.{Value}
 use Rattle.w_syntax.specs.Code.{Code}
 use Rattle.w_syntax.specs.declared.instructions.Op.{Op}

@@ -2,8 +2,8 @@
 use Rattle.std.proofs.Common.{Bool, false, List, Option, Some, None, IsTrue, refl, sym, subst}
 use Rattle.w_types.specs.declared.types.RecGroup.{RecGroup}
 use Rattle.w_types.specs.declared.types.ValType.{ValType}
-use Rattle.w_types.specs.Rows.{Row, ε, ◌▹◌}
-use Rattle.w_types.proofs.Rows.{unit_left}
+use Rattle.lists.specs.Rows.{Row, ε, ◌▹◌}
+use Rattle.lists.proofs.Rows.{unit_left}
 use Rattle.w_canon.specs.declared.entry.Entry.{Entry}
 use Rattle.w_canon.specs.IsClassesOf.{IsClassesOf}
 use Rattle.w_rules.specs.Operands.{Operand}

@@ -1,7 +1,7 @@
 -- How the number of operands and the peak of open blocks go along.
 use Rattle.std.proofs.Common.{◌≡◌, ℕ, ◌+◌, ◌-◌, ◌≤◌, max, Bool, true, false, List, ◌∷◌, Option, Some, None, refl, sym, ◌∙◌, ap, arith}
 use Rattle.w_types.specs.declared.types.ValType.{ValType}
-use Rattle.w_types.specs.Rows.{Row, ◌⧺◌, size}
+use Rattle.lists.specs.Rows.{Row, ◌⧺◌, size}
 use Rattle.w_syntax.specs.Code.{Code, Done, Plain}
 use Rattle.w_syntax.specs.declared.instructions.BlockType.{BlockType}
 use Rattle.w_syntax.specs.declared.instructions.Op.{Op}
@@ -17,7 +17,7 @@ use Rattle.w_vplain.specs.Frames.{Frame}
 use Rattle.w_vplain.specs.Measures.{height, condition, height_at, first_peak, block_peak, peaks, tally, total}
 use Rattle.w_steps.specs.declared.frame_kind.FrameKind.{FrameKind}
 use Rattle.w_steps.specs.declared.frame_kind.FrameKind.TheVariants as kind
-use Rattle.w_vplain.proofs.Reaching.{open_block}
+use Rattle.w_vplain.proofs.OpenBlocks.{open_block}
 use Rattle.w_vplain.proofs.Nodes.{Inner, is_block, is_then, is_else, label_is, labelled_by}
 use Rattle.w_vplain.proofs.Options.{Whenever, whenever_map, bind_assoc, bind_same, or_same}
 use Rattle.w_vplain.proofs.TypeHeights.{Goes, size-known, size-pushed}

@@ -8,7 +8,7 @@ use Rattle.w_syntax.specs.declared.instructions.Instr.TheVariants as flat
 use Rattle.w_vplain.specs.Prefixes.{OpenBlock, Prefix, open_at, ended, opened, more, follow, follow_all, empty}
 use Rattle.w_steps.specs.declared.frame_kind.FrameKind.{FrameKind}
 use Rattle.w_steps.specs.declared.frame_kind.FrameKind.TheVariants as kind
-use Rattle.w_vplain.proofs.Reaching.{open_block}
+use Rattle.w_vplain.proofs.OpenBlocks.{open_block}
 
 -- ## Levels
 

@@ -8,7 +8,7 @@ use Rattle.w_syntax.specs.declared.instructions.Instr.TheVariants as flat
 use Rattle.w_syntax.specs.declared.instructions.Op.{Op}
 use Rattle.w_syntax.specs.declared.instructions.Op.TheVariants as op
 use Rattle.w_types.specs.declared.types.ValType.{ValType}
-use Rattle.w_types.specs.Rows.{Row, row_of, size}
+use Rattle.lists.specs.Rows.{Row, row_of, size}
 use Rattle.w_canon.specs.declared.entry.Entry.{Entry}
 use Rattle.w_canon.specs.IsClassesOf.{IsClassesOf}
 use Rattle.w_flow.specs.Flow.{◌>>=◌}
@@ -19,7 +19,7 @@ use Rattle.w_steps.specs.Labels.{labels_of, within}
 use Rattle.w_vplain.specs.Prefixes.{Prefix, IsDerivable, empty, follow, is_checked, malformed}
 use Rattle.w_vplain.specs.Measures.{CountsFor, Raised, extra_in, extra_at, peak_of, depth_of, tally, total}
 use Rattle.w_vplain.specs.Row.{IsRow, RaisedBy, above, added_by, labels_in, move_next, raised_to, row_next}
-use Rattle.w_vplain.specs.Standing.{StandsFor, Answers, AnswersRow, Refuses, IsSameBody, IsCall, IsCounted, Counts, counts_if, HasBases, HasClasses, IsDeep, context_for, classes_for, top_of, outer_of, frames_of, frames_of_derived}
+use Rattle.w_vplain.specs.Standing.{StandsFor, Answers, AnswersRow, Refuses, IsSameBody, IsCall, IsCounted, Counts, counts_if, HasBases, KnowsClasses, IsDeep, context_for, classes_for, top_of, outer_of, frames_of, frames_of_derived}
 use Rattle.w_locals.specs.Locals.{outer_sets}
 use Rattle.w_steps.specs.View.{outer_kinds}
 use Rattle.w_vplain.specs.View.{row_with}
@@ -34,7 +34,7 @@ use Rattle.w_vplain.proofs.RowCalls.{row_knows, row_exact, row_counted, row_deep
 use Rattle.w_vplain.proofs.CallsCounted.{calls_counted}
 use Rattle.w_vplain.proofs.CallsDeepen.{Deepens, calls_deepen}
 use Rattle.w_vplain.proofs.CallsKnown.{step_knows, knows_derivable, stands_derivable}
-use Rattle.w_vplain.proofs.FrameViews.{beneath_told, kinds_with}
+use Rattle.w_vplain.proofs.FrameViews.{beneath_answered, kinds_with}
 use Rattle.w_vplain.proofs.Options.{at_whenever, bind_same}
 use Rattle.w_vplain.proofs.WholeBodies.{first_frame, begin_stands, begin_counts}
 
@@ -67,7 +67,7 @@ pub counts_stand : (c : Checker) (s : List Bool) (w : Prefix) → StandsFor c s 
 counts_stand c s w k alive = counts_given c.refused (Counts c s w) alive k.counts
 
 -- the checker after a call
-pub stands_by : (old new : Checker) (s : List Bool) (w w' : Prefix) → IsSameBody old new → HasClasses old → Knows (context_for old) s (frames_of_derived new) w'
+pub stands_by : (old new : Checker) (s : List Bool) (w w' : Prefix) → IsSameBody old new → KnowsClasses old → Knows (context_for old) s (frames_of_derived new) w'
     → (new.refused ≡ false → CountsFor (context_for old) s (frames_of new) w' × (new.peak ≡ peak_of (context_for old) s w') × HasBases new × IsDeep new × (new.depth ≡ depth_of w'))
     → StandsFor new s w'
 stands_by old new s w w' same types k counts = record {
@@ -168,9 +168,9 @@ answers_same old new f g answer e h = λ s w k.
     let P : Prefix → Type 0 = λ v. StandsFor new s v × (IsTrue answer ↔ IsDerivable (context_for old) s v) in
     subst P (sym (e w)) (h s w k)
 
-pub answers_packed : {E : Type 0} (r : Result Bool E) (old new : Checker) (p : Bor PackedInstr) (next : Prefix → Prefix) → IfOk r (λ taken. IsCall old new (move.Packed p) taken) → IsSameBody old new
-    → is_checked (unpacked p.now) ≡ true → ((w : Prefix) → next w ≡ follow (unpacked p.now) w) → IfOk r (λ taken. Answers old new next taken)
-answers_packed r old new p next h same ch e = ok_with r _ _ h (λ taken x. answers_same old new (follow (unpacked p.now)) next taken e (answered old new p taken ch x same))
+pub answers_packed : {E : Type 0} (r : Result Bool E) (old new : Checker) (p : Bor PackedInstr) (next : Prefix → Prefix) → IfOk r (λ applies. IsCall old new (move.Packed p) applies) → IsSameBody old new
+    → is_checked (unpacked p.now) ≡ true → ((w : Prefix) → next w ≡ follow (unpacked p.now) w) → IfOk r (λ applies. Answers old new next applies)
+answers_packed r old new p next h same ch e = ok_with r _ _ h (λ applies x. answers_same old new (follow (unpacked p.now)) next applies e (answered old new p applies ch x same))
 
 -- ## A call by a row
 
@@ -206,10 +206,10 @@ counts_by_row old new b o s w answer h k found alive =
 
 -- the call answers for the sequence with each instruction of the row
 pub answers_row : {E : Type 0} (r : Result Bool E) (old new : Checker) (b : Bor InstrRow)
-    → IfOk r (λ taken. IsCall old new (move.Row b) taken) → IsSameBody old new
-    → IfOk r (λ taken. AnswersRow old new (row_with (row_of b.now.ins.types.now) b.now.top) (row_of b.now.outs.types.now) b.now.raise taken)
+    → IfOk r (λ applies. IsCall old new (move.Row b) applies) → IsSameBody old new
+    → IfOk r (λ applies. AnswersRow old new (row_with (row_of b.now.ins.types.now) b.now.top) (row_of b.now.outs.types.now) b.now.raise applies)
 answers_row r old new b call same =
-    ok_with r _ _ call (λ taken h s w o k found.
+    ok_with r _ _ call (λ applies h s w o k found.
     let c = context_for old in
     let es = classes_for old in
     let takes = row_with (row_of b.now.ins.types.now) b.now.top in
@@ -220,17 +220,17 @@ answers_row r old new b call same =
     h.leads ∙ bind_same (frames_of_derived old) (move_next es c (move.Row b)) (row_next es takes gives) (λ fs. refl) in (
       stands_by old new s w w' same k.classes
           (subst P (sym leads) (row_knows es c k.classes s o takes gives b.now.raise (frames_of_derived old) w k.knows found))
-          (counts_by_row old new b o s w taken h k found),
-      row_exact es c k.classes s o takes gives b.now.raise (frames_of_derived old) w k.knows found taken (h.answer ∙ ap is_some leads),
+          (counts_by_row old new b o s w applies h k found),
+      row_exact es c k.classes s o takes gives b.now.raise (frames_of_derived old) w k.knows found applies (h.answer ∙ ap is_some leads),
     ))
 
 -- what a row adds to the operands of its place
-pub added_told : {E : Type 0} (r : Result ℕ E) (c : Checker) (ins : Row ValType) (raise : Option ℕ) (taken : ℕ) (here : Option ℕ)
-    → c.ended ≡ false → here ≡ tally (top_of c).any (top_of c).operands c.top.base → taken ≡ size ins
-    → IfOk r (λ n. n ≡ or_none here (above taken raise)) → IfOk r (λ n. HasBases c → n ≡ or_none (total (frames_of c)) (above (size ins) raise))
-added_told r c ins raise taken here going e f h =
+pub added_answered : {E : Type 0} (r : Result ℕ E) (c : Checker) (ins : Row ValType) (raise : Option ℕ) (popped : ℕ) (here : Option ℕ)
+    → c.ended ≡ false → here ≡ tally (top_of c).any (top_of c).operands c.top.base → popped ≡ size ins
+    → IfOk r (λ n. n ≡ or_none here (above popped raise)) → IfOk r (λ n. HasBases c → n ≡ or_none (total (frames_of c)) (above (size ins) raise))
+added_answered r c ins raise popped here going e f h =
     ok_with r _ _ h (λ n x bases.
-    beneath_told c.ended (top_of c) c.outer.items (outer_sets c.locals.sets) c.top.base here n (above taken raise) going bases.0 e x
+    beneath_answered c.ended (top_of c) c.outer.items (outer_sets c.locals.sets) c.top.base here n (above popped raise) going bases.0 e x
     ∙ ap (λ (k : ℕ). or_none (total (frames_of c)) (above k raise)) f)
 
 -- ## A sequence that is not derived
@@ -249,14 +249,14 @@ refuses old new answer same t e = record {
 
 -- an instruction of another class begins no body
 pub answers_malformed : {E : Type 0} (r : Result Bool E) (old new : Checker) (next : Prefix → Prefix) → ((w : Prefix) → next w ≡ malformed)
-    → IfOk r (λ taken. Refuses old new taken) → IfOk r (λ taken. Answers old new next taken)
+    → IfOk r (λ applies. Refuses old new applies) → IfOk r (λ applies. Answers old new next applies)
 answers_malformed r old new next e h =
-    ok_with r _ _ h (λ taken x. answers_same old new (λ w. malformed) next taken e
+    ok_with r _ _ h (λ applies x. answers_same old new (λ w. malformed) next applies e
     (λ s w k. (x.stands s w malformed k (λ g. g), (λ t. absurd (false≢true (sym x.is_false ∙ t)), λ g. absurd g))))
 
 -- ## The beginning
 
-pub begins : (c : Checker) (s : List Bool) → HasClasses c → frames_of_derived c ≡ Some (first_frame s ∷ []) → frames_of c ≡ first_frame s ∷ [] → c.peak ≡ 0 → c.depth ≡ 1 → HasBases c → StandsFor c s empty
+pub begins : (c : Checker) (s : List Bool) → KnowsClasses c → frames_of_derived c ≡ Some (first_frame s ∷ []) → frames_of c ≡ first_frame s ∷ [] → c.peak ≡ 0 → c.depth ≡ 1 → HasBases c → StandsFor c s empty
 begins c s types e f p d b = record {
   classes = types;
   knows = (let P : Option (List Frame) → Type 0 = λ o. Knows (context_for c) s o empty in subst P (sym e) (begin_stands (context_for c) s));
@@ -277,9 +277,9 @@ known_derivable c s false fs w k g = refl
 
 -- ## The labels
 
-pub label_told : (c : Checker) (s : List Bool) (w : Prefix) (index : ℕ) → StandsFor c s w → IsDerivable (context_for c) s w → c.ended ≡ false
+pub label_answered : (c : Checker) (s : List Bool) (w : Prefix) (index : ℕ) → StandsFor c s w → IsDerivable (context_for c) s w → c.ended ≡ false
     → slice_get (labels_in (context_for c) w) index ≡ slice_get (labels_of (context_for c) (c.top.kind ∷ outer_kinds c.outer.items)) index
-label_told c s w index k g e =
+label_answered c s w index k g e =
     let open_is : frames_of c ≡ top_of c ∷ outer_of c = ap (λ (b : Bool). if b then [] else top_of c ∷ outer_of c) e in
     let P : List Frame → Type 0 = λ fs. FramesStand (context_for c) s fs w in
     let stands = subst P open_is (frames_stand c s w k (known_derivable (context_for c) s c.refused (frames_of c) w k.knows g)) in

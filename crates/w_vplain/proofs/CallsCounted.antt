@@ -1,6 +1,6 @@
 -- Each call keeps that the frames have as many operands as the place, and raises the peak by that place alone.
 use Rattle.std.proofs.Common.{◌≡◌, ℕ, ◌+◌, max, Bool, true, false, ◌&&◌, List, [], ◌∷◌, Option, Some, None, if◌then◌else◌, refl, sym, ◌∙◌, ap, subst, arith}
-use Rattle.w_types.specs.Rows.{Row, ε, ◌⧺◌, size}
+use Rattle.lists.specs.Rows.{Row, ε, ◌⧺◌, size}
 use Rattle.w_syntax.specs.Code.{Code, Done, Plain}
 use Rattle.w_syntax.specs.declared.instructions.Instr.{Instr}
 use Rattle.w_syntax.specs.declared.instructions.Instr.TheVariants as flat
@@ -21,7 +21,7 @@ use Rattle.w_vplain.specs.Measures.{height_at, peaks, peak_of, tally, total, Tal
 use Rattle.w_steps.specs.declared.frame_kind.FrameKind.{FrameKind}
 use Rattle.w_steps.specs.declared.frame_kind.FrameKind.TheVariants as kind
 use Rattle.w_vplain.proofs.Options.{held_at, at_held, held_fact, Whenever, whenever_bind, whenever_map, whenever_eq, at_whenever, when_if, whenever_none}
-use Rattle.w_vplain.proofs.Reaching.{open_block, framed, frame_is, kinds_same, tail_kinds}
+use Rattle.w_vplain.proofs.OpenBlocks.{open_block, framed, frame_is, kinds_same, tail_kinds}
 use Rattle.w_vplain.proofs.TypesKnown.{instr_type_at}
 use Rattle.w_vplain.proofs.Nodes.{Inner, is_block, is_then, is_else}
 use Rattle.w_vplain.proofs.TypeHeights.{pops_long, step_tally}

@@ -1,6 +1,6 @@
 -- Each call raises the depth by the number of open blocks.
 use Rattle.std.proofs.Common.{◌≡◌, ℕ, suc, ◌+◌, ◌≤◌, max, Bool, true, false, ◌&&◌, List, [], ◌∷◌, length, Some, None, if◌then◌else◌, refl, sym, subst, arith}
-use Rattle.w_types.specs.Rows.{Row}
+use Rattle.lists.specs.Rows.{Row}
 use Rattle.w_syntax.specs.Code.{Code, Done, Plain, Block, If, IfElse, after}
 use Rattle.w_syntax.specs.declared.instructions.BlockType.{BlockType}
 use Rattle.w_syntax.specs.declared.instructions.Instr.{Instr}
@@ -22,7 +22,7 @@ use Rattle.w_vplain.specs.Measures.{first_depth, depths, depth_of}
 use Rattle.w_steps.specs.declared.frame_kind.FrameKind.{FrameKind}
 use Rattle.w_steps.specs.declared.frame_kind.FrameKind.TheVariants as kind
 use Rattle.w_vplain.proofs.Options.{held_fact, Whenever, whenever_bind, always, when_if, whenever_none}
-use Rattle.w_vplain.proofs.Reaching.{open_block, count_same}
+use Rattle.w_vplain.proofs.OpenBlocks.{open_block, count_same}
 use Rattle.w_vplain.proofs.Nodes.{Inner, is_block, is_then, is_else}
 
 -- ## Depths of sequences

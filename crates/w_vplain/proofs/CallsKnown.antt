@@ -1,7 +1,7 @@
 -- A call keeps that the frames stand for the sequence, and answers whether the rules derive it.
 use Rattle.std.proofs.Common.{◌≡◌, ◌↔◌, Bool, true, false, List, [], ◌∷◌, Option, Some, None, is_some, if◌then◌else◌, IsTrue, refl, sym, ◌∙◌, ap, subst}
 use Rattle.std.proofs.lemmas.Bool.{false≢true}
-use Rattle.w_types.specs.Rows.{Row, ε}
+use Rattle.lists.specs.Rows.{Row, ε}
 use Rattle.w_syntax.specs.Code.{Done, Plain}
 use Rattle.w_syntax.specs.declared.instructions.Instr.{Instr}
 use Rattle.w_syntax.specs.declared.instructions.Instr.TheVariants as flat
@@ -21,8 +21,8 @@ use Rattle.w_vplain.specs.Frames.{Frame, frame_kinds, plain_next, op_next, frame
 use Rattle.w_steps.specs.declared.frame_kind.FrameKind.{FrameKind}
 use Rattle.w_steps.specs.declared.frame_kind.FrameKind.TheVariants as kind
 use Rattle.w_vplain.proofs.Options.{held_fact}
-use Rattle.w_vplain.proofs.ConditionTests.{condition_told_within}
-use Rattle.w_vplain.proofs.Reaching.{framed, frame_is, tail_kinds}
+use Rattle.w_vplain.proofs.ConditionTests.{condition_decided_within}
+use Rattle.w_vplain.proofs.OpenBlocks.{framed, frame_is, tail_kinds}
 use Rattle.w_vplain.proofs.TypesKnown.{typed_known}
 use Rattle.w_vplain.proofs.EnterKnown.{enter_known}
 use Rattle.w_vplain.proofs.EndsKnown.{other_known, end_known}
@@ -36,7 +36,7 @@ plain_known : (es : List Entry) (c : Context) → IsClassesOf c.types es → (s 
     Knows c s (plain_next es c o (framed s p ts l ls) fs) (open_at (more l (Plain o Done)) ls)
 plain_known es c types s o h p ts l ls fs st =
     typed_known es c types s o (instr_type (within c (l.kind ∷ frame_kinds fs)) (set_at s (l ∷ ls)) o) (framed s p ts l ls) fs l ls st (condition_test es c o)
-    (condition_told_within es c types (kinds_of (l ∷ ls)) o h)
+    (condition_decided_within es c types (kinds_of (l ∷ ls)) o h)
     (ap (λ (ks : List FrameKind). instr_type (within c (l.kind ∷ ks)) (set_at s (l ∷ ls)) o) (sym (tail_kinds c s (framed s p ts l ls) fs l ls st)))
 
 -- the same, by its class

@@ -2,7 +2,7 @@
 use Rattle.std.proofs.Common.{◌≡◌, ◌↔◌, true, false, List, Option, Some, None, slice_get, IsTrue, refl}
 use Rattle.w_types.specs.declared.types.RefType.{RefType}
 use Rattle.w_types.specs.declared.types.ValType.{ValType}
-use Rattle.w_types.specs.Rows.{Row}
+use Rattle.lists.specs.Rows.{Row}
 use Rattle.w_syntax.specs.declared.instructions.ControlOp.{ControlOp}
 use Rattle.w_syntax.specs.declared.instructions.ControlOp.TheVariants as control
 use Rattle.w_syntax.specs.declared.instructions.Op.{Op}
@@ -13,7 +13,7 @@ use Rattle.w_syntax.specs.declared.module.TableType.{TableType}
 use Rattle.w_canon.specs.declared.entry.Entry.{Entry}
 use Rattle.w_canon.specs.Matching.{RefMatches}
 use Rattle.w_canon.specs.IsClassesOf.{IsClassesOf}
-use Rattle.w_canon.proofs.MatchingTests.{ref_told}
+use Rattle.w_canon.proofs.MatchingTests.{ref_decided}
 use Rattle.w_rules.specs.Conditions.{Holds, funcref, ControlCondition, TableCondition, Condition}
 use Rattle.w_rules.specs.Context.{Context}
 use Rattle.w_steps.specs.Labels.{labels_of, within}
@@ -31,50 +31,50 @@ never = (λ t. absurd (cc), λ h. absurd h)
 
 module _ (es : List Entry) (c : Context) (st : IsClassesOf c.types es) where
   -- the table is there, and holds functions
-  functions_told : (o : Option TableType) → IsTrue (holds_functions es o) ↔ Holds o (λ (t : TableType). RefMatches c.types t.element funcref)
-  functions_told None = never
-  functions_told (Some t) = ref_told c.types es st t.element funcref
+  functions_decided : (o : Option TableType) → IsTrue (holds_functions es o) ↔ Holds o (λ (t : TableType). RefMatches c.types t.element funcref)
+  functions_decided None = never
+  functions_decided (Some t) = ref_decided c.types es st t.element funcref
 
   -- the segment and the table are there, and match
-  init_told : (o : Option RefType) (p : Option TableType) →
+  init_decided : (o : Option RefType) (p : Option TableType) →
       IsTrue (init_test es o p) ↔ Holds o (λ (r : RefType). Holds p (λ (t : TableType). RefMatches c.types r t.element))
-  init_told None p = never
-  init_told (Some r) None = never
-  init_told (Some r) (Some t) = ref_told c.types es st r t.element
+  init_decided None p = never
+  init_decided (Some r) None = never
+  init_decided (Some r) (Some t) = ref_decided c.types es st r t.element
 
   -- both tables are there, and match
-  copy_told : (o p : Option TableType) →
+  copy_decided : (o p : Option TableType) →
       IsTrue (copy_test es o p) ↔ Holds o (λ (t : TableType). Holds p (λ (u : TableType). RefMatches c.types u.element t.element))
-  copy_told None p = never
-  copy_told (Some t) None = never
-  copy_told (Some t) (Some u) = ref_told c.types es st u.element t.element
+  copy_decided None p = never
+  copy_decided (Some t) None = never
+  copy_decided (Some t) (Some u) = ref_decided c.types es st u.element t.element
 
   -- a control instruction, whatever the labels take
-  control_told : (us : List (Row ValType)) (o : ControlOp) → IsTrue (control_test es c o) ↔ ControlCondition (record c { labels = us }) o
-  control_told us (control.CallIndirect y x) = functions_told (slice_get c.tables x)
-  control_told us o = nothing
+  control_decided : (us : List (Row ValType)) (o : ControlOp) → IsTrue (control_test es c o) ↔ ControlCondition (record c { labels = us }) o
+  control_decided us (control.CallIndirect y x) = functions_decided (slice_get c.tables x)
+  control_decided us o = nothing
 
   -- a table instruction
-  table_told : (us : List (Row ValType)) (o : TableOp) → IsTrue (table_test es c o) ↔ TableCondition (record c { labels = us }) o
-  table_told us (table.Init e x) = init_told (slice_get c.elements e) (slice_get c.tables x)
-  table_told us (table.Copy x y) = copy_told (slice_get c.tables x) (slice_get c.tables y)
-  table_told us o = nothing
+  table_decided : (us : List (Row ValType)) (o : TableOp) → IsTrue (table_test es c o) ↔ TableCondition (record c { labels = us }) o
+  table_decided us (table.Init e x) = init_decided (slice_get c.elements e) (slice_get c.tables x)
+  table_decided us (table.Copy x y) = copy_decided (slice_get c.tables x) (slice_get c.tables y)
+  table_decided us o = nothing
 
   -- an instruction that does not switch stacks
-  op_told : (us : List (Row ValType)) (o : Op) → is_switching o ≡ false → IsTrue (condition_test es c o) ↔ Condition (record c { labels = us }) o
-  op_told us (op.Control o) h = control_told us o
-  op_told us (op.Table o) h = table_told us o
-  op_told us (op.Switching o) h = absurd (cc)
-  op_told us (op.Parametric o) h = nothing
-  op_told us (op.Variable o) h = nothing
-  op_told us (op.Memory o) h = nothing
-  op_told us (op.Numeric o) h = nothing
-  op_told us (op.Reference o) h = nothing
+  op_decided : (us : List (Row ValType)) (o : Op) → is_switching o ≡ false → IsTrue (condition_test es c o) ↔ Condition (record c { labels = us }) o
+  op_decided us (op.Control o) h = control_decided us o
+  op_decided us (op.Table o) h = table_decided us o
+  op_decided us (op.Switching o) h = absurd (cc)
+  op_decided us (op.Parametric o) h = nothing
+  op_decided us (op.Variable o) h = nothing
+  op_decided us (op.Memory o) h = nothing
+  op_decided us (op.Numeric o) h = nothing
+  op_decided us (op.Reference o) h = nothing
 
   -- the test of an instruction that does not switch stacks
-  pub condition_told : (o : Op) → is_switching o ≡ false → IsTrue (condition_test es c o) ↔ Condition c o
-  condition_told o h = op_told c.labels o h
+  pub condition_decided : (o : Op) → is_switching o ≡ false → IsTrue (condition_test es c o) ↔ Condition c o
+  condition_decided o h = op_decided c.labels o h
 
   -- the same inside these blocks
-  pub condition_told_within : (ks : List FrameKind) (o : Op) → is_switching o ≡ false → IsTrue (condition_test es c o) ↔ Condition (within c ks) o
-  condition_told_within ks o h = op_told (labels_of c ks) o h
+  pub condition_decided_within : (ks : List FrameKind) (o : Op) → is_switching o ≡ false → IsTrue (condition_test es c o) ↔ Condition (within c ks) o
+  condition_decided_within ks o h = op_decided (labels_of c ks) o h

@@ -1,7 +1,7 @@
 -- A branch or a block ends: the frames stand for the sequence with that.
 use Rattle.std.proofs.Common.{◌≡◌, Bool, true, false, ◌&&◌, List, [], ◌∷◌, Option, Some, None, if◌then◌else◌, IsTrue, refl, sym, ◌∙◌}
 use Rattle.std.proofs.lemmas.Bool.{false≢true}
-use Rattle.w_types.specs.Rows.{Row, ε, ◌⧺◌}
+use Rattle.lists.specs.Rows.{Row, ε, ◌⧺◌}
 use Rattle.w_syntax.specs.Code.{Code, Done}
 use Rattle.w_syntax.specs.declared.instructions.BlockType.{BlockType}
 use Rattle.w_canon.specs.declared.entry.Entry.{Entry}
@@ -16,7 +16,7 @@ use Rattle.w_vplain.specs.Frames.{Frame, other_next, end_test, leave, end_next, 
 use Rattle.w_steps.specs.declared.frame_kind.FrameKind.{FrameKind}
 use Rattle.w_steps.specs.declared.frame_kind.FrameKind.TheVariants as kind
 use Rattle.w_vplain.proofs.Options.{held_at, at_held, held_none, held_fact}
-use Rattle.w_vplain.proofs.Reaching.{open_block, framed, reaches_in, reaches_out, reaches_right}
+use Rattle.w_vplain.proofs.OpenBlocks.{open_block, framed, reaches_in, reaches_out, reaches_right}
 use Rattle.w_vplain.proofs.BlockEnds.{covers_matches, matches_covers, ends_in, ends_out, end_test_in, end_test_out}
 use Rattle.w_vplain.proofs.Nodes.{Inner, is_block, is_then, is_else, Whole, node_in, node_out, node_sets}
 use Rattle.w_rules.proofs.Derive.{set_by-after}

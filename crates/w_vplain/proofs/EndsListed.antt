@@ -1,8 +1,8 @@
 -- Whether value types match value types, told by the operands that are left: the same test as that of result types.
 use Rattle.std.proofs.Common.{◌≡◌, Bool, true, false, ◌&&◌, List, [], ◌∷◌, ◌++◌, Option, None, if◌then◌else◌, refl, sym, ◌∙◌, ap}
 use Rattle.w_types.specs.declared.types.ValType.{ValType}
-use Rattle.w_types.specs.Rows.{Row, ε, ◌▹◌, listed, row_of}
-use Rattle.w_types.proofs.Rows.{listed-row_of}
+use Rattle.lists.specs.Rows.{Row, ε, ◌▹◌, listed, row_of}
+use Rattle.lists.proofs.Rows.{listed-row_of}
 use Rattle.w_canon.specs.declared.entry.Entry.{Entry}
 use Rattle.w_canon.specs.Tests.{pairwise_test, val_test, result_test}
 use Rattle.w_rules.specs.Operands.{Operand}

@@ -1,6 +1,6 @@
 -- A block begins: the frames stand for the sequence with the block.
 use Rattle.std.proofs.Common.{◌≡◌, Bool, false, List, ◌∷◌, Option, Some, None, refl}
-use Rattle.w_types.specs.Rows.{Row, ε, ◌⧺◌}
+use Rattle.lists.specs.Rows.{Row, ε, ◌⧺◌}
 use Rattle.w_syntax.specs.Code.{Done}
 use Rattle.w_canon.specs.declared.entry.Entry.{Entry}
 use Rattle.w_canon.specs.IsClassesOf.{IsClassesOf}
@@ -14,7 +14,7 @@ use Rattle.w_vplain.specs.Prefixes.{OpenBlock, open_at, opened, taken_by, set_at
 use Rattle.w_vplain.specs.Frames.{Frame, enter_next, StandsAll, Knows}
 use Rattle.w_steps.specs.declared.frame_kind.FrameKind.{FrameKind}
 use Rattle.w_vplain.proofs.Options.{held_at, at_held, held_none}
-use Rattle.w_vplain.proofs.Reaching.{framed}
+use Rattle.w_vplain.proofs.OpenBlocks.{framed}
 use Rattle.w_vplain.proofs.BlockEnds.{covers_matches, matches_covers}
 use Rattle.w_flow.proofs.Covers.{pops_in, pops_out}
 

@@ -4,8 +4,8 @@ use Rattle.std.proofs.lemmas.Bool.Decides.{nat_tests}
 use Rattle.std.proofs.lemmas.List.{length-reverse, reverse-append}
 use Rattle.std.proofs.Math.Nat.{max-eq_left, le-max_right}
 use Rattle.w_types.specs.declared.types.ValType.{ValType}
-use Rattle.w_types.specs.Rows.{Row, ◌▹◌, ◌⧺◌, size, row_of}
-use Rattle.w_types.proofs.Rows.{size-row_of}
+use Rattle.lists.specs.Rows.{Row, ◌▹◌, ◌⧺◌, size, row_of}
+use Rattle.lists.proofs.Rows.{size-row_of}
 use Rattle.w_syntax.specs.declared.instructions.Op.{Op}
 use Rattle.w_syntax.specs.declared.instructions.Op.TheVariants as op
 use Rattle.w_canon.specs.declared.entry.Entry.{Entry}
@@ -138,8 +138,8 @@ module _ (es : List Entry) (c : Context) (k : FrameKind) (f : Frame) where
 -- ## The end of a block
 
 -- whether there are blocks around
-pub alone_told : (xs : List code.Frame) (ss : List (List Bool)) → no_frames (frames_with (reverse xs) ss) ≡ (length xs == 0)
-alone_told xs ss = by (reverse xs) (length xs) (length-reverse xs)
+pub alone_answered : (xs : List code.Frame) (ss : List (List Bool)) → no_frames (frames_with (reverse xs) ss) ≡ (length xs == 0)
+alone_answered xs ss = by (reverse xs) (length xs) (length-reverse xs)
   where
     by : (ys : List code.Frame) (n : ℕ) → length ys ≡ n → no_frames (frames_with ys ss) ≡ (n == 0)
     by [] zero e = refl
@@ -151,13 +151,13 @@ module _ (es : List Entry) (c : Context) (f : Frame) where
   pub left_none : (xs : List code.Frame) (ss : List (List Bool)) (alone : Bool) (o : Option TypeRow) → alone ≡ (length xs == 0) → o ≡ None
       → ((fs : List Frame) → alone ≡ no_frames fs → end_next es c f fs ≡ left_with o fs) → end_next es c f (frames_with (reverse xs) (outer_sets ss)) ≡ None
   left_none xs ss alone o a e n =
-      n (frames_with (reverse xs) (outer_sets ss)) (a ∙ sym (alone_told xs (outer_sets ss)))
+      n (frames_with (reverse xs) (outer_sets ss)) (a ∙ sym (alone_answered xs (outer_sets ss)))
       ∙ ap (λ (p : Option TypeRow). left_with p (frames_with (reverse xs) (outer_sets ss))) e
 
   pub left_body : (xs : List code.Frame) (ss : List (List Bool)) (alone : Bool) (o : Option TypeRow) (to : TypeRow) → alone ≡ (length xs == 0) → o ≡ Some to → xs ≡ []
       → ((fs : List Frame) → alone ≡ no_frames fs → end_next es c f fs ≡ left_with o fs) → end_next es c f (frames_with (reverse xs) (outer_sets ss)) ≡ Some []
   left_body xs ss alone o to a e none n =
-      n (frames_with (reverse xs) (outer_sets ss)) (a ∙ sym (alone_told xs (outer_sets ss)))
+      n (frames_with (reverse xs) (outer_sets ss)) (a ∙ sym (alone_answered xs (outer_sets ss)))
       ∙ ap (λ (p : Option TypeRow). left_with p (frames_with (reverse xs) (outer_sets ss))) e
       ∙ ap (λ (ys : List code.Frame). Some (leave (row_of to.types.now) (frames_with (reverse ys) (outer_sets ss)))) none
 
@@ -170,7 +170,7 @@ module _ (es : List Entry) (c : Context) (f : Frame) where
       let back : reverse xs ≡ g ∷ reverse ws = ap reverse split ∙ reverse-append ws (g ∷ []) in
       let now : first_set l ≡ first_set (outer_sets ss) = ap first_set m in
       let around : outer_sets l ≡ outer_sets (outer_sets ss) = ap outer_sets m in
-      n (frames_with (reverse xs) (outer_sets ss)) (a ∙ sym (alone_told xs (outer_sets ss)))
+      n (frames_with (reverse xs) (outer_sets ss)) (a ∙ sym (alone_answered xs (outer_sets ss)))
       ∙ ap (λ (p : Option TypeRow). left_with p (frames_with (reverse xs) (outer_sets ss))) e
       ∙ ap (λ (ys : List code.Frame). Some (leave (row_of to.types.now) (frames_with ys (outer_sets ss)))) back
       ∙ same_frame (h.kind) (g.kind) (flow_view h.flow).any (flow_view g.flow).any (flow_view h.flow).operands ((flow_view g.flow).operands ⧺ known (row_of to.types.now))
@@ -184,41 +184,41 @@ module _ (es : List Entry) (c : Context) (f : Frame) where
 
 module _ (es : List Entry) (c : Context) where
   -- what a step leaves, in the frame
-  stepped : (o : Op) (f : Frame) (fs : List Frame) (r : Option Flow) (taken : Bool) (w : Flow) → r ≡ (if taken then Some w else None)
+  stepped : (o : Op) (f : Frame) (fs : List Frame) (r : Option Flow) (applies : Bool) (w : Flow) → r ≡ (if applies then Some w else None)
       → (r >>= λ (v : Flow). Some (record f { any = v.any; operands = v.operands; is_set = sets o f.is_set } ∷ fs))
-      ≡ (if taken then Some (record f { any = w.any; operands = w.operands; is_set = sets o f.is_set } ∷ fs) else None)
+      ≡ (if applies then Some (record f { any = w.any; operands = w.operands; is_set = sets o f.is_set } ∷ fs) else None)
   stepped o f fs r true w e = ap (λ (q : Option Flow). q >>= λ (v : Flow). Some (record f { any = v.any; operands = v.operands; is_set = sets o f.is_set } ∷ fs)) e
   stepped o f fs r false w e = ap (λ (q : Option Flow). q >>= λ (v : Flow). Some (record f { any = v.any; operands = v.operands; is_set = sets o f.is_set } ∷ fs)) e
 
-  passed : (o : Op) (f : Frame) (fs : List Frame) (b : Bool) (r : Option Flow) (taken : Bool) (w : Flow) → gated b r ≡ (if taken then Some w else None)
+  passed : (o : Op) (f : Frame) (fs : List Frame) (b : Bool) (r : Option Flow) (applies : Bool) (w : Flow) → gated b r ≡ (if applies then Some w else None)
       → (if b then (r >>= λ (v : Flow). Some (record f { any = v.any; operands = v.operands; is_set = sets o f.is_set } ∷ fs)) else None)
-      ≡ (if taken then Some (record f { any = w.any; operands = w.operands; is_set = sets o f.is_set } ∷ fs) else None)
-  passed o f fs true r taken w e = stepped o f fs r taken w e
-  passed o f fs false r taken w e = stepped o f fs None taken w e
+      ≡ (if applies then Some (record f { any = w.any; operands = w.operands; is_set = sets o f.is_set } ∷ fs) else None)
+  passed o f fs true r applies w e = stepped o f fs r applies w e
+  passed o f fs false r applies w e = stepped o f fs None applies w e
 
   -- one instruction, by the step of its operands
-  pub op_told : (o : Op) (f : Frame) (fs : List Frame) (taken : Bool) (w : Flow)
-      → gated (plain_test es c o) (step es (instr_type (within c (f.kind ∷ frame_kinds fs)) f.is_set o) f.any f.operands) ≡ (if taken then Some w else None)
-      → op_next es c o f fs ≡ (if taken then Some (record f { any = w.any; operands = w.operands; is_set = sets o f.is_set } ∷ fs) else None)
-  op_told (op.Control o) f fs taken w e = passed (op.Control o) f fs (plain_test es c (op.Control o)) (step es (instr_type (within c (f.kind ∷ frame_kinds fs)) f.is_set (op.Control o)) f.any f.operands) taken w e
-  op_told (op.Parametric o) f fs taken w e = stepped (op.Parametric o) f fs _ taken w e
-  op_told (op.Variable o) f fs taken w e = stepped (op.Variable o) f fs _ taken w e
-  op_told (op.Table o) f fs taken w e = passed (op.Table o) f fs (plain_test es c (op.Table o)) (step es (instr_type (within c (f.kind ∷ frame_kinds fs)) f.is_set (op.Table o)) f.any f.operands) taken w e
-  op_told (op.Memory o) f fs taken w e = stepped (op.Memory o) f fs _ taken w e
-  op_told (op.Numeric o) f fs taken w e = stepped (op.Numeric o) f fs _ taken w e
-  op_told (op.Reference o) f fs taken w e = stepped (op.Reference o) f fs _ taken w e
-  op_told (op.Switching o) f fs taken w e = stepped (op.Switching o) f fs None taken w e
+  pub op_answered : (o : Op) (f : Frame) (fs : List Frame) (applies : Bool) (w : Flow)
+      → gated (plain_test es c o) (step es (instr_type (within c (f.kind ∷ frame_kinds fs)) f.is_set o) f.any f.operands) ≡ (if applies then Some w else None)
+      → op_next es c o f fs ≡ (if applies then Some (record f { any = w.any; operands = w.operands; is_set = sets o f.is_set } ∷ fs) else None)
+  op_answered (op.Control o) f fs applies w e = passed (op.Control o) f fs (plain_test es c (op.Control o)) (step es (instr_type (within c (f.kind ∷ frame_kinds fs)) f.is_set (op.Control o)) f.any f.operands) applies w e
+  op_answered (op.Parametric o) f fs applies w e = stepped (op.Parametric o) f fs _ applies w e
+  op_answered (op.Variable o) f fs applies w e = stepped (op.Variable o) f fs _ applies w e
+  op_answered (op.Table o) f fs applies w e = passed (op.Table o) f fs (plain_test es c (op.Table o)) (step es (instr_type (within c (f.kind ∷ frame_kinds fs)) f.is_set (op.Table o)) f.any f.operands) applies w e
+  op_answered (op.Memory o) f fs applies w e = stepped (op.Memory o) f fs _ applies w e
+  op_answered (op.Numeric o) f fs applies w e = stepped (op.Numeric o) f fs _ applies w e
+  op_answered (op.Reference o) f fs applies w e = stepped (op.Reference o) f fs _ applies w e
+  op_answered (op.Switching o) f fs applies w e = stepped (op.Switching o) f fs None applies w e
 
   -- as the code has it: the kinds of the blocks around are read from their data, and the test in the context inside them
-  pub op_code : (o : Op) (f : Frame) (ys : List code.Frame) (ss : List (List Bool)) (taken : Bool) (w : Flow) (s' : List Bool) (rest : List (List Bool)) → (taken ≡ true → s' ≡ sets o f.is_set)
-      → (taken ≡ true → rest ≡ ss)
-      → gated (plain_test es (within c (f.kind ∷ map kind_of ys)) o) (step es (instr_type (within c (f.kind ∷ map kind_of ys)) f.is_set o) f.any f.operands) ≡ (if taken then Some w else None)
-      → op_next es c o f (frames_with ys ss) ≡ (if taken then Some (record f { any = w.any; operands = w.operands; is_set = s' } ∷ frames_with ys rest) else None)
-  op_code o f ys ss taken w s' rest sets_is rest_is e =
-      let Same : List FrameKind → Type 0 = λ (ks : List FrameKind). gated (plain_test es c o) (step es (instr_type (within c (f.kind ∷ ks)) f.is_set o) f.any f.operands) ≡ (if taken then Some w else None) in
+  pub op_code : (o : Op) (f : Frame) (ys : List code.Frame) (ss : List (List Bool)) (applies : Bool) (w : Flow) (s' : List Bool) (rest : List (List Bool)) → (applies ≡ true → s' ≡ sets o f.is_set)
+      → (applies ≡ true → rest ≡ ss)
+      → gated (plain_test es (within c (f.kind ∷ map kind_of ys)) o) (step es (instr_type (within c (f.kind ∷ map kind_of ys)) f.is_set o) f.any f.operands) ≡ (if applies then Some w else None)
+      → op_next es c o f (frames_with ys ss) ≡ (if applies then Some (record f { any = w.any; operands = w.operands; is_set = s' } ∷ frames_with ys rest) else None)
+  op_code o f ys ss applies w s' rest sets_is rest_is e =
+      let Same : List FrameKind → Type 0 = λ (ks : List FrameKind). gated (plain_test es c o) (step es (instr_type (within c (f.kind ∷ ks)) f.is_set o) f.any f.operands) ≡ (if applies then Some w else None) in
       let here : Same (map kind_of ys) =
       ap (λ (b : Bool). gated b (step es (instr_type (within c (f.kind ∷ map kind_of ys)) f.is_set o) f.any f.operands)) (sym (test_within es c (f.kind ∷ map kind_of ys) o)) ∙ e in
-      op_told o f (frames_with ys ss) taken w (subst Same (sym (kinds_with ys ss)) here) ∙ changed taken sets_is rest_is
+      op_answered o f (frames_with ys ss) applies w (subst Same (sym (kinds_with ys ss)) here) ∙ changed applies sets_is rest_is
     where
       changed : (t : Bool) → (t ≡ true → s' ≡ sets o f.is_set) → (t ≡ true → rest ≡ ss)
           → (if t then Some (record f { any = w.any; operands = w.operands; is_set = sets o f.is_set } ∷ frames_with ys ss) else None)
@@ -228,19 +228,19 @@ module _ (es : List Entry) (c : Context) where
           ∙ ap (λ (ts : List (List Bool)). let g : Frame = record f { any = w.any; operands = w.operands; is_set = s' } in Some (g ∷ frames_with ys ts)) (sym (b refl))
       changed false a b = refl
 
-  pub op_taken : (o : Op) (f : Frame) (ys : List code.Frame) (ss : List (List Bool)) (taken : Bool) (w : Flow) (s' : List Bool) (rest : List (List Bool)) → taken ≡ true → s' ≡ sets o f.is_set
+  pub op_taken : (o : Op) (f : Frame) (ys : List code.Frame) (ss : List (List Bool)) (applies : Bool) (w : Flow) (s' : List Bool) (rest : List (List Bool)) → applies ≡ true → s' ≡ sets o f.is_set
       → rest ≡ ss
-      → gated (plain_test es (within c (f.kind ∷ map kind_of ys)) o) (step es (instr_type (within c (f.kind ∷ map kind_of ys)) f.is_set o) f.any f.operands) ≡ (if taken then Some w else None)
+      → gated (plain_test es (within c (f.kind ∷ map kind_of ys)) o) (step es (instr_type (within c (f.kind ∷ map kind_of ys)) f.is_set o) f.any f.operands) ≡ (if applies then Some w else None)
       → op_next es c o f (frames_with ys ss) ≡ Some (record f { any = w.any; operands = w.operands; is_set = s' } ∷ frames_with ys rest)
-  op_taken o f ys ss taken w s' rest t a b e =
-      op_code o f ys ss taken w s' rest (λ _. a) (λ _. b) e
+  op_taken o f ys ss applies w s' rest t a b e =
+      op_code o f ys ss applies w s' rest (λ _. a) (λ _. b) e
       ∙ ap (λ (d : Bool). let g : Frame = record f { any = w.any; operands = w.operands; is_set = s' } in if d then Some (g ∷ frames_with ys rest) else None) t
 
-  pub op_refused : (o : Op) (f : Frame) (ys : List code.Frame) (ss : List (List Bool)) (taken : Bool) (w : Flow) → taken ≡ false
-      → gated (plain_test es (within c (f.kind ∷ map kind_of ys)) o) (step es (instr_type (within c (f.kind ∷ map kind_of ys)) f.is_set o) f.any f.operands) ≡ (if taken then Some w else None)
+  pub op_refused : (o : Op) (f : Frame) (ys : List code.Frame) (ss : List (List Bool)) (applies : Bool) (w : Flow) → applies ≡ false
+      → gated (plain_test es (within c (f.kind ∷ map kind_of ys)) o) (step es (instr_type (within c (f.kind ∷ map kind_of ys)) f.is_set o) f.any f.operands) ≡ (if applies then Some w else None)
       → op_next es c o f (frames_with ys ss) ≡ None
-  op_refused o f ys ss taken w t e =
-      op_code o f ys ss taken w (sets o f.is_set) ss (λ _. refl) (λ _. refl) e
+  op_refused o f ys ss applies w t e =
+      op_code o f ys ss applies w (sets o f.is_set) ss (λ _. refl) (λ _. refl) e
       ∙ ap (λ (d : Bool). let g : Frame = record f { any = w.any; operands = w.operands; is_set = sets o f.is_set } in if d then Some (g ∷ frames_with ys ss) else None) t
 
 pub nonempty : (n : ℕ) → (n == 0) ≡ false → n ≡ 0 → ⊥
@@ -249,8 +249,8 @@ nonempty (suc n) e z = absurd (omega (arith, z))
 
 -- what the code knows of a plain step, where it reads its lists by reference
 abbrev pub PlainStep : List Entry → Context → FrameKind → Op → Bool → Row Operand → Bool → Flow → List ValType → List Bool → List ValType → List code.Frame → Type 0
-PlainStep es cx k o p ts taken w ls s rs xs =
-    gated (plain_test es (within (in_body cx ls rs) (k ∷ outer_kinds xs)) o) (step es (instr_type (within (in_body cx ls rs) (k ∷ outer_kinds xs)) s o) p ts) ≡ (if taken then Some w else None)
+PlainStep es cx k o p ts applies w ls s rs xs =
+    gated (plain_test es (within (in_body cx ls rs) (k ∷ outer_kinds xs)) o) (step es (instr_type (within (in_body cx ls rs) (k ∷ outer_kinds xs)) s o) p ts) ≡ (if applies then Some w else None)
 
 -- the frames of a body that has not ended
 pub not_ended : (b : Bool) (gs : List Frame) → b ≡ false → Some gs ≡ Some (if b then [] else gs)
@@ -280,19 +280,19 @@ pub counted_deep : (old new m : ℕ) → new ≡ max old m → (m ≤ new) × (n
 counted_deep old new m e = (subst (λ (k : ℕ). m ≤ k) (sym e) (le-max_right old m), e)
 
 -- one block is open for each frame
-pub depth_told : (b : Bool) (f : Frame) (xs xs' : List code.Frame) (ss : List (List Bool)) (old n : ℕ) → b ≡ false → xs' ≡ xs → n ≡ length xs' + 1
+pub depth_answered : (b : Bool) (f : Frame) (xs xs' : List code.Frame) (ss : List (List Bool)) (old n : ℕ) → b ≡ false → xs' ≡ xs → n ≡ length xs' + 1
     → max old n ≡ max old (length (if b then [] else f ∷ frames_with (reverse xs) ss))
-depth_told true f xs xs' ss old n e same h = absurd (cc)
-depth_told false f xs xs' ss old n e same h =
+depth_answered true f xs xs' ss old n e same h = absurd (cc)
+depth_answered false f xs xs' ss old n e same h =
     let long : n ≡ suc (length (frames_with (reverse xs) ss)) =
     h ∙ ap (λ (ys : List code.Frame). length ys + 1) same ∙ omega (arith, count_with (reverse xs) ss, length-reverse xs) in
     ap (max old) long
 
 -- the number of operands there
-pub peak_told : (b : Bool) (f : Frame) (xs : List code.Frame) (ss : List (List Bool)) (old n : ℕ) (base here : Option ℕ) → b ≡ false → base ≡ total_of (reverse xs) → here ≡ tally f.any f.operands base
+pub peak_answered : (b : Bool) (f : Frame) (xs : List code.Frame) (ss : List (List Bool)) (old n : ℕ) (base here : Option ℕ) → b ≡ false → base ≡ total_of (reverse xs) → here ≡ tally f.any f.operands base
     → n ≡ unwrap_or here 0 → max old n ≡ max old (or_none (total (if b then [] else f ∷ frames_with (reverse xs) ss)) (λ (h : ℕ). h))
-peak_told true f xs ss old n base here e d h u = absurd (cc)
-peak_told false f xs ss old n base here e d h u =
+peak_answered true f xs ss old n base here e d h u = absurd (cc)
+peak_answered false f xs ss old n base here e d h u =
     let same : here ≡ total (f ∷ frames_with (reverse xs) ss) =
     h ∙ ap (tally f.any f.operands) (d ∙ sym (totals_with (reverse xs) ss)) in
     ap (max old) (u ∙ or_zero here ∙ ap (λ (o : Option ℕ). or_none o (λ (g : ℕ). g)) same)
@@ -310,15 +310,15 @@ pub row_none : {A : Type 0} (ts : List A) → length ts ≡ size (row_of ts)
 row_none ts = sym (size-row_of ts)
 
 -- what a resume adds goes by the number of operands of the place before
-pub beneath_told : (b : Bool) (f : Frame) (xs : List code.Frame) (ss : List (List Bool)) (base here : Option ℕ) (n : ℕ) (g : ℕ → ℕ) → b ≡ false → base ≡ total_of (reverse xs)
+pub beneath_answered : (b : Bool) (f : Frame) (xs : List code.Frame) (ss : List (List Bool)) (base here : Option ℕ) (n : ℕ) (g : ℕ → ℕ) → b ≡ false → base ≡ total_of (reverse xs)
     → here ≡ tally f.any f.operands base → n ≡ or_none here g → n ≡ or_none (total (if b then [] else f ∷ frames_with (reverse xs) ss)) g
-beneath_told true f xs ss base here n g e d h u = absurd (cc)
-beneath_told false f xs ss base here n g e d h u =
+beneath_answered true f xs ss base here n g e d h u = absurd (cc)
+beneath_answered false f xs ss base here n g e d h u =
     u ∙ ap (λ (o : Option ℕ). or_none o g) (h ∙ ap (tally f.any f.operands) (d ∙ sym (totals_with (reverse xs) ss)))
 
-pub raised_told : (old mid m beneath new added : ℕ) (gs gs' : List Frame) → m ≡ max mid beneath → mid ≡ old → beneath ≡ added
+pub raised_answered : (old mid m beneath new added : ℕ) (gs gs' : List Frame) → m ≡ max mid beneath → mid ≡ old → beneath ≡ added
     → new ≡ max m (or_none (total gs') (λ (h : ℕ). h)) → gs ≡ gs' → new ≡ raised_to old added gs
-raised_told old mid m beneath new added gs gs' e₁ e₂ e₃ e₄ e₅ =
+raised_answered old mid m beneath new added gs gs' e₁ e₂ e₃ e₄ e₅ =
     e₄ ∙ ap (λ (hs : List Frame). max m (or_none (total hs) (λ (h : ℕ). h))) (sym e₅)
     ∙ ap (λ (p : ℕ). max p (or_none (total gs) (λ (h : ℕ). h)))
     (e₁ ∙ ap (λ (p : ℕ). max p beneath) e₂ ∙ ap (max old) e₃)

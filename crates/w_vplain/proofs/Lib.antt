@@ -1,6 +1,6 @@
 pub mod Options
 pub mod ConditionTests
-pub mod Reaching
+pub mod OpenBlocks
 pub mod TypesKnown
 pub mod BlockEnds
 pub mod EnterKnown
@@ -19,5 +19,5 @@ pub mod WholeBodies
 pub mod EndsListed
 pub mod FrameViews
 pub mod CallsAnswered
-mod Beginnings
+mod BodyBeginnings
 pub mod WordsOfFrames

@@ -1,6 +1,6 @@
 -- What the rules do not derive, they do not derive with more instructions behind it.
 use Rattle.std.proofs.Common.{◌≡◌, Bool, List, [], ◌∷◌, Option, Some, None, refl}
-use Rattle.w_types.specs.Rows.{Row, ◌⧺◌}
+use Rattle.lists.specs.Rows.{Row, ◌⧺◌}
 use Rattle.w_syntax.specs.Code.{Code, Done, Plain}
 use Rattle.w_syntax.specs.declared.instructions.Instr.{Instr}
 use Rattle.w_syntax.specs.declared.instructions.Instr.TheVariants as flat
@@ -14,7 +14,7 @@ use Rattle.w_vplain.specs.Prefixes.{OpenBlock, Prefix, open_at, ended, malformed
 use Rattle.w_steps.specs.declared.frame_kind.FrameKind.{FrameKind}
 use Rattle.w_steps.specs.declared.frame_kind.FrameKind.TheVariants as kind
 use Rattle.w_vplain.proofs.Options.{at_held, held_fact}
-use Rattle.w_vplain.proofs.Reaching.{open_block, reaches_out, reaches_right}
+use Rattle.w_vplain.proofs.OpenBlocks.{open_block, reaches_out, reaches_right}
 use Rattle.w_vplain.proofs.TypesKnown.{typed_reached}
 use Rattle.w_vplain.proofs.Nodes.{Inner, is_block, is_then, is_else, node_out, no_node}
 use Rattle.w_rules.proofs.Derive.{holds_pull}

@@ -1,7 +1,7 @@
 -- A whole block, as an instruction of the one around it.
 use Rattle.std.proofs.Common.{◌≡◌, Bool, List, ◌∷◌, Option, Some, None, refl, sym, ap, subst}
 use Rattle.w_types.specs.declared.types.ValType.{ValType}
-use Rattle.w_types.specs.Rows.{Row}
+use Rattle.lists.specs.Rows.{Row}
 use Rattle.w_syntax.specs.Code.{Code}
 use Rattle.w_syntax.specs.declared.instructions.BlockKind.{BlockKind}
 use Rattle.w_syntax.specs.declared.instructions.BlockType.{BlockType}

@@ -1,7 +1,7 @@
 -- An instruction by a row that was found for it: the frames stand for the sequence followed by it, and count.
 use Rattle.std.proofs.Common.{◌≡◌, ◌↔◌, inl, inr, ℕ, max, Bool, true, List, [], ◌∷◌, length, Option, Some, None, is_some, IsTrue, refl, sym, ◌∙◌, ap, subst}
 use Rattle.w_types.specs.declared.types.ValType.{ValType}
-use Rattle.w_types.specs.Rows.{Row, ε, size}
+use Rattle.lists.specs.Rows.{Row, ε, size}
 use Rattle.w_syntax.specs.Code.{Done, Plain}
 use Rattle.w_syntax.specs.declared.instructions.Instr.TheVariants as flat
 use Rattle.w_syntax.specs.declared.instructions.Op.{Op}
@@ -19,7 +19,7 @@ use Rattle.w_vplain.specs.Measures.{peak_of, total, CountsFor}
 use Rattle.w_vplain.specs.Row.{labels_in, above, HasRow, IsRow, IsRefused, row_next, RaisedBy}
 use Rattle.w_steps.specs.declared.frame_kind.FrameKind.{FrameKind}
 use Rattle.w_vplain.proofs.Options.{held_fact, Whenever, whenever_map}
-use Rattle.w_vplain.proofs.Reaching.{kinds_same, count_same}
+use Rattle.w_vplain.proofs.OpenBlocks.{kinds_same, count_same}
 use Rattle.w_vplain.proofs.TypesKnown.{typed_reached, typed_known}
 use Rattle.w_vplain.proofs.Monotone.{derivable_before}
 use Rattle.w_vplain.proofs.CallsKnown.{knows_derivable, stands_derivable}

@@ -2,7 +2,7 @@
 use Rattle.std.proofs.Common.{◌≡◌, ℕ, suc, ◌+◌, ◌-◌, ◌≤◌, Bool, true, false, ◌&&◌, List, ◌∷◌, Option, Some, None, refl, sym, ap, arith}
 use Rattle.w_types.specs.declared.types.ValType.{ValType}
 use Rattle.w_types.specs.declared.types.ValType.TheVariants.{I32}
-use Rattle.w_types.specs.Rows.{Row, ε, ◌▹◌, ◌⧺◌, size}
+use Rattle.lists.specs.Rows.{Row, ε, ◌▹◌, ◌⧺◌, size}
 use Rattle.w_canon.specs.declared.entry.Entry.{Entry}
 use Rattle.w_rules.specs.Operands.{Operand}
 use Rattle.w_rules.specs.Operands.{Known}

@@ -1,6 +1,6 @@
 -- An instruction that holds no others, by its type: the frames stand for the sequence followed by it.
 use Rattle.std.proofs.Common.{◌≡◌, ◌↔◌, Bool, true, false, List, ◌∷◌, Option, Some, None, if◌then◌else◌, IsTrue, refl, sym, subst}
-use Rattle.w_types.specs.Rows.{Row, ε}
+use Rattle.lists.specs.Rows.{Row, ε}
 use Rattle.w_syntax.specs.Code.{Done, Plain}
 use Rattle.w_syntax.specs.declared.instructions.Op.{Op}
 use Rattle.w_canon.specs.declared.entry.Entry.{Entry}
@@ -14,7 +14,7 @@ use Rattle.w_flow.specs.Flow.{Flow, ◌>>=◌, InFlow, Image}
 use Rattle.w_steps.specs.Labels.{within}
 use Rattle.w_vplain.specs.Prefixes.{OpenBlock, open_at, more, kinds_of, set_at, Reaches}
 use Rattle.w_vplain.specs.Frames.{Frame, typed_next, StandsAll, Knows}
-use Rattle.w_vplain.proofs.Reaching.{reaches_in, reaches_out, framed, frame_is}
+use Rattle.w_vplain.proofs.OpenBlocks.{reaches_in, reaches_out, framed, frame_is}
 use Rattle.w_rules.proofs.Derive.{set_by-after, takes_right}
 use Rattle.w_rules.proofs.Preorder.{row_refl}
 use Rattle.w_flow.proofs.Exact.{exact}

@@ -1,7 +1,7 @@
 -- The empty sequence, and the whole body at its end.
 use Rattle.std.proofs.Common.{◌≡◌, ◌↔◌, Bool, false, List, [], ◌∷◌, ◌++◌, refl, sym, subst}
 use Rattle.w_types.specs.declared.types.ValType.{ValType}
-use Rattle.w_types.specs.Rows.{ε, row_of}
+use Rattle.lists.specs.Rows.{ε, row_of}
 use Rattle.w_syntax.specs.Code.{Code}
 use Rattle.w_syntax.specs.Flat.{tree_of, IsFlat}
 use Rattle.w_syntax.specs.declared.instructions.Instr.{Instr}

@@ -1,7 +1,7 @@
 -- One call of the checker: an instruction, or the row that a caller found for one, [ins] to [outs].
 use Rattle.std.specs.Prelude.{◌≡◌, ◌⊎◌, ℕ, ◌+◌, ◌-◌, max, Bool, List, [], ◌∷◌, Option, Some, None}
 use Rattle.w_types.specs.declared.types.ValType.{ValType}
-use Rattle.w_types.specs.Rows.{Row, row_of, size}
+use Rattle.lists.specs.Rows.{Row, row_of, size}
 use Rattle.w_syntax.specs.declared.instructions.Op.{Op}
 use Rattle.w_syntax.specs.Packed.{unpacked}
 use Rattle.w_canon.specs.declared.entry.Entry.{Entry}
@@ -27,8 +27,8 @@ labels_in c malformed = []
 
 -- what a resume adds that takes so many operands, where the longest label of its clauses takes so many
 abbrev pub above : ℕ → Option ℕ → ℕ → ℕ
-above taken (Some m) h = (h - taken) + m
-above taken None h = 0
+above popped (Some m) h = (h - popped) + m
+above popped None h = 0
 
 -- the instruction's row at the end of an open block
 pub record HasRow (c : Context) (s : List Bool) (l : OpenBlock) (ls : List OpenBlock) (o : Op) (ins outs : Row ValType) (raise : Option ℕ) : Type 0 where
@@ -62,7 +62,7 @@ raised_to now added gs = max (max now added) (or_none (total gs) (λ (h : ℕ). 
 
 -- the row raises the peak so
 abbrev pub RaisedBy : Context → List Bool → ℕ → Option ℕ → List Frame → List Frame → Prefix → Prefix → Type 0
-RaisedBy c s taken raise fs gs old new = peak_of c s new ≡ raised_to (peak_of c s old) (or_none (total fs) (above taken raise)) gs
+RaisedBy c s popped raise fs gs old new = peak_of c s new ≡ raised_to (peak_of c s old) (or_none (total fs) (above popped raise)) gs
 
 -- ## A call
 

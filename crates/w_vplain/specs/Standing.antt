@@ -1,7 +1,7 @@
 -- What a checker stands for.
 use Rattle.std.specs.Prelude.{◌≡◌, ◌≤◌, ◌↔◌, ℕ, max, length, Bool, true, false, IsTrue, IsFalse, List, [], ◌∷◌, reverse, Option, Some, None, Result, IsErr, OnErr, is_some, if◌then◌else◌}
 use Rattle.w_types.specs.declared.types.ValType.{ValType}
-use Rattle.w_types.specs.Rows.{Row}
+use Rattle.lists.specs.Rows.{Row}
 use Rattle.w_syntax.specs.declared.instructions.Instr.TheVariants as flat
 use Rattle.w_syntax.specs.declared.instructions.Op.{Op}
 use Rattle.w_canon.specs.declared.entry.Entry.{Entry}
@@ -30,8 +30,8 @@ abbrev pub classes_for : Checker → List Entry
 classes_for c = c.setting.cx.now.classes.now
 
 -- the classes are those of the module's types
-abbrev pub HasClasses : Checker → Type 0
-HasClasses c = IsClassesOf (context_for c).types (classes_for c)
+abbrev pub KnowsClasses : Checker → Type 0
+KnowsClasses c = IsClassesOf (context_for c).types (classes_for c)
 
 -- the innermost block, and those around it
 abbrev pub top_of : Checker → Frame
@@ -80,7 +80,7 @@ counts_if false P = P
 -- It stands for the sequence, where these locals are set at its beginning. After a false answer it stands for each sequence that the
 -- rules don't derive.
 pub record StandsFor (c : Checker) (s : List Bool) (w : Prefix) : Type 0 where
-  pub classes : HasClasses c
+  pub classes : KnowsClasses c
   pub knows : Knows (context_for c) s (frames_of_derived c) w
   pub counts : counts_if c.refused (Counts c s w)
 
@@ -123,7 +123,7 @@ pub record Refuses (old new : Checker) (answer : Bool) : Type 0 where
 
 -- the frames after it, or none where the answer is false
 abbrev pub Leads : Option (List Frame) → Bool → List Frame → Type 0
-Leads o taken fs = o ≡ (if taken then Some fs else None)
+Leads o applies fs = o ≡ (if applies then Some fs else None)
 
 -- the place that was reached is counted, and what the call added there
 pub record IsCounted (old new : Checker) (added : ℕ) : Type 0 where
@@ -131,7 +131,7 @@ pub record IsCounted (old new : Checker) (added : ℕ) : Type 0 where
   pub peak : HasBases old → HasBases new × (new.peak ≡ raised_to old.peak added (frames_of new))
 
 -- what a call came to
-pub record IsCall (old new : Checker) (m : Move) (taken : Bool) : Type 0 where
+pub record IsCall (old new : Checker) (m : Move) (applies : Bool) : Type 0 where
   pub leads : frames_of_derived new ≡ (frames_of_derived old >>= move_next (classes_for old) (context_for old) m)
-  pub answer : taken ≡ is_some (frames_of_derived new)
-  pub counted : IsTrue taken → IsFalse old.refused × IsCounted old new (added_by m (frames_of old))
+  pub answer : applies ≡ is_some (frames_of_derived new)
+  pub counted : IsTrue applies → IsFalse old.refused × IsCounted old new (added_by m (frames_of old))

@@ -1,7 +1,7 @@
 -- What the checker's data stands for.
 use Rattle.std.specs.Prelude.{Bool, List, [], ◌∷◌, Option, Some, None}
 use Rattle.w_types.specs.declared.types.ValType.{ValType}
-use Rattle.w_types.specs.Rows.{Row, ◌▹◌, row_of}
+use Rattle.lists.specs.Rows.{Row, ◌▹◌, row_of}
 use Rattle.w_flow.specs.declared.type_row.TypeRow.{TypeRow}
 use Rattle.w_flow.specs.View.{flow_view}
 use Rattle.w_vplain.specs.Frames.{Frame, leave}

@@ -1,6 +1,6 @@
 //! The beginnings and ends of blocks.
 ghost use Rattle.std.specs.Prelude.{◌≡◌, ◌∷◌, [], Bool, List, IfOk, IfSome, is_some, if◌then◌else◌};
-ghost use Rattle.w_types.specs.Rows.{row_of};
+ghost use Rattle.lists.specs.Rows.{row_of};
 ghost use Rattle.w_flow.specs.Flow.{pops};
 ghost use Rattle.w_flow.specs.TypeRows.{IsReady, AreReadyRows};
 ghost use Rattle.w_flow.specs.View.{flow_view, reached, HasWords};

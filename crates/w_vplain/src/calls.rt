@@ -3,7 +3,7 @@ ghost use Rattle.std.specs.Prelude.{◌≡◌, ◌∷◌, ◌++◌, ◌+◌, max
 ghost use Rattle.w_syntax.specs.declared.instructions.Instr.TheVariants as Flat;
 ghost use Rattle.w_syntax.specs.Packed.{OnPlain, unpacked};
 ghost use Rattle.std.specs.Option.{option_map};
-ghost use Rattle.w_types.specs.Rows.{row_of, size};
+ghost use Rattle.lists.specs.Rows.{row_of, size};
 ghost use Rattle.w_rules.specs.Bodies.{types_of_runs, set_first};
 ghost use Rattle.w_rules.specs.InstructionTypes.{sets};
 ghost use Rattle.w_rules.specs.Peak.{or_none};
@@ -16,7 +16,7 @@ ghost use Rattle.w_vplain.specs.View.{row_with};
 ghost use Rattle.w_vplain.specs.Frames.{op_next, enter_next, other_next, end_next, next};
 ghost use Rattle.w_vplain.specs.Prefixes.{Prefix, IsDerivable, empty, follow, follow_plain, follow_enter, is_plain, opens};
 ghost use Rattle.w_vplain.specs.Measures.{total, peak_of, depth_of};
-ghost use Rattle.w_vplain.specs.Standing.{StandsFor, HasBases, HasClasses, Leads, IsCall, Answers, AnswersRow, Refuses, IsSameBody, IsUncounted, IsCounted, StaysOutOfMemory, context_for, classes_for, top_of, outer_of, frames_of, frames_of_derived};
+ghost use Rattle.w_vplain.specs.Standing.{StandsFor, HasBases, KnowsClasses, Leads, IsCall, Answers, AnswersRow, Refuses, IsSameBody, IsUncounted, IsCounted, StaysOutOfMemory, context_for, classes_for, top_of, outer_of, frames_of, frames_of_derived};
 
 use crate::blocks::{else_frame, end_types, height, inner_frame};
 use crate::checker::Checker;
@@ -96,13 +96,13 @@ fn row_size(ins: &[PackedType], top: Option<ValType>) -> usize
 
 // The operands beneath so many of a place, and on them so many as the longest label of a resume's clauses takes, if it has one. It
 // fails where that passes 64 bits, as when out of memory.
-fn row_top(here: Option<u64>, taken: usize, raise: Option<u64>) -> Result<u64, AllocError>
-    ensures { IfOk result (λ count. count ≡ or_none here (above taken raise)) }
+fn row_top(here: Option<u64>, popped: usize, raise: Option<u64>) -> Result<u64, AllocError>
+    ensures { IfOk result (λ count. count ≡ or_none here (above popped raise)) }
 {
     match here {
         Some(here) => match raise {
             Some(longest) => here
-                .saturating_sub(taken as u64)
+                .saturating_sub(popped as u64)
                 .checked_add(longest)
                 .ok_or(AllocError),
             None => Ok(0),
@@ -126,7 +126,7 @@ impl<'a> Checker<'a> {
             ≡ in_body (context_in setting.entry.cx.now) (params.now ++ types_of_runs runs.now)
             setting.entry.results.types.now) }
         ensures classes { IfOk result (λ c. classes_for c ≡ setting.entry.cx.now.classes.now) }
-        ensures stands { IfOk result (λ c. HasClasses c
+        ensures stands { IfOk result (λ c. KnowsClasses c
             → StandsFor c (set_first params.now runs.now) empty) }
     {
         let locals = Locals::begin(alloc, params, runs)?;
@@ -154,9 +154,9 @@ impl<'a> Checker<'a> {
     // An instruction that does not switch stacks, where it holds no others.
     #[inline(always)]
     fn op(&mut self, packed: &PackedInstr) -> Result<bool, AllocError>
-        ensures steps { IfOk result (λ taken. OnPlain (λ o. op_next (classes_for self.old)
+        ensures steps { IfOk result (λ applies. OnPlain (λ o. op_next (classes_for self.old)
             (context_for self.old) o (top_of self.old) (outer_of self.old)
-            ≡ (if taken then Some (top_of self.new ∷ outer_of self.new) else None))
+            ≡ (if applies then Some (top_of self.new ∷ outer_of self.new) else None))
             (unpacked packed.now)) }
         ensures outer { self.new.outer.items ≡ self.old.outer.items }
         ensures bases { HasBases self.old → HasBases self.new }
@@ -181,10 +181,10 @@ impl<'a> Checker<'a> {
     // A block begins.
     #[tactic(auto, using(crate::proofs::WordsOfFrames::each_pushed, crate::proofs::WordsOfFrames::words_moved))]
     fn enter_block(&mut self, kind: FrameKind) -> Result<bool, AllocError>
-        ensures steps { IfOk result (λ taken. enter_next (classes_for self.old)
+        ensures steps { IfOk result (λ applies. enter_next (classes_for self.old)
             (context_for self.old) kind (top_of self.old) (outer_of self.old)
-            ≡ (if taken then Some (top_of self.new ∷ outer_of self.new) else None)) }
-        ensures bases { IfOk result (λ taken. IsTrue taken → HasBases self.old
+            ≡ (if applies then Some (top_of self.new ∷ outer_of self.new) else None)) }
+        ensures bases { IfOk result (λ applies. IsTrue applies → HasBases self.old
             → HasBases self.new) }
         ensures uncounted { IsUncounted self.old self.new }
         ensures ended { self.new.ended ≡ self.old.ended }
@@ -202,10 +202,10 @@ impl<'a> Checker<'a> {
     // The second branch of an if begins.
     #[tactic(auto, using(crate::proofs::WordsOfFrames::no_words))]
     fn enter_else(&mut self) -> Result<bool, AllocError>
-        ensures steps { IfOk result (λ taken. other_next (classes_for self.old)
+        ensures steps { IfOk result (λ applies. other_next (classes_for self.old)
             (context_for self.old) self.old.top.kind (top_of self.old) (outer_of self.old)
-            ≡ (if taken then Some (top_of self.new ∷ outer_of self.new) else None)) }
-        ensures bases { IfOk result (λ taken. IsTrue taken → HasBases self.old
+            ≡ (if applies then Some (top_of self.new ∷ outer_of self.new) else None)) }
+        ensures bases { IfOk result (λ applies. IsTrue applies → HasBases self.old
             → HasBases self.new) }
         ensures uncounted { IsUncounted self.old self.new }
         ensures ended { self.new.ended ≡ self.old.ended }
@@ -231,10 +231,10 @@ impl<'a> Checker<'a> {
     #[tactic(auto, using(crate::proofs::WordsOfFrames::each_popped, crate::proofs::WordsOfFrames::last_popped, crate::proofs::WordsOfFrames::no_words, crate::proofs::WordsOfFrames::each_none, crate::proofs::WordsOfFrames::each_same))]
     fn end_block(&mut self) -> Result<bool, AllocError>
         requires { IsFalse self.old.ended }
-        ensures steps { IfOk result (λ taken. Leads (end_next (classes_for self.old)
-            (context_for self.old) (top_of self.old) (outer_of self.old)) taken
+        ensures steps { IfOk result (λ applies. Leads (end_next (classes_for self.old)
+            (context_for self.old) (top_of self.old) (outer_of self.old)) applies
             (frames_of self.new)) }
-        ensures bases { IfOk result (λ taken. IsTrue taken → HasBases self.old
+        ensures bases { IfOk result (λ applies. IsTrue applies → HasBases self.old
             → HasBases self.new) }
         ensures uncounted { IsUncounted self.old self.new }
     {
@@ -261,10 +261,10 @@ impl<'a> Checker<'a> {
     fn boxed(&mut self, packed: &PackedInstr, instr: &Instr) -> Result<bool, AllocError>
         requires ended { IsFalse self.old.ended }
         requires same { unpacked packed.now ≡ instr.now }
-        ensures steps { IfOk result (λ taken. Leads (next (classes_for self.old)
+        ensures steps { IfOk result (λ applies. Leads (next (classes_for self.old)
             (context_for self.old) instr.now (top_of self.old
-            ∷ outer_of self.old)) taken (frames_of self.new)) }
-        ensures bases { IfOk result (λ taken. IsTrue taken → HasBases self.old
+            ∷ outer_of self.old)) applies (frames_of self.new)) }
+        ensures bases { IfOk result (λ applies. IsTrue applies → HasBases self.old
             → HasBases self.new) }
         ensures uncounted { IsUncounted self.old self.new }
     {
@@ -280,10 +280,10 @@ impl<'a> Checker<'a> {
     // An instruction, where the body has not ended.
     fn block_instr(&mut self, packed: &PackedInstr) -> Result<bool, AllocError>
         requires { IsFalse self.old.ended }
-        ensures steps { IfOk result (λ taken. Leads (next (classes_for self.old)
+        ensures steps { IfOk result (λ applies. Leads (next (classes_for self.old)
             (context_for self.old) (unpacked packed.now) (top_of self.old
-            ∷ outer_of self.old)) taken (frames_of self.new)) }
-        ensures bases { IfOk result (λ taken. IsTrue taken → HasBases self.old
+            ∷ outer_of self.old)) applies (frames_of self.new)) }
+        ensures bases { IfOk result (λ applies. IsTrue applies → HasBases self.old
             → HasBases self.new) }
         ensures uncounted { IsUncounted self.old self.new }
     {
@@ -305,9 +305,9 @@ impl<'a> Checker<'a> {
         requires ended { IsFalse self.old.ended }
         requires ins { IsReady (classes_for self.old) ins }
         requires outs { IsReady (classes_for self.old) outs }
-        ensures steps { IfOk result (λ taken. Leads (row_next (classes_for self.old) (row_with
+        ensures steps { IfOk result (λ applies. Leads (row_next (classes_for self.old) (row_with
             (row_of ins.entry.types.now) top) (row_of outs.entry.types.now) (top_of self.old
-            ∷ outer_of self.old)) taken (frames_of self.new)) }
+            ∷ outer_of self.old)) applies (frames_of self.new)) }
         ensures bases { HasBases self.old → HasBases self.new }
         ensures uncounted { IsUncounted self.old self.new }
     {
@@ -373,10 +373,10 @@ impl<'a> Checker<'a> {
     #[inline(never)]
     fn advance_block(&mut self, packed: &PackedInstr) -> Result<bool, AllocError>
         requires { IsFalse self.old.ended }
-        ensures steps { IfOk result (λ taken. Leads (next (classes_for self.old)
-            (context_for self.old) (unpacked packed.now) (frames_of self.old)) taken
+        ensures steps { IfOk result (λ applies. Leads (next (classes_for self.old)
+            (context_for self.old) (unpacked packed.now) (frames_of self.old)) applies
             (frames_of self.new)) }
-        ensures counted { IfOk result (λ taken. IsTrue taken → IsCounted self.old self.new 0) }
+        ensures counted { IfOk result (λ applies. IsTrue applies → IsCounted self.old self.new 0) }
         ensures body { IsSameBody self.old self.new }
     {
         if !self.block_instr(packed)? {
@@ -390,10 +390,10 @@ impl<'a> Checker<'a> {
     #[inline(always)]
     fn advance_op(&mut self, packed: &PackedInstr) -> Result<bool, AllocError>
         requires { IsFalse self.old.ended }
-        ensures steps { IfOk result (λ taken. OnPlain (λ o. Leads (op_next (classes_for self.old)
-            (context_for self.old) o (top_of self.old) (outer_of self.old)) taken
+        ensures steps { IfOk result (λ applies. OnPlain (λ o. Leads (op_next (classes_for self.old)
+            (context_for self.old) o (top_of self.old) (outer_of self.old)) applies
             (frames_of self.new)) (unpacked packed.now)) }
-        ensures counted { IfOk result (λ taken. IsTrue taken → IsCounted self.old self.new 0) }
+        ensures counted { IfOk result (λ applies. IsTrue applies → IsCounted self.old self.new 0) }
         ensures body { IsSameBody self.old self.new }
     {
         if !self.op(packed)? {
@@ -407,10 +407,10 @@ impl<'a> Checker<'a> {
     #[inline(always)]
     fn advance_instr(&mut self, packed: &PackedInstr) -> Result<bool, AllocError>
         requires { IsFalse self.old.ended }
-        ensures steps { IfOk result (λ taken. Leads (next (classes_for self.old)
-            (context_for self.old) (unpacked packed.now) (frames_of self.old)) taken
+        ensures steps { IfOk result (λ applies. Leads (next (classes_for self.old)
+            (context_for self.old) (unpacked packed.now) (frames_of self.old)) applies
             (frames_of self.new)) }
-        ensures counted { IfOk result (λ taken. IsTrue taken → IsCounted self.old self.new 0) }
+        ensures counted { IfOk result (λ applies. IsTrue applies → IsCounted self.old self.new 0) }
         ensures body { IsSameBody self.old self.new }
     {
         match packed {
@@ -436,10 +436,10 @@ impl<'a> Checker<'a> {
         requires ended { IsFalse self.old.ended }
         requires ins { IsReady (classes_for self.old) ins }
         requires outs { IsReady (classes_for self.old) outs }
-        ensures steps { IfOk result (λ taken. Leads (row_next (classes_for self.old) (row_with
-            (row_of ins.entry.types.now) top) (row_of outs.entry.types.now) (frames_of self.old)) taken
+        ensures steps { IfOk result (λ applies. Leads (row_next (classes_for self.old) (row_with
+            (row_of ins.entry.types.now) top) (row_of outs.entry.types.now) (frames_of self.old)) applies
             (frames_of self.new)) }
-        ensures counted { IfOk result (λ taken. IsTrue taken → IsCounted self.old self.new (or_none
+        ensures counted { IfOk result (λ applies. IsTrue applies → IsCounted self.old self.new (or_none
             (total (frames_of self.old)) (above (size (row_with (row_of ins.entry.types.now) top)) raise))) }
         ensures body { IsSameBody self.old self.new }
     {
@@ -457,9 +457,9 @@ impl<'a> Checker<'a> {
     fn advance(&mut self, step: Move) -> Result<bool, AllocError>
         requires ended { IsFalse self.old.ended }
         requires ready { IsReadyMove (classes_for self.old) step }
-        ensures steps { IfOk result (λ taken. Leads (move_next (classes_for self.old)
-            (context_for self.old) step.entry (frames_of self.old)) taken (frames_of self.new)) }
-        ensures counted { IfOk result (λ taken. IsTrue taken
+        ensures steps { IfOk result (λ applies. Leads (move_next (classes_for self.old)
+            (context_for self.old) step.entry (frames_of self.old)) applies (frames_of self.new)) }
+        ensures counted { IfOk result (λ applies. IsTrue applies
             → IsCounted self.old self.new (added_by step.entry (frames_of self.old))) }
         ensures body { IsSameBody self.old self.new }
     {
@@ -473,7 +473,7 @@ impl<'a> Checker<'a> {
     #[inline(always)]
     fn call(&mut self, step: Move) -> Result<bool, AllocError>
         requires { IsReadyMove (classes_for self.old) step }
-        ensures steps { IfOk result (λ taken. IsCall self.old self.new step.entry taken) }
+        ensures steps { IfOk result (λ applies. IsCall self.old self.new step.entry applies) }
         ensures body { IsSameBody self.old self.new }
         ensures memory { StaysOutOfMemory self.old result self.new }
     {
@@ -488,9 +488,9 @@ impl<'a> Checker<'a> {
             return Ok(false);
         }
         match self.advance(step) {
-            Ok(taken) => {
-                self.refused = !taken;
-                Ok(taken)
+            Ok(applies) => {
+                self.refused = !applies;
+                Ok(applies)
             }
             Err(AllocError) => {
                 self.out_of_memory = true;
@@ -512,8 +512,8 @@ impl<'a> Checker<'a> {
     ) -> Result<bool, AllocError>
         requires ins { IsReady (classes_for self.old) ins }
         requires outs { IsReady (classes_for self.old) outs }
-        ensures answers { IfOk result (λ taken. AnswersRow self.old self.new (row_with
-            (row_of ins.entry.types.now) top) (row_of outs.entry.types.now) raise taken) }
+        ensures answers { IfOk result (λ applies. AnswersRow self.old self.new (row_with
+            (row_of ins.entry.types.now) top) (row_of outs.entry.types.now) raise applies) }
         ensures body { IsSameBody self.old self.new }
         ensures memory { StaysOutOfMemory self.old result self.new }
     {
@@ -529,7 +529,7 @@ impl<'a> Checker<'a> {
     /// An instruction that the rules do not derive where it stands: false, and it stands for each sequence that is not derived. It fails
     /// only when out of memory.
     pub fn refuse(&mut self) -> Result<bool, AllocError>
-        ensures refuses { IfOk result (λ taken. Refuses self.old self.new taken) }
+        ensures refuses { IfOk result (λ applies. Refuses self.old self.new applies) }
         ensures body { IsSameBody self.old self.new }
         ensures memory { StaysOutOfMemory self.old result self.new }
     {
@@ -565,8 +565,8 @@ impl<'a> Checker<'a> {
     /// rules derive the sequence with it. It fails only when out of memory.
     #[inline(always)]
     pub fn plain(&mut self, packed: &PackedInstr) -> Result<bool, AllocError>
-        ensures answers { IfOk result (λ taken. Answers self.old self.new (follow_plain
-            (unpacked packed.now)) taken) }
+        ensures answers { IfOk result (λ applies. Answers self.old self.new (follow_plain
+            (unpacked packed.now)) applies) }
         ensures body { IsSameBody self.old self.new }
         ensures memory { StaysOutOfMemory self.old result self.new }
     {
@@ -580,8 +580,8 @@ impl<'a> Checker<'a> {
     /// It fails only when out of memory.
     #[inline(never)]
     pub fn enter(&mut self, packed: &PackedInstr) -> Result<bool, AllocError>
-        ensures answers { IfOk result (λ taken. Answers self.old self.new (follow_enter
-            (unpacked packed.now)) taken) }
+        ensures answers { IfOk result (λ applies. Answers self.old self.new (follow_enter
+            (unpacked packed.now)) applies) }
         ensures body { IsSameBody self.old self.new }
         ensures memory { StaysOutOfMemory self.old result self.new }
     {
@@ -594,8 +594,8 @@ impl<'a> Checker<'a> {
     /// The else of an if. Whether the rules derive the sequence with it. It fails only when out of memory.
     #[inline(never)]
     pub fn other(&mut self) -> Result<bool, AllocError>
-        ensures answers { IfOk result (λ taken. Answers self.old self.new
-            (follow Flat.Else) taken) }
+        ensures answers { IfOk result (λ applies. Answers self.old self.new
+            (follow Flat.Else) applies) }
         ensures body { IsSameBody self.old self.new }
         ensures memory { StaysOutOfMemory self.old result self.new }
     {
@@ -605,7 +605,7 @@ impl<'a> Checker<'a> {
     /// The end of a block, or of the body. Whether the rules derive the sequence with it. It fails only when out of memory.
     #[inline(never)]
     pub fn end(&mut self) -> Result<bool, AllocError>
-        ensures answers { IfOk result (λ taken. Answers self.old self.new (follow Flat.End) taken) }
+        ensures answers { IfOk result (λ applies. Answers self.old self.new (follow Flat.End) applies) }
         ensures body { IsSameBody self.old self.new }
         ensures memory { StaysOutOfMemory self.old result self.new }
     {

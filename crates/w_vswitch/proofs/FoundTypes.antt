@@ -6,7 +6,7 @@ use Rattle.w_flow.specs.TypeRows.{rows_type}
 use Rattle.w_flow.specs.declared.type_rows.FuncRows.{FuncRows}
 use Rattle.w_types.specs.declared.types.FuncType.{FuncType}
 use Rattle.w_types.specs.declared.types.ValType.{ValType}
-use Rattle.w_types.specs.Rows.{Row, ε, ◌▹◌, row_of}
+use Rattle.lists.specs.Rows.{Row, ε, ◌▹◌, row_of}
 use Rattle.w_syntax.specs.declared.instructions.SwitchingOp.{SwitchingOp}
 use Rattle.w_syntax.specs.declared.instructions.SwitchingOp.TheVariants as op
 use Rattle.w_rules.specs.Context.{Context, type_of_tag, func_index_of_cont}

@@ -5,13 +5,13 @@ use Rattle.w_types.specs.declared.types.FuncType.{FuncType}
 use Rattle.w_types.specs.declared.types.HeapType.TheVariants.{Index}
 use Rattle.w_types.specs.declared.types.ValType.{ValType}
 use Rattle.w_types.specs.declared.types.ValType.TheVariants.{Ref}
-use Rattle.w_types.specs.Rows.{Row, ◌▹◌, row_of, listed}
-use Rattle.w_types.proofs.Rows.{listed-row_of}
+use Rattle.lists.specs.Rows.{Row, ◌▹◌, row_of, listed}
+use Rattle.lists.proofs.Rows.{listed-row_of}
 use Rattle.w_canon.specs.declared.entry.Entry.{Entry}
 use Rattle.w_canon.specs.Matching.{ResultMatches}
 use Rattle.w_canon.specs.IsClassesOf.{IsClassesOf}
 use Rattle.w_canon.specs.Tests.{result_test}
-use Rattle.w_canon.proofs.MatchingTests.{result_told}
+use Rattle.w_canon.proofs.MatchingTests.{result_decided}
 use Rattle.w_rules.specs.Conditions.{LabelClauseTyped}
 use Rattle.w_rules.specs.Context.{Context, type_of_tag, cont_of}
 use Rattle.w_vswitch.specs.Rows.{label_test, last_index}
@@ -19,19 +19,19 @@ use Rattle.w_vswitch.proofs.FoundTypes.{one_value}
 use Rattle.w_vswitch.proofs.LastTypes.{last_found}
 
 -- two tests tell both
-both_told : (b c : Bool) {P Q : Type 0} → IsTrue b ↔ P → IsTrue c ↔ Q → IsTrue (b && c) ↔ (P × Q)
-both_told true c h k = (λ t. (h.0 refl, k.0 t), λ p. k.1 p.1)
-both_told false c h k = (λ t. absurd (cc), λ p. h.1 p.0)
+both_decided : (b c : Bool) {P Q : Type 0} → IsTrue b ↔ P → IsTrue c ↔ Q → IsTrue (b && c) ↔ (P × Q)
+both_decided true c h k = (λ t. (h.0 refl, k.0 t), λ p. k.1 p.1)
+both_decided false c h k = (λ t. absurd (cc), λ p. h.1 p.0)
 
 module _ (es : List Entry) (c : Context) (st : IsClassesOf c.types es) (results : List ValType) where
   -- the test tells that all match
-  label_told : (tag target : FuncType) (beneath : List ValType) → IsTrue (label_test es results tag beneath target) ↔
+  label_decided : (tag target : FuncType) (beneath : List ValType) → IsTrue (label_test es results tag beneath target) ↔
       (ResultMatches c.types tag.params beneath × (ResultMatches c.types target.params tag.results × ResultMatches c.types results target.results))
-  label_told tag target beneath =
-      both_told (result_test es tag.params beneath) (result_test es target.params tag.results && result_test es results target.results)
-      (result_told c.types es st tag.params beneath)
-      (both_told (result_test es target.params tag.results) (result_test es results target.results)
-      (result_told c.types es st target.params tag.results) (result_told c.types es st results target.results))
+  label_decided tag target beneath =
+      both_decided (result_test es tag.params beneath) (result_test es target.params tag.results && result_test es results target.results)
+      (result_decided c.types es st tag.params beneath)
+      (both_decided (result_test es target.params tag.results) (result_test es results target.results)
+      (result_decided c.types es st target.params tag.results) (result_decided c.types es st results target.results))
 
   module _ (e l : ℕ) (label beneath : List ValType) (y : ℕ) (tag target : FuncType) (there : slice_get c.labels l ≡ Some (row_of label))
       (has_tag : type_of_tag c e ≡ Some tag) (ends : last_index (row_of label) ≡ Some (row_of beneath, y)) (has_cont : cont_of c y ≡ Some target) where
@@ -72,7 +72,7 @@ module _ (es : List Entry) (c : Context) (st : IsClassesOf c.types es) (results 
         )
 
     -- the test tells whether the clause is typed
-    pub clause_told : (b : Bool) → b ≡ label_test es results tag beneath target → IsTrue b ↔ LabelClauseTyped c results e l
-    clause_told b same =
-        let told = label_told tag target beneath in
-        (λ t. typed_in (told.0 (sym same ∙ t)), λ t. same ∙ told.1 (typed_out t))
+    pub clause_decided : (b : Bool) → b ≡ label_test es results tag beneath target → IsTrue b ↔ LabelClauseTyped c results e l
+    clause_decided b same =
+        let decided = label_decided tag target beneath in
+        (λ t. typed_in (decided.0 (sym same ∙ t)), λ t. same ∙ decided.1 (typed_out t))

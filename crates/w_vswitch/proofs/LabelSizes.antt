@@ -6,8 +6,8 @@ use Rattle.std.specs.Ordering.{ord_max, is_lt, nat_cmp}
 use Rattle.std.proofs.lemmas.Map.Keys.{ge_from_not_lt}
 use Rattle.std.proofs.lemmas.List.{drop_more, drop_all}
 use Rattle.w_types.specs.declared.types.ValType.{ValType}
-use Rattle.w_types.specs.Rows.{Row, row_of, size}
-use Rattle.w_types.proofs.Rows.{size-row_of}
+use Rattle.lists.specs.Rows.{Row, row_of, size}
+use Rattle.lists.proofs.Rows.{size-row_of}
 use Rattle.w_syntax.specs.declared.instructions.Clause.{Clause}
 use Rattle.w_syntax.specs.declared.instructions.Clause.TheVariants as clause
 use Rattle.w_rules.specs.Peak.{label_top, clause_tops}
@@ -47,14 +47,14 @@ of_two h m n true f g = let lt : n < m = f refl in omega arith
 of_two h m n false f g = let le : m ≤ n = g refl in omega arith
 
 -- what the comparison of numbers tells
-less_told : (m n : ℕ) (b e : Bool) → (b ≡ true → m < n) → is_lt (cond b Less (cond e Equal Greater)) ≡ true → m < n
-less_told m n true e f h = f refl
-less_told m n false true f h = absurd (cc)
-less_told m n false false f h = absurd (cc)
+less_decided : (m n : ℕ) (b e : Bool) → (b ≡ true → m < n) → is_lt (cond b Less (cond e Equal Greater)) ≡ true → m < n
+less_decided m n true e f h = f refl
+less_decided m n false true f h = absurd (cc)
+less_decided m n false false f h = absurd (cc)
 
 -- the longer one of two labels, where there are such
 pub longer : (h : ℕ) (o p : Option ℕ) → above 0 (ord_max (option_cmp nat_cmp) o p) h ≡ max (above 0 o h) (above 0 p h)
 longer h None None = refl
 longer h None (Some n) = omega arith
 longer h (Some m) None = omega arith
-longer h (Some m) (Some n) = of_two h m n (is_lt (nat_cmp n m)) (less_told n m (nat_lt n m) (n == m) (ltb-true n m)) (ge_from_not_lt n m)
+longer h (Some m) (Some n) = of_two h m n (is_lt (nat_cmp n m)) (less_decided n m (nat_lt n m) (n == m) (ltb-true n m)) (ge_from_not_lt n m)

@@ -6,8 +6,8 @@ use Rattle.w_types.specs.declared.types.HeapType.{HeapType}
 use Rattle.w_types.specs.declared.types.HeapType.TheVariants.{Func, NoFunc, Cont, NoCont, Index}
 use Rattle.w_types.specs.declared.types.ValType.{ValType}
 use Rattle.w_types.specs.declared.types.ValType.TheVariants.{I32, I64, Ref}
-use Rattle.w_types.specs.Rows.{Row, ε, ◌▹◌, row_of}
-use Rattle.w_types.proofs.Rows.{row_of-more}
+use Rattle.lists.specs.Rows.{Row, ε, ◌▹◌, row_of}
+use Rattle.lists.proofs.Rows.{row_of-more}
 use Rattle.w_vswitch.specs.Rows.{index_of, last_index}
 
 -- by the last of the types

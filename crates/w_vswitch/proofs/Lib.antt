@@ -4,7 +4,7 @@ mod FoundTypes
 mod LabelClauses
 mod SwitchClauses
 mod LabelSizes
-mod Bindings
+mod ContBind
 mod Switches
 mod Resumes
 mod PackedOthers

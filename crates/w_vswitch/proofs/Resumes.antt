@@ -3,8 +3,8 @@ use Rattle.std.proofs.Common.{◌≡◌, ◌↔◌, inl, ℕ, suc, ◌+◌, ◌-
 use Rattle.std.specs.Prelude.{IsTrue, All}
 use Rattle.w_types.specs.declared.types.FuncType.{FuncType}
 use Rattle.w_types.specs.declared.types.ValType.{ValType}
-use Rattle.w_types.specs.Rows.{◌▹◌, row_of, size}
-use Rattle.w_types.proofs.Rows.{size-row_of}
+use Rattle.lists.specs.Rows.{◌▹◌, row_of, size}
+use Rattle.lists.proofs.Rows.{size-row_of}
 use Rattle.w_syntax.specs.declared.instructions.Clause.{Clause}
 use Rattle.w_syntax.specs.declared.instructions.SwitchingOp.TheVariants as op
 use Rattle.w_rules.specs.declared.context.Context as rt
@@ -28,10 +28,10 @@ cont_at c cx e x kind h w = ap (λ (d : rt.Context). cont_of (context_in d) x) (
 module _ (c : Context) (x : ℕ) (hs : List Clause) (kind : FuncType) (results : List ValType) where
   -- where a clause is not typed
   pub resume_refused : (fit : Bool) → cont_of c x ≡ Some kind → results ≡ kind.results → IsTrue fit ↔ All (ClauseTyped c results) hs → fit ≡ false → RefusedAt (op.Resume x hs) c
-  resume_refused fit h same told no_fit = inl (λ t.
+  resume_refused fit h same decided no_fit = inl (λ t.
       let P : Option FuncType → Type 0 = λ o. Holds o (λ (k : FuncType). All (ClauseTyped c k.results) hs) in
       let Q : List ValType → Type 0 = λ us. All (ClauseTyped c us) hs in
-      let passed : fit ≡ true = told.1 (subst Q (sym same) (subst P h t)) in
+      let passed : fit ≡ true = decided.1 (subst Q (sym same) (subst P h t)) in
       absurd (cc))
 
   -- what is added: the operands beneath, and the longest label

@@ -3,7 +3,7 @@ use Rattle.std.proofs.Common.{◌≡◌, Bool, false, List, Result, Option, if�
 use Rattle.std.specs.Prelude.{ℕ, IfOk}
 use Rattle.std.proofs.lemmas.Bool.{false≢true}
 use Rattle.w_types.specs.declared.types.ValType.{ValType}
-use Rattle.w_types.specs.Rows.{Row, row_of}
+use Rattle.lists.specs.Rows.{Row, row_of}
 use Rattle.w_syntax.specs.declared.instructions.Instr.{Instr}
 use Rattle.w_syntax.specs.declared.instructions.Op.TheVariants as op
 use Rattle.w_syntax.specs.declared.instructions.SwitchingOp.{SwitchingOp}
@@ -48,15 +48,15 @@ underivable c o r s w k g =
 
 module _ {E : Type 0} (result : Result Bool E) (old new : Checker) (o : SwitchingOp) where
   -- a call by the row
-  pub by_row : (ins outs : Row ValType) (raise : Option ℕ) → IfOk result (λ taken. AnswersRow old new ins outs raise taken) →
-      AtEnds old (RowAt o ins outs raise) → IfOk result (λ taken. Answers old new (follow (instr_of o)) taken)
+  pub by_row : (ins outs : Row ValType) (raise : Option ℕ) → IfOk result (λ applies. AnswersRow old new ins outs raise applies) →
+      AtEnds old (RowAt o ins outs raise) → IfOk result (λ applies. Answers old new (follow (instr_of o)) applies)
   by_row ins outs raise answers r =
-      ok_with result _ _ answers (λ taken h s w k. h s w (op.Switching o) k (λ g. row_there (context_for old) s w o ins outs raise (r s w k g)))
+      ok_with result _ _ answers (λ applies h s w k. h s w (op.Switching o) k (λ g. row_there (context_for old) s w o ins outs raise (r s w k g)))
 
   -- a call that is refused
-  pub without_row : IfOk result (λ taken. Refuses old new taken) → AtEnds old (RefusedAt o) → IfOk result (λ taken. Answers old new (follow (instr_of o)) taken)
+  pub without_row : IfOk result (λ applies. Refuses old new applies) → AtEnds old (RefusedAt o) → IfOk result (λ applies. Answers old new (follow (instr_of o)) applies)
   without_row refuses r =
-      ok_with result _ _ refuses (λ taken h s w k.
+      ok_with result _ _ refuses (λ applies h s w k.
       let none = underivable old o r s w k in
       (h.stands s w (follow (instr_of o) w) k none, (λ t. absurd (false≢true (sym h.is_false ∙ t)), λ g. absurd (none g))))
 

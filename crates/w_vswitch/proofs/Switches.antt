@@ -3,7 +3,7 @@ use Rattle.std.proofs.Common.{◌≡◌, ℕ, List, [], ◌∷◌, length, Optio
 use Rattle.w_types.specs.declared.types.FuncType.{FuncType}
 use Rattle.w_types.specs.declared.types.RecGroup.{RecGroup}
 use Rattle.w_types.specs.declared.types.ValType.{ValType}
-use Rattle.w_types.specs.Rows.{◌▹◌, row_of}
+use Rattle.lists.specs.Rows.{◌▹◌, row_of}
 use Rattle.w_syntax.specs.declared.instructions.SwitchingOp.TheVariants as op
 use Rattle.w_canon.specs.Matching.{ResultMatches}
 use Rattle.w_rules.specs.Context.{Context, cont_of, type_of_tag}

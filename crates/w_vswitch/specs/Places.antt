@@ -1,7 +1,7 @@
 -- Where stack switching instructions are typed.
 use Rattle.std.specs.Prelude.{Bool, List}
 use Rattle.w_types.specs.declared.types.ValType.{ValType}
-use Rattle.w_types.specs.Rows.{Row}
+use Rattle.lists.specs.Rows.{Row}
 use Rattle.w_rules.specs.declared.context.Context as rt
 use Rattle.w_rules.specs.Context.{Context}
 use Rattle.w_rules.specs.View.{context_in, HasClasses}

@@ -1,6 +1,6 @@
 //! The clauses of a `resume`.
 ghost use Rattle.std.specs.Prelude.{◌≡◌, ◌↔◌, ℕ, ◌∷◌, [], All, IsTrue, Some, List, slice_get};
-ghost use Rattle.w_types.specs.Rows.{row_of};
+ghost use Rattle.lists.specs.Rows.{row_of};
 ghost use Rattle.w_rules.specs.Conditions.{ClauseTyped, LabelClauseTyped, SwitchClauseTyped};
 ghost use Rattle.w_rules.specs.Peak.{clause_tops};
 ghost use Rattle.w_vplain.specs.Row.{above};

@@ -1,7 +1,7 @@
 //! Continuations as types name them.
 ghost use Rattle.std.specs.Prelude.{◌≡◌, ◌-◌, length, take, IfSome};
 ghost use Rattle.std.specs.Option.{option_map};
-ghost use Rattle.w_types.specs.Rows.{row_of};
+ghost use Rattle.lists.specs.Rows.{row_of};
 ghost use Rattle.w_rules.specs.InstructionTypes.{nullable, non_null};
 ghost use Rattle.w_vswitch.specs.Rows.{index_of, last_index, index_view};
 

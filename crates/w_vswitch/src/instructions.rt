@@ -20,8 +20,8 @@ use w_vplain::Checker;
 
 // A continuation of a function.
 fn cont_new(checker: &mut Checker, index: u32) -> Result<bool, AllocError>
-    ensures answers { IfOk result (λ taken. Answers checker.old checker.new (follow (instr_of
-        (op.ContNew index))) taken) }
+    ensures answers { IfOk result (λ applies. Answers checker.old checker.new (follow (instr_of
+        (op.ContNew index))) applies) }
     ensures body { IsSameBody checker.old checker.new }
     ensures memory { StaysOutOfMemory checker.old result checker.new }
 {
@@ -59,8 +59,8 @@ fn bound<'a>(setting: &Setting<'a>, before: u32, after: u32) -> Option<TypeRow<'
 
 // A continuation with some of its parameters bound.
 fn cont_bind(checker: &mut Checker, before: u32, after: u32) -> Result<bool, AllocError>
-    ensures answers { IfOk result (λ taken. Answers checker.old checker.new (follow (instr_of
-        (op.ContBind before after))) taken) }
+    ensures answers { IfOk result (λ applies. Answers checker.old checker.new (follow (instr_of
+        (op.ContBind before after))) applies) }
     ensures body { IsSameBody checker.old checker.new }
     ensures memory { StaysOutOfMemory checker.old result checker.new }
 {
@@ -77,8 +77,8 @@ fn cont_bind(checker: &mut Checker, before: u32, after: u32) -> Result<bool, All
 
 // An event: control goes to a handler of this tag.
 fn suspend(checker: &mut Checker, tag: u32) -> Result<bool, AllocError>
-    ensures answers { IfOk result (λ taken. Answers checker.old checker.new (follow (instr_of
-        (op.Suspend tag))) taken) }
+    ensures answers { IfOk result (λ applies. Answers checker.old checker.new (follow (instr_of
+        (op.Suspend tag))) applies) }
     ensures body { IsSameBody checker.old checker.new }
     ensures memory { StaysOutOfMemory checker.old result checker.new }
 {
@@ -90,8 +90,8 @@ fn suspend(checker: &mut Checker, tag: u32) -> Result<bool, AllocError>
 
 // A continuation goes on, under a handler of these clauses.
 fn resume(checker: &mut Checker, index: u32, clauses: &[Clause]) -> Result<bool, AllocError>
-    ensures answers { IfOk result (λ taken. Answers checker.old checker.new (follow (instr_of
-        (op.Resume index clauses.now))) taken) }
+    ensures answers { IfOk result (λ applies. Answers checker.old checker.new (follow (instr_of
+        (op.Resume index clauses.now))) applies) }
     ensures body { IsSameBody checker.old checker.new }
     ensures memory { StaysOutOfMemory checker.old result checker.new }
 {
@@ -129,8 +129,8 @@ fn switched<'a>(setting: &Setting<'a>, index: u32, tag: u32) -> Option<(TypeRow<
 
 // Another continuation goes on in place of this one.
 fn switch(checker: &mut Checker, index: u32, tag: u32) -> Result<bool, AllocError>
-    ensures answers { IfOk result (λ taken. Answers checker.old checker.new (follow (instr_of
-        (op.Switch index tag))) taken) }
+    ensures answers { IfOk result (λ applies. Answers checker.old checker.new (follow (instr_of
+        (op.Switch index tag))) applies) }
     ensures body { IsSameBody checker.old checker.new }
     ensures memory { StaysOutOfMemory checker.old result checker.new }
 {
@@ -142,8 +142,8 @@ fn switch(checker: &mut Checker, index: u32, tag: u32) -> Result<bool, AllocErro
 
 // A stack switching instruction.
 fn typed(checker: &mut Checker, op: &SwitchingOp) -> Result<bool, AllocError>
-    ensures answers { IfOk result (λ taken. Answers checker.old checker.new (follow
-        (instr_of op.now)) taken) }
+    ensures answers { IfOk result (λ applies. Answers checker.old checker.new (follow
+        (instr_of op.now)) applies) }
     ensures body { IsSameBody checker.old checker.new }
     ensures memory { StaysOutOfMemory checker.old result checker.new }
 {
@@ -158,8 +158,8 @@ fn typed(checker: &mut Checker, op: &SwitchingOp) -> Result<bool, AllocError>
 
 // A boxed instruction, where it switches stacks.
 fn boxed(checker: &mut Checker, instr: &Instr) -> Result<bool, AllocError>
-    ensures answers { IfOk result (λ taken. Answers checker.old checker.new
-        (follow_switching instr.now) taken) }
+    ensures answers { IfOk result (λ applies. Answers checker.old checker.new
+        (follow_switching instr.now) applies) }
     ensures body { IsSameBody checker.old checker.new }
     ensures memory { StaysOutOfMemory checker.old result checker.new }
 {
@@ -172,8 +172,8 @@ fn boxed(checker: &mut Checker, instr: &Instr) -> Result<bool, AllocError>
 /// A stack switching instruction; another one begins no body there. Whether the rules derive the sequence with it (the explainer,
 /// validation). It fails only when out of memory.
 pub fn switching(checker: &mut Checker, packed: &PackedInstr) -> Result<bool, AllocError>
-    ensures answers { IfOk result (λ taken. Answers checker.old checker.new (follow_switching
-        (unpacked packed.now)) taken) }
+    ensures answers { IfOk result (λ applies. Answers checker.old checker.new (follow_switching
+        (unpacked packed.now)) applies) }
     ensures body { IsSameBody checker.old checker.new }
     ensures memory { StaysOutOfMemory checker.old result checker.new }
 {

@@ -1,5 +1,5 @@
 -- The line that a request is.
-use Rattle.std.specs.Prelude.{◌≡◌, ◌≤◌, ⊤, Option, Some, None}
+use Rattle.std.specs.Prelude.{◌≡◌, ◌≤◌, ⊤, Bool, true, Option, Some, None}
 use Rattle.words.specs.declared.request.Action.{Action}
 use Rattle.words.specs.declared.request.Action.TheVariants.{Check, Run, Build}
 use Rattle.words.specs.declared.request.Request.{Request}
@@ -14,6 +14,12 @@ asked_by (Generated number) = generated number
 abbrev pub Asks : Option Request → Line → Type 0
 Asks (Some request) line = line ≡ asked_by request
 Asks None line = line ≡ bad
+
+-- whether it is done with scripts too, and not with modules alone
+abbrev pub takes_scripts : Action → Bool
+takes_scripts Check = true
+takes_scripts (Run steps stats) = true
+takes_scripts Build = true
 
 -- no more steps than the words may give
 abbrev pub IsWithinSteps : Action → Type 0

@@ -1,4 +1,6 @@
 //! What the words ask for.
+ghost use Rattle.std.specs.Prelude.{◌≡◌};
+ghost use Rattle.words.specs.Request.{takes_scripts as scripts_too};
 
 /// What is done with the module of a file.
 #[derive(Clone, Copy)]
@@ -9,6 +11,19 @@ pub enum Action {
     Run { steps: u64, stats: bool },
     /// It is written in its canonical spelling.
     Build,
+}
+
+impl Action {
+    /// Whether it is done with scripts too. Of an action on modules alone a file that is none is malformed.
+    pub fn takes_scripts(self) -> bool
+        ensures { result ≡ scripts_too self }
+    {
+        match self {
+            Action::Check => true,
+            Action::Run { steps: _, stats: _ } => true,
+            Action::Build => true,
+        }
+    }
 }
 
 /// What the words ask for.

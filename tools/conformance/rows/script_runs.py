@@ -8,7 +8,6 @@ from rows.sections import CallRow
 CALLS = ScriptRunSection('calls')
 LIMITS = ScriptRunSection('limits')
 GENERATED = ScriptRunSection('generated')
-USAGE = ['err | usage: stackwasm check FILE | run FILE [--steps N] [--stats] | build FILE | gen N', 'status 2']
 
 BODY = 'fn body() { print do ask() + do ask(); return 7; }\n'
 ONE = 'fn one() { return do ask(); }\n'
@@ -117,8 +116,3 @@ GENERATED.is_known('the-text-of-three', generated(3).decode(), '= 233', 3, 128)
 for call, written in [(0, []), (1, ['out | 3']), (2, ['out | 3', '| 128'])]:
     GENERATED.rows.append(PlainRow(
         f'gen/3/call-{call}-on-out-fails', 'gen 3', [f'fails out {call}', *written, 'status 7']))
-for words in [
-        'gen 0', 'gen 501', 'gen', 'gen 01', 'gen 5 6', "gen ''", 'gen -1', 'gen +1', 'gen 1x', 'gen x', 'gen 1.0',
-        'gen 99999999999999999999', 'gen 5 --stats', 'gen 5 --steps 5', 'gen --steps 5', '5 gen', 'Gen 5',
-        'gen --help']:
-    GENERATED.rows.append(PlainRow(f'no-call/{words}', words, USAGE))

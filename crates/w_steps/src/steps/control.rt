@@ -1,6 +1,6 @@
 //! Control instructions that hold no others.
 ghost use Rattle.std.specs.Prelude.{◌≡◌, IfOk, IfSome, IsTrue, Some, true, slice_get};
-ghost use Rattle.w_types.specs.Rows.{row_of};
+ghost use Rattle.lists.specs.Rows.{row_of};
 ghost use Rattle.w_flow.specs.Flow.{step, fits_one, fit_each};
 ghost use Rattle.w_flow.specs.TypeRows.{IsReady};
 ghost use Rattle.w_flow.specs.View.{flow_view, flow_if, HasWords};
@@ -106,9 +106,9 @@ fn table_step(body: &BodyContext, flow: &mut Flow, labels: &[u32], otherwise: u3
 // A branch where the operand is not 0.
 fn br_if_step(body: &BodyContext, flow: &mut Flow, index: u32) -> Result<bool, AllocError>
     requires { HasWords body.now.setting.now.cx.now.classes.now flow.old }
-    ensures steps { IfOk result (λ taken. step body.now.setting.now.cx.now.classes.now (br_if_type (slice_get
+    ensures steps { IfOk result (λ applies. step body.now.setting.now.cx.now.classes.now (br_if_type (slice_get
         (context_at body.now).labels index)) (flow_view flow.old).any (flow_view flow.old).operands
-        ≡ flow_if taken flow.new) }
+        ≡ flow_if applies flow.new) }
     ensures words { HasWords body.now.setting.now.cx.now.classes.now flow.new }
 {
     match body.label(index) {
@@ -125,9 +125,9 @@ fn br_if_step(body: &BodyContext, flow: &mut Flow, index: u32) -> Result<bool, A
 // A branch where the operand is null.
 fn br_on_null_step(body: &BodyContext, flow: &mut Flow, index: u32) -> Result<bool, AllocError>
     requires { HasWords body.now.setting.now.cx.now.classes.now flow.old }
-    ensures steps { IfOk result (λ taken. step body.now.setting.now.cx.now.classes.now (br_on_null_type (slice_get
+    ensures steps { IfOk result (λ applies. step body.now.setting.now.cx.now.classes.now (br_on_null_type (slice_get
         (context_at body.now).labels index)) (flow_view flow.old).any (flow_view flow.old).operands
-        ≡ flow_if taken flow.new) }
+        ≡ flow_if applies flow.new) }
     ensures words { HasWords body.now.setting.now.cx.now.classes.now flow.new }
 {
     match body.label(index) {
@@ -155,9 +155,9 @@ fn reference_label<'r>(classes: &Classes, label: TypeRow<'r>) -> Option<(TypeRow
 // A branch where the operand is not null.
 fn br_on_non_null_step(body: &BodyContext, flow: &mut Flow, index: u32) -> Result<bool, AllocError>
     requires { HasWords body.now.setting.now.cx.now.classes.now flow.old }
-    ensures steps { IfOk result (λ taken. step body.now.setting.now.cx.now.classes.now (br_on_non_null_type (slice_get
+    ensures steps { IfOk result (λ applies. step body.now.setting.now.cx.now.classes.now (br_on_non_null_type (slice_get
         (context_at body.now).labels index)) (flow_view flow.old).any (flow_view flow.old).operands
-        ≡ flow_if taken flow.new) }
+        ≡ flow_if applies flow.new) }
     ensures words { HasWords body.now.setting.now.cx.now.classes.now flow.new }
 {
     let Some(label) = body.label(index) else {
@@ -176,9 +176,9 @@ fn br_on_non_null_step(body: &BodyContext, flow: &mut Flow, index: u32) -> Resul
 // A call of a function.
 fn call_step(setting: &Setting, flow: &mut Flow, function: u32) -> Result<bool, AllocError>
     requires { HasWords setting.now.cx.now.classes.now flow.old }
-    ensures steps { IfOk result (λ taken. step setting.now.cx.now.classes.now (call_type (type_of_func
+    ensures steps { IfOk result (λ applies. step setting.now.cx.now.classes.now (call_type (type_of_func
         (context_in setting.now.cx.now) function)) (flow_view flow.old).any (flow_view flow.old).operands
-        ≡ flow_if taken flow.new) }
+        ≡ flow_if applies flow.new) }
     ensures words { HasWords setting.now.cx.now.classes.now flow.new }
 {
     match setting.type_of_func(function) {
@@ -196,9 +196,9 @@ fn call_indirect_step(
 ) -> Result<bool, AllocError>
     requires { HasWords setting.now.cx.now.classes.now flow.old }
     ensures steps { let c = context_in setting.now.cx.now in IfOk result
-        (λ taken. gated (holds_functions setting.now.cx.now.classes.now (slice_get c.tables table))
+        (λ applies. gated (holds_functions setting.now.cx.now.classes.now (slice_get c.tables table))
         (step setting.now.cx.now.classes.now (call_indirect_type (slice_get c.tables table) (func_of c kind))
-        (flow_view flow.old).any (flow_view flow.old).operands) ≡ flow_if taken flow.new) }
+        (flow_view flow.old).any (flow_view flow.old).operands) ≡ flow_if applies flow.new) }
     ensures words { HasWords setting.now.cx.now.classes.now flow.new }
 {
     let Some(table) = setting.cx.table(table) else {
@@ -225,9 +225,9 @@ fn call_indirect_step(
 // A call of a function by a reference.
 fn call_ref_step(setting: &Setting, flow: &mut Flow, index: u32) -> Result<bool, AllocError>
     requires { HasWords setting.now.cx.now.classes.now flow.old }
-    ensures steps { IfOk result (λ taken. step setting.now.cx.now.classes.now (call_ref_type index (func_of
+    ensures steps { IfOk result (λ applies. step setting.now.cx.now.classes.now (call_ref_type index (func_of
         (context_in setting.now.cx.now) index)) (flow_view flow.old).any (flow_view flow.old).operands
-        ≡ flow_if taken flow.new) }
+        ≡ flow_if applies flow.new) }
     ensures words { HasWords setting.now.cx.now.classes.now flow.new }
 {
     let reference = PackedType::reference(RefType {
@@ -252,10 +252,10 @@ pub(crate) fn control_step(
     op: &ControlOp,
 ) -> Result<bool, AllocError>
     requires { HasWords body.now.setting.now.cx.now.classes.now flow.old }
-    ensures steps { IfOk result (λ taken. gated (control_test body.now.setting.now.cx.now.classes.now
+    ensures steps { IfOk result (λ applies. gated (control_test body.now.setting.now.cx.now.classes.now
         (context_at body.now) op.now)
         (step body.now.setting.now.cx.now.classes.now (control_op_type (context_at body.now) op.now)
-        (flow_view flow.old).any (flow_view flow.old).operands) ≡ flow_if taken flow.new) }
+        (flow_view flow.old).any (flow_view flow.old).operands) ≡ flow_if applies flow.new) }
     ensures words { HasWords body.now.setting.now.cx.now.classes.now flow.new }
 {
     let setting = body.setting;

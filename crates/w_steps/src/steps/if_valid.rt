@@ -1,7 +1,7 @@
 //! Types that stand only where a test holds.
 ghost use Rattle.std.specs.Prelude.{◌≡◌, IfOk, List};
 ghost use Rattle.w_canon.specs.declared.entry.Entry.{Entry};
-ghost use Rattle.w_types.specs.Rows.{ε, ◌▹◌, row_of};
+ghost use Rattle.lists.specs.Rows.{ε, ◌▹◌, row_of};
 ghost use Rattle.w_flow.specs.Flow.{step};
 ghost use Rattle.w_flow.specs.View.{flow_view, flow_if, HasWords};
 ghost use Rattle.w_rules.specs.InstructionTypes.{fixed, if_valid};
@@ -19,9 +19,9 @@ pub(crate) fn fixed_if_valid(
     ins: &[PackedType],
     outs: &[PackedType],
 ) -> Result<bool, AllocError>
-    ensures steps { IfOk result (λ taken. step classes.now (if_valid test (fixed (row_of ins.now)
+    ensures steps { IfOk result (λ applies. step classes.now (if_valid test (fixed (row_of ins.now)
         (row_of outs.now))) (flow_view flow.old).any (flow_view flow.old).operands
-        ≡ flow_if taken flow.new) }
+        ≡ flow_if applies flow.new) }
     ensures words { HasWords classes.now flow.old → HasWords classes.now flow.new }
 {
     if !test {
@@ -37,8 +37,8 @@ pub(crate) fn gives_if_valid(
     test: bool,
     kind: PackedType,
 ) -> Result<bool, AllocError>
-    ensures steps { IfOk result (λ taken. step classes.now (if_valid test (fixed ε (ε ▹ kind)))
-        (flow_view flow.old).any (flow_view flow.old).operands ≡ flow_if taken flow.new) }
+    ensures steps { IfOk result (λ applies. step classes.now (if_valid test (fixed ε (ε ▹ kind)))
+        (flow_view flow.old).any (flow_view flow.old).operands ≡ flow_if applies flow.new) }
     ensures words { HasWords classes.now flow.old → HasWords classes.now flow.new }
 {
     if !test {
@@ -55,8 +55,8 @@ pub(crate) fn turns_if_valid(
     from: PackedType,
     to: PackedType,
 ) -> Result<bool, AllocError>
-    ensures steps { IfOk result (λ taken. step classes.now (if_valid test (fixed (ε ▹ from) (ε ▹ to)))
-        (flow_view flow.old).any (flow_view flow.old).operands ≡ flow_if taken flow.new) }
+    ensures steps { IfOk result (λ applies. step classes.now (if_valid test (fixed (ε ▹ from) (ε ▹ to)))
+        (flow_view flow.old).any (flow_view flow.old).operands ≡ flow_if applies flow.new) }
     ensures words { HasWords classes.now flow.old → HasWords classes.now flow.new }
 {
     if !test {

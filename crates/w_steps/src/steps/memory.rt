@@ -1,6 +1,6 @@
 //! Memory instructions.
 ghost use Rattle.std.specs.Prelude.{◌≡◌, ◌&&◌, IfOk, nat_lt};
-ghost use Rattle.w_types.specs.Rows.{ε, ◌▹◌};
+ghost use Rattle.lists.specs.Rows.{ε, ◌▹◌};
 ghost use Rattle.w_types.specs.declared.types.ValType.TheVariants as val;
 ghost use Rattle.w_syntax.specs.declared.memory_instructions.MemoryOp.TheVariants as op;
 ghost use Rattle.w_flow.specs.Flow.{step};
@@ -94,8 +94,8 @@ fn is_copy(cx: &Context, to: u32, from: u32) -> bool
 
 // Takes a place, a second one or a byte, and a length, where the test holds.
 fn takes_three_if_valid(classes: &Classes, flow: &mut Flow, test: bool) -> Result<bool, AllocError>
-    ensures steps { IfOk result (λ taken. step classes.now (if_valid test (fixed (ε ▹ val.I32 ▹ val.I32 ▹ val.I32) ε))
-        (flow_view flow.old).any (flow_view flow.old).operands ≡ flow_if taken flow.new) }
+    ensures steps { IfOk result (λ applies. step classes.now (if_valid test (fixed (ε ▹ val.I32 ▹ val.I32 ▹ val.I32) ε))
+        (flow_view flow.old).any (flow_view flow.old).operands ≡ flow_if applies flow.new) }
     ensures words { HasWords classes.now flow.old → HasWords classes.now flow.new }
 {
     let three = [PackedType::I32, PackedType::I32, PackedType::I32];
@@ -110,9 +110,9 @@ pub(crate) fn load_step(
     align: u8,
     offset: u64,
 ) -> Result<bool, AllocError>
-    ensures steps { IfOk result (λ taken. step cx.now.classes.now (memory_op_type (context_in cx.now)
+    ensures steps { IfOk result (λ applies. step cx.now.classes.now (memory_op_type (context_in cx.now)
         (op.Load load (record { align = align; offset = offset }))) (flow_view flow.old).any
-        (flow_view flow.old).operands ≡ flow_if taken flow.new) }
+        (flow_view flow.old).operands ≡ flow_if applies flow.new) }
     ensures words { HasWords cx.now.classes.now flow.old → HasWords cx.now.classes.now flow.new }
 {
     let access = is_access(cx, load_width(load), align, offset);
@@ -138,8 +138,8 @@ pub(crate) fn store_step(
 
 /// A memory instruction.
 pub(crate) fn memory_step(cx: &Context, flow: &mut Flow, op: MemoryOp) -> Result<bool, AllocError>
-    ensures steps { IfOk result (λ taken. step cx.now.classes.now (memory_op_type (context_in cx.now) op)
-        (flow_view flow.old).any (flow_view flow.old).operands ≡ flow_if taken flow.new) }
+    ensures steps { IfOk result (λ applies. step cx.now.classes.now (memory_op_type (context_in cx.now) op)
+        (flow_view flow.old).any (flow_view flow.old).operands ≡ flow_if applies flow.new) }
     ensures words { HasWords cx.now.classes.now flow.old → HasWords cx.now.classes.now flow.new }
 {
     match op {

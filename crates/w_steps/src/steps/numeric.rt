@@ -1,6 +1,6 @@
 //! Numeric instructions.
 ghost use Rattle.std.specs.Prelude.{◌≡◌, IfOk};
-ghost use Rattle.w_types.specs.Rows.{ε, ◌▹◌};
+ghost use Rattle.lists.specs.Rows.{ε, ◌▹◌};
 ghost use Rattle.w_flow.specs.Flow.{step};
 ghost use Rattle.w_flow.specs.View.{flow_view, flow_if, HasWords};
 ghost use Rattle.w_rules.specs.InstructionTypes.{fixed, of_int as the_type, convert_type, numeric_op_type};
@@ -41,8 +41,8 @@ pub(crate) fn numeric_step(
     flow: &mut Flow,
     op: NumericOp,
 ) -> Result<bool, AllocError>
-    ensures steps { IfOk result (λ taken. step classes.now (numeric_op_type op) (flow_view flow.old).any
-        (flow_view flow.old).operands ≡ flow_if taken flow.new) }
+    ensures steps { IfOk result (λ applies. step classes.now (numeric_op_type op) (flow_view flow.old).any
+        (flow_view flow.old).operands ≡ flow_if applies flow.new) }
     ensures words { HasWords classes.now flow.old → HasWords classes.now flow.new }
 {
     match op {

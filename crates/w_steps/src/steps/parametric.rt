@@ -14,9 +14,9 @@ use w_types::PackedType;
 
 // A select with the types that it names.
 fn select_step(cx: &Context, flow: &mut Flow, types: &[PackedType]) -> Result<bool, AllocError>
-    ensures steps { IfOk result (λ taken. step cx.now.classes.now (select_type
+    ensures steps { IfOk result (λ applies. step cx.now.classes.now (select_type
         (context_in cx.now) types.now) (flow_view flow.old).any (flow_view flow.old).operands
-        ≡ flow_if taken flow.new) }
+        ≡ flow_if applies flow.new) }
     ensures words { HasWords cx.now.classes.now flow.old → HasWords cx.now.classes.now flow.new }
 {
     match types {
@@ -37,9 +37,9 @@ pub(crate) fn parametric_step(
     flow: &mut Flow,
     op: &ParametricOp,
 ) -> Result<bool, AllocError>
-    ensures steps { IfOk result (λ taken. step cx.now.classes.now (parametric_op_type
+    ensures steps { IfOk result (λ applies. step cx.now.classes.now (parametric_op_type
         (context_in cx.now) op.now) (flow_view flow.old).any (flow_view flow.old).operands
-        ≡ flow_if taken flow.new) }
+        ≡ flow_if applies flow.new) }
     ensures words { HasWords cx.now.classes.now flow.old → HasWords cx.now.classes.now flow.new }
 {
     match op {

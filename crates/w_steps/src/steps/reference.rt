@@ -35,9 +35,9 @@ pub(crate) fn reference_step(
     flow: &mut Flow,
     op: ReferenceOp,
 ) -> Result<bool, AllocError>
-    ensures steps { IfOk result (λ taken. step cx.now.classes.now (reference_op_type
+    ensures steps { IfOk result (λ applies. step cx.now.classes.now (reference_op_type
         (context_in cx.now) op) (flow_view flow.old).any (flow_view flow.old).operands
-        ≡ flow_if taken flow.new) }
+        ≡ flow_if applies flow.new) }
     ensures words { HasWords cx.now.classes.now flow.old → HasWords cx.now.classes.now flow.new }
 {
     match op {

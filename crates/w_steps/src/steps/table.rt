@@ -19,11 +19,11 @@ const THREE: [PackedType; 3] = [PackedType::I32, PackedType::I32, PackedType::I3
 // A copy of an element segment into a table.
 fn init_step(cx: &Context, flow: &mut Flow, segment: u32, table: u32) -> Result<bool, AllocError>
     ensures steps { let c = context_in cx.now in IfOk result
-        (λ taken. gated (init_test cx.now.classes.now (slice_get c.elements segment)
+        (λ applies. gated (init_test cx.now.classes.now (slice_get c.elements segment)
         (slice_get c.tables table))
         (step cx.now.classes.now (table_init_type (slice_get c.elements segment)
         (slice_get c.tables table)) (flow_view flow.old).any (flow_view flow.old).operands)
-        ≡ flow_if taken flow.new) }
+        ≡ flow_if applies flow.new) }
     ensures words { HasWords cx.now.classes.now flow.old → HasWords cx.now.classes.now flow.new }
 {
     let Some(element) = cx.element(segment) else {
@@ -41,10 +41,10 @@ fn init_step(cx: &Context, flow: &mut Flow, segment: u32, table: u32) -> Result<
 // A copy of a part of a table into a table.
 fn copy_step(cx: &Context, flow: &mut Flow, to: u32, from: u32) -> Result<bool, AllocError>
     ensures steps { let c = context_in cx.now in IfOk result
-        (λ taken. gated (copy_test cx.now.classes.now (slice_get c.tables to)
+        (λ applies. gated (copy_test cx.now.classes.now (slice_get c.tables to)
         (slice_get c.tables from))
         (step cx.now.classes.now (table_copy_type (slice_get c.tables to) (slice_get c.tables from))
-        (flow_view flow.old).any (flow_view flow.old).operands) ≡ flow_if taken flow.new) }
+        (flow_view flow.old).any (flow_view flow.old).operands) ≡ flow_if applies flow.new) }
     ensures words { HasWords cx.now.classes.now flow.old → HasWords cx.now.classes.now flow.new }
 {
     let Some(to) = cx.table(to) else {
@@ -61,15 +61,15 @@ fn copy_step(cx: &Context, flow: &mut Flow, to: u32, from: u32) -> Result<bool, 
 
 // The growth of a table.
 fn grow_step(cx: &Context, flow: &mut Flow, index: u32) -> Result<bool, AllocError>
-    ensures steps { IfOk result (λ taken. step cx.now.classes.now (table_grow_type (slice_get
+    ensures steps { IfOk result (λ applies. step cx.now.classes.now (table_grow_type (slice_get
         (context_in cx.now).tables index)) (flow_view flow.old).any (flow_view flow.old).operands
-        ≡ flow_if taken flow.new) }
+        ≡ flow_if applies flow.new) }
     ensures words { HasWords cx.now.classes.now flow.old → HasWords cx.now.classes.now flow.new }
 {
     match cx.table(index) {
         Some(table) => {
-            let taken = [PackedType::reference(table.element), PackedType::I32];
-            flow.turns_few(cx.classes, &taken, &[PackedType::I32])
+            let applies = [PackedType::reference(table.element), PackedType::I32];
+            flow.turns_few(cx.classes, &applies, &[PackedType::I32])
         }
         None => Ok(false),
     }
@@ -77,19 +77,19 @@ fn grow_step(cx: &Context, flow: &mut Flow, index: u32) -> Result<bool, AllocErr
 
 // The filling of a part of a table.
 fn fill_step(cx: &Context, flow: &mut Flow, index: u32) -> Result<bool, AllocError>
-    ensures steps { IfOk result (λ taken. step cx.now.classes.now (table_fill_type (slice_get
+    ensures steps { IfOk result (λ applies. step cx.now.classes.now (table_fill_type (slice_get
         (context_in cx.now).tables index)) (flow_view flow.old).any (flow_view flow.old).operands
-        ≡ flow_if taken flow.new) }
+        ≡ flow_if applies flow.new) }
     ensures words { HasWords cx.now.classes.now flow.old → HasWords cx.now.classes.now flow.new }
 {
     match cx.table(index) {
         Some(table) => {
-            let taken = [
+            let applies = [
                 PackedType::I32,
                 PackedType::reference(table.element),
                 PackedType::I32,
             ];
-            flow.turns_few(cx.classes, &taken, &[])
+            flow.turns_few(cx.classes, &applies, &[])
         }
         None => Ok(false),
     }
@@ -97,9 +97,9 @@ fn fill_step(cx: &Context, flow: &mut Flow, index: u32) -> Result<bool, AllocErr
 
 /// A table instruction.
 pub(crate) fn table_step(cx: &Context, flow: &mut Flow, op: TableOp) -> Result<bool, AllocError>
-    ensures steps { IfOk result (λ taken. gated (table_test cx.now.classes.now (context_in cx.now) op)
+    ensures steps { IfOk result (λ applies. gated (table_test cx.now.classes.now (context_in cx.now) op)
         (step cx.now.classes.now (table_op_type (context_in cx.now) op) (flow_view flow.old).any
-        (flow_view flow.old).operands) ≡ flow_if taken flow.new) }
+        (flow_view flow.old).operands) ≡ flow_if applies flow.new) }
     ensures words { HasWords cx.now.classes.now flow.old → HasWords cx.now.classes.now flow.new }
 {
     let classes = cx.classes;

@@ -1,6 +1,6 @@
 //! Variable instructions.
 ghost use Rattle.std.specs.Prelude.{◌≡◌, [], IfOk, OnOk, IsTrue, slice_get, slice_set, true};
-ghost use Rattle.w_types.specs.Rows.{ε, ◌▹◌};
+ghost use Rattle.lists.specs.Rows.{ε, ◌▹◌};
 ghost use Rattle.w_flow.specs.Flow.{step};
 ghost use Rattle.w_flow.specs.View.{flow_view, flow_if, HasWords};
 ghost use Rattle.w_rules.specs.InstructionTypes.{global_set_type, variable_op_type};
@@ -29,20 +29,20 @@ fn variable_global(cx: &Context, global: u32) -> Option<PackedType>
     }
 }
 
-// Sets a local where its value was taken.
+// Sets a local where the instruction applies.
 #[tactic(auto, using(crate::proofs::LocalsSet::set_now, crate::proofs::LocalsSet::set_around))]
 #[inline(always)]
-fn set_if(locals: &mut Locals, local: u32, taken: bool) -> Result<bool, AllocError>
-    ensures told { IfOk result (λ told. told ≡ taken) }
+fn set_if(locals: &mut Locals, local: u32, applies: bool) -> Result<bool, AllocError>
+    ensures answer { IfOk result (λ answer. answer ≡ applies) }
     ensures types { locals.new.types ≡ locals.old.types }
-    ensures sets { IfOk result (λ told. IsTrue told → first_set locals.new.sets
+    ensures sets { IfOk result (λ answer. IsTrue answer → first_set locals.new.sets
         ≡ slice_set (first_set locals.old.sets) local true) }
     ensures outer { OnOk result (outer_sets locals.new.sets ≡ outer_sets locals.old.sets) }
 {
-    if taken {
+    if applies {
         locals.set(local)?;
     }
-    Ok(taken)
+    Ok(applies)
 }
 
 /// A variable instruction, which may set a local.
@@ -53,11 +53,11 @@ pub(crate) fn variable_step(
     flow: &mut Flow,
     op: VariableOp,
 ) -> Result<bool, AllocError>
-    ensures steps { IfOk result (λ taken. step cx.now.classes.now (variable_op_type
+    ensures steps { IfOk result (λ applies. step cx.now.classes.now (variable_op_type
         (in_body (context_in cx.now) locals.old.types []) (first_set locals.old.sets) op)
-        (flow_view flow.old).any (flow_view flow.old).operands ≡ flow_if taken flow.new) }
+        (flow_view flow.old).any (flow_view flow.old).operands ≡ flow_if applies flow.new) }
     ensures types { locals.new.types ≡ locals.old.types }
-    ensures sets { IfOk result (λ taken. IsTrue taken
+    ensures sets { IfOk result (λ applies. IsTrue applies
         → SetsBy (plain.Variable op) locals.old locals.new) }
     ensures outer { OnOk result (outer_sets locals.new.sets ≡ outer_sets locals.old.sets) }
     ensures words { HasWords cx.now.classes.now flow.old → HasWords cx.now.classes.now flow.new }
@@ -70,15 +70,15 @@ pub(crate) fn variable_step(
         },
         VariableOp::LocalSet(local) => match locals.get(local) {
             Some(kind) => {
-                let taken = flow.takes(classes, kind);
-                set_if(locals, local, taken)
+                let applies = flow.takes(classes, kind);
+                set_if(locals, local, applies)
             }
             None => Ok(false),
         },
         VariableOp::LocalTee(local) => match locals.get(local) {
             Some(kind) => {
-                let taken = flow.turns(classes, kind, kind)?;
-                set_if(locals, local, taken)
+                let applies = flow.turns(classes, kind, kind)?;
+                set_if(locals, local, applies)
             }
             None => Ok(false),
         },

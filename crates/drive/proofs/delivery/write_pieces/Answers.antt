@@ -1,6 +1,6 @@
 use Rattle.std.proofs.Common.{◌++◌, ◌∙◌, ap, ℕ, Vec, Global}
 use Rattle.w_outside.proofs.Growth.{grew_more}
-use Rattle.drive.proofs.Joined.{part_more, front_more, on_err}
+use Rattle.drive.proofs.TextInPieces.{part_more, front_more, on_err}
 use Rattle.drive.proofs.delivery.write_pieces.Goals as goal
 
 pub returns-in_err-put-clause-err : goal.returns-in_err-put-clause-err
@@ -21,5 +21,5 @@ loop-piece-preserved g c =
         part_more (λ piece. piece.items) c.args.pieces.now c.loop-piece.piece-index _ part _ _ c.loop-piece-test.true c.loop-piece.invariant.0.1 (c.as_slice.ensures.value ∙ ap (λ (p : Vec ℕ Global). p.items) c.piece-item.is),
         grew_more _ _ _ part c.as_slice.result.now c.loop-piece.invariant.0.2 c.in_ok-put.ensures.ok,
       ),
-      c.in_ok-put.ensures.cause.kept ∙ c.loop-piece.invariant.1,
+      c.in_ok-put.ensures.cause.stays ∙ c.loop-piece.invariant.1,
     )

@@ -1,4 +1,4 @@
-use Rattle.drive.proofs.Meanings.{runs_mean}
+use Rattle.drive.proofs.MeaningsOfRuns.{runs_mean}
 use Rattle.drive.proofs.laws.runs_of_scripts_mean.Goals as goal
 
 pub returns : goal.returns

@@ -3,9 +3,9 @@ use Rattle.w_outside.specs.Outside.{Grew, Rose}
 use Rattle.w_syntax.specs.declared.module.Module.{Module}
 use Rattle.w_reduce.specs.Start.{Ready, start_term}
 use Rattle.w_stands.specs.Values.{store_of}
-use Rattle.w_machine.proofs.Advancing.{program_by, is_program}
+use Rattle.w_machine.proofs.OneMoreReduction.{program_by, is_program}
 use Rattle.drive.specs.Answer.{RunGives}
-use Rattle.drive.specs.Source.{told_of}
+use Rattle.drive.specs.Origin.{trap_reply_of}
 use Rattle.drive.proofs.Refusals.{refuses_as}
 use Rattle.drive.proofs.Replies.{leaves_as, refusal_left}
 use Rattle.drive.proofs.Runs.{ready_gives, refused_gives}
@@ -19,16 +19,16 @@ pub returns-in-Ok-clause-leaves : goal.returns-in-Ok-clause-leaves
 returns-in-Ok-clause-leaves g c =
     let m = c.args.checked in
     let p = program_by m c.classes-classes.result.now in
-    let told = is_program m c.classes-classes.result.now c.classes-classes.ensures in
+    let known = is_program m c.classes-classes.result.now c.classes-classes.ensures in
     let start = c.in-Ok.ensures.begins p refl in
-    leaves_as (ready_gives (told_of c.args.source) m c.args.steps c.args.stats p _ _ refl told start)
+    leaves_as (ready_gives (trap_reply_of c.args.origin) m c.args.steps c.args.stats p _ _ refl known start)
     (Grew (g.O.Sink.held c.args.out.now) (g.O.Sink.held c.run_from.new.out)) (Rose (g.O.Sink.faults c.args.out.now) (g.O.Sink.faults c.run_from.new.out)) c.run_from.result
-    (c.run_from.ensures.leaves p _ _ (record { source = refl; program = told; start = start }))
+    (c.run_from.ensures.leaves p _ _ (record { source = refl; program = known; start = start }))
 
 pub returns-in-Err-clause-leaves : goal.returns-in-Err-clause-leaves
 returns-in-Err-clause-leaves g c =
     let m = c.args.checked in
     let p = program_by m c.classes-classes.result.now in
-    let told = is_program m c.classes-classes.result.now c.classes-classes.ensures in
-    refusal_left (RunGives (told_of c.args.source) c.args.steps c.args.stats m) (g.O.Sink.held c.args.out.now) (Rose (g.O.Sink.faults c.args.out.now) (g.O.Sink.faults c.args.out.now)) c.no_run.result
-    (refuses_as (refused_gives (told_of c.args.source) m c.args.steps c.args.stats p refl told) c.no_run.result (c.no_run.ensures p c.args.steps c.args.stats (c.in-Err.ensures.begins p refl)))
+    let known = is_program m c.classes-classes.result.now c.classes-classes.ensures in
+    refusal_left (RunGives (trap_reply_of c.args.origin) c.args.steps c.args.stats m) (g.O.Sink.held c.args.out.now) (Rose (g.O.Sink.faults c.args.out.now) (g.O.Sink.faults c.args.out.now)) c.no_run.result
+    (refuses_as (refused_gives (trap_reply_of c.args.origin) m c.args.steps c.args.stats p refl known) c.no_run.result (c.no_run.ensures p c.args.steps c.args.stats (c.in-Err.ensures.begins p refl)))

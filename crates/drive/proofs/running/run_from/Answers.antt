@@ -4,7 +4,7 @@ use Rattle.w_syntax.specs.declared.module.Module.{Module}
 use Rattle.w_reduce.specs.Run.{Run}
 use Rattle.w_machine.specs.Beginning.{Begins}
 use Rattle.w_machine.specs.Position.{Position}
-use Rattle.drive.specs.Source.{told_of}
+use Rattle.drive.specs.Origin.{trap_reply_of}
 use Rattle.drive.proofs.Statistics.{leaves_with}
 use Rattle.drive.proofs.running.run_from.Goals as goal
 
@@ -13,8 +13,8 @@ returns-clause-leaves g c = λ p s t begins.
     let ran = c.run_machine-answer.ensures in
     let same = ap (λ (q : Position). q.program) c.in_ok-machine.ensures in
     let at = subst (λ (n : Module). Begins n p s t) (sym same) begins in
-    leaves_with (told_of c.args.source) (Run p s t c.args.steps) (Grew (g.O.Sink.held c.args.out.now) (g.O.Sink.held c.run_machine-answer.new.out))
-    (Rose (g.O.Sink.faults c.args.out.now) (g.O.Sink.faults c.run_machine-answer.new.out)) c.args.stats c.run_machine-answer.result c.with_stats-told.result
+    leaves_with (trap_reply_of c.args.origin) (Run p s t c.args.steps) (Grew (g.O.Sink.held c.args.out.now) (g.O.Sink.held c.run_machine-answer.new.out))
+    (Rose (g.O.Sink.faults c.args.out.now) (g.O.Sink.faults c.run_machine-answer.new.out)) c.args.stats c.run_machine-answer.result c.with_stats-replied.result
     (ran.leaves p s t at)
-    (λ asked. c.with_stats-told.ensures.told asked p s t c.args.steps (subst (λ (n : Module). Begins n p s t) (sym ran.program) at) ran.after)
-    c.with_stats-told.ensures.untold
+    (λ asked. c.with_stats-replied.ensures.asked asked p s t c.args.steps (subst (λ (n : Module). Begins n p s t) (sym ran.program) at) ran.after)
+    c.with_stats-replied.ensures.unasked

@@ -6,17 +6,17 @@ use Rattle.drive.proofs.Runs.{run_after, counts_are}
 use Rattle.drive.proofs.Statistics.{more_same, more_unwritten}
 use Rattle.drive.proofs.running.with_stats.Goals as goal
 
-pub returns-in_err-line-clause-told : goal.returns-in_err-line-clause-told
-returns-in_err-line-clause-told c = λ _ p s t steps begins after. more_unwritten (stats_line (Run p s t steps)) c.args.answer c.from_residual.result c.from_residual.ensures.1
+pub returns-in_err-line-clause-asked : goal.returns-in_err-line-clause-asked
+returns-in_err-line-clause-asked c = λ _ p s t steps begins after. more_unwritten (stats_line (Run p s t steps)) c.args.answer c.from_residual.result c.from_residual.ensures.1
 
-pub returns-clause-told : goal.returns-clause-told
-returns-clause-told c = λ _ p s t steps begins after.
+pub returns-clause-asked : goal.returns-clause-asked
+returns-clause-asked c = λ _ p s t steps begins after.
     let q = c.args.machine.now in
-    more_same c.in_ok-line.line.items (stats_line (Run p s t steps)) c.args.answer c.with_more.result
+    more_same c.in_ok-line.line.items (stats_line (Run p s t steps)) c.args.answer c.with_err.result
     (λ reply. c.in_ok-line.ensures
     ∙ counts_are (Run p s t q.taken) c.taken.result c.made.result c.consumed.result c.live.result
     (ap (λ (n : ℕ). (Run p s t n).taken) (sym c.taken.ensures.value) ∙ c.taken.ensures.counts p s t begins)
     (c.made.ensures.value p s t begins) (c.consumed.ensures.value p s t begins) (c.live.ensures.value p s t begins)
     ∙ ap stats_line (run_after q p s t steps (after reply)
-    (λ k kept. subst (λ (n : ℕ). Tells k (Run p s t n).outcome) c.taken.ensures.value (c.taken.ensures.told p s t begins k kept))))
-    c.with_more.ensures
+    (λ k stops. subst (λ (n : ℕ). Tells k (Run p s t n).outcome) c.taken.ensures.value (c.taken.ensures.stopped p s t begins k stops))))
+    c.with_err.ensures

@@ -2,7 +2,7 @@ use Rattle.std.proofs.Common.{◌∙◌, not, sym, ap}
 use Rattle.s_check.specs.declared.rule.Rule.TheVariants as rule
 use Rattle.s_check.specs.Least.{least_of}
 use Rattle.s_check.specs.Rules.{when}
-use Rattle.s_check.proofs.Lists.{against_as_many, against_others}
+use Rattle.s_check.proofs.ArgumentCounts.{against_as_many, against_others}
 use Rattle.s_check.proofs.arguments.against.Goals as goal
 
 pub returns-then-arguments-parameters : goal.returns-then-arguments-parameters

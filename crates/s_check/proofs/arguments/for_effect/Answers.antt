@@ -3,7 +3,7 @@ use Rattle.s_syntax.specs.ExprTree.{exprs}
 use Rattle.s_check.specs.declared.rule.Rule.TheVariants as rule
 use Rattle.s_check.specs.Least.{least_of}
 use Rattle.s_check.specs.Rules.{when, for_effect}
-use Rattle.s_check.proofs.Lists.{count_exprs}
+use Rattle.s_check.proofs.ArgumentCounts.{count_exprs}
 use Rattle.s_check.proofs.arguments.for_effect.Goals as goal
 
 pub returns-in-Some : goal.returns-in-Some

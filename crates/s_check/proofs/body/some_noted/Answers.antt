@@ -2,7 +2,7 @@ use Rattle.std.proofs.Common.{◌∙◌, ◌∷◌, ◌||◌, ◌+◌, Bool, Lis
 use Rattle.s_syntax.specs.declared.name.Name.{Name}
 use Rattle.s_check.specs.Scopes.{some_twice}
 use Rattle.s_check.specs.Views.{names_of}
-use Rattle.s_check.proofs.Lists.{cell}
+use Rattle.lists.proofs.Lists.{cell}
 use Rattle.s_check.proofs.body.some_noted.Goals as goal
 
 pub loop-name-preserved : goal.loop-name-preserved

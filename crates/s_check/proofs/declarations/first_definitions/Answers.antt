@@ -1,7 +1,7 @@
 use Rattle.std.proofs.Common.{◌∙◌, sym, ap, refl, drop, length, ◌-◌, List}
 use Rattle.s_syntax.specs.declared.script.Declaration.{Declaration}
 use Rattle.s_check.specs.Definitions.{definition_of}
-use Rattle.s_check.proofs.Lists.{cell_back}
+use Rattle.lists.proofs.Lists.{cell_back}
 use Rattle.s_check.proofs.Names.{finds_more}
 use Rattle.s_check.proofs.declarations.first_definitions.Goals as goal
 

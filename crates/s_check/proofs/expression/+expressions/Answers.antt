@@ -3,7 +3,7 @@ use Rattle.s_syntax.specs.declared.operators.BinaryOperator.{BinaryOperator}
 use Rattle.s_syntax.specs.ExprTree.{ExprTree, exprs, operands, height}
 use Rattle.s_check.specs.Rules.{in_expr, in_exprs, in_operands}
 use Rattle.s_check.proofs.Least.{one_more}
-use Rattle.s_check.proofs.Lists.{height_at, operand_at}
+use Rattle.s_syntax.proofs.Children.{height_at, operand_at}
 use Rattle.s_check.proofs.expression.+expressions.Goals as goal
 
 pub in_exprs-in_expr-least-requires : goal.in_exprs-in_expr-least-requires

@@ -7,7 +7,7 @@ use Rattle.s_check.specs.Least.{least_of}
 use Rattle.s_check.specs.Parts.{in_blocks}
 use Rattle.s_check.specs.Rules.{bound_after}
 use Rattle.s_check.specs.Scopes.{Scope}
-use Rattle.s_check.proofs.Lists.{depth_at}
+use Rattle.s_syntax.proofs.Children.{depth_at}
 use Rattle.s_check.proofs.Scopes.{kept_after}
 use Rattle.s_check.proofs.Statements.{block_more, in_parts}
 use Rattle.s_check.proofs.statement.+statements.Goals as goal

@@ -1,5 +1,5 @@
 use Rattle.std.proofs.lemmas.Result.{IfOk-weaker}
-use Rattle.s_code.proofs.Walking.{held}
+use Rattle.s_code.proofs.BuiltFromTokens.{held}
 use Rattle.s_code.proofs.body.body_of.Goals as goal
 
 pub into_body-requires : goal.into_body-requires

@@ -4,7 +4,7 @@ use Rattle.w_syntax.specs.Builds.{ProgressTo}
 use Rattle.w_syntax.specs.Code.{Code, Done}
 use Rattle.w_syntax.specs.Expr.{Top, More, Outcome, step, tokens}
 use Rattle.w_syntax.specs.declared.instructions.Token.{Token}
-use Rattle.s_code.proofs.Walking.{walk_on, walk_whole, goes_on}
+use Rattle.s_code.proofs.BuiltFromTokens.{walk_on, walk_whole, goes_on}
 use Rattle.s_code.proofs.body.built.Goals as goal
 
 pub loop-token-init : goal.loop-token-init

@@ -2,7 +2,7 @@ use Rattle.std.proofs.Common.{◌≡◌, vec_len, reverse}
 use Rattle.w_syntax.specs.Builds.{Builds}
 use Rattle.w_syntax.specs.Code.{Code}
 use Rattle.w_syntax.specs.Expr.{Path, Top, More, tokens}
-use Rattle.s_code.proofs.Walking.{walk_on}
+use Rattle.s_code.proofs.BuiltFromTokens.{walk_on}
 use Rattle.s_code.proofs.body.built.Given as goal
 
 abbrev pub decreases-loop-token : goal.decreases-loop-token

@@ -1,6 +1,6 @@
 use Rattle.std.proofs.lemmas.Result.{IfOk-weaker}
 use Rattle.s_code.specs.Statements.{body}
-use Rattle.s_code.proofs.Writing.{all_written}
+use Rattle.s_code.proofs.WrittenBehind.{all_written}
 use Rattle.s_code.proofs.body.function_body.Goals as goal
 
 pub body_of-requires : goal.body_of-requires

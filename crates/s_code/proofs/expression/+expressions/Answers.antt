@@ -13,10 +13,11 @@ use Rattle.s_check.specs.Size.{expr_size, exprs_size}
 use Rattle.s_code.specs.Instructions.{connective, truth}
 use Rattle.s_code.specs.Expressions as code
 use Rattle.s_code.specs.Writes.{Writes}
-use Rattle.s_index.proofs.Lists.{cell, height_at, operand_at}
+use Rattle.lists.proofs.Lists.{cell}
+use Rattle.s_syntax.proofs.Children.{height_at, operand_at}
 use Rattle.s_code.proofs.Sizes.{item_size, operand_size, some_size, length_within}
-use Rattle.s_code.proofs.Writing.{branches_at}
-use Rattle.s_code.proofs.Handling.{handle_written, resume_written}
+use Rattle.s_code.proofs.WrittenBehind.{branches_at}
+use Rattle.s_code.proofs.HandlesWritten.{handle_written, resume_written}
 use Rattle.s_code.proofs.expression.+expressions.Goals as goal
 
 pub write_args-write_expr-requires : goal.write_args-write_expr-requires

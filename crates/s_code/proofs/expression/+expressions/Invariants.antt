@@ -5,6 +5,7 @@ use Rattle.s_syntax.specs.ExprOf.{expr_of}
 use Rattle.s_check.specs.Size.{exprs_size, operands_size}
 use Rattle.s_code.specs.Expressions as code
 use Rattle.s_code.specs.Writes.{Writes}
+use Rattle.s_index.specs.Limits.{number_limit}
 use Rattle.s_code.proofs.expression.+expressions.Given as goal
 
 abbrev pub decreases-write_expr : goal.decreases-write_expr
@@ -34,17 +35,17 @@ decreases-write_connective l = height l.right.now * 8 + 8
 abbrev pub invariant-write_args-loop-item : goal.invariant-write_args-loop-item
 invariant-write_args-loop-item l = record {
   writes : (c : Code) → Writes l.fn.out.items (code.args l.program l.layout l.used (exprs l.items) c) l.out.items (code.args l.program l.layout l.used (exprs (drop l.item-index l.items)) c);
-  room : l.layout.temporaries + l.used + exprs_size (exprs (drop l.item-index l.items)) ≤ 1000000;
+  room : l.layout.temporaries + l.used + exprs_size (exprs (drop l.item-index l.items)) ≤ number_limit;
 }
 
 abbrev pub invariant-write_aside-loop-item : goal.invariant-write_aside-loop-item
 invariant-write_aside-loop-item l = record {
   writes : (c : Code) → Writes l.fn.out.items (code.set_aside l.program l.layout l.fn.used (exprs l.items) c) l.out.items (code.set_aside l.program l.layout l.next (exprs (drop l.item-index l.items)) c);
-  room : l.layout.temporaries + l.next + exprs_size (exprs (drop l.item-index l.items)) ≤ 1000000;
+  room : l.layout.temporaries + l.next + exprs_size (exprs (drop l.item-index l.items)) ≤ number_limit;
 }
 
 abbrev pub invariant-write_operands-loop-item : goal.invariant-write_operands-loop-item
 invariant-write_operands-loop-item l = record {
   writes : (c : Code) → Writes l.fn.out.items (code.operands l.program l.layout l.used (operands l.rest) c) l.out.items (code.operands l.program l.layout l.used (operands (drop l.item-index l.rest)) c);
-  room : l.layout.temporaries + l.used + operands_size (operands (drop l.item-index l.rest)) ≤ 1000000;
+  room : l.layout.temporaries + l.used + operands_size (operands (drop l.item-index l.rest)) ≤ number_limit;
 }

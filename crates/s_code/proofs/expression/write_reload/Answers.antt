@@ -4,7 +4,7 @@ use Rattle.w_syntax.specs.Expr.{tokens}
 use Rattle.s_syntax.specs.ExprTree.{ExprTree, exprs}
 use Rattle.s_code.specs.Expressions.{reload}
 use Rattle.s_code.specs.Instructions.{local_get}
-use Rattle.s_index.proofs.Lists.{cell}
+use Rattle.lists.proofs.Lists.{cell}
 use Rattle.s_code.proofs.Sizes.{item_size, some_size}
 use Rattle.s_code.proofs.expression.write_reload.Goals as goal
 

@@ -1,5 +1,5 @@
 use Rattle.std.proofs.lemmas.Result.{on_ok_weaker}
-use Rattle.s_code.proofs.Handling.{tail_written}
+use Rattle.s_code.proofs.HandlesWritten.{tail_written}
 use Rattle.s_code.proofs.expression.write_tail_resume.Goals as goal
 
 pub returns : goal.returns

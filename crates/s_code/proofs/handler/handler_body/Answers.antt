@@ -5,7 +5,7 @@ use Rattle.w_syntax.specs.declared.instructions.BlockType.TheVariants as block_t
 use Rattle.w_syntax.specs.Code.{Done}
 use Rattle.s_code.specs.Clauses.{placed_all}
 use Rattle.s_code.specs.Handlers.{handler_body}
-use Rattle.s_code.proofs.Writing.{all_written, block_at}
+use Rattle.s_code.proofs.WrittenBehind.{all_written, block_at}
 use Rattle.s_code.proofs.handler.handler_body.Goals as goal
 
 pub body_of-requires : goal.body_of-requires

@@ -3,7 +3,7 @@ use Rattle.s_code.specs.declared.layout.LocalName.{LocalName}
 use Rattle.s_code.specs.Layouts.{local_of}
 use Rattle.s_code.specs.Views.{locals_in}
 use Rattle.s_code.proofs.Locals.{found_more}
-use Rattle.s_index.proofs.Lists.{cell_back}
+use Rattle.lists.proofs.Lists.{cell_back}
 use Rattle.s_code.proofs.layout.first_locals.Goals as goal
 
 pub loop-behind-preserved : goal.loop-behind-preserved

@@ -6,9 +6,9 @@ use Rattle.s_syntax.specs.BlockTree.{depth, depth_within}
 use Rattle.s_syntax.specs.BlockOf.{statement_of}
 use Rattle.s_code.specs.Instructions.{branch}
 use Rattle.s_code.specs.Statements as code
-use Rattle.s_index.proofs.Lists.{depth_at}
+use Rattle.s_syntax.proofs.Children.{depth_at}
 use Rattle.s_code.proofs.Sizes.{some_size, statement_room}
-use Rattle.s_code.proofs.Writing.{block_at, branches_at}
+use Rattle.s_code.proofs.WrittenBehind.{block_at, branches_at}
 use Rattle.s_code.proofs.statement.+statements.Goals as goal
 
 pub write_block-write_statement-requires : goal.write_block-write_statement-requires

@@ -6,6 +6,7 @@ use Rattle.s_syntax.specs.BlockTree.{depth, depth_within}
 use Rattle.s_check.specs.Size.{block_size}
 use Rattle.s_code.specs.Statements as code
 use Rattle.s_code.specs.Writes.{Writes}
+use Rattle.s_index.specs.Limits.{number_limit}
 use Rattle.s_code.proofs.statement.+statements.Given as goal
 
 abbrev pub decreases-write_block : goal.decreases-write_block
@@ -24,5 +25,5 @@ abbrev pub invariant-write_block-loop-statement : goal.invariant-write_block-loo
 invariant-write_block-loop-statement l = record {
   writes : (c : Code) → Writes l.fn.out.items (code.block l.program l.layout l.labels l.block c) l.out.items (code.block l.program l.layout l.labels (block_of (drop l.statement-index l.statement-items)) c);
   seen : block_of l.statement-items ≡ l.block;
-  room : l.layout.temporaries + l.labels + block_size (block_of (drop l.statement-index l.statement-items)) ≤ 1000000;
+  room : l.layout.temporaries + l.labels + block_size (block_of (drop l.statement-index l.statement-items)) ≤ number_limit;
 }

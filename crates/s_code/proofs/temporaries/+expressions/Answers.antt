@@ -8,7 +8,8 @@ use Rattle.s_syntax.specs.ExprTree.{ExprTree, exprs, height, height_exprs}
 use Rattle.s_check.specs.Rules.{count}
 use Rattle.s_check.specs.Size.{expr_size, exprs_size}
 use Rattle.s_code.specs.Temporaries.{high, high_args, high_aside}
-use Rattle.s_index.proofs.Lists.{cell, height_at, operand_at}
+use Rattle.lists.proofs.Lists.{cell}
+use Rattle.s_syntax.proofs.Children.{height_at, operand_at}
 use Rattle.s_code.proofs.Sizes.{item_size, operand_size, some_size, length_within, count_exprs}
 use Rattle.s_code.proofs.temporaries.+expressions.Goals as goal
 

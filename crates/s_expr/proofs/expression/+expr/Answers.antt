@@ -7,10 +7,10 @@ use Rattle.s_grammar.specs.Kinds.{kind_of, is}
 use Rattle.s_grammar.specs.Reading.{Got}
 use Rattle.s_grammar.specs.Reads.{key, expr, listed, led}
 use Rattle.s_expr.specs.Levels.{operands, operators, operand, parenthesized_expr, arguments}
-use Rattle.s_expr.proofs.Enclosed.{passed_on, stop_as, enclosed_shut, enclosed_deep, enclosed_inner, enclosed_open, enclosed_got}
-use Rattle.s_expr.proofs.Listed.{listed_empty, listed_first, listed_starts, listed_stops, listed_goes_on, listed_got}
+use Rattle.s_expr.proofs.BetweenBrackets.{passed_on, stop_as, enclosed_shut, enclosed_deep, enclosed_inner, enclosed_open, enclosed_got}
+use Rattle.s_expr.proofs.ListsWithCommas.{listed_empty, listed_first, listed_starts, listed_stops, listed_goes_on, listed_got}
 use Rattle.s_expr.proofs.Loops.{loop_stops, further, Ahead, loop_goes_on, loop_ends}
-use Rattle.s_expr.proofs.Shrinking.{operand_shrinks, comma_shrinks}
+use Rattle.s_expr.proofs.ItemsTakeTokens.{operand_shrinks, comma_shrinks}
 use Rattle.s_expr.proofs.expression.+expr.Goals as goal
 
 pub operands_at-returns-in_err-item : goal.operands_at-returns-in_err-item

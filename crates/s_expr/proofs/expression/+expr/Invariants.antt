@@ -1,7 +1,7 @@
 use Rattle.std.proofs.Common.{◌+◌, ◌-◌, ◌*◌, length}
 use Rattle.s_grammar.specs.Reads.{expr}
 use Rattle.s_expr.specs.Levels.{rank, operators, operand}
-use Rattle.s_expr.proofs.Listed.{ListedAhead}
+use Rattle.s_expr.proofs.ListsWithCommas.{ListedAhead}
 use Rattle.s_expr.proofs.Loops.{Ahead}
 use Rattle.s_expr.proofs.expression.+expr.Given as goal
 

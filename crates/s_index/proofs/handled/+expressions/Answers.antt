@@ -1,7 +1,7 @@
 use Rattle.std.proofs.Common.{◌<◌, length, ap, arith}
 use Rattle.s_syntax.specs.declared.operators.BinaryOperator.{BinaryOperator}
 use Rattle.s_syntax.specs.ExprTree.{ExprTree, height}
-use Rattle.s_index.proofs.Lists.{height_at, operand_at}
+use Rattle.s_syntax.proofs.Children.{height_at, operand_at}
 use Rattle.s_index.proofs.handled.+expressions.Goals as goal
 
 pub push_in_exprs-push_in_expr-requires : goal.push_in_exprs-push_in_expr-requires

@@ -1,7 +1,7 @@
 use Rattle.std.proofs.Common.{◌<◌, length, ap, arith}
 use Rattle.s_syntax.specs.BlockTree.{depth, depth_within}
 use Rattle.s_syntax.specs.BlockOf.{statement_of}
-use Rattle.s_index.proofs.Lists.{depth_at}
+use Rattle.s_syntax.proofs.Children.{depth_at}
 use Rattle.s_index.proofs.handled.+statements.Goals as goal
 
 pub push_in_block-push_in_statement-requires : goal.push_in_block-push_in_statement-requires

@@ -3,7 +3,7 @@ use Rattle.w_types.specs.declared.types.CompType.{CompType}
 use Rattle.s_syntax.specs.declared.script.Declaration.{Declaration}
 use Rattle.s_index.specs.Types.{types_for, types_for_all, with_types}
 use Rattle.s_index.proofs.Lengths.{with_append}
-use Rattle.s_index.proofs.Lists.{cell}
+use Rattle.lists.proofs.Lists.{cell}
 use Rattle.s_index.proofs.program.function_types.Goals as goal
 
 pub loop-declaration-preserved : goal.loop-declaration-preserved

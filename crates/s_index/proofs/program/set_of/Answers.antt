@@ -2,8 +2,8 @@ use Rattle.std.proofs.Common.{◌∙◌, ◌-◌, List, Bor, drop, length, sym, 
 use Rattle.s_syntax.specs.declared.name.Name.{Name}
 use Rattle.s_check.specs.Scopes.{is_among}
 use Rattle.s_index.specs.Views.{names_of}
-use Rattle.s_index.proofs.Lists.{cell_back}
-use Rattle.s_index.proofs.Sets.{has_more}
+use Rattle.lists.proofs.Lists.{cell_back}
+use Rattle.s_check.proofs.Names.{has_more}
 use Rattle.s_index.proofs.program.set_of.Goals as goal
 
 pub loop-behind-preserved : goal.loop-behind-preserved

@@ -1,4 +1,4 @@
-use Rattle.s_judge.proofs.Judged.{only_answer}
+use Rattle.s_judge.proofs.OneJudgement.{only_answer}
 use Rattle.s_judge.proofs.judging.judge.Goals as goal
 
 pub returns-clause-only : goal.returns-clause-only

@@ -1,4 +1,4 @@
-use Rattle.s_judge.proofs.Judged as judged
+use Rattle.s_judge.proofs.OneJudgement as judged
 use Rattle.s_judge.proofs.laws.some_judgement.Goals as goal
 
 pub returns : goal.returns

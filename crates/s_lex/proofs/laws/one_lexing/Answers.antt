@@ -1,4 +1,4 @@
-use Rattle.s_lex.proofs.Cutting as cutting
+use Rattle.s_lex.proofs.BytesIntoTokens as cutting
 use Rattle.s_lex.proofs.laws.one_lexing.Goals as goal
 
 pub returns : goal.returns

@@ -1,5 +1,5 @@
 use Rattle.std.proofs.Common.{rules, ◌≤◌, ◌+◌, length, arith}
-use Rattle.s_lex.proofs.Cutting.{token_fits, blank_fits, so_far_blank, so_far_token, so_far_bad, so_far_ends}
+use Rattle.s_lex.proofs.BytesIntoTokens.{token_fits, blank_fits, so_far_blank, so_far_token, so_far_bad, so_far_ends}
 use Rattle.s_lex.proofs.TokenTexts.{texts, order, only}
 use Rattle.s_lex.proofs.lexing.lex.Goals as goal
 

@@ -7,7 +7,7 @@ use Rattle.s_code.specs.Layouts.{Layout}
 use Rattle.s_code.specs.Statements.{body}
 use Rattle.s_lower.specs.Views.{bound_of, bounds_of}
 use Rattle.s_lower.proofs.Lengths.{as_many}
-use Rattle.s_lower.proofs.Numbering.{function_laid}
+use Rattle.s_lower.proofs.NumberedNames.{function_laid}
 use Rattle.s_lower.proofs.code.body_with.Goals as goal
 
 pub returns : goal.returns

@@ -10,7 +10,8 @@ use Rattle.s_code.specs.Layouts.{Layout}
 use Rattle.s_code.specs.Places.{return_layout}
 use Rattle.s_lower.specs.Views.{bound_of, bounds_of, layout_of}
 use Rattle.s_lower.proofs.Lengths.{as_many, clauses_few}
-use Rattle.s_lower.proofs.Numbering.{handler_laid, handler_placed, placed_first, as_many_kept, all_fit}
+use Rattle.s_lower.proofs.NumberedNames.{handler_laid, handler_placed, placed_first, as_many_kept, all_fit}
+use Rattle.s_index.specs.Limits.{number_limit}
 use Rattle.s_lower.proofs.code.handler_body_with.Goals as goal
 
 pub handler_body-requires-clause-clauses : goal.handler_body-requires-clause-clauses
@@ -21,7 +22,7 @@ handler_body-requires-clause-clauses c =
     let from = length c.args.parameters.now + 1 + length c.args.own.now in
     let temps = c.args.temporaries in
     let few = clauses_few i.clauses in
-    let room : temps + length i.clauses + sum_by clause_size i.clauses ≤ 1000000 = omega (arith, few) in
+    let room : temps + length i.clauses + sum_by clause_size i.clauses ≤ number_limit = omega (arith, few) in
     all_fit c.as_slice.result.now h us temps from i.clauses
     (placed_first c.new-placed.result.items c.push_all_placed.new.placed.items c.as_slice.result.now h us temps from c.as_slice-clauses.result.now i.clauses c.new-placed.ensures.items c.in_ok-push_all_placed.ensures.value c.as_slice.ensures.value c.as_slice-clauses.ensures) room
 

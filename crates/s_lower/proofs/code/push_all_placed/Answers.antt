@@ -3,9 +3,9 @@ use Rattle.std.specs.Prelude.{sum_by}
 use Rattle.std.proofs.lemmas.List.Sums.{sum_by-cons}
 use Rattle.s_syntax.specs.declared.script.Clause.{Clause}
 use Rattle.s_check.specs.Size.{clause_size}
-use Rattle.s_index.proofs.Lists.{cell}
+use Rattle.lists.proofs.Lists.{cell}
 use Rattle.s_lower.specs.Views.{bounds_of}
-use Rattle.s_lower.proofs.Numbering.{placed_more}
+use Rattle.s_lower.proofs.NumberedNames.{placed_more}
 use Rattle.s_lower.proofs.code.push_all_placed.Goals as goal
 
 pub loop-clause-preserved : goal.loop-clause-preserved

@@ -1,4 +1,4 @@
-use Rattle.s_lower.proofs.Assembled.{assembled}
+use Rattle.s_lower.proofs.ModulesOfParts.{assembled}
 use Rattle.s_lower.proofs.lowering.add_parts.Goals as goal
 
 pub returns : goal.returns

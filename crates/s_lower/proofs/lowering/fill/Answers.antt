@@ -1,7 +1,7 @@
 use Rattle.std.proofs.Common.{◌∙◌, List, ap}
 use Rattle.s_syntax.specs.declared.script.Declaration.{Declaration}
 use Rattle.s_code.specs.Lowered.{lowered_all}
-use Rattle.s_lower.proofs.Assembled.{completed}
+use Rattle.s_lower.proofs.ModulesOfParts.{completed}
 use Rattle.s_lower.proofs.lowering.fill.Goals as goal
 
 pub returns : goal.returns

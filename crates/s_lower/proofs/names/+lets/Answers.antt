@@ -1,7 +1,7 @@
 use Rattle.std.proofs.Common.{◌<◌, length, ap, arith}
 use Rattle.s_syntax.specs.BlockTree.{depth, depth_within}
 use Rattle.s_syntax.specs.BlockOf.{statement_of}
-use Rattle.s_index.proofs.Lists.{depth_at}
+use Rattle.s_syntax.proofs.Children.{depth_at}
 use Rattle.s_lower.proofs.names.+lets.Goals as goal
 
 pub push_lets-push_lets_of-requires : goal.push_lets-push_lets_of-requires

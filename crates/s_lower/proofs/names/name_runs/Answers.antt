@@ -1,4 +1,4 @@
-use Rattle.s_lower.proofs.Bindings.{run_pushed}
+use Rattle.s_lower.proofs.NamesBehindOthers.{run_pushed}
 use Rattle.s_lower.proofs.names.name_runs.Goals as goal
 
 pub loop-binding-preserved : goal.loop-binding-preserved

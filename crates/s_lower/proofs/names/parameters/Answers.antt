@@ -1,7 +1,7 @@
 use Rattle.std.proofs.Common.{ap}
 use Rattle.s_syntax.specs.declared.script.VariableType.{VariableType}
 use Rattle.s_check.specs.Scopes.{Bound, parameter}
-use Rattle.s_lower.proofs.Bindings.{pushed}
+use Rattle.s_lower.proofs.NamesBehindOthers.{pushed}
 use Rattle.s_lower.proofs.names.parameters.Goals as goal
 
 pub loop-parameter-preserved : goal.loop-parameter-preserved

@@ -3,7 +3,7 @@ use Rattle.std.proofs.lemmas.List.{append-nil, drop_all}
 use Rattle.s_syntax.specs.declared.script.Clause.{Clause}
 use Rattle.s_code.specs.Places.{clauses_names}
 use Rattle.s_lower.specs.Views.{bounds_of}
-use Rattle.s_lower.proofs.Bindings.{clause_pushed}
+use Rattle.s_lower.proofs.NamesBehindOthers.{clause_pushed}
 use Rattle.s_lower.proofs.Lengths.{clauses_within, grown}
 use Rattle.s_lower.proofs.names.push_clauses_names.Goals as goal
 

@@ -1,4 +1,4 @@
-use Rattle.s_meaning.proofs.Running.{never_wrong}
+use Rattle.s_meaning.proofs.TypedRuns.{never_wrong}
 use Rattle.s_meaning.proofs.laws.good_scripts_are_never_wrong.Goals as goal
 
 pub returns : goal.returns

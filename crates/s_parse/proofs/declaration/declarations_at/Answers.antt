@@ -3,11 +3,11 @@ use Rattle.std.proofs.lemmas.Result.{err_from_is_err_and}
 use Rattle.s_syntax.specs.declared.token.Kind.TheVariants as kind
 use Rattle.s_grammar.specs.Kinds.{is, kind_of, other_than}
 use Rattle.s_grammar.specs.Reads.{declarations}
-use Rattle.s_expr.proofs.Enclosed.{passed_on, stop_as}
-use Rattle.s_expr.proofs.Listed.{negated, turned}
+use Rattle.s_expr.proofs.BetweenBrackets.{passed_on, stop_as}
+use Rattle.s_expr.proofs.ListsWithCommas.{negated, turned}
 use Rattle.s_expr.proofs.Loops.{loop_stops, further, Ahead, loop_goes_on, loop_ends}
 use Rattle.s_parse.specs.Items.{declaration}
-use Rattle.s_parse.proofs.Shrinking.{declaration_shrinks}
+use Rattle.s_parse.proofs.ItemsTakeTokens.{declaration_shrinks}
 use Rattle.s_parse.proofs.declaration.declarations_at.Goals as goal
 
 pub returns-in_err-item : goal.returns-in_err-item

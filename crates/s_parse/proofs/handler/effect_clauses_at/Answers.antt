@@ -3,10 +3,10 @@ use Rattle.std.proofs.lemmas.Result.{err_from_is_err_and}
 use Rattle.s_syntax.specs.declared.token.Kind.TheVariants as kind
 use Rattle.s_grammar.specs.Kinds.{is, kind_of}
 use Rattle.s_grammar.specs.Reads.{clause}
-use Rattle.s_expr.proofs.Enclosed.{passed_on, stop_as}
+use Rattle.s_expr.proofs.BetweenBrackets.{passed_on, stop_as}
 use Rattle.s_expr.proofs.Loops.{loop_stops, further, Ahead, loop_goes_on, loop_ends}
 use Rattle.s_parse.specs.Items.{effect_clauses}
-use Rattle.s_parse.proofs.Shrinking.{clause_shrinks}
+use Rattle.s_parse.proofs.ItemsTakeTokens.{clause_shrinks}
 use Rattle.s_parse.proofs.handler.effect_clauses_at.Goals as goal
 
 pub returns-in_err-item : goal.returns-in_err-item

@@ -4,10 +4,10 @@ use Rattle.s_syntax.specs.declared.token.Kind.TheVariants as kind
 use Rattle.s_grammar.specs.Kinds.{is, kind_of}
 use Rattle.s_grammar.specs.Reading.{Got}
 use Rattle.s_grammar.specs.Reads.{name, listed, led}
-use Rattle.s_expr.proofs.Enclosed.{passed_on, stop_as}
-use Rattle.s_expr.proofs.Listed.{listed_empty, listed_first, listed_stops, listed_goes_on, listed_got}
+use Rattle.s_expr.proofs.BetweenBrackets.{passed_on, stop_as}
+use Rattle.s_expr.proofs.ListsWithCommas.{listed_empty, listed_first, listed_stops, listed_goes_on, listed_got}
 use Rattle.s_expr.proofs.Loops.{further}
-use Rattle.s_parse.proofs.Shrinking.{comma_name_shrinks}
+use Rattle.s_parse.proofs.ItemsTakeTokens.{comma_name_shrinks}
 use Rattle.s_parse.proofs.parameter.name_list_at.Goals as goal
 
 pub returns-then-is_kind : goal.returns-then-is_kind

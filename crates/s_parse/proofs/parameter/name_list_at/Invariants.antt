@@ -1,6 +1,6 @@
 use Rattle.std.proofs.Common.{◌-◌, length}
 use Rattle.s_grammar.specs.Reads.{name}
-use Rattle.s_expr.proofs.Listed.{ListedAhead}
+use Rattle.s_expr.proofs.ListsWithCommas.{ListedAhead}
 use Rattle.s_parse.proofs.parameter.name_list_at.Given as goal
 
 abbrev pub invariant-items : goal.invariant-items

@@ -2,7 +2,7 @@ use Rattle.std.proofs.Common.{drop}
 use Rattle.std.proofs.lemmas.Result.{err_from_is_err_and}
 use Rattle.s_syntax.specs.declared.token.Kind.TheVariants as kind
 use Rattle.s_grammar.specs.Reads.{names, key, listed, name}
-use Rattle.s_expr.proofs.Enclosed.{passed_on, stop_as, enclosed_shut, enclosed_deep, enclosed_inner, enclosed_open, enclosed_got}
+use Rattle.s_expr.proofs.BetweenBrackets.{passed_on, stop_as, enclosed_shut, enclosed_deep, enclosed_inner, enclosed_open, enclosed_got}
 use Rattle.s_parse.proofs.parameter.names_at.Goals as goal
 
 pub returns-in_err-inside : goal.returns-in_err-inside

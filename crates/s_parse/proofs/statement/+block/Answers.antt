@@ -8,12 +8,12 @@ use Rattle.s_grammar.specs.Parts.{block_tree}
 use Rattle.s_grammar.specs.Reading.{Refused, many, Got}
 use Rattle.s_grammar.specs.Reads.{block, key}
 use Rattle.s_grammar.proofs.Images.{image_refused, image_got}
-use Rattle.s_expr.proofs.Enclosed.{passed_on, stop_as, enclosed_shut, enclosed_deep, enclosed_inner, enclosed_open, enclosed_got}
-use Rattle.s_expr.proofs.Listed.{negated, turned}
+use Rattle.s_expr.proofs.BetweenBrackets.{passed_on, stop_as, enclosed_shut, enclosed_deep, enclosed_inner, enclosed_open, enclosed_got}
+use Rattle.s_expr.proofs.ListsWithCommas.{negated, turned}
 use Rattle.s_expr.proofs.Loops.{loop_stops, viewed, further, viewed_more, Ahead, loop_goes_on, loop_ends}
 use Rattle.s_parse.specs.Items.{statements, statement}
 use Rattle.s_parse.proofs.Blocks.{by_braces, by_items, block_seen}
-use Rattle.s_parse.proofs.Shrinking.{statement_shrinks}
+use Rattle.s_parse.proofs.ItemsTakeTokens.{statement_shrinks}
 use Rattle.s_parse.proofs.statement.+block.Goals as goal
 
 pub block_at-returns-in_err-inside : goal.block_at-returns-in_err-inside

@@ -1,7 +1,7 @@
 use Rattle.std.proofs.Common.{◌<◌, length, ap, arith}
 use Rattle.s_syntax.specs.declared.operators.BinaryOperator.{BinaryOperator}
 use Rattle.s_syntax.specs.ExprTree.{ExprTree, height}
-use Rattle.s_size.proofs.Lists.{height_at, operand_at}
+use Rattle.s_syntax.proofs.Children.{height_at, operand_at}
 use Rattle.s_size.proofs.expression.+expressions.Goals as goal
 
 pub after_exprs-after_expr-requires : goal.after_exprs-after_expr-requires

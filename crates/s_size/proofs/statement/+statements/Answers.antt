@@ -1,7 +1,7 @@
 use Rattle.std.proofs.Common.{◌<◌, length, ap, arith}
 use Rattle.s_syntax.specs.BlockTree.{depth, depth_within}
 use Rattle.s_syntax.specs.BlockOf.{statement_of}
-use Rattle.s_size.proofs.Lists.{depth_at}
+use Rattle.s_syntax.proofs.Children.{depth_at}
 use Rattle.s_size.proofs.statement.+statements.Goals as goal
 
 pub after_block-after_statement-requires : goal.after_block-after_statement-requires

@@ -1,6 +1,6 @@
 use Rattle.w_call_ops.proofs.FrameRoom.{both_ok}
 use Rattle.std.proofs.lemmas.Result.{on_ok_weaker}
-use Rattle.w_call_ops.proofs.Invoking.{invoke_there, invoke_follows}
+use Rattle.w_call_ops.proofs.Invocations.{invoke_there, invoke_follows}
 use Rattle.w_call_ops.proofs.calls.invoke_own.Goals as goal
 
 pub enter-requires-clause-there : goal.enter-requires-clause-there

@@ -1,7 +1,7 @@
 use Rattle.std.proofs.Common.{◌≡◌, List, true, sym, subst, length, ap, ◌∙◌, arith}
 use Rattle.w_types.specs.declared.value.Value.{Value}
 use Rattle.w_segment.specs.Holds.{Holds}
-use Rattle.w_segment.proofs.Holding.{same_holds, discarded_holds, moved_holds, framed_holds, labelled_holds}
+use Rattle.w_segment.proofs.FactsOfValues.{same_holds, discarded_holds, moved_holds, framed_holds, labelled_holds}
 use Rattle.w_segment.proofs.MoreLocals.{more_holds}
 use Rattle.w_syntax.specs.declared.module.Module.{Module}
 use Rattle.w_segment.specs.Shape.{Level, Capacity, Grown}
@@ -31,7 +31,7 @@ pub returns-clause-keeps : goal.returns-clause-keeps
 returns-clause-keeps c = λ test on h.
     let P : Value → Type 0 = λ v. test v ≡ true in
     let reserved = same_holds P c.args.stack.now c.room_for_frame.new.stack c.room_for_frame.ensures.roomier.same h in
-    let discarded = subst (Holds P) (sym c.discard.ensures.after) (discarded_holds P c.args.taken c.room_for_frame.new.stack reserved) in
+    let discarded = subst (Holds P) (sym c.discard.ensures.after) (discarded_holds P c.args.popped c.room_for_frame.new.stack reserved) in
     let gone = subst (Holds P) (sym c.go.ensures.after) (moved_holds P c.args.back c.discard.new.self discarded) in
     let framed = subst (Holds P) (sym c.enter.ensures.after) (framed_holds P c.args.function c.len-params.result c.len-params.result c.len-arity.result c.go.new.self gone) in
     let more = subst (Holds P) (sym c.add_runs.ensures.after) (more_holds P (first_values c.as_slice-runs.result.now) c.enter.new.self (first_set test on c.as_slice-runs.result.now) framed) in
@@ -45,7 +45,7 @@ enter-requires-2-clause-levels c =
     let f = subst (λ (x : Module). IsFunction x c.args.function c.find.result.0.now c.find.result.1.now) c.module.ensures.same c.find.ensures in
     let n = needed m c.args.function c.height-height.result c.depth-depth.result c.find.result.0.now c.find.result.1.now f
     (c.height-height.ensures.there c.find.result.0.now c.find.result.1.now f.type_is f.code_is) (c.depth-depth.ensures.there c.find.result.0.now c.find.result.1.now f.type_is f.code_is) in
-    label_room c.args.function c.height-height.result c.depth-depth.result _ c.args.taken c.len-params.result c.len-arity.result c.args.back ks r c.add_runs.new.stack c.in_ok-room_for_frame.ensures.ok n.2
+    label_room c.args.function c.height-height.result c.depth-depth.result _ c.args.popped c.len-params.result c.len-arity.result c.args.back ks r c.add_runs.new.stack c.in_ok-room_for_frame.ensures.ok n.2
     (c.add_runs.ensures.after ∙ ap (with_more ks) (c.enter.ensures.after
     ∙ ap (framed c.args.function c.len-params.result c.len-params.result c.len-arity.result) (c.go.ensures.after ∙ ap (moved c.args.back) c.discard.ensures.after)))
 
@@ -59,7 +59,7 @@ returns-clause-room c =
     let f = subst (λ (x : Module). IsFunction x c.args.function c.find.result.0.now c.find.result.1.now) c.module.ensures.same c.find.ensures in
     let n = needed m c.args.function c.height-height.result c.depth-depth.result c.find.result.0.now c.find.result.1.now f
     (c.height-height.ensures.there c.find.result.0.now c.find.result.1.now f.type_is f.code_is) (c.depth-depth.ensures.there c.find.result.0.now c.find.result.1.now f.type_is f.code_is) in
-    let room = framed_room c.args.function c.height-height.result c.depth-depth.result _ c.args.taken c.len-params.result c.len-arity.result c.args.back (length c.instrs.result.now) ks r s'
+    let room = framed_room c.args.function c.height-height.result c.depth-depth.result _ c.args.popped c.len-params.result c.len-arity.result c.args.back (length c.instrs.result.now) ks r s'
     c.in_ok-room_for_frame.ensures.ok
     (c.enter-2.ensures.after ∙ ap (labelled 0 c.len-arity.result (length c.instrs.result.now)) (c.add_runs.ensures.after ∙ ap (with_more ks) (c.enter.ensures.after
     ∙ ap (framed c.args.function c.len-params.result c.len-params.result c.len-arity.result) (c.go.ensures.after ∙ ap (moved c.args.back) c.discard.ensures.after)))) in

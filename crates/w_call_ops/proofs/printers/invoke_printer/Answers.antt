@@ -3,7 +3,7 @@ use Rattle.w_segment.specs.declared.entry.Stage.TheVariants.{Values}
 use Rattle.w_segment.specs.Changes.{staged}
 use Rattle.w_stands.specs.Numbers.{IsNumber}
 use Rattle.w_call_ops.specs.Printing.{taken_by}
-use Rattle.w_call_ops.proofs.Printing.{fresh_number, fresh_follows}
+use Rattle.w_call_ops.proofs.HostCalls.{fresh_number, fresh_follows}
 use Rattle.w_call_ops.proofs.printers.invoke_printer.Goals as goal
 
 pub spelled-text-requires : goal.spelled-text-requires

@@ -1,5 +1,5 @@
 use Rattle.std.proofs.Common.{sym}
-use Rattle.w_canon.proofs.Inserted.{found_before, found_now}
+use Rattle.w_canon.proofs.OneMoreKey.{found_before, found_now}
 use Rattle.w_canon.proofs.classes.first_with.Goals as goal
 
 pub returns-in-Some : goal.returns-in-Some

@@ -1,5 +1,5 @@
 use Rattle.std.proofs.Common.{arith}
-use Rattle.w_types.proofs.Tests.{each_of}
+use Rattle.lists.proofs.Tests.{each_of}
 use Rattle.w_canon.specs.Relations.{none}
 use Rattle.w_canon.specs.Compared.{IsAlike}
 use Rattle.w_canon.proofs.ComparedRows.{pairwise_next, pairwise_whole}

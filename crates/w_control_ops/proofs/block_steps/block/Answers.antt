@@ -1,7 +1,7 @@
 use Rattle.std.proofs.Common.{ℕ, ◌+◌, ◌∙◌, ap, arith}
 use Rattle.w_reduce.specs.Program.{Arity}
 use Rattle.w_control_ops.specs.Entering.{target_of}
-use Rattle.w_control_ops.proofs.Entering.{same_label}
+use Rattle.w_control_ops.proofs.EnteredLabels.{same_label}
 use Rattle.w_control_ops.proofs.Blocks.{block_known, block_fits, block_place, block_end, block_follows, block_room}
 use Rattle.w_control_ops.proofs.block_steps.block.Goals as goal
 

@@ -2,7 +2,7 @@ use Rattle.std.proofs.Common.{ℕ, ◌<◌, ◌∙◌, sym, ap, subst, arith, le
 use Rattle.std.specs.Prelude.{◌^◌}
 use Rattle.w_reduce.specs.Program.{Arity}
 use Rattle.w_control_ops.specs.Entering.{start_of}
-use Rattle.w_control_ops.proofs.Entering.{same_label}
+use Rattle.w_control_ops.proofs.EnteredLabels.{same_label}
 use Rattle.w_control_ops.proofs.Choices.{choice_known, choice_some, choice_number, choice_fits, choice_end, choice_start, choice_follows, choice_room}
 use Rattle.w_control_ops.proofs.block_steps.choice.Goals as goal
 

@@ -1,4 +1,4 @@
-use Rattle.w_control_ops.proofs.LeavingBranch.{left_there, left_follows, left_keeps}
+use Rattle.w_control_ops.proofs.LeftBranches.{left_there, left_follows, left_keeps}
 use Rattle.w_control_ops.proofs.branch_steps.branch_left.Goals as goal
 
 pub branch-stack-requires : goal.branch-stack-requires

@@ -1,4 +1,4 @@
-use Rattle.w_control_ops.proofs.Returning.{return_there, return_follows, return_keeps}
+use Rattle.w_control_ops.proofs.LeftFrames.{return_there, return_follows, return_keeps}
 use Rattle.w_control_ops.proofs.branch_steps.return_.Goals as goal
 
 pub returns-requires : goal.returns-requires

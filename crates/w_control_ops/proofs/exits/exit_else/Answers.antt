@@ -1,8 +1,8 @@
 use Rattle.std.proofs.Common.{ℕ, ap, ◌∙◌}
 use Rattle.w_segment.specs.Changes.{left, moved}
 use Rattle.w_segment.specs.Shape.{target_of}
-use Rattle.w_control_ops.proofs.Exiting.{exit_there}
-use Rattle.w_control_ops.proofs.ExitingElse.{exit_else}
+use Rattle.w_control_ops.proofs.LeftLevels.{exit_there}
+use Rattle.w_control_ops.proofs.LevelsLeftAtElse.{exit_else}
 use Rattle.w_control_ops.proofs.exits.exit_else.Goals as goal
 
 pub leave-label-requires : goal.leave-label-requires

@@ -1,7 +1,7 @@
 use Rattle.std.proofs.Common.{ℕ, ◌+◌, sym, ap, ◌∙◌, arith}
 use Rattle.w_segment.specs.Changes.{moved}
 use Rattle.w_control_ops.specs.Ended.{ended}
-use Rattle.w_control_ops.proofs.Exiting.{exit_there, exit_place, exit_label, exit_frame}
+use Rattle.w_control_ops.proofs.LeftLevels.{exit_there, exit_place, exit_label, exit_frame}
 use Rattle.w_control_ops.proofs.exits.exit_end.Goals as goal
 
 pub leave-requires : goal.leave-requires

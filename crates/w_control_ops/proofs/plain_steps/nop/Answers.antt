@@ -1,4 +1,4 @@
-use Rattle.w_control_ops.proofs.Staying.{nop_follows}
+use Rattle.w_control_ops.proofs.NopAndUnreachable.{nop_follows}
 use Rattle.w_control_ops.proofs.plain_steps.nop.Goals as goal
 
 pub returns-clause-goes : goal.returns-clause-goes

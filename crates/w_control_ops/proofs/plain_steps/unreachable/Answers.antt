@@ -1,4 +1,4 @@
-use Rattle.w_control_ops.proofs.Staying.{unreachable_follows}
+use Rattle.w_control_ops.proofs.NopAndUnreachable.{unreachable_follows}
 use Rattle.w_control_ops.proofs.plain_steps.unreachable.Goals as goal
 
 pub returns : goal.returns

@@ -4,7 +4,7 @@ use Rattle.w_syntax.specs.Module.{header}
 use Rattle.w_encode.specs.TypesWritten.{rectype_written, limits_written}
 use Rattle.w_encode.specs.FieldsWritten.{import_written, table_written, tag_written, global_written, export_written, elem_written, data_written}
 use Rattle.w_encode.specs.Canon.{list_section, number_section, data_count, code_written}
-use Rattle.w_encode.proofs.Appended.{before}
+use Rattle.w_encode.proofs.BytesBehindBytes.{before}
 use Rattle.w_encode.proofs.module.canonical.Goals as goal
 
 -- from the last section to the first, what is written from it on

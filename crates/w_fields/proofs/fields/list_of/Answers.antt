@@ -1,6 +1,6 @@
 use Rattle.std.proofs.Common.{sym, ap, ◌∙◌}
 use Rattle.w_leb.specs.Format.{whole}
-use Rattle.w_fields.proofs.Cutting.{not_whole}
+use Rattle.w_fields.proofs.SizedBytes.{not_whole}
 use Rattle.w_fields.proofs.fields.list_of.Goals as goal
 
 pub returns-then-next-bytes : goal.returns-then-next-bytes

@@ -1,6 +1,6 @@
 use Rattle.std.proofs.Common.{drop, arith}
 use Rattle.std.proofs.lemmas.List.{length-drop}
-use Rattle.w_fields.proofs.Cutting.{no_size, too_short, cut_out}
+use Rattle.w_fields.proofs.SizedBytes.{no_size, too_short, cut_out}
 use Rattle.w_fields.proofs.fields.sized_at.Goals as goal
 
 pub returns-in_default : goal.returns-in_default

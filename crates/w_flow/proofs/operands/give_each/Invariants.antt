@@ -1,5 +1,5 @@
 use Rattle.std.proofs.Common.{◌≡◌, take}
-use Rattle.w_types.specs.Rows.{row_of, ◌⧺◌}
+use Rattle.lists.specs.Rows.{row_of, ◌⧺◌}
 use Rattle.w_rules.specs.Matching.{known}
 use Rattle.w_flow.specs.Operands.{row_in, AreWorded}
 use Rattle.w_flow.proofs.operands.give_each.Given as goal

@@ -1,6 +1,6 @@
 use Rattle.std.proofs.Common.{◌≡◌, ℕ, ◌-◌, ◌≤◌, ◌⊎◌, inl, inr, Bool, true, false, List, Option, Some, None, length, take, sym, ap, ◌∙◌, arith}
 use Rattle.w_types.specs.declared.types.ValType.{ValType}
-use Rattle.w_types.specs.Rows.{Row, ε, row_of}
+use Rattle.lists.specs.Rows.{Row, ε, row_of}
 use Rattle.w_canon.specs.declared.entry.Entry.{Entry}
 use Rattle.w_rules.specs.Operands.{Operand as TheType}
 use Rattle.w_flow.specs.Operands.{row_in}

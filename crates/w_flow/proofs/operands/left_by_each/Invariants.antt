@@ -1,5 +1,5 @@
 use Rattle.std.proofs.Common.{◌≡◌, ◌≤◌, length, take}
-use Rattle.w_types.specs.Rows.{row_of}
+use Rattle.lists.specs.Rows.{row_of}
 use Rattle.w_flow.specs.Flow.{pops}
 use Rattle.w_flow.specs.Operands.{row_in}
 use Rattle.w_flow.proofs.operands.left_by_each.Given as goal

@@ -2,7 +2,7 @@ use Rattle.std.proofs.Common.{ap, ◌∙◌}
 use Rattle.w_syntax.specs.declared.module.Data.{Data}
 use Rattle.w_stands.specs.Values.{store_of}
 use Rattle.w_inst.specs.Adding.{with_datas}
-use Rattle.w_inst.proofs.Adding.{added_more, datas_kind, bytes_added}
+use Rattle.w_inst.proofs.AddedItems.{added_more, datas_kind, bytes_added}
 use Rattle.w_inst.proofs.allocation.add_datas.Goals as goal
 
 pub loop-data-preserved : goal.loop-data-preserved

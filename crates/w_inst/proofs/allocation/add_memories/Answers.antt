@@ -4,8 +4,8 @@ use Rattle.w_memory.specs.Memory.{fresh}
 use Rattle.w_syntax.specs.declared.module.Limits.{Limits}
 use Rattle.w_stands.specs.Values.{store_of}
 use Rattle.w_inst.specs.Adding.{with_memories}
-use Rattle.w_inst.proofs.Adding.{added_more, memories_kind, memory_added}
-use Rattle.w_inst.proofs.Fitting.{memory_fits}
+use Rattle.w_inst.proofs.AddedItems.{added_more, memories_kind, memory_added}
+use Rattle.w_inst.proofs.RoomInModules.{memory_fits}
 use Rattle.w_inst.proofs.allocation.add_memories.Goals as goal
 
 pub overflow_cast-limits : goal.overflow_cast-limits

@@ -2,7 +2,7 @@ use Rattle.std.proofs.Common.{ℕ, ap, sym, ◌∙◌}
 use Rattle.w_tables.specs.declared.entries.FuncEntry.TheVariants as function
 use Rattle.w_tables.specs.Operations.{add_function}
 use Rattle.w_stands.specs.Values.{store_of}
-use Rattle.w_inst.proofs.Adding.{own_more, function_added}
+use Rattle.w_inst.proofs.AddedItems.{own_more, function_added}
 use Rattle.w_inst.proofs.allocation.add_own.Goals as goal
 
 pub loop-index-preserved : goal.loop-index-preserved

@@ -3,7 +3,7 @@ use Rattle.w_tables.specs.declared.entries.FuncEntry.TheVariants as function
 use Rattle.w_tables.specs.declared.entries.Printer.TheVariants as printer
 use Rattle.w_stands.specs.Values.{store_of}
 use Rattle.w_inst.specs.Adding.{with_functions}
-use Rattle.w_inst.proofs.Adding.{added_more, functions_kind, function_added}
+use Rattle.w_inst.proofs.AddedItems.{added_more, functions_kind, function_added}
 use Rattle.w_inst.proofs.allocation.add_printers.Goals as goal
 
 pub loop-printer-preserved : goal.loop-printer-preserved

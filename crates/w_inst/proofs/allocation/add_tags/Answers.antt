@@ -2,7 +2,7 @@ use Rattle.std.proofs.Common.{refl}
 use Rattle.w_syntax.specs.declared.module.Tag.{Tag}
 use Rattle.w_stands.specs.Values.{store_of}
 use Rattle.w_inst.specs.Adding.{with_tags}
-use Rattle.w_inst.proofs.Adding.{added_more, tags_kind, tag_added}
+use Rattle.w_inst.proofs.AddedItems.{added_more, tags_kind, tag_added}
 use Rattle.w_inst.proofs.allocation.add_tags.Goals as goal
 
 pub loop-tag-preserved : goal.loop-tag-preserved

@@ -2,8 +2,8 @@ use Rattle.std.proofs.Common.{◌≡◌, ◌+◌, List, length, refl, sym, subst
 use Rattle.w_types.specs.declared.value.Value.{Value}
 use Rattle.w_reduce.specs.Start.{bare, with_globals}
 use Rattle.w_inst.specs.Instances.{StandsFor}
-use Rattle.w_inst.proofs.Allocated.{bare_count}
-use Rattle.w_inst.proofs.Valued.{having}
+use Rattle.w_inst.proofs.FirstStore.{bare_count}
+use Rattle.w_inst.proofs.FoundValues.{having}
 use Rattle.w_inst.proofs.first_store.allocate.Goals as goal
 
 pub add_all-requires-clause-count : goal.add_all-requires-clause-count

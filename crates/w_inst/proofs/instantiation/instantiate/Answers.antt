@@ -4,7 +4,7 @@ use Rattle.w_reduce.specs.Start.{allocated}
 use Rattle.w_stands.specs.Values.{store_of}
 use Rattle.w_inst.specs.Imports.{found_of}
 use Rattle.w_inst.specs.Segments.{left_by_copy}
-use Rattle.w_inst.proofs.Beginning.{begins_past_table, begins_past_memory, begins_ready}
+use Rattle.w_inst.proofs.FirstTerms.{begins_past_table, begins_past_memory, begins_ready}
 use Rattle.w_inst.proofs.instantiation.instantiate.Goals as goal
 
 pub returns-then-not-branch : goal.returns-then-not-branch

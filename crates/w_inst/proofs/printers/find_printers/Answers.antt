@@ -1,7 +1,7 @@
 use Rattle.std.proofs.Common.{arith, ap, ◌∙◌}
 use Rattle.std.proofs.lemmas.List.{drop_all}
 use Rattle.w_reduce.specs.Imports.{printer_of}
-use Rattle.w_inst.proofs.Naming.{found_more, found_none, found_all}
+use Rattle.w_inst.proofs.HostFunctions.{found_more, found_none, found_all}
 use Rattle.w_inst.proofs.printers.find_printers.Goals as goal
 
 pub returns-in_default : goal.returns-in_default

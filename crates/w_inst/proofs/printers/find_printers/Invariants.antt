@@ -1,6 +1,6 @@
 use Rattle.std.proofs.Common.{◌≡◌, drop}
 use Rattle.w_reduce.specs.Imports.{printers_of}
-use Rattle.w_inst.proofs.Naming.{behind}
+use Rattle.w_inst.proofs.HostFunctions.{behind}
 use Rattle.w_inst.proofs.printers.find_printers.Given as goal
 
 -- those so far are found

@@ -1,6 +1,6 @@
 use Rattle.std.proofs.Common.{arith}
 use Rattle.std.proofs.lemmas.Option.{slice_get_within}
-use Rattle.w_inst.proofs.Copying.{table_init_past, segment_there}
+use Rattle.w_inst.proofs.SegmentCopies.{table_init_past, segment_there}
 use Rattle.w_inst.proofs.segments.copy_elements.Goals as goal
 
 pub returns-then-count-table_size : goal.returns-then-count-table_size

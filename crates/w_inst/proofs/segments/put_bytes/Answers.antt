@@ -1,5 +1,5 @@
 use Rattle.std.proofs.Common.{arith}
-use Rattle.w_inst.proofs.Copying.{init_past}
+use Rattle.w_inst.proofs.SegmentCopies.{init_past}
 use Rattle.w_inst.proofs.segments.put_bytes.Goals as goal
 
 pub returns-then-bytes-size-clause-copied : goal.returns-then-bytes-size-clause-copied

@@ -1,6 +1,6 @@
 use Rattle.std.proofs.Common.{arith}
 use Rattle.std.proofs.lemmas.Option.{slice_get_within}
-use Rattle.w_inst.proofs.Copying.{elements_done, elements_trap, elements_keep, table_init_keeps, elem_drop_later, segment_there}
+use Rattle.w_inst.proofs.SegmentCopies.{elements_done, elements_trap, elements_keep, table_init_keeps, elem_drop_later, segment_there}
 use Rattle.w_inst.proofs.segments.put_elements.Goals as goal
 
 pub returns-in_default-clause-copied : goal.returns-in_default-clause-copied

@@ -1,5 +1,5 @@
 use Rattle.std.proofs.Common.{refl}
-use Rattle.w_inst.proofs.Copying.{declared_as, elem_drop_later}
+use Rattle.w_inst.proofs.SegmentCopies.{declared_as, elem_drop_later}
 use Rattle.w_inst.proofs.segments.start_element.Goals as goal
 
 pub returns-in-Declarative-clause-started : goal.returns-in-Declarative-clause-started

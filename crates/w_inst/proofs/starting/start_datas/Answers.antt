@@ -1,7 +1,7 @@
 use Rattle.std.proofs.Common.{subst, arith}
 use Rattle.w_syntax.specs.declared.module.Data.{Data}
 use Rattle.w_inst.specs.Segments.{IsDataConstant}
-use Rattle.w_inst.proofs.Fitting.{offset_constant}
+use Rattle.w_inst.proofs.RoomInModules.{offset_constant}
 use Rattle.w_inst.proofs.InOrder.{one_memory}
 use Rattle.w_inst.proofs.starting.start_datas.Goals as goal
 

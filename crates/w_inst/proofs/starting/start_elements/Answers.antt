@@ -1,7 +1,7 @@
 use Rattle.std.proofs.Common.{◌<◌, List, length, get_or, ap, ◌∙◌, subst}
 use Rattle.w_syntax.specs.declared.module.Elem.{Elem}
 use Rattle.w_inst.specs.Segments.{element_length}
-use Rattle.w_inst.proofs.Fitting.{element_constant}
+use Rattle.w_inst.proofs.RoomInModules.{element_constant}
 use Rattle.w_inst.proofs.InOrder.{length_here}
 use Rattle.w_inst.proofs.starting.start_elements.Goals as goal
 

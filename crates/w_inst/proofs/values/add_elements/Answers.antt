@@ -4,8 +4,8 @@ use Rattle.w_syntax.specs.declared.module.Elem.{Elem}
 use Rattle.w_reduce.specs.Constants.{value_of}
 use Rattle.w_stands.specs.Values.{store_of}
 use Rattle.w_inst.specs.Adding.{with_elements}
-use Rattle.w_inst.proofs.Adding.{added_more, added_all, elements_kind, elements_added}
-use Rattle.w_inst.proofs.Fitting.{element_constant}
+use Rattle.w_inst.proofs.AddedItems.{added_more, added_all, elements_kind, elements_added}
+use Rattle.w_inst.proofs.RoomInModules.{element_constant}
 use Rattle.w_inst.proofs.values.add_elements.Goals as goal
 
 pub loop-segment-init : goal.loop-segment-init

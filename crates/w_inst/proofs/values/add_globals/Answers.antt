@@ -3,7 +3,7 @@ use Rattle.w_types.specs.declared.value.Value.TheVariants as value
 use Rattle.w_reduce.specs.Values.{val}
 use Rattle.w_stands.specs.Values.{store_of}
 use Rattle.w_inst.specs.Adding.{with_globals}
-use Rattle.w_inst.proofs.Adding.{added_more, globals_kind, global_added}
+use Rattle.w_inst.proofs.AddedItems.{added_more, globals_kind, global_added}
 use Rattle.w_inst.proofs.values.add_globals.Goals as goal
 
 pub loop-value-preserved : goal.loop-value-preserved

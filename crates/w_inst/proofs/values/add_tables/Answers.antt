@@ -4,9 +4,9 @@ use Rattle.w_syntax.specs.declared.module.Table.{Table}
 use Rattle.w_reduce.specs.Start as start
 use Rattle.w_stands.specs.Values.{store_of}
 use Rattle.w_inst.specs.Adding.{with_tables}
-use Rattle.w_inst.proofs.Adding.{added_more, added_all, tables_kind, table_added}
-use Rattle.w_inst.proofs.Fitting.{table_fits}
-use Rattle.w_inst.proofs.Valued.{table_made}
+use Rattle.w_inst.proofs.AddedItems.{added_more, added_all, tables_kind, table_added}
+use Rattle.w_inst.proofs.RoomInModules.{table_fits}
+use Rattle.w_inst.proofs.FoundValues.{table_made}
 use Rattle.w_inst.proofs.values.add_tables.Goals as goal
 
 pub loop-table-init : goal.loop-table-init

@@ -6,8 +6,8 @@ use Rattle.w_reduce.specs.Store.{Store}
 use Rattle.w_reduce.specs.Program.{Program}
 use Rattle.w_reduce.specs.Constants.{value_of}
 use Rattle.w_inst.specs.Constants.{Sees}
-use Rattle.w_inst.proofs.Fitting.{global_constant}
-use Rattle.w_inst.proofs.Valued.{GlobalsFound, globals_first, globals_more, globals_all}
+use Rattle.w_inst.proofs.RoomInModules.{global_constant}
+use Rattle.w_inst.proofs.FoundValues.{GlobalsFound, globals_first, globals_more, globals_all}
 use Rattle.w_inst.proofs.values.global_values.Goals as goal
 
 pub loop-global-init : goal.loop-global-init

@@ -1,5 +1,5 @@
 use Rattle.std.proofs.Common.{drop}
-use Rattle.w_inst.proofs.Valued.{GlobalsFound}
+use Rattle.w_inst.proofs.FoundValues.{GlobalsFound}
 use Rattle.w_inst.proofs.values.global_values.Given as goal
 
 -- those so far are found

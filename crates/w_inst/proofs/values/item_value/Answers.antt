@@ -2,7 +2,7 @@ use Rattle.std.proofs.Common.{ap, ◌∙◌, arith}
 use Rattle.w_syntax.specs.Items.{code_of}
 use Rattle.w_syntax.specs.declared.items.ItemView.{ItemView}
 use Rattle.w_reduce.specs.Constants.{value_of}
-use Rattle.w_inst.proofs.Valued.{value_of_null, value_of_function, value_of_no_function}
+use Rattle.w_inst.proofs.FoundValues.{value_of_null, value_of_function, value_of_no_function}
 use Rattle.w_inst.proofs.values.item_value.Goals as goal
 
 pub returns-then-function-functions : goal.returns-then-function-functions

@@ -3,7 +3,7 @@ use Rattle.std.proofs.lemmas.List.{drop_all}
 use Rattle.std.proofs.lemmas.Option.{get_or_from_slice_get}
 use Rattle.w_syntax.specs.Items.{code_of}
 use Rattle.w_inst.specs.Constants.{IsConstant}
-use Rattle.w_inst.proofs.Valued.{items_more, items_all}
+use Rattle.w_inst.proofs.FoundValues.{items_more, items_all}
 use Rattle.w_inst.proofs.values.item_values.Goals as goal
 
 pub item_value-requires : goal.item_value-requires

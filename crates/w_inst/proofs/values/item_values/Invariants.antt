@@ -1,5 +1,5 @@
 use Rattle.std.proofs.Common.{drop}
-use Rattle.w_inst.proofs.Valued.{ItemsFound}
+use Rattle.w_inst.proofs.FoundValues.{ItemsFound}
 use Rattle.w_inst.proofs.values.item_values.Given as goal
 
 -- those so far are valued

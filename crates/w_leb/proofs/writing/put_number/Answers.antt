@@ -1,5 +1,5 @@
 use Rattle.std.proofs.Common.{◌∙◌, arith, rules, refl}
-use Rattle.w_leb.proofs.Putting.{one_more, the_last}
+use Rattle.w_leb.proofs.ShortestSpelling.{one_more, the_last}
 use Rattle.w_leb.proofs.writing.put_number.Goals as goal
 
 pub loop-left-init : goal.loop-left-init

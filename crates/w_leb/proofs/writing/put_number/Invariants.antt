@@ -1,4 +1,4 @@
-use Rattle.w_leb.proofs.Putting.{SoFar}
+use Rattle.w_leb.proofs.ShortestSpelling.{SoFar}
 use Rattle.w_leb.proofs.writing.put_number.Given as goal
 
 abbrev pub invariant-loop-left : goal.invariant-loop-left

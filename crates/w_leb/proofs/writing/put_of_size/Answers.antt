@@ -1,5 +1,5 @@
 use Rattle.std.proofs.Common.{◌∙◌, arith, refl, ap, ◌++◌, ◌∷◌, [], ℕ}
-use Rattle.w_leb.proofs.Putting.{one_more_signed, the_last_signed}
+use Rattle.w_leb.proofs.ShortestSpelling.{one_more_signed, the_last_signed}
 use Rattle.w_leb.proofs.writing.put_of_size.Goals as goal
 
 pub loop-left-init : goal.loop-left-init

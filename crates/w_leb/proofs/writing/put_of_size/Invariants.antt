@@ -1,4 +1,4 @@
-use Rattle.w_leb.proofs.Putting.{SoFarSigned}
+use Rattle.w_leb.proofs.ShortestSpelling.{SoFarSigned}
 use Rattle.w_leb.proofs.writing.put_of_size.Given as goal
 
 abbrev pub invariant-loop-left : goal.invariant-loop-left

@@ -1,4 +1,5 @@
-use Rattle.w_machine.proofs.Leaving.{left_handle}
+use Rattle.w_machine.proofs.PartsOfRuns.{known_valid}
+use Rattle.w_machine.proofs.LeftHandles.{left_handle}
 use Rattle.w_machine.proofs.Rooms.{leaving_room}
 use Rattle.w_machine.proofs.reduction.leave_handle.Goals as goal
 
@@ -6,10 +7,8 @@ pub exit_handle-requires-clause-sound : goal.exit_handle-requires-clause-sound
 exit_handle-requires-clause-sound c = c.requires.stands.stands.sound
 
 pub exit_handle-requires-clause-room : goal.exit_handle-requires-clause-room
-exit_handle-requires-clause-room c = leaving_room c.requires.valid c.requires.stands c.requires.two c.requires.values
+exit_handle-requires-clause-room c = leaving_room (known_valid c.args.program.known c.module-module.ensures.valid) c.requires.stands c.requires.two c.requires.values
 
-pub returns : goal.returns
-returns c = record {
-  reduces = λ held.
-      left_handle c.exit_handle.new.chain c.exit_handle.new.conts c.exit_handle.ensures.goes c.exit_handle.ensures.sound c.exit_handle.ensures.roomy c.exit_handle.ensures.references held;
-}
+pub returns-clause-reduces : goal.returns-clause-reduces
+returns-clause-reduces c = λ held.
+    left_handle c.exit_handle.new.chain c.exit_handle.new.conts c.exit_handle.ensures.goes c.exit_handle.ensures.sound c.exit_handle.ensures.roomy c.exit_handle.ensures.references held

@@ -1,6 +1,6 @@
 use Rattle.std.proofs.Common.{[], ◌∷◌, drop, refl, sym, ◌∙◌}
 use Rattle.w_memory_ops.proofs.Addresses.{load_at}
-use Rattle.w_memory_ops.proofs.Loading.{load_needs, load_follows, load_traps}
+use Rattle.w_memory_ops.proofs.Loads.{load_needs, load_follows, load_traps}
 use Rattle.w_memory_ops.proofs.accesses.load.Goals as goal
 
 pub memory-memory-requires : goal.memory-memory-requires

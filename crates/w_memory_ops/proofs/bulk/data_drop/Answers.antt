@@ -1,4 +1,4 @@
-use Rattle.w_memory_ops.proofs.Dropping.{drop_needs, drop_follows}
+use Rattle.w_memory_ops.proofs.DataDrop.{drop_needs, drop_follows}
 use Rattle.w_memory_ops.proofs.bulk.data_drop.Goals as goal
 
 pub data_drop-requires : goal.data_drop-requires

@@ -7,7 +7,7 @@ use Rattle.w_num.specs.Signed.{inverse}
 use Rattle.w_memory.specs.Memory.{grow}
 use Rattle.w_tables.specs.Operations.{with_memory}
 use Rattle.w_memory_ops.proofs.Parts.{same_memory}
-use Rattle.w_memory_ops.proofs.Sizing.{grow_needs, grow_follows}
+use Rattle.w_memory_ops.proofs.MemorySizes.{grow_needs, grow_follows}
 use Rattle.w_memory_ops.proofs.sizes.grow.Goals as goal
 
 pub peek-requires : goal.peek-requires

@@ -1,8 +1,8 @@
 use Rattle.std.proofs.Common.{refl}
 use Rattle.w_syntax.specs.declared.instructions.Op.TheVariants as op
 use Rattle.w_syntax.specs.declared.memory_instructions.MemoryOp.TheVariants as memory
-use Rattle.w_stands.proofs.Fitting.{room_for_one}
-use Rattle.w_memory_ops.proofs.Sizing.{size_needs, size_follows}
+use Rattle.w_stands.proofs.RoomOfFrames.{room_for_one}
+use Rattle.w_memory_ops.proofs.MemorySizes.{size_needs, size_follows}
 use Rattle.w_memory_ops.proofs.sizes.size.Goals as goal
 
 pub memory-requires : goal.memory-requires

@@ -1,4 +1,4 @@
-use Rattle.w_once.proofs.Consumed.{consumed_traps}
+use Rattle.w_once.proofs.EmptiedByRuns.{consumed_traps}
 use Rattle.w_once.proofs.laws.consumed_continuations_trap.Goals as goal
 
 pub returns : goal.returns

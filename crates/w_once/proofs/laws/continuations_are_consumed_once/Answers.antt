@@ -1,4 +1,4 @@
-use Rattle.w_once.proofs.Consumed.{consumed_once}
+use Rattle.w_once.proofs.EmptiedByRuns.{consumed_once}
 use Rattle.w_once.proofs.laws.continuations_are_consumed_once.Goals as goal
 
 pub returns : goal.returns

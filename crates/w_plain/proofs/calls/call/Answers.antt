@@ -9,10 +9,10 @@ use Rattle.w_plain.proofs.Prints.{may_stop, grew_nothing, same_parts, callee_the
 use Rattle.w_plain.proofs.calls.call.Goals as goal
 
 pub function-requires : goal.function-requires
-function-requires g c = record { function = callee_there c.args.address c.args.taken c.args.program.source.now c.args.store.now c.args.stack.now c.requires.call }
+function-requires g c = record { function = callee_there c.args.address c.args.popped c.args.program.source.now c.args.store.now c.args.stack.now c.requires.call }
 
 pub call_own-requires-clause-call : goal.call_own-requires-clause-call
-call_own-requires-clause-call g c = subst (λ (m : Module). Calls c.args.address c.args.taken m c.args.store.now c.args.stack.now) (sym c.requires.known.checked_is) c.requires.call
+call_own-requires-clause-call g c = subst (λ (m : Module). Calls c.args.address c.args.popped m c.args.store.now c.args.stack.now) (sym c.args.program.known.checked_is) c.requires.call
 
 pub returns-in-Err-clause-step : goal.returns-in-Err-clause-step
 returns-in-Err-clause-step g c = (refl, c.in-Err.ensures.err.same, inl refl, calls_take c.requires.call)
@@ -21,14 +21,14 @@ pub returns-in-Ok-clause-step : goal.returns-in-Ok-clause-step
 returns-in-Ok-clause-step g c = (
   [],
   takes_stack did.Went c.args.program.source.now [] c.args.store.now c.args.stack.now c.call_own.new.stack
-      (subst (λ (m : Module). Follows did.Went m [] c.args.store.now c.args.stack.now c.args.store.now c.call_own.new.stack) c.requires.known.checked_is c.in-Ok.ensures.goes) c.in-Ok.ensures.keeps,
+      (subst (λ (m : Module). Follows did.Went m [] c.args.store.now c.args.stack.now c.args.store.now c.call_own.new.stack) c.args.program.known.checked_is c.in-Ok.ensures.goes) c.in-Ok.ensures.keeps,
   grew_nothing (g.O.Sink.held c.args.out.now),
 )
 
 pub returns-in-Ok-call_printer-clause-step : goal.returns-in-Ok-call_printer-clause-step
 returns-in-Ok-call_printer-clause-step g c = (
-  text_of c.in-Printer.printer c.args.taken c.args.stack.now.operands,
-  takes_stack did.Went c.args.program.source.now (text_of c.in-Printer.printer c.args.taken c.args.stack.now.operands) c.args.store.now c.args.stack.now c.call_printer.new.stack
+  text_of c.in-Printer.printer c.args.popped c.args.stack.now.operands,
+  takes_stack did.Went c.args.program.source.now (text_of c.in-Printer.printer c.args.popped c.args.stack.now.operands) c.args.store.now c.args.stack.now c.call_printer.new.stack
       c.in-Ok-call_printer.ensures.goes c.in-Ok-call_printer.ensures.keeps,
   c.in-Ok-call_printer.ensures.printed,
 )
@@ -39,8 +39,8 @@ returns-in-Err-call_printer-clause-step g c = (
   refl,
   same_parts c.args.stack.now c.call_printer.new.stack c.in-Err-call_printer.ensures.stack,
   inr (
-    text_of c.in-Printer.printer c.args.taken c.args.stack.now.operands,
-    call_prints c.args.address c.args.taken c.in-Printer.printer c.args.program.source.now c.args.store.now c.args.stack.now c.requires.call c.in-Printer.ensures.entry,
+    text_of c.in-Printer.printer c.args.popped c.args.stack.now.operands,
+    call_prints c.args.address c.args.popped c.in-Printer.printer c.args.program.source.now c.args.store.now c.args.stack.now c.requires.call c.in-Printer.ensures.entry,
     c.in-Err-call_printer.ensures.part,
   ),
   may_stop _ c.args.program.source.now c.args.stack.now (calls_take c.requires.call),

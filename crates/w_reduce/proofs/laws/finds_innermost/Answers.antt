@@ -1,5 +1,5 @@
 use Rattle.std.proofs.Common.{ℕ}
-use Rattle.w_reduce.proofs.Finding.{finding, finding_none}
+use Rattle.w_reduce.proofs.InnermostHandle.{finding, finding_none}
 use Rattle.w_reduce.proofs.laws.finds_innermost.Goals as goal
 
 pub returns-clause-labels : goal.returns-clause-labels

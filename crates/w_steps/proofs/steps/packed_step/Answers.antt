@@ -14,4 +14,4 @@ returns-in-Some-clause-steps c = c.in-Some.ensures.steps c.args.locals.now c.arg
 
 pub returns-in-Some-clause-sets : goal.returns-in-Some-clause-sets
 returns-in-Some-clause-sets c =
-    of_each c.in-Some.taken (λ (taken : Bool). IsTrue taken → PackedSets c.args.packed.now c.args.locals.now c.args.locals.now) (λ taken t. c.in-Some.ensures.unset c.args.locals.now)
+    of_each c.in-Some.applies (λ (applies : Bool). IsTrue applies → PackedSets c.args.packed.now c.args.locals.now c.args.locals.now) (λ applies t. c.in-Some.ensures.unset c.args.locals.now)

@@ -2,7 +2,7 @@ use Rattle.std.proofs.Common.{List, length, ap, ◌∙◌, arith}
 use Rattle.w_types.specs.declared.value.Value.{Value}
 use Rattle.w_segment.specs.Shape.{Shape, height}
 use Rattle.w_segment.specs.Link.{Link, top}
-use Rattle.w_switching.proofs.Sounding.{high_more, tops_few}
+use Rattle.w_switching.proofs.References.{high_more, tops_few}
 use Rattle.w_switching.proofs.captures.capture.Goals as goal
 
 pub push_all-requires : goal.push_all-requires

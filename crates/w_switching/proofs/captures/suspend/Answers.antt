@@ -1,10 +1,10 @@
 use Rattle.std.proofs.Common.{ℕ, length, sym, subst, arith}
 use Rattle.w_stands.proofs.Narrow.{narrow_tag}
 use Rattle.w_switching.specs.Moved.{Captured}
-use Rattle.w_switching.proofs.Facing.{place_behind}
+use Rattle.w_switching.proofs.AtSwitchingInstruction.{place_behind}
 use Rattle.w_switching.proofs.Rooms.{capture_roomy}
-use Rattle.w_switching.proofs.Sounding.{spare_slot}
-use Rattle.w_switching.proofs.Suspending.{suspend_traps, suspend_layer, suspend_fits, suspend_outside, suspend_goes, suspend_sound}
+use Rattle.w_switching.proofs.References.{spare_slot}
+use Rattle.w_switching.proofs.Suspensions.{suspend_traps, suspend_layer, suspend_fits, suspend_outside, suspend_goes, suspend_sound}
 use Rattle.w_switching.proofs.captures.suspend.Goals as goal
 
 pub returns-in-None-clause-goes : goal.returns-in-None-clause-goes

@@ -5,11 +5,11 @@ use Rattle.w_segment.specs.Shape.{Shape}
 use Rattle.w_segment.specs.Link.{top}
 use Rattle.w_switching.specs.Moved.{Bound}
 use Rattle.w_switching.specs.Sound.{Sound, is_of, IsGood, Roomy}
-use Rattle.w_switching.proofs.Binding.{bind_typed, bind_fits, bind_goes, bind_sound}
-use Rattle.w_switching.proofs.Consuming.{bind_consumes, null_traps, consumed_traps}
-use Rattle.w_switching.proofs.Facing.{place_behind}
+use Rattle.w_switching.proofs.BoundArguments.{bind_typed, bind_fits, bind_goes, bind_sound}
+use Rattle.w_switching.proofs.ReferenceFirst.{bind_consumes, null_traps, consumed_traps}
+use Rattle.w_switching.proofs.AtSwitchingInstruction.{place_behind}
 use Rattle.w_switching.proofs.Rooms.{segments_roomy, take_roomy, bind_roomy}
-use Rattle.w_switching.proofs.Sounding.{each_at, reference_of}
+use Rattle.w_switching.proofs.References.{each_at, reference_of}
 use Rattle.w_switching.proofs.continuations.cont_bind.Goals as goal
 
 pub returns-in-Null-clause-goes : goal.returns-in-Null-clause-goes

@@ -8,9 +8,9 @@ use Rattle.w_conts.specs.Conts.{Conts, KeepsReferences, IsOf, with_entry, with_s
 use Rattle.w_switching.specs.declared.stored.Stored.{Stored}
 use Rattle.w_switching.specs.Moved.{next_ref}
 use Rattle.w_switching.specs.Sound.{Sound, Roomy}
-use Rattle.w_switching.proofs.Facing.{place_behind, pushed_on}
+use Rattle.w_switching.proofs.AtSwitchingInstruction.{place_behind, pushed_on}
 use Rattle.w_switching.proofs.Rooms.{new_roomy}
-use Rattle.w_switching.proofs.Making.{new_traps, new_goes, new_sound}
+use Rattle.w_switching.proofs.MadeContinuations.{new_traps, new_goes, new_sound}
 use Rattle.w_switching.proofs.continuations.cont_new.Goals as goal
 
 pub returns-in-Null-clause-goes : goal.returns-in-Null-clause-goes

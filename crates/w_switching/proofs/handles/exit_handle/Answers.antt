@@ -1,7 +1,7 @@
 use Rattle.std.proofs.Common.{◌-◌}
-use Rattle.w_switching.proofs.Exiting.{exits, exit_sound}
+use Rattle.w_switching.proofs.LeftHandles.{exits, exit_sound}
 use Rattle.w_switching.proofs.Rooms.{merge_roomy}
-use Rattle.w_switching.proofs.Sounding.{spare_slot}
+use Rattle.w_switching.proofs.References.{spare_slot}
 use Rattle.w_switching.proofs.handles.exit_handle.Goals as goal
 
 pub release_one-requires : goal.release_one-requires

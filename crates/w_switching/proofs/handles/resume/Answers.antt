@@ -4,11 +4,11 @@ use Rattle.w_syntax.specs.declared.instructions.SwitchingOp.TheVariants as switc
 use Rattle.w_segment.specs.Shape.{Shape}
 use Rattle.w_segment.specs.Link.{top}
 use Rattle.w_switching.specs.Sound.{Sound, Roomy, is_of, IsGood}
-use Rattle.w_switching.proofs.Consuming.{resume_consumes, null_traps, consumed_traps}
-use Rattle.w_switching.proofs.Facing.{place_behind}
-use Rattle.w_switching.proofs.Resuming.{resume_fits, resume_goes, resume_sound}
+use Rattle.w_switching.proofs.ReferenceFirst.{resume_consumes, null_traps, consumed_traps}
+use Rattle.w_switching.proofs.AtSwitchingInstruction.{place_behind}
+use Rattle.w_switching.proofs.Resumptions.{resume_fits, resume_goes, resume_sound}
 use Rattle.w_switching.proofs.Rooms.{segments_roomy, take_roomy, pass_roomy}
-use Rattle.w_switching.proofs.Sounding.{each_at, reference_of}
+use Rattle.w_switching.proofs.References.{each_at, reference_of}
 use Rattle.w_switching.proofs.handles.resume.Goals as goal
 
 pub returns-in-Null-clause-goes : goal.returns-in-Null-clause-goes

@@ -3,11 +3,11 @@ use Rattle.w_types.specs.declared.value.Value.TheVariants as value
 use Rattle.w_syntax.specs.declared.instructions.SwitchingOp.TheVariants as switching
 use Rattle.w_segment.specs.Shape.{Shape}
 use Rattle.w_segment.specs.Link.{top}
-use Rattle.w_switching.proofs.Consuming.{switch_consumes, null_traps, consumed_traps}
-use Rattle.w_switching.proofs.Exchanging.{switch_traps, switch_typed}
-use Rattle.w_switching.proofs.Giving.{can_exchange, given_goes, given_sound, given_roomy}
+use Rattle.w_switching.proofs.ReferenceFirst.{switch_consumes, null_traps, consumed_traps}
+use Rattle.w_switching.proofs.StackSwitches.{switch_traps, switch_typed}
+use Rattle.w_switching.proofs.SwitchedSegments.{can_exchange, given_goes, given_sound, given_roomy}
 use Rattle.w_switching.proofs.LastTypes.{narrow_at_back}
-use Rattle.w_switching.proofs.Sounding.{reference_of}
+use Rattle.w_switching.proofs.References.{reference_of}
 use Rattle.w_switching.proofs.switches.switch.Goals as goal
 
 pub returns-in-Null-clause-goes : goal.returns-in-Null-clause-goes

@@ -4,7 +4,7 @@ use Rattle.w_syntax.specs.declared.locals.LocalRun.{LocalRun}
 use Rattle.w_syntax.specs.Locals.{join_all}
 use Rattle.w_syntax.specs.Locals.{total}
 use Rattle.w_syntax.specs.LocalsLaws.{total_join}
-use Rattle.w_syntax.proofs.Joining.{join_last, join_done}
+use Rattle.w_syntax.proofs.JoinedRuns.{join_last, join_done}
 use Rattle.w_syntax.proofs.Totals.{total_last, total_none}
 use Rattle.w_syntax.proofs.locals.joined_runs.Goals as goal
 

@@ -3,7 +3,7 @@ use Rattle.std.proofs.lemmas.List.{nil_from_length}
 use Rattle.w_syntax.specs.declared.locals.LocalRun.{LocalRun}
 use Rattle.w_syntax.specs.Locals.{join}
 use Rattle.w_syntax.specs.Locals.{total}
-use Rattle.w_syntax.proofs.Joining.{rev_last, join_none, join_first, join_same, join_other}
+use Rattle.w_syntax.proofs.JoinedRuns.{rev_last, join_none, join_first, join_same, join_other}
 use Rattle.w_syntax.proofs.Totals.{total_first}
 use Rattle.w_syntax.proofs.locals.prepend_run.Goals as goal
 

@@ -1,7 +1,7 @@
 use Rattle.std.proofs.Common.{refl}
 use Rattle.w_syntax.specs.declared.instructions.Op.TheVariants as op
 use Rattle.w_syntax.specs.declared.instructions.VariableOp.TheVariants as variable
-use Rattle.w_stands.proofs.Fitting.{room_for_one}
+use Rattle.w_stands.proofs.RoomOfFrames.{room_for_one}
 use Rattle.w_table_ops.proofs.Globals.{global_get_needs, global_there, global_get_goes, global_get_keeps}
 use Rattle.w_table_ops.proofs.global_steps.global_get.Goals as goal
 

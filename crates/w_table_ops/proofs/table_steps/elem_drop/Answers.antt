@@ -4,7 +4,7 @@ use Rattle.w_tables.specs.Store as instances
 use Rattle.w_stands.specs.Keeps.{KeepsAll}
 use Rattle.w_stands.specs.Steps.{Follows}
 use Rattle.w_stands.specs.declared.did.Did.TheVariants as did
-use Rattle.w_stands.proofs.Following.{moved_behind}
+use Rattle.w_stands.proofs.NextInstructions.{moved_behind}
 use Rattle.w_table_ops.proofs.Segments.{drop_needs, drop_segment, drop_goes, drop_keeps}
 use Rattle.w_table_ops.proofs.table_steps.elem_drop.Goals as goal
 

@@ -1,4 +1,4 @@
-use Rattle.w_table_ops.proofs.Written.{copy_needs, copy_of, copy_target, copy_source, copy_writes}
+use Rattle.w_table_ops.proofs.ElementsWritten.{copy_needs, copy_of, copy_target, copy_source, copy_writes}
 use Rattle.w_table_ops.proofs.table_steps.table_copy.Goals as goal
 
 pub top_three-to-requires : goal.top_three-to-requires

@@ -1,4 +1,4 @@
-use Rattle.w_table_ops.proofs.Written.{fill_needs, fill_of, fill_table, fill_writes}
+use Rattle.w_table_ops.proofs.ElementsWritten.{fill_needs, fill_of, fill_table, fill_writes}
 use Rattle.w_table_ops.proofs.table_steps.table_fill.Goals as goal
 
 pub top_three-at-requires : goal.top_three-at-requires

@@ -1,7 +1,7 @@
 use Rattle.std.proofs.Common.{rules}
 use mir.Syntax.{w32}
 use mir.Val.{SFits}
-use Rattle.w_table_ops.proofs.Growing.{grow_needs, grow_of, grow_table, grow_goes, answer_bits, grow_memories, grow_keeps}
+use Rattle.w_table_ops.proofs.TableGrow.{grow_needs, grow_of, grow_table, grow_goes, answer_bits, grow_memories, grow_keeps}
 use Rattle.w_table_ops.proofs.table_steps.table_grow.Goals as goal
 
 pub top_two-value-requires : goal.top_two-value-requires

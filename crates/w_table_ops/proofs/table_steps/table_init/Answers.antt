@@ -1,4 +1,4 @@
-use Rattle.w_table_ops.proofs.Written.{init_needs, init_of, init_table, init_segment, init_writes}
+use Rattle.w_table_ops.proofs.ElementsWritten.{init_needs, init_of, init_table, init_segment, init_writes}
 use Rattle.w_table_ops.proofs.table_steps.table_init.Goals as goal
 
 pub top_three-to-requires : goal.top_three-to-requires

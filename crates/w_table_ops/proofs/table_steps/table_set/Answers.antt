@@ -1,4 +1,4 @@
-use Rattle.w_table_ops.proofs.Written.{set_needs, set_of, set_table, set_writes}
+use Rattle.w_table_ops.proofs.ElementsWritten.{set_needs, set_of, set_table, set_writes}
 use Rattle.w_table_ops.proofs.table_steps.table_set.Goals as goal
 
 pub top_two-at-requires : goal.top_two-at-requires

@@ -1,7 +1,7 @@
 use Rattle.std.proofs.Common.{refl}
 use Rattle.w_syntax.specs.declared.instructions.Op.TheVariants as op
 use Rattle.w_syntax.specs.declared.instructions.TableOp.TheVariants as table
-use Rattle.w_stands.proofs.Fitting.{room_for_one}
+use Rattle.w_stands.proofs.RoomOfFrames.{room_for_one}
 use Rattle.w_table_ops.proofs.Elements.{size_needs, size_table, size_goes}
 use Rattle.w_table_ops.proofs.table_steps.table_size.Goals as goal
 

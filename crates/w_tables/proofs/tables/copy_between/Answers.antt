@@ -1,6 +1,6 @@
 -- A copy to a table in front of the source, and to one behind it.
 use Rattle.std.proofs.Common.{arith}
-use Rattle.w_tables.proofs.Changed.{copied_to_front, copied_to_back, kept, seen}
+use Rattle.w_tables.proofs.ChangedTables.{copied_to_front, copied_to_back, kept, seen}
 use Rattle.w_tables.proofs.tables.copy_between.Goals as goal
 
 pub returns-then-dst-src : goal.returns-then-dst-src

@@ -1,4 +1,4 @@
-use Rattle.w_typed.proofs.Starting.{starts_typed}
+use Rattle.w_typed.proofs.FirstConfigurations.{starts_typed}
 use Rattle.w_typed.proofs.laws.starts_are_typed.Goals as goal
 
 pub returns : goal.returns

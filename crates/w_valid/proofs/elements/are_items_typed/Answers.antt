@@ -10,7 +10,7 @@ use Rattle.w_valid.proofs.elements.are_items_typed.Goals as goal
 
 pub loop-place-preserved : goal.loop-place-preserved
 loop-place-preserved c =
-    let m = c.args.cx.now.owner.now in
+    let m = c.args.cx.now.candidate.now in
     let items = c.args.items.now in
     let i : ℕ = c.loop-place.place in
     let item : Code = code_of c.at.result in
@@ -23,7 +23,7 @@ returns c = (λ h k d lt. c.loop-place.invariant k (omega arith) d, λ h. refl)
 
 pub returns-then-not-branch : goal.returns-then-not-branch
 returns-then-not-branch c =
-    let m = c.args.cx.now.owner.now in
+    let m = c.args.cx.now.candidate.now in
     let items = c.args.items.now in
     let i : ℕ = c.loop-place.place in
     let item : Code = code_of c.at.result in

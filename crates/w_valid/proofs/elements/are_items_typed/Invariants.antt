@@ -7,4 +7,4 @@ use Rattle.w_valid.proofs.elements.are_items_typed.Given as goal
 
 -- each item so far is constant and of the type
 abbrev pub invariant-loop-place : goal.invariant-loop-place
-invariant-loop-place l = (k : ℕ) → k < l.place → (d : Code) → ConstTyped (context_of l.cx.owner.now) (get_or l.items k d) (Ref l.kind)
+invariant-loop-place l = (k : ℕ) → k < l.place → (d : Code) → ConstTyped (context_of l.cx.candidate.now) (get_or l.items k d) (Ref l.kind)

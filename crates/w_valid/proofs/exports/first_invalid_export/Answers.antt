@@ -8,7 +8,7 @@ use Rattle.w_valid.proofs.exports.first_invalid_export.Goals as goal
 
 pub returns-then-not-branch : goal.returns-then-not-branch
 returns-then-not-branch c =
-    let m = c.args.cx.now.owner.now in
+    let m = c.args.cx.now.candidate.now in
     let i = c.loop-index.index in
     let export = c.export-item.result in
     let items = c.as_slice-export-items.result.now in
@@ -20,7 +20,7 @@ returns-then-not-branch c =
 
 pub loop-index-preserved : goal.loop-index-preserved
 loop-index-preserved c =
-    let m = c.args.cx.now.owner.now in
+    let m = c.args.cx.now.candidate.now in
     let i = c.loop-index.index in
     let export = c.export-item.result in
     let items = c.as_slice-export-items.result.now in
@@ -35,7 +35,7 @@ loop-index-preserved c =
 
 pub returns-then-not-is_there : goal.returns-then-not-is_there
 returns-then-not-is_there c =
-    let m = c.args.cx.now.owner.now in
+    let m = c.args.cx.now.candidate.now in
     let i = c.loop-index.index in
     let export = c.export-item.result in
     let items = c.as_slice-export-items.result.now in

@@ -5,6 +5,6 @@ use Rattle.w_valid.proofs.exports.first_invalid_export.Given as goal
 
 abbrev pub invariant-loop-index : goal.invariant-loop-index
 invariant-loop-index l = record {
-  typed : (j : ℕ) → j < l.index → ExportValid l.cx.owner.now j;
-  names : HasNames l.cx.owner.now l.index (has l.names);
+  typed : (j : ℕ) → j < l.index → ExportValid l.cx.candidate.now j;
+  names : HasNames l.cx.candidate.now l.index (has l.names);
 }

@@ -8,7 +8,7 @@ use Rattle.w_valid.proofs.globals.is_valid.Goals as goal
 
 pub returns : goal.returns
 returns c =
-    let m = c.args.cx.now.owner.now in
+    let m = c.args.cx.now.candidate.now in
     let i = c.args.index in
     let cut = cut_below m (context_in c.args.cx.now) i _ c.requires.context (ap (λ (k : ℕ). length c.args.cx.now.globals.now - k) c.len.ensures) in
     let d = decided m i c.in-Some.global.now (sym c.in-Some.ensures) (sym c.if-not-has_type.ensures) _ cut in

@@ -5,4 +5,4 @@ use Rattle.w_valid.proofs.indexed.first_invalid.Given as goal
 
 -- each item so far is valid
 abbrev pub invariant-loop-index : goal.invariant-loop-index
-invariant-loop-index l = (j : ℕ) → j < l.index → ItemValid l.cx.owner.now (item_of l.kind j)
+invariant-loop-index l = (j : ℕ) → j < l.index → ItemValid l.cx.candidate.now (item_of l.kind j)

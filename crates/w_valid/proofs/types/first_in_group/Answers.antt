@@ -19,7 +19,7 @@ pub loop-position-preserved : goal.loop-position-preserved
 loop-position-preserved c =
     let types = c.args.types.now in
     let kind = c.index-types-position.result in
-    one_more (IsValidCompType (types_of c.args.owner.now.types) c.args.end) types c.loop-position.position kind
+    one_more (IsValidCompType (types_of c.args.candidate.now.types) c.args.end) types c.loop-position.position kind
     (slice_get_read types (length types) c.loop-position.position kind refl c.loop-position-test.true c.index-types-position.is)
     (c.if-not-is_composite_valid.ensures.0 refl) c.loop-position.invariant
 

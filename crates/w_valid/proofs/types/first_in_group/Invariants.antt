@@ -7,4 +7,4 @@ use Rattle.w_valid.proofs.types.first_in_group.Given as goal
 
 -- each type so far is valid
 abbrev pub invariant-loop-position : goal.invariant-loop-position
-invariant-loop-position l = (i : ℕ) (x : CompType) → i < l.position → slice_get l.types i ≡ Some x → IsValidCompType (types_of l.owner.types) l.end x
+invariant-loop-position l = (i : ℕ) (x : CompType) → i < l.position → slice_get l.types i ≡ Some x → IsValidCompType (types_of l.candidate.types) l.end x

@@ -5,6 +5,6 @@ use Rattle.w_valid.proofs.types.first_invalid_type.Given as goal
 -- each type of the groups so far is valid, and those that are left stand behind them
 abbrev pub invariant-loop-group : goal.invariant-loop-group
 invariant-loop-group l = record {
-  valid : ValidBelow l.owner l.start;
-  left : Left l.owner.types l.start (drop l.group-index l.owner.types);
+  valid : ValidBelow l.candidate l.start;
+  left : Left l.candidate.types l.start (drop l.group-index l.candidate.types);
 }

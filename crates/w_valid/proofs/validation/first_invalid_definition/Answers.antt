@@ -5,20 +5,20 @@ use Rattle.w_valid.proofs.validation.first_invalid_definition.Goals as goal
 
 pub returns-in-Some : goal.returns-in-Some
 returns-in-Some c =
-    let m = c.args.cx.now.owner.now in
+    let m = c.args.cx.now.candidate.now in
     let first = c.in-Some.ensures in
     (c.requires.within, invalid_at m (TypeItem c.in-Some.index) (none_judged m) first.0 first.1 first.2)
 
 pub returns-in-Some-2 : goal.returns-in-Some-2
 returns-in-Some-2 c =
-    let m = c.args.cx.now.owner.now in
+    let m = c.args.cx.now.candidate.now in
     let types = kind_judged m 0 (none_judged m) (rw c.in_default.is at c.first_invalid_type.ensures) in
     let first = rw c.in-Some-2.is at c.in_ok-index.ensures in
     (c.requires.within, invalid_at m (ImportItem c.in-Some-2.index) types first.0 first.1 first.2)
 
 pub returns-in-Some-3 : goal.returns-in-Some-3
 returns-in-Some-3 c =
-    let m = c.args.cx.now.owner.now in
+    let m = c.args.cx.now.candidate.now in
     let types = kind_judged m 0 (none_judged m) (rw c.in_default.is at c.first_invalid_type.ensures) in
     let imports = kind_judged m 1 types (rw c.in_default-2.is at c.in_ok-index.ensures) in
     let first = rw c.in-Some-3.is at c.in_ok-index-2.ensures in
@@ -26,7 +26,7 @@ returns-in-Some-3 c =
 
 pub returns-then-not-are_memories_valid : goal.returns-then-not-are_memories_valid
 returns-then-not-are_memories_valid c =
-    let m = c.args.cx.now.owner.now in
+    let m = c.args.cx.now.candidate.now in
     let types = kind_judged m 0 (none_judged m) (rw c.in_default.is at c.first_invalid_type.ensures) in
     let imports = kind_judged m 1 types (rw c.in_default-2.is at c.in_ok-index.ensures) in
     let tables = kind_judged m 2 imports (rw c.in_default-3.is at c.in_ok-index-2.ensures) in
@@ -34,7 +34,7 @@ returns-then-not-are_memories_valid c =
 
 pub returns-in-Some-4 : goal.returns-in-Some-4
 returns-in-Some-4 c =
-    let m = c.args.cx.now.owner.now in
+    let m = c.args.cx.now.candidate.now in
     let types = kind_judged m 0 (none_judged m) (rw c.in_default.is at c.first_invalid_type.ensures) in
     let imports = kind_judged m 1 types (rw c.in_default-2.is at c.in_ok-index.ensures) in
     let tables = kind_judged m 2 imports (rw c.in_default-3.is at c.in_ok-index-2.ensures) in
@@ -44,7 +44,7 @@ returns-in-Some-4 c =
 
 pub returns-in-Some-5 : goal.returns-in-Some-5
 returns-in-Some-5 c =
-    let m = c.args.cx.now.owner.now in
+    let m = c.args.cx.now.candidate.now in
     let types = kind_judged m 0 (none_judged m) (rw c.in_default.is at c.first_invalid_type.ensures) in
     let imports = kind_judged m 1 types (rw c.in_default-2.is at c.in_ok-index.ensures) in
     let tables = kind_judged m 2 imports (rw c.in_default-3.is at c.in_ok-index-2.ensures) in
@@ -55,7 +55,7 @@ returns-in-Some-5 c =
 
 pub returns-in-Some-6 : goal.returns-in-Some-6
 returns-in-Some-6 c =
-    let m = c.args.cx.now.owner.now in
+    let m = c.args.cx.now.candidate.now in
     let types = kind_judged m 0 (none_judged m) (rw c.in_default.is at c.first_invalid_type.ensures) in
     let imports = kind_judged m 1 types (rw c.in_default-2.is at c.in_ok-index.ensures) in
     let tables = kind_judged m 2 imports (rw c.in_default-3.is at c.in_ok-index-2.ensures) in
@@ -67,7 +67,7 @@ returns-in-Some-6 c =
 
 pub returns-in-Some-7 : goal.returns-in-Some-7
 returns-in-Some-7 c =
-    let m = c.args.cx.now.owner.now in
+    let m = c.args.cx.now.candidate.now in
     let types = kind_judged m 0 (none_judged m) (rw c.in_default.is at c.first_invalid_type.ensures) in
     let imports = kind_judged m 1 types (rw c.in_default-2.is at c.in_ok-index.ensures) in
     let tables = kind_judged m 2 imports (rw c.in_default-3.is at c.in_ok-index-2.ensures) in
@@ -80,7 +80,7 @@ returns-in-Some-7 c =
 
 pub returns-then-not-is_start_valid : goal.returns-then-not-is_start_valid
 returns-then-not-is_start_valid c =
-    let m = c.args.cx.now.owner.now in
+    let m = c.args.cx.now.candidate.now in
     let types = kind_judged m 0 (none_judged m) (rw c.in_default.is at c.first_invalid_type.ensures) in
     let imports = kind_judged m 1 types (rw c.in_default-2.is at c.in_ok-index.ensures) in
     let tables = kind_judged m 2 imports (rw c.in_default-3.is at c.in_ok-index-2.ensures) in
@@ -94,7 +94,7 @@ returns-then-not-is_start_valid c =
 
 pub returns : goal.returns
 returns c =
-    let m = c.args.cx.now.owner.now in
+    let m = c.args.cx.now.candidate.now in
     let types = kind_judged m 0 (none_judged m) (rw c.in_default.is at c.first_invalid_type.ensures) in
     let imports = kind_judged m 1 types (rw c.in_default-2.is at c.in_ok-index.ensures) in
     let tables = kind_judged m 2 imports (rw c.in_default-3.is at c.in_ok-index-2.ensures) in

@@ -1,7 +1,7 @@
 use Rattle.std.proofs.Common.{List, length, ap, subst, ◌∙◌, arith}
 use Rattle.w_types.specs.declared.types.RecGroup.{RecGroup}
 use Rattle.w_canon.specs.IsClassesOf.{IsClassesOf}
-use Rattle.w_valid.proofs.Judging.{declared_by, is_context, are_facts}
+use Rattle.w_valid.proofs.Judgements.{declared_by, is_context, are_facts}
 use Rattle.w_valid.proofs.validation.judge_by.Goals as goal
 
 pub judge_items-requires-clause-whole : goal.judge_items-requires-clause-whole

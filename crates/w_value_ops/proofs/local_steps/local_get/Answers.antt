@@ -1,12 +1,12 @@
 use Rattle.std.proofs.Common.{refl}
 use Rattle.w_syntax.specs.declared.instructions.Op.TheVariants as op
 use Rattle.w_syntax.specs.declared.instructions.VariableOp.TheVariants as variable
-use Rattle.w_stands.proofs.Fitting.{room_for_one}
+use Rattle.w_stands.proofs.RoomOfFrames.{room_for_one}
 use Rattle.std.proofs.Common.{◌≡◌, Option, Some, sym, ◌∙◌, ap, true}
 use Rattle.w_types.specs.declared.value.Value.{Value}
-use Rattle.w_value_ops.proofs.Keeping.{pushed_next_holds}
+use Rattle.w_value_ops.proofs.FactsOfValues.{pushed_next_holds}
 use Rattle.w_value_ops.proofs.LocalsRead.{get_there, get_within, get_place, get_follows}
-use Rattle.w_segment.proofs.Holding.{local_is}
+use Rattle.w_segment.proofs.FactsOfValues.{local_is}
 use Rattle.w_value_ops.proofs.local_steps.local_get.Goals as goal
 
 pub local_get-requires : goal.local_get-requires

@@ -1,10 +1,10 @@
 use Rattle.std.proofs.Common.{◌≡◌, ℕ, ◌+◌, ap, ◌∙◌, sym, arith, refl, true, subst, ◌<◌, length}
-use Rattle.w_types.specs.Rows.{Row}
+use Rattle.lists.specs.Rows.{Row}
 use Rattle.w_syntax.specs.declared.instructions.Op.TheVariants as op
 use Rattle.w_syntax.specs.declared.instructions.VariableOp.TheVariants as variable
 use Rattle.w_segment.specs.Shape.{Shape, locals_of}
 use Rattle.w_segment.specs.Changes.{moved, with_locals, popped}
-use Rattle.w_value_ops.proofs.Keeping.{kept_popped}
+use Rattle.w_value_ops.proofs.FactsOfValues.{kept_popped}
 use Rattle.w_reduce.specs.Values.{Val}
 use Rattle.w_stands.specs.Values.{stack}
 use Rattle.w_value_ops.proofs.LocalsRead.{IsSetting, set_needs, set_within, set_place, set_follows}

@@ -1,10 +1,10 @@
 use Rattle.std.proofs.Common.{◌≡◌, ℕ, ◌+◌, ap, ◌∙◌, sym, arith, refl, true}
-use Rattle.w_types.specs.Rows.{Row, ◌▹◌}
+use Rattle.lists.specs.Rows.{Row, ◌▹◌}
 use Rattle.w_syntax.specs.declared.instructions.Op.TheVariants as op
 use Rattle.w_syntax.specs.declared.instructions.VariableOp.TheVariants as variable
 use Rattle.w_segment.specs.Shape.{Shape}
 use Rattle.w_segment.specs.Changes.{moved, with_locals}
-use Rattle.w_value_ops.proofs.Keeping.{kept}
+use Rattle.w_value_ops.proofs.FactsOfValues.{kept}
 use Rattle.w_reduce.specs.Values.{Val}
 use Rattle.w_stands.specs.Values.{stack}
 use Rattle.w_value_ops.proofs.LocalsRead.{IsSetting, set_needs, set_within, set_place, set_follows}

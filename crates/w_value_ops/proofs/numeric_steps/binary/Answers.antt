@@ -7,7 +7,7 @@ use Rattle.w_reduce.specs.Numeric.{width, binop}
 use Rattle.w_reduce.specs.declared.trap.Trap.{Trap}
 use Rattle.w_stands.specs.declared.did.Did.TheVariants as did
 use Rattle.w_stands.specs.Steps.{FollowsAlone}
-use Rattle.w_value_ops.proofs.Joining.{join_needs, join_follows, join_traps, IsJoining}
+use Rattle.w_value_ops.proofs.JoinedNumbers.{join_needs, join_follows, join_traps, IsJoining}
 use Rattle.w_value_ops.proofs.numeric_steps.binary.Goals as goal
 
 rule : (t : IntType) (o : Binop) → IsJoining (op.Numeric (numeric.Binary t o)) t t (binop o (width t))

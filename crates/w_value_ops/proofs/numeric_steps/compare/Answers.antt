@@ -8,7 +8,7 @@ use Rattle.w_syntax.specs.declared.numeric.NumericOp.TheVariants as numeric
 use Rattle.w_syntax.specs.declared.numeric.IntType.{IntType}
 use Rattle.w_syntax.specs.declared.numeric.Relop.{Relop}
 use Rattle.w_reduce.specs.Numeric.{width, relop}
-use Rattle.w_value_ops.proofs.Joining.{join_needs, join_follows, IsJoining}
+use Rattle.w_value_ops.proofs.JoinedNumbers.{join_needs, join_follows, IsJoining}
 use Rattle.w_value_ops.proofs.numeric_steps.compare.Goals as goal
 
 abbrev tests : IntType → Relop → ℕ → ℕ → Result ℕ NumFault

@@ -1,8 +1,8 @@
-use Rattle.w_stands.proofs.Fitting.{room_for_one}
+use Rattle.w_stands.proofs.RoomOfFrames.{room_for_one}
 use Rattle.w_syntax.specs.declared.instructions.Op.TheVariants as op
 use Rattle.std.proofs.Common.{◌≡◌, true}
-use Rattle.w_value_ops.proofs.Keeping.{pushed_next_holds}
-use Rattle.w_value_ops.proofs.Giving.{give_place, give_follows}
+use Rattle.w_value_ops.proofs.FactsOfValues.{pushed_next_holds}
+use Rattle.w_value_ops.proofs.GivenValues.{give_place, give_follows}
 use Rattle.w_value_ops.proofs.numeric_steps.constant.Goals as goal
 
 pub push_next-requires : goal.push_next-requires

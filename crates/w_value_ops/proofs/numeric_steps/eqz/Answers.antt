@@ -4,7 +4,7 @@ use Rattle.w_syntax.specs.declared.numeric.NumericOp.TheVariants as numeric
 use Rattle.w_num.specs.Comparisons.{ieqz}
 use Rattle.w_reduce.specs.Numeric.{width}
 use Rattle.w_syntax.specs.declared.numeric.IntType.TheVariants as int
-use Rattle.w_value_ops.proofs.Turning.{turn_needs, turn_follows}
+use Rattle.w_value_ops.proofs.NumericOps.{turn_needs, turn_follows}
 use Rattle.w_value_ops.proofs.numeric_steps.eqz.Goals as goal
 
 pub peek-requires : goal.peek-requires

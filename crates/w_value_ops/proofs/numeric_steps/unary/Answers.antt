@@ -2,7 +2,7 @@ use Rattle.std.proofs.Common.{refl}
 use Rattle.w_syntax.specs.declared.instructions.Op.TheVariants as op
 use Rattle.w_syntax.specs.declared.numeric.NumericOp.TheVariants as numeric
 use Rattle.w_reduce.specs.Numeric.{width, unop}
-use Rattle.w_value_ops.proofs.Turning.{turn_needs, turn_follows}
+use Rattle.w_value_ops.proofs.NumericOps.{turn_needs, turn_follows}
 use Rattle.w_value_ops.proofs.numeric_steps.unary.Goals as goal
 
 pub peek-requires : goal.peek-requires

@@ -1,5 +1,5 @@
 use Rattle.std.proofs.Common.{arith}
-use Rattle.w_value_ops.proofs.Selecting.{drop_there, drop_place, drop_follows}
+use Rattle.w_value_ops.proofs.DropAndSelect.{drop_there, drop_place, drop_follows}
 use Rattle.w_value_ops.proofs.parametric_steps.drop_operand.Goals as goal
 
 pub drop_next-requires-clause-there : goal.drop_next-requires-clause-there

@@ -1,7 +1,7 @@
 use Rattle.std.proofs.Common.{ap, ◌∙◌}
 use Rattle.std.specs.Prelude.{ℕ}
 use Rattle.w_reduce.specs.Parametric.{selected}
-use Rattle.w_value_ops.proofs.Selecting.{select_there, select_number, select_place, select_follows}
+use Rattle.w_value_ops.proofs.DropAndSelect.{select_there, select_number, select_place, select_follows}
 use Rattle.w_value_ops.proofs.parametric_steps.select.Goals as goal
 
 pub top_three-one-requires : goal.top_three-one-requires

@@ -1,5 +1,5 @@
 use Rattle.std.proofs.Common.{sym, ◌∙◌}
-use Rattle.w_value_ops.proofs.Referring.{require_needs, require_traps, require_goes}
+use Rattle.w_value_ops.proofs.ReferenceOps.{require_needs, require_traps, require_goes}
 use Rattle.w_value_ops.proofs.reference_steps.ref_as_non_null.Goals as goal
 
 pub peek-requires : goal.peek-requires

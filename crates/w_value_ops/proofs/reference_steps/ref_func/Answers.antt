@@ -1,8 +1,8 @@
 use Rattle.std.proofs.Common.{refl}
 use Rattle.w_syntax.specs.declared.instructions.Op.TheVariants as op
 use Rattle.w_syntax.specs.declared.instructions.ReferenceOp.TheVariants as reference
-use Rattle.w_stands.proofs.Fitting.{room_for_one}
-use Rattle.w_value_ops.proofs.Referring.{func_goes}
+use Rattle.w_stands.proofs.RoomOfFrames.{room_for_one}
+use Rattle.w_value_ops.proofs.ReferenceOps.{func_goes}
 use Rattle.w_value_ops.proofs.reference_steps.ref_func.Goals as goal
 
 pub push_next-requires-clause-room : goal.push_next-requires-clause-room

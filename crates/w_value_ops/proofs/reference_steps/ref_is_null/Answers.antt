@@ -1,6 +1,6 @@
 use Rattle.std.proofs.Common.{◌≡◌, rules, ap, ◌∙◌}
 use Rattle.w_num.specs.Comparisons.{truth}
-use Rattle.w_value_ops.proofs.Referring.{test_needs, test_goes}
+use Rattle.w_value_ops.proofs.ReferenceOps.{test_needs, test_goes}
 use Rattle.w_value_ops.proofs.reference_steps.ref_is_null.Goals as goal
 
 pub peek-requires : goal.peek-requires

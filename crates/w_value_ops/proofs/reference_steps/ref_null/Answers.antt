@@ -1,10 +1,10 @@
 use Rattle.std.proofs.Common.{refl}
-use Rattle.w_stands.proofs.Fitting.{room_for_one}
+use Rattle.w_stands.proofs.RoomOfFrames.{room_for_one}
 use Rattle.w_types.specs.declared.value.Value.TheVariants as value
 use Rattle.w_syntax.specs.declared.instructions.Op.TheVariants as op
 use Rattle.w_syntax.specs.declared.instructions.ReferenceOp.TheVariants as reference
-use Rattle.w_value_ops.proofs.Giving.{give_follows}
-use Rattle.w_value_ops.proofs.Referring.{null_rule}
+use Rattle.w_value_ops.proofs.GivenValues.{give_follows}
+use Rattle.w_value_ops.proofs.ReferenceOps.{null_rule}
 use Rattle.w_value_ops.proofs.reference_steps.ref_null.Goals as goal
 
 pub push_next-requires-clause-room : goal.push_next-requires-clause-room

@@ -1,6 +1,6 @@
 use Rattle.std.proofs.Common.{◌∙◌, ap, sym, Option}
 use Rattle.w_types.specs.declared.types.ValType.{ValType}
-use Rattle.w_types.specs.Rows.{row_of, size}
+use Rattle.lists.specs.Rows.{row_of, size}
 use Rattle.w_vplain.specs.View.{row_with}
 use Rattle.w_vplain.proofs.FrameViews.{row_some, row_none}
 use Rattle.w_vplain.proofs.calls.row_size.Goals as goal

@@ -4,7 +4,7 @@ use Rattle.w_flow.specs.TypeRows.{rows_type}
 use Rattle.w_vswitch.specs.Places.{placed}
 use Rattle.w_vswitch.specs.Rows.{label_test}
 use Rattle.w_vswitch.proofs.FoundTypes.{found_rows}
-use Rattle.w_vswitch.proofs.LabelClauses.{clause_told}
+use Rattle.w_vswitch.proofs.LabelClauses.{clause_decided}
 use Rattle.w_vswitch.proofs.LastTypes.{front_same, front_within}
 use Rattle.w_vswitch.proofs.clauses.label_clause_fits.Goals as goal
 
@@ -14,7 +14,7 @@ split_at-requires-clause-there c = front_within c.args.label.types.now c.in-Some
 pub returns-in-Some-cont_of : goal.returns-in-Some-cont_of
 returns-in-Some-cont_of c = λ classes ts rs ls l there.
     let cx = c.args.setting.now.cx.now in
-    clause_told cx.classes.now (placed cx ts rs ls) classes c.args.results.types.now c.args.tag l c.args.label.types.now c.in-Some-last_index.beneath.now c.in-Some-last_index.index
+    clause_decided cx.classes.now (placed cx ts rs ls) classes c.args.results.types.now c.args.tag l c.args.label.types.now c.in-Some-last_index.beneath.now c.in-Some-last_index.index
     (rows_type c.in-Some.tag) (rows_type c.in-Some-cont_of.target) there
     (found_rows c.type_of_tag.result c.in-Some.tag _ c.type_of_tag.ensures.kind c.in-Some.is)
     c.in-Some-last_index.ensures.index

@@ -5,7 +5,7 @@ use Rattle.w_flow.specs.declared.type_row.TypeRow.{TypeRow}
 use Rattle.w_vswitch.specs.Places.{placed}
 use Rattle.w_vswitch.specs.Rows.{BoundBy}
 use Rattle.w_vswitch.proofs.FoundTypes.{found_rows}
-use Rattle.w_vswitch.proofs.Bindings.{no_longer, bind_row}
+use Rattle.w_vswitch.proofs.ContBind.{no_longer, bind_row}
 use Rattle.w_vswitch.proofs.instructions.bound.Goals as goal
 
 pub returns-in_err-count-clause-bound : goal.returns-in_err-count-clause-bound

@@ -1,5 +1,5 @@
 use Rattle.std.proofs.Common.{inl, [], ◌∷◌, None, refl, ap}
-use Rattle.w_types.specs.Rows.{ε, ◌▹◌, row_of}
+use Rattle.lists.specs.Rows.{ε, ◌▹◌, row_of}
 use Rattle.w_syntax.specs.declared.instructions.SwitchingOp.TheVariants as op
 use Rattle.w_vswitch.specs.Rows.{RowAt, RefusedAt}
 use Rattle.w_steps.specs.declared.setting.Setting.{Setting}

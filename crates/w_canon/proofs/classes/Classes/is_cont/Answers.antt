@@ -1,6 +1,6 @@
-use Rattle.w_types.proofs.Tests.{told_by}
-use Rattle.w_canon.proofs.MatchingTests.{cont_kind_told}
+use Rattle.lists.proofs.Tests.{decided_by}
+use Rattle.w_canon.proofs.MatchingTests.{cont_kind_decided}
 use Rattle.w_canon.proofs.classes.Classes.is_cont.Goals as goal
 
 pub returns-clause-related : goal.returns-clause-related
-returns-clause-related c = λ gs h. told_by c.is_of_kind.result _ (c.is_of_kind.ensures) (cont_kind_told gs c.args.self.now h c.args.index)
+returns-clause-related c = λ gs h. decided_by c.is_of_kind.result _ (c.is_of_kind.ensures) (cont_kind_decided gs c.args.self.now h c.args.index)

@@ -1,5 +1,5 @@
 use Rattle.std.proofs.Common.{rules}
-use Rattle.w_chain.proofs.Searching.{label_found, label_none}
+use Rattle.w_chain.proofs.InnermostLayer.{label_found, label_none}
 use Rattle.w_chain.proofs.chain.Chain.find_suspend.Goals as goal
 
 pub returns-in-Some-label_of-clause-found : goal.returns-in-Some-label_of-clause-found

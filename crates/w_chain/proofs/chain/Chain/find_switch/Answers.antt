@@ -1,5 +1,5 @@
 use Rattle.std.proofs.Common.{rules}
-use Rattle.w_chain.proofs.Searching.{switch_found, switch_none}
+use Rattle.w_chain.proofs.InnermostLayer.{switch_found, switch_none}
 use Rattle.w_chain.proofs.chain.Chain.find_switch.Goals as goal
 
 pub returns-then-has_switch-clause-found : goal.returns-then-has_switch-clause-found

@@ -1,6 +1,6 @@
 use Rattle.std.proofs.Common.{arith}
 use Rattle.w_segment.specs.Parents.{parents}
-use Rattle.w_chain.proofs.Counting.{sum_fits}
+use Rattle.w_chain.proofs.CountsKept.{sum_fits}
 use Rattle.w_chain.proofs.chain.Chain.frames.Goals as goal
 
 pub overflow_add-result : goal.overflow_add-result

@@ -1,5 +1,5 @@
 use Rattle.std.proofs.Common.{◌++◌, arith, length-append}
-use Rattle.w_chain.proofs.Moving.{all_long}
+use Rattle.w_chain.proofs.MovedSegments.{all_long}
 use Rattle.w_chain.proofs.chain.Chain.join.Goals as goal
 
 pub push-requires-in-loop-clause-few : goal.push-requires-in-loop-clause-few

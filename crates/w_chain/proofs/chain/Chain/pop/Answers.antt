@@ -2,7 +2,7 @@ use Rattle.std.proofs.Common.{◌≡◌, ◌<◌, ◌-◌, List, length, sym, ap
 use Rattle.w_segment.specs.Link.{Link, rest}
 use Rattle.w_segment.specs.Parents.{parents}
 use Rattle.w_chain.specs.Counts.{IsCounted, frames_in_top}
-use Rattle.w_chain.proofs.Counting.{pop_counted}
+use Rattle.w_chain.proofs.CountsKept.{pop_counted}
 use Rattle.w_chain.proofs.chain.Chain.pop.Goals as goal
 
 pub invariant_of-self : goal.invariant_of-self

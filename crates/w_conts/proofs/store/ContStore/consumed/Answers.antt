@@ -1,7 +1,7 @@
 use Rattle.std.proofs.Common.{ap, arith}
 use Rattle.w_conts.specs.Conts.{live_of}
-use Rattle.w_conts.proofs.Counting.{count_all}
-use Rattle.w_conts.proofs.Opened.{opened, made_long}
+use Rattle.w_conts.proofs.EntryCounts.{count_all}
+use Rattle.w_conts.proofs.OpenedStores.{opened, made_long}
 use Rattle.w_conts.proofs.store.ContStore.consumed.Goals as goal
 
 pub overflow_sub-result : goal.overflow_sub-result

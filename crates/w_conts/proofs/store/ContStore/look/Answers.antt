@@ -1,6 +1,6 @@
 use Rattle.std.proofs.Common.{Some, sym, ap, ◌∙◌, ℕ}
-use Rattle.w_conts.proofs.Finding.{serial_is}
-use Rattle.w_conts.proofs.Opened.{opened, kept_some, kept_none}
+use Rattle.w_conts.proofs.SerialsAmongSlots.{serial_is}
+use Rattle.w_conts.proofs.OpenedStores.{opened, kept_some, kept_none}
 use Rattle.w_conts.proofs.store.ContStore.look.Goals as goal
 
 pub returns-in-None : goal.returns-in-None

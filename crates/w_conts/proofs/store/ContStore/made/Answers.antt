@@ -1,4 +1,4 @@
-use Rattle.w_conts.proofs.Opened.{opened, made_long}
+use Rattle.w_conts.proofs.OpenedStores.{opened, made_long}
 use Rattle.w_conts.proofs.store.ContStore.made.Goals as goal
 
 pub returns : goal.returns

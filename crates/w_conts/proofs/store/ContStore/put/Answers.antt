@@ -1,6 +1,6 @@
 use Rattle.std.proofs.Common.{arith}
-use Rattle.w_conts.proofs.Opened.{opened, made_long}
-use Rattle.w_conts.proofs.Putting.{put_sound, put_after, put_of, put_references}
+use Rattle.w_conts.proofs.OpenedStores.{opened, made_long}
+use Rattle.w_conts.proofs.PutContinuations.{put_sound, put_after, put_of, put_references}
 use Rattle.w_conts.proofs.store.ContStore.put.Goals as goal
 
 pub overflow_add-self : goal.overflow_add-self

@@ -1,6 +1,6 @@
 use Rattle.std.proofs.Common.{sym, ◌∙◌, arith}
-use Rattle.w_conts.proofs.Opened.{opened}
-use Rattle.w_conts.proofs.Taking.{takes_of, not_vacant, take_sound, take_value, take_after, take_references}
+use Rattle.w_conts.proofs.OpenedStores.{opened}
+use Rattle.w_conts.proofs.TakenContinuations.{takes_of, not_vacant, take_sound, take_value, take_after, take_references}
 use Rattle.w_conts.proofs.store.ContStore.take.Goals as goal
 
 pub overflow_add-self : goal.overflow_add-self

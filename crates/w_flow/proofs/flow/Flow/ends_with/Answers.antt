@@ -1,5 +1,5 @@
 use Rattle.std.proofs.Common.{List, ◌∙◌, sym, ap}
-use Rattle.w_types.specs.Rows.{row_of}
+use Rattle.lists.specs.Rows.{row_of}
 use Rattle.w_flow.specs.Flow.{pops, none_left}
 use Rattle.w_flow.specs.Operands.{row_in}
 use Rattle.w_flow.specs.declared.operand.Operand.{Operand}

@@ -1,5 +1,5 @@
 use Rattle.std.proofs.Common.{Bool, ◌∙◌, ap}
-use Rattle.w_types.specs.Rows.{ε, ◌▹◌}
+use Rattle.lists.specs.Rows.{ε, ◌▹◌}
 use Rattle.w_flow.specs.View.{flow_view, flow_if}
 use Rattle.w_flow.proofs.ShortTypes.{below}
 use Rattle.w_flow.proofs.flow.Flow.takes_two.Goals as goal

@@ -6,7 +6,7 @@ use Rattle.w_flow.proofs.flow.Flow.turns.Goals as goal
 
 pub returns-then-self-clause-steps : goal.returns-then-self-clause-steps
 returns-then-self-clause-steps c =
-    subst (λ (o : Option Flow). IfOk c.gives.result (λ taken. o ≡ flow_if taken c.gives.new.self))
+    subst (λ (o : Option Flow). IfOk c.gives.result (λ applies. o ≡ flow_if applies c.gives.new.self))
     (sym (turns_made c.args.classes.now c.args.self.now.any c.args.self.now.operands c.args.from c.args.to c.in_default.ensures.none c.if-self.true))
     c.gives.ensures.steps
 

@@ -4,7 +4,7 @@ use Rattle.w_reduce.specs.Terms.{Term}
 use Rattle.w_reduce.specs.Program.{Program}
 use Rattle.w_reduce.specs.Run.{Run}
 use Rattle.w_machine.specs.Beginning.{Begins}
-use Rattle.w_machine.specs.Position.{Printed}
+use Rattle.w_machine.specs.Position.{PrintedBetween}
 use Rattle.w_machine.proofs.machine.Machine.go.Given as goal
 
 -- each step so far took a reduction, and the sink grew by what it printed
@@ -16,9 +16,9 @@ invariant-loop-self g l =
       more : l.fn.self.taken ≤ l.self.taken;
       most : l.self.taken ≤ l.end;
       end : l.end ≡ l.fn.self.taken + l.fn.steps;
-      none_kept : l.fn.self.kept ≡ None;
+      none_stopped : l.fn.self.stop ≡ None;
       printed : (p : Program) (s : Store) (t : Term) → Begins l.fn.self.program p s t
-          → Printed (Run p s t l.fn.self.taken) (Run p s t (l.fn.self.taken + i)) (g.O.Sink.held l.fn.out) (g.O.Sink.held l.out);
+          → PrintedBetween (Run p s t l.fn.self.taken) (Run p s t (l.fn.self.taken + i)) (g.O.Sink.held l.fn.out) (g.O.Sink.held l.out);
       later : g.O.Sink.faults l.fn.out ≤ g.O.Sink.faults l.out;
     }
 

@@ -2,7 +2,7 @@ use Rattle.w_machine.proofs.Results.{machine_results, ended_long}
 use Rattle.w_machine.proofs.machine.Machine.results.Goals as goal
 
 pub stack-requires : goal.stack-requires
-stack-requires c = record { some = ended_long c.self.inside.kept c.if-has_ended.ensures c.self.invariant }
+stack-requires c = record { some = ended_long c.self.inside.stop c.if-has_ended.ensures c.self.invariant }
 
 pub returns-then-has_ended-clause-ended : goal.returns-then-has_ended-clause-ended
 returns-then-has_ended-clause-ended c =

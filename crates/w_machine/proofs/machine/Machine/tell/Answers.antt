@@ -1,15 +1,15 @@
-use Rattle.w_machine.proofs.Telling.{tell_reached, tells_some, tells_none}
+use Rattle.w_machine.proofs.NoReductionTaken.{tell_reached, tells_some, tells_none}
 use Rattle.w_machine.proofs.machine.Machine.tell.Goals as goal
 
 pub invariant_of-self : goal.invariant_of-self
 invariant_of-self c =
-    tell_reached c.self.inside.kept c.outlook-stopped.result c.args.self.now c.self.view_is c.requires c.outlook-stopped.ensures c.self.invariant _ _ c.if-is_some.ensures
+    tell_reached c.self.inside.stop c.end_of-stopped.result c.args.self.now c.self.view_is c.requires c.end_of-stopped.ensures c.self.invariant _ _ c.if-is_some.ensures
     c.made-self-inside.ensures.count c.live-self-inside.ensures.count
 
 pub returns-then-is_some : goal.returns-then-is_some
 returns-then-is_some c =
-    tells_some c.self.inside.kept c.outlook-stopped.result c.args.self.now c.self.view_is c.requires c.outlook-stopped.ensures c.self.invariant c.module-module.ensures.valid c.if-is_some.ensures
+    tells_some c.self.inside.stop c.end_of-stopped.result c.args.self.now c.self.view_is c.requires c.end_of-stopped.ensures c.self.invariant c.module-module.ensures.valid c.if-is_some.ensures
 
 pub returns-else-is_some : goal.returns-else-is_some
 returns-else-is_some c =
-    tells_none c.self.inside.kept c.outlook-stopped.result c.args.self.now c.self.view_is c.requires c.outlook-stopped.ensures c.self.invariant c.module-module.ensures.valid c.if-is_some.ensures
+    tells_none c.self.inside.stop c.end_of-stopped.result c.args.self.now c.self.view_is c.requires c.end_of-stopped.ensures c.self.invariant c.module-module.ensures.valid c.if-is_some.ensures

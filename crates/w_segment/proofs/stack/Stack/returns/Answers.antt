@@ -1,7 +1,7 @@
 use Rattle.std.proofs.Common.{◌≡◌, ℕ, ◌-◌, ◌≤◌, ◌++◌, List, Some, sym, ap, ◌∙◌, reverse, length, take, drop, arith, vec_len}
 use Rattle.std.proofs.lemmas.List.{length-reverse}
 use Rattle.w_types.specs.declared.value.Value.{Value}
-use Rattle.w_segment.specs.Shape.{Caller, frame_at}
+use Rattle.w_segment.specs.Shape.{ReturnTarget, frame_at}
 use Rattle.w_segment.specs.Flat.{own}
 use Rattle.w_segment.proofs.ReturnedFrames.{inner_within, frame_is, frame_is_no_label, returned_levels, returned_own, returned_ordered, returned_nested, returned_frames}
 use Rattle.w_segment.proofs.OwnOperands.{own_long, base_le}
@@ -103,7 +103,7 @@ returns c = record {
       c.keep_top.ensures.items ∙ ap (λ (k : ℕ). take c.in-Frame.below vs ++ drop (k - c.in-Frame.results) vs) ln in
       let v = ap (λ s. s.operands) c.self.view_is in
       let vl = ap (λ (xs : List Value). length xs) v in
-      let na = ap (λ (x : Caller). x.arity) re in
+      let na = ap (λ (x : ReturnTarget). x.arity) re in
       let a = f.arity in
       let fits : c.in-Frame.results ≤ length (own (reverse i.marks.items) vs) = omega (arith, vl, n, na, a) in
       same_shape _ _

@@ -1,7 +1,7 @@
 use Rattle.w_types.specs.declared.types.ValType.{ValType}
 use Rattle.w_types.specs.declared.types.ValType.TheVariants.{I32, I64, Ref}
 use Rattle.std.proofs.Common.{true, refl, List, inl, inr, sym, ap, ◌∙◌}
-use Rattle.w_types.specs.Rows.{row_of, ◌▹◌}
+use Rattle.lists.specs.Rows.{row_of, ◌▹◌}
 use Rattle.w_rules.specs.InstructionTypes.{fixed}
 use Rattle.w_steps.proofs.TablesTaken.{top_taken, beneath_last}
 use Rattle.w_steps.proofs.steps.control.reference_label.Goals as goal

@@ -3,7 +3,7 @@ use Rattle.std.proofs.Math.Nat.{max-zero}
 use Rattle.w_locals.specs.Locals.{outer_sets}
 use Rattle.w_vplain.specs.Frames.{Frame}
 use Rattle.w_vplain.specs.Standing.{frames_of, top_of}
-use Rattle.w_vplain.proofs.FrameViews.{as_many, none_deeper, raised_told}
+use Rattle.w_vplain.proofs.FrameViews.{as_many, none_deeper, raised_answered}
 use Rattle.w_vplain.proofs.checker.Checker.advance_op.Goals as goal
 
 pub returns-clause-counted : goal.returns-clause-counted
@@ -19,7 +19,7 @@ returns-clause-counted c = λ _.
       peak = λ bases.
           let b = c.op.ensures.bases bases in (
             c.count_operands.ensures.bases b,
-            raised_told old.peak mid.peak mid.peak 0 new.peak 0 (frames_of new) (frames_of mid) (sym (max-zero mid.peak)) c.op.ensures.uncounted.peak refl
+            raised_answered old.peak mid.peak mid.peak 0 new.peak 0 (frames_of new) (frames_of mid) (sym (max-zero mid.peak)) c.op.ensures.uncounted.peak refl
                 (c.in_ok-count_operands.ensures.raises b) c.count_operands.ensures.frames,
           );
     }

@@ -1,7 +1,7 @@
 use Rattle.std.proofs.Common.{refl, ap, List, Some}
 use Rattle.w_rules.specs.Bodies.{set_first}
 use Rattle.w_vplain.specs.Frames.{Frame}
-use Rattle.w_vplain.proofs.Beginnings.{begin_frames, bases_none}
+use Rattle.w_vplain.proofs.BodyBeginnings.{begin_frames, bases_none}
 use Rattle.w_vplain.proofs.CallsAnswered.{begins}
 use Rattle.w_vplain.proofs.checker.Checker.begin.Goals as goal
 

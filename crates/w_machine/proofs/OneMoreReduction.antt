@@ -1,0 +1,197 @@
+-- A machine that takes a reduction, or is stopped.
+use Rattle.std.proofs.Common.{◌≡◌, ℕ, suc, ◌+◌, Bool, true, List, [], ◌∷◌, ◌++◌, Option, Some, None, refl, sym, ap, subst, subst₂, ◌∙◌, arith}
+use Rattle.std.specs.Prelude.{Box}
+use Rattle.std.specs.declared.alloc.Global.{Global}
+use Rattle.lists.specs.Rows.{Row, ε, ◌▹◌, ◌⧺◌, size, row_of}
+use Rattle.w_syntax.specs.Code.{Done}
+use Rattle.w_syntax.specs.declared.module.Module.{Module}
+use Rattle.w_canon.specs.declared.entry.Entry.{Entry}
+use Rattle.w_canon.specs.IsClassesOf.{IsClassesOf}
+use Rattle.w_canon.specs.Tests.{same_test}
+use Rattle.w_canon.proofs.MatchingTests.{same_decided}
+use Rattle.w_rules.specs.Matching.{known}
+use Rattle.w_rules.specs.Operands.{Operand}
+use Rattle.w_rules.specs.Valid.{Valid}
+use Rattle.w_rules.proofs.Preorder.{row_size}
+use Rattle.w_segment.specs.declared.segment.Segment.{Segment}
+use Rattle.w_segment.specs.declared.entry.Stage.{Stage}
+use Rattle.w_segment.specs.declared.entry.Stage.TheVariants.{Fresh, Body, Branch, Values as AtValues}
+use Rattle.w_segment.specs.Link.{Link}
+use Rattle.w_segment.specs.Shape.{Shape, Capacity, fresh_shape}
+use Rattle.w_reduce.specs.Values.{Val}
+use Rattle.w_reduce.specs.Store.{Store}
+use Rattle.w_reduce.specs.Terms.{Invoke, Rest, Context, Term, Continuation}
+use Rattle.w_reduce.specs.Program.{Program, IsProgram}
+use Rattle.w_reduce.specs.Reduced.{Reduced, Went, Trapped, Limited, Ended, Stuck}
+use Rattle.w_reduce.specs.Reduce.{limited, reduce, unless_passed}
+use Rattle.w_reduce.specs.Run.{Running, RunState, outcome_by, state_at, after_reduction, continued, Run}
+use Rattle.w_stands.specs.Stands.{StackIs, body, left, fresh, values}
+use Rattle.w_typed.specs.Values.{ValuesTyped, no_values, values as more_values}
+use Rattle.w_types.specs.declared.types.FuncType.{FuncType}
+use Rattle.w_types.specs.declared.types.ValType.{ValType}
+use Rattle.w_typed.specs.Contexts.{Scope, RestTyped, code_alone, invoke_first, Within, outside}
+use Rattle.w_typed.specs.Values.{Arrows}
+use Rattle.w_typed.specs.Configurations.{Typed, IsSafe, goes, traps, is_limited, ends}
+use Rattle.w_typed.proofs.Reductions.{reductions_are_safe}
+use Rattle.w_machine.specs.Parts.{Parts, whole}
+use Rattle.w_machine.specs.Standing.{behind_of, EndsWith, IsLast, Stands, StandsSomewhere}
+use Rattle.w_machine.specs.Reached.{waiting_of, is_values, is_last, IsReached}
+use Rattle.w_reduce.specs.Limits.{passed, IsWithin}
+use Rattle.w_reduce.specs.declared.limit.RunLimit.{RunLimit}
+use Rattle.w_reduce.proofs.PassedLimits.{none_within}
+use Rattle.w_switching.specs.Standing.{Chained, only, around}
+
+-- ## Where a machine stands
+
+-- what tells of the module's types
+abbrev pub program_by : (m : Module) → List Entry → Program
+program_by m es = record { source = m; same = same_test es }
+
+pub is_program : (m : Module) (es : List Entry) → IsClassesOf m.types es → IsProgram (program_by m es)
+is_program m es h i j = same_decided m.types es h i j
+
+-- a machine that keeps no outcome stands for a configuration
+pub stands_somewhere : {m : Module} {functions : List ℕ} {x : Parts} {waiting : Option (Box Segment Global)} {n a b : ℕ} (es : List Entry) → IsClassesOf m.types es
+    → IsReached m functions x waiting None n a b → StandsSomewhere m x
+stands_somewhere {m = m} {waiting = waiting} es classes h =
+    let p = program_by m es in
+    let start = h.started p refl in
+    let at = h.reached p start.0 start.1 (record { source = refl; program = is_program m es classes; start = start.2 }) in
+    record { waiting = waiting_of waiting; p = p; ks = at.ks; t = at.t; stands = at.stands }
+
+-- ## What a reduction that was taken leaves
+
+-- it is typed, with some function types of its continuations
+pub record SomehowTyped (m : Module) (us : Row Operand) (v : Store) (t : Term) : Type 0 where
+  pub arrows : Arrows
+  pub typed : Typed m arrows us v t
+
+safe_went : {m : Module} {K : Arrows} {us : Row Operand} {d : Reduced} {text : List ℕ} {v : Store} {t : Term} → IsSafe m K us d → d ≡ Went text v t → SomehowTyped m us v t
+safe_went {m = m} {us = us} {v = v} {t = t} (goes {L = L} {s = old_store} {t = old} g h) is =
+    let one : old ≡ t = cc in
+    let store : old_store ≡ v = cc in
+    record { arrows = L; typed = subst (λ (x : Term). Typed m L us v x) one (subst (λ (w : Store). Typed m L us w old) store h) }
+safe_went traps is = absurd (cc)
+safe_went is_limited is = absurd (cc)
+safe_went (ends h) is = absurd (cc)
+
+pub limited_within : (d : Reduced) (text : List ℕ) (v : Store) (t : Term) → limited d ≡ Went text v t → IsWithin v t.around
+limited_within (Went out s u) text v t is = within (passed s u.around) refl is
+  where
+    within : (o : Option RunLimit) → passed s u.around ≡ o → unless_passed o (Went out s u) ≡ Went text v t → IsWithin v t.around
+    within None e is =
+        let same : u ≡ t = cc in
+        let store : s ≡ v = cc in
+        subst₂ (λ (z : Store) (x : Term). IsWithin z x.around) store same (none_within s u.around e)
+    within (Some name) e is = absurd (cc)
+limited_within (Trapped x) text v t is = absurd (cc)
+limited_within (Limited l) text v t is = absurd (cc)
+limited_within (Ended vs) text v t is = absurd (cc)
+limited_within Stuck text v t is = absurd (cc)
+
+module _ {m : Module} {waiting : Option ℕ} {x : Parts} {p : Program} {ks : List (Option Continuation)} {t : Term} (valid : Valid m) (h : Stands m waiting x p ks t) where
+  -- the reduction is safe
+  pub reduces_safely : IsSafe p.source h.arrows h.results (reduce p (whole x.store ks) t)
+  reduces_safely =
+      reductions_are_safe p h.arrows h.results (whole x.store ks) t h.stand.program (subst Valid (sym h.stand.source) valid)
+      (subst (λ (n : Module). Typed n h.arrows h.results (whole x.store ks) t) (sym h.stand.source) h.typed)
+
+  -- it is typed again
+  pub went_typed : {text : List ℕ} {v : Store} {u : Term} → reduce p (whole x.store ks) t ≡ Went text v u → SomehowTyped m h.results v u
+  went_typed {v = v} {u = u} went = subst (λ (n : Module). SomehowTyped n h.results v u) h.stand.source (safe_went reduces_safely went)
+
+-- ## Main's turn
+
+size_beside : (xs ys : Row Operand) → size (xs ⧺ ys) ≡ size xs + size ys
+size_beside xs ε = omega arith
+size_beside xs (ys ▹ y) = omega (arith, size_beside xs ys)
+
+no_operand : (m : Module) {K : Arrows} {vs : Row Val} {ts : Row Operand} → ValuesTyped m K vs ts → size ts ≡ 0 → vs ≡ ε
+no_operand m no_values e = refl
+no_operand m (more_values h v) e = absurd (cc)
+
+outside_size : (m : Module) {K : Arrows} {us : Row Operand} {c : Scope} {now : List Bool} {out : Row Operand} → Within m K us [] c now out → size out ≡ size us
+outside_size m {us = us} {out = out} (outside r) = row_size m.types out us r
+
+done_size : (m : Module) {c : Scope} {set : List Bool} {ts out : Row Operand} → RestTyped m c set [] Done ts out → size ts ≡ size out
+done_size m {ts = ts} {out = out} (code_alone h) = row_size m.types ts out h.derives
+
+-- before main's invoke, with nothing around it, there are no operands
+invoke_alone : (m : Module) {K : Arrows} {us : Row Operand} {main : ℕ} {vs : Row Val} {c : Scope} {set now : List Bool} {ts out : Row Operand} → EndsWith m us main → ValuesTyped m K vs ts
+    → RestTyped m c set (Invoke main ∷ []) Done ts out → Within m K us [] c now out → vs ≡ ε
+invoke_alone m {us = us} {ts = ts} {out = out} last v (invoke_first {t = t} beneath is takes h) w =
+    let same : t ≡ last.type = (let one = is in let two = last.has_type in cc) in
+    let results : size (known (row_of t.results)) ≡ size us = ap (λ (f : FuncType). size (known (row_of f.results))) same ∙ sym (ap size last.is) in
+    let whole = size_beside beneath (known (row_of t.results)) in
+    let ended = done_size m h ∙ outside_size m w in
+    let nothing : size beneath ≡ 0 = omega (arith, results, whole, ended) in
+    let params : t.params ≡ [] = ap (λ (f : FuncType). f.params) same ∙ last.no_params in
+    let taken : size (known (row_of t.params)) ≡ 0 = ap (λ (l : List ValType). size (known (row_of l))) params in
+    let all = row_size m.types ts (beneath ⧺ known (row_of t.params)) takes in
+    let split = size_beside beneath (known (row_of t.params)) in
+    no_operand m v (omega (arith, nothing, taken, all, split))
+
+-- ## The run goes on
+
+-- the reduction of the configuration that the run is at
+pub state_went : (p : Program) {n : ℕ} {r : RunState} {v : Store} {t : Term} {text : List ℕ} {w : Store} {x : Term} → r ≡ state_at p n r.output v t → reduce p v t ≡ Went text w x
+    → (r.outcome ≡ Running) × (continued p r r.outcome ≡ state_at p (n + 1) (r.output ++ text) w x)
+state_went p {n = n} {r = r} {v = v} {t = t} {text = text} {w = w} {x = x} at went =
+    let running : r.outcome ≡ Running = ap (λ (q : RunState). q.outcome) at ∙ ap outcome_by went in
+    let store : r.store ≡ v = ap (λ (q : RunState). q.store) at in
+    let term : r.term ≡ t = ap (λ (q : RunState). q.term) at in
+    let taken : suc r.taken ≡ n + 1 = (let k : r.taken ≡ n = ap (λ (q : RunState). q.taken) at in omega (arith, k)) in (
+      running,
+      ap (continued p r) running
+          ∙ ap (λ (s : Store). after_reduction p r (reduce p s r.term)) store
+          ∙ ap (λ (u : Term). after_reduction p r (reduce p v u)) term
+          ∙ ap (after_reduction p r) went
+          ∙ ap (λ (k : ℕ). state_at p k (r.output ++ text) w x) taken,
+    )
+
+pub next_run : (p : Program) (s₀ : Store) (t₀ : Term) (n : ℕ) → Run p s₀ t₀ (n + 1) ≡ continued p (Run p s₀ t₀ n) (Run p s₀ t₀ n).outcome
+next_run p s₀ t₀ n = ap (Run p s₀ t₀) (let e : n + 1 ≡ suc n = omega arith in e)
+
+-- ## The segment that runs next
+
+pub fresh_in : {m : Module} (main : ℕ) (c : Capacity) {e : Context} {r : Rest} → e ≡ [] → r ≡ behind_of (Some main) → StackIs m [] (behind_of None) (fresh_shape main c) e r
+fresh_in {m = m} main c {e = e} {r = r} outer behind =
+    subst (λ (x : Context). StackIs m [] (behind_of None) (fresh_shape main c) x r) (sym outer)
+    (subst (λ (x : Rest). StackIs m [] (behind_of None) (fresh_shape main c) [] x) (sym behind) (fresh refl refl))
+
+left_there : {m : Module} {outer : Context} {behind : Rest} {s : Shape} {e : Context} {r : Rest} → StackIs m outer behind s e r → s.stage ≡ AtValues → (e ≡ outer) × (r ≡ behind)
+left_there (body h k w) b = absurd (cc)
+left_there (left h k w) b = absurd (cc)
+left_there (fresh h k) b = absurd (cc)
+left_there (values h k) b = (refl, refl)
+
+values_stage : (g : Stage) → is_values g ≡ true → g ≡ AtValues
+values_stage AtValues e = refl
+values_stage Fresh e = absurd (cc)
+values_stage Body e = absurd (cc)
+values_stage (Branch l) e = absurd (cc)
+
+-- where one segment is left that is values, nothing stands around
+pub last_there : {m : Module} {outer : Context} {behind : Rest} {xs : List Link} {e : Context} {vs : Row Val} {r : Rest} → Chained m outer behind xs e vs r → is_last xs ≡ true
+    → (e ≡ outer) × (r ≡ behind)
+last_there (only {x = x} i v) is = left_there i (values_stage x.shape.stage is)
+last_there (around i v c g k) is = absurd (cc)
+
+-- one such segment is the last one
+pub is_last_true : (xs : List Link) → IsLast xs → is_last xs ≡ true
+is_last_true [] h = let e = h.0 in absurd (omega (arith, e))
+is_last_true (x ∷ []) h = rw (h.1) refl
+is_last_true (x ∷ y ∷ ys) h = let e = h.0 in absurd (omega (arith, e))
+
+-- and it is one
+pub is_last_one : (xs : List Link) → is_last xs ≡ true → IsLast xs
+is_last_one [] e = absurd (cc)
+is_last_one (x ∷ []) e = (refl, values_stage x.shape.stage e)
+is_last_one (x ∷ y ∷ ys) e = absurd (cc)
+
+-- where main's turn comes there are no operands
+pub turn_empty : {m : Module} {K : Arrows} {us : Row Operand} {v : Store} (t : Term) {main : ℕ} → EndsWith m us main → Typed m K us v t → t.around ≡ [] → t.rest ≡ behind_of (Some main)
+    → t.operands ≡ ε
+turn_empty {m = m} {K = K} {us = us} {v = v} t {main = main} last h outer behind =
+    let at = subst₂ (λ (x : Context) (y : Rest). Typed m K us v (record { around = x; operands = t.operands; rest = y })) outer behind h in
+    invoke_alone m last at.term.operands at.term.rest at.term.around
