@@ -42,13 +42,15 @@ impl Bench {
     // With nothing but these types.
     fn context(&self) -> Context<'_> {
         Context {
-            candidate: &self.candidate,
+            types: &self.candidate.types,
             classes: &self.classes,
             functions: &[],
             tables: &[],
             memories: &[],
             globals: &[],
             tags: &[],
+            elements: &[],
+            datas: 0,
             declared: &[],
         }
     }

@@ -44,7 +44,7 @@ fn an_index_that_no_type_has_is_equivalent_to_itself_alone(rt: &impl Abort, clas
     assert!(rt; !classes.same(3, 4));
 }
 
-fn tell(alloc: Global, rt: &impl Abort, module: &Module) -> Result<(), Fail> {
+fn compare(alloc: Global, rt: &impl Abort, module: &Module) -> Result<(), Fail> {
     let classes = Classes::of_groups(alloc, module.types.as_slice())?;
     an_index_that_no_type_has_is_equivalent_to_itself_alone(rt, &classes);
     functions_match_with_parameters_reversed(rt, module, &classes)
@@ -53,7 +53,7 @@ fn tell(alloc: Global, rt: &impl Abort, module: &Module) -> Result<(), Fail> {
 #[test]
 fn types_are_told_apart(rt: HostRuntime) -> Result<(), Fail> {
     let module = decode(rt.alloc(), &MODULE)?;
-    let result = tell(rt.alloc(), &rt, &module);
+    let result = compare(rt.alloc(), &rt, &module);
     drop(module);
     result
 }

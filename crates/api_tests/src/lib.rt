@@ -18,3 +18,5 @@ mod lists_and_names;
 mod modules;
 #[cfg(test)]
 mod outside;
+#[cfg(test)]
+mod pieces;

@@ -8,8 +8,8 @@ use Rattle.w_decode.specs.declared.fault.DecodeFault.{DecodeFault}
 use Rattle.w_decode.specs.declared.fault.DecodeFault.TheVariants as decode
 use Rattle.w_rules.specs.Limits.{Within}
 use Rattle.w_rules.specs.Valid.{Valid}
-use Rattle.w_valid.specs.declared.fault.ValidFault.{ValidFault}
-use Rattle.w_valid.specs.declared.fault.ValidFault.TheVariants as valid
+use Rattle.w_items.specs.declared.fault.ValidFault.{ValidFault}
+use Rattle.w_items.specs.declared.fault.ValidFault.TheVariants as valid
 use Rattle.w_encode.specs.Canon.{Canon}
 use Rattle.w_encode.proofs.Canonical.{canon_spells}
 use Rattle.words.specs.declared.request.Action.TheVariants.{Check, Build}

@@ -9,8 +9,8 @@ use Rattle.w_decode.specs.declared.fault.DecodeFault.{DecodeFault}
 use Rattle.w_decode.proofs.ReadingExact.{spelled_exactly, fault_exactly, one_module}
 use Rattle.w_rules.specs.Limits.{Within}
 use Rattle.w_rules.specs.Valid.{Valid}
-use Rattle.w_valid.specs.declared.fault.ValidFault.{ValidFault}
-use Rattle.w_valid.proofs.Faults.{no_fault as no_fault_of}
+use Rattle.w_items.specs.declared.fault.ValidFault.{ValidFault}
+use Rattle.w_items.proofs.Faults.{no_fault as no_fault_of}
 use Rattle.w_encode.specs.Canon.{Canon}
 use Rattle.words.specs.declared.request.Action.{Action}
 use Rattle.drive.specs.Answer.{Reply, OnFile, BytesGive, ActionGives, gives, input_limit, HasModuleFault}

@@ -16,3 +16,6 @@ pub mod MeaningsOfRuns
 pub mod BuiltRuns
 pub mod AnswersMeant
 pub mod OutsMeant
+mod ModulesInPieces
+mod IntakesOfBytes
+mod FilesTakenIn

@@ -18,7 +18,7 @@ too_long_at (holds c) bytes (Some l) h n =
 
 -- ## What is left
 
-prepend_known-append : (xs ys : List ℕ) (left : Option (List ℕ)) → prepend_known xs (prepend_known ys left) ≡ prepend_known (xs ++ ys) left
+pub prepend_known-append : (xs ys : List ℕ) (left : Option (List ℕ)) → prepend_known xs (prepend_known ys left) ≡ prepend_known (xs ++ ys) left
 prepend_known-append xs ys None = refl
 prepend_known-append xs ys (Some l) = ap (λ (m : List ℕ). Some m) (sym (append_assoc xs ys l))
 
@@ -39,3 +39,10 @@ reads_part known left (Err Missing) h = inr h
 reads_part known left (Err TooLong) h = h
 reads_part known left (Err Failed) h = inr h
 reads_part known left (Err OutOfMemory) h = inr h
+
+-- whatever else it would have answered
+pub part_of_fault : (T U : Type 0) (known : Known) (left : Option (List ℕ)) (fault : InputFault) → ReadsPart {T = T} known left (Err fault) → ReadsPart {T = U} known left (Err fault)
+part_of_fault T U known left Missing h = h
+part_of_fault T U known left TooLong h = h
+part_of_fault T U known left Failed h = h
+part_of_fault T U known left OutOfMemory h = h

@@ -7,9 +7,9 @@ use Rattle.w_syntax.specs.Spells.{Spells}
 use Rattle.w_decode.specs.Faults.{HasFault}
 use Rattle.w_decode.specs.declared.fault.DecodeFault.{DecodeFault}
 use Rattle.w_decode.proofs.ReadingExact.{spelled_exactly, fault_exactly, one_module}
-use Rattle.w_valid.specs.declared.fault.ValidFault.{ValidFault}
-use Rattle.w_valid.proofs.Faults.{one_fault as one_fault_of, no_fault as no_fault_of}
-use Rattle.w_valid.specs.declared.fault.ValidFault.TheVariants as valid
+use Rattle.w_items.specs.declared.fault.ValidFault.{ValidFault}
+use Rattle.w_items.proofs.Faults.{one_fault as one_fault_of, no_fault as no_fault_of}
+use Rattle.w_items.specs.declared.fault.ValidFault.TheVariants as valid
 use Rattle.s_judge.proofs.OneJudgement.{one_judgement}
 use Rattle.s_judge.specs.declared.fault.ScriptFault.{ScriptFault}
 use Rattle.s_syntax.specs.declared.script.Script.{Script}

@@ -3,8 +3,8 @@ use Rattle.std.proofs.Common.{◌≡◌, ◌∙◌, ℕ, List, [], Result, Ok, E
 use Rattle.std.specs.Prelude.{IfOk, IfErr, IsErrAnd}
 use Rattle.w_syntax.specs.declared.module.Module.{Module}
 use Rattle.w_syntax.specs.Spells.{Spells}
-use Rattle.w_valid.specs.declared.fault.ValidFault.{ValidFault}
-use Rattle.w_valid.specs.declared.fault.ValidFault.TheVariants as valid
+use Rattle.w_items.specs.declared.fault.ValidFault.{ValidFault}
+use Rattle.w_items.specs.declared.fault.ValidFault.TheVariants as valid
 use Rattle.drive.specs.declared.output.Output.{Output}
 use Rattle.drive.specs.declared.stop.Stop.{Stop}
 use Rattle.drive.specs.declared.stop.Stop.TheVariants.{Refused, WriteFault, OutOfMemory}

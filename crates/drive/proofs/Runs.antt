@@ -14,7 +14,7 @@ use Rattle.w_stands.specs.Values.{vals}
 use Rattle.w_machine.specs.declared.outcome.RunStop.{RunStop}
 use Rattle.w_machine.specs.declared.outcome.RunStop.TheVariants as run_stop
 use Rattle.w_machine.specs.Beginning.{Begins}
-use Rattle.w_machine.specs.Position.{Position, Tells, is_fault, IsNoFault, HasTaken, HasTakenBy, after_run, PrintedBetween, PrintedAtMost, PrintedIf, PrintedBy, RunPrints, RunsOn, Runs}
+use Rattle.w_machine.specs.Position.{Position, StopsWith, is_fault, IsNoFault, HasTaken, HasTakenBy, after_run, PrintedBetween, PrintedAtMost, PrintedIf, PrintedBy, RunPrints, RunsOn, Runs}
 use Rattle.w_machine.proofs.RunsOfMany.{settled_at, printed_part}
 use Rattle.w_machine.specs.Results.{HasResults}
 use Rattle.drive.specs.declared.output.Output.{Output}
@@ -36,7 +36,7 @@ First m = record { program = m; taken = 0; stop = None }
 -- stopped it a first part
 abbrev pub HasRunWhole : (ℕ → RunState) → ℕ → Option RunStop → Option (List ℕ) → Option (List ℕ) → Type 0
 HasRunWhole run steps None before now = ((run (0 + steps)).outcome ≡ Running) × PrintedBetween (run 0) (run (0 + steps)) before now
-HasRunWhole run steps (Some k) before now = Tells k (run (0 + steps)).outcome × PrintedBy k (run 0) (run (0 + steps)) before now
+HasRunWhole run steps (Some k) before now = StopsWith k (run (0 + steps)).outcome × PrintedBy k (run 0) (run (0 + steps)) before now
 
 module _ (p : Program) (s : Store) (t : Term) (n steps : ℕ) (before now : Option (List ℕ)) where
   as_part : (f : Bool) → HasTakenBy f n steps → RunPrints f (Run p s t) 0 n steps before now → PrintedIf f (Run p s t 0) (Run p s t (0 + steps)) before now
@@ -95,21 +95,21 @@ first_after m steps q new k before now first runs none =
         let le : n ≤ steps = subst (λ (f : Bool). HasTakenBy f n steps) none taken in
         (let e = zero-add n in omega (arith, e, le), none)
 
-not_running : (k : RunStop) (o : Outcome) → is_fault k ≡ false → Tells k o → o ≡ Running → ⊥
-not_running run_stop.Ended o sound tells runs = let e = tells.1 in absurd (cc)
-not_running (run_stop.Limit name) o sound tells runs = absurd (cc)
-not_running (run_stop.Trapped t) o sound tells runs = absurd (cc)
-not_running run_stop.WriteFault o sound tells runs = absurd (cc)
-not_running run_stop.OutOfMemory o sound tells runs = absurd (cc)
+not_running : (k : RunStop) (o : Outcome) → is_fault k ≡ false → StopsWith k o → o ≡ Running → ⊥
+not_running run_stop.Ended o sound stops runs = let e = stops.1 in absurd (cc)
+not_running (run_stop.Limit name) o sound stops runs = absurd (cc)
+not_running (run_stop.Trapped t) o sound stops runs = absurd (cc)
+not_running run_stop.WriteFault o sound stops runs = absurd (cc)
+not_running run_stop.OutOfMemory o sound stops runs = absurd (cc)
 
 -- so the run of the reductions that a machine took is that of so many
 pub run_after : (q : Position) (p : Program) (s : Store) (t : Term) (steps : ℕ) → IsAfter q steps
-    → ((k : RunStop) → q.stop ≡ Some k → Tells k (Run p s t q.taken).outcome) → Run p s t q.taken ≡ Run p s t steps
-run_after q p s t steps after tells = go q.stop refl after
+    → ((k : RunStop) → q.stop ≡ Some k → StopsWith k (Run p s t q.taken).outcome) → Run p s t q.taken ≡ Run p s t steps
+run_after q p s t steps after stops = go q.stop refl after
   where
     go : (o : Option RunStop) → q.stop ≡ o → IsAfterBy o q.taken steps → Run p s t q.taken ≡ Run p s t steps
     go None e is = ap (Run p s t) is
-    go (Some k) e is = sym (settled_at p s t q.taken steps is.0 (not_running k _ is.1 (tells k e)))
+    go (Some k) e is = sym (settled_at p s t q.taken steps is.0 (not_running k _ is.1 (stops k e)))
 
 -- the line of its counts
 pub counts_are : (r : RunState) (a b c d : ℕ) → r.taken ≡ a → made r.store ≡ b → consumed r.store ≡ c → live r.store ≡ d → counts_line a b c d ≡ stats_line r

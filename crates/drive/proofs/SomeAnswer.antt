@@ -13,9 +13,9 @@ use Rattle.w_rules.specs.Valid.{Item, TypeItem, ImportItem, TableItem, MemoryIte
 use Rattle.w_types.specs.Groups.{types_of}
 use Rattle.std.specs.Prelude.{nat_eq, cond}
 use Rattle.std.proofs.lemmas.Bool.{cases_lt}
-use Rattle.w_valid.proofs.Items.{item_at, item_at-place_of}
-use Rattle.w_valid.specs.declared.fault.ValidFault.{ValidFault}
-use Rattle.w_valid.specs.declared.fault.ValidFault.TheVariants as valid
+use Rattle.w_items.proofs.Items.{item_at, item_at-place_of}
+use Rattle.w_items.specs.declared.fault.ValidFault.{ValidFault}
+use Rattle.w_items.specs.declared.fault.ValidFault.TheVariants as valid
 use Rattle.s_judge.proofs.OneJudgement.{some_judgement}
 use Rattle.s_judge.specs.Judgements as script
 use Rattle.s_judge.specs.declared.fault.ScriptFault.{ScriptFault}

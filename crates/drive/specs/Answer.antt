@@ -13,9 +13,9 @@ use Rattle.w_rules.specs.Limits.{Within}
 use Rattle.w_rules.specs.Valid.{Valid}
 use Rattle.w_rules.specs.declared.limits.SizeLimit.{SizeLimit}
 use Rattle.w_rules.specs.declared.limits.SizeLimit.TheVariants.{Types, Params, Locals}
-use Rattle.w_valid.specs.Faults.{IsFaultOf}
-use Rattle.w_valid.specs.declared.fault.ValidFault.{ValidFault}
-use Rattle.w_valid.specs.declared.fault.ValidFault.TheVariants as valid
+use Rattle.w_items.specs.Faults.{IsFaultOf}
+use Rattle.w_items.specs.declared.fault.ValidFault.{ValidFault}
+use Rattle.w_items.specs.declared.fault.ValidFault.TheVariants as valid
 use Rattle.w_reduce.specs.declared.limit.RunLimit.{RunLimit}
 use Rattle.w_reduce.specs.declared.limit.RunLimit.TheVariants.{Frames, Handles, Conts}
 use Rattle.w_reduce.specs.declared.limit.StartLimit.{StartLimit}
@@ -316,7 +316,7 @@ is_module = begins_with (0 ∷ 97 ∷ 115 ∷ 109 ∷ [])
 abbrev pub is_script : Action → List ℕ → Bool
 is_script action bytes = not (is_module bytes) && takes_scripts action
 
--- what an action gives of bytes; of those that are no script it says what is wrong with them as a module
+-- what an action gives of bytes; those that are no script are judged as a module
 abbrev pub ActionGives : Action → List ℕ → Reply → Type 0
 ActionGives action bytes reply =
     ((is_script action bytes ≡ false) × BytesGive (gives action) bytes reply) ⊎ ((is_script action bytes ≡ true) × ScriptGives (script_gives action) bytes reply)

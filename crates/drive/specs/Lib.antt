@@ -11,3 +11,4 @@ pub mod Reading
 pub mod Running
 pub mod Origin
 pub mod Meaning
+pub mod Intake

@@ -2,26 +2,34 @@
 ghost use Rattle.std.specs.Prelude.{◌≡◌, ◌≤◌, ℕ, List, IfOk, IfErr, length};
 ghost use Rattle.w_outside.specs.Outside.{Rose};
 ghost use Rattle.drive.specs.Answer.{input_limit};
+ghost use Rattle.drive.specs.Intake.{IsInputOf};
 ghost use Rattle.drive.specs.Reading.{FileRefusal, MayHold};
 ghost use Rattle.drive.specs.Stop.{Refuses};
 
 use crate::input::{InputFault, read_input};
+use crate::intake::Input;
 use crate::status::Status;
 use crate::stop::{Stop, refuse};
 use std::alloc::Global;
 use w_outside::Inputs;
+use words::Action;
 
-/// The bytes of a file.
-pub(crate) fn open<F: Inputs>(alloc: Global, files: &mut F, name: &str) -> Result<Vec<u8>, Stop>
-    ensures bytes { IfOk result (λ bytes. MayHold (F.file files.old name.now) bytes.items) }
-    ensures within { IfOk result (λ bytes. length bytes.items ≤ input_limit) }
+/// What a file is to an action.
+pub(crate) fn open<F: Inputs>(
+    alloc: Global,
+    files: &mut F,
+    name: &str,
+    action: Action,
+) -> Result<Input, Stop>
+    ensures bytes { IfOk result (λ input. (b : List ℕ) × MayHold (F.file files.old name.now) b × (length b ≤ input_limit)
+        × IsInputOf action input b) }
     ensures refused { IfErr result (Refuses
         (FileRefusal (F.file files.old name.now) (Rose (F.faults files.old) (F.faults files.new)))) }
     ensures later { F.faults files.old ≤ F.faults files.new }
     ensures names { (n : List ℕ) → F.file files.new n ≡ F.file files.old n }
 {
-    match read_input(alloc, files, name) {
-        Ok(bytes) => Ok(bytes),
+    match read_input(alloc, files, name, action) {
+        Ok(input) => Ok(input),
         Err(InputFault::TooLong) => Err(refuse(alloc, b"limit input\n", Status::Limit)),
         Err(InputFault::OutOfMemory) => Err(Stop::OutOfMemory),
         Err(InputFault::Failed) => Err(refuse(alloc, b"read fault\n", Status::ReadFault)),

@@ -18,8 +18,8 @@ use w_rules::Checked;
 use w_syntax::Module;
 use words::Action;
 
-// A module that is valid is told so.
-fn tell(alloc: Global) -> Result<Output, Stop>
+// What is said of a module that is valid.
+fn confirm(alloc: Global) -> Result<Output, Stop>
     ensures { Gives (λ reply. reply ≡ ok_module) result }
 {
     let line = Vec::from_slice(alloc, b"ok module\n")?;
@@ -50,7 +50,7 @@ pub(crate) fn finish<O: Sink>(
         Action::Check => {
             // the command ends here, and to let the module go would look through each of its bodies once more
             forget(checked);
-            tell(alloc)
+            confirm(alloc)
         }
         Action::Run { steps, stats } => run(alloc, Origin::Module, checked, steps, stats, out),
         Action::Build => {

@@ -1,21 +1,25 @@
 //! A file's bytes, up to the limit of an input.
-ghost use Rattle.std.specs.Prelude.{◌≡◌, ◌+◌, ◌<◌, ◌≤◌, List, ℕ, Ok, OnOk, OnErr, IfOk, IsErrOf, vec_len};
-ghost use Rattle.std.specs.Io.KnownBytes.{prepend_known, IsAtEnd};
-ghost use Rattle.w_outside.specs.Outside.{HasCause, Rose, missing};
+ghost use Rattle.std.specs.Prelude.{◌≡◌, ◌+◌, ◌<◌, ◌≤◌, List, ℕ, Ok, OnOk, OnErr, IfOk, IsErrOf, length};
+ghost use Rattle.std.specs.Io.KnownBytes.{IsAtEnd};
+ghost use Rattle.w_outside.specs.Outside.{HasCause, Known, Rose, missing};
 ghost use Rattle.drive.specs.InputFault.{input_fault_of};
+ghost use Rattle.drive.specs.declared.input.InputFault.TheVariants.{OutOfMemory};
 ghost use Rattle.drive.specs.Answer.{input_limit};
+ghost use Rattle.drive.specs.Intake.{IsInputOf, IsReadTo, TakesIn, TakesMore};
 ghost use Rattle.drive.specs.Reading.{MayHold, IsTooLong, ReadsPart, TakesPart};
 
-use std::alloc::Global;
+use crate::intake::{Input, Intake};
+use std::alloc::{AllocError, Global};
 use thiserror::Error;
 use w_outside::{Fault, Inputs};
+use words::Action;
 
 /// The most bytes of a file that is read.
 const INPUT_LIMIT: usize = 16_777_216;
 
 /// Why a file was not read.
 #[derive(Clone, Copy, Debug, PartialEq, Eq, Error)]
-pub enum InputFault {
+pub(crate) enum InputFault {
     #[error("no such file")]
     Missing,
     #[error("the file is too long")]
@@ -37,14 +41,26 @@ impl From<Fault> for InputFault {
     }
 }
 
-// Reads the next bytes, at most so many.
-fn read_more<F: Inputs>(files: &mut F, bytes: &mut Vec<u8>, most: usize) -> Result<usize, Fault>
+impl From<AllocError> for InputFault {
+    ghost from_gives = { λ _ e. e ≡ OutOfMemory };
+
+    fn from(_: AllocError) -> Self {
+        InputFault::OutOfMemory
+    }
+}
+
+// Reads the next bytes, at most so many, and takes them in.
+fn read_more<F: Inputs>(
+    alloc: Global,
+    files: &mut F,
+    action: Action,
+    intake: &mut Intake,
+    most: usize,
+) -> Result<usize, Fault>
     requires some { 0 < most }
     requires room { most ≤ 4096 }
-    ensures count { IfOk result (λ n. vec_len bytes.new ≡ vec_len bytes.old + n) }
     ensures most { IfOk result (λ n. n ≤ most) }
-    ensures whole { OnOk result (prepend_known bytes.old.items (F.left files.old)
-        ≡ prepend_known bytes.new.items (F.left files.new)) }
+    ensures takes { IfOk result (TakesMore action intake.old intake.new (F.left files.old) (F.left files.new)) }
     ensures end { result ≡ Ok 0 → IsAtEnd (F.left files.new) }
     ensures err { OnErr result (TakesPart most (F.left files.old) (F.left files.new)) }
     ensures names { (n : List ℕ) → F.file files.new n ≡ F.file files.old n }
@@ -53,18 +69,49 @@ fn read_more<F: Inputs>(files: &mut F, bytes: &mut Vec<u8>, most: usize) -> Resu
     let mut buffer = [0u8; 4096];
     let part = &mut buffer[..most];
     let count = files.read(part)?;
-    bytes.extend_from_slice(&part[..count])?;
+    intake.take(alloc, action, &part[..count])?;
     Ok(count)
 }
 
-/// Reads a whole file, or one byte more than the limit.
-pub fn read_input<F: Inputs>(
+// Reads what is left of a file, or one byte more than the limit, and takes it in as it is read.
+fn read_all<F: Inputs>(
+    alloc: Global,
+    files: &mut F,
+    action: Action,
+    intake: &mut Intake,
+) -> Result<(), InputFault>
+    ensures bytes { OnOk result ((known : Known) → IsReadTo known (F.left files.old) action intake.old 0
+        → (b : List ℕ) × MayHold known b × (length b ≤ input_limit) × TakesIn action intake.new b) }
+    ensures missing { IsErrOf result InputFault.Missing → ⊥ }
+    ensures too_long { IsErrOf result InputFault.TooLong → (known : Known) → IsReadTo known (F.left files.old) action intake.old 0
+        → IsTooLong known }
+    ensures failed { IsErrOf result InputFault.Failed → Rose (F.faults files.old) (F.faults files.new) }
+    ensures part { (known : Known) → IsReadTo known (F.left files.old) action intake.old 0 → ReadsPart known (F.left files.new) result }
+    ensures later { F.faults files.old ≤ F.faults files.new }
+    ensures names { (n : List ℕ) → F.file files.new n ≡ F.file files.old n }
+{
+    let mut length = 0;
+    while length <= INPUT_LIMIT {
+        let most = (INPUT_LIMIT + 1 - length).min(4096);
+        let count = read_more(alloc, files, action, intake, most)?;
+        if count == 0 {
+            return Ok(());
+        }
+        length += count;
+    }
+    Err(InputFault::TooLong)
+}
+
+/// Reads a whole file, or one byte more than the limit, and takes it in as it is read. It is read to its end also where its bytes are no
+/// module, since what reading comes to goes first.
+pub(crate) fn read_input<F: Inputs>(
     alloc: Global,
     files: &mut F,
     name: &str,
-) -> Result<Vec<u8>, InputFault>
-    ensures bytes { IfOk result (λ v. MayHold (F.file files.old name.now) v.items) }
-    ensures within { IfOk result (λ v. vec_len v ≤ input_limit) }
+    action: Action,
+) -> Result<Input, InputFault>
+    ensures bytes { IfOk result (λ input. (b : List ℕ) × MayHold (F.file files.old name.now) b × (length b ≤ input_limit)
+        × IsInputOf action input b) }
     ensures missing { IsErrOf result InputFault.Missing → F.file files.old name.now ≡ missing }
     ensures too_long { IsErrOf result InputFault.TooLong → IsTooLong (F.file files.old name.now) }
     ensures failed { IsErrOf result InputFault.Failed → Rose (F.faults files.old) (F.faults files.new) }
@@ -76,13 +123,9 @@ pub fn read_input<F: Inputs>(
     if !files.open(name)? {
         return Err(InputFault::Missing);
     }
-    let mut bytes = Vec::new(alloc);
-    while bytes.len() <= INPUT_LIMIT {
-        let most = (INPUT_LIMIT + 1 - bytes.len()).min(4096);
-        let count = read_more(files, &mut bytes, most)?;
-        if count == 0 {
-            return Ok(bytes);
-        }
+    let mut intake = Intake::new(alloc);
+    match read_all(alloc, files, action, &mut intake) {
+        Ok(()) => Ok(intake.end(alloc, action)?),
+        Err(fault) => Err(fault),
     }
-    Err(InputFault::TooLong)
 }

@@ -1,20 +1,19 @@
-//! The judgement on the bytes of a file.
+//! The judgement on a module.
 ghost use Rattle.std.specs.Prelude.{◌≡◌, ◌≢◌, IfOk, IfErr, IsTrue, IsFalse};
-ghost use Rattle.w_syntax.specs.Spells.{Spells};
 ghost use Rattle.w_rules.specs.Limits.{Within};
 ghost use Rattle.w_rules.specs.Valid.{Valid};
-ghost use Rattle.drive.specs.Answer.{BytesRefusal, ModuleRefusal, invalid};
+ghost use Rattle.drive.specs.Answer.{ModuleRefusal, invalid};
+ghost use Rattle.w_valid.specs.Gradual.{AnswersFor};
 ghost use Rattle.drive.specs.Status.{code_of};
 ghost use Rattle.drive.specs.Stop.{Ends, Refuses};
 
-use crate::lines::{invalid_line, malformed_line};
+use crate::lines::invalid_line;
 use crate::status::Status;
 use crate::stop::{Stop, refuse_by};
 use std::alloc::Global;
-use w_decode::{DecodeFault, decode};
 use w_rules::Checked;
 use w_syntax::Module;
-use w_valid::{ValidFault, validate};
+use w_valid::{Gradual, ValidFault, validate};
 
 // The status of a module that is not accepted.
 fn invalid_status(fault: ValidFault) -> Status
@@ -86,19 +85,20 @@ pub(crate) fn accept(alloc: Global, candidate: Module) -> Result<Checked, Stop>
     }
 }
 
-/// The module that bytes spell, where it is valid and within its limits.
-pub(crate) fn judge(alloc: Global, bytes: &[u8]) -> Result<Checked, Stop>
-    ensures spelled { IfOk result (λ checked. Spells bytes.now checked) }
+/// The same, where its first bodies were judged before.
+pub(crate) fn accept_rest(
+    alloc: Global,
+    gradual: Gradual,
+    candidate: Module,
+) -> Result<Checked, Stop>
+    requires { AnswersFor gradual candidate }
+    ensures same { IfOk result (λ checked. checked ≡ candidate) }
     ensures within { IfOk result Within }
     ensures valid { IfOk result Valid }
-    ensures refused { IfErr result (Refuses (BytesRefusal bytes.now)) }
+    ensures refused { IfErr result (Refuses (ModuleRefusal candidate)) }
 {
-    match decode(alloc, bytes) {
-        Ok(candidate) => accept(alloc, candidate),
-        Err(DecodeFault::OutOfMemory) => Err(Stop::OutOfMemory),
-        Err(fault) => {
-            let line = malformed_line(alloc, fault)?;
-            Err(refuse_by(alloc, line, Status::Malformed))
-        }
+    match gradual.finish(candidate) {
+        Ok(checked) => Ok(checked),
+        Err(fault) => Err(refusal_of(alloc, fault)),
     }
 }

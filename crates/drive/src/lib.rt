@@ -5,9 +5,11 @@ mod delivery;
 mod files;
 mod finishing;
 mod input;
+mod intake;
 mod judging;
 mod laws;
 mod lines;
+mod module_intake;
 mod origin;
 mod output;
 mod program;
@@ -16,7 +18,6 @@ mod scripts;
 mod status;
 mod stop;
 
-pub use input::{InputFault, read_input};
 pub use laws::{
     answers_to_scripts_mean, build_is_idempotent, built_files_are_accepted, built_runs_are_alike,
     built_scripts_are_short, one_answer, runs_of_scripts_mean, some_answer,

@@ -7,14 +7,15 @@ ghost use Rattle.words.specs.declared.request.Action.TheVariants.{Run as RunFor}
 ghost use Rattle.s_generate.specs.Generated.{generated as generated_script};
 ghost use Rattle.drive.specs.Answer.{ActionGives, Answer, HasStatus, generated_steps};
 ghost use Rattle.drive.specs.Delivery.{Answers, Answered, Stopped, MayFail, Replies};
+ghost use Rattle.drive.specs.Intake.{IsInputOf};
 ghost use Rattle.drive.specs.Leaving.{Leaves};
 
 use crate::delivery::deliver;
 use crate::files::open;
 use crate::finishing::finish;
-use crate::judging::judge;
+use crate::intake::Input;
 use crate::output::Output;
-use crate::scripts::{act_on_script, is_script};
+use crate::scripts::act_on_script;
 use crate::status::Status;
 use crate::stop::{Stop, refuse};
 use s_generate::generate;
@@ -28,18 +29,21 @@ const GENERATED_STEPS: u64 = 10_000_000_000;
 static USAGE: &[u8] =
     b"usage: stackwasm check FILE | run FILE [--steps N] [--stats] | build FILE | gen N\n";
 
-// Does with bytes what is asked for. What a run prints goes to out; the answer is what is left to write.
-fn act<O: Sink>(alloc: Global, action: Action, bytes: &[u8], out: &mut O) -> Result<Output, Stop>
-    requires { IsWithinSteps action }
-    ensures leaves { Leaves (ActionGives action bytes.now) result
+// Does with a script or a module what is asked for. What a run prints goes to out; the answer is what is left to write.
+fn act<O: Sink>(alloc: Global, action: Action, input: Input, out: &mut O) -> Result<Output, Stop>
+    requires steps { IsWithinSteps action }
+    requires bytes { (b : List ℕ) × IsInputOf action input b }
+    ensures leaves { (b : List ℕ) → IsInputOf action input b → Leaves (ActionGives action b) result
         (Grew (O.held out.old) (O.held out.new)) (Rose (O.faults out.old) (O.faults out.new)) }
     ensures later { O.faults out.old ≤ O.faults out.new }
 {
-    if is_script(action, bytes) {
-        return act_on_script(alloc, action, bytes, out);
+    match input {
+        Input::Script(bytes) => act_on_script(alloc, action, bytes.as_slice(), out),
+        Input::Module(module) => {
+            let checked = module.judge(alloc)?;
+            finish(alloc, action, checked, out)
+        }
     }
-    let checked = judge(alloc, bytes)?;
-    finish(alloc, action, checked, out)
 }
 
 // Runs the script that is generated for this number. What a run prints goes to out; the answer is what is left to write.
@@ -53,7 +57,8 @@ fn run_generated<O: Sink>(alloc: Global, number: u32, out: &mut O) -> Result<Out
         steps: GENERATED_STEPS,
         stats: false,
     };
-    act(alloc, action, bytes.as_slice(), out)
+    let input = Input::of_bytes(alloc, action, bytes)?;
+    act(alloc, action, input, out)
 }
 
 // The answer to the words. What a run prints goes to out; the answer is what is left to write.
@@ -71,8 +76,8 @@ fn answer<F: Inputs, O: Sink>(
 {
     match request_of(alloc, words) {
         Ok(Request::OnFile { file, action }) => {
-            let bytes = open(alloc, files, file)?;
-            act(alloc, action, bytes.as_slice(), out)
+            let input = open(alloc, files, file, action)?;
+            act(alloc, action, input, out)
         }
         Ok(Request::Generated(number)) => run_generated(alloc, number, out),
         Err(WordsFault::Bad) => Err(refuse(alloc, USAGE, Status::Usage)),

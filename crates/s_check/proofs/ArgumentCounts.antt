@@ -1,10 +1,6 @@
 -- Arguments against parameters: as many, or another number.
-use Rattle.std.proofs.Common.{◌≡◌, ℕ, zero, suc, Bool, true, false, not, ◌+◌, ◌-◌, ◌<◌, ◌≤◌, List, [], ◌∷◌, length, drop, get_or, refl, sym, ap, ◌∙◌, arith, add-one, drop-cons}
-use Rattle.s_syntax.specs.declared.operators.BinaryOperator.{BinaryOperator}
-use Rattle.s_syntax.specs.declared.statement.Statement.{Statement}
-use Rattle.s_syntax.specs.ExprTree.{ExprTree, exprs, operands, height, height_exprs, height_operands}
-use Rattle.s_syntax.specs.BlockTree.{depth, depth_within}
-use Rattle.s_syntax.specs.BlockOf.{statement_of, block_of}
+use Rattle.std.proofs.Common.{◌≡◌, ℕ, suc, Bool, true, false, not, ◌-◌, List, [], ◌∷◌, length, refl, ap, ◌∙◌}
+use Rattle.s_syntax.specs.ExprTree.{ExprTree, exprs}
 use Rattle.std.specs.Prelude.{nat_eq, if◌then◌else◌}
 use Rattle.std.proofs.lemmas.Bool.{eq-eqb, eqb-true}
 use Rattle.s_syntax.specs.declared.script.Parameter.{Parameter}

@@ -11,7 +11,7 @@ use Rattle.s_syntax.specs.declared.script.Clause.{Clause}
 use Rattle.s_syntax.specs.declared.script.Handler.{Handler}
 use Rattle.s_check.specs.Scopes.{Bound, parameter}
 use Rattle.s_check.specs.Size.{block_size, clause_size}
-use Rattle.s_code.specs.declared.handler.Placed.{Placed as Kept}
+use Rattle.s_code.specs.declared.handler.Placed.{Placed as PlacedHandler}
 use Rattle.s_code.specs.Clauses.{placed_in, placed_all, AllFit}
 use Rattle.s_code.specs.Handlers.{Placed}
 use Rattle.s_code.specs.Layouts.{Local, Owner, Layout, numbered}
@@ -74,7 +74,7 @@ handler_placed h i us vs from temps u v n t =
     ∙ placed_of_handler h i (clauses_place i) i.clauses
 
 -- one clause more
-pub placed_more : (h : Name) (us : List Bound) (temps n m : ℕ) (cs : List Clause) (i : ℕ) (c : Clause) (old new : List Kept) (all : List Placed) → i < length cs → c ≡ get_or cs i c
+pub placed_more : (h : Name) (us : List Bound) (temps n m : ℕ) (cs : List Clause) (i : ℕ) (c : Clause) (old new : List PlacedHandler) (all : List Placed) → i < length cs → c ≡ get_or cs i c
     → placed_all new ≡ placed_all old ++ placed_by h us temps n (c ∷ []) → m ≡ n + length (clause_names h c)
     → placed_all old ++ placed_by h us temps n (drop i cs) ≡ all → placed_all new ++ placed_by h us temps m (drop (i + 1) cs) ≡ all
 placed_more h us temps n m cs i c old new all l e made next before =
@@ -85,10 +85,10 @@ placed_more h us temps n m cs i c old new all l e made next before =
     ∙ before
 
 -- clauses put behind none
-pub placed_first : (old new ks : List Kept) (h : Name) (us : List Bound) (temps n : ℕ) (cs ds : List Clause) → old ≡ [] → placed_all new ≡ placed_all old ++ placed_by h us temps n cs → ks ≡ new → cs ≡ ds
+pub placed_first : (old new ks : List PlacedHandler) (h : Name) (us : List Bound) (temps n : ℕ) (cs ds : List Clause) → old ≡ [] → placed_all new ≡ placed_all old ++ placed_by h us temps n cs → ks ≡ new → cs ≡ ds
     → placed_all ks ≡ placed_by h us temps n ds
 placed_first old new ks h us temps n cs ds o e k d =
-    ap (λ (xs : List Kept). placed_all xs) k ∙ e ∙ ap (λ (xs : List Kept). placed_all xs ++ placed_by h us temps n cs) o ∙ ap (λ (xs : List Clause). placed_by h us temps n xs) d
+    ap (λ (xs : List PlacedHandler). placed_all xs) k ∙ e ∙ ap (λ (xs : List PlacedHandler). placed_all xs ++ placed_by h us temps n cs) o ∙ ap (λ (xs : List Clause). placed_by h us temps n xs) d
 
 -- ## Clauses fit
 
@@ -111,10 +111,10 @@ as_many_placed : (h : Name) (us : List Bound) (temps n : ℕ) (cs : List Clause)
 as_many_placed h us temps n [] = refl
 as_many_placed h us temps n (c ∷ cs) = ap suc (as_many_placed h us temps (n + length (clause_names h c)) cs)
 
-pub as_many_kept : (ks : List Kept) (h : Name) (us : List Bound) (temps n : ℕ) (cs : List Clause) → placed_all ks ≡ placed_by h us temps n cs → length ks ≡ length cs
+pub as_many_kept : (ks : List PlacedHandler) (h : Name) (us : List Bound) (temps n : ℕ) (cs : List Clause) → placed_all ks ≡ placed_by h us temps n cs → length ks ≡ length cs
 as_many_kept ks h us temps n cs e = sym (length-map ks placed_in) ∙ ap (λ (ps : List Placed). length ps) e ∙ as_many_placed h us temps n cs
 
-pub all_fit : (ks : List Kept) (h : Name) (us : List Bound) (temps n : ℕ) (cs : List Clause) → placed_all ks ≡ placed_by h us temps n cs → temps + length cs + sum_by clause_size cs ≤ number_limit → AllFit ks
+pub all_fit : (ks : List PlacedHandler) (h : Name) (us : List Bound) (temps n : ℕ) (cs : List Clause) → placed_all ks ≡ placed_by h us temps n cs → temps + length cs + sum_by clause_size cs ≤ number_limit → AllFit ks
 all_fit ks h us temps n cs e few k p is =
     let r = placed_fit h us temps n cs k (placed_in p) (sym (ap (λ (ps : List Placed). slice_get ps k) e) ∙ slice_get-map placed_in ks k ∙ ap (option_map placed_in) is) in
     let l = as_many_kept ks h us temps n cs e in

@@ -49,7 +49,7 @@ empty_derivable c s = ((ε, (tt, none)), tt)
 classes_known : (cx : rt.Context) (b : Wanted) (c : Checker) → b.context ≡ context_in cx → HasClasses cx → standing.context_for c ≡ inner b
     → standing.classes_for c ≡ cx.classes.now → standing.KnowsClasses c
 classes_known cx b c of classes e f =
-    let types : (standing.context_for c).types ≡ cx.candidate.now.types = ap (λ (d : Context). d.types) e ∙ ap (λ (d : Context). d.types) of in
+    let types : (standing.context_for c).types ≡ cx.types.now = ap (λ (d : Context). d.types) e ∙ ap (λ (d : Context). d.types) of in
     subst (λ es. IsClassesOf (standing.context_for c).types es) (sym f) (subst (λ gs. IsClassesOf gs cx.classes.now) (sym types) classes)
 
 pub begun : (cx : rt.Context) (b : Wanted) (c : Checker) → b.context ≡ context_in cx → HasClasses cx → standing.context_for c ≡ inner b

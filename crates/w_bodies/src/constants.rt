@@ -186,7 +186,7 @@ fn type_of_one(cx: &Context, op: &Op) -> Option<PackedType>
 // Whether there is a type, which matches another.
 fn is_matched(cx: &Context, found: Option<PackedType>, kind: PackedType) -> bool
     requires { HasClasses cx.now }
-    ensures { IsTrue result ↔ Holds found (λ t. ValMatches cx.now.candidate.now.types t kind) }
+    ensures { IsTrue result ↔ Holds found (λ t. ValMatches cx.now.types.now t kind) }
 {
     match found {
         Some(found) => cx.classes.matches_val(found, kind),

@@ -86,7 +86,7 @@ entry_before m n gs es more g number first i len f E =
       entry = E.entry;
       is = get-front es more i (slice_get_within es i E.entry E.is) ∙ E.is;
       position = E.position;
-      named = f.kept (key_at (es ++ more) E.place.front E.place.group) E.entry.class.group (ap (λ (l : List Entry). number_of m (group_words l E.place.group)) t ∙ E.named);
+      named = f.stays (key_at (es ++ more) E.place.front E.place.group) E.entry.class.group (ap (λ (l : List Entry). number_of m (group_words l E.place.group)) t ∙ E.named);
     }
 
 entry_now : (m n : Numbers) (gs : List RecGroup) (es : List Entry) (g : RecGroup) (number first : ℕ) (i : ℕ)

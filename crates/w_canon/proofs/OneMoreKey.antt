@@ -26,7 +26,7 @@ more es k n = insert_entry (λ (j : Key). beside j.items) es k n
 -- ## A key that is there already
 
 pub found_before : (m : BTreeMap Key ℕ) (key : List Word) (number first : ℕ) → number_of m key ≡ Some first → Finds m m key number first
-found_before m key number first e = record { found = e; kept = λ q n h. h; added = λ q n h. inl h }
+found_before m key number first e = record { found = e; stays = λ q n h. h; added = λ q n h. inl h }
 
 -- ## A key that comes
 
@@ -62,20 +62,20 @@ absent_behind false v old h = (refl, h)
 
 record After (es new : List (Key × ℕ)) (k : Key) (v : ℕ) : Type 0 where
   pub found : at k.items new ≡ Some v
-  pub kept : (q : List Word) (n : ℕ) → at q es ≡ Some n → at q new ≡ Some n
+  pub stays : (q : List Word) (n : ℕ) → at q es ≡ Some n → at q new ≡ Some n
   pub added : (q : List Word) (n : ℕ) → at q new ≡ Some n → (at q es ≡ Some n) ⊎ ((q ≡ k.items) × (n ≡ v))
 
 in_front : (es : List (Key × ℕ)) (k : Key) (v : ℕ) → at k.items es ≡ None → After es ((k, v) ∷ es) k v
 in_front es k v none = record {
   found = let e = key_itself k.items in rw e refl;
-  kept = λ q n h. front_kept q k v n (at q es) (beside q k) refl (λ e. subst (λ (x : List Word). at x es ≡ None) (sym e) none) h;
+  stays = λ q n h. front_kept q k v n (at q es) (beside q k) refl (λ e. subst (λ (x : List Word). at x es ≡ None) (sym e) none) h;
   added = λ q n h. front_added q k v n (at q es) (beside q k) refl h;
 }
 
 further : (e : Key × ℕ) (es new : List (Key × ℕ)) (k : Key) (v : ℕ) → is_eq (beside k.items e.0) ≡ false → After es new k v → After (e ∷ es) (e ∷ new) k v
 further e es new k v apart h = record {
   found = rw apart h.found;
-  kept = λ q n. behind_kept (is_eq (beside q e.0)) e.1 n (at q es) (at q new) (h.kept q n);
+  stays = λ q n. behind_kept (is_eq (beside q e.0)) e.1 n (at q es) (at q new) (h.stays q n);
   added = λ q n. behind_added ((q ≡ k.items) × (n ≡ v)) (is_eq (beside q e.0)) e.1 n (at q es) (at q new) (h.added q n);
 }
 
@@ -91,4 +91,4 @@ inserted (e ∷ es) k v none = inserted_by e es k v (beside k.items e.0) refl no
 pub found_now : (m n : BTreeMap Key ℕ) (k : Key) (number : ℕ) → number_of m k.items ≡ None → n.entries ≡ more m.entries k number → Finds m n k.items number number
 found_now m n k number none e =
     let h = subst (λ (es : List (Key × ℕ)). After m.entries es k number) (sym e) (inserted m.entries k number none) in
-    record { found = h.found; kept = h.kept; added = h.added }
+    record { found = h.found; stays = h.stays; added = h.added }

@@ -20,5 +20,5 @@ number_of m q = lookup (λ (k : Vec Word Global). is_eq (slice_cmp word_cmp q k.
 -- the key leads to the number `first`, and of all keys no more changed than that it may now lead to the given number
 pub record Finds (old new : BTreeMap (Vec Word Global) ℕ) (key : List Word) (number first : ℕ) : Type 0 where
   pub found : number_of new key ≡ Some first
-  pub kept : (q : List Word) (n : ℕ) → number_of old q ≡ Some n → number_of new q ≡ Some n
+  pub stays : (q : List Word) (n : ℕ) → number_of old q ≡ Some n → number_of new q ≡ Some n
   pub added : (q : List Word) (n : ℕ) → number_of new q ≡ Some n → (number_of old q ≡ Some n) ⊎ ((q ≡ key) × (n ≡ number))

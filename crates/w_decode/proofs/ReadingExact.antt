@@ -62,7 +62,7 @@ framed_some k bytes s rest e =
     let same : a.0 ≡ (s.1, s.2) = ap (λ (i : ℕ). (i, a.0.1)) c.1 ∙ ap (λ (l : List ℕ). (s.1, l)) c.2 in
     (b.0, b.1 ∙ ap (λ (l : List ℕ). b.0 ++ l) c.3, subst (λ (f : ℕ × List ℕ). frame.Spells b.0 f) same b.2, subst (λ (f : ℕ × List ℕ). next_rank k f.0 ≡ Some s.0) same c.0)
 
-frame_solid : (f : ℕ × List ℕ) → frame.Spells [] f → ⊥
+pub frame_solid : (f : ℕ × List ℕ) → frame.Spells [] f → ⊥
 unfolding frame
 frame_solid f h = let e : suc (length h.1) ≡ 0 = sym (ap length (h.2 ∙ ap (λ (l : List ℕ). l ++ h.1) h.3)) in absurd (omega arith)
 
@@ -128,7 +128,7 @@ have_ids : HaveIds kinds
 have_ids =
     (λ b p h. ap id_of (sym h.5), (λ b p h. ap id_of h.2, (λ b p h. ap id_of h.2, (λ b p h. ap id_of h.2, (λ b p h. ap id_of h.2, (λ b p h. ap id_of h.2, (λ b p h. ap id_of h.2, (λ b p h. ap id_of h.2, (λ b p h. ap id_of h.2, (λ b p h. ap id_of h.2, (λ b p h. ap id_of h.2, (λ b p h. ap id_of h.2, (λ b p h. ap id_of h.2, (λ b p h. ap id_of h.2, tt))))))))))))))
 
-id_is : (f : ℕ × List ℕ) (p : Section) → IsSection f p → f.0 ≡ id_of p
+pub id_is : (f : ℕ × List ℕ) (p : Section) → IsSection f p → f.0 ≡ id_of p
 unfolding IsSection
 id_is f p h = id_chosen kinds have_ids f.0 f.1 p h
 
@@ -137,7 +137,7 @@ unfoldable pub with_sections : PartialModule → List Section → PartialModule
 with_sections g [] = g
 with_sections g (p ∷ ps) = with_sections (with_section p g) ps
 
-ranked : (o : Option ℕ) (ps : List Section) (l : ℕ) → if_some o (λ j. rank_after j ps) ≡ Some l → (j : ℕ) × (o ≡ Some j) × (rank_after j ps ≡ Some l)
+pub ranked : (o : Option ℕ) (ps : List Section) (l : ℕ) → if_some o (λ j. rank_after j ps) ≡ Some l → (j : ℕ) × (o ≡ Some j) × (rank_after j ps ≡ Some l)
 ranked None ps l e = absurd cc
 ranked (Some j) ps l e = (j, refl, e)
 

@@ -39,7 +39,7 @@ fn rank(id: u8) -> Option<u8>
 
 // After the rank `last` the section of this id may come, and leaves this rank.
 #[tactic(auto, unfolding(w_syntax::specs::Sections::next_rank))]
-fn next_rank(last: u8, id: u8) -> Option<u8>
+pub(crate) fn next_rank(last: u8, id: u8) -> Option<u8>
     ensures { result ≡ rank_next last id }
 {
     if id == 0x00 {

@@ -1,6 +1,6 @@
 mod Cases
 mod BytesBehindBytes
-mod Written
+mod FlatBodies
 mod ItemsWritten
 mod TypesCanonical
 mod InstructionsCanonical

@@ -35,17 +35,6 @@ fn add_place(places: &mut Vec<Operand>, operand: Operand) -> Result<(), AllocErr
     Ok(())
 }
 
-// Puts operands into the places from one on.
-fn put_operands(places: &mut [Operand], from: usize, operands: &[Operand])
-    requires { from + length operands.now ≤ length places.old }
-    ensures put { take (from + length operands.now) places.new
-        ≡ take from places.old ++ operands.now }
-    ensures long { length places.new ≡ length places.old }
-{
-    let count = from + operands.len();
-    places[from..count].copy_from_slice(operands);
-}
-
 impl OperandList {
     ghost use Rattle.std.specs.Prelude.{◌≡◌, ◌≤◌, ◌-◌, ◌<◌, ◌++◌, ◌∷◌, [], length, take, IfSome, IfNone, OnErr, OnOk};
 
@@ -152,7 +141,7 @@ impl OperandList {
             self.count = 0;
             self.places.resize(count, Operand::BOTTOM)?;
         }
-        put_operands(self.places.as_mut_slice(), from, operands);
+        self.places[from..count].copy_from_slice(operands);
         self.count = count;
         Ok(())
     }

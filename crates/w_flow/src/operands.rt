@@ -219,26 +219,18 @@ pub(crate) fn take_any(any: bool, operands: &mut OperandList) -> Option<Operand>
     }
 }
 
-// The heap type of a reference, `None` inside where that is bottom.
-fn heap_type(operand: Operand) -> Option<Option<HeapType>>
-    ensures { result ≡ heap_of (type_of operand) }
+/// Takes a reference, and gives its heap type, `None` inside where that is bottom.
+pub(crate) fn take_reference(any: bool, operands: &mut OperandList) -> Option<Option<HeapType>>
+    ensures popped { pop_ref any (row_in operands.old) ≡ with_rest (row_in operands.new) result }
+    ensures rest { operands.new ≡ take (length operands.old - 1) operands.old }
 {
-    match operand.view() {
+    match take_any(any, operands)?.view() {
         OperandView::Bottom | OperandView::BottomRef(_) => Some(None),
         OperandView::Known(kind) => match kind.whole() {
             ValType::Ref(kind) => Some(Some(kind.heap)),
             ValType::I32 | ValType::I64 => None,
         },
     }
-}
-
-/// Takes a reference, and gives its heap type.
-pub(crate) fn take_reference(any: bool, operands: &mut OperandList) -> Option<Option<HeapType>>
-    ensures popped { pop_ref any (row_in operands.old) ≡ with_rest (row_in operands.new) result }
-    ensures rest { operands.new ≡ take (length operands.old - 1) operands.old }
-{
-    let operand = take_any(any, operands)?;
-    heap_type(operand)
 }
 
 /// A reference to this heap type that is not null.

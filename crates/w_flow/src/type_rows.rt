@@ -188,7 +188,7 @@ impl TypeRows {
 
     /// The function type of this index, where the type of this index is one.
     pub fn func_of<'r>(&'r self, cx: &Context<'r>, index: u32) -> Option<FuncRows<'r>>
-        requires { AreTypeRows cx.now.classes.now (types_of cx.now.candidate.now.types) self.now }
+        requires { AreTypeRows cx.now.classes.now (types_of cx.now.types.now) self.now }
         ensures kind { option_map rows_type result ≡ func_of (context_in cx.now) index }
         ensures ready { IfSome result (λ rows. AreReadyRows cx.now.classes.now rows) }
     {

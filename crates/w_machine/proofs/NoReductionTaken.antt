@@ -36,11 +36,11 @@ use Rattle.w_machine.specs.Parts.{Parts, whole}
 use Rattle.w_machine.specs.Standing.{behind_of, IsLast, Stands}
 use Rattle.w_machine.specs.Reducing.{end_by, end_at}
 use Rattle.w_machine.specs.Beginning.{Begins}
-use Rattle.w_machine.specs.Position.{Position, is_fault, after_telling, TellsOn, IsNoFault, ToldBy}
+use Rattle.w_machine.specs.Position.{Position, is_fault, with_stop, IsStoppedBy, IsNoFault, StopsIfEnded}
 use Rattle.w_machine.specs.Reached.{waiting_of, EndsAt, Counts, IsReached}
 use Rattle.w_machine.proofs.OneMoreReduction.{reduces_safely, last_there, is_last_true}
 use Rattle.w_machine.proofs.ConfigurationCounts.{live_made}
-use Rattle.w_machine.proofs.StoppedMachines.{outcome_here, taken_is, counts_here, tells_so}
+use Rattle.w_machine.proofs.StoppedMachines.{outcome_here, taken_is, counts_here, stops_so}
 use Rattle.w_machine.proofs.MadeConts.{MakesOne, one_goes, one_traps, one_stuck, makes_one}
 
 -- ## Where the run has ended
@@ -183,11 +183,11 @@ module _ {m : Module} {functions : List ℕ} {x : Parts} {waiting : Option (Box 
       let l = ended_last (top x.chain).shape.stage x.chain k refl e in
       subst (λ (y : RunStop). IsReached m functions x waiting (Some y) n (length x.conts.entries) (live_of x.conts)) (sym l.1) (end_reached l.0)
 
-  tells_there : Valid m → (r : Option RunStop) → r ≡ end_at x.chain → (p : Program) (s₀ : Store) (t₀ : Term) → Begins m p s₀ t₀ → TellsOn (Run p s₀ t₀ n) r
-  tells_there valid None e p s₀ t₀ begins =
+  stops_there : Valid m → (r : Option RunStop) → r ≡ end_at x.chain → (p : Program) (s₀ : Store) (t₀ : Term) → Begins m p s₀ t₀ → IsStoppedBy (Run p s₀ t₀ n) r
+  stops_there valid None e p s₀ t₀ begins =
       let at = h.reached p s₀ t₀ begins in
       outcome_here p at.is ∙ still_running valid at.stands (none_last (top x.chain).shape.stage x.chain refl e)
-  tells_there valid (Some k) e p s₀ t₀ begins = tells_so k x.chain _ ((some_reached k e).reached p s₀ t₀ begins).0
+  stops_there valid (Some k) e p s₀ t₀ begins = stops_so k x.chain _ ((some_reached k e).reached p s₀ t₀ begins).0
 
 -- none of this is a fault
 no_fault : (r : Option RunStop) (xs : List Link) → r ≡ end_at xs → IsNoFault r
@@ -204,8 +204,8 @@ module _ {m : Module} {functions : List ℕ} {x : Parts} {waiting : Option (Box 
   none_reached = subst (λ (o : Option RunStop). IsReached m functions x waiting o n a b) was_none h
 
   -- it keeps whether it has, with how many continuations there are
-  pub tell_reached : (c d : ℕ) → true ≡ is_some r → c ≡ length x.conts.entries → d ≡ live_of x.conts → IsReached m functions x waiting r n c d
-  tell_reached c d some made live = by r some result_is
+  pub stop_reached : (c d : ℕ) → true ≡ is_some r → c ≡ length x.conts.entries → d ≡ live_of x.conts → IsReached m functions x waiting r n c d
+  stop_reached c d some made live = by r some result_is
     where
       by : (o : Option RunStop) → true ≡ is_some o → o ≡ end_at x.chain → IsReached m functions x waiting o n c d
       by None e t = absurd (cc)
@@ -213,21 +213,21 @@ module _ {m : Module} {functions : List ℕ} {x : Parts} {waiting : Option (Box 
           subst (λ (u : ℕ). IsReached m functions x waiting (Some y) n u d) (sym made)
           (subst (λ (v : ℕ). IsReached m functions x waiting (Some y) n (length x.conts.entries) v) (sym live) (some_reached none_reached y t))
 
-  tells_all : Valid m → (p : Program) (s₀ : Store) (t₀ : Term) → Begins q.program p s₀ t₀ → TellsOn (Run p s₀ t₀ q.taken) r
-  tells_all valid = subst (λ (x : Position). (p : Program) (s₀ : Store) (t₀ : Term) → Begins x.program p s₀ t₀ → TellsOn (Run p s₀ t₀ x.taken) r) view (tells_there none_reached valid r result_is)
+  stops_all : Valid m → (p : Program) (s₀ : Store) (t₀ : Term) → Begins q.program p s₀ t₀ → IsStoppedBy (Run p s₀ t₀ q.taken) r
+  stops_all valid = subst (λ (x : Position). (p : Program) (s₀ : Store) (t₀ : Term) → Begins x.program p s₀ t₀ → IsStoppedBy (Run p s₀ t₀ x.taken) r) view (stops_there none_reached valid r result_is)
 
   -- it has ended
-  pub tells_some : Valid m → true ≡ is_some r → ToldBy q r (record { program = m; taken = n; stop = r })
-  tells_some valid some = (subst (λ (x : Position). record { program = m; taken = n; stop = r } ≡ after_telling x r) view (after_some r some), no_fault r x.chain result_is, tells_all valid)
+  pub stops_some : Valid m → true ≡ is_some r → StopsIfEnded q r (record { program = m; taken = n; stop = r })
+  stops_some valid some = (subst (λ (x : Position). record { program = m; taken = n; stop = r } ≡ with_stop x r) view (after_some r some), no_fault r x.chain result_is, stops_all valid)
     where
-      after_some : (o : Option RunStop) → true ≡ is_some o → record { program = m; taken = n; stop = o } ≡ after_telling (record { program = m; taken = n; stop = k }) o
+      after_some : (o : Option RunStop) → true ≡ is_some o → record { program = m; taken = n; stop = o } ≡ with_stop (record { program = m; taken = n; stop = k }) o
       after_some (Some x) e = refl
       after_some None e = absurd (cc)
 
   -- nothing is
-  pub tells_none : Valid m → false ≡ is_some r → ToldBy q r q
-  tells_none valid e = (after_none r e, no_fault r x.chain result_is, tells_all valid)
+  pub stops_none : Valid m → false ≡ is_some r → StopsIfEnded q r q
+  stops_none valid e = (after_none r e, no_fault r x.chain result_is, stops_all valid)
     where
-      after_none : (o : Option RunStop) → false ≡ is_some o → q ≡ after_telling q o
+      after_none : (o : Option RunStop) → false ≡ is_some o → q ≡ with_stop q o
       after_none None e = refl
       after_none (Some x) e = absurd (cc)

@@ -43,7 +43,7 @@ use Rattle.w_switching.specs.Standing.{Chained, only, around}
 
 -- ## Where a machine stands
 
--- what tells of the module's types
+-- what says which of the module's types are equivalent
 abbrev pub program_by : (m : Module) → List Entry → Program
 program_by m es = record { source = m; same = same_test es }
 

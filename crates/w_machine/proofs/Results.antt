@@ -18,14 +18,14 @@ use Rattle.w_stands.specs.Values.{stack, vals}
 use Rattle.w_machine.specs.declared.outcome.RunStop.{RunStop}
 use Rattle.w_machine.specs.declared.outcome.RunStop.TheVariants as run_stop
 use Rattle.w_machine.specs.Beginning.{Begins}
-use Rattle.w_machine.specs.Position.{Position, Tells}
+use Rattle.w_machine.specs.Position.{Position, StopsWith}
 use Rattle.w_machine.specs.Reached.{waiting_of, Counts, IsReached, IsReachedBy}
 use Rattle.w_machine.specs.Results.{HasResults}
 use Rattle.w_machine.proofs.RunsOfMany.{settled_at}
 use Rattle.w_machine.specs.RunStop.{is_ended}
 use Rattle.w_machine.specs.Parts.{Parts}
 use Rattle.w_conts.specs.Conts.{live_of}
-use Rattle.w_machine.proofs.StoppedMachines.{counts_here, tells_so}
+use Rattle.w_machine.proofs.StoppedMachines.{counts_here, stops_so}
 
 map_end : (xs : List Value) (x : Value) → vals (xs ++ x ∷ []) ≡ vals xs ++ val x ∷ []
 map_end [] x = refl
@@ -79,9 +79,9 @@ module _ {m : Module} {functions : List ℕ} {x : Parts} {waiting : Option (Box 
   machine_counts p s₀ t₀ begins = counted_by _ _ _ n a b k p (Run p s₀ t₀ n) (here p s₀ t₀ begins)
 
   -- what stopped it is what the run came to
-  pub machine_tells : (p : Program) (s₀ : Store) (t₀ : Term) → Begins q.program p s₀ t₀ → (j : RunStop) → q.stop ≡ Some j → Tells j (Run p s₀ t₀ n).outcome
-  machine_tells p s₀ t₀ begins j is =
-      tells_so j x.chain (Run p s₀ t₀ n).outcome
+  pub machine_stops_with : (p : Program) (s₀ : Store) (t₀ : Term) → Begins q.program p s₀ t₀ → (j : RunStop) → q.stop ≡ Some j → StopsWith j (Run p s₀ t₀ n).outcome
+  machine_stops_with p s₀ t₀ begins j is =
+      stops_so j x.chain (Run p s₀ t₀ n).outcome
       (subst (λ (o : Option RunStop). IsReachedBy o m (waiting_of waiting) x n a b p (Run p s₀ t₀ n)) (ap (λ (x : Position). x.stop) view ∙ is) (here p s₀ t₀ begins)).0
 
   -- of continuations, by whether an outcome is kept

@@ -8,7 +8,7 @@ use Rattle.w_reduce.specs.Run.{Outcome, Running, Values, Traps, Limit, NoRule, R
 use Rattle.w_machine.specs.declared.outcome.RunStop.{RunStop}
 use Rattle.w_machine.specs.declared.outcome.RunStop.TheVariants as run_stop
 use Rattle.w_machine.specs.Beginning.{Begins}
-use Rattle.w_machine.specs.Position.{Position, Tells, counted, is_fault, PrintedBetween, PrintedAtMost, PrintedIf, PrintedUpTo, RunPrints, HasTakenBy, MayStopAt, StepsFrom, Steps, ToldBy, RunsFrom, Runs}
+use Rattle.w_machine.specs.Position.{Position, StopsWith, counted, is_fault, PrintedBetween, PrintedAtMost, PrintedIf, PrintedUpTo, RunPrints, HasTakenBy, MayStopAt, StepsFrom, Steps, StopsIfEnded, RunsFrom, Runs}
 use Rattle.w_machine.proofs.StoppedMachines.{counts_one, output_grows}
 
 -- ## A run that doesn't go on stays
@@ -139,34 +139,34 @@ module _ (old l new : Position) (i steps : ℕ) (first b a : Option (List ℕ)) 
 
   -- ## It was stopped
 
-  not_running : (k : RunStop) (o : Outcome) → is_fault k ≡ false → Tells k o → o ≡ Running → ⊥
+  not_running : (k : RunStop) (o : Outcome) → is_fault k ≡ false → StopsWith k o → o ≡ Running → ⊥
   not_running run_stop.Ended o f h e = let g = h.1 in absurd (cc)
   not_running (run_stop.Limit name) o f h e = absurd (cc)
   not_running (run_stop.Trapped t) o f h e = absurd (cc)
   not_running run_stop.WriteFault o f h e = absurd (cc)
   not_running run_stop.OutOfMemory o f h e = absurd (cc)
 
-  fault_tells : (k : RunStop) (o : Outcome) → is_fault k ≡ true → Tells k o
-  fault_tells run_stop.Ended o f = absurd (cc)
-  fault_tells (run_stop.Limit name) o f = absurd (cc)
-  fault_tells (run_stop.Trapped t) o f = absurd (cc)
-  fault_tells run_stop.WriteFault o f = tt
-  fault_tells run_stop.OutOfMemory o f = tt
+  fault_stops : (k : RunStop) (o : Outcome) → is_fault k ≡ true → StopsWith k o
+  fault_stops run_stop.Ended o f = absurd (cc)
+  fault_stops (run_stop.Limit name) o f = absurd (cc)
+  fault_stops (run_stop.Trapped t) o f = absurd (cc)
+  fault_stops run_stop.WriteFault o f = tt
+  fault_stops run_stop.OutOfMemory o f = tt
 
-  stop_tells : (k : RunStop) (f : Bool) → is_fault k ≡ f → (c : ℕ) → c ≡ counted k → c ≤ 1 → i < steps → (p : Program) (s : Store) (t : Term) → Begins old.program p s t
-      → Tells k (Run p s t (old.taken + i + c)).outcome → PrintedIf f (Run p s t (old.taken + i)) (Run p s t (old.taken + i + 1)) b a
-      → Tells k (Run p s t (old.taken + steps)).outcome × RunPrints f (Run p s t) old.taken (i + c) steps first a
-  stop_tells k true f c count one lt p s t begins tells print =
+  stop_at_last : (k : RunStop) (f : Bool) → is_fault k ≡ f → (c : ℕ) → c ≡ counted k → c ≤ 1 → i < steps → (p : Program) (s : Store) (t : Term) → Begins old.program p s t
+      → StopsWith k (Run p s t (old.taken + i + c)).outcome → PrintedIf f (Run p s t (old.taken + i)) (Run p s t (old.taken + i + 1)) b a
+      → StopsWith k (Run p s t (old.taken + steps)).outcome × RunPrints f (Run p s t) old.taken (i + c) steps first a
+  stop_at_last k true f c count one lt p s t begins stops print =
       let none = fault_counts_none k f in
       let e : old.taken + i ≡ old.taken + (i + c) = omega (arith, count, none) in (
-        fault_tells k (Run p s t (old.taken + steps)).outcome f,
+        fault_stops k (Run p s t (old.taken + steps)).outcome f,
         subst (λ (n : ℕ). PrintedUpTo (Run p s t) old.taken n first a) e (record { between = b; whole = printed p s t begins; begun = print }),
       )
-  stop_tells k false f c count one lt p s t begins tells print =
-      let apart = not_running k (Run p s t (old.taken + i + c)).outcome f tells in
+  stop_at_last k false f c count one lt p s t begins stops print =
+      let apart = not_running k (Run p s t (old.taken + i + c)).outcome f stops in
       let last = settled_at p s t (old.taken + i + c) (old.taken + steps) (omega (arith, lt, one)) apart in
       let next = settled_at p s t (old.taken + i + c) (old.taken + i + 1) (omega (arith, lt, one)) apart in (
-        subst (λ (q : RunState). Tells k q.outcome) (sym last) tells,
+        subst (λ (q : RunState). StopsWith k q.outcome) (sym last) stops,
         subst (λ (q : RunState). PrintedBetween (Run p s t old.taken) q first a) (next ∙ sym last) (printed_more (printed p s t begins) print),
       )
 
@@ -179,7 +179,7 @@ module _ (old l new : Position) (i steps : ℕ) (first b a : Option (List ℕ)) 
         taken_before k i steps lt,
         h.0 ∙ ap (λ (x : ℕ). let q : Position = record old { taken = x; stop = Some k } in q) n,
         λ p s t begins.
-            stop_tells k (is_fault k) refl (counted k) refl one lt p s t begins (h.1 p s t begins).0 (h.1 p s t begins).1,
+            stop_at_last k (is_fault k) refl (counted k) refl one lt p s t begins (h.1 p s t begins).0 (h.1 p s t begins).1,
         λ p s t begins. may_stop_there k (Run p s t) (old.taken + i) (old.taken + (i + counted k)) n (h.1 p s t begins).2,
       )
 
@@ -189,7 +189,7 @@ module _ (old l new : Position) (i steps : ℕ) (first b a : Option (List ℕ)) 
 
   -- ## All steps were taken
 
-  stops_from : (r : Option RunStop) → i ≡ steps → ToldBy (At old i) r new → RunsFrom None old steps r new first b
+  stops_from : (r : Option RunStop) → i ≡ steps → StopsIfEnded (At old i) r new → RunsFrom None old steps r new first b
   stops_from None e h = (
     i,
     e,
@@ -205,7 +205,7 @@ module _ (old l new : Position) (i steps : ℕ) (first b a : Option (List ℕ)) 
     subst (λ (f : Bool). HasTakenBy f i steps) (sym h.1) (let le : i ≤ steps = omega (arith, e) in le),
     h.0,
     λ p s t begins. (
-      subst (λ (n : ℕ). Tells k (Run p s t (old.taken + n)).outcome) e (h.2 p s t begins),
+      subst (λ (n : ℕ). StopsWith k (Run p s t (old.taken + n)).outcome) e (h.2 p s t begins),
       subst (λ (f : Bool). RunPrints f (Run p s t) old.taken i steps first b) (sym h.1)
           (subst (λ (n : ℕ). PrintedBetween (Run p s t old.taken) (Run p s t (old.taken + n)) first b) e (printed p s t begins)),
     ),
@@ -213,9 +213,9 @@ module _ (old l new : Position) (i steps : ℕ) (first b a : Option (List ℕ)) 
   )
 
   -- and what it answers then is what the run came to
-  pub run_stops : (r : Option RunStop) → i ≡ steps → ToldBy l r new → Runs old steps r new first b
+  pub run_stops : (r : Option RunStop) → i ≡ steps → StopsIfEnded l r new → Runs old steps r new first b
   run_stops r e h =
-      subst (λ (o : Option RunStop). RunsFrom o old steps r new first b) (sym none) (stops_from r e (subst (λ (x : Position). ToldBy x r new) at h))
+      subst (λ (o : Option RunStop). RunsFrom o old steps r new first b) (sym none) (stops_from r e (subst (λ (x : Position). StopsIfEnded x r new) at h))
 
 -- ## Where an outcome is kept
 
@@ -228,6 +228,6 @@ pub stopped_runs_stay : (old : Position) (steps : ℕ) (k : Option RunStop) (b :
 stopped_runs_stay old steps k b same e = subst (λ (o : Option RunStop). RunsFrom o old steps k old b b) same (kept_runs old steps k b e)
 
 -- what is answered is no fault
-pub no_write_fault : (old new : Position) (r : Option RunStop) → ToldBy old r new → r ≡ Some run_stop.WriteFault → ⊥
+pub no_write_fault : (old new : Position) (r : Option RunStop) → StopsIfEnded old r new → r ≡ Some run_stop.WriteFault → ⊥
 no_write_fault old new None h e = absurd (cc)
 no_write_fault old new (Some k) h e = let same : k ≡ run_stop.WriteFault = cc in let f : is_fault k ≡ false = h.1 in let g = ap is_fault same in absurd (cc)

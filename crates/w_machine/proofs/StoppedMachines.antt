@@ -21,7 +21,7 @@ use Rattle.w_stands.specs.Values.{stack}
 use Rattle.w_machine.specs.declared.outcome.RunStop.{RunStop}
 use Rattle.w_machine.specs.declared.outcome.RunStop.TheVariants as run_stop
 use Rattle.w_machine.specs.Reducing.{Fails, ComesTo, PartsReduce}
-use Rattle.w_machine.specs.Position.{Position, Tells, counted, PrintedBetween, PrintedAtMost, PrintedBy, MayStopAt, StepsFrom, most_reductions}
+use Rattle.w_machine.specs.Position.{Position, StopsWith, counted, PrintedBetween, PrintedAtMost, PrintedBy, MayStopAt, StepsFrom, most_reductions}
 use Rattle.w_machine.specs.Standing.{StandsSomewhere}
 use Rattle.w_machine.specs.Reached.{waiting_of, IsReachedAt, EndsAt, Counts, IsUsable, IsReached}
 use Rattle.w_machine.proofs.OneMoreReduction.{state_went, next_run}
@@ -146,13 +146,13 @@ module _ {m : Module} {waiting : Option ℕ} {x : Parts} {n : ℕ} (p : Program)
   may_stop run_stop.WriteFault x' before now h = tt
   may_stop run_stop.OutOfMemory x' before now h = ap (λ (q : RunState). may_take_memory q.term.rest.ahead q.term.rest.code) at.is ∙ h.1
 
--- what it tells of its end it tells of the run
-pub tells_so : (k : RunStop) (xs : List Link) (o : Outcome) → EndsAt k xs o → Tells k o
-tells_so run_stop.Ended xs o h = (stack (top xs).shape.operands, h)
-tells_so (run_stop.Limit name) xs o h = h
-tells_so (run_stop.Trapped t) xs o h = h
-tells_so run_stop.WriteFault xs o h = h
-tells_so run_stop.OutOfMemory xs o h = h
+-- what stopped it there is what the run came to
+pub stops_so : (k : RunStop) (xs : List Link) (o : Outcome) → EndsAt k xs o → StopsWith k o
+stops_so run_stop.Ended xs o h = (stack (top xs).shape.operands, h)
+stops_so (run_stop.Limit name) xs o h = h
+stops_so (run_stop.Trapped t) xs o h = h
+stops_so run_stop.WriteFault xs o h = h
+stops_so run_stop.OutOfMemory xs o h = h
 
 pub counts_one : (k : RunStop) → counted k ≤ 1
 counts_one run_stop.Ended = omega arith
@@ -201,5 +201,5 @@ step_stopped {waiting = waiting} x' before now old k c count h goes = (
   λ p s₀ t₀ begins.
       let at = h.reached p s₀ t₀ begins in
       let came = goes (waiting_of waiting) p at.ks at.t at.stands in
-      (tells_so k x'.chain _ (ends_at p s₀ t₀ at k x' before now came).0, printed_by p s₀ t₀ at k x' before now came, may_stop p s₀ t₀ at k x' before now came),
+      (stops_so k x'.chain _ (ends_at p s₀ t₀ at k x' before now came).0, printed_by p s₀ t₀ at k x' before now came, may_stop p s₀ t₀ at k x' before now came),
 )

@@ -34,12 +34,12 @@ most_reductions = 2 ^ 40
 -- ## What stops a machine
 
 -- what the run came to, where a machine stopped so
-abbrev pub Tells : RunStop → Outcome → Type 0
-Tells run_stop.Ended o = (vs : Row Val) × (o ≡ Values vs)
-Tells (run_stop.Limit name) o = o ≡ Limit name
-Tells (run_stop.Trapped t) o = o ≡ Traps t
-Tells run_stop.WriteFault o = ⊤
-Tells run_stop.OutOfMemory o = ⊤
+abbrev pub StopsWith : RunStop → Outcome → Type 0
+StopsWith run_stop.Ended o = (vs : Row Val) × (o ≡ Values vs)
+StopsWith (run_stop.Limit name) o = o ≡ Limit name
+StopsWith (run_stop.Trapped t) o = o ≡ Traps t
+StopsWith run_stop.WriteFault o = ⊤
+StopsWith run_stop.OutOfMemory o = ⊤
 
 -- a reduction that passes a limit or traps counts
 abbrev pub counted : RunStop → ℕ
@@ -88,7 +88,7 @@ MayStopAt k t = ⊤
 -- of a run: it was running, or what it came to; and what was printed
 abbrev pub StepsOn : (ℕ → RunState) → ℕ → Option RunStop → Option (List ℕ) → Option (List ℕ) → Type 0
 StepsOn run n None before now = ((run n).outcome ≡ Running) × PrintedBetween (run n) (run (n + 1)) before now
-StepsOn run n (Some k) before now = Tells k (run (n + counted k)).outcome × PrintedBy k (run n) (run (n + 1)) before now × MayStopAt k (run n).term
+StepsOn run n (Some k) before now = StopsWith k (run (n + counted k)).outcome × PrintedBy k (run n) (run (n + 1)) before now × MayStopAt k (run n).term
 
 -- one that is stopped answers the same again, and nothing changes
 abbrev pub StepsFrom : Option RunStop → Position → Option RunStop → Position → Option (List ℕ) → Option (List ℕ) → Type 0
@@ -101,21 +101,21 @@ Steps old result new before now = StepsFrom old.stop old result new before now
 
 -- ## Whether it has ended, with no reduction taken, where nothing stopped it
 
-abbrev pub after_telling : Position → Option RunStop → Position
-after_telling old None = old
-after_telling old (Some k) = record old { stop = Some k }
+abbrev pub with_stop : Position → Option RunStop → Position
+with_stop old None = old
+with_stop old (Some k) = record old { stop = Some k }
 
-abbrev pub TellsOn : RunState → Option RunStop → Type 0
-TellsOn r None = r.outcome ≡ Running
-TellsOn r (Some k) = Tells k r.outcome
+abbrev pub IsStoppedBy : RunState → Option RunStop → Type 0
+IsStoppedBy r None = r.outcome ≡ Running
+IsStoppedBy r (Some k) = StopsWith k r.outcome
 
 abbrev pub IsNoFault : Option RunStop → Type 0
 IsNoFault None = ⊤
 IsNoFault (Some k) = is_fault k ≡ false
 
-abbrev pub ToldBy : Position → Option RunStop → Position → Type 0
-ToldBy old result new =
-    (new ≡ after_telling old result) × IsNoFault result × ((p : Program) (s : Store) (t : Term) → Begins old.program p s t → TellsOn (Run p s t old.taken) result)
+abbrev pub StopsIfEnded : Position → Option RunStop → Position → Type 0
+StopsIfEnded old result new =
+    (new ≡ with_stop old result) × IsNoFault result × ((p : Program) (s : Store) (t : Term) → Begins old.program p s t → IsStoppedBy (Run p s t old.taken) result)
 
 -- ## A run of so many reductions at most
 
@@ -138,7 +138,7 @@ RunPrints false run from n steps before now = PrintedBetween (run from) (run (fr
 
 abbrev pub RunsOn : (ℕ → RunState) → (from n steps : ℕ) → Option RunStop → Option (List ℕ) → Option (List ℕ) → Type 0
 RunsOn run from n steps None before now = ((run (from + steps)).outcome ≡ Running) × PrintedBetween (run from) (run (from + steps)) before now
-RunsOn run from n steps (Some k) before now = Tells k (run (from + steps)).outcome × RunPrints (is_fault k) run from n steps before now
+RunsOn run from n steps (Some k) before now = StopsWith k (run (from + steps)).outcome × RunPrints (is_fault k) run from n steps before now
 
 -- at most all of them, and fewer where a fault stopped it
 abbrev pub HasTakenBy : Bool → ℕ → ℕ → Type 0

@@ -20,7 +20,7 @@ use Rattle.w_machine.specs.declared.outcome.RunStop.TheVariants as run_stop
 use Rattle.w_machine.specs.Parts.{Parts, whole}
 use Rattle.w_machine.specs.Standing.{Stands}
 use Rattle.w_machine.specs.Beginning.{Begins}
-use Rattle.w_machine.specs.Position.{Tells, most_reductions}
+use Rattle.w_machine.specs.Position.{StopsWith, most_reductions}
 
 -- ## The segment that waits
 
@@ -76,7 +76,7 @@ pub record IsReachedAt (m : Module) (waiting : Option ℕ) (x : Parts) (n : ℕ)
 -- where the run ended, the operands are its results
 abbrev pub EndsAt : RunStop → List Link → Outcome → Type 0
 EndsAt run_stop.Ended chain o = o ≡ Values (stack (top chain).shape.operands)
-EndsAt k chain o = Tells k o
+EndsAt k chain o = StopsWith k o
 
 -- the run has so many continuations, so many of which aren't consumed
 pub record Counts (r : RunState) (made_then live_then : ℕ) : Type 0 where

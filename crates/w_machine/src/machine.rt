@@ -11,7 +11,7 @@ ghost use Rattle.w_stands.specs.Values.{vals};
 ghost use Rattle.w_machine.specs.Beginning.{Begins, BeginsWith};
 ghost use Rattle.w_machine.specs.RunStop.{stopped_at, stopped_in};
 ghost use Rattle.w_machine.specs.AttemptedStepOn.{AttemptsStepOn};
-ghost use Rattle.w_machine.specs.Position.{Steps, Tells, ToldBy, Runs, counted, most_reductions};
+ghost use Rattle.w_machine.specs.Position.{Steps, StopsWith, StopsIfEnded, Runs, counted, most_reductions};
 ghost use Rattle.w_machine.specs.Results.{HasResults};
 ghost use Rattle.w_machine.specs.Reached.{AreFirst, IsBeginning, IsTurned, IsFresh, is_last};
 
@@ -194,7 +194,7 @@ impl Machine {
         ensures counts { (p : TheProgram) (s : TheStore) (t : Term) → Begins self.now.program p s t → (Run p s t result).taken ≡ result }
         // Where something stopped it, that is what the run came to after so many.
         ensures stopped { (p : TheProgram) (s : TheStore) (t : Term) → Begins self.now.program p s t
-            → (k : RunStop) → self.now.stop ≡ Some k → Tells k (Run p s t result).outcome }
+            → (k : RunStop) → self.now.stop ≡ Some k → StopsWith k (Run p s t result).outcome }
     {
         self.taken
     }
@@ -313,9 +313,9 @@ impl Machine {
     }
 
     // Says what stops the run, with no reduction taken.
-    fn tell(&mut self) -> Option<RunStop>
+    fn stop_if_ended(&mut self) -> Option<RunStop>
         requires { self.old.stop ≡ None }
-        ensures { ToldBy self.old result self.new }
+        ensures { StopsIfEnded self.old result self.new }
     {
         // the run of a valid module is never stuck
         let _module = self.checked.module();
@@ -344,7 +344,7 @@ impl Machine {
                 return self.stop;
             }
         }
-        self.tell()
+        self.stop_if_ended()
     }
 
     /// The values that the run ended with, in order; none before.

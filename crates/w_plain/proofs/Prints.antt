@@ -45,20 +45,20 @@ pub same_parts : (s s' : Shape) → s' ≡ s → SameParts s s'
 same_parts s s' e = subst (SameParts s) (sym e) (record { levels = refl; operands = refl; func = refl; place = refl; stage = refl })
 
 -- the function that an instruction calls is there
-pub callee_there : (a outcome : ℕ) (m : Module) (u : instances.Store) (s : Shape) → Calls a outcome m u s → a < length u.functions
-callee_there a outcome m u s k =
+pub callee_there : (a popped : ℕ) (m : Module) (u : instances.Store) (s : Shape) → Calls a popped m u s → a < length u.functions
+callee_there a popped m u s k =
     let mv = k.moves in
     let c = following m u s mv.p mv.o mv.e mv.r k.i mv.at mv.stage mv.here in
-    let f = found (slice_get u.functions a) (λ f. invoked mv.p (store_of u) mv.e (stack (drop outcome s.operands)) f (rest_of c))
+    let f = found (slice_get u.functions a) (λ f. invoked mv.p (store_of u) mv.e (stack (drop popped s.operands)) f (rest_of c))
     (λ q. applies m u s mv.p mv.o mv.e mv.r k.i mv.at mv.stage mv.here (k.rule mv.p mv.e c mv.at.source mv.at.program ∙ q)) in
     slice_get_within u.functions a f.item f.is
 
 -- what they print
-pub call_prints : (a outcome : ℕ) (h : Printer) (m : Module) (u : instances.Store) (s : Shape) → Calls a outcome m u s → slice_get u.functions a ≡ Some (entry.Printer h) →
-    Prints (text_of h outcome s.operands) m u s
-call_prints a outcome h m u s k host = λ p o e r at.
-    let t = print_follows m u s a outcome h k host (dropped (outcome + 1) s) refl p o e r at in
-    (store_of u, record { around = t.around; operands = stack (dropped (outcome + 1) s).operands; rest = t.rest }, t.is)
+pub call_prints : (a popped : ℕ) (h : Printer) (m : Module) (u : instances.Store) (s : Shape) → Calls a popped m u s → slice_get u.functions a ≡ Some (entry.Printer h) →
+    Prints (text_of h popped s.operands) m u s
+call_prints a popped h m u s k host = λ p o e r at.
+    let t = print_follows m u s a popped h k host (dropped (popped + 1) s) refl p o e r at in
+    (store_of u, record { around = t.around; operands = stack (dropped (popped + 1) s).operands; rest = t.rest }, t.is)
 
 pub invoke_prints : (h : Printer) (m : Module) (u : instances.Store) (s : Shape) → Invokes m u s → slice_get u.functions s.func ≡ Some (entry.Printer h) →
     Prints (text_of h 0 s.operands) m u s

@@ -47,7 +47,7 @@ call_takes (op.Numeric o) h = absurd (cc)
 call_takes (op.Reference o) h = absurd (cc)
 call_takes (op.Switching o) h = absurd (cc)
 
-pub calls_take : {m : Module} {u : instances.Store} {s : Shape} {a outcome : ℕ} → Calls a outcome m u s → MayTake m s
+pub calls_take : {m : Module} {u : instances.Store} {s : Shape} {a popped : ℕ} → Calls a popped m u s → MayTake m s
 calls_take k = may_take k.moves (call_takes k.i k.calls)
 
 -- so does the invoke of a fresh segment

@@ -6,3 +6,5 @@ mod SpacesSoFar
 pub mod Marks
 pub mod Contexts
 pub mod JoinedTypes
+pub mod DataNeeds
+mod NeedsOfBodies

@@ -1,5 +1,5 @@
 -- What of the imports stands in the index spaces.
-use Rattle.std.proofs.Common.{◌≡◌, List}
+use Rattle.std.proofs.Common.{◌≡◌, List, []}
 use Rattle.std.specs.List.{flat_map}
 use Rattle.w_syntax.specs.declared.module.Import.{Import}
 use Rattle.w_rules.specs.declared.spaces.Spaces.{Spaces}
@@ -12,3 +12,4 @@ pub record HasImports (s : Spaces) (is : List Import) : Type 0 where
   pub memories : s.memories.items ≡ flat_map (λ (i : Import). as_memory i.kind) is
   pub globals : s.globals.items ≡ flat_map (λ (i : Import). as_global i.kind) is
   pub tags : s.tags.items ≡ flat_map (λ (i : Import). as_tag i.kind) is
+  pub elements : s.elements.items ≡ []

@@ -14,3 +14,4 @@ pub mod Limits
 pub mod Valid
 pub mod Facts
 pub mod View
+pub mod DataNeeds

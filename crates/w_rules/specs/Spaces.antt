@@ -1,5 +1,6 @@
 -- The context of a module (Core, validation, modules): in each list what is imported stands in front of what the module defines.
 use Rattle.std.specs.Prelude.{ℕ, ◌<◌, Contains, Bool, true, false, List, [], ◌∷◌, ◌++◌, map, flat_map, replicate, take, length, slice_set}
+use Rattle.w_types.specs.declared.types.RefType.{RefType}
 use Rattle.w_types.specs.declared.types.ValType.{ValType}
 use Rattle.lists.specs.Rows.{ε, row_of}
 use Rattle.w_syntax.specs.Code.{Code, Done, Plain, Block, If, IfElse}
@@ -69,6 +70,10 @@ globals_of m = imports_by as_global m ++ map (λ (g : GlobalVariable). g.kind) m
 abbrev pub tags_of : Module → List Tag
 tags_of m = imports_by as_tag m ++ m.tags
 
+-- the type of each element segment
+abbrev pub elements_of : Module → List RefType
+elements_of m = map (λ (e : Elem). e.kind) m.elements
+
 -- ## Declared functions: those in exports, elements and the expressions of globals and tables
 
 abbrev pub named_by : Op → List ℕ
@@ -122,7 +127,7 @@ context_of m = record {
   memories = memories_of m;
   globals = globals_of m;
   tags = tags_of m;
-  elements = map (λ (e : Elem). e.kind) m.elements;
+  elements = elements_of m;
   datas = length m.datas;
   declared = declared_of m;
   locals = [];

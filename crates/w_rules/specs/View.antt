@@ -1,7 +1,6 @@
 -- What the context that checks are run in stands for.
-use Rattle.std.specs.Prelude.{[], map, length}
+use Rattle.std.specs.Prelude.{[]}
 use Rattle.lists.specs.Rows.{ε}
-use Rattle.w_syntax.specs.declared.module.Elem.{Elem}
 use Rattle.w_canon.specs.IsClassesOf.{IsClassesOf}
 use Rattle.w_rules.specs.declared.context.Context as rt
 use Rattle.w_rules.specs.Context.{Context}
@@ -9,14 +8,14 @@ use Rattle.w_rules.specs.Context.{Context}
 -- outside of bodies: there are no locals, no results and no labels
 abbrev pub context_in : rt.Context → Context
 context_in cx = record {
-  types = cx.candidate.now.types;
+  types = cx.types.now;
   functions = cx.functions.now;
   tables = cx.tables.now;
   memories = cx.memories.now;
   globals = cx.globals.now;
   tags = cx.tags.now;
-  elements = map (λ (e : Elem). e.kind) cx.candidate.now.elements;
-  datas = length cx.candidate.now.datas;
+  elements = cx.elements.now;
+  datas = cx.datas;
   declared = cx.declared.now;
   locals = [];
   results = ε;
@@ -25,4 +24,4 @@ context_in cx = record {
 
 -- the classes are those of the context's types
 abbrev pub HasClasses : rt.Context → Type 0
-HasClasses cx = IsClassesOf cx.candidate.now.types cx.classes.now
+HasClasses cx = IsClassesOf cx.types.now cx.classes.now

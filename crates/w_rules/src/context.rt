@@ -6,18 +6,17 @@ ghost use Rattle.w_rules.specs.InstructionTypes.{has_memory};
 ghost use Rattle.w_rules.specs.Types.{has_heap, has_type};
 ghost use Rattle.w_rules.specs.View.{context_in};
 
-use crate::functions::func_type;
 use crate::types;
 use w_canon::Classes;
-use w_syntax::{GlobalType, Limits, Module, TableType, Tag};
-use w_types::{CompType, FuncType, HeapType, PackedType, RefType};
+use w_syntax::{GlobalType, Limits, TableType, Tag};
+use w_types::{CompType, FuncType, HeapType, PackedType, RecGroups, RefType};
 
-/// A module, and what its instructions name by an index (Core, validation, contexts). What is imported stands in front of what the
+/// What the instructions of a module name by an index (Core, validation, contexts). What is imported stands in front of what the
 /// module defines, as in `Spaces`.
 #[derive(Clone, Copy)]
 pub struct Context<'a> {
-    pub candidate: &'a Module,
-    /// The classes of the module's types.
+    pub types: &'a RecGroups,
+    /// The classes of the types.
     pub classes: &'a Classes,
     /// The index of each function's type.
     pub functions: &'a [u32],
@@ -25,6 +24,10 @@ pub struct Context<'a> {
     pub memories: &'a [Limits],
     pub globals: &'a [GlobalType],
     pub tags: &'a [Tag],
+    /// The type of each element segment.
+    pub elements: &'a [RefType],
+    /// How many data segments there are.
+    pub datas: usize,
     /// Of each function, whether `ref.func` may name it.
     pub declared: &'a [bool],
 }
@@ -34,14 +37,17 @@ impl<'a> Context<'a> {
     pub fn func_of(&self, index: u32) -> Option<&'a FuncType>
         ensures { option_copied result ≡ func_of (context_in self.now) index }
     {
-        func_type(self.candidate, index as usize)
+        match self.types.get(index as usize) {
+            Some(CompType::Func(kind)) => Some(kind),
+            Some(CompType::Cont(_)) | None => None,
+        }
     }
 
     /// The index of the function type of the continuation type of this index.
     pub fn func_index_of_cont(&self, index: u32) -> Option<u32>
         ensures { result ≡ func_index_of_cont (context_in self.now) index }
     {
-        match self.candidate.types.get(index as usize) {
+        match self.types.get(index as usize) {
             Some(CompType::Cont(function)) => Some(*function),
             Some(CompType::Func(_)) | None => None,
         }
@@ -82,10 +88,7 @@ impl<'a> Context<'a> {
     pub fn element(&self, index: u32) -> Option<RefType>
         ensures { result ≡ slice_get (context_in self.now).elements index }
     {
-        match self.candidate.elements.as_slice().get(index as usize) {
-            Some(element) => Some(element.kind),
-            None => None,
-        }
+        self.elements.get(index as usize).copied()
     }
 
     /// Whether there is a memory of this index.
@@ -99,20 +102,20 @@ impl<'a> Context<'a> {
     pub fn has_data(&self, index: u32) -> bool
         ensures { result ≡ nat_lt index (context_in self.now).datas }
     {
-        (index as usize) < self.candidate.datas.len()
+        (index as usize) < self.datas
     }
 
     /// Whether the types that a heap type names are there (Core, validation, heap types).
     pub fn has_heap(&self, kind: HeapType) -> bool
         ensures { result ≡ has_heap (type_count (context_in self.now)) kind }
     {
-        types::has_heap(self.candidate.types.type_count(), kind)
+        types::has_heap(self.types.type_count(), kind)
     }
 
     /// Whether the types that a value type names are there (Core, validation, value types).
     pub fn has_type(&self, kind: PackedType) -> bool
         ensures { result ≡ has_type (type_count (context_in self.now)) kind }
     {
-        types::has_type(self.candidate.types.type_count(), kind)
+        types::has_type(self.types.type_count(), kind)
     }
 }

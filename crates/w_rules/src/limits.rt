@@ -77,8 +77,8 @@ fn params_of(candidate: &Module, index: usize) -> usize
     }
 }
 
-// Whether the function of this index keeps the limit on locals.
-fn keeps_locals(candidate: &Module, index: usize) -> bool
+/// Whether the function of this index keeps the limit on locals.
+pub fn keeps_locals(candidate: &Module, index: usize) -> bool
     requires { index < length candidate.now.codes }
     ensures { IsTrue result ↔ (locals_of candidate.now index ≤ most_locals) }
 {
@@ -97,6 +97,13 @@ fn all_keep_locals(candidate: &Module) -> bool
         }
     }
     true
+}
+
+/// Whether a module keeps the limits on its types.
+pub fn keeps_type_limits(candidate: &Module) -> bool
+    ensures { IsTrue result ↔ (Keeps candidate.now SizeLimit.Types × Keeps candidate.now SizeLimit.Params) }
+{
+    candidate.types.type_count() <= MOST_TYPES && are_narrow(candidate.types.as_slice())
 }
 
 /// The first limit that a module passes, in the order types, parameters, locals. `None` where it keeps all of them.

@@ -1,14 +1,16 @@
 //! The index spaces of a module.
-ghost use Rattle.std.specs.Prelude.{◌≡◌, ◌++◌, IfOk, OnOk, map, flat_map};
+ghost use Rattle.std.specs.Prelude.{◌≡◌, ◌++◌, IfOk, OnOk, [], map, flat_map};
+ghost use Rattle.w_syntax.specs.declared.module.Elem.{Elem};
 ghost use Rattle.w_syntax.specs.declared.module.GlobalVariable.{GlobalVariable};
 ghost use Rattle.w_syntax.specs.declared.module.Import.{Import};
 ghost use Rattle.w_syntax.specs.declared.module.Table.{Table};
-ghost use Rattle.w_rules.specs.Spaces.{as_function, as_table, as_memory, as_global, as_tag, functions_of, tables_of, memories_of, globals_of, tags_of};
+ghost use Rattle.w_rules.specs.Spaces.{as_function, as_table, as_memory, as_global, as_tag, functions_of, tables_of, memories_of, globals_of, tags_of, elements_of};
 
 use std::alloc::{AllocError, Global};
 use w_syntax::{
-    ExternType, GlobalType, GlobalVariable, Import, Limits, Module, Table, TableType, Tag,
+    Elem, ExternType, GlobalType, GlobalVariable, Import, Limits, Module, Table, TableType, Tag,
 };
+use w_types::RefType;
 
 /// What instructions name by an index, of each kind: what is imported, and behind it what the module defines (Core, modules,
 /// indices).
@@ -20,6 +22,8 @@ pub struct Spaces {
     pub memories: Vec<Limits>,
     pub globals: Vec<GlobalType>,
     pub tags: Vec<Tag>,
+    /// The type of each element segment.
+    pub elements: Vec<RefType>,
 }
 
 // Adds the types of these tables.
@@ -44,6 +48,17 @@ fn push_globals(globals: &mut Vec<GlobalType>, own: &[GlobalVariable]) -> Result
     Ok(())
 }
 
+// Adds the types of these element segments.
+fn push_elements(elements: &mut Vec<RefType>, own: &[Elem]) -> Result<(), AllocError>
+    ensures { OnOk result (elements.new.items
+        ≡ elements.old.items ++ map (λ (e : Elem). e.kind) own.now) }
+{
+    for element in own {
+        elements.push(element.kind)?;
+    }
+    Ok(())
+}
+
 impl Spaces {
     // Adds what is imported.
     fn push(&mut self, kind: ExternType) -> Result<(), AllocError>
@@ -56,6 +71,7 @@ impl Spaces {
         ensures globals { OnOk result (self.new.globals.items
             ≡ self.old.globals.items ++ as_global kind) }
         ensures tags { OnOk result (self.new.tags.items ≡ self.old.tags.items ++ as_tag kind) }
+        ensures elements { OnOk result (self.new.elements.items ≡ self.old.elements.items) }
     {
         match kind {
             ExternType::Func(type_index) => self.functions.push(type_index)?,
@@ -79,6 +95,7 @@ impl Spaces {
             ≡ flat_map (λ (i : Import). as_global i.kind) imports.now) }
         ensures tags { IfOk result (λ s. s.tags.items
             ≡ flat_map (λ (i : Import). as_tag i.kind) imports.now) }
+        ensures elements { IfOk result (λ s. s.elements.items ≡ []) }
     {
         let mut spaces = Spaces {
             functions: Vec::new(alloc),
@@ -86,6 +103,7 @@ impl Spaces {
             memories: Vec::new(alloc),
             globals: Vec::new(alloc),
             tags: Vec::new(alloc),
+            elements: Vec::new(alloc),
         };
         for import in imports {
             spaces.push(import.kind)?;
@@ -100,6 +118,7 @@ impl Spaces {
         ensures memories { IfOk result (λ s. s.memories.items ≡ memories_of candidate.now) }
         ensures globals { IfOk result (λ s. s.globals.items ≡ globals_of candidate.now) }
         ensures tags { IfOk result (λ s. s.tags.items ≡ tags_of candidate.now) }
+        ensures elements { IfOk result (λ s. s.elements.items ≡ elements_of candidate.now) }
     {
         let mut spaces = Spaces::of_imports(alloc, candidate.imports.as_slice())?;
         spaces
@@ -111,6 +130,7 @@ impl Spaces {
             .extend_from_slice(candidate.memories.as_slice())?;
         push_globals(&mut spaces.globals, candidate.globals.as_slice())?;
         spaces.tags.extend_from_slice(candidate.tags.as_slice())?;
+        push_elements(&mut spaces.elements, candidate.elements.as_slice())?;
         Ok(spaces)
     }
 }

@@ -6,14 +6,14 @@ ghost use Rattle.w_flow.specs.OneProof.{AreTypeRows-prop, IsReady-prop};
 use w_flow::{FuncRows, TypeRow, TypeRows};
 use w_rules::Context;
 
-/// What a body is typed in: the module that it stands in, the parameters and results of the module's function types, of which wide ones
+/// What a body is typed in: what its module has by index, the parameters and results of the module's function types, of which wide ones
 /// stand ready, and the body's results.
 #[derive(Clone, Copy)]
 pub struct Setting<'a> {
     pub cx: &'a Context<'a>,
     pub rows: &'a TypeRows,
     pub results: TypeRow<'a>,
-    ghost rows_ready: { AreTypeRows cx.now.classes.now (types_of cx.now.candidate.now.types) rows.now } by { AreTypeRows-prop cx.now.classes.now (types_of cx.now.candidate.now.types) rows.now },
+    ghost rows_ready: { AreTypeRows cx.now.classes.now (types_of cx.now.types.now) rows.now } by { AreTypeRows-prop cx.now.classes.now (types_of cx.now.types.now) rows.now },
     ghost results_ready: { IsReady cx.now.classes.now results } by { IsReady-prop cx.now.classes.now results },
 }
 

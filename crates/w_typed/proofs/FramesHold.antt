@@ -20,26 +20,26 @@ use Rattle.w_typed.proofs.GivesOne.{gives_more, gives_stays}
 
 -- ## Scopes and contexts
 
--- a scope tells what stands in the innermost frame
-record Tells (e : Context) (c : Scope) (f : ℕ) : Type 0 where
+-- a scope describes what stands in the innermost frame
+record Describes (e : Context) (c : Scope) (f : ℕ) : Type 0 where
   function : c.function ≡ f
   base : c.base ≡ held_in e
   labels : length c.labels ≡ labels_in e
   inside : c.results ≡ None → ⊥
 
-tells : {m : Module} {K : Arrows} {us : Row Operand} {e : Context} {c : Scope} {now : List Bool} {ts : Row Operand} → Within m K us e c now ts
-    → (f : ℕ) → function_in e ≡ Some f → Tells e c f
-tells (outside r) f is = absurd (cc)
-tells (label beneath r n v again behind still w) f is =
-    let t = tells w f is in
+describes : {m : Module} {K : Arrows} {us : Row Operand} {e : Context} {c : Scope} {now : List Bool} {ts : Row Operand} → Within m K us e c now ts
+    → (f : ℕ) → function_in e ≡ Some f → Describes e c f
+describes (outside r) f is = absurd (cc)
+describes (label beneath r n v again behind still w) f is =
+    let t = describes w f is in
     let base = t.base in
     let labels = t.labels in
     record { function = t.function; base = omega (arith, base); labels = omega (arith, labels); inside = t.inside }
-tells (frame beneath of r n l v k still w) f is = record { function = cc; base = refl; labels = refl; inside = λ e. absurd (cc) }
-tells (handle results beneath r clauses tops v k still w) f is = absurd (cc)
+describes (frame beneath of r n l v k still w) f is = record { function = cc; base = refl; labels = refl; inside = λ e. absurd (cc) }
+describes (handle results beneath r clauses tops v k still w) f is = absurd (cc)
 
 -- what is held in the scope is held in the frame
-holds : {m : Module} {e : Context} {c : Scope} {f n : ℕ} → Tells e c f → IsHeld m c n → FrameHolds m f e n 0
+holds : {m : Module} {e : Context} {c : Scope} {f n : ℕ} → Describes e c f → IsHeld m c n → FrameHolds m f e n 0
 holds {m} {e} {c} {f} {n} t h =
     let a : most_operands m c.function ≡ most_operands m f = ap (most_operands m) t.function in
     let b : most_labels m c.function ≡ most_labels m f = ap (most_labels m) t.function in
@@ -60,7 +60,7 @@ rest_held m (invoke_first beneath is r h) i none = absurd (cc)
 
 pub frames_hold : FramesHoldNoMore
 frames_hold m K ps us t h f is none =
-    let c = tells h.around f is in
+    let c = describes h.around f is in
     let many : size (h.before ⧺ ps) ≡ size t.operands + size ps = (let a = size_beside h.before ps in let b = values_size m h.operands in omega (arith, a, b)) in
     holds c (subst (IsHeld m h.scope) many (rest_held m h.rest c.inside none))
 
@@ -112,7 +112,7 @@ rest_fits m (invoke_first beneath is r h) i none = absurd (cc)
 
 pub next_has_room : NextHasRoom
 next_has_room m K us t h f is none =
-    let c = tells h.around f is in
+    let c = describes h.around f is in
     let fits = rest_fits m h.rest c.inside none in
     let many = values_size m h.operands in
     let a : most_operands m h.scope.function ≡ most_operands m f = ap (most_operands m) c.function in

@@ -3,7 +3,9 @@ ghost use Rattle.std.specs.Prelude.{◌≡◌, [], ◌++◌, IfOk, OnOk, length,
 ghost use Rattle.std.specs.Option.{option_copied};
 ghost use Rattle.w_types.specs.Groups.{types_of, places_in, places_of, type_at};
 
-use crate::types::{CompType, RecGroup};
+use crate::packed_type::PackedType;
+use crate::types::{CompType, FuncType, RecGroup};
+use lists::ListOf;
 use std::alloc::{AllocError, Global};
 use std::marker::Model;
 
@@ -45,7 +47,50 @@ fn push_places(places: &mut Vec<Place>, group: usize, count: usize) -> Result<()
     Ok(())
 }
 
+// The same types, in a list of their own.
+fn copy_types(alloc: Global, types: &ListOf<PackedType>) -> Result<ListOf<PackedType>, AllocError>
+    ensures { IfOk result (λ copy. copy ≡ types.now) }
+{
+    let items = Vec::from_slice(alloc, types.as_slice())?;
+    Ok(ListOf::from_vec(items))
+}
+
+// The same type, with lists of its own.
+fn copy_type(alloc: Global, kind: &CompType) -> Result<CompType, AllocError>
+    ensures { IfOk result (λ copy. copy ≡ kind.now) }
+{
+    match kind {
+        CompType::Func(kind) => Ok(CompType::Func(FuncType {
+            params: copy_types(alloc, &kind.params)?,
+            results: copy_types(alloc, &kind.results)?,
+        })),
+        CompType::Cont(function) => Ok(CompType::Cont(*function)),
+    }
+}
+
+// The same group, with types of its own.
+fn copy_group(alloc: Global, group: &RecGroup) -> Result<RecGroup, AllocError>
+    ensures { IfOk result (λ copy. copy ≡ group.now) }
+{
+    let mut types = ListOf::new(alloc);
+    for kind in group.types.as_slice() {
+        types.push(copy_type(alloc, kind)?)?;
+    }
+    Ok(RecGroup { types })
+}
+
 impl RecGroups {
+    /// The same groups, with types of their own. It fails only for want of memory.
+    pub fn copy(&self, alloc: Global) -> Result<RecGroups, AllocError>
+        ensures { IfOk result (λ copy. copy ≡ self.now) }
+    {
+        let mut groups = Vec::new(alloc);
+        for group in &self.groups {
+            groups.push(copy_group(alloc, group)?)?;
+        }
+        RecGroups::from_vec(alloc, groups)
+    }
+
     /// These groups, in order. It fails only for want of memory.
     pub fn from_vec(alloc: Global, groups: Vec<RecGroup>) -> Result<RecGroups, AllocError>
         ensures { IfOk result (λ r. r ≡ groups.items) }

@@ -3,22 +3,14 @@ use Rattle.std.proofs.Common.{◌≡◌, ℕ, List, Bool, false, length, replica
 use Rattle.std.proofs.lemmas.Option.{slice_get_within}
 use Rattle.w_syntax.specs.declared.module.Module.{Module}
 use Rattle.w_canon.specs.IsClassesOf.{IsClassesOf}
-use Rattle.w_rules.specs.declared.context.Context as rt
 use Rattle.w_rules.specs.declared.facts.Facts.{Facts}
 use Rattle.w_rules.specs.Facts.{AreFacts}
-use Rattle.w_rules.specs.Spaces.{functions_of, tables_of, memories_of, globals_of, tags_of, marked, named_of, declared_of}
-use Rattle.w_rules.specs.View.{HasClasses}
-use Rattle.w_valid.specs.Judged.{IsContextOf}
+use Rattle.w_rules.specs.Spaces.{functions_of, marked, named_of, declared_of}
 use Rattle.w_valid.specs.Measured.{AreMeasures}
 
 -- of each function, whether it may be named
 pub declared_by : (m : Module) (n : ℕ) (flags : List Bool) → flags ≡ marked (replicate n false) (named_of m) → n ≡ length (functions_of m) → flags ≡ declared_of m
 declared_by m n flags e f = e ∙ ap (λ (k : ℕ). marked (replicate k false) (named_of m)) f
-
--- a context of the module's index spaces and classes is the module's
-pub is_context : (cx : rt.Context) → cx.functions.now ≡ functions_of cx.candidate.now → cx.tables.now ≡ tables_of cx.candidate.now → cx.memories.now ≡ memories_of cx.candidate.now
-    → cx.globals.now ≡ globals_of cx.candidate.now → cx.tags.now ≡ tags_of cx.candidate.now → cx.declared.now ≡ declared_of cx.candidate.now → HasClasses cx → IsContextOf cx
-is_context cx functions tables memories globals tags declared classes = record { context = cc; classes = classes }
 
 -- the facts of a module
 pub are_facts : (m : Module) (facts : Facts) → AreMeasures m facts.heights.items facts.depths.items → facts.declared.items ≡ declared_of m → IsClassesOf m.types facts.classes → AreFacts m facts

@@ -1,5 +1,4 @@
-pub mod Judged
 pub mod Measured
-pub mod Faults
-pub mod Firsts
-pub mod Kinds
+pub mod SameBefore
+pub mod Tables
+pub mod Gradual

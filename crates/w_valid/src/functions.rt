@@ -1,21 +1,26 @@
 //! Validity of functions.
-ghost use Rattle.std.specs.Prelude.{◌≡◌, [], IfOk, IfSome, IfNone, OnOk};
-ghost use Rattle.std.specs.Option.{option_map};
+ghost use Rattle.std.specs.Prelude.{◌≡◌, ◌↔◌, ℕ, All, [], IfOk, IfNone, IsTrue, Some, slice_get};
 ghost use Rattle.w_types.specs.Groups.{types_of};
-ghost use Rattle.w_syntax.specs.Functions.{type_of_function};
-ghost use Rattle.w_flow.specs.TypeRows.{AreTypeRows, AreReadyRows, rows_type};
+ghost use Rattle.w_syntax.specs.declared.locals.LocalRun.{LocalRun as Run};
+ghost use Rattle.w_flow.specs.TypeRows.{AreTypeRows};
+ghost use Rattle.w_rules.specs.Limits.{Within};
+ghost use Rattle.w_rules.specs.Types.{IsValidType};
 ghost use Rattle.w_rules.specs.Valid.{FunctionItem};
-ghost use Rattle.w_valid.specs.Firsts.{IsFirst};
-ghost use Rattle.w_valid.specs.Judged.{IsContextOf};
-ghost use Rattle.w_valid.specs.Measured.{IsFunctionMeasure, AreMeasures};
+ghost use Rattle.w_rules.specs.View.{context_in, HasClasses};
+ghost use Rattle.w_items.specs.Firsts.{IsFirst};
+ghost use Rattle.w_valid.specs.Gradual.{IsBodyAnswer};
+ghost use Rattle.w_valid.specs.Measured.{IsCodeMeasure, IsFunctionMeasure, AreMeasures};
+ghost use Rattle.w_valid.specs.Tables.{AreTablesOf};
+ghost use Rattle.w_valid.specs.declared.answer.BodyAnswer.{BodyAnswer as TheAnswer};
 
-use crate::by_index::item_at;
-use crate::types::are_locals_valid;
+use crate::answer::BodyAnswer;
+use crate::tables::{BodySetting, ModuleTables};
 use std::alloc::{AllocError, Global};
 use w_bodies::check_body;
-use w_flow::{FuncRows, TypeRows};
-use w_rules::Context;
+use w_items::item_at;
+use w_rules::has_type;
 use w_steps::Setting;
+use w_syntax::{Func, LocalRun, Module};
 use w_vplain::Room;
 
 /// What the bodies of functions need, by the index of the function: see `Facts`.
@@ -25,68 +30,110 @@ pub(crate) struct BodyFacts {
     pub depths: Vec<u32>,
 }
 
-// The type of the function of this index, of those that the module defines, where its index of a type is that of a function type.
-fn type_of<'r>(cx: &Context<'r>, rows: &'r TypeRows, index: usize) -> Option<FuncRows<'r>>
-    requires { AreTypeRows cx.now.classes.now (types_of cx.now.candidate.now.types) rows.now }
-    ensures kind { option_map rows_type result ≡ type_of_function cx.now.candidate.now index }
-    ensures ready { IfSome result (AreReadyRows cx.now.classes.now) }
-{
-    match cx.candidate.functions.as_slice().get(index) {
-        Some(kind) => rows.func_of(cx, *kind),
-        None => None,
-    }
+/// The functions of a module, as they are judged: by these tables, and the first ones by the answers for their bodies.
+#[derive(Clone, Copy)]
+pub(crate) struct FunctionsOf<'a> {
+    pub candidate: &'a Module,
+    pub tables: &'a ModuleTables,
+    pub answers: &'a [BodyAnswer],
 }
 
-// Whether the function of this index has a function type, valid locals, and a body of this type (Core, validation, modules), and
-// then its height and its depth.
-fn measure_function(
-    alloc: Global,
-    cx: &Context,
-    rows: &TypeRows,
-    room: &mut Room,
-    index: usize,
-) -> Result<Option<(u64, u32)>, AllocError>
-    requires whole { IsContextOf cx.now }
-    requires rows { AreTypeRows cx.now.classes.now (types_of cx.now.candidate.now.types) rows.now }
-    ensures { IfOk result (λ measured. IsFunctionMeasure cx.now.candidate.now index measured) }
+// Whether the type of each of these locals is valid, among so many types.
+fn are_locals_valid(count: usize, runs: &[LocalRun]) -> bool
+    ensures { IsTrue result ↔ All (λ (run : Run). IsValidType count run.kind) runs.now }
 {
-    let Some(kind) = type_of(cx, rows, index) else {
-        return Ok(None);
-    };
-    let Some(code) = item_at(&cx.candidate.codes, index) else {
+    runs.iter().all(|run| has_type(count, run.kind))
+}
+
+/// Whether the type of this index is a function type, and the code has valid locals and a body of this type (Core, validation,
+/// functions), and then its height and its depth. It works in this room, and leaves it to the next one.
+pub(crate) fn measure_code(
+    alloc: Global,
+    setting: &BodySetting,
+    room: &mut Room,
+    kind: u32,
+    code: &Func,
+) -> Result<Option<(u64, u32)>, AllocError>
+    requires classes { HasClasses setting.now.context }
+    requires rows { AreTypeRows setting.now.context.classes.now (types_of setting.now.context.types.now) setting.now.rows.now }
+    ensures { IfOk result (IsCodeMeasure (context_in setting.now.context) kind code.now) }
+{
+    let BodySetting { context: cx, rows } = setting;
+    let Some(kind) = rows.func_of(cx, kind) else {
         return Ok(None);
     };
     let runs = code.locals.as_slice();
-    if !are_locals_valid(cx.candidate.types.type_count(), runs) {
+    if !are_locals_valid(cx.types.type_count(), runs) {
         return Ok(None);
     }
-    let setting = Setting {
+    let body = Setting {
         cx,
         rows,
         results: kind.results,
     };
-    check_body(alloc, setting, room, kind.params.types, runs, &code.body)
+    check_body(alloc, body, room, kind.params.types, runs, &code.body)
+}
+
+// Whether the function of this index is valid, and then its height and its depth.
+fn measure_function(
+    alloc: Global,
+    candidate: &Module,
+    tables: &ModuleTables,
+    room: &mut Room,
+    index: usize,
+) -> Result<Option<(u64, u32)>, AllocError>
+    requires { AreTablesOf candidate.now tables.now }
+    ensures { IfOk result (IsFunctionMeasure candidate.now index) }
+{
+    let Some(kind) = item_at(&candidate.functions, index) else {
+        return Ok(None);
+    };
+    let Some(code) = item_at(&candidate.codes, index) else {
+        return Ok(None);
+    };
+    let setting = tables.setting(candidate.datas.len());
+    measure_code(alloc, &setting, room, *kind, code)
+}
+
+// The same, by the answer for its body where there is one.
+fn measure_at(
+    alloc: Global,
+    functions: FunctionsOf<'_>,
+    room: &mut Room,
+    index: usize,
+) -> Result<Option<(u64, u32)>, AllocError>
+    requires within { Within functions.candidate.now }
+    requires tables { AreTablesOf functions.candidate.now functions.tables.now }
+    requires answers { (i : ℕ) (a : TheAnswer) → slice_get functions.answers.now i ≡ Some a → IsBodyAnswer functions.candidate.now i a }
+    ensures { IfOk result (IsFunctionMeasure functions.entry.candidate.now index) }
+{
+    match functions.answers.get(index) {
+        Some(answer) => Ok(answer.measure(functions.candidate.datas.len())),
+        None => measure_function(alloc, functions.candidate, functions.tables, room, index),
+    }
 }
 
 /// The first function that is not valid, if there is one: each index of a type or of code is that of a function. Where there is
 /// none it adds what their bodies need.
 pub(crate) fn first_invalid_function(
     alloc: Global,
-    cx: &Context,
+    functions: FunctionsOf<'_>,
+    room: &mut Room,
     measures: &mut BodyFacts,
 ) -> Result<Option<usize>, AllocError>
-    requires whole { IsContextOf cx.now }
+    requires within { Within functions.candidate.now }
+    requires tables { AreTablesOf functions.candidate.now functions.tables.now }
+    requires answers { (i : ℕ) (a : TheAnswer) → slice_get functions.answers.now i ≡ Some a → IsBodyAnswer functions.candidate.now i a }
     requires no_heights { measures.old.heights.items ≡ [] }
     requires no_depths { measures.old.depths.items ≡ [] }
-    ensures first { IfOk result (λ first. IsFirst cx.now.candidate.now FunctionItem first) }
+    ensures first { IfOk result (λ first. IsFirst functions.entry.candidate.now FunctionItem first) }
     ensures measured { IfOk result (λ first. IfNone first
-        (AreMeasures cx.now.candidate.now measures.new.heights.items measures.new.depths.items)) }
+        (AreMeasures functions.entry.candidate.now measures.new.heights.items measures.new.depths.items)) }
 {
-    let count = cx.candidate.functions.len().max(cx.candidate.codes.len());
-    let rows = TypeRows::of_types(alloc, cx.classes, &cx.candidate.types)?;
-    let mut room = Room::new(alloc);
+    let candidate = functions.candidate;
+    let count = candidate.functions.len().max(candidate.codes.len());
     for index in 0..count {
-        let Some((height, depth)) = measure_function(alloc, cx, &rows, &mut room, index)? else {
+        let Some((height, depth)) = measure_at(alloc, functions, room, index)? else {
             return Ok(Some(index));
         };
         measures.heights.push(height)?;

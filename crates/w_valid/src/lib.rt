@@ -1,22 +1,13 @@
-//! Validation of modules.
+//! Validation of modules: whole, or body by body as they are read.
 #![tactic(auto)]
 
-mod by_index;
-mod datas;
-mod elements;
-mod exports;
-mod fault;
+mod answer;
 mod functions;
-mod globals;
-mod imports;
-mod indexed;
-mod limits;
-mod memories;
-mod start;
+mod gradual;
+mod module_types;
 mod tables;
-mod tags;
-mod types;
 mod validation;
 
-pub use fault::ValidFault;
+pub use gradual::Gradual;
 pub use validation::validate;
+pub use w_items::ValidFault;

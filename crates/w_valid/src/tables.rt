@@ -1,49 +1,101 @@
-//! Validity of tables.
-ghost use Rattle.std.specs.Prelude.{◌≡◌, ◌↔◌, IfOk, IsTrue};
-ghost use Rattle.w_rules.specs.Valid.{TableValid, IsInitValid, IsTableTypeValid};
-ghost use Rattle.w_valid.specs.Judged.{IsContextOf};
+//! What the bodies of a module are judged by.
+ghost use Rattle.std.specs.Prelude.{◌≡◌, IfOk, OnOk};
+ghost use Rattle.w_syntax.specs.declared.module.Module.{Module as TheModule};
+ghost use Rattle.w_types.specs.Groups.{types_of};
+ghost use Rattle.w_flow.specs.TypeRows.{AreTypeRows};
+ghost use Rattle.w_rules.specs.DataNeeds.{with_datas};
+ghost use Rattle.w_rules.specs.Spaces.{context_of};
+ghost use Rattle.w_rules.specs.View.{context_in, HasClasses};
+ghost use Rattle.w_valid.specs.SameBefore.{SameBefore};
+ghost use Rattle.w_valid.specs.Tables.{AreDue, AreTablesIn, AreTablesOf};
 
-use crate::by_index::item_at;
-use crate::limits::{MOST_ELEMENTS, are_limits_valid};
+use crate::module_types::ModuleTypes;
 use std::alloc::{AllocError, Global};
-use w_bodies::is_const_typed;
-use w_rules::Context;
-use w_syntax::{Body, TableType};
-use w_types::{PackedType, RefType};
+use w_flow::TypeRows;
+use w_rules::{Context, Spaces, declared_functions, keeps_type_limits};
+use w_syntax::Module;
 
-/// Whether the type of a table is valid (Core, validation, table types).
-pub(crate) fn is_table_type_valid(cx: &Context, kind: TableType) -> bool
-    ensures { IsTrue result ↔ IsTableTypeValid cx.now.candidate.now kind }
-{
-    are_limits_valid(MOST_ELEMENTS, kind.limits) && cx.has_heap(kind.element.heap)
+/// What the bodies of a module are judged by, made of the lists in front of its code section. It has lists of its own, so that the
+/// module may grow meanwhile.
+#[derive(Drop)]
+pub(crate) struct ModuleTables {
+    pub types: ModuleTypes,
+    pub spaces: Spaces,
+    pub declared: Vec<bool>,
 }
 
-// Whether what the elements of a table begin with is constant and of this type; null where nothing is said.
-fn is_init_typed(
-    alloc: Global,
-    cx: &Context,
-    kind: RefType,
-    init: &Option<Body>,
-) -> Result<bool, AllocError>
-    requires { IsContextOf cx.now }
-    ensures { IfOk result (λ typed. IsTrue typed ↔ IsInitValid cx.now.candidate.now kind init.now) }
-{
-    match init {
-        Some(body) => is_const_typed(alloc, cx, body, PackedType::reference(kind)),
-        None => Ok(kind.nullable),
+/// What a body is judged in: a context without locals, and the parameters and results of its function types.
+#[derive(Clone, Copy)]
+pub(crate) struct BodySetting<'a> {
+    pub context: Context<'a>,
+    pub rows: &'a TypeRows,
+}
+
+impl ModuleTables {
+    /// Those of a module. It fails only when out of memory.
+    pub fn of_module(alloc: Global, candidate: &Module) -> Result<ModuleTables, AllocError>
+        ensures { IfOk result (AreTablesOf candidate.now) }
+    {
+        let types = ModuleTypes::of_groups(alloc, &candidate.types)?;
+        let spaces = Spaces::of_module(alloc, candidate)?;
+        let declared = declared_functions(alloc, candidate, spaces.functions.len())?;
+        Ok(ModuleTables {
+            types,
+            spaces,
+            declared,
+        })
+    }
+
+    /// What bodies are judged in where there are so many data segments.
+    pub fn setting(&self, datas: usize) -> BodySetting<'_>
+        ensures context { (m : TheModule) → AreTablesOf m self.now → context_in result.context ≡ with_datas datas (context_of m) }
+        ensures classes { HasClasses result.context }
+        ensures rows { AreTypeRows result.context.classes.now (types_of result.context.types.now) result.rows.now }
+    {
+        let lent = self.types.lent();
+        BodySetting {
+            context: Context {
+                types: lent.types,
+                classes: lent.classes,
+                functions: self.spaces.functions.as_slice(),
+                tables: self.spaces.tables.as_slice(),
+                memories: self.spaces.memories.as_slice(),
+                globals: self.spaces.globals.as_slice(),
+                tags: self.spaces.tags.as_slice(),
+                elements: self.spaces.elements.as_slice(),
+                datas,
+                declared: self.declared.as_slice(),
+            },
+            rows: lent.rows,
+        }
     }
 }
 
-/// Whether the table of this index is valid: its type is, and what its elements begin with is constant and of their type.
-pub(crate) fn is_valid(alloc: Global, cx: &Context, index: usize) -> Result<bool, AllocError>
-    requires { IsContextOf cx.now }
-    ensures { IfOk result (λ typed. IsTrue typed ↔ TableValid cx.now.candidate.now index) }
-{
-    let Some(table) = item_at(&cx.candidate.tables, index) else {
-        return Ok(false);
-    };
-    if !is_table_type_valid(cx, table.kind) {
-        return Ok(false);
+/// The tables of a module whose bodies are judged as they are read.
+#[derive(Drop)]
+pub(crate) enum TablesSoFar {
+    /// No body was judged.
+    NotYet,
+    Made(ModuleTables),
+    /// The module passes a limit on its types.
+    PastLimits,
+}
+
+impl TablesSoFar {
+    /// Makes them of a module where they are not there yet. It fails only when out of memory.
+    pub fn make(&mut self, alloc: Global, candidate: &Module) -> Result<(), AllocError>
+        ensures tables { (n : TheModule) → AreTablesIn n self.old → SameBefore candidate.now n → AreTablesIn n self.new }
+        ensures due { OnOk result (AreDue self.new) }
+    {
+        if !matches!(self, TablesSoFar::NotYet) {
+            return Ok(());
+        }
+        if !keeps_type_limits(candidate) {
+            *self = TablesSoFar::PastLimits;
+            return Ok(());
+        }
+        let tables = ModuleTables::of_module(alloc, candidate)?;
+        *self = TablesSoFar::Made(tables);
+        Ok(())
     }
-    is_init_typed(alloc, cx, table.kind.element, &table.init)
 }

@@ -11,8 +11,8 @@ pub returns-in-Check-clause-leaves : goal.returns-in-Check-clause-leaves
 returns-in-Check-clause-leaves g c =
     let held = g.O.Sink.held c.args.out.now in
     let rose = Rose (g.O.Sink.faults c.args.out.now) (g.O.Sink.faults c.args.out.now) in
-    subst (λ (a : Action). Leaves (gives a c.args.checked) c.tell.result (Grew held held) rose) (sym c.in-Check.is)
-    (all_left (λ reply. reply ≡ ok_module) held rose c.tell.result c.tell.ensures)
+    subst (λ (a : Action). Leaves (gives a c.args.checked) c.confirm.result (Grew held held) rose) (sym c.in-Check.is)
+    (all_left (λ reply. reply ≡ ok_module) held rose c.confirm.result c.confirm.ensures)
 
 pub returns-in-Build-clause-leaves : goal.returns-in-Build-clause-leaves
 returns-in-Build-clause-leaves g c =

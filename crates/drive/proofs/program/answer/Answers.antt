@@ -1,4 +1,4 @@
-use Rattle.std.proofs.Common.{◌∙◌, ap, map}
+use Rattle.std.proofs.Common.{◌∙◌, refl, ap, map}
 use Rattle.std.specs.Prelude.{string_bytes}
 use Rattle.w_outside.specs.Outside.{Grew, Rose}
 use Rattle.words.specs.Line.{line_of}
@@ -10,23 +10,23 @@ use Rattle.drive.proofs.Refusals.{refuses_as}
 use Rattle.drive.proofs.Replies.{stop_left, leaves_as}
 use Rattle.drive.proofs.program.answer.Goals as goal
 
-pub returns-in_err-bytes-in-Ok-OnFile-clause-leaves : goal.returns-in_err-bytes-in-Ok-OnFile-clause-leaves
-returns-in_err-bytes-in-Ok-OnFile-clause-leaves g c =
+pub returns-in_err-input-in-Ok-OnFile-clause-leaves : goal.returns-in_err-input-in-Ok-OnFile-clause-leaves
+returns-in_err-input-in-Ok-OnFile-clause-leaves g c =
     let request = c.in-Ok-OnFile in
     let failed = Rose (g.F.Inputs.faults c.args.files.now) (g.F.Inputs.faults c.open.new.files) in
     stop_left (MayFail failed (Answer (line_of (map string_bytes c.args.words.now)) (g.F.Inputs.file c.args.files.now))) (g.O.Sink.held c.args.out.now)
-    (Rose (g.O.Sink.faults c.args.out.now) (g.O.Sink.faults c.args.out.now)) c.from_residual.result c.in_err-bytes-in-Ok-OnFile.field-0.0 c.from_residual.ensures.1
+    (Rose (g.O.Sink.faults c.args.out.now) (g.O.Sink.faults c.args.out.now)) c.from_residual.result c.in_err-input-in-Ok-OnFile.field-0.0 c.from_residual.ensures.1
     (refuses_as (unread (line_of (map string_bytes c.args.words.now)) request.file.now request.action (g.F.Inputs.file c.args.files.now) failed (request.ensures.asks ∙ ap asked_by request.field-0-is))
-    c.in_err-bytes-in-Ok-OnFile.field-0.0 c.in_err-bytes-in-Ok-OnFile.ensures.refused)
+    c.in_err-input-in-Ok-OnFile.field-0.0 c.in_err-input-in-Ok-OnFile.ensures.refused)
 
-pub returns-in_ok-bytes-in-Ok-OnFile-clause-leaves : goal.returns-in_ok-bytes-in-Ok-OnFile-clause-leaves
-returns-in_ok-bytes-in-Ok-OnFile-clause-leaves g c =
+pub returns-in_ok-input-in-Ok-OnFile-clause-leaves : goal.returns-in_ok-input-in-Ok-OnFile-clause-leaves
+returns-in_ok-input-in-Ok-OnFile-clause-leaves g c =
     let request = c.in-Ok-OnFile in
     let failed = Rose (g.F.Inputs.faults c.args.files.now) (g.F.Inputs.faults c.open.new.files) in
-    let read = c.in_ok-bytes-in-Ok-OnFile in
+    let read = c.in_ok-input-in-Ok-OnFile.ensures.bytes in
     leaves_as
-    (acted (line_of (map string_bytes c.args.words.now)) request.file.now request.action (g.F.Inputs.file c.args.files.now) failed (request.ensures.asks ∙ ap asked_by request.field-0-is) c.as_slice.result.now read.bytes.items c.as_slice.ensures.value read.ensures.bytes read.ensures.within)
-    (Grew (g.O.Sink.held c.args.out.now) (g.O.Sink.held c.act.new.out)) (Rose (g.O.Sink.faults c.args.out.now) (g.O.Sink.faults c.act.new.out)) c.act.result c.act.ensures.leaves
+    (acted (line_of (map string_bytes c.args.words.now)) request.file.now request.action (g.F.Inputs.file c.args.files.now) failed (request.ensures.asks ∙ ap asked_by request.field-0-is) read.0 read.0 refl read.1 read.2)
+    (Grew (g.O.Sink.held c.args.out.now) (g.O.Sink.held c.act.new.out)) (Rose (g.O.Sink.faults c.args.out.now) (g.O.Sink.faults c.act.new.out)) c.act.result (c.act.ensures.leaves read.0 read.3)
 
 pub returns-in-Ok-Generated-clause-leaves : goal.returns-in-Ok-Generated-clause-leaves
 returns-in-Ok-Generated-clause-leaves g c =

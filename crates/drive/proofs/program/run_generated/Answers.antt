@@ -1,4 +1,4 @@
-use Rattle.std.proofs.Common.{◌∙◌, ℕ, List, false, subst}
+use Rattle.std.proofs.Common.{ℕ, List, false, subst}
 use Rattle.w_outside.specs.Outside.{Grew, Rose}
 use Rattle.words.specs.declared.request.Action.TheVariants.{Run as RunFor}
 use Rattle.drive.specs.Answer.{ActionGives, generated_steps}
@@ -9,4 +9,4 @@ pub returns-clause-leaves : goal.returns-clause-leaves
 returns-clause-leaves g c =
     subst (λ (bytes : List ℕ). Leaves (ActionGives (RunFor generated_steps false) bytes) c.act.result
     (Grew (g.O.Sink.held c.args.out.now) (g.O.Sink.held c.act.new.out)) (Rose (g.O.Sink.faults c.args.out.now) (g.O.Sink.faults c.act.new.out)))
-    (c.as_slice.ensures.value ∙ c.in_ok-bytes.ensures.value) c.act.ensures.leaves
+    c.in_ok-bytes.ensures.value (c.act.ensures.leaves c.in_ok-bytes.bytes.items c.in_ok-input.ensures)

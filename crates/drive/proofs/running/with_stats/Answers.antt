@@ -1,6 +1,6 @@
 use Rattle.std.proofs.Common.{ℕ, subst, sym, ap, ◌∙◌}
 use Rattle.w_reduce.specs.Run.{Run}
-use Rattle.w_machine.specs.Position.{Tells}
+use Rattle.w_machine.specs.Position.{StopsWith}
 use Rattle.drive.specs.Answer.{stats_line}
 use Rattle.drive.proofs.Runs.{run_after, counts_are}
 use Rattle.drive.proofs.Statistics.{more_same, more_unwritten}
@@ -18,5 +18,5 @@ returns-clause-asked c = λ _ p s t steps begins after.
     (ap (λ (n : ℕ). (Run p s t n).taken) (sym c.taken.ensures.value) ∙ c.taken.ensures.counts p s t begins)
     (c.made.ensures.value p s t begins) (c.consumed.ensures.value p s t begins) (c.live.ensures.value p s t begins)
     ∙ ap stats_line (run_after q p s t steps (after reply)
-    (λ k stops. subst (λ (n : ℕ). Tells k (Run p s t n).outcome) c.taken.ensures.value (c.taken.ensures.stopped p s t begins k stops))))
+    (λ k stops. subst (λ (n : ℕ). StopsWith k (Run p s t n).outcome) c.taken.ensures.value (c.taken.ensures.stopped p s t begins k stops))))
     c.with_err.ensures

@@ -1,7 +1,7 @@
 use Rattle.std.proofs.Common.{◌≡◌, ◌∙◌, ap, length, arith}
 use Rattle.w_syntax.specs.Packed.{unpacked_all}
 use Rattle.w_syntax.proofs.PackedLists.{unpacked_get, unpacked_length}
-use Rattle.w_encode.proofs.Written.{two_refer, others_refer}
+use Rattle.w_encode.proofs.FlatBodies.{two_refer, others_refer}
 use Rattle.w_encode.proofs.segments.function_of_body.Goals as goal
 
 pub returns-in-len2 : goal.returns-in-len2

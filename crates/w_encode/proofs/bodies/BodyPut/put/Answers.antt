@@ -1,4 +1,4 @@
-use Rattle.w_encode.proofs.Written.{put_body}
+use Rattle.w_encode.proofs.FlatBodies.{put_body}
 use Rattle.w_encode.proofs.bodies.BodyPut.put.Goals as goal
 
 pub returns : goal.returns

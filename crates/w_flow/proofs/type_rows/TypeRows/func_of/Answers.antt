@@ -13,13 +13,13 @@ there x xs ys e t = let h = ltb-true x (length xs) t in let same = ap (λ (rs : 
 pub row_of-requires : goal.row_of-requires
 row_of-requires c =
     subst (λ (ts : List ValType). IsReadyFor c.args.cx.now.classes.now ts c.in-Some.ready.now.params) (sym c.as_slice.ensures)
-    (ready_types_at c.args.cx.now.classes.now (types_of c.args.cx.now.candidate.now.types) c.args.self.now.types.items c.args.index c.in_ok-kind.kind.now c.in-Some.ready.now c.requires
+    (ready_types_at c.args.cx.now.classes.now (types_of c.args.cx.now.types.now) c.args.self.now.types.items c.args.index c.in_ok-kind.kind.now c.in-Some.ready.now c.requires
     (sym c.in_ok-kind.ensures) (there c.args.index c.deref.result.now c.args.self.now.types.items c.deref.ensures.value (sym c.in-Some.ensures.lookup.0)) (c.in-Some.ensures.lookup.1 ∙ ap (λ (rs : List ReadyType). get_or rs c.args.index c.in-Some.ready.now) c.deref.ensures.value)).0
 
 pub row_of-requires-in-Some : goal.row_of-requires-in-Some
 row_of-requires-in-Some c =
     subst (λ (ts : List ValType). IsReadyFor c.args.cx.now.classes.now ts c.in-Some.ready.now.results) (sym c.as_slice-in-Some.ensures)
-    (ready_types_at c.args.cx.now.classes.now (types_of c.args.cx.now.candidate.now.types) c.args.self.now.types.items c.args.index c.in_ok-kind.kind.now c.in-Some.ready.now c.requires
+    (ready_types_at c.args.cx.now.classes.now (types_of c.args.cx.now.types.now) c.args.self.now.types.items c.args.index c.in_ok-kind.kind.now c.in-Some.ready.now c.requires
     (sym c.in_ok-kind.ensures) (there c.args.index c.deref.result.now c.args.self.now.types.items c.deref.ensures.value (sym c.in-Some.ensures.lookup.0)) (c.in-Some.ensures.lookup.1 ∙ ap (λ (rs : List ReadyType). get_or rs c.args.index c.in-Some.ready.now) c.deref.ensures.value)).1.0
 
 pub returns-in-Some-clause-ready : goal.returns-in-Some-clause-ready
@@ -29,6 +29,6 @@ returns-in-Some-clause-ready c = record {
   fits =
       subst (λ (ts : List ValType). FitsIf c.args.cx.now.classes.now c.in-Some.ready.now.fits ts c.row_of-in-Some.result.types.now) (sym (c.row_of.ensures.types ∙ c.as_slice.ensures))
       (subst (FitsIf c.args.cx.now.classes.now c.in-Some.ready.now.fits c.in_ok-kind.kind.now.params) (sym (c.row_of-in-Some.ensures.types ∙ c.as_slice-in-Some.ensures))
-      (ready_types_at c.args.cx.now.classes.now (types_of c.args.cx.now.candidate.now.types) c.args.self.now.types.items c.args.index c.in_ok-kind.kind.now c.in-Some.ready.now c.requires
+      (ready_types_at c.args.cx.now.classes.now (types_of c.args.cx.now.types.now) c.args.self.now.types.items c.args.index c.in_ok-kind.kind.now c.in-Some.ready.now c.requires
       (sym c.in_ok-kind.ensures) (there c.args.index c.deref.result.now c.args.self.now.types.items c.deref.ensures.value (sym c.in-Some.ensures.lookup.0)) (c.in-Some.ensures.lookup.1 ∙ ap (λ (rs : List ReadyType). get_or rs c.args.index c.in-Some.ready.now) c.deref.ensures.value)).1.1);
 }

@@ -49,8 +49,8 @@ returns-clause-runs g c =
     let began = ap (λ (q : Position). q.taken) c.self.view_is in
     let here = ap (λ (q : Position). q.taken) c.self-in-loop-self.view_is in
     let all : i ≡ c.args.steps = omega (arith, c.loop-self-test.false, c.loop-self.invariant.most, began, here) in
-    run_stops c.args.self.now c.loop-self.self c.tell.new.self i c.args.steps (g.O.Sink.held c.args.out.now) (g.O.Sink.held c.loop-self.out) (g.O.Sink.held c.loop-self.out)
-    c.loop-self.invariant.taken c.loop-self.invariant.none_stopped c.loop-self.invariant.printed c.tell.result all c.tell.ensures
+    run_stops c.args.self.now c.loop-self.self c.stop_if_ended.new.self i c.args.steps (g.O.Sink.held c.args.out.now) (g.O.Sink.held c.loop-self.out) (g.O.Sink.held c.loop-self.out)
+    c.loop-self.invariant.taken c.loop-self.invariant.none_stopped c.loop-self.invariant.printed c.stop_if_ended.result all c.stop_if_ended.ensures
 
 pub returns-clause-cause : goal.returns-clause-cause
-returns-clause-cause g c = λ none e. absurd (no_write_fault c.loop-self.self c.tell.new.self c.tell.result c.tell.ensures e)
+returns-clause-cause g c = λ none e. absurd (no_write_fault c.loop-self.self c.stop_if_ended.new.self c.stop_if_ended.result c.stop_if_ended.ensures e)

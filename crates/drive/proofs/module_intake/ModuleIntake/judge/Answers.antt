@@ -1,0 +1,8 @@
+use Rattle.drive.proofs.ModulesInPieces.{answers_for}
+use Rattle.drive.proofs.module_intake.ModuleIntake.judge.Goals as goal
+
+pub accept_rest-requires : goal.accept_rest-requires
+accept_rest-requires c =
+    let b = c.requires.0 in
+    let h = c.requires.1 in
+    answers_for c.args.self.decoder c.args.self.gradual b c.in-Ok.candidate h (c.in-Ok.ensures.ok b h.decoder)

@@ -1,0 +1,49 @@
+-- What was taken in of the bytes of a file.
+use Rattle.std.specs.Prelude.{◌≡◌, ◌<◌, ◌≤◌, ℕ, true, false, List, ◌++◌, length, Option}
+use Rattle.std.specs.Io.KnownBytes.{prepend_known}
+use Rattle.w_syntax.specs.Spells.{Spells}
+use Rattle.w_syntax.specs.declared.module.Module.{Module}
+use Rattle.w_decode.specs.Pieces.{StandsFor}
+use Rattle.w_valid.specs.Gradual.{AnswersFor}
+use Rattle.w_outside.specs.Outside.{Known, Opens}
+use Rattle.words.specs.declared.request.Action.{Action}
+use Rattle.drive.specs.Answer.{is_script}
+use Rattle.drive.specs.declared.intake.Input.{Input}
+use Rattle.drive.specs.declared.intake.Input.TheVariants as input
+use Rattle.drive.specs.declared.intake.Intake.{Intake}
+use Rattle.drive.specs.declared.intake.Intake.TheVariants as intake
+use Rattle.drive.specs.declared.module_intake.ModuleIntake.{ModuleIntake}
+
+-- the decoder stands for the bytes, and the answers for the bodies that close within them are those of every module whose spelling begins
+-- with these bytes
+pub record IsModuleOf (m : ModuleIntake) (b : List ℕ) : Type 0 where
+  pub decoder : StandsFor m.decoder b
+  pub bodies : (c : List ℕ) (n : Module) → Spells (b ++ c) n → AnswersFor m.gradual n
+
+-- these are the bytes of a script to the action, or of a module
+abbrev pub IsInputOf : Action → Input → List ℕ → Type 0
+IsInputOf action (input.Script bytes) b = (bytes.items ≡ b) × (is_script action b ≡ true)
+IsInputOf action (input.Module m) b = (is_script action b ≡ false) × IsModuleOf m b
+
+-- so many bytes say what a file is
+abbrev pub front_length : ℕ
+front_length = 4
+
+-- these bytes were taken in
+abbrev pub TakesIn : Action → Intake → List ℕ → Type 0
+TakesIn action (intake.Front bytes) b = (bytes.items ≡ b) × (length b < front_length)
+TakesIn action (intake.Known i) b = (front_length ≤ length b) × IsInputOf action i b
+
+-- a part of so many bytes was read and taken in
+pub record TakesMore (action : Action) (old new : Intake) (before now : Option (List ℕ)) (n : ℕ) : Type 0 where
+  pub part : List ℕ
+  pub count : length part ≡ n
+  pub left : before ≡ prepend_known part now
+  pub takes : (b : List ℕ) → TakesIn action old b → TakesIn action new (b ++ part)
+
+-- so many bytes were read and taken in, and these are left of what is known of the file
+pub record IsReadTo (known : Known) (left : Option (List ℕ)) (action : Action) (intake : Intake) (n : ℕ) : Type 0 where
+  pub bytes : List ℕ
+  pub count : length bytes ≡ n
+  pub whole : Opens known (prepend_known bytes left)
+  pub takes : TakesIn action intake bytes

@@ -1,0 +1,109 @@
+//! The bytes of a file, taken in as they are read.
+ghost use Rattle.std.specs.Prelude.{◌≡◌, ◌++◌, ℕ, List, [], IfOk, OnOk};
+ghost use Rattle.words.specs.declared.request.Action.{Action as TheAction};
+ghost use Rattle.drive.specs.Intake.{IsInputOf, TakesIn};
+
+use crate::module_intake::ModuleIntake;
+use crate::scripts::is_script;
+use std::alloc::{AllocError, Global};
+use std::mem;
+use words::Action;
+
+/// So many bytes say whether a file begins as modules do.
+const FRONT_LENGTH: usize = 4;
+
+/// What a file is to an action.
+#[derive(Drop)]
+pub(crate) enum Input {
+    /// A script, by its bytes.
+    Script(Vec<u8>),
+    /// A module, whose bytes are not kept.
+    Module(ModuleIntake),
+}
+
+/// A file whose bytes come in pieces.
+#[derive(Drop)]
+pub(crate) enum Intake {
+    /// Its bytes, which are too few to say what it is.
+    Front(Vec<u8>),
+    Known(Input),
+}
+
+impl Input {
+    /// What the bytes are to an action.
+    pub(crate) fn of_bytes(
+        alloc: Global,
+        action: Action,
+        bytes: Vec<u8>,
+    ) -> Result<Input, AllocError>
+        ensures { IfOk result (λ input. IsInputOf action input bytes.items) }
+    {
+        if is_script(action, bytes.as_slice()) {
+            return Ok(Input::Script(bytes));
+        }
+        let mut module = ModuleIntake::new(alloc)?;
+        module.take(bytes.as_slice())?;
+        Ok(Input::Module(module))
+    }
+}
+
+impl Intake {
+    /// No bytes yet.
+    pub(crate) fn new(alloc: Global) -> Intake
+        ensures { (action : TheAction) → TakesIn action result [] }
+    {
+        Intake::Front(Vec::new(alloc))
+    }
+
+    // Takes in the next piece behind bytes that are too few.
+    fn take_front(
+        &mut self,
+        alloc: Global,
+        action: Action,
+        front: Vec<u8>,
+        piece: &[u8],
+    ) -> Result<(), AllocError>
+        ensures { OnOk result (TakesIn action self.new (front.items ++ piece.now)) }
+    {
+        let mut bytes = front;
+        bytes.extend_from_slice(piece)?;
+        *self = if bytes.len() < FRONT_LENGTH {
+            Intake::Front(bytes)
+        } else {
+            Intake::Known(Input::of_bytes(alloc, action, bytes)?)
+        };
+        Ok(())
+    }
+
+    /// Takes in the next piece.
+    pub(crate) fn take(
+        &mut self,
+        alloc: Global,
+        action: Action,
+        piece: &[u8],
+    ) -> Result<(), AllocError>
+        ensures { OnOk result ((b : List ℕ) → TakesIn action self.old b → TakesIn action self.new (b ++ piece.now)) }
+    {
+        match self {
+            Intake::Front(bytes) => {
+                let front = mem::replace(bytes, Vec::new(alloc));
+                self.take_front(alloc, action, front, piece)
+            }
+            Intake::Known(Input::Script(bytes)) => {
+                bytes.extend_from_slice(piece)?;
+                Ok(())
+            }
+            Intake::Known(Input::Module(module)) => module.take(piece),
+        }
+    }
+
+    /// What the file is, where its bytes are all there.
+    pub(crate) fn end(self, alloc: Global, action: Action) -> Result<Input, AllocError>
+        ensures { (b : List ℕ) → TakesIn action self b → IfOk result (λ input. IsInputOf action input b) }
+    {
+        match self {
+            Intake::Front(bytes) => Input::of_bytes(alloc, action, bytes),
+            Intake::Known(input) => Ok(input),
+        }
+    }
+}

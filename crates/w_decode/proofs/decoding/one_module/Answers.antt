@@ -1,5 +1,0 @@
-use Rattle.w_decode.proofs.ReadingExact.{one_module}
-use Rattle.w_decode.proofs.decoding.one_module.Goals as goal
-
-pub returns : goal.returns
-returns c = one_module

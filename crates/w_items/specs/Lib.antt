@@ -1,0 +1,4 @@
+pub mod Judged
+pub mod Faults
+pub mod Firsts
+pub mod Kinds

@@ -1,8 +1,0 @@
-use Rattle.std.proofs.Common.{ℕ, ◌<◌}
-use Rattle.w_rules.specs.Valid.{ItemValid}
-use Rattle.w_valid.specs.Kinds.{item_of}
-use Rattle.w_valid.proofs.indexed.first_invalid.Given as goal
-
--- each item so far is valid
-abbrev pub invariant-loop-index : goal.invariant-loop-index
-invariant-loop-index l = (j : ℕ) → j < l.index → ItemValid l.cx.candidate.now (item_of l.kind j)
