@@ -41,11 +41,11 @@ static GROWTH: [u8; 50] = [
     0x00, 0x0B,
 ];
 
-// A module in two pieces.
+// A module in two pieces. A fault of a piece is answered again in the end.
 fn in_two(alloc: Global, front: &[u8], back: &[u8]) -> Result<Module, Fail> {
     let mut decoder = Decoder::new(alloc)?;
-    decoder.feed(front)?;
-    decoder.feed(back)?;
+    let _ = decoder.feed(front);
+    let _ = decoder.feed(back);
     Ok(decoder.finish()?)
 }
 
@@ -53,7 +53,7 @@ fn in_two(alloc: Global, front: &[u8], back: &[u8]) -> Result<Module, Fail> {
 fn by_bytes(alloc: Global, bytes: &[u8]) -> Result<Module, Fail> {
     let mut decoder = Decoder::new(alloc)?;
     for byte in bytes {
-        decoder.feed(&[*byte])?;
+        let _ = decoder.feed(&[*byte]);
     }
     Ok(decoder.finish()?)
 }
@@ -136,7 +136,7 @@ fn bodies_close_when_their_last_byte_comes(rt: HostRuntime) -> Result<(), Fail> 
     let mut decoder = Decoder::new(rt.alloc())?;
     for byte in bytes.as_slice() {
         assert_eq!(rt; decoder.closed(), 0);
-        decoder.feed(&[*byte])?;
+        assert!(rt; decoder.feed(&[*byte]).is_ok());
     }
     assert_eq!(rt; decoder.closed(), 1);
     assert_eq!(rt; decoder.so_far().codes.len(), 1);

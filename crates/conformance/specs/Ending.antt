@@ -2,9 +2,9 @@
 use Rattle.std.specs.Prelude.{◌≡◌, ℕ, List, [], Some}
 use Rattle.w_outside.specs.Outside.{Known, Rose, Grew}
 use Rattle.words.specs.Line.{Line}
-use Rattle.drive.specs.Status.{code_of}
-use Rattle.drive.specs.declared.status.Status.{Status}
-use Rattle.drive.specs.Answer.{Answer}
+use Rattle.replies.specs.Status.{code_of}
+use Rattle.replies.specs.declared.status.Status.{Status}
+use Rattle.replies.specs.Answer.{Answer}
 use Rattle.drive.specs.Delivery.{MayFail, Answered}
 
 -- over files of which so much is told, a call with this line wrote these bytes to out and to err, and ended with this code:

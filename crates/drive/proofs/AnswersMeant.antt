@@ -7,7 +7,7 @@ use Rattle.s_check.specs.Size.{Size, size_limit}
 use Rattle.s_judge.specs.Judgements.{IsGood}
 use Rattle.s_judge.specs.declared.fault.ScriptFault.{ScriptFault}
 use Rattle.s_judge.proofs.OneJudgement.{one_judgement}
-use Rattle.drive.specs.Answer.{Reply, OnFile, ScriptGives, ActionGives, script_gives, is_module}
+use Rattle.replies.specs.Answer.{Reply, OnFile, ScriptGives, ActionGives, script_gives, is_module}
 use Rattle.drive.specs.Meaning.{MeansRun, AnswersMean}
 use Rattle.drive.proofs.MeaningsOfRuns.{runs_mean}
 use Rattle.drive.proofs.WhatActionsGive.{is_then_script}

@@ -19,7 +19,7 @@ use Rattle.s_judge.specs.declared.fault.ScriptFault.{ScriptFault}
 use Rattle.s_judge.specs.declared.fault.ScriptFault.TheVariants as script
 use Rattle.s_code.specs.Lowered.{lowered}
 use Rattle.s_agrees.proofs.SpelledScripts.{scripts_agree}
-use Rattle.drive.specs.Answer.{Reply, OnFile, OnBytes, BytesGive, ScriptGives, ActionGives, script_gives, gives, built, malformed, invalid, bad_script, ok_module, is_module, input_limit, limit_input, limit_size, read_fault}
+use Rattle.replies.specs.Answer.{Reply, OnFile, OnBytes, BytesGive, ScriptGives, ActionGives, script_gives, gives, built, malformed, invalid, bad_script, ok_module, is_module, input_limit, limit_input, limit_size, read_fault}
 use Rattle.drive.specs.Built.{HoldsBuilt, BuildIsIdempotent, BuiltFilesAreAccepted, BuiltScriptsAreShort}
 use Rattle.drive.proofs.CanonicalFiles.{file_gives}
 use Rattle.drive.proofs.WhatActionsGive.{is_then_script}

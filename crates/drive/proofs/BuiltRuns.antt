@@ -8,7 +8,7 @@ use Rattle.s_code.specs.Lowered.{lowered}
 use Rattle.s_valid.specs.Beginning.{first_store, first_term}
 use Rattle.s_valid.proofs.Starts.{starts}
 use Rattle.s_agrees.proofs.SpelledScripts.{scripts_agree}
-use Rattle.drive.specs.Answer.{Reply, RunGives, start_reply, run_gives, run_reply, with_stats, behind, end_reply, faulted, trapped}
+use Rattle.replies.specs.Answer.{Reply, RunGives, start_reply, run_gives, run_reply, with_stats, behind, end_reply, faulted, trapped}
 use Rattle.drive.specs.Meaning.{BuiltRunsAreAlike}
 use Rattle.drive.proofs.CanonicalFiles.{only_gives}
 use Rattle.drive.proofs.Programs.{one_program}

@@ -13,7 +13,7 @@ use Rattle.w_items.specs.declared.fault.ValidFault.{ValidFault}
 use Rattle.w_items.proofs.Faults.{no_fault as no_fault_of}
 use Rattle.w_encode.specs.Canon.{Canon}
 use Rattle.words.specs.declared.request.Action.{Action}
-use Rattle.drive.specs.Answer.{Reply, OnFile, BytesGive, ActionGives, gives, input_limit, HasModuleFault}
+use Rattle.replies.specs.Answer.{Reply, OnFile, BytesGive, ActionGives, gives, input_limit, HasModuleFault}
 
 -- a valid module within its limits has no fault
 pub no_fault : (m : Module) (f : ValidFault) → Within m → Valid m → HasModuleFault m f → ⊥

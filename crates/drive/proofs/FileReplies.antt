@@ -5,7 +5,7 @@ use Rattle.words.specs.declared.request.Action.{Action}
 use Rattle.words.specs.declared.request.Action.TheVariants.{Run as RunFor}
 use Rattle.words.specs.Line.{Line, on_file as line_on_file, generated}
 use Rattle.s_generate.specs.Generated.{generated as generated_script}
-use Rattle.drive.specs.Answer.{Answer, OnFile, OnBytes, ActionGives, Reply, generated_steps, input_limit, limit_input, read_fault}
+use Rattle.replies.specs.Answer.{Answer, OnFile, OnBytes, ActionGives, Reply, generated_steps, input_limit, limit_input, read_fault}
 use Rattle.drive.specs.Delivery.{MayFail}
 use Rattle.drive.specs.Reading.{FileRefusal, IsTooLong, MayHold}
 

@@ -3,7 +3,7 @@ use Rattle.std.proofs.Common.{◌≡◌, ◌+◌, ◌<◌, ◌≤◌, ℕ, List,
 use Rattle.std.specs.Io.KnownBytes.{prepend_known, IsAtEnd}
 use Rattle.w_outside.specs.Outside.{Known, untold, missing, holds, Opens}
 use Rattle.words.specs.declared.request.Action.{Action}
-use Rattle.drive.specs.Answer.{input_limit}
+use Rattle.replies.specs.Answer.{input_limit}
 use Rattle.drive.specs.Intake.{IsReadTo, TakesIn, TakesMore}
 use Rattle.drive.specs.Reading.{IsTooLong, LeavesRest, MayHold, TakesPart}
 use Rattle.drive.specs.declared.intake.Intake.{Intake}

@@ -1,7 +1,6 @@
 pub mod LongFiles
 pub mod FileReplies
 pub mod Refusals
-pub mod TextInPieces
 pub mod Runs
 pub mod Statistics
 pub mod Replies

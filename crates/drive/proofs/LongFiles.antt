@@ -2,7 +2,7 @@
 use Rattle.std.proofs.Common.{◌≡◌, ◌+◌, ◌<◌, ◌≤◌, ℕ, List, ◌++◌, length, length-append, Option, Some, None, Result, Ok, Err, inr, refl, sym, ap, ◌∙◌, append_assoc, arith}
 use Rattle.std.specs.Io.KnownBytes.{prepend_known}
 use Rattle.w_outside.specs.Outside.{Known, untold, missing, holds, Opens}
-use Rattle.drive.specs.Answer.{input_limit}
+use Rattle.replies.specs.Answer.{input_limit}
 use Rattle.drive.specs.declared.input.InputFault.{InputFault}
 use Rattle.drive.specs.declared.input.InputFault.TheVariants.{Missing, TooLong, Failed, OutOfMemory}
 use Rattle.drive.specs.Reading.{IsTooLong, LeavesRest, ReadsPart, TakesPart}

@@ -19,7 +19,7 @@ use Rattle.s_valid.specs.Beginning.{first_store, first_term}
 use Rattle.s_valid.proofs.Starts.{starts}
 use Rattle.s_agrees.specs.Agrees.{effect_names, fault_of, limit_of, end_of_fault, end_of_values, end_of}
 use Rattle.s_agrees.proofs.Follow.{runs_follow}
-use Rattle.drive.specs.Answer.{Reply, TrapReply, line, result_line, refusal, behind, start_reply, end_reply, faulted, name_or_none}
+use Rattle.replies.specs.Answer.{Reply, TrapReply, line, result_line, refusal, behind, start_reply, end_reply, faulted, name_or_none}
 use Rattle.drive.specs.Meaning.{meaning_reply, fault_name, RunsMean}
 
 -- a fault, as it is told

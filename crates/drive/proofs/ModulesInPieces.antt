@@ -1,7 +1,8 @@
 -- What is known of a module whose bytes come in pieces, after a piece more and after a body more.
-use Rattle.std.proofs.Common.{◌≡◌, ℕ, zero, suc, ◌+◌, ◌<◌, List, [], ◌∷◌, ◌++◌, length, Some, refl, sym, ap, subst, ◌∙◌, append_assoc, arith}
+use Rattle.std.proofs.Common.{◌≡◌, ℕ, ◌<◌, List, [], ◌++◌, length, sym, ap, subst, ◌∙◌, append_assoc, arith}
 use Rattle.std.specs.Prelude.{slice_get}
 use Rattle.std.proofs.lemmas.List.{append-nil}
+use Rattle.lists.proofs.Lists.{get-front}
 use Rattle.w_syntax.specs.Functions.{code_of_function}
 use Rattle.w_syntax.specs.Spells.{Spells}
 use Rattle.w_syntax.specs.declared.module.Func.{Func}
@@ -12,7 +13,7 @@ use Rattle.w_decode.specs.Pieces.{StandsFor, so_far_of}
 use Rattle.w_decode.specs.declared.pieces.Decoder.{Decoder}
 use Rattle.w_decode.proofs.ContinuedModules.{front_of}
 use Rattle.w_valid.specs.Gradual.{AnswersFor}
-use Rattle.w_valid.specs.SameBefore.{SameBefore}
+use Rattle.w_syntax.specs.SameBefore.{SameBefore}
 use Rattle.w_valid.specs.declared.gradual.Gradual.{Gradual}
 use Rattle.drive.specs.Intake.{IsModuleOf}
 
@@ -27,27 +28,8 @@ piece_more old new gradual b x h stands = record {
 
 -- ## A body more
 
-same_before : {m n : Module} → Continues m n → SameBefore m n
-same_before c = record {
-  types = c.types;
-  imports = c.imports;
-  functions = c.functions;
-  tables = c.tables;
-  memories = c.memories;
-  tags = c.tags;
-  globals = c.globals;
-  exports = c.exports;
-  start = c.start;
-  elements = c.elements;
-}
-
-front_item : (xs ys : List Func) (j : ℕ) → j < length xs → slice_get xs j ≡ slice_get (xs ++ ys) j
-front_item [] ys j lt = absurd (omega arith)
-front_item (x ∷ xs) ys zero lt = refl
-front_item (x ∷ xs) ys (suc j) lt = front_item xs ys j (omega arith)
-
 same_code : {m n : Module} → Continues m n → (j : ℕ) → j < length m.codes → code_of_function m j ≡ code_of_function n j
-same_code {m} {n} c j lt = front_item m.codes c.more j lt ∙ ap (λ (fs : List Func). slice_get fs j) (sym c.codes)
+same_code {m} {n} c j lt = sym (get-front m.codes c.more j lt) ∙ ap (λ (fs : List Func). slice_get fs j) (sym c.codes)
 
 -- the answer for a body that closed counts for every module whose spelling begins with these bytes
 pub body_more : (d : Decoder) (old new : Gradual) (j : ℕ) (b : List ℕ) → j < length (so_far_of d).codes
@@ -58,7 +40,7 @@ body_more d old new j b lt ends body h = record {
   decoder = h.decoder;
   bodies = λ c n spells.
       let continues = front_of b c (so_far_of d) n (ends c n spells) spells (omega (arith, lt)) in
-      body n (h.bodies c n spells) (same_before continues) (same_code continues j lt);
+      body n (h.bodies c n spells) continues.before (same_code continues j lt);
 }
 
 -- ## All bytes

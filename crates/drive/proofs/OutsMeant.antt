@@ -7,11 +7,11 @@ use Rattle.words.specs.declared.request.Action.TheVariants.{Run as RunFor}
 use Rattle.words.specs.Line.{on_file as line_on_file}
 use Rattle.s_syntax.specs.declared.script.Script.{Script}
 use Rattle.s_meaning.specs.Eval.{Ended, Eval, Follows}
-use Rattle.drive.specs.declared.status.Status.{Status}
-use Rattle.drive.specs.declared.status.Status.TheVariants as status
-use Rattle.drive.specs.Answer.{Reply, Answer, line}
+use Rattle.replies.specs.declared.status.Status.{Status}
+use Rattle.replies.specs.declared.status.Status.TheVariants as status
+use Rattle.replies.specs.Answer.{Reply, Answer, line}
 use Rattle.drive.specs.Delivery.{MayFail, WroteFront, WrotePart, Begins, BeginsAtMost, Stopped}
-use Rattle.drive.specs.Stop.{Ends}
+use Rattle.replies.specs.Stop.{Ends}
 use Rattle.drive.specs.Meaning.{meaning_reply, result_of, MeansRun, HoldsScript, BeginsMeaning, StoppedRunsMean}
 use Rattle.drive.proofs.AnswersMeant.{answers_mean}
 

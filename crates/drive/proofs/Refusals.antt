@@ -1,15 +1,18 @@
 -- Refusals by their lines.
-use Rattle.std.proofs.Common.{◌≡◌, ◌∙◌, ℕ, List, [], Result, Ok, Err, refl, sym, ap, subst}
-use Rattle.std.specs.Prelude.{IfOk, IfErr, IsErrAnd}
+use Rattle.std.proofs.Common.{◌≡◌, ◌∙◌, inr, ℕ, List, [], Result, Ok, Err, refl, sym, ap, subst}
+use Rattle.std.specs.Prelude.{◌≢◌, IfOk, IfErr, IsErrAnd}
 use Rattle.w_syntax.specs.declared.module.Module.{Module}
 use Rattle.w_syntax.specs.Spells.{Spells}
+use Rattle.w_decode.specs.Faults.{HasFault}
+use Rattle.w_decode.specs.declared.fault.DecodeFault.{DecodeFault}
+use Rattle.w_decode.specs.declared.fault.DecodeFault.TheVariants as decode
 use Rattle.w_items.specs.declared.fault.ValidFault.{ValidFault}
 use Rattle.w_items.specs.declared.fault.ValidFault.TheVariants as valid
-use Rattle.drive.specs.declared.output.Output.{Output}
-use Rattle.drive.specs.declared.stop.Stop.{Stop}
-use Rattle.drive.specs.declared.stop.Stop.TheVariants.{Refused, WriteFault, OutOfMemory}
-use Rattle.drive.specs.Answer.{Reply, invalid}
-use Rattle.drive.specs.Stop.{Refuses, Gives}
+use Rattle.replies.specs.declared.output.Output.{Output}
+use Rattle.replies.specs.declared.stop.Stop.{Stop}
+use Rattle.replies.specs.declared.stop.Stop.TheVariants.{Refused, WriteFault, OutOfMemory}
+use Rattle.replies.specs.Answer.{Reply, BytesRefusal, invalid, malformed}
+use Rattle.replies.specs.Stop.{Refuses, Gives}
 
 -- a line that is a text, and a code
 pub same_refusal : (written text : List ℕ) (status code : ℕ) → written ≡ text → status ≡ code
@@ -72,3 +75,7 @@ gives_same (Err stop) e h = refuses_same stop e h
 pub spelled_same : (bytes : List ℕ) (candidate : Module) (judged : Result Module Stop) → IfOk judged (λ m. m ≡ candidate) → Spells bytes candidate → IfOk judged (λ m. Spells bytes m)
 spelled_same bytes candidate (Ok m) is spells = subst (Spells bytes) (sym is) spells
 spelled_same bytes candidate (Err stop) is spells = tt
+
+-- the fault of bytes that spell no module is why they are refused
+pub malformed_due : (bytes : List ℕ) (fault : DecodeFault) → (fault ≢ decode.OutOfMemory → HasFault bytes fault) → (r : Reply) → (fault ≢ decode.OutOfMemory) × (r ≡ malformed fault) → BytesRefusal bytes r
+malformed_due bytes fault has r due = inr (fault, has due.0, due.1)

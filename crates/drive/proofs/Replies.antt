@@ -5,16 +5,16 @@ use Rattle.w_outside.specs.Outside.{Grew, GrewByFront, IsFront, Rose}
 use Rattle.w_outside.proofs.Growth.{grew_more, grew_nothing}
 use Rattle.w_outside.specs.declared.traits.Fault.{Fault}
 use Rattle.w_outside.specs.declared.traits.Fault.TheVariants.{Failed, OutOfMemory}
-use Rattle.drive.specs.declared.status.Status.{Status}
-use Rattle.drive.specs.Answer.{Reply, behind}
-use Rattle.drive.specs.declared.output.Output.{Output}
-use Rattle.drive.specs.declared.stop.Refusal.{Refusal}
-use Rattle.drive.specs.declared.stop.Stop.{Stop}
-use Rattle.drive.specs.declared.stop.Stop.TheVariants.{Refused}
-use Rattle.drive.specs.declared.stop.Stop.TheVariants as stop
-use Rattle.drive.specs.Pieces.{joined}
-use Rattle.drive.specs.Status.{code_of}
-use Rattle.drive.specs.Stop.{Ends, EndsByItself, Gives, Refuses, reply_with, reply_of_refusal}
+use Rattle.replies.specs.declared.status.Status.{Status}
+use Rattle.replies.specs.Answer.{Reply, behind}
+use Rattle.replies.specs.declared.output.Output.{Output}
+use Rattle.replies.specs.declared.stop.Refusal.{Refusal}
+use Rattle.replies.specs.declared.stop.Stop.{Stop}
+use Rattle.replies.specs.declared.stop.Stop.TheVariants.{Refused}
+use Rattle.replies.specs.declared.stop.Stop.TheVariants as stop
+use Rattle.replies.specs.Pieces.{joined}
+use Rattle.replies.specs.Status.{code_of}
+use Rattle.replies.specs.Stop.{Ends, EndsByItself, Gives, Refuses, reply_with, reply_of_refusal}
 use Rattle.drive.specs.Delivery.{WroteFront, WrotePart, Begins, BeginsAtMost, Replies}
 use Rattle.drive.specs.Leaving.{IsBegun, Leaves, Delivers}
 

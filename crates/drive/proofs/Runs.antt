@@ -17,14 +17,14 @@ use Rattle.w_machine.specs.Beginning.{Begins}
 use Rattle.w_machine.specs.Position.{Position, StopsWith, is_fault, IsNoFault, HasTaken, HasTakenBy, after_run, PrintedBetween, PrintedAtMost, PrintedIf, PrintedBy, RunPrints, RunsOn, Runs}
 use Rattle.w_machine.proofs.RunsOfMany.{settled_at, printed_part}
 use Rattle.w_machine.specs.Results.{HasResults}
-use Rattle.drive.specs.declared.output.Output.{Output}
-use Rattle.drive.specs.declared.stop.Stop.{Stop}
-use Rattle.drive.specs.declared.stop.Stop.TheVariants.{Refused, WriteFault, OutOfMemory}
-use Rattle.drive.specs.Answer.{Reply, TrapReply, counts_line, stats_line, result_line, behind, end_reply, run_reply, start_reply, run_gives, RunGives}
+use Rattle.replies.specs.declared.output.Output.{Output}
+use Rattle.replies.specs.declared.stop.Stop.{Stop}
+use Rattle.replies.specs.declared.stop.Stop.TheVariants.{Refused, WriteFault, OutOfMemory}
+use Rattle.replies.specs.Answer.{Reply, TrapReply, counts_line, stats_line, result_line, behind, end_reply, run_reply, start_reply, run_gives, RunGives}
 use Rattle.drive.specs.Leaving.{IsBegun, Leaves}
-use Rattle.drive.specs.Pieces.{joined}
+use Rattle.replies.specs.Pieces.{joined}
 use Rattle.drive.specs.Running.{IsAfter, IsAfterBy}
-use Rattle.drive.specs.Stop.{Refuses, reply_with, reply_of_refusal}
+use Rattle.replies.specs.Stop.{Refuses, reply_with, reply_of_refusal}
 use Rattle.drive.proofs.Replies.{front_first}
 
 -- ## Runs from the start

@@ -7,7 +7,7 @@ use Rattle.s_check.specs.Size.{Size, size_limit}
 use Rattle.s_code.specs.Lowered.{lowered}
 use Rattle.s_valid.proofs.LoweredValid.{lowered_valid}
 use Rattle.s_valid.proofs.ModuleLimits.{within}
-use Rattle.drive.specs.Answer.{Reply, Compiled, HasModuleFault, ModuleRefusal, RunGives, faulted}
+use Rattle.replies.specs.Answer.{Reply, Compiled, HasModuleFault, ModuleRefusal, RunGives, faulted}
 use Rattle.drive.proofs.CanonicalFiles.{no_fault}
 
 -- it is valid and within its limits, so nothing refuses it

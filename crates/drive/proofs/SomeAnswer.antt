@@ -26,7 +26,7 @@ use Rattle.words.specs.declared.request.Action.TheVariants.{Check, Run as RunFor
 use Rattle.s_code.specs.Lowered.{lowered}
 use Rattle.s_generate.specs.Generated.{generated as generated_script}
 use Rattle.words.specs.Line.{on_file as line_on_file, generated, bad}
-use Rattle.drive.specs.Answer.{Reply, HasModuleFault, OnFile, OnBytes, BytesGive, ScriptGives, ActionGives, TrapReply, is_script, gives, script_gives, RunGives, Compiled, trapped, faulted, built, generated_steps, input_limit, ok_script}
+use Rattle.replies.specs.Answer.{Reply, HasModuleFault, OnFile, OnBytes, BytesGive, ScriptGives, ActionGives, TrapReply, is_script, gives, script_gives, RunGives, Compiled, trapped, faulted, built, generated_steps, input_limit, ok_script}
 use Rattle.drive.specs.Laws.{SomeAnswer}
 use Rattle.drive.proofs.Programs.{some_program}
 

@@ -2,12 +2,12 @@
 use Rattle.std.proofs.Common.{◌≡◌, ◌⊎◌, ℕ, refl, Bool, true, false, List, [], Result, Ok, Err, inl, inr, sym, ap, subst, ◌∙◌}
 use Rattle.std.specs.Prelude.{IsErrAnd}
 use Rattle.w_reduce.specs.Run.{RunState}
-use Rattle.drive.specs.declared.output.Output.{Output}
-use Rattle.drive.specs.declared.stop.Stop.{Stop}
-use Rattle.drive.specs.declared.stop.Stop.TheVariants.{Refused, WriteFault, OutOfMemory}
-use Rattle.drive.specs.Answer.{Reply, TrapReply, behind, stats_line, with_err, run_reply}
+use Rattle.replies.specs.declared.output.Output.{Output}
+use Rattle.replies.specs.declared.stop.Stop.{Stop}
+use Rattle.replies.specs.declared.stop.Stop.TheVariants.{Refused, WriteFault, OutOfMemory}
+use Rattle.replies.specs.Answer.{Reply, TrapReply, behind, stats_line, with_err, run_reply}
 use Rattle.drive.specs.Leaving.{IsLeft, IsBegun, Leaves}
-use Rattle.drive.specs.Stop.{Ends, IsReply, WritesMore, reply_with, reply_of_refusal}
+use Rattle.replies.specs.Stop.{Ends, IsReply, WritesMore, reply_with, reply_of_refusal}
 use Rattle.drive.proofs.Replies.{front_first}
 
 -- ## Where memory ran out

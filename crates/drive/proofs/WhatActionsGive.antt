@@ -2,7 +2,7 @@
 use Rattle.std.proofs.Common.{◌≡◌, ℕ, Bool, List, true, false, not, ◌&&◌, inl, inr, ap, ◌∙◌}
 use Rattle.words.specs.Request.{takes_scripts}
 use Rattle.words.specs.declared.request.Action.{Action}
-use Rattle.drive.specs.Answer.{Reply, BytesGive, ScriptGives, ActionGives, gives, script_gives, is_module, is_script}
+use Rattle.replies.specs.Answer.{Reply, BytesGive, ScriptGives, ActionGives, gives, script_gives, is_module, is_script}
 
 -- what begins as no module is a script to an action that takes scripts
 pub is_then_script : (action : Action) (bytes : List ℕ) → takes_scripts action ≡ true → is_module bytes ≡ false → is_script action bytes ≡ true

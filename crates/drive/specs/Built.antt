@@ -3,7 +3,7 @@ use Rattle.std.specs.Prelude.{◌≡◌, ◌≤◌, ◌↔◌, ℕ, List, length
 use Rattle.w_outside.specs.Outside.{Known, holds}
 use Rattle.words.specs.declared.request.Action.TheVariants.{Check, Build}
 use Rattle.words.specs.Line.{on_file}
-use Rattle.drive.specs.Answer.{Reply, Answer, is_module, ok_module, input_limit}
+use Rattle.replies.specs.Answer.{Reply, Answer, is_module, ok_module, input_limit}
 
 -- the file of this name holds what `build` wrote of a file, by an answer of status 0
 pub record HoldsBuilt (files : List ℕ → Known) (name : List ℕ) (written : Reply) : Type 0 where

@@ -3,11 +3,11 @@ use Rattle.std.specs.Prelude.{◌≡◌, ◌⊎◌, ℕ, List, [], ⊤, Result, 
 use Rattle.w_outside.specs.Outside.{IsFront}
 use Rattle.w_outside.specs.declared.traits.Fault.{Fault}
 use Rattle.w_outside.specs.declared.traits.Fault.TheVariants.{Failed, OutOfMemory}
-use Rattle.drive.specs.Status.{code_of}
-use Rattle.drive.specs.declared.status.Status.{Status}
-use Rattle.drive.specs.declared.status.Status.TheVariants as status
-use Rattle.drive.specs.Answer.{Reply, read_fault}
-use Rattle.drive.specs.Stop.{Ends}
+use Rattle.replies.specs.Status.{code_of}
+use Rattle.replies.specs.declared.status.Status.{Status}
+use Rattle.replies.specs.declared.status.Status.TheVariants as status
+use Rattle.replies.specs.Answer.{Reply, read_fault}
+use Rattle.replies.specs.Stop.{Ends}
 
 -- what is due, or where reading failed the line `read fault`
 abbrev pub MayFail : Type 0 → (Reply → Type 0) → Reply → Type 0

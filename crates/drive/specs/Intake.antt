@@ -7,7 +7,7 @@ use Rattle.w_decode.specs.Pieces.{StandsFor}
 use Rattle.w_valid.specs.Gradual.{AnswersFor}
 use Rattle.w_outside.specs.Outside.{Known, Opens}
 use Rattle.words.specs.declared.request.Action.{Action}
-use Rattle.drive.specs.Answer.{is_script}
+use Rattle.replies.specs.Answer.{is_script}
 use Rattle.drive.specs.declared.intake.Input.{Input}
 use Rattle.drive.specs.declared.intake.Input.TheVariants as input
 use Rattle.drive.specs.declared.intake.Intake.{Intake}

@@ -2,7 +2,7 @@
 use Rattle.std.specs.Prelude.{◌≢◌, ◌≡◌, ℕ, List}
 use Rattle.w_outside.specs.Outside.{Known, untold}
 use Rattle.words.specs.Line.{Line}
-use Rattle.drive.specs.Answer.{Reply, Answer}
+use Rattle.replies.specs.Answer.{Reply, Answer}
 
 -- where something is told of each name, a line has one answer
 abbrev pub OneAnswer : Type 0

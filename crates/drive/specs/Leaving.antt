@@ -2,13 +2,13 @@
 use Rattle.std.specs.Prelude.{◌≡◌, ◌⊎◌, ℕ, List, [], Result, Ok, Err}
 use Rattle.w_outside.specs.declared.traits.Fault.{Fault}
 use Rattle.w_outside.specs.declared.traits.Fault.TheVariants as fault
-use Rattle.drive.specs.declared.output.Output.{Output}
-use Rattle.drive.specs.declared.status.Status.{Status}
-use Rattle.drive.specs.declared.stop.Stop.{Stop}
-use Rattle.drive.specs.declared.stop.Stop.TheVariants.{Refused, WriteFault, OutOfMemory}
-use Rattle.drive.specs.Answer.{Reply, behind}
+use Rattle.replies.specs.declared.output.Output.{Output}
+use Rattle.replies.specs.declared.status.Status.{Status}
+use Rattle.replies.specs.declared.stop.Stop.{Stop}
+use Rattle.replies.specs.declared.stop.Stop.TheVariants.{Refused, WriteFault, OutOfMemory}
+use Rattle.replies.specs.Answer.{Reply, behind}
 use Rattle.drive.specs.Delivery.{WroteFront, Replies}
-use Rattle.drive.specs.Stop.{Ends, reply_with, reply_of_refusal}
+use Rattle.replies.specs.Stop.{Ends, reply_with, reply_of_refusal}
 
 -- Below, OutGrew and ErrGrew say by what bytes out and err grew, and rose that a count of faults did.
 

@@ -1,14 +1,9 @@
-pub mod Status
 pub mod InputFault
-pub mod Pieces
-pub mod Answer
 pub mod Built
 pub mod Laws
 pub mod Delivery
-pub mod Stop
 pub mod Leaving
 pub mod Reading
 pub mod Running
-pub mod Origin
 pub mod Meaning
 pub mod Intake

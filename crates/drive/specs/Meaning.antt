@@ -13,10 +13,10 @@ use Rattle.s_judge.specs.Judgements.{IsGood}
 use Rattle.s_meaning.specs.Numbers.{Fault, DivZero, Overflow, Failed, Reused, Unhandled}
 use Rattle.s_meaning.specs.Eval.{Ended, RunLimit, Frames, Handles, Conts, Eval, Follows}
 use Rattle.s_code.specs.Lowered.{lowered}
-use Rattle.drive.specs.Answer.{Reply, line, refusal, limit, running, behind, script_gives, is_module, ActionGives, Answer}
-use Rattle.drive.specs.declared.status.Status.{Status}
+use Rattle.replies.specs.Answer.{Reply, line, refusal, limit, running, behind, script_gives, is_module, ActionGives, Answer}
+use Rattle.replies.specs.declared.status.Status.{Status}
 use Rattle.drive.specs.Delivery.{MayFail, Stopped}
-use Rattle.drive.specs.Stop.{Ends}
+use Rattle.replies.specs.Stop.{Ends}
 
 abbrev pub fault_name : Fault → List ℕ
 fault_name DivZero = codes "divzero"

@@ -4,7 +4,7 @@ use Rattle.std.specs.Io.KnownBytes.{prepend_known}
 use Rattle.w_outside.specs.Outside.{Known, untold, missing, holds}
 use Rattle.drive.specs.declared.input.InputFault.{InputFault}
 use Rattle.drive.specs.declared.input.InputFault.TheVariants.{TooLong}
-use Rattle.drive.specs.Answer.{Reply, read_fault, limit_input, input_limit}
+use Rattle.replies.specs.Answer.{Reply, read_fault, limit_input, input_limit}
 
 -- the name may give these bytes, by what is told of it
 abbrev pub MayHold : Known → List ℕ → Type 0

@@ -2,12 +2,10 @@
 ghost use Rattle.std.specs.Prelude.{◌⊎◌, ◌≤◌, OnOk, OnErr};
 ghost use Rattle.w_outside.specs.Outside.{Grew, GrewByFront, HasCause, Rose};
 ghost use Rattle.drive.specs.Leaving.{Delivers};
-ghost use Rattle.drive.specs.Pieces.{joined};
-ghost use Rattle.drive.specs.Stop.{EndsByItself};
+ghost use Rattle.replies.specs.Pieces.{joined};
+ghost use Rattle.replies.specs.Stop.{EndsByItself};
 
-use crate::output::Output;
-use crate::status::Status;
-use crate::stop::Stop;
+use replies::{Output, Status, Stop};
 use w_outside::{Fault, Sink, put};
 
 // Writes pieces in their order.

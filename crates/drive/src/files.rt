@@ -1,15 +1,14 @@
 //! Files that are read or refused.
 ghost use Rattle.std.specs.Prelude.{◌≡◌, ◌≤◌, ℕ, List, IfOk, IfErr, length};
 ghost use Rattle.w_outside.specs.Outside.{Rose};
-ghost use Rattle.drive.specs.Answer.{input_limit};
+ghost use Rattle.replies.specs.Answer.{input_limit};
 ghost use Rattle.drive.specs.Intake.{IsInputOf};
 ghost use Rattle.drive.specs.Reading.{FileRefusal, MayHold};
-ghost use Rattle.drive.specs.Stop.{Refuses};
+ghost use Rattle.replies.specs.Stop.{Refuses};
 
 use crate::input::{InputFault, read_input};
 use crate::intake::Input;
-use crate::status::Status;
-use crate::stop::{Stop, refuse};
+use replies::{Status, Stop, refuse};
 use std::alloc::Global;
 use w_outside::Inputs;
 use words::Action;

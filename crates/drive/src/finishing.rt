@@ -2,14 +2,12 @@
 ghost use Rattle.std.specs.Prelude.{◌≡◌, ◌≤◌};
 ghost use Rattle.w_outside.specs.Outside.{Grew, Rose};
 ghost use Rattle.words.specs.Request.{IsWithinSteps};
-ghost use Rattle.drive.specs.Answer.{gives, ok_module, built};
+ghost use Rattle.replies.specs.Answer.{gives, ok_module, built};
 ghost use Rattle.drive.specs.Leaving.{Leaves};
-ghost use Rattle.drive.specs.Stop.{Gives};
+ghost use Rattle.replies.specs.Stop.{Gives};
 
-use crate::origin::Origin;
-use crate::output::Output;
 use crate::running::run;
-use crate::stop::Stop;
+use replies::{Origin, Output, Stop};
 use std::alloc::Global;
 use std::mem::forget;
 use w_encode::encode;

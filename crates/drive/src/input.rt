@@ -4,7 +4,7 @@ ghost use Rattle.std.specs.Io.KnownBytes.{IsAtEnd};
 ghost use Rattle.w_outside.specs.Outside.{HasCause, Known, Rose, missing};
 ghost use Rattle.drive.specs.InputFault.{input_fault_of};
 ghost use Rattle.drive.specs.declared.input.InputFault.TheVariants.{OutOfMemory};
-ghost use Rattle.drive.specs.Answer.{input_limit};
+ghost use Rattle.replies.specs.Answer.{input_limit};
 ghost use Rattle.drive.specs.Intake.{IsInputOf, IsReadTo, TakesIn, TakesMore};
 ghost use Rattle.drive.specs.Reading.{MayHold, IsTooLong, ReadsPart, TakesPart};
 
@@ -55,6 +55,7 @@ fn read_more<F: Inputs>(
     files: &mut F,
     action: Action,
     intake: &mut Intake,
+    buffer: &mut [u8; 4096],
     most: usize,
 ) -> Result<usize, Fault>
     requires some { 0 < most }
@@ -66,7 +67,6 @@ fn read_more<F: Inputs>(
     ensures names { (n : List ℕ) → F.file files.new n ≡ F.file files.old n }
     ensures cause { HasCause (F.faults files.old) (F.faults files.new) result }
 {
-    let mut buffer = [0u8; 4096];
     let part = &mut buffer[..most];
     let count = files.read(part)?;
     intake.take(alloc, action, &part[..count])?;
@@ -90,10 +90,11 @@ fn read_all<F: Inputs>(
     ensures later { F.faults files.old ≤ F.faults files.new }
     ensures names { (n : List ℕ) → F.file files.new n ≡ F.file files.old n }
 {
+    let mut buffer = [0; 4096];
     let mut length = 0;
     while length <= INPUT_LIMIT {
         let most = (INPUT_LIMIT + 1 - length).min(4096);
-        let count = read_more(alloc, files, action, intake, most)?;
+        let count = read_more(alloc, files, action, intake, &mut buffer, most)?;
         if count == 0 {
             return Ok(());
         }

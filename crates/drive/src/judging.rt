@@ -2,14 +2,12 @@
 ghost use Rattle.std.specs.Prelude.{◌≡◌, ◌≢◌, IfOk, IfErr, IsTrue, IsFalse};
 ghost use Rattle.w_rules.specs.Limits.{Within};
 ghost use Rattle.w_rules.specs.Valid.{Valid};
-ghost use Rattle.drive.specs.Answer.{ModuleRefusal, invalid};
+ghost use Rattle.replies.specs.Answer.{ModuleRefusal, invalid};
 ghost use Rattle.w_valid.specs.Gradual.{AnswersFor};
-ghost use Rattle.drive.specs.Status.{code_of};
-ghost use Rattle.drive.specs.Stop.{Ends, Refuses};
+ghost use Rattle.replies.specs.Status.{code_of};
+ghost use Rattle.replies.specs.Stop.{Ends, Refuses};
 
-use crate::lines::invalid_line;
-use crate::status::Status;
-use crate::stop::{Stop, refuse_by};
+use replies::{Status, Stop, invalid_line, refuse_by};
 use std::alloc::Global;
 use w_rules::Checked;
 use w_syntax::Module;

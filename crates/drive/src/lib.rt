@@ -1,4 +1,4 @@
-//! The program, over any files and sinks: words, files, modules and scripts, their judgement, runs and answers.
+//! The program, over any files and sinks: words, files, modules and scripts, their judgement and their runs.
 #![tactic(auto)]
 
 mod delivery;
@@ -8,15 +8,10 @@ mod input;
 mod intake;
 mod judging;
 mod laws;
-mod lines;
 mod module_intake;
-mod origin;
-mod output;
 mod program;
 mod running;
 mod scripts;
-mod status;
-mod stop;
 
 pub use laws::{
     answers_to_scripts_mean, build_is_idempotent, built_files_are_accepted, built_runs_are_alike,
@@ -24,4 +19,4 @@ pub use laws::{
     stopped_runs_of_scripts_mean,
 };
 pub use program::command;
-pub use status::Status;
+pub use replies::Status;

@@ -1,17 +1,15 @@
 //! A module that is judged as its bytes come.
-ghost use Rattle.std.specs.Prelude.{◌≡◌, ◌++◌, ℕ, List, [], IfOk, IfErr, OnOk};
+ghost use Rattle.std.specs.Prelude.{◌≡◌, ◌≢◌, ◌++◌, ℕ, List, [], IfOk, IfErr, OnOk};
 ghost use Rattle.w_syntax.specs.Spells.{Spells};
 ghost use Rattle.w_rules.specs.Limits.{Within};
 ghost use Rattle.w_rules.specs.Valid.{Valid};
 ghost use Rattle.w_decode.specs.Pieces.{IsSound};
-ghost use Rattle.drive.specs.Answer.{BytesRefusal};
+ghost use Rattle.replies.specs.Answer.{BytesRefusal, malformed};
 ghost use Rattle.drive.specs.Intake.{IsModuleOf};
-ghost use Rattle.drive.specs.Stop.{Refuses};
+ghost use Rattle.replies.specs.Stop.{Refuses};
 
 use crate::judging::accept_rest;
-use crate::lines::malformed_line;
-use crate::status::Status;
-use crate::stop::{Stop, refuse_by};
+use replies::{Status, Stop, malformed_line, refuse_by};
 use std::alloc::{AllocError, Global};
 use w_decode::{DecodeFault, Decoder};
 use w_rules::Checked;
@@ -22,6 +20,19 @@ use w_valid::Gradual;
 pub(crate) struct ModuleIntake {
     pub(crate) decoder: Decoder,
     pub(crate) gradual: Gradual,
+}
+
+// Why bytes are refused that have this fault.
+fn malformed_refusal(alloc: Global, fault: DecodeFault) -> Stop
+    ensures { Refuses (λ reply. (fault ≢ DecodeFault.OutOfMemory) × (reply ≡ malformed fault)) result }
+{
+    match fault {
+        DecodeFault::OutOfMemory => Stop::OutOfMemory,
+        fault => match malformed_line(alloc, fault) {
+            Ok(line) => refuse_by(alloc, line, Status::Malformed),
+            Err(_) => Stop::OutOfMemory,
+        },
+    }
 }
 
 impl ModuleIntake {
@@ -67,10 +78,9 @@ impl ModuleIntake {
         let ModuleIntake { decoder, gradual } = self;
         match decoder.finish() {
             Ok(candidate) => accept_rest(alloc, gradual, candidate),
-            Err(DecodeFault::OutOfMemory) => Err(Stop::OutOfMemory),
             Err(fault) => {
-                let line = malformed_line(alloc, fault)?;
-                Err(refuse_by(alloc, line, Status::Malformed))
+                drop(gradual);
+                Err(malformed_refusal(alloc, fault))
             }
         }
     }

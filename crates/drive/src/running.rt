@@ -9,18 +9,17 @@ ghost use Rattle.w_reduce.specs.Values.{val};
 ghost use Rattle.w_inst.specs.Instances.{BeginsAs};
 ghost use Rattle.w_machine.specs.Beginning.{Begins, BeginsWith};
 ghost use Rattle.w_machine.specs.Position.{most_reductions};
-ghost use Rattle.drive.specs.Answer.{result_line, stats_line as the_stats_line, run_reply, run_gives, RunGives};
+ghost use Rattle.replies.specs.Answer.{result_line, stats_line as the_stats_line, run_reply, run_gives, RunGives};
 ghost use Rattle.drive.specs.Leaving.{Leaves};
-ghost use Rattle.drive.specs.Pieces.{joined};
+ghost use Rattle.replies.specs.Pieces.{joined};
 ghost use Rattle.drive.specs.Running.{IsAfter, IsFirst};
-ghost use Rattle.drive.specs.Origin.{trap_reply_of};
-ghost use Rattle.drive.specs.Stop.{IsReply, Refuses, WritesMore};
+ghost use Rattle.replies.specs.Origin.{trap_reply_of};
+ghost use Rattle.replies.specs.Stop.{IsReply, Refuses, WritesMore};
 
-use crate::lines::{printer_line, run_limit_line, start_limit_line, stats_line, value_line};
-use crate::origin::Origin;
-use crate::output::Output;
-use crate::status::Status;
-use crate::stop::{Stop, refuse, refuse_by, with_err};
+use replies::{
+    Origin, Output, Status, Stop, printer_line, refuse, refuse_by, run_limit_line,
+    start_limit_line, stats_line, value_line, with_err,
+};
 use std::alloc::{AllocError, Global};
 use w_inst::{InstFault, Instance, instantiate};
 use w_machine::{Machine, Outcome};

@@ -1,5 +1,5 @@
 -- Items of one list behind another, and the item at a place with those behind it.
-use Rattle.std.proofs.Common.{◌≡◌, ℕ, zero, suc, ◌+◌, ◌-◌, ◌<◌, List, [], ◌∷◌, ◌++◌, length, drop, get_or, slice_get, refl, sym, ap, ◌∙◌, arith, add-one, drop-cons}
+use Rattle.std.proofs.Common.{◌≡◌, ◌⊎◌, inl, inr, ℕ, zero, suc, ◌+◌, ◌-◌, ◌<◌, List, [], ◌∷◌, ◌++◌, length, drop, get_or, slice_get, Some, refl, sym, ap, ◌∙◌, arith, add-one, drop-cons}
 
 module _ {A : Type 0} where
   -- an item of the first list
@@ -12,6 +12,13 @@ module _ {A : Type 0} where
   pub get-behind : (xs ys : List A) (i : ℕ) → slice_get (xs ++ ys) (length xs + i) ≡ slice_get ys i
   get-behind [] ys i = ap (slice_get ys) (omega arith)
   get-behind (x ∷ xs) ys i = let e : suc (length xs) + i ≡ suc (length xs + i) = omega arith in rw e (get-behind xs ys i)
+
+  -- an item of a list with one more: of the list, or the one more
+  pub front_or_last : (xs : List A) (x : A) (i : ℕ) (y : A) → slice_get (xs ++ x ∷ []) i ≡ Some y → (slice_get xs i ≡ Some y) ⊎ ((i ≡ length xs) × (x ≡ y))
+  front_or_last [] x zero y e = inr (refl, (cc))
+  front_or_last [] x (suc i) y e = absurd cc
+  front_or_last (z ∷ xs) x zero y e = inl e
+  front_or_last (z ∷ xs) x (suc i) y e = elim (front_or_last xs x i y e) [ inl h ↦ inl h | inr p ↦ inr (ap suc p.0, p.1) ]
 
 cell_at : {A : Type 0} (xs : List A) (i : ℕ) (d : A) → i < length xs → drop i xs ≡ get_or xs i d ∷ drop (i + 1) xs
 cell_at xs i d h = rw (add-one, drop-cons xs i d) refl

@@ -11,6 +11,7 @@ use Rattle.w_syntax.specs.Fields.{code}
 use Rattle.w_syntax.specs.Sections.{frame, IsSection, section_of, section_decided, section, if_some, rank, id_of, next_rank, rank_after}
 use Rattle.w_syntax.specs.Module.{header, empty_module, with_contents, with_all_contents}
 use Rattle.w_syntax.specs.Spells.{BeginsWith, Spells}
+use Rattle.w_syntax.proofs.SameLists.{same_self, same_then, same_but_codes, same_after_codes, same_but_datas}
 use Rattle.w_syntax.specs.declared.module.Func.{Func}
 use Rattle.w_syntax.specs.declared.module.Module.{Module}
 use Rattle.w_syntax.specs.declared.module.Section.{Section}
@@ -38,16 +39,7 @@ codes_go_on y e r s (c ∷ cs) (f ∷ fs) h k w le =
 
 continues_all : (m : Module) → Continues m m
 continues_all m = record {
-  types = refl;
-  imports = refl;
-  functions = refl;
-  tables = refl;
-  memories = refl;
-  tags = refl;
-  globals = refl;
-  exports = refl;
-  start = refl;
-  elements = refl;
+  before = same_self m;
   more = [];
   codes = sym (append-nil m.codes);
 }
@@ -75,16 +67,7 @@ ranks (part.Codes cs) k j e le m = let r = ranked_below k j 12 (nat_lt k 12) ref
 ranks (part.Datas ds) k j e le m =
     let r = ranked_below k j 13 (nat_lt k 13) refl e in (
       record {
-        types = refl;
-        imports = refl;
-        functions = refl;
-        tables = refl;
-        memories = refl;
-        tags = refl;
-        globals = refl;
-        exports = refl;
-        start = refl;
-        elements = refl;
+        before = same_but_datas m ds;
         more = [];
         codes = sym (append-nil m.codes);
       },
@@ -93,16 +76,7 @@ ranks (part.Datas ds) k j e le m =
 
 continues_on : (m n o : Module) → Continues m n → Continues n o → Continues m o
 continues_on m n o h k = record {
-  types = k.types ∙ h.types;
-  imports = k.imports ∙ h.imports;
-  functions = k.functions ∙ h.functions;
-  tables = k.tables ∙ h.tables;
-  memories = k.memories ∙ h.memories;
-  tags = k.tags ∙ h.tags;
-  globals = k.globals ∙ h.globals;
-  exports = k.exports ∙ h.exports;
-  start = k.start ∙ h.start;
-  elements = k.elements ∙ h.elements;
+  before = same_then h.before k.before;
   more = h.more ++ k.more;
   codes = k.codes ∙ ap (λ (l : List Func). l ++ k.more) h.codes ∙ append_assoc m.codes h.more k.more;
 }
@@ -222,16 +196,7 @@ code_rank cs rs j k e = step (nat_lt j 12) e
 
 with_more : (fs gs cs : List Func) (m : Module) → cs ≡ fs ++ gs → Continues (with_contents (part.Codes fs) m) (with_contents (part.Codes cs) m)
 with_more fs gs cs m e = record {
-  types = refl;
-  imports = refl;
-  functions = refl;
-  tables = refl;
-  memories = refl;
-  tags = refl;
-  globals = refl;
-  exports = refl;
-  start = refl;
-  elements = refl;
+  before = same_then (same_after_codes m fs) (same_but_codes m cs);
   more = gs;
   codes = e;
 }

@@ -10,3 +10,4 @@ mod FunctionsName
 mod LocalRows
 pub mod PackedLists
 pub mod PlainInstructions
+pub mod SameLists

@@ -18,3 +18,4 @@ pub mod Sections
 pub mod Module
 pub mod Spells
 pub mod Functions
+pub mod SameBefore

@@ -78,12 +78,12 @@ fn prepend_run(run: LocalRun, backwards: &mut Vec<LocalRun>) -> Result<(), Alloc
     Ok(())
 }
 
-// The runs with neighbours of one type joined, and without runs of none.
+// The runs with neighbours of one type joined, and without runs of none, in no more room than all the runs take.
 fn joined_runs(alloc: Global, mut runs: Vec<LocalRun>) -> Result<Vec<LocalRun>, AllocError>
     requires { total runs.items < 2 ^ 32 }
     ensures { IfOk result (λ v. v.items ≡ joined runs.items) }
 {
-    let mut backwards = Vec::new(alloc);
+    let mut backwards = Vec::with_capacity(alloc, runs.len())?;
     while let Some(run) = runs.pop() {
         prepend_run(run, &mut backwards)?;
     }

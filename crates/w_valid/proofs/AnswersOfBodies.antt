@@ -1,5 +1,5 @@
 -- The answer for a body is that of every module with these lists in front of the code section and this code.
-use Rattle.std.proofs.Common.{◌≡◌, ◌⊎◌, inl, inr, ℕ, zero, suc, ◌+◌, ◌<◌, ◌≤◌, ◌++◌, [], ◌∷◌, length, List, Option, Some, None, refl, sym, ap, subst, ◌∙◌, arith}
+use Rattle.std.proofs.Common.{◌≡◌, ℕ, ◌+◌, ◌<◌, ◌≤◌, ◌++◌, length, List, Option, Some, None, refl, sym, ap, ◌∙◌, arith}
 use Rattle.std.specs.Prelude.{slice_get}
 use Rattle.w_types.specs.Groups.{types_of}
 use Rattle.w_types.specs.declared.types.FuncType.{FuncType}
@@ -12,13 +12,11 @@ use Rattle.w_rules.specs.Context.{Context}
 use Rattle.w_rules.specs.DataNeeds.{needs, with_datas}
 use Rattle.w_rules.specs.Limits.{Within, locals_of, params_in, locals_in, most_locals}
 use Rattle.w_rules.specs.Spaces.{context_of, in_body}
-use Rattle.w_rules.specs.Valid.{FunctionValid}
 use Rattle.w_rules.proofs.DataNeeds.{typed_has, typed_alike, peak_same}
-use Rattle.w_valid.specs.Gradual.{IsBodyAnswer}
-use Rattle.w_valid.specs.Measured.{CodeValid, HasMeasure, IsCodeMeasure, IsFunctionMeasure}
-use Rattle.w_valid.specs.SameBefore.{SameBefore}
-use Rattle.w_valid.specs.declared.answer.BodyAnswer.{BodyAnswer}
-use Rattle.w_valid.specs.declared.answer.BodyAnswer.TheVariants as answer
+use Rattle.w_valid.specs.JudgedBodies.{IsBodyAnswer}
+use Rattle.w_valid.specs.Measured.{CodeValid, HasMeasure, IsCodeMeasure}
+use Rattle.w_syntax.specs.SameBefore.{SameBefore}
+use Rattle.w_valid.specs.declared.judged_bodies.BodyMeasure.{BodyMeasure}
 use Rattle.w_valid.proofs.CodeOfFunctions.{code_valid, function_valid, measure_of}
 
 -- ## By the data segments that it names
@@ -43,9 +41,9 @@ measure_alike c n d x f q h k m = λ t e.
     (a.0 ∙ peak_same (in_body c (t.params ++ types_of_runs f.locals) t.results) n d f.body (set_first t.params f.locals) 0 h k, a.1)
 
 -- what was measured with just the segments that it names
-abbrev pub answer_by : ℕ → Option (ℕ × ℕ) → BodyAnswer
-answer_by n None = answer.Invalid
-answer_by n (Some q) = answer.Measured q.0 q.1 n
+abbrev pub answer_by : ℕ → Option (ℕ × ℕ) → Option BodyMeasure
+answer_by n None = None
+answer_by n (Some q) = Some (record { height = q.0; depth = q.1; needs = n })
 
 pub body_answer : (m : Module) (i x : ℕ) (f : Func) (n : ℕ) (r : Option (ℕ × ℕ)) → slice_get m.functions i ≡ Some x → code_of_function m i ≡ Some f → n ≡ needs f.body
     → IsCodeMeasure (with_datas n (context_of m)) x f r → IsBodyAnswer m i (answer_by n r)
@@ -81,29 +79,3 @@ locals_same {m} {n} s i code =
 -- a function that passes the limit on locals
 pub past_locals : {m n : Module} → SameBefore m n → (i : ℕ) → code_of_function m i ≡ code_of_function n i → i < length n.codes → (locals_of m i ≤ most_locals → ⊥) → Within n → ⊥
 past_locals s i code lt over w = over (let le = w.locals i lt in let e = locals_same s i code in omega (arith, le, e))
-
--- ## As they are used
-
--- with so many segments the answer says whether the function is valid
-pub answer_measured : (m : Module) (i h d n : ℕ) → n ≤ length m.datas → IsBodyAnswer m i (answer.Measured h d n) → IsFunctionMeasure m i (Some (h, d))
-answer_measured m i h d n le a = (a.0.1 le, a.1 le)
-
-pub answer_invalid : (m : Module) (i : ℕ) (a : BodyAnswer) → Within m → IsBodyAnswer m i a → ((h d n : ℕ) → a ≡ answer.Measured h d n → n ≤ length m.datas → ⊥) → FunctionValid m i → ⊥
-answer_invalid m i answer.Invalid w is nothing v = is v
-answer_invalid m i (answer.Measured h d n) w is nothing v = nothing h d n refl (is.0.0 v)
-answer_invalid m i answer.PastLimits w is nothing v = is w
-
-last_or_before : {A : Type 0} (xs : List A) (x : A) (j : ℕ) (b : A) → slice_get (xs ++ x ∷ []) j ≡ Some b → (slice_get xs j ≡ Some b) ⊎ ((j ≡ length xs) × (x ≡ b))
-last_or_before [] x zero b e = inr (refl, (cc))
-last_or_before [] x (suc j) b e = absurd cc
-last_or_before (y ∷ xs) x zero b e = inl e
-last_or_before (y ∷ xs) x (suc j) b e = elim (last_or_before xs x j b e) [ inl h ↦ inl h | inr p ↦ inr (ap suc p.0, p.1) ]
-
--- what holds of each item of a list holds of one more where it does of the last
-pub holds_of_more : {A : Type 0} (P : ℕ → A → Type 0) (xs ys : List A) (x : A) (i : ℕ) → i ≡ length xs → ys ≡ xs ++ x ∷ [] → ((j : ℕ) (b : A) → slice_get xs j ≡ Some b → P j b) → P i x
-    → (j : ℕ) (b : A) → slice_get ys j ≡ Some b → P j b
-holds_of_more {A} P xs ys x i at e before here j b is =
-    elim (last_or_before xs x j b (subst (λ (zs : List A). slice_get zs j ≡ Some b) e is)) [
-      | inl h ↦ before j b h
-      | inr p ↦ subst (P j) p.1 (subst (λ (k : ℕ). P k x) (at ∙ sym p.0) here)
-    ]

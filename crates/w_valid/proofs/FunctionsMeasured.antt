@@ -1,9 +1,10 @@
 -- What the bodies of functions need, one function after another.
-use Rattle.std.proofs.Common.{◌≡◌, ℕ, zero, ◌+◌, ◌<◌, ◌≤◌, List, [], ◌∷◌, ◌++◌, suc, length, ◌∙◌, Some, inl, inr, refl, ap, subst, arith}
+use Rattle.std.proofs.Common.{◌≡◌, ℕ, ◌+◌, ◌<◌, ◌≤◌, List, [], ◌∷◌, ◌++◌, length, ◌∙◌, Some, inl, inr, ap, subst, arith}
 use Rattle.std.specs.Prelude.{slice_get}
 use Rattle.std.proofs.lemmas.Bool.{cases_lt}
 use Rattle.std.proofs.lemmas.List.{length-append}
 use Rattle.std.proofs.lemmas.Option.{slice_get_within}
+use Rattle.lists.proofs.Lists.{get-front, get-behind}
 use Rattle.w_syntax.specs.declared.module.Module.{Module}
 use Rattle.w_syntax.specs.Functions.{type_of_function, code_of_function}
 use Rattle.w_rules.specs.Facts.{height_of}
@@ -11,36 +12,14 @@ use Rattle.w_rules.specs.Peak.{depth}
 use Rattle.w_rules.specs.Valid.{FunctionValid}
 use Rattle.w_valid.specs.Measured.{IsMeasureOf, AreMeasuresBelow, AreMeasures}
 
--- ## One item more at the end of a list
-
-get_before : (xs : List ℕ) (x i : ℕ) → i < length xs → slice_get (xs ++ x ∷ []) i ≡ slice_get xs i
-get_before [] x i lt = absurd (omega arith)
-get_before (y ∷ xs) x zero lt = refl
-get_before (y ∷ xs) x (suc i) lt = get_before xs x i (omega arith)
-
-get_last : (xs : List ℕ) (x i : ℕ) → i ≡ length xs → slice_get (xs ++ x ∷ []) i ≡ Some x
-get_last [] x zero e = refl
-get_last [] x (suc i) e = absurd (omega arith)
-get_last (y ∷ xs) x zero e = absurd (omega arith)
-get_last (y ∷ xs) x (suc i) e = get_last xs x i (omega arith)
-
--- the item at an index, where that of the new index is known
+-- the item at an index of a list with one more, where that of the new index is known
 get_more : (xs : List ℕ) (x n i v : ℕ) → length xs ≡ n → i < n + 1 → (i < n → slice_get xs i ≡ Some v) → (i ≡ n → x ≡ v) → slice_get (xs ++ x ∷ []) i ≡ Some v
 get_more xs x n i v len lt old new = elim (cases_lt i n) [
-  | inl h ↦ get_before xs x i (omega arith) ∙ old h
-  | inr h ↦ let e : i ≡ n = omega arith in get_last xs x i (omega arith) ∙ ap (λ (y : ℕ). Some y) (new e)
+  | inl h ↦ get-front xs (x ∷ []) i (omega (arith, h, len)) ∙ old h
+  | inr h ↦
+      let at : i ≡ length xs + 0 = omega (arith, len) in
+      ap (λ (j : ℕ). slice_get (xs ++ x ∷ []) j) at ∙ get-behind xs (x ∷ []) 0 ∙ ap (λ (y : ℕ). Some y) (new (omega arith))
 ]
-
--- ## Functions
-
--- there are none
-pub none_measured : (m : Module) (hs ds : List ℕ) → hs ≡ [] → ds ≡ [] → AreMeasuresBelow m 0 hs ds
-none_measured m hs ds e f = record {
-  as_many_heights = ap length e;
-  as_many_depths = ap length f;
-  heights = λ i t g a b lt. absurd (omega arith);
-  depths = λ i t g a b lt. absurd (omega arith);
-}
 
 -- a function more
 pub one_measured : (m : Module) (n h d : ℕ) (hs ds gs es : List ℕ) → gs ≡ hs ++ h ∷ [] → es ≡ ds ++ d ∷ [] → AreMeasuresBelow m n hs ds → IsMeasureOf m n (h, d) → AreMeasuresBelow m (n + 1) gs es

@@ -1,4 +1,5 @@
-pub mod FunctionsMeasured
-pub mod Judgements
 pub mod CodeOfFunctions
 pub mod AnswersOfBodies
+pub mod BodiesJudged
+pub mod FunctionsMeasured
+pub mod Judgements

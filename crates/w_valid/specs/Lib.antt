@@ -1,4 +1,4 @@
 pub mod Measured
-pub mod SameBefore
 pub mod Tables
+pub mod JudgedBodies
 pub mod Gradual

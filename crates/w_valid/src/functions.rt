@@ -1,19 +1,17 @@
 //! Validity of functions.
-ghost use Rattle.std.specs.Prelude.{◌≡◌, ◌↔◌, ℕ, All, [], IfOk, IfNone, IsTrue, Some, slice_get};
+ghost use Rattle.std.specs.Prelude.{◌↔◌, All, IfOk, IfNone, IsTrue};
 ghost use Rattle.w_types.specs.Groups.{types_of};
 ghost use Rattle.w_syntax.specs.declared.locals.LocalRun.{LocalRun as Run};
 ghost use Rattle.w_flow.specs.TypeRows.{AreTypeRows};
-ghost use Rattle.w_rules.specs.Limits.{Within};
 ghost use Rattle.w_rules.specs.Types.{IsValidType};
 ghost use Rattle.w_rules.specs.Valid.{FunctionItem};
 ghost use Rattle.w_rules.specs.View.{context_in, HasClasses};
 ghost use Rattle.w_items.specs.Firsts.{IsFirst};
-ghost use Rattle.w_valid.specs.Gradual.{IsBodyAnswer};
+ghost use Rattle.w_valid.specs.JudgedBodies.{AreJudged};
 ghost use Rattle.w_valid.specs.Measured.{IsCodeMeasure, IsFunctionMeasure, AreMeasures};
 ghost use Rattle.w_valid.specs.Tables.{AreTablesOf};
-ghost use Rattle.w_valid.specs.declared.answer.BodyAnswer.{BodyAnswer as TheAnswer};
 
-use crate::answer::BodyAnswer;
+use crate::judged_bodies::JudgedBodies;
 use crate::tables::{BodySetting, ModuleTables};
 use std::alloc::{AllocError, Global};
 use w_bodies::check_body;
@@ -22,21 +20,6 @@ use w_rules::has_type;
 use w_steps::Setting;
 use w_syntax::{Func, LocalRun, Module};
 use w_vplain::Room;
-
-/// What the bodies of functions need, by the index of the function: see `Facts`.
-#[derive(Drop)]
-pub(crate) struct BodyFacts {
-    pub heights: Vec<u64>,
-    pub depths: Vec<u32>,
-}
-
-/// The functions of a module, as they are judged: by these tables, and the first ones by the answers for their bodies.
-#[derive(Clone, Copy)]
-pub(crate) struct FunctionsOf<'a> {
-    pub candidate: &'a Module,
-    pub tables: &'a ModuleTables,
-    pub answers: &'a [BodyAnswer],
-}
 
 // Whether the type of each of these locals is valid, among so many types.
 fn are_locals_valid(count: usize, runs: &[LocalRun]) -> bool
@@ -95,49 +78,32 @@ fn measure_function(
     measure_code(alloc, &setting, room, *kind, code)
 }
 
-// The same, by the answer for its body where there is one.
-fn measure_at(
-    alloc: Global,
-    functions: FunctionsOf<'_>,
-    room: &mut Room,
-    index: usize,
-) -> Result<Option<(u64, u32)>, AllocError>
-    requires within { Within functions.candidate.now }
-    requires tables { AreTablesOf functions.candidate.now functions.tables.now }
-    requires answers { (i : ℕ) (a : TheAnswer) → slice_get functions.answers.now i ≡ Some a → IsBodyAnswer functions.candidate.now i a }
-    ensures { IfOk result (IsFunctionMeasure functions.entry.candidate.now index) }
-{
-    match functions.answers.get(index) {
-        Some(answer) => Ok(answer.measure(functions.candidate.datas.len())),
-        None => measure_function(alloc, functions.candidate, functions.tables, room, index),
-    }
-}
-
-/// The first function that is not valid, if there is one: each index of a type or of code is that of a function. Where there is
-/// none it adds what their bodies need.
+/// The first function that is not valid, if there is one: each index of a type or of code is that of a function. The first bodies were
+/// judged before. Where there is none, all are judged behind it.
 pub(crate) fn first_invalid_function(
     alloc: Global,
-    functions: FunctionsOf<'_>,
+    candidate: &Module,
+    tables: &ModuleTables,
     room: &mut Room,
-    measures: &mut BodyFacts,
+    bodies: &mut JudgedBodies,
 ) -> Result<Option<usize>, AllocError>
-    requires within { Within functions.candidate.now }
-    requires tables { AreTablesOf functions.candidate.now functions.tables.now }
-    requires answers { (i : ℕ) (a : TheAnswer) → slice_get functions.answers.now i ≡ Some a → IsBodyAnswer functions.candidate.now i a }
-    requires no_heights { measures.old.heights.items ≡ [] }
-    requires no_depths { measures.old.depths.items ≡ [] }
-    ensures first { IfOk result (λ first. IsFirst functions.entry.candidate.now FunctionItem first) }
+    requires tables { AreTablesOf candidate.now tables.now }
+    requires bodies { AreJudged candidate.now bodies.old }
+    ensures first { IfOk result (λ first. IsFirst candidate.now FunctionItem first) }
     ensures measured { IfOk result (λ first. IfNone first
-        (AreMeasures functions.entry.candidate.now measures.new.heights.items measures.new.depths.items)) }
+        (AreMeasures candidate.now bodies.new.heights.items bodies.new.depths.items)) }
 {
-    let candidate = functions.candidate;
     let count = candidate.functions.len().max(candidate.codes.len());
-    for index in 0..count {
-        let Some((height, depth)) = measure_at(alloc, functions, room, index)? else {
+    bodies.truncate(count);
+    if let Some(index) = bodies.first_refuted(candidate.datas.len()) {
+        return Ok(Some(index));
+    }
+    for index in bodies.len()..count {
+        let Some((height, depth)) = measure_function(alloc, candidate, tables, room, index)? else {
             return Ok(Some(index));
         };
-        measures.heights.push(height)?;
-        measures.depths.push(depth)?;
+        bodies.heights.push(height)?;
+        bodies.depths.push(depth)?;
     }
     Ok(None)
 }

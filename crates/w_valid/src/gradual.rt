@@ -1,5 +1,5 @@
 //! Bodies that are judged one by one.
-ghost use Rattle.std.specs.Prelude.{◌≡◌, ◌+◌, ◌<◌, ℕ, false, IfOk, IfErr, OnOk, OnErr, Ok, Err, Some, slice_get};
+ghost use Rattle.std.specs.Prelude.{◌≡◌, ◌+◌, false, IfOk, IfErr, OnOk, OnErr, Ok, Err};
 ghost use Rattle.w_syntax.specs.Functions.{code_of_function};
 ghost use Rattle.w_syntax.specs.declared.module.Module.{Module as TheModule};
 ghost use Rattle.w_rules.specs.Limits.{Within, Passes};
@@ -7,13 +7,13 @@ ghost use Rattle.w_rules.specs.Valid.{Item, Valid, IsInvalidAt};
 ghost use Rattle.w_rules.specs.declared.limits.SizeLimit.{SizeLimit as TheLimit};
 ghost use Rattle.w_items.specs.Faults.{fault_of, IsFaultOf, IsAnswer};
 ghost use Rattle.w_items.specs.declared.fault.ValidFault.TheVariants.{OutOfMemory};
-ghost use Rattle.w_valid.specs.Gradual.{AnswersFor, IsBodyAnswer, IsOutOfMemory, judged};
-ghost use Rattle.w_valid.specs.SameBefore.{SameBefore};
+ghost use Rattle.w_valid.specs.Gradual.{AnswersFor, IsOutOfMemory, judged};
+ghost use Rattle.w_valid.specs.JudgedBodies.{IsBodyAnswer};
+ghost use Rattle.w_syntax.specs.SameBefore.{SameBefore};
 ghost use Rattle.w_valid.specs.Tables.{AreDue, AreTablesIn};
-ghost use Rattle.w_valid.specs.declared.answer.BodyAnswer.{BodyAnswer as TheAnswer};
 
-use crate::answer::BodyAnswer;
 use crate::functions::measure_code;
+use crate::judged_bodies::{BodyMeasure, JudgedBodies};
 use crate::tables::TablesSoFar;
 use crate::validation::judge;
 use std::alloc::{AllocError, Global};
@@ -22,46 +22,51 @@ use w_rules::{Checked, data_needs, keeps_locals};
 use w_syntax::Module;
 use w_vplain::Room;
 
-/// Judges the bodies of a module one by one as they are read, and then the module. It keeps an answer for each body that was judged
+/// Judges the bodies of a module one by one as they are read, and then the module. It keeps what is known of each body that was judged
 /// (`AnswersFor`), and what bodies are judged by, which is made with the first.
 #[derive(Drop)]
 pub struct Gradual {
     pub(crate) alloc: Global,
     pub(crate) tables: TablesSoFar,
-    pub(crate) answers: Vec<BodyAnswer>,
+    pub(crate) bodies: JudgedBodies,
     pub(crate) room: Room,
     pub(crate) out_of_memory: bool,
 }
 
-// The answer for the body of this index, by the tables that its module makes: judged with just the data segments that it names.
+// What is known of the body of this index, by the tables that its module makes: it is judged with just the data segments that it names.
+// Of a module that passes a limit all may be said.
 fn answer_of(
     alloc: Global,
     tables: &TablesSoFar,
     room: &mut Room,
     candidate: &Module,
     index: usize,
-) -> Result<BodyAnswer, AllocError>
+) -> Result<Option<BodyMeasure>, AllocError>
     requires { AreDue tables.now }
     ensures { IfOk result (λ answer. (n : TheModule) → AreTablesIn n tables.now → SameBefore candidate.now n
-        → code_of_function candidate.now index ≡ code_of_function n index → IsBodyAnswer n index answer) }
+        → code_of_function candidate.now index ≡ code_of_function n index → Within n → IsBodyAnswer n index answer) }
 {
     let TablesSoFar::Made(tables) = tables else {
-        return Ok(BodyAnswer::PastLimits);
+        return Ok(None);
     };
     let Some(kind) = item_at(&candidate.functions, index) else {
-        return Ok(BodyAnswer::Invalid);
+        return Ok(None);
     };
     let Some(code) = item_at(&candidate.codes, index) else {
-        return Ok(BodyAnswer::Invalid);
+        return Ok(None);
     };
     if !keeps_locals(candidate, index) {
-        return Ok(BodyAnswer::PastLimits);
+        return Ok(None);
     }
     let needs = data_needs(&code.body);
     let setting = tables.setting(needs);
     match measure_code(alloc, &setting, room, *kind, code)? {
-        Some((height, depth)) => Ok(BodyAnswer::Measured(height, depth, needs)),
-        None => Ok(BodyAnswer::Invalid),
+        Some((height, depth)) => Ok(Some(BodyMeasure {
+            height,
+            depth,
+            needs,
+        })),
+        None => Ok(None),
     }
 }
 
@@ -72,10 +77,11 @@ impl Gradual {
         ensures answers { IfOk result (λ gradual. (m : TheModule) → AnswersFor gradual m) }
         ensures sound { IfOk result (λ gradual. IsOutOfMemory gradual → ⊥) }
     {
+        let bodies = JudgedBodies::new(alloc);
         Ok(Gradual {
             alloc,
             tables: TablesSoFar::NotYet,
-            answers: Vec::new(alloc),
+            bodies,
             room: Room::new(alloc),
             out_of_memory: false,
         })
@@ -85,7 +91,7 @@ impl Gradual {
     pub fn judged(&self) -> usize
         ensures { result ≡ judged self.now }
     {
-        self.answers.len()
+        self.bodies.len()
     }
 
     // Judges the next body, where memory has not run out before.
@@ -99,7 +105,7 @@ impl Gradual {
     {
         self.tables.make(self.alloc, candidate)?;
         let answer = answer_of(self.alloc, &self.tables, &mut self.room, candidate, index)?;
-        self.answers.push(answer)?;
+        self.bodies.push(answer)?;
         Ok(())
     }
 
@@ -145,7 +151,7 @@ impl Gradual {
         let Gradual {
             alloc,
             tables,
-            answers,
+            bodies,
             mut room,
             out_of_memory,
         } = self;
@@ -153,7 +159,7 @@ impl Gradual {
             drop(candidate);
             return Err(ValidFault::OutOfMemory);
         }
-        match judge(alloc, &candidate, tables, answers.as_slice(), &mut room) {
+        match judge(alloc, &candidate, tables, bodies, &mut room) {
             Ok(facts) => Ok(Checked::make(candidate, facts)),
             Err(fault) => {
                 drop(candidate);

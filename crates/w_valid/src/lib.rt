@@ -1,9 +1,9 @@
 //! Validation of modules: whole, or body by body as they are read.
 #![tactic(auto)]
 
-mod answer;
 mod functions;
 mod gradual;
+mod judged_bodies;
 mod module_types;
 mod tables;
 mod validation;

@@ -6,7 +6,7 @@ ghost use Rattle.w_flow.specs.TypeRows.{AreTypeRows};
 ghost use Rattle.w_rules.specs.DataNeeds.{with_datas};
 ghost use Rattle.w_rules.specs.Spaces.{context_of};
 ghost use Rattle.w_rules.specs.View.{context_in, HasClasses};
-ghost use Rattle.w_valid.specs.SameBefore.{SameBefore};
+ghost use Rattle.w_syntax.specs.SameBefore.{SameBefore};
 ghost use Rattle.w_valid.specs.Tables.{AreDue, AreTablesIn, AreTablesOf};
 
 use crate::module_types::ModuleTypes;

@@ -1,19 +1,18 @@
 //! Validation of a module.
-ghost use Rattle.std.specs.Prelude.{◌≡◌, ℕ, [], IfOk, IfErr, OnOk, Ok, Err, Some, slice_get};
+ghost use Rattle.std.specs.Prelude.{◌≡◌, IfOk, IfErr, OnOk, Ok, Err};
 ghost use Rattle.w_rules.specs.Facts.{AreFacts};
 ghost use Rattle.w_rules.specs.Limits.{Within, Passes};
 ghost use Rattle.w_rules.specs.Valid.{Item, Valid, IsInvalidAt};
 ghost use Rattle.w_rules.specs.declared.limits.SizeLimit.{SizeLimit as TheLimit};
 ghost use Rattle.w_items.specs.Faults.{fault_of, IsFaultOf, IsAnswer};
 ghost use Rattle.w_items.specs.Judged.{IsContextOf};
-ghost use Rattle.w_valid.specs.Gradual.{IsBodyAnswer};
+ghost use Rattle.w_valid.specs.JudgedBodies.{AreJudged};
 ghost use Rattle.w_valid.specs.Measured.{AreMeasures};
 ghost use Rattle.w_valid.specs.Tables.{AreTablesOf, AreTablesIn};
-ghost use Rattle.w_valid.specs.declared.answer.BodyAnswer.{BodyAnswer as TheAnswer};
 
-use crate::answer::BodyAnswer;
-use crate::functions::{BodyFacts, FunctionsOf, first_invalid_function};
+use crate::functions::first_invalid_function;
 use crate::gradual::Gradual;
+use crate::judged_bodies::JudgedBodies;
 use crate::tables::{ModuleTables, TablesSoFar};
 use std::alloc::Global;
 use w_items::{ModuleContext, ValidFault, first_invalid_item};
@@ -21,32 +20,29 @@ use w_rules::{Checked, Facts, limits_of};
 use w_syntax::Module;
 use w_vplain::Room;
 
-// Finds the first item that is not valid, and else adds what the bodies of the functions need.
+// Finds the first item that is not valid, and else judges all bodies. The first ones were judged before.
 fn judge_items(
     alloc: Global,
-    functions: FunctionsOf<'_>,
+    candidate: &Module,
+    tables: &ModuleTables,
     room: &mut Room,
-    measures: &mut BodyFacts,
+    bodies: &mut JudgedBodies,
 ) -> Result<(), ValidFault>
-    requires within { Within functions.candidate.now }
-    requires tables { AreTablesOf functions.candidate.now functions.tables.now }
-    requires answers { (i : ℕ) (a : TheAnswer) → slice_get functions.answers.now i ≡ Some a → IsBodyAnswer functions.candidate.now i a }
-    requires no_heights { measures.old.heights.items ≡ [] }
-    requires no_depths { measures.old.depths.items ≡ [] }
-    ensures valid { OnOk result (Valid functions.entry.candidate.now) }
-    ensures measured { OnOk result (AreMeasures functions.entry.candidate.now measures.new.heights.items
-        measures.new.depths.items) }
-    ensures err { IfErr result (λ fault. IsFaultOf functions.entry.candidate.now fault) }
+    requires within { Within candidate.now }
+    requires tables { AreTablesOf candidate.now tables.now }
+    requires bodies { AreJudged candidate.now bodies.old }
+    ensures valid { OnOk result (Valid candidate.now) }
+    ensures measured { OnOk result (AreMeasures candidate.now bodies.new.heights.items bodies.new.depths.items) }
+    ensures err { IfErr result (λ fault. IsFaultOf candidate.now fault) }
 {
-    let candidate = functions.candidate;
     let cx = ModuleContext {
         candidate,
-        context: functions.tables.setting(candidate.datas.len()).context,
+        context: tables.setting(candidate.datas.len()).context,
     };
     if let Some(fault) = first_invalid_item(alloc, &cx)? {
         return Err(fault);
     }
-    if let Some(index) = first_invalid_function(alloc, functions, room, measures)? {
+    if let Some(index) = first_invalid_function(alloc, candidate, tables, room, bodies)? {
         return Err(ValidFault::Function(index));
     }
     Ok(())
@@ -57,50 +53,41 @@ fn judge_by(
     alloc: Global,
     candidate: &Module,
     tables: ModuleTables,
-    answers: &[BodyAnswer],
+    mut bodies: JudgedBodies,
     room: &mut Room,
 ) -> Result<Facts, ValidFault>
     requires within { Within candidate.now }
     requires tables { AreTablesOf candidate.now tables }
-    requires answers { (i : ℕ) (a : TheAnswer) → slice_get answers.now i ≡ Some a → IsBodyAnswer candidate.now i a }
+    requires bodies { AreJudged candidate.now bodies }
     ensures valid { OnOk result (Valid candidate.now) }
     ensures facts { IfOk result (λ facts. AreFacts candidate.now facts) }
     ensures err { IfErr result (λ fault. IsFaultOf candidate.now fault) }
 {
-    let mut measures = BodyFacts {
-        heights: Vec::new(alloc),
-        depths: Vec::new(alloc),
-    };
-    let functions = FunctionsOf {
-        candidate,
-        tables: &tables,
-        answers,
-    };
-    judge_items(alloc, functions, room, &mut measures)?;
+    judge_items(alloc, candidate, &tables, room, &mut bodies)?;
     let ModuleTables {
         types,
         spaces: _,
         declared,
     } = tables;
     Ok(Facts {
-        heights: measures.heights,
-        depths: measures.depths,
+        heights: bodies.heights,
+        depths: bodies.depths,
         declared,
         classes: types.into_classes(),
     })
 }
 
-/// Finds the first fault of a module, and else what is known of it. The first bodies have these answers; the tables are made where there
+/// Finds the first fault of a module, and else what is known of it. Its first bodies were judged before; the tables are made where there
 /// are none.
 pub(crate) fn judge(
     alloc: Global,
     candidate: &Module,
     tables: TablesSoFar,
-    answers: &[BodyAnswer],
+    bodies: JudgedBodies,
     room: &mut Room,
 ) -> Result<Facts, ValidFault>
     requires tables { AreTablesIn candidate.now tables }
-    requires answers { (i : ℕ) (a : TheAnswer) → slice_get answers.now i ≡ Some a → IsBodyAnswer candidate.now i a }
+    requires bodies { Within candidate.now → AreJudged candidate.now bodies }
     ensures within { OnOk result (Within candidate.now) }
     ensures valid { OnOk result (Valid candidate.now) }
     ensures facts { IfOk result (λ facts. AreFacts candidate.now facts) }
@@ -110,10 +97,10 @@ pub(crate) fn judge(
         return Err(ValidFault::Limit(name));
     }
     match tables {
-        TablesSoFar::Made(tables) => judge_by(alloc, candidate, tables, answers, room),
+        TablesSoFar::Made(tables) => judge_by(alloc, candidate, tables, bodies, room),
         TablesSoFar::NotYet | TablesSoFar::PastLimits => {
             let tables = ModuleTables::of_module(alloc, candidate)?;
-            judge_by(alloc, candidate, tables, answers, room)
+            judge_by(alloc, candidate, tables, bodies, room)
         }
     }
 }

@@ -190,20 +190,20 @@ module _ (es : List Entry) (c : Context) where
   stepped o f fs r true w e = ap (λ (q : Option Flow). q >>= λ (v : Flow). Some (record f { any = v.any; operands = v.operands; is_set = sets o f.is_set } ∷ fs)) e
   stepped o f fs r false w e = ap (λ (q : Option Flow). q >>= λ (v : Flow). Some (record f { any = v.any; operands = v.operands; is_set = sets o f.is_set } ∷ fs)) e
 
-  passed : (o : Op) (f : Frame) (fs : List Frame) (b : Bool) (r : Option Flow) (applies : Bool) (w : Flow) → gated b r ≡ (if applies then Some w else None)
+  handed : (o : Op) (f : Frame) (fs : List Frame) (b : Bool) (r : Option Flow) (applies : Bool) (w : Flow) → gated b r ≡ (if applies then Some w else None)
       → (if b then (r >>= λ (v : Flow). Some (record f { any = v.any; operands = v.operands; is_set = sets o f.is_set } ∷ fs)) else None)
       ≡ (if applies then Some (record f { any = w.any; operands = w.operands; is_set = sets o f.is_set } ∷ fs) else None)
-  passed o f fs true r applies w e = stepped o f fs r applies w e
-  passed o f fs false r applies w e = stepped o f fs None applies w e
+  handed o f fs true r applies w e = stepped o f fs r applies w e
+  handed o f fs false r applies w e = stepped o f fs None applies w e
 
   -- one instruction, by the step of its operands
   pub op_answered : (o : Op) (f : Frame) (fs : List Frame) (applies : Bool) (w : Flow)
       → gated (plain_test es c o) (step es (instr_type (within c (f.kind ∷ frame_kinds fs)) f.is_set o) f.any f.operands) ≡ (if applies then Some w else None)
       → op_next es c o f fs ≡ (if applies then Some (record f { any = w.any; operands = w.operands; is_set = sets o f.is_set } ∷ fs) else None)
-  op_answered (op.Control o) f fs applies w e = passed (op.Control o) f fs (plain_test es c (op.Control o)) (step es (instr_type (within c (f.kind ∷ frame_kinds fs)) f.is_set (op.Control o)) f.any f.operands) applies w e
+  op_answered (op.Control o) f fs applies w e = handed (op.Control o) f fs (plain_test es c (op.Control o)) (step es (instr_type (within c (f.kind ∷ frame_kinds fs)) f.is_set (op.Control o)) f.any f.operands) applies w e
   op_answered (op.Parametric o) f fs applies w e = stepped (op.Parametric o) f fs _ applies w e
   op_answered (op.Variable o) f fs applies w e = stepped (op.Variable o) f fs _ applies w e
-  op_answered (op.Table o) f fs applies w e = passed (op.Table o) f fs (plain_test es c (op.Table o)) (step es (instr_type (within c (f.kind ∷ frame_kinds fs)) f.is_set (op.Table o)) f.any f.operands) applies w e
+  op_answered (op.Table o) f fs applies w e = handed (op.Table o) f fs (plain_test es c (op.Table o)) (step es (instr_type (within c (f.kind ∷ frame_kinds fs)) f.is_set (op.Table o)) f.any f.operands) applies w e
   op_answered (op.Memory o) f fs applies w e = stepped (op.Memory o) f fs _ applies w e
   op_answered (op.Numeric o) f fs applies w e = stepped (op.Numeric o) f fs _ applies w e
   op_answered (op.Reference o) f fs applies w e = stepped (op.Reference o) f fs _ applies w e

@@ -46,25 +46,25 @@ abbrev pub framed : List Bool → Bool → Row Operand → OpenBlock → List Op
 framed s p ts l ls = record { kind = l.kind; any = p; operands = ts; is_set = set_at s (l ∷ ls) }
 
 -- a frame that stands for an open block is one of the open block
-pub frame_is : (c : Context) (s : List Bool) (passed : Row ValType) (f : Frame) (l : OpenBlock) (ls : List OpenBlock) → StandsAt c s passed f l ls →
+pub frame_is : (c : Context) (s : List Bool) (handed : Row ValType) (f : Frame) (l : OpenBlock) (ls : List OpenBlock) → StandsAt c s handed f l ls →
     f ≡ framed s f.any f.operands l ls
-frame_is c s passed f l ls st = λ j. record { kind = st.kind j; any = f.any; operands = f.operands; is_set = st.is_set j }
+frame_is c s handed f l ls st = λ j. record { kind = st.kind j; any = f.any; operands = f.operands; is_set = st.is_set j }
 
 -- frames are of the kinds of the blocks that they stand for
-pub kinds_same : (c : Context) (s : List Bool) (passed : Row ValType) (fs : List Frame) (ls : List OpenBlock) → StandsAll c s passed fs ls →
+pub kinds_same : (c : Context) (s : List Bool) (handed : Row ValType) (fs : List Frame) (ls : List OpenBlock) → StandsAll c s handed fs ls →
     frame_kinds fs ≡ kinds_of ls
-kinds_same c s passed [] [] st = refl
-kinds_same c s passed [] (l ∷ ls) st = absurd st
-kinds_same c s passed (f ∷ fs) [] st = absurd st
-kinds_same c s passed (f ∷ fs) (l ∷ ls) st = held_fact (arrow_at c l.kind) _ _ st.1 (λ a h.
+kinds_same c s handed [] [] st = refl
+kinds_same c s handed [] (l ∷ ls) st = absurd st
+kinds_same c s handed (f ∷ fs) [] st = absurd st
+kinds_same c s handed (f ∷ fs) (l ∷ ls) st = held_fact (arrow_at c l.kind) _ _ st.1 (λ a h.
     ap (λ k. k ∷ frame_kinds fs) st.0.kind ∙ ap (λ ks. l.kind ∷ ks) (kinds_same c s (taken_by l.kind a) fs ls h))
 
 -- and as many
-pub count_same : (c : Context) (s : List Bool) (passed : Row ValType) (fs : List Frame) (ls : List OpenBlock) → StandsAll c s passed fs ls → length fs ≡ length ls
-count_same c s passed [] [] st = refl
-count_same c s passed [] (l ∷ ls) st = absurd st
-count_same c s passed (f ∷ fs) [] st = absurd st
-count_same c s passed (f ∷ fs) (l ∷ ls) st =
+pub count_same : (c : Context) (s : List Bool) (handed : Row ValType) (fs : List Frame) (ls : List OpenBlock) → StandsAll c s handed fs ls → length fs ≡ length ls
+count_same c s handed [] [] st = refl
+count_same c s handed [] (l ∷ ls) st = absurd st
+count_same c s handed (f ∷ fs) [] st = absurd st
+count_same c s handed (f ∷ fs) (l ∷ ls) st =
     held_fact (arrow_at c l.kind) _ _ st.1 (λ a h. ap suc (count_same c s (taken_by l.kind a) fs ls h))
 
 -- the frames around the innermost one are of the kinds of the blocks around it

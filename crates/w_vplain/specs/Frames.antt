@@ -100,18 +100,18 @@ next es c i (f ∷ fs) = frame_next es c i f fs
 -- ## What frames stand for
 
 -- A frame stands for a block's instructions so far: it covers the operands that they lead to, without what an inner block took.
-pub record StandsAt (c : Context) (s : List Bool) (passed : Row ValType) (f : Frame) (l : OpenBlock) (ls : List OpenBlock) : Type 0 where
+pub record StandsAt (c : Context) (s : List Bool) (handed : Row ValType) (f : Frame) (l : OpenBlock) (ls : List OpenBlock) : Type 0 where
   pub kind : f.kind ≡ l.kind
   pub is_set : f.is_set ≡ set_at s (l ∷ ls)
-  pub reaches : (us : Row Operand) → Reaches c s l ls (us ⧺ known passed) → Covers c.types f.any f.operands us
-  pub reached : (us : Row Operand) → Covers c.types f.any f.operands us → Reaches c s l ls (us ⧺ known passed)
+  pub reaches : (us : Row Operand) → Reaches c s l ls (us ⧺ known handed) → Covers c.types f.any f.operands us
+  pub reached : (us : Row Operand) → Covers c.types f.any f.operands us → Reaches c s l ls (us ⧺ known handed)
 
 abbrev pub StandsAll : Context → List Bool → Row ValType → List Frame → List OpenBlock → Type 0
-StandsAll c s passed [] [] = Unit {0}
-StandsAll c s passed [] (l ∷ ls) = ⊥
-StandsAll c s passed (f ∷ fs) [] = ⊥
-StandsAll c s passed (f ∷ fs) (l ∷ ls) =
-    StandsAt c s passed f l ls × Holds (arrow_at c l.kind) (λ (a : Arrow). StandsAll c s (taken_by l.kind a) fs ls)
+StandsAll c s handed [] [] = Unit {0}
+StandsAll c s handed [] (l ∷ ls) = ⊥
+StandsAll c s handed (f ∷ fs) [] = ⊥
+StandsAll c s handed (f ∷ fs) (l ∷ ls) =
+    StandsAt c s handed f l ls × Holds (arrow_at c l.kind) (λ (a : Arrow). StandsAll c s (taken_by l.kind a) fs ls)
 
 abbrev pub IsNil : List Frame → Type 0
 IsNil [] = Unit {0}

@@ -1,6 +1,6 @@
 use Rattle.std.proofs.Common.{◌++◌, ◌∙◌, ap, ℕ, Vec, Global}
 use Rattle.w_outside.proofs.Growth.{grew_more}
-use Rattle.drive.proofs.TextInPieces.{part_more, front_more, on_err}
+use Rattle.replies.proofs.TextInPieces.{part_more, front_more, on_err}
 use Rattle.drive.proofs.delivery.write_pieces.Goals as goal
 
 pub returns-in_err-put-clause-err : goal.returns-in_err-put-clause-err

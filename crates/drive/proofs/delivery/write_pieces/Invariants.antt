@@ -1,6 +1,6 @@
 use Rattle.std.proofs.Common.{◌≡◌, ◌++◌, ℕ, List, drop}
 use Rattle.w_outside.specs.Outside.{Grew}
-use Rattle.drive.specs.Pieces.{joined}
+use Rattle.replies.specs.Pieces.{joined}
 use Rattle.drive.proofs.delivery.write_pieces.Given as goal
 
 -- what was written, and the pieces that are left, are the whole; and no fault was counted

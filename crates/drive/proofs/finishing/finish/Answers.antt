@@ -1,7 +1,7 @@
 use Rattle.std.proofs.Common.{◌≡◌, sym, ap, subst}
 use Rattle.w_outside.specs.Outside.{Grew, Rose}
 use Rattle.words.specs.declared.request.Action.{Action}
-use Rattle.drive.specs.Answer.{gives, ok_module, built}
+use Rattle.replies.specs.Answer.{gives, ok_module, built}
 use Rattle.drive.specs.Leaving.{Leaves}
 use Rattle.drive.proofs.Refusals.{gives_same}
 use Rattle.drive.proofs.Replies.{all_left}

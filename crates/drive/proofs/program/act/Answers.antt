@@ -1,6 +1,6 @@
 use Rattle.std.proofs.Common.{◌≡◌, ◌∙◌, List, ℕ, false, true, inl, inr, sym, subst}
 use Rattle.w_outside.specs.Outside.{Grew, Rose}
-use Rattle.drive.specs.Answer.{ActionGives, ScriptGives, script_gives}
+use Rattle.replies.specs.Answer.{ActionGives, ScriptGives, script_gives}
 use Rattle.drive.specs.Intake.{IsInputOf}
 use Rattle.drive.specs.Leaving.{Leaves}
 use Rattle.drive.specs.declared.intake.Input.{Input}

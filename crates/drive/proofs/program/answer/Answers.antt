@@ -3,7 +3,7 @@ use Rattle.std.specs.Prelude.{string_bytes}
 use Rattle.w_outside.specs.Outside.{Grew, Rose}
 use Rattle.words.specs.Line.{line_of}
 use Rattle.words.specs.Request.{asked_by}
-use Rattle.drive.specs.Answer.{Answer}
+use Rattle.replies.specs.Answer.{Answer}
 use Rattle.drive.specs.Delivery.{MayFail}
 use Rattle.drive.proofs.FileReplies.{unread, acted, generated_run}
 use Rattle.drive.proofs.Refusals.{refuses_as}

@@ -2,7 +2,7 @@ use Rattle.std.proofs.Common.{inl, map}
 use Rattle.std.specs.Prelude.{string_bytes}
 use Rattle.w_outside.specs.Outside.{Grew, Rose}
 use Rattle.words.specs.Line.{line_of}
-use Rattle.drive.specs.Answer.{Answer}
+use Rattle.replies.specs.Answer.{Answer}
 use Rattle.drive.specs.Delivery.{MayFail}
 use Rattle.drive.proofs.Replies.{leaves_ends, delivered, rose_first, rose_either}
 use Rattle.drive.proofs.program.respond.Goals as goal

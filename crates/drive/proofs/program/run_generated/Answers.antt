@@ -1,7 +1,7 @@
 use Rattle.std.proofs.Common.{ℕ, List, false, subst}
 use Rattle.w_outside.specs.Outside.{Grew, Rose}
 use Rattle.words.specs.declared.request.Action.TheVariants.{Run as RunFor}
-use Rattle.drive.specs.Answer.{ActionGives, generated_steps}
+use Rattle.replies.specs.Answer.{ActionGives, generated_steps}
 use Rattle.drive.specs.Leaving.{Leaves}
 use Rattle.drive.proofs.program.run_generated.Goals as goal
 

@@ -1,8 +1,8 @@
 use Rattle.std.proofs.Common.{Err, refl, sym, ap, subst, ◌∙◌}
 use Rattle.w_inst.specs.declared.instantiation.InstFault.{InstFault}
 use Rattle.w_inst.specs.Instances.{BeginsAs}
-use Rattle.drive.specs.Answer.{start_reply}
-use Rattle.drive.specs.Origin.{trap_reply_of}
+use Rattle.replies.specs.Answer.{start_reply}
+use Rattle.replies.specs.Origin.{trap_reply_of}
 use Rattle.drive.proofs.Refusals.{refuses_same, same_refusal}
 use Rattle.drive.proofs.running.no_run.Goals as goal
 

@@ -1,7 +1,7 @@
 use Rattle.std.proofs.Common.{◌≡◌, ◌++◌, drop, flat_map}
 use Rattle.w_reduce.specs.Values.{val}
-use Rattle.drive.specs.Answer.{result_line}
-use Rattle.drive.specs.Pieces.{joined}
+use Rattle.replies.specs.Answer.{result_line}
+use Rattle.replies.specs.Pieces.{joined}
 use Rattle.drive.proofs.running.result_lines.Given as goal
 
 -- the lines that were collected, and those of the values that are left, are the lines of all

@@ -4,8 +4,8 @@ use Rattle.w_syntax.specs.declared.module.Module.{Module}
 use Rattle.w_reduce.specs.Start.{Ready, start_term}
 use Rattle.w_stands.specs.Values.{store_of}
 use Rattle.w_machine.proofs.OneMoreReduction.{program_by, is_program}
-use Rattle.drive.specs.Answer.{RunGives}
-use Rattle.drive.specs.Origin.{trap_reply_of}
+use Rattle.replies.specs.Answer.{RunGives}
+use Rattle.replies.specs.Origin.{trap_reply_of}
 use Rattle.drive.proofs.Refusals.{refuses_as}
 use Rattle.drive.proofs.Replies.{leaves_as, refusal_left}
 use Rattle.drive.proofs.Runs.{ready_gives, refused_gives}

@@ -4,7 +4,7 @@ use Rattle.w_syntax.specs.declared.module.Module.{Module}
 use Rattle.w_reduce.specs.Run.{Run}
 use Rattle.w_machine.specs.Beginning.{Begins}
 use Rattle.w_machine.specs.Position.{Position}
-use Rattle.drive.specs.Origin.{trap_reply_of}
+use Rattle.replies.specs.Origin.{trap_reply_of}
 use Rattle.drive.proofs.Statistics.{leaves_with}
 use Rattle.drive.proofs.running.run_from.Goals as goal
 

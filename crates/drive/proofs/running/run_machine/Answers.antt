@@ -4,8 +4,8 @@ use Rattle.w_reduce.specs.Run.{Running, Traps, Limit}
 use Rattle.w_stands.specs.Values.{vals}
 use Rattle.w_machine.specs.declared.outcome.RunStop.TheVariants.{Ended, Limit as RunStopLimit, Trapped as RunStopTrapped, WriteFault as RunStopWriteFault, OutOfMemory as RunStopOutOfMemory}
 use Rattle.w_machine.specs.Position.{Position}
-use Rattle.drive.specs.Pieces.{joined}
-use Rattle.drive.specs.Origin.{trap_reply_of}
+use Rattle.replies.specs.Pieces.{joined}
+use Rattle.replies.specs.Origin.{trap_reply_of}
 use Rattle.drive.proofs.Refusals.{refuses_same, same_refusal}
 use Rattle.drive.proofs.Runs.{from_first, first_ended, first_after, first_program, lines_of_vals, run_refused, run_ended, run_unlisted, run_failed, run_out}
 use Rattle.drive.proofs.Statistics.{not_reply}

@@ -1,7 +1,7 @@
 use Rattle.std.proofs.Common.{ℕ, subst, sym, ap, ◌∙◌}
 use Rattle.w_reduce.specs.Run.{Run}
 use Rattle.w_machine.specs.Position.{StopsWith}
-use Rattle.drive.specs.Answer.{stats_line}
+use Rattle.replies.specs.Answer.{stats_line}
 use Rattle.drive.proofs.Runs.{run_after, counts_are}
 use Rattle.drive.proofs.Statistics.{more_same, more_unwritten}
 use Rattle.drive.proofs.running.with_stats.Goals as goal

@@ -1,7 +1,7 @@
 use Rattle.std.proofs.Common.{sym, subst}
 use Rattle.w_outside.specs.Outside.{Grew, Rose}
 use Rattle.words.specs.declared.request.Action.{Action}
-use Rattle.drive.specs.Answer.{ScriptGives, script_gives}
+use Rattle.replies.specs.Answer.{ScriptGives, script_gives}
 use Rattle.drive.specs.Leaving.{Leaves}
 use Rattle.drive.proofs.scripts.act_on_script.Goals as goal
 

@@ -1,6 +1,6 @@
 use Rattle.std.proofs.Common.{◌∙◌, false}
 use Rattle.w_outside.specs.Outside.{Grew, Rose}
-use Rattle.drive.specs.Answer.{Compiled, RunGives, faulted}
+use Rattle.replies.specs.Answer.{Compiled, RunGives, faulted}
 use Rattle.drive.proofs.Refusals.{refuses_as}
 use Rattle.drive.proofs.Replies.{leaves_as, stop_left}
 use Rattle.drive.proofs.ScriptRuns.{never_refused, run_given}

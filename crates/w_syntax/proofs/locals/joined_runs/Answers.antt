@@ -9,7 +9,7 @@ use Rattle.w_syntax.proofs.Totals.{total_last, total_none}
 use Rattle.w_syntax.proofs.locals.joined_runs.Goals as goal
 
 pub loop-run-init : goal.loop-run-init
-loop-run-init c = rw c.new-backwards.ensures.items (record { so_far = refl; few = omega (arith, c.requires, total_none) })
+loop-run-init c = rw c.in_ok-backwards.ensures.items (record { so_far = refl; few = omega (arith, c.requires, total_none) })
 
 pub prepend_run-requires : goal.prepend_run-requires
 prepend_run-requires c =

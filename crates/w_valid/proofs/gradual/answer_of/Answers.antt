@@ -6,7 +6,7 @@ use Rattle.w_valid.proofs.AnswersOfBodies.{body_answer, function_same}
 use Rattle.w_valid.proofs.gradual.answer_of.Goals as goal
 
 pub returns-in-Some-2 : goal.returns-in-Some-2
-returns-in-Some-2 c = λ n tables same code.
+returns-in-Some-2 c = λ n tables same code within.
     let i = c.args.index in
     let x = c.in-Some.kind.now in
     let f = c.in-Some-item_at.code.now in
@@ -18,7 +18,7 @@ returns-in-Some-2 c = λ n tables same code.
     (subst (λ (k : Context). IsCodeMeasure k x f r) context (rw c.in-Some-2.is at c.in_ok-height.ensures))
 
 pub returns-in-None : goal.returns-in-None
-returns-in-None c = λ n tables same code.
+returns-in-None c = λ n tables same code within.
     let i = c.args.index in
     let x = c.in-Some.kind.now in
     let f = c.in-Some-item_at.code.now in

@@ -3,7 +3,7 @@ use Rattle.w_syntax.specs.Functions.{code_of_function}
 use Rattle.w_syntax.specs.declared.module.Module.{Module}
 use Rattle.w_decode.specs.Pieces.{IsSound, so_far_of}
 use Rattle.w_decode.specs.declared.pieces.Decoder.{Decoder}
-use Rattle.w_valid.specs.SameBefore.{SameBefore}
+use Rattle.w_syntax.specs.SameBefore.{SameBefore}
 use Rattle.drive.proofs.ModulesInPieces.{body_more}
 use Rattle.drive.proofs.module_intake.ModuleIntake.judge_bodies.Goals as goal
 

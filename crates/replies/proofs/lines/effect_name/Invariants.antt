@@ -1,6 +1,6 @@
 use Rattle.std.proofs.Common.{◌≡◌, drop, slice_get}
 use Rattle.s_agrees.specs.Agrees.{effect_names}
-use Rattle.drive.proofs.lines.effect_name.Given as goal
+use Rattle.replies.proofs.lines.effect_name.Given as goal
 
 -- the name that is sought stands at the place `left` among those of the declarations that are left
 abbrev pub invariant-loop-declaration : goal.invariant-loop-declaration

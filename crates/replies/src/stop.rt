@@ -1,9 +1,9 @@
 //! Why there is no output.
 ghost use Rattle.std.specs.Prelude.{◌≡◌, ◌∷◌, ◌++◌, [], IfOk, OnOk};
-ghost use Rattle.drive.specs.Pieces.{joined};
-ghost use Rattle.drive.specs.Status.{code_of};
-ghost use Rattle.drive.specs.Stop.{Ends, Refuses, WritesMore};
-ghost use Rattle.drive.specs.declared.stop.Stop.TheVariants.{OutOfMemory};
+ghost use Rattle.replies.specs.Pieces.{joined};
+ghost use Rattle.replies.specs.Status.{code_of};
+ghost use Rattle.replies.specs.Stop.{Ends, Refuses, WritesMore};
+ghost use Rattle.replies.specs.declared.stop.Stop.TheVariants.{OutOfMemory};
 
 use crate::output::Output;
 use crate::status::Status;
@@ -11,14 +11,14 @@ use std::alloc::{AllocError, Global};
 
 /// Lines that are written to err, each as one piece, and the status that goes with them.
 #[derive(Drop)]
-pub(crate) struct Refusal {
-    pub(crate) lines: Vec<Vec<u8>>,
-    pub(crate) status: Status,
+pub struct Refusal {
+    pub lines: Vec<Vec<u8>>,
+    pub status: Status,
 }
 
 /// Why an action gives no output.
 #[derive(Drop)]
-pub(crate) enum Stop {
+pub enum Stop {
     /// It is refused.
     Refused(Refusal),
     /// Out could not be written.
@@ -45,11 +45,7 @@ fn push_line(lines: &mut Vec<Vec<u8>>, line: Vec<u8>) -> Result<(), AllocError>
 
 impl Refusal {
     /// A refusal by one line.
-    pub(crate) fn of_line(
-        alloc: Global,
-        line: Vec<u8>,
-        status: Status,
-    ) -> Result<Refusal, AllocError>
+    pub fn of_line(alloc: Global, line: Vec<u8>, status: Status) -> Result<Refusal, AllocError>
         ensures lines { IfOk result (λ refusal. joined refusal.lines.items ≡ line.items) }
         ensures status { IfOk result (λ refusal. refusal.status ≡ status) }
     {
@@ -60,7 +56,7 @@ impl Refusal {
 }
 
 /// A refusal by a line that was made.
-pub(crate) fn refuse_by(alloc: Global, line: Vec<u8>, status: Status) -> Stop
+pub fn refuse_by(alloc: Global, line: Vec<u8>, status: Status) -> Stop
     requires { Ends status }
     ensures { Refuses (λ reply. reply ≡ record { out = []; err = line.items; status = code_of status }) result }
 {
@@ -71,7 +67,7 @@ pub(crate) fn refuse_by(alloc: Global, line: Vec<u8>, status: Status) -> Stop
 }
 
 /// A refusal by a line.
-pub(crate) fn refuse(alloc: Global, line: &[u8], status: Status) -> Stop
+pub fn refuse(alloc: Global, line: &[u8], status: Status) -> Stop
     requires { Ends status }
     ensures { Refuses (λ reply. reply ≡ record { out = []; err = line.now; status = code_of status }) result }
 {
@@ -82,7 +78,7 @@ pub(crate) fn refuse(alloc: Global, line: &[u8], status: Status) -> Stop
 }
 
 /// An answer that writes a line more to err.
-pub(crate) fn with_err(answer: Result<Output, Stop>, line: Vec<u8>) -> Result<Output, Stop>
+pub fn with_err(answer: Result<Output, Stop>, line: Vec<u8>) -> Result<Output, Stop>
     ensures { WritesMore line.items answer result }
 {
     match answer {

@@ -3,7 +3,7 @@ use Rattle.std.proofs.Common.{◌≡◌, ◌+◌, ◌<◌, ℕ, List, [], ◌∷
 use Rattle.std.specs.Prelude.{OnErr}
 use Rattle.std.proofs.lemmas.List.{drop_more}
 use Rattle.w_outside.specs.Outside.{IsFront}
-use Rattle.drive.specs.Pieces.{joined}
+use Rattle.replies.specs.Pieces.{joined}
 
 module _ {X : Type 0} (f : X → List ℕ) where
   -- a part more

@@ -1,9 +1,9 @@
 use Rattle.std.proofs.Common.{◌∙◌, List, ℕ, Err, [], ap, refl}
-use Rattle.drive.specs.Answer.{Reply}
-use Rattle.drive.specs.Pieces.{joined}
-use Rattle.drive.specs.Status.{code_of}
-use Rattle.drive.proofs.TextInPieces.{joined-push}
-use Rattle.drive.proofs.stop.with_err.Goals as goal
+use Rattle.replies.specs.Answer.{Reply}
+use Rattle.replies.specs.Pieces.{joined}
+use Rattle.replies.specs.Status.{code_of}
+use Rattle.replies.proofs.TextInPieces.{joined-push}
+use Rattle.replies.proofs.stop.with_err.Goals as goal
 
 pub returns-in_ok-push_line-in-Ok : goal.returns-in_ok-push_line-in-Ok
 returns-in_ok-push_line-in-Ok c = (

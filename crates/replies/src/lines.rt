@@ -4,17 +4,17 @@ ghost use Rattle.std.specs.Borrow.{Bor};
 ghost use Rattle.s_syntax.specs.declared.name.Name.{Name as TheName};
 ghost use Rattle.w_reduce.specs.Values.{val};
 ghost use Rattle.s_agrees.specs.Agrees.{effect_names};
-ghost use Rattle.drive.specs.Answer.{line, count_text, result_line, malformed, limit, size_limit_text, run_limit_text, start_limit_text, trapped, invalid, no_printer, counts_line, bad_script, faulted};
+ghost use Rattle.replies.specs.Answer.{line, count_text, result_line, malformed, limit, size_limit_text, run_limit_text, start_limit_text, trapped, invalid, no_printer, counts_line, bad_script, faulted};
 
 use itoa::{Buffer, Integer};
 use s_judge::ScriptFault;
 use s_syntax::{Definition, Name, Script};
 use std::alloc::{AllocError, Global};
 use w_decode::DecodeFault;
+use w_items::ValidFault;
 use w_reduce::{RunLimit, StartLimit, Trap};
 use w_rules::SizeLimit;
 use w_types::Value;
-use w_valid::ValidFault;
 
 // Appends a text and a number.
 fn push_number<I: Integer>(line: &mut Vec<u8>, text: &[u8], number: I) -> Result<(), AllocError>
@@ -37,7 +37,7 @@ fn number_line<I: Integer>(alloc: Global, text: &[u8], number: I) -> Result<Vec<
 }
 
 /// The line of a result: an integer, signed, or a reference by its address.
-pub(crate) fn value_line(alloc: Global, value: Value) -> Result<Vec<u8>, AllocError>
+pub fn value_line(alloc: Global, value: Value) -> Result<Vec<u8>, AllocError>
     ensures { IfOk result (λ v. v.items ≡ result_line (val value)) }
 {
     match value {
@@ -50,7 +50,7 @@ pub(crate) fn value_line(alloc: Global, value: Value) -> Result<Vec<u8>, AllocEr
 }
 
 /// The line of bytes that spell no module.
-pub(crate) fn malformed_line(alloc: Global, fault: DecodeFault) -> Result<Vec<u8>, AllocError>
+pub fn malformed_line(alloc: Global, fault: DecodeFault) -> Result<Vec<u8>, AllocError>
     ensures { IfOk result (λ v. v.items ≡ (malformed fault).err) }
 {
     match fault {
@@ -63,7 +63,7 @@ pub(crate) fn malformed_line(alloc: Global, fault: DecodeFault) -> Result<Vec<u8
 }
 
 /// The line of a limit on a module that is passed.
-pub(crate) fn size_limit_line(name: SizeLimit) -> &'static [u8]
+pub fn size_limit_line(name: SizeLimit) -> &'static [u8]
     ensures { result.now ≡ (limit (size_limit_text name)).err }
 {
     match name {
@@ -74,7 +74,7 @@ pub(crate) fn size_limit_line(name: SizeLimit) -> &'static [u8]
 }
 
 /// The line of a limit of a run that is passed.
-pub(crate) fn run_limit_line(name: RunLimit) -> &'static [u8]
+pub fn run_limit_line(name: RunLimit) -> &'static [u8]
     ensures { result.now ≡ (limit (run_limit_text name)).err }
 {
     match name {
@@ -85,7 +85,7 @@ pub(crate) fn run_limit_line(name: RunLimit) -> &'static [u8]
 }
 
 /// The line of a limit that is passed where a run begins.
-pub(crate) fn start_limit_line(name: StartLimit) -> &'static [u8]
+pub fn start_limit_line(name: StartLimit) -> &'static [u8]
     ensures { result.now ≡ (limit (start_limit_text name)).err }
 {
     match name {
@@ -123,7 +123,7 @@ fn unhandled_line(alloc: Global, script: &Script, tag: u32) -> Result<Vec<u8>, A
 }
 
 /// The line of a trap.
-pub(crate) fn trap_line(alloc: Global, trap: Trap) -> Result<Vec<u8>, AllocError>
+pub fn trap_line(alloc: Global, trap: Trap) -> Result<Vec<u8>, AllocError>
     ensures { IfOk result (λ v. v.items ≡ (trapped trap).err) }
 {
     match trap {
@@ -142,7 +142,7 @@ pub(crate) fn trap_line(alloc: Global, trap: Trap) -> Result<Vec<u8>, AllocError
 }
 
 /// The line of a script's fault, for which the trap of its module stands.
-pub(crate) fn fault_line(alloc: Global, script: &Script, trap: Trap) -> Result<Vec<u8>, AllocError>
+pub fn fault_line(alloc: Global, script: &Script, trap: Trap) -> Result<Vec<u8>, AllocError>
     ensures { IfOk result (λ v. v.items ≡ (faulted script.now trap).err) }
 {
     match trap {
@@ -161,7 +161,7 @@ pub(crate) fn fault_line(alloc: Global, script: &Script, trap: Trap) -> Result<V
 }
 
 /// The line of a module that is not accepted.
-pub(crate) fn invalid_line(alloc: Global, fault: ValidFault) -> Result<Vec<u8>, AllocError>
+pub fn invalid_line(alloc: Global, fault: ValidFault) -> Result<Vec<u8>, AllocError>
     ensures { IfOk result (λ v. v.items ≡ (invalid fault).err) }
 {
     match fault {
@@ -182,7 +182,7 @@ pub(crate) fn invalid_line(alloc: Global, fault: ValidFault) -> Result<Vec<u8>, 
 }
 
 /// The line of a module for whose import of this index nothing is there.
-pub(crate) fn printer_line(alloc: Global, index: usize) -> Result<Vec<u8>, AllocError>
+pub fn printer_line(alloc: Global, index: usize) -> Result<Vec<u8>, AllocError>
     ensures { IfOk result (λ v. v.items ≡ (no_printer index).err) }
 {
     number_line(alloc, b"no printer ", index)
@@ -200,7 +200,7 @@ fn rule_line(alloc: Global, declaration: usize, rule: u8) -> Result<Vec<u8>, All
 }
 
 /// The line of a script that is refused.
-pub(crate) fn script_line(alloc: Global, fault: ScriptFault) -> Result<Vec<u8>, AllocError>
+pub fn script_line(alloc: Global, fault: ScriptFault) -> Result<Vec<u8>, AllocError>
     ensures { IfOk result (λ v. v.items ≡ (bad_script fault).err) }
 {
     match fault {
@@ -214,7 +214,7 @@ pub(crate) fn script_line(alloc: Global, fault: ScriptFault) -> Result<Vec<u8>, 
 }
 
 /// The line of statistics: how many reductions, and how many continuations were made, are consumed and live.
-pub(crate) fn stats_line(
+pub fn stats_line(
     alloc: Global,
     steps: u64,
     made: u64,

@@ -1,14 +1,14 @@
 -- The reply that an answer is: an output, or a refusal. A fault is no reply.
 use Rattle.std.specs.Prelude.{◌≡◌, List, ℕ, [], ⊤, Result, Ok, Err}
-use Rattle.drive.specs.declared.output.Output.{Output}
-use Rattle.drive.specs.declared.status.Status.{Status}
-use Rattle.drive.specs.declared.status.Status.TheVariants as status
-use Rattle.drive.specs.declared.stop.Refusal.{Refusal}
-use Rattle.drive.specs.declared.stop.Stop.{Stop}
-use Rattle.drive.specs.declared.stop.Stop.TheVariants.{Refused, WriteFault, OutOfMemory}
-use Rattle.drive.specs.Answer.{Reply, with_err}
-use Rattle.drive.specs.Pieces.{joined}
-use Rattle.drive.specs.Status.{code_of}
+use Rattle.replies.specs.declared.output.Output.{Output}
+use Rattle.replies.specs.declared.status.Status.{Status}
+use Rattle.replies.specs.declared.status.Status.TheVariants as status
+use Rattle.replies.specs.declared.stop.Refusal.{Refusal}
+use Rattle.replies.specs.declared.stop.Stop.{Stop}
+use Rattle.replies.specs.declared.stop.Stop.TheVariants.{Refused, WriteFault, OutOfMemory}
+use Rattle.replies.specs.Answer.{Reply, with_err}
+use Rattle.replies.specs.Pieces.{joined}
+use Rattle.replies.specs.Status.{code_of}
 
 abbrev pub reply_with : Output → Reply
 reply_with output = record { out = joined output.pieces.items; err = joined output.err.items; status = 0 }

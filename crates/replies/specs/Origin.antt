@@ -1,7 +1,7 @@
 -- What a run is of, and so what its traps are replied with.
-use Rattle.drive.specs.declared.origin.Origin.{Origin}
-use Rattle.drive.specs.declared.origin.Origin.TheVariants as origin
-use Rattle.drive.specs.Answer.{TrapReply, trapped, faulted}
+use Rattle.replies.specs.declared.origin.Origin.{Origin}
+use Rattle.replies.specs.declared.origin.Origin.TheVariants as origin
+use Rattle.replies.specs.Answer.{TrapReply, trapped, faulted}
 
 abbrev pub trap_reply_of : Origin → TrapReply
 trap_reply_of origin.Module = trapped

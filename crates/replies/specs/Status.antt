@@ -1,7 +1,7 @@
 -- The exit codes.
 use Rattle.std.specs.Prelude.{ℕ}
-use Rattle.drive.specs.declared.status.Status.{Status}
-use Rattle.drive.specs.declared.status.Status.TheVariants.{Done, Trap, Usage, Malformed, Invalid, BadScript, ReadFault, WriteFault, OutOfMemory, Limit, Running}
+use Rattle.replies.specs.declared.status.Status.{Status}
+use Rattle.replies.specs.declared.status.Status.TheVariants.{Done, Trap, Usage, Malformed, Invalid, BadScript, ReadFault, WriteFault, OutOfMemory, Limit, Running}
 
 abbrev pub code_of : Status → ℕ
 code_of Done = 0

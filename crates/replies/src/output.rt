@@ -1,19 +1,19 @@
 //! What an action gives.
 ghost use Rattle.std.specs.Prelude.{◌≡◌, [], IfOk};
-ghost use Rattle.drive.specs.Pieces.{joined};
+ghost use Rattle.replies.specs.Pieces.{joined};
 
 use std::alloc::{AllocError, Global};
 
 /// What is written to out, and behind it to err: pieces, in their order.
 #[derive(Drop)]
-pub(crate) struct Output {
-    pub(crate) pieces: Vec<Vec<u8>>,
-    pub(crate) err: Vec<Vec<u8>>,
+pub struct Output {
+    pub pieces: Vec<Vec<u8>>,
+    pub err: Vec<Vec<u8>>,
 }
 
 impl Output {
     /// One piece, and nothing to err.
-    pub(crate) fn of_piece(alloc: Global, piece: Vec<u8>) -> Result<Output, AllocError>
+    pub fn of_piece(alloc: Global, piece: Vec<u8>) -> Result<Output, AllocError>
         ensures piece { IfOk result (λ output. joined output.pieces.items ≡ piece.items) }
         ensures err { IfOk result (λ output. joined output.err.items ≡ []) }
     {

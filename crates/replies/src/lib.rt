@@ -1,0 +1,18 @@
+//! What the program replies: the answer to a line as the specification has it (`specs/Answer.antt`), the lines that are written, statuses,
+//! and why there is no output.
+#![tactic(auto)]
+
+mod lines;
+mod origin;
+mod output;
+mod status;
+mod stop;
+
+pub use lines::{
+    invalid_line, malformed_line, printer_line, run_limit_line, script_line, start_limit_line,
+    stats_line, value_line,
+};
+pub use origin::Origin;
+pub use output::Output;
+pub use status::Status;
+pub use stop::{Refusal, Stop, refuse, refuse_by, with_err};
