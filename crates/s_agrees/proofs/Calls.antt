@@ -38,11 +38,11 @@ types_many (q ∷ ps) = ap suc (types_many ps)
 -- the variables of a function that is entered
 pub entered_active : {p : Script} (facts : Facts p.declarations) (g : Name) (fn : Function) → function_of p.declarations g ≡ Some fn → {ρ : List ℕ} {vs : Values} {ws : Row Val} (vars : List Variable)
     → many vs ≡ length fn.parameters → Sames ρ vs ws → bind fn.parameters (script.listed vs) ≡ Some vars
-    → Active ρ (function_layout fn) (high_block fn.body) (first_locals ws (function_locals fn)) vars
-entered_active facts g fn is {vs = vs} {ws = ws} vars enough values bound =
+    → Active ρ (function_layout p.declarations fn) (high_block fn.body) (first_locals ws (function_locals p.declarations fn)) vars
+entered_active {p} facts g fn is {vs = vs} {ws = ws} vars enough values bound =
     let q = facts.functions g fn is in
-    let a = many_locals ws (function_locals fn) in let b = sames_many values in let r = q.room in
-    record { fine = q.fine; room = omega (arith, a, b, r, enough); holds = holds_bound q.parameters bound (held_first (function_locals fn) values) }
+    let a = many_locals ws (function_locals p.declarations fn) in let b = sames_many values in let r = q.room in
+    record { fine = q.fine; room = omega (arith, a, b, r, enough); holds = holds_bound q.parameters bound (held_first (function_locals p.declarations fn) values) }
 
 module _ {p : Script} (same : ℕ → ℕ → Bool) (facts : Facts p.declarations) {ρ : List ℕ} {σ : script.Store} {s : Store} (stores : Stores p.declarations ρ σ s) {Γ : Layout} {n D0 : ℕ} {L : Locals} {vars : List Variable} {owner : Option Name} {κ : script.Context} {below : Row Val} {c' : Code} {e' f : Context}
     (active : Active ρ Γ n L vars) (base : Base p.declarations Γ L below c' e' owner D0 f) (waits : Waits p.declarations ρ κ below c' e') where
@@ -55,9 +55,9 @@ module _ {p : Script} (same : ℕ → ℕ → Bool) (facts : Facts p.declaration
       let q = facts.functions g fn is in
       let b = bind_known fn.parameters (script.listed vs) (sym enough ∙ sym (listed_many vs)) in
       let t : Term = config e (ops ⧺ ws) (Plain (call (function_index ds g)) c) in
-      let t' : Term = config (entered (function_index ds g - 1) ops ws (function_locals fn) (rest_of c) e) ε (body ds (function_layout fn) 0 fn.body) in
+      let t' : Term = config (entered (function_index ds g - 1) ops ws (function_locals ds fn) (rest_of c) e) ε (body ds (function_layout ds fn) 0 fn.body) in
       let called : step (program_of p same) s t ≡ Went [] s t' =
-      invoke_step p same s e ops ws (rest_of c) (function_index ds g) (val_types fn.parameters) (record { locals = function_locals fn; body = body ds (function_layout fn) 0 fn.body }) stores.functions (function_stored ds g fn is)
+      invoke_step p same s e ops ws (rest_of c) (function_index ds g) (val_types fn.parameters) (record { locals = function_locals ds fn; body = body ds (function_layout ds fn) 0 fn.body }) stores.functions (function_stored ds g fn is)
       (types_many fn.parameters ∙ sym enough ∙ sames_many values) in
       rw (is, b.1)
       (went (go called (under_last s s t t' (omega arith)) stay) (omega arith) (omega arith)

@@ -184,7 +184,7 @@ record ClauseAt (ds : List Declaration) (op : Name) (k : ℕ) (f : Found) : Type
   before : List Placed
   placed : Placed
   behind : List Placed
-  split : placed_clauses f.h f.handler ≡ before ++ placed ∷ behind
+  split : placed_clauses ds f.h f.handler ≡ before ++ placed ∷ behind
   is : placed.clause ≡ f.clause
   answer : label_clause (tag_index ds op) (clause_answers ds 0 f.handler.clauses) ≡ Some (length before)
   facts : ClauseFacts ds f.h f.handler placed.clause placed.layout
@@ -203,13 +203,13 @@ clause_at : {ds : List Declaration} {ρ : List ℕ} {op : Name} {k : ℕ} {f : F
 clause_at {ds} {op = op} {k = k} {f = f} facts known r =
     let hf = facts.handlers f.h f.handler r.handler in
     let pk = pick ds op known 0 f.handler.clauses f.clause (clauses_declared hf) r.clause in
-    let pl = placed_at (placed_clauses f.h f.handler) pk.pre f.clause pk.post (clauses_placed f.h f.handler ∙ pk.split) in
+    let pl = placed_at (placed_clauses ds f.h f.handler) pk.pre f.clause pk.post (clauses_placed ds f.h f.handler ∙ pk.split) in
     let long = pl.long in
     let cf : ClauseFacts ds f.h f.handler pl.placed.clause pl.placed.layout =
     hf.clauses (length pl.before) pl.placed (ap (λ (z : List Placed). slice_get z (length pl.before)) pl.split ∙ get_middle pl.before pl.after pl.placed) in
-    let all : length f.handler.clauses ≡ length (placed_clauses f.h f.handler) =
-    ap (λ (z : List Clause). length z) (sym (clauses_placed f.h f.handler)) ∙ clauses_long (placed_clauses f.h f.handler) in
-    let parts : length (placed_clauses f.h f.handler) ≡ length pl.before + suc (length pl.after) =
+    let all : length f.handler.clauses ≡ length (placed_clauses ds f.h f.handler) =
+    ap (λ (z : List Clause). length z) (sym (clauses_placed ds f.h f.handler)) ∙ clauses_long (placed_clauses ds f.h f.handler) in
+    let parts : length (placed_clauses ds f.h f.handler) ≡ length pl.before + suc (length pl.after) =
     ap (λ (z : List Placed). length z) pl.split ∙ length-append pl.before (pl.placed ∷ pl.after) in
     let few = hf.few_clauses in
     let effect : pl.placed.clause.effect ≡ op = ap (λ (z : Clause). z.effect) pl.is ∙ pk.effect in
@@ -234,7 +234,7 @@ clause_locals {z = z} cf L b ws = set_from (slice_set L (cf.first + length z.arg
 abbrev resumption_variable : Clause → Name → ℕ → Variable
 resumption_variable z h a = record { name = z.resumption; ty = Resumption h; value = Reference a }
 
-module _ {ds : List Declaration} {h : Name} {i : Handler} {z : Clause} {Γ : Layout} (cf : ClauseFacts ds h i z Γ) (L : Locals) (b : ℕ) (ws : List Val) (room : handler_room h i ≤ length L)
+module _ {ds : List Declaration} {h : Name} {i : Handler} {z : Clause} {Γ : Layout} (cf : ClauseFacts ds h i z Γ) (L : Locals) (b : ℕ) (ws : List Val) (room : handler_room ds h i ≤ length L)
     (long : length z.arguments ≡ length ws) where
   -- the resumption's local lies in the frame
   resumption_below : cf.first + length z.arguments < length L
@@ -321,8 +321,8 @@ module _ {p : Script} (same : ℕ → ℕ → Bool) {ρ : List ℕ} {σ : script
     inner = r.inside;
     below = ε;
     clauses = clause_answers p.declarations 0 f.handler.clauses;
-    rest = return_code p.declarations (return_layout f.h f.handler) (length f.handler.clauses) f.handler;
-    outer = frame_in (placed_clauses f.h f.handler) r.locals;
+    rest = return_code p.declarations (return_layout p.declarations f.h f.handler) (length f.handler.clauses) f.handler;
+    outer = frame_in (placed_clauses p.declarations f.h f.handler) r.locals;
     answer = length a.before;
   }
 
@@ -370,7 +370,7 @@ module _ {p : Script} (same : ℕ → ℕ → Bool) {ρ : List ℕ} {σ : script
   unfolding the_handle
   do_path =
       go (suspend_step (program_of p same) s e ops ws c (tag_index p.declarations op) (arrow (numbers k) (I64 ∷ [])) the_handle ((offers_all p.declarations).effect op k known) as_many_operands handle_found)
-      ((around_clause (placed_clauses f.h f.handler)).under r.locals)
+      ((around_clause (placed_clauses p.declarations f.h f.handler)).under r.locals)
       (go branch_step ((around_clause a.behind).under r.locals) set_clause)
 
   -- the captured context's labels are kept with it
@@ -378,9 +378,9 @@ module _ {p : Script} (same : ℕ → ℕ → Bool) {ρ : List ℕ} {σ : script
   do_weight =
       let few = a.facts.few in
       let x : labels e ≡ labels r.inside + labels (tail_of r) = ap (λ (z : Context). labels z) r.is ∙ labels_plug r.inside (tail_of r) in
-      let y = clauses_labels p.declarations (placed_clauses f.h f.handler) (in_loop p.declarations f.h f.handler r.locals r.below r.code r.outside') in
+      let y = clauses_labels p.declarations (placed_clauses p.declarations f.h f.handler) (in_loop p.declarations f.h f.handler r.locals r.below r.code r.outside') in
       let z = clauses_labels p.declarations a.behind (in_loop p.declarations f.h f.handler locals_then r.below r.code r.outside') in
-      let n : length (placed_clauses f.h f.handler) ≡ length a.before + suc (length a.behind) = ap (λ (qs : List Placed). length qs) a.split ∙ length-append a.before (a.placed ∷ a.behind) in
+      let n : length (placed_clauses p.declarations f.h f.handler) ≡ length a.before + suc (length a.behind) = ap (λ (qs : List Placed). length qs) a.split ∙ length-append a.before (a.placed ∷ a.behind) in
       let m = stored_more s.conts kept in
       omega (arith, few, x, y, z, n, m)
 

@@ -260,5 +260,5 @@ pub waits_join : {ds : List Declaration} {ρ : List ℕ} {κ : script.Context} {
 waits_join κ2 tail j outside = j
 waits_join κ2 tail j (activation a w b k) = activation a (works_beyond (plugging tail) w) (base_plug tail b) (waits_join κ2 tail j k)
 waits_join {ds} {ρ} κ2 tail j (handle {h = h} {i = i} {L = L} {vs = vs} {κ = κ} {below = below} {c = c} {e = e} is room n g k) =
-    subst (λ (z : Context). Waits ds ρ (Handled h vs ∷ (κ ++ κ2)) ε Done (Handle ε (labels ds 0 i.clauses) (return_code ds (return_layout h i) (length i.clauses) i) ∷ z))
-    (sym (clauses_beyond (plugging tail) ds (placed_clauses h i) (in_loop ds h i L below c e))) (handle is room n g (waits_join κ2 tail j k))
+    subst (λ (z : Context). Waits ds ρ (Handled h vs ∷ (κ ++ κ2)) ε Done (Handle ε (labels ds 0 i.clauses) (return_code ds (return_layout ds h i) (length i.clauses) i) ∷ z))
+    (sym (clauses_beyond (plugging tail) ds (placed_clauses ds h i) (in_loop ds h i L below c e))) (handle is room n g (waits_join κ2 tail j k))

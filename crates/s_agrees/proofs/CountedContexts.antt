@@ -177,7 +177,7 @@ waits_counted (activation a w b k) =
     }
 waits_counted {ds} (handle {h = h} {i = i} {L = L} {below = below} {c = c} {e = e} is room n g k) =
     let q = waits_counted k in let qf = q.frames in
-    let x = clauses_frames ds (placed_clauses h i) (in_loop ds h i L below c e) in record {
+    let x = clauses_frames ds (placed_clauses ds h i) (in_loop ds h i L below c e) in record {
       frames = omega (arith, qf, x);
-      handles = ap suc (clauses_handles ds (placed_clauses h i) (in_loop ds h i L below c e) ∙ q.handles);
+      handles = ap suc (clauses_handles ds (placed_clauses ds h i) (in_loop ds h i L below c e) ∙ q.handles);
     }

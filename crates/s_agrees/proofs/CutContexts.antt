@@ -97,13 +97,13 @@ module _ (ds : List Declaration) (op : Name) {k : ℕ} (known : effect_of ds op 
 abbrev pub clauses_of : List Placed → List Clause
 clauses_of ps = map (λ (q : Placed). q.clause) ps
 
-pub clauses_from : (h : Name) (i : Handler) (n : ℕ) (cs : List Clause) → clauses_of (placed_from h i n cs) ≡ cs
-clauses_from h i n [] = refl
-clauses_from h i n (c ∷ cs) = ap (λ (z : List Clause). c ∷ z) (clauses_from h i (n + length (clause_names h c)) cs)
+pub clauses_from : (ds : List Declaration) (h : Name) (i : Handler) (n : ℕ) (cs : List Clause) → clauses_of (placed_from ds h i n cs) ≡ cs
+clauses_from ds h i n [] = refl
+clauses_from ds h i n (c ∷ cs) = ap (λ (z : List Clause). c ∷ z) (clauses_from ds h i (n + length (clause_names ds h c)) cs)
 
 -- the clauses that are placed are the handler's
-pub clauses_placed : (h : Name) (i : Handler) → clauses_of (placed_clauses h i) ≡ i.clauses
-clauses_placed h i = clauses_from h i (clauses_place i) i.clauses
+pub clauses_placed : (ds : List Declaration) (h : Name) (i : Handler) → clauses_of (placed_clauses ds h i) ≡ i.clauses
+clauses_placed ds h i = clauses_from ds h i (clauses_place ds i) i.clauses
 
 -- a clause among those that are placed
 pub record PlacedAt (ps : List Placed) (n : ℕ) (c : Clause) : Type 0 where
@@ -131,7 +131,7 @@ placed_get (q ∷ ps) (suc j) c e = placed_get ps j c e
 pub clauses_declared : {ds : List Declaration} {h : Name} {i : Handler} → HandlerFacts ds h i → Declared ds i.clauses
 clauses_declared {ds} {h} {i} facts = record {
   each = λ j c e.
-      let q = placed_get (placed_clauses h i) j c (ap (λ (z : List Clause). slice_get z j) (clauses_placed h i) ∙ e) in
+      let q = placed_get (placed_clauses ds h i) j c (ap (λ (z : List Clause). slice_get z j) (clauses_placed ds h i) ∙ e) in
       subst (λ (z : Clause). effect_of ds z.effect ≡ Some (length z.arguments)) q.2 (facts.clauses j q.0 q.1).effect;
 }
 
@@ -160,20 +160,20 @@ pub record CutAt (ds : List Declaration) (ρ : List ℕ) (ops : Row Val) (c : Co
   pub handler : handler_of ds f.h ≡ Some f.handler
   pub clause : clause_of op f.handler.clauses ≡ Some f.clause
   pub locals : Locals
-  pub room : handler_room f.h f.handler ≤ length locals
+  pub room : handler_room ds f.h f.handler ≤ length locals
   pub as_many : length f.params ≡ length f.handler.parameters
   pub held : Held ρ locals f.params
   pub below : Row Val
   pub code : Code
   pub outside' : Context
   pub outer : Waits ds ρ f.outer below code outside'
-  pub is : e ≡ inside ++ Handle ε (labels ds 0 f.handler.clauses) (return_code ds (return_layout f.h f.handler) (length f.handler.clauses) f.handler)
-      ∷ clause_labels ds (placed_clauses f.h f.handler) (in_loop ds f.h f.handler locals below code outside')
+  pub is : e ≡ inside ++ Handle ε (labels ds 0 f.handler.clauses) (return_code ds (return_layout ds f.h f.handler) (length f.handler.clauses) f.handler)
+      ∷ clause_labels ds (placed_clauses ds f.h f.handler) (in_loop ds f.h f.handler locals below code outside')
 
 -- the handle, and what is around it
 abbrev pub tail_of : {ds : List Declaration} {ρ : List ℕ} {ops : Row Val} {c : Code} {e : Context} {op : Name} {f : Found} → CutAt ds ρ ops c e op f → Context
-tail_of {ds} {f = f} r = Handle ε (labels ds 0 f.handler.clauses) (return_code ds (return_layout f.h f.handler) (length f.handler.clauses) f.handler)
-    ∷ clause_labels ds (placed_clauses f.h f.handler) (in_loop ds f.h f.handler r.locals r.below r.code r.outside')
+tail_of {ds} {f = f} r = Handle ε (labels ds 0 f.handler.clauses) (return_code ds (return_layout ds f.h f.handler) (length f.handler.clauses) f.handler)
+    ∷ clause_labels ds (placed_clauses ds f.h f.handler) (in_loop ds f.h f.handler r.locals r.below r.code r.outside')
 
 -- what is found, one place farther
 abbrev one_more : Place → Found → Found
@@ -213,16 +213,16 @@ module _ {p : Script} (facts : Facts p.declarations) (op : Name) {k : ℕ} (know
 
   -- a handle: it is the one where its handler has a clause for the effect, and else the cut is farther out
   cut_handle : {ρ : List ℕ} (h : Name) {i : Handler} {L : Locals} {vs : List Value} {κ : script.Context} {below : Row Val} {c : Code} {e : Context}
-      → handler_of p.declarations h ≡ Some i → handler_room h i ≤ length L → length vs ≡ length i.parameters → Held ρ L vs → Waits p.declarations ρ κ below c e
+      → handler_of p.declarations h ≡ Some i → handler_room p.declarations h i ≤ length L → length vs ≡ length i.parameters → Held ρ L vs → Waits p.declarations ρ κ below c e
       → ((g : Found) → find p op κ ≡ Some g → CutAt p.declarations ρ below c e op g)
       → (f : Found) (o : Option Clause) → clause_of op i.clauses ≡ o → with_clause h vs κ i o (find p op κ) ≡ Some f
       → CutAt p.declarations ρ ε Done
-      (Handle ε (labels p.declarations 0 i.clauses) (return_code p.declarations (return_layout h i) (length i.clauses) i)
-      ∷ clause_labels p.declarations (placed_clauses h i) (in_loop p.declarations h i L below c e)) op f
+      (Handle ε (labels p.declarations 0 i.clauses) (return_code p.declarations (return_layout p.declarations h i) (length i.clauses) i)
+      ∷ clause_labels p.declarations (placed_clauses p.declarations h i) (in_loop p.declarations h i L below c e)) op f
   cut_handle {ρ} h {i} {L} {vs} {κ} {below} {c} {e} is room n g w more_in f (Some x) q r =
       subst (λ (z : Found). CutAt p.declarations ρ ε Done
-      (Handle ε (labels p.declarations 0 i.clauses) (return_code p.declarations (return_layout h i) (length i.clauses) i)
-      ∷ clause_labels p.declarations (placed_clauses h i) (in_loop p.declarations h i L below c e)) op z)
+      (Handle ε (labels p.declarations 0 i.clauses) (return_code p.declarations (return_layout p.declarations h i) (length i.clauses) i)
+      ∷ clause_labels p.declarations (placed_clauses p.declarations h i) (in_loop p.declarations h i L below c e)) op z)
       (some_is r) (record {
         inside = [];
         inner = outside;
@@ -241,16 +241,16 @@ module _ {p : Script} (facts : Facts p.declarations) (op : Name) {k : ℕ} (know
       })
   cut_handle {ρ} h {i} {L} {vs} {κ} {below} {c} {e} is room n g w more_in f None q r =
       let m = farther_some (Handled h vs) (find p op κ) f r in let y = more_in m.0 m.1 in
-      let inside' : Context = Handle ε (labels p.declarations 0 i.clauses) (return_code p.declarations (return_layout h i) (length i.clauses) i)
-      ∷ clause_labels p.declarations (placed_clauses h i) (in_loop p.declarations h i L below c y.inside) in
+      let inside' : Context = Handle ε (labels p.declarations 0 i.clauses) (return_code p.declarations (return_layout p.declarations h i) (length i.clauses) i)
+      ∷ clause_labels p.declarations (placed_clauses p.declarations h i) (in_loop p.declarations h i L below c y.inside) in
       subst (λ (z : Found). CutAt p.declarations ρ ε Done
-      (Handle ε (labels p.declarations 0 i.clauses) (return_code p.declarations (return_layout h i) (length i.clauses) i)
-      ∷ clause_labels p.declarations (placed_clauses h i) (in_loop p.declarations h i L below c e)) op z) m.2
+      (Handle ε (labels p.declarations 0 i.clauses) (return_code p.declarations (return_layout p.declarations h i) (length i.clauses) i)
+      ∷ clause_labels p.declarations (placed_clauses p.declarations h i) (in_loop p.declarations h i L below c e)) op z) m.2
       (inward (Handled h vs) inside' y (handle is room n g y.inner)
-      (no_answer h i is q, clauses_inner (label_clause (tag_index p.declarations op)) p.declarations (placed_clauses h i) (in_loop p.declarations h i L below c y.inside) y.uncaught)
-      (ap (λ (z : Context). Handle ε (labels p.declarations 0 i.clauses) (return_code p.declarations (return_layout h i) (length i.clauses) i) ∷ z)
-      (ap (λ (z : Context). clause_labels p.declarations (placed_clauses h i) (in_loop p.declarations h i L below c z)) y.is
-      ∙ sym (clauses_beyond (plugging (tail_of y)) p.declarations (placed_clauses h i) (in_loop p.declarations h i L below c y.inside)))))
+      (no_answer h i is q, clauses_inner (label_clause (tag_index p.declarations op)) p.declarations (placed_clauses p.declarations h i) (in_loop p.declarations h i L below c y.inside) y.uncaught)
+      (ap (λ (z : Context). Handle ε (labels p.declarations 0 i.clauses) (return_code p.declarations (return_layout p.declarations h i) (length i.clauses) i) ∷ z)
+      (ap (λ (z : Context). clause_labels p.declarations (placed_clauses p.declarations h i) (in_loop p.declarations h i L below c z)) y.is
+      ∙ sym (clauses_beyond (plugging (tail_of y)) p.declarations (placed_clauses p.declarations h i) (in_loop p.declarations h i L below c y.inside)))))
 
   -- at the innermost handle with a clause for the effect
   pub cut : {ρ : List ℕ} {κ : script.Context} {ops : Row Val} {c : Code} {e : Context} → Waits p.declarations ρ κ ops c e → (f : Found) → find p op κ ≡ Some f → CutAt p.declarations ρ ops c e op f
@@ -278,4 +278,4 @@ module _ {p : Script} (facts : Facts p.declarations) (op : Name) {k : ℕ} (know
       (base_inner (label_clause (tag_index p.declarations op)) b (uncut u (farther_none (Activation vars owner work) (find p op κ) q)))
   uncut (handle {h = h} {i = i} {L = L} {vs = vs} {κ = κ} {below = below} {c = c} {e = e} is room n g u) q =
       let r = uncut_handle h vs κ e is (uncut u) (clause_of op i.clauses) refl (ap (λ (o : Option Handler). with_handler op h vs κ o (find p op κ)) (sym is) ∙ q) in
-      (r.0, clauses_inner (label_clause (tag_index p.declarations op)) p.declarations (placed_clauses h i) (in_loop p.declarations h i L below c e) r.1)
+      (r.0, clauses_inner (label_clause (tag_index p.declarations op)) p.declarations (placed_clauses p.declarations h i) (in_loop p.declarations h i L below c e) r.1)

@@ -6,12 +6,13 @@ use Rattle.s_syntax.specs.declared.script.Declaration.{Declaration}
 use Rattle.s_syntax.specs.BlockTree.{BlockTree}
 use Rattle.s_check.specs.declared.rule.Rule.TheVariants as rule
 use Rattle.s_check.specs.Rules.{when, in_block, in_body}
-use Rattle.s_check.specs.Scopes.{Bound, bind_all, number as number_name, lets_in, is_among, some_twice}
+use Rattle.s_check.specs.Scopes.{Bound, bind_all, lets_in, is_among, some_twice}
 use Rattle.s_code.specs.Layouts.{Local, local_of}
-use Rattle.s_code.specs.Places.{lets}
+use Rattle.s_code.specs.Places.{binds_in}
 use Rattle.s_meaning.proofs.BoundInTurn.{or_left, or_right, twice_of}
 use Rattle.s_meaning.proofs.Good.{parts, when_not}
 use Rattle.s_meaning.proofs.Scopes.{same_refl, bool_of}
+use Rattle.s_valid.proofs.BoundOnce.{names_of_lets}
 
 -- ## Names
 
@@ -23,19 +24,15 @@ pub names_appended : (bs cs : List Bound) → names (bs ++ cs) ≡ names bs ++ n
 names_appended [] cs = refl
 names_appended (b ∷ bs) cs = ap (λ (xs : List Name). b.name ∷ xs) (names_appended bs cs)
 
-names_of_lets : (xs : List Name) → names (map number_name xs) ≡ xs
-names_of_lets [] = refl
-names_of_lets (x ∷ xs) = ap (λ (ys : List Name). x ∷ ys) (names_of_lets xs)
-
 -- no name is bound twice
 abbrev pub Once : List Bound → Type 0
 Once bs = some_twice [] (names bs) ≡ false
 
 -- what a body that breaks no rule binds
-pub body_once : (ds : List Declaration) (bs : List Bound) (b : BlockTree) → in_body ds bs b ≡ [] → Once (bs ++ lets b)
+pub body_once : (ds : List Declaration) (bs : List Bound) (b : BlockTree) → in_body ds bs b ≡ [] → Once (bs ++ binds_in ds b)
 body_once ds bs b q =
     let t = parts (when (some_twice [] (map (λ (c : Bound). c.name) bs ++ lets_in b)) rule.NameBoundTwice) (in_block ds (bind_all bs []) b) q in
-    ap (λ (xs : List Name). some_twice [] xs) (names_appended bs (lets b) ∙ ap (λ (xs : List Name). names bs ++ xs) (names_of_lets (lets_in b)))
+    ap (λ (xs : List Name). some_twice [] xs) (names_appended bs (binds_in ds b) ∙ ap (λ (xs : List Name). names bs ++ xs) (names_of_lets (lets_in b)))
     ∙ when_not (some_twice [] (map (λ (c : Bound). c.name) bs ++ lets_in b)) rule.NameBoundTwice t.0
 
 -- ## Locals

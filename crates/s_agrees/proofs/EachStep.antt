@@ -18,7 +18,8 @@ use Rattle.s_syntax.specs.declared.script.Declaration.{Declaration}
 use Rattle.s_syntax.specs.declared.script.Script.{Script}
 use Rattle.s_syntax.specs.declared.operators.BinaryOperator.TheVariants.{Connects, Compares, Computes}
 use Rattle.s_syntax.specs.ExprTree.{ExprTree, Read, Resume, Exprs}
-use Rattle.s_syntax.specs.BlockTree.{StatementTree, BlockTree, Let, Assign, If, While, Print, Return, Fail, Evaluate, ◌⨟◌}
+use Rattle.s_syntax.specs.declared.statement.Use.TheVariants as use_for
+use Rattle.s_syntax.specs.BlockTree.{StatementTree, BlockTree, Evaluate, If, While, Fail, ◌⨟◌}
 use Rattle.s_check.specs.Rules.{count}
 use Rattle.s_check.specs.Scopes.{Scope, is_among}
 use Rattle.s_index.specs.Handled.{handled_names}
@@ -33,11 +34,11 @@ use Rattle.s_meaning.specs.Terms.{Value, Variable, Head, Calling, Doing, Handlin
 use Rattle.s_meaning.specs.Focus.{Redex, Applies, Focused, at, followed_by, in_expr, in_args, variable_of, is_resumption_of, is_own, in_return, in_block, in_work}
 use Rattle.s_meaning.specs.Steps.{Step, or_wrong, rule, step_at}
 use Rattle.s_meaning.specs.Steps as meaning
-use Rattle.s_meaning.specs.Typing.{ExprTyped, BlockTyped}
+use Rattle.s_meaning.specs.Typing.{ExprTyped, StatementTyped}
 use Rattle.s_meaning.specs.Typing as typing
-use Rattle.s_meaning.specs.Typed.{World, Covers, TermTyped, in_activation, in_handle, StoreTyped, Typed}
+use Rattle.s_meaning.specs.Typed.{World, Covers, RestTyped, TermTyped, in_activation, in_handle, StoreTyped, Typed}
 use Rattle.s_meaning.specs.Typed as typed
-use Rattle.s_meaning.proofs.TypedFocus.{RedexTyped, NextTyped, next_typed}
+use Rattle.s_meaning.proofs.TypedFocus.{RedexTyped, NextTyped, rest_begun, next_typed}
 use Rattle.s_meaning.proofs.Scopes.{bool_of}
 use Rattle.s_agrees.proofs.ScriptRows.{Values, no_values, ◌▸◌, ◌⧻◌, many}
 use Rattle.s_agrees.proofs.StandsFor as standing
@@ -352,23 +353,25 @@ module _ {p : Script} (same : ℕ → ℕ → Bool) (rules : RulesMatched p same
       before 2 refl refl refl (omega arith) (sim_expr v (standing.Works.within (standing.Uses.turns v w r)) q)
 
   -- a statement, before the rest of its body
-  sim_statement : {scope : Scope} {D : ℕ} (st : StatementTree) {rest : BlockTree} {c : Code} {e : Context} → Covers Ξ scope vars → BlockTyped p scope (st ⨟ rest) → WellStatement p.declarations Γ n st
+  sim_statement : {scope scope' : Scope} {D : ℕ} (st : StatementTree) {rest : BlockTree} {c : Code} {e : Context} → Covers Ξ scope vars → StatementTyped p scope st scope' → WellStatement p.declarations Γ n st
       → Rest p.declarations Γ n D0 f D rest c e → NextTyped p Ξ vars (Some (in_block vars owner (st ⨟ rest)))
       → Matches p same 56 s (config e ε (statement p.declarations Γ D st c)) (ruled p σ vars owner κ (in_block vars owner (st ⨟ rest)))
-  sim_statement (Let x y) covers t (standing.WellStatement.lets h w) r q = now q (ready_expr w (standing.Works.within (standing.Uses.sets h r)))
-  sim_statement (Assign x y) covers t (standing.WellStatement.assigns h w) r q = now q (ready_expr w (standing.Works.within (standing.Uses.sets h r)))
+  sim_statement (Evaluate (use_for.Let x) y) covers t (standing.WellStatement.lets h w) r q = now q (ready_expr w (standing.Works.within (standing.Uses.sets h r)))
+  sim_statement (Evaluate (use_for.Assign x) y) covers t (standing.WellStatement.assigns h w) r q = now q (ready_expr w (standing.Works.within (standing.Uses.sets h r)))
   sim_statement (If y a b) covers t (standing.WellStatement.ifs w u v) r q = now q (ready_expr w (standing.Works.within (standing.Uses.chooses u v r)))
   sim_statement (While y b) covers t (standing.WellStatement.whiles w v) r q = before 2 refl refl refl (omega arith) (sim_loop w v r q)
-  sim_statement (Print y) covers t (standing.WellStatement.print w) r q = now q (ready_expr w (standing.Works.within (standing.Uses.prints r)))
-  sim_statement (Return y) covers (typing.BlockTyped.returns t b) (standing.WellStatement.return w) r q = now q (ready_return active base y covers t w r)
+  sim_statement (Evaluate use_for.Print y) covers t (standing.WellStatement.print w) r q = now q (ready_expr w (standing.Works.within (standing.Uses.prints r)))
+  sim_statement (Evaluate use_for.Return y) covers (typing.StatementTyped.evaluates t u) (standing.WellStatement.return w) r q = now q (ready_return active base y covers t w r)
   sim_statement Fail {c = c} covers t standing.WellStatement.fail r q = now q (record { used = 0; ready = fail_ready c (rest_deep r).deep })
-  sim_statement (Evaluate y) covers t (standing.WellStatement.drop w) r q = now q (ready_expr w (standing.Works.within (standing.Uses.drops r)))
+  sim_statement (Evaluate use_for.Drop y) covers t (standing.WellStatement.drop w) r q = now q (ready_expr w (standing.Works.within (standing.Uses.drops r)))
 
   -- the rest of a body
-  sim_block : {scope : Scope} {D : ℕ} {b : BlockTree} {c : Code} {e : Context} → Covers Ξ scope vars → BlockTyped p scope b → Rest p.declarations Γ n D0 f D b c e → NextTyped p Ξ vars (Some (in_block vars owner b))
+  sim_block : {scope : Scope} {D : ℕ} {b : BlockTree} {c : Code} {e : Context} → Covers Ξ scope vars → RestTyped p scope b → Rest p.declarations Γ n D0 f D b c e → NextTyped p Ξ vars (Some (in_block vars owner b))
       → Matches p same 56 s (config e ε c) (ruled p σ vars owner κ (in_block vars owner b))
   sim_block covers t standing.Rest.ends q = now q (record { used = 0; ready = end_ready })
-  sim_block covers t (standing.Rest.does {s = st} w r) q = sim_statement st covers t w r q
+  sim_block covers t (standing.Rest.does {s = st} w r) q =
+      let begun = rest_begun covers t in
+      sim_statement st begun.covers begun.typed w r q
   sim_block covers t (standing.Rest.leaves r) q = before 0 refl refl refl (omega arith) (sim_block covers t r q)
   sim_block covers t (standing.Rest.turns {D = D} {x = x} {b = b} {c = c} {e = e} v w r) q =
       more_room (omega arith) (before 0 (again_step (program_of p same) s (Label ε 0 Done c ∷ e) (while_turn p.declarations Γ D x b) Done) refl refl (omega arith) (sim_loop v w r q))

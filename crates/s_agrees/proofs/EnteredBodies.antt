@@ -130,11 +130,11 @@ get_clause [] j q e = absurd (cc)
 get_clause (r ∷ ps) zero q e = let is : r ≡ q = cc in ap (λ (z : Placed). Some z.clause) is
 get_clause (r ∷ ps) (suc j) q e = get_clause ps j q e
 
-pub all_placed : (h : Name) (i : Handler) → AllAre i (placed_clauses h i)
-all_placed h i = λ j q at. (j, ap (λ (z : List Clause). slice_get z j) (sym (clauses_placed h i)) ∙ get_clause (placed_clauses h i) j q at)
+pub all_placed : (ds : List Declaration) (h : Name) (i : Handler) → AllAre i (placed_clauses ds h i)
+all_placed ds h i = λ j q at. (j, ap (λ (z : List Clause). slice_get z j) (sym (clauses_placed ds h i)) ∙ get_clause (placed_clauses ds h i) j q at)
 
-pub many_placed : (h : Name) (i : Handler) → length (placed_clauses h i) ≡ length i.clauses
-many_placed h i = sym (mapped (placed_clauses h i)) ∙ ap (λ (z : List Clause). length z) (clauses_placed h i)
+pub many_placed : (ds : List Declaration) (h : Name) (i : Handler) → length (placed_clauses ds h i) ≡ length i.clauses
+many_placed ds h i = sym (mapped (placed_clauses ds h i)) ∙ ap (λ (z : List Clause). length z) (clauses_placed ds h i)
   where
     mapped : (ps : List Placed) → length (clauses_of ps) ≡ length ps
     mapped [] = refl
@@ -170,29 +170,29 @@ pub enter_path : (p : Script) (same : ℕ → ℕ → Bool) (h : Name) (i : Hand
     → {k : Caps} {s : Store} {e : Context} {below : Row Val} {c : Code} {L : Locals} (b : ℕ) (kept : Continuation)
     → slice_get L (length i.parameters) ≡ Some (Some (Cont b)) → slice_get s.conts b ≡ Some (Some kept) → kept.takes ≡ 0
     → Under k s (Frame below 1 (handler_place p.declarations h) L (rest_of c) ∷ e)
-    → Under k (without_cont b s) (kept.term.around ++ Handle ε (labels p.declarations 0 i.clauses) (return_code p.declarations (return_layout h i) (length i.clauses) i)
-    ∷ clause_labels p.declarations (placed_clauses h i) (in_loop p.declarations h i L below c e))
+    → Under k (without_cont b s) (kept.term.around ++ Handle ε (labels p.declarations 0 i.clauses) (return_code p.declarations (return_layout p.declarations h i) (length i.clauses) i)
+    ∷ clause_labels p.declarations (placed_clauses p.declarations h i) (in_loop p.declarations h i L below c e))
     → Path (program_of p same) k (3 + length i.clauses) s (config (Label ε 1 Done Done ∷ Frame below 1 (handler_place p.declarations h) L (rest_of c) ∷ e) ε (loop_code p.declarations h i))
     (without_cont b s) (record {
-      around = kept.term.around ++ Handle ε (labels p.declarations 0 i.clauses) (return_code p.declarations (return_layout h i) (length i.clauses) i)
-          ∷ clause_labels p.declarations (placed_clauses h i) (in_loop p.declarations h i L below c e);
+      around = kept.term.around ++ Handle ε (labels p.declarations 0 i.clauses) (return_code p.declarations (return_layout p.declarations h i) (length i.clauses) i)
+          ∷ clause_labels p.declarations (placed_clauses p.declarations h i) (in_loop p.declarations h i L below c e);
       operands = kept.term.operands;
       rest = kept.term.rest;
     })
 enter_path p same h i is {k} {s} {e} {below} {c} {L} b kept local there nothing u v =
     let ds = p.declarations in
-    let ps = placed_clauses h i in
+    let ps = placed_clauses ds h i in
     let inside : Under k s (in_loop ds h i L below c e) = record { frames = u.frames; handles = u.handles; conts = u.conts } in
     let end : Term = record {
-      around = kept.term.around ++ Handle ε (labels ds 0 i.clauses) (return_code ds (return_layout h i) (length i.clauses) i) ∷ clause_labels ds ps (in_loop ds h i L below c e);
+      around = kept.term.around ++ Handle ε (labels ds 0 i.clauses) (return_code ds (return_layout ds h i) (length i.clauses) i) ∷ clause_labels ds ps (in_loop ds h i L below c e);
       operands = kept.term.operands;
       rest = kept.term.rest;
     } in
     let resumed : step (program_of p same) s (config (clause_labels ds ps (in_loop ds h i L below c e)) (ε ▹ Cont b)
-    (Plain (resume computation_type (labels ds 0 i.clauses)) (return_code ds (return_layout h i) (length i.clauses) i))) ≡ Went [] (without_cont b s) end = rw (there, nothing) refl in
-    let entered_all = block_path p same h i is {k = k} {s = s} {e = in_loop ds h i L below c e} ps (handling ds (return_layout h i) i) (all_placed h i) inside in
-    let got : Path (program_of p same) k 2 s (config (clause_labels ds ps (in_loop ds h i L below c e)) ε (handling ds (return_layout h i) i)) (without_cont b s) end =
+    (Plain (resume computation_type (labels ds 0 i.clauses)) (return_code ds (return_layout ds h i) (length i.clauses) i))) ≡ Went [] (without_cont b s) end = rw (there, nothing) refl in
+    let entered_all = block_path p same h i is {k = k} {s = s} {e = in_loop ds h i L below c e} ps (handling ds (return_layout ds h i) i) (all_placed ds h i) inside in
+    let got : Path (program_of p same) k 2 s (config (clause_labels ds ps (in_loop ds h i L below c e)) ε (handling ds (return_layout ds h i) i)) (without_cont b s) end =
     get_path {L = L} (length i.parameters) (Cont b) (clauses_locals ds ps (in_loop ds h i L below c e)) local (under_clauses ds ps inside) (go resumed v stay) in
     subst (λ (j : ℕ). Path (program_of p same) k j s (config (Label ε 1 Done Done ∷ Frame below 1 (handler_place ds h) L (rest_of c) ∷ e) ε (loop_code ds h i)) (without_cont b s) end)
-    (let m = many_placed h i in let z : suc (length ps + 2) ≡ 3 + length i.clauses = omega (arith, m) in z)
+    (let m = many_placed ds h i in let z : suc (length ps + 2) ≡ 3 + length i.clauses = omega (arith, m) in z)
     (go refl inside (path_on entered_all got))

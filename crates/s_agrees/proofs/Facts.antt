@@ -26,18 +26,18 @@ pub record Names (Γ : Layout) (first : ℕ) (xs : List Name) : Type 0 where
   pub at : (j : ℕ) (x : Name) → slice_get xs j ≡ Some x → local_of Γ.names x ≡ Some (record { name = x; ty = Int; number = first + j })
 
 pub record FunctionFacts (ds : List Declaration) (g : Function) : Type 0 where
-  pub fine : Fine (function_layout g)
-  pub parameters : Parameters (function_layout g) g.parameters
-  pub well : WellBlock ds (function_layout g) (high_block g.body) g.body
+  pub fine : Fine (function_layout ds g)
+  pub parameters : Parameters (function_layout ds g) g.parameters
+  pub well : WellBlock ds (function_layout ds g) (high_block g.body) g.body
   -- the locals behind the parameters
-  pub room : (function_layout g).temporaries + high_block g.body ≡ length g.parameters + length (defaults (function_locals g))
+  pub room : (function_layout ds g).temporaries + high_block g.body ≡ length g.parameters + length (defaults (function_locals ds g))
   pub few : length g.parameters ≤ 8
 
 -- a clause of the handler h, with its layout
 pub record ClauseFacts (ds : List Declaration) (h : Name) (i : Handler) (c : Clause) (Γ : Layout) : Type 0 where
   pub fine : Fine Γ
   pub owner : Γ.owner ≡ Some (own h i)
-  pub temporaries : Γ.temporaries ≡ handler_temporaries h i
+  pub temporaries : Γ.temporaries ≡ handler_temporaries ds h i
   pub parameters : Parameters Γ i.parameters
   -- what the clause binds lies behind the parameters and what is handled
   pub first : ℕ
@@ -49,16 +49,16 @@ pub record ClauseFacts (ds : List Declaration) (h : Name) (i : Handler) (c : Cla
   pub effect : effect_of ds c.effect ≡ Some (length c.arguments)
 
 pub record ReturnFacts (ds : List Declaration) (h : Name) (i : Handler) : Type 0 where
-  pub fine : Fine (return_layout h i)
-  pub parameters : Parameters (return_layout h i) i.parameters
-  pub value : local_of (return_layout h i).names i.return_clause.value ≡ Some (record { name = i.return_clause.value; ty = Int; number = length i.parameters + 1 })
-  pub well : WellBlock ds (return_layout h i) (handler_high i) i.return_clause.body
+  pub fine : Fine (return_layout ds h i)
+  pub parameters : Parameters (return_layout ds h i) i.parameters
+  pub value : local_of (return_layout ds h i).names i.return_clause.value ≡ Some (record { name = i.return_clause.value; ty = Int; number = length i.parameters + 1 })
+  pub well : WellBlock ds (return_layout ds h i) (handler_high i) i.return_clause.body
 
 pub record HandlerFacts (ds : List Declaration) (h : Name) (i : Handler) : Type 0 where
   pub returns : ReturnFacts ds h i
-  pub clauses : (j : ℕ) (q : Placed) → slice_get (placed_clauses h i) j ≡ Some q → ClauseFacts ds h i q.clause q.layout
+  pub clauses : (j : ℕ) (q : Placed) → slice_get (placed_clauses ds h i) j ≡ Some q → ClauseFacts ds h i q.clause q.layout
   -- the locals behind the parameters and what is handled
-  pub room : handler_room h i ≡ suc (length i.parameters) + length (defaults (handler_locals h i))
+  pub room : handler_room ds h i ≡ suc (length i.parameters) + length (defaults (handler_locals ds h i))
   pub few : length i.parameters ≤ 8
   pub few_clauses : length i.clauses ≤ 16
 

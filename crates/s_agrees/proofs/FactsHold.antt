@@ -18,7 +18,7 @@ use Rattle.s_check.specs.Scopes.{Bound, number as number_name, parameter, resump
 use Rattle.s_index.specs.Handled.{handled_in_block, handled_in_clauses, handled_in_definition, handled_names}
 use Rattle.s_code.specs.Handlers.{Placed}
 use Rattle.s_code.specs.Layouts.{Local, Layout, numbered}
-use Rattle.s_code.specs.Places.{lets, function_layout, return_names, clause_names, clauses_names, return_place, clauses_place, handler_temporaries, layout_at, placed_from, placed_clauses, high_clauses}
+use Rattle.s_code.specs.Places.{binds_in, function_layout, return_names, clause_names, clauses_names, return_place, clauses_place, handler_temporaries, layout_at, placed_from, placed_clauses, high_clauses}
 use Rattle.s_code.specs.Temporaries.{high_block}
 use Rattle.s_meaning.specs.Typing.{BlockTyped}
 use Rattle.s_meaning.proofs.BoundInTurn.{among_left, among_right}
@@ -57,21 +57,21 @@ module _ (p : Script) (good : Good p) where
   -- a function's names are its parameters and, behind them, its lets
   function_facts : (f : Name) (g : Function) → function_of p.declarations f ≡ Some g → FunctionFacts p.declarations g
   function_facts f g is =
-      let ps = map parameter g.parameters in let bs = lets g.body in let n = 0 + length ps in
+      let ps = map parameter g.parameters in let bs = binds_in p.declarations g.body in let n = 0 + length ps in
       let typed = good_typed p good in
       let keeps = function_keeps p good f g is in
       let once : Once (ps ++ bs) = body_once p.declarations ps g.body keeps.body in
       let one : numbered 0 (ps ++ bs) ≡ numbered 0 ps ++ numbered n bs = numbered_appended 0 ps bs in
-      let front : Located (function_layout g).names 0 ps = subst (λ (ls : List Local). Located ls 0 ps) (sym one) (located_first n ps bs once) in
-      let behind : Located (function_layout g).names n bs = subst (λ (ls : List Local). Located ls n bs) (sym one) (located_second n ps bs once) in
-      let names : Numbers (function_layout g) ps = numbers_located ps front in
-      let lets : Lets (function_layout g) (lets_in g.body) = lets_located (lets_in g.body) behind in
+      let front : Located (function_layout p.declarations g).names 0 ps = subst (λ (ls : List Local). Located ls 0 ps) (sym one) (located_first n ps bs once) in
+      let behind : Located (function_layout p.declarations g).names n bs = subst (λ (ls : List Local). Located ls n bs) (sym one) (located_second n ps bs once) in
+      let names : Numbers (function_layout p.declarations g) ps = numbers_located ps front in
+      let lets : Lets (function_layout p.declarations g) (lets_in g.body) = lets_located (lets_in g.body) behind in
       let many = length-append ps bs in
       record {
-        fine = fine_of_two (function_layout g) ps bs n one (omega arith) (omega (arith, many));
+        fine = fine_of_two (function_layout p.declarations g) ps bs n one (omega arith) (omega (arith, many));
         parameters = parameters_located g.parameters front;
         well = well_block {p = p} g.body (typed.functions f g is) names lets (omega arith) (function_handled p.declarations f g is);
-        room = function_room g;
+        room = function_room p.declarations g;
         few = keeps.few;
       }
 
@@ -92,57 +92,57 @@ clause_handled ds (d ∷ cs) zero c a e =
 clause_handled ds (d ∷ cs) (suc j) c a e = clause_handled ds cs j c (handled_right (handled_in_block d.body) (handled_in_clauses cs) a) e
 
 -- where clause j of these is, of which the names of the first are from the local n on
-record PlacedAt (h : Name) (i : Handler) (n : ℕ) (cs : List Clause) (j : ℕ) (q : Placed) : Type 0 where
+record PlacedAt (ds : List Declaration) (h : Name) (i : Handler) (n : ℕ) (cs : List Clause) (j : ℕ) (q : Placed) : Type 0 where
   is : slice_get cs j ≡ Some q.clause
   first : ℕ
   behind : n ≤ first
-  within : first + length (clause_names h q.clause) ≤ n + length (clauses_names h cs)
-  layout : q.layout ≡ layout_at h i first (clause_names h q.clause)
+  within : first + length (clause_names ds h q.clause) ≤ n + length (clauses_names ds h cs)
+  layout : q.layout ≡ layout_at ds h i first (clause_names ds h q.clause)
 
-placed_at : (h : Name) (i : Handler) (n : ℕ) (cs : List Clause) (j : ℕ) (q : Placed) → slice_get (placed_from h i n cs) j ≡ Some q → PlacedAt h i n cs j q
-placed_at h i n [] j q e = absurd (cc)
-placed_at h i n (c ∷ cs) zero q e =
-    let one : Placed = record { clause = c; layout = layout_at h i n (clause_names h c) } in
+placed_at : (ds : List Declaration) (h : Name) (i : Handler) (n : ℕ) (cs : List Clause) (j : ℕ) (q : Placed) → slice_get (placed_from ds h i n cs) j ≡ Some q → PlacedAt ds h i n cs j q
+placed_at ds h i n [] j q e = absurd (cc)
+placed_at ds h i n (c ∷ cs) zero q e =
+    let one : Placed = record { clause = c; layout = layout_at ds h i n (clause_names ds h c) } in
     let same : one ≡ q = cc in
-    let many = length-append (clause_names h c) (clauses_names h cs) in
-    subst (λ (r : Placed). PlacedAt h i n (c ∷ cs) 0 r) same (record { is = refl; first = n; behind = omega arith; within = omega (arith, many); layout = refl })
-placed_at h i n (c ∷ cs) (suc j) q e =
-    let r = placed_at h i (n + length (clause_names h c)) cs j q e in
-    let many = length-append (clause_names h c) (clauses_names h cs) in
+    let many = length-append (clause_names ds h c) (clauses_names ds h cs) in
+    subst (λ (r : Placed). PlacedAt ds h i n (c ∷ cs) 0 r) same (record { is = refl; first = n; behind = omega arith; within = omega (arith, many); layout = refl })
+placed_at ds h i n (c ∷ cs) (suc j) q e =
+    let r = placed_at ds h i (n + length (clause_names ds h c)) cs j q e in
+    let many = length-append (clause_names ds h c) (clauses_names ds h cs) in
     let low = r.behind in let room = r.within in
     record { is = r.is; first = r.first; behind = omega (arith, low); within = omega (arith, many, room); layout = r.layout }
 
 -- ## Handlers
 
 -- a body of a handler, whose names bs are those of its front, and its lets
-module _ (p : Script) (h : Name) (i : Handler) (n : ℕ) (bs front : List Bound) (b : BlockTree) (is : bs ≡ front ++ lets b)
+module _ (p : Script) (h : Name) (i : Handler) (n : ℕ) (bs front : List Bound) (b : BlockTree) (is : bs ≡ front ++ binds_in p.declarations b)
     (keeps : in_body p.declarations (map parameter i.parameters ++ front) b ≡ []) where
   body_names_once : Once (map parameter i.parameters ++ bs)
   body_names_once =
       let ps = map parameter i.parameters in
-      subst (λ (cs : List Bound). Once cs) (append_assoc ps front (lets b) ∙ ap (λ (cs : List Bound). ps ++ cs) (sym is)) (body_once p.declarations (ps ++ front) b keeps)
+      subst (λ (cs : List Bound). Once cs) (append_assoc ps front (binds_in p.declarations b) ∙ ap (λ (cs : List Bound). ps ++ cs) (sym is)) (body_once p.declarations (ps ++ front) b keeps)
 
-  body_parameters : Parameters (layout_at h i n bs) i.parameters
+  body_parameters : Parameters (layout_at p.declarations h i n bs) i.parameters
   body_parameters = parameters_located i.parameters (located_first n (map parameter i.parameters) bs body_names_once)
 
-  body_located : Located (layout_at h i n bs).names n bs
+  body_located : Located (layout_at p.declarations h i n bs).names n bs
   body_located = located_second n (map parameter i.parameters) bs body_names_once
 
   body_well : BlockTyped p (map parameter i.parameters ++ front) b → high_block b ≤ handler_high i → AllHandled p.declarations (handled_in_block b)
-      → WellBlock p.declarations (layout_at h i n bs) (handler_high i) b
+      → WellBlock p.declarations (layout_at p.declarations h i n bs) (handler_high i) b
   body_well typed high handled =
-      let ps = map parameter i.parameters in let Γ = layout_at h i n bs in
-      let all : Located Γ.names n (front ++ lets b) = subst (λ (cs : List Bound). Located Γ.names n cs) is body_located in
+      let ps = map parameter i.parameters in let Γ = layout_at p.declarations h i n bs in
+      let all : Located Γ.names n (front ++ binds_in p.declarations b) = subst (λ (cs : List Bound). Located Γ.names n cs) is body_located in
       let parameters : Numbers Γ ps = numbers_located ps (located_first n ps bs body_names_once) in
-      let fronts : Numbers Γ front = numbers_located front (located_left front (lets b) all) in
-      let lets : Lets Γ (lets_in b) = lets_located (lets_in b) (located_right front (lets b) all) in
+      let fronts : Numbers Γ front = numbers_located front (located_left front (binds_in p.declarations b) all) in
+      let lets : Lets Γ (lets_in b) = lets_located (lets_in b) (located_right front (binds_in p.declarations b) all) in
       well_block {p = p} b typed (numbers_appended ps front parameters fronts) lets high handled
 
 -- names that lie behind the parameters and what is handled, and below the temporaries
-fine_at : (h : Name) (i : Handler) (n : ℕ) (bs : List Bound) → length i.parameters < n → n + length bs ≤ handler_temporaries h i → Fine (layout_at h i n bs)
-fine_at h i n bs behind room =
+fine_at : (ds : List Declaration) (h : Name) (i : Handler) (n : ℕ) (bs : List Bound) → length i.parameters < n → n + length bs ≤ handler_temporaries ds h i → Fine (layout_at ds h i n bs)
+fine_at ds h i n bs behind room =
     let many = many_parameters i.parameters in
-    fine_of_two (layout_at h i n bs) (map parameter i.parameters) bs n refl (omega (arith, many, behind)) room
+    fine_of_two (layout_at ds h i n bs) (map parameter i.parameters) bs n refl (omega (arith, many, behind)) room
 
 module _ (p : Script) (good : Good p) (h : Name) (i : Handler) (is : handler_of p.declarations h ≡ Some i) where
   keeps : HandlerKeeps p.declarations h i
@@ -153,37 +153,37 @@ module _ (p : Script) (good : Good p) (h : Name) (i : Handler) (is : handler_of 
 
   return_facts : ReturnFacts p.declarations h i
   return_facts =
-      let n = return_place i in let bs = return_names i in let v = number_name i.return_clause.value in let b = i.return_clause.body in
+      let n = return_place i in let bs = return_names p.declarations i in let v = number_name i.return_clause.value in let b = i.return_clause.body in
       let handled = handled_left (handled_in_block b) (handled_in_clauses i.clauses) (handler_handled p.declarations h i is) in
       record {
-        fine = fine_at h i n bs (omega arith) (omega arith);
+        fine = fine_at p.declarations h i n bs (omega arith) (omega arith);
         parameters = body_parameters p h i n bs (v ∷ []) b refl keeps.returned;
         value = located_at 0 n v (body_located p h i n bs (v ∷ []) b refl keeps.returned) refl (omega arith);
         well = body_well p h i n bs (v ∷ []) b refl keeps.returned typed.returns (omega arith) handled;
       }
 
   -- a clause whose names are from the local n on
-  clause_facts : (j : ℕ) (c : Clause) (n : ℕ) → slice_get i.clauses j ≡ Some c → clauses_place i ≤ n → n + length (clause_names h c) ≤ handler_temporaries h i
-      → ClauseFacts p.declarations h i c (layout_at h i n (clause_names h c))
+  clause_facts : (j : ℕ) (c : Clause) (n : ℕ) → slice_get i.clauses j ≡ Some c → clauses_place p.declarations i ≤ n → n + length (clause_names p.declarations h c) ≤ handler_temporaries p.declarations h i
+      → ClauseFacts p.declarations h i c (layout_at p.declarations h i n (clause_names p.declarations h c))
   clause_facts j c n at behind room =
       let xs = map number_name c.arguments in let k = resumption h c.resumption in
-      let one : clause_names h c ≡ (xs ++ k ∷ []) ++ lets c.body = sym (append_assoc xs (k ∷ []) (lets c.body)) in
+      let one : clause_names p.declarations h c ≡ (xs ++ k ∷ []) ++ binds_in p.declarations c.body = sym (append_assoc xs (k ∷ []) (binds_in p.declarations c.body)) in
       let body = keeps.clauses j c at in
-      let located = body_located p h i n (clause_names h c) (xs ++ k ∷ []) c.body one body in
+      let located = body_located p h i n (clause_names p.declarations h c) (xs ++ k ∷ []) c.body one body in
       let handled = clause_handled p.declarations i.clauses j c (handled_right (handled_in_block i.return_clause.body) (handled_in_clauses i.clauses) (handler_handled p.declarations h i is)) at in
       let high = clause_high i.clauses j c at in
       let clause = typed.clauses j c at in
       let many = many_numbers c.arguments in
       record {
-        fine = fine_at h i n (clause_names h c) (omega (arith, behind)) room;
+        fine = fine_at p.declarations h i n (clause_names p.declarations h c) (omega (arith, behind)) room;
         owner = refl;
         temporaries = refl;
-        parameters = body_parameters p h i n (clause_names h c) (xs ++ k ∷ []) c.body one body;
+        parameters = body_parameters p h i n (clause_names p.declarations h c) (xs ++ k ∷ []) c.body one body;
         first = n;
         behind = omega (arith, behind);
-        arguments = names_located c.arguments (located_left xs (k ∷ lets c.body) located);
-        resumption = located_at (length xs + 0) (n + length c.arguments) k located (get-behind xs (k ∷ lets c.body) 0) (omega (arith, many));
-        well = body_well p h i n (clause_names h c) (xs ++ k ∷ []) c.body one body clause.body (omega (arith, high)) handled;
+        arguments = names_located c.arguments (located_left xs (k ∷ binds_in p.declarations c.body) located);
+        resumption = located_at (length xs + 0) (n + length c.arguments) k located (get-behind xs (k ∷ binds_in p.declarations c.body) 0) (omega (arith, many));
+        well = body_well p h i n (clause_names p.declarations h c) (xs ++ k ∷ []) c.body one body clause.body (omega (arith, high)) handled;
         few = effect_few p good c.effect (length c.arguments) clause.is_effect;
         effect = clause.is_effect;
       }
@@ -193,16 +193,16 @@ module _ (p : Script) (good : Good p) (h : Name) (i : Handler) (is : handler_of 
       many_numbers (x ∷ xs) = ap suc (many_numbers xs)
 
   -- each clause, where it is placed
-  placed_facts : (j : ℕ) (q : Placed) → slice_get (placed_clauses h i) j ≡ Some q → ClauseFacts p.declarations h i q.clause q.layout
+  placed_facts : (j : ℕ) (q : Placed) → slice_get (placed_clauses p.declarations h i) j ≡ Some q → ClauseFacts p.declarations h i q.clause q.layout
   placed_facts j q e =
-      let r = placed_at h i (clauses_place i) i.clauses j q e in
+      let r = placed_at p.declarations h i (clauses_place p.declarations i) i.clauses j q e in
       subst (λ (Γ : Layout). ClauseFacts p.declarations h i q.clause Γ) (sym r.layout) (clause_facts j q.clause r.first r.is r.behind r.within)
 
   handler_facts : HandlerFacts p.declarations h i
   handler_facts = record {
     returns = return_facts;
     clauses = placed_facts;
-    room = handler_room_is h i;
+    room = handler_room_is p.declarations h i;
     few = keeps.few;
     few_clauses = keeps.few_clauses;
   }

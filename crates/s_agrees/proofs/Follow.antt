@@ -67,7 +67,7 @@ module _ (p : Script) (same : ℕ → ℕ → Bool) (typed : ScriptTyped p) (kno
 
   -- what the start comes to by one reduction: main is entered
   entered_main : (fn : Function) → function_of p.declarations (codes "main") ≡ Some fn → Term
-  entered_main fn is = config (entered (function_index p.declarations (codes "main") - 1) ε ε (function_locals fn) (rest_of Done) []) ε (body p.declarations (function_layout fn) 0 fn.body)
+  entered_main fn is = config (entered (function_index p.declarations (codes "main") - 1) ε ε (function_locals p.declarations fn) (rest_of Done) []) ε (body p.declarations (function_layout p.declarations fn) 0 fn.body)
 
   main_reduction : (fn : Function) (is : function_of p.declarations (codes "main") ≡ Some fn) → fn.parameters ≡ []
       → reduce p same (at (first_store p.declarations) (first_term p.declarations)) ≡ steps.Went [] (at (first_store p.declarations) (entered_main fn is))

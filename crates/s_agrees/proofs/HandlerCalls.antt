@@ -30,30 +30,30 @@ use Rattle.s_agrees.proofs.EnteredBodies.{sames_many, listed_size, first_locals,
 use Rattle.s_agrees.proofs.Calls.{types_many}
 
 -- its locals: the parameters, and what it handles
-abbrev pub handler_first : Name → Handler → Row Val → ℕ → Locals
-handler_first h i ws b = first_locals (ws ▹ Cont b) (handler_locals h i)
+abbrev pub handler_first : List Declaration → Name → Handler → Row Val → ℕ → Locals
+handler_first ds h i ws b = first_locals (ws ▹ Cont b) (handler_locals ds h i)
 
 module _ (ds : List Declaration) {ρ : List ℕ} {h : Name} {i : Handler} (facts : HandlerFacts ds h i) {vs : Values} {ws : Row Val} (values : Sames ρ vs ws) (number : many vs ≡ length i.parameters) (b : ℕ) where
-  pub first_room : handler_room h i ≤ length (handler_first h i ws b)
+  pub first_room : handler_room ds h i ≤ length (handler_first ds h i ws b)
   first_room =
-      let x = many_locals (ws ▹ Cont b) (handler_locals h i) in let y = sames_many values in let z = facts.room in omega (arith, number, x, y, z)
+      let x = many_locals (ws ▹ Cont b) (handler_locals ds h i) in let y = sames_many values in let z = facts.room in omega (arith, number, x, y, z)
 
   -- parameters
-  pub first_held : Held ρ (handler_first h i ws b) (listed vs)
+  pub first_held : Held ρ (handler_first ds h i ws b) (listed vs)
   first_held = record {
     each = λ j u e.
         let r = value_at values j u e in record {
           value = r.0;
-          is = get_mapped (vals_listed ws ++ Cont b ∷ []) (defaults (handler_locals h i)) j r.0 (get_before (vals_listed ws) (Cont b ∷ []) j r.0 r.1);
+          is = get_mapped (vals_listed ws ++ Cont b ∷ []) (defaults (handler_locals ds h i)) j r.0 (get_before (vals_listed ws) (Cont b ∷ []) j r.0 r.1);
           same = r.2;
         };
   }
 
   -- and what is handled
-  pub first_handled : slice_get (handler_first h i ws b) (length i.parameters) ≡ Some (Some (Cont b))
+  pub first_handled : slice_get (handler_first ds h i ws b) (length i.parameters) ≡ Some (Some (Cont b))
   first_handled =
       let place : length i.parameters ≡ length (vals_listed ws) = let x = sames_many values in let y = listed_size ws in omega (arith, number, x, y) in
-      get_mapped (vals_listed ws ++ Cont b ∷ []) (defaults (handler_locals h i)) (length i.parameters) (Cont b)
+      get_mapped (vals_listed ws ++ Cont b ∷ []) (defaults (handler_locals ds h i)) (length i.parameters) (Cont b)
       (ap (λ (j : ℕ). slice_get (vals_listed ws ++ Cont b ∷ []) j) place ∙ get_last (vals_listed ws) (Cont b))
 
   first_many : length (val_types i.parameters ++ to_continuation true computation_type ∷ []) ≡ size (ws ▹ Cont b)
@@ -65,7 +65,7 @@ pub handler_step : (p : Script) (same : ℕ → ℕ → Bool) {ρ : List ℕ} {�
     (facts : HandlerFacts p.declarations h i) (s' : Store) (functions : s'.functions ≡ s.functions) {vs : Values} {ws : Row Val} (values : Sames ρ vs ws) (number : many vs ≡ length i.parameters) (e : Context) (ops : Row Val)
     (c : Code) (b : ℕ)
     → step (program_of p same) s' (config e ((ops ⧺ ws) ▹ Cont b) (Plain (call (handler_index p.declarations h)) c))
-    ≡ Went [] s' (config (Label ε 1 Done Done ∷ Frame ops 1 (handler_place p.declarations h) (handler_first h i ws b) (rest_of c) ∷ e) ε (loop_code p.declarations h i))
+    ≡ Went [] s' (config (Label ε 1 Done Done ∷ Frame ops 1 (handler_place p.declarations h) (handler_first p.declarations h i ws b) (rest_of c) ∷ e) ε (loop_code p.declarations h i))
 handler_step p same stores h {i} is facts s' functions {ws = ws} values number e ops c b =
     invoke_step p same s' e ops (ws ▹ Cont b) (rest_of c) (handler_index p.declarations h) (val_types i.parameters ++ to_continuation true computation_type ∷ []) (handler_code p.declarations h i)
     (functions ∙ stores.functions) (handler_stored p.declarations h i is) (first_many p.declarations facts values number b)

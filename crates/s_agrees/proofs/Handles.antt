@@ -160,7 +160,7 @@ module _ {p : Script} (same : ℕ → ℕ → Bool) (facts : Facts p.declaration
       let a = function_index ds g in
       let q = facts.functions g fn is_g in
       let hf = facts.handlers h i is_h in
-      let ps = placed_clauses h i in
+      let ps = placed_clauses ds h i in
       let bound = bind_known fn.parameters (script.listed us) (sym enough_g ∙ sym (listed_many us)) in
       let k0 : Caps = record { frames = 2 + frames e; handles = suc (handles e); conts = suc (live s) } in
       let here : Under k0 s e = record { frames = omega arith; handles = omega arith; conts = omega arith } in
@@ -173,13 +173,13 @@ module _ {p : Script} (same : ℕ → ℕ → Bool) (facts : Facts p.declaration
       let B = begin_path p same g fn is_g among {k = k0} {s = s} {e = e} (ops ⧺ ws) us' (Plain (call (handler_index ds h)) c) f_stored.place f_there many_us here (let z : suc (live s) ≤ suc (live s) = omega arith in z) in
       let s1 : Store = with_computation s K in
       let b1 : ℕ = length (s.conts ++ None ∷ []) in
-      let Lh : Locals = handler_first h i ws b1 in
+      let Lh : Locals = handler_first ds h i ws b1 in
       let live1 : live s1 ≡ suc (live s) = live_more (s.conts ++ None ∷ []) K ∙ ap suc (live_none s.conts) in
       let s2 : Store = without_cont b1 s1 in
       let conts2 : s2.conts ≡ s.conts ++ (None ∷ None ∷ []) = set_last (s.conts ++ None ∷ []) (Some K) None ∙ append_assoc s.conts (None ∷ []) (None ∷ []) in
       let live2 : live s2 ≡ live s = ap live_in (set_last (s.conts ++ None ∷ []) (Some K) None) ∙ live_none (s.conts ++ None ∷ []) ∙ live_none s.conts in
       let stored2 : stored s2.conts ≡ stored s.conts = ap stored (set_last (s.conts ++ None ∷ []) (Some K) None) ∙ stored_none (s.conts ++ None ∷ []) ∙ stored_none s.conts in
-      let E : Context = Handle ε (clause_list ds 0 i.clauses) (return_code ds (return_layout h i) (length i.clauses) i) ∷ clause_labels ds ps (in_loop ds h i Lh ops c e) in
+      let E : Context = Handle ε (clause_list ds 0 i.clauses) (return_code ds (return_layout ds h i) (length i.clauses) i) ∷ clause_labels ds ps (in_loop ds h i Lh ops c e) in
       let called = handler_step p same stores h is_h hf s1 refl values enough_h e ops c b1 in
       let ec_frames = clauses_frames ds ps (in_loop ds h i Lh ops c e) in
       let ec_handles = clauses_handles ds ps (in_loop ds h i Lh ops c e) in
@@ -188,13 +188,13 @@ module _ {p : Script} (same : ℕ → ℕ → Bool) (facts : Facts p.declaration
       let inside : Under k0 s1 (Label ε 1 Done Done ∷ Frame ops 1 (handler_place ds h) Lh (rest_of c) ∷ e) = record { frames = entering.frames; handles = entering.handles; conts = entering.conts } in
       let resumed : Under k0 s2 E = record { frames = omega (arith, ec_frames); handles = omega (arith, ec_handles); conts = omega (arith, live2) } in
       let N = enter_path p same h i is_h {k = k0} {s = s1} {e = e} {below = ops} {c = c} {L = Lh} b1 K (first_handled ds hf values enough_h b1) (get_last (s.conts ++ None ∷ []) (Some K)) refl entering resumed in
-      let t' : Term = config (entered (a - 1) ε us' (function_locals fn) (rest_of Done) E) ε (body ds (function_layout fn) 0 fn.body) in
+      let t' : Term = config (entered (a - 1) ε us' (function_locals ds fn) (rest_of Done) E) ε (body ds (function_layout ds fn) 0 fn.body) in
       let invoked : step (program_of p same) s2 (record { around = E; operands = ε ⧺ us'; rest = record { ahead = Invoke a ∷ []; code = Done } }) ≡ Went [] s2 t' =
       invoke_step p same s2 E ε us' (rest_of Done) a (val_types fn.parameters) (function_code ds fn) stores.functions f_stored (types_many fn.parameters ∙ many_us) in
       let last : Under k0 s2 t'.around = record { frames = omega (arith, ec_frames); handles = omega (arith, ec_handles); conts = omega (arith, live2) } in
       let whole = path_on G.path (path_on B (go called inside (path_on N (go invoked last stay)))) in
       let many_ns = held_many held in
-      let few_g = q.few in let few_h = hf.few in let few_c = hf.few_clauses in let many_ps = many_placed h i in
+      let few_g = q.few in let few_h = hf.few in let few_c = hf.few_clauses in let many_ps = many_placed ds h i in
       rw (
         is_g,
         ap (λ (l : List Value). take m l) (listed_both us vs) ∙ take_front (script.listed us) (script.listed vs) m (firsts ∙ sym (listed_many us)),

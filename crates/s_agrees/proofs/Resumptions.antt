@@ -121,7 +121,7 @@ module _ (s : Store) (b : ℕ) (k : Continuation) (w : Val) (there : slice_get s
 -- the handle, and the function of the handler around it
 abbrev pub handler_around : List Declaration → Name → Handler → Locals → Row Val → Code → Context → Context
 handler_around ds h i L below c e =
-    Handle ε (clause_answers ds 0 i.clauses) (return_code ds (return_layout h i) (length i.clauses) i) ∷ clause_labels ds (placed_clauses h i) (in_loop ds h i L below c e)
+    Handle ε (clause_answers ds 0 i.clauses) (return_code ds (return_layout ds h i) (length i.clauses) i) ∷ clause_labels ds (placed_clauses ds h i) (in_loop ds h i L below c e)
 
 -- what a continuation keeps runs on under it, with this value
 abbrev pub resumed : List Declaration → Name → Handler → Locals → Row Val → Code → Context → Continuation → Val → Term
@@ -134,15 +134,15 @@ resuming_caps s e k = record { frames = frames k.term.around + suc (frames e); h
 module _ (ds : List Declaration) (h : Name) (i : Handler) (L : Locals) (below : Row Val) (c : Code) (e : Context) (k : Continuation) (w : Val) where
   pub resumed_frames : frames (resumed ds h i L below c e k w).around ≡ frames k.term.around + suc (frames e)
   resumed_frames =
-      let x = frames_plug k.term.around (handler_around ds h i L below c e) in let y = clauses_frames ds (placed_clauses h i) (in_loop ds h i L below c e) in omega (arith, x, y)
+      let x = frames_plug k.term.around (handler_around ds h i L below c e) in let y = clauses_frames ds (placed_clauses ds h i) (in_loop ds h i L below c e) in omega (arith, x, y)
 
   pub resumed_handles : handles (resumed ds h i L below c e k w).around ≡ handles k.term.around + suc (handles e)
   resumed_handles =
-      let x = handles_plug k.term.around (handler_around ds h i L below c e) in let y = clauses_handles ds (placed_clauses h i) (in_loop ds h i L below c e) in omega (arith, x, y)
+      let x = handles_plug k.term.around (handler_around ds h i L below c e) in let y = clauses_handles ds (placed_clauses ds h i) (in_loop ds h i L below c e) in omega (arith, x, y)
 
   pub resumed_labels : labels (resumed ds h i L below c e k w).around ≡ labels k.term.around + (length i.clauses + (2 + labels e))
   resumed_labels =
-      let x = labels_plug k.term.around (handler_around ds h i L below c e) in let y = clauses_labels ds (placed_clauses h i) (in_loop ds h i L below c e) in let z = many_placed h i in
+      let x = labels_plug k.term.around (handler_around ds h i L below c e) in let y = clauses_labels ds (placed_clauses ds h i) (in_loop ds h i L below c e) in let z = many_placed ds h i in
       omega (arith, x, y, z)
 
 module _ (p : Script) (same : ℕ → ℕ → Bool) (s : Store) (b : ℕ) (k : Continuation) (w : Val) (there : slice_get s.conts b ≡ Some (Some k)) (h : Name) (i : Handler) (is : handler_of p.declarations h ≡ Some i)
@@ -160,7 +160,7 @@ module _ (p : Script) (same : ℕ → ℕ → Bool) (s : Store) (b : ℕ) (k : C
 pub resumed_at : {p : Script} {ρ : List ℕ} {σ : script.Store} {s : Store} (stores : Stores p.declarations ρ σ s) (h : Name) {i : Handler} (is : handler_of p.declarations h ≡ Some i)
     (a b : ℕ) {κ κ0 : script.Context} {k : Continuation} (there : slice_get ρ a ≡ Some b) (left_is : kept_at σ a ≡ Some (Some κ)) (right_is : slice_get s.conts b ≡ Some (Some k)) (kept : KeptAs p.declarations ρ κ k)
     {u : Value} {w : Val} (value : Same ρ u w) {vs : List Value} {L : Locals} {below : Row Val} {c : Code} {e : Context}
-    → handler_room h i ≤ length L → length vs ≡ length i.parameters → Held ρ L vs → Waits p.declarations ρ κ0 below c e
+    → handler_room p.declarations h i ≤ length L → length vs ≡ length i.parameters → Held ρ L vs → Waits p.declarations ρ κ0 below c e
     → At p.declarations ρ (record { store = emptied σ a; term = record { hole = Gives u; around = κ ++ Handled h vs ∷ κ0 } }) (spent s b k w) (resumed p.declarations h i L below c e k w)
 resumed_at {p} {ρ} {σ} {s} stores h {i} is a b {κ} {κ0} {k} there left_is right_is kept {u} {w} value {vs} {L} {below} {c} {e} room number held outer =
     let tail : Context = handler_around p.declarations h i L below c e in record {
@@ -210,7 +210,7 @@ module _ {p : Script} (same : ℕ → ℕ → Bool) (facts : Facts p.declaration
   resuming_kept {y = y} h {i} {u} {vs} {ws} {w} {ops} {c} {e} x a κ' k r left_is right_is kept is number local values works =
       let ds = p.declarations in let P = program_of p same in let hf = facts.handlers h i is in let v = local.value in let b = r.continuation in
       let woken : Store = with_bound s b k v in
-      let L' : Locals = handler_first h i ws (next_cont s) in
+      let L' : Locals = handler_first p.declarations h i ws (next_cont s) in
       let caps : Caps = resuming_caps s e k in
       let locals : locals_of e ≡ L = deep_locals (works_deep works).1 ∙ base_locals base in
       let end : Term = resumed ds h i L' ops c e k v in

@@ -10,8 +10,9 @@ use Rattle.s_syntax.specs.declared.name.Name.{Name}
 use Rattle.s_syntax.specs.declared.script.Parameter.{Parameter}
 use Rattle.s_syntax.specs.declared.script.Function.{Function}
 use Rattle.s_syntax.specs.declared.script.Handler.{Handler}
+use Rattle.s_syntax.specs.declared.script.Declaration.{Declaration}
 use Rattle.s_check.specs.Scopes.{Bound, parameter}
-use Rattle.s_code.specs.Places.{run, name_runs, locals_for, lets, function_layout, function_locals, return_names, clauses_names, handler_locals}
+use Rattle.s_code.specs.Places.{run, name_runs, locals_for, binds_in, function_layout, function_locals, return_names, clauses_names, handler_locals}
 use Rattle.s_code.specs.Temporaries.{high_block}
 use Rattle.w_rules.proofs.JoinedTypes.{types_of-joined}
 use Rattle.s_agrees.proofs.StandsFor.{handler_high, handler_room}
@@ -49,16 +50,16 @@ many_parameters [] = refl
 many_parameters (p ∷ ps) = ap suc (many_parameters ps)
 
 -- a function's, behind its parameters
-pub function_room : (g : Function) → (function_layout g).temporaries + high_block g.body ≡ length g.parameters + length (defaults (function_locals g))
-function_room g =
-    let a = length-append (map parameter g.parameters) (lets g.body) in
+pub function_room : (ds : List Declaration) (g : Function) → (function_layout ds g).temporaries + high_block g.body ≡ length g.parameters + length (defaults (function_locals ds g))
+function_room ds g =
+    let a = length-append (map parameter g.parameters) (binds_in ds g.body) in
     let b = many_parameters g.parameters in
-    let c = many_locals (lets g.body) (high_block g.body) in
+    let c = many_locals (binds_in ds g.body) (high_block g.body) in
     omega (arith, a, b, c)
 
 -- a handler's, behind its parameters and what is handled
-pub handler_room_is : (h : Name) (i : Handler) → handler_room h i ≡ suc (length i.parameters) + length (defaults (handler_locals h i))
-handler_room_is h i =
-    let a = length-append (return_names i) (clauses_names h i.clauses) in
-    let b = many_locals (return_names i ++ clauses_names h i.clauses) (handler_high i) in
+pub handler_room_is : (ds : List Declaration) (h : Name) (i : Handler) → handler_room ds h i ≡ suc (length i.parameters) + length (defaults (handler_locals ds h i))
+handler_room_is ds h i =
+    let a = length-append (return_names ds i) (clauses_names ds h i.clauses) in
+    let b = many_locals (return_names ds i ++ clauses_names ds h i.clauses) (handler_high i) in
     omega (arith, a, b)

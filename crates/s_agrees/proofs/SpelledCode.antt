@@ -13,7 +13,8 @@ use Rattle.s_syntax.specs.declared.operators.BinaryOperator.{BinaryOperator}
 use Rattle.s_syntax.specs.declared.operators.BinaryOperator.TheVariants.{Connects, Compares, Computes}
 use Rattle.s_syntax.specs.declared.script.Declaration.{Declaration}
 use Rattle.s_syntax.specs.ExprTree.{ExprTree, Literal, Read, Unary, Run, Call, Do, Handle, Resume, Exprs, NoExprs, MoreExprs, Operands, NoOperands, MoreOperands}
-use Rattle.s_syntax.specs.BlockTree.{StatementTree, BlockTree, Let, Assign, If as IfStatement, While, Print, Return, Fail, Evaluate, Done as NoStatements, ◌⨟◌}
+use Rattle.s_syntax.specs.declared.statement.Use.TheVariants as use_for
+use Rattle.s_syntax.specs.BlockTree.{StatementTree, BlockTree, Evaluate, If as IfStatement, While, Fail, Done as NoStatements, ◌⨟◌}
 use Rattle.s_check.specs.Rules.{count}
 use Rattle.s_check.specs.Size.{expr_size, exprs_size, operands_size, statement_size, block_size}
 use Rattle.s_index.specs.Numbers.{function_index, handler_index, tag_index}
@@ -195,9 +196,9 @@ module _ (ds : List Declaration) (Γ : Layout) (S : SmallIndices ds) (L : SmallL
   -- a statement before what can be spelled
   mutual
     statement_spelled : (x : StatementTree) (D : ℕ) (c : Code) → D + statement_size x ≤ room → CodeSpelled c → CodeSpelled (statement ds Γ D x c)
-    statement_spelled (Let x e) D c few h =
+    statement_spelled (Evaluate (use_for.Let x) e) D c few h =
         expr_spelled e 0 (Plain (local_set (local_number Γ x)) c) (omega (arith, few)) (local_set_spelled (local_number Γ x) (name_fits x), h)
-    statement_spelled (Assign x e) D c few h =
+    statement_spelled (Evaluate (use_for.Assign x) e) D c few h =
         expr_spelled e 0 (Plain (local_set (local_number Γ x)) c) (omega (arith, few)) (local_set_spelled (local_number Γ x) (name_fits x), h)
     statement_spelled (IfStatement e a b) D c few h =
         let q = block_spelled_before b (D + 1) Done (omega (arith, few)) tt in
@@ -210,10 +211,10 @@ module _ (ds : List Declaration) (Γ : Layout) (S : SmallIndices ds) (L : SmallL
         let p = expr_spelled e 0 (Plain is_zero (Plain (branch_if 1) (block ds Γ (D + 2) b (Plain (branch 0) Done)))) (omega (arith, few))
         (is_zero_spelled, (branch_if_spelled 1 (omega arith), q)) in
         (block_spelled kind.Block block_type.Empty tt, (block_spelled kind.Loop block_type.Empty tt, p, tt), h)
-    statement_spelled (Print e) D c few h = expr_spelled e 0 (Plain (call printer) c) (omega (arith, few)) (call_spelled printer (omega arith), h)
-    statement_spelled (Return e) D c few h = return_spelled e D c (omega (arith, few)) (omega (arith, few)) h
+    statement_spelled (Evaluate use_for.Print e) D c few h = expr_spelled e 0 (Plain (call printer) c) (omega (arith, few)) (call_spelled printer (omega arith), h)
+    statement_spelled (Evaluate use_for.Return e) D c few h = return_spelled e D c (omega (arith, few)) (omega (arith, few)) h
     statement_spelled Fail D c few h = (unreachable_spelled, h)
-    statement_spelled (Evaluate e) D c few h = expr_spelled e 0 (Plain dropped c) (omega (arith, few)) (dropped_spelled, h)
+    statement_spelled (Evaluate use_for.Drop e) D c few h = expr_spelled e 0 (Plain dropped c) (omega (arith, few)) (dropped_spelled, h)
 
     -- a block before what can be spelled
     block_spelled_before : (b : BlockTree) (D : ℕ) (c : Code) → D + block_size b ≤ room → CodeSpelled c → CodeSpelled (block ds Γ D b c)

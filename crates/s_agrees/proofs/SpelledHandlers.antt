@@ -15,7 +15,7 @@ use Rattle.s_syntax.specs.declared.script.Definition.{Definition}
 use Rattle.s_syntax.specs.declared.script.Definition.TheVariants as definition
 use Rattle.s_syntax.specs.declared.script.Declaration.{Declaration}
 use Rattle.s_syntax.specs.declared.script.Script.{Script}
-use Rattle.s_syntax.specs.BlockTree.{StatementTree, BlockTree, Let, Assign, If as IfStatement, While, Print, Return, Fail, Evaluate, Done as NoStatements, ◌⨟◌}
+use Rattle.s_syntax.specs.BlockTree.{StatementTree, BlockTree, Evaluate, If as IfStatement, While, Fail, Done as NoStatements, ◌⨟◌}
 use Rattle.s_check.specs.Refusal.{Good}
 use Rattle.s_check.specs.Scopes.{Bound, number, parameter, resumption, lets_of, lets_in}
 use Rattle.s_check.specs.Size.{statement_size, block_size, clause_size, definition_size, Size, size_limit}
@@ -28,9 +28,9 @@ use Rattle.s_code.specs.Layouts.{Layout, local_number}
 use Rattle.s_code.specs.Statements.{body}
 use Rattle.s_code.specs.Handlers.{set_names, clause_code, blocks, labels, return_code, handling}
 use Rattle.s_code.specs.Temporaries.{high_block}
-use Rattle.s_code.specs.Places.{lets, function_names, function_layout, return_names, clause_names, clauses_names, return_place, clauses_place, handler_temporaries, layout_at, return_layout, placed_from, high_clauses}
+use Rattle.s_code.specs.Places.{binds_in, function_names, function_layout, return_names, clause_names, clauses_names, return_place, clauses_place, handler_temporaries, layout_at, return_layout, placed_from, high_clauses}
 use Rattle.s_code.specs.Lowered.{function_code, handler_code, function_code_of, handler_code_of, for_each, lowered}
-use Rattle.s_code.proofs.Highs.{block_high}
+use Rattle.s_code.proofs.Highs.{lets_by_few, block_high}
 use Rattle.w_encode.specs.Spelled.{CodeSpelled, FunctionSpelled, FunctionsSpelled}
 use Rattle.s_agrees.proofs.SpelledIndices.{fits, SmallIndices, small_indices, SmallLayout, names_small, both_small, locals_total, runs_spelled, runs_joined}
 use Rattle.s_agrees.proofs.SpelledCode.{room, body_spelled}
@@ -41,39 +41,35 @@ use Rattle.s_agrees.proofs.SpelledTokens.{ClausesSmall, local_get_spelled, local
 -- no more names are bound than a body is large
 mutual
   statement_lets : (s : StatementTree) → length (lets_of s) ≤ statement_size s
-  statement_lets (Let x e) = omega arith
-  statement_lets (Assign x e) = omega arith
+  statement_lets (Evaluate u e) = let q = lets_by_few u in omega (arith, q)
   statement_lets (IfStatement c a b) = let q = block_lets a in let r = block_lets b in let l = length-append (lets_in a) (lets_in b) in omega (arith, q, r, l)
   statement_lets (While c b) = let q = block_lets b in omega (arith, q)
-  statement_lets (Print e) = omega arith
-  statement_lets (Return e) = omega arith
   statement_lets Fail = omega arith
-  statement_lets (Evaluate e) = omega arith
 
   block_lets : (b : BlockTree) → length (lets_in b) ≤ block_size b
   block_lets NoStatements = omega arith
   block_lets (s ⨟ b) = let q = statement_lets s in let r = block_lets b in let l = length-append (lets_of s) (lets_in b) in omega (arith, q, r, l)
 
 -- as many stand in its layout
-few_lets : (b : BlockTree) → length (lets b) ≤ block_size b
-few_lets b = let q = block_lets b in let l = length-map (lets_in b) number in omega (arith, q, l)
+few_lets : (ds : List Declaration) (b : BlockTree) → length (binds_in ds b) ≤ block_size b
+few_lets ds b = let q = block_lets b in let l = length-map (lets_in b) number in omega (arith, q, l)
 
 -- a clause binds no more than its size
-few_names : (h : Name) (c : Clause) → length (clause_names h c) ≤ clause_size c
-few_names h c =
-    let q = few_lets c.body in
-    let l = length-append (map number c.arguments) (resumption h c.resumption ∷ lets c.body) in
+few_names : (ds : List Declaration) (h : Name) (c : Clause) → length (clause_names ds h c) ≤ clause_size c
+few_names ds h c =
+    let q = few_lets ds c.body in
+    let l = length-append (map number c.arguments) (resumption h c.resumption ∷ binds_in ds c.body) in
     let a = length-map c.arguments number in
     omega (arith, q, l, a)
 
 -- and neither do all clauses
-all_names : (h : Name) (cs : List Clause) → length (clauses_names h cs) ≤ sum_by clause_size cs
-all_names h [] = omega arith
-all_names h (c ∷ cs) =
-    let q = all_names h cs in
-    let r = few_names h c in
+all_names : (ds : List Declaration) (h : Name) (cs : List Clause) → length (clauses_names ds h cs) ≤ sum_by clause_size cs
+all_names ds h [] = omega arith
+all_names ds h (c ∷ cs) =
+    let q = all_names ds h cs in
+    let r = few_names ds h c in
     let s = sum_by-cons clause_size c cs in
-    let l = length-append (clause_names h c) (clauses_names h cs) in
+    let l = length-append (clause_names ds h c) (clauses_names ds h cs) in
     omega (arith, q, r, s, l)
 
 -- nor do they take more temporaries
@@ -89,24 +85,24 @@ few_clauses (c ∷ cs) = let q = few_clauses cs in let s = sum_by-cons clause_si
 -- ## Functions
 
 -- the names of a function, and its temporaries
-function_layout_small : (f : Function) → definition_size (definition.Function f) ≤ size_limit → SmallLayout (function_layout f)
-function_layout_small f few =
-    let q = few_lets f.body in
-    let l = length-append (map parameter f.parameters) (lets f.body) in
+function_layout_small : (ds : List Declaration) (f : Function) → definition_size (definition.Function f) ≤ size_limit → SmallLayout (function_layout ds f)
+function_layout_small ds f few =
+    let q = few_lets ds f.body in
+    let l = length-append (map parameter f.parameters) (binds_in ds f.body) in
     let m = length-map f.parameters parameter in
-    record { name = names_small (function_names f) (omega (arith, few, q, l, m)); temporaries = omega (arith, few, q, l, m); parameters = omega arith }
+    record { name = names_small (function_names ds f) (omega (arith, few, q, l, m)); temporaries = omega (arith, few, q, l, m); parameters = omega arith }
 
 -- the code of a function that isn't too large
 pub function_spelled : (ds : List Declaration) (f : Function) → SmallIndices ds → definition_size (definition.Function f) ≤ size_limit → FunctionSpelled (function_code ds f)
 function_spelled ds f S few =
-    let q = few_lets f.body in
+    let q = few_lets ds f.body in
     let h = block_high f.body in
-    let t = locals_total (lets f.body) (high_block f.body) in
+    let t = locals_total (binds_in ds f.body) (high_block f.body) in
     record {
-      runs = runs_spelled (lets f.body) (high_block f.body) (omega (arith, few, q, h));
-      alone = runs_joined (lets f.body) (high_block f.body);
+      runs = runs_spelled (binds_in ds f.body) (high_block f.body) (omega (arith, few, q, h));
+      alone = runs_joined (binds_in ds f.body) (high_block f.body);
       few = omega (arith, t, few, q, h);
-      body = body_spelled ds (function_layout f) S (function_layout_small f few) f.body 0 (omega (arith, few));
+      body = body_spelled ds (function_layout ds f) S (function_layout_small ds f few) f.body 0 (omega (arith, few));
     }
 
 -- ## Handlers
@@ -129,9 +125,9 @@ module _ (ds : List Declaration) (Γ : Layout) (S : SmallIndices ds) (L : SmallL
   returned_spelled D i few = name_set i.return_clause.value (body ds Γ D i.return_clause.body) (body_spelled ds Γ S L i.return_clause.body D few)
 
 -- as many as there are clauses
-placed_length : (h : Name) (i : Handler) (n : ℕ) (cs : List Clause) → length (placed_from h i n cs) ≡ length cs
-placed_length h i n [] = refl
-placed_length h i n (c ∷ cs) = let q = placed_length h i (n + length (clause_names h c)) cs in omega (arith, q)
+placed_length : (ds : List Declaration) (h : Name) (i : Handler) (n : ℕ) (cs : List Clause) → length (placed_from ds h i n cs) ≡ length cs
+placed_length ds h i n [] = refl
+placed_length ds h i n (c ∷ cs) = let q = placed_length ds h i (n + length (clause_names ds h c)) cs in omega (arith, q)
 
 -- each has a label, which is small
 labels_length : (ds : List Declaration) (l : ℕ) (cs : List Clause) → length (labels ds l cs) ≡ length cs
@@ -143,18 +139,18 @@ labels_small ds S l [] few = tt
 labels_small ds S l (c ∷ cs) few = ((fits (tag_index ds c.effect) (S.tag c.effect), omega (arith, few)), labels_small ds S (l + 1) cs (omega (arith, few)))
 
 -- how many locals the names and temporaries of a handler take
-handler_few : (h : Name) (i : Handler) → handler_temporaries h i + max (high_block i.return_clause.body) (high_clauses i.clauses) ≤ definition_size (definition.Handler i) + definition_size (definition.Handler i)
-handler_few h i =
-    let q = few_lets i.return_clause.body in
-    let r = all_names h i.clauses in
+handler_few : (ds : List Declaration) (h : Name) (i : Handler) → handler_temporaries ds h i + max (high_block i.return_clause.body) (high_clauses i.clauses) ≤ definition_size (definition.Handler i) + definition_size (definition.Handler i)
+handler_few ds h i =
+    let q = few_lets ds i.return_clause.body in
+    let r = all_names ds h i.clauses in
     let s = block_high i.return_clause.body in
     let t = all_high i.clauses in
     omega (arith, q, r, s, t)
 
 -- the names of a clause lie before the temporaries
-layout_small : (h : Name) (i : Handler) (n : ℕ) (bs : List Bound) → definition_size (definition.Handler i) ≤ size_limit → n + length bs ≤ handler_temporaries h i → SmallLayout (layout_at h i n bs)
-layout_small h i n bs few behind =
-    let t = handler_few h i in
+layout_small : (ds : List Declaration) (h : Name) (i : Handler) (n : ℕ) (bs : List Bound) → definition_size (definition.Handler i) ≤ size_limit → n + length bs ≤ handler_temporaries ds h i → SmallLayout (layout_at ds h i n bs)
+layout_small ds h i n bs few behind =
+    let t = handler_few ds h i in
     let m = length-map i.parameters parameter in
     record {
       name = both_small (map parameter i.parameters) n bs (omega (arith, few, m)) (omega (arith, few, t, behind));
@@ -164,29 +160,29 @@ layout_small h i n bs few behind =
 
 module _ (ds : List Declaration) (h : Name) (i : Handler) (S : SmallIndices ds) (few : definition_size (definition.Handler i) ≤ size_limit) where
   -- the blocks of clauses, the names of the first one being from the local n on
-  blocks_spelled : (n : ℕ) (cs : List Clause) (c : Code) → n + length (clauses_names h cs) ≤ handler_temporaries h i → sum_by clause_size cs ≤ size_limit → CodeSpelled c
-      → CodeSpelled (blocks ds (placed_from h i n cs) c)
+  blocks_spelled : (n : ℕ) (cs : List Clause) (c : Code) → n + length (clauses_names ds h cs) ≤ handler_temporaries ds h i → sum_by clause_size cs ≤ size_limit → CodeSpelled c
+      → CodeSpelled (blocks ds (placed_from ds h i n cs) c)
   blocks_spelled n [] c behind size g = g
   blocks_spelled n (k ∷ cs) c behind size g =
-      let m = n + length (clause_names h k) in
-      let ps = placed_from h i m cs in
+      let m = n + length (clause_names ds h k) in
+      let ps = placed_from ds h i m cs in
       let x = clause_type_index ds (length k.arguments) in
-      let a = length-append (clause_names h k) (clauses_names h cs) in
+      let a = length-append (clause_names ds h k) (clauses_names ds h cs) in
       let z = sum_by-cons clause_size k cs in
-      let p = placed_length h i m cs in
+      let p = placed_length ds h i m cs in
       let l = few_clauses cs in
-      let b = clause_spelled ds (layout_at h i n (clause_names h k)) S (layout_small h i n (clause_names h k) few (omega (arith, behind, a))) (length ps) k (omega (arith, size, z, p, l)) in
+      let b = clause_spelled ds (layout_at ds h i n (clause_names ds h k)) S (layout_small ds h i n (clause_names ds h k) few (omega (arith, behind, a))) (length ps) k (omega (arith, size, z, p, l)) in
       let t = block_spelled kind.Block (block_type.Index x) (fits x (S.type (clause_type (length k.arguments)))) in
-      blocks_spelled m cs (Block kind.Block (block_type.Index x) c (clause_code ds (length ps) (record { clause = k; layout = layout_at h i n (clause_names h k) })))
+      blocks_spelled m cs (Block kind.Block (block_type.Index x) c (clause_code ds (length ps) (record { clause = k; layout = layout_at ds h i n (clause_names ds h k) })))
       (omega (arith, behind, a)) (omega (arith, size, z)) (t, g, b)
 
   -- the resume and the return clause
-  handling_spelled : CodeSpelled (handling ds (return_layout h i) i)
+  handling_spelled : CodeSpelled (handling ds (return_layout ds h i) i)
   handling_spelled =
       let hs = labels ds 0 i.clauses in
       let l = labels_length ds 0 i.clauses in
       let n = few_clauses i.clauses in
-      let r = returned_spelled ds (return_layout h i) S (layout_small h i (return_place i) (return_names i) few (omega arith)) (length i.clauses) i (omega (arith, few, n)) in (
+      let r = returned_spelled ds (return_layout ds h i) S (layout_small ds h i (return_place i) (return_names ds i) few (omega arith)) (length i.clauses) i (omega (arith, few, n)) in (
         local_get_spelled (length i.parameters) (omega (arith, few)),
         (resume_spelled computation_type hs (omega arith) (omega (arith, few, l, n)) (labels_small ds S 0 i.clauses (omega (arith, few, n))), r),
       )
@@ -194,10 +190,10 @@ module _ (ds : List Declaration) (h : Name) (i : Handler) (S : SmallIndices ds) 
 -- the code of a handler that isn't too large
 pub handler_spelled : (ds : List Declaration) (h : Name) (i : Handler) → SmallIndices ds → definition_size (definition.Handler i) ≤ size_limit → FunctionSpelled (handler_code ds h i)
 handler_spelled ds h i S few =
-    let bs = return_names i ++ clauses_names h i.clauses in
+    let bs = return_names ds i ++ clauses_names ds h i.clauses in
     let k = max (high_block i.return_clause.body) (high_clauses i.clauses) in
-    let q = handler_few h i in
-    let l = length-append (return_names i) (clauses_names h i.clauses) in
+    let q = handler_few ds h i in
+    let l = length-append (return_names ds i) (clauses_names ds h i.clauses) in
     let t = locals_total bs k in
     let g = handling_spelled ds h i S few in
     record {
@@ -206,7 +202,7 @@ handler_spelled ds h i S few =
       few = omega (arith, t, few, q, l);
       body = (
         block_spelled kind.Loop (block_type.Value _) refl,
-        blocks_spelled ds h i S few (clauses_place i) i.clauses (handling ds (return_layout h i) i) (omega arith) (omega (arith, few)) g,
+        blocks_spelled ds h i S few (clauses_place ds i) i.clauses (handling ds (return_layout ds h i) i) (omega arith) (omega (arith, few)) g,
         tt,
       );
     }

@@ -22,7 +22,8 @@ use Rattle.s_syntax.specs.declared.operators.Connective.{Connective}
 use Rattle.s_syntax.specs.declared.operators.Comparison.{Comparison}
 use Rattle.s_syntax.specs.declared.operators.Arithmetic.{Arithmetic}
 use Rattle.s_syntax.specs.ExprTree.{ExprTree, Literal, Read, Unary, Run, Call, Do, Handle as HandleExpr, Resume, Exprs, NoExprs, MoreExprs, Operands, NoOperands, MoreOperands}
-use Rattle.s_syntax.specs.BlockTree.{StatementTree, BlockTree, Let, Assign, If, While, Print, Return, Fail, Evaluate, Done as NoStatements, ◌⨟◌}
+use Rattle.s_syntax.specs.declared.statement.Use.TheVariants as use_for
+use Rattle.s_syntax.specs.BlockTree.{StatementTree, BlockTree, Evaluate, If, While, Fail, Done as NoStatements, ◌⨟◌}
 use Rattle.s_check.specs.Definitions.{handler_of}
 use Rattle.s_check.specs.Rules.{count}
 use Rattle.s_check.specs.Scopes.{is_among}
@@ -132,14 +133,14 @@ mutual
 
 mutual
   pub data WellStatement (ds : List Declaration) (Γ : Layout) (n : ℕ) : StatementTree → Type 0 where
-    lets : {x : Name} {e : ExprTree} → HasNumber Γ x → WellExpr ds n 0 e → WellStatement ds Γ n (Let x e)
-    assigns : {x : Name} {e : ExprTree} → HasNumber Γ x → WellExpr ds n 0 e → WellStatement ds Γ n (Assign x e)
+    lets : {x : Name} {e : ExprTree} → HasNumber Γ x → WellExpr ds n 0 e → WellStatement ds Γ n (Evaluate (use_for.Let x) e)
+    assigns : {x : Name} {e : ExprTree} → HasNumber Γ x → WellExpr ds n 0 e → WellStatement ds Γ n (Evaluate (use_for.Assign x) e)
     ifs : {e : ExprTree} {a b : BlockTree} → WellExpr ds n 0 e → WellBlock ds Γ n a → WellBlock ds Γ n b → WellStatement ds Γ n (If e a b)
     whiles : {e : ExprTree} {b : BlockTree} → WellExpr ds n 0 e → WellBlock ds Γ n b → WellStatement ds Γ n (While e b)
-    print : {e : ExprTree} → WellExpr ds n 0 e → WellStatement ds Γ n (Print e)
-    return : {e : ExprTree} → WellExpr ds n 0 e → WellStatement ds Γ n (Return e)
+    print : {e : ExprTree} → WellExpr ds n 0 e → WellStatement ds Γ n (Evaluate use_for.Print e)
+    return : {e : ExprTree} → WellExpr ds n 0 e → WellStatement ds Γ n (Evaluate use_for.Return e)
     fail : WellStatement ds Γ n Fail
-    drop : {e : ExprTree} → WellExpr ds n 0 e → WellStatement ds Γ n (Evaluate e)
+    drop : {e : ExprTree} → WellExpr ds n 0 e → WellStatement ds Γ n (Evaluate use_for.Drop e)
 
   pub data WellBlock (ds : List Declaration) (Γ : Layout) (n : ℕ) : BlockTree → Type 0 where
     done : WellBlock ds Γ n NoStatements
@@ -279,7 +280,7 @@ clause_labels ds (p ∷ ps) e = Label ε (suc (length p.clause.arguments)) Done 
 
 -- the code of a handler's function: its loop
 abbrev pub loop_code : List Declaration → Name → Handler → Code
-loop_code ds h i = handler_body ds (return_layout h i) i (placed_clauses h i)
+loop_code ds h i = handler_body ds (return_layout ds h i) i (placed_clauses ds h i)
 
 -- the index of a handler's function among the module's own: behind that of the host
 abbrev pub handler_place : List Declaration → Name → ℕ
@@ -293,8 +294,8 @@ in_loop ds h i L below c e = Label ε 0 (loop_code ds h i) Done ∷ Label ε 1 D
 abbrev pub handler_high : Handler → ℕ
 handler_high i = max (high_block i.return_clause.body) (high_clauses i.clauses)
 
-abbrev pub handler_room : Name → Handler → ℕ
-handler_room h i = handler_temporaries h i + handler_high i
+abbrev pub handler_room : List Declaration → Name → Handler → ℕ
+handler_room ds h i = handler_temporaries ds h i + handler_high i
 
 -- the clauses' owner in the layouts of a handler
 abbrev pub own : Name → Handler → Owner
@@ -304,7 +305,7 @@ own h i = record { name = h; parameters = length i.parameters }
 -- after it
 pub data Base (ds : List Declaration) (Γ : Layout) (L : Locals) (below : Row Val) (c : Code) (e : Context) : Option Name → ℕ → Context → Type 0 where
   function : {place : ℕ} → Γ.owner ≡ None → Base ds Γ L below c e None 0 (Label ε 1 Done Done ∷ Frame below 1 place L (rest_of c) ∷ e)
-  clause : {h : Name} {i : Handler} (ps : List Placed) → handler_of ds h ≡ Some i → Γ.owner ≡ Some (own h i) → length ps ≤ 16 → handler_room h i ≤ length L
+  clause : {h : Name} {i : Handler} (ps : List Placed) → handler_of ds h ≡ Some i → Γ.owner ≡ Some (own h i) → length ps ≤ 16 → handler_room ds h i ≤ length L
       → Base ds Γ L below c e (Some h) (length ps) (clause_labels ds ps (in_loop ds h i L below c e))
 
 -- With a value at the hole, the code c in e does what the context κ does.
@@ -314,9 +315,9 @@ pub data Waits (ds : List Declaration) (ρ : List ℕ) : script.Context → Row 
       → Active ρ Γ n L vars → Works ds ρ Γ n D0 f t L work ops c e → Base ds Γ L below c' e' owner D0 f → Waits ds ρ κ below c' e'
       → Waits ds ρ (Activation vars owner work ∷ κ) ops c e
   handle : {h : Name} {i : Handler} {L : Locals} {vs : List Value} {κ : script.Context} {below : Row Val} {c : Code} {e : Context}
-      → handler_of ds h ≡ Some i → handler_room h i ≤ length L → length vs ≡ length i.parameters → Held ρ L vs → Waits ds ρ κ below c e
+      → handler_of ds h ≡ Some i → handler_room ds h i ≤ length L → length vs ≡ length i.parameters → Held ρ L vs → Waits ds ρ κ below c e
       → Waits ds ρ (Handled h vs ∷ κ) ε Done
-      (Handle ε (labels ds 0 i.clauses) (return_code ds (return_layout h i) (length i.clauses) i) ∷ clause_labels ds (placed_clauses h i) (in_loop ds h i L below c e))
+      (Handle ε (labels ds 0 i.clauses) (return_code ds (return_layout ds h i) (length i.clauses) i) ∷ clause_labels ds (placed_clauses ds h i) (in_loop ds h i L below c e))
 
 -- ## Terms and stores
 

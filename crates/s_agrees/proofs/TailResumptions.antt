@@ -123,7 +123,7 @@ module _ (P : Program) (k : Caps) (s : Store) (X : Locals → Context) (around :
 record InHandler (ds : List Declaration) (Γ : Layout) (L : Locals) (below : Row Val) (c : Code) (e : Context) (h : Name) (i : Handler) (D0 : ℕ) (f : Context) : Type 0 where
   placed : List Placed
   few : length placed ≤ 16
-  room : handler_room h i ≤ length L
+  room : handler_room ds h i ≤ length L
   parameters : owner_parameters Γ.owner ≡ length i.parameters
   depth : D0 ≡ length placed
   frame : f ≡ clause_labels ds placed (in_loop ds h i L below c e)
@@ -182,7 +182,7 @@ module _ {p : Script} (same : ℕ → ℕ → Bool) (facts : Facts p.declaration
     (waits : Waits p.declarations ρ κ below c' e') where
   -- a resumption that isn't consumed
   tail_kept : {Γ : Layout} {L : Locals} {d D y : ℕ} {e : Context} (h : Name) {i : Handler} {u : Value} {vs : Values} {ws : Row Val} (x : Name) (a : ℕ) (κ' : script.Context) (k : Continuation) (ps : List Placed) (c : Code)
-      → length ps ≤ 16 → handler_room h i ≤ length L → Deep (clause_labels p.declarations ps (in_loop p.declarations h i L below c' e')) d e → D ≡ d + length ps
+      → length ps ≤ 16 → handler_room p.declarations h i ≤ length L → Deep (clause_labels p.declarations ps (in_loop p.declarations h i L below c' e')) d e → D ≡ d + length ps
       → (r : ResumptionIn ρ Γ L x h a) → kept_at σ a ≡ Some (Some κ') → slice_get s.conts r.continuation ≡ Some (Some k) → KeptAs p.declarations ρ κ' k
       → handler_of p.declarations h ≡ Some i → many vs ≡ length i.parameters → LocalIs ρ L y u → Sames ρ vs ws
       → Matches p same 52 s (config e (ε ⧺ ws) (Plain (local_get y) (Plain (local_get (local_number Γ x)) (Plain (bind_continuation resumption_type computation_type)

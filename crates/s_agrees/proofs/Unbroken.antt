@@ -1,7 +1,6 @@
 -- What the rules come to for the declarations of a script that breaks none: how many there are of what is written in place, and bodies that
 -- break no rule.
-use Rattle.std.proofs.Common.{◌≡◌, ℕ, zero, suc, ◌≤◌, nat_lt, List, [], ◌∷◌, ◌++◌, map, length, Option, Some, None, slice_get, if◌then◌else◌, refl, sym, ap, ◌∙◌, subst, ltb-false}
-use Rattle.std.specs.Str.{bytes_eq}
+use Rattle.std.proofs.Common.{◌≡◌, ℕ, zero, suc, ◌≤◌, nat_lt, List, [], ◌∷◌, ◌++◌, map, length, Option, Some, None, slice_get, refl, subst, ltb-false}
 use Rattle.s_syntax.specs.declared.name.Name.{Name}
 use Rattle.s_syntax.specs.declared.number.Number.{Number}
 use Rattle.s_syntax.specs.declared.script.Function.{Function}
@@ -14,31 +13,12 @@ use Rattle.s_syntax.specs.declared.script.Script.{Script}
 use Rattle.s_check.specs.declared.rule.Rule.{Rule}
 use Rattle.s_check.specs.declared.rule.Rule.TheVariants as rule
 use Rattle.s_check.specs.Definitions.{definition_of, as_effect, function_of, handler_of, effect_of}
-use Rattle.s_check.specs.Scopes.{parameter, of_clause, of_return, is_among}
-use Rattle.s_check.specs.Rules.{when, in_body, in_types, in_parameters, in_head, in_clauses, in_header, in_bodies, in_definition, in_declaration, in_declarations, in_main, broken_rules}
-use Rattle.s_check.specs.Refusal.{first, Has, Good}
+use Rattle.s_check.specs.Scopes.{parameter, of_clause, of_return}
+use Rattle.s_check.specs.Rules.{when, in_body, in_types, in_parameters, in_head, in_clauses, in_header, in_bodies, in_definition, in_declarations, in_main, broken_rules}
+use Rattle.s_check.specs.Refusal.{Good}
 use Rattle.s_meaning.proofs.Good.{parts, when_not, is_function, is_handler}
 use Rattle.s_meaning.proofs.Lists.{get_before}
-use Rattle.s_meaning.proofs.Scopes.{same_is, bool_of}
-
--- ## Declarations
-
--- lists of which none has a rule
-no_rules : (lists : List (List Rule)) → ((d : ℕ) (r : Rule) → Has lists d r → ⊥) → (d : ℕ) (rs : List Rule) → slice_get lists d ≡ Some rs → rs ≡ []
-no_rules lists none d [] e = refl
-no_rules lists none d (r ∷ rs) e = absurd (none d r (record { rules = r ∷ rs; there = e; is = first }))
-
--- what a name stands for breaks no rule where no declaration does
-definition_keeps : (ds : List Declaration) (before : List Name) (es : List Declaration) (x : Name) (d : Definition)
-    → ((n : ℕ) (rs : List Rule) → slice_get (in_declarations ds before es) n ≡ Some rs → rs ≡ []) → definition_of es x ≡ Some d → in_definition ds x d ≡ []
-definition_keeps ds before [] x d none e = absurd (cc)
-definition_keeps ds before (c ∷ es) x d none e =
-    bool_of (bytes_eq c.name x) (λ b. (if b then Some c.definition else definition_of es x) ≡ Some d → in_definition ds x d ≡ [])
-    (λ q g.
-    let u = parts (when (is_among before c.name) rule.NameDeclaredTwice) (in_definition ds c.name c.definition) (none 0 (in_declaration ds before c) refl) in
-    let same : c.definition ≡ d = cc g in
-    ap (λ (y : Name). in_definition ds y d) (same_is x c.name q) ∙ ap (λ (y : Definition). in_definition ds c.name y) (sym same) ∙ u.1)
-    (λ q g. definition_keeps ds (c.name ∷ before) es x d (λ n. none (suc n)) g) e
+use Rattle.s_valid.proofs.BoundOnce.{no_rules, definition_keeps}
 
 -- ## Counts
 

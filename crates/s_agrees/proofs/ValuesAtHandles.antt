@@ -33,7 +33,7 @@ use Rattle.s_agrees.proofs.Bodies.{rest_body}
 use Rattle.s_agrees.proofs.Captures.{in_range, Around, in_blocks, set_path}
 
 module _ {p : Script} (same : ℕ → ℕ → Bool) (facts : Facts p.declarations) {ρ : List ℕ} {σ : script.Store} {s : Store} (stores : Stores p.declarations ρ σ s)
-    (h : Name) {i : Handler} {L : Locals} {ps : List Value} {κ : script.Context} {below : Row Val} {c : Code} {e : Context} (is : handler_of p.declarations h ≡ Some i) (room : handler_room h i ≤ length L)
+    (h : Name) {i : Handler} {L : Locals} {ps : List Value} {κ : script.Context} {below : Row Val} {c : Code} {e : Context} (is : handler_of p.declarations h ≡ Some i) (room : handler_room p.declarations h i ≤ length L)
     (long : length ps ≡ length i.parameters) (held : Held ρ L ps) (waits : Waits p.declarations ρ κ below c e) {z : ℤ} {a : Val} (value : Same ρ (Number z) a) where
   of_return : ReturnFacts p.declarations h i
   of_return = (facts.handlers h i is).returns
@@ -63,7 +63,7 @@ module _ {p : Script} (same : ℕ → ℕ → Bool) (facts : Facts p.declaration
   result_held = let old = in_range L place place_below in record { value = a; is = get_set_same L place (Some a) old.0 old.1; same = value }
 
   -- the return clause has its variables
-  return_active : {params : List Variable} → bind i.parameters ps ≡ Some params → Active ρ (return_layout h i) (handler_high i) locals_then (params ++ result ∷ [])
+  return_active : {params : List Variable} → bind i.parameters ps ≡ Some params → Active ρ (return_layout p.declarations h i) (handler_high i) locals_then (params ++ result ∷ [])
   return_active q = record {
     fine = of_return.fine;
     room = let l = length_set L place (Some a) in omega (arith, l, room);
@@ -73,19 +73,19 @@ module _ {p : Script} (same : ℕ → ℕ → Bool) (facts : Facts p.declaration
 
   -- the handler's function in its loop and the blocks of all clauses
   abbrev frame_with : Locals → Context
-  frame_with K = clause_labels p.declarations (placed_clauses h i) (in_loop p.declarations h i K below c e)
+  frame_with K = clause_labels p.declarations (placed_clauses p.declarations h i) (in_loop p.declarations h i K below c e)
 
   abbrev clause_code : Code
-  clause_code = body p.declarations (return_layout h i) (length i.clauses) i.return_clause.body
+  clause_code = body p.declarations (return_layout p.declarations h i) (length i.clauses) i.return_clause.body
 
   -- the code of the return clause does its body
-  return_rest : Rest p.declarations (return_layout h i) (handler_high i) (length (placed_clauses h i)) (frame_with locals_then) (length (placed_clauses h i)) i.return_clause.body clause_code (frame_with locals_then)
+  return_rest : Rest p.declarations (return_layout p.declarations h i) (handler_high i) (length (placed_clauses p.declarations h i)) (frame_with locals_then) (length (placed_clauses p.declarations h i)) i.return_clause.body clause_code (frame_with locals_then)
   return_rest =
-      subst (λ (n : ℕ). Rest p.declarations (return_layout h i) (handler_high i) (length (placed_clauses h i)) (frame_with locals_then) (length (placed_clauses h i)) i.return_clause.body
-      (body p.declarations (return_layout h i) n i.return_clause.body) (frame_with locals_then)) (many_placed h i) (rest_body of_return.well)
+      subst (λ (n : ℕ). Rest p.declarations (return_layout p.declarations h i) (handler_high i) (length (placed_clauses p.declarations h i)) (frame_with locals_then) (length (placed_clauses p.declarations h i)) i.return_clause.body
+      (body p.declarations (return_layout p.declarations h i) n i.return_clause.body) (frame_with locals_then)) (many_placed p.declarations h i) (rest_body of_return.well)
 
   abbrev handle_term : Term
-  handle_term = config (Handle ε (clause_answers p.declarations 0 i.clauses) (return_code p.declarations (return_layout h i) (length i.clauses) i) ∷ frame_with L) (ε ▹ a) Done
+  handle_term = config (Handle ε (clause_answers p.declarations 0 i.clauses) (return_code p.declarations (return_layout p.declarations h i) (length i.clauses) i) ∷ frame_with L) (ε ▹ a) Done
 
   abbrev clause_term : Term
   clause_term = config (frame_with locals_then) ε clause_code
@@ -93,9 +93,9 @@ module _ {p : Script} (same : ℕ → ℕ → Bool) (facts : Facts p.declaration
   -- the handle is left, and the value is set
   return_path : Path (program_of p same) (caps_of s handle_term clause_term) 2 s handle_term s clause_term
   return_path =
-      let x = clauses_frames p.declarations (placed_clauses h i) (in_loop p.declarations h i L below c e) in
-      let y = clauses_handles p.declarations (placed_clauses h i) (in_loop p.declarations h i L below c e) in
-      let around : Around (caps_of s handle_term clause_term) s frame_with = in_blocks p.declarations h i (placed_clauses h i) below c e (omega (arith, x)) (omega (arith, y)) (omega arith) in
+      let x = clauses_frames p.declarations (placed_clauses p.declarations h i) (in_loop p.declarations h i L below c e) in
+      let y = clauses_handles p.declarations (placed_clauses p.declarations h i) (in_loop p.declarations h i L below c e) in
+      let around : Around (caps_of s handle_term clause_term) s frame_with = in_blocks p.declarations h i (placed_clauses p.declarations h i) below c e (omega (arith, x)) (omega (arith, y)) (omega arith) in
       go refl (around.under L)
       (subst (λ (n : ℕ). Path (program_of p same) (caps_of s handle_term clause_term) 1 s (config (frame_with L) (ε ▹ a) (Plain (local_set n) clause_code)) s clause_term) (sym (ap number_in of_return.value))
       (set_path (program_of p same) (caps_of s handle_term clause_term) s frame_with around L ε a place clause_code place_below stay))
@@ -103,21 +103,21 @@ module _ {p : Script} (same : ℕ → ℕ → Bool) (facts : Facts p.declaration
   -- no label is added
   return_weight : 2 + weight s clause_term ≤ 52 + weight s handle_term
   return_weight =
-      let x = clauses_labels p.declarations (placed_clauses h i) (in_loop p.declarations h i L below c e) in
-      let y = clauses_labels p.declarations (placed_clauses h i) (in_loop p.declarations h i locals_then below c e) in omega (arith, x, y)
+      let x = clauses_labels p.declarations (placed_clauses p.declarations h i) (in_loop p.declarations h i L below c e) in
+      let y = clauses_labels p.declarations (placed_clauses p.declarations h i) (in_loop p.declarations h i locals_then below c e) in omega (arith, x, y)
 
   -- where the parameters are bound
   return_bound : {params : List Variable} → bind i.parameters ps ≡ Some params → Matches p same 52 s handle_term (enters σ i.return_clause.body (params ++ result ∷ []) (Some h) κ)
   return_bound q =
-      let few = (facts.handlers h i is).few_clauses in let n = many_placed h i in let l = length_set L place (Some a) in
+      let few = (facts.handlers h i is).few_clauses in let n = many_placed p.declarations h i in let l = length_set L place (Some a) in
       went return_path (omega arith) return_weight (record {
-        stands = runs (return_active q) return_rest (clause (placed_clauses h i) is refl (omega (arith, few, n)) (omega (arith, l, room))) waits;
+        stands = runs (return_active q) return_rest (clause (placed_clauses p.declarations h i) is refl (omega (arith, few, n)) (omega (arith, l, room))) waits;
         stores = stores;
       })
 
   -- a value at a handle
   pub sim_return : Matches p same 52 s
-      (config (Handle ε (clause_answers p.declarations 0 i.clauses) (return_code p.declarations (return_layout h i) (length i.clauses) i) ∷ clause_labels p.declarations (placed_clauses h i) (in_loop p.declarations h i L below c e)) (ε ▹ a) Done)
+      (config (Handle ε (clause_answers p.declarations 0 i.clauses) (return_code p.declarations (return_layout p.declarations h i) (length i.clauses) i) ∷ clause_labels p.declarations (placed_clauses p.declarations h i) (in_loop p.declarations h i L below c e)) (ε ▹ a) Done)
       (step_at p σ (Gives (Number z)) (Handled h ps ∷ κ))
   sim_return =
       let b = bind_known i.parameters ps (sym long) in

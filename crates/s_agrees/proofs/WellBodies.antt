@@ -7,7 +7,8 @@ use Rattle.s_syntax.specs.declared.script.VariableType.TheVariants.{Int}
 use Rattle.s_syntax.specs.declared.script.Declaration.{Declaration}
 use Rattle.s_syntax.specs.declared.script.Script.{Script}
 use Rattle.s_syntax.specs.ExprTree.{ExprTree, Literal, Read, Unary, Run, Call, Do, Handle, Resume, Exprs, NoExprs, MoreExprs, Operands, NoOperands, MoreOperands}
-use Rattle.s_syntax.specs.BlockTree.{BlockTree, Let, Assign, If, While, Print, Return, Fail, Evaluate, Done as NoStatements, ◌⨟◌}
+use Rattle.s_syntax.specs.declared.statement.Use.TheVariants as use_for
+use Rattle.s_syntax.specs.BlockTree.{BlockTree, Evaluate, If, While, Fail, Done as NoStatements, ◌⨟◌}
 use Rattle.s_check.specs.Rules.{count}
 use Rattle.s_check.specs.Scopes.{Scope, type_in, number as number_name, lets_in, is_among}
 use Rattle.s_index.specs.Handled.{handled_in_expr, handled_in_exprs, handled_in_operands, handled_in_block}
@@ -102,14 +103,14 @@ module _ {p : Script} {Γ : Layout} {n : ℕ} where
   -- a typed block has its temporaries and its locals
   pub well_block : (b : BlockTree) {bs : Scope} → BlockTyped p bs b → Numbers Γ bs → Lets Γ (lets_in b) → high_block b ≤ n → AllHandled p.declarations (handled_in_block b) → WellBlock p.declarations Γ n b
   well_block NoStatements script.done s l h a = done
-  well_block (Let x e ⨟ b) (script.lets q free rest) s l h a =
+  well_block (Evaluate (use_for.Let x) e ⨟ b) (script.statement (script.evaluates q (script.lets fit)) rest) s l h a =
       let first = lets_first x (lets_in b) l in
       next (lets first (well_expr e 0 (omega (arith, h)) (handled_left (handled_in_expr e) (handled_in_block b) a)))
       (well_block b rest (numbers_more x first s) (lets_right (x ∷ []) (lets_in b) l) (omega (arith, h)) (handled_right (handled_in_expr e) (handled_in_block b) a))
-  well_block (Assign x e ⨟ b) (script.assigns q is_int rest) s l h a =
+  well_block (Evaluate (use_for.Assign x) e ⨟ b) (script.statement (script.evaluates q (script.assigns is_int)) rest) s l h a =
       next (assigns (s.each x is_int) (well_expr e 0 (omega (arith, h)) (handled_left (handled_in_expr e) (handled_in_block b) a)))
       (well_block b rest s l (omega (arith, h)) (handled_right (handled_in_expr e) (handled_in_block b) a))
-  well_block (If e b d ⨟ k) (script.ifs q one two rest) s l h a =
+  well_block (If e b d ⨟ k) (script.statement (script.ifs q one two) rest) s l h a =
       let whole = handled_left (handled_in_expr e ++ (handled_in_block b ++ handled_in_block d)) (handled_in_block k) a in
       let both = handled_right (handled_in_expr e) (handled_in_block b ++ handled_in_block d) whole in
       let within = lets_left (lets_in b ++ lets_in d) (lets_in k) l in
@@ -119,19 +120,19 @@ module _ {p : Script} {Γ : Layout} {n : ℕ} where
       (well_block d two s (lets_right (lets_in b) (lets_in d) within) (omega (arith, h)) (handled_right (handled_in_block b) (handled_in_block d) both)))
       (well_block k rest s (lets_right (lets_in b ++ lets_in d) (lets_in k) l) (omega (arith, h))
       (handled_right (handled_in_expr e ++ (handled_in_block b ++ handled_in_block d)) (handled_in_block k) a))
-  well_block (While e b ⨟ k) (script.whiles q inner rest) s l h a =
+  well_block (While e b ⨟ k) (script.statement (script.whiles q inner) rest) s l h a =
       let whole = handled_left (handled_in_expr e ++ handled_in_block b) (handled_in_block k) a in
       next
       (whiles (well_expr e 0 (omega (arith, h)) (handled_left (handled_in_expr e) (handled_in_block b) whole))
       (well_block b inner s (lets_left (lets_in b) (lets_in k) l) (omega (arith, h)) (handled_right (handled_in_expr e) (handled_in_block b) whole)))
       (well_block k rest s (lets_right (lets_in b) (lets_in k) l) (omega (arith, h)) (handled_right (handled_in_expr e ++ handled_in_block b) (handled_in_block k) a))
-  well_block (Print e ⨟ b) (script.prints q rest) s l h a =
+  well_block (Evaluate use_for.Print e ⨟ b) (script.statement (script.evaluates q script.prints) rest) s l h a =
       next (print (well_expr e 0 (omega (arith, h)) (handled_left (handled_in_expr e) (handled_in_block b) a)))
       (well_block b rest s l (omega (arith, h)) (handled_right (handled_in_expr e) (handled_in_block b) a))
-  well_block (Return e ⨟ b) (script.returns q rest) s l h a =
+  well_block (Evaluate use_for.Return e ⨟ b) (script.statement (script.evaluates q script.returns) rest) s l h a =
       next (return (well_expr e 0 (omega (arith, h)) (handled_left (handled_in_expr e) (handled_in_block b) a)))
       (well_block b rest s l (omega (arith, h)) (handled_right (handled_in_expr e) (handled_in_block b) a))
-  well_block (Fail ⨟ b) (script.fails rest) s l h a = next fail (well_block b rest s l (omega (arith, h)) a)
-  well_block (Evaluate e ⨟ b) (script.drops q rest) s l h a =
+  well_block (Fail ⨟ b) (script.statement script.fails rest) s l h a = next fail (well_block b rest s l (omega (arith, h)) a)
+  well_block (Evaluate use_for.Drop e ⨟ b) (script.statement (script.evaluates q script.drops) rest) s l h a =
       next (drop (well_expr e 0 (omega (arith, h)) (handled_left (handled_in_expr e) (handled_in_block b) a)))
       (well_block b rest s l (omega (arith, h)) (handled_right (handled_in_expr e) (handled_in_block b) a))

@@ -11,13 +11,15 @@ use Rattle.s_syntax.specs.declared.script.Clause.{Clause}
 use Rattle.s_syntax.specs.declared.script.Handler.{Handler}
 use Rattle.s_syntax.specs.declared.script.Declaration.{Declaration}
 use Rattle.s_syntax.specs.ExprTree.{ExprTree, Literal, Read, Unary, Run, Call, Do, Handle, Resume, Exprs, NoExprs, MoreExprs, Operands, NoOperands, MoreOperands}
-use Rattle.s_syntax.specs.BlockTree.{StatementTree, BlockTree, Let, Assign, If, While, Print, Return, Fail, Evaluate, Done, ◌⨟◌}
+use Rattle.s_syntax.specs.declared.statement.Use.{Use}
+use Rattle.s_syntax.specs.declared.statement.Use.TheVariants as use_for
+use Rattle.s_syntax.specs.BlockTree.{StatementTree, BlockTree, Evaluate, If, While, Fail, Done, ◌⨟◌}
 use Rattle.s_check.specs.declared.rule.Rule.{Rule}
 use Rattle.s_check.specs.declared.rule.Rule.TheVariants as rule
 use Rattle.s_check.specs.Definitions.{function_of, handler_of, effect_of}
 use Rattle.s_check.specs.Least.{lesser, least_of}
 use Rattle.s_check.specs.Refusal.{number_of}
-use Rattle.s_check.specs.Rules.{when, count, against, all_suit, for_function, for_effect, for_handler, for_handler_of_type, for_resumed, in_name, in_expr, in_exprs, in_operands, in_target, bound_after, in_statement, in_block, in_body, in_types, in_parameters, in_head, in_clauses, in_header, in_bodies}
+use Rattle.s_check.specs.Rules.{when, count, against, all_suit, for_function, for_effect, for_handler, for_handler_of_type, for_resumed, in_name, in_expr, in_exprs, in_operands, in_target, in_use, bound_after, in_statement, in_block, in_body, in_types, in_parameters, in_head, in_clauses, in_header, in_bodies}
 use Rattle.s_check.proofs.Least.{least_append}
 use Rattle.s_check.specs.Scopes.{Scope, Bound, type_in, of_clause, of_return}
 
@@ -100,16 +102,19 @@ target_greater None = (omega arith, tt)
 target_greater (Some Int) = tt
 target_greater (Some (Resumption h)) = (omega arith, tt)
 
+use_greater : (bs : Scope) (u : Use) → AreGreater (in_use bs u)
+use_greater bs (use_for.Let x) = tt
+use_greater bs (use_for.Assign x) = target_greater (type_in bs x)
+use_greater bs use_for.Print = tt
+use_greater bs use_for.Return = tt
+use_greater bs use_for.Drop = tt
+
 mutual
   statement_greater : (ds : List Declaration) (bs : Scope) (s : StatementTree) → AreGreater (in_statement ds bs s)
-  statement_greater ds bs (Let x e) = expr_greater ds bs false e
-  statement_greater ds bs (Assign x e) = both (in_target (type_in bs x)) (in_expr ds bs false e) (target_greater (type_in bs x)) (expr_greater ds bs false e)
+  statement_greater ds bs (Evaluate u e) = both (in_use bs u) (in_expr ds bs false e) (use_greater bs u) (expr_greater ds bs false e)
   statement_greater ds bs (If c a b) = both (in_expr ds bs false c) (in_block ds bs a ++ in_block ds bs b) (expr_greater ds bs false c) (both (in_block ds bs a) (in_block ds bs b) (block_greater ds bs a) (block_greater ds bs b))
   statement_greater ds bs (While c b) = both (in_expr ds bs false c) (in_block ds bs b) (expr_greater ds bs false c) (block_greater ds bs b)
-  statement_greater ds bs (Print e) = expr_greater ds bs false e
-  statement_greater ds bs (Return e) = expr_greater ds bs false e
   statement_greater ds bs Fail = tt
-  statement_greater ds bs (Evaluate e) = expr_greater ds bs false e
 
   block_greater : (ds : List Declaration) (bs : Scope) (b : BlockTree) → AreGreater (in_block ds bs b)
   block_greater ds bs Done = tt

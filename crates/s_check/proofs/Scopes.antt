@@ -1,8 +1,10 @@
 -- Scopes that grow.
 use Rattle.std.proofs.Common.{◌≡◌, ℕ, Bool, true, false, List, [], ◌∷◌, ◌++◌, ◌+◌, ◌<◌, length, take, drop, map, get_or, refl, sym, ap, ◌∙◌, append_assoc}
 use Rattle.std.specs.Prelude.{is_some, if◌then◌else◌}
-use Rattle.s_syntax.specs.BlockTree.{StatementTree, Let, Assign, If, While, Print, Return, Fail, Evaluate}
-use Rattle.s_check.specs.Rules.{bound_after}
+use Rattle.s_syntax.specs.declared.statement.Use.{Use}
+use Rattle.s_syntax.specs.declared.statement.Use.TheVariants as use_for
+use Rattle.s_syntax.specs.BlockTree.{StatementTree, Evaluate, If, While, Fail}
+use Rattle.s_check.specs.Rules.{bound_by, bound_after}
 use Rattle.s_check.specs.declared.bound.Binding.{Binding}
 use Rattle.s_check.specs.Scopes.{Bound, Scope, type_in, number}
 use Rattle.s_check.specs.Views.{bound_of, scope_of}
@@ -19,15 +21,18 @@ front_bound : (first scope : Scope) (b : Bound) (is : Bool) → take (length fir
 front_bound first scope b true h = h
 front_bound first scope b false h = front_more first scope b h
 
+front_by : (u : Use) (first scope : Scope) → take (length first) scope ≡ first → take (length first) (bound_by u scope) ≡ first
+front_by (use_for.Let x) first scope h = front_bound first scope (number x) (is_some (type_in scope x)) h
+front_by (use_for.Assign x) first scope h = h
+front_by use_for.Print first scope h = h
+front_by use_for.Return first scope h = h
+front_by use_for.Drop first scope h = h
+
 front_after : (s : StatementTree) (first scope : Scope) → take (length first) scope ≡ first → take (length first) (bound_after s scope) ≡ first
-front_after (Let x e) first scope h = front_bound first scope (number x) (is_some (type_in scope x)) h
-front_after (Assign x e) first scope h = h
+front_after (Evaluate u e) first scope h = front_by u first scope h
 front_after (If c a b) first scope h = h
 front_after (While c b) first scope h = h
-front_after (Print e) first scope h = h
-front_after (Return e) first scope h = h
 front_after Fail first scope h = h
-front_after (Evaluate e) first scope h = h
 
 -- behind a statement
 pub kept_after : (s : StatementTree) (first scope after : Scope) → take (length first) scope ≡ first → after ≡ bound_after s scope → take (length first) after ≡ first

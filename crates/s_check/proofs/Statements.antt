@@ -5,7 +5,7 @@ use Rattle.s_syntax.specs.declared.script.Declaration.{Declaration}
 use Rattle.s_syntax.specs.declared.statement.Statement.{Statement}
 use Rattle.s_syntax.specs.BlockOf.{statement_of, block_of}
 use Rattle.s_check.specs.declared.rule.Rule.{Rule}
-use Rattle.s_syntax.specs.BlockTree.{StatementTree, Let, Assign, If, While, Print, Return, Fail, Evaluate}
+use Rattle.s_syntax.specs.BlockTree.{StatementTree, Evaluate, If, While, Fail}
 use Rattle.s_check.specs.Least.{least_of}
 use Rattle.s_check.specs.Parts.{in_front, in_blocks}
 use Rattle.s_check.specs.Rules.{in_expr, in_statement, in_block, bound_after}
@@ -37,11 +37,7 @@ block_more ds ss i s scope after least now all h e inv n a =
 
 -- a statement's rules are those of its front and then those of its blocks
 pub in_parts : (ds : List Declaration) (bs : Scope) (s : StatementTree) (least : Option Rule) → least_of least (in_statement ds bs s) ≡ least_of (least_of least (in_front ds bs s)) (in_blocks ds bs s)
-in_parts ds bs (Let x e) least = refl
-in_parts ds bs (Assign x e) least = refl
+in_parts ds bs (Evaluate u e) least = refl
 in_parts ds bs (If c a b) least = least_append least (in_expr ds bs false c) (in_block ds bs a ++ in_block ds bs b)
 in_parts ds bs (While c b) least = least_append least (in_expr ds bs false c) (in_block ds bs b)
-in_parts ds bs (Print e) least = refl
-in_parts ds bs (Return e) least = refl
 in_parts ds bs Fail least = refl
-in_parts ds bs (Evaluate e) least = refl

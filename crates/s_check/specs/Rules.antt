@@ -12,7 +12,9 @@ use Rattle.s_syntax.specs.declared.script.Definition.{Definition}
 use Rattle.s_syntax.specs.declared.script.Definition.TheVariants as definition
 use Rattle.s_syntax.specs.declared.script.Declaration.{Declaration}
 use Rattle.s_syntax.specs.ExprTree.{ExprTree, Literal, Read, Unary, Run, Call, Do, Handle, Resume, Exprs, NoExprs, MoreExprs, Operands, NoOperands, MoreOperands}
-use Rattle.s_syntax.specs.BlockTree.{StatementTree, BlockTree, Let, Assign, If, While, Print, Return, Fail, Evaluate, Done, ◌⨟◌}
+use Rattle.s_syntax.specs.declared.statement.Use.{Use}
+use Rattle.s_syntax.specs.declared.statement.Use.TheVariants as use_for
+use Rattle.s_syntax.specs.BlockTree.{StatementTree, BlockTree, Evaluate, If, While, Fail, Done, ◌⨟◌}
 use Rattle.s_check.specs.declared.rule.Rule.{Rule}
 use Rattle.s_check.specs.declared.rule.Rule.TheVariants as rule
 use Rattle.s_check.specs.Definitions.{function_of, handler_of, effect_of}
@@ -116,27 +118,35 @@ in_target None = rule.NameNotBound ∷ []
 in_target (Some Int) = []
 in_target (Some (Resumption h)) = rule.ResumptionElsewhere ∷ []
 
--- what is bound behind a statement, up to the end of its block
+-- what a value is used for
+abbrev pub in_use : Scope → Use → List Rule
+in_use bs (use_for.Let x) = []
+in_use bs (use_for.Assign x) = in_target (type_in bs x)
+in_use bs use_for.Print = []
+in_use bs use_for.Return = []
+in_use bs use_for.Drop = []
+
+-- what is bound behind such a use
+abbrev pub bound_by : Use → Scope → Scope
+bound_by (use_for.Let x) bs = bind (number x) bs
+bound_by (use_for.Assign x) bs = bs
+bound_by use_for.Print bs = bs
+bound_by use_for.Return bs = bs
+bound_by use_for.Drop bs = bs
+
+-- and behind a statement, up to the end of its block
 abbrev pub bound_after : StatementTree → Scope → Scope
-bound_after (Let x e) bs = bind (number x) bs
-bound_after (Assign x e) bs = bs
+bound_after (Evaluate u e) bs = bound_by u bs
 bound_after (If c a b) bs = bs
 bound_after (While c b) bs = bs
-bound_after (Print e) bs = bs
-bound_after (Return e) bs = bs
 bound_after Fail bs = bs
-bound_after (Evaluate e) bs = bs
 
 abbrev mutual
   pub in_statement : List Declaration → Scope → StatementTree → List Rule
-  in_statement ds bs (Let x e) = in_expr ds bs false e
-  in_statement ds bs (Assign x e) = in_target (type_in bs x) ++ in_expr ds bs false e
+  in_statement ds bs (Evaluate u e) = in_use bs u ++ in_expr ds bs false e
   in_statement ds bs (If c a b) = in_expr ds bs false c ++ (in_block ds bs a ++ in_block ds bs b)
   in_statement ds bs (While c b) = in_expr ds bs false c ++ in_block ds bs b
-  in_statement ds bs (Print e) = in_expr ds bs false e
-  in_statement ds bs (Return e) = in_expr ds bs false e
   in_statement ds bs Fail = []
-  in_statement ds bs (Evaluate e) = in_expr ds bs false e
 
   pub in_block : List Declaration → Scope → BlockTree → List Rule
   in_block ds bs Done = []

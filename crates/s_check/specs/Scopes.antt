@@ -7,7 +7,9 @@ use Rattle.s_syntax.specs.declared.script.VariableType.TheVariants.{Int, Resumpt
 use Rattle.s_syntax.specs.declared.script.Parameter.{Parameter}
 use Rattle.s_syntax.specs.declared.script.Clause.{Clause}
 use Rattle.s_syntax.specs.declared.script.Handler.{Handler}
-use Rattle.s_syntax.specs.BlockTree.{StatementTree, BlockTree, Let, Assign, If, While, Print, Return, Fail, Evaluate, Done, ◌⨟◌}
+use Rattle.s_syntax.specs.declared.statement.Use.{Use}
+use Rattle.s_syntax.specs.declared.statement.Use.TheVariants as use_for
+use Rattle.s_syntax.specs.BlockTree.{StatementTree, BlockTree, Evaluate, If, While, Fail, Done, ◌⨟◌}
 
 -- a value name and its type
 pub record Bound : Type 0 where
@@ -52,17 +54,20 @@ of_return i = map parameter i.parameters ++ number i.return_clause.value ∷ []
 
 -- ## Names that lets bind
 
+abbrev pub lets_by : Use → List Name
+lets_by (use_for.Let x) = x ∷ []
+lets_by (use_for.Assign x) = []
+lets_by use_for.Print = []
+lets_by use_for.Return = []
+lets_by use_for.Drop = []
+
 -- in order, those of all blocks within
 abbrev mutual
   pub lets_of : StatementTree → List Name
-  lets_of (Let x e) = x ∷ []
-  lets_of (Assign x e) = []
+  lets_of (Evaluate u e) = lets_by u
   lets_of (If c a b) = lets_in a ++ lets_in b
   lets_of (While c b) = lets_in b
-  lets_of (Print e) = []
-  lets_of (Return e) = []
   lets_of Fail = []
-  lets_of (Evaluate e) = []
 
   pub lets_in : BlockTree → List Name
   lets_in Done = []

@@ -7,7 +7,7 @@ use Rattle.s_syntax.specs.declared.script.Definition.TheVariants as definition
 use Rattle.s_syntax.specs.declared.script.Declaration.{Declaration}
 use Rattle.s_syntax.specs.declared.script.Script.{Script}
 use Rattle.s_syntax.specs.ExprTree.{ExprTree, Literal, Read, Unary, Run, Call, Do, Handle, Resume, Exprs, NoExprs, MoreExprs, Operands, NoOperands, MoreOperands}
-use Rattle.s_syntax.specs.BlockTree.{StatementTree, BlockTree, Let, Assign, If, While, Print, Return, Fail, Evaluate, Done, ◌⨟◌}
+use Rattle.s_syntax.specs.BlockTree.{StatementTree, BlockTree, Evaluate, If, While, Fail, Done, ◌⨟◌}
 
 abbrev mutual
   pub expr_size : ExprTree → ℕ
@@ -31,14 +31,10 @@ abbrev mutual
 
 abbrev mutual
   pub statement_size : StatementTree → ℕ
-  statement_size (Let x e) = 1 + expr_size e
-  statement_size (Assign x e) = 1 + expr_size e
+  statement_size (Evaluate u e) = 1 + expr_size e
   statement_size (If c a b) = 1 + expr_size c + block_size a + block_size b
   statement_size (While c b) = 1 + expr_size c + block_size b
-  statement_size (Print e) = 1 + expr_size e
-  statement_size (Return e) = 1 + expr_size e
   statement_size Fail = 1
-  statement_size (Evaluate e) = 1 + expr_size e
 
   pub block_size : BlockTree → ℕ
   block_size Done = 0

@@ -3,7 +3,7 @@ ghost use Rattle.std.specs.Prelude.{◌≡◌, ◌++◌, [], map, OnOk, IfOk};
 ghost use Rattle.s_syntax.specs.BlockOf.{statement_of};
 ghost use Rattle.s_check.specs.Least.{least_of};
 ghost use Rattle.s_check.specs.Rules.{in_body};
-ghost use Rattle.s_check.specs.Scopes.{Bound, lets_of, lets_in, some_twice, bind_all};
+ghost use Rattle.s_check.specs.Scopes.{Bound, lets_by, lets_of, lets_in, some_twice, bind_all};
 ghost use Rattle.s_check.specs.Views.{names_of, scope_of, HasNames};
 
 use crate::bound::Binding;
@@ -12,9 +12,22 @@ use crate::noted::noted_before;
 use crate::rule::{Rule, broken_where};
 use crate::scope::Scope;
 use crate::statement::in_block;
-use s_syntax::{Block, Name, Statement};
+use s_syntax::{Block, Name, Statement, Use};
 use std::alloc::{AllocError, Global};
 use std::collections::BTreeSet;
+
+// Puts the name that a use binds behind those that are there.
+fn push_lets_by<'a>(what: &'a Use, names: &mut Vec<&'a Name>) -> Result<(), AllocError>
+    ensures value { OnOk result (names_of names.new.items ≡ names_of names.old.items ++ lets_by what.now) }
+{
+    match what {
+        Use::Let(name) => {
+            names.push(name)?;
+            Ok(())
+        }
+        Use::Assign(_) | Use::Print | Use::Return | Use::Drop => Ok(()),
+    }
+}
 
 // Puts the names that a statement binds behind those that are there.
 #[cycle(lets)]
@@ -22,10 +35,7 @@ fn push_lets_of<'a>(statement: &'a Statement, names: &mut Vec<&'a Name>) -> Resu
     ensures value { OnOk result (names_of names.new.items ≡ names_of names.old.items ++ lets_of (statement_of statement.now)) }
 {
     match statement {
-        Statement::Let { name, value: _ } => {
-            names.push(name)?;
-            Ok(())
-        }
+        Statement::Evaluate { what, value: _ } => push_lets_by(what, names),
         Statement::If {
             condition: _,
             then_block,
@@ -35,11 +45,7 @@ fn push_lets_of<'a>(statement: &'a Statement, names: &mut Vec<&'a Name>) -> Resu
             push_lets(else_block, names)
         }
         Statement::While { condition: _, body } => push_lets(body, names),
-        Statement::Assign { name: _, value: _ }
-        | Statement::Print(_)
-        | Statement::Return(_)
-        | Statement::Fail
-        | Statement::Evaluate(_) => Ok(()),
+        Statement::Fail => Ok(()),
     }
 }
 

@@ -2,7 +2,7 @@
 ghost use Rattle.std.specs.Prelude.{◌≡◌, false, length, take, OnOk, IfOk};
 ghost use Rattle.s_syntax.specs.BlockOf.{statement_of, block_of};
 ghost use Rattle.s_check.specs.Least.{least_of};
-ghost use Rattle.s_check.specs.Rules.{in_target, bound_after, in_block};
+ghost use Rattle.s_check.specs.Rules.{in_target, in_use, bound_after, in_block};
 ghost use Rattle.s_check.specs.Parts.{in_front, in_blocks};
 ghost use Rattle.s_check.specs.Scopes.{type_in};
 
@@ -11,7 +11,7 @@ use crate::declarations::Declarations;
 use crate::expression::in_expr;
 use crate::rule::{Rule, broken};
 use crate::scope::Scope;
-use s_syntax::{Block, Name, Statement};
+use s_syntax::{Block, Name, Statement, Use};
 use std::alloc::AllocError;
 
 // The least rule, with those that the assignment of a name breaks.
@@ -25,11 +25,25 @@ fn in_target<'a>(scope: &Scope<'a>, name: &'a Name, least: Option<Rule>) -> Opti
     }
 }
 
+// The least rule, with those that the use of a value breaks.
+fn in_use<'a>(scope: &Scope<'a>, what: &'a Use, least: Option<Rule>) -> Option<Rule>
+    ensures value { result ≡ least_of least (in_use scope.now what.now) }
+{
+    match what {
+        Use::Assign(name) => in_target(scope, name, least),
+        Use::Let(_) | Use::Print | Use::Return | Use::Drop => least,
+    }
+}
+
 // Binds the name of a let.
 fn bind_let<'a>(scope: &mut Scope<'a>, statement: &'a Statement) -> Result<(), AllocError>
     ensures value { OnOk result (scope.new ≡ bound_after (statement_of statement.now) scope.old) }
 {
-    if let Statement::Let { name, value: _ } = statement {
+    if let Statement::Evaluate {
+        what: Use::Let(name),
+        value: _,
+    } = statement
+    {
         scope.bind(Binding {
             name,
             ty: ValueType::Int,
@@ -49,13 +63,11 @@ fn in_front<'a>(
     ensures value { result ≡ least_of least (in_front declarations.now scope.now (statement_of statement.now)) }
 {
     match statement {
-        Statement::Assign { name, value } => {
-            let least = in_target(scope, name, least);
+        Statement::Evaluate { what, value } => {
+            let least = in_use(scope, what, least);
             in_expr(declarations, scope, false, value, least)
         }
-        Statement::Fail => least,
-        Statement::Let { name: _, value }
-        | Statement::If {
+        Statement::If {
             condition: value,
             then_block: _,
             else_block: _,
@@ -63,10 +75,8 @@ fn in_front<'a>(
         | Statement::While {
             condition: value,
             body: _,
-        }
-        | Statement::Print(value)
-        | Statement::Return(value)
-        | Statement::Evaluate(value) => in_expr(declarations, scope, false, value, least),
+        } => in_expr(declarations, scope, false, value, least),
+        Statement::Fail => least,
     }
 }
 
@@ -92,12 +102,7 @@ fn in_blocks<'a>(
             in_block(declarations, scope, else_block, least)
         }
         Statement::While { condition: _, body } => in_block(declarations, scope, body, least),
-        Statement::Let { name: _, value: _ }
-        | Statement::Assign { name: _, value: _ }
-        | Statement::Print(_)
-        | Statement::Return(_)
-        | Statement::Fail
-        | Statement::Evaluate(_) => Ok(least),
+        Statement::Evaluate { what: _, value: _ } | Statement::Fail => Ok(least),
     }
 }
 

@@ -1,8 +1,11 @@
 -- Temporaries are no more than a body is large.
-use Rattle.std.proofs.Common.{ℕ, ◌+◌, ◌≤◌, arith}
+use Rattle.std.proofs.Common.{ℕ, ◌+◌, ◌≤◌, length, arith}
+use Rattle.s_syntax.specs.declared.statement.Use.{Use}
+use Rattle.s_syntax.specs.declared.statement.Use.TheVariants as use_for
 use Rattle.s_syntax.specs.ExprTree.{ExprTree, Literal, Read, Unary, Run, Call, Do, Handle, Resume, Exprs, NoExprs, MoreExprs, Operands, NoOperands, MoreOperands}
-use Rattle.s_syntax.specs.BlockTree.{StatementTree, BlockTree, Let, Assign, If, While, Print, Return, Fail, Evaluate, Done, ◌⨟◌}
+use Rattle.s_syntax.specs.BlockTree.{StatementTree, BlockTree, Evaluate, If, While, Fail, Done, ◌⨟◌}
 use Rattle.s_check.specs.Rules.{count}
+use Rattle.s_check.specs.Scopes.{lets_by}
 use Rattle.s_check.specs.Size.{expr_size, exprs_size, operands_size, statement_size, block_size}
 use Rattle.s_code.specs.Temporaries.{high, high_args, high_aside, high_operands, high_statement, high_block}
 use Rattle.s_code.proofs.Sizes.{some_size, count_within}
@@ -32,15 +35,19 @@ mutual
 
 mutual
   statement_high : (s : StatementTree) → high_statement s ≤ statement_size s
-  statement_high (Let x e) = let q = high_within 0 e in omega (arith, q)
-  statement_high (Assign x e) = let q = high_within 0 e in omega (arith, q)
+  statement_high (Evaluate u e) = let q = high_within 0 e in omega (arith, q)
   statement_high (If c a b) = let q = high_within 0 c in let r = block_high a in let s = block_high b in omega (arith, q, r, s)
   statement_high (While c b) = let q = high_within 0 c in let r = block_high b in omega (arith, q, r)
-  statement_high (Print e) = let q = high_within 0 e in omega (arith, q)
-  statement_high (Return e) = let q = high_within 0 e in omega (arith, q)
   statement_high Fail = omega arith
-  statement_high (Evaluate e) = let q = high_within 0 e in omega (arith, q)
 
   pub block_high : (b : BlockTree) → high_block b ≤ block_size b
   block_high Done = omega arith
   block_high (s ⨟ b) = let q = statement_high s in let r = block_high b in omega (arith, q, r)
+
+-- a use binds one name at most
+pub lets_by_few : (u : Use) → length (lets_by u) ≤ 1
+lets_by_few (use_for.Let x) = omega arith
+lets_by_few (use_for.Assign x) = omega arith
+lets_by_few use_for.Print = omega arith
+lets_by_few use_for.Return = omega arith
+lets_by_few use_for.Drop = omega arith

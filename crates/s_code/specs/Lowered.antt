@@ -32,10 +32,10 @@ use Rattle.s_code.specs.Places.{function_layout, function_locals, return_layout,
 -- ## Functions and handlers
 
 abbrev pub function_code : List Declaration → Function → Func
-function_code ds f = record { locals = function_locals f; body = body ds (function_layout f) 0 f.body }
+function_code ds f = record { locals = function_locals ds f; body = body ds (function_layout ds f) 0 f.body }
 
 abbrev pub handler_code : List Declaration → Name → Handler → Func
-handler_code ds h i = record { locals = handler_locals h i; body = handler_body ds (return_layout h i) i (placed_clauses h i) }
+handler_code ds h i = record { locals = handler_locals ds h i; body = handler_body ds (return_layout ds h i) i (placed_clauses ds h i) }
 
 -- ## What each declaration adds
 

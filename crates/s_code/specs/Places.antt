@@ -9,6 +9,7 @@ use Rattle.s_syntax.specs.declared.name.Name.{Name}
 use Rattle.s_syntax.specs.declared.script.Function.{Function}
 use Rattle.s_syntax.specs.declared.script.Clause.{Clause}
 use Rattle.s_syntax.specs.declared.script.Handler.{Handler}
+use Rattle.s_syntax.specs.declared.script.Declaration.{Declaration}
 use Rattle.s_syntax.specs.BlockTree.{BlockTree}
 use Rattle.s_check.specs.Scopes.{Bound, number, parameter, resumption, lets_in}
 use Rattle.s_index.specs.Types.{val_type}
@@ -18,57 +19,58 @@ use Rattle.s_code.specs.Temporaries.{high_block}
 
 -- ## Functions
 
-abbrev pub lets : BlockTree → List Bound
-lets b = map number (lets_in b)
+-- the names that a body binds, each with its type
+abbrev pub binds_in : List Declaration → BlockTree → List Bound
+binds_in ds b = map number (lets_in b)
 
-abbrev pub function_names : Function → List Bound
-function_names f = map parameter f.parameters ++ lets f.body
+abbrev pub function_names : List Declaration → Function → List Bound
+function_names ds f = map parameter f.parameters ++ binds_in ds f.body
 
-abbrev pub function_layout : Function → Layout
-function_layout f = record { names = numbered 0 (function_names f); temporaries = length (function_names f); owner = None }
+abbrev pub function_layout : List Declaration → Function → Layout
+function_layout ds f = record { names = numbered 0 (function_names ds f); temporaries = length (function_names ds f); owner = None }
 
 -- ## Handlers
 
 -- the return clause: the value, and what its body binds
-abbrev pub return_names : Handler → List Bound
-return_names i = number i.return_clause.value ∷ lets i.return_clause.body
+abbrev pub return_names : List Declaration → Handler → List Bound
+return_names ds i = number i.return_clause.value ∷ binds_in ds i.return_clause.body
 
 -- a clause of the handler h: its arguments, the resumption, and what its body binds
-abbrev pub clause_names : Name → Clause → List Bound
-clause_names h c = map number c.arguments ++ resumption h c.resumption ∷ lets c.body
+abbrev pub clause_names : List Declaration → Name → Clause → List Bound
+clause_names ds h c = map number c.arguments ++ resumption h c.resumption ∷ binds_in ds c.body
 
-abbrev pub clauses_names : Name → List Clause → List Bound
-clauses_names h [] = []
-clauses_names h (c ∷ cs) = clause_names h c ++ clauses_names h cs
+abbrev pub clauses_names : List Declaration → Name → List Clause → List Bound
+clauses_names ds h [] = []
+clauses_names ds h (c ∷ cs) = clause_names ds h c ++ clauses_names ds h cs
 
 -- behind the parameters lies what is handled; then come the names of the return clause and of the clauses, each its own
 abbrev pub return_place : Handler → ℕ
 return_place i = length i.parameters + 1
 
-abbrev pub clauses_place : Handler → ℕ
-clauses_place i = return_place i + length (return_names i)
+abbrev pub clauses_place : List Declaration → Handler → ℕ
+clauses_place ds i = return_place i + length (return_names ds i)
 
-abbrev pub handler_temporaries : Name → Handler → ℕ
-handler_temporaries h i = clauses_place i + length (clauses_names h i.clauses)
+abbrev pub handler_temporaries : List Declaration → Name → Handler → ℕ
+handler_temporaries ds h i = clauses_place ds i + length (clauses_names ds h i.clauses)
 
 -- the parameters of the handler h, and these names from the local n on
-abbrev pub layout_at : Name → Handler → ℕ → List Bound → Layout
-layout_at h i n bs = record {
+abbrev pub layout_at : List Declaration → Name → Handler → ℕ → List Bound → Layout
+layout_at ds h i n bs = record {
   names = numbered 0 (map parameter i.parameters) ++ numbered n bs;
-  temporaries = handler_temporaries h i;
+  temporaries = handler_temporaries ds h i;
   owner = Some (record { name = h; parameters = length i.parameters });
 }
 
-abbrev pub return_layout : Name → Handler → Layout
-return_layout h i = layout_at h i (return_place i) (return_names i)
+abbrev pub return_layout : List Declaration → Name → Handler → Layout
+return_layout ds h i = layout_at ds h i (return_place i) (return_names ds i)
 
 -- the clauses, the names of the first one being from the local n on
-abbrev pub placed_from : Name → Handler → ℕ → List Clause → List Placed
-placed_from h i n [] = []
-placed_from h i n (c ∷ cs) = record { clause = c; layout = layout_at h i n (clause_names h c) } ∷ placed_from h i (n + length (clause_names h c)) cs
+abbrev pub placed_from : List Declaration → Name → Handler → ℕ → List Clause → List Placed
+placed_from ds h i n [] = []
+placed_from ds h i n (c ∷ cs) = record { clause = c; layout = layout_at ds h i n (clause_names ds h c) } ∷ placed_from ds h i (n + length (clause_names ds h c)) cs
 
-abbrev pub placed_clauses : Name → Handler → List Placed
-placed_clauses h i = placed_from h i (clauses_place i) i.clauses
+abbrev pub placed_clauses : List Declaration → Name → Handler → List Placed
+placed_clauses ds h i = placed_from ds h i (clauses_place ds i) i.clauses
 
 -- ## Locals
 
@@ -82,12 +84,12 @@ name_runs bs = map (λ (b : Bound). run (val_type b.ty) 1) bs
 abbrev pub locals_for : List Bound → ℕ → List LocalRun
 locals_for bs n = joined (name_runs bs ++ run I64 n ∷ [])
 
-abbrev pub function_locals : Function → List LocalRun
-function_locals f = locals_for (lets f.body) (high_block f.body)
+abbrev pub function_locals : List Declaration → Function → List LocalRun
+function_locals ds f = locals_for (binds_in ds f.body) (high_block f.body)
 
 abbrev pub high_clauses : List Clause → ℕ
 high_clauses [] = 0
 high_clauses (c ∷ cs) = max (high_block c.body) (high_clauses cs)
 
-abbrev pub handler_locals : Name → Handler → List LocalRun
-handler_locals h i = locals_for (return_names i ++ clauses_names h i.clauses) (max (high_block i.return_clause.body) (high_clauses i.clauses))
+abbrev pub handler_locals : List Declaration → Name → Handler → List LocalRun
+handler_locals ds h i = locals_for (return_names ds i ++ clauses_names ds h i.clauses) (max (high_block i.return_clause.body) (high_clauses i.clauses))

@@ -5,7 +5,9 @@ use Rattle.w_syntax.specs.declared.instructions.BlockKind.TheVariants as kind
 use Rattle.w_syntax.specs.declared.instructions.BlockType.TheVariants as block_type
 use Rattle.s_syntax.specs.declared.script.Declaration.{Declaration}
 use Rattle.s_syntax.specs.ExprTree.{ExprTree, Resume}
-use Rattle.s_syntax.specs.BlockTree.{StatementTree, BlockTree, Let, Assign, If, While, Print, Return, Fail, Evaluate, Done as NoStatements, ◌⨟◌}
+use Rattle.s_syntax.specs.declared.statement.Use.{Use}
+use Rattle.s_syntax.specs.declared.statement.Use.TheVariants as use_for
+use Rattle.s_syntax.specs.BlockTree.{StatementTree, BlockTree, Evaluate, If, While, Fail, Done as NoStatements, ◌⨟◌}
 use Rattle.s_code.specs.Instructions.{constant, is_zero, call, local_set, unreachable, branch, branch_if, leave, dropped, if_zero}
 use Rattle.s_code.specs.Layouts.{Layout, local_number, is_own}
 use Rattle.s_code.specs.Expressions.{expr, tail_resume}
@@ -18,19 +20,23 @@ abbrev pub return : List Declaration → Layout → ℕ → ExprTree → Code �
 return ds Γ D (Resume k e ps) c = if is_own Γ k then tail_resume ds Γ D k e ps c else expr ds Γ 0 (Resume k e ps) (Plain leave c)
 return ds Γ D e c = expr ds Γ 0 e (Plain leave c)
 
+-- an expression, and then what its value is used for
+abbrev pub evaluate : List Declaration → Layout → ℕ → Use → ExprTree → Code → Code
+evaluate ds Γ D (use_for.Let x) e c = expr ds Γ 0 e (Plain (local_set (local_number Γ x)) c)
+evaluate ds Γ D (use_for.Assign x) e c = expr ds Γ 0 e (Plain (local_set (local_number Γ x)) c)
+evaluate ds Γ D use_for.Print e c = expr ds Γ 0 e (Plain (call printer) c)
+evaluate ds Γ D use_for.Return e c = return ds Γ D e c
+evaluate ds Γ D use_for.Drop e c = expr ds Γ 0 e (Plain dropped c)
+
 abbrev mutual
   pub statement : List Declaration → Layout → ℕ → StatementTree → Code → Code
-  statement ds Γ D (Let x e) c = expr ds Γ 0 e (Plain (local_set (local_number Γ x)) c)
-  statement ds Γ D (Assign x e) c = expr ds Γ 0 e (Plain (local_set (local_number Γ x)) c)
+  statement ds Γ D (Evaluate u e) c = evaluate ds Γ D u e c
   statement ds Γ D (If e a b) c = expr ds Γ 0 e (if_zero (block ds Γ (D + 1) b Done) (block ds Γ (D + 1) a Done) c)
   statement ds Γ D (While e b) c =
       Block kind.Block block_type.Empty
       (Block kind.Loop block_type.Empty
       (expr ds Γ 0 e (Plain is_zero (Plain (branch_if 1) (block ds Γ (D + 2) b (Plain (branch 0) Done))))) Done) c
-  statement ds Γ D (Print e) c = expr ds Γ 0 e (Plain (call printer) c)
-  statement ds Γ D (Return e) c = return ds Γ D e c
   statement ds Γ D Fail c = Plain unreachable c
-  statement ds Γ D (Evaluate e) c = expr ds Γ 0 e (Plain dropped c)
 
   pub block : List Declaration → Layout → ℕ → BlockTree → Code → Code
   block ds Γ D NoStatements c = c

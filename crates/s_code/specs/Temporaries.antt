@@ -1,7 +1,7 @@
 -- How many temporaries a body takes.
 use Rattle.std.specs.Prelude.{ℕ, ◌+◌, max}
 use Rattle.s_syntax.specs.ExprTree.{ExprTree, Literal, Read, Unary, Run, Call, Do, Handle, Resume, Exprs, NoExprs, MoreExprs, Operands, NoOperands, MoreOperands}
-use Rattle.s_syntax.specs.BlockTree.{StatementTree, BlockTree, Let, Assign, If, While, Print, Return, Fail, Evaluate, Done, ◌⨟◌}
+use Rattle.s_syntax.specs.BlockTree.{StatementTree, BlockTree, Evaluate, If, While, Fail, Done, ◌⨟◌}
 use Rattle.s_check.specs.Rules.{count}
 
 -- the first temporary that is never used, where t are in use
@@ -30,14 +30,10 @@ abbrev mutual
 
 abbrev mutual
   pub high_statement : StatementTree → ℕ
-  high_statement (Let x e) = high 0 e
-  high_statement (Assign x e) = high 0 e
+  high_statement (Evaluate u e) = high 0 e
   high_statement (If c a b) = max (high 0 c) (max (high_block a) (high_block b))
   high_statement (While c b) = max (high 0 c) (high_block b)
-  high_statement (Print e) = high 0 e
-  high_statement (Return e) = high 0 e
   high_statement Fail = 0
-  high_statement (Evaluate e) = high 0 e
 
   pub high_block : BlockTree → ℕ
   high_block Done = 0

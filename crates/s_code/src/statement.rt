@@ -4,7 +4,7 @@ ghost use Rattle.w_syntax.specs.Code.{Code, Done};
 ghost use Rattle.s_syntax.specs.BlockTree.{If, While};
 ghost use Rattle.s_syntax.specs.BlockOf.{statement_of, block_of};
 ghost use Rattle.s_check.specs.Size.{expr_size, statement_size, block_size};
-ghost use Rattle.s_code.specs.Statements.{return as return_code, statement as statement_code, block as block_code, body as body_code, ending};
+ghost use Rattle.s_code.specs.Statements.{return as return_code, evaluate as evaluate_code, statement as statement_code, block as block_code, body as body_code, ending};
 ghost use Rattle.s_code.specs.Writes.{Writes};
 ghost use Rattle.s_index.specs.Limits.{number_limit};
 
@@ -12,7 +12,7 @@ use crate::expression::{write_expr, write_tail_resume};
 use crate::layout::Layout;
 use crate::operators::{write_control, write_numeric, write_op, write_set, write_token};
 use s_index::Program;
-use s_syntax::{Block, Expr, Node, Statement};
+use s_syntax::{Block, Expr, Node, Statement, Use};
 use std::alloc::AllocError;
 use w_syntax::{BlockKind, BlockType, ControlOp, IntType, NumericOp, Op, ParametricOp, Token};
 
@@ -45,6 +45,35 @@ fn write_return<'a>(
     }
     write_expr(program, layout, 0, value, out)?;
     write_control(ControlOp::Return, out)
+}
+
+// Writes an expression, and then what its value is used for.
+fn write_evaluate<'a>(
+    program: &Program<'a>,
+    layout: &Layout<'a>,
+    labels: u32,
+    what: &'a Use,
+    value: &'a Expr,
+    out: &mut Vec<Token>,
+) -> Result<(), AllocError>
+    requires { layout.now.temporaries + 1 + expr_size value.now ≤ 1000000 }
+    ensures writes { OnOk result ((c : Code) → Writes out.old.items (evaluate_code program.now layout.now labels what.now value.now c) out.new.items c) }
+{
+    match what {
+        Use::Let(name) | Use::Assign(name) => {
+            write_expr(program, layout, 0, value, out)?;
+            write_set(layout.local_number(name), out)
+        }
+        Use::Print => {
+            write_expr(program, layout, 0, value, out)?;
+            write_control(ControlOp::Call(PRINTER), out)
+        }
+        Use::Return => write_return(program, layout, labels, value, out),
+        Use::Drop => {
+            write_expr(program, layout, 0, value, out)?;
+            write_op(Op::Parametric(ParametricOp::Drop), out)
+        }
+    }
 }
 
 // Writes an if, whose branches are exchanged, since the condition is compared with 0.
@@ -109,9 +138,8 @@ fn write_statement<'a>(
     ensures writes { OnOk result ((c : Code) → Writes out.old.items (statement_code program.now layout.now labels (statement_of statement.now) c) out.new.items c) }
 {
     match statement {
-        Statement::Let { name, value } | Statement::Assign { name, value } => {
-            write_expr(program, layout, 0, value, out)?;
-            write_set(layout.local_number(name), out)
+        Statement::Evaluate { what, value } => {
+            write_evaluate(program, layout, labels, what, value, out)
         }
         Statement::If {
             condition,
@@ -123,16 +151,7 @@ fn write_statement<'a>(
         Statement::While { condition, body } => {
             write_while(program, layout, labels, condition, body, out)
         }
-        Statement::Print(value) => {
-            write_expr(program, layout, 0, value, out)?;
-            write_control(ControlOp::Call(PRINTER), out)
-        }
-        Statement::Return(value) => write_return(program, layout, labels, value, out),
         Statement::Fail => write_control(ControlOp::Unreachable, out),
-        Statement::Evaluate(value) => {
-            write_expr(program, layout, 0, value, out)?;
-            write_op(Op::Parametric(ParametricOp::Drop), out)
-        }
     }
 }
 

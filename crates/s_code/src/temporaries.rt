@@ -100,16 +100,13 @@ fn high_statement(statement: &Statement) -> u32
     ensures value { result ≡ high_statement (statement_of statement.now) }
 {
     match statement {
-        Statement::Let { name: _, value } | Statement::Assign { name: _, value } => high(0, value),
+        Statement::Evaluate { what: _, value } => high(0, value),
         Statement::If {
             condition,
             then_block,
             else_block,
         } => high(0, condition).max(high_in_block(then_block).max(high_in_block(else_block))),
         Statement::While { condition, body } => high(0, condition).max(high_in_block(body)),
-        Statement::Print(value) | Statement::Return(value) | Statement::Evaluate(value) => {
-            high(0, value)
-        }
         Statement::Fail => 0,
     }
 }

@@ -1,7 +1,6 @@
 //! Expressions.
 ghost use Rattle.std.specs.Prelude.{◌≡◌, ◌<◌, ◌≤◌, length, IfOk};
 ghost use Rattle.s_syntax.specs.declared.token.Kind.TheVariants as kind;
-ghost use Rattle.s_lex.specs.Lexes.{AreInOrder};
 ghost use Rattle.s_grammar.specs.Parts.{run_of};
 ghost use Rattle.s_grammar.specs.Reading.{choice};
 ghost use Rattle.s_grammar.specs.Reads.{expr, run, primary_by, led, listed};
@@ -10,9 +9,10 @@ ghost use Rattle.s_expr.specs.Places.{ReadsAt, ReadsAs};
 ghost use Rattle.s_expr.specs.Levels.{graded, operand, operands, parenthesized_expr, arguments, below, operators, rank};
 
 use crate::level::{Level, below, is_operator, operator_at};
+use crate::source::Source;
 use crate::stop::Stop;
 use crate::token::{expect, int_at, is_kind, kind_at, name_at};
-use s_syntax::{BinaryOperator, Expr, Kind, Node, Token, UnaryOperator};
+use s_syntax::{BinaryOperator, Expr, Kind, Node, UnaryOperator};
 use std::alloc::{AllocError, Global};
 
 // A run of operators, or the operand alone.
@@ -28,130 +28,94 @@ fn run_of(alloc: Global, first: Expr, rest: Vec<(BinaryOperator, Expr)>) -> Resu
 /// An expression, where so many brackets may be opened.
 #[cycle(expr)]
 #[tactic(auto, using(crate::proofs::LoosestLevel::expr_is))]
-pub fn expr_at(
-    alloc: Global,
-    bytes: &[u8],
-    tokens: &[Token],
-    at: usize,
-    nest: usize,
-) -> Result<(Expr, usize), Stop>
-    requires order { AreInOrder 0 (length bytes.now) tokens.now }
-    requires within { at ≤ length tokens.now }
-    ensures reads { ReadsAt (expr bytes.now nest) tokens.now at result }
+pub fn expr_at(source: &Source, at: usize, nest: usize) -> Result<(Expr, usize), Stop>
+    requires within { at ≤ length source.now.tokens.now }
+    ensures reads { ReadsAt (expr source.now.bytes.now nest) source.now.tokens.now at result }
 {
-    graded_at(alloc, bytes, tokens, at, nest, Level::Or)
+    graded_at(source, at, nest, Level::Or)
 }
 
 // An expression of the level.
 #[cycle(expr)]
 #[tactic(auto, unfolding(crate::specs::Levels::graded, s_grammar::specs::Reads::expr_by, s_grammar::specs::Reads::ands, s_grammar::specs::Reads::compares, s_grammar::specs::Reads::sums, s_grammar::specs::Reads::products))]
-fn graded_at(
-    alloc: Global,
-    bytes: &[u8],
-    tokens: &[Token],
-    at: usize,
-    nest: usize,
-    level: Level,
-) -> Result<(Expr, usize), Stop>
-    requires order { AreInOrder 0 (length bytes.now) tokens.now }
-    requires within { at ≤ length tokens.now }
-    ensures reads { ReadsAt (graded bytes.now nest level) tokens.now at result }
+fn graded_at(source: &Source, at: usize, nest: usize, level: Level) -> Result<(Expr, usize), Stop>
+    requires within { at ≤ length source.now.tokens.now }
+    ensures reads { ReadsAt (graded source.now.bytes.now nest level) source.now.tokens.now at result }
 {
     match level {
-        Level::Unary => unary_at(alloc, bytes, tokens, at, nest),
-        Level::Comparison => comparison_at(alloc, bytes, tokens, at, nest),
-        Level::Or => run_at(alloc, bytes, tokens, at, nest, Level::Or),
-        Level::And => run_at(alloc, bytes, tokens, at, nest, Level::And),
-        Level::Sum => run_at(alloc, bytes, tokens, at, nest, Level::Sum),
-        Level::Product => run_at(alloc, bytes, tokens, at, nest, Level::Product),
+        Level::Unary => unary_at(source, at, nest),
+        Level::Comparison => comparison_at(source, at, nest),
+        Level::Or => run_at(source, at, nest, Level::Or),
+        Level::And => run_at(source, at, nest, Level::And),
+        Level::Sum => run_at(source, at, nest, Level::Sum),
+        Level::Product => run_at(source, at, nest, Level::Product),
     }
 }
 
 // A run of operators of the level.
 #[cycle(expr)]
 #[tactic(auto, unfolding(s_grammar::specs::Reads::run, crate::specs::Levels::operands, crate::specs::Levels::operand))]
-fn run_at(
-    alloc: Global,
-    bytes: &[u8],
-    tokens: &[Token],
-    at: usize,
-    nest: usize,
-    level: Level,
-) -> Result<(Expr, usize), Stop>
-    requires order { AreInOrder 0 (length bytes.now) tokens.now }
-    requires within { at ≤ length tokens.now }
+fn run_at(source: &Source, at: usize, nest: usize, level: Level) -> Result<(Expr, usize), Stop>
+    requires within { at ≤ length source.now.tokens.now }
     requires tighter { rank (below level) < rank level }
-    ensures reads { ReadsAt (run (operators level) (graded bytes.now nest (below level))) tokens.now at result }
+    ensures reads { ReadsAt (run (operators level) (graded source.now.bytes.now nest (below level))) source.now.tokens.now at result }
 {
-    let (first, at) = graded_at(alloc, bytes, tokens, at, nest, below(level))?;
-    let (rest, at) = operands_at(alloc, bytes, tokens, at, nest, level)?;
-    Ok((run_of(alloc, first, rest)?, at))
+    let (first, at) = graded_at(source, at, nest, below(level))?;
+    let (rest, at) = operands_at(source, at, nest, level)?;
+    Ok((run_of(source.alloc, first, rest)?, at))
 }
 
 // A comparison, or a sum.
 #[cycle(expr)]
 #[tactic(auto, unfolding(crate::specs::Levels::graded, s_grammar::specs::Reads::once, s_grammar::specs::Reads::compares, crate::specs::Levels::operand))]
-fn comparison_at(
-    alloc: Global,
-    bytes: &[u8],
-    tokens: &[Token],
-    at: usize,
-    nest: usize,
-) -> Result<(Expr, usize), Stop>
-    requires order { AreInOrder 0 (length bytes.now) tokens.now }
-    requires within { at ≤ length tokens.now }
-    ensures reads { ReadsAt (graded bytes.now nest level.Comparison) tokens.now at result }
+fn comparison_at(source: &Source, at: usize, nest: usize) -> Result<(Expr, usize), Stop>
+    requires within { at ≤ length source.now.tokens.now }
+    ensures reads { ReadsAt (graded source.now.bytes.now nest level.Comparison) source.now.tokens.now at result }
 {
-    let (first, at) = graded_at(alloc, bytes, tokens, at, nest, Level::Sum)?;
-    if !is_operator(Level::Comparison, kind_at(tokens, at)) {
+    let (first, at) = graded_at(source, at, nest, Level::Sum)?;
+    if !is_operator(Level::Comparison, kind_at(source, at)) {
         return Ok((first, at));
     }
-    let (item, at) = operand_at(alloc, bytes, tokens, at, nest, Level::Comparison)?;
-    let mut rest = Vec::new(alloc);
+    let (item, at) = operand_at(source, at, nest, Level::Comparison)?;
+    let mut rest = Vec::new(source.alloc);
     rest.push(item)?;
-    Ok((run_of(alloc, first, rest)?, at))
+    Ok((run_of(source.alloc, first, rest)?, at))
 }
 
 // An operator of the level, and an operand.
 #[cycle(expr)]
 #[tactic(auto, unfolding(crate::specs::Levels::operand))]
 fn operand_at(
-    alloc: Global,
-    bytes: &[u8],
-    tokens: &[Token],
+    source: &Source,
     at: usize,
     nest: usize,
     level: Level,
 ) -> Result<((BinaryOperator, Expr), usize), Stop>
-    requires order { AreInOrder 0 (length bytes.now) tokens.now }
-    requires within { at ≤ length tokens.now }
+    requires within { at ≤ length source.now.tokens.now }
     requires tighter { rank (below level) < rank level }
-    ensures reads { ReadsAt (operand bytes.now nest level) tokens.now at result }
+    ensures reads { ReadsAt (operand source.now.bytes.now nest level) source.now.tokens.now at result }
 {
-    let (operator, at) = operator_at(tokens, at, level)?;
-    let (value, at) = graded_at(alloc, bytes, tokens, at, nest, below(level))?;
+    let (operator, at) = operator_at(source, at, level)?;
+    let (value, at) = graded_at(source, at, nest, below(level))?;
     Ok(((operator, value), at))
 }
 
 // Operators of the level, each with an operand.
 #[cycle(expr)]
 fn operands_at(
-    alloc: Global,
-    bytes: &[u8],
-    tokens: &[Token],
+    source: &Source,
     start: usize,
     nest: usize,
     level: Level,
 ) -> Result<(Vec<(BinaryOperator, Expr)>, usize), Stop>
-    requires order { AreInOrder 0 (length bytes.now) tokens.now }
-    requires within { start ≤ length tokens.now }
+    requires within { start ≤ length source.now.tokens.now }
     requires tighter { rank (below level) < rank level }
-    ensures reads { ReadsAs (λ v. v.items) (operands bytes.now nest level) tokens.now start result }
+    ensures reads { ReadsAs (λ v. v.items) (operands source.now.bytes.now nest level) source.now.tokens.now start result }
 {
-    let mut items = Vec::new(alloc);
+    let mut items = Vec::new(source.alloc);
     let mut at = start;
-    'items: while is_operator(level, kind_at(tokens, at)) {
-        let (item, next) = operand_at(alloc, bytes, tokens, at, nest, level)?;
+    'items: while is_operator(level, kind_at(source, at)) {
+        let (item, next) = operand_at(source, at, nest, level)?;
         items.push(item)?;
         at = next;
     }
@@ -161,56 +125,42 @@ fn operands_at(
 // An operand, with an operator before it or none.
 #[cycle(expr)]
 #[tactic(auto, unfolding(crate::specs::Levels::graded, s_grammar::specs::Reads::unary_by, s_grammar::specs::Reads::led))]
-fn unary_at(
-    alloc: Global,
-    bytes: &[u8],
-    tokens: &[Token],
-    at: usize,
-    nest: usize,
-) -> Result<(Expr, usize), Stop>
-    requires order { AreInOrder 0 (length bytes.now) tokens.now }
-    requires within { at ≤ length tokens.now }
-    ensures reads { ReadsAt (graded bytes.now nest level.Unary) tokens.now at result }
+fn unary_at(source: &Source, at: usize, nest: usize) -> Result<(Expr, usize), Stop>
+    requires within { at ≤ length source.now.tokens.now }
+    ensures reads { ReadsAt (graded source.now.bytes.now nest level.Unary) source.now.tokens.now at result }
 {
-    match kind_at(tokens, at) {
+    match kind_at(source, at) {
         Kind::Minus => {
-            let (_, at) = expect(tokens, at, Kind::Minus)?;
-            let (value, at) = primary_at(alloc, bytes, tokens, at, nest)?;
-            let value = Box::new(alloc, value)?;
+            let (_, at) = expect(source, at, Kind::Minus)?;
+            let (value, at) = primary_at(source, at, nest)?;
+            let value = Box::new(source.alloc, value)?;
             Ok((Expr::new(Node::Unary(UnaryOperator::Minus, value)), at))
         }
         Kind::Not => {
-            let (_, at) = expect(tokens, at, Kind::Not)?;
-            let (value, at) = primary_at(alloc, bytes, tokens, at, nest)?;
-            let value = Box::new(alloc, value)?;
+            let (_, at) = expect(source, at, Kind::Not)?;
+            let (value, at) = primary_at(source, at, nest)?;
+            let value = Box::new(source.alloc, value)?;
             Ok((Expr::new(Node::Unary(UnaryOperator::Not, value)), at))
         }
-        _ => primary_at(alloc, bytes, tokens, at, nest),
+        _ => primary_at(source, at, nest),
     }
 }
 
 // An operand.
 #[cycle(expr)]
 #[tactic(auto, unfolding(s_grammar::specs::Reads::primary_by))]
-fn primary_at(
-    alloc: Global,
-    bytes: &[u8],
-    tokens: &[Token],
-    at: usize,
-    nest: usize,
-) -> Result<(Expr, usize), Stop>
-    requires order { AreInOrder 0 (length bytes.now) tokens.now }
-    requires within { at ≤ length tokens.now }
-    ensures reads { ReadsAt (choice (primary_by bytes.now (parenthesized_expr bytes.now nest) (arguments bytes.now nest))) tokens.now at result }
+fn primary_at(source: &Source, at: usize, nest: usize) -> Result<(Expr, usize), Stop>
+    requires within { at ≤ length source.now.tokens.now }
+    ensures reads { ReadsAt (choice (primary_by source.now.bytes.now (parenthesized_expr source.now.bytes.now nest) (arguments source.now.bytes.now nest))) source.now.tokens.now at result }
 {
-    match kind_at(tokens, at) {
-        Kind::Name => name_or_call_at(alloc, bytes, tokens, at, nest),
-        Kind::OpenParenthesis => parenthesized_at(alloc, bytes, tokens, at, nest),
-        Kind::Do => do_at(alloc, bytes, tokens, at, nest),
-        Kind::Handle => handle_at(alloc, bytes, tokens, at, nest),
-        Kind::Resume => resume_at(alloc, bytes, tokens, at, nest),
+    match kind_at(source, at) {
+        Kind::Name => name_or_call_at(source, at, nest),
+        Kind::OpenParenthesis => parenthesized_at(source, at, nest),
+        Kind::Do => do_at(source, at, nest),
+        Kind::Handle => handle_at(source, at, nest),
+        Kind::Resume => resume_at(source, at, nest),
         _ => {
-            let (number, at) = int_at(bytes, tokens, at)?;
+            let (number, at) = int_at(source, at)?;
             Ok((Expr::new(Node::Literal(number)), at))
         }
     }
@@ -219,22 +169,15 @@ fn primary_at(
 // A name, or a call.
 #[cycle(expr)]
 #[tactic(auto, unfolding(s_grammar::specs::Reads::primary_by))]
-fn name_or_call_at(
-    alloc: Global,
-    bytes: &[u8],
-    tokens: &[Token],
-    at: usize,
-    nest: usize,
-) -> Result<(Expr, usize), Stop>
-    requires order { AreInOrder 0 (length bytes.now) tokens.now }
-    requires within { at ≤ length tokens.now }
-    ensures reads { ReadsAt (primary_by bytes.now (parenthesized_expr bytes.now nest) (arguments bytes.now nest) kind.Name) tokens.now at result }
+fn name_or_call_at(source: &Source, at: usize, nest: usize) -> Result<(Expr, usize), Stop>
+    requires within { at ≤ length source.now.tokens.now }
+    ensures reads { ReadsAt (primary_by source.now.bytes.now (parenthesized_expr source.now.bytes.now nest) (arguments source.now.bytes.now nest) kind.Name) source.now.tokens.now at result }
 {
-    let (name, at) = name_at(alloc, bytes, tokens, at)?;
-    if !is_kind(Kind::OpenParenthesis, kind_at(tokens, at)) {
+    let (name, at) = name_at(source, at)?;
+    if !is_kind(Kind::OpenParenthesis, kind_at(source, at)) {
         return Ok((Expr::new(Node::Read(name)), at));
     }
-    let (items, at) = arguments_at(alloc, bytes, tokens, at, nest)?;
+    let (items, at) = arguments_at(source, at, nest)?;
     Ok((
         Expr::new(Node::Call {
             function: name,
@@ -247,20 +190,13 @@ fn name_or_call_at(
 // An effect that is performed.
 #[cycle(expr)]
 #[tactic(auto, unfolding(s_grammar::specs::Reads::primary_by, s_grammar::specs::Reads::led))]
-fn do_at(
-    alloc: Global,
-    bytes: &[u8],
-    tokens: &[Token],
-    at: usize,
-    nest: usize,
-) -> Result<(Expr, usize), Stop>
-    requires order { AreInOrder 0 (length bytes.now) tokens.now }
-    requires within { at ≤ length tokens.now }
-    ensures reads { ReadsAt (primary_by bytes.now (parenthesized_expr bytes.now nest) (arguments bytes.now nest) kind.Do) tokens.now at result }
+fn do_at(source: &Source, at: usize, nest: usize) -> Result<(Expr, usize), Stop>
+    requires within { at ≤ length source.now.tokens.now }
+    ensures reads { ReadsAt (primary_by source.now.bytes.now (parenthesized_expr source.now.bytes.now nest) (arguments source.now.bytes.now nest) kind.Do) source.now.tokens.now at result }
 {
-    let (_, at) = expect(tokens, at, Kind::Do)?;
-    let (name, at) = name_at(alloc, bytes, tokens, at)?;
-    let (items, at) = arguments_at(alloc, bytes, tokens, at, nest)?;
+    let (_, at) = expect(source, at, Kind::Do)?;
+    let (name, at) = name_at(source, at)?;
+    let (items, at) = arguments_at(source, at, nest)?;
     Ok((
         Expr::new(Node::Do {
             effect: name,
@@ -273,23 +209,16 @@ fn do_at(
 // A call under a handler.
 #[cycle(expr)]
 #[tactic(auto, unfolding(s_grammar::specs::Reads::primary_by, s_grammar::specs::Reads::led))]
-fn handle_at(
-    alloc: Global,
-    bytes: &[u8],
-    tokens: &[Token],
-    at: usize,
-    nest: usize,
-) -> Result<(Expr, usize), Stop>
-    requires order { AreInOrder 0 (length bytes.now) tokens.now }
-    requires within { at ≤ length tokens.now }
-    ensures reads { ReadsAt (primary_by bytes.now (parenthesized_expr bytes.now nest) (arguments bytes.now nest) kind.Handle) tokens.now at result }
+fn handle_at(source: &Source, at: usize, nest: usize) -> Result<(Expr, usize), Stop>
+    requires within { at ≤ length source.now.tokens.now }
+    ensures reads { ReadsAt (primary_by source.now.bytes.now (parenthesized_expr source.now.bytes.now nest) (arguments source.now.bytes.now nest) kind.Handle) source.now.tokens.now at result }
 {
-    let (_, at) = expect(tokens, at, Kind::Handle)?;
-    let (function, at) = name_at(alloc, bytes, tokens, at)?;
-    let (items, at) = arguments_at(alloc, bytes, tokens, at, nest)?;
-    let (_, at) = expect(tokens, at, Kind::With)?;
-    let (handler, at) = name_at(alloc, bytes, tokens, at)?;
-    let (parameters, at) = arguments_at(alloc, bytes, tokens, at, nest)?;
+    let (_, at) = expect(source, at, Kind::Handle)?;
+    let (function, at) = name_at(source, at)?;
+    let (items, at) = arguments_at(source, at, nest)?;
+    let (_, at) = expect(source, at, Kind::With)?;
+    let (handler, at) = name_at(source, at)?;
+    let (parameters, at) = arguments_at(source, at, nest)?;
     Ok((
         Expr::new(Node::Handle {
             function,
@@ -304,23 +233,16 @@ fn handle_at(
 // A resumption that is resumed.
 #[cycle(expr)]
 #[tactic(auto, unfolding(s_grammar::specs::Reads::primary_by, s_grammar::specs::Reads::led))]
-fn resume_at(
-    alloc: Global,
-    bytes: &[u8],
-    tokens: &[Token],
-    at: usize,
-    nest: usize,
-) -> Result<(Expr, usize), Stop>
-    requires order { AreInOrder 0 (length bytes.now) tokens.now }
-    requires within { at ≤ length tokens.now }
-    ensures reads { ReadsAt (primary_by bytes.now (parenthesized_expr bytes.now nest) (arguments bytes.now nest) kind.Resume) tokens.now at result }
+fn resume_at(source: &Source, at: usize, nest: usize) -> Result<(Expr, usize), Stop>
+    requires within { at ≤ length source.now.tokens.now }
+    ensures reads { ReadsAt (primary_by source.now.bytes.now (parenthesized_expr source.now.bytes.now nest) (arguments source.now.bytes.now nest) kind.Resume) source.now.tokens.now at result }
 {
-    let (_, at) = expect(tokens, at, Kind::Resume)?;
-    let (name, at) = name_at(alloc, bytes, tokens, at)?;
-    let (value, at) = parenthesized_at(alloc, bytes, tokens, at, nest)?;
-    let value = Box::new(alloc, value)?;
-    let (_, at) = expect(tokens, at, Kind::With)?;
-    let (items, at) = arguments_at(alloc, bytes, tokens, at, nest)?;
+    let (_, at) = expect(source, at, Kind::Resume)?;
+    let (name, at) = name_at(source, at)?;
+    let (value, at) = parenthesized_at(source, at, nest)?;
+    let value = Box::new(source.alloc, value)?;
+    let (_, at) = expect(source, at, Kind::With)?;
+    let (items, at) = arguments_at(source, at, nest)?;
     Ok((
         Expr::new(Node::Resume {
             resumption: name,
@@ -333,87 +255,60 @@ fn resume_at(
 
 // An expression in parentheses.
 #[cycle(expr)]
-fn parenthesized_at(
-    alloc: Global,
-    bytes: &[u8],
-    tokens: &[Token],
-    at: usize,
-    nest: usize,
-) -> Result<(Expr, usize), Stop>
-    requires order { AreInOrder 0 (length bytes.now) tokens.now }
-    requires within { at ≤ length tokens.now }
-    ensures reads { ReadsAt (parenthesized_expr bytes.now nest) tokens.now at result }
+fn parenthesized_at(source: &Source, at: usize, nest: usize) -> Result<(Expr, usize), Stop>
+    requires within { at ≤ length source.now.tokens.now }
+    ensures reads { ReadsAt (parenthesized_expr source.now.bytes.now nest) source.now.tokens.now at result }
 {
-    let (_, inside) = expect(tokens, at, Kind::OpenParenthesis)?;
+    let (_, inside) = expect(source, at, Kind::OpenParenthesis)?;
     if nest == 0 {
         return Err(Stop::TooDeep(at));
     }
-    let (value, end) = expr_at(alloc, bytes, tokens, inside, nest - 1)?;
-    let (_, end) = expect(tokens, end, Kind::CloseParenthesis)?;
+    let (value, end) = expr_at(source, inside, nest - 1)?;
+    let (_, end) = expect(source, end, Kind::CloseParenthesis)?;
     Ok((value, end))
 }
 
 // Arguments in parentheses.
 #[cycle(expr)]
-fn arguments_at(
-    alloc: Global,
-    bytes: &[u8],
-    tokens: &[Token],
-    at: usize,
-    nest: usize,
-) -> Result<(Vec<Expr>, usize), Stop>
-    requires order { AreInOrder 0 (length bytes.now) tokens.now }
-    requires within { at ≤ length tokens.now }
-    ensures reads { ReadsAs (λ v. v.items) (arguments bytes.now nest) tokens.now at result }
+fn arguments_at(source: &Source, at: usize, nest: usize) -> Result<(Vec<Expr>, usize), Stop>
+    requires within { at ≤ length source.now.tokens.now }
+    ensures reads { ReadsAs (λ v. v.items) (arguments source.now.bytes.now nest) source.now.tokens.now at result }
 {
-    let (_, inside) = expect(tokens, at, Kind::OpenParenthesis)?;
+    let (_, inside) = expect(source, at, Kind::OpenParenthesis)?;
     if nest == 0 {
         return Err(Stop::TooDeep(at));
     }
-    let (items, end) = listed_at(alloc, bytes, tokens, inside, nest - 1)?;
-    let (_, end) = expect(tokens, end, Kind::CloseParenthesis)?;
+    let (items, end) = listed_at(source, inside, nest - 1)?;
+    let (_, end) = expect(source, end, Kind::CloseParenthesis)?;
     Ok((items, end))
 }
 
 // A comma, and an expression.
 #[cycle(expr)]
 #[tactic(auto, unfolding(s_grammar::specs::Reads::led))]
-fn comma_item_at(
-    alloc: Global,
-    bytes: &[u8],
-    tokens: &[Token],
-    at: usize,
-    nest: usize,
-) -> Result<(Expr, usize), Stop>
-    requires order { AreInOrder 0 (length bytes.now) tokens.now }
-    requires within { at ≤ length tokens.now }
-    ensures reads { ReadsAt (led kind.Comma (expr bytes.now nest)) tokens.now at result }
+fn comma_item_at(source: &Source, at: usize, nest: usize) -> Result<(Expr, usize), Stop>
+    requires within { at ≤ length source.now.tokens.now }
+    ensures reads { ReadsAt (led kind.Comma (expr source.now.bytes.now nest)) source.now.tokens.now at result }
 {
-    let (_, at) = expect(tokens, at, Kind::Comma)?;
-    expr_at(alloc, bytes, tokens, at, nest)
+    let (_, at) = expect(source, at, Kind::Comma)?;
+    expr_at(source, at, nest)
 }
 
-// Expressions with commas between, up to the parenthesis.
+// Expressions with commas between, up to the parenthesis. `s_parse` has one such reader for items of any kind; it goes by a trait, and no
+// recursion through a trait is proved.
 #[cycle(expr)]
-fn listed_at(
-    alloc: Global,
-    bytes: &[u8],
-    tokens: &[Token],
-    start: usize,
-    nest: usize,
-) -> Result<(Vec<Expr>, usize), Stop>
-    requires order { AreInOrder 0 (length bytes.now) tokens.now }
-    requires within { start ≤ length tokens.now }
-    ensures reads { ReadsAs (λ v. v.items) (listed (expr bytes.now nest)) tokens.now start result }
+fn listed_at(source: &Source, start: usize, nest: usize) -> Result<(Vec<Expr>, usize), Stop>
+    requires within { start ≤ length source.now.tokens.now }
+    ensures reads { ReadsAs (λ v. v.items) (listed (expr source.now.bytes.now nest)) source.now.tokens.now start result }
 {
-    let mut items = Vec::new(alloc);
-    if is_kind(Kind::CloseParenthesis, kind_at(tokens, start)) {
+    let mut items = Vec::new(source.alloc);
+    if is_kind(Kind::CloseParenthesis, kind_at(source, start)) {
         return Ok((items, start));
     }
-    let (first, mut at) = expr_at(alloc, bytes, tokens, start, nest)?;
+    let (first, mut at) = expr_at(source, start, nest)?;
     items.push(first)?;
-    'items: while is_kind(Kind::Comma, kind_at(tokens, at)) {
-        let (item, next) = comma_item_at(alloc, bytes, tokens, at, nest)?;
+    'items: while is_kind(Kind::Comma, kind_at(source, at)) {
+        let (item, next) = comma_item_at(source, at, nest)?;
         items.push(item)?;
         at = next;
     }

@@ -5,8 +5,9 @@ ghost use Rattle.s_grammar.specs.Operators.{operator_of, operator_of_kind};
 ghost use Rattle.s_expr.specs.Places.{ReadsAt};
 ghost use Rattle.s_expr.specs.Levels.{below, operators};
 
+use crate::source::Source;
 use crate::stop::Stop;
-use s_syntax::{Arithmetic, BinaryOperator, Comparison, Connective, Kind, Token};
+use s_syntax::{Arithmetic, BinaryOperator, Comparison, Connective, Kind};
 
 /// How tightly operators bind, the loosest first.
 #[derive(Clone, Copy)]
@@ -72,17 +73,17 @@ fn operator(kind: Kind) -> BinaryOperator
 
 /// An operator of the level.
 pub(crate) fn operator_at(
-    tokens: &[Token],
+    source: &Source,
     at: usize,
     level: Level,
 ) -> Result<(BinaryOperator, usize), Stop>
-    requires within { at ≤ length tokens.now }
-    ensures reads { ReadsAt (one (operators level) operator_of) tokens.now at result }
+    requires within { at ≤ length source.now.tokens.now }
+    ensures reads { ReadsAt (one (operators level) operator_of) source.now.tokens.now at result }
 {
-    if at >= tokens.len() {
+    if at >= source.tokens.len() {
         return Err(Stop::Wrong(at));
     }
-    let token = tokens[at];
+    let token = source.tokens[at];
     if !is_operator(level, token.kind) {
         return Err(Stop::Wrong(at));
     }

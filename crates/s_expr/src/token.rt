@@ -1,23 +1,22 @@
 //! Single tokens.
 ghost use Rattle.std.specs.Prelude.{◌≡◌, ◌≤◌, length, drop};
 ghost use Rattle.s_lex.specs.Texts.{value};
-ghost use Rattle.s_lex.specs.Lexes.{AreInOrder};
 ghost use Rattle.s_grammar.specs.Kinds.{kind_of, is};
 ghost use Rattle.s_grammar.specs.Texts.{text_of, number};
 ghost use Rattle.s_grammar.specs.Reads.{key, name, int};
 ghost use Rattle.s_expr.specs.Places.{ReadsAt};
 
+use crate::source::Source;
 use crate::stop::Stop;
 use s_lex::number_of;
 use s_syntax::{Kind, Name, Number, Token};
-use std::alloc::Global;
 
 /// The kind of the token at the place, or that of the end.
-pub fn kind_at(tokens: &[Token], at: usize) -> Kind
-    ensures value { result ≡ kind_of (drop at tokens.now) }
+pub fn kind_at(source: &Source, at: usize) -> Kind
+    ensures value { result ≡ kind_of (drop at source.now.tokens.now) }
 {
-    if at < tokens.len() {
-        tokens[at].kind
+    if at < source.tokens.len() {
+        source.tokens[at].kind
     } else {
         Kind::End
     }
@@ -31,14 +30,14 @@ pub fn is_kind(kind: Kind, other: Kind) -> bool
 }
 
 /// A token of this kind.
-pub fn expect(tokens: &[Token], at: usize, kind: Kind) -> Result<(Token, usize), Stop>
-    requires within { at ≤ length tokens.now }
-    ensures reads { ReadsAt (key kind) tokens.now at result }
+pub fn expect(source: &Source, at: usize, kind: Kind) -> Result<(Token, usize), Stop>
+    requires within { at ≤ length source.now.tokens.now }
+    ensures reads { ReadsAt (key kind) source.now.tokens.now at result }
 {
-    if at >= tokens.len() {
+    if at >= source.tokens.len() {
         return Err(Stop::Wrong(at));
     }
-    let token = tokens[at];
+    let token = source.tokens[at];
     if !is_kind(kind, token.kind) {
         return Err(Stop::Wrong(at));
     }
@@ -67,27 +66,20 @@ fn number(digits: &[u8]) -> Number
 }
 
 /// A name.
-pub fn name_at(
-    alloc: Global,
-    bytes: &[u8],
-    tokens: &[Token],
-    at: usize,
-) -> Result<(Name, usize), Stop>
-    requires order { AreInOrder 0 (length bytes.now) tokens.now }
-    requires within { at ≤ length tokens.now }
-    ensures reads { ReadsAt (name bytes.now) tokens.now at result }
+pub fn name_at(source: &Source, at: usize) -> Result<(Name, usize), Stop>
+    requires within { at ≤ length source.now.tokens.now }
+    ensures reads { ReadsAt (name source.now.bytes.now) source.now.tokens.now at result }
 {
-    let (token, next) = expect(tokens, at, Kind::Name)?;
-    let name = Name::new(alloc, text(bytes, token))?;
+    let (token, next) = expect(source, at, Kind::Name)?;
+    let name = Name::new(source.alloc, text(source.bytes, token))?;
     Ok((name, next))
 }
 
 /// A number.
-pub fn int_at(bytes: &[u8], tokens: &[Token], at: usize) -> Result<(Number, usize), Stop>
-    requires order { AreInOrder 0 (length bytes.now) tokens.now }
-    requires within { at ≤ length tokens.now }
-    ensures reads { ReadsAt (int bytes.now) tokens.now at result }
+pub fn int_at(source: &Source, at: usize) -> Result<(Number, usize), Stop>
+    requires within { at ≤ length source.now.tokens.now }
+    ensures reads { ReadsAt (int source.now.bytes.now) source.now.tokens.now at result }
 {
-    let (token, next) = expect(tokens, at, Kind::Int)?;
-    Ok((number(text(bytes, token)), next))
+    let (token, next) = expect(source, at, Kind::Int)?;
+    Ok((number(text(source.bytes, token)), next))
 }

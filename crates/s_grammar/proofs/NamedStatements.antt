@@ -1,7 +1,8 @@
 -- The laws of a statement that begins with a name: behind it, `=` decides.
 use Rattle.std.proofs.Common.{◌≡◌, ℕ, zero, suc, Bool, true, false, if◌then◌else◌, ◌⊎◌, inl, inr, List, [], ◌∷◌, ◌++◌, drop, Some, None, refl, sym, ap, subst, ◌∙◌, append_assoc, arith}
 use Rattle.std.specs.Prelude.{IsTrue}
-use Rattle.s_syntax.specs.BlockTree.{Evaluate, StatementTree, Assign}
+use Rattle.s_syntax.specs.declared.statement.Use.TheVariants as use_for
+use Rattle.s_syntax.specs.BlockTree.{Evaluate, StatementTree}
 use Rattle.s_syntax.specs.ExprTree.{ExprTree, Read}
 use Rattle.s_syntax.specs.declared.name.Name.{Name}
 use Rattle.s_syntax.specs.declared.token.Kind.{Kind}
@@ -71,7 +72,7 @@ module _ (bytes : List ℕ) where
   -- an expression that is evaluated
   evaluate_laws : (n : ℕ) (E : ℕ → Grammar ExprTree) (e : Reading ExprTree) → Laws n 0 false begins_expr ends_expr E e → Laws n 0 false begins_expr any_kind (λ m. EvaluateOf (E m)) (evaluated e)
   unfolding evaluated
-  evaluate_laws n E e l = image_of (λ t. Evaluate t) (ended_laws kind.Semicolon (omega arith) refl refl refl l)
+  evaluate_laws n E e l = image_of (λ t. Evaluate use_for.Drop t) (ended_laws kind.Semicolon (omega arith) refl refl refl l)
 
   -- a name in front of `=` is an operand alone
   name_primary : (e : Reading ExprTree) (a : Reading (List ExprTree)) (t u : Token) (z : List Token) → t.kind ≡ kind.Name → u.kind ≡ kind.Assign → choice (unary_by bytes e a) (t ∷ u ∷ z) ≡ Got (Read (name_of bytes t)) (u ∷ z)
@@ -101,7 +102,7 @@ module _ (bytes : List ℕ) where
   evaluate_refused : (n : ℕ) (t u : Token) (z : List Token) → t.kind ≡ kind.Name → u.kind ≡ kind.Assign → evaluated (expr bytes n) (t ∷ u ∷ z) ≡ Refused Wrong (u ∷ z)
   unfolding evaluated ended
   evaluate_refused n t u z h k =
-      image_refused (λ t. Evaluate t) (image former (in_turn (expr bytes n) (key kind.Semicolon))) (t ∷ u ∷ z) (u ∷ z) Wrong
+      image_refused (λ t. Evaluate use_for.Drop t) (image former (in_turn (expr bytes n) (key kind.Semicolon))) (t ∷ u ∷ z) (u ∷ z) Wrong
       (image_refused former (in_turn (expr bytes n) (key kind.Semicolon)) (t ∷ u ∷ z) (u ∷ z) Wrong
       (in_turn_second (expr bytes n) (key kind.Semicolon) (t ∷ u ∷ z) (u ∷ z) (u ∷ z) (Read (name_of bytes t)) Wrong (expr_alone n t u z h k) (one_refused (is kind.Semicolon) itself (u ∷ z) (ap (is kind.Semicolon) k))))
 
@@ -146,7 +147,7 @@ module _ (bytes : List ℕ) where
   name_expr (suc m) t h = name_expr_of (InParentheses (Expr bytes m)) (InParentheses (Listed (Expr bytes m))) t h
 
   -- with a semicolon it is a statement
-  name_statement : (m : ℕ) (t : Token) → t.kind ≡ kind.Name → EvaluateOf (Expr bytes m) (t ∷ semicolon ∷ []) (Evaluate (Read (name_of bytes t)))
+  name_statement : (m : ℕ) (t : Token) → t.kind ≡ kind.Name → EvaluateOf (Expr bytes m) (t ∷ semicolon ∷ []) (Evaluate use_for.Drop (Read (name_of bytes t)))
   name_statement m t h = (Read (name_of bytes t), ((Read (name_of bytes t), semicolon), (t ∷ [], semicolon ∷ [], refl, name_expr m t h, (semicolon, refl, refl, refl)), refl), refl)
 
   -- expressions to be evaluated, at each depth
@@ -154,8 +155,8 @@ module _ (bytes : List ℕ) where
   semicolon_laws n = evaluate_laws n (Expr bytes) (expr bytes n) (expr_laws bytes n)
 
   -- a name and a semicolon are read so
-  evaluates : (n : ℕ) (t : Token) → t.kind ≡ kind.Name → evaluated (expr bytes n) (t ∷ semicolon ∷ []) ≡ Got (Evaluate (Read (name_of bytes t))) []
-  evaluates n t h = (semicolon_laws n).only (t ∷ semicolon ∷ []) (Evaluate (Read (name_of bytes t))) [] (name_statement n t h) refl
+  evaluates : (n : ℕ) (t : Token) → t.kind ≡ kind.Name → evaluated (expr bytes n) (t ∷ semicolon ∷ []) ≡ Got (Evaluate use_for.Drop (Read (name_of bytes t))) []
+  evaluates n t h = (semicolon_laws n).only (t ∷ semicolon ∷ []) (Evaluate use_for.Drop (Read (name_of bytes t))) [] (name_statement n t h) refl
 
   -- reading such a statement is not refused at its name
   not_refused : (n : ℕ) (w : Why) (rest ts front : List Token) → ts ≡ front ++ rest → front ≡ [] → is kind.Name (kind_of ts) ≡ true → ((s : List Token) → kind_of s ≡ kind_of rest → evaluated (expr bytes n) (front ++ s) ≡ Refused w s) → ⊥
@@ -164,8 +165,8 @@ module _ (bytes : List ℕ) where
       let ts_rest : ts ≡ rest = e ∙ ap (λ (l : List Token). l ++ rest) f in
       let same : kind.Name ≡ kind_of rest = sym (is_kind kind.Name (kind_of ts) h) ∙ ap kind_of ts_rest in
       let other_than : evaluated (expr bytes n) (t ∷ semicolon ∷ []) ≡ Refused w (t ∷ semicolon ∷ []) = ap (λ (l : List Token). evaluated (expr bytes n) (l ++ t ∷ semicolon ∷ [])) (sym f) ∙ again (t ∷ semicolon ∷ []) same in
-      let yes : evaluated (expr bytes n) (t ∷ semicolon ∷ []) ≡ Got (Evaluate (Read (name_of bytes t))) [] = evaluates n t refl in
-      got_refused (Evaluate (Read (name_of bytes t))) [] w (t ∷ semicolon ∷ []) (sym yes ∙ other_than)
+      let yes : evaluated (expr bytes n) (t ∷ semicolon ∷ []) ≡ Got (Evaluate use_for.Drop (Read (name_of bytes t))) [] = evaluates n t refl in
+      got_refused (Evaluate use_for.Drop (Read (name_of bytes t))) [] w (t ∷ semicolon ∷ []) (sym yes ∙ other_than)
 
   -- what is told of the expression is told of the statement
   named_by_evaluate : (n : ℕ) (ts : List Token) → is kind.Name (kind_of ts) ≡ true → is kind.Assign (kind_of (drop 1 ts)) ≡ false → (o : Answer StatementTree) → Known n (λ m. EvaluateOf (Expr bytes m)) (evaluated (expr bytes n)) ts o → Known n NameOf (named n) ts o
@@ -193,47 +194,47 @@ module _ (bytes : List ℕ) where
 
   -- what is read behind a name and =
   abbrev behind_assign : Token → Token → Answer ExprTree → Answer StatementTree
-  behind_assign t u o = and_then (and_then {B = Name × ExprTree} (and_then (and_then {B = Token × ExprTree} o (λ y more. Got (u, y) more)) (λ x rest. Got (latter x) rest)) (λ y more. Got (name_of bytes t, y) more)) (λ p rest. Got (Assign p.0 p.1) rest)
+  behind_assign t u o = and_then (and_then {B = Name × ExprTree} (and_then (and_then {B = Token × ExprTree} o (λ y more. Got (u, y) more)) (λ x rest. Got (latter x) rest)) (λ y more. Got (name_of bytes t, y) more)) (λ p rest. Got (Evaluate (use_for.Assign p.0) p.1) rest)
 
   -- the name and the `=` leave the rest as it is
-  assign_prefix : (t u : Token) (o : Answer ExprTree) → behind_assign t u o ≡ and_then o (λ x rest. Got (Assign (name_of bytes t) x) rest)
+  assign_prefix : (t u : Token) (o : Answer ExprTree) → behind_assign t u o ≡ and_then o (λ x rest. Got (Evaluate (use_for.Assign (name_of bytes t)) x) rest)
   assign_prefix t u (Got x rest) = refl
   assign_prefix t u (Refused w rest) = refl
 
   -- an assignment is read by what stands behind the `=`
-  assign_reads : (n : ℕ) (t u : Token) (z : List Token) → t.kind ≡ kind.Name → u.kind ≡ kind.Assign → assigned bytes (expr bytes n) (t ∷ u ∷ z) ≡ and_then (ended (expr bytes n) kind.Semicolon z) (λ x rest. Got (Assign (name_of bytes t) x) rest)
+  assign_reads : (n : ℕ) (t u : Token) (z : List Token) → t.kind ≡ kind.Name → u.kind ≡ kind.Assign → assigned bytes (expr bytes n) (t ∷ u ∷ z) ≡ and_then (ended (expr bytes n) kind.Semicolon z) (λ x rest. Got (Evaluate (use_for.Assign (name_of bytes t)) x) rest)
   unfolding assigned led
   assign_reads n t u z h k =
       let r = ended (expr bytes n) kind.Semicolon in
       let one_name = one_got (is kind.Name) (name_of bytes) t (u ∷ z) (ap (is kind.Name) h) in
       let one_key = one_got (is kind.Assign) itself u z (ap (is kind.Assign) k) in
-      ap (λ (o : Answer Name). and_then (and_then {B = Name × ExprTree} o (λ x rest. and_then (image latter (in_turn (key kind.Assign) r) rest) (λ y more. Got (x, y) more))) (λ p rest. Got (Assign p.0 p.1) rest)) one_name
-      ∙ ap (λ (o : Answer Token). and_then (and_then {B = Name × ExprTree} (and_then (and_then {B = Token × ExprTree} o (λ x rest. and_then (r rest) (λ y more. Got (x, y) more))) (λ x rest. Got (latter x) rest)) (λ y more. Got (name_of bytes t, y) more)) (λ p rest. Got (Assign p.0 p.1) rest)) one_key
+      ap (λ (o : Answer Name). and_then (and_then {B = Name × ExprTree} o (λ x rest. and_then (image latter (in_turn (key kind.Assign) r) rest) (λ y more. Got (x, y) more))) (λ p rest. Got (Evaluate (use_for.Assign p.0) p.1) rest)) one_name
+      ∙ ap (λ (o : Answer Token). and_then (and_then {B = Name × ExprTree} (and_then (and_then {B = Token × ExprTree} o (λ x rest. and_then (r rest) (λ y more. Got (x, y) more))) (λ x rest. Got (latter x) rest)) (λ y more. Got (name_of bytes t, y) more)) (λ p rest. Got (Evaluate (use_for.Assign p.0) p.1) rest)) one_key
       ∙ assign_prefix t u (r z)
 
   -- and spelled so
-  assigns : (m : ℕ) (t u : Token) (b : List Token) (x : ExprTree) → t.kind ≡ kind.Name → u.kind ≡ kind.Assign → ClosedBy (Expr bytes m) kind.Semicolon b x → AssignOf bytes (Expr bytes m) (t ∷ u ∷ b) (Assign (name_of bytes t) x)
+  assigns : (m : ℕ) (t u : Token) (b : List Token) (x : ExprTree) → t.kind ≡ kind.Name → u.kind ≡ kind.Assign → ClosedBy (Expr bytes m) kind.Semicolon b x → AssignOf bytes (Expr bytes m) (t ∷ u ∷ b) (Evaluate (use_for.Assign (name_of bytes t)) x)
   assigns m t u b x h k g = ((name_of bytes t, x), (t ∷ [], u ∷ b, refl, (t, refl, ap (is kind.Name) h, refl), ((u, x), (u ∷ [], b, refl, (u, refl, ap (is kind.Assign) k, refl), g), refl)), refl)
 
   -- what is told behind the `=` is told of the statement
   named_by_assign : (n : ℕ) (t u : Token) (z : List Token) → t.kind ≡ kind.Name → u.kind ≡ kind.Assign → (o : Answer ExprTree) → Known n (λ m. ClosedBy (Expr bytes m) kind.Semicolon) (ended (expr bytes n) kind.Semicolon) z o
-      → Known n NameOf (named n) (t ∷ u ∷ z) (and_then o (λ x rest. Got (Assign (name_of bytes t) x) rest))
+      → Known n NameOf (named n) (t ∷ u ∷ z) (and_then o (λ x rest. Got (Evaluate (use_for.Assign (name_of bytes t)) x) rest))
   unfolding NameOf
   named_by_assign n t u z h k (Got x rest) g = record {
     front = t ∷ u ∷ g.front;
     parts = ap (λ (l : List Token). t ∷ u ∷ l) g.parts;
     spelled = λ m l. (ap (is kind.Name) h, inl (assigns m t u g.front x h k (g.spelled m l)));
     level = walk_two n n t u g.front h k g.level;
-    again = λ s same. named_assign n (t ∷ u ∷ (g.front ++ s)) (ap (is kind.Name) h) (ap (is kind.Assign) k) ∙ assign_reads n t u (g.front ++ s) h k ∙ ap (λ (o : Answer ExprTree). and_then o (λ x rest. Got (Assign (name_of bytes t) x) rest)) (g.again s same);
+    again = λ s same. named_assign n (t ∷ u ∷ (g.front ++ s)) (ap (is kind.Name) h) (ap (is kind.Assign) k) ∙ assign_reads n t u (g.front ++ s) h k ∙ ap (λ (o : Answer ExprTree). and_then o (λ x rest. Got (Evaluate (use_for.Assign (name_of bytes t)) x) rest)) (g.again s same);
   }
   named_by_assign n t u z h k (Refused w rest) g = record {
     front = t ∷ u ∷ g.front;
     parts = ap (λ (l : List Token). t ∷ u ∷ l) g.parts;
-    begins = λ m l. let q = g.begins m l in (q.0, Assign (name_of bytes t) q.1, (ap (is kind.Name) h, inl (assigns m t u ((g.front ++ must w rest) ++ q.0) q.1 h k q.2)));
+    begins = λ m l. let q = g.begins m l in (q.0, Evaluate (use_for.Assign (name_of bytes t)) q.1, (ap (is kind.Name) h, inl (assigns m t u ((g.front ++ must w rest) ++ q.0) q.1 h k q.2)));
     left = g.left;
     level = walk_two n g.left t u g.front h k g.level;
     cause = g.cause;
-    again = λ s same. named_assign n (t ∷ u ∷ (g.front ++ s)) (ap (is kind.Name) h) (ap (is kind.Assign) k) ∙ assign_reads n t u (g.front ++ s) h k ∙ ap (λ (o : Answer ExprTree). and_then o (λ x rest. Got (Assign (name_of bytes t) x) rest)) (g.again s same);
+    again = λ s same. named_assign n (t ∷ u ∷ (g.front ++ s)) (ap (is kind.Name) h) (ap (is kind.Assign) k) ∙ assign_reads n t u (g.front ++ s) h k ∙ ap (λ (o : Answer ExprTree). and_then o (λ x rest. Got (Evaluate (use_for.Assign (name_of bytes t)) x) rest)) (g.again s same);
   }
 
   -- an expression and a semicolon
@@ -243,7 +244,7 @@ module _ (bytes : List ℕ) where
   -- a statement that begins with a name is always spelled
   named_begins : (m : ℕ) → Begins (NameOf m) []
   unfolding NameOf
-  named_begins m = let t : Token = token_of kind.Name in (t ∷ semicolon ∷ [], Evaluate (Read (name_of bytes t)), (refl, inr (name_statement m t refl)))
+  named_begins m = let t : Token = token_of kind.Name in (t ∷ semicolon ∷ [], Evaluate use_for.Drop (Read (name_of bytes t)), (refl, inr (name_statement m t refl)))
 
   -- what is told, by whether a name stands and whether `=` follows
   named_known_by : (n : ℕ) (ts : List Token) (v w : Bool) → is kind.Name (kind_of ts) ≡ v → is kind.Assign (kind_of (drop 1 ts)) ≡ w

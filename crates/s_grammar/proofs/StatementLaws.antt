@@ -1,6 +1,7 @@
 -- The laws of statements and blocks.
 use Rattle.std.proofs.Common.{◌≡◌, ℕ, zero, suc, true, false, List, [], ◌∷◌, Option, Some, None, refl, ap, arith}
-use Rattle.s_syntax.specs.BlockTree.{BlockTree, StatementTree, Fail, Print, Return}
+use Rattle.s_syntax.specs.declared.statement.Use.TheVariants as use_for
+use Rattle.s_syntax.specs.BlockTree.{BlockTree, StatementTree, Evaluate, Fail}
 use Rattle.s_syntax.specs.declared.token.Kind.{Kind}
 use Rattle.s_syntax.specs.declared.token.Kind.TheVariants as kind
 use Rattle.s_syntax.specs.declared.token.Token.{Token}
@@ -75,8 +76,8 @@ module _ (bytes : List ℕ) where
         (led_laws kind.If (omega arith) refl refl refl
         (in_turn_of (omega arith) expr_one (in_turn_of (omega arith) q (deeper_laws 1 (omega arith) (maybe_of (is kind.Else) refl (led_laws kind.Else (omega arith) refl refl refl q))) refl) refl)))
     picked_laws kind.While = wider_of begins_statement ends_statement refl refl (image_of while_of (led_laws kind.While (omega arith) refl refl refl (in_turn_of (omega arith) expr_one q refl)))
-    picked_laws kind.Print = wider_of begins_statement ends_statement refl refl (image_of (λ t. Print t) (led_laws kind.Print (omega arith) refl refl refl ended_one))
-    picked_laws kind.Return = wider_of begins_statement ends_statement refl refl (image_of (λ t. Return t) (led_laws kind.Return (omega arith) refl refl refl ended_one))
+    picked_laws kind.Print = wider_of begins_statement ends_statement refl refl (image_of (λ t. Evaluate use_for.Print t) (led_laws kind.Print (omega arith) refl refl refl ended_one))
+    picked_laws kind.Return = wider_of begins_statement ends_statement refl refl (image_of (λ t. Evaluate use_for.Return t) (led_laws kind.Return (omega arith) refl refl refl ended_one))
     picked_laws kind.Fail = wider_of begins_statement ends_statement refl refl (image_of (λ _. Fail) (led_laws kind.Fail (omega arith) refl refl refl (deeper_laws 1 (omega arith) (key_laws n kind.Semicolon refl refl))))
     picked_laws kind.Name = wider_of begins_statement ends_statement refl refl (deeper_laws 1 (omega arith) (name_of_laws bytes n))
     picked_laws k = wider_of begins_statement ends_statement refl refl (deeper_laws 1 (omega arith) (semicolon_laws bytes n))

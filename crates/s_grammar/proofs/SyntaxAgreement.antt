@@ -1,6 +1,7 @@
 -- Readings of productions agree where no bracket too many is found.
 use Rattle.std.proofs.Common.{ℕ, zero, suc, ◌≤◌, if◌then◌else◌, inr, List, drop, Option, Some, None, refl, arith}
-use Rattle.s_syntax.specs.BlockTree.{BlockTree, Print, Return, Fail, Evaluate}
+use Rattle.s_syntax.specs.declared.statement.Use.TheVariants as use_for
+use Rattle.s_syntax.specs.BlockTree.{BlockTree, Evaluate, Fail}
 use Rattle.s_syntax.specs.ExprTree.{ExprTree, Literal, Unary}
 use Rattle.s_syntax.specs.declared.operators.UnaryOperator.TheVariants as unary
 use Rattle.s_syntax.specs.declared.token.Kind.{Kind}
@@ -107,11 +108,11 @@ module _ (bytes : List ℕ) where
   statement_agree e e' b b' h i kind.Let = image_agrees let_of (led_agrees kind.Let (in_turn_agrees (agree_same (name bytes)) (led_agrees kind.Assign (ended_agrees kind.Semicolon h))))
   statement_agree e e' b b' h i kind.If = image_agrees if_of (led_agrees kind.If (in_turn_agrees h (in_turn_agrees i (maybe_agrees (is kind.Else) (led_agrees kind.Else i)))))
   statement_agree e e' b b' h i kind.While = image_agrees while_of (led_agrees kind.While (in_turn_agrees h i))
-  statement_agree e e' b b' h i kind.Print = image_agrees (λ t. Print t) (led_agrees kind.Print (ended_agrees kind.Semicolon h))
-  statement_agree e e' b b' h i kind.Return = image_agrees (λ t. Return t) (led_agrees kind.Return (ended_agrees kind.Semicolon h))
+  statement_agree e e' b b' h i kind.Print = image_agrees (λ t. Evaluate use_for.Print t) (led_agrees kind.Print (ended_agrees kind.Semicolon h))
+  statement_agree e e' b b' h i kind.Return = image_agrees (λ t. Evaluate use_for.Return t) (led_agrees kind.Return (ended_agrees kind.Semicolon h))
   statement_agree e e' b b' h i kind.Fail = agree_same (image (λ _. Fail) (led kind.Fail (key kind.Semicolon)))
-  statement_agree e e' b b' h i kind.Name = ahead_agree kind.Name kind.Assign (image_agrees assign_of (in_turn_agrees (agree_same (name bytes)) (led_agrees kind.Assign (ended_agrees kind.Semicolon h)))) (image_agrees (λ t. Evaluate t) (ended_agrees kind.Semicolon h))
-  statement_agree e e' b b' h i k = image_agrees (λ t. Evaluate t) (ended_agrees kind.Semicolon h)
+  statement_agree e e' b b' h i kind.Name = ahead_agree kind.Name kind.Assign (image_agrees assign_of (in_turn_agrees (agree_same (name bytes)) (led_agrees kind.Assign (ended_agrees kind.Semicolon h)))) (image_agrees (λ t. Evaluate use_for.Drop t) (ended_agrees kind.Semicolon h))
+  statement_agree e e' b b' h i k = image_agrees (λ t. Evaluate use_for.Drop t) (ended_agrees kind.Semicolon h)
 
   -- any number of statements
   statements_agree : (e e' : Reading ExprTree) (b b' : Reading BlockTree) → Agree e e' → Agree b b' → Agree (statements_by bytes e b) (statements_by bytes e' b')

@@ -13,7 +13,8 @@ use Rattle.s_syntax.specs.declared.script.Definition.TheVariants as definition
 use Rattle.s_syntax.specs.declared.script.Declaration.{Declaration}
 use Rattle.s_syntax.specs.declared.script.Script.{Script}
 use Rattle.s_syntax.specs.ExprTree.{ExprTree, Read, Run, Call, Do, Handle, Resume, exprs, operands}
-use Rattle.s_syntax.specs.BlockTree.{StatementTree, BlockTree, Let, Assign, If, While, Done, ◌⨟◌}
+use Rattle.s_syntax.specs.declared.statement.Use.TheVariants as use_for
+use Rattle.s_syntax.specs.BlockTree.{StatementTree, BlockTree, Evaluate, If, While, Done, ◌⨟◌}
 
 -- ## Pairs and lists
 
@@ -65,10 +66,10 @@ resume_of p = Resume p.0 p.1.0 (exprs p.1.1)
 -- ## Statements
 
 abbrev pub let_of : Name × ExprTree → StatementTree
-let_of p = Let p.0 p.1
+let_of p = Evaluate (use_for.Let p.0) p.1
 
 abbrev pub assign_of : Name × ExprTree → StatementTree
-assign_of p = Assign p.0 p.1
+assign_of p = Evaluate (use_for.Assign p.0) p.1
 
 -- without `else` no statements stand there
 abbrev pub if_of : ExprTree × (BlockTree × Option BlockTree) → StatementTree

@@ -12,7 +12,8 @@ use Rattle.s_syntax.specs.declared.script.ReturnClause.{ReturnClause}
 use Rattle.s_syntax.specs.declared.script.Declaration.{Declaration}
 use Rattle.s_syntax.specs.declared.script.Script.{Script}
 use Rattle.s_syntax.specs.ExprTree.{ExprTree, Literal, Unary}
-use Rattle.s_syntax.specs.BlockTree.{StatementTree, BlockTree, Print, Return, Fail, Evaluate}
+use Rattle.s_syntax.specs.declared.statement.Use.TheVariants as use_for
+use Rattle.s_syntax.specs.BlockTree.{StatementTree, BlockTree, Evaluate, Fail}
 use Rattle.s_grammar.specs.Kinds.{Kinds, kind_of, is, other_than}
 use Rattle.s_grammar.specs.Reading.{Reading, Refused, Wrong, one, in_turn, image, maybe, cons, many, choice, between, inside}
 use Rattle.s_grammar.specs.Texts.{name_of, number_of}
@@ -46,7 +47,7 @@ unfoldable pub once : Kinds → Reading ExprTree → Reading ExprTree
 once ops r = image once_of (in_turn r (maybe ops (in_turn (one ops operator_of) r)))
 
 unfoldable pub evaluated : Reading ExprTree → Reading StatementTree
-evaluated e = image (λ t. Evaluate t) (ended e kind.Semicolon)
+evaluated e = image (λ t. Evaluate use_for.Drop t) (ended e kind.Semicolon)
 
 -- at a token of kind k, one of kind j behind it decides
 abbrev pub ahead : {A : Type 0} → Kind → Kind → Reading A → Reading A → Reading A
@@ -104,8 +105,8 @@ module _ (bytes : List ℕ) where
   statement_by e b kind.Let = image let_of (led kind.Let (in_turn name (led kind.Assign (ended e kind.Semicolon))))
   statement_by e b kind.If = image if_of (led kind.If (in_turn e (in_turn b (maybe (is kind.Else) (led kind.Else b)))))
   statement_by e b kind.While = image while_of (led kind.While (in_turn e b))
-  statement_by e b kind.Print = image (λ t. Print t) (led kind.Print (ended e kind.Semicolon))
-  statement_by e b kind.Return = image (λ t. Return t) (led kind.Return (ended e kind.Semicolon))
+  statement_by e b kind.Print = image (λ t. Evaluate use_for.Print t) (led kind.Print (ended e kind.Semicolon))
+  statement_by e b kind.Return = image (λ t. Evaluate use_for.Return t) (led kind.Return (ended e kind.Semicolon))
   statement_by e b kind.Fail = image (λ _. Fail) (led kind.Fail (key kind.Semicolon))
   statement_by e b kind.Name = ahead kind.Name kind.Assign (assigned e) (evaluated e)
   statement_by e b k = evaluated e

@@ -12,7 +12,8 @@ use Rattle.s_syntax.specs.declared.script.ReturnClause.{ReturnClause}
 use Rattle.s_syntax.specs.declared.script.Declaration.{Declaration}
 use Rattle.s_syntax.specs.declared.script.Script.{Script}
 use Rattle.s_syntax.specs.ExprTree.{ExprTree, Literal, Unary}
-use Rattle.s_syntax.specs.BlockTree.{StatementTree, BlockTree, Print, Return, Fail, Evaluate}
+use Rattle.s_syntax.specs.declared.statement.Use.TheVariants as use_for
+use Rattle.s_syntax.specs.BlockTree.{StatementTree, BlockTree, Evaluate, Fail}
 use Rattle.s_grammar.specs.Kinds.{Kinds, is}
 use Rattle.s_grammar.specs.Grammar.{Grammar, One, InTurn, Image, Each, Maybe, Choice, Between, Never, Inside}
 use Rattle.s_grammar.specs.Texts.{name_of, number_of}
@@ -55,7 +56,7 @@ OnceOf ops g = Image once_of (InTurn g (Maybe (InTurn (One ops operator_of) g)))
 
 -- e ';'
 abbrev pub EvaluateOf : Grammar ExprTree → Grammar StatementTree
-EvaluateOf e = Image (λ t. Evaluate t) (ClosedBy e kind.Semicolon)
+EvaluateOf e = Image (λ t. Evaluate use_for.Drop t) (ClosedBy e kind.Semicolon)
 
 -- ## Productions, of tokens of these bytes
 
@@ -103,8 +104,8 @@ module _ (bytes : List ℕ) where
   StatementBy e b kind.Let = Image let_of (Led kind.Let (InTurn NAME (Led kind.Assign (ClosedBy e kind.Semicolon))))
   StatementBy e b kind.If = Image if_of (Led kind.If (InTurn e (InTurn b (Maybe (Led kind.Else b)))))
   StatementBy e b kind.While = Image while_of (Led kind.While (InTurn e b))
-  StatementBy e b kind.Print = Image (λ t. Print t) (Led kind.Print (ClosedBy e kind.Semicolon))
-  StatementBy e b kind.Return = Image (λ t. Return t) (Led kind.Return (ClosedBy e kind.Semicolon))
+  StatementBy e b kind.Print = Image (λ t. Evaluate use_for.Print t) (Led kind.Print (ClosedBy e kind.Semicolon))
+  StatementBy e b kind.Return = Image (λ t. Evaluate use_for.Return t) (Led kind.Return (ClosedBy e kind.Semicolon))
   StatementBy e b kind.Fail = Image (λ _. Fail) (Led kind.Fail (Key kind.Semicolon))
   StatementBy e b kind.Name = λ ts s. AssignOf e ts s ⊎ EvaluateOf e ts s
   StatementBy e b k = EvaluateOf e

@@ -6,7 +6,7 @@ use Rattle.s_syntax.specs.declared.script.Definition.{Definition}
 use Rattle.s_syntax.specs.declared.script.Definition.TheVariants as definition
 use Rattle.s_syntax.specs.declared.script.Declaration.{Declaration}
 use Rattle.s_syntax.specs.ExprTree.{ExprTree, Literal, Read, Unary, Run, Call, Do, Handle, Resume, Exprs, NoExprs, MoreExprs, Operands, NoOperands, MoreOperands}
-use Rattle.s_syntax.specs.BlockTree.{StatementTree, BlockTree, Let, Assign, If, While, Print, Return, Fail, Evaluate, Done, ◌⨟◌}
+use Rattle.s_syntax.specs.BlockTree.{StatementTree, BlockTree, Evaluate, If, While, Fail, Done, ◌⨟◌}
 use Rattle.s_check.specs.Scopes.{is_among}
 
 -- the names of the functions under a handle, in order
@@ -31,14 +31,10 @@ abbrev mutual
 
 abbrev mutual
   pub handled_in_statement : StatementTree → List Name
-  handled_in_statement (Let x e) = handled_in_expr e
-  handled_in_statement (Assign x e) = handled_in_expr e
+  handled_in_statement (Evaluate u e) = handled_in_expr e
   handled_in_statement (If c a b) = handled_in_expr c ++ (handled_in_block a ++ handled_in_block b)
   handled_in_statement (While c b) = handled_in_expr c ++ handled_in_block b
-  handled_in_statement (Print e) = handled_in_expr e
-  handled_in_statement (Return e) = handled_in_expr e
   handled_in_statement Fail = []
-  handled_in_statement (Evaluate e) = handled_in_expr e
 
   pub handled_in_block : BlockTree → List Name
   handled_in_block Done = []

@@ -94,9 +94,7 @@ fn push_in_statement<'a>(
     ensures value { OnOk result (names_of names.new.items ≡ names_of names.old.items ++ handled_in_statement (statement_of statement.now)) }
 {
     match statement {
-        Statement::Let { name: _, value } | Statement::Assign { name: _, value } => {
-            push_in_expr(value, names)
-        }
+        Statement::Evaluate { what: _, value } => push_in_expr(value, names),
         Statement::If {
             condition,
             then_block,
@@ -109,9 +107,6 @@ fn push_in_statement<'a>(
         Statement::While { condition, body } => {
             push_in_expr(condition, names)?;
             push_in_block(body, names)
-        }
-        Statement::Print(value) | Statement::Return(value) | Statement::Evaluate(value) => {
-            push_in_expr(value, names)
         }
         Statement::Fail => Ok(()),
     }

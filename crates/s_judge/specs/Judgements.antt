@@ -40,9 +40,6 @@ pub record IsGood (bytes : List ℕ) (p : Script) : Type 0 where
   pub spelled : Spelled bytes p
   pub good : Good p
 
-abbrev pub IsSomeGood : List ℕ → Type 0
-IsSomeGood bytes = (p : Script) × IsGood bytes p
-
 abbrev pub HasFault : List ℕ → ScriptFault → Type 0
 HasFault bytes fault.TooLong = length_limit < length bytes
 HasFault bytes (fault.Lex at) = (length bytes ≤ length_limit) × Lexes 0 bytes (Err (lexing.Lex at))

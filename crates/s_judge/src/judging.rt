@@ -1,7 +1,7 @@
 //! Bytes, judged as a script.
-ghost use Rattle.std.specs.Prelude.{◌≡◌, ◌≢◌, Result, IfOk, IfErr, OnOk};
+ghost use Rattle.std.specs.Prelude.{◌≡◌, ◌≢◌, Result, IfOk, IfErr};
 ghost use Rattle.s_syntax.specs.declared.script.Script.{Script as TheScript};
-ghost use Rattle.s_judge.specs.Judgements.{IsGood, IsSomeGood, HasFault, Means, IsAnswer};
+ghost use Rattle.s_judge.specs.Judgements.{IsGood, HasFault, Means, IsAnswer};
 ghost use Rattle.s_judge.specs.declared.fault.ScriptFault.{ScriptFault as TheFault};
 ghost use Rattle.s_judge.specs.declared.fault.ScriptFault.TheVariants.{OutOfMemory};
 
@@ -37,13 +37,4 @@ pub fn judge(alloc: Global, bytes: &[u8]) -> Result<CheckedScript, ScriptFault>
     ensures only { (r : Result TheScript TheFault) → Means bytes.now r → IsAnswer r result }
 {
     judge_in_turn(alloc, bytes)
-}
-
-/// Whether bytes are a script that breaks no rule.
-pub fn check(alloc: Global, bytes: &[u8]) -> Result<(), ScriptFault>
-    ensures ok { OnOk result (IsSomeGood bytes.now) }
-    ensures err { IfErr result (λ e. e ≢ OutOfMemory → HasFault bytes.now e) }
-{
-    judge(alloc, bytes)?;
-    Ok(())
 }

@@ -6,5 +6,5 @@ mod judging;
 mod laws;
 
 pub use fault::ScriptFault;
-pub use judging::{check, judge};
+pub use judging::judge;
 pub use laws::{one_judgement, some_judgement};

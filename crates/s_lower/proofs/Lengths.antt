@@ -6,44 +6,41 @@ use Rattle.std.proofs.lemmas.List.Sums.{sum_by-cons}
 use Rattle.s_syntax.specs.declared.name.Name.{Name}
 use Rattle.s_syntax.specs.declared.script.Clause.{Clause}
 use Rattle.s_syntax.specs.declared.script.Handler.{Handler}
-use Rattle.s_syntax.specs.BlockTree.{StatementTree, BlockTree, Let, Assign, If, While, Print, Return, Fail, Evaluate, Done, ◌⨟◌}
+use Rattle.s_syntax.specs.declared.script.Declaration.{Declaration}
+use Rattle.s_syntax.specs.BlockTree.{StatementTree, BlockTree, Evaluate, If, While, Fail, Done, ◌⨟◌}
 use Rattle.s_check.specs.Scopes.{Bound, number, resumption, lets_of, lets_in}
 use Rattle.s_check.specs.Size.{statement_size, block_size, clause_size}
-use Rattle.s_code.specs.Places.{lets, return_names, clause_names, clauses_names, high_clauses}
-use Rattle.s_code.proofs.Highs.{block_high}
+use Rattle.s_code.specs.Places.{binds_in, return_names, clause_names, clauses_names, high_clauses}
+use Rattle.s_code.proofs.Highs.{block_high, lets_by_few}
 use Rattle.s_lower.specs.declared.names.TypedName.{TypedName}
 use Rattle.s_lower.specs.Views.{bound_of, bounds_of}
 
 mutual
   lets_few : (s : StatementTree) → length (lets_of s) ≤ statement_size s
-  lets_few (Let x e) = omega arith
-  lets_few (Assign x e) = omega arith
+  lets_few (Evaluate u e) = let q = lets_by_few u in omega (arith, q)
   lets_few (If c a b) = let q = all_lets_few a in let r = all_lets_few b in let l = length-append (lets_in a) (lets_in b) in omega (arith, q, r, l)
   lets_few (While c b) = let q = all_lets_few b in omega (arith, q)
-  lets_few (Print e) = omega arith
-  lets_few (Return e) = omega arith
   lets_few Fail = omega arith
-  lets_few (Evaluate e) = omega arith
 
   pub all_lets_few : (b : BlockTree) → length (lets_in b) ≤ block_size b
   all_lets_few Done = omega arith
   all_lets_few (s ⨟ b) = let q = lets_few s in let r = all_lets_few b in let l = length-append (lets_of s) (lets_in b) in omega (arith, q, r, l)
 
-pub lets_within : (b : BlockTree) → length (lets b) ≤ block_size b
-lets_within b = let q = all_lets_few b in let m = length-map (lets_in b) number in omega (arith, q, m)
+pub lets_within : (ds : List Declaration) (b : BlockTree) → length (binds_in ds b) ≤ block_size b
+lets_within ds b = let q = all_lets_few b in let m = length-map (lets_in b) number in omega (arith, q, m)
 
-pub return_within : (i : Handler) → length (return_names i) ≤ 1 + block_size i.return_clause.body
-return_within i = let q = lets_within i.return_clause.body in omega (arith, q)
+pub return_within : (ds : List Declaration) (i : Handler) → length (return_names ds i) ≤ 1 + block_size i.return_clause.body
+return_within ds i = let q = lets_within ds i.return_clause.body in omega (arith, q)
 
-pub clause_within : (h : Name) (c : Clause) → length (clause_names h c) ≤ clause_size c
-clause_within h c =
-    let q = lets_within c.body in let m = length-map c.arguments number in
-    let l = length-append (map number c.arguments) (resumption h c.resumption ∷ lets c.body) in omega (arith, q, m, l)
+pub clause_within : (ds : List Declaration) (h : Name) (c : Clause) → length (clause_names ds h c) ≤ clause_size c
+clause_within ds h c =
+    let q = lets_within ds c.body in let m = length-map c.arguments number in
+    let l = length-append (map number c.arguments) (resumption h c.resumption ∷ binds_in ds c.body) in omega (arith, q, m, l)
 
-pub clauses_within : (h : Name) (cs : List Clause) → length (clauses_names h cs) ≤ sum_by clause_size cs
-clauses_within h [] = omega arith
-clauses_within h (c ∷ cs) =
-    let q = clause_within h c in let r = clauses_within h cs in let l = length-append (clause_names h c) (clauses_names h cs) in let s = sum_by-cons clause_size c cs in
+pub clauses_within : (ds : List Declaration) (h : Name) (cs : List Clause) → length (clauses_names ds h cs) ≤ sum_by clause_size cs
+clauses_within ds h [] = omega arith
+clauses_within ds h (c ∷ cs) =
+    let q = clause_within ds h c in let r = clauses_within ds h cs in let l = length-append (clause_names ds h c) (clauses_names ds h cs) in let s = sum_by-cons clause_size c cs in
     omega (arith, q, r, l, s)
 
 pub clauses_high : (cs : List Clause) → high_clauses cs ≤ sum_by clause_size cs

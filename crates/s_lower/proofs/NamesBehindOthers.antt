@@ -4,6 +4,7 @@ use Rattle.w_types.specs.declared.types.ValType.{ValType}
 use Rattle.w_syntax.specs.declared.locals.LocalRun.{LocalRun}
 use Rattle.s_syntax.specs.declared.name.Name.{Name}
 use Rattle.s_syntax.specs.declared.script.Clause.{Clause}
+use Rattle.s_syntax.specs.declared.script.Declaration.{Declaration}
 use Rattle.s_check.specs.Scopes.{Bound}
 use Rattle.s_code.specs.Places.{run, name_runs, clause_names, clauses_names}
 use Rattle.s_code.specs.Views.{type_of}
@@ -28,12 +29,12 @@ pushed read xs i x old new b all h e made is inv =
     ∙ inv
 
 -- the names of one clause more
-pub clause_pushed : (h : Name) (cs : List Clause) (i : ℕ) (c : Clause) (old new : List TypedName) (all : List Bound) → i < length cs → c ≡ get_or cs i c
-    → bounds_of new ≡ bounds_of old ++ clause_names h c → bounds_of old ++ clauses_names h (drop i cs) ≡ all → bounds_of new ++ clauses_names h (drop (i + 1) cs) ≡ all
-clause_pushed h cs i c old new all l e made inv =
-    ap (λ (us : List Bound). us ++ clauses_names h (drop (i + 1) cs)) made
-    ∙ append_assoc (bounds_of old) (clause_names h c) (clauses_names h (drop (i + 1) cs))
-    ∙ ap (λ (ds : List Clause). bounds_of old ++ clauses_names h ds) (sym (cell cs i c l e))
+pub clause_pushed : (ds : List Declaration) (h : Name) (cs : List Clause) (i : ℕ) (c : Clause) (old new : List TypedName) (all : List Bound) → i < length cs → c ≡ get_or cs i c
+    → bounds_of new ≡ bounds_of old ++ clause_names ds h c → bounds_of old ++ clauses_names ds h (drop i cs) ≡ all → bounds_of new ++ clauses_names ds h (drop (i + 1) cs) ≡ all
+clause_pushed ds h cs i c old new all l e made inv =
+    ap (λ (us : List Bound). us ++ clauses_names ds h (drop (i + 1) cs)) made
+    ∙ append_assoc (bounds_of old) (clause_names ds h c) (clauses_names ds h (drop (i + 1) cs))
+    ∙ ap (λ (ks : List Clause). bounds_of old ++ clauses_names ds h ks) (sym (cell cs i c l e))
     ∙ inv
 
 -- the local of one name more

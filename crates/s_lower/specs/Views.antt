@@ -23,11 +23,11 @@ abbrev pub layout_of : (ps bs : List Bound) → (from temporaries : ℕ) → Opt
 layout_of ps bs from temporaries owner = record { names = numbered 0 ps ++ numbered from bs; temporaries = temporaries; owner = owner }
 
 -- the clauses of the handler h, the names of the first one from the local n on
-abbrev pub placed_by : Name → (ps : List Bound) → (temporaries n : ℕ) → List Clause → List Placed
-placed_by h ps temporaries n [] = []
-placed_by h ps temporaries n (c ∷ cs) =
-    record { clause = c; layout = layout_of ps (clause_names h c) n temporaries (Some (record { name = h; parameters = length ps })) }
-    ∷ placed_by h ps temporaries (n + length (clause_names h c)) cs
+abbrev pub placed_by : List Declaration → Name → (ps : List Bound) → (temporaries n : ℕ) → List Clause → List Placed
+placed_by ds h ps temporaries n [] = []
+placed_by ds h ps temporaries n (c ∷ cs) =
+    record { clause = c; layout = layout_of ps (clause_names ds h c) n temporaries (Some (record { name = h; parameters = length ps })) }
+    ∷ placed_by ds h ps temporaries (n + length (clause_names ds h c)) cs
 
 -- the module of a script, without its types
 abbrev pub untyped : List Declaration → Module

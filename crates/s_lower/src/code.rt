@@ -7,7 +7,7 @@ ghost use Rattle.s_syntax.specs.declared.script.Definition.TheVariants.{Handler 
 ghost use Rattle.s_code.specs.Clauses.{placed_all};
 ghost use Rattle.s_code.specs.Handlers.{handler_body};
 ghost use Rattle.s_code.specs.Lowered.{function_code, handler_code};
-ghost use Rattle.s_code.specs.Places.{lets, function_layout, return_names, clause_names, return_layout, placed_clauses, handler_temporaries, locals_for, high_clauses};
+ghost use Rattle.s_code.specs.Places.{binds_in, function_layout, return_names, clause_names, return_layout, placed_clauses, handler_temporaries, locals_for, high_clauses};
 ghost use Rattle.s_code.specs.Statements.{body};
 ghost use Rattle.s_code.specs.Temporaries.{high_block};
 ghost use Rattle.s_code.specs.Views.{owner_in};
@@ -52,8 +52,8 @@ fn body_with<'a>(
 ) -> Result<Body, AllocError>
     requires few { length parameters.now + length own.now + block_size function.now.body ≤ 200000 }
     requires parameters { bounds_of parameters.now ≡ map parameter function.now.parameters }
-    requires own { bounds_of own.now ≡ lets function.now.body }
-    ensures value { IfOk result (λ made. made ≡ body program.now (function_layout function.now) 0 function.now.body) }
+    requires own { bounds_of own.now ≡ binds_in program.now function.now.body }
+    ensures value { IfOk result (λ made. made ≡ body program.now (function_layout program.now function.now) 0 function.now.body) }
 {
     let from = parameters.len() as u32;
     let temporaries = from + own.len() as u32;
@@ -71,7 +71,7 @@ pub(crate) fn function_code<'a>(
     ensures value { IfOk result (λ code. code ≡ function_code program.now function.now) }
 {
     let parameters = parameters(alloc, function.parameters.as_slice())?;
-    let own = body_names(alloc, &function.body)?;
+    let own = body_names(alloc, program.declarations(), &function.body)?;
     let (parameters, own) = (parameters.as_slice(), own.as_slice());
     let locals = locals_for(alloc, own, high_block(&function.body))?;
     let body = body_with(alloc, program, function, parameters, own)?;
@@ -96,6 +96,7 @@ fn high_clauses(clauses: &[Clause]) -> u32
 // Puts a clause behind the others, with where its names are, those from the local `from` on. The local behind them is returned.
 fn push_placed<'a>(
     alloc: Global,
+    program: &Program<'a>,
     handler: &'a Name,
     parameters: &[TypedName<'a>],
     clause: &'a Clause,
@@ -104,16 +105,16 @@ fn push_placed<'a>(
     placed: &mut Vec<Placed<'a>>,
 ) -> Result<u32, AllocError>
     requires { from + length parameters.now + clause_size clause.now ≤ 200000 }
-    ensures next { IfOk result (λ next. next ≡ from + length (clause_names handler.now clause.now)) }
-    ensures few { length (clause_names handler.now clause.now) ≤ clause_size clause.now }
-    ensures value { OnOk result (placed_all placed.new.items ≡ placed_all placed.old.items ++ placed_by handler.now (bounds_of parameters.now) temporaries from (clause.now ∷ [])) }
+    ensures next { IfOk result (λ next. next ≡ from + length (clause_names program.now handler.now clause.now)) }
+    ensures few { length (clause_names program.now handler.now clause.now) ≤ clause_size clause.now }
+    ensures value { OnOk result (placed_all placed.new.items ≡ placed_all placed.old.items ++ placed_by program.now handler.now (bounds_of parameters.now) temporaries from (clause.now ∷ [])) }
 {
     let owner = OwnHandler {
         name: handler,
         parameters: parameters.len() as u32,
     };
     let mut own = Vec::new(alloc);
-    push_clause_names(handler, clause, &mut own)?;
+    push_clause_names(program.declarations(), handler, clause, &mut own)?;
     let layout = layout(
         alloc,
         parameters,
@@ -129,6 +130,7 @@ fn push_placed<'a>(
 // Puts clauses behind the others, with where their names are, those of the first one from the local `from` on.
 fn push_all_placed<'a>(
     alloc: Global,
+    program: &Program<'a>,
     handler: &'a Name,
     parameters: &[TypedName<'a>],
     clauses: &'a [Clause],
@@ -137,12 +139,13 @@ fn push_all_placed<'a>(
     placed: &mut Vec<Placed<'a>>,
 ) -> Result<(), AllocError>
     requires { from + length parameters.now + sum_by clause_size clauses.now ≤ 200000 }
-    ensures value { OnOk result (placed_all placed.new.items ≡ placed_all placed.old.items ++ placed_by handler.now (bounds_of parameters.now) temporaries from clauses.now) }
+    ensures value { OnOk result (placed_all placed.new.items ≡ placed_all placed.old.items ++ placed_by program.now handler.now (bounds_of parameters.now) temporaries from clauses.now) }
 {
     let mut next = from;
     for clause in clauses {
         next = push_placed(
             alloc,
+            program,
             handler,
             parameters,
             clause,
@@ -167,10 +170,10 @@ fn handler_body_with<'a>(
     requires small { definition_size (AHandler handler.now) ≤ size_limit }
     requires few { length parameters.now + length own.now ≤ 100000 }
     requires parameters { bounds_of parameters.now ≡ map parameter handler.now.parameters }
-    requires own { bounds_of own.now ≡ return_names handler.now }
-    requires temporaries { temporaries ≡ handler_temporaries name.now handler.now }
+    requires own { bounds_of own.now ≡ return_names program.now handler.now }
+    requires temporaries { temporaries ≡ handler_temporaries program.now name.now handler.now }
     requires room { temporaries ≤ 200000 }
-    ensures value { IfOk result (λ made. made ≡ handler_body program.now (return_layout name.now handler.now) handler.now (placed_clauses name.now handler.now)) }
+    ensures value { IfOk result (λ made. made ≡ handler_body program.now (return_layout program.now name.now handler.now) handler.now (placed_clauses program.now name.now handler.now)) }
 {
     let count = parameters.len() as u32;
     let first = count + 1;
@@ -184,6 +187,7 @@ fn handler_body_with<'a>(
     let mut placed = Vec::new(alloc);
     push_all_placed(
         alloc,
+        program,
         name,
         parameters,
         clauses,
@@ -220,8 +224,9 @@ pub(crate) fn handler_code<'a>(
     ensures value { IfOk result (λ code. code ≡ handler_code program.now name.now handler.now) }
 {
     let parameters = parameters(alloc, handler.parameters.as_slice())?;
-    let own = return_names(alloc, handler)?;
-    let all = handler_names(alloc, name, handler)?;
+    let declarations = program.declarations();
+    let own = return_names(alloc, declarations, handler)?;
+    let all = handler_names(alloc, declarations, name, handler)?;
     let (parameters, own, all) = (parameters.as_slice(), own.as_slice(), all.as_slice());
     let temporaries = parameters.len() as u32 + 1 + all.len() as u32;
     let locals = handler_locals(alloc, handler, all)?;

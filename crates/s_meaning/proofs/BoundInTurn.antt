@@ -1,12 +1,11 @@
 -- What is bound behind names that are bound one after another: a name keeps the type that it had first.
-use Rattle.std.proofs.Common.{◌≡◌, Bool, true, false, ◌||◌, List, [], ◌∷◌, ◌++◌, map, Option, Some, None, is_some, if◌then◌else◌, refl, sym, ap, ◌∙◌, subst}
+use Rattle.std.proofs.Common.{◌≡◌, ◌⊎◌, inl, inr, Bool, true, false, ◌||◌, List, [], ◌∷◌, ◌++◌, map, Option, Some, None, is_some, if◌then◌else◌, refl, sym, ap, ◌∙◌, subst}
 use Rattle.std.specs.Str.{bytes_eq}
 use Rattle.s_syntax.specs.declared.name.Name.{Name}
 use Rattle.s_syntax.specs.declared.script.VariableType.{VariableType}
-use Rattle.s_syntax.specs.declared.script.VariableType.TheVariants.{Int, Resumption}
-use Rattle.s_check.specs.Scopes.{Bound, Scope, type_in, bind, bind_all, number, is_among, some_twice}
-use Rattle.s_meaning.specs.Typing.{IsFree}
-use Rattle.s_meaning.proofs.Scopes.{same_is, bool_of, Extends}
+use Rattle.s_check.specs.Scopes.{Bound, Scope, type_in, bind, bind_all, is_among, some_twice}
+use Rattle.s_meaning.specs.Typing.{Fits}
+use Rattle.s_meaning.proofs.Scopes.{same_is, bool_of, Agree}
 
 -- the first of two types that is there
 abbrev pub or_else : Option VariableType → Option VariableType → Option VariableType
@@ -48,41 +47,30 @@ all_bound (c ∷ cs) bs y =
 
 -- ## Scopes that agree
 
--- each name has the same type in both
-pub record Agree (Γ Γ' : Scope) : Type 0 where
-  pub type_of : (y : Name) → type_in Γ y ≡ type_in Γ' y
-
-pub extends_agree : {Γ Γ' : Scope} → Agree Γ Γ' → Extends Γ Γ'
-extends_agree g = record {
-  keeps = λ x k e. sym (g.type_of x) ∙ e;
-  frees = λ x f. record { free = λ h e. f.free h (g.type_of x ∙ e) };
-}
-
 -- at the start of a body
 pub starts_agree : (cs : List Bound) → Agree (bind_all cs []) cs
 starts_agree cs = record { type_of = λ y. all_bound cs [] y }
 
--- behind a let of a name that has no res type
-pub let_agrees : (x : Name) (bs : Scope) → IsFree x bs → Agree (bind (number x) bs) (number x ∷ bs)
-let_agrees x bs free = record { type_of = λ y. bound_type (number x) y bs ∙ either y }
+-- behind a name that fits
+pub bound_agrees : (b : Bound) (bs : Scope) → Fits b.name b.ty bs → Agree (bind b bs) (b ∷ bs)
+bound_agrees b bs f = record { type_of = λ y. bound_type b y bs ∙ either y }
   where
-    an_int : (y : Name) (o : Option VariableType) → type_in bs y ≡ o → bytes_eq x y ≡ true → or_else o (Some Int) ≡ Some Int
-    an_int y None e q = refl
-    an_int y (Some Int) e q = refl
-    an_int y (Some (Resumption h)) e q = absurd (free.free h (ap (λ (z : Name). type_in bs z) (sym (same_is y x q)) ∙ e))
+    same_type : (y : Name) (o : Option VariableType) → type_in bs y ≡ o → bytes_eq b.name y ≡ true → or_else o (Some b.ty) ≡ Some b.ty
+    same_type y None e q = refl
+    same_type y (Some t) e q = ap Some (f.fits t (ap (λ (z : Name). type_in bs z) (sym (same_is y b.name q)) ∙ e))
 
-    either : (y : Name) → or_else (type_in bs y) (if bytes_eq x y then Some Int else None) ≡ (if bytes_eq x y then Some Int else type_in bs y)
-    either y = bool_of (bytes_eq x y) (λ q. or_else (type_in bs y) (if q then Some Int else None) ≡ (if q then Some Int else type_in bs y))
-        (λ q. an_int y (type_in bs y) refl q) (λ q. or_none (type_in bs y))
+    either : (y : Name) → or_else (type_in bs y) (if bytes_eq b.name y then Some b.ty else None) ≡ (if bytes_eq b.name y then Some b.ty else type_in bs y)
+    either y = bool_of (bytes_eq b.name y) (λ q. or_else (type_in bs y) (if q then Some b.ty else None) ≡ (if q then Some b.ty else type_in bs y))
+        (λ q. same_type y (type_in bs y) refl q) (λ q. or_none (type_in bs y))
 
--- what has a res type behind a let had it before
-pub res_before : (x y h : Name) (bs : Scope) → type_in (bind (number x) bs) y ≡ Some (Resumption h) → type_in bs y ≡ Some (Resumption h)
-res_before x y h bs e = was (bytes_eq x y) (type_in bs y) (sym (bound_type (number x) y bs) ∙ e)
+-- a type that a name has behind one that is bound it had before, or it is the type of that one
+pub type_behind : (b : Bound) (y : Name) (bs : Scope) (t : VariableType) → type_in (bind b bs) y ≡ Some t → (type_in bs y ≡ Some t) ⊎ (b.ty ≡ t)
+type_behind b y bs t e = was (bytes_eq b.name y) (type_in bs y) (sym (bound_type b y bs) ∙ e)
   where
-    was : (q : Bool) (o : Option VariableType) → or_else o (if q then Some Int else None) ≡ Some (Resumption h) → o ≡ Some (Resumption h)
-    was true None f = absurd (cc)
+    was : (q : Bool) (o : Option VariableType) → or_else o (if q then Some b.ty else None) ≡ Some t → (o ≡ Some t) ⊎ (b.ty ≡ t)
+    was true None f = inr (cc)
     was false None f = absurd (cc)
-    was q (Some t) f = f
+    was q (Some u) f = inl f
 
 -- ## Names that are bound twice
 

@@ -13,7 +13,8 @@ use Rattle.s_syntax.specs.declared.operators.Comparison.TheVariants.{Less}
 use Rattle.s_syntax.specs.declared.operators.Arithmetic.TheVariants.{Add, Subtract, Multiply, Divide}
 use Rattle.s_syntax.specs.declared.operators.BinaryOperator.TheVariants.{Connects, Compares, Computes}
 use Rattle.s_syntax.specs.ExprTree.{ExprTree, Literal, Read, Unary, Run, Call, Do, Handle, Resume, Exprs, NoExprs, MoreExprs, NoOperands, MoreOperands}
-use Rattle.s_syntax.specs.BlockTree.{Let, Assign, If, While, Print, Return, Evaluate, Done, ◌⨟◌}
+use Rattle.s_syntax.specs.declared.statement.Use.TheVariants as use_for
+use Rattle.s_syntax.specs.BlockTree.{Evaluate, If, While, Done, ◌⨟◌}
 use Rattle.s_meaning.specs.Numbers.{line, Overflow, Reused, Unhandled}
 use Rattle.s_meaning.specs.Terms.{acts, hands, kept}
 use Rattle.s_meaning.specs.Eval.{Eval}
@@ -46,10 +47,10 @@ unfoldable counts_asks : Script
 counts_asks = record {
   declarations =
       record { name = (codes "ask"); definition = effect_of_0 }
-      ∷ record { name = (codes "body"); definition = definition.Function (record { parameters = ([]); body = (Print (Run (Do (codes "ask") NoExprs) (MoreOperands (Computes Add) (Do (codes "ask") NoExprs) NoOperands)) ⨟ Return (int 7) ⨟ Done) }) }
-      ∷ record { name = (codes "one"); definition = definition.Function (record { parameters = ([]); body = (Return (Do (codes "ask") NoExprs) ⨟ Done) }) }
-      ∷ record { name = (codes "h"); definition = definition.Handler (record { parameters = (record { name = (codes "s"); ty = Int } ∷ []); return_clause = record { value = (codes "x"); body = (Return (Run (Read (codes "x")) (MoreOperands (Computes Add) (Read (codes "s")) NoOperands)) ⨟ Done) }; clauses = (record { effect = (codes "ask"); arguments = ([]); resumption = (codes "k"); body = (Return (Resume (codes "k") (Read (codes "s")) ((Run (Read (codes "s")) (MoreOperands (Computes Add) (int 1) NoOperands)) ⊕ NoExprs)) ⨟ Done) } ∷ []) }) }
-      ∷ record { name = (codes "main"); definition = definition.Function (record { parameters = ([]); body = (Return (Handle (codes "body") NoExprs (codes "h") ((int 10) ⊕ NoExprs)) ⨟ Done) }) }
+      ∷ record { name = (codes "body"); definition = definition.Function (record { parameters = ([]); body = (Evaluate use_for.Print (Run (Do (codes "ask") NoExprs) (MoreOperands (Computes Add) (Do (codes "ask") NoExprs) NoOperands)) ⨟ Evaluate use_for.Return (int 7) ⨟ Done) }) }
+      ∷ record { name = (codes "one"); definition = definition.Function (record { parameters = ([]); body = (Evaluate use_for.Return (Do (codes "ask") NoExprs) ⨟ Done) }) }
+      ∷ record { name = (codes "h"); definition = definition.Handler (record { parameters = (record { name = (codes "s"); ty = Int } ∷ []); return_clause = record { value = (codes "x"); body = (Evaluate use_for.Return (Run (Read (codes "x")) (MoreOperands (Computes Add) (Read (codes "s")) NoOperands)) ⨟ Done) }; clauses = (record { effect = (codes "ask"); arguments = ([]); resumption = (codes "k"); body = (Evaluate use_for.Return (Resume (codes "k") (Read (codes "s")) ((Run (Read (codes "s")) (MoreOperands (Computes Add) (int 1) NoOperands)) ⊕ NoExprs)) ⨟ Done) } ∷ []) }) }
+      ∷ record { name = (codes "main"); definition = definition.Function (record { parameters = ([]); body = (Evaluate use_for.Return (Handle (codes "body") NoExprs (codes "h") ((int 10) ⊕ NoExprs)) ⨟ Done) }) }
       ∷ [];
 }
 
@@ -80,7 +81,7 @@ counts_asks-kept = refl
 unfoldable one : Script
 one = record {
   declarations =
-      record { name = (codes "main"); definition = definition.Function (record { parameters = ([]); body = (Return (int 1) ⨟ Done) }) }
+      record { name = (codes "main"); definition = definition.Function (record { parameters = ([]); body = (Evaluate use_for.Return (int 1) ⨟ Done) }) }
       ∷ [];
 }
 
@@ -100,10 +101,10 @@ unfoldable a_loop_of_asks : Script
 a_loop_of_asks = record {
   declarations =
       record { name = (codes "ask"); definition = effect_of_0 }
-      ∷ record { name = (codes "body"); definition = definition.Function (record { parameters = ([]); body = (Let (codes "i") (int 0) ⨟ While (Run (Read (codes "i")) (MoreOperands (Compares Less) (int 5) NoOperands)) (Evaluate (Do (codes "ask") NoExprs) ⨟ Assign (codes "i") (Run (Read (codes "i")) (MoreOperands (Computes Add) (int 1) NoOperands)) ⨟ Done) ⨟ Return (Read (codes "i")) ⨟ Done) }) }
-      ∷ record { name = (codes "one"); definition = definition.Function (record { parameters = ([]); body = (Return (Do (codes "ask") NoExprs) ⨟ Done) }) }
-      ∷ record { name = (codes "h"); definition = definition.Handler (record { parameters = (record { name = (codes "s"); ty = Int } ∷ []); return_clause = record { value = (codes "x"); body = (Return (Run (Read (codes "x")) (MoreOperands (Computes Add) (Read (codes "s")) NoOperands)) ⨟ Done) }; clauses = (record { effect = (codes "ask"); arguments = ([]); resumption = (codes "k"); body = (Return (Resume (codes "k") (Read (codes "s")) ((Run (Read (codes "s")) (MoreOperands (Computes Add) (int 1) NoOperands)) ⊕ NoExprs)) ⨟ Done) } ∷ []) }) }
-      ∷ record { name = (codes "main"); definition = definition.Function (record { parameters = ([]); body = (Return (Handle (codes "body") NoExprs (codes "h") ((int 0) ⊕ NoExprs)) ⨟ Done) }) }
+      ∷ record { name = (codes "body"); definition = definition.Function (record { parameters = ([]); body = (Evaluate (use_for.Let (codes "i")) (int 0) ⨟ While (Run (Read (codes "i")) (MoreOperands (Compares Less) (int 5) NoOperands)) (Evaluate use_for.Drop (Do (codes "ask") NoExprs) ⨟ Evaluate (use_for.Assign (codes "i")) (Run (Read (codes "i")) (MoreOperands (Computes Add) (int 1) NoOperands)) ⨟ Done) ⨟ Evaluate use_for.Return (Read (codes "i")) ⨟ Done) }) }
+      ∷ record { name = (codes "one"); definition = definition.Function (record { parameters = ([]); body = (Evaluate use_for.Return (Do (codes "ask") NoExprs) ⨟ Done) }) }
+      ∷ record { name = (codes "h"); definition = definition.Handler (record { parameters = (record { name = (codes "s"); ty = Int } ∷ []); return_clause = record { value = (codes "x"); body = (Evaluate use_for.Return (Run (Read (codes "x")) (MoreOperands (Computes Add) (Read (codes "s")) NoOperands)) ⨟ Done) }; clauses = (record { effect = (codes "ask"); arguments = ([]); resumption = (codes "k"); body = (Evaluate use_for.Return (Resume (codes "k") (Read (codes "s")) ((Run (Read (codes "s")) (MoreOperands (Computes Add) (int 1) NoOperands)) ⊕ NoExprs)) ⨟ Done) } ∷ []) }) }
+      ∷ record { name = (codes "main"); definition = definition.Function (record { parameters = ([]); body = (Evaluate use_for.Return (Handle (codes "body") NoExprs (codes "h") ((int 0) ⊕ NoExprs)) ⨟ Done) }) }
       ∷ [];
 }
 
@@ -135,10 +136,10 @@ unfoldable a_resumed_value_is_used : Script
 a_resumed_value_is_used = record {
   declarations =
       record { name = (codes "ask"); definition = effect_of_0 }
-      ∷ record { name = (codes "body"); definition = definition.Function (record { parameters = ([]); body = (Print (Run (Do (codes "ask") NoExprs) (MoreOperands (Computes Add) (Do (codes "ask") NoExprs) NoOperands)) ⨟ Return (int 7) ⨟ Done) }) }
-      ∷ record { name = (codes "one"); definition = definition.Function (record { parameters = ([]); body = (Return (Do (codes "ask") NoExprs) ⨟ Done) }) }
-      ∷ record { name = (codes "h"); definition = definition.Handler (record { parameters = (record { name = (codes "s"); ty = Int } ∷ []); return_clause = record { value = (codes "x"); body = (Return (Run (Read (codes "x")) (MoreOperands (Computes Add) (Read (codes "s")) NoOperands)) ⨟ Done) }; clauses = (record { effect = (codes "ask"); arguments = ([]); resumption = (codes "k"); body = (Return (Run (int 100) (MoreOperands (Computes Add) (Resume (codes "k") (Read (codes "s")) ((Run (Read (codes "s")) (MoreOperands (Computes Add) (int 1) NoOperands)) ⊕ NoExprs)) NoOperands)) ⨟ Done) } ∷ []) }) }
-      ∷ record { name = (codes "main"); definition = definition.Function (record { parameters = ([]); body = (Return (Handle (codes "body") NoExprs (codes "h") ((int 10) ⊕ NoExprs)) ⨟ Done) }) }
+      ∷ record { name = (codes "body"); definition = definition.Function (record { parameters = ([]); body = (Evaluate use_for.Print (Run (Do (codes "ask") NoExprs) (MoreOperands (Computes Add) (Do (codes "ask") NoExprs) NoOperands)) ⨟ Evaluate use_for.Return (int 7) ⨟ Done) }) }
+      ∷ record { name = (codes "one"); definition = definition.Function (record { parameters = ([]); body = (Evaluate use_for.Return (Do (codes "ask") NoExprs) ⨟ Done) }) }
+      ∷ record { name = (codes "h"); definition = definition.Handler (record { parameters = (record { name = (codes "s"); ty = Int } ∷ []); return_clause = record { value = (codes "x"); body = (Evaluate use_for.Return (Run (Read (codes "x")) (MoreOperands (Computes Add) (Read (codes "s")) NoOperands)) ⨟ Done) }; clauses = (record { effect = (codes "ask"); arguments = ([]); resumption = (codes "k"); body = (Evaluate use_for.Return (Run (int 100) (MoreOperands (Computes Add) (Resume (codes "k") (Read (codes "s")) ((Run (Read (codes "s")) (MoreOperands (Computes Add) (int 1) NoOperands)) ⊕ NoExprs)) NoOperands)) ⨟ Done) } ∷ []) }) }
+      ∷ record { name = (codes "main"); definition = definition.Function (record { parameters = ([]); body = (Evaluate use_for.Return (Handle (codes "body") NoExprs (codes "h") ((int 10) ⊕ NoExprs)) ⨟ Done) }) }
       ∷ [];
 }
 
@@ -170,10 +171,10 @@ unfoldable resumed_twice : Script
 resumed_twice = record {
   declarations =
       record { name = (codes "ask"); definition = effect_of_0 }
-      ∷ record { name = (codes "body"); definition = definition.Function (record { parameters = ([]); body = (Print (Run (Do (codes "ask") NoExprs) (MoreOperands (Computes Add) (Do (codes "ask") NoExprs) NoOperands)) ⨟ Return (int 7) ⨟ Done) }) }
-      ∷ record { name = (codes "one"); definition = definition.Function (record { parameters = ([]); body = (Return (Do (codes "ask") NoExprs) ⨟ Done) }) }
-      ∷ record { name = (codes "h"); definition = definition.Handler (record { parameters = (record { name = (codes "s"); ty = Int } ∷ []); return_clause = record { value = (codes "x"); body = (Return (Run (Read (codes "x")) (MoreOperands (Computes Add) (Read (codes "s")) NoOperands)) ⨟ Done) }; clauses = (record { effect = (codes "ask"); arguments = ([]); resumption = (codes "k"); body = (Let (codes "a") (Resume (codes "k") (Read (codes "s")) ((Read (codes "s")) ⊕ NoExprs)) ⨟ Return (Resume (codes "k") (Read (codes "s")) ((Read (codes "s")) ⊕ NoExprs)) ⨟ Done) } ∷ []) }) }
-      ∷ record { name = (codes "main"); definition = definition.Function (record { parameters = ([]); body = (Return (Handle (codes "one") NoExprs (codes "h") ((int 10) ⊕ NoExprs)) ⨟ Done) }) }
+      ∷ record { name = (codes "body"); definition = definition.Function (record { parameters = ([]); body = (Evaluate use_for.Print (Run (Do (codes "ask") NoExprs) (MoreOperands (Computes Add) (Do (codes "ask") NoExprs) NoOperands)) ⨟ Evaluate use_for.Return (int 7) ⨟ Done) }) }
+      ∷ record { name = (codes "one"); definition = definition.Function (record { parameters = ([]); body = (Evaluate use_for.Return (Do (codes "ask") NoExprs) ⨟ Done) }) }
+      ∷ record { name = (codes "h"); definition = definition.Handler (record { parameters = (record { name = (codes "s"); ty = Int } ∷ []); return_clause = record { value = (codes "x"); body = (Evaluate use_for.Return (Run (Read (codes "x")) (MoreOperands (Computes Add) (Read (codes "s")) NoOperands)) ⨟ Done) }; clauses = (record { effect = (codes "ask"); arguments = ([]); resumption = (codes "k"); body = (Evaluate (use_for.Let (codes "a")) (Resume (codes "k") (Read (codes "s")) ((Read (codes "s")) ⊕ NoExprs)) ⨟ Evaluate use_for.Return (Resume (codes "k") (Read (codes "s")) ((Read (codes "s")) ⊕ NoExprs)) ⨟ Done) } ∷ []) }) }
+      ∷ record { name = (codes "main"); definition = definition.Function (record { parameters = ([]); body = (Evaluate use_for.Return (Handle (codes "one") NoExprs (codes "h") ((int 10) ⊕ NoExprs)) ⨟ Done) }) }
       ∷ [];
 }
 
@@ -206,11 +207,11 @@ two_handlers = record {
   declarations =
       record { name = (codes "a"); definition = effect_of_0 }
       ∷ record { name = (codes "b"); definition = effect_of_0 }
-      ∷ record { name = (codes "inner"); definition = definition.Function (record { parameters = ([]); body = (Return (Run (Run (Do (codes "a") NoExprs) (MoreOperands (Computes Multiply) (int 10) NoOperands)) (MoreOperands (Computes Add) (Do (codes "b") NoExprs) NoOperands)) ⨟ Done) }) }
-      ∷ record { name = (codes "hb"); definition = definition.Handler (record { parameters = (record { name = (codes "v"); ty = Int } ∷ []); return_clause = record { value = (codes "x"); body = (Return (Read (codes "x")) ⨟ Done) }; clauses = (record { effect = (codes "b"); arguments = ([]); resumption = (codes "k"); body = (Return (Resume (codes "k") (Read (codes "v")) ((Read (codes "v")) ⊕ NoExprs)) ⨟ Done) } ∷ []) }) }
-      ∷ record { name = (codes "mid"); definition = definition.Function (record { parameters = ([]); body = (Return (Handle (codes "inner") NoExprs (codes "hb") ((int 3) ⊕ NoExprs)) ⨟ Done) }) }
-      ∷ record { name = (codes "ha"); definition = definition.Handler (record { parameters = (record { name = (codes "v"); ty = Int } ∷ []); return_clause = record { value = (codes "x"); body = (Return (Read (codes "x")) ⨟ Done) }; clauses = (record { effect = (codes "a"); arguments = ([]); resumption = (codes "k"); body = (Return (Resume (codes "k") (Read (codes "v")) ((Read (codes "v")) ⊕ NoExprs)) ⨟ Done) } ∷ []) }) }
-      ∷ record { name = (codes "main"); definition = definition.Function (record { parameters = ([]); body = (Return (Handle (codes "mid") NoExprs (codes "ha") ((int 4) ⊕ NoExprs)) ⨟ Done) }) }
+      ∷ record { name = (codes "inner"); definition = definition.Function (record { parameters = ([]); body = (Evaluate use_for.Return (Run (Run (Do (codes "a") NoExprs) (MoreOperands (Computes Multiply) (int 10) NoOperands)) (MoreOperands (Computes Add) (Do (codes "b") NoExprs) NoOperands)) ⨟ Done) }) }
+      ∷ record { name = (codes "hb"); definition = definition.Handler (record { parameters = (record { name = (codes "v"); ty = Int } ∷ []); return_clause = record { value = (codes "x"); body = (Evaluate use_for.Return (Read (codes "x")) ⨟ Done) }; clauses = (record { effect = (codes "b"); arguments = ([]); resumption = (codes "k"); body = (Evaluate use_for.Return (Resume (codes "k") (Read (codes "v")) ((Read (codes "v")) ⊕ NoExprs)) ⨟ Done) } ∷ []) }) }
+      ∷ record { name = (codes "mid"); definition = definition.Function (record { parameters = ([]); body = (Evaluate use_for.Return (Handle (codes "inner") NoExprs (codes "hb") ((int 3) ⊕ NoExprs)) ⨟ Done) }) }
+      ∷ record { name = (codes "ha"); definition = definition.Handler (record { parameters = (record { name = (codes "v"); ty = Int } ∷ []); return_clause = record { value = (codes "x"); body = (Evaluate use_for.Return (Read (codes "x")) ⨟ Done) }; clauses = (record { effect = (codes "a"); arguments = ([]); resumption = (codes "k"); body = (Evaluate use_for.Return (Resume (codes "k") (Read (codes "v")) ((Read (codes "v")) ⊕ NoExprs)) ⨟ Done) } ∷ []) }) }
+      ∷ record { name = (codes "main"); definition = definition.Function (record { parameters = ([]); body = (Evaluate use_for.Return (Handle (codes "mid") NoExprs (codes "ha") ((int 4) ⊕ NoExprs)) ⨟ Done) }) }
       ∷ [];
 }
 
@@ -241,8 +242,8 @@ two_handlers-kept = refl
 unfoldable recursion : Script
 recursion = record {
   declarations =
-      record { name = (codes "f"); definition = definition.Function (record { parameters = (record { name = (codes "n"); ty = Int } ∷ []); body = (If (Read (codes "n")) (Return (Call (codes "f") ((Run (Read (codes "n")) (MoreOperands (Computes Subtract) (int 1) NoOperands)) ⊕ NoExprs)) ⨟ Done) (Done) ⨟ Return (int 0) ⨟ Done) }) }
-      ∷ record { name = (codes "main"); definition = definition.Function (record { parameters = ([]); body = (Return (Call (codes "f") ((int 6) ⊕ NoExprs)) ⨟ Done) }) }
+      record { name = (codes "f"); definition = definition.Function (record { parameters = (record { name = (codes "n"); ty = Int } ∷ []); body = (If (Read (codes "n")) (Evaluate use_for.Return (Call (codes "f") ((Run (Read (codes "n")) (MoreOperands (Computes Subtract) (int 1) NoOperands)) ⊕ NoExprs)) ⨟ Done) (Done) ⨟ Evaluate use_for.Return (int 0) ⨟ Done) }) }
+      ∷ record { name = (codes "main"); definition = definition.Function (record { parameters = ([]); body = (Evaluate use_for.Return (Call (codes "f") ((int 6) ⊕ NoExprs)) ⨟ Done) }) }
       ∷ [];
 }
 
@@ -273,7 +274,7 @@ recursion-kept = refl
 unfoldable overflow : Script
 overflow = record {
   declarations =
-      record { name = (codes "main"); definition = definition.Function (record { parameters = ([]); body = (Return (Run (Run (int 0) (MoreOperands (Computes Subtract) (int 9223372036854775807) (MoreOperands (Computes Subtract) (int 1) NoOperands))) (MoreOperands (Computes Divide) (Run (int 0) (MoreOperands (Computes Subtract) (int 1) NoOperands)) NoOperands)) ⨟ Done) }) }
+      record { name = (codes "main"); definition = definition.Function (record { parameters = ([]); body = (Evaluate use_for.Return (Run (Run (int 0) (MoreOperands (Computes Subtract) (int 9223372036854775807) (MoreOperands (Computes Subtract) (int 1) NoOperands))) (MoreOperands (Computes Divide) (Run (int 0) (MoreOperands (Computes Subtract) (int 1) NoOperands)) NoOperands)) ⨟ Done) }) }
       ∷ [];
 }
 
@@ -304,9 +305,9 @@ overflow-kept = refl
 unfoldable handlers_in_one_another : Script
 handlers_in_one_another = record {
   declarations =
-      record { name = (codes "f"); definition = definition.Function (record { parameters = (record { name = (codes "n"); ty = Int } ∷ []); body = (If (Read (codes "n")) (Return (Handle (codes "f") ((Run (Read (codes "n")) (MoreOperands (Computes Subtract) (int 1) NoOperands)) ⊕ NoExprs) (codes "id") NoExprs) ⨟ Done) (Done) ⨟ Return (int 0) ⨟ Done) }) }
-      ∷ record { name = (codes "id"); definition = definition.Handler (record { parameters = ([]); return_clause = record { value = (codes "x"); body = (Return (Read (codes "x")) ⨟ Done) }; clauses = ([]) }) }
-      ∷ record { name = (codes "main"); definition = definition.Function (record { parameters = ([]); body = (Return (Call (codes "f") ((int 5) ⊕ NoExprs)) ⨟ Done) }) }
+      record { name = (codes "f"); definition = definition.Function (record { parameters = (record { name = (codes "n"); ty = Int } ∷ []); body = (If (Read (codes "n")) (Evaluate use_for.Return (Handle (codes "f") ((Run (Read (codes "n")) (MoreOperands (Computes Subtract) (int 1) NoOperands)) ⊕ NoExprs) (codes "id") NoExprs) ⨟ Done) (Done) ⨟ Evaluate use_for.Return (int 0) ⨟ Done) }) }
+      ∷ record { name = (codes "id"); definition = definition.Handler (record { parameters = ([]); return_clause = record { value = (codes "x"); body = (Evaluate use_for.Return (Read (codes "x")) ⨟ Done) }; clauses = ([]) }) }
+      ∷ record { name = (codes "main"); definition = definition.Function (record { parameters = ([]); body = (Evaluate use_for.Return (Call (codes "f") ((int 5) ⊕ NoExprs)) ⨟ Done) }) }
       ∷ [];
 }
 
@@ -338,7 +339,7 @@ unfoldable unhandled : Script
 unhandled = record {
   declarations =
       record { name = (codes "ask"); definition = effect_of_0 }
-      ∷ record { name = (codes "main"); definition = definition.Function (record { parameters = ([]); body = (Print (int 5) ⨟ Return (Do (codes "ask") NoExprs) ⨟ Done) }) }
+      ∷ record { name = (codes "main"); definition = definition.Function (record { parameters = ([]); body = (Evaluate use_for.Print (int 5) ⨟ Evaluate use_for.Return (Do (codes "ask") NoExprs) ⨟ Done) }) }
       ∷ [];
 }
 
@@ -370,11 +371,11 @@ unfoldable a_resumption_is_handed_over : Script
 a_resumption_is_handed_over = record {
   declarations =
       record { name = (codes "ask"); definition = effect_of_0 }
-      ∷ record { name = (codes "body"); definition = definition.Function (record { parameters = ([]); body = (Print (Run (Do (codes "ask") NoExprs) (MoreOperands (Computes Add) (Do (codes "ask") NoExprs) NoOperands)) ⨟ Return (int 7) ⨟ Done) }) }
-      ∷ record { name = (codes "go"); definition = definition.Function (record { parameters = (record { name = (codes "k"); ty = (Resumption (codes "h")) } ∷ record { name = (codes "v"); ty = Int } ∷ []); body = (Return (Resume (codes "k") (Read (codes "v")) ((Read (codes "v")) ⊕ NoExprs)) ⨟ Done) }) }
-      ∷ record { name = (codes "one"); definition = definition.Function (record { parameters = ([]); body = (Return (Do (codes "ask") NoExprs) ⨟ Done) }) }
-      ∷ record { name = (codes "h"); definition = definition.Handler (record { parameters = (record { name = (codes "s"); ty = Int } ∷ []); return_clause = record { value = (codes "x"); body = (Return (Run (Read (codes "x")) (MoreOperands (Computes Add) (Read (codes "s")) NoOperands)) ⨟ Done) }; clauses = (record { effect = (codes "ask"); arguments = ([]); resumption = (codes "k"); body = (Return (Call (codes "go") ((Read (codes "k")) ⊕ ((int 5) ⊕ NoExprs))) ⨟ Done) } ∷ []) }) }
-      ∷ record { name = (codes "main"); definition = definition.Function (record { parameters = ([]); body = (Return (Handle (codes "one") NoExprs (codes "h") ((int 10) ⊕ NoExprs)) ⨟ Done) }) }
+      ∷ record { name = (codes "body"); definition = definition.Function (record { parameters = ([]); body = (Evaluate use_for.Print (Run (Do (codes "ask") NoExprs) (MoreOperands (Computes Add) (Do (codes "ask") NoExprs) NoOperands)) ⨟ Evaluate use_for.Return (int 7) ⨟ Done) }) }
+      ∷ record { name = (codes "go"); definition = definition.Function (record { parameters = (record { name = (codes "k"); ty = (Resumption (codes "h")) } ∷ record { name = (codes "v"); ty = Int } ∷ []); body = (Evaluate use_for.Return (Resume (codes "k") (Read (codes "v")) ((Read (codes "v")) ⊕ NoExprs)) ⨟ Done) }) }
+      ∷ record { name = (codes "one"); definition = definition.Function (record { parameters = ([]); body = (Evaluate use_for.Return (Do (codes "ask") NoExprs) ⨟ Done) }) }
+      ∷ record { name = (codes "h"); definition = definition.Handler (record { parameters = (record { name = (codes "s"); ty = Int } ∷ []); return_clause = record { value = (codes "x"); body = (Evaluate use_for.Return (Run (Read (codes "x")) (MoreOperands (Computes Add) (Read (codes "s")) NoOperands)) ⨟ Done) }; clauses = (record { effect = (codes "ask"); arguments = ([]); resumption = (codes "k"); body = (Evaluate use_for.Return (Call (codes "go") ((Read (codes "k")) ⊕ ((int 5) ⊕ NoExprs))) ⨟ Done) } ∷ []) }) }
+      ∷ record { name = (codes "main"); definition = definition.Function (record { parameters = ([]); body = (Evaluate use_for.Return (Handle (codes "one") NoExprs (codes "h") ((int 10) ⊕ NoExprs)) ⨟ Done) }) }
       ∷ [];
 }
 
@@ -406,11 +407,11 @@ unfoldable resumptions_handed_down : Script
 resumptions_handed_down = record {
   declarations =
       record { name = (codes "ask"); definition = effect_of_0 }
-      ∷ record { name = (codes "body"); definition = definition.Function (record { parameters = ([]); body = (Print (Run (Do (codes "ask") NoExprs) (MoreOperands (Computes Add) (Do (codes "ask") NoExprs) NoOperands)) ⨟ Return (int 7) ⨟ Done) }) }
-      ∷ record { name = (codes "go"); definition = definition.Function (record { parameters = (record { name = (codes "k"); ty = (Resumption (codes "h")) } ∷ record { name = (codes "n"); ty = Int } ∷ []); body = (If (Read (codes "n")) (Return (Run (int 0) (MoreOperands (Computes Add) (Call (codes "go") ((Read (codes "k")) ⊕ ((Run (Read (codes "n")) (MoreOperands (Computes Subtract) (int 1) NoOperands)) ⊕ NoExprs))) NoOperands)) ⨟ Done) (Done) ⨟ Return (Resume (codes "k") (Read (codes "n")) ((Read (codes "n")) ⊕ NoExprs)) ⨟ Done) }) }
-      ∷ record { name = (codes "one"); definition = definition.Function (record { parameters = ([]); body = (Return (Do (codes "ask") NoExprs) ⨟ Done) }) }
-      ∷ record { name = (codes "h"); definition = definition.Handler (record { parameters = (record { name = (codes "s"); ty = Int } ∷ []); return_clause = record { value = (codes "x"); body = (Return (Run (Read (codes "x")) (MoreOperands (Computes Add) (Read (codes "s")) NoOperands)) ⨟ Done) }; clauses = (record { effect = (codes "ask"); arguments = ([]); resumption = (codes "k"); body = (Let (codes "a") (Resume (codes "k") (Read (codes "s")) ((Read (codes "s")) ⊕ NoExprs)) ⨟ Return (Run (int 0) (MoreOperands (Computes Add) (Call (codes "go") ((Read (codes "k")) ⊕ ((int 7) ⊕ NoExprs))) NoOperands)) ⨟ Done) } ∷ []) }) }
-      ∷ record { name = (codes "main"); definition = definition.Function (record { parameters = ([]); body = (Return (Handle (codes "one") NoExprs (codes "h") ((int 10) ⊕ NoExprs)) ⨟ Done) }) }
+      ∷ record { name = (codes "body"); definition = definition.Function (record { parameters = ([]); body = (Evaluate use_for.Print (Run (Do (codes "ask") NoExprs) (MoreOperands (Computes Add) (Do (codes "ask") NoExprs) NoOperands)) ⨟ Evaluate use_for.Return (int 7) ⨟ Done) }) }
+      ∷ record { name = (codes "go"); definition = definition.Function (record { parameters = (record { name = (codes "k"); ty = (Resumption (codes "h")) } ∷ record { name = (codes "n"); ty = Int } ∷ []); body = (If (Read (codes "n")) (Evaluate use_for.Return (Run (int 0) (MoreOperands (Computes Add) (Call (codes "go") ((Read (codes "k")) ⊕ ((Run (Read (codes "n")) (MoreOperands (Computes Subtract) (int 1) NoOperands)) ⊕ NoExprs))) NoOperands)) ⨟ Done) (Done) ⨟ Evaluate use_for.Return (Resume (codes "k") (Read (codes "n")) ((Read (codes "n")) ⊕ NoExprs)) ⨟ Done) }) }
+      ∷ record { name = (codes "one"); definition = definition.Function (record { parameters = ([]); body = (Evaluate use_for.Return (Do (codes "ask") NoExprs) ⨟ Done) }) }
+      ∷ record { name = (codes "h"); definition = definition.Handler (record { parameters = (record { name = (codes "s"); ty = Int } ∷ []); return_clause = record { value = (codes "x"); body = (Evaluate use_for.Return (Run (Read (codes "x")) (MoreOperands (Computes Add) (Read (codes "s")) NoOperands)) ⨟ Done) }; clauses = (record { effect = (codes "ask"); arguments = ([]); resumption = (codes "k"); body = (Evaluate (use_for.Let (codes "a")) (Resume (codes "k") (Read (codes "s")) ((Read (codes "s")) ⊕ NoExprs)) ⨟ Evaluate use_for.Return (Run (int 0) (MoreOperands (Computes Add) (Call (codes "go") ((Read (codes "k")) ⊕ ((int 7) ⊕ NoExprs))) NoOperands)) ⨟ Done) } ∷ []) }) }
+      ∷ record { name = (codes "main"); definition = definition.Function (record { parameters = ([]); body = (Evaluate use_for.Return (Handle (codes "one") NoExprs (codes "h") ((int 10) ⊕ NoExprs)) ⨟ Done) }) }
       ∷ [];
 }
 
@@ -442,10 +443,10 @@ unfoldable ticks : Script
 ticks = record {
   declarations =
       record { name = (codes "tick"); definition = effect_of_1 }
-      ∷ record { name = (codes "task"); definition = definition.Function (record { parameters = (record { name = (codes "id"); ty = Int } ∷ record { name = (codes "n"); ty = Int } ∷ []); body = (Let (codes "i") (int 0) ⨟ While (Run (Read (codes "i")) (MoreOperands (Compares Less) (Read (codes "n")) NoOperands)) (Evaluate (Do (codes "tick") ((Read (codes "id")) ⊕ NoExprs)) ⨟ Assign (codes "i") (Run (Read (codes "i")) (MoreOperands (Computes Add) (int 1) NoOperands)) ⨟ Done) ⨟ Return (int 0) ⨟ Done) }) }
-      ∷ record { name = (codes "count"); definition = definition.Handler (record { parameters = (record { name = (codes "ticks"); ty = Int } ∷ record { name = (codes "total"); ty = Int } ∷ []); return_clause = record { value = (codes "x"); body = (Print (Read (codes "ticks")) ⨟ Return (Read (codes "total")) ⨟ Done) }; clauses = (record { effect = (codes "tick"); arguments = ((codes "w") ∷ []); resumption = (codes "k"); body = (Return (Resume (codes "k") (int 0) ((Run (Read (codes "ticks")) (MoreOperands (Computes Add) (int 1) NoOperands)) ⊕ ((Run (Read (codes "total")) (MoreOperands (Computes Add) (Read (codes "w")) NoOperands)) ⊕ NoExprs))) ⨟ Done) } ∷ []) }) }
-      ∷ record { name = (codes "all"); definition = definition.Function (record { parameters = ([]); body = (Evaluate (Call (codes "task") ((int 1) ⊕ ((int 3) ⊕ NoExprs))) ⨟ Done) }) }
-      ∷ record { name = (codes "main"); definition = definition.Function (record { parameters = ([]); body = (Print (int 1) ⨟ Return (Handle (codes "all") NoExprs (codes "count") ((int 0) ⊕ ((int 0) ⊕ NoExprs))) ⨟ Done) }) }
+      ∷ record { name = (codes "task"); definition = definition.Function (record { parameters = (record { name = (codes "id"); ty = Int } ∷ record { name = (codes "n"); ty = Int } ∷ []); body = (Evaluate (use_for.Let (codes "i")) (int 0) ⨟ While (Run (Read (codes "i")) (MoreOperands (Compares Less) (Read (codes "n")) NoOperands)) (Evaluate use_for.Drop (Do (codes "tick") ((Read (codes "id")) ⊕ NoExprs)) ⨟ Evaluate (use_for.Assign (codes "i")) (Run (Read (codes "i")) (MoreOperands (Computes Add) (int 1) NoOperands)) ⨟ Done) ⨟ Evaluate use_for.Return (int 0) ⨟ Done) }) }
+      ∷ record { name = (codes "count"); definition = definition.Handler (record { parameters = (record { name = (codes "ticks"); ty = Int } ∷ record { name = (codes "total"); ty = Int } ∷ []); return_clause = record { value = (codes "x"); body = (Evaluate use_for.Print (Read (codes "ticks")) ⨟ Evaluate use_for.Return (Read (codes "total")) ⨟ Done) }; clauses = (record { effect = (codes "tick"); arguments = ((codes "w") ∷ []); resumption = (codes "k"); body = (Evaluate use_for.Return (Resume (codes "k") (int 0) ((Run (Read (codes "ticks")) (MoreOperands (Computes Add) (int 1) NoOperands)) ⊕ ((Run (Read (codes "total")) (MoreOperands (Computes Add) (Read (codes "w")) NoOperands)) ⊕ NoExprs))) ⨟ Done) } ∷ []) }) }
+      ∷ record { name = (codes "all"); definition = definition.Function (record { parameters = ([]); body = (Evaluate use_for.Drop (Call (codes "task") ((int 1) ⊕ ((int 3) ⊕ NoExprs))) ⨟ Done) }) }
+      ∷ record { name = (codes "main"); definition = definition.Function (record { parameters = ([]); body = (Evaluate use_for.Print (int 1) ⨟ Evaluate use_for.Return (Handle (codes "all") NoExprs (codes "count") ((int 0) ⊕ ((int 0) ⊕ NoExprs))) ⨟ Done) }) }
       ∷ [];
 }
 
@@ -478,11 +479,11 @@ another_handler = record {
   declarations =
       record { name = (codes "a"); definition = effect_of_0 }
       ∷ record { name = (codes "b"); definition = effect_of_0 }
-      ∷ record { name = (codes "f"); definition = definition.Function (record { parameters = ([]); body = (Return (Run (Do (codes "a") NoExprs) (MoreOperands (Computes Add) (int 1) NoOperands)) ⨟ Done) }) }
-      ∷ record { name = (codes "f2"); definition = definition.Function (record { parameters = ([]); body = (Return (Run (Do (codes "b") NoExprs) (MoreOperands (Computes Add) (int 2) NoOperands)) ⨟ Done) }) }
-      ∷ record { name = (codes "h"); definition = definition.Handler (record { parameters = ([]); return_clause = record { value = (codes "x"); body = (Return (Run (Read (codes "x")) (MoreOperands (Computes Add) (int 10) NoOperands)) ⨟ Done) }; clauses = (record { effect = (codes "a"); arguments = ([]); resumption = (codes "k"); body = (Return (Handle (codes "f2") NoExprs (codes "g") ((Read (codes "k")) ⊕ NoExprs)) ⨟ Done) } ∷ []) }) }
-      ∷ record { name = (codes "g"); definition = definition.Handler (record { parameters = (record { name = (codes "k"); ty = (Resumption (codes "h")) } ∷ []); return_clause = record { value = (codes "x"); body = (Return (Run (Read (codes "x")) (MoreOperands (Computes Add) (int 100) NoOperands)) ⨟ Done) }; clauses = (record { effect = (codes "b"); arguments = ([]); resumption = (codes "j"); body = (Return (Resume (codes "k") (int 1) NoExprs) ⨟ Done) } ∷ []) }) }
-      ∷ record { name = (codes "main"); definition = definition.Function (record { parameters = ([]); body = (Return (Handle (codes "f") NoExprs (codes "h") NoExprs) ⨟ Done) }) }
+      ∷ record { name = (codes "f"); definition = definition.Function (record { parameters = ([]); body = (Evaluate use_for.Return (Run (Do (codes "a") NoExprs) (MoreOperands (Computes Add) (int 1) NoOperands)) ⨟ Done) }) }
+      ∷ record { name = (codes "f2"); definition = definition.Function (record { parameters = ([]); body = (Evaluate use_for.Return (Run (Do (codes "b") NoExprs) (MoreOperands (Computes Add) (int 2) NoOperands)) ⨟ Done) }) }
+      ∷ record { name = (codes "h"); definition = definition.Handler (record { parameters = ([]); return_clause = record { value = (codes "x"); body = (Evaluate use_for.Return (Run (Read (codes "x")) (MoreOperands (Computes Add) (int 10) NoOperands)) ⨟ Done) }; clauses = (record { effect = (codes "a"); arguments = ([]); resumption = (codes "k"); body = (Evaluate use_for.Return (Handle (codes "f2") NoExprs (codes "g") ((Read (codes "k")) ⊕ NoExprs)) ⨟ Done) } ∷ []) }) }
+      ∷ record { name = (codes "g"); definition = definition.Handler (record { parameters = (record { name = (codes "k"); ty = (Resumption (codes "h")) } ∷ []); return_clause = record { value = (codes "x"); body = (Evaluate use_for.Return (Run (Read (codes "x")) (MoreOperands (Computes Add) (int 100) NoOperands)) ⨟ Done) }; clauses = (record { effect = (codes "b"); arguments = ([]); resumption = (codes "j"); body = (Evaluate use_for.Return (Resume (codes "k") (int 1) NoExprs) ⨟ Done) } ∷ []) }) }
+      ∷ record { name = (codes "main"); definition = definition.Function (record { parameters = ([]); body = (Evaluate use_for.Return (Handle (codes "f") NoExprs (codes "h") NoExprs) ⨟ Done) }) }
       ∷ [];
 }
 
@@ -513,8 +514,8 @@ another_handler-kept = refl
 unfoldable connectives : Script
 connectives = record {
   declarations =
-      record { name = (codes "t"); definition = definition.Function (record { parameters = (record { name = (codes "x"); ty = Int } ∷ []); body = (Print (Read (codes "x")) ⨟ Return (Read (codes "x")) ⨟ Done) }) }
-      ∷ record { name = (codes "main"); definition = definition.Function (record { parameters = ([]); body = (Print (Run (Call (codes "t") ((int 0) ⊕ NoExprs)) (MoreOperands (Connects And) (Call (codes "t") ((int 1) ⊕ NoExprs)) NoOperands)) ⨟ Print (Run (Call (codes "t") ((int 2) ⊕ NoExprs)) (MoreOperands (Connects And) (Call (codes "t") ((int 3) ⊕ NoExprs)) (MoreOperands (Connects And) (Call (codes "t") ((int 0) ⊕ NoExprs)) (MoreOperands (Connects And) (Call (codes "t") ((int 9) ⊕ NoExprs)) NoOperands)))) ⨟ Print (Run (Call (codes "t") ((int 0) ⊕ NoExprs)) (MoreOperands (Connects Or) (Call (codes "t") ((int 4) ⊕ NoExprs)) NoOperands)) ⨟ Print (Run (Call (codes "t") ((int 5) ⊕ NoExprs)) (MoreOperands (Connects Or) (Call (codes "t") ((int 6) ⊕ NoExprs)) NoOperands)) ⨟ Print (Run (int 1) (MoreOperands (Connects And) (Run (int 0) (MoreOperands (Connects Or) (int 7) NoOperands)) NoOperands)) ⨟ Return (Run (Unary Not (int 3)) (MoreOperands (Computes Add) (Unary Minus (int 2)) NoOperands)) ⨟ Done) }) }
+      record { name = (codes "t"); definition = definition.Function (record { parameters = (record { name = (codes "x"); ty = Int } ∷ []); body = (Evaluate use_for.Print (Read (codes "x")) ⨟ Evaluate use_for.Return (Read (codes "x")) ⨟ Done) }) }
+      ∷ record { name = (codes "main"); definition = definition.Function (record { parameters = ([]); body = (Evaluate use_for.Print (Run (Call (codes "t") ((int 0) ⊕ NoExprs)) (MoreOperands (Connects And) (Call (codes "t") ((int 1) ⊕ NoExprs)) NoOperands)) ⨟ Evaluate use_for.Print (Run (Call (codes "t") ((int 2) ⊕ NoExprs)) (MoreOperands (Connects And) (Call (codes "t") ((int 3) ⊕ NoExprs)) (MoreOperands (Connects And) (Call (codes "t") ((int 0) ⊕ NoExprs)) (MoreOperands (Connects And) (Call (codes "t") ((int 9) ⊕ NoExprs)) NoOperands)))) ⨟ Evaluate use_for.Print (Run (Call (codes "t") ((int 0) ⊕ NoExprs)) (MoreOperands (Connects Or) (Call (codes "t") ((int 4) ⊕ NoExprs)) NoOperands)) ⨟ Evaluate use_for.Print (Run (Call (codes "t") ((int 5) ⊕ NoExprs)) (MoreOperands (Connects Or) (Call (codes "t") ((int 6) ⊕ NoExprs)) NoOperands)) ⨟ Evaluate use_for.Print (Run (int 1) (MoreOperands (Connects And) (Run (int 0) (MoreOperands (Connects Or) (int 7) NoOperands)) NoOperands)) ⨟ Evaluate use_for.Return (Run (Unary Not (int 3)) (MoreOperands (Computes Add) (Unary Minus (int 2)) NoOperands)) ⨟ Done) }) }
       ∷ [];
 }
 

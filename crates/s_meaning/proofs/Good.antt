@@ -1,5 +1,5 @@
 -- A script that breaks no rule is typed.
-use Rattle.std.proofs.Common.{◌≡◌, ℕ, zero, suc, nat_lt, nat_eq, Bool, true, false, not, ◌&&◌, List, [], ◌∷◌, ◌++◌, length, map, codes, Option, Some, None, is_some, if◌then◌else◌, refl, sym, ap, ◌∙◌, subst, arith, append-nil}
+use Rattle.std.proofs.Common.{◌≡◌, inl, inr, ℕ, zero, suc, nat_lt, nat_eq, Bool, true, false, not, ◌&&◌, List, [], ◌∷◌, ◌++◌, length, map, codes, Option, Some, None, is_some, if◌then◌else◌, refl, sym, ap, ◌∙◌, subst, arith, append-nil}
 use Rattle.std.proofs.lemmas.Bool.Decides.{Decides-eqb}
 use Rattle.std.specs.Str.{bytes_eq}
 use Rattle.s_syntax.specs.declared.name.Name.{Name}
@@ -14,7 +14,8 @@ use Rattle.s_syntax.specs.declared.script.Definition.TheVariants as definition
 use Rattle.s_syntax.specs.declared.script.Declaration.{Declaration}
 use Rattle.s_syntax.specs.declared.script.Script.{Script}
 use Rattle.s_syntax.specs.ExprTree.{ExprTree, Literal, Read, Unary, Run, Call, Do, Handle, Resume, Exprs, NoExprs, MoreExprs, Operands, NoOperands, MoreOperands}
-use Rattle.s_syntax.specs.BlockTree.{Let, Assign, If, While, Print, Return, Fail, Evaluate, BlockTree, Done, ◌⨟◌}
+use Rattle.s_syntax.specs.declared.statement.Use.TheVariants as use_for
+use Rattle.s_syntax.specs.BlockTree.{Evaluate, If, While, Fail, BlockTree, Done, ◌⨟◌}
 use Rattle.s_check.specs.declared.rule.Rule.{Rule}
 use Rattle.s_check.specs.declared.rule.Rule.TheVariants as rule
 use Rattle.s_check.specs.Definitions.{definition_of, as_function, as_handler, function_of, handler_of, effect_of}
@@ -22,9 +23,9 @@ use Rattle.s_check.specs.Scopes.{Bound, Scope, type_in, bind, bind_all, number a
 use Rattle.s_check.specs.Rules.{when, is_resumption, is_resumption_of, suits, all_suit, count, against, for_function, for_effect, for_handler, for_resumed, for_handler_of_type, in_name, in_expr, in_exprs, in_operands, in_target, in_block, in_body, in_type, in_types, in_parameters, in_head, in_clauses, in_header, in_bodies, in_definition, in_declarations, is_main, in_main, broken_rules}
 use Rattle.s_check.specs.Refusal.{first, Has, Good}
 use Rattle.s_meaning.specs.Steps.{clause_of}
-use Rattle.s_meaning.specs.Typing.{kinds, numbers, ExprTyped, OperandsTyped, ArgsTyped, literal, read, unary, run, call, does, handle, resume, no_more, next, no_args, number, resumption, IsFree, BlockTyped, done, lets, assigns, ifs, whiles, prints, returns, drops, fails, ClauseTyped, ScriptTyped}
-use Rattle.s_meaning.proofs.Scopes.{same_is, same_refl, bool_of, more_block}
-use Rattle.s_meaning.proofs.BoundInTurn.{extends_agree, starts_agree, let_agrees, res_before, or_left, or_right, among_left, among_right, twice_of, type_among}
+use Rattle.s_meaning.specs.Typing.{kinds, numbers, ExprTyped, OperandsTyped, ArgsTyped, literal, read, unary, run, call, does, handle, resume, no_more, next, no_args, number, resumption, Fits, lets, assigns, prints, returns, drops, evaluates, ifs, whiles, fails, BlockTyped, done, statement, ClauseTyped, ScriptTyped}
+use Rattle.s_meaning.proofs.Scopes.{same_is, same_refl, bool_of, same_block}
+use Rattle.s_meaning.proofs.BoundInTurn.{starts_agree, bound_agrees, type_behind, or_left, or_right, among_left, among_right, twice_of, type_among}
 
 -- ## No rule
 
@@ -178,14 +179,22 @@ module _ (p : Script) (Γ : Scope) (handlers : (x h : Name) → type_in Γ x ≡
 
 bound : (ds : List Declaration) (Γ : Scope) (x : Name) → Handlers ds Γ → Handlers ds (bind (number_name x) Γ)
 unfolding Handlers
-bound ds Γ x hs y h e = hs y h (res_before x y h Γ e)
+bound ds Γ x hs y h e = elim (type_behind (number_name x) y Γ (Resumption h) e) [
+  | inl old ↦ hs y h old
+  | inr new ↦ absurd (cc new)
+]
 
--- the names that are bound later have no res type
+-- each name that is bound later may be bound as a number already here
 Later : List Name → Scope → Type 0
-Later xs Γ = (x : Name) → is_among xs x ≡ true → IsFree x Γ
+Later xs Γ = (x : Name) → is_among xs x ≡ true → Fits x Int Γ
 
-free_more : (x y : Name) (Γ : Scope) → IsFree y Γ → IsFree y (bind (number_name x) Γ)
-free_more x y Γ f = record { free = λ h e. f.free h (res_before x y h Γ e) }
+fits_behind : (x y : Name) (Γ : Scope) → Fits y Int Γ → Fits y Int (bind (number_name x) Γ)
+fits_behind x y Γ f = record {
+  fits = λ k e. elim (type_behind (number_name x) y Γ k e) [
+    | inl old ↦ f.fits k old
+    | inr new ↦ sym new
+  ];
+}
 
 expr_typed : (p : Script) (Γ : Scope) → Handlers p.declarations Γ → (e : ExprTree) → in_expr p.declarations Γ false e ≡ [] → ExprTyped p Γ e
 unfolding Handlers
@@ -196,33 +205,34 @@ mutual
 
   block_typed : (p : Script) (Γ : Scope) (b : BlockTree) → Handlers p.declarations Γ → Later (lets_in b) Γ → in_block p.declarations Γ b ≡ [] → BlockTyped p Γ b
   block_typed p Γ Done hs l q = done
-  block_typed p Γ (Let x e ⨟ b) hs l q =
+  block_typed p Γ (Evaluate (use_for.Let x) e ⨟ b) hs l q =
       let t = parts (in_expr p.declarations Γ false e) (in_block p.declarations (bind (number_name x) Γ) b) q in
-      let free = l x (or_left (bytes_eq x x) (is_among (lets_in b) x) (same_refl x)) in
-      lets (expr_typed p Γ hs e t.0) free
-      (more_block (extends_agree (let_agrees x Γ free))
-      (block_typed p (bind (number_name x) Γ) b (bound p.declarations Γ x hs) (λ y i. free_more x y Γ (l y (or_right (bytes_eq x y) (is_among (lets_in b) y) i))) t.1))
-  block_typed p Γ (Assign x e ⨟ b) hs l q =
+      let fit = l x (or_left (bytes_eq x x) (is_among (lets_in b) x) (same_refl x)) in
+      statement (evaluates (expr_typed p Γ hs e t.0) (lets fit))
+      (same_block (bound_agrees (number_name x) Γ fit)
+      (block_typed p (bind (number_name x) Γ) b (bound p.declarations Γ x hs) (λ y i. fits_behind x y Γ (l y (or_right (bytes_eq x y) (is_among (lets_in b) y) i))) t.1))
+  block_typed p Γ (Evaluate (use_for.Assign x) e ⨟ b) hs l q =
       let t = parts (in_target (type_in Γ x) ++ in_expr p.declarations Γ false e) (in_block p.declarations Γ b) q in
       let u = parts (in_target (type_in Γ x)) (in_expr p.declarations Γ false e) t.0 in
-      assigns (expr_typed p Γ hs e u.1) (assigned (type_in Γ x) u.0) (block_typed p Γ b hs l t.1)
+      statement (evaluates (expr_typed p Γ hs e u.1) (assigns (assigned (type_in Γ x) u.0))) (block_typed p Γ b hs l t.1)
   block_typed p Γ (If e b c ⨟ d) hs l q =
       let t = parts (in_expr p.declarations Γ false e ++ (in_block p.declarations Γ b ++ in_block p.declarations Γ c)) (in_block p.declarations Γ d) q in
       let u = parts (in_expr p.declarations Γ false e) (in_block p.declarations Γ b ++ in_block p.declarations Γ c) t.0 in
       let v = parts (in_block p.declarations Γ b) (in_block p.declarations Γ c) u.1 in
-      ifs (expr_typed p Γ hs e u.0)
+      statement
+      (ifs (expr_typed p Γ hs e u.0)
       (block_typed p Γ b hs (λ y i. l y (among_left y (lets_in b ++ lets_in c) (lets_in d) (among_left y (lets_in b) (lets_in c) i))) v.0)
-      (block_typed p Γ c hs (λ y i. l y (among_left y (lets_in b ++ lets_in c) (lets_in d) (among_right y (lets_in b) (lets_in c) i))) v.1)
+      (block_typed p Γ c hs (λ y i. l y (among_left y (lets_in b ++ lets_in c) (lets_in d) (among_right y (lets_in b) (lets_in c) i))) v.1))
       (block_typed p Γ d hs (λ y i. l y (among_right y (lets_in b ++ lets_in c) (lets_in d) i)) t.1)
   block_typed p Γ (While e b ⨟ d) hs l q =
       let t = parts (in_expr p.declarations Γ false e ++ in_block p.declarations Γ b) (in_block p.declarations Γ d) q in
       let v = parts (in_expr p.declarations Γ false e) (in_block p.declarations Γ b) t.0 in
-      whiles (expr_typed p Γ hs e v.0) (block_typed p Γ b hs (λ y i. l y (among_left y (lets_in b) (lets_in d) i)) v.1)
+      statement (whiles (expr_typed p Γ hs e v.0) (block_typed p Γ b hs (λ y i. l y (among_left y (lets_in b) (lets_in d) i)) v.1))
       (block_typed p Γ d hs (λ y i. l y (among_right y (lets_in b) (lets_in d) i)) t.1)
-  block_typed p Γ (Print e ⨟ b) hs l q = let t = parts (in_expr p.declarations Γ false e) (in_block p.declarations Γ b) q in prints (expr_typed p Γ hs e t.0) (block_typed p Γ b hs l t.1)
-  block_typed p Γ (Return e ⨟ b) hs l q = let t = parts (in_expr p.declarations Γ false e) (in_block p.declarations Γ b) q in returns (expr_typed p Γ hs e t.0) (block_typed p Γ b hs l t.1)
-  block_typed p Γ (Evaluate e ⨟ b) hs l q = let t = parts (in_expr p.declarations Γ false e) (in_block p.declarations Γ b) q in drops (expr_typed p Γ hs e t.0) (block_typed p Γ b hs l t.1)
-  block_typed p Γ (Fail ⨟ b) hs l q = fails (block_typed p Γ b hs l q)
+  block_typed p Γ (Evaluate use_for.Print e ⨟ b) hs l q = let t = parts (in_expr p.declarations Γ false e) (in_block p.declarations Γ b) q in statement (evaluates (expr_typed p Γ hs e t.0) prints) (block_typed p Γ b hs l t.1)
+  block_typed p Γ (Evaluate use_for.Return e ⨟ b) hs l q = let t = parts (in_expr p.declarations Γ false e) (in_block p.declarations Γ b) q in statement (evaluates (expr_typed p Γ hs e t.0) returns) (block_typed p Γ b hs l t.1)
+  block_typed p Γ (Evaluate use_for.Drop e ⨟ b) hs l q = let t = parts (in_expr p.declarations Γ false e) (in_block p.declarations Γ b) q in statement (evaluates (expr_typed p Γ hs e t.0) drops) (block_typed p Γ b hs l t.1)
+  block_typed p Γ (Fail ⨟ b) hs l q = statement fails (block_typed p Γ b hs l q)
 
 -- ## Bodies
 
@@ -235,8 +245,8 @@ body_typed p bs b hs q =
     let t = parts (when (some_twice [] (names bs ++ lets_in b)) rule.NameBoundTwice) (in_block p.declarations (bind_all bs []) b) q in
     let once : some_twice [] (names bs ++ lets_in b) ≡ false = when_not (some_twice [] (names bs ++ lets_in b)) rule.NameBoundTwice t.0 in
     let agree = starts_agree bs in
-    more_block (extends_agree agree) (block_typed p (bind_all bs []) b (λ x h e. hs x h (sym (agree.type_of x) ∙ e))
-    (λ x i. record { free = λ h e. absurd (let r = twice_of x [] (names bs) (lets_in b) (type_among x (Resumption h) bs (sym (agree.type_of x) ∙ e)) i in cc (r, once)) }) t.1)
+    same_block agree (block_typed p (bind_all bs []) b (λ x h e. hs x h (sym (agree.type_of x) ∙ e))
+    (λ x i. record { fits = λ k e. absurd (let r = twice_of x [] (names bs) (lets_in b) (type_among x k bs (sym (agree.type_of x) ∙ e)) i in cc (r, once)) }) t.1)
 
 data Handled (ds : List Declaration) : Scope → Type 0 where
   no_names : Handled ds []

@@ -1,14 +1,15 @@
--- Names, and what is bound.
-use Rattle.std.proofs.Common.{◌≡◌, ◌≢◌, Bool, true, false, ◌∷◌, Some, if◌then◌else◌, refl, sym, ap, ◌∙◌}
+-- Names, and what is bound: typed blocks in scopes that agree, and what is left to run of a body.
+use Rattle.std.proofs.Common.{◌≡◌, Bool, true, false, ◌∷◌, Option, Some, if◌then◌else◌, refl, sym, ap, ◌∙◌}
 use Rattle.std.proofs.lemmas.Slice.Eq.{bytes_eq-Decides}
 use Rattle.std.specs.Str.{bytes_eq}
 use Rattle.s_syntax.specs.declared.name.Name.{Name}
 use Rattle.s_syntax.specs.declared.script.VariableType.{VariableType}
-use Rattle.s_syntax.specs.declared.script.VariableType.TheVariants.{Int, Resumption}
-use Rattle.s_syntax.specs.BlockTree.{BlockTree}
+use Rattle.s_syntax.specs.declared.statement.Use.{Use as ValueUse}
+use Rattle.s_syntax.specs.BlockTree.{StatementTree, BlockTree}
 use Rattle.s_syntax.specs.declared.script.Script.{Script}
-use Rattle.s_check.specs.Scopes.{Scope, type_in, number as number_name}
-use Rattle.s_meaning.specs.Typing.{ExprTyped, OperandsTyped, ArgsTyped, literal, read, unary, run, call, does, handle, resume, no_more, next, no_args, number, resumption, IsFree, BlockTyped, done, lets, assigns, ifs, whiles, prints, returns, drops, fails}
+use Rattle.s_check.specs.Scopes.{Bound, Scope, type_in, number as number_name}
+use Rattle.s_meaning.specs.Typing.{ExprTyped, OperandsTyped, ArgsTyped, literal, read, unary, run, call, does, handle, resume, no_more, next, no_args, number, resumption, Fits, ValueUseTyped, lets, assigns, prints, returns, drops, StatementTyped, evaluates, ifs, whiles, fails, BlockTyped, done, statement}
+use Rattle.s_meaning.specs.Typed.{Keeps, RestTyped, ends, begins, behind}
 use Rattle.s_meaning.specs.Steps.{◌⨟⨟◌}
 
 pub same_is : (x y : Name) → bytes_eq y x ≡ true → x ≡ y
@@ -17,81 +18,91 @@ same_is x y e = sym ((bytes_eq-Decides y x).0 e)
 pub same_refl : (x : Name) → bytes_eq x x ≡ true
 same_refl x = (bytes_eq-Decides x x).1 refl
 
--- ## More names bound
-
--- what is bound stays so, and no name comes to have a res type
-pub record Extends (Γ Γ' : Scope) : Type 0 where
-  pub keeps : (x : Name) (k : VariableType) → type_in Γ x ≡ Some k → type_in Γ' x ≡ Some k
-  pub frees : (x : Name) → IsFree x Γ → IsFree x Γ'
-
 pub bool_of : (b : Bool) (P : Bool → Type 0) → (b ≡ true → P true) → (b ≡ false → P false) → P b
 bool_of true P yes' no' = yes' refl
 bool_of false P yes' no' = no' refl
 
-kept_kind : (x y : Name) (Γ : Scope) (k : VariableType) → IsFree x Γ → type_in Γ y ≡ Some k → bytes_eq x y ≡ true → k ≡ Int
-kept_kind x y Γ Int free e q = refl
-kept_kind x y Γ (Resumption h) free e q = absurd (free.free h (ap (λ (z : Name). type_in Γ z) (sym (same_is y x q)) ∙ e))
+-- ## Scopes that agree
 
-pub extends_int : (x : Name) (Γ : Scope) → IsFree x Γ → Extends Γ (number_name x ∷ Γ)
-extends_int x Γ free = record { keeps = keeps; frees = frees }
-  where
-    keeps : (y : Name) (k : VariableType) → type_in Γ y ≡ Some k → type_in (number_name x ∷ Γ) y ≡ Some k
-    keeps y k e = bool_of (bytes_eq x y) (λ b. (if b then Some Int else type_in Γ y) ≡ Some k) (λ q. ap Some (sym (kept_kind x y Γ k free e q))) (λ q. e)
+-- each name has the same type in both
+pub record Agree (Γ Γ' : Scope) : Type 0 where
+  pub type_of : (y : Name) → type_in Γ y ≡ type_in Γ' y
 
-    frees : (y : Name) → IsFree y Γ → IsFree y (number_name x ∷ Γ)
-    frees y f = record { free = λ h. bool_of (bytes_eq x y) (λ b. (if b then Some Int else type_in Γ y) ≢ Some (Resumption h)) (λ q e. cc e) (λ q e. f.free h e) }
-
-pub extends_more : (x : Name) {Γ Γ' : Scope} → Extends Γ Γ' → Extends (number_name x ∷ Γ) (number_name x ∷ Γ')
-extends_more x {Γ} {Γ'} m = record { keeps = keeps; frees = frees }
-  where
-    keeps : (y : Name) (k : VariableType) → type_in (number_name x ∷ Γ) y ≡ Some k → type_in (number_name x ∷ Γ') y ≡ Some k
-    keeps y k = bool_of (bytes_eq x y) (λ b. (if b then Some Int else type_in Γ y) ≡ Some k → (if b then Some Int else type_in Γ' y) ≡ Some k) (λ q e. e) (λ q e. m.keeps y k e)
-
-    frees : (y : Name) → IsFree y (number_name x ∷ Γ) → IsFree y (number_name x ∷ Γ')
-    frees y f = record { free = λ h. bool_of (bytes_eq x y) (λ b. (if b then Some Int else type_in Γ' y) ≢ Some (Resumption h)) (λ q e. cc e) (λ q e. (m.frees y (outside q)).free h e) }
-      where
-        outside : bytes_eq x y ≡ false → IsFree y Γ
-        outside q = record { free = λ h e. f.free h (ap (λ (b : Bool). if b then Some Int else type_in Γ y) q ∙ e) }
+agree_more : {Γ Γ' : Scope} (b : Bound) → Agree Γ Γ' → Agree (b ∷ Γ) (b ∷ Γ')
+agree_more b m = record { type_of = λ y. ap (λ (o : Option VariableType). if bytes_eq b.name y then Some b.ty else o) (m.type_of y) }
 
 mutual
-  pub more_expr : {p : Script} {Γ Γ' : Scope} {e : _} → Extends Γ Γ' → ExprTyped p Γ e → ExprTyped p Γ' e
-  more_expr m literal = literal
-  more_expr m (read {x = x} k) = read (m.keeps x Int k)
-  more_expr m (unary t) = unary (more_expr m t)
-  more_expr m (run t ts) = run (more_expr m t) (more_operands m ts)
-  more_expr m (call f ts) = call f (more_args m ts)
-  more_expr m (does op ts) = does op (more_args m ts)
-  more_expr m (handle f h ts us) = handle f h (more_args m ts) (more_args m us)
-  more_expr m (resume {k = k} {h = h} q i t us) = resume (m.keeps k (Resumption h) q) i (more_expr m t) (more_args m us)
+  same_expr : {p : Script} {Γ Γ' : Scope} {e : _} → Agree Γ Γ' → ExprTyped p Γ e → ExprTyped p Γ' e
+  same_expr m literal = literal
+  same_expr m (read {x = x} k) = read (sym (m.type_of x) ∙ k)
+  same_expr m (unary t) = unary (same_expr m t)
+  same_expr m (run t ts) = run (same_expr m t) (same_operands m ts)
+  same_expr m (call f ts) = call f (same_args m ts)
+  same_expr m (does op ts) = does op (same_args m ts)
+  same_expr m (handle f h ts us) = handle f h (same_args m ts) (same_args m us)
+  same_expr m (resume {k = k} q i t us) = resume (sym (m.type_of k) ∙ q) i (same_expr m t) (same_args m us)
 
-  pub more_operands : {p : Script} {Γ Γ' : Scope} {es : _} → Extends Γ Γ' → OperandsTyped p Γ es → OperandsTyped p Γ' es
-  more_operands m no_more = no_more
-  more_operands m (next t ts) = next (more_expr m t) (more_operands m ts)
+  same_operands : {p : Script} {Γ Γ' : Scope} {es : _} → Agree Γ Γ' → OperandsTyped p Γ es → OperandsTyped p Γ' es
+  same_operands m no_more = no_more
+  same_operands m (next t ts) = next (same_expr m t) (same_operands m ts)
 
-  pub more_args : {p : Script} {Γ Γ' : Scope} {ks : _} {es : _} → Extends Γ Γ' → ArgsTyped p Γ ks es → ArgsTyped p Γ' ks es
-  more_args m no_args = no_args
-  more_args m (number t ts) = number (more_expr m t) (more_args m ts)
-  more_args m (resumption {x = x} {h = h} q ts) = resumption (m.keeps x (Resumption h) q) (more_args m ts)
+  same_args : {p : Script} {Γ Γ' : Scope} {ks : _} {es : _} → Agree Γ Γ' → ArgsTyped p Γ ks es → ArgsTyped p Γ' ks es
+  same_args m no_args = no_args
+  same_args m (number t ts) = number (same_expr m t) (same_args m ts)
+  same_args m (resumption {x = x} q ts) = resumption (sym (m.type_of x) ∙ q) (same_args m ts)
 
-pub more_block : {p : Script} {Γ Γ' : Scope} {b : BlockTree} → Extends Γ Γ' → BlockTyped p Γ b → BlockTyped p Γ' b
-more_block m done = done
-more_block m (lets {x = x} t f b) = lets (more_expr m t) (m.frees x f) (more_block (extends_more x m) b)
-more_block m (assigns {x = x} t k b) = assigns (more_expr m t) (m.keeps x Int k) (more_block m b)
-more_block m (ifs t b c d) = ifs (more_expr m t) (more_block m b) (more_block m c) (more_block m d)
-more_block m (whiles t b d) = whiles (more_expr m t) (more_block m b) (more_block m d)
-more_block m (prints t b) = prints (more_expr m t) (more_block m b)
-more_block m (returns t b) = returns (more_expr m t) (more_block m b)
-more_block m (drops t b) = drops (more_expr m t) (more_block m b)
-more_block m (fails b) = fails (more_block m b)
+-- a use in a scope that agrees, and what is bound behind it
+record UsedAlike (Γ' : Scope) (u : ValueUse) (Δ : Scope) : Type 0 where
+  after : Scope
+  agree : Agree Δ after
+  typed : ValueUseTyped Γ' u after
 
--- a block and then another
-pub then_typed : {p : Script} {Γ : Scope} {b d : BlockTree} → BlockTyped p Γ b → BlockTyped p Γ d → BlockTyped p Γ (b ⨟⨟ d)
+same_use : {Γ Γ' Δ : Scope} {u : ValueUse} → Agree Γ Γ' → ValueUseTyped Γ u Δ → UsedAlike Γ' u Δ
+same_use m (lets {x = x} f) = record { after = _; agree = agree_more (number_name x) m; typed = lets (record { fits = λ k e. f.fits k (m.type_of x ∙ e) }) }
+same_use m (assigns {x = x} k) = record { after = _; agree = m; typed = assigns (sym (m.type_of x) ∙ k) }
+same_use m prints = record { after = _; agree = m; typed = prints }
+same_use m returns = record { after = _; agree = m; typed = returns }
+same_use m drops = record { after = _; agree = m; typed = drops }
+
+pub same_block : {p : Script} {Γ Γ' : Scope} {b : BlockTree} → Agree Γ Γ' → BlockTyped p Γ b → BlockTyped p Γ' b
+same_block m done = done
+same_block m (statement (evaluates t u) b) = let r = same_use m u in statement (evaluates (same_expr m t) r.typed) (same_block r.agree b)
+same_block m (statement (ifs t b c) d) = statement (ifs (same_expr m t) (same_block m b) (same_block m c)) (same_block m d)
+same_block m (statement (whiles t b) d) = statement (whiles (same_expr m t) (same_block m b)) (same_block m d)
+same_block m (statement fails b) = statement fails (same_block m b)
+
+-- ## More names bound
+
+-- behind a name that fits
+pub keeps_bound : {x : Name} {t : VariableType} {Γ : Scope} → Fits x t Γ → Keeps Γ (record { name = x; ty = t } ∷ Γ)
+keeps_bound {x} {t} {Γ} f = record { keeps = keeps }
+  where
+    keeps : (y : Name) (k : VariableType) → type_in Γ y ≡ Some k → type_in (record { name = x; ty = t } ∷ Γ) y ≡ Some k
+    keeps y k e = bool_of (bytes_eq x y) (λ b. (if b then Some t else type_in Γ y) ≡ Some k)
+        (λ q. ap Some (sym (f.fits k (ap (λ (z : Name). type_in Γ z) (sym (same_is y x q)) ∙ e)))) (λ q. e)
+
+keeps_all : {Γ : Scope} → Keeps Γ Γ
+keeps_all = record { keeps = λ y k e. e }
+
+-- behind a statement
+statement_keeps : {p : Script} {Γ Γ' : Scope} {s : StatementTree} → StatementTyped p Γ s Γ' → Keeps Γ Γ'
+statement_keeps (evaluates t (lets f)) = keeps_bound f
+statement_keeps (evaluates t (assigns k)) = keeps_all
+statement_keeps (evaluates t prints) = keeps_all
+statement_keeps (evaluates t returns) = keeps_all
+statement_keeps (evaluates t drops) = keeps_all
+statement_keeps (ifs t b c) = keeps_all
+statement_keeps (whiles t b) = keeps_all
+statement_keeps fails = keeps_all
+
+-- ## What is left to run
+
+-- a block, and then a rest that sees what is bound before the block
+pub then_typed : {p : Script} {Γ : Scope} {b d : BlockTree} → BlockTyped p Γ b → RestTyped p Γ d → RestTyped p Γ (b ⨟⨟ d)
 then_typed done d = d
-then_typed {Γ = Γ} (lets {x = x} t f b) d = lets t f (then_typed b (more_block (extends_int x Γ f) d))
-then_typed (assigns t k b) d = assigns t k (then_typed b d)
-then_typed (ifs t b c e) d = ifs t b c (then_typed e d)
-then_typed (whiles t b e) d = whiles t b (then_typed e d)
-then_typed (prints t b) d = prints t (then_typed b d)
-then_typed (returns t b) d = returns t (then_typed b d)
-then_typed (drops t b) d = drops t (then_typed b d)
-then_typed (fails b) d = fails (then_typed b d)
+then_typed (statement s b) d = begins s (then_typed b (behind (statement_keeps s) d))
+
+-- a block and nothing else
+pub block_rest : {p : Script} {Γ : Scope} {b : BlockTree} → BlockTyped p Γ b → RestTyped p Γ b
+block_rest done = ends
+block_rest (statement s b) = begins s (block_rest b)

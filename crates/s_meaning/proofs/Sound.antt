@@ -11,13 +11,13 @@ use Rattle.s_syntax.specs.declared.script.Script.{Script}
 use Rattle.s_check.specs.Definitions.{handler_of, effect_of}
 use Rattle.s_check.specs.Scopes.{Scope, type_in}
 use Rattle.s_meaning.specs.Typing.{kinds, numbers, BlockTyped, ScriptTyped, ClauseTyped, whiles}
-use Rattle.s_meaning.proofs.Scopes.{bool_of, then_typed}
+use Rattle.s_meaning.proofs.Scopes.{bool_of, then_typed, block_rest}
 use Rattle.s_meaning.specs.Numbers.{Reused, Unhandled, Computed, Is, Faulty, operate, decided, holds, truth}
 use Rattle.s_meaning.specs.Terms.{Value, Number, Reference, Variable, Work, RightOf, Place, Activation, Handle, Context, Hole, Gives, Finds, Store, Configuration}
 use Rattle.s_meaning.specs.Focus.{Redex, left_of}
 use Rattle.s_meaning.specs.Steps.{clause_of, bind, number_parameters, Found, find, farther, with_clause, with_handler, with_kept, emptied as without, next_address, Around, whole, goes, goes_on, enters, leaves, resumes, applies, uses, rule, step_at, step, unless_faulty, or_fault, or_wrong}
 use Rattle.s_meaning.specs.Typed
-use Rattle.s_meaning.specs.Typed.{World, HasKind, int, reference, AllHave, none, more, Variable_typed, Covers, UseTyped, stores, chooses, turns, WorkTyped, HeadTyped, calling, doing, handling, resuming, tail_resuming, ContextTyped, nothing, activation, handle, HoleTyped, gives, finds, runs, TermTyped, in_activation, in_handle, EntryTyped, emptied, kept, StoreTyped, Typed}
+use Rattle.s_meaning.specs.Typed.{World, HasKind, int, reference, AllHave, none, more, Variable_typed, Covers, RestTyped, begins, UseTyped, stores, chooses, turns, WorkTyped, HeadTyped, calling, doing, handling, resuming, tail_resuming, ContextTyped, nothing, activation, handle, HoleTyped, gives, finds, runs, TermTyped, in_activation, in_handle, EntryTyped, emptied, kept, StoreTyped, Typed}
 use Rattle.s_meaning.specs.Laws.{StepGood, on, over, faulty}
 use Rattle.s_meaning.proofs.Lists.{get_before, get_last, get_appended, get_set, length_set}
 use Rattle.s_meaning.proofs.Variables.{covers_stored}
@@ -95,7 +95,7 @@ module _ (p : Script) (typed : ScriptTyped p) where
 
   enters_typed : {Ξ : World} {Γ : Scope} {vars : List Variable} {body : BlockTree} {owner : Option Name} {κ : Context} (σ : Store) → StoreTyped p Ξ σ.resumptions → Match Ξ Γ vars
       → BlockTyped p Γ body → ContextTyped p Ξ κ → StepGood p (enters σ body vars owner κ)
-  enters_typed {Ξ} σ s m b κ = on Ξ (record { store = s; term = in_activation (runs (match_covers m) b) κ })
+  enters_typed {Ξ} σ s m b κ = on Ξ (record { store = s; term = in_activation (runs (match_covers m) (block_rest b)) κ })
 
   whole_typed : {Ξ : World} {Γ : Scope} (e : Around) → Covers Ξ Γ e.variables → WorkTyped p Ξ Γ e.work Int → ContextTyped p Ξ e.outer → ContextTyped p Ξ (whole e)
   whole_typed e c w κ = activation c w κ
@@ -167,18 +167,18 @@ module _ (p : Script) (typed : ScriptTyped p) where
   applies_good e s c (resuming {k = k} q i w) vs κ = resumes_good e k s c q i vs (whole_typed e c w κ)
   applies_good e s c (tail_resuming {k = k} q i) vs κ = resumes_good e k s c q i vs κ
 
-  either_typed : {Γ : Scope} {b d : BlockTree} (h : Bool) → BlockTyped p Γ b → BlockTyped p Γ d → BlockTyped p Γ (if h then b else d)
-  either_typed true t u = t
-  either_typed false t u = u
+  either_typed : (P : BlockTree → Type 0) {b d : BlockTree} (h : Bool) → P b → P d → P (if h then b else d)
+  either_typed P true t u = t
+  either_typed P false t u = u
 
   uses_good : {Ξ : World} {Γ Γ' : Scope} {u : _} {v : Value} {rest : BlockTree} (e : Around) → StoreTyped p Ξ e.store.resumptions → Covers Ξ Γ e.variables → e.work ≡ []
-      → UseTyped p Γ u Γ' → BlockTyped p Γ' rest → HasKind Ξ v Int → ContextTyped p Ξ e.outer → StepGood p (uses e u v rest)
-  uses_good {Ξ} e s c w (stores {x = x} f) b (int {n = n}) κ = rw w (on Ξ (record { store = s; term = in_activation (runs (covers_stored x n c) b) κ }))
+      → UseTyped p Γ u Γ' → RestTyped p Γ' rest → HasKind Ξ v Int → ContextTyped p Ξ e.outer → StepGood p (uses e u v rest)
+  uses_good {Ξ} e s c w (stores {x = x}) b (int {n = n}) κ = rw w (on Ξ (record { store = s; term = in_activation (runs (covers_stored x n c) b) κ }))
   uses_good {Ξ} e s c w Typed.prints b int κ = rw w (on Ξ (record { store = s; term = in_activation (runs c b) κ }))
   uses_good {Ξ} e s c w Typed.drops b int κ = rw w (on Ξ (record { store = s; term = in_activation (runs c b) κ }))
   uses_good e s c w Typed.returns b t κ = leaves_good e.store e.outer s t κ
-  uses_good {Ξ} e s c w (chooses t u) b (int {n = n}) κ = rw w (on Ξ (record { store = s; term = in_activation (runs c (then_typed (either_typed (holds n) t u) b)) κ }))
-  uses_good {Ξ} e s c w (turns t u) b (int {n = n}) κ = rw w (on Ξ (record { store = s; term = in_activation (runs c (either_typed (holds n) (then_typed u (whiles t u b)) b)) κ }))
+  uses_good {Ξ} {Γ} e s c w (chooses t u) b (int {n = n}) κ = rw w (on Ξ (record { store = s; term = in_activation (runs c (then_typed (either_typed (BlockTyped p Γ) (holds n) t u) b)) κ }))
+  uses_good {Ξ} {Γ} e s c w (turns t u) b (int {n = n}) κ = rw w (on Ξ (record { store = s; term = in_activation (runs c (either_typed (RestTyped p Γ) (holds n) (then_typed u (begins (whiles t u) b)) b)) κ }))
 
   rule_good : {Ξ : World} {Γ : Scope} {r : Redex} (e : Around) → StoreTyped p Ξ e.store.resumptions → Covers Ξ Γ e.variables → ContextTyped p Ξ e.outer
       → RedexTyped p Ξ Γ r e.work → StepGood p (rule p e r)

@@ -11,16 +11,17 @@ use Rattle.s_syntax.specs.declared.operators.BinaryOperator.TheVariants.{Connect
 use Rattle.s_syntax.specs.declared.script.Parameter.{Parameter}
 use Rattle.s_syntax.specs.declared.script.Script.{Script}
 use Rattle.s_syntax.specs.ExprTree.{ExprTree, Exprs, Operands}
-use Rattle.s_syntax.specs.BlockTree.{BlockTree}
+use Rattle.s_syntax.specs.BlockTree.{StatementTree, BlockTree, Done, ◌⨟◌}
 use Rattle.s_check.specs.Scopes.{Scope, type_in}
 use Rattle.s_check.specs.Rules.{count}
 use Rattle.s_meaning.specs.Typing
-use Rattle.s_meaning.specs.Typing.{kinds, numbers, ExprTyped, OperandsTyped, ArgsTyped, literal, read, unary, run, call, does, handle, resume, no_more, next, no_args, number, resumption, IsFree, BlockTyped, done, lets, assigns, ifs, whiles, fails}
-use Rattle.s_meaning.proofs.Scopes.{bool_of, more_block, extends_int}
+use Rattle.s_meaning.specs.Typing.{kinds, numbers, ExprTyped, OperandsTyped, ArgsTyped, literal, read, unary, run, call, does, handle, resume, no_more, next, no_args, number, resumption, Fits, lets, assigns, StatementTyped, evaluates, ifs, whiles, fails}
+use Rattle.s_meaning.proofs.Scopes.{bool_of, keeps_bound}
+use Rattle.s_meaning.proofs.Variables.{covers_less}
 use Rattle.s_meaning.specs.Terms.{Value, Row, ε, Variable, Head, Handling, Resuming, TailResuming, Use, Work, Among, Within, ToReturn, Hole}
 use Rattle.s_meaning.specs.Focus.{followed_by, Redex, Constant, Lookup, OnUnary, OnBinary, Decides, Applies, Uses, Fails, Ends, Focused, left_of, in_expr, in_args, in_both, variable_of, is_own, in_return, in_block, in_work, focus}
 use Rattle.s_meaning.specs.Typed
-use Rattle.s_meaning.specs.Typed.{World, HasKind, FirstHave, begun, further, UseTyped, stores, chooses, turns, WorkTyped, HeadTyped, under, left, right, among, within, calling, doing, handling, resuming, tail_resuming, HoleTyped, gives, finds, runs, Covers}
+use Rattle.s_meaning.specs.Typed.{World, HasKind, FirstHave, begun, further, RestTyped, begins, behind, UseTyped, stores, chooses, turns, WorkTyped, HeadTyped, under, left, right, among, within, calling, doing, handling, resuming, tail_resuming, HoleTyped, gives, finds, runs, Covers}
 
 -- a redex and the pending work around it
 pub data RedexTyped (p : Script) (Ξ : World) (Γ : Scope) : Redex → List Work → Type 0 where
@@ -31,7 +32,7 @@ pub data RedexTyped (p : Script) (Ξ : World) (Γ : Scope) : Redex → List Work
   decides : {c : Connective} {v : Value} {e : ExprTree} {es : Operands} {w : List Work} → HasKind Ξ v Int → ExprTyped p Γ e → OperandsTyped p Γ es
       → WorkTyped p Ξ Γ w Int → RedexTyped p Ξ Γ (Decides c v e es) w
   applying : {head : Head} {all : List VariableType} {vs : Row} {w : List Work} → HeadTyped p Ξ Γ head all w → FirstHave Ξ all vs [] → RedexTyped p Ξ Γ (Applies head vs) w
-  using : {u : Use} {v : Value} {Γ' : Scope} {rest : BlockTree} → UseTyped p Γ u Γ' → BlockTyped p Γ' rest → HasKind Ξ v Int → RedexTyped p Ξ Γ (Uses u v rest) []
+  using : {u : Use} {v : Value} {Γ' : Scope} {rest : BlockTree} → UseTyped p Γ u Γ' → RestTyped p Γ' rest → HasKind Ξ v Int → RedexTyped p Ξ Γ (Uses u v rest) []
   failing : RedexTyped p Ξ Γ Fails []
   ending : RedexTyped p Ξ Γ Ends []
 
@@ -87,7 +88,7 @@ module _ (p : Script) (Ξ : World) (Γ : Scope) where
     both_focus second head (resumption q ts) us given = lookup q (among head begun (args_append ts us))
 
   -- in a body
-  return_focus : (vars : List Variable) (owner : Option Name) {e : ExprTree} {rest : BlockTree} → ExprTyped p Γ e → BlockTyped p Γ rest → In (in_return vars owner e rest)
+  return_focus : (vars : List Variable) (owner : Option Name) {e : ExprTree} {rest : BlockTree} → ExprTyped p Γ e → RestTyped p Γ rest → In (in_return vars owner e rest)
   unfolding In
   return_focus vars owner literal b = expr_focus literal (within Typed.returns b)
   return_focus vars owner (read q) b = expr_focus (read q) (within Typed.returns b)
@@ -100,19 +101,18 @@ module _ (p : Script) (Ξ : World) (Γ : Scope) where
       bool_of (is_own owner (variable_of k vars)) (λ o. In (if o then in_expr e (Among (TailResuming k) ε bs ∷ []) else in_expr e (Among (Resuming k) ε bs ∷ Within ToReturn rest ∷ [])))
       (λ o. expr_focus t (among (tail_resuming q i) begun us)) (λ o. expr_focus t (among (resuming q i (within Typed.returns b)) begun us))
 
-  block_focus : (vars : List Variable) (owner : Option Name) {b : BlockTree} → BlockTyped p Γ b → In (in_block vars owner b)
+  statement_focus : (vars : List Variable) (owner : Option Name) {s : StatementTree} {Γ' : Scope} {b : BlockTree} → StatementTyped p Γ s Γ' → RestTyped p Γ' b → In (in_block vars owner (s ⨟ b))
   unfolding In
-  block_focus vars owner done = ending
-  block_focus vars owner (lets t f b) = expr_focus t (within (stores f) b)
-  block_focus vars owner (assigns {x = x} t q b) =
-      let f : IsFree x Γ = record { free = λ h e. cc (q, e) } in
-      expr_focus t (within (stores f) (more_block (extends_int x Γ f) b))
-  block_focus vars owner (ifs t b c d) = expr_focus t (within (chooses b c) d)
-  block_focus vars owner (whiles t b d) = expr_focus t (within (turns t b) d)
-  block_focus vars owner (Typing.prints t b) = expr_focus t (within Typed.prints b)
-  block_focus vars owner (Typing.returns t b) = return_focus vars owner t b
-  block_focus vars owner (Typing.drops t b) = expr_focus t (within Typed.drops b)
-  block_focus vars owner (fails b) = failing
+  statement_focus vars owner (evaluates t (lets f)) b = expr_focus t (within stores b)
+  statement_focus vars owner (evaluates t (assigns {x = x} q)) b =
+      let f : Fits x Int Γ = record { fits = λ k e. cc (q, e) } in
+      expr_focus t (within stores (behind (keeps_bound f) b))
+  statement_focus vars owner (evaluates t Typing.prints) b = expr_focus t (within Typed.prints b)
+  statement_focus vars owner (evaluates t Typing.returns) b = return_focus vars owner t b
+  statement_focus vars owner (evaluates t Typing.drops) b = expr_focus t (within Typed.drops b)
+  statement_focus vars owner (ifs t b c) d = expr_focus t (within (chooses b c) d)
+  statement_focus vars owner (whiles t b) d = expr_focus t (within (turns t b) d)
+  statement_focus vars owner fails b = failing
 
   record Found_in (o : Option Focused) : Type 0 where
     focused : Focused
@@ -137,8 +137,28 @@ pub record NextTyped (p : Script) (Ξ : World) (vars : List Variable) (o : Optio
   pub is : o ≡ Some focused
   pub typed : RedexTyped p Ξ scope focused.redex focused.work
 
+-- what is left of a body begins with this statement, in a scope that the variables cover
+pub record Begun (p : Script) (Ξ : World) (vars : List Variable) (s : StatementTree) (b : BlockTree) : Type 0 where
+  pub scope : Scope
+  pub covers : Covers Ξ scope vars
+  pub after : Scope
+  pub typed : StatementTyped p scope s after
+  pub rest : RestTyped p after b
+
+pub rest_begun : {p : Script} {Ξ : World} {Γ : Scope} {vars : List Variable} {s : StatementTree} {b : BlockTree} → Covers Ξ Γ vars → RestTyped p Γ (s ⨟ b) → Begun p Ξ vars s b
+rest_begun c (begins {Γ = Γ} {Γ' = Γ'} t r) = record { scope = Γ; covers = c; after = Γ'; typed = t; rest = r }
+rest_begun c (behind m r) = rest_begun (covers_less m c) r
+
+-- in what is left of a body
+rest_focus : {p : Script} {Ξ : World} {Γ : Scope} {vars : List Variable} (owner : Option Name) (b : BlockTree) → Covers Ξ Γ vars → RestTyped p Γ b → NextTyped p Ξ vars (Some (in_block vars owner b))
+unfolding In
+rest_focus {Γ = Γ} owner Done c t = record { scope = Γ; covers = c; focused = _; is = refl; typed = ending }
+rest_focus {p} {Ξ} {vars = vars} owner (s ⨟ b) c t =
+    let r = rest_begun c t in
+    record { scope = r.scope; covers = r.covers; focused = _; is = refl; typed = statement_focus p Ξ r.scope vars owner r.typed r.rest }
+
 pub next_typed : {p : Script} {Ξ : World} {hole : Hole} {vars : List Variable} (owner : Option Name) {w : List Work} → HoleTyped p Ξ hole vars w → NextTyped p Ξ vars (focus vars owner hole w)
 unfolding In
 next_typed {p} {Ξ} owner (gives {Γ = Γ} c h w) = let f = work_focus p Ξ Γ h w in record { scope = Γ; covers = c; focused = f.focused; is = f.is; typed = f.typed }
 next_typed {p} {Ξ} owner (finds {Γ = Γ} c t w) = record { scope = Γ; covers = c; focused = _; is = refl; typed = expr_focus p Ξ Γ t w }
-next_typed {p} {Ξ} {vars = vars} owner (runs {Γ = Γ} c b) = record { scope = Γ; covers = c; focused = _; is = refl; typed = block_focus p Ξ Γ vars owner b }
+next_typed owner (runs {b = b} c t) = rest_focus owner b c t

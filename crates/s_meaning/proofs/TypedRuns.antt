@@ -11,6 +11,7 @@ use Rattle.s_meaning.specs.Typed.{World, Typed, nothing, runs, in_activation}
 use Rattle.s_meaning.specs.Eval.{Evaluated, Eval, start}
 use Rattle.s_meaning.proofs.Good.{good_typed}
 use Rattle.s_meaning.specs.Laws.{StepGood, on, over, faulty, Preserved, NeverWrong}
+use Rattle.s_meaning.proofs.Scopes.{block_rest}
 use Rattle.s_meaning.proofs.Worlds.{match_covers, no_names}
 use Rattle.s_meaning.proofs.Sound.{step_good}
 
@@ -41,7 +42,7 @@ start_typed p typed =
       world = [];
       typed = record {
         store = record { as_many = refl; each = λ a e q. absurd (cc) };
-        term = in_activation (runs (match_covers no_names) (rw e.1 b')) nothing;
+        term = in_activation (runs (match_covers no_names) (block_rest (rw e.1 b'))) nothing;
       };
     }
 

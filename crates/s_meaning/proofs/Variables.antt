@@ -5,11 +5,11 @@ use Rattle.s_syntax.specs.declared.name.Name.{Name}
 use Rattle.s_syntax.specs.declared.script.VariableType.{VariableType}
 use Rattle.s_syntax.specs.declared.script.VariableType.TheVariants.{Int}
 use Rattle.s_check.specs.Scopes.{Scope, type_in, number as number_name}
-use Rattle.s_meaning.proofs.Scopes.{same_is, same_refl, bool_of, Extends}
+use Rattle.s_meaning.proofs.Scopes.{same_is, same_refl, bool_of}
 use Rattle.s_meaning.specs.Terms.{Number, Variable}
 use Rattle.s_meaning.specs.Focus.{variable_of}
 use Rattle.s_meaning.specs.Steps.{with_variable, stored}
-use Rattle.s_meaning.specs.Typed.{World, HasKind, int, Variable_typed, Covers}
+use Rattle.s_meaning.specs.Typed.{World, HasKind, int, Variable_typed, Covers, Keeps}
 
 variable_with : (v : Variable) (vs : List Variable) → variable_of v.name (with_variable v vs) ≡ Some v
 variable_with v [] = ap (λ (b : Bool). if b then Some v else None) (same_refl v.name)
@@ -24,13 +24,13 @@ variable_other v (u ∷ vs) y other = bool_of (bytes_eq u.name v.name) (λ b. va
     ∙ sym (ap (λ (b : Bool). if b then Some u else variable_of y vs) (ap (λ (z : Name). bytes_eq z y) (sym (same_is v.name u.name q)) ∙ other)))
     (λ q. ap (λ (o : Option Variable). if bytes_eq u.name y then Some u else o) (variable_other v vs y other))
 
-pub covers_less : {Ξ : World} {Γ Γ' : Scope} {vars : List Variable} → Extends Γ Γ' → Covers Ξ Γ' vars → Covers Ξ Γ vars
+pub covers_less : {Ξ : World} {Γ Γ' : Scope} {vars : List Variable} → Keeps Γ Γ' → Covers Ξ Γ' vars → Covers Ξ Γ vars
 covers_less m c = record { covers = λ x k e. c.covers x k (m.keeps x k e) }
 
 int_variable : Name → ℤ → Variable
 int_variable x n = record { name = x; ty = Int; value = Number n }
 
--- a variable set to a number, whose name no variable of a res type has
+-- a variable set to a number
 pub covers_stored : {Ξ : World} {Γ : Scope} {vars : List Variable} (x : Name) (n : ℤ) → Covers Ξ Γ vars → Covers Ξ (number_name x ∷ Γ) (stored x n vars)
 unfolding int_variable
 covers_stored {Ξ} {Γ} {vars} x n c = record { covers = covers }

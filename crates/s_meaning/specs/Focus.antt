@@ -10,7 +10,9 @@ use Rattle.s_syntax.specs.declared.operators.Connective.{Connective}
 use Rattle.s_syntax.specs.declared.operators.BinaryOperator.{BinaryOperator}
 use Rattle.s_syntax.specs.declared.operators.BinaryOperator.TheVariants.{Connects}
 use Rattle.s_syntax.specs.ExprTree.{ExprTree, Literal, Read, Unary, Run, Call, Do, Handle, Resume, Exprs, NoExprs, MoreExprs, Operands, NoOperands, MoreOperands}
-use Rattle.s_syntax.specs.BlockTree.{Let, Assign, If, While, Print, Return, Fail, Evaluate, BlockTree, Done, ◌⨟◌}
+use Rattle.s_syntax.specs.declared.statement.Use.{Use as ValueUse}
+use Rattle.s_syntax.specs.declared.statement.Use.TheVariants as use_for
+use Rattle.s_syntax.specs.BlockTree.{Evaluate, If, While, Fail, BlockTree, Done, ◌⨟◌}
 use Rattle.s_check.specs.Rules.{count}
 use Rattle.s_meaning.specs.Terms.{Value, Row, ε, ◌▹◌, Variable, Head, Calling, Doing, Handling, Resuming, TailResuming, Use, ToStore, ToPrint, ToDrop, ToReturn, ToChoose, ToTurn, Work, UnderUnary, LeftOf, RightOf, Among, Within, Hole, Gives, Finds, Runs}
 
@@ -95,16 +97,20 @@ in_return vars owner (Resume k e bs) rest =
     if is_own owner (variable_of k vars) then in_expr e (Among (TailResuming k) ε bs ∷ []) else in_expr e (Among (Resuming k) ε bs ∷ Within ToReturn rest ∷ [])
 in_return vars owner e rest = in_expr e (Within ToReturn rest ∷ [])
 
+-- an expression, and then what its value is used for
+abbrev pub in_evaluate : List Variable → Option Name → ValueUse → ExprTree → BlockTree → Focused
+in_evaluate vars owner (use_for.Let x) e rest = in_expr e (Within (ToStore x) rest ∷ [])
+in_evaluate vars owner (use_for.Assign x) e rest = in_expr e (Within (ToStore x) rest ∷ [])
+in_evaluate vars owner use_for.Print e rest = in_expr e (Within ToPrint rest ∷ [])
+in_evaluate vars owner use_for.Return e rest = in_return vars owner e rest
+in_evaluate vars owner use_for.Drop e rest = in_expr e (Within ToDrop rest ∷ [])
+
 -- in the rest of a body
 abbrev pub in_block : List Variable → Option Name → BlockTree → Focused
 in_block vars owner Done = at Ends []
-in_block vars owner (Let x e ⨟ rest) = in_expr e (Within (ToStore x) rest ∷ [])
-in_block vars owner (Assign x e ⨟ rest) = in_expr e (Within (ToStore x) rest ∷ [])
+in_block vars owner (Evaluate u e ⨟ rest) = in_evaluate vars owner u e rest
 in_block vars owner (If e b d ⨟ rest) = in_expr e (Within (ToChoose b d) rest ∷ [])
 in_block vars owner (While e b ⨟ rest) = in_expr e (Within (ToTurn e b) rest ∷ [])
-in_block vars owner (Print e ⨟ rest) = in_expr e (Within ToPrint rest ∷ [])
-in_block vars owner (Return e ⨟ rest) = in_return vars owner e rest
-in_block vars owner (Evaluate e ⨟ rest) = in_expr e (Within ToDrop rest ∷ [])
 in_block vars owner (Fail ⨟ rest) = at Fails []
 
 -- a value in the pending work around it

@@ -9,10 +9,10 @@ use Rattle.s_syntax.specs.declared.script.Function.{Function}
 use Rattle.s_syntax.specs.declared.script.Handler.{Handler}
 use Rattle.s_syntax.specs.declared.script.Script.{Script}
 use Rattle.s_syntax.specs.ExprTree.{ExprTree, Exprs, Operands}
-use Rattle.s_syntax.specs.BlockTree.{BlockTree}
+use Rattle.s_syntax.specs.BlockTree.{StatementTree, BlockTree, Done, ◌⨟◌}
 use Rattle.s_check.specs.Definitions.{function_of, handler_of, effect_of}
 use Rattle.s_check.specs.Scopes.{Scope, type_in, number as number_name}
-use Rattle.s_meaning.specs.Typing.{kinds, numbers, ExprTyped, OperandsTyped, ArgsTyped, IsFree, BlockTyped}
+use Rattle.s_meaning.specs.Typing.{kinds, numbers, ExprTyped, OperandsTyped, ArgsTyped, StatementTyped, BlockTyped}
 use Rattle.s_meaning.specs.Terms.{Value, Number, Reference, Row, ε, ◌▹◌, Variable, Head, Calling, Doing, Handling, Resuming, TailResuming, Use, ToStore, ToPrint, ToDrop, ToReturn, ToChoose, ToTurn, Work, UnderUnary, LeftOf, RightOf, Among, Within, Activation, Handle, Context, Hole, Gives, Finds, Runs, Configuration}
 use Rattle.s_meaning.specs.Focus.{variable_of}
 
@@ -44,9 +44,19 @@ pub record Variable_typed (Ξ : World) (vars : List Variable) (x : Name) (k : Va
 pub record Covers (Ξ : World) (Γ : Scope) (vars : List Variable) : Type 0 where
   pub covers : (x : Name) (k : VariableType) → type_in Γ x ≡ Some k → Variable_typed Ξ vars x k
 
+-- what is bound in Γ has the same type in Γ'
+pub record Keeps (Γ Γ' : Scope) : Type 0 where
+  pub keeps : (x : Name) (k : VariableType) → type_in Γ x ≡ Some k → type_in Γ' x ≡ Some k
+
+-- what is left to run of a body: the rest of a block, and then of those around it, where less is bound
+pub data RestTyped (p : Script) : Scope → BlockTree → Type 0 where
+  ends : {Γ : Scope} → RestTyped p Γ Done
+  begins : {Γ Γ' : Scope} {s : StatementTree} {b : BlockTree} → StatementTyped p Γ s Γ' → RestTyped p Γ' b → RestTyped p Γ (s ⨟ b)
+  behind : {Γ Γ' : Scope} {b : BlockTree} → Keeps Γ Γ' → RestTyped p Γ b → RestTyped p Γ' b
+
 -- what a statement does with a number, and what is bound after it
 pub data UseTyped (p : Script) (Γ : Scope) : Use → Scope → Type 0 where
-  stores : {x : Name} → IsFree x Γ → UseTyped p Γ (ToStore x) (number_name x ∷ Γ)
+  stores : {x : Name} → UseTyped p Γ (ToStore x) (number_name x ∷ Γ)
   prints : UseTyped p Γ ToPrint Γ
   drops : UseTyped p Γ ToDrop Γ
   returns : UseTyped p Γ ToReturn Γ
@@ -63,7 +73,7 @@ mutual
         → WorkTyped p Ξ Γ (RightOf v o es ∷ w) Int
     among : {head : Head} {all todo : List VariableType} {k : VariableType} {vs : Row} {es : Exprs} {w : List Work} → HeadTyped p Ξ Γ head all w
         → FirstHave Ξ all vs (k ∷ todo) → ArgsTyped p Γ todo es → WorkTyped p Ξ Γ (Among head vs es ∷ w) k
-    within : {u : Use} {Γ' : Scope} {rest : BlockTree} → UseTyped p Γ u Γ' → BlockTyped p Γ' rest → WorkTyped p Ξ Γ (Within u rest ∷ []) Int
+    within : {u : Use} {Γ' : Scope} {rest : BlockTree} → UseTyped p Γ u Γ' → RestTyped p Γ' rest → WorkTyped p Ξ Γ (Within u rest ∷ []) Int
 
   -- what is done with arguments of these types, and the work around it
   pub data HeadTyped (p : Script) (Ξ : World) (Γ : Scope) : Head → List VariableType → List Work → Type 0 where
@@ -90,7 +100,7 @@ pub data HoleTyped (p : Script) (Ξ : World) : Hole → List Variable → List W
       → HoleTyped p Ξ (Gives v) vars w
   finds : {Γ : Scope} {e : ExprTree} {vars : List Variable} {w : List Work} → Covers Ξ Γ vars → ExprTyped p Γ e → WorkTyped p Ξ Γ w Int
       → HoleTyped p Ξ (Finds e) vars w
-  runs : {Γ : Scope} {b : BlockTree} {vars : List Variable} → Covers Ξ Γ vars → BlockTyped p Γ b → HoleTyped p Ξ (Runs b) vars []
+  runs : {Γ : Scope} {b : BlockTree} {vars : List Variable} → Covers Ξ Γ vars → RestTyped p Γ b → HoleTyped p Ξ (Runs b) vars []
 
 pub data TermTyped (p : Script) (Ξ : World) : Hole → Context → Type 0 where
   in_activation : {hole : Hole} {vars : List Variable} {owner : Option Name} {w : List Work} {κ : Context} → HoleTyped p Ξ hole vars w → ContextTyped p Ξ κ

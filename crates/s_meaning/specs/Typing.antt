@@ -1,5 +1,5 @@
 -- Typed scripts: what the rules come to for a script that breaks none.
-use Rattle.std.specs.Prelude.{◌≡◌, ◌≢◌, ℕ, zero, suc, List, [], ◌∷◌, map, length, codes, Some}
+use Rattle.std.specs.Prelude.{◌≡◌, ℕ, zero, suc, List, [], ◌∷◌, map, length, codes, Some}
 use Rattle.s_syntax.specs.declared.name.Name.{Name}
 use Rattle.s_syntax.specs.declared.number.Number.{Number}
 use Rattle.s_syntax.specs.declared.script.VariableType.{VariableType}
@@ -12,7 +12,9 @@ use Rattle.s_syntax.specs.declared.script.Clause.{Clause}
 use Rattle.s_syntax.specs.declared.script.Handler.{Handler}
 use Rattle.s_syntax.specs.declared.script.Script.{Script}
 use Rattle.s_syntax.specs.ExprTree.{ExprTree, Literal, Read, Unary, Run, Call, Do, Handle, Resume, Exprs, NoExprs, MoreExprs, Operands, NoOperands, MoreOperands}
-use Rattle.s_syntax.specs.BlockTree.{Let, Assign, If, While, Print, Return, Fail, Evaluate, BlockTree, Done, ◌⨟◌}
+use Rattle.s_syntax.specs.declared.statement.Use.{Use as ValueUse}
+use Rattle.s_syntax.specs.declared.statement.Use.TheVariants as use_for
+use Rattle.s_syntax.specs.BlockTree.{StatementTree, Evaluate, If, While, Fail, BlockTree, Done, ◌⨟◌}
 use Rattle.s_check.specs.Definitions.{function_of, handler_of, effect_of}
 use Rattle.s_check.specs.Scopes.{Scope, type_in, number as number_name, parameter, of_clause, of_return}
 use Rattle.s_meaning.specs.Steps.{clause_of}
@@ -51,20 +53,30 @@ mutual
     resumption : {x h : Name} {ks : List VariableType} {es : Exprs} → type_in Γ x ≡ Some (Resumption h) → ArgsTyped p Γ ks es
         → ArgsTyped p Γ (Resumption h ∷ ks) (MoreExprs (Read x) es)
 
--- a let may bind this name: nothing of a res type has it
-pub record IsFree (x : Name) (Γ : Scope) : Type 0 where
-  pub free : (h : Name) → type_in Γ x ≢ Some (Resumption h)
+-- a statement may bind this name with this type: the name isn't bound, or has the type already
+pub record Fits (x : Name) (t : VariableType) (Γ : Scope) : Type 0 where
+  pub fits : (k : VariableType) → type_in Γ x ≡ Some k → k ≡ t
 
-pub data BlockTyped (p : Script) : Scope → BlockTree → Type 0 where
-  done : {Γ : Scope} → BlockTyped p Γ Done
-  lets : {Γ : Scope} {x : Name} {e : ExprTree} {b : BlockTree} → ExprTyped p Γ e → IsFree x Γ → BlockTyped p (number_name x ∷ Γ) b → BlockTyped p Γ (Let x e ⨟ b)
-  assigns : {Γ : Scope} {x : Name} {e : ExprTree} {b : BlockTree} → ExprTyped p Γ e → type_in Γ x ≡ Some Int → BlockTyped p Γ b → BlockTyped p Γ (Assign x e ⨟ b)
-  ifs : {Γ : Scope} {e : ExprTree} {b c d : BlockTree} → ExprTyped p Γ e → BlockTyped p Γ b → BlockTyped p Γ c → BlockTyped p Γ d → BlockTyped p Γ (If e b c ⨟ d)
-  whiles : {Γ : Scope} {e : ExprTree} {b d : BlockTree} → ExprTyped p Γ e → BlockTyped p Γ b → BlockTyped p Γ d → BlockTyped p Γ (While e b ⨟ d)
-  prints : {Γ : Scope} {e : ExprTree} {b : BlockTree} → ExprTyped p Γ e → BlockTyped p Γ b → BlockTyped p Γ (Print e ⨟ b)
-  returns : {Γ : Scope} {e : ExprTree} {b : BlockTree} → ExprTyped p Γ e → BlockTyped p Γ b → BlockTyped p Γ (Return e ⨟ b)
-  drops : {Γ : Scope} {e : ExprTree} {b : BlockTree} → ExprTyped p Γ e → BlockTyped p Γ b → BlockTyped p Γ (Evaluate e ⨟ b)
-  fails : {Γ : Scope} {b : BlockTree} → BlockTyped p Γ b → BlockTyped p Γ (Fail ⨟ b)
+-- what a statement does with its number, and what is bound behind it
+pub data ValueUseTyped (Γ : Scope) : ValueUse → Scope → Type 0 where
+  lets : {x : Name} → Fits x Int Γ → ValueUseTyped Γ (use_for.Let x) (number_name x ∷ Γ)
+  assigns : {x : Name} → type_in Γ x ≡ Some Int → ValueUseTyped Γ (use_for.Assign x) Γ
+  prints : ValueUseTyped Γ use_for.Print Γ
+  returns : ValueUseTyped Γ use_for.Return Γ
+  drops : ValueUseTyped Γ use_for.Drop Γ
+
+mutual
+  -- a statement, and what is bound behind it
+  pub data StatementTyped (p : Script) : Scope → StatementTree → Scope → Type 0 where
+    evaluates : {Γ Γ' : Scope} {u : ValueUse} {e : ExprTree} → ExprTyped p Γ e → ValueUseTyped Γ u Γ' → StatementTyped p Γ (Evaluate u e) Γ'
+    ifs : {Γ : Scope} {e : ExprTree} {b c : BlockTree} → ExprTyped p Γ e → BlockTyped p Γ b → BlockTyped p Γ c → StatementTyped p Γ (If e b c) Γ
+    whiles : {Γ : Scope} {e : ExprTree} {b : BlockTree} → ExprTyped p Γ e → BlockTyped p Γ b → StatementTyped p Γ (While e b) Γ
+    fails : {Γ : Scope} → StatementTyped p Γ Fail Γ
+
+  -- a block as it is written: each statement sees what those before it bind
+  pub data BlockTyped (p : Script) : Scope → BlockTree → Type 0 where
+    done : {Γ : Scope} → BlockTyped p Γ Done
+    statement : {Γ Γ' : Scope} {s : StatementTree} {b : BlockTree} → StatementTyped p Γ s Γ' → BlockTyped p Γ' b → BlockTyped p Γ (s ⨟ b)
 
 pub record ClauseTyped (p : Script) (h op : Name) (i : Handler) (c : Clause) : Type 0 where
   pub is_effect : effect_of p.declarations op ≡ Some (length c.arguments)

@@ -1,32 +1,29 @@
 -- Each item of a repetition takes a token.
-use Rattle.std.proofs.Common.{ℕ, List, refl, arith}
+use Rattle.std.proofs.Common.{ℕ, List}
 use Rattle.s_syntax.specs.declared.token.Kind.TheVariants as kind
 use Rattle.s_grammar.specs.Grammar.{Choice}
-use Rattle.s_grammar.specs.Kinds.{other_than, is, kind_of}
-use Rattle.s_grammar.specs.Reading.{choice}
-use Rattle.s_grammar.specs.Reads.{statement_by, expr, block, led, name, parameter, clause, declaration_by}
-use Rattle.s_grammar.specs.Syntax.{StatementBy, Expr, Block, Led, NAME, ParameterOf, ClauseOf, DeclarationBy}
-use Rattle.s_grammar.proofs.DeclarationLaws.{parameter_laws, clause_laws, declaration_laws_by}
+use Rattle.s_grammar.specs.Kinds.{is, kind_of}
+use Rattle.s_grammar.specs.Reading.{Reading, choice}
+use Rattle.s_grammar.specs.Reads.{statement_by, expr, block, clause, declaration_by}
+use Rattle.s_grammar.specs.Syntax.{StatementBy, Expr, Block, ClauseOf, DeclarationBy}
+use Rattle.s_grammar.proofs.DeclarationLaws.{clause_laws, declaration_laws_by}
 use Rattle.s_grammar.proofs.Ends.{begins_statement, ends_statement, begins_declaration}
-use Rattle.s_grammar.proofs.ExprLaws.{name_laws}
-use Rattle.s_grammar.proofs.ForParts.{led_laws}
 use Rattle.s_grammar.proofs.KindSets.{any_kind}
 use Rattle.s_grammar.proofs.Repetitions.{Shrinks, shrinks}
 use Rattle.s_grammar.proofs.StatementLaws.{statement_laws, block_laws}
+use Rattle.s_parse.specs.BehindCommas.{TakesToken}
 use Rattle.s_parse.specs.Items.{statement, declaration}
+
+-- in the words of the grammar's lemmas
+pub takes_shrinks : {A : Type 0} (r : Reading A) → TakesToken r → Shrinks r
+unfolding Shrinks
+takes_shrinks r h = h
 
 module _ (bytes : List ℕ) where
   -- statements
   pub statement_shrinks : (n : ℕ) → Shrinks (statement bytes n)
   unfolding statement
   statement_shrinks n = shrinks n 0 begins_statement ends_statement (λ m. Choice (StatementBy bytes (Expr bytes m) (Block bytes m))) (choice (statement_by bytes (expr bytes n) (block bytes n))) (statement_laws bytes n (Block bytes) (block bytes n) (block_laws bytes n))
-
-  -- a comma and a name
-  pub comma_name_shrinks : Shrinks (led kind.Comma (name bytes))
-  comma_name_shrinks = shrinks 0 0 _ any_kind (λ m. Led kind.Comma (NAME bytes)) (led kind.Comma (name bytes)) (led_laws kind.Comma (omega arith) refl refl refl (name_laws bytes 0))
-
-  pub comma_parameter_shrinks : Shrinks (led kind.Comma (parameter bytes))
-  comma_parameter_shrinks = shrinks 0 0 _ (other_than (is kind.Colon)) (λ m. Led kind.Comma (ParameterOf bytes)) (led kind.Comma (parameter bytes)) (led_laws kind.Comma (omega arith) refl refl refl (parameter_laws bytes 0))
 
   -- clauses for effects
   pub clause_shrinks : (n : ℕ) → Shrinks (clause bytes n)

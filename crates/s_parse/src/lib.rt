@@ -5,6 +5,7 @@ mod declaration;
 mod fault;
 mod handler;
 mod laws;
+mod listed;
 mod parameter;
 mod parsing;
 mod statement;

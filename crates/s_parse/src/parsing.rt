@@ -10,18 +10,18 @@ ghost use Rattle.s_parse.specs.Refusal.{IsScript, HasFault, Means, IsAnswer};
 use crate::declaration::script_at;
 use crate::fault::ParseFault;
 use lists::ListOf;
-use s_expr::Stop;
+use s_expr::{Source, Stop};
 use s_syntax::{Script, Token};
 use std::alloc::Global;
 
 // What reading the tokens gives.
-fn parse_exactly(alloc: Global, bytes: &[u8], tokens: &[Token]) -> Result<Script, ParseFault>
-    requires order { AreInOrder 0 (length bytes.now) tokens.now }
-    ensures answer { IsAnswer (parsed bytes.now tokens.now) result }
+fn parse_exactly(source: &Source) -> Result<Script, ParseFault>
+    ensures answer { IsAnswer (parsed source.now.bytes.now source.now.tokens.now) result }
 {
-    match script_at(alloc, bytes, tokens, 0, 64) {
+    match script_at(source, 0, 64) {
         Ok((script, at)) => {
-            if at < tokens.len() {
+            let count = source.tokens.len();
+            if at < count {
                 return Err(ParseFault::Parse(at));
             }
             Ok(script)
@@ -46,5 +46,10 @@ pub fn parse(alloc: Global, bytes: &[u8], tokens: &ListOf<Token>) -> Result<Scri
     // Whatever the tokens mean is answered, unless memory runs out.
     ensures only { (r : Result TheScript TheFault) → Means bytes.now tokens.now r → IsAnswer r result }
 {
-    parse_exactly(alloc, bytes, tokens.as_slice())
+    let source = Source {
+        alloc,
+        bytes,
+        tokens: tokens.as_slice(),
+    };
+    parse_exactly(&source)
 }

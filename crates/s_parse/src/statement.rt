@@ -3,33 +3,25 @@ ghost use Rattle.std.specs.Prelude.{◌≡◌, ◌<◌, ◌≤◌, length, drop}
 ghost use Rattle.s_syntax.specs.BlockTree.{Fail};
 ghost use Rattle.s_syntax.specs.BlockOf.{statement_of};
 ghost use Rattle.s_syntax.specs.declared.token.Kind.TheVariants as kind;
-ghost use Rattle.s_lex.specs.Lexes.{AreInOrder};
 ghost use Rattle.s_grammar.specs.Kinds.{kind_of};
 ghost use Rattle.s_grammar.specs.Reading.{image};
 ghost use Rattle.s_grammar.specs.Reads.{expr, block, statement_by, ended, led, key, assigned, evaluated};
 ghost use Rattle.s_expr.specs.Places.{ReadsAt, ReadsAs};
 ghost use Rattle.s_parse.specs.Items.{statement, statements, named_value, branches, or_done};
 
-use s_expr::{Stop, expect, expr_at, is_kind, kind_at, name_at};
-use s_syntax::{Block, Expr, Kind, Name, Statement, Token};
+use s_expr::{Source, Stop, expect, expr_at, is_kind, kind_at, name_at};
+use s_syntax::{Block, Expr, Kind, Name, Statement, Use};
 use std::alloc::Global;
 
 // An expression and a semicolon. An expression that isn't answered goes by a call of `drop`, here and below: let go in place, each of its
 // forms would be a case of this function's proof.
 #[tactic(auto, unfolding(s_grammar::specs::Reads::ended))]
-fn ended_at(
-    alloc: Global,
-    bytes: &[u8],
-    tokens: &[Token],
-    at: usize,
-    nest: usize,
-) -> Result<(Expr, usize), Stop>
-    requires order { AreInOrder 0 (length bytes.now) tokens.now }
-    requires within { at ≤ length tokens.now }
-    ensures reads { ReadsAt (ended (expr bytes.now nest) kind.Semicolon) tokens.now at result }
+fn ended_at(source: &Source, at: usize, nest: usize) -> Result<(Expr, usize), Stop>
+    requires within { at ≤ length source.now.tokens.now }
+    ensures reads { ReadsAt (ended (expr source.now.bytes.now nest) kind.Semicolon) source.now.tokens.now at result }
 {
-    let (value, at) = expr_at(alloc, bytes, tokens, at, nest)?;
-    match expect(tokens, at, Kind::Semicolon) {
+    let (value, at) = expr_at(source, at, nest)?;
+    match expect(source, at, Kind::Semicolon) {
         Ok((_, at)) => Ok((value, at)),
         Err(stop) => {
             drop(value);
@@ -40,119 +32,82 @@ fn ended_at(
 
 // What a let and an assignment have in common: a name, and behind it the value that it gets.
 #[tactic(auto, unfolding(s_grammar::specs::Reads::led))]
-fn named_value_at(
-    alloc: Global,
-    bytes: &[u8],
-    tokens: &[Token],
-    at: usize,
-    nest: usize,
-) -> Result<((Name, Expr), usize), Stop>
-    requires order { AreInOrder 0 (length bytes.now) tokens.now }
-    requires within { at ≤ length tokens.now }
-    ensures reads { ReadsAt (named_value bytes.now nest) tokens.now at result }
+fn named_value_at(source: &Source, at: usize, nest: usize) -> Result<((Name, Expr), usize), Stop>
+    requires within { at ≤ length source.now.tokens.now }
+    ensures reads { ReadsAt (named_value source.now.bytes.now nest) source.now.tokens.now at result }
 {
-    let (name, at) = name_at(alloc, bytes, tokens, at)?;
-    let (_, at) = expect(tokens, at, Kind::Assign)?;
-    let (value, at) = ended_at(alloc, bytes, tokens, at, nest)?;
+    let (name, at) = name_at(source, at)?;
+    let (_, at) = expect(source, at, Kind::Assign)?;
+    let (value, at) = ended_at(source, at, nest)?;
     Ok(((name, value), at))
 }
 
 // A let.
 #[tactic(auto, unfolding(s_grammar::specs::Reads::statement_by, s_grammar::specs::Reads::led))]
-fn let_at(
-    alloc: Global,
-    bytes: &[u8],
-    tokens: &[Token],
-    at: usize,
-    nest: usize,
-) -> Result<(Statement, usize), Stop>
-    requires order { AreInOrder 0 (length bytes.now) tokens.now }
-    requires within { at ≤ length tokens.now }
-    ensures reads { ReadsAs statement_of (statement_by bytes.now (expr bytes.now nest) (block bytes.now nest) kind.Let) tokens.now at result }
+fn let_at(source: &Source, at: usize, nest: usize) -> Result<(Statement, usize), Stop>
+    requires within { at ≤ length source.now.tokens.now }
+    ensures reads { ReadsAs statement_of (statement_by source.now.bytes.now (expr source.now.bytes.now nest) (block source.now.bytes.now nest) kind.Let) source.now.tokens.now at result }
 {
-    let (_, at) = expect(tokens, at, Kind::Let)?;
-    let ((name, value), at) = named_value_at(alloc, bytes, tokens, at, nest)?;
-    Ok((Statement::Let { name, value }, at))
+    let (_, at) = expect(source, at, Kind::Let)?;
+    let ((name, value), at) = named_value_at(source, at, nest)?;
+    let what = Use::Let(name);
+    Ok((Statement::Evaluate { what, value }, at))
 }
 
 // An assignment.
 #[tactic(auto, unfolding(s_grammar::specs::Reads::assigned))]
-fn assign_at(
-    alloc: Global,
-    bytes: &[u8],
-    tokens: &[Token],
-    at: usize,
-    nest: usize,
-) -> Result<(Statement, usize), Stop>
-    requires order { AreInOrder 0 (length bytes.now) tokens.now }
-    requires within { at ≤ length tokens.now }
-    ensures reads { ReadsAs statement_of (assigned bytes.now (expr bytes.now nest)) tokens.now at result }
+fn assign_at(source: &Source, at: usize, nest: usize) -> Result<(Statement, usize), Stop>
+    requires within { at ≤ length source.now.tokens.now }
+    ensures reads { ReadsAs statement_of (assigned source.now.bytes.now (expr source.now.bytes.now nest)) source.now.tokens.now at result }
 {
-    let ((name, value), at) = named_value_at(alloc, bytes, tokens, at, nest)?;
-    Ok((Statement::Assign { name, value }, at))
+    let ((name, value), at) = named_value_at(source, at, nest)?;
+    let what = Use::Assign(name);
+    Ok((Statement::Evaluate { what, value }, at))
 }
 
 // An expression that is evaluated and dropped.
 #[tactic(auto, unfolding(s_grammar::specs::Reads::evaluated))]
-fn evaluate_at(
-    alloc: Global,
-    bytes: &[u8],
-    tokens: &[Token],
-    at: usize,
-    nest: usize,
-) -> Result<(Statement, usize), Stop>
-    requires order { AreInOrder 0 (length bytes.now) tokens.now }
-    requires within { at ≤ length tokens.now }
-    ensures reads { ReadsAs statement_of (evaluated (expr bytes.now nest)) tokens.now at result }
+fn evaluate_at(source: &Source, at: usize, nest: usize) -> Result<(Statement, usize), Stop>
+    requires within { at ≤ length source.now.tokens.now }
+    ensures reads { ReadsAs statement_of (evaluated (expr source.now.bytes.now nest)) source.now.tokens.now at result }
 {
-    let (value, at) = ended_at(alloc, bytes, tokens, at, nest)?;
-    Ok((Statement::Evaluate(value), at))
+    let (value, at) = ended_at(source, at, nest)?;
+    let what = Use::Drop;
+    Ok((Statement::Evaluate { what, value }, at))
 }
 
 // What is printed.
 #[tactic(auto, unfolding(s_grammar::specs::Reads::statement_by, s_grammar::specs::Reads::led))]
-fn print_at(
-    alloc: Global,
-    bytes: &[u8],
-    tokens: &[Token],
-    at: usize,
-    nest: usize,
-) -> Result<(Statement, usize), Stop>
-    requires order { AreInOrder 0 (length bytes.now) tokens.now }
-    requires within { at ≤ length tokens.now }
-    ensures reads { ReadsAs statement_of (statement_by bytes.now (expr bytes.now nest) (block bytes.now nest) kind.Print) tokens.now at result }
+fn print_at(source: &Source, at: usize, nest: usize) -> Result<(Statement, usize), Stop>
+    requires within { at ≤ length source.now.tokens.now }
+    ensures reads { ReadsAs statement_of (statement_by source.now.bytes.now (expr source.now.bytes.now nest) (block source.now.bytes.now nest) kind.Print) source.now.tokens.now at result }
 {
-    let (_, at) = expect(tokens, at, Kind::Print)?;
-    let (value, at) = ended_at(alloc, bytes, tokens, at, nest)?;
-    Ok((Statement::Print(value), at))
+    let (_, at) = expect(source, at, Kind::Print)?;
+    let (value, at) = ended_at(source, at, nest)?;
+    let what = Use::Print;
+    Ok((Statement::Evaluate { what, value }, at))
 }
 
 // What is returned.
 #[tactic(auto, unfolding(s_grammar::specs::Reads::statement_by, s_grammar::specs::Reads::led))]
-fn return_at(
-    alloc: Global,
-    bytes: &[u8],
-    tokens: &[Token],
-    at: usize,
-    nest: usize,
-) -> Result<(Statement, usize), Stop>
-    requires order { AreInOrder 0 (length bytes.now) tokens.now }
-    requires within { at ≤ length tokens.now }
-    ensures reads { ReadsAs statement_of (statement_by bytes.now (expr bytes.now nest) (block bytes.now nest) kind.Return) tokens.now at result }
+fn return_at(source: &Source, at: usize, nest: usize) -> Result<(Statement, usize), Stop>
+    requires within { at ≤ length source.now.tokens.now }
+    ensures reads { ReadsAs statement_of (statement_by source.now.bytes.now (expr source.now.bytes.now nest) (block source.now.bytes.now nest) kind.Return) source.now.tokens.now at result }
 {
-    let (_, at) = expect(tokens, at, Kind::Return)?;
-    let (value, at) = ended_at(alloc, bytes, tokens, at, nest)?;
-    Ok((Statement::Return(value), at))
+    let (_, at) = expect(source, at, Kind::Return)?;
+    let (value, at) = ended_at(source, at, nest)?;
+    let what = Use::Return;
+    Ok((Statement::Evaluate { what, value }, at))
 }
 
 // The statement that fails.
 #[tactic(auto, unfolding(s_grammar::specs::Reads::led))]
-fn fail_at(tokens: &[Token], at: usize) -> Result<(Statement, usize), Stop>
-    requires within { at ≤ length tokens.now }
-    ensures reads { ReadsAs statement_of (image (λ _. Fail) (led kind.Fail (key kind.Semicolon))) tokens.now at result }
+fn fail_at(source: &Source, at: usize) -> Result<(Statement, usize), Stop>
+    requires within { at ≤ length source.now.tokens.now }
+    ensures reads { ReadsAs statement_of (image (λ _. Fail) (led kind.Fail (key kind.Semicolon))) source.now.tokens.now at result }
 {
-    let (_, at) = expect(tokens, at, Kind::Fail)?;
-    let (_, at) = expect(tokens, at, Kind::Semicolon)?;
+    let (_, at) = expect(source, at, Kind::Fail)?;
+    let (_, at) = expect(source, at, Kind::Semicolon)?;
     Ok((Statement::Fail, at))
 }
 
@@ -160,22 +115,19 @@ fn fail_at(tokens: &[Token], at: usize) -> Result<(Statement, usize), Stop>
 #[cycle(block)]
 #[tactic(auto, unfolding(s_grammar::specs::Reads::led))]
 fn branches_at(
-    alloc: Global,
-    bytes: &[u8],
-    tokens: &[Token],
+    source: &Source,
     at: usize,
     nest: usize,
 ) -> Result<((Block, Option<Block>), usize), Stop>
-    requires order { AreInOrder 0 (length bytes.now) tokens.now }
-    requires within { at ≤ length tokens.now }
-    ensures reads { ReadsAt (branches bytes.now nest) tokens.now at result }
+    requires within { at ≤ length source.now.tokens.now }
+    ensures reads { ReadsAt (branches source.now.bytes.now nest) source.now.tokens.now at result }
 {
-    let (then_block, at) = block_at(alloc, bytes, tokens, at, nest)?;
-    if !is_kind(Kind::Else, kind_at(tokens, at)) {
+    let (then_block, at) = block_at(source, at, nest)?;
+    if !is_kind(Kind::Else, kind_at(source, at)) {
         return Ok(((then_block, None), at));
     }
-    let (_, at) = expect(tokens, at, Kind::Else)?;
-    let (else_block, at) = block_at(alloc, bytes, tokens, at, nest)?;
+    let (_, at) = expect(source, at, Kind::Else)?;
+    let (else_block, at) = block_at(source, at, nest)?;
     Ok(((then_block, Some(else_block)), at))
 }
 
@@ -192,22 +144,15 @@ fn or_empty(alloc: Global, block: Option<Block>) -> Block
 // A choice.
 #[cycle(block)]
 #[tactic(auto, unfolding(s_grammar::specs::Reads::statement_by, s_grammar::specs::Reads::led), using(crate::proofs::Blocks::if_seen))]
-fn if_at(
-    alloc: Global,
-    bytes: &[u8],
-    tokens: &[Token],
-    at: usize,
-    nest: usize,
-) -> Result<(Statement, usize), Stop>
-    requires order { AreInOrder 0 (length bytes.now) tokens.now }
-    requires within { at ≤ length tokens.now }
-    ensures reads { ReadsAs statement_of (statement_by bytes.now (expr bytes.now nest) (block bytes.now nest) kind.If) tokens.now at result }
+fn if_at(source: &Source, at: usize, nest: usize) -> Result<(Statement, usize), Stop>
+    requires within { at ≤ length source.now.tokens.now }
+    ensures reads { ReadsAs statement_of (statement_by source.now.bytes.now (expr source.now.bytes.now nest) (block source.now.bytes.now nest) kind.If) source.now.tokens.now at result }
 {
-    let (_, at) = expect(tokens, at, Kind::If)?;
-    let (condition, at) = expr_at(alloc, bytes, tokens, at, nest)?;
-    match branches_at(alloc, bytes, tokens, at, nest) {
+    let (_, at) = expect(source, at, Kind::If)?;
+    let (condition, at) = expr_at(source, at, nest)?;
+    match branches_at(source, at, nest) {
         Ok(((then_block, otherwise), at)) => {
-            let else_block = or_empty(alloc, otherwise);
+            let else_block = or_empty(source.alloc, otherwise);
             let statement = Statement::If {
                 condition,
                 then_block,
@@ -225,20 +170,13 @@ fn if_at(
 // A loop.
 #[cycle(block)]
 #[tactic(auto, unfolding(s_grammar::specs::Reads::statement_by, s_grammar::specs::Reads::led))]
-fn while_at(
-    alloc: Global,
-    bytes: &[u8],
-    tokens: &[Token],
-    at: usize,
-    nest: usize,
-) -> Result<(Statement, usize), Stop>
-    requires order { AreInOrder 0 (length bytes.now) tokens.now }
-    requires within { at ≤ length tokens.now }
-    ensures reads { ReadsAs statement_of (statement_by bytes.now (expr bytes.now nest) (block bytes.now nest) kind.While) tokens.now at result }
+fn while_at(source: &Source, at: usize, nest: usize) -> Result<(Statement, usize), Stop>
+    requires within { at ≤ length source.now.tokens.now }
+    ensures reads { ReadsAs statement_of (statement_by source.now.bytes.now (expr source.now.bytes.now nest) (block source.now.bytes.now nest) kind.While) source.now.tokens.now at result }
 {
-    let (_, at) = expect(tokens, at, Kind::While)?;
-    let (condition, at) = expr_at(alloc, bytes, tokens, at, nest)?;
-    match block_at(alloc, bytes, tokens, at, nest) {
+    let (_, at) = expect(source, at, Kind::While)?;
+    let (condition, at) = expr_at(source, at, nest)?;
+    match block_at(source, at, nest) {
         Ok((body, at)) => Ok((Statement::While { condition, body }, at)),
         Err(stop) => {
             drop(condition);
@@ -249,70 +187,49 @@ fn while_at(
 
 // A statement that begins with a name.
 #[tactic(auto, unfolding(s_grammar::specs::Reads::statement_by), using(crate::proofs::Second::second_kind))]
-fn named_at(
-    alloc: Global,
-    bytes: &[u8],
-    tokens: &[Token],
-    at: usize,
-    nest: usize,
-) -> Result<(Statement, usize), Stop>
-    requires order { AreInOrder 0 (length bytes.now) tokens.now }
-    requires within { at < length tokens.now }
-    requires named { kind_of (drop at tokens.now) ≡ kind.Name }
-    ensures reads { ReadsAs statement_of (statement_by bytes.now (expr bytes.now nest) (block bytes.now nest) kind.Name) tokens.now at result }
+fn named_at(source: &Source, at: usize, nest: usize) -> Result<(Statement, usize), Stop>
+    requires within { at < length source.now.tokens.now }
+    requires named { kind_of (drop at source.now.tokens.now) ≡ kind.Name }
+    ensures reads { ReadsAs statement_of (statement_by source.now.bytes.now (expr source.now.bytes.now nest) (block source.now.bytes.now nest) kind.Name) source.now.tokens.now at result }
 {
-    if is_kind(Kind::Assign, kind_at(tokens, at + 1)) {
-        return assign_at(alloc, bytes, tokens, at, nest);
+    if is_kind(Kind::Assign, kind_at(source, at + 1)) {
+        return assign_at(source, at, nest);
     }
-    evaluate_at(alloc, bytes, tokens, at, nest)
+    evaluate_at(source, at, nest)
 }
 
 // A statement.
 #[cycle(block)]
 #[tactic(auto, unfolding(crate::specs::Items::statement, s_grammar::specs::Reads::statement_by))]
-fn statement_at(
-    alloc: Global,
-    bytes: &[u8],
-    tokens: &[Token],
-    at: usize,
-    nest: usize,
-) -> Result<(Statement, usize), Stop>
-    requires order { AreInOrder 0 (length bytes.now) tokens.now }
-    requires within { at ≤ length tokens.now }
-    ensures reads { ReadsAs statement_of (statement bytes.now nest) tokens.now at result }
+fn statement_at(source: &Source, at: usize, nest: usize) -> Result<(Statement, usize), Stop>
+    requires within { at ≤ length source.now.tokens.now }
+    ensures reads { ReadsAs statement_of (statement source.now.bytes.now nest) source.now.tokens.now at result }
 {
-    if at >= tokens.len() {
-        return evaluate_at(alloc, bytes, tokens, at, nest);
+    if at >= source.tokens.len() {
+        return evaluate_at(source, at, nest);
     }
-    match kind_at(tokens, at) {
-        Kind::Let => let_at(alloc, bytes, tokens, at, nest),
-        Kind::If => if_at(alloc, bytes, tokens, at, nest),
-        Kind::While => while_at(alloc, bytes, tokens, at, nest),
-        Kind::Print => print_at(alloc, bytes, tokens, at, nest),
-        Kind::Return => return_at(alloc, bytes, tokens, at, nest),
-        Kind::Fail => fail_at(tokens, at),
-        Kind::Name => named_at(alloc, bytes, tokens, at, nest),
-        _ => evaluate_at(alloc, bytes, tokens, at, nest),
+    match kind_at(source, at) {
+        Kind::Let => let_at(source, at, nest),
+        Kind::If => if_at(source, at, nest),
+        Kind::While => while_at(source, at, nest),
+        Kind::Print => print_at(source, at, nest),
+        Kind::Return => return_at(source, at, nest),
+        Kind::Fail => fail_at(source, at),
+        Kind::Name => named_at(source, at, nest),
+        _ => evaluate_at(source, at, nest),
     }
 }
 
 // Statements, up to the brace.
 #[cycle(block)]
-fn statements_at(
-    alloc: Global,
-    bytes: &[u8],
-    tokens: &[Token],
-    start: usize,
-    nest: usize,
-) -> Result<(Block, usize), Stop>
-    requires order { AreInOrder 0 (length bytes.now) tokens.now }
-    requires within { start ≤ length tokens.now }
-    ensures reads { ReadsAt (statements bytes.now nest) tokens.now start result }
+fn statements_at(source: &Source, start: usize, nest: usize) -> Result<(Block, usize), Stop>
+    requires within { start ≤ length source.now.tokens.now }
+    ensures reads { ReadsAt (statements source.now.bytes.now nest) source.now.tokens.now start result }
 {
-    let mut items = Vec::new(alloc);
+    let mut items = Vec::new(source.alloc);
     let mut at = start;
-    'items: while !is_kind(Kind::CloseBrace, kind_at(tokens, at)) {
-        let (item, next) = statement_at(alloc, bytes, tokens, at, nest)?;
+    'items: while !is_kind(Kind::CloseBrace, kind_at(source, at)) {
+        let (item, next) = statement_at(source, at, nest)?;
         items.push(item)?;
         at = next;
     }
@@ -321,22 +238,15 @@ fn statements_at(
 
 /// A block, where so many brackets may be opened.
 #[cycle(block)]
-pub(crate) fn block_at(
-    alloc: Global,
-    bytes: &[u8],
-    tokens: &[Token],
-    at: usize,
-    nest: usize,
-) -> Result<(Block, usize), Stop>
-    requires order { AreInOrder 0 (length bytes.now) tokens.now }
-    requires within { at ≤ length tokens.now }
-    ensures reads { ReadsAt (block bytes.now nest) tokens.now at result }
+pub(crate) fn block_at(source: &Source, at: usize, nest: usize) -> Result<(Block, usize), Stop>
+    requires within { at ≤ length source.now.tokens.now }
+    ensures reads { ReadsAt (block source.now.bytes.now nest) source.now.tokens.now at result }
 {
-    let (_, inside) = expect(tokens, at, Kind::OpenBrace)?;
+    let (_, inside) = expect(source, at, Kind::OpenBrace)?;
     if nest == 0 {
         return Err(Stop::TooDeep(at));
     }
-    let (value, end) = statements_at(alloc, bytes, tokens, inside, nest - 1)?;
-    let (_, end) = expect(tokens, end, Kind::CloseBrace)?;
+    let (value, end) = statements_at(source, inside, nest - 1)?;
+    let (_, end) = expect(source, end, Kind::CloseBrace)?;
     Ok((value, end))
 }

@@ -14,9 +14,7 @@ fn after_statement(budget: u32, statement: &Statement) -> Option<u32>
 {
     let left = after(budget, 1)?;
     match statement {
-        Statement::Let { name: _, value } | Statement::Assign { name: _, value } => {
-            after_expr(left, value)
-        }
+        Statement::Evaluate { what: _, value } => after_expr(left, value),
         Statement::If {
             condition,
             then_block,
@@ -26,9 +24,6 @@ fn after_statement(budget: u32, statement: &Statement) -> Option<u32>
             after_block(left, else_block)
         }
         Statement::While { condition, body } => after_block(after_expr(left, condition)?, body),
-        Statement::Print(value) | Statement::Return(value) | Statement::Evaluate(value) => {
-            after_expr(left, value)
-        }
         Statement::Fail => Some(left),
     }
 }

@@ -2,73 +2,59 @@
 use Rattle.std.proofs.Common.{◌≡◌, ℕ, zero, suc, List, [], ◌∷◌, ◌++◌, refl, sym, ap, ◌∙◌, append_assoc}
 use Rattle.std.proofs.lemmas.List.{append-nil}
 use Rattle.std.specs.Coded.{Coded, code_by, coded_list, coded×, coded_ℕ}
-use Rattle.s_syntax.specs.declared.name.Name.{Name}
+use Rattle.s_syntax.specs.declared.statement.Use.{Use}
+use Rattle.s_syntax.specs.declared.statement.Use.TheVariants as use_for
+use Rattle.s_syntax.specs.contracts.statement.Use as value_use
 use Rattle.s_syntax.specs.ExprTree.{ExprTree}
-use Rattle.s_syntax.specs.ExprCode.{zero_literal, name_code, expr_code}
-use Rattle.s_syntax.specs.BlockTree.{StatementTree, BlockTree, Let, Assign, If, While, Print, Return, Fail, Evaluate, Done, ◌⨟◌}
+use Rattle.s_syntax.specs.ExprCode.{zero_literal, expr_code}
+use Rattle.s_syntax.specs.BlockTree.{StatementTree, BlockTree, Evaluate, If, While, Fail, Done, ◌⨟◌}
 
 -- ## Parts
 
 pub data Tag : Type 0 where
-  let_tag : Tag
-  assign_tag : Tag
+  evaluate_tag : Tag
   if_tag : Tag
   while_tag : Tag
-  print_tag : Tag
-  return_tag : Tag
   fail_tag : Tag
-  evaluate_tag : Tag
   done_tag : Tag
   first_tag : Tag
 
 abbrev pub number : Tag → ℕ
-number let_tag = 0
-number assign_tag = 1
-number if_tag = 2
-number while_tag = 3
-number print_tag = 4
-number return_tag = 5
-number fail_tag = 6
-number evaluate_tag = 7
-number done_tag = 8
-number first_tag = 9
+number evaluate_tag = 0
+number if_tag = 1
+number while_tag = 2
+number fail_tag = 3
+number done_tag = 4
+number first_tag = 5
 
 abbrev pub tag : ℕ → Tag
-tag zero = let_tag
-tag (suc zero) = assign_tag
-tag (suc (suc zero)) = if_tag
-tag (suc (suc (suc zero))) = while_tag
-tag (suc (suc (suc (suc zero)))) = print_tag
-tag (suc (suc (suc (suc (suc zero))))) = return_tag
-tag (suc (suc (suc (suc (suc (suc zero)))))) = fail_tag
-tag (suc (suc (suc (suc (suc (suc (suc zero))))))) = evaluate_tag
-tag (suc (suc (suc (suc (suc (suc (suc (suc zero)))))))) = done_tag
-tag (suc (suc (suc (suc (suc (suc (suc (suc (suc n))))))))) = first_tag
+tag zero = evaluate_tag
+tag (suc zero) = if_tag
+tag (suc (suc zero)) = while_tag
+tag (suc (suc (suc zero))) = fail_tag
+tag (suc (suc (suc (suc zero)))) = done_tag
+tag (suc (suc (suc (suc (suc n))))) = first_tag
 
 pub tag-number : (t : Tag) → tag (number t) ≡ t
-tag-number let_tag = refl
-tag-number assign_tag = refl
+tag-number evaluate_tag = refl
 tag-number if_tag = refl
 tag-number while_tag = refl
-tag-number print_tag = refl
-tag-number return_tag = refl
 tag-number fail_tag = refl
-tag-number evaluate_tag = refl
 tag-number done_tag = refl
 tag-number first_tag = refl
 
 abbrev pub tag_code : Coded Tag
 tag_code = code_by ℕ coded_ℕ number tag tag-number
 
--- what is said of one part: its name and its expression, some of which only fill their places
+-- what is said of one part: its use and its expression, some of which only fill their places
 abbrev pub Says : Type 0
-Says = Name × ExprTree
+Says = Use × ExprTree
 
 abbrev pub Cell : Type 0
 Cell = Tag × Says
 
 abbrev pub of_expr : ExprTree → Says
-of_expr e = ([], e)
+of_expr e = (use_for.Drop, e)
 
 abbrev pub nothing : Says
 nothing = of_expr zero_literal
@@ -77,14 +63,10 @@ nothing = of_expr zero_literal
 
 abbrev mutual
   pub laid_statement : StatementTree → List Cell
-  laid_statement (Let x e) = (let_tag, (x, e)) ∷ []
-  laid_statement (Assign x e) = (assign_tag, (x, e)) ∷ []
+  laid_statement (Evaluate u e) = (evaluate_tag, (u, e)) ∷ []
   laid_statement (If c a b) = (if_tag, of_expr c) ∷ (laid a ++ laid b)
   laid_statement (While c b) = (while_tag, of_expr c) ∷ laid b
-  laid_statement (Print e) = (print_tag, of_expr e) ∷ []
-  laid_statement (Return e) = (return_tag, of_expr e) ∷ []
   laid_statement Fail = (fail_tag, nothing) ∷ []
-  laid_statement (Evaluate e) = (evaluate_tag, of_expr e) ∷ []
 
   pub laid : BlockTree → List Cell
   laid Done = (done_tag, nothing) ∷ []
@@ -106,17 +88,13 @@ with_block k [] = []
 with_block k (statement_part t ∷ s) = []
 with_block k (block_part b ∷ s) = k b s
 
-abbrev pub put_as : Tag → Name → ExprTree → List Part → List Part
-put_as let_tag x e s = statement_part (Let x e) ∷ s
-put_as assign_tag x e s = statement_part (Assign x e) ∷ s
-put_as if_tag x e s = with_block (λ a. with_block (λ b s. statement_part (If e a b) ∷ s)) s
-put_as while_tag x e s = with_block (λ b s. statement_part (While e b) ∷ s) s
-put_as print_tag x e s = statement_part (Print e) ∷ s
-put_as return_tag x e s = statement_part (Return e) ∷ s
-put_as fail_tag x e s = statement_part Fail ∷ s
-put_as evaluate_tag x e s = statement_part (Evaluate e) ∷ s
-put_as done_tag x e s = block_part Done ∷ s
-put_as first_tag x e s = with_statement (λ t. with_block (λ b s. block_part (t ⨟ b) ∷ s)) s
+abbrev pub put_as : Tag → Use → ExprTree → List Part → List Part
+put_as evaluate_tag u e s = statement_part (Evaluate u e) ∷ s
+put_as if_tag u e s = with_block (λ a. with_block (λ b s. statement_part (If e a b) ∷ s)) s
+put_as while_tag u e s = with_block (λ b s. statement_part (While e b) ∷ s) s
+put_as fail_tag u e s = statement_part Fail ∷ s
+put_as done_tag u e s = block_part Done ∷ s
+put_as first_tag u e s = with_statement (λ t. with_block (λ b s. block_part (t ⨟ b) ∷ s)) s
 
 abbrev pub put : Tag → Says → List Part → List Part
 put t c s = put_as t c.0 c.1 s
@@ -140,14 +118,10 @@ two a b c x y e f = ap begun (append_assoc a b c) ∙ e ∙ ap (λ (s : List Par
 
 mutual
   statement_begun : (t : StatementTree) (r : List Cell) → begun (laid_statement t ++ r) ≡ statement_part t ∷ begun r
-  statement_begun (Let x e) r = refl
-  statement_begun (Assign x e) r = refl
+  statement_begun (Evaluate u e) r = refl
   statement_begun (If c a b) r = ap (put if_tag (of_expr c)) (two (laid a) (laid b) r (block_part a) (block_part b) (block_begun a (laid b ++ r)) (block_begun b r))
   statement_begun (While c b) r = ap (put while_tag (of_expr c)) (block_begun b r)
-  statement_begun (Print e) r = refl
-  statement_begun (Return e) r = refl
   statement_begun Fail r = refl
-  statement_begun (Evaluate e) r = refl
 
   block_begun : (b : BlockTree) (r : List Cell) → begun (laid b ++ r) ≡ block_part b ∷ begun r
   block_begun Done r = refl
@@ -157,4 +131,4 @@ pub read_back-laid : (b : BlockTree) → read_back (laid b) ≡ b
 read_back-laid b = ap read_back (sym (append-nil (laid b))) ∙ ap first_block (block_begun b [])
 
 abbrev pub block_code : Coded BlockTree
-block_code = code_by (List Cell) (coded_list (coded× tag_code (coded× name_code expr_code))) laid read_back read_back-laid
+block_code = code_by (List Cell) (coded_list (coded× tag_code (coded× value_use.the_row.coded expr_code))) laid read_back read_back-laid

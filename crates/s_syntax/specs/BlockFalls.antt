@@ -9,14 +9,10 @@ use Rattle.s_syntax.specs.BlockTree.{depth, depth_within}
 use Rattle.s_syntax.specs.BlockOf.{statement_of, block_of}
 
 statement_falls : (s : Statement) → deep-Statement s ≤ depth_within (statement_of s)
-statement_falls (statement.Let x e) = omega arith
-statement_falls (statement.Assign x e) = omega arith
+statement_falls (statement.Evaluate u e) = omega arith
 statement_falls (statement.If c a b) = omega arith
 statement_falls (statement.While c b) = omega arith
-statement_falls (statement.Print e) = omega arith
-statement_falls (statement.Return e) = omega arith
 statement_falls statement.Fail = omega arith
-statement_falls (statement.Evaluate e) = omega arith
 
 pub block_falls : (ss : List Statement) → max (most deep-Statement ss) 0 ≤ depth (block_of ss)
 block_falls [] = omega arith

@@ -2,17 +2,13 @@
 use Rattle.std.specs.Prelude.{List, [], ◌∷◌}
 use Rattle.s_syntax.specs.declared.statement.Statement.{Statement}
 use Rattle.s_syntax.specs.declared.statement.Statement.TheVariants as statement
-use Rattle.s_syntax.specs.BlockTree.{StatementTree, BlockTree, Let, Assign, If, While, Print, Return, Fail, Evaluate, Done, ◌⨟◌}
+use Rattle.s_syntax.specs.BlockTree.{StatementTree, BlockTree, Evaluate, If, While, Fail, Done, ◌⨟◌}
 
 abbrev pub statement_of : Statement → StatementTree
-statement_of (statement.Let x e) = Let x e
-statement_of (statement.Assign x e) = Assign x e
+statement_of (statement.Evaluate u e) = Evaluate u e
 statement_of (statement.If c a b) = If c a b
 statement_of (statement.While c b) = While c b
-statement_of (statement.Print e) = Print e
-statement_of (statement.Return e) = Return e
 statement_of statement.Fail = Fail
-statement_of (statement.Evaluate e) = Evaluate e
 
 abbrev pub block_of : List Statement → BlockTree
 block_of [] = Done

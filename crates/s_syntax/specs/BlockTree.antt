@@ -1,19 +1,16 @@
 -- Blocks as trees. An `if` without `else` has no statements there.
 use Rattle.std.specs.Prelude.{ℕ, ◌+◌, max}
-use Rattle.s_syntax.specs.declared.name.Name.{Name}
+use Rattle.s_syntax.specs.declared.statement.Use.{Use}
 use Rattle.s_syntax.specs.ExprTree.{ExprTree}
 
 infixr 50 ◌⨟◌
 mutual
   pub data StatementTree : Type 0 where
-    Let : (x : Name) → (e : ExprTree) → StatementTree
-    Assign : (x : Name) → (e : ExprTree) → StatementTree
+    -- an expression, and what its value is used for
+    Evaluate : (u : Use) → (e : ExprTree) → StatementTree
     If : (c : ExprTree) → (a b : BlockTree) → StatementTree
     While : (c : ExprTree) → (b : BlockTree) → StatementTree
-    Print : (e : ExprTree) → StatementTree
-    Return : (e : ExprTree) → StatementTree
     Fail : StatementTree
-    Evaluate : (e : ExprTree) → StatementTree
 
   pub data BlockTree : Type 0 where
     Done : BlockTree
@@ -23,14 +20,10 @@ mutual
 -- how deep blocks stand in one another
 abbrev mutual
   pub depth_within : StatementTree → ℕ
-  depth_within (Let x e) = 0
-  depth_within (Assign x e) = 0
+  depth_within (Evaluate u e) = 0
   depth_within (If c a b) = max (depth a + 1) (depth b + 1)
   depth_within (While c b) = depth b + 1
-  depth_within (Print e) = 0
-  depth_within (Return e) = 0
   depth_within Fail = 0
-  depth_within (Evaluate e) = 0
 
   pub depth : BlockTree → ℕ
   depth Done = 0

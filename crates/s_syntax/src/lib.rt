@@ -17,5 +17,5 @@ pub use script::{
     Clause, Declaration, Definition, Function, Handler, Parameter, ReturnClause, Script,
     VariableType,
 };
-pub use statement::{Block, Statement};
+pub use statement::{Block, Statement, Use};
 pub use token::{Kind, Token};

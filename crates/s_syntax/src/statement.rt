@@ -11,18 +11,28 @@ pub struct Block {
     statements: Vec<Statement>,
 }
 
+/// What a statement does with the value of its expression.
+#[derive(Drop)]
+pub enum Use {
+    /// `let name = value;`.
+    Let(Name),
+    /// `name = value;`.
+    Assign(Name),
+    /// `print value;`.
+    Print,
+    /// `return value;`.
+    Return,
+    /// `value;`, which is dropped.
+    Drop,
+}
+
 /// A statement.
 #[derive(Drop)]
 #[cycle(block)]
 pub enum Statement {
-    /// `let name = value;`.
-    Let {
-        name: Name,
-        value: Expr,
-    },
-    /// `name = value;`.
-    Assign {
-        name: Name,
+    /// An expression is evaluated, and its value used.
+    Evaluate {
+        what: Use,
         value: Expr,
     },
     /// `if condition then_block else else_block`; one that is written without `else` has no statements there.
@@ -36,14 +46,8 @@ pub enum Statement {
         condition: Expr,
         body: Block,
     },
-    /// `print value;`.
-    Print(Expr),
-    /// `return value;`.
-    Return(Expr),
     /// `fail;`.
     Fail,
-    /// An expression whose value is dropped.
-    Evaluate(Expr),
 }
 
 impl Model for Block {

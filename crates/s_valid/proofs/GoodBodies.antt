@@ -13,6 +13,7 @@ use Rattle.s_index.specs.Types.{computation_type, to_continuation, val_types}
 use Rattle.s_code.specs.Lowered.{function_code, handler_code}
 use Rattle.s_meaning.proofs.Good.{good_typed}
 use Rattle.s_valid.specs.Offers.{Offers}
+use Rattle.s_valid.proofs.BoundOnce.{function_each}
 use Rattle.s_valid.proofs.GoodHandlers.{good_handler}
 use Rattle.s_valid.proofs.TypedBodies.{function_typed}
 use Rattle.s_valid.proofs.TypedHandlers.{handler_typed}
@@ -21,7 +22,7 @@ module _ (p : Script) (C : Context) (good : Good p) (offers : Offers p.declarati
   -- each function's
   pub good_function_typed : (f : Name) (g : Function) → function_of p.declarations f ≡ Some g
       → BodyTyped C (val_types g.parameters) (function_code p.declarations g).locals (I64 ∷ []) (function_code p.declarations g).body
-  good_function_typed f g is = function_typed p C (good_typed p good) offers f g is
+  good_function_typed f g is = function_typed p C (good_typed p good) offers f g is (function_each p good f g is)
 
   -- and each handler's
   pub good_handler_typed : (h : Name) (i : Handler) → handler_of p.declarations h ≡ Some i

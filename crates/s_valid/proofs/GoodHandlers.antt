@@ -1,5 +1,5 @@
 -- The handlers of a script that breaks no rule are typed, and what their clauses bind has the types that they bind it with.
-use Rattle.std.proofs.Common.{◌≡◌, ℕ, zero, suc, ◌+◌, Bool, true, false, ◌||◌, not, nat_eq, List, [], ◌∷◌, ◌++◌, map, length, Option, Some, None, slice_get, if◌then◌else◌, sym, ap, ◌∙◌, subst}
+use Rattle.std.proofs.Common.{◌≡◌, ℕ, zero, suc, ◌+◌, Bool, true, false, not, nat_eq, List, [], ◌∷◌, ◌++◌, map, length, Option, Some, None, slice_get, if◌then◌else◌, sym, ap, ◌∙◌, subst}
 use Rattle.std.specs.Str.{bytes_eq}
 use Rattle.lists.proofs.Lists.{get-behind}
 use Rattle.s_syntax.specs.declared.name.Name.{Name}
@@ -8,52 +8,19 @@ use Rattle.s_syntax.specs.declared.script.Clause.{Clause}
 use Rattle.s_syntax.specs.declared.script.Handler.{Handler}
 use Rattle.s_syntax.specs.declared.script.Declaration.{Declaration}
 use Rattle.s_syntax.specs.declared.script.Script.{Script}
-use Rattle.s_syntax.specs.BlockTree.{BlockTree}
 use Rattle.s_check.specs.declared.rule.Rule.TheVariants as rule
 use Rattle.s_check.specs.Definitions.{handler_of, effect_of}
 use Rattle.s_check.specs.Refusal.{Good}
-use Rattle.s_check.specs.Rules.{when, in_block, in_body, in_head, in_clauses}
-use Rattle.s_check.specs.Scopes.{Bound, Scope, type_in, bind_all, number as number_name, parameter, resumption, of_clause, of_return, lets_in, is_among, some_twice}
+use Rattle.s_check.specs.Rules.{when, in_body, in_head, in_clauses}
+use Rattle.s_check.specs.Scopes.{type_in, number as number_name, parameter, resumption, of_clause, of_return, is_among}
 use Rattle.s_meaning.specs.Steps.{clause_of}
 use Rattle.s_meaning.specs.Typing.{ScriptTyped}
-use Rattle.s_meaning.proofs.BoundInTurn.{or_left, or_right, among_left, twice_of}
+use Rattle.s_meaning.proofs.BoundInTurn.{or_left}
 use Rattle.s_meaning.proofs.Good.{parts, when_not, Handler_empty, handler_empty, good_typed}
 use Rattle.s_meaning.proofs.Lists.{get_before}
 use Rattle.s_meaning.proofs.Scopes.{same_refl, bool_of}
+use Rattle.s_valid.proofs.BoundOnce.{neither, body_names, each_typed}
 use Rattle.s_valid.proofs.TypedHandlers.{HandlerTyped}
-
--- ## Names that are bound once
-
-abbrev names : Scope → List Name
-names bs = map (λ (b : Bound). b.name) bs
-
-named : (bs : Scope) (j : ℕ) (b : Bound) → slice_get bs j ≡ Some b → is_among (names bs) b.name ≡ true
-named [] j b e = absurd (cc)
-named (c ∷ bs) zero b e = let same : c ≡ b = cc in or_left (bytes_eq c.name b.name) (is_among (names bs) b.name) (ap (λ (d : Bound). bytes_eq d.name b.name) same ∙ same_refl b.name)
-named (c ∷ bs) (suc j) b e = or_right (bytes_eq c.name b.name) (is_among (names bs) b.name) (named bs j b e)
-
-neither : (a b : Bool) → (a || b) ≡ false → b ≡ false
-neither true b e = absurd (cc)
-neither false b e = e
-
--- where no name stands twice, each has the type that it is bound with
-once_typed : (before : List Name) (bs : Scope) (ms : List Name) → some_twice before (names bs ++ ms) ≡ false → (j : ℕ) (b : Bound) → slice_get bs j ≡ Some b → type_in bs b.name ≡ Some b.ty
-once_typed before [] ms once j b e = absurd (cc)
-once_typed before (c ∷ bs) ms once zero b e =
-    let same : c ≡ b = cc in
-    ap (λ (q : Bool). if q then Some c.ty else type_in bs b.name) (ap (λ (d : Bound). bytes_eq d.name b.name) same ∙ same_refl b.name) ∙ ap (λ (d : Bound). Some d.ty) same
-once_typed before (c ∷ bs) ms once (suc j) b e =
-    let later = once_typed (c.name ∷ before) bs ms (neither (is_among before c.name) (some_twice (c.name ∷ before) (names bs ++ ms)) once) j b e in
-    bool_of (bytes_eq c.name b.name) (λ q. (if q then Some c.ty else type_in bs b.name) ≡ Some b.ty)
-    (λ q. let twice = twice_of b.name before (c.name ∷ []) (names bs ++ ms) (or_left (bytes_eq c.name b.name) false q) (among_left b.name (names bs) ms (named bs j b e)) in
-    let no : true ≡ false = sym twice ∙ once in absurd (cc))
-    (λ q. later)
-
--- each name at the start of a body that breaks no rule
-body_names : (ds : List Declaration) (bs : Scope) (b : BlockTree) → in_body ds bs b ≡ [] → (j : ℕ) (c : Bound) → slice_get bs j ≡ Some c → type_in bs c.name ≡ Some c.ty
-body_names ds bs b q =
-    let t = parts (when (some_twice [] (names bs ++ lets_in b)) rule.NameBoundTwice) (in_block ds (bind_all bs []) b) q in
-    once_typed [] bs (lets_in b) (when_not (some_twice [] (names bs ++ lets_in b)) rule.NameBoundTwice t.0)
 
 -- ## Clauses, each of another effect
 
@@ -108,6 +75,8 @@ good_handler p good h i is = record {
   clauses = λ n c e. typed.clauses h c.effect i c is (found p.declarations h i [] i.clauses rules.clauses n c e);
   resumptions = resumptions;
   arguments = arguments;
+  of_returns = each_typed p.declarations (of_return i) i.return_clause.body rules.returned;
+  of_clauses = λ n c e. each_typed p.declarations (of_clause h i c) c.body (of_body n c e);
 }
   where
     typed : ScriptTyped p

@@ -1,8 +1,10 @@
 -- Layouts of bodies that stand in a context: each name of the scope has a local of its type, and the temporaries hold numbers.
-use Rattle.std.proofs.Common.{◌≡◌, ℕ, zero, suc, ◌+◌, ◌<◌, Bool, true, ◌||◌, ◌++◌, List, [], ◌∷◌, map, length, Option, Some, slice_get, if◌then◌else◌, refl, sym, ap, ◌∙◌, arith}
+use Rattle.std.proofs.Common.{◌≡◌, ℕ, zero, suc, ◌+◌, ◌<◌, Bool, true, ◌||◌, ◌++◌, List, [], ◌∷◌, map, length, Option, Some, slice_get, if◌then◌else◌, refl, ap, ◌∙◌, arith}
+use Rattle.std.proofs.lemmas.List.{map-append}
 use Rattle.std.specs.Str.{bytes_eq}
 use Rattle.w_types.specs.declared.types.ValType.{ValType}
 use Rattle.w_types.specs.declared.types.ValType.TheVariants.{I64}
+use Rattle.lists.proofs.Lists.{get-behind}
 use Rattle.lists.specs.Rows.{Row, ε, ◌▹◌, ◌⧺◌, row_of, onto}
 use Rattle.w_rules.specs.Operands.{Operand}
 use Rattle.w_rules.specs.Matching.{known}
@@ -10,18 +12,18 @@ use Rattle.w_rules.specs.Context.{Context, labelled}
 use Rattle.w_rules.specs.Spaces.{in_body}
 use Rattle.s_syntax.specs.declared.name.Name.{Name}
 use Rattle.s_syntax.specs.declared.script.VariableType.{VariableType}
-use Rattle.s_syntax.specs.declared.script.VariableType.TheVariants.{Int, Resumption}
 use Rattle.s_syntax.specs.declared.script.Parameter.{Parameter}
 use Rattle.s_syntax.specs.declared.script.Handler.{Handler}
 use Rattle.s_syntax.specs.declared.script.Declaration.{Declaration}
 use Rattle.s_check.specs.Definitions.{handler_of}
-use Rattle.s_check.specs.Scopes.{Scope, type_in, number as number_name, is_among}
+use Rattle.s_check.specs.Scopes.{Bound, Scope, type_in, number as number_name, is_among}
 use Rattle.s_index.specs.Handled.{handled_names}
 use Rattle.s_index.specs.Types.{val_type, val_types, numbers, to_continuation, computation_type}
 use Rattle.s_code.specs.Layouts.{Local, Owner, Layout, local_of, local_number, number_in, handler_in, handler_in_type, handler_of_name}
-use Rattle.s_meaning.specs.Typing.{kinds, IsFree}
+use Rattle.s_meaning.specs.Typing.{kinds}
 use Rattle.s_meaning.specs.Typing as script
 use Rattle.s_meaning.proofs.BoundInTurn.{among_left, among_right}
+use Rattle.s_meaning.proofs.Lists.{get_before}
 use Rattle.s_meaning.proofs.Scopes.{same_is, same_refl, bool_of}
 use Rattle.s_valid.specs.Offers.{Offers}
 use Rattle.s_valid.proofs.Rests.{pushed}
@@ -45,8 +47,6 @@ pub record InLoop (ds : List Declaration) (D : ℕ) (C : Context) (o : Owner) : 
 pub record Scoped (ds : List Declaration) (L : Layout) (Γ : Scope) (n D : ℕ) (C : Context) : Type 0 where
   pub offers : Offers ds C
   pub names : (x : Name) (t : VariableType) → type_in Γ x ≡ Some t → Placed L x t
-  -- what has a res type in the layout has it in the scope
-  pub resumptions : (x h : Name) (l : Local) → local_of L.names x ≡ Some l → l.ty ≡ Resumption h → type_in Γ x ≡ Some (Resumption h)
   pub locals : (x : Name) (l : Local) → local_of L.names x ≡ Some l → slice_get C.locals l.number ≡ Some (val_type l.ty)
   pub temporaries : (t : ℕ) → t < n → slice_get C.locals (L.temporaries + t) ≡ Some I64
   pub results : C.results ≡ ε ▹ I64
@@ -103,7 +103,6 @@ pub inside : {ds : List Declaration} {L : Layout} {Γ : Scope} {n D : ℕ} {C : 
 inside {ds} {L} {Γ} {n} {D} {C} ts s = record {
   offers = offers_inside ds C ts s.offers;
   names = s.names;
-  resumptions = s.resumptions;
   locals = s.locals;
   temporaries = s.temporaries;
   results = s.results;
@@ -123,33 +122,22 @@ module _ {ds : List Declaration} {L : Layout} {Γ : Scope} {n D : ℕ} {C : Cont
   pub handler_at : (x : Name) (t : VariableType) → type_in Γ x ≡ Some t → handler_of_name L x ≡ handler_in_type t
   handler_at x t e = let q = s.names x t e in ap handler_in q.is ∙ ap handler_in_type q.ty
 
-  -- a let of a name that has a local
-  pub bound : (x : Name) (l : Local) → local_of L.names x ≡ Some l → IsFree x Γ → Scoped ds L (number_name x ∷ Γ) n D C
-  bound x l there free = record {
+  -- a name more, which has a local of its type
+  pub bound : (b : Bound) → Placed L b.name b.ty → Scoped ds L (b ∷ Γ) n D C
+  bound b there = record {
     offers = s.offers;
     names = names;
-    resumptions = resumptions;
     locals = s.locals;
     temporaries = s.temporaries;
     results = s.results;
     loop = s.loop;
   }
     where
-      is_int : (t : VariableType) → l.ty ≡ t → t ≡ Int
-      is_int Int e = refl
-      is_int (Resumption h) e = absurd (free.free h (s.resumptions x h l there e))
+      at_name : (y : Name) (t : VariableType) → bytes_eq b.name y ≡ true → Some b.ty ≡ Some t → Placed L y t
+      at_name y t q e = record { local = there.local; is = ap (λ (z : Name). local_of L.names z) (same_is y b.name q) ∙ there.is; ty = there.ty ∙ let i : b.ty ≡ t = cc in i }
 
-      at_name : (y : Name) (t : VariableType) → bytes_eq x y ≡ true → Some Int ≡ Some t → Placed L y t
-      at_name y t q e = record { local = l; is = ap (λ (z : Name). local_of L.names z) (same_is y x q) ∙ there; ty = is_int l.ty refl ∙ let i : Int ≡ t = cc in i }
-
-      names : (y : Name) (t : VariableType) → type_in (number_name x ∷ Γ) y ≡ Some t → Placed L y t
-      names y t = bool_of (bytes_eq x y) (λ b. (if b then Some Int else type_in Γ y) ≡ Some t → Placed L y t) (λ q e. at_name y t q e) (λ q e. s.names y t e)
-
-      resumptions : (y h : Name) (m : Local) → local_of L.names y ≡ Some m → m.ty ≡ Resumption h → type_in (number_name x ∷ Γ) y ≡ Some (Resumption h)
-      resumptions y h m is e =
-          let r = s.resumptions y h m is e in
-          bool_of (bytes_eq x y) (λ b. (if b then Some Int else type_in Γ y) ≡ Some (Resumption h))
-          (λ q. absurd (free.free h (ap (λ (z : Name). type_in Γ z) (sym (same_is y x q)) ∙ r))) (λ q. r)
+      names : (y : Name) (t : VariableType) → type_in (b ∷ Γ) y ≡ Some t → Placed L y t
+      names y t = bool_of (bytes_eq b.name y) (λ q. (if q then Some b.ty else type_in Γ y) ≡ Some t → Placed L y t) (λ q e. at_name y t q e) (λ q e. s.names y t e)
 
 -- ## Rows of types
 
@@ -191,15 +179,26 @@ handled_first x xs a = a.handled x (ap (λ (b : Bool). b || is_among xs x) (same
 pub handled_later : {ds : List Declaration} (x : Name) (xs : List Name) → AllHandled ds (x ∷ xs) → AllHandled ds xs
 handled_later x xs a = record { handled = λ f h. a.handled f (among_right f (x ∷ []) xs h) }
 
--- each name of these lets has a local
-pub record LetsPlaced (L : Layout) (xs : List Name) : Type 0 where
-  pub placed : (x : Name) → is_among xs x ≡ true → (l : Local) × (local_of L.names x ≡ Some l)
+-- ## Names that bodies bind
 
-pub lets_left : {L : Layout} (xs ys : List Name) → LetsPlaced L (xs ++ ys) → LetsPlaced L xs
-lets_left xs ys a = record { placed = λ f h. a.placed f (among_left f xs ys h) }
+-- each of these names has the type that it is bound with
+pub record EachTyped (bs : List Bound) : Type 0 where
+  pub typed : (n : ℕ) (b : Bound) → slice_get bs n ≡ Some b → type_in bs b.name ≡ Some b.ty
 
-pub lets_right : {L : Layout} (xs ys : List Name) → LetsPlaced L (xs ++ ys) → LetsPlaced L ys
-lets_right xs ys a = record { placed = λ f h. a.placed f (among_right f xs ys h) }
+-- each of these names has a local of its type
+pub record LetsPlaced (L : Layout) (bs : List Bound) : Type 0 where
+  pub placed : (n : ℕ) (b : Bound) → slice_get bs n ≡ Some b → Placed L b.name b.ty
 
-pub lets_first : {L : Layout} (x : Name) (xs : List Name) → LetsPlaced L (x ∷ xs) → (l : Local) × (local_of L.names x ≡ Some l)
-lets_first x xs a = a.placed x (ap (λ (b : Bool). b || is_among xs x) (same_refl x))
+pub lets_left : {L : Layout} (xs ys : List Name) → LetsPlaced L (map number_name (xs ++ ys)) → LetsPlaced L (map number_name xs)
+lets_left xs ys a = record {
+  placed = λ n b e. a.placed n b (ap (λ (bs : List Bound). slice_get bs n) (map-append number_name xs ys) ∙ get_before (map number_name xs) (map number_name ys) n b e);
+}
+
+pub lets_right : {L : Layout} (xs ys : List Name) → LetsPlaced L (map number_name (xs ++ ys)) → LetsPlaced L (map number_name ys)
+lets_right xs ys a = record {
+  placed = λ n b e. let k = length (map number_name xs) + n in
+      a.placed k b (ap (λ (bs : List Bound). slice_get bs k) (map-append number_name xs ys) ∙ get-behind (map number_name xs) (map number_name ys) n ∙ e);
+}
+
+pub lets_first : {L : Layout} (b : Bound) (bs : List Bound) → LetsPlaced L (b ∷ bs) → Placed L b.name b.ty
+lets_first b bs a = a.placed 0 b refl

@@ -15,6 +15,7 @@ pub mod TypedStatements
 pub mod LocalTypes
 pub mod TypedBodies
 pub mod TypedHandlers
+pub mod BoundOnce
 pub mod GoodHandlers
 pub mod GoodBodies
 pub mod LoweredValid

@@ -1,5 +1,5 @@
 -- The locals that layouts name have the types of their names, and behind them stand temporaries for numbers.
-use Rattle.std.proofs.Common.{◌≡◌, ℕ, zero, suc, ◌+◌, ◌<◌, Bool, true, false, ◌||◌, List, [], ◌∷◌, ◌++◌, map, length, replicate, Some, slice_get, if◌then◌else◌, refl, sym, ap, ◌∙◌, subst, arith, append-nil}
+use Rattle.std.proofs.Common.{◌≡◌, ℕ, zero, suc, ◌+◌, ◌<◌, Bool, true, false, List, [], ◌∷◌, ◌++◌, map, length, replicate, Some, slice_get, if◌then◌else◌, refl, sym, ap, ◌∙◌, subst, arith, append-nil}
 use Rattle.std.specs.Str.{bytes_eq}
 use Rattle.w_types.specs.declared.types.ValType.{ValType}
 use Rattle.w_types.specs.declared.types.ValType.TheVariants.{I64}
@@ -16,14 +16,14 @@ use Rattle.s_syntax.specs.declared.name.Name.{Name}
 use Rattle.s_syntax.specs.declared.script.VariableType.{VariableType}
 use Rattle.s_syntax.specs.declared.script.VariableType.TheVariants.{Int, Resumption}
 use Rattle.s_syntax.specs.declared.script.Parameter.{Parameter}
-use Rattle.s_check.specs.Scopes.{Bound, Scope, type_in, number as number_name, parameter, is_among}
+use Rattle.s_check.specs.Scopes.{Bound, Scope, type_in, parameter}
 use Rattle.s_index.specs.Types.{val_type, val_types}
 use Rattle.s_code.specs.Layouts.{Local, Layout, numbered, local_of}
 use Rattle.s_code.specs.Places.{run, name_runs, locals_for}
 use Rattle.s_meaning.proofs.Lists.{get_before}
 use Rattle.s_meaning.proofs.Scopes.{bool_of}
 use Rattle.s_valid.proofs.Rests.{Rest, AllSet}
-use Rattle.s_valid.proofs.LayoutTypes.{Placed, LetsPlaced}
+use Rattle.s_valid.proofs.LayoutTypes.{Placed, EachTyped, LetsPlaced}
 
 -- ## Runs of locals
 
@@ -190,7 +190,7 @@ stands_one ls k bs g =
 pub stands_two : (ls : List ValType) (j k : ℕ) (bs cs : List Bound) → Segment ls j bs → Segment ls k cs → Stands ls (numbered j bs ++ numbered k cs) (bs ++ cs)
 stands_two ls j k bs cs g h = stands_before ls j bs (numbered k cs) cs g (stands_one ls k cs h)
 
--- ## A scope, and lets behind it
+-- ## A scope, and what a body binds behind it
 
 -- what is bound in front stays so
 type_before : (Γ bs : Scope) (x : Name) (t : VariableType) → type_in Γ x ≡ Some t → type_in (Γ ++ bs) x ≡ Some t
@@ -198,39 +198,16 @@ type_before [] bs x t e = absurd (cc)
 type_before (b ∷ Γ) bs x t e =
     bool_of (bytes_eq b.name x) (λ q. (if q then Some b.ty else type_in Γ x) ≡ Some t → (if q then Some b.ty else type_in (Γ ++ bs) x) ≡ Some t) (λ q z. z) (λ q z. type_before Γ bs x t z) e
 
-no_resumption : (xs : List Name) (x h : Name) → type_in (map number_name xs) x ≡ Some (Resumption h) → ⊥
-no_resumption [] x h e = cc
-no_resumption (y ∷ xs) x h e =
-    bool_of (bytes_eq y x) (λ q. (if q then Some Int else type_in (map number_name xs) x) ≡ Some (Resumption h) → ⊥) (λ q z. cc) (λ q z. no_resumption xs x h z) e
-
--- lets bind no resumptions
-resumption_before : (Γ : Scope) (xs : List Name) (x h : Name) → type_in (Γ ++ map number_name xs) x ≡ Some (Resumption h) → type_in Γ x ≡ Some (Resumption h)
-resumption_before [] xs x h e = absurd (no_resumption xs x h e)
-resumption_before (b ∷ Γ) xs x h e =
-    bool_of (bytes_eq b.name x) (λ q. (if q then Some b.ty else type_in (Γ ++ map number_name xs) x) ≡ Some (Resumption h) → (if q then Some b.ty else type_in Γ x) ≡ Some (Resumption h))
-    (λ q z. z) (λ q z. resumption_before Γ xs x h z) e
-
--- each name of a let is bound
-let_typed : (Γ : Scope) (xs : List Name) (x : Name) → is_among xs x ≡ true → (t : VariableType) × (type_in (Γ ++ map number_name xs) x ≡ Some t)
-let_typed [] [] x h = absurd (cc)
-let_typed [] (y ∷ xs) x h =
-    bool_of (bytes_eq y x) (λ q. (q || is_among xs x) ≡ true → (t : VariableType) × ((if q then Some Int else type_in (map number_name xs) x) ≡ Some t))
-    (λ q z. (Int, refl)) (λ q z. let_typed [] xs x z) h
-let_typed (b ∷ Γ) xs x h =
-    bool_of (bytes_eq b.name x) (λ q. (t : VariableType) × ((if q then Some b.ty else type_in (Γ ++ map number_name xs) x) ≡ Some t))
-    (λ q. (b.ty, refl)) (λ q. let_typed Γ xs x h)
-
--- names of a scope, with lets behind it
-module _ {ls : List ValType} (L : Layout) (Γ : Scope) (xs : List Name) (s : Stands ls L.names (Γ ++ map number_name xs)) where
-  pub placed_names : (x : Name) (t : VariableType) → type_in Γ x ≡ Some t → Placed L x t
-  placed_names x t e =
-      let there = type_before Γ (map number_name xs) x t e in
-      let l = s.there x t there in
+-- names of a scope, with what a body binds behind it
+module _ {ls : List ValType} (L : Layout) (Γ bs : Scope) (s : Stands ls L.names (Γ ++ bs)) where
+  placed_name : (x : Name) (t : VariableType) → type_in (Γ ++ bs) x ≡ Some t → Placed L x t
+  placed_name x t e =
+      let l = s.there x t e in
       let same = s.types x l.0 l.1 in
       record { local = l.0; is = l.1; ty = cc }
 
-  pub placed_resumptions : (x h : Name) (l : Local) → local_of L.names x ≡ Some l → l.ty ≡ Resumption h → type_in Γ x ≡ Some (Resumption h)
-  placed_resumptions x h l is e = resumption_before Γ xs x h (s.types x l is ∙ ap (λ (t : VariableType). Some t) e)
+  pub placed_names : (x : Name) (t : VariableType) → type_in Γ x ≡ Some t → Placed L x t
+  placed_names x t e = placed_name x t (type_before Γ bs x t e)
 
-  pub placed_lets : LetsPlaced L xs
-  placed_lets = record { placed = λ x h. let t = let_typed Γ xs x h in s.there x t.0 t.1 }
+  pub placed_lets : EachTyped (Γ ++ bs) → LetsPlaced L bs
+  placed_lets each = record { placed = λ n b e. placed_name b.name b.ty (each.typed (length Γ + n) b (get-behind Γ bs n ∙ e)) }

@@ -45,7 +45,7 @@ use Rattle.s_index.specs.Indices.{type_table, function_type_index, effect_type_i
 use Rattle.s_index.specs.Numbers.{function_index}
 use Rattle.s_index.specs.Types.{place, from_to, function_type, handler_type, effect_type, clause_types, types_for, types_for_all, val_type, val_types, numbers, to_continuation, computation_type}
 use Rattle.s_code.specs.Lowered.{function_type_of, handler_type_of, tag_of, function_code_of, handler_code_of, function_code, handler_code, for_each, main_export, declared, lowered_all, lowered}
-use Rattle.s_code.specs.Places.{run, name_runs, locals_for, lets, return_names, clauses_names}
+use Rattle.s_code.specs.Places.{run, name_runs, locals_for, binds_in, return_names, clauses_names}
 use Rattle.s_meaning.proofs.Good.{good_typed}
 use Rattle.s_valid.specs.Offers.{arrow}
 use Rattle.s_valid.proofs.Declarations.{good_empty, first_of_name}
@@ -419,7 +419,7 @@ function_by ds i typed (of_function f g e t c) = record {
   func = function_code ds g;
   has_type = t;
   has_code = c;
-  locals = locals_valid (length (types_of (lowered_all ds).types)) (lets g.body) _ (module_types ds);
+  locals = locals_valid (length (types_of (lowered_all ds).types)) (binds_in ds g.body) _ (module_types ds);
   body = typed.functions f g e;
 }
 function_by ds i typed (of_handler h j e t c) = record {
@@ -427,7 +427,7 @@ function_by ds i typed (of_handler h j e t c) = record {
   func = handler_code ds h j;
   has_type = t;
   has_code = c;
-  locals = locals_valid (length (types_of (lowered_all ds).types)) (return_names j ++ clauses_names h j.clauses) _ (module_types ds);
+  locals = locals_valid (length (types_of (lowered_all ds).types)) (return_names ds j ++ clauses_names ds h j.clauses) _ (module_types ds);
   body = typed.handlers h j e;
 }
 

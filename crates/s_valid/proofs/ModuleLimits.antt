@@ -20,7 +20,7 @@ use Rattle.s_syntax.specs.declared.script.Definition.TheVariants as definition
 use Rattle.s_syntax.specs.declared.script.Declaration.{Declaration}
 use Rattle.s_syntax.specs.declared.script.Script.{Script}
 use Rattle.s_syntax.specs.ExprTree.{ExprTree, Literal, Read, Unary, Run, Call, Do, Handle, Resume, Exprs, NoExprs, MoreExprs, Operands, NoOperands, MoreOperands}
-use Rattle.s_syntax.specs.BlockTree.{StatementTree, BlockTree, Let, Assign, If, While, Print, Return, Fail, Evaluate, Done, ◌⨟◌}
+use Rattle.s_syntax.specs.BlockTree.{StatementTree, BlockTree, Evaluate, If, While, Fail, Done, ◌⨟◌}
 use Rattle.s_check.specs.Definitions.{definition_of}
 use Rattle.s_check.specs.Refusal.{Good}
 use Rattle.s_check.specs.Rules.{count}
@@ -29,8 +29,9 @@ use Rattle.s_check.specs.Size.{expr_size, exprs_size, operands_size, statement_s
 use Rattle.s_index.specs.Types.{val_type, val_types, to_continuation, computation_type}
 use Rattle.s_index.specs.Indices.{type_table}
 use Rattle.s_code.specs.Lowered.{lowered}
-use Rattle.s_code.specs.Places.{run, name_runs, locals_for, lets, function_locals, return_names, clause_names, clauses_names, high_clauses, handler_locals}
+use Rattle.s_code.specs.Places.{run, name_runs, locals_for, binds_in, function_locals, return_names, clause_names, clauses_names, high_clauses, handler_locals}
 use Rattle.s_code.specs.Temporaries.{high, high_args, high_aside, high_operands, high_statement, high_block}
+use Rattle.s_code.proofs.Highs.{lets_by_few}
 use Rattle.s_valid.proofs.Declarations.{Declares, declares}
 use Rattle.s_valid.proofs.ManyTypes.{few_in_table, all_narrow}
 use Rattle.s_valid.proofs.ModuleItems.{StandsAt, of_function, of_handler, functions_and_codes, stands_at}
@@ -80,28 +81,24 @@ mutual
 -- names and temporaries together, no more than a block is large
 mutual
   room_statement : (s : StatementTree) → length (lets_of s) + high_statement s ≤ statement_size s
-  room_statement (Let x e) = let q = high_expr 0 e in omega (arith, q)
-  room_statement (Assign x e) = let q = high_expr 0 e in omega (arith, q)
+  room_statement (Evaluate u e) = let q = high_expr 0 e in let r = lets_by_few u in omega (arith, q, r)
   room_statement (If c a b) =
       let q = high_expr 0 c in let r = room_block a in let s = room_block b in let l = length-append (lets_in a) (lets_in b) in omega (arith, q, r, s, l)
   room_statement (While c b) = let q = high_expr 0 c in let r = room_block b in omega (arith, q, r)
-  room_statement (Print e) = let q = high_expr 0 e in omega (arith, q)
-  room_statement (Return e) = let q = high_expr 0 e in omega (arith, q)
   room_statement Fail = omega arith
-  room_statement (Evaluate e) = let q = high_expr 0 e in omega (arith, q)
 
   room_block : (b : BlockTree) → length (lets_in b) + high_block b ≤ block_size b
   room_block Done = omega arith
   room_block (s ⨟ b) = let q = room_statement s in let r = room_block b in let l = length-append (lets_of s) (lets_in b) in omega (arith, q, r, l)
 
-room_clauses : (h : Name) (cs : List Clause) → length (clauses_names h cs) + high_clauses cs ≤ sum_by clause_size cs
-room_clauses h [] = omega arith
-room_clauses h (c ∷ cs) =
-    let q = room_clauses h cs in
+room_clauses : (ds : List Declaration) (h : Name) (cs : List Clause) → length (clauses_names ds h cs) + high_clauses cs ≤ sum_by clause_size cs
+room_clauses ds h [] = omega arith
+room_clauses ds h (c ∷ cs) =
+    let q = room_clauses ds h cs in
     let r = room_block c.body in
     let s = sum_by-cons clause_size c cs in
-    let l = length-append (clause_names h c) (clauses_names h cs) in
-    let m = length-append (map number c.arguments) (resumption h c.resumption ∷ lets c.body) in
+    let l = length-append (clause_names ds h c) (clauses_names ds h cs) in
+    let m = length-append (map number c.arguments) (resumption h c.resumption ∷ binds_in ds c.body) in
     let a = length-map c.arguments number in
     let b = length-map (lets_in c.body) number in
     omega (arith, q, r, s, l, m, a, b)
@@ -140,22 +137,22 @@ total_locals : (bs : List Bound) (k : ℕ) → total (locals_for bs k) ≡ lengt
 total_locals bs k = total_joined (name_runs bs ++ run I64 k ∷ []) ∙ total_names bs k
 
 -- with its parameters
-function_room : (f : Function) → length (val_types f.parameters) + total (function_locals f) ≤ definition_size (definition.Function f)
-function_room f =
-    let t = total_locals (lets f.body) (high_block f.body) in
+function_room : (ds : List Declaration) (f : Function) → length (val_types f.parameters) + total (function_locals ds f) ≤ definition_size (definition.Function f)
+function_room ds f =
+    let t = total_locals (binds_in ds f.body) (high_block f.body) in
     let q = room_block f.body in
     let a = length-map f.parameters (λ (p : Parameter). val_type p.ty) in
     let b = length-map (lets_in f.body) number in
     omega (arith, t, q, a, b)
 
-handler_room : (h : Name) (i : Handler) → length (val_types i.parameters ++ to_continuation true computation_type ∷ []) + total (handler_locals h i) ≤ definition_size (definition.Handler i)
-handler_room h i =
-    let t = total_locals (return_names i ++ clauses_names h i.clauses) (max (high_block i.return_clause.body) (high_clauses i.clauses)) in
+handler_room : (ds : List Declaration) (h : Name) (i : Handler) → length (val_types i.parameters ++ to_continuation true computation_type ∷ []) + total (handler_locals ds h i) ≤ definition_size (definition.Handler i)
+handler_room ds h i =
+    let t = total_locals (return_names ds i ++ clauses_names ds h i.clauses) (max (high_block i.return_clause.body) (high_clauses i.clauses)) in
     let q = room_block i.return_clause.body in
-    let r = room_clauses h i.clauses in
+    let r = room_clauses ds h i.clauses in
     let a = length-map i.parameters (λ (p : Parameter). val_type p.ty) in
     let b = length-append (val_types i.parameters) (to_continuation true computation_type ∷ []) in
-    let c = length-append (return_names i) (clauses_names h i.clauses) in
+    let c = length-append (return_names ds i) (clauses_names ds h i.clauses) in
     let d = length-map (lets_in i.return_clause.body) number in
     omega (arith, t, q, r, a, b, c, d)
 
@@ -170,16 +167,16 @@ part_of p d k = let q = part p.declarations k.place k.declaration k.is in subst 
 
 locals_by : (p : Script) (i : ℕ) → Size p ≤ size_limit → StandsAt p.declarations i → locals_of (lowered p) i ≤ size_limit
 locals_by p i few (of_function f g e t c) =
-    let r = function_room g in
+    let r = function_room p.declarations g in
     let s = part_of p (definition.Function g) (declares p.declarations f (definition.Function g) (is_function (definition_of p.declarations f) g e)) in
     let a : params_in (type_of_function (lowered p) i) ≡ length (val_types g.parameters) = ap params_in t in
-    let b : locals_in (code_of_function (lowered p) i) ≡ total (function_locals g) = ap locals_in c in
+    let b : locals_in (code_of_function (lowered p) i) ≡ total (function_locals p.declarations g) = ap locals_in c in
     omega (arith, few, r, s, a, b)
 locals_by p i few (of_handler h j e t c) =
-    let r = handler_room h j in
+    let r = handler_room p.declarations h j in
     let s = part_of p (definition.Handler j) (declares p.declarations h (definition.Handler j) (is_handler (definition_of p.declarations h) j e)) in
     let a : params_in (type_of_function (lowered p) i) ≡ length (val_types j.parameters ++ to_continuation true computation_type ∷ []) = ap params_in t in
-    let b : locals_in (code_of_function (lowered p) i) ≡ total (handler_locals h j) = ap locals_in c in
+    let b : locals_in (code_of_function (lowered p) i) ≡ total (handler_locals p.declarations h j) = ap locals_in c in
     omega (arith, few, r, s, a, b)
 
 -- ## All limits

@@ -23,7 +23,8 @@ use Rattle.s_syntax.specs.declared.script.Clause.{Clause}
 use Rattle.s_syntax.specs.declared.script.Handler.{Handler}
 use Rattle.s_syntax.specs.declared.script.Declaration.{Declaration}
 use Rattle.s_syntax.specs.ExprTree.{ExprTree, Literal, Read, Unary, Run, Call, Do, Handle, Resume, Exprs, NoExprs, MoreExprs, Operands, NoOperands, MoreOperands}
-use Rattle.s_syntax.specs.BlockTree.{StatementTree, BlockTree, Let, Assign, If as IfStatement, While, Print, Return, Fail, Evaluate, Done as NoStatements, ◌⨟◌}
+use Rattle.s_syntax.specs.declared.statement.Use.TheVariants as use_for
+use Rattle.s_syntax.specs.BlockTree.{StatementTree, BlockTree, Evaluate, If as IfStatement, While, Fail, Done as NoStatements, ◌⨟◌}
 use Rattle.s_check.specs.Rules.{count}
 use Rattle.s_check.specs.Size.{expr_size, exprs_size, operands_size, statement_size, block_size, clause_size}
 use Rattle.s_index.specs.Numbers.{function_index, handler_index, tag_index}
@@ -235,8 +236,8 @@ module _ (ds : List Declaration) (Γ : Layout) (few : owner_parameters Γ.owner 
 
   mutual
     statement_short : (s : StatementTree) (D : ℕ) (c : Code) → code_bytes (statement ds Γ D s c) ≤ 80 * statement_size s + code_bytes c
-    statement_short (Let x e) D c = let p = expr_short ds Γ e 0 (Plain (local_set (local_number Γ x)) c) in let q = set_short (local_number Γ x) c in omega (arith, p, q)
-    statement_short (Assign x e) D c = let p = expr_short ds Γ e 0 (Plain (local_set (local_number Γ x)) c) in let q = set_short (local_number Γ x) c in omega (arith, p, q)
+    statement_short (Evaluate (use_for.Let x) e) D c = let p = expr_short ds Γ e 0 (Plain (local_set (local_number Γ x)) c) in let q = set_short (local_number Γ x) c in omega (arith, p, q)
+    statement_short (Evaluate (use_for.Assign x) e) D c = let p = expr_short ds Γ e 0 (Plain (local_set (local_number Γ x)) c) in let q = set_short (local_number Γ x) c in omega (arith, p, q)
     statement_short (IfStatement e a b) D c =
         let p = expr_short ds Γ e 0 (if_zero (block ds Γ (D + 1) b Done) (block ds Γ (D + 1) a Done) c) in
         let q = block_short a (D + 1) Done in let r = block_short b (D + 1) Done in
@@ -246,10 +247,10 @@ module _ (ds : List Declaration) (Γ : Layout) (few : owner_parameters Γ.owner 
         let q = block_short b (D + 2) (Plain (branch 0) Done) in
         let p = expr_short ds Γ e 0 (Plain is_zero (Plain (branch_if 1) (block ds Γ (D + 2) b (Plain (branch 0) Done)))) in
         omega (arith, n, m, p, q)
-    statement_short (Print e) D c = let p = expr_short ds Γ e 0 (Plain (call printer) c) in let q = call_short printer c in omega (arith, p, q)
-    statement_short (Return e) D c = return_short e D c
+    statement_short (Evaluate use_for.Print e) D c = let p = expr_short ds Γ e 0 (Plain (call printer) c) in let q = call_short printer c in omega (arith, p, q)
+    statement_short (Evaluate use_for.Return e) D c = return_short e D c
     statement_short Fail D c = omega arith
-    statement_short (Evaluate e) D c = let p = expr_short ds Γ e 0 (Plain dropped c) in omega (arith, p)
+    statement_short (Evaluate use_for.Drop e) D c = let p = expr_short ds Γ e 0 (Plain dropped c) in omega (arith, p)
 
     block_short : (b : BlockTree) (D : ℕ) (c : Code) → code_bytes (block ds Γ D b c) ≤ 80 * block_size b + code_bytes c
     block_short NoStatements D c = omega arith
@@ -280,12 +281,12 @@ module _ (ds : List Declaration) (Γ : Layout) (few : owner_parameters Γ.owner 
       omega (arith, b, q)
 
 blocks_short : (ds : List Declaration) (h : Name) (i : Handler) → length i.parameters ≤ 8 → (n : ℕ) (cs : List Clause) (c : Code)
-    → code_bytes (blocks ds (placed_from h i n cs) c) + 21 * length cs ≤ 80 * sum_by clause_size cs + code_bytes c
+    → code_bytes (blocks ds (placed_from ds h i n cs) c) + 21 * length cs ≤ 80 * sum_by clause_size cs + code_bytes c
 blocks_short ds h i few n [] c = omega arith
 blocks_short ds h i few n (k ∷ cs) c =
-    let Γ = layout_at h i n (clause_names h k) in
-    let m = n + length (clause_names h k) in
-    let ps = placed_from h i m cs in
+    let Γ = layout_at ds h i n (clause_names ds h k) in
+    let m = n + length (clause_names ds h k) in
+    let ps = placed_from ds h i m cs in
     let t = block_type.Index (clause_type_index ds (length k.arguments)) in
     let code = clause_code ds (length ps) (record { clause = k; layout = Γ }) in
     let s = signed_short (pos (clause_type_index ds (length k.arguments))) in
@@ -318,9 +319,9 @@ handling_short ds Γ i few =
 
 -- the code of a handler
 pub handler_short : (ds : List Declaration) (h : Name) (i : Handler) → length i.parameters ≤ 8
-    → code_bytes (handler_body ds (return_layout h i) i (placed_clauses h i)) ≤ 80 * block_size i.return_clause.body + 80 * sum_by clause_size i.clauses + 58
+    → code_bytes (handler_body ds (return_layout ds h i) i (placed_clauses ds h i)) ≤ 80 * block_size i.return_clause.body + 80 * sum_by clause_size i.clauses + 58
 handler_short ds h i few =
-    let Γ = return_layout h i in
+    let Γ = return_layout ds h i in
     let p = handling_short ds Γ i few in
-    let q = blocks_short ds h i few (clauses_place i) i.clauses (handling ds Γ i) in
+    let q = blocks_short ds h i few (clauses_place ds i) i.clauses (handling ds Γ i) in
     omega (arith, p, q)

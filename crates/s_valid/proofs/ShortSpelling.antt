@@ -31,7 +31,7 @@ use Rattle.s_syntax.specs.declared.script.Definition.{Definition}
 use Rattle.s_syntax.specs.declared.script.Definition.TheVariants as definition
 use Rattle.s_syntax.specs.declared.script.Declaration.{Declaration}
 use Rattle.s_syntax.specs.declared.script.Script.{Script}
-use Rattle.s_syntax.specs.BlockTree.{StatementTree, BlockTree, Let, Assign, If, While, Print, Return, Fail, Evaluate, Done, ◌⨟◌}
+use Rattle.s_syntax.specs.BlockTree.{StatementTree, BlockTree, Evaluate, If, While, Fail, Done, ◌⨟◌}
 use Rattle.s_check.specs.Refusal.{Good}
 use Rattle.s_check.specs.Scopes.{Bound, number, resumption, lets_of, lets_in}
 use Rattle.s_check.specs.Size.{statement_size, block_size, clause_size, definition_size, Size, size_limit}
@@ -40,8 +40,9 @@ use Rattle.s_index.specs.Indices.{function_types, continuations, parameters_of, 
 use Rattle.s_index.specs.Numbers.{function_index}
 use Rattle.s_index.specs.Types.{place, from_to, first_types, function_type, handler_type, effect_type, clause_type, clause_types, types_for, types_for_all, with_type, with_types, val_type, val_types, numbers, to_continuation, computation_type, resumption_type}
 use Rattle.s_code.specs.Lowered.{function_code, handler_code, function_type_of, handler_type_of, tag_of, function_code_of, handler_code_of, for_each, group, printer_import, main_export, declared, lowered_all, lowered}
-use Rattle.s_code.specs.Places.{run, name_runs, locals_for, lets, function_layout, return_names, clause_names, clauses_names, high_clauses}
+use Rattle.s_code.specs.Places.{run, name_runs, locals_for, binds_in, function_layout, return_names, clause_names, clauses_names, high_clauses}
 use Rattle.s_code.specs.Temporaries.{high_block}
+use Rattle.s_code.proofs.Highs.{lets_by_few}
 use Rattle.s_valid.proofs.Declarations.{IsSmall, small}
 use Rattle.s_valid.proofs.ShortCode.{either_short, number_short, signed_short, code_bytes, written_length, body_short, handler_short}
 
@@ -135,38 +136,34 @@ locals_few bs n =
 -- names are no more than what binds them is large
 mutual
   lets_few : (s : StatementTree) → length (lets_of s) ≤ statement_size s
-  lets_few (Let x e) = omega arith
-  lets_few (Assign x e) = omega arith
+  lets_few (Evaluate u e) = let q = lets_by_few u in omega (arith, q)
   lets_few (If c a b) = let q = all_lets_few a in let r = all_lets_few b in let l = length-append (lets_in a) (lets_in b) in omega (arith, q, r, l)
   lets_few (While c b) = let q = all_lets_few b in omega (arith, q)
-  lets_few (Print e) = omega arith
-  lets_few (Return e) = omega arith
   lets_few Fail = omega arith
-  lets_few (Evaluate e) = omega arith
 
   all_lets_few : (b : BlockTree) → length (lets_in b) ≤ block_size b
   all_lets_few Done = omega arith
   all_lets_few (s ⨟ b) = let q = lets_few s in let r = all_lets_few b in let l = length-append (lets_of s) (lets_in b) in omega (arith, q, r, l)
 
-lets_within : (b : BlockTree) → length (lets b) ≤ block_size b
-lets_within b = let q = all_lets_few b in let m = length-map (lets_in b) number in omega (arith, q, m)
+lets_within : (ds : List Declaration) (b : BlockTree) → length (binds_in ds b) ≤ block_size b
+lets_within ds b = let q = all_lets_few b in let m = length-map (lets_in b) number in omega (arith, q, m)
 
-return_within : (i : Handler) → length (return_names i) ≤ 1 + block_size i.return_clause.body
-return_within i = let q = lets_within i.return_clause.body in omega (arith, q)
+return_within : (ds : List Declaration) (i : Handler) → length (return_names ds i) ≤ 1 + block_size i.return_clause.body
+return_within ds i = let q = lets_within ds i.return_clause.body in omega (arith, q)
 
-clause_within : (h : Name) (c : Clause) → length (clause_names h c) ≤ clause_size c
-clause_within h c =
-    let q = lets_within c.body in
+clause_within : (ds : List Declaration) (h : Name) (c : Clause) → length (clause_names ds h c) ≤ clause_size c
+clause_within ds h c =
+    let q = lets_within ds c.body in
     let m = length-map c.arguments number in
-    let l = length-append (map number c.arguments) (resumption h c.resumption ∷ lets c.body) in
+    let l = length-append (map number c.arguments) (resumption h c.resumption ∷ binds_in ds c.body) in
     omega (arith, q, m, l)
 
-clauses_within : (h : Name) (cs : List Clause) → length (clauses_names h cs) ≤ sum_by clause_size cs
-clauses_within h [] = omega arith
-clauses_within h (c ∷ cs) =
-    let q = clause_within h c in
-    let r = clauses_within h cs in
-    let l = length-append (clause_names h c) (clauses_names h cs) in
+clauses_within : (ds : List Declaration) (h : Name) (cs : List Clause) → length (clauses_names ds h cs) ≤ sum_by clause_size cs
+clauses_within ds h [] = omega arith
+clauses_within ds h (c ∷ cs) =
+    let q = clause_within ds h c in
+    let r = clauses_within ds h cs in
+    let l = length-append (clause_names ds h c) (clauses_names ds h cs) in
     let s = sum_by-cons clause_size c cs in
     omega (arith, q, r, l, s)
 
@@ -184,19 +181,19 @@ body_written_short f =
 function_short : (ds : List Declaration) (f : Function) → length (code_written (function_code ds f)) ≤ 54 + 101 * block_size f.body
 function_short ds f =
     let w = body_written_short (function_code ds f) in
-    let n = locals_few (lets f.body) (high_block f.body) in
-    let k = lets_within f.body in
-    let b = body_short ds (function_layout f) (omega arith) f.body 0 in
+    let n = locals_few (binds_in ds f.body) (high_block f.body) in
+    let k = lets_within ds f.body in
+    let b = body_short ds (function_layout ds f) (omega arith) f.body 0 in
     omega (arith, w, n, k, b)
 
 handler_code_short : (ds : List Declaration) (h : Name) (i : Handler) → length i.parameters ≤ 8
     → length (code_written (handler_code ds h i)) ≤ 121 + 101 * block_size i.return_clause.body + 101 * sum_by clause_size i.clauses
 handler_code_short ds h i few =
     let w = body_written_short (handler_code ds h i) in
-    let n = locals_few (return_names i ++ clauses_names h i.clauses) (max (high_block i.return_clause.body) (high_clauses i.clauses)) in
-    let a = length-append (return_names i) (clauses_names h i.clauses) in
-    let k = return_within i in
-    let c = clauses_within h i.clauses in
+    let n = locals_few (return_names ds i ++ clauses_names ds h i.clauses) (max (high_block i.return_clause.body) (high_clauses i.clauses)) in
+    let a = length-append (return_names ds i) (clauses_names ds h i.clauses) in
+    let k = return_within ds i in
+    let c = clauses_within ds h i.clauses in
     let b = handler_short ds h i few in
     omega (arith, w, n, a, k, c, b)
 

@@ -30,22 +30,22 @@ use Rattle.s_syntax.specs.declared.script.Handler.{Handler}
 use Rattle.s_syntax.specs.declared.script.Declaration.{Declaration}
 use Rattle.s_syntax.specs.declared.script.Script.{Script}
 use Rattle.s_check.specs.Definitions.{handler_of}
-use Rattle.s_check.specs.Scopes.{Bound, Scope, type_in, number as number_name, parameter, resumption, of_clause, of_return, lets_in}
+use Rattle.s_check.specs.Scopes.{Bound, Scope, type_in, number as number_name, parameter, resumption, of_clause, of_return}
 use Rattle.s_index.specs.Handled.{handled_in_block, handled_in_clauses}
 use Rattle.s_index.specs.Indices.{clause_type_index}
 use Rattle.s_index.specs.Types.{resumption_type, computation_type, to_continuation, val_types, numbers}
 use Rattle.s_code.specs.Handlers.{Placed as PlacedClause, set_names, clause_code, blocks, labels, return_code, handling, turn, handler_body}
 use Rattle.s_code.specs.Instructions.{resume}
 use Rattle.s_code.specs.Layouts.{Layout, Owner, local_number}
-use Rattle.s_code.specs.Places.{lets, return_names, clause_names, clauses_names, return_place, clauses_place, handler_temporaries, layout_at, return_layout, placed_from, placed_clauses, high_clauses, handler_locals}
+use Rattle.s_code.specs.Places.{binds_in, return_names, clause_names, clauses_names, return_place, clauses_place, handler_temporaries, layout_at, return_layout, placed_from, placed_clauses, high_clauses, handler_locals}
 use Rattle.s_code.specs.Statements.{body}
 use Rattle.s_code.specs.Temporaries.{high_block}
 use Rattle.s_meaning.specs.Typing.{BlockTyped, ClauseTyped}
 use Rattle.s_meaning.proofs.Lists.{get_before}
 use Rattle.s_valid.specs.Offers.{Offers, arrow}
 use Rattle.s_valid.proofs.Rests.{Rest, pushed, instr_typed, less_typed, weaker, get_typed, set_typed}
-use Rattle.s_valid.proofs.LayoutTypes.{Scoped, InLoop, LetsPlaced, inside, local_typed, pushed_row, AllHandled, handled_left, handled_right, offers_in_body, offers_inside}
-use Rattle.s_valid.proofs.LocalTypes.{name_types, all_types, types_of_parameters, body_of_rest, Segment, segment_there, segment_left, segment_right, segment_at, temporaries_there, Stands, stands_two, placed_names, placed_resumptions, placed_lets}
+use Rattle.s_valid.proofs.LayoutTypes.{Scoped, InLoop, EachTyped, LetsPlaced, inside, local_typed, pushed_row, AllHandled, handled_left, handled_right, offers_in_body, offers_inside}
+use Rattle.s_valid.proofs.LocalTypes.{name_types, all_types, types_of_parameters, body_of_rest, Segment, segment_there, segment_left, segment_right, segment_at, temporaries_there, Stands, stands_two, placed_names, placed_lets}
 use Rattle.s_valid.proofs.TypedBodies.{handler_handled}
 use Rattle.s_valid.proofs.TypedStatements.{body_typed, length_types}
 
@@ -56,6 +56,9 @@ pub record HandlerTyped (p : Script) (h : Name) (i : Handler) : Type 0 where
   pub clauses : (n : ℕ) (c : Clause) → slice_get i.clauses n ≡ Some c → ClauseTyped p h c.effect i c
   pub resumptions : (n : ℕ) (c : Clause) → slice_get i.clauses n ≡ Some c → type_in (of_clause h i c) c.resumption ≡ Some (Resumption h)
   pub arguments : (n : ℕ) (c : Clause) → slice_get i.clauses n ≡ Some c → (m : ℕ) (x : Name) → slice_get c.arguments m ≡ Some x → type_in (of_clause h i c) x ≡ Some Int
+  -- each name of a body has the type that it is bound with
+  pub of_returns : EachTyped (of_return i ++ binds_in p.declarations i.return_clause.body)
+  pub of_clauses : (n : ℕ) (c : Clause) → slice_get i.clauses n ≡ Some c → EachTyped (of_clause h i c ++ binds_in p.declarations c.body)
 
 -- ## Blocks of clauses
 
@@ -116,7 +119,7 @@ set_names_typed (x ∷ xs) {L = L} vs s ints r =
 
 -- a clause takes what its block leaves
 clause_typed : {p : Script} {n D : ℕ} {C : Context} {us : Row Operand} (h : Name) (i : Handler) (q : PlacedClause) → Scoped p.declarations q.layout (of_clause h i q.clause) n D C
-    → BlockTyped p (of_clause h i q.clause) q.clause.body → LetsPlaced q.layout (lets_in q.clause.body) → high_block q.clause.body ≤ n → AllHandled p.declarations (handled_in_block q.clause.body)
+    → BlockTyped p (of_clause h i q.clause) q.clause.body → LetsPlaced q.layout (binds_in p.declarations q.clause.body) → high_block q.clause.body ≤ n → AllHandled p.declarations (handled_in_block q.clause.body)
     → type_in (of_clause h i q.clause) q.clause.resumption ≡ Some (Resumption h) → ((m : ℕ) (x : Name) → slice_get q.clause.arguments m ≡ Some x → type_in (of_clause h i q.clause) x ≡ Some Int)
     → Rest C (clause_code p.declarations D q) (ε ⧺ known (clause_row (length q.clause.arguments))) us
 clause_typed {p} {n} {D} {C} {us} h i q s typed lets high handled k ints =
@@ -137,78 +140,77 @@ clause_typed {p} {n} {D} {C} {us} h i q s typed lets high handled k ints =
 abbrev handler_params : Handler → List ValType
 handler_params i = val_types i.parameters ++ to_continuation true computation_type ∷ []
 
-abbrev handler_names : Name → Handler → List Bound
-handler_names h i = return_names i ++ clauses_names h i.clauses
+abbrev handler_names : List Declaration → Name → Handler → List Bound
+handler_names ds h i = return_names ds i ++ clauses_names ds h i.clauses
 
 abbrev handler_high : Handler → ℕ
 handler_high i = max (high_block i.return_clause.body) (high_clauses i.clauses)
 
-abbrev handler_types : Name → Handler → List ValType
-handler_types h i = handler_params i ++ all_types (handler_names h i) (handler_high i)
+abbrev handler_types : List Declaration → Name → Handler → List ValType
+handler_types ds h i = handler_params i ++ all_types (handler_names ds h i) (handler_high i)
 
 -- the context inside its loop
-abbrev in_loop : Context → Name → Handler → Context
-in_loop C h i = labelled (in_body C (handler_types h i) (I64 ∷ [])) ε
+abbrev in_loop : List Declaration → Context → Name → Handler → Context
+in_loop ds C h i = labelled (in_body C (handler_types ds h i) (I64 ∷ [])) ε
 
 as_many_parameters : (i : Handler) → length (handler_params i) ≡ return_place i
 as_many_parameters i =
     let a = length-append (val_types i.parameters) (to_continuation true computation_type ∷ []) in let b = length_types i.parameters in
     omega (arith, a, b)
 
-parameters_there : (h : Name) (i : Handler) → Segment (handler_types h i) 0 (map parameter i.parameters)
-parameters_there h i =
-    let ps = map parameter i.parameters in let last = to_continuation true computation_type ∷ [] in let all = all_types (handler_names h i) (handler_high i) in
+parameters_there : (ds : List Declaration) (h : Name) (i : Handler) → Segment (handler_types ds h i) 0 (map parameter i.parameters)
+parameters_there ds h i =
+    let ps = map parameter i.parameters in let last = to_continuation true computation_type ∷ [] in let all = all_types (handler_names ds h i) (handler_high i) in
     let P : List ValType → Type 0 = λ ls. Segment ls 0 ps in
-    let one : name_types ps ++ (last ++ all) ≡ handler_types h i =
+    let one : name_types ps ++ (last ++ all) ≡ handler_types ds h i =
     ap (λ (z : List ValType). z ++ (last ++ all)) (sym (types_of_parameters i.parameters)) ∙ sym (append_assoc (val_types i.parameters) last all) in
     subst P one (segment_there [] (last ++ all) ps)
 
-names_there : (h : Name) (i : Handler) → Segment (handler_types h i) (return_place i) (handler_names h i)
-names_there h i = segment_at (return_place i) (handler_names h i) (as_many_parameters i) (segment_there (handler_params i) (replicate (handler_high i) I64) (handler_names h i))
+names_there : (ds : List Declaration) (h : Name) (i : Handler) → Segment (handler_types ds h i) (return_place i) (handler_names ds h i)
+names_there ds h i = segment_at (return_place i) (handler_names ds h i) (as_many_parameters i) (segment_there (handler_params i) (replicate (handler_high i) I64) (handler_names ds h i))
 
-computation_there : (h : Name) (i : Handler) → slice_get (handler_types h i) (length i.parameters) ≡ Some (to_continuation true computation_type)
-computation_there h i =
+computation_there : (ds : List Declaration) (h : Name) (i : Handler) → slice_get (handler_types ds h i) (length i.parameters) ≡ Some (to_continuation true computation_type)
+computation_there ds h i =
     let last = to_continuation true computation_type ∷ [] in
-    get_before (handler_params i) (all_types (handler_names h i) (handler_high i)) (length i.parameters) (to_continuation true computation_type)
+    get_before (handler_params i) (all_types (handler_names ds h i) (handler_high i)) (length i.parameters) (to_continuation true computation_type)
     (ap (λ (k : ℕ). slice_get (handler_params i) k) (let b = length_types i.parameters in let z : length i.parameters ≡ length (val_types i.parameters) + 0 = omega (arith, b) in z)
     ∙ get-behind (val_types i.parameters) last 0)
 
-parameter_there : (h : Name) (i : Handler) (n : ℕ) (t : ValType) → slice_get (val_types i.parameters) n ≡ Some t → slice_get (handler_types h i) n ≡ Some t
-parameter_there h i n t e =
-    get_before (handler_params i) (all_types (handler_names h i) (handler_high i)) n t (get_before (val_types i.parameters) (to_continuation true computation_type ∷ []) n t e)
+parameter_there : (ds : List Declaration) (h : Name) (i : Handler) (n : ℕ) (t : ValType) → slice_get (val_types i.parameters) n ≡ Some t → slice_get (handler_types ds h i) n ≡ Some t
+parameter_there ds h i n t e =
+    get_before (handler_params i) (all_types (handler_names ds h i) (handler_high i)) n t (get_before (val_types i.parameters) (to_continuation true computation_type ∷ []) n t e)
 
-handler_place : (h : Name) (i : Handler) → handler_temporaries h i ≡ length (handler_params i) + length (handler_names h i)
-handler_place h i =
-    let a = as_many_parameters i in let b = length-append (return_names i) (clauses_names h i.clauses) in
+handler_place : (ds : List Declaration) (h : Name) (i : Handler) → handler_temporaries ds h i ≡ length (handler_params i) + length (handler_names ds h i)
+handler_place ds h i =
+    let a = as_many_parameters i in let b = length-append (return_names ds i) (clauses_names ds h i.clauses) in
     omega (arith, a, b)
 
--- names that stand behind the parameters, and lets behind them
-names_stand : (h : Name) (i : Handler) (n : ℕ) (bs Γ : List Bound) (xs : List Name) → bs ≡ Γ ++ map number_name xs → Segment (handler_types h i) n bs
-    → Stands (handler_types h i) (layout_at h i n bs).names ((map parameter i.parameters ++ Γ) ++ map number_name xs)
-names_stand h i n bs Γ xs e g =
+-- names that stand behind the parameters, and what a body binds behind them
+names_stand : (ds : List Declaration) (h : Name) (i : Handler) (n : ℕ) (bs Γ us : List Bound) → bs ≡ Γ ++ us → Segment (handler_types ds h i) n bs
+    → Stands (handler_types ds h i) (layout_at ds h i n bs).names ((map parameter i.parameters ++ Γ) ++ us)
+names_stand ds h i n bs Γ us e g =
     let ps = map parameter i.parameters in
-    let P : List Bound → Type 0 = λ cs. Stands (handler_types h i) (layout_at h i n bs).names cs in
-    subst P (ap (λ (cs : List Bound). ps ++ cs) e ∙ sym (append_assoc ps Γ (map number_name xs))) (stands_two (handler_types h i) 0 n ps bs (parameters_there h i) g)
+    let P : List Bound → Type 0 = λ cs. Stands (handler_types ds h i) (layout_at ds h i n bs).names cs in
+    subst P (ap (λ (cs : List Bound). ps ++ cs) e ∙ sym (append_assoc ps Γ us)) (stands_two (handler_types ds h i) 0 n ps bs (parameters_there ds h i) g)
 
 loop_of : (ds : List Declaration) (C : Context) (h : Name) (i : Handler) → handler_of ds h ≡ Some i → (w : Owner) → Some (record { name = h; parameters = length i.parameters }) ≡ Some w
-    → InLoop ds 0 (in_loop C h i) w
+    → InLoop ds 0 (in_loop ds C h i) w
 loop_of ds C h i is w own =
     let one : Owner = record { name = h; parameters = length i.parameters } in
-    let P : Owner → Type 0 = λ z. InLoop ds 0 (in_loop C h i) z in
+    let P : Owner → Type 0 = λ z. InLoop ds 0 (in_loop ds C h i) z in
     let same : one ≡ w = cc in
-    subst P same (record { handler = i; is = is; as_many = refl; loop = refl; parameters = parameter_there h i; computation = computation_there h i })
+    subst P same (record { handler = i; is = is; as_many = refl; loop = refl; parameters = parameter_there ds h i; computation = computation_there ds h i })
 
 -- a layout of the handler stands inside its loop
-layout_scoped : (ds : List Declaration) (C : Context) (h : Name) (i : Handler) (n : ℕ) (bs Γ : List Bound) (xs : List Name) → Offers ds C → handler_of ds h ≡ Some i → bs ≡ Γ ++ map number_name xs
-    → Segment (handler_types h i) n bs → Scoped ds (layout_at h i n bs) (map parameter i.parameters ++ Γ) (handler_high i) 0 (in_loop C h i)
-layout_scoped ds C h i n bs Γ xs o is e g =
-    let s = names_stand h i n bs Γ xs e g in let L = layout_at h i n bs in let ps = map parameter i.parameters in
+layout_scoped : (ds : List Declaration) (C : Context) (h : Name) (i : Handler) (n : ℕ) (bs Γ us : List Bound) → Offers ds C → handler_of ds h ≡ Some i → bs ≡ Γ ++ us
+    → Segment (handler_types ds h i) n bs → Scoped ds (layout_at ds h i n bs) (map parameter i.parameters ++ Γ) (handler_high i) 0 (in_loop ds C h i)
+layout_scoped ds C h i n bs Γ us o is e g =
+    let s = names_stand ds h i n bs Γ us e g in let L = layout_at ds h i n bs in let ps = map parameter i.parameters in
     record {
-      offers = offers_inside ds (in_body C (handler_types h i) (I64 ∷ [])) ε (offers_in_body ds C (handler_types h i) (I64 ∷ []) o);
-      names = placed_names L (ps ++ Γ) xs s;
-      resumptions = placed_resumptions L (ps ++ Γ) xs s;
+      offers = offers_inside ds (in_body C (handler_types ds h i) (I64 ∷ [])) ε (offers_in_body ds C (handler_types ds h i) (I64 ∷ []) o);
+      names = placed_names L (ps ++ Γ) us s;
       locals = s.locals;
-      temporaries = λ t q. temporaries_there (handler_params i) (handler_names h i) (handler_high i) t (handler_temporaries h i) q (handler_place h i);
+      temporaries = λ t q. temporaries_there (handler_params i) (handler_names ds h i) (handler_high i) t (handler_temporaries ds h i) q (handler_place ds h i);
       results = refl;
       loop = λ w own. loop_of ds C h i is w own;
     }
@@ -220,30 +222,30 @@ record IsClause (i : Handler) (c : Clause) : Type 0 where
 
 module _ (p : Script) (C : Context) (h : Name) (i : Handler) (o : Offers p.declarations C) (is : handler_of p.declarations h ≡ Some i) (t : HandlerTyped p h i) where
   one_clause : (n : ℕ) (c : Clause) (ps : List PlacedClause) → IsClause i c → high_block c.body ≤ handler_high i → AllHandled p.declarations (handled_in_block c.body)
-      → Segment (handler_types h i) n (clause_names h c) → ClausesTyped p.declarations (in_loop C h i) ps
-      → ClausesTyped p.declarations (in_loop C h i) (record { clause = c; layout = layout_at h i n (clause_names h c) } ∷ ps)
+      → Segment (handler_types p.declarations h i) n (clause_names p.declarations h c) → ClausesTyped p.declarations (in_loop p.declarations C h i) ps
+      → ClausesTyped p.declarations (in_loop p.declarations C h i) (record { clause = c; layout = layout_at p.declarations h i n (clause_names p.declarations h c) } ∷ ps)
   one_clause n c ps q high handled g rest =
       let Γ = map number_name c.arguments ++ resumption h c.resumption ∷ [] in
-      let e : clause_names h c ≡ Γ ++ map number_name (lets_in c.body) = sym (append_assoc (map number_name c.arguments) (resumption h c.resumption ∷ []) (map number_name (lets_in c.body))) in
-      let s = scoped_blocks ps (layout_scoped p.declarations C h i n (clause_names h c) Γ (lets_in c.body) o is e g) in
+      let e : clause_names p.declarations h c ≡ Γ ++ binds_in p.declarations c.body = sym (append_assoc (map number_name c.arguments) (resumption h c.resumption ∷ []) (binds_in p.declarations c.body)) in
+      let s = scoped_blocks ps (layout_scoped p.declarations C h i n (clause_names p.declarations h c) Γ (binds_in p.declarations c.body) o is e g) in
       let typed = t.clauses q.place c q.is in
       more_clauses (s.offers.clause h i q.place c is q.is)
-      (λ us. clause_typed {p = p} h i (record { clause = c; layout = layout_at h i n (clause_names h c) }) s typed.body
-      (placed_lets (layout_at h i n (clause_names h c)) (of_clause h i c) (lets_in c.body) (names_stand h i n (clause_names h c) Γ (lets_in c.body) e g)) high handled
+      (λ us. clause_typed {p = p} h i (record { clause = c; layout = layout_at p.declarations h i n (clause_names p.declarations h c) }) s typed.body
+      (placed_lets (layout_at p.declarations h i n (clause_names p.declarations h c)) (of_clause h i c) (binds_in p.declarations c.body) (names_stand p.declarations h i n (clause_names p.declarations h c) Γ (binds_in p.declarations c.body) e g) (t.of_clauses q.place c q.is)) high handled
       (t.resumptions q.place c q.is) (t.arguments q.place c q.is)) rest
 
   all_clauses : (n : ℕ) (cs : List Clause) → ((m : ℕ) (c : Clause) → slice_get cs m ≡ Some c → IsClause i c) → high_clauses cs ≤ handler_high i → AllHandled p.declarations (handled_in_clauses cs)
-      → Segment (handler_types h i) n (clauses_names h cs) → ClausesTyped p.declarations (in_loop C h i) (placed_from h i n cs)
+      → Segment (handler_types p.declarations h i) n (clauses_names p.declarations h cs) → ClausesTyped p.declarations (in_loop p.declarations C h i) (placed_from p.declarations h i n cs)
   all_clauses n [] each high handled g = no_clauses
   all_clauses n (c ∷ cs) each high handled g =
-      one_clause n c (placed_from h i (n + length (clause_names h c)) cs) (each 0 c refl) (omega (arith, high)) (handled_left (handled_in_block c.body) (handled_in_clauses cs) handled)
-      (segment_left (clause_names h c) (clauses_names h cs) g)
-      (all_clauses (n + length (clause_names h c)) cs (λ m. each (suc m)) (omega (arith, high)) (handled_right (handled_in_block c.body) (handled_in_clauses cs) handled)
-      (segment_right (clause_names h c) (clauses_names h cs) g))
+      one_clause n c (placed_from p.declarations h i (n + length (clause_names p.declarations h c)) cs) (each 0 c refl) (omega (arith, high)) (handled_left (handled_in_block c.body) (handled_in_clauses cs) handled)
+      (segment_left (clause_names p.declarations h c) (clauses_names p.declarations h cs) g)
+      (all_clauses (n + length (clause_names p.declarations h c)) cs (λ m. each (suc m)) (omega (arith, high)) (handled_right (handled_in_block c.body) (handled_in_clauses cs) handled)
+      (segment_right (clause_names p.declarations h c) (clauses_names p.declarations h cs) g))
 
   -- each clause of the resume goes to its block
   labels_typed : (S : Context) (l n : ℕ) (cs : List Clause) → Offers p.declarations S → ((m : ℕ) (c : Clause) → slice_get cs m ≡ Some c → IsClause i c)
-      → ((j : ℕ) → slice_get S.labels (l + j) ≡ slice_get (in_blocks (placed_from h i n cs) (in_loop C h i)).labels j) → All (LabelTyped S (I64 ∷ [])) (labels p.declarations l cs)
+      → ((j : ℕ) → slice_get S.labels (l + j) ≡ slice_get (in_blocks (placed_from p.declarations h i n cs) (in_loop p.declarations C h i)).labels j) → All (LabelTyped S (I64 ∷ [])) (labels p.declarations l cs)
   labels_typed S l n [] offers each at = All-nil (LabelTyped S (I64 ∷ []))
   labels_typed S l n (c ∷ cs) offers each at =
       let q = each 0 c refl in let k = length c.arguments in
@@ -261,28 +263,28 @@ module _ (p : Script) (C : Context) (h : Name) (i : Handler) (o : Offers p.decla
         takes = result_refl S.types (I64 ∷ []);
         gives = result_refl S.types (I64 ∷ []);
       })
-      (labels_typed S (l + 1) (n + length (clause_names h c)) cs offers (λ m. each (suc m)) (λ j. ap (λ (z : ℕ). slice_get S.labels z) (let z : l + 1 + j ≡ l + suc j = omega arith in z) ∙ at (suc j)))
+      (labels_typed S (l + 1) (n + length (clause_names p.declarations h c)) cs offers (λ m. each (suc m)) (λ j. ap (λ (z : ℕ). slice_get S.labels z) (let z : l + 1 + j ≡ l + suc j = omega arith in z) ∙ at (suc j)))
 
-  as_many_placed : (n : ℕ) (cs : List Clause) → length (placed_from h i n cs) ≡ length cs
+  as_many_placed : (n : ℕ) (cs : List Clause) → length (placed_from p.declarations h i n cs) ≡ length cs
   as_many_placed n [] = refl
-  as_many_placed n (c ∷ cs) = ap suc (as_many_placed (n + length (clause_names h c)) cs)
+  as_many_placed n (c ∷ cs) = ap suc (as_many_placed (n + length (clause_names p.declarations h c)) cs)
 
   -- the resume and the return clause, in the blocks
   handling_typed : AllHandled p.declarations (handled_in_block i.return_clause.body) → (us : Row Operand)
-      → Rest (in_blocks (placed_clauses h i) (in_loop C h i)) (handling p.declarations (return_layout h i) i) ε us
+      → Rest (in_blocks (placed_clauses p.declarations h i) (in_loop p.declarations C h i)) (handling p.declarations (return_layout p.declarations h i) i) ε us
   handling_typed handled us =
-      let ps = placed_clauses h i in let S = in_blocks ps (in_loop C h i) in let L = return_layout h i in let v = i.return_clause.value in
-      let xs = lets_in i.return_clause.body in
-      let g = segment_left (return_names i) (clauses_names h i.clauses) (names_there h i) in
+      let ps = placed_clauses p.declarations h i in let S = in_blocks ps (in_loop p.declarations C h i) in let L = return_layout p.declarations h i in let v = i.return_clause.value in
+      let bs = binds_in p.declarations i.return_clause.body in
+      let g = segment_left (return_names p.declarations i) (clauses_names p.declarations h i.clauses) (names_there p.declarations h i) in
       let P : ℕ → Type 0 = λ d. Scoped p.declarations L (of_return i) (handler_high i) d S in
-      let s = subst P (as_many_placed (clauses_place i) i.clauses) (scoped_blocks ps (layout_scoped p.declarations C h i (return_place i) (return_names i) (number_name v ∷ []) xs o is refl g)) in
-      let placed = placed_lets L (of_return i) xs (names_stand h i (return_place i) (return_names i) (number_name v ∷ []) xs refl g) in
+      let s = subst P (as_many_placed (clauses_place p.declarations i) i.clauses) (scoped_blocks ps (layout_scoped p.declarations C h i (return_place i) (return_names p.declarations i) (number_name v ∷ []) bs o is refl g)) in
+      let placed = placed_lets L (of_return i) bs (names_stand p.declarations h i (return_place i) (return_names p.declarations i) (number_name v ∷ []) bs refl g) t.of_returns in
       let low : high_block i.return_clause.body ≤ handler_high i = omega arith in
       let loop = s.loop (record { name = h; parameters = length i.parameters }) refl in
       let e : cont_of S computation_type ≡ Some (arrow [] (I64 ∷ [])) = ap (λ (z : Option CompType). func_at S (index_in_cont z)) s.offers.computation ∙ s.offers.computed in
       let hs = labels p.declarations 0 i.clauses in
       let Q : Option FuncType → Type 0 = λ z. Holds z (λ (y : FuncType). All (LabelTyped S y.results) hs) in
-      let all = labels_typed S 0 (clauses_place i) i.clauses s.offers (λ m c q. record { place = m; is = q }) (λ j. ap (λ (z : ℕ). slice_get S.labels z) (let z : 0 + j ≡ j = omega arith in z)) in
+      let all = labels_typed S 0 (clauses_place p.declarations i) i.clauses s.offers (λ m c q. record { place = m; is = q }) (λ j. ap (λ (z : ℕ). slice_get S.labels z) (let z : 0 + j ≡ j = omega arith in z)) in
       get_typed (length i.parameters) loop.computation
       (instr_typed (resume computation_type hs) (ε ▹ nullable computation_type) (ε ▹ I64) ε (return_code p.declarations L (length i.clauses) i) (subst Q (sym e) all)
       (λ z y. ap (resume_type computation_type) e) (λ z y. y)
@@ -290,17 +292,17 @@ module _ (p : Script) (C : Context) (h : Name) (i : Handler) (o : Offers p.decla
 
 -- the function of a handler is typed
 pub handler_typed : (p : Script) (C : Context) → Offers p.declarations C → (h : Name) (i : Handler) → handler_of p.declarations h ≡ Some i → HandlerTyped p h i
-    → BodyTyped C (val_types i.parameters ++ to_continuation true computation_type ∷ []) (handler_locals h i) (I64 ∷ []) (handler_body p.declarations (return_layout h i) i (placed_clauses h i))
+    → BodyTyped C (val_types i.parameters ++ to_continuation true computation_type ∷ []) (handler_locals p.declarations h i) (I64 ∷ []) (handler_body p.declarations (return_layout p.declarations h i) i (placed_clauses p.declarations h i))
 handler_typed p C o h i is t =
-    let ps = placed_clauses h i in let L = return_layout h i in let C0 = in_body C (handler_types h i) (I64 ∷ []) in
+    let ps = placed_clauses p.declarations h i in let L = return_layout p.declarations h i in let C0 = in_body C (handler_types p.declarations h i) (I64 ∷ []) in
     let handled = handler_handled p.declarations h i is in
     let first = handled_left (handled_in_block i.return_clause.body) (handled_in_clauses i.clauses) handled in
     let later = handled_right (handled_in_block i.return_clause.body) (handled_in_clauses i.clauses) handled in
-    let g = segment_right (return_names i) (clauses_names h i.clauses) (names_there h i) in
+    let g = segment_right (return_names p.declarations i) (clauses_names p.declarations h i.clauses) (names_there p.declarations h i) in
     let low : high_clauses i.clauses ≤ handler_high i = omega arith in
-    let clauses = all_clauses p C h i o is t (clauses_place i) i.clauses (λ m c q. record { place = m; is = q }) low later g in
-    let inner : Rest (in_loop C h i) (turn p.declarations L i ps) ε (ε ▹ Known I64) = blocks_typed ps (handling p.declarations L i) clauses (handling_typed p C h i o is t first) (ε ▹ Known I64) in
-    body_of_rest C (handler_params i) (I64 ∷ []) (handler_names h i) (handler_high i) (handler_body p.declarations L i ps) (record {
+    let clauses = all_clauses p C h i o is t (clauses_place p.declarations i) i.clauses (λ m c q. record { place = m; is = q }) low later g in
+    let inner : Rest (in_loop p.declarations C h i) (turn p.declarations L i ps) ε (ε ▹ Known I64) = blocks_typed ps (handling p.declarations L i) clauses (handling_typed p C h i o is t first) (ε ▹ Known I64) in
+    body_of_rest C (handler_params i) (I64 ∷ []) (handler_names p.declarations h i) (handler_high i) (handler_body p.declarations L i ps) (record {
       typed = λ s all. (
         inner.typed s (record { is_set = all.is_set }),
         (ε ▹ Known I64, record { beneath = ε; takes = none; gives = row_refl C.types (ε ▹ Known I64) }, row_refl C.types (ε ▹ Known I64)),

@@ -16,7 +16,8 @@ use Rattle.s_syntax.specs.declared.script.Parameter.{Parameter}
 use Rattle.s_syntax.specs.declared.script.Handler.{Handler}
 use Rattle.s_syntax.specs.declared.script.Script.{Script}
 use Rattle.s_syntax.specs.ExprTree.{ExprTree, Literal, Read, Unary, Run, Call, Do, Handle, Resume, Exprs}
-use Rattle.s_syntax.specs.BlockTree.{BlockTree, Let, Assign, If, While, Print, Return, Fail, Evaluate, Done as NoStatements, ◌⨟◌}
+use Rattle.s_syntax.specs.declared.statement.Use.TheVariants as use_for
+use Rattle.s_syntax.specs.BlockTree.{BlockTree, Evaluate, If, While, Fail, Done as NoStatements, ◌⨟◌}
 use Rattle.s_check.specs.Definitions.{handler_of}
 use Rattle.s_check.specs.Scopes.{Scope, type_in, number as number_name, lets_in}
 use Rattle.s_index.specs.Handled.{handled_in_expr, handled_in_exprs, handled_in_block}
@@ -25,8 +26,9 @@ use Rattle.s_code.specs.Instructions.{branch, leave, local_set}
 use Rattle.s_code.specs.Layouts.{Layout, Owner, local_number, handler_of_name, is_own, is_same_handler, owner_parameters}
 use Rattle.s_code.specs.Temporaries.{high, high_block}
 use Rattle.s_code.specs.Expressions.{expr, set_parameters, tail_resume}
+use Rattle.s_code.specs.Places.{binds_in}
 use Rattle.s_code.specs.Statements.{return, block, body, ending, printer}
-use Rattle.s_meaning.specs.Typing.{kinds, ExprTyped, resume, BlockTyped, done, lets, assigns, ifs, whiles, prints, returns, drops, fails}
+use Rattle.s_meaning.specs.Typing.{kinds, ExprTyped, resume, lets, assigns, prints, returns, drops, evaluates, ifs, whiles, fails, BlockTyped, done, statement}
 use Rattle.s_meaning.proofs.Scopes.{same_is, same_refl, bool_of}
 use Rattle.s_valid.proofs.Rests.{Rest, is_zero_typed, constant_typed, get_typed, set_typed, call_typed, end_typed, if_typed, loop_typed, branch_if_typed, dropped_typed, branch_typed, returned_typed, unreachable_typed}
 use Rattle.s_valid.proofs.LayoutTypes.{Scoped, inside, local_typed, handler_at, bound, types_of_kinds, AllHandled, handled_left, handled_right, LetsPlaced, lets_left, lets_right, lets_first}
@@ -113,20 +115,19 @@ module _ {p : Script} {L : Layout} {n : ℕ} where
       → Rest C (Plain (local_set (local_number L x)) c) (ε ▹ Known I64) us
   set_name x s e r = set_typed (local_number L x) (local_typed s x Int e) r
 
-  pub block_typed : (b : BlockTree) {Γ : Scope} {D : ℕ} {C : Context} {us : Row Operand} {c : Code} → Scoped p.declarations L Γ n D C → BlockTyped p Γ b → LetsPlaced L (lets_in b)
+  pub block_typed : (b : BlockTree) {Γ : Scope} {D : ℕ} {C : Context} {us : Row Operand} {c : Code} → Scoped p.declarations L Γ n D C → BlockTyped p Γ b → LetsPlaced L (binds_in p.declarations b)
       → high_block b ≤ n → AllHandled p.declarations (handled_in_block b) → Rest C c ε us → Rest C (block p.declarations L D b c) ε us
   block_typed NoStatements s done l h a r = r
-  block_typed (Let x e ⨟ b) {Γ = Γ} s (lets q free rest) l h a r =
-      let w = lets_first x (lets_in b) l in
-      let s' = bound s x w.0 w.1 free in
+  block_typed (Evaluate (use_for.Let x) e ⨟ b) {Γ = Γ} s (statement (evaluates q (lets fit)) rest) l h a r =
+      let s' = bound s (number_name x) (lets_first (number_name x) (binds_in p.declarations b) l) in
       let is_int : type_in (number_name x ∷ Γ) x ≡ Some Int = ap (λ (b : Bool). if b then Some Int else type_in Γ x) (same_refl x) in
       expr_typed e 0 s q (omega (arith, h)) (handled_left (handled_in_expr e) (handled_in_block b) a)
       (set_name x s' is_int
       (block_typed b s' rest (lets_right (x ∷ []) (lets_in b) l) (omega (arith, h)) (handled_right (handled_in_expr e) (handled_in_block b) a) r))
-  block_typed (Assign x e ⨟ b) s (assigns q is_int rest) l h a r =
+  block_typed (Evaluate (use_for.Assign x) e ⨟ b) s (statement (evaluates q (assigns is_int)) rest) l h a r =
       expr_typed e 0 s q (omega (arith, h)) (handled_left (handled_in_expr e) (handled_in_block b) a)
       (set_name x s is_int (block_typed b s rest l (omega (arith, h)) (handled_right (handled_in_expr e) (handled_in_block b) a) r))
-  block_typed (If e b d ⨟ k) s (ifs q first second rest) l h a r =
+  block_typed (If e b d ⨟ k) s (statement (ifs q first second) rest) l h a r =
       let here = handled_left (handled_in_expr e ++ (handled_in_block b ++ handled_in_block d)) (handled_in_block k) a in
       let both = handled_right (handled_in_expr e) (handled_in_block b ++ handled_in_block d) here in
       let within = lets_left (lets_in b ++ lets_in d) (lets_in k) l in
@@ -135,7 +136,7 @@ module _ {p : Script} {L : Layout} {n : ℕ} where
       (block_typed d (inside ε s) second (lets_right (lets_in b) (lets_in d) within) (omega (arith, h)) (handled_right (handled_in_block b) (handled_in_block d) both) (end_typed ε))
       (block_typed b (inside ε s) first (lets_left (lets_in b) (lets_in d) within) (omega (arith, h)) (handled_left (handled_in_block b) (handled_in_block d) both) (end_typed ε))
       (block_typed k s rest (lets_right (lets_in b ++ lets_in d) (lets_in k) l) (omega (arith, h)) (handled_right (handled_in_expr e ++ (handled_in_block b ++ handled_in_block d)) (handled_in_block k) a) r))
-  block_typed (While e b ⨟ k) {Γ = Γ} {D} {C} s (whiles q inner rest) l h a r =
+  block_typed (While e b ⨟ k) {Γ = Γ} {D} {C} s (statement (whiles q inner) rest) l h a r =
       let here = handled_left (handled_in_expr e ++ handled_in_block b) (handled_in_block k) a in
       let P : ℕ → Type 0 = λ d. Scoped p.declarations L Γ n d (labelled (labelled C ε) ε) in
       let s' = subst P (let z : D + 1 + 1 ≡ D + 2 = omega arith in z) (inside ε (inside ε s)) in
@@ -146,14 +147,14 @@ module _ {p : Script} {L : Layout} {n : ℕ} where
       (block_typed b s' inner (lets_left (lets_in b) (lets_in k) l) (omega (arith, h)) (handled_right (handled_in_expr e) (handled_in_block b) here)
       (branch_typed {vs = ε} ε 0 refl (end_typed ε))))))
       (block_typed k s rest (lets_right (lets_in b) (lets_in k) l) (omega (arith, h)) (handled_right (handled_in_expr e ++ handled_in_block b) (handled_in_block k) a) r)
-  block_typed (Print e ⨟ b) s (prints q rest) l h a r =
+  block_typed (Evaluate use_for.Print e ⨟ b) s (statement (evaluates q prints) rest) l h a r =
       expr_typed e 0 s q (omega (arith, h)) (handled_left (handled_in_expr e) (handled_in_block b) a)
       (call_typed ε printer (I64 ∷ []) [] s.offers.printer (block_typed b s rest l (omega (arith, h)) (handled_right (handled_in_expr e) (handled_in_block b) a) r))
-  block_typed (Return e ⨟ b) s (returns q rest) l h a r =
+  block_typed (Evaluate use_for.Return e ⨟ b) s (statement (evaluates q returns) rest) l h a r =
       return_typed e s q (omega (arith, h)) (handled_left (handled_in_expr e) (handled_in_block b) a)
       (block_typed b s rest l (omega (arith, h)) (handled_right (handled_in_expr e) (handled_in_block b) a) r)
-  block_typed (Fail ⨟ b) s (fails rest) l h a r = unreachable_typed ε (block_typed b s rest l (omega (arith, h)) a r)
-  block_typed (Evaluate e ⨟ b) s (drops q rest) l h a r =
+  block_typed (Fail ⨟ b) s (statement fails rest) l h a r = unreachable_typed ε (block_typed b s rest l (omega (arith, h)) a r)
+  block_typed (Evaluate use_for.Drop e ⨟ b) s (statement (evaluates q drops) rest) l h a r =
       expr_typed e 0 s q (omega (arith, h)) (handled_left (handled_in_expr e) (handled_in_block b) a)
       (dropped_typed (block_typed b s rest l (omega (arith, h)) (handled_right (handled_in_expr e) (handled_in_block b) a) r))
 
@@ -162,6 +163,6 @@ ending_typed : {C : Context} {us : Row Operand} → C.results ≡ ε ▹ I64 →
 ending_typed {C} {us} e = constant_typed (pos 0) (returned_typed us e (end_typed us))
 
 -- a body is typed to anything, since it returns
-pub body_typed : {p : Script} {L : Layout} {Γ : Scope} {n D : ℕ} {C : Context} {us : Row Operand} (b : BlockTree) → Scoped p.declarations L Γ n D C → BlockTyped p Γ b → LetsPlaced L (lets_in b)
+pub body_typed : {p : Script} {L : Layout} {Γ : Scope} {n D : ℕ} {C : Context} {us : Row Operand} (b : BlockTree) → Scoped p.declarations L Γ n D C → BlockTyped p Γ b → LetsPlaced L (binds_in p.declarations b)
     → high_block b ≤ n → AllHandled p.declarations (handled_in_block b) → Rest C (body p.declarations L D b) ε us
 body_typed b s q l h a = block_typed b s q l h a (ending_typed s.results)

@@ -54,13 +54,13 @@ abbrev pub decreases-unary_at : goal.decreases-unary_at
 decreases-unary_at l = l.nest * 64 + 19
 
 abbrev pub invariant-operands_at-items : goal.invariant-operands_at-items
-invariant-operands_at-items l = Ahead (operators l.level) (operand l.bytes l.nest l.level) l.tokens l.start l.items.items l.at
+invariant-operands_at-items l = Ahead (operators l.level) (operand l.source.bytes.now l.nest l.level) l.source.tokens.now l.start l.items.items l.at
 
 abbrev pub decreases-operands_at-items : goal.decreases-operands_at-items
-decreases-operands_at-items l = length l.tokens - l.at
+decreases-operands_at-items l = length l.source.tokens.now - l.at
 
 abbrev pub invariant-listed_at-items : goal.invariant-listed_at-items
-invariant-listed_at-items l = ListedAhead (expr l.bytes l.nest) l.tokens l.start l.items.items l.at
+invariant-listed_at-items l = ListedAhead (expr l.source.bytes.now l.nest) l.source.tokens.now l.start l.items.items l.at
 
 abbrev pub decreases-listed_at-items : goal.decreases-listed_at-items
-decreases-listed_at-items l = length l.tokens - l.at
+decreases-listed_at-items l = length l.source.tokens.now - l.at

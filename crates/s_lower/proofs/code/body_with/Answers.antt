@@ -17,5 +17,5 @@ returns c =
     let own = c.args.own.now in
     let from = as_many ps (map parameter f.parameters) c.requires.parameters ∙ length-map f.parameters parameter in
     let temporaries = ap (λ (n : ℕ). length ps + n) (sym (length-map own bound_of)) in
-    let laid = c.in_ok-layout.ensures.value ∙ function_laid f (bounds_of ps) (bounds_of own) (length ps) (length ps + length own) c.requires.parameters c.requires.own from temporaries in
+    let laid = c.in_ok-layout.ensures.value ∙ function_laid c.args.program.now f (bounds_of ps) (bounds_of own) (length ps) (length ps + length own) c.requires.parameters c.requires.own from temporaries in
     record { value = subst (λ (l : Layout). IfOk c.function_body.result (λ (made : Code). made ≡ body c.args.program.now l 0 f.body)) laid c.function_body.ensures.value }

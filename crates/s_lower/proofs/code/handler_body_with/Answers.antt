@@ -16,6 +16,7 @@ use Rattle.s_lower.proofs.code.handler_body_with.Goals as goal
 
 pub handler_body-requires-clause-clauses : goal.handler_body-requires-clause-clauses
 handler_body-requires-clause-clauses c =
+    let ds = c.args.program.now in
     let h = c.args.name.now in
     let i = c.args.handler.now in
     let us = bounds_of c.args.parameters.now in
@@ -23,19 +24,20 @@ handler_body-requires-clause-clauses c =
     let temps = c.args.temporaries in
     let few = clauses_few i.clauses in
     let room : temps + length i.clauses + sum_by clause_size i.clauses ≤ number_limit = omega (arith, few) in
-    all_fit c.as_slice.result.now h us temps from i.clauses
-    (placed_first c.new-placed.result.items c.push_all_placed.new.placed.items c.as_slice.result.now h us temps from c.as_slice-clauses.result.now i.clauses c.new-placed.ensures.items c.in_ok-push_all_placed.ensures.value c.as_slice.ensures.value c.as_slice-clauses.ensures) room
+    all_fit ds c.as_slice.result.now h us temps from i.clauses
+    (placed_first ds c.new-placed.result.items c.push_all_placed.new.placed.items c.as_slice.result.now h us temps from c.as_slice-clauses.result.now i.clauses c.new-placed.ensures.items c.in_ok-push_all_placed.ensures.value c.as_slice.ensures.value c.as_slice-clauses.ensures) room
 
 pub handler_body-requires-clause-few : goal.handler_body-requires-clause-few
 handler_body-requires-clause-few c =
+    let ds = c.args.program.now in
     let h = c.args.name.now in
     let i = c.args.handler.now in
     let us = bounds_of c.args.parameters.now in
     let from = length c.args.parameters.now + 1 + length c.args.own.now in
     let temps = c.args.temporaries in
     let few = clauses_few i.clauses in
-    let many = as_many_kept c.as_slice.result.now h us temps from i.clauses
-    (placed_first c.new-placed.result.items c.push_all_placed.new.placed.items c.as_slice.result.now h us temps from c.as_slice-clauses.result.now i.clauses c.new-placed.ensures.items c.in_ok-push_all_placed.ensures.value c.as_slice.ensures.value c.as_slice-clauses.ensures) in
+    let many = as_many_kept ds c.as_slice.result.now h us temps from i.clauses
+    (placed_first ds c.new-placed.result.items c.push_all_placed.new.placed.items c.as_slice.result.now h us temps from c.as_slice-clauses.result.now i.clauses c.new-placed.ensures.items c.in_ok-push_all_placed.ensures.value c.as_slice.ensures.value c.as_slice-clauses.ensures) in
     omega (arith, few, many)
 
 pub handler_body-requires-clause-returns : goal.handler_body-requires-clause-returns
@@ -46,6 +48,7 @@ handler_body-requires-clause-returns c =
 
 pub returns : goal.returns
 returns c =
+    let ds = c.args.program.now in
     let h = c.args.name.now in
     let i = c.args.handler.now in
     let us = bounds_of c.args.parameters.now in
@@ -58,10 +61,10 @@ returns c =
     let place : from ≡ length i.parameters + 1 + length vs = omega (arith, many, own) in
     let laid = c.in_ok-returning.ensures.value
     ∙ ap (λ (n : ℕ). layout_of us vs (length c.args.parameters.now + 1) temps (Some (record { name = h; parameters = n }))) many
-    ∙ handler_laid h i us vs (length c.args.parameters.now + 1) temps c.requires.parameters c.requires.own start c.requires.temporaries in
-    let placed = placed_first c.new-placed.result.items c.push_all_placed.new.placed.items c.as_slice.result.now h us temps from c.as_slice-clauses.result.now i.clauses c.new-placed.ensures.items c.in_ok-push_all_placed.ensures.value c.as_slice.ensures.value c.as_slice-clauses.ensures
-    ∙ handler_placed h i us vs from temps c.requires.parameters c.requires.own place c.requires.temporaries in
+    ∙ handler_laid ds h i us vs (length c.args.parameters.now + 1) temps c.requires.parameters c.requires.own start c.requires.temporaries in
+    let placed = placed_first ds c.new-placed.result.items c.push_all_placed.new.placed.items c.as_slice.result.now h us temps from c.as_slice-clauses.result.now i.clauses c.new-placed.ensures.items c.in_ok-push_all_placed.ensures.value c.as_slice.ensures.value c.as_slice-clauses.ensures
+    ∙ handler_placed ds h i us vs from temps c.requires.parameters c.requires.own place c.requires.temporaries in
     record {
-      value = subst (λ (ps : List Placed). IfOk c.handler_body.result (λ (made : Code). made ≡ handler_body c.args.program.now (return_layout h i) i ps)) placed
-          (subst (λ (l : Layout). IfOk c.handler_body.result (λ (made : Code). made ≡ handler_body c.args.program.now l i (placed_all c.as_slice.result.now))) laid c.handler_body.ensures.value);
+      value = subst (λ (ps : List Placed). IfOk c.handler_body.result (λ (made : Code). made ≡ handler_body ds (return_layout ds h i) i ps)) placed
+          (subst (λ (l : Layout). IfOk c.handler_body.result (λ (made : Code). made ≡ handler_body ds l i (placed_all c.as_slice.result.now))) laid c.handler_body.ensures.value);
     }

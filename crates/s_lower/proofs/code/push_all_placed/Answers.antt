@@ -19,7 +19,7 @@ loop-clause-preserved c =
     let f = c.in_ok-next.ensures.few in
     let r = c.loop-clause.invariant.room in
     record {
-      placed = placed_more c.args.handler.now (bounds_of c.args.parameters.now) c.args.temporaries c.loop-clause.next _ cs i x c.loop-clause.placed.items c.push_placed.new.placed.items _
+      placed = placed_more c.args.program.now c.args.handler.now (bounds_of c.args.parameters.now) c.args.temporaries c.loop-clause.next _ cs i x c.loop-clause.placed.items c.push_placed.new.placed.items _
           c.loop-clause-test.true c.clause-item.is c.in_ok-next.ensures.value n c.loop-clause.invariant.placed;
       room = omega (arith, d, s, n, f, r);
     }

@@ -6,7 +6,7 @@ use Rattle.s_parse.specs.Items.{declaration}
 use Rattle.s_parse.proofs.declaration.declarations_at.Given as goal
 
 abbrev pub invariant-items : goal.invariant-items
-invariant-items l = Ahead (other_than (is kind.End)) (declaration l.bytes l.nest) l.tokens l.start l.items l.at
+invariant-items l = Ahead (other_than (is kind.End)) (declaration l.source.bytes.now l.nest) l.source.tokens.now l.start l.items l.at
 
 abbrev pub decreases-items : goal.decreases-items
-decreases-items l = length l.tokens - l.at
+decreases-items l = length l.source.tokens.now - l.at

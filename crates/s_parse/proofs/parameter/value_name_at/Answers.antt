@@ -10,23 +10,23 @@ unfolding value_name
 returns-in_err-inside c =
     let a = c.args in
     record {
-      reads = passed_on (λ x. x) (value_name a.bytes.now a.nest) a.tokens.now a.at c.from_residual.result _ (err_from_is_err_and c.from_residual.result c.from_residual.ensures.1)
-          (stop_as (key kind.OpenParenthesis) (value_name a.bytes.now a.nest) a.tokens.now a.at a.at (λ w rest e. enclosed_shut kind.OpenParenthesis kind.CloseParenthesis (λ _. name a.bytes.now) a.nest (drop a.at a.tokens.now) rest w e) _ c.in_err-inside.ensures.reads);
+      reads = passed_on (λ x. x) (value_name a.source.now.bytes.now a.nest) a.source.now.tokens.now a.at c.from_residual.result _ (err_from_is_err_and c.from_residual.result c.from_residual.ensures.1)
+          (stop_as (key kind.OpenParenthesis) (value_name a.source.now.bytes.now a.nest) a.source.now.tokens.now a.at a.at (λ w rest e. enclosed_shut kind.OpenParenthesis kind.CloseParenthesis (λ _. name a.source.now.bytes.now) a.nest (drop a.at a.source.now.tokens.now) rest w e) _ c.in_err-inside.ensures.reads);
     }
 
 pub returns-then-nest-eq0 : goal.returns-then-nest-eq0
 unfolding value_name
 returns-then-nest-eq0 c =
     let a = c.args in
-    record { reads = (enclosed_deep kind.OpenParenthesis kind.CloseParenthesis (λ _. name a.bytes.now) a.nest (drop a.at a.tokens.now) _ _ c.in_ok-inside.ensures.reads.0 c.if-nest-eq0.true, c.requires.within) }
+    record { reads = (enclosed_deep kind.OpenParenthesis kind.CloseParenthesis (λ _. name a.source.now.bytes.now) a.nest (drop a.at a.source.now.tokens.now) _ _ c.in_ok-inside.ensures.reads.0 c.if-nest-eq0.true, c.requires.within) }
 
 pub returns-in_err-value : goal.returns-in_err-value
 unfolding value_name
 returns-in_err-value c =
     let a = c.args in
     record {
-      reads = passed_on (λ x. x) (value_name a.bytes.now a.nest) a.tokens.now a.at c.from_residual-in_err-value.result _ (err_from_is_err_and c.from_residual-in_err-value.result c.from_residual-in_err-value.ensures.1)
-          (stop_as (name a.bytes.now) (value_name a.bytes.now a.nest) a.tokens.now c.in_ok-inside.inside a.at (λ w rest e. enclosed_inner kind.OpenParenthesis kind.CloseParenthesis (λ _. name a.bytes.now) a.nest (drop a.at a.tokens.now) _ rest _ w c.in_ok-inside.ensures.reads.0 c.if-nest-eq0.false e) _ c.in_err-value.ensures.reads);
+      reads = passed_on (λ x. x) (value_name a.source.now.bytes.now a.nest) a.source.now.tokens.now a.at c.from_residual-in_err-value.result _ (err_from_is_err_and c.from_residual-in_err-value.result c.from_residual-in_err-value.ensures.1)
+          (stop_as (name a.source.now.bytes.now) (value_name a.source.now.bytes.now a.nest) a.source.now.tokens.now c.in_ok-inside.inside a.at (λ w rest e. enclosed_inner kind.OpenParenthesis kind.CloseParenthesis (λ _. name a.source.now.bytes.now) a.nest (drop a.at a.source.now.tokens.now) _ rest _ w c.in_ok-inside.ensures.reads.0 c.if-nest-eq0.false e) _ c.in_err-value.ensures.reads);
     }
 
 pub returns-in_err-end : goal.returns-in_err-end
@@ -34,12 +34,12 @@ unfolding value_name
 returns-in_err-end c =
     let a = c.args in
     record {
-      reads = passed_on (λ x. x) (value_name a.bytes.now a.nest) a.tokens.now a.at c.from_residual-in_err-end.result _ (err_from_is_err_and c.from_residual-in_err-end.result c.from_residual-in_err-end.ensures.1)
-          (stop_as (key kind.CloseParenthesis) (value_name a.bytes.now a.nest) a.tokens.now c.in_ok-value.end a.at (λ w rest e. enclosed_open kind.OpenParenthesis kind.CloseParenthesis (λ _. name a.bytes.now) a.nest (drop a.at a.tokens.now) _ _ rest _ _ w c.in_ok-inside.ensures.reads.0 c.if-nest-eq0.false c.in_ok-value.ensures.reads.0 e) _ c.in_err-end.ensures.reads);
+      reads = passed_on (λ x. x) (value_name a.source.now.bytes.now a.nest) a.source.now.tokens.now a.at c.from_residual-in_err-end.result _ (err_from_is_err_and c.from_residual-in_err-end.result c.from_residual-in_err-end.ensures.1)
+          (stop_as (key kind.CloseParenthesis) (value_name a.source.now.bytes.now a.nest) a.source.now.tokens.now c.in_ok-value.end a.at (λ w rest e. enclosed_open kind.OpenParenthesis kind.CloseParenthesis (λ _. name a.source.now.bytes.now) a.nest (drop a.at a.source.now.tokens.now) _ _ rest _ _ w c.in_ok-inside.ensures.reads.0 c.if-nest-eq0.false c.in_ok-value.ensures.reads.0 e) _ c.in_err-end.ensures.reads);
     }
 
 pub returns : goal.returns
 unfolding value_name
 returns c =
     let a = c.args in
-    record { reads = (enclosed_got kind.OpenParenthesis kind.CloseParenthesis (λ _. name a.bytes.now) a.nest (drop a.at a.tokens.now) _ _ _ _ _ _ c.in_ok-inside.ensures.reads.0 c.if-nest-eq0.false c.in_ok-value.ensures.reads.0 c.in_ok-end.ensures.reads.0, c.in_ok-end.ensures.reads.1) }
+    record { reads = (enclosed_got kind.OpenParenthesis kind.CloseParenthesis (λ _. name a.source.now.bytes.now) a.nest (drop a.at a.source.now.tokens.now) _ _ _ _ _ _ c.in_ok-inside.ensures.reads.0 c.if-nest-eq0.false c.in_ok-value.ensures.reads.0 c.in_ok-end.ensures.reads.0, c.in_ok-end.ensures.reads.1) }

@@ -25,7 +25,7 @@ abbrev pub decreases-statements_at : goal.decreases-statements_at
 decreases-statements_at l = l.nest * 8 + 5
 
 abbrev pub invariant-statements_at-items : goal.invariant-statements_at-items
-invariant-statements_at-items l = Ahead (other_than (is kind.CloseBrace)) (statement l.bytes l.nest) l.tokens l.start (viewed statement_of l.items.items) l.at
+invariant-statements_at-items l = Ahead (other_than (is kind.CloseBrace)) (statement l.source.bytes.now l.nest) l.source.tokens.now l.start (viewed statement_of l.items.items) l.at
 
 abbrev pub decreases-statements_at-items : goal.decreases-statements_at-items
-decreases-statements_at-items l = length l.tokens - l.at
+decreases-statements_at-items l = length l.source.tokens.now - l.at
