@@ -127,6 +127,9 @@ pub(crate) fn read_input<F: Inputs>(
     let mut intake = Intake::new(alloc);
     match read_all(alloc, files, action, &mut intake) {
         Ok(()) => Ok(intake.end(alloc, action)?),
-        Err(fault) => Err(fault),
+        Err(fault) => {
+            drop(intake);
+            Err(fault)
+        }
     }
 }

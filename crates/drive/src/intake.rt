@@ -42,8 +42,13 @@ impl Input {
             return Ok(Input::Script(bytes));
         }
         let mut module = ModuleIntake::new(alloc)?;
-        module.take(bytes.as_slice())?;
-        Ok(Input::Module(module))
+        match module.take(bytes.as_slice()) {
+            Ok(()) => Ok(Input::Module(module)),
+            Err(error) => {
+                drop(module);
+                Err(error)
+            }
+        }
     }
 }
 
@@ -67,11 +72,12 @@ impl Intake {
     {
         let mut bytes = front;
         bytes.extend_from_slice(piece)?;
-        *self = if bytes.len() < FRONT_LENGTH {
+        let next = if bytes.len() < FRONT_LENGTH {
             Intake::Front(bytes)
         } else {
             Intake::Known(Input::of_bytes(alloc, action, bytes)?)
         };
+        drop(mem::replace(self, next));
         Ok(())
     }
 
