@@ -24,7 +24,7 @@ VALID = 'ok module'
 STATUSES = {'fault': 1, 'lex': 5, 'parse': 5, 'deep': 5, 'rule': 5, 'limit': 9, RUNNING: 10}
 FAULTS = {
     'unreachable': 'failed', 'divide by zero': 'divzero', 'integer overflow': 'overflow',
-    'consumed continuation': 'reused'}
+    'consumed continuation': 'reused', 'table out of bounds': 'empty', 'null reference': 'empty'}
 
 
 class ScriptRun(NamedTuple):

@@ -1,6 +1,7 @@
 """Scripts at random that break no rule, and whose loops end.
 
-A function calls and handles functions behind it alone, and a handler the last one alone.
+A function calls and handles functions behind it alone, and a handler the last one alone. Slots keep resumptions, each
+of which goes on once at most, so that runs end with slots too.
 """
 
 from typing import NamedTuple
@@ -16,10 +17,19 @@ class Function(NamedTuple):
     types: list
 
 
-class RandomScript:
-    """One script; `text` is its text."""
+class Slots(NamedTuple):
+    """A slots declaration: its name, the name of its handler, and how many places it has."""
 
-    def __init__(self, random):
+    name: str
+    handler: str
+    count: int
+
+
+class RandomScript:
+    """One script; `text` is its text. Without slots, the same script comes of the same random numbers as before slots
+    were in the language."""
+
+    def __init__(self, random, has_slots=False):
         self.random = random
         self.effects = [(f'e{number}', random.choice([0, 0, 1, 1, 2, 3])) for number in range(random.randint(1, 2))]
         self.handlers = [
@@ -27,12 +37,21 @@ class RandomScript:
         self.functions = [Function('main', [])] + [
             Function(f'f{number}', self._types(number and len(self.handlers), 0.25))
             for number in range(random.randint(2, 3))]
+        self.slots = self._all_slots() if has_slots else []
         self.lets = 0
         parts = [f'effect {name}/{count};' for name, count in self.effects]
         parts += [self._function(number, each) for number, each in enumerate(self.functions)]
         parts += [self._handler(each) for each in self.handlers]
+        parts += [f'slots {each.name}: res {each.handler} [{each.count}];' for each in self.slots]
         random.shuffle(parts)
         self.text = '\n'.join(parts) + '\n'
+
+    def _all_slots(self):
+        """Slots of the first handler, and maybe of any others."""
+        handlers = [self.handlers[0]] + self.random.sample(self.handlers, self.random.randint(0, 1))
+        return [
+            Slots(f's{number}', handler.name, self.random.choice([1, 1, 2, 3]))
+            for number, handler in enumerate(handlers)]
 
     def _types(self, handlers, likely):
         """Types of parameters, some of them of resumptions of the first so many handlers."""
@@ -49,28 +68,33 @@ class RandomScript:
     def _function(self, number, function):
         scope, parameters = self._parameters(function)
         self.first = number + 1
+        self.taking = 0.2 if number == 0 else 0.02      # how likely a part takes; main does where something is stored
         self.doing = 0.5 if 0 < number < len(self.functions) - 1 else 0     # how likely a part performs an effect
         self.is_handling = True
         return f'fn {function.name}({parameters}) {{ {self._beginning(number, scope)}{self._body(scope, 2)} }}'
 
     def _beginning(self, number, scope):
-        """Main begins with the first function in a handle, and that with an effect."""
+        """Main begins with the first function in a handle, and that with an effect. Behind the handle main takes, where
+        there are slots."""
         handler, function, (effect, count) = self.handlers[0], self.functions[1], self.effects[0]
         if number == 0:
             values, parameters = (self._list(scope, 0, each.types) for each in (function, handler))
-            return f'print handle {function.name}({values}) with {handler.name}({parameters}); '
+            take = f'{self._take(scope)} ' if self.slots else ''
+            return f'print handle {function.name}({values}) with {handler.name}({parameters}); {take}'
         return f'print do {effect}({self._list(scope, 0, [NUMBER] * count)}); ' if number == 1 else ''
 
     def _handler(self, handler):
         """Clauses call the last function alone, which performs no effect, and return clauses handle none."""
         scope, parameters = self._parameters(handler)
         self.first, self.doing, self.is_handling = len(self.functions) - 1, 0.05, False
+        self.taking = 0.02
         clauses = [f'return(x) {{ {self._body(scope | {"x": NUMBER}, 1)} }}']
         self.is_handling = True
         for effect, count in self._handled(handler):
             names = [f'a{number}' for number in range(count)]
             inner = scope | dict.fromkeys(names, NUMBER) | {'k': handler.name}
-            clauses.append(f'on {effect}({", ".join(names)}) k {{ {self._body(inner, 1)} }}')
+            body = self._storing_first(inner) + self._body(inner, 1)
+            clauses.append(f'on {effect}({", ".join(names)}) k {{ {body} }}')
         return f'handler {handler.name}({parameters}) {{ ' + ' '.join(clauses) + ' }'
 
     def _handled(self, handler):
@@ -86,7 +110,7 @@ class RandomScript:
 
     def _return(self, scope):
         resumptions = [name for name, type in scope.items() if type is not NUMBER]
-        if resumptions and self.random.random() < 0.8:
+        if resumptions and self.random.random() < (0.2 if self.slots else 0.8):
             return f'return {self._resume(scope, 1, self.random.choice(resumptions))};'
         return f'return {self._expression(scope, 2)};'
 
@@ -95,6 +119,8 @@ class RandomScript:
         return ' '.join(self._statement(scope, depth) for _ in range(self.random.randint(1, 2)))
 
     def _statement(self, scope, depth):
+        if self.slots and self.random.random() < self.taking:
+            return self._take(scope)
         kind = self.random.random()
         if kind < 0.3:
             return f'print {self._expression(scope, 2)};'
@@ -120,10 +146,36 @@ class RandomScript:
             return f'let {counter} = 0; while {counter} < {times} {{ {counter} = {counter} + 1; {body} }}'
         return f'if {self._expression(scope, 1)} {{ fail; }}'
 
-    def _bound(self, scope, front):
+    def _storing_first(self, scope):
+        """The stores with which a clause begins whose resumption some slots keep: into most of the places."""
+        stores = [
+            f'store {slots.name}[{self._place(scope, slots, place)}] = k; '
+            for slots in self.slots if slots.handler == scope['k']
+            for place in range(slots.count) if self.random.random() < 0.8]
+        return ''.join(stores)
+
+    def _take(self, scope):
+        """A take, behind which a resume or a store may stand."""
+        slots = self.random.choice(self.slots)
+        place = self._place(scope, slots, self.random.randrange(slots.count))
+        name = self._bound(scope, 't', slots.handler)
+        kind = self.random.random()
+        more = f' print {self._resume(scope, 1, name)};' if kind < 0.6 else ''
+        if kind > 0.8:
+            more = f' store {slots.name}[{self._place(scope, slots, 0)}] = {name};'
+        return f'take {name} = {slots.name}[{place}];{more}'
+
+    def _place(self, scope, slots, place):
+        """This place of slots mostly, and else any number."""
+        kind = self.random.random()
+        if kind < 0.93:
+            return str(place)
+        return self._expression(scope, 1) if kind < 0.98 else str(slots.count)
+
+    def _bound(self, scope, front, type=NUMBER):
         self.lets += 1
         name = f'{front}{self.lets}'
-        scope[name] = NUMBER
+        scope[name] = type
         return name
 
     # Expressions, by the levels of the grammar.
@@ -162,7 +214,7 @@ class RandomScript:
 
     def _compound(self, scope, depth):
         resumptions = [name for name, type in scope.items() if type is not NUMBER]
-        if resumptions and self.random.random() < 0.35:
+        if resumptions and self.random.random() < (0.1 if self.slots else 0.35):
             return self._resume(scope, depth, self.random.choice(resumptions))
         if self.random.random() < self.doing:
             effect, count = self.random.choice(self.effects)

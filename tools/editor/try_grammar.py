@@ -19,8 +19,11 @@ sys.path.insert(1, str(ROOT / 'tools' / 'conformance'))
 
 from script_reader.tokens import KEYWORDS, tokens_of    # noqa: E402
 
-NAMED = {'fn': 'entity.name.function', 'effect': 'entity.name.type.effect', 'handler': 'entity.name.type.handler'}
-BRACKETS = ('(', ')', '{', '}')
+NAMED = {
+    'fn': 'entity.name.function', 'effect': 'entity.name.type.effect', 'handler': 'entity.name.type.handler',
+    'slots': 'entity.name.type.slots',
+}
+BRACKETS = ('(', ')', '{', '}', '[', ']')
 
 
 def rules_of(grammar, patterns=None):

@@ -8,14 +8,14 @@ from script_reader.tokens import KEYWORDS
 
 READABLE = {'NAME': 'a name', 'INT': 'a number'}
 EXPRESSION = {'NAME', 'INT', "'('", "'-'", "'!'", "'do'", "'handle'", "'resume'"}
-STATEMENT = EXPRESSION | {"'let'", "'if'", "'while'", "'print'", "'return'", "'fail'"}
+STATEMENT = EXPRESSION | {"'let'", "'if'", "'while'", "'print'", "'return'", "'fail'", "'store'", "'take'"}
 COMPARISON = {"'=='", "'!='", "'<'", "'<='", "'>'", "'>='"}
 ARITHMETIC = {"'+'", "'-'", "'*'", "'/'", "'%'"}
 # Names of sets of tokens, of which the first that is wholly there is taken.
 SETS = {
     'a statement': STATEMENT, 'an expression': EXPRESSION, 'a comparison': COMPARISON,
     'an operator of arithmetic': ARITHMETIC}
-KINDS = {'effect': 'the effect', 'fn': 'the function', 'handler': 'the handler'}
+KINDS = {'effect': 'the effect', 'fn': 'the function', 'handler': 'the handler', 'slots': 'the slots'}
 
 
 def script_lines(data, reading):

@@ -40,11 +40,11 @@ fault_meant p trap.IntegerOverflow f e = same_fault e
 fault_meant p trap.ConsumedContinuation f e = same_fault e
 fault_meant p (trap.Unhandled x) f e = unhandled_meant p x f (slice_get (effect_names p.declarations) x) refl e
 fault_meant p trap.MemoryOutOfBounds f e = absurd (cc)
-fault_meant p trap.TableOutOfBounds f e = absurd (cc)
+fault_meant p trap.TableOutOfBounds f e = same_fault e
 fault_meant p trap.UndefinedElement f e = absurd (cc)
 fault_meant p trap.NullElement f e = absurd (cc)
 fault_meant p trap.CallTypeMismatch f e = absurd (cc)
-fault_meant p trap.NullReference f e = absurd (cc)
+fault_meant p trap.NullReference f e = same_fault e
 
 -- one number is the script's value
 values_meant : (say : TrapReply) (vs : Row Val) (end : Ended) → end_of_values vs ≡ Some end → end_reply say (Values vs) ≡ meaning_reply end

@@ -10,7 +10,7 @@ use Rattle.s_syntax.specs.declared.script.Script.{Script}
 use Rattle.s_check.specs.Refusal.{Good}
 use Rattle.s_check.specs.Size.{Size, size_limit}
 use Rattle.s_judge.specs.Judgements.{IsGood}
-use Rattle.s_meaning.specs.Numbers.{Fault, DivZero, Overflow, Failed, Reused, Unhandled}
+use Rattle.s_meaning.specs.Numbers.{Fault, DivZero, Overflow, Failed, Reused, Empty, Unhandled}
 use Rattle.s_meaning.specs.Eval.{Ended, RunLimit, Frames, Handles, Conts, Eval, Follows}
 use Rattle.s_code.specs.Lowered.{lowered}
 use Rattle.replies.specs.Answer.{Reply, line, refusal, limit, running, behind, script_gives, is_module, ActionGives, Answer}
@@ -23,6 +23,7 @@ fault_name DivZero = codes "divzero"
 fault_name Overflow = codes "overflow"
 fault_name Failed = codes "failed"
 fault_name Reused = codes "reused"
+fault_name Empty = codes "empty"
 fault_name (Unhandled op) = codes "unhandled " ++ op
 
 abbrev pub limit_name : RunLimit → List ℕ

@@ -285,6 +285,8 @@ fault_text p trap.Unreachable = codes "fault failed"
 fault_text p trap.DivideByZero = codes "fault divzero"
 fault_text p trap.IntegerOverflow = codes "fault overflow"
 fault_text p trap.ConsumedContinuation = codes "fault reused"
+fault_text p trap.TableOutOfBounds = codes "fault empty"
+fault_text p trap.NullReference = codes "fault empty"
 fault_text p (trap.Unhandled e) = codes "fault unhandled " ++ name_or_none (slice_get (effect_names p.declarations) e)
 fault_text p t = trap_text t
 

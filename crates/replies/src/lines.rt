@@ -150,13 +150,13 @@ pub fn fault_line(alloc: Global, script: &Script, trap: Trap) -> Result<Vec<u8>,
         Trap::DivideByZero => Ok(Vec::from_slice(alloc, b"fault divzero\n")?),
         Trap::IntegerOverflow => Ok(Vec::from_slice(alloc, b"fault overflow\n")?),
         Trap::ConsumedContinuation => Ok(Vec::from_slice(alloc, b"fault reused\n")?),
+        Trap::TableOutOfBounds => Ok(Vec::from_slice(alloc, b"fault empty\n")?),
+        Trap::NullReference => Ok(Vec::from_slice(alloc, b"fault empty\n")?),
         Trap::Unhandled(tag) => unhandled_line(alloc, script, tag),
         Trap::MemoryOutOfBounds => trap_line(alloc, trap),
-        Trap::TableOutOfBounds => trap_line(alloc, trap),
         Trap::UndefinedElement => trap_line(alloc, trap),
         Trap::NullElement => trap_line(alloc, trap),
         Trap::CallTypeMismatch => trap_line(alloc, trap),
-        Trap::NullReference => trap_line(alloc, trap),
     }
 }
 

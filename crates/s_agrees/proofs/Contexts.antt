@@ -15,7 +15,7 @@ use Rattle.s_code.specs.Places.{return_layout, placed_clauses}
 use Rattle.s_meaning.specs.Terms.{Value, Use, Work, Activation, Handle as Handled}
 use Rattle.s_meaning.specs.Terms as script
 use Rattle.s_meaning.proofs.Lists.{length_set}
-use Rattle.s_agrees.proofs.StandsFor.{Locals, Deep, here, label, Rest, ends, does, leaves, while_loop, Uses, sets, prints, drops, returns, chooses, Works, under, left, compared, computed, connected, calling, doing, handling_first, handling_second, resuming_first, resuming_second, tail_first, tail_second, within, clause_labels, loop_code, in_loop, Base, function, clause, Waits, outside, activation, handle}
+use Rattle.s_agrees.proofs.StandsFor.{Locals, Deep, here, label, Rest, ends, does, leaves, while_loop, Uses, sets, prints, drops, returns, puts, chooses, Works, under, left, compared, computed, connected, calling, doing, handling_first, handling_second, resuming_first, resuming_second, tail_first, tail_second, within, clause_labels, loop_code, in_loop, Base, function, clause, Waits, outside, activation, handle}
 use Rattle.s_agrees.proofs.StandsFor as standing
 use Rattle.s_agrees.proofs.MoreResumptions.{Grows, same_grows, sames_grow, local_grows, held_grows, held_at_grows, active_grows, asides_grow, local_kept, held_at_kept, asides_kept}
 
@@ -52,6 +52,8 @@ module _ {F : Context → Context} (beyond : Beyond F) where
   uses_beyond (sets h r) = sets h (rest_beyond r)
   uses_beyond (prints r) = prints (rest_beyond r)
   uses_beyond (drops r) = drops (rest_beyond r)
+  uses_beyond (puts q h free r) = puts q h free (rest_beyond r)
+  uses_beyond (standing.Uses.takes q h free r) = standing.Uses.takes q h free (rest_beyond r)
   uses_beyond (returns p) = returns (deep_beyond p)
   uses_beyond (chooses v w r) = chooses v w (rest_beyond r)
   uses_beyond {ds} {Γ} {n} {D0} {f} {u = u} {b = b} {c = c} (standing.Uses.turns {D = D} {x = x} {b = b'} {c = c'} {e = e} w v r) =
@@ -137,6 +139,8 @@ pub uses_deep : {ds : List Declaration} {Γ : Layout} {n D0 : ℕ} {f : Context}
 uses_deep (sets h r) = let q = rest_deep r in (q.labels, q.deep)
 uses_deep (prints r) = let q = rest_deep r in (q.labels, q.deep)
 uses_deep (drops r) = let q = rest_deep r in (q.labels, q.deep)
+uses_deep (puts s h free r) = let q = rest_deep r in (q.labels, q.deep)
+uses_deep (standing.Uses.takes s h free r) = let q = rest_deep r in (q.labels, q.deep)
 uses_deep (returns {d = d} p) = (d, p)
 uses_deep (chooses v w r) = let q = rest_deep r in (q.labels, q.deep)
 uses_deep (standing.Uses.turns w v r) = let q = rest_deep r in (suc (suc q.labels), label (label q.deep))
@@ -180,6 +184,8 @@ module _ {f : Context} (f1 tail : Context) (split : f ≡ f1 ++ tail) where
   uses_cut (sets h r) = let x = rest_cut r in (x.0, sets h x.1, x.2)
   uses_cut (prints r) = let x = rest_cut r in (x.0, prints x.1, x.2)
   uses_cut (drops r) = let x = rest_cut r in (x.0, drops x.1, x.2)
+  uses_cut (puts q h free r) = let x = rest_cut r in (x.0, puts q h free x.1, x.2)
+  uses_cut (standing.Uses.takes q h free r) = let x = rest_cut r in (x.0, standing.Uses.takes q h free x.1, x.2)
   uses_cut (returns p) = let x = deep_cut p in (x.0, returns x.1, x.2)
   uses_cut (chooses v w r) = let x = rest_cut r in (x.0, chooses v w x.1, x.2)
   uses_cut {ds} {Γ} (standing.Uses.turns {D = D} {x = y} {b = b} {c = c} w v r) =

@@ -9,10 +9,10 @@ use Rattle.s_check.specs.Rules.{when, in_block, in_body}
 use Rattle.s_check.specs.Scopes.{Bound, bind_all, lets_in, is_among, some_twice}
 use Rattle.s_code.specs.Layouts.{Local, local_of}
 use Rattle.s_code.specs.Places.{binds_in}
+use Rattle.s_code.proofs.Binds.{names_in}
 use Rattle.s_meaning.proofs.BoundInTurn.{or_left, or_right, twice_of}
 use Rattle.s_meaning.proofs.Good.{parts, when_not}
 use Rattle.s_meaning.proofs.Scopes.{same_refl, bool_of}
-use Rattle.s_valid.proofs.BoundOnce.{names_of_lets}
 
 -- ## Names
 
@@ -32,7 +32,7 @@ Once bs = some_twice [] (names bs) ≡ false
 pub body_once : (ds : List Declaration) (bs : List Bound) (b : BlockTree) → in_body ds bs b ≡ [] → Once (bs ++ binds_in ds b)
 body_once ds bs b q =
     let t = parts (when (some_twice [] (map (λ (c : Bound). c.name) bs ++ lets_in b)) rule.NameBoundTwice) (in_block ds (bind_all bs []) b) q in
-    ap (λ (xs : List Name). some_twice [] xs) (names_appended bs (binds_in ds b) ∙ ap (λ (xs : List Name). names bs ++ xs) (names_of_lets (lets_in b)))
+    ap (λ (xs : List Name). some_twice [] xs) (names_appended bs (binds_in ds b) ∙ ap (λ (xs : List Name). names bs ++ xs) (names_in ds b))
     ∙ when_not (some_twice [] (map (λ (c : Bound). c.name) bs ++ lets_in b)) rule.NameBoundTwice t.0
 
 -- ## Locals

@@ -59,7 +59,7 @@ use Rattle.s_agrees.proofs.ValuesAtHandles.{sim_return}
 pub record RulesMatched (p : Script) (same : ℕ → ℕ → Bool) : Type 0 where
   pub matched : {ρ : List ℕ} {σ : script.Store} {s : Store} {Γ : Layout} {n D0 t : ℕ} {L : Locals} {vars : List Variable} {owner : Option Name} {κ : script.Context} {below : Row Val} {c' : Code} {e' f : Context}
       {w : List Work} {ops : Row Val} {c : Code} {e : Context} {Ξ : World} {scope : Scope} (r : Redex)
-      → Stores p.declarations ρ σ s → Active ρ Γ n L vars → Base p.declarations Γ L below c' e' owner D0 f → Waits p.declarations ρ κ below c' e' → StoreTyped p Ξ σ.resumptions → Covers Ξ scope vars
+      → Stores p.declarations ρ σ s → Active ρ Γ n L vars → Base p.declarations Γ L below c' e' owner D0 f → Waits p.declarations ρ κ below c' e' → StoreTyped p Ξ σ → Covers Ξ scope vars
       → Ready p.declarations ρ Γ n D0 f r t L w ops c e → RedexTyped p Ξ scope r w
       → Matches p same 52 s (config e ops c) (rule p (record { store = σ; variables = vars; owner = owner; work = w; outer = κ }) r)
 
@@ -255,7 +255,7 @@ set_first {p} {same} {s} {L} {e} {ops} {c} y a is lt m =
 local_is_set : {ρ : List ℕ} {v : Value} {a : Val} (L : Locals) (y : ℕ) → y < length L → Same ρ v a → LocalIs ρ (slice_set L y (Some a)) y v
 local_is_set {a = a} L y lt v = let old = in_range L y lt in record { value = a; is = get_set_same L y (Some a) old.0 old.1; same = v }
 
-module _ {p : Script} (same : ℕ → ℕ → Bool) (rules : RulesMatched p same) {ρ : List ℕ} {σ : script.Store} {s : Store} (stores : Stores p.declarations ρ σ s) {Ξ : World} (store_typed : StoreTyped p Ξ σ.resumptions)
+module _ {p : Script} (same : ℕ → ℕ → Bool) (rules : RulesMatched p same) {ρ : List ℕ} {σ : script.Store} {s : Store} (stores : Stores p.declarations ρ σ s) {Ξ : World} (store_typed : StoreTyped p Ξ σ)
     {Γ : Layout} {n D0 : ℕ} {L : Locals} {vars : List Variable} {owner : Option Name} {κ : script.Context} {below : Row Val} {c' : Code} {e' f : Context}
     (active : Active ρ Γ n L vars) (base : Base p.declarations Γ L below c' e' owner D0 f) (waits : Waits p.declarations ρ κ below c' e') where
   -- a redex that stands ready, in its pending work
@@ -264,7 +264,7 @@ module _ {p : Script} (same : ℕ → ℕ → Bool) (rules : RulesMatched p same
 
 -- ## Values that are put aside
 
-module _ {p : Script} (same : ℕ → ℕ → Bool) (rules : RulesMatched p same) {ρ : List ℕ} {σ : script.Store} {s : Store} (stores : Stores p.declarations ρ σ s) {Ξ : World} (store_typed : StoreTyped p Ξ σ.resumptions)
+module _ {p : Script} (same : ℕ → ℕ → Bool) (rules : RulesMatched p same) {ρ : List ℕ} {σ : script.Store} {s : Store} (stores : Stores p.declarations ρ σ s) {Ξ : World} (store_typed : StoreTyped p Ξ σ)
     {Γ : Layout} {n D0 : ℕ} {L : Locals} {vars : List Variable} {owner : Option Name} {κ : script.Context} {below : Row Val} {c' : Code} {e' f : Context}
     (active : Active ρ Γ n L vars) (base : Base p.declarations Γ L below c' e' owner D0 f) (waits : Waits p.declarations ρ κ below c' e') where
   -- a first argument of a handle is put aside
@@ -313,7 +313,7 @@ again_step : (P : Program) (s : Store) (e : Context) (turn rest : Code) → step
 unfolding after
 again_step P s e turn rest = refl
 
-module _ {p : Script} (same : ℕ → ℕ → Bool) (rules : RulesMatched p same) {ρ : List ℕ} {σ : script.Store} {s : Store} (stores : Stores p.declarations ρ σ s) {Ξ : World} (store_typed : StoreTyped p Ξ σ.resumptions)
+module _ {p : Script} (same : ℕ → ℕ → Bool) (rules : RulesMatched p same) {ρ : List ℕ} {σ : script.Store} {s : Store} (stores : Stores p.declarations ρ σ s) {Ξ : World} (store_typed : StoreTyped p Ξ σ)
     {Γ : Layout} {n D0 : ℕ} {L : Locals} {vars : List Variable} {owner : Option Name} {κ : script.Context} {below : Row Val} {c' : Code} {e' f : Context}
     (active : Active ρ Γ n L vars) (base : Base p.declarations Γ L below c' e' owner D0 f) (waits : Waits p.declarations ρ κ below c' e') where
   -- no reduction comes before
@@ -362,6 +362,8 @@ module _ {p : Script} (same : ℕ → ℕ → Bool) (rules : RulesMatched p same
   sim_statement (While y b) covers t (standing.WellStatement.whiles w v) r q = before 2 refl refl refl (omega arith) (sim_loop w v r q)
   sim_statement (Evaluate use_for.Print y) covers t (standing.WellStatement.print w) r q = now q (ready_expr w (standing.Works.within (standing.Uses.prints r)))
   sim_statement (Evaluate use_for.Return y) covers (typing.StatementTyped.evaluates t u) (standing.WellStatement.return w) r q = now q (ready_return active base y covers t w r)
+  sim_statement (Evaluate (use_for.Store x k) y) covers t (standing.WellStatement.stores is h free w) r q = now q (ready_expr w (standing.Works.within (standing.Uses.puts is h free r)))
+  sim_statement (Evaluate (use_for.Take k x) y) covers t (standing.WellStatement.takes is h free w) r q = now q (ready_expr w (standing.Works.within (standing.Uses.takes is h free r)))
   sim_statement Fail {c = c} covers t standing.WellStatement.fail r q = now q (record { used = 0; ready = fail_ready c (rest_deep r).deep })
   sim_statement (Evaluate use_for.Drop y) covers t (standing.WellStatement.drop w) r q = now q (ready_expr w (standing.Works.within (standing.Uses.drops r)))
 
@@ -378,7 +380,7 @@ module _ {p : Script} (same : ℕ → ℕ → Bool) (rules : RulesMatched p same
 
 -- ## All steps
 
-module _ {p : Script} (same : ℕ → ℕ → Bool) (facts : Facts p.declarations) (rules : RulesMatched p same) {ρ : List ℕ} {σ : script.Store} {s : Store} (stores : Stores p.declarations ρ σ s) {Ξ : World} (store_typed : StoreTyped p Ξ σ.resumptions) where
+module _ {p : Script} (same : ℕ → ℕ → Bool) (facts : Facts p.declarations) (rules : RulesMatched p same) {ρ : List ℕ} {σ : script.Store} {s : Store} (stores : Stores p.declarations ρ σ s) {Ξ : World} (store_typed : StoreTyped p Ξ σ) where
   -- a value in its context
   sim_gives : {κ : script.Context} {ops : Row Val} {c : Code} {e : Context} {v : Value} {a : Val} → Same ρ v a → Waits p.declarations ρ κ ops c e → TermTyped p Ξ (Gives v) κ
       → Matches p same 60 s (config e (ops ▹ a) c) (step_at p σ (Gives v) κ)

@@ -9,8 +9,9 @@ use Rattle.s_syntax.specs.declared.script.Parameter.{Parameter}
 use Rattle.s_syntax.specs.declared.script.Function.{Function}
 use Rattle.s_syntax.specs.declared.script.Clause.{Clause}
 use Rattle.s_syntax.specs.declared.script.Handler.{Handler}
+use Rattle.s_syntax.specs.declared.script.Slots.{Slots}
 use Rattle.s_syntax.specs.declared.script.Declaration.{Declaration}
-use Rattle.s_check.specs.Definitions.{function_of, handler_of, effect_of}
+use Rattle.s_check.specs.Definitions.{function_of, handler_of, effect_of, slots_of}
 use Rattle.s_code.specs.Layouts.{Layout, local_of}
 use Rattle.s_code.specs.Handlers.{Placed}
 use Rattle.s_code.specs.Places.{function_layout, function_locals, return_layout, placed_clauses, handler_temporaries, handler_locals}
@@ -65,3 +66,4 @@ pub record HandlerFacts (ds : List Declaration) (h : Name) (i : Handler) : Type 
 pub record Facts (ds : List Declaration) : Type 0 where
   pub functions : (f : Name) (g : Function) → function_of ds f ≡ Some g → FunctionFacts ds g
   pub handlers : (h : Name) (i : Handler) → handler_of ds h ≡ Some i → HandlerFacts ds h i
+  pub slots : (s : Name) (d : Slots) → slots_of ds s ≡ Some d → d.places.value ≤ 65536

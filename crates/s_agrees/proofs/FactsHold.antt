@@ -6,15 +6,16 @@ use Rattle.s_syntax.specs.declared.name.Name.{Name}
 use Rattle.s_syntax.specs.declared.script.Function.{Function}
 use Rattle.s_syntax.specs.declared.script.Clause.{Clause}
 use Rattle.s_syntax.specs.declared.script.Handler.{Handler}
+use Rattle.s_syntax.specs.declared.script.Slots.{Slots}
 use Rattle.s_syntax.specs.declared.script.Definition.{Definition}
 use Rattle.s_syntax.specs.declared.script.Definition.TheVariants as definition
 use Rattle.s_syntax.specs.declared.script.Declaration.{Declaration}
 use Rattle.s_syntax.specs.declared.script.Script.{Script}
 use Rattle.s_syntax.specs.BlockTree.{BlockTree}
-use Rattle.s_check.specs.Definitions.{definition_of, function_of, handler_of}
+use Rattle.s_check.specs.Definitions.{definition_of, function_of, handler_of, slots_of}
 use Rattle.s_check.specs.Refusal.{Good}
 use Rattle.s_check.specs.Rules.{in_body}
-use Rattle.s_check.specs.Scopes.{Bound, number as number_name, parameter, resumption, lets_in}
+use Rattle.s_check.specs.Scopes.{Bound, number as number_name, parameter, resumption}
 use Rattle.s_index.specs.Handled.{handled_in_block, handled_in_clauses, handled_in_definition, handled_names}
 use Rattle.s_code.specs.Handlers.{Placed}
 use Rattle.s_code.specs.Layouts.{Local, Layout, numbered}
@@ -22,19 +23,20 @@ use Rattle.s_code.specs.Places.{binds_in, function_layout, return_names, clause_
 use Rattle.s_code.specs.Temporaries.{high_block}
 use Rattle.s_meaning.specs.Typing.{BlockTyped}
 use Rattle.s_meaning.proofs.BoundInTurn.{among_left, among_right}
-use Rattle.s_meaning.proofs.Good.{is_function, good_typed}
+use Rattle.s_meaning.proofs.Good.{is_function, is_slots, good_typed}
 use Rattle.s_meaning.proofs.Scopes.{bool_of}
+use Rattle.s_valid.proofs.Declarations.{declares, IsSmall, small}
 use Rattle.s_valid.proofs.GoodHandlers.{good_handler}
-use Rattle.s_valid.proofs.LayoutTypes.{AllHandled, handled_left, handled_right}
+use Rattle.s_valid.proofs.LayoutTypes.{AllHandled, handled_left, handled_right, LetsPlaced}
 use Rattle.s_valid.proofs.TypedBodies.{handler_handled}
 use Rattle.s_valid.proofs.TypedHandlers.{HandlerTyped}
 use Rattle.s_agrees.proofs.StandsFor.{Fine, WellBlock, handler_high}
 use Rattle.s_agrees.proofs.Facts.{Parameters, FunctionFacts, ClauseFacts, ReturnFacts, HandlerFacts, Facts}
 use Rattle.s_agrees.proofs.Unbroken.{function_keeps, HandlerKeeps, handler_keeps, effect_few}
 use Rattle.s_agrees.proofs.Distinct.{Once, body_once}
-use Rattle.s_agrees.proofs.LayoutFacts.{numbered_appended, Located, located_first, located_second, located_left, located_right, located_at, parameters_located, names_located, numbers_located, lets_located, numbers_appended, fine_of_two}
+use Rattle.s_agrees.proofs.LayoutFacts.{numbered_appended, Located, located_first, located_second, located_left, located_right, located_at, parameters_located, names_located, scope_located, lets_located, scope_appended, fine_of_two}
 use Rattle.s_agrees.proofs.Rooms.{many_parameters, function_room, handler_room_is}
-use Rattle.s_agrees.proofs.WellBodies.{Numbers, Lets, well_block}
+use Rattle.s_agrees.proofs.WellBodies.{ScopePlaced, well_block}
 
 -- ## Functions
 
@@ -64,8 +66,8 @@ module _ (p : Script) (good : Good p) where
       let one : numbered 0 (ps ++ bs) ≡ numbered 0 ps ++ numbered n bs = numbered_appended 0 ps bs in
       let front : Located (function_layout p.declarations g).names 0 ps = subst (λ (ls : List Local). Located ls 0 ps) (sym one) (located_first n ps bs once) in
       let behind : Located (function_layout p.declarations g).names n bs = subst (λ (ls : List Local). Located ls n bs) (sym one) (located_second n ps bs once) in
-      let names : Numbers (function_layout p.declarations g) ps = numbers_located ps front in
-      let lets : Lets (function_layout p.declarations g) (lets_in g.body) = lets_located (lets_in g.body) behind in
+      let names : ScopePlaced (function_layout p.declarations g) ps = scope_located ps front in
+      let lets : LetsPlaced (function_layout p.declarations g) bs = lets_located bs behind in
       let many = length-append ps bs in
       record {
         fine = fine_of_two (function_layout p.declarations g) ps bs n one (omega arith) (omega (arith, many));
@@ -133,10 +135,10 @@ module _ (p : Script) (h : Name) (i : Handler) (n : ℕ) (bs front : List Bound)
   body_well typed high handled =
       let ps = map parameter i.parameters in let Γ = layout_at p.declarations h i n bs in
       let all : Located Γ.names n (front ++ binds_in p.declarations b) = subst (λ (cs : List Bound). Located Γ.names n cs) is body_located in
-      let parameters : Numbers Γ ps = numbers_located ps (located_first n ps bs body_names_once) in
-      let fronts : Numbers Γ front = numbers_located front (located_left front (binds_in p.declarations b) all) in
-      let lets : Lets Γ (lets_in b) = lets_located (lets_in b) (located_right front (binds_in p.declarations b) all) in
-      well_block {p = p} b typed (numbers_appended ps front parameters fronts) lets high handled
+      let parameters : ScopePlaced Γ ps = scope_located ps (located_first n ps bs body_names_once) in
+      let fronts : ScopePlaced Γ front = scope_located front (located_left front (binds_in p.declarations b) all) in
+      let lets : LetsPlaced Γ (binds_in p.declarations b) = lets_located (binds_in p.declarations b) (located_right front (binds_in p.declarations b) all) in
+      well_block {p = p} b typed (scope_appended ps front parameters fronts) lets high handled
 
 -- names that lie behind the parameters and what is handled, and below the temporaries
 fine_at : (ds : List Declaration) (h : Name) (i : Handler) (n : ℕ) (bs : List Bound) → length i.parameters < n → n + length bs ≤ handler_temporaries ds h i → Fine (layout_at ds h i n bs)
@@ -207,6 +209,12 @@ module _ (p : Script) (good : Good p) (h : Name) (i : Handler) (is : handler_of 
     few_clauses = keeps.few_clauses;
   }
 
+-- slots
+slots_few : (p : Script) → Good p → (s : Name) (d : Slots) → slots_of p.declarations s ≡ Some d → d.places.value ≤ 65536
+slots_few p good s d e =
+    let k = declares p.declarations s (definition.Slots d) (is_slots (definition_of p.declarations s) d e) in
+    subst (λ (b : Definition). IsSmall b) k.defines (small p good k.place k.declaration k.is)
+
 -- a script that breaks no rule
 pub facts : (p : Script) → Good p → Facts p.declarations
-facts p good = record { functions = function_facts p good; handlers = handler_facts p good }
+facts p good = record { functions = function_facts p good; handlers = handler_facts p good; slots = slots_few p good }

@@ -205,5 +205,5 @@ module _ {p : Script} (same : ℕ → ℕ → Bool) (facts : Facts p.declaration
       (record {
         stands = runs (entered_active facts g fn is_g bound.0 enough_g G.sames bound.1) (rest_body q.well) (function refl)
             (handle is_h (first_room ds hf values enough_h b1) (listed_many vs ∙ enough_h) (first_held ds hf values enough_h b1) (activation active works base waits));
-        stores = stores_spent stores (None ∷ None ∷ []) conts2 refl live2;
+        stores = stores_spent stores (None ∷ None ∷ []) conts2 refl refl live2;
       }))

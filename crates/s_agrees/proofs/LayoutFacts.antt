@@ -1,19 +1,19 @@
 -- Where names are among the locals: names that are bound once are found at their places, and each name has a local of its own.
-use Rattle.std.proofs.Common.{◌≡◌, ℕ, zero, suc, ◌+◌, ◌<◌, ◌≤◌, true, ◌||◌, List, [], ◌∷◌, ◌++◌, map, length, Some, slice_get, if◌then◌else◌, ◌⊎◌, inl, inr, refl, sym, ap, ◌∙◌, subst, arith}
+use Rattle.std.proofs.Common.{◌≡◌, ℕ, zero, suc, ◌+◌, ◌<◌, ◌≤◌, List, [], ◌∷◌, ◌++◌, map, length, Some, slice_get, if◌then◌else◌, ◌⊎◌, inl, inr, refl, sym, ap, ◌∙◌, subst, arith}
 use Rattle.std.specs.Str.{bytes_eq}
 use Rattle.lists.proofs.Lists.{get-behind}
 use Rattle.s_syntax.specs.declared.name.Name.{Name}
 use Rattle.s_syntax.specs.declared.script.VariableType.{VariableType}
-use Rattle.s_syntax.specs.declared.script.VariableType.TheVariants.{Int}
 use Rattle.s_syntax.specs.declared.script.Parameter.{Parameter}
-use Rattle.s_check.specs.Scopes.{Bound, Scope, type_in, number as number_name, parameter, is_among, some_twice}
+use Rattle.s_check.specs.Scopes.{Bound, Scope, type_in, number as number_name, parameter, some_twice}
 use Rattle.s_code.specs.Layouts.{Local, Layout, numbered, local_of}
 use Rattle.s_meaning.proofs.Lists.{get_before}
 use Rattle.s_meaning.proofs.Scopes.{same_is, bool_of}
-use Rattle.s_agrees.proofs.StandsFor.{Fine, HasNumber}
+use Rattle.s_valid.proofs.LayoutTypes.{Placed as HasLocal, LetsPlaced}
+use Rattle.s_agrees.proofs.StandsFor.{Fine}
 use Rattle.s_agrees.proofs.Facts.{Parameters, Names}
 use Rattle.s_agrees.proofs.Distinct.{names, Once, local_names, once_found}
-use Rattle.s_agrees.proofs.WellBodies.{Numbers, Lets}
+use Rattle.s_agrees.proofs.WellBodies.{ScopePlaced}
 
 -- ## Locals that are numbered
 
@@ -97,7 +97,7 @@ parameters_located ps g = record { at = λ j q e. located_at j j (parameter q) g
 pub names_located : {Γ : Layout} {k : ℕ} (xs : List Name) → Located Γ.names k (map number_name xs) → Names Γ k xs
 names_located xs g = record { at = λ j x e. g.at j (number_name x) (get_number xs j x e) }
 
--- ## Locals for numbers
+-- ## Locals of names
 
 -- where a name is bound with its type
 record BoundAt (bs : Scope) (x : Name) (t : VariableType) : Type 0 where
@@ -114,21 +114,15 @@ bound_at (b ∷ bs) x t e =
     (λ q g. record { place = 0; bound = b; is = refl; named = sym (same_is x b.name q); ty = cc g })
     (λ q g. let r = bound_at bs x t g in record { place = suc r.place; bound = r.bound; is = r.is; named = r.named; ty = r.ty }) e
 
--- names at their places that are bound as numbers have locals for numbers
-pub numbers_located : {Γ : Layout} {k : ℕ} (bs : List Bound) → Located Γ.names k bs → Numbers Γ bs
-numbers_located {Γ} {k} bs g = record {
-  each = λ x e. let r = bound_at bs x Int e in let b = r.bound in
-      subst (λ (y : Name). HasNumber Γ y) r.named (record { local = record { name = b.name; ty = b.ty; number = k + r.place }; is = g.at r.place b r.is; ty = r.ty });
+-- names at their places have locals of their types
+pub scope_located : {Γ : Layout} {k : ℕ} (bs : List Bound) → Located Γ.names k bs → ScopePlaced Γ bs
+scope_located {Γ} {k} bs g = record {
+  each = λ x t e. let r = bound_at bs x t e in let b = r.bound in
+      subst (λ (y : Name). HasLocal Γ y t) r.named (record { local = record { name = b.name; ty = b.ty; number = k + r.place }; is = g.at r.place b r.is; ty = r.ty });
 }
 
--- lets bind numbers
-let_number : (xs : List Name) (x : Name) → is_among xs x ≡ true → type_in (map number_name xs) x ≡ Some Int
-let_number [] x h = absurd (cc)
-let_number (y ∷ xs) x h =
-    bool_of (bytes_eq y x) (λ q. (q || is_among xs x) ≡ true → (if q then Some Int else type_in (map number_name xs) x) ≡ Some Int) (λ q g. refl) (λ q g. let_number xs x g) h
-
-pub lets_located : {Γ : Layout} {k : ℕ} (xs : List Name) → Located Γ.names k (map number_name xs) → Lets Γ xs
-lets_located {Γ} xs g = let s : Numbers Γ (map number_name xs) = numbers_located (map number_name xs) g in record { each = λ x h. s.each x (let_number xs x h) }
+pub lets_located : {Γ : Layout} {k : ℕ} (bs : List Bound) → Located Γ.names k bs → LetsPlaced Γ bs
+lets_located {Γ} {k} bs g = record { placed = λ n b e. record { local = record { name = b.name; ty = b.ty; number = k + n }; is = g.at n b e; ty = refl } }
 
 either_type : (bs cs : Scope) (x : Name) (t : VariableType) → type_in (bs ++ cs) x ≡ Some t → (type_in bs x ≡ Some t) ⊎ (type_in cs x ≡ Some t)
 either_type [] cs x t e = inr e
@@ -136,12 +130,12 @@ either_type (b ∷ bs) cs x t e =
     bool_of (bytes_eq b.name x) (λ q. (if q then Some b.ty else type_in (bs ++ cs) x) ≡ Some t → ((if q then Some b.ty else type_in bs x) ≡ Some t) ⊎ (type_in cs x ≡ Some t))
     (λ q g. inl g) (λ q g. either_type bs cs x t g) e
 
-pub numbers_appended : {Γ : Layout} (bs cs : Scope) → Numbers Γ bs → Numbers Γ cs → Numbers Γ (bs ++ cs)
-numbers_appended {Γ} bs cs s t = record { each = λ x e. by x (either_type bs cs x Int e) }
+pub scope_appended : {Γ : Layout} (bs cs : Scope) → ScopePlaced Γ bs → ScopePlaced Γ cs → ScopePlaced Γ (bs ++ cs)
+scope_appended {Γ} bs cs s t = record { each = λ x k e. by x k (either_type bs cs x k e) }
   where
-    by : (x : Name) → (type_in bs x ≡ Some Int) ⊎ (type_in cs x ≡ Some Int) → HasNumber Γ x
-    by x (inl e) = s.each x e
-    by x (inr e) = t.each x e
+    by : (x : Name) (k : VariableType) → (type_in bs x ≡ Some k) ⊎ (type_in cs x ≡ Some k) → HasLocal Γ x k
+    by x k (inl e) = s.each x k e
+    by x k (inr e) = t.each x k e
 
 -- ## Each name has a local of its own
 

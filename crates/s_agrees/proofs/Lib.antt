@@ -18,6 +18,7 @@ pub mod Numbers
 pub mod StepsInPlace
 pub mod BoundValues
 pub mod Tags
+pub mod Tables
 pub mod CutContexts
 pub mod Bodies
 pub mod StoresGrow
@@ -31,6 +32,9 @@ pub mod Handles
 pub mod WithinLimits
 pub mod Whole
 pub mod RunsOfModules
+pub mod NamesSet
+pub mod SlotsSteps
+pub mod UsesOfSlots
 pub mod UsesOfValues
 pub mod ValuesAtHandles
 pub mod EachStep

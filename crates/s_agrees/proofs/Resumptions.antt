@@ -168,7 +168,7 @@ resumed_at {p} {ρ} {σ} {s} stores h {i} is a b {κ} {κ0} {k} there left_is ri
           (λ (z : List Administrative). Stands p.declarations ρ (record { hole = Gives u; around = κ ++ Handled h vs ∷ κ0 })
           (record { around = k.term.around ++ tail; operands = k.term.operands ▹ w; rest = record { ahead = z; code = k.term.rest.code } })) (sym kept.ahead)
           (gives value (waits_join (Handled h vs ∷ κ0) tail (handle is room number held outer) kept.waits));
-      stores = stores_less stores a b κ k there left_is right_is (None ∷ []) (spent_conts s b k w right_is) refl (spent_live s b k w right_is);
+      stores = stores_less stores a b κ k there left_is right_is (None ∷ []) (spent_conts s b k w right_is) refl refl (spent_live s b k w right_is);
     }
 
 -- ## What the script does

@@ -13,10 +13,10 @@ use Rattle.s_syntax.specs.declared.script.Parameter.{Parameter}
 use Rattle.s_syntax.specs.declared.script.Script.{Script}
 use Rattle.s_check.specs.Scopes.{Scope}
 use Rattle.s_code.specs.Layouts.{Layout}
-use Rattle.s_meaning.specs.Terms.{Value, Reference, Row as ScriptRow, Variable, Work}
+use Rattle.s_meaning.specs.Terms.{Value, Row as ScriptRow, Variable, Work}
 use Rattle.s_meaning.specs.Terms as script
 use Rattle.s_meaning.specs.Typing.{kinds, numbers}
-use Rattle.s_meaning.specs.Typed.{World, HasKind, int, reference, FirstHave, begun, further, calling, doing, handling, resuming, tail_resuming, StoreTyped, Covers}
+use Rattle.s_meaning.specs.Typed.{World, int, FirstHave, begun, further, calling, doing, handling, resuming, tail_resuming, StoreTyped, Covers}
 use Rattle.s_meaning.specs.Focus.{Redex}
 use Rattle.s_meaning.specs.Steps.{rule}
 use Rattle.s_meaning.proofs.TypedFocus.{RedexTyped, constant, lookup, on_unary, on_binary, decides, applying, using, failing, ending}
@@ -32,6 +32,7 @@ use Rattle.s_agrees.proofs.Captures.{sim_do}
 use Rattle.s_agrees.proofs.Handles.{sim_handling}
 use Rattle.s_agrees.proofs.Resumptions.{sim_resuming}
 use Rattle.s_agrees.proofs.TailResumptions.{sim_tail}
+use Rattle.s_agrees.proofs.UsesOfSlots.{referred}
 use Rattle.s_agrees.proofs.UsesOfValues.{sim_use, sim_fail, sim_end}
 use Rattle.s_agrees.proofs.EachStep.{RulesMatched}
 
@@ -54,15 +55,6 @@ numbers_many (suc n) = ap suc (numbers_many n)
 
 -- ## A resumption
 
--- what a value of a type res h refers to
-record Referred (Ξ : World) (h : Name) (v : Value) : Type 0 where
-  address : ℕ
-  is : v ≡ Reference address
-  there : slice_get Ξ address ≡ Some h
-
-referred : {Ξ : World} {h : Name} {v : Value} → HasKind Ξ v (Resumption h) → Referred Ξ h v
-referred (reference {a = a} e) = record { address = a; is = refl; there = e }
-
 -- an entry of another list that is as long
 entry_there : {A B : Type 0} (xs : List A) (ys : List B) (a : ℕ) (y : B) → length xs ≡ length ys → slice_get ys a ≡ Some y → (x : A) × (slice_get xs a ≡ Some x)
 entry_there [] [] a y e q = absurd (cc)
@@ -76,7 +68,7 @@ entry_there (x ∷ xs) (z ∷ ys) (suc a) y e q = entry_there xs ys a y (cc e) q
 module _ (p : Script) (same : ℕ → ℕ → Bool) (facts : Facts p.declarations) where
   matched : {ρ : List ℕ} {σ : script.Store} {s : Store} {Γ : Layout} {n D0 t : ℕ} {L : standing.Locals} {vars : List Variable} {owner : Option Name} {κ : script.Context} {below : Row Val} {c' : Code} {e' f : Context}
       {w : List Work} {ops : Row Val} {c : Code} {e : Context} {Ξ : World} {scope : Scope} (r : Redex)
-      → Stores p.declarations ρ σ s → Active ρ Γ n L vars → Base p.declarations Γ L below c' e' owner D0 f → Waits p.declarations ρ κ below c' e' → StoreTyped p Ξ σ.resumptions → Covers Ξ scope vars
+      → Stores p.declarations ρ σ s → Active ρ Γ n L vars → Base p.declarations Γ L below c' e' owner D0 f → Waits p.declarations ρ κ below c' e' → StoreTyped p Ξ σ → Covers Ξ scope vars
       → Ready p.declarations ρ Γ n D0 f r t L w ops c e → RedexTyped p Ξ scope r w
       → Matches p same 52 s (config e ops c) (rule p (record { store = σ; variables = vars; owner = owner; work = w; outer = κ }) r)
   matched r stores active base waits typed covers (constant_ready {k = k} w) (constant t) = sim_constant same stores active base waits k w
@@ -103,7 +95,7 @@ module _ (p : Script) (same : ℕ → ℕ → Bool) (facts : Facts p.declaration
       let v = covers.covers x (Resumption h) q in let to = referred v.has in let entry = entry_there _ _ to.address h typed.as_many to.there in
       let a = all_many firsts in let b = both_many (no_values ▸ u) vs in let d = kinds_many i.parameters in
       sim_tail same facts stores active base waits h x v.variable to.address entry.0 v.there v.of_kind to.is entry.1 is (omega (arith, a, b, d)) number values own deep D c
-  matched r stores active base waits typed covers (use_ready v u) (using t b int) = sim_use same facts stores active base waits v u
+  matched r stores active base waits typed covers (use_ready v u) (using t b int) = sim_use same facts stores active base waits v u covers t
   matched r stores active base waits typed covers (fail_ready c deep) failing = sim_fail same facts stores active base waits deep
   matched r stores active base waits typed covers end_ready ending = sim_end same facts stores active base waits
 

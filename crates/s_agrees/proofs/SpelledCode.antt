@@ -11,24 +11,27 @@ use Rattle.s_syntax.specs.declared.operators.UnaryOperator.TheVariants.{Minus, N
 use Rattle.s_syntax.specs.declared.operators.Connective.TheVariants.{Or, And}
 use Rattle.s_syntax.specs.declared.operators.BinaryOperator.{BinaryOperator}
 use Rattle.s_syntax.specs.declared.operators.BinaryOperator.TheVariants.{Connects, Compares, Computes}
+use Rattle.s_syntax.specs.declared.script.Slots.{Slots}
 use Rattle.s_syntax.specs.declared.script.Declaration.{Declaration}
 use Rattle.s_syntax.specs.ExprTree.{ExprTree, Literal, Read, Unary, Run, Call, Do, Handle, Resume, Exprs, NoExprs, MoreExprs, Operands, NoOperands, MoreOperands}
 use Rattle.s_syntax.specs.declared.statement.Use.TheVariants as use_for
 use Rattle.s_syntax.specs.BlockTree.{StatementTree, BlockTree, Evaluate, If as IfStatement, While, Fail, Done as NoStatements, ◌⨟◌}
+use Rattle.s_check.specs.Definitions.{slots_of}
 use Rattle.s_check.specs.Rules.{count}
 use Rattle.s_check.specs.Size.{expr_size, exprs_size, operands_size, statement_size, block_size}
-use Rattle.s_index.specs.Numbers.{function_index, handler_index, tag_index}
+use Rattle.s_index.specs.Numbers.{function_index, handler_index, tag_index, table_index}
 use Rattle.s_index.specs.Types.{resumption_type, computation_type}
 use Rattle.s_index.specs.Indices.{continuation_index, function_type_index, parameters_of}
 use Rattle.s_index.specs.Limits.{number_limit as limit}
-use Rattle.s_code.specs.Instructions.{call, local_get, local_set, nop, suspend, branch, branch_if, is_zero, leave, dropped, truth, unary_operator, comparison, arithmetic, if_zero}
+use Rattle.s_code.specs.Instructions.{call, local_get, local_set, table_get, table_set, wrap, null, non_null, nop, suspend, branch, branch_if, is_zero, leave, dropped, truth, unary_operator, comparison, arithmetic, if_zero}
 use Rattle.s_code.specs.Layouts.{Layout, local_number, handler_of_name, stays, slot, is_own, owner_parameters}
 use Rattle.s_code.specs.Expressions.{reload, begin, wake, handler_index_of, operator, expr, args, set_aside, operands, set_parameters, tail_resume}
+use Rattle.s_code.specs.Slots.{places_in, places_of, to_place, store_code, take_code}
 use Rattle.s_code.specs.Statements.{printer, return, statement, block, ending, body}
 use Rattle.s_code.proofs.Sizes.{some_size, count_within}
 use Rattle.w_encode.specs.Spelled.{CodeSpelled}
 use Rattle.s_agrees.proofs.SpelledIndices.{fits, SmallIndices, SmallLayout}
-use Rattle.s_agrees.proofs.SpelledTokens.{constant_spelled, minus_one_spelled, is_zero_spelled, is_zero_32_spelled, extend_spelled, unreachable_spelled, nop_spelled, leave_spelled, dropped_spelled, binary_spelled, times_spelled, compare_spelled, branch_spelled, branch_if_spelled, call_spelled, local_get_spelled, local_set_spelled, reference_spelled, new_continuation_spelled, suspend_spelled, bind_continuation_spelled, block_spelled, if_spelled}
+use Rattle.s_agrees.proofs.SpelledTokens.{constant_spelled, minus_one_spelled, minus_one_32_spelled, wrap_spelled, below_spelled, select_spelled, table_get_spelled, table_set_spelled, null_spelled, non_null_spelled, is_zero_spelled, is_zero_32_spelled, extend_spelled, unreachable_spelled, nop_spelled, leave_spelled, dropped_spelled, binary_spelled, times_spelled, compare_spelled, branch_spelled, branch_if_spelled, call_spelled, local_get_spelled, local_set_spelled, reference_spelled, new_continuation_spelled, suspend_spelled, bind_continuation_spelled, block_spelled, if_spelled}
 
 -- ## Operators
 
@@ -193,6 +196,45 @@ module _ (ds : List Declaration) (Γ : Layout) (S : SmallIndices ds) (L : SmallL
   return_spelled (Handle f es g ps) D c few labels h = plain_spelled (Handle f es g ps) c few h
   return_spelled (Resume k e ps) D c few labels h = resumed_spelled (is_own Γ k) k e ps D c few labels h
 
+  -- the number of places of slots is one that a script writes
+  few_places : (o : Option Slots) → places_in o ≤ 9223372036854775807
+  few_places None = omega arith
+  few_places (Some s) = s.places.small
+
+  -- the place that a number stands for
+  place_spelled : (s : Name) (c : Code) → CodeSpelled c → CodeSpelled (to_place Γ.temporaries (places_of ds s) c)
+  place_spelled s c h =
+      let few = L.temporaries in
+      let there : Γ.temporaries < 2 ^ 32 = omega (arith, few) in (
+        local_set_spelled Γ.temporaries there,
+        (
+          local_get_spelled Γ.temporaries there,
+          (wrap_spelled, (minus_one_32_spelled, (local_get_spelled Γ.temporaries there, (constant_spelled (places_of ds s) (few_places (slots_of ds s)), (below_spelled, (select_spelled, h)))))),
+        ),
+      )
+
+  store_spelled : (s k : Name) (c : Code) → CodeSpelled c → CodeSpelled (store_code ds Γ s k c)
+  store_spelled s k c h =
+      place_spelled s (Plain (local_get (local_number Γ k)) (Plain (table_set (table_index ds s)) c))
+      (local_get_spelled (local_number Γ k) (name_fits k), (table_set_spelled (table_index ds s) (fits (table_index ds s) (S.table s)), h))
+
+  take_spelled : (k s : Name) (c : Code) → CodeSpelled c → CodeSpelled (take_code ds Γ k s c)
+  take_spelled k s c h =
+      let few = L.temporaries in
+      let there : Γ.temporaries < 2 ^ 32 = omega (arith, few) in
+      let table = fits (table_index ds s) (S.table s) in
+      let emptied : Code = Plain (local_get Γ.temporaries) (Plain wrap (Plain (null resumption_type) (Plain (table_set (table_index ds s)) c))) in
+      place_spelled s (Plain (table_get (table_index ds s)) (Plain non_null (Plain (local_set (local_number Γ k)) emptied))) (
+        table_get_spelled (table_index ds s) table,
+        (
+          non_null_spelled,
+          (
+            local_set_spelled (local_number Γ k) (name_fits k),
+            (local_get_spelled Γ.temporaries there, (wrap_spelled, (null_spelled resumption_type (omega arith), (table_set_spelled (table_index ds s) table, h)))),
+          ),
+        ),
+      )
+
   -- a statement before what can be spelled
   mutual
     statement_spelled : (x : StatementTree) (D : ℕ) (c : Code) → D + statement_size x ≤ room → CodeSpelled c → CodeSpelled (statement ds Γ D x c)
@@ -213,6 +255,8 @@ module _ (ds : List Declaration) (Γ : Layout) (S : SmallIndices ds) (L : SmallL
         (block_spelled kind.Block block_type.Empty tt, (block_spelled kind.Loop block_type.Empty tt, p, tt), h)
     statement_spelled (Evaluate use_for.Print e) D c few h = expr_spelled e 0 (Plain (call printer) c) (omega (arith, few)) (call_spelled printer (omega arith), h)
     statement_spelled (Evaluate use_for.Return e) D c few h = return_spelled e D c (omega (arith, few)) (omega (arith, few)) h
+    statement_spelled (Evaluate (use_for.Store s k) e) D c few h = expr_spelled e 0 (store_code ds Γ s k c) (omega (arith, few)) (store_spelled s k c h)
+    statement_spelled (Evaluate (use_for.Take k s) e) D c few h = expr_spelled e 0 (take_code ds Γ k s c) (omega (arith, few)) (take_spelled k s c h)
     statement_spelled Fail D c few h = (unreachable_spelled, h)
     statement_spelled (Evaluate use_for.Drop e) D c few h = expr_spelled e 0 (Plain dropped c) (omega (arith, few)) (dropped_spelled, h)
 

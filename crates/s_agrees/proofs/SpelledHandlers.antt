@@ -15,10 +15,10 @@ use Rattle.s_syntax.specs.declared.script.Definition.{Definition}
 use Rattle.s_syntax.specs.declared.script.Definition.TheVariants as definition
 use Rattle.s_syntax.specs.declared.script.Declaration.{Declaration}
 use Rattle.s_syntax.specs.declared.script.Script.{Script}
-use Rattle.s_syntax.specs.BlockTree.{StatementTree, BlockTree, Evaluate, If as IfStatement, While, Fail, Done as NoStatements, ◌⨟◌}
+use Rattle.s_syntax.specs.BlockTree.{BlockTree}
 use Rattle.s_check.specs.Refusal.{Good}
-use Rattle.s_check.specs.Scopes.{Bound, number, parameter, resumption, lets_of, lets_in}
-use Rattle.s_check.specs.Size.{statement_size, block_size, clause_size, definition_size, Size, size_limit}
+use Rattle.s_check.specs.Scopes.{Bound, number, parameter, resumption}
+use Rattle.s_check.specs.Size.{block_size, clause_size, definition_size, Size, size_limit}
 use Rattle.s_index.specs.Numbers.{tag_index}
 use Rattle.s_index.specs.Types.{computation_type, clause_type}
 use Rattle.s_index.specs.Indices.{clause_type_index}
@@ -30,7 +30,8 @@ use Rattle.s_code.specs.Handlers.{set_names, clause_code, blocks, labels, return
 use Rattle.s_code.specs.Temporaries.{high_block}
 use Rattle.s_code.specs.Places.{binds_in, function_names, function_layout, return_names, clause_names, clauses_names, return_place, clauses_place, handler_temporaries, layout_at, return_layout, placed_from, high_clauses}
 use Rattle.s_code.specs.Lowered.{function_code, handler_code, function_code_of, handler_code_of, for_each, lowered}
-use Rattle.s_code.proofs.Highs.{lets_by_few, block_high}
+use Rattle.s_code.proofs.Highs.{block_high}
+use Rattle.s_code.proofs.Binds.{binds_within}
 use Rattle.w_encode.specs.Spelled.{CodeSpelled, FunctionSpelled, FunctionsSpelled}
 use Rattle.s_agrees.proofs.SpelledIndices.{fits, SmallIndices, small_indices, SmallLayout, names_small, both_small, locals_total, runs_spelled, runs_joined}
 use Rattle.s_agrees.proofs.SpelledCode.{room, body_spelled}
@@ -39,20 +40,8 @@ use Rattle.s_agrees.proofs.SpelledTokens.{ClausesSmall, local_get_spelled, local
 -- ## Names
 
 -- no more names are bound than a body is large
-mutual
-  statement_lets : (s : StatementTree) → length (lets_of s) ≤ statement_size s
-  statement_lets (Evaluate u e) = let q = lets_by_few u in omega (arith, q)
-  statement_lets (IfStatement c a b) = let q = block_lets a in let r = block_lets b in let l = length-append (lets_in a) (lets_in b) in omega (arith, q, r, l)
-  statement_lets (While c b) = let q = block_lets b in omega (arith, q)
-  statement_lets Fail = omega arith
-
-  block_lets : (b : BlockTree) → length (lets_in b) ≤ block_size b
-  block_lets NoStatements = omega arith
-  block_lets (s ⨟ b) = let q = statement_lets s in let r = block_lets b in let l = length-append (lets_of s) (lets_in b) in omega (arith, q, r, l)
-
--- as many stand in its layout
 few_lets : (ds : List Declaration) (b : BlockTree) → length (binds_in ds b) ≤ block_size b
-few_lets ds b = let q = block_lets b in let l = length-map (lets_in b) number in omega (arith, q, l)
+few_lets ds b = binds_within ds b
 
 -- a clause binds no more than its size
 few_names : (ds : List Declaration) (h : Name) (c : Clause) → length (clause_names ds h c) ≤ clause_size c
@@ -219,11 +208,13 @@ function_of_spelled : (ds : List Declaration) (d : Definition) → SmallIndices 
 function_of_spelled ds (definition.Effect n) S few = tt
 function_of_spelled ds (definition.Function f) S few = (function_spelled ds f S few, tt)
 function_of_spelled ds (definition.Handler i) S few = tt
+function_of_spelled ds (definition.Slots s) S few = tt
 
 handler_of_spelled : (ds : List Declaration) (h : Name) (d : Definition) → SmallIndices ds → definition_size d ≤ size_limit → FunctionsSpelled (handler_code_of ds h d)
 handler_of_spelled ds h (definition.Effect n) S few = tt
 handler_of_spelled ds h (definition.Function f) S few = tt
 handler_of_spelled ds h (definition.Handler i) S few = (handler_spelled ds h i S few, tt)
+handler_of_spelled ds h (definition.Slots s) S few = tt
 
 -- how large declarations are
 abbrev sizes : List Declaration → ℕ

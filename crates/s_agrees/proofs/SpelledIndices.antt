@@ -24,7 +24,7 @@ use Rattle.s_check.specs.Refusal.{Good}
 use Rattle.s_check.specs.Scopes.{Bound}
 use Rattle.s_check.specs.Size.{definition_size, Size, size_limit}
 use Rattle.s_index.specs.declared.counts.Counts.{Counts}
-use Rattle.s_index.specs.Numbers.{no_counts, counted, counted_all, counts_of, number_behind, Entry, entry_behind, entry_of, index_of_function, index_of_handler, index_of_tag, with_entry, function_index, first_handler, handler_index, tag_index}
+use Rattle.s_index.specs.Numbers.{no_counts, counted, counted_all, counts_of, number_behind, Entry, entry_behind, entry_of, index_of_function, index_of_handler, index_of_tag, index_of_table, with_entry, function_index, first_handler, handler_index, tag_index, table_index}
 use Rattle.s_index.specs.Types.{val_type, same_type, place}
 use Rattle.s_index.specs.Indices.{type_table, type_index}
 use Rattle.s_index.specs.Limits.{number_limit as limit}
@@ -40,22 +40,24 @@ fits n h = omega (arith, h)
 
 -- ## Indices
 
--- of functions, handlers, tags and types
+-- of functions, handlers, tags, tables and types
 pub record SmallIndices (ds : List Declaration) : Type 0 where
   pub function : (f : Name) → function_index ds f ≤ limit
   pub handler : (h : Name) → handler_index ds h ≤ limit
   pub tag : (o : Name) → tag_index ds o ≤ limit
+  pub table : (s : Name) → table_index ds s ≤ limit
   pub type : (t : CompType) → type_index ds t ≤ limit
 
 -- how many are counted of all kinds
 abbrev all_counts : Counts → ℕ
-all_counts n = n.effects + n.functions + n.handlers
+all_counts n = n.effects + n.functions + n.handlers + n.slots
 
 -- each declaration is counted once
 counted_one : (n : Counts) (d : Definition) → all_counts (counted n d) ≡ all_counts n + 1
 counted_one n (definition.Effect k) = omega arith
 counted_one n (definition.Function f) = omega arith
 counted_one n (definition.Handler h) = omega arith
+counted_one n (definition.Slots s) = omega arith
 
 counted_more : (n : Counts) (ds : List Declaration) → all_counts (counted_all n ds) ≡ all_counts n + length ds
 counted_more n [] = omega arith
@@ -72,6 +74,7 @@ behind_small : (n : Counts) (d : Definition) → number_behind n d ≤ all_count
 behind_small n (definition.Effect k) = omega arith
 behind_small n (definition.Function f) = omega arith
 behind_small n (definition.Handler h) = omega arith
+behind_small n (definition.Slots s) = omega arith
 
 -- an entry has a number that is at most k
 abbrev EntrySmall : ℕ → Option Entry → Type 0
@@ -96,16 +99,25 @@ function_of_entry : (k : ℕ) (d : Definition) (n : ℕ) → n ≤ k → index_o
 function_of_entry k (definition.Effect e) n h = omega arith
 function_of_entry k (definition.Function f) n h = omega (arith, h)
 function_of_entry k (definition.Handler i) n h = omega arith
+function_of_entry k (definition.Slots s) n h = omega arith
 
 handler_of_entry : (k first : ℕ) (d : Definition) (n : ℕ) → n ≤ k → index_of_handler first d n ≤ first + k
 handler_of_entry k first (definition.Effect e) n h = omega arith
 handler_of_entry k first (definition.Function f) n h = omega arith
 handler_of_entry k first (definition.Handler i) n h = omega (arith, h)
+handler_of_entry k first (definition.Slots s) n h = omega arith
 
 tag_of_entry : (k : ℕ) (d : Definition) (n : ℕ) → n ≤ k → index_of_tag d n ≤ k
 tag_of_entry k (definition.Effect e) n h = h
 tag_of_entry k (definition.Function f) n h = omega arith
 tag_of_entry k (definition.Handler i) n h = omega arith
+tag_of_entry k (definition.Slots s) n h = omega arith
+
+table_of_entry : (k : ℕ) (d : Definition) (n : ℕ) → n ≤ k → index_of_table d n ≤ k
+table_of_entry k (definition.Effect e) n h = omega arith
+table_of_entry k (definition.Function f) n h = omega arith
+table_of_entry k (definition.Handler i) n h = omega arith
+table_of_entry k (definition.Slots s) n h = h
 
 -- a name without an entry has the index 0
 index_small : (index : Definition → ℕ → ℕ) (k m : ℕ) → ((d : Definition) (n : ℕ) → n ≤ k → index d n ≤ m) → (o : Option Entry) → EntrySmall k o → with_entry index o ≤ m
@@ -126,6 +138,7 @@ some_definition : (d : Definition) → 1 ≤ definition_size d
 some_definition (definition.Effect n) = omega arith
 some_definition (definition.Function f) = omega arith
 some_definition (definition.Handler h) = omega arith
+some_definition (definition.Slots s) = omega arith
 
 -- so there are no more than they are large
 pub few_declarations : (ds : List Declaration) → length ds ≤ sum_by (λ (d : Declaration). definition_size d.definition) ds
@@ -147,6 +160,7 @@ indices_small ds few table =
           let q = index_small (index_of_handler (first_handler ds)) (length ds) (first_handler ds + length ds) (handler_of_entry (length ds) (first_handler ds)) (entry_of ds h) (entry h) in
           omega (arith, q, few, functions);
       tag = λ o. let q = index_small index_of_tag (length ds) (length ds) (tag_of_entry (length ds)) (entry_of ds o) (entry o) in omega (arith, q, few);
+      table = λ s. let q = index_small index_of_table (length ds) (length ds) (table_of_entry (length ds)) (entry_of ds s) (entry s) in omega (arith, q, few);
       type = λ t. let q = place_small t (type_table ds) in omega (arith, q, table);
     }
 

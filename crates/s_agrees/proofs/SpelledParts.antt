@@ -9,22 +9,24 @@ use Rattle.w_leb.specs.Formats.{number}
 use Rattle.w_leb.specs.Number.{shortest, Unsigned}
 use Rattle.w_leb.specs.CanonicalLaws.{vec_written, each_byte}
 use Rattle.w_leb.specs.IndexLaws.{index_is_u32}
+use Rattle.w_leb.specs.ShortestLaws.{shortest_spells}
 use Rattle.w_types.specs.declared.types.HeapType.TheVariants as heap
 use Rattle.w_types.specs.declared.types.ValType.TheVariants.{I64}
 use Rattle.w_types.specs.declared.types.CompType.{CompType}
 use Rattle.w_types.specs.declared.types.CompType.TheVariants.{Func, Cont}
 use Rattle.w_syntax.specs.Code.{Code}
 use Rattle.w_syntax.specs.Items.{reference_to}
-use Rattle.w_syntax.specs.Types.{non_null_to, valtype, functype, comptype, rectype}
-use Rattle.w_syntax.specs.Fields.{name, tag, externtype, import, externidx, export, elemkind, function_item, elem}
+use Rattle.w_syntax.specs.Types.{nullable_to, non_null_to, reftype, valtype, functype, comptype, rectype, limits, tabletype}
+use Rattle.w_syntax.specs.Fields.{name, table_of as table_format, tag, externtype, import, externidx, export, elemkind, function_item, elem}
 use Rattle.w_syntax.specs.declared.module.ExternType.TheVariants as extern
 use Rattle.w_syntax.specs.declared.module.ExternIndex.TheVariants as index
 use Rattle.w_syntax.specs.declared.module.ElemMode.TheVariants as mode
-use Rattle.w_encode.specs.TypesWritten.{index_written, valtype_written, comptype_written, rectype_written}
-use Rattle.w_encode.specs.FieldsWritten.{bytes_written, tag_written, externtype_written, import_written, externidx_written, export_written, are_functions, function_written, elem_written}
+use Rattle.w_encode.specs.TypesWritten.{index_written, ref_written, limits_with, valtype_written, comptype_written, rectype_written}
+use Rattle.w_encode.specs.FieldsWritten.{bytes_written, table_written, tag_written, externtype_written, import_written, externidx_written, export_written, are_functions, function_written, elem_written}
 use Rattle.s_syntax.specs.declared.name.Name.{Name}
 use Rattle.s_syntax.specs.declared.script.Parameter.{Parameter}
 use Rattle.s_syntax.specs.declared.script.Clause.{Clause}
+use Rattle.s_syntax.specs.declared.script.Slots.{Slots}
 use Rattle.s_syntax.specs.declared.script.Definition.{Definition}
 use Rattle.s_syntax.specs.declared.script.Definition.TheVariants as definition
 use Rattle.s_syntax.specs.declared.script.Declaration.{Declaration}
@@ -35,13 +37,13 @@ use Rattle.s_index.specs.Handled.{is_function_among, handled_names, handled}
 use Rattle.s_index.specs.Indices.{function_types, type_table, continuations, parameters_of, function_type_index, handler_type_index, effect_type_index, type_index}
 use Rattle.s_index.specs.Numbers.{function_index}
 use Rattle.s_index.specs.Types.{place, with_type, with_types, first_types, function_type, handler_type, effect_type, clause_type, clause_types, types_for, types_for_all, val_type, val_types, numbers, to_continuation, computation_type, resumption_type}
-use Rattle.s_code.specs.Lowered.{function_type_of, handler_type_of, tag_of, function_code_of, handler_code_of, for_each, group, declared, lowered}
+use Rattle.s_code.specs.Lowered.{slots_table, function_type_of, handler_type_of, table_of, tag_of, function_code_of, handler_code_of, for_each, group, declared, lowered}
 use Rattle.s_valid.proofs.Declarations.{IsSmall, small}
 use Rattle.s_valid.proofs.ManyTypes.{few_function_types, few_in_table}
 use Rattle.w_encode.proofs.SpelledCode.{list_spells, both_spelled}
 use Rattle.w_encode.specs.Spelled.{EachSpelled, ListSpelled}
 use Rattle.s_agrees.proofs.SpelledIndices.{place_small, few_declarations, small_indices, fits}
-use Rattle.s_agrees.proofs.SpelledTokens.{u32_spelled, signed_index_spelled, continuation_type_spelled, number_type_spelled, val_type_spelled}
+use Rattle.s_agrees.proofs.SpelledTokens.{u32_spelled, signed_index_spelled, heap_index_spelled, continuation_type_spelled, number_type_spelled, val_type_spelled}
 
 -- ## Lists
 
@@ -146,6 +148,7 @@ definition_spelled : (d : Definition) → IsSmall d → AllSpelled (types_for d)
 definition_spelled (definition.Effect n) few = (effect_type_spelled n.value few, tt)
 definition_spelled (definition.Function f) few = (function_type_spelled f.parameters few, tt)
 definition_spelled (definition.Handler i) few = (handler_type_spelled i.parameters few.0, clause_types_spelled i.clauses few.1)
+definition_spelled (definition.Slots s) few = tt
 
 declarations_spelled : (ds : List Declaration) → ((k : ℕ) (e : Declaration) → slice_get ds k ≡ Some e → IsSmall e.definition) → AllSpelled (types_for_all ds)
 declarations_spelled [] few = tt
@@ -168,7 +171,7 @@ types_spelled p good =
     let l = length-map (type_table p.declarations) group in
     (omega (arith, few, l), groups_spelled (type_table p.declarations) (table_spelled p good))
 
--- ## Functions and tags
+-- ## Functions, tables and tags
 
 -- indices of types and of functions are small
 small_type : (p : Script) → Good p → Size p ≤ size_limit → (t : CompType) → type_index p.declarations t < 2 ^ 32
@@ -182,42 +185,87 @@ module _ (p : Script) (good : Good p) (size : Size p ≤ size_limit) where
   function_spelled (definition.Effect n) = tt
   function_spelled (definition.Function f) = (u32_spelled (function_type_index p.declarations f.parameters) (small_type p good size (function_type f.parameters)), tt)
   function_spelled (definition.Handler i) = tt
+  function_spelled (definition.Slots s) = tt
 
   handler_spelled : (d : Definition) → EachSpelled (number 32) shortest (handler_type_of p.declarations d)
   handler_spelled (definition.Effect n) = tt
   handler_spelled (definition.Function f) = tt
   handler_spelled (definition.Handler i) = (u32_spelled (handler_type_index p.declarations i.parameters) (small_type p good size (handler_type i.parameters)), tt)
+  handler_spelled (definition.Slots s) = tt
 
   tag_spelled : (d : Definition) → EachSpelled tag tag_written (tag_of p.declarations d)
   unfolding tag
   tag_spelled (definition.Effect n) = ((effect_type_index p.declarations n.value, u32_spelled (effect_type_index p.declarations n.value) (small_type p good size (effect_type n.value)), refl), tt)
   tag_spelled (definition.Function f) = tt
   tag_spelled (definition.Handler i) = tt
+  tag_spelled (definition.Slots s) = tt
 
 one_function : (ds : List Declaration) (d : Definition) → length (function_type_of ds d) ≤ 1
 one_function ds (definition.Effect n) = omega arith
 one_function ds (definition.Function f) = omega arith
 one_function ds (definition.Handler i) = omega arith
+one_function ds (definition.Slots s) = omega arith
 
 one_handler : (ds : List Declaration) (d : Definition) → length (handler_type_of ds d) ≤ 1
 one_handler ds (definition.Effect n) = omega arith
 one_handler ds (definition.Function f) = omega arith
 one_handler ds (definition.Handler i) = omega arith
+one_handler ds (definition.Slots s) = omega arith
 
 one_tag : (ds : List Declaration) (d : Definition) → length (tag_of ds d) ≤ 1
 one_tag ds (definition.Effect n) = omega arith
 one_tag ds (definition.Function f) = omega arith
 one_tag ds (definition.Handler i) = omega arith
+one_tag ds (definition.Slots s) = omega arith
+
+-- the type of references that may be null
+nullable_spelled : (x : ℕ) → x < 2 ^ 32 → reftype.Spells (ref_written true (heap.Index x)) (nullable_to (heap.Index x))
+unfolding reftype
+nullable_spelled x h = (heap.Index x, heap_index_spelled x h, refl)
+
+-- limits with a greatest number
+limits_spelled : (n : ℕ) → n < 2 ^ 64 → limits.Spells (limits_with n (Some n)) (record { min = n; max = Some n })
+unfolding limits
+limits_spelled n h = ((n, n), (shortest n, shortest n, refl, shortest_spells 9 64 n (omega arith) h, shortest_spells 9 64 n (omega arith) h), refl)
+
+-- a table of slots
+slots_spelled : (s : Slots) → table_format.Spells (table_written (slots_table s)) (slots_table s)
+unfolding table_format tabletype
+slots_spelled s =
+    let n = s.places.value in
+    let small = s.places.small in (
+      (slots_table s).kind,
+      (
+        ((slots_table s).kind.element, (slots_table s).kind.limits),
+        (ref_written true (heap.Index resumption_type), limits_with n (Some n), refl, nullable_spelled resumption_type (omega arith), limits_spelled n (omega (arith, small))),
+        refl,
+      ),
+      refl,
+    )
+
+table_spelled_of : (d : Definition) → EachSpelled table_format table_written (table_of d)
+table_spelled_of (definition.Effect n) = tt
+table_spelled_of (definition.Function f) = tt
+table_spelled_of (definition.Handler i) = tt
+table_spelled_of (definition.Slots s) = (slots_spelled s, tt)
+
+one_table : (d : Definition) → length (table_of d) ≤ 1
+one_table (definition.Effect n) = omega arith
+one_table (definition.Function f) = omega arith
+one_table (definition.Handler i) = omega arith
+one_table (definition.Slots s) = omega arith
 
 one_code : (ds : List Declaration) (d : Definition) → length (function_code_of ds d) ≤ 1
 one_code ds (definition.Effect n) = omega arith
 one_code ds (definition.Function f) = omega arith
 one_code ds (definition.Handler i) = omega arith
+one_code ds (definition.Slots s) = omega arith
 
 one_handler_code : (ds : List Declaration) (h : Name) (d : Definition) → length (handler_code_of ds h d) ≤ 1
 one_handler_code ds h (definition.Effect n) = omega arith
 one_handler_code ds h (definition.Function f) = omega arith
 one_handler_code ds h (definition.Handler i) = omega arith
+one_handler_code ds h (definition.Slots s) = omega arith
 
 pub functions_spelled : (p : Script) → Good p → Size p ≤ size_limit → ListSpelled (number 32) shortest (lowered p).functions
 functions_spelled p good size =
@@ -233,6 +281,13 @@ functions_spelled p good size =
           (each_of_all (number 32) shortest (λ (d : Declaration). function_type_of ds d.definition) (λ d. function_spelled p good size d.definition) ds)
           (each_of_all (number 32) shortest (λ (d : Declaration). handler_type_of ds d.definition) (λ d. handler_spelled p good size d.definition) ds),
     )
+
+pub tables_spelled : (p : Script) → Good p → Size p ≤ size_limit → ListSpelled table_format table_written (lowered p).tables
+tables_spelled p good size =
+    let ds = p.declarations in
+    let a = few_of_all (λ (d : Declaration). table_of d.definition) (λ d. one_table d.definition) ds in
+    let few = few_declarations ds in
+    (omega (arith, a, few, size), each_of_all table_format table_written (λ (d : Declaration). table_of d.definition) (λ d. table_spelled_of d.definition) ds)
 
 pub tags_spelled : (p : Script) → Good p → Size p ≤ size_limit → ListSpelled tag tag_written (lowered p).tags
 tags_spelled p good size =

@@ -17,7 +17,7 @@ use Rattle.s_valid.proofs.ShortSpelling.{short_spelling}
 use Rattle.s_valid.proofs.Starts.{starts}
 use Rattle.s_agrees.specs.Agrees.{ScriptsAgree}
 use Rattle.w_encode.specs.Spelled.{PartsSpelled}
-use Rattle.s_agrees.proofs.SpelledParts.{types_spelled, imports_spelled, functions_spelled, tags_spelled, exports_spelled, elements_spelled, few_codes}
+use Rattle.s_agrees.proofs.SpelledParts.{types_spelled, imports_spelled, functions_spelled, tables_spelled, tags_spelled, exports_spelled, elements_spelled, few_codes}
 use Rattle.s_agrees.proofs.SpelledHandlers.{codes_spelled}
 use Rattle.s_agrees.proofs.Follow.{runs_follow}
 
@@ -38,11 +38,13 @@ function_paired : (ds : List Declaration) (d : Definition) → length (function_
 function_paired ds (definition.Effect n) = refl
 function_paired ds (definition.Function f) = refl
 function_paired ds (definition.Handler i) = refl
+function_paired ds (definition.Slots s) = refl
 
 handler_paired : (ds : List Declaration) (h : Name) (d : Definition) → length (handler_type_of ds d) ≡ length (handler_code_of ds h d)
 handler_paired ds h (definition.Effect n) = refl
 handler_paired ds h (definition.Function f) = refl
 handler_paired ds h (definition.Handler i) = refl
+handler_paired ds h (definition.Slots s) = refl
 
 paired : (p : Script) → length (lowered p).functions ≡ length (lowered p).codes
 paired p =
@@ -61,7 +63,7 @@ module _ (p : Script) (good : Good p) (size : Size p ≤ size_limit) where
     types = types_spelled p good;
     imports = imports_spelled p;
     functions = functions_spelled p good size;
-    tables = (omega arith, tt);
+    tables = tables_spelled p good size;
     memories = (omega arith, tt);
     tags = tags_spelled p good size;
     globals = (omega arith, tt);

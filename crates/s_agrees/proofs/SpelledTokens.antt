@@ -15,6 +15,7 @@ use Rattle.w_types.specs.declared.types.ValType.{ValType}
 use Rattle.w_types.specs.declared.types.ValType.TheVariants as val
 use Rattle.w_syntax.specs.declared.numeric.IntType.TheVariants as int
 use Rattle.w_syntax.specs.declared.numeric.Binop.TheVariants as binop
+use Rattle.w_syntax.specs.declared.numeric.Relop.TheVariants as relop
 use Rattle.w_syntax.specs.declared.instructions.Clause.{Clause}
 use Rattle.w_syntax.specs.declared.instructions.Clause.TheVariants as clause
 use Rattle.w_syntax.specs.declared.numeric.NumericOp.TheVariants as numeric
@@ -38,7 +39,7 @@ use Rattle.s_syntax.specs.declared.operators.Arithmetic.TheVariants.{Add, Subtra
 use Rattle.s_syntax.specs.declared.script.VariableType.{VariableType}
 use Rattle.s_syntax.specs.declared.script.VariableType.TheVariants.{Int, Resumption}
 use Rattle.s_index.specs.Types.{to_continuation, val_type}
-use Rattle.s_code.specs.Instructions.{constant, is_zero, is_zero_32, extend, binary, compare, unreachable, nop, branch, branch_if, leave, call, dropped, local_get, local_set, function_reference, new_continuation, bind_continuation, suspend, resume, binop_of, relop_of}
+use Rattle.s_code.specs.Instructions.{constant, constant_32, is_zero, is_zero_32, extend, wrap, binary, compare, unreachable, nop, branch, branch_if, leave, call, dropped, select, local_get, local_set, table_get, table_set, null, non_null, function_reference, new_continuation, bind_continuation, suspend, resume, binop_of, relop_of}
 use Rattle.w_encode.proofs.SpelledCode.{list_spells}
 use Rattle.w_encode.specs.Spelled.{EachSpelled, TokenSpelled}
 
@@ -90,6 +91,19 @@ compare_spelled AtMost = (compare (relop_of AtMost), (numeric.Compare int.I64 (r
 compare_spelled Greater = (compare (relop_of Greater), (numeric.Compare int.I64 (relop_of Greater), (refl, refl), refl), refl)
 compare_spelled AtLeast = (compare (relop_of AtLeast), (numeric.Compare int.I64 (relop_of AtLeast), (refl, refl), refl), refl)
 
+-- 64 bits below others, as numbers that aren't negative
+pub below_spelled : TokenSpelled (tok.Plain (compare relop.LtU))
+unfolding token instruction other plain numeric_op comparison
+below_spelled = (compare relop.LtU, (numeric.Compare int.I64 relop.LtU, (refl, refl), refl), refl)
+
+pub wrap_spelled : TokenSpelled (tok.Plain wrap)
+unfolding token instruction other plain numeric_op
+wrap_spelled = (wrap, (numeric.Convert cvtop.I32WrapI64, (refl, refl), refl), refl)
+
+pub minus_one_32_spelled : TokenSpelled (tok.Plain (constant_32 (negsuc 0)))
+unfolding token instruction other plain numeric_op
+minus_one_32_spelled = (constant_32 (negsuc 0), (numeric.I32Const (negsuc 0), (negsuc 0, signed_spells 9 32 (negsuc 0) (omega arith) (omega arith), refl), refl), refl)
+
 -- ## Control instructions that hold no others
 
 pub unreachable_spelled : TokenSpelled (tok.Plain unreachable)
@@ -122,6 +136,10 @@ pub dropped_spelled : TokenSpelled (tok.Plain dropped)
 unfolding token instruction other
 dropped_spelled = (dropped, (refl, refl), refl)
 
+pub select_spelled : TokenSpelled (tok.Plain select)
+unfolding token instruction other
+select_spelled = (select, (refl, refl), refl)
+
 pub local_get_spelled : (x : ℕ) → x < 2 ^ 32 → TokenSpelled (tok.Plain (local_get x))
 unfolding token instruction other
 local_get_spelled x h = (local_get x, (x, u32_spelled x h, refl), refl)
@@ -129,6 +147,18 @@ local_get_spelled x h = (local_get x, (x, u32_spelled x h, refl), refl)
 pub local_set_spelled : (x : ℕ) → x < 2 ^ 32 → TokenSpelled (tok.Plain (local_set x))
 unfolding token instruction other
 local_set_spelled x h = (local_set x, (x, u32_spelled x h, refl), refl)
+
+pub table_get_spelled : (x : ℕ) → x < 2 ^ 32 → TokenSpelled (tok.Plain (table_get x))
+unfolding token instruction other
+table_get_spelled x h = (table_get x, (x, u32_spelled x h, refl), refl)
+
+pub table_set_spelled : (x : ℕ) → x < 2 ^ 32 → TokenSpelled (tok.Plain (table_set x))
+unfolding token instruction other
+table_set_spelled x h = (table_set x, (x, u32_spelled x h, refl), refl)
+
+pub non_null_spelled : TokenSpelled (tok.Plain non_null)
+unfolding token instruction other
+non_null_spelled = (non_null, (refl, refl), refl)
 
 pub reference_spelled : (x : ℕ) → x < 2 ^ 32 → TokenSpelled (tok.Plain (function_reference x))
 unfolding token instruction other
@@ -213,6 +243,11 @@ heap_index (k ∷ b) x h = by_default heaptypes (index33 ⇒ heap.Index).Spells 
 
 pub heap_index_spelled : (x : ℕ) → x < 2 ^ 32 → heaptype.Spells (index_written x) (heap.Index x)
 heap_index_spelled x h = heap_index (index_written x) x (signed_index_spelled x h)
+
+-- null, for references to the type of an index
+pub null_spelled : (x : ℕ) → x < 2 ^ 32 → TokenSpelled (tok.Plain (null x))
+unfolding token instruction other
+null_spelled x h = (null x, (heap.Index x, heap_index_spelled x h, refl), refl)
 
 -- a reference to continuations
 pub continuation_type_spelled : (or_null : Bool) (x : ℕ) → x < 2 ^ 32 → valtype.Spells (valtype_written (to_continuation or_null x)) (to_continuation or_null x)

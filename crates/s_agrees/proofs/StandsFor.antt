@@ -7,13 +7,14 @@ use Rattle.lists.specs.Rows.{Row, ε, ◌▹◌, ◌⧺◌}
 use Rattle.w_syntax.specs.Code.{Code, Done, Plain, Block}
 use Rattle.w_syntax.specs.declared.instructions.BlockKind.TheVariants as kind
 use Rattle.w_syntax.specs.declared.instructions.BlockType.TheVariants as block_type
-use Rattle.w_reduce.specs.Values.{Val, I64, Cont}
-use Rattle.w_reduce.specs.Store.{Store, live}
+use Rattle.w_reduce.specs.Values.{Val, I64, Null, Cont}
+use Rattle.w_reduce.specs.Store.{Store, Table, live}
 use Rattle.w_reduce.specs.Terms.{rest_of, Label, Frame, Handle, Context, Term, Continuation}
 use Rattle.s_syntax.specs.declared.name.Name.{Name}
 use Rattle.s_syntax.specs.declared.number.Number.{Number as WrittenNumber}
-use Rattle.s_syntax.specs.declared.script.VariableType.TheVariants.{Int}
+use Rattle.s_syntax.specs.declared.script.VariableType.TheVariants.{Int, Resumption}
 use Rattle.s_syntax.specs.declared.script.Handler.{Handler}
+use Rattle.s_syntax.specs.declared.script.Slots.{Slots}
 use Rattle.s_syntax.specs.declared.script.Declaration.{Declaration}
 use Rattle.s_syntax.specs.declared.operators.UnaryOperator.{UnaryOperator}
 use Rattle.s_syntax.specs.declared.operators.BinaryOperator.{BinaryOperator}
@@ -24,23 +25,26 @@ use Rattle.s_syntax.specs.declared.operators.Arithmetic.{Arithmetic}
 use Rattle.s_syntax.specs.ExprTree.{ExprTree, Literal, Read, Unary, Run, Call, Do, Handle as HandleExpr, Resume, Exprs, NoExprs, MoreExprs, Operands, NoOperands, MoreOperands}
 use Rattle.s_syntax.specs.declared.statement.Use.TheVariants as use_for
 use Rattle.s_syntax.specs.BlockTree.{StatementTree, BlockTree, Evaluate, If, While, Fail, Done as NoStatements, ◌⨟◌}
-use Rattle.s_check.specs.Definitions.{handler_of}
+use Rattle.s_check.specs.Definitions.{handler_of, slots_of}
 use Rattle.s_check.specs.Rules.{count}
 use Rattle.s_check.specs.Scopes.{is_among}
 use Rattle.s_index.specs.Handled.{handled_names}
-use Rattle.s_index.specs.Numbers.{function_index, handler_index, tag_index}
+use Rattle.s_index.specs.Numbers.{function_index, handler_index, tag_index, table_index}
 use Rattle.s_code.specs.Instructions.{call, local_get, local_set, suspend, branch, branch_if, is_zero, leave, dropped, if_zero, truth, unary_operator, comparison, arithmetic}
 use Rattle.s_code.specs.Layouts.{Local, Owner, Layout, local_of, local_number, handler_of_name, is_own, owner_parameters}
 use Rattle.s_code.specs.Temporaries.{high_block}
 use Rattle.s_code.specs.Expressions.{reload, begin, wake, handler_index_of, expr, args, set_aside, operands, set_parameters}
+use Rattle.s_code.specs.Slots.{store_code, take_code}
 use Rattle.s_code.specs.Statements.{printer, statement, block, ending}
 use Rattle.s_code.specs.Handlers.{Placed, clause_code, labels, return_code, handler_body}
 use Rattle.s_code.specs.Places.{return_layout, placed_clauses, handler_temporaries, high_clauses}
 use Rattle.s_meaning.specs.Numbers.{decided}
 use Rattle.s_meaning.specs.Terms as script
-use Rattle.s_meaning.specs.Terms.{Value, Number, Reference, Variable, Head, Calling, Doing, Handling, Resuming, TailResuming, Use, ToStore, ToPrint, ToDrop, ToReturn, ToChoose, ToTurn, Work, UnderUnary, LeftOf, RightOf, Among, Within, Place, Activation, Handle as Handled, Hole, Gives, Finds, Runs, Configuration}
+use Rattle.s_meaning.specs.Terms.{Value, Number, Reference, Variable, Head, Calling, Doing, Handling, Resuming, TailResuming, Use, ToStore, ToPrint, ToDrop, ToReturn, ToChoose, ToTurn, ToPut, ToTake, Work, UnderUnary, LeftOf, RightOf, Among, Within, Place, Activation, Handle as Handled, Hole, Gives, Finds, Runs, Contents, Configuration}
 use Rattle.s_meaning.specs.Focus.{followed_by, variable_of}
+use Rattle.s_meaning.specs.Steps.{contents_of}
 use Rattle.s_valid.specs.Beginning.{first_store}
+use Rattle.s_valid.proofs.LayoutTypes.{Placed as HasLocal}
 use Rattle.s_agrees.proofs.ScriptRows.{Values, no_values, ◌▸◌, ◌⧻◌, many}
 
 -- code in a context
@@ -98,12 +102,6 @@ pub record Active (ρ : List ℕ) (Γ : Layout) (n : ℕ) (L : Locals) (vars : L
   pub room : Γ.temporaries + n ≤ length L
   pub holds : Holds ρ Γ vars L
 
--- a name's local holds a number
-pub record HasNumber (Γ : Layout) (x : Name) : Type 0 where
-  pub local : Local
-  pub is : local_of Γ.names x ≡ Some local
-  pub ty : local.ty ≡ Int
-
 -- ## Code that has its locals: n temporaries, of which t are in use. What a handle names is among the functions that are handled.
 
 mutual
@@ -133,12 +131,16 @@ mutual
 
 mutual
   pub data WellStatement (ds : List Declaration) (Γ : Layout) (n : ℕ) : StatementTree → Type 0 where
-    lets : {x : Name} {e : ExprTree} → HasNumber Γ x → WellExpr ds n 0 e → WellStatement ds Γ n (Evaluate (use_for.Let x) e)
-    assigns : {x : Name} {e : ExprTree} → HasNumber Γ x → WellExpr ds n 0 e → WellStatement ds Γ n (Evaluate (use_for.Assign x) e)
+    lets : {x : Name} {e : ExprTree} → HasLocal Γ x Int → WellExpr ds n 0 e → WellStatement ds Γ n (Evaluate (use_for.Let x) e)
+    assigns : {x : Name} {e : ExprTree} → HasLocal Γ x Int → WellExpr ds n 0 e → WellStatement ds Γ n (Evaluate (use_for.Assign x) e)
     ifs : {e : ExprTree} {a b : BlockTree} → WellExpr ds n 0 e → WellBlock ds Γ n a → WellBlock ds Γ n b → WellStatement ds Γ n (If e a b)
     whiles : {e : ExprTree} {b : BlockTree} → WellExpr ds n 0 e → WellBlock ds Γ n b → WellStatement ds Γ n (While e b)
     print : {e : ExprTree} → WellExpr ds n 0 e → WellStatement ds Γ n (Evaluate use_for.Print e)
     return : {e : ExprTree} → WellExpr ds n 0 e → WellStatement ds Γ n (Evaluate use_for.Return e)
+    stores : {s k : Name} {e : ExprTree} {d : Slots} → slots_of ds s ≡ Some d → HasLocal Γ k (Resumption d.handler) → 0 < n → WellExpr ds n 0 e
+        → WellStatement ds Γ n (Evaluate (use_for.Store s k) e)
+    takes : {s k : Name} {e : ExprTree} {d : Slots} → slots_of ds s ≡ Some d → HasLocal Γ k (Resumption d.handler) → 0 < n → WellExpr ds n 0 e
+        → WellStatement ds Γ n (Evaluate (use_for.Take k s) e)
     fail : WellStatement ds Γ n Fail
     drop : {e : ExprTree} → WellExpr ds n 0 e → WellStatement ds Γ n (Evaluate use_for.Drop e)
 
@@ -173,11 +175,15 @@ pub data Rest (ds : List Declaration) (Γ : Layout) (n D0 : ℕ) (f : Context) :
 
 -- What the code c does with the value of a statement's expression.
 pub data Uses (ds : List Declaration) (Γ : Layout) (n D0 : ℕ) (f : Context) : Use → BlockTree → Code → Context → Type 0 where
-  sets : {D : ℕ} {x : Name} {b : BlockTree} {c : Code} {e : Context} → HasNumber Γ x → Rest ds Γ n D0 f D b c e
+  sets : {D : ℕ} {x : Name} {b : BlockTree} {c : Code} {e : Context} → HasLocal Γ x Int → Rest ds Γ n D0 f D b c e
       → Uses ds Γ n D0 f (ToStore x) b (Plain (local_set (local_number Γ x)) c) e
   prints : {D : ℕ} {b : BlockTree} {c : Code} {e : Context} → Rest ds Γ n D0 f D b c e → Uses ds Γ n D0 f ToPrint b (Plain (call printer) c) e
   drops : {D : ℕ} {b : BlockTree} {c : Code} {e : Context} → Rest ds Γ n D0 f D b c e → Uses ds Γ n D0 f ToDrop b (Plain dropped c) e
   returns : {d : ℕ} {b : BlockTree} {c : Code} {e : Context} → Deep f d e → Uses ds Γ n D0 f ToReturn b (Plain leave c) e
+  puts : {D : ℕ} {s k : Name} {d : Slots} {b : BlockTree} {c : Code} {e : Context} → slots_of ds s ≡ Some d → HasLocal Γ k (Resumption d.handler) → 0 < n → Rest ds Γ n D0 f D b c e
+      → Uses ds Γ n D0 f (ToPut s k) b (store_code ds Γ s k c) e
+  takes : {D : ℕ} {s k : Name} {d : Slots} {b : BlockTree} {c : Code} {e : Context} → slots_of ds s ≡ Some d → HasLocal Γ k (Resumption d.handler) → 0 < n → Rest ds Γ n D0 f D b c e
+      → Uses ds Γ n D0 f (ToTake k s) b (take_code ds Γ k s c) e
   chooses : {D : ℕ} {x y b : BlockTree} {c : Code} {e : Context} → WellBlock ds Γ n x → WellBlock ds Γ n y → Rest ds Γ n D0 f D b c e
       → Uses ds Γ n D0 f (ToChoose x y) b (if_zero (block ds Γ (D + 1) y Done) (block ds Γ (D + 1) x Done) c) e
   turns : {D : ℕ} {x : ExprTree} {b rest : BlockTree} {c : Code} {e : Context} → WellExpr ds n 0 x → WellBlock ds Γ n b → Rest ds Γ n D0 f D rest c e
@@ -350,12 +356,32 @@ pub data Entry (ds : List Declaration) (ρ : List ℕ) : Option (Option script.C
   consumed : Entry ds ρ (Some None) (Some None)
   keeps : {κ : script.Context} {k : Continuation} → KeptAs ds ρ κ k → Entry ds ρ (Some (Some κ)) (Some (Some k))
 
+-- what stands at a place of slots, and in their table
+pub data Element (ρ : List ℕ) : Option ℕ → Val → Type 0 where
+  is_empty : Element ρ None Null
+  is_kept : {a b : ℕ} → slice_get ρ a ≡ Some b → Element ρ (Some a) (Cont b)
+
+pub data Elements (ρ : List ℕ) : List (Option ℕ) → List Val → Type 0 where
+  no_elements : Elements ρ [] []
+  element : {q : Option ℕ} {w : Val} {ps : List (Option ℕ)} {vs : List Val} → Element ρ q w → Elements ρ ps vs → Elements ρ (q ∷ ps) (w ∷ vs)
+
+-- slots and their table, place by place
+pub record SlotsKept (ρ : List ℕ) (d : Slots) (o : Option Contents) (q : Option Table) : Type 0 where
+  pub contents : Contents
+  pub table : Table
+  pub found : o ≡ Some contents
+  pub there : q ≡ Some table
+  pub many : length table.elements ≡ d.places.value
+  pub of_handler : contents.handler ≡ d.handler
+  pub elements : Elements ρ contents.places table.elements
+
 -- entry by entry; what is live besides isn't there: continuations that the module makes for itself are consumed at once
 pub record Stores (ds : List Declaration) (ρ : List ℕ) (σ : script.Store) (s : Store) : Type 0 where
   pub as_many : length ρ ≡ length σ.resumptions
   pub each : (a b : ℕ) → slice_get ρ a ≡ Some b → Entry ds ρ (slice_get σ.resumptions a) (slice_get s.conts b)
   pub apart : (a a' b : ℕ) → slice_get ρ a ≡ Some b → slice_get ρ a' ≡ Some b → a ≡ a'
   pub lives : live s ≡ script.full σ.resumptions
+  pub slots : (x : Name) (d : Slots) → slots_of ds x ≡ Some d → SlotsKept ρ d (contents_of x σ.slots) (slice_get s.tables (table_index ds x))
   -- nothing adds a function
   pub functions : s.functions ≡ (first_store ds).functions
 

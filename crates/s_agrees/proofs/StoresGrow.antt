@@ -2,13 +2,16 @@
 use Rattle.std.proofs.Common.{◌≡◌, ℕ, zero, suc, ◌+◌, ◌<◌, List, [], ◌∷◌, ◌++◌, length, ◌⊎◌, inl, inr, Option, Some, None, refl, sym, ap, ◌∙◌, subst, arith, length-append}
 use Rattle.std.specs.Prelude.{slice_get}
 use Rattle.std.proofs.lemmas.Option.{slice_get_within}
-use Rattle.w_reduce.specs.Store.{Store, next_cont, with_cont}
+use Rattle.w_reduce.specs.Values.{Val}
+use Rattle.w_reduce.specs.Store.{Store, Table, next_cont, with_cont}
 use Rattle.w_reduce.specs.Terms.{Continuation}
+use Rattle.s_syntax.specs.declared.script.Slots.{Slots}
 use Rattle.s_syntax.specs.declared.script.Declaration.{Declaration}
 use Rattle.s_meaning.specs.Terms as script
+use Rattle.s_meaning.specs.Terms.{Contents}
 use Rattle.s_meaning.specs.Steps.{with_kept}
 use Rattle.s_meaning.proofs.Lists.{get_before, get_last}
-use Rattle.s_agrees.proofs.StandsFor.{KeptAs, Entry, consumed, keeps, Stores}
+use Rattle.s_agrees.proofs.StandsFor.{KeptAs, Entry, consumed, keeps, Element, is_empty, is_kept, Elements, no_elements, element, SlotsKept, Stores}
 use Rattle.s_agrees.proofs.MoreResumptions.{Grows, grows_more}
 use Rattle.s_agrees.proofs.Contexts.{waits_grow}
 use Rattle.s_agrees.proofs.CountedContexts.{live_more, full_more}
@@ -37,6 +40,19 @@ sides (keeps {κ = κ} {k = k} h) = record { left = Some κ; right = Some k; lef
 -- an entry whose sides are found at other places
 pub entry_at : {ds : List Declaration} {ρ : List ℕ} {o o' : Option (Option script.Context)} {q q' : Option (Option Continuation)} → o' ≡ o → q' ≡ q → Entry ds ρ o q → Entry ds ρ o' q'
 entry_at {ds} {ρ} {o} {o'} {q} {q'} x y h = subst (λ (z : Option (Option script.Context)). Entry ds ρ z q') (sym x) (subst (λ (z : Option (Option Continuation)). Entry ds ρ o z) (sym y) h)
+
+-- ## Slots
+
+element_grows : {ρ ρ' : List ℕ} {q : Option ℕ} {w : Val} → Grows ρ ρ' → Element ρ q w → Element ρ' q w
+element_grows g is_empty = is_empty
+element_grows g (is_kept {a = a} {b = b} e) = is_kept (g.keeps a b e)
+
+elements_grow : {ρ ρ' : List ℕ} {ps : List (Option ℕ)} {vs : List Val} → Grows ρ ρ' → Elements ρ ps vs → Elements ρ' ps vs
+elements_grow g no_elements = no_elements
+elements_grow g (element h t) = element (element_grows g h) (elements_grow g t)
+
+slots_grow : {ρ ρ' : List ℕ} {d : Slots} {o : Option Contents} {q : Option Table} → Grows ρ ρ' → SlotsKept ρ d o q → SlotsKept ρ' d o q
+slots_grow g k = record { contents = k.contents; table = k.table; found = k.found; there = k.there; many = k.many; of_handler = k.of_handler; elements = elements_grow g k.elements }
 
 -- ## A list with one item more
 
@@ -78,5 +94,6 @@ module _ {ds : List Declaration} {ρ : List ℕ} {σ : script.Store} {s : Store}
     each = λ a b e. each_more a b (old_or_new ρ (next_cont s) a b e);
     apart = λ a a' b e q. apart_more a a' b (old_or_new ρ (next_cont s) a b e) (old_or_new ρ (next_cont s) a' b q);
     lives = live_more s.conts k ∙ ap suc h.lives ∙ sym (full_more σ.resumptions κ);
+    slots = λ x d e. slots_grow (grows_more ρ (next_cont s)) (h.slots x d e);
     functions = h.functions;
   }

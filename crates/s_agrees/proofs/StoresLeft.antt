@@ -2,13 +2,16 @@
 use Rattle.std.proofs.Common.{◌≡◌, ℕ, List, [], ◌∷◌, ◌++◌, length, Option, Some, None, refl, sym, ap, ◌∙◌, arith}
 use Rattle.std.specs.Prelude.{slice_get, slice_set}
 use native.Mathlib.Decide.{ℕ_discrete}
-use Rattle.w_reduce.specs.Store.{Store, live, live_in}
+use Rattle.w_reduce.specs.Store.{Store, Table, live, live_in}
 use Rattle.w_reduce.specs.Terms.{Continuation}
+use Rattle.s_syntax.specs.declared.script.Slots.{Slots}
 use Rattle.s_syntax.specs.declared.script.Declaration.{Declaration}
+use Rattle.s_index.specs.Numbers.{table_index}
 use Rattle.s_meaning.specs.Terms as script
+use Rattle.s_meaning.specs.Terms.{Contents}
 use Rattle.s_meaning.specs.Steps.{emptied}
 use Rattle.s_meaning.proofs.Lists.{get_before, length_set}
-use Rattle.s_agrees.proofs.StandsFor.{Entry, consumed, Stores}
+use Rattle.s_agrees.proofs.StandsFor.{Entry, consumed, SlotsKept, Stores}
 use Rattle.s_agrees.proofs.MoreResumptions.{get_set_same, get_set_other}
 use Rattle.s_agrees.proofs.CountedContexts.{live_less, full_less}
 use Rattle.s_agrees.proofs.StoresGrow.{sides, entry_at}
@@ -19,15 +22,20 @@ pub set_last : {A : Type 0} (xs : List A) (x y : A) → slice_set (xs ++ x ∷ [
 set_last [] x y = refl
 set_last {A} (z ∷ xs) x y = ap (λ (l : List A). z ∷ l) (set_last xs x y)
 
+-- slots whose table is found at another place
+slots_at : {ρ : List ℕ} {d : Slots} {o : Option Contents} {q q' : Option Table} → q' ≡ q → SlotsKept ρ d o q → SlotsKept ρ d o q'
+slots_at e k = record { contents = k.contents; table = k.table; found = k.found; there = e ∙ k.there; many = k.many; of_handler = k.of_handler; elements = k.elements }
+
 -- more entries, to which nothing refers
 pub stores_spent : {ds : List Declaration} {ρ : List ℕ} {σ : script.Store} {s s' : Store} → Stores ds ρ σ s → (ks : List (Option Continuation)) → s'.conts ≡ s.conts ++ ks
-    → s'.functions ≡ s.functions → live s' ≡ live s → Stores ds ρ σ s'
-stores_spent {ds} {ρ} {σ} {s} {s'} h ks more same lives = record {
+    → s'.functions ≡ s.functions → s'.tables ≡ s.tables → live s' ≡ live s → Stores ds ρ σ s'
+stores_spent {ds} {ρ} {σ} {s} {s'} h ks more same tables lives = record {
   as_many = h.as_many;
   each = λ a b q. let x = sides (h.each a b q) in
       entry_at x.left_is (ap (λ (z : List (Option Continuation)). slice_get z b) more ∙ get_before s.conts ks b x.right x.right_is) x.entry;
   apart = h.apart;
   lives = lives ∙ h.lives;
+  slots = λ x d e. slots_at (ap (λ (ts : List Table). slice_get ts (table_index ds x)) tables) (h.slots x d e);
   functions = same ∙ h.functions;
 }
 
@@ -45,14 +53,15 @@ module _ {ds : List Declaration} {ρ : List ℕ} {σ : script.Store} {s : Store}
         (get_set_other s.conts b b' None (λ (e : b ≡ b'). n (h.apart a' a b' q (there ∙ ap (λ (z : ℕ). Some z) e)))) (h.each a' b' q)
   ]
 
-  pub stores_less : {s' : Store} (ks : List (Option Continuation)) → s'.conts ≡ slice_set s.conts b None ++ ks → s'.functions ≡ s.functions → live s' ≡ live_in (slice_set s.conts b None)
+  pub stores_less : {s' : Store} (ks : List (Option Continuation)) → s'.conts ≡ slice_set s.conts b None ++ ks → s'.functions ≡ s.functions → s'.tables ≡ s.tables → live s' ≡ live_in (slice_set s.conts b None)
       → Stores ds ρ (emptied σ a) s'
-  stores_less {s'} ks more same lives =
+  stores_less {s'} ks more same tables lives =
       let x = live_less s.conts b k right_is in let y = full_less σ.resumptions a κ left_is in let z = h.lives in record {
         as_many = h.as_many ∙ sym (length_set σ.resumptions a None);
         each = λ a' b' q. let x = sides (entry_less a' b' q) in
             entry_at x.left_is (ap (λ (z : List (Option Continuation)). slice_get z b') more ∙ get_before (slice_set s.conts b None) ks b' x.right x.right_is) x.entry;
         apart = h.apart;
         lives = omega (arith, lives, x, y, z);
+        slots = λ x d e. slots_at (ap (λ (ts : List Table). slice_get ts (table_index ds x)) tables) (h.slots x d e);
         functions = same ∙ h.functions;
       }

@@ -26,12 +26,14 @@ effect_steps : (n : Counts) (x : Name) (d : Definition) → (counted n d).effect
 effect_steps n x (definition.Effect k) = omega arith
 effect_steps n x (definition.Function f) = omega arith
 effect_steps n x (definition.Handler h) = omega arith
+effect_steps n x (definition.Slots s) = omega arith
 
 effect_defined : (o : Option Definition) (n : ℕ) → as_effect o ≡ Some n → (k : Number) × (o ≡ Some (definition.Effect k))
 effect_defined None n e = absurd (cc)
 effect_defined (Some (definition.Effect k)) n e = (k, refl)
 effect_defined (Some (definition.Function f)) n e = absurd (cc)
 effect_defined (Some (definition.Handler h)) n e = absurd (cc)
+effect_defined (Some (definition.Slots s)) n e = absurd (cc)
 
 pub effect_named : (ds : List Declaration) (op : Name) (n : ℕ) → effect_of ds op ≡ Some n → slice_get (effect_names ds) (tag_index ds op) ≡ Some op
 effect_named ds op n e =

@@ -32,6 +32,7 @@ is_effect None n e = absurd (cc)
 is_effect (Some (definition.Effect m)) n e = (m, refl, cc)
 is_effect (Some (definition.Function f)) n e = absurd (cc)
 is_effect (Some (definition.Handler h)) n e = absurd (cc)
+is_effect (Some (definition.Slots s)) n e = absurd (cc)
 
 -- ## Clauses
 

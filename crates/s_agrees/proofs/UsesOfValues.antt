@@ -1,7 +1,6 @@
 -- What a statement does with the value of its expression, fail, and the end of a body are matched.
-use Rattle.std.proofs.Common.{◌≡◌, ℕ, ◌+◌, ◌<◌, ◌≤◌, Bool, true, false, not, nat_eq, ℤ, pos, List, [], ◌∷◌, length, Option, Some, None, if◌then◌else◌, refl, sym, ap, ◌∙◌, subst, arith}
-use Rattle.std.specs.Prelude.{slice_get, slice_set}
-use Rattle.std.specs.Str.{bytes_eq}
+use Rattle.std.proofs.Common.{◌≡◌, ℕ, ◌+◌, ◌≤◌, Bool, true, false, not, nat_eq, ℤ, pos, List, [], ◌∷◌, Option, Some, if◌then◌else◌, refl, sym, ap, ◌∙◌, subst, arith}
+use Rattle.std.specs.Prelude.{slice_get}
 use Rattle.following.specs.Steps.{Faults}
 use Rattle.w_num.specs.Comparisons as bit
 use Rattle.lists.specs.Rows.{Row, ε, ◌▹◌}
@@ -16,26 +15,26 @@ use Rattle.w_reduce.specs.Terms.{rest_of, Label, Context, Term, with_local}
 use Rattle.w_reduce.specs.Program.{Program}
 use Rattle.w_reduce.specs.Reduced.{Went, steps_to, or_stuck}
 use Rattle.s_syntax.specs.declared.name.Name.{Name}
-use Rattle.s_syntax.specs.declared.script.VariableType.TheVariants.{Int}
+use Rattle.s_syntax.specs.declared.script.VariableType.TheVariants.{Int, Resumption}
 use Rattle.s_syntax.specs.declared.script.Declaration.{Declaration}
 use Rattle.s_syntax.specs.declared.script.Script.{Script}
 use Rattle.s_syntax.specs.ExprTree.{ExprTree}
+use Rattle.s_check.specs.Scopes.{Scope}
 use Rattle.s_syntax.specs.BlockTree.{BlockTree, While, ◌⨟◌}
 use Rattle.s_code.specs.Handlers.{Placed}
 use Rattle.s_code.specs.Instructions.{is_zero, call, local_set, unreachable, branch, branch_if, leave, if_zero}
-use Rattle.s_code.specs.Layouts.{Local, Layout, local_of, local_number, number_in}
+use Rattle.s_code.specs.Layouts.{Layout, local_number, number_in}
 use Rattle.s_code.specs.Statements.{printer, block, ending}
 use Rattle.s_meaning.specs.Numbers.{Failed, holds, line}
 use Rattle.s_meaning.specs.Terms as script
-use Rattle.s_meaning.specs.Terms.{Number, Variable, Use, ToStore, ToPrint, Runs}
-use Rattle.s_meaning.specs.Focus.{variable_of}
-use Rattle.s_meaning.specs.Steps.{Around, stored, ◌⨟⨟◌, goes_on, leaves, uses}
-use Rattle.s_meaning.proofs.Lists.{length_set}
-use Rattle.s_meaning.proofs.Scopes.{same_is, same_refl, bool_of}
+use Rattle.s_meaning.specs.Terms.{Value, Number, Variable, Use, ToStore, ToPrint, Runs}
+use Rattle.s_meaning.specs.Steps.{Around, ◌⨟⨟◌, goes_on, leaves, uses}
+use Rattle.s_meaning.specs.Typed as typed
+use Rattle.s_meaning.specs.Typed.{World, Covers, UseTyped}
+use Rattle.s_valid.proofs.LayoutTypes.{Placed as HasLocal}
 use Rattle.s_valid.proofs.Starts.{printer_first}
 use Rattle.s_agrees.proofs.StandsFor as standing
-use Rattle.s_agrees.proofs.StandsFor.{config, Same, number, Locals, InLocal, Active, HasNumber, WellExpr, WellBlock, Deep, here, label, while_loop, Rest, clause_labels, in_loop, Base, function, clause, Waits, outside, activation, handle, gives, runs, Stores}
-use Rattle.s_agrees.proofs.MoreResumptions.{get_set_same, get_set_other}
+use Rattle.s_agrees.proofs.StandsFor.{config, Same, number, Locals, Active, WellExpr, WellBlock, Deep, here, label, while_loop, Rest, clause_labels, in_loop, Base, function, clause, Waits, outside, activation, handle, gives, runs, Stores}
 use Rattle.s_agrees.proofs.Contexts.{setting, rest_beyond, deep_locals, rest_deep, base_locals, base_set}
 use Rattle.s_agrees.proofs.CountedContexts.{weight, labels_set, deep_labels, base_labels}
 use Rattle.s_agrees.proofs.Paths.{program_of, step, Caps, Under, Path, stay, go, path_wider, set_step}
@@ -44,77 +43,10 @@ use Rattle.s_agrees.proofs.Matches.{caps_of, Matches, went, faulted, under_first
 use Rattle.s_agrees.proofs.Numbers.{zero_signed, signed_cast}
 use Rattle.s_agrees.proofs.Facts.{Facts}
 use Rattle.s_agrees.proofs.StepsInPlace.{zero_test, one_step}
-use Rattle.s_agrees.proofs.BoundValues.{some_is}
 use Rattle.s_agrees.proofs.Bodies.{rest_block}
+use Rattle.s_agrees.proofs.NamesSet.{local_below, active_with}
+use Rattle.s_agrees.proofs.UsesOfSlots.{referred, continued, put_matched, take_matched}
 use Rattle.s_agrees.proofs.Captures.{in_range}
-
--- ## A variable that is set
-
-abbrev int_variable : Name → ℤ → Variable
-int_variable x z = record { name = x; ty = Int; value = Number z }
-
--- it is the number
-variable_set : (x : Name) (z : ℤ) (vs : List Variable) → variable_of x (stored x z vs) ≡ Some (int_variable x z)
-variable_set x z [] = ap (λ (b : Bool). if b then Some (int_variable x z) else None) (same_refl x)
-variable_set x z (u ∷ vs) = bool_of (bytes_eq u.name x) (λ (b : Bool). variable_of x (if b then int_variable x z ∷ vs else (u ∷ stored x z vs)) ≡ Some (int_variable x z))
-    (λ q. ap (λ (b : Bool). if b then Some (int_variable x z) else variable_of x vs) (same_refl x))
-    (λ q. ap (λ (b : Bool). if b then Some u else variable_of x (stored x z vs)) q ∙ variable_set x z vs)
-
--- the others are as before
-variable_kept : (x y : Name) (z : ℤ) (vs : List Variable) → bytes_eq x y ≡ false → variable_of y (stored x z vs) ≡ variable_of y vs
-variable_kept x y z [] other = ap (λ (b : Bool). if b then Some (int_variable x z) else None) other
-variable_kept x y z (u ∷ vs) other = bool_of (bytes_eq u.name x) (λ (b : Bool). variable_of y (if b then int_variable x z ∷ vs else (u ∷ stored x z vs)) ≡ variable_of y (u ∷ vs))
-    (λ q. ap (λ (b : Bool). if b then Some (int_variable x z) else variable_of y vs) other
-    ∙ sym (ap (λ (b : Bool). if b then Some u else variable_of y vs) (ap (λ (w : Name). bytes_eq w y) (sym (same_is x u.name q)) ∙ other)))
-    (λ q. ap (λ (o : Option Variable). if bytes_eq u.name y then Some u else o) (variable_kept x y z vs other))
-
--- a name's local is set to the bits of its number
-module _ {ρ : List ℕ} {Γ : Layout} {n : ℕ} {L : Locals} {vars : List Variable} (x : Name) (z : ℤ) {a : Val} (h : HasNumber Γ x) (same : Same ρ (Number z) a) (active : Active ρ Γ n L vars) where
-  -- it is one of the frame's
-  local_below : h.local.number < length L
-  local_below = let b = active.fine.below x h.local h.is in let r = active.room in omega (arith, b, r)
-
-  abbrev set_locals : Locals
-  set_locals = slice_set L h.local.number (Some a)
-
-  -- the name's own variable
-  set_now : (y : Name) (v : Variable) → y ≡ x → Some (int_variable x z) ≡ Some v → InLocal ρ Γ set_locals y v
-  set_now y v e q =
-      let old = in_range L h.local.number local_below in
-      subst (λ (w : Variable). InLocal ρ Γ set_locals y w) (some_is q) (record {
-        local = h.local;
-        is = ap (λ (w : Name). local_of Γ.names w) e ∙ h.is;
-        ty = h.ty;
-        held = record { value = a; is = get_set_same L h.local.number (Some a) old.0 old.1; same = same };
-      })
-
-  -- another name has another local
-  other_number : (y : Name) (l : Local) → bytes_eq x y ≡ false → local_of Γ.names y ≡ Some l → (h.local.number ≡ l.number) → ⊥
-  other_number y l other is e =
-      let s = active.fine.apart x y h.local l h.is is e in
-      let t : bytes_eq x y ≡ true = ap (λ (w : Name). bytes_eq x w) (sym s) ∙ same_refl x in absurd (cc (sym t ∙ other))
-
-  -- another name's variable
-  set_other : (y : Name) (v : Variable) → bytes_eq x y ≡ false → variable_of y vars ≡ Some v → InLocal ρ Γ set_locals y v
-  set_other y v other q =
-      let i = active.holds.each y v q in record {
-        local = i.local;
-        is = i.is;
-        ty = i.ty;
-        held = record { value = i.held.value; is = get_set_other L h.local.number i.local.number (Some a) (other_number y i.local other i.is) ∙ i.held.is; same = i.held.same };
-      }
-
-  -- all variables are in their locals again
-  active_set : Active ρ Γ n set_locals (stored x z vars)
-  active_set = record {
-    fine = active.fine;
-    room = let e = length_set L h.local.number (Some a) in let r = active.room in omega (arith, e, r);
-    holds = record {
-      each = λ y v q. bool_of (bytes_eq x y) (λ (b : Bool). InLocal ρ Γ set_locals y v)
-          (λ t. let e = same_is y x t in set_now y v e (sym (ap (λ (w : Name). variable_of w (stored x z vars)) e ∙ variable_set x z vars) ∙ q))
-          (λ t. set_other y v t (sym (variable_kept x y z vars t) ∙ q));
-    };
-  }
 
 -- ## Returns
 
@@ -175,17 +107,17 @@ module _ {p : Script} (same : ℕ → ℕ → Bool) (facts : Facts p.declaration
   place = record { store = σ; variables = vars; owner = owner; work = []; outer = κ }
 
   -- let x = z; and x = z;
-  sim_store : {D : ℕ} {x : Name} {z : ℤ} {a : Val} {b : BlockTree} {c : Code} {e : Context} → Same ρ (Number z) a → HasNumber Γ x → Rest p.declarations Γ n D0 f D b c e
+  sim_store : {D : ℕ} {x : Name} {z : ℤ} {a : Val} {b : BlockTree} {c : Code} {e : Context} → Same ρ (Number z) a → HasLocal Γ x Int → Rest p.declarations Γ n D0 f D b c e
       → Matches p same 52 s (config e (ε ▹ a) (Plain (local_set (local_number Γ x)) c)) (uses place (ToStore x) (Number z) b)
   sim_store {x = x} {z = z} {a = a} {b = b} {c = c} {e = e} v h r =
       let y = h.local.number in
-      let old = in_range L y (local_below x z h v active) in
+      let old = in_range L y (local_below x Int (Number z) h v active) in
       let locals = deep_locals (rest_deep r).deep ∙ base_locals base in
       let l = labels_set y a e in
       subst (λ (j : ℕ). Matches p same 52 s (config e (ε ▹ a) (Plain (local_set j) c)) (uses place (ToStore x) (Number z) b)) (sym (ap number_in h.is))
       (went (go (set_step (program_of p same) s e ε a c y old.0 (ap (λ (w : Locals). slice_get w y) locals ∙ old.1))
       (under_last s s (config e (ε ▹ a) (Plain (local_set y) c)) (config (with_local y a e) ε c) (omega arith)) stay) (omega arith) (omega (arith, l))
-      (record { stands = runs (active_set x z h v active) (rest_beyond (setting y a) r) (base_set y a base) waits; stores = stores }))
+      (record { stands = runs (active_with x Int (Number z) h v active) (rest_beyond (setting y a) r) (base_set y a base) waits; stores = stores }))
 
   -- print z;
   sim_print : {D : ℕ} {z : ℤ} {a : Val} {b : BlockTree} {c : Code} {e : Context} → Same ρ (Number z) a → Rest p.declarations Γ n D0 f D b c e
@@ -242,14 +174,23 @@ module _ {p : Script} (same : ℕ → ℕ → Bool) (facts : Facts p.declaration
       (go (return_step (program_of p same) s ε a c d base) (under_last s s (config e (ε ▹ a) (Plain leave c)) (config e' (below ▹ a) c') (omega arith)) stay) (omega arith) (omega (arith, x, y))
 
   -- a statement has its value
-  pub sim_use : {u : Use} {z : ℤ} {a : Val} {b : BlockTree} {c : Code} {e : Context} → Same ρ (Number z) a → standing.Uses p.declarations Γ n D0 f u b c e
+  pub sim_use : {Ξ : World} {scope scope' : Scope} {u : Use} {z : ℤ} {a : Val} {b : BlockTree} {c : Code} {e : Context} → Same ρ (Number z) a → standing.Uses p.declarations Γ n D0 f u b c e → Covers Ξ scope vars → UseTyped p scope u scope'
       → Matches p same 52 s (config e (ε ▹ a) c) (uses (record { store = σ; variables = vars; owner = owner; work = []; outer = κ }) u (Number z) b)
-  sim_use v (standing.Uses.sets h r) = sim_store v h r
-  sim_use v (standing.Uses.prints r) = sim_print v r
-  sim_use v (standing.Uses.drops r) = one_step refl (record { stands = runs active r base waits; stores = stores })
-  sim_use v (standing.Uses.returns d) = sim_leave v d
-  sim_use {z = z} (number {n = m} h q) (standing.Uses.chooses {x = x} {y = y} v w r) = sim_choose x y (holds z) (zero_test m h q) v w r
-  sim_use {z = z} (number {n = m} h q) (standing.Uses.turns {x = x} {b = y} v w r) = sim_turn x y (holds z) (zero_test m h q) v w r
+  sim_use v (standing.Uses.sets h r) covers t = sim_store v h r
+  sim_use v (standing.Uses.prints r) covers t = sim_print v r
+  sim_use v (standing.Uses.drops r) covers t = one_step refl (record { stands = runs active r base waits; stores = stores })
+  sim_use v (standing.Uses.returns d) covers t = sim_leave v d
+  sim_use {z = z} (number {n = m} h q) (standing.Uses.chooses {x = x} {y = y} v w r) covers t = sim_choose x y (holds z) (zero_test m h q) v w r
+  sim_use {z = z} (number {n = m} h q) (standing.Uses.turns {x = x} {b = y} v w r) covers t = sim_turn x y (holds z) (zero_test m h q) v w r
+  sim_use {z = z} (number {n = m} h q) (standing.Uses.puts {s = x} {k = k} {d = d} is local free r) covers (typed.UseTyped.puts {d = d'} there named) =
+      let v = covers.covers k (Resumption d'.handler) named in
+      let to = referred v.has in
+      let held = active.holds.each k v.variable v.there in
+      let at = continued (subst (λ (w : Value). Same ρ w held.held.value) to.is held.held.same) in
+      let one : local.local.number ≡ held.local.number = ap number_in (sym local.is ∙ held.is) in
+      put_matched same facts stores active base waits x k d is local free z m h q r v.variable to.address at.continuation v.there to.is at.there
+      (ap (λ (j : ℕ). slice_get L j) one ∙ held.held.is ∙ ap (λ (w : Val). Some (Some w)) at.is)
+  sim_use {z = z} (number {n = m} h q) (standing.Uses.takes {s = x} {k = k} {d = d} is local free r) covers t = take_matched same facts stores active base waits x k d is local free z m h q r
 
   -- fail
   pub sim_fail : {d : ℕ} {c : Code} {e : Context} → Deep f d e → Matches p same 52 s (config e ε (Plain unreachable c)) (Faults Failed)

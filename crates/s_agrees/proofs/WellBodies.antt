@@ -1,26 +1,29 @@
 -- The bodies of a script have their temporaries and their locals: where no more temporaries are taken than there are,
--- each name that is bound as a number has a local for one, and what a handle names is handled.
-use Rattle.std.proofs.Common.{◌≡◌, ℕ, ◌+◌, ◌≤◌, Bool, true, ◌||◌, List, [], ◌∷◌, ◌++◌, Some, if◌then◌else◌, sym, ap, subst, arith}
+-- each name that is bound has a local of its type, and what a handle names is handled.
+use Rattle.std.proofs.Common.{◌≡◌, ℕ, ◌+◌, ◌≤◌, List, [], ◌∷◌, ◌++◌, Option, Some, if◌then◌else◌, sym, subst, arith}
 use Rattle.std.specs.Str.{bytes_eq}
 use Rattle.s_syntax.specs.declared.name.Name.{Name}
-use Rattle.s_syntax.specs.declared.script.VariableType.TheVariants.{Int}
+use Rattle.s_syntax.specs.declared.script.VariableType.TheVariants.{Int, Resumption}
+use Rattle.s_syntax.specs.declared.script.VariableType.{VariableType}
+use Rattle.s_syntax.specs.declared.script.Slots.{Slots}
 use Rattle.s_syntax.specs.declared.script.Declaration.{Declaration}
 use Rattle.s_syntax.specs.declared.script.Script.{Script}
 use Rattle.s_syntax.specs.ExprTree.{ExprTree, Literal, Read, Unary, Run, Call, Do, Handle, Resume, Exprs, NoExprs, MoreExprs, Operands, NoOperands, MoreOperands}
 use Rattle.s_syntax.specs.declared.statement.Use.TheVariants as use_for
 use Rattle.s_syntax.specs.BlockTree.{BlockTree, Evaluate, If, While, Fail, Done as NoStatements, ◌⨟◌}
 use Rattle.s_check.specs.Rules.{count}
-use Rattle.s_check.specs.Scopes.{Scope, type_in, number as number_name, lets_in, is_among}
+use Rattle.s_check.specs.Rules.{handler_of_slots}
+use Rattle.s_check.specs.Scopes.{Bound, Scope, type_in, number as number_name, resumption as resumption_name}
 use Rattle.s_index.specs.Handled.{handled_in_expr, handled_in_exprs, handled_in_operands, handled_in_block}
 use Rattle.s_code.specs.Layouts.{Layout}
+use Rattle.s_code.specs.Places.{binds_in}
 use Rattle.s_code.specs.Temporaries.{high, high_args, high_aside, high_operands, high_block}
 use Rattle.s_meaning.specs.Typing.{BlockTyped}
 use Rattle.s_meaning.specs.Typing as script
-use Rattle.s_meaning.proofs.BoundInTurn.{among_left, among_right}
-use Rattle.s_meaning.proofs.Scopes.{same_is, same_refl, bool_of}
-use Rattle.s_valid.proofs.LayoutTypes.{AllHandled, handled_left, handled_right, handled_first, handled_later}
+use Rattle.s_meaning.proofs.Scopes.{same_is, bool_of}
+use Rattle.s_valid.proofs.LayoutTypes.{Placed as HasLocal, AllHandled, handled_left, handled_right, handled_first, handled_later, LetsPlaced, lets_left, lets_right, lets_first}
 use Rattle.s_valid.proofs.TypedExpressions.{least_args}
-use Rattle.s_agrees.proofs.StandsFor.{HasNumber, WellExpr, WellArgs, WellAsides, WellOperands, WellBlock, literal, read, unary, run, calls, does, handles, resumes, no_args, arg, no_asides, aside_arg, no_operands, operand, lets, assigns, ifs, whiles, print, return, fail, drop, done, next}
+use Rattle.s_agrees.proofs.StandsFor.{WellExpr, WellArgs, WellAsides, WellOperands, WellBlock, literal, read, unary, run, calls, does, handles, resumes, no_args, arg, no_asides, aside_arg, no_operands, operand, lets, assigns, ifs, whiles, print, return, stores, takes, fail, drop, done, next}
 
 -- ## Expressions
 
@@ -73,65 +76,62 @@ module _ {ds : List Declaration} {n : ℕ} where
 
 -- ## Names
 
--- each name that is bound as a number has a local for one
-pub record Numbers (Γ : Layout) (bs : Scope) : Type 0 where
-  pub each : (x : Name) → type_in bs x ≡ Some Int → HasNumber Γ x
+-- each name that is bound has a local of its type
+pub record ScopePlaced (Γ : Layout) (bs : Scope) : Type 0 where
+  pub each : (x : Name) (t : VariableType) → type_in bs x ≡ Some t → HasLocal Γ x t
 
--- and so has each name of these lets
-pub record Lets (Γ : Layout) (xs : List Name) : Type 0 where
-  pub each : (x : Name) → is_among xs x ≡ true → HasNumber Γ x
-
-lets_left : {Γ : Layout} (xs ys : List Name) → Lets Γ (xs ++ ys) → Lets Γ xs
-lets_left xs ys l = record { each = λ x h. l.each x (among_left x xs ys h) }
-
-lets_right : {Γ : Layout} (xs ys : List Name) → Lets Γ (xs ++ ys) → Lets Γ ys
-lets_right xs ys l = record { each = λ x h. l.each x (among_right x xs ys h) }
-
-lets_first : {Γ : Layout} (x : Name) (xs : List Name) → Lets Γ (x ∷ xs) → HasNumber Γ x
-lets_first x xs l = l.each x (ap (λ (b : Bool). b || is_among xs x) (same_refl x))
-
--- behind a let of a name that has a local for a number
-numbers_more : {Γ : Layout} {bs : Scope} (x : Name) → HasNumber Γ x → Numbers Γ bs → Numbers Γ (number_name x ∷ bs)
-numbers_more {Γ} {bs} x h s = record {
-  each = λ y. bool_of (bytes_eq x y) (λ b. (if b then Some Int else type_in bs y) ≡ Some Int → HasNumber Γ y)
-      (λ q e. subst (λ (z : Name). HasNumber Γ z) (sym (same_is y x q)) h) (λ q e. s.each y e);
+-- behind a name that has one
+scope_more : {Γ : Layout} {bs : Scope} (b : Bound) → HasLocal Γ b.name b.ty → ScopePlaced Γ bs → ScopePlaced Γ (b ∷ bs)
+scope_more {Γ} {bs} b h s = record {
+  each = λ y t. bool_of (bytes_eq b.name y) (λ q. (if q then Some b.ty else type_in bs y) ≡ Some t → HasLocal Γ y t)
+      (λ q e. let same : b.ty ≡ t = cc e in subst (λ (k : VariableType). HasLocal Γ y k) same (subst (λ (z : Name). HasLocal Γ z b.ty) (sym (same_is y b.name q)) h)) (λ q e. s.each y t e);
 }
 
 -- ## Blocks
 
 module _ {p : Script} {Γ : Layout} {n : ℕ} where
   -- a typed block has its temporaries and its locals
-  pub well_block : (b : BlockTree) {bs : Scope} → BlockTyped p bs b → Numbers Γ bs → Lets Γ (lets_in b) → high_block b ≤ n → AllHandled p.declarations (handled_in_block b) → WellBlock p.declarations Γ n b
+  pub well_block : (b : BlockTree) {bs : Scope} → BlockTyped p bs b → ScopePlaced Γ bs → LetsPlaced Γ (binds_in p.declarations b) → high_block b ≤ n → AllHandled p.declarations (handled_in_block b) → WellBlock p.declarations Γ n b
   well_block NoStatements script.done s l h a = done
   well_block (Evaluate (use_for.Let x) e ⨟ b) (script.statement (script.evaluates q (script.lets fit)) rest) s l h a =
-      let first = lets_first x (lets_in b) l in
+      let t = number_name x in
+      let first = lets_first t (binds_in p.declarations b) l in
       next (lets first (well_expr e 0 (omega (arith, h)) (handled_left (handled_in_expr e) (handled_in_block b) a)))
-      (well_block b rest (numbers_more x first s) (lets_right (x ∷ []) (lets_in b) l) (omega (arith, h)) (handled_right (handled_in_expr e) (handled_in_block b) a))
+      (well_block b rest (scope_more t first s) (lets_right (t ∷ []) (binds_in p.declarations b) l) (omega (arith, h)) (handled_right (handled_in_expr e) (handled_in_block b) a))
   well_block (Evaluate (use_for.Assign x) e ⨟ b) (script.statement (script.evaluates q (script.assigns is_int)) rest) s l h a =
-      next (assigns (s.each x is_int) (well_expr e 0 (omega (arith, h)) (handled_left (handled_in_expr e) (handled_in_block b) a)))
+      next (assigns (s.each x Int is_int) (well_expr e 0 (omega (arith, h)) (handled_left (handled_in_expr e) (handled_in_block b) a)))
       (well_block b rest s l (omega (arith, h)) (handled_right (handled_in_expr e) (handled_in_block b) a))
   well_block (If e b d ⨟ k) (script.statement (script.ifs q one two) rest) s l h a =
       let whole = handled_left (handled_in_expr e ++ (handled_in_block b ++ handled_in_block d)) (handled_in_block k) a in
       let both = handled_right (handled_in_expr e) (handled_in_block b ++ handled_in_block d) whole in
-      let within = lets_left (lets_in b ++ lets_in d) (lets_in k) l in
+      let within = lets_left (binds_in p.declarations b ++ binds_in p.declarations d) (binds_in p.declarations k) l in
       next
       (ifs (well_expr e 0 (omega (arith, h)) (handled_left (handled_in_expr e) (handled_in_block b ++ handled_in_block d) whole))
-      (well_block b one s (lets_left (lets_in b) (lets_in d) within) (omega (arith, h)) (handled_left (handled_in_block b) (handled_in_block d) both))
-      (well_block d two s (lets_right (lets_in b) (lets_in d) within) (omega (arith, h)) (handled_right (handled_in_block b) (handled_in_block d) both)))
-      (well_block k rest s (lets_right (lets_in b ++ lets_in d) (lets_in k) l) (omega (arith, h))
+      (well_block b one s (lets_left (binds_in p.declarations b) (binds_in p.declarations d) within) (omega (arith, h)) (handled_left (handled_in_block b) (handled_in_block d) both))
+      (well_block d two s (lets_right (binds_in p.declarations b) (binds_in p.declarations d) within) (omega (arith, h)) (handled_right (handled_in_block b) (handled_in_block d) both)))
+      (well_block k rest s (lets_right (binds_in p.declarations b ++ binds_in p.declarations d) (binds_in p.declarations k) l) (omega (arith, h))
       (handled_right (handled_in_expr e ++ (handled_in_block b ++ handled_in_block d)) (handled_in_block k) a))
   well_block (While e b ⨟ k) (script.statement (script.whiles q inner) rest) s l h a =
       let whole = handled_left (handled_in_expr e ++ handled_in_block b) (handled_in_block k) a in
       next
       (whiles (well_expr e 0 (omega (arith, h)) (handled_left (handled_in_expr e) (handled_in_block b) whole))
-      (well_block b inner s (lets_left (lets_in b) (lets_in k) l) (omega (arith, h)) (handled_right (handled_in_expr e) (handled_in_block b) whole)))
-      (well_block k rest s (lets_right (lets_in b) (lets_in k) l) (omega (arith, h)) (handled_right (handled_in_expr e ++ handled_in_block b) (handled_in_block k) a))
+      (well_block b inner s (lets_left (binds_in p.declarations b) (binds_in p.declarations k) l) (omega (arith, h)) (handled_right (handled_in_expr e) (handled_in_block b) whole)))
+      (well_block k rest s (lets_right (binds_in p.declarations b) (binds_in p.declarations k) l) (omega (arith, h)) (handled_right (handled_in_expr e ++ handled_in_block b) (handled_in_block k) a))
   well_block (Evaluate use_for.Print e ⨟ b) (script.statement (script.evaluates q script.prints) rest) s l h a =
       next (print (well_expr e 0 (omega (arith, h)) (handled_left (handled_in_expr e) (handled_in_block b) a)))
       (well_block b rest s l (omega (arith, h)) (handled_right (handled_in_expr e) (handled_in_block b) a))
   well_block (Evaluate use_for.Return e ⨟ b) (script.statement (script.evaluates q script.returns) rest) s l h a =
       next (return (well_expr e 0 (omega (arith, h)) (handled_left (handled_in_expr e) (handled_in_block b) a)))
       (well_block b rest s l (omega (arith, h)) (handled_right (handled_in_expr e) (handled_in_block b) a))
+  well_block (Evaluate (use_for.Store x k) e ⨟ b) (script.statement (script.evaluates q (script.stores_in {d = d} is named)) rest) s l h a =
+      next (stores is (s.each k (Resumption d.handler) named) (omega (arith, h)) (well_expr e 0 (omega (arith, h)) (handled_left (handled_in_expr e) (handled_in_block b) a)))
+      (well_block b rest s l (omega (arith, h)) (handled_right (handled_in_expr e) (handled_in_block b) a))
+  well_block (Evaluate (use_for.Take k x) e ⨟ b) (script.statement (script.evaluates q (script.takes_from {d = d} is fit)) rest) s l h a =
+      let t = resumption_name d.handler k in
+      let l' = subst (λ (o : Option Slots). LetsPlaced Γ (resumption_name (handler_of_slots x o) k ∷ binds_in p.declarations b)) is l in
+      let first = lets_first t (binds_in p.declarations b) l' in
+      next (takes is first (omega (arith, h)) (well_expr e 0 (omega (arith, h)) (handled_left (handled_in_expr e) (handled_in_block b) a)))
+      (well_block b rest (scope_more t first s) (lets_right (t ∷ []) (binds_in p.declarations b) l') (omega (arith, h)) (handled_right (handled_in_expr e) (handled_in_block b) a))
   well_block (Fail ⨟ b) (script.statement script.fails rest) s l h a = next fail (well_block b rest s l (omega (arith, h)) a)
   well_block (Evaluate use_for.Drop e ⨟ b) (script.statement (script.evaluates q script.drops) rest) s l h a =
       next (drop (well_expr e 0 (omega (arith, h)) (handled_left (handled_in_expr e) (handled_in_block b) a)))

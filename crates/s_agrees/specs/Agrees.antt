@@ -23,7 +23,7 @@ use Rattle.s_syntax.specs.declared.script.Declaration.{Declaration}
 use Rattle.s_syntax.specs.declared.script.Script.{Script}
 use Rattle.s_check.specs.Refusal.{Good}
 use Rattle.s_check.specs.Size.{Size, size_limit}
-use Rattle.s_meaning.specs.Numbers.{Fault, DivZero, Overflow, Failed, Reused, Unhandled}
+use Rattle.s_meaning.specs.Numbers.{Fault, DivZero, Overflow, Failed, Reused, Empty, Unhandled}
 use Rattle.s_meaning.specs.Eval.{Ended, Frames, Handles, Conts, Follows}
 use Rattle.s_code.specs.Lowered.{lowered}
 use Rattle.s_valid.specs.Beginning.{first_store, first_term}
@@ -34,6 +34,7 @@ abbrev pub effect_of : Name → Definition → List Name
 effect_of x (definition.Effect n) = x ∷ []
 effect_of x (definition.Function f) = []
 effect_of x (definition.Handler h) = []
+effect_of x (definition.Slots s) = []
 
 abbrev pub effect_names : List Declaration → List Name
 effect_names [] = []
@@ -45,6 +46,8 @@ fault_of ds trap.Unreachable = Some Failed
 fault_of ds trap.DivideByZero = Some DivZero
 fault_of ds trap.IntegerOverflow = Some Overflow
 fault_of ds trap.ConsumedContinuation = Some Reused
+fault_of ds trap.TableOutOfBounds = Some Empty
+fault_of ds trap.NullReference = Some Empty
 fault_of ds (trap.Unhandled e) = option_map Unhandled (slice_get (effect_names ds) e)
 fault_of ds t = None
 

@@ -168,7 +168,9 @@ numbered (suc (suc (suc (suc (suc (suc (suc (suc (suc (suc (suc (suc (suc (suc (
 numbered (suc (suc (suc (suc (suc (suc (suc (suc (suc (suc (suc (suc (suc (suc (suc (suc zero)))))))))))))))) = rule.ArgumentOfOtherType
 numbered (suc (suc (suc (suc (suc (suc (suc (suc (suc (suc (suc (suc (suc (suc (suc (suc (suc zero))))))))))))))))) = rule.NoResumption
 numbered (suc (suc (suc (suc (suc (suc (suc (suc (suc (suc (suc (suc (suc (suc (suc (suc (suc (suc zero)))))))))))))))))) = rule.NoMain
-numbered (suc (suc (suc (suc (suc (suc (suc (suc (suc (suc (suc (suc (suc (suc (suc (suc (suc (suc (suc n))))))))))))))))))) = rule.NoMain
+numbered (suc (suc (suc (suc (suc (suc (suc (suc (suc (suc (suc (suc (suc (suc (suc (suc (suc (suc (suc zero))))))))))))))))))) = rule.NoSlots
+numbered (suc (suc (suc (suc (suc (suc (suc (suc (suc (suc (suc (suc (suc (suc (suc (suc (suc (suc (suc (suc zero)))))))))))))))))))) = rule.SlotsOfOtherNumber
+numbered (suc (suc (suc (suc (suc (suc (suc (suc (suc (suc (suc (suc (suc (suc (suc (suc (suc (suc (suc (suc (suc n))))))))))))))))))))) = rule.StoredOfOtherType
 
 -- numbers tell rules apart
 numbered-number : (r : Rule) → numbered (number_of r) ≡ r
@@ -190,6 +192,9 @@ numbered-number rule.OtherNumberOfArguments = refl
 numbered-number rule.ArgumentOfOtherType = refl
 numbered-number rule.NoResumption = refl
 numbered-number rule.NoMain = refl
+numbered-number rule.NoSlots = refl
+numbered-number rule.SlotsOfOtherNumber = refl
+numbered-number rule.StoredOfOtherType = refl
 
 one_rule : (r s : Rule) → number_of r ≡ number_of s → r ≡ s
 one_rule r s e = sym (numbered-number r) ∙ ap numbered e ∙ numbered-number s

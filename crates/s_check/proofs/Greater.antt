@@ -14,12 +14,13 @@ use Rattle.s_syntax.specs.ExprTree.{ExprTree, Literal, Read, Unary, Run, Call, D
 use Rattle.s_syntax.specs.declared.statement.Use.{Use}
 use Rattle.s_syntax.specs.declared.statement.Use.TheVariants as use_for
 use Rattle.s_syntax.specs.BlockTree.{StatementTree, BlockTree, Evaluate, If, While, Fail, Done, ◌⨟◌}
+use Rattle.s_syntax.specs.declared.script.Slots.{Slots}
 use Rattle.s_check.specs.declared.rule.Rule.{Rule}
 use Rattle.s_check.specs.declared.rule.Rule.TheVariants as rule
-use Rattle.s_check.specs.Definitions.{function_of, handler_of, effect_of}
+use Rattle.s_check.specs.Definitions.{function_of, handler_of, effect_of, slots_of}
 use Rattle.s_check.specs.Least.{lesser, least_of}
 use Rattle.s_check.specs.Refusal.{number_of}
-use Rattle.s_check.specs.Rules.{when, count, against, all_suit, for_function, for_effect, for_handler, for_handler_of_type, for_resumed, in_name, in_expr, in_exprs, in_operands, in_target, in_use, bound_after, in_statement, in_block, in_body, in_types, in_parameters, in_head, in_clauses, in_header, in_bodies}
+use Rattle.s_check.specs.Rules.{when, count, against, all_suit, for_function, for_effect, for_handler, for_handler_of_type, for_resumed, for_slots, in_stored, is_resumption_of, in_name, in_expr, in_exprs, in_operands, in_target, in_use, bound_after, in_statement, in_block, in_body, in_types, in_parameters, in_head, in_clauses, in_header, in_bodies}
 use Rattle.s_check.proofs.Least.{least_append}
 use Rattle.s_check.specs.Scopes.{Scope, Bound, type_in, of_clause, of_return}
 
@@ -38,33 +39,33 @@ one_where false r h = tt
 
 -- ## Expressions
 
-against_greater : (bs : Scope) (ps : List Parameter) (es : Exprs) → AreGreater (against bs ps es)
-against_greater bs ps es = by (nat_eq (count es) (length ps))
+against_greater : (ds : List Declaration) (bs : Scope) (ps : List Parameter) (es : Exprs) → AreGreater (against ds bs ps es)
+against_greater ds bs ps es = by (nat_eq (count es) (length ps))
   where
-    by : (b : Bool) → AreGreater (if b then when (not (all_suit bs ps es)) rule.ArgumentOfOtherType else (rule.OtherNumberOfArguments ∷ []))
-    by true = one_where (not (all_suit bs ps es)) rule.ArgumentOfOtherType (omega arith)
+    by : (b : Bool) → AreGreater (if b then when (not (all_suit ds bs ps es)) rule.ArgumentOfOtherType else (rule.OtherNumberOfArguments ∷ []))
+    by true = one_where (not (all_suit ds bs ps es)) rule.ArgumentOfOtherType (omega arith)
     by false = (omega arith, tt)
 
-function_greater : (bs : Scope) (o : Option Function) (es : Exprs) → AreGreater (for_function bs o es)
-function_greater bs None es = (omega arith, tt)
-function_greater bs (Some f) es = against_greater bs f.parameters es
+function_greater : (ds : List Declaration) (bs : Scope) (o : Option Function) (es : Exprs) → AreGreater (for_function ds bs o es)
+function_greater ds bs None es = (omega arith, tt)
+function_greater ds bs (Some f) es = against_greater ds bs f.parameters es
 
 effect_greater : (o : Option ℕ) (es : Exprs) → AreGreater (for_effect o es)
 effect_greater None es = (omega arith, tt)
 effect_greater (Some n) es = one_where (not (nat_eq (count es) n)) rule.OtherNumberOfArguments (omega arith)
 
-handler_greater : (bs : Scope) (o : Option Handler) (es : Exprs) → AreGreater (for_handler bs o es)
-handler_greater bs None es = (omega arith, tt)
-handler_greater bs (Some h) es = against_greater bs h.parameters es
+handler_greater : (ds : List Declaration) (bs : Scope) (o : Option Handler) (es : Exprs) → AreGreater (for_handler ds bs o es)
+handler_greater ds bs None es = (omega arith, tt)
+handler_greater ds bs (Some h) es = against_greater ds bs h.parameters es
 
-type_greater : (bs : Scope) (o : Option Handler) (es : Exprs) → AreGreater (for_handler_of_type bs o es)
-type_greater bs None es = tt
-type_greater bs (Some h) es = against_greater bs h.parameters es
+type_greater : (ds : List Declaration) (bs : Scope) (o : Option Handler) (es : Exprs) → AreGreater (for_handler_of_type ds bs o es)
+type_greater ds bs None es = tt
+type_greater ds bs (Some h) es = against_greater ds bs h.parameters es
 
 resumed_greater : (ds : List Declaration) (bs : Scope) (o : Option VariableType) (es : Exprs) → AreGreater (for_resumed ds bs o es)
 resumed_greater ds bs None es = (omega arith, tt)
 resumed_greater ds bs (Some Int) es = (omega arith, tt)
-resumed_greater ds bs (Some (Resumption h)) es = type_greater bs (handler_of ds h) es
+resumed_greater ds bs (Some (Resumption h)) es = type_greater ds bs (handler_of ds h) es
 
 name_greater : (whole : Bool) (o : Option VariableType) → AreGreater (in_name whole o)
 name_greater whole None = (omega arith, tt)
@@ -77,12 +78,12 @@ mutual
   expr_greater ds bs whole (Read x) = name_greater whole (type_in bs x)
   expr_greater ds bs whole (Unary o e) = expr_greater ds bs false e
   expr_greater ds bs whole (Run e ps) = both (in_expr ds bs false e) (in_operands ds bs ps) (expr_greater ds bs false e) (operands_greater ds bs ps)
-  expr_greater ds bs whole (Call f es) = both (for_function bs (function_of ds f) es) (in_exprs ds bs true es) (function_greater bs (function_of ds f) es) (exprs_greater ds bs true es)
+  expr_greater ds bs whole (Call f es) = both (for_function ds bs (function_of ds f) es) (in_exprs ds bs true es) (function_greater ds bs (function_of ds f) es) (exprs_greater ds bs true es)
   expr_greater ds bs whole (Do op es) = both (for_effect (effect_of ds op) es) (in_exprs ds bs false es) (effect_greater (effect_of ds op) es) (exprs_greater ds bs false es)
   expr_greater ds bs whole (Handle f es h ps) =
-      both (for_function bs (function_of ds f) es ++ in_exprs ds bs true es) (for_handler bs (handler_of ds h) ps ++ in_exprs ds bs true ps)
-      (both (for_function bs (function_of ds f) es) (in_exprs ds bs true es) (function_greater bs (function_of ds f) es) (exprs_greater ds bs true es))
-      (both (for_handler bs (handler_of ds h) ps) (in_exprs ds bs true ps) (handler_greater bs (handler_of ds h) ps) (exprs_greater ds bs true ps))
+      both (for_function ds bs (function_of ds f) es ++ in_exprs ds bs true es) (for_handler ds bs (handler_of ds h) ps ++ in_exprs ds bs true ps)
+      (both (for_function ds bs (function_of ds f) es) (in_exprs ds bs true es) (function_greater ds bs (function_of ds f) es) (exprs_greater ds bs true es))
+      (both (for_handler ds bs (handler_of ds h) ps) (in_exprs ds bs true ps) (handler_greater ds bs (handler_of ds h) ps) (exprs_greater ds bs true ps))
   expr_greater ds bs whole (Resume k e ps) =
       both (in_expr ds bs false e) (for_resumed ds bs (type_in bs k) ps ++ in_exprs ds bs true ps) (expr_greater ds bs false e)
       (both (for_resumed ds bs (type_in bs k) ps) (in_exprs ds bs true ps) (resumed_greater ds bs (type_in bs k) ps) (exprs_greater ds bs true ps))
@@ -102,23 +103,34 @@ target_greater None = (omega arith, tt)
 target_greater (Some Int) = tt
 target_greater (Some (Resumption h)) = (omega arith, tt)
 
-use_greater : (bs : Scope) (u : Use) → AreGreater (in_use bs u)
-use_greater bs (use_for.Let x) = tt
-use_greater bs (use_for.Assign x) = target_greater (type_in bs x)
-use_greater bs use_for.Print = tt
-use_greater bs use_for.Return = tt
-use_greater bs use_for.Drop = tt
+slots_greater : (o : Option Slots) → AreGreater (for_slots o)
+slots_greater None = (omega arith, tt)
+slots_greater (Some s) = tt
+
+stored_greater : (ds : List Declaration) (o : Option Slots) (k : Option VariableType) → AreGreater (in_stored ds o k)
+stored_greater ds o None = (omega arith, tt)
+stored_greater ds None (Some t) = tt
+stored_greater ds (Some s) (Some t) = one_where (not (is_resumption_of ds s.handler (Some t))) rule.StoredOfOtherType (omega arith)
+
+use_greater : (ds : List Declaration) (bs : Scope) (u : Use) → AreGreater (in_use ds bs u)
+use_greater ds bs (use_for.Let x) = tt
+use_greater ds bs (use_for.Assign x) = target_greater (type_in bs x)
+use_greater ds bs use_for.Print = tt
+use_greater ds bs use_for.Return = tt
+use_greater ds bs use_for.Drop = tt
+use_greater ds bs (use_for.Store s k) = both (for_slots (slots_of ds s)) (in_stored ds (slots_of ds s) (type_in bs k)) (slots_greater (slots_of ds s)) (stored_greater ds (slots_of ds s) (type_in bs k))
+use_greater ds bs (use_for.Take k s) = slots_greater (slots_of ds s)
 
 mutual
   statement_greater : (ds : List Declaration) (bs : Scope) (s : StatementTree) → AreGreater (in_statement ds bs s)
-  statement_greater ds bs (Evaluate u e) = both (in_use bs u) (in_expr ds bs false e) (use_greater bs u) (expr_greater ds bs false e)
+  statement_greater ds bs (Evaluate u e) = both (in_use ds bs u) (in_expr ds bs false e) (use_greater ds bs u) (expr_greater ds bs false e)
   statement_greater ds bs (If c a b) = both (in_expr ds bs false c) (in_block ds bs a ++ in_block ds bs b) (expr_greater ds bs false c) (both (in_block ds bs a) (in_block ds bs b) (block_greater ds bs a) (block_greater ds bs b))
   statement_greater ds bs (While c b) = both (in_expr ds bs false c) (in_block ds bs b) (expr_greater ds bs false c) (block_greater ds bs b)
   statement_greater ds bs Fail = tt
 
   block_greater : (ds : List Declaration) (bs : Scope) (b : BlockTree) → AreGreater (in_block ds bs b)
   block_greater ds bs Done = tt
-  block_greater ds bs (s ⨟ b) = both (in_statement ds bs s) (in_block ds (bound_after s bs) b) (statement_greater ds bs s) (block_greater ds (bound_after s bs) b)
+  block_greater ds bs (s ⨟ b) = both (in_statement ds bs s) (in_block ds (bound_after ds s bs) b) (statement_greater ds bs s) (block_greater ds (bound_after ds s bs) b)
 
 body_greater : (ds : List Declaration) (bs : List Bound) (b : BlockTree) → AreGreater (in_body ds bs b)
 body_greater ds bs b = both (when _ rule.NameBoundTwice) (in_block ds _ b) (one_where _ rule.NameBoundTwice (omega arith)) (block_greater ds _ b)

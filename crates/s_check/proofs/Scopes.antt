@@ -4,9 +4,11 @@ use Rattle.std.specs.Prelude.{is_some, if◌then◌else◌}
 use Rattle.s_syntax.specs.declared.statement.Use.{Use}
 use Rattle.s_syntax.specs.declared.statement.Use.TheVariants as use_for
 use Rattle.s_syntax.specs.BlockTree.{StatementTree, Evaluate, If, While, Fail}
-use Rattle.s_check.specs.Rules.{bound_by, bound_after}
+use Rattle.s_syntax.specs.declared.script.Declaration.{Declaration}
+use Rattle.s_check.specs.Definitions.{slots_of}
+use Rattle.s_check.specs.Rules.{handler_of_slots, bound_by, bound_after}
 use Rattle.s_check.specs.declared.bound.Binding.{Binding}
-use Rattle.s_check.specs.Scopes.{Bound, Scope, type_in, number}
+use Rattle.s_check.specs.Scopes.{Bound, Scope, type_in, number, resumption}
 use Rattle.s_check.specs.Views.{bound_of, scope_of}
 use Rattle.lists.proofs.Lists.{cell}
 use Rattle.s_check.proofs.Names.{scope_more}
@@ -21,22 +23,24 @@ front_bound : (first scope : Scope) (b : Bound) (is : Bool) → take (length fir
 front_bound first scope b true h = h
 front_bound first scope b false h = front_more first scope b h
 
-front_by : (u : Use) (first scope : Scope) → take (length first) scope ≡ first → take (length first) (bound_by u scope) ≡ first
-front_by (use_for.Let x) first scope h = front_bound first scope (number x) (is_some (type_in scope x)) h
-front_by (use_for.Assign x) first scope h = h
-front_by use_for.Print first scope h = h
-front_by use_for.Return first scope h = h
-front_by use_for.Drop first scope h = h
+front_by : (ds : List Declaration) (u : Use) (first scope : Scope) → take (length first) scope ≡ first → take (length first) (bound_by ds u scope) ≡ first
+front_by ds (use_for.Let x) first scope h = front_bound first scope (number x) (is_some (type_in scope x)) h
+front_by ds (use_for.Assign x) first scope h = h
+front_by ds use_for.Print first scope h = h
+front_by ds use_for.Return first scope h = h
+front_by ds use_for.Drop first scope h = h
+front_by ds (use_for.Store s k) first scope h = h
+front_by ds (use_for.Take k s) first scope h = front_bound first scope (resumption (handler_of_slots s (slots_of ds s)) k) (is_some (type_in scope k)) h
 
-front_after : (s : StatementTree) (first scope : Scope) → take (length first) scope ≡ first → take (length first) (bound_after s scope) ≡ first
-front_after (Evaluate u e) first scope h = front_by u first scope h
-front_after (If c a b) first scope h = h
-front_after (While c b) first scope h = h
-front_after Fail first scope h = h
+front_after : (ds : List Declaration) (s : StatementTree) (first scope : Scope) → take (length first) scope ≡ first → take (length first) (bound_after ds s scope) ≡ first
+front_after ds (Evaluate u e) first scope h = front_by ds u first scope h
+front_after ds (If c a b) first scope h = h
+front_after ds (While c b) first scope h = h
+front_after ds Fail first scope h = h
 
 -- behind a statement
-pub kept_after : (s : StatementTree) (first scope after : Scope) → take (length first) scope ≡ first → after ≡ bound_after s scope → take (length first) after ≡ first
-kept_after s first scope after h e = ap (take (length first)) e ∙ front_after s first scope h
+pub kept_after : (ds : List Declaration) (s : StatementTree) (first scope after : Scope) → take (length first) scope ≡ first → after ≡ bound_after ds s scope → take (length first) after ≡ first
+kept_after ds s first scope after h e = ap (take (length first)) e ∙ front_after ds s first scope h
 
 -- ## Lists that are filled
 

@@ -26,12 +26,12 @@ lets_more ss i s names new whole h e inv n =
 
 -- one statement more, with what it binds
 pub block_more : (ds : List Declaration) (ss : List Statement) (i : ℕ) (s : Statement) (scope after : Scope) (least now all : Option Rule) → i < length ss → s ≡ get_or ss i s
-    → least_of least (in_block ds scope (block_of (drop i ss))) ≡ all → now ≡ least_of least (in_statement ds scope (statement_of s)) → after ≡ bound_after (statement_of s) scope
+    → least_of least (in_block ds scope (block_of (drop i ss))) ≡ all → now ≡ least_of least (in_statement ds scope (statement_of s)) → after ≡ bound_after ds (statement_of s) scope
     → least_of now (in_block ds after (block_of (drop (i + 1) ss))) ≡ all
 block_more ds ss i s scope after least now all h e inv n a =
     ap (λ (x : Scope). least_of now (in_block ds x (block_of (drop (i + 1) ss)))) a
-    ∙ ap (λ (o : Option Rule). least_of o (in_block ds (bound_after (statement_of s) scope) (block_of (drop (i + 1) ss)))) n
-    ∙ sym (least_append least (in_statement ds scope (statement_of s)) (in_block ds (bound_after (statement_of s) scope) (block_of (drop (i + 1) ss))))
+    ∙ ap (λ (o : Option Rule). least_of o (in_block ds (bound_after ds (statement_of s) scope) (block_of (drop (i + 1) ss)))) n
+    ∙ sym (least_append least (in_statement ds scope (statement_of s)) (in_block ds (bound_after ds (statement_of s) scope) (block_of (drop (i + 1) ss))))
     ∙ ap (λ (l : List Statement). least_of least (in_block ds scope (block_of l))) (sym (cell ss i s h e))
     ∙ inv
 

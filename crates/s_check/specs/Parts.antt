@@ -8,7 +8,7 @@ use Rattle.s_check.specs.Scopes.{Scope}
 
 -- what breaks rules outside its blocks
 abbrev pub in_front : List Declaration → Scope → StatementTree → List Rule
-in_front ds bs (Evaluate u e) = in_use bs u ++ in_expr ds bs false e
+in_front ds bs (Evaluate u e) = in_use ds bs u ++ in_expr ds bs false e
 in_front ds bs (If c a b) = in_expr ds bs false c
 in_front ds bs (While c b) = in_expr ds bs false c
 in_front ds bs Fail = []

@@ -27,6 +27,9 @@ number_of rule.OtherNumberOfArguments = 15
 number_of rule.ArgumentOfOtherType = 16
 number_of rule.NoResumption = 17
 number_of rule.NoMain = 18
+number_of rule.NoSlots = 19
+number_of rule.SlotsOfOtherNumber = 20
+number_of rule.StoredOfOtherType = 21
 
 -- the rule is one of these
 pub data IsOf (r : Rule) : List Rule → Type 0 where

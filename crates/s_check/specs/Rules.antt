@@ -1,5 +1,5 @@
 -- The rules of scripts. Of each part of a script the rules that it breaks are listed, in the order in which it is read.
-use Rattle.std.specs.Prelude.{ℕ, suc, nat_lt, nat_eq, Bool, true, false, not, ◌&&◌, List, [], ◌∷◌, ◌++◌, length, map, codes, Option, Some, None, is_some, if◌then◌else◌}
+use Rattle.std.specs.Prelude.{ℕ, suc, nat_lt, nat_eq, Bool, true, false, not, ◌&&◌, ◌||◌, List, [], ◌∷◌, ◌++◌, length, map, codes, Option, Some, None, is_some, if◌then◌else◌}
 use Rattle.std.specs.Str.{bytes_eq}
 use Rattle.s_syntax.specs.declared.name.Name.{Name}
 use Rattle.s_syntax.specs.declared.script.VariableType.{VariableType}
@@ -8,6 +8,7 @@ use Rattle.s_syntax.specs.declared.script.Parameter.{Parameter}
 use Rattle.s_syntax.specs.declared.script.Function.{Function}
 use Rattle.s_syntax.specs.declared.script.Clause.{Clause}
 use Rattle.s_syntax.specs.declared.script.Handler.{Handler}
+use Rattle.s_syntax.specs.declared.script.Slots.{Slots}
 use Rattle.s_syntax.specs.declared.script.Definition.{Definition}
 use Rattle.s_syntax.specs.declared.script.Definition.TheVariants as definition
 use Rattle.s_syntax.specs.declared.script.Declaration.{Declaration}
@@ -17,8 +18,8 @@ use Rattle.s_syntax.specs.declared.statement.Use.TheVariants as use_for
 use Rattle.s_syntax.specs.BlockTree.{StatementTree, BlockTree, Evaluate, If, While, Fail, Done, ◌⨟◌}
 use Rattle.s_check.specs.declared.rule.Rule.{Rule}
 use Rattle.s_check.specs.declared.rule.Rule.TheVariants as rule
-use Rattle.s_check.specs.Definitions.{function_of, handler_of, effect_of}
-use Rattle.s_check.specs.Scopes.{Scope, Bound, type_in, bind, bind_all, number, parameter, of_clause, of_return, lets_in, is_among, some_twice}
+use Rattle.s_check.specs.Definitions.{function_of, handler_of, effect_of, slots_of}
+use Rattle.s_check.specs.Scopes.{Scope, Bound, type_in, bind, bind_all, number, parameter, resumption, of_clause, of_return, lets_in, is_among, some_twice}
 
 -- a rule is broken where the test holds
 abbrev pub when : Bool → Rule → List Rule
@@ -31,35 +32,36 @@ is_resumption None = false
 is_resumption (Some Int) = false
 is_resumption (Some (Resumption h)) = true
 
-abbrev pub is_resumption_of : Name → Option VariableType → Bool
-is_resumption_of h None = false
-is_resumption_of h (Some Int) = false
-is_resumption_of h (Some (Resumption g)) = bytes_eq g h
+-- whether a name of this type may stand for a resumption of the handler h: the type is `res h`, or it is of no handler, whose lack breaks a rule elsewhere
+abbrev pub is_resumption_of : List Declaration → Name → Option VariableType → Bool
+is_resumption_of ds h None = false
+is_resumption_of ds h (Some Int) = false
+is_resumption_of ds h (Some (Resumption g)) = bytes_eq g h || not (is_some (handler_of ds g))
 
 -- An argument for a parameter of type `res h` is a bare name of that type, and one for a number is no bare name of a type `res g`.
-abbrev pub suits : Scope → VariableType → ExprTree → Bool
-suits bs Int (Read x) = not (is_resumption (type_in bs x))
-suits bs Int e = true
-suits bs (Resumption h) (Read x) = is_resumption_of h (type_in bs x)
-suits bs (Resumption h) e = false
+abbrev pub suits : List Declaration → Scope → VariableType → ExprTree → Bool
+suits ds bs Int (Read x) = not (is_resumption (type_in bs x))
+suits ds bs Int e = true
+suits ds bs (Resumption h) (Read x) = is_resumption_of ds h (type_in bs x)
+suits ds bs (Resumption h) e = false
 
-abbrev pub all_suit : Scope → List Parameter → Exprs → Bool
-all_suit bs [] es = true
-all_suit bs (p ∷ ps) NoExprs = true
-all_suit bs (p ∷ ps) (MoreExprs e es) = suits bs p.ty e && all_suit bs ps es
+abbrev pub all_suit : List Declaration → Scope → List Parameter → Exprs → Bool
+all_suit ds bs [] es = true
+all_suit ds bs (p ∷ ps) NoExprs = true
+all_suit ds bs (p ∷ ps) (MoreExprs e es) = suits ds bs p.ty e && all_suit ds bs ps es
 
 abbrev pub count : Exprs → ℕ
 count NoExprs = 0
 count (MoreExprs e es) = suc (count es)
 
 -- as many as there are parameters, and each suits
-abbrev pub against : Scope → List Parameter → Exprs → List Rule
-against bs ps es = if nat_eq (count es) (length ps) then when (not (all_suit bs ps es)) rule.ArgumentOfOtherType else (rule.OtherNumberOfArguments ∷ [])
+abbrev pub against : List Declaration → Scope → List Parameter → Exprs → List Rule
+against ds bs ps es = if nat_eq (count es) (length ps) then when (not (all_suit ds bs ps es)) rule.ArgumentOfOtherType else (rule.OtherNumberOfArguments ∷ [])
 
 -- for a function that is called or handled
-abbrev pub for_function : Scope → Option Function → Exprs → List Rule
-for_function bs None es = rule.NoFunction ∷ []
-for_function bs (Some f) es = against bs f.parameters es
+abbrev pub for_function : List Declaration → Scope → Option Function → Exprs → List Rule
+for_function ds bs None es = rule.NoFunction ∷ []
+for_function ds bs (Some f) es = against ds bs f.parameters es
 
 -- for an effect that is performed
 abbrev pub for_effect : Option ℕ → Exprs → List Rule
@@ -67,20 +69,20 @@ for_effect None es = rule.NoEffect ∷ []
 for_effect (Some n) es = when (not (nat_eq (count es) n)) rule.OtherNumberOfArguments
 
 -- for the handler of a `handle`
-abbrev pub for_handler : Scope → Option Handler → Exprs → List Rule
-for_handler bs None es = rule.NoHandler ∷ []
-for_handler bs (Some h) es = against bs h.parameters es
+abbrev pub for_handler : List Declaration → Scope → Option Handler → Exprs → List Rule
+for_handler ds bs None es = rule.NoHandler ∷ []
+for_handler ds bs (Some h) es = against ds bs h.parameters es
 
 -- for the handler of a type, whose lack breaks a rule where the type stands
-abbrev pub for_handler_of_type : Scope → Option Handler → Exprs → List Rule
-for_handler_of_type bs None es = []
-for_handler_of_type bs (Some h) es = against bs h.parameters es
+abbrev pub for_handler_of_type : List Declaration → Scope → Option Handler → Exprs → List Rule
+for_handler_of_type ds bs None es = []
+for_handler_of_type ds bs (Some h) es = against ds bs h.parameters es
 
 -- for the handler of the resumption that is resumed
 abbrev pub for_resumed : List Declaration → Scope → Option VariableType → Exprs → List Rule
 for_resumed ds bs None es = rule.NameNotBound ∷ []
 for_resumed ds bs (Some Int) es = rule.NoResumption ∷ []
-for_resumed ds bs (Some (Resumption h)) es = for_handler_of_type bs (handler_of ds h) es
+for_resumed ds bs (Some (Resumption h)) es = for_handler_of_type ds bs (handler_of ds h) es
 
 -- ## Expressions
 
@@ -97,9 +99,9 @@ abbrev mutual
   in_expr ds bs whole (Read x) = in_name whole (type_in bs x)
   in_expr ds bs whole (Unary o e) = in_expr ds bs false e
   in_expr ds bs whole (Run e ps) = in_expr ds bs false e ++ in_operands ds bs ps
-  in_expr ds bs whole (Call f es) = for_function bs (function_of ds f) es ++ in_exprs ds bs true es
+  in_expr ds bs whole (Call f es) = for_function ds bs (function_of ds f) es ++ in_exprs ds bs true es
   in_expr ds bs whole (Do op es) = for_effect (effect_of ds op) es ++ in_exprs ds bs false es
-  in_expr ds bs whole (Handle f es h ps) = (for_function bs (function_of ds f) es ++ in_exprs ds bs true es) ++ (for_handler bs (handler_of ds h) ps ++ in_exprs ds bs true ps)
+  in_expr ds bs whole (Handle f es h ps) = (for_function ds bs (function_of ds f) es ++ in_exprs ds bs true es) ++ (for_handler ds bs (handler_of ds h) ps ++ in_exprs ds bs true ps)
   in_expr ds bs whole (Resume k e ps) = in_expr ds bs false e ++ (for_resumed ds bs (type_in bs k) ps ++ in_exprs ds bs true ps)
 
   pub in_exprs : List Declaration → Scope → Bool → Exprs → List Rule
@@ -118,39 +120,59 @@ in_target None = rule.NameNotBound ∷ []
 in_target (Some Int) = []
 in_target (Some (Resumption h)) = rule.ResumptionElsewhere ∷ []
 
+-- slots that `store` or `take` names
+abbrev pub for_slots : Option Slots → List Rule
+for_slots None = rule.NoSlots ∷ []
+for_slots (Some s) = []
+
+-- the handler of what is taken from the slots of this name; where there are none, the name stands for it
+abbrev pub handler_of_slots : Name → Option Slots → Name
+handler_of_slots x None = x
+handler_of_slots x (Some s) = s.handler
+
+-- a name that is stored into slots
+abbrev pub in_stored : List Declaration → Option Slots → Option VariableType → List Rule
+in_stored ds o None = rule.NameNotBound ∷ []
+in_stored ds None (Some t) = []
+in_stored ds (Some s) (Some t) = when (not (is_resumption_of ds s.handler (Some t))) rule.StoredOfOtherType
+
 -- what a value is used for
-abbrev pub in_use : Scope → Use → List Rule
-in_use bs (use_for.Let x) = []
-in_use bs (use_for.Assign x) = in_target (type_in bs x)
-in_use bs use_for.Print = []
-in_use bs use_for.Return = []
-in_use bs use_for.Drop = []
+abbrev pub in_use : List Declaration → Scope → Use → List Rule
+in_use ds bs (use_for.Let x) = []
+in_use ds bs (use_for.Assign x) = in_target (type_in bs x)
+in_use ds bs use_for.Print = []
+in_use ds bs use_for.Return = []
+in_use ds bs use_for.Drop = []
+in_use ds bs (use_for.Store s k) = for_slots (slots_of ds s) ++ in_stored ds (slots_of ds s) (type_in bs k)
+in_use ds bs (use_for.Take k s) = for_slots (slots_of ds s)
 
 -- what is bound behind such a use
-abbrev pub bound_by : Use → Scope → Scope
-bound_by (use_for.Let x) bs = bind (number x) bs
-bound_by (use_for.Assign x) bs = bs
-bound_by use_for.Print bs = bs
-bound_by use_for.Return bs = bs
-bound_by use_for.Drop bs = bs
+abbrev pub bound_by : List Declaration → Use → Scope → Scope
+bound_by ds (use_for.Let x) bs = bind (number x) bs
+bound_by ds (use_for.Assign x) bs = bs
+bound_by ds use_for.Print bs = bs
+bound_by ds use_for.Return bs = bs
+bound_by ds use_for.Drop bs = bs
+bound_by ds (use_for.Store s k) bs = bs
+bound_by ds (use_for.Take k s) bs = bind (resumption (handler_of_slots s (slots_of ds s)) k) bs
 
 -- and behind a statement, up to the end of its block
-abbrev pub bound_after : StatementTree → Scope → Scope
-bound_after (Evaluate u e) bs = bound_by u bs
-bound_after (If c a b) bs = bs
-bound_after (While c b) bs = bs
-bound_after Fail bs = bs
+abbrev pub bound_after : List Declaration → StatementTree → Scope → Scope
+bound_after ds (Evaluate u e) bs = bound_by ds u bs
+bound_after ds (If c a b) bs = bs
+bound_after ds (While c b) bs = bs
+bound_after ds Fail bs = bs
 
 abbrev mutual
   pub in_statement : List Declaration → Scope → StatementTree → List Rule
-  in_statement ds bs (Evaluate u e) = in_use bs u ++ in_expr ds bs false e
+  in_statement ds bs (Evaluate u e) = in_use ds bs u ++ in_expr ds bs false e
   in_statement ds bs (If c a b) = in_expr ds bs false c ++ (in_block ds bs a ++ in_block ds bs b)
   in_statement ds bs (While c b) = in_expr ds bs false c ++ in_block ds bs b
   in_statement ds bs Fail = []
 
   pub in_block : List Declaration → Scope → BlockTree → List Rule
   in_block ds bs Done = []
-  in_block ds bs (s ⨟ b) = in_statement ds bs s ++ in_block ds (bound_after s bs) b
+  in_block ds bs (s ⨟ b) = in_statement ds bs s ++ in_block ds (bound_after ds s bs) b
 
 -- a body at whose start these names are bound
 abbrev pub in_body : List Declaration → List Bound → BlockTree → List Rule
@@ -191,6 +213,7 @@ abbrev pub in_definition : List Declaration → Name → Definition → List Rul
 in_definition ds x (definition.Effect n) = when (nat_lt 8 n.value) rule.EffectOfTooMany
 in_definition ds x (definition.Function f) = in_parameters ds f.parameters ++ in_body ds (map parameter f.parameters) f.body
 in_definition ds x (definition.Handler h) = in_header ds h ++ in_bodies ds x h
+in_definition ds x (definition.Slots s) = in_type ds (Resumption s.handler) ++ when (not (nat_lt 0 s.places.value && nat_lt s.places.value 65537)) rule.SlotsOfOtherNumber
 
 -- a declaration behind those of these names
 abbrev pub in_declaration : List Declaration → List Name → Declaration → List Rule

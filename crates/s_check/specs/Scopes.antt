@@ -52,7 +52,7 @@ of_clause h i c = map parameter i.parameters ++ (map number c.arguments ++ resum
 abbrev pub of_return : Handler → List Bound
 of_return i = map parameter i.parameters ++ number i.return_clause.value ∷ []
 
--- ## Names that lets bind
+-- ## Names that lets and takes bind
 
 abbrev pub lets_by : Use → List Name
 lets_by (use_for.Let x) = x ∷ []
@@ -60,6 +60,8 @@ lets_by (use_for.Assign x) = []
 lets_by use_for.Print = []
 lets_by use_for.Return = []
 lets_by use_for.Drop = []
+lets_by (use_for.Store s k) = []
+lets_by (use_for.Take k s) = k ∷ []
 
 -- in order, those of all blocks within
 abbrev mutual

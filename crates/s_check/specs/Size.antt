@@ -46,6 +46,7 @@ clause_size c = 1 + (length c.arguments + 1) + block_size c.body
 
 abbrev pub definition_size : Definition → ℕ
 definition_size (definition.Effect n) = 1
+definition_size (definition.Slots s) = 1
 definition_size (definition.Function f) = 1 + length f.parameters + block_size f.body
 definition_size (definition.Handler h) = 1 + length h.parameters + (1 + 1 + block_size h.return_clause.body) + sum_by clause_size h.clauses
 

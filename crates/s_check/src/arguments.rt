@@ -13,20 +13,31 @@ use crate::rule::{Rule, broken, broken_where};
 use crate::scope::Scope;
 use s_syntax::{Expr, Function, Handler, Name, Node, Parameter, VariableType};
 
-// Whether it is the type of resumptions of the handler.
-fn is_resumption_of(handler: &Name, ty: Option<ValueType>) -> bool
-    ensures value { result ≡ is_resumption_of handler.now (option_map type_of ty.entry) }
+/// Whether a name of this type may stand for a resumption of the handler.
+pub(crate) fn is_resumption_of<'a>(
+    declarations: &Declarations<'a>,
+    handler: &Name,
+    ty: Option<ValueType<'a>>,
+) -> bool
+    ensures value { result ≡ is_resumption_of declarations.now handler.now (option_map type_of ty.entry) }
 {
     match ty {
-        Some(ValueType::Resumption(other)) => other == handler,
+        Some(ValueType::Resumption(other)) => {
+            other == handler || declarations.handler(other).is_none()
+        }
         Some(ValueType::Int) => false,
         None => false,
     }
 }
 
 // Whether an argument suits a parameter of the type.
-fn suits<'a>(scope: &Scope<'a>, ty: &VariableType, argument: &'a Expr) -> bool
-    ensures value { result ≡ suits scope.now ty.now argument.now }
+fn suits<'a>(
+    declarations: &Declarations<'a>,
+    scope: &Scope<'a>,
+    ty: &VariableType,
+    argument: &'a Expr,
+) -> bool
+    ensures value { result ≡ suits declarations.now scope.now ty.now argument.now }
 {
     match (ty, argument.node()) {
         (VariableType::Int, Node::Read(name)) => {
@@ -34,19 +45,29 @@ fn suits<'a>(scope: &Scope<'a>, ty: &VariableType, argument: &'a Expr) -> bool
         }
         (VariableType::Int, _) => true,
         (VariableType::Resumption(handler), Node::Read(name)) => {
-            is_resumption_of(handler, scope.find(name))
+            is_resumption_of(declarations, handler, scope.find(name))
         }
         (VariableType::Resumption(_), _) => false,
     }
 }
 
 // Whether each argument suits its parameter.
-fn all_suit<'a>(scope: &Scope<'a>, parameters: &[Parameter], arguments: &'a [Expr]) -> bool
+fn all_suit<'a>(
+    declarations: &Declarations<'a>,
+    scope: &Scope<'a>,
+    parameters: &[Parameter],
+    arguments: &'a [Expr],
+) -> bool
     requires as_many { length arguments.now ≡ length parameters.now }
-    ensures value { result ≡ all_suit scope.now parameters.now (exprs arguments.now) }
+    ensures value { result ≡ all_suit declarations.now scope.now parameters.now (exprs arguments.now) }
 {
     for index in 0..parameters.len() {
-        if !suits(scope, &parameters[index].ty, &arguments[index]) {
+        if !suits(
+            declarations,
+            scope,
+            &parameters[index].ty,
+            &arguments[index],
+        ) {
             return false;
         }
     }
@@ -55,16 +76,17 @@ fn all_suit<'a>(scope: &Scope<'a>, parameters: &[Parameter], arguments: &'a [Exp
 
 // The least rule, with those that arguments break against these parameters.
 fn against<'a>(
+    declarations: &Declarations<'a>,
     scope: &Scope<'a>,
     parameters: &[Parameter],
     arguments: &'a [Expr],
     least: Option<Rule>,
 ) -> Option<Rule>
-    ensures value { result ≡ least_of least (against scope.now parameters.now (exprs arguments.now)) }
+    ensures value { result ≡ least_of least (against declarations.now scope.now parameters.now (exprs arguments.now)) }
 {
     if arguments.len() == parameters.len() {
         broken_where(
-            !all_suit(scope, parameters, arguments),
+            !all_suit(declarations, scope, parameters, arguments),
             Rule::ArgumentOfOtherType,
             least,
         )
@@ -75,15 +97,22 @@ fn against<'a>(
 
 /// The least rule, with those that arguments break for a function that is called or handled.
 pub(crate) fn for_function<'a>(
+    declarations: &Declarations<'a>,
     scope: &Scope<'a>,
     function: Option<&Function>,
     arguments: &'a [Expr],
     least: Option<Rule>,
 ) -> Option<Rule>
-    ensures value { result ≡ least_of least (for_function scope.now (option_copied function.entry) (exprs arguments.now)) }
+    ensures value { result ≡ least_of least (for_function declarations.now scope.now (option_copied function.entry) (exprs arguments.now)) }
 {
     match function {
-        Some(function) => against(scope, function.parameters.as_slice(), arguments, least),
+        Some(function) => against(
+            declarations,
+            scope,
+            function.parameters.as_slice(),
+            arguments,
+            least,
+        ),
         None => broken(Rule::NoFunction, least),
     }
 }
@@ -108,30 +137,44 @@ pub(crate) fn for_effect(
 
 /// The least rule, with those that arguments break for the handler of a `handle`.
 pub(crate) fn for_handler<'a>(
+    declarations: &Declarations<'a>,
     scope: &Scope<'a>,
     handler: Option<&Handler>,
     arguments: &'a [Expr],
     least: Option<Rule>,
 ) -> Option<Rule>
-    ensures value { result ≡ least_of least (for_handler scope.now (option_copied handler.entry) (exprs arguments.now)) }
+    ensures value { result ≡ least_of least (for_handler declarations.now scope.now (option_copied handler.entry) (exprs arguments.now)) }
 {
     match handler {
-        Some(handler) => against(scope, handler.parameters.as_slice(), arguments, least),
+        Some(handler) => against(
+            declarations,
+            scope,
+            handler.parameters.as_slice(),
+            arguments,
+            least,
+        ),
         None => broken(Rule::NoHandler, least),
     }
 }
 
 // The same for the handler of a type.
 fn for_handler_of_type<'a>(
+    declarations: &Declarations<'a>,
     scope: &Scope<'a>,
     handler: Option<&Handler>,
     arguments: &'a [Expr],
     least: Option<Rule>,
 ) -> Option<Rule>
-    ensures value { result ≡ least_of least (for_handler_of_type scope.now (option_copied handler.entry) (exprs arguments.now)) }
+    ensures value { result ≡ least_of least (for_handler_of_type declarations.now scope.now (option_copied handler.entry) (exprs arguments.now)) }
 {
     match handler {
-        Some(handler) => against(scope, handler.parameters.as_slice(), arguments, least),
+        Some(handler) => against(
+            declarations,
+            scope,
+            handler.parameters.as_slice(),
+            arguments,
+            least,
+        ),
         None => least,
     }
 }
@@ -148,7 +191,13 @@ pub(crate) fn for_resumed<'a>(
 {
     match scope.find(resumption) {
         Some(ValueType::Resumption(handler)) => {
-            for_handler_of_type(scope, declarations.handler(handler), arguments, least)
+            for_handler_of_type(
+                declarations,
+                scope,
+                declarations.handler(handler),
+                arguments,
+                least,
+            )
         }
         Some(ValueType::Int) => broken(Rule::NoResumption, least),
         None => broken(Rule::NameNotBound, least),

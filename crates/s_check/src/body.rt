@@ -21,11 +21,12 @@ fn push_lets_by<'a>(what: &'a Use, names: &mut Vec<&'a Name>) -> Result<(), Allo
     ensures value { OnOk result (names_of names.new.items ≡ names_of names.old.items ++ lets_by what.now) }
 {
     match what {
-        Use::Let(name) => {
+        Use::Let(name) | Use::Take { name, slots: _ } => {
             names.push(name)?;
             Ok(())
         }
-        Use::Assign(_) | Use::Print | Use::Return | Use::Drop => Ok(()),
+        Use::Assign(_) | Use::Print | Use::Return | Use::Drop | Use::Store { slots: _, name: _ } =>
+            { Ok(()) }
     }
 }
 

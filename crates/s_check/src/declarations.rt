@@ -2,7 +2,7 @@
 ghost use Rattle.std.specs.Prelude.{IfOk};
 ghost use Rattle.s_check.specs.Views.{Finds};
 
-use s_syntax::{Declaration, Definition, Function, Handler, Name};
+use s_syntax::{Declaration, Definition, Function, Handler, Name, Slots};
 use std::alloc::{AllocError, Global};
 use std::collections::BTreeMap;
 use std::marker::Model;
@@ -49,7 +49,7 @@ fn first_definitions<'a>(
 impl<'a> Declarations<'a> {
     ghost use Rattle.std.specs.Prelude.{◌≡◌, IfOk};
     ghost use Rattle.std.specs.Option.{option_copied};
-    ghost use Rattle.s_check.specs.Definitions.{definition_of, function_of, handler_of, effect_of};
+    ghost use Rattle.s_check.specs.Definitions.{definition_of, function_of, handler_of, effect_of, slots_of};
 
     /// Those of a script. It fails only for want of memory.
     pub fn new(alloc: Global, all: &'a [Declaration]) -> Result<Declarations<'a>, AllocError>
@@ -85,6 +85,16 @@ impl<'a> Declarations<'a> {
     {
         match self.find(name) {
             Some(Definition::Handler(handler)) => Some(handler),
+            _ => None,
+        }
+    }
+
+    /// The slots of a name.
+    pub fn slots(&self, name: &'a Name) -> Option<&'a Slots>
+        ensures value { option_copied result ≡ slots_of self.now name.now }
+    {
+        match self.find(name) {
+            Some(Definition::Slots(slots)) => Some(slots),
             _ => None,
         }
     }

@@ -1,7 +1,7 @@
 //! Declarations.
 ghost use Rattle.std.specs.Prelude.{◌≡◌, ◌++◌, List, [], map, OnOk, IfOk};
 ghost use Rattle.s_syntax.specs.declared.name.Name.{Name as TheName};
-ghost use Rattle.s_syntax.specs.declared.script.Definition.TheVariants.{Function as AFunction, Handler as AHandler};
+ghost use Rattle.s_syntax.specs.declared.script.Definition.TheVariants.{Function as AFunction, Handler as AHandler, Slots as ASlots};
 ghost use Rattle.s_check.specs.Least.{least_of};
 ghost use Rattle.s_check.specs.Rules.{in_type, in_parameters, in_head, in_body, in_clauses, in_header, in_definition};
 ghost use Rattle.s_check.specs.Scopes.{parameter, number, of_clause, of_return, is_among};
@@ -12,7 +12,7 @@ use crate::bound::{Binding, ValueType};
 use crate::declarations::Declarations;
 use crate::noted::noted_before;
 use crate::rule::{Rule, broken, broken_where};
-use s_syntax::{Clause, Definition, Function, Handler, Name, Parameter, VariableType};
+use s_syntax::{Clause, Definition, Function, Handler, Name, Parameter, Slots, VariableType};
 use std::alloc::{AllocError, Global};
 use std::collections::BTreeSet;
 
@@ -241,6 +241,25 @@ fn in_handler<'a>(
     in_clauses(alloc, declarations, name, handler, least)
 }
 
+// The least rule, with those that slots break.
+#[tactic(auto, using(crate::proofs::Least::least_append))]
+fn in_slots<'a>(
+    declarations: &Declarations<'a>,
+    slots: &'a Slots,
+    least: Option<Rule>,
+) -> Option<Rule>
+    ensures value { result ≡ least_of least (in_definition declarations.now [] (ASlots slots.now)) }
+{
+    let is_missing = declarations.handler(&slots.handler).is_none();
+    let least = broken_where(is_missing, Rule::NoHandlerOfType, least);
+    let places = slots.places.value;
+    broken_where(
+        !(0 < places && places < 65537),
+        Rule::SlotsOfOtherNumber,
+        least,
+    )
+}
+
 /// The least rule, with those that the definition of this name breaks.
 pub(crate) fn in_definition<'a>(
     alloc: Global,
@@ -259,5 +278,6 @@ pub(crate) fn in_definition<'a>(
         )),
         Definition::Function(function) => in_function(alloc, declarations, function, least),
         Definition::Handler(handler) => in_handler(alloc, declarations, name, handler, least),
+        Definition::Slots(slots) => Ok(in_slots(declarations, slots, least)),
     }
 }

@@ -62,7 +62,7 @@ fn in_node<'a>(
             arguments,
         } => {
             let function = declarations.function(function);
-            let least = for_function(scope, function, arguments.as_slice(), least);
+            let least = for_function(declarations, scope, function, arguments.as_slice(), least);
             in_exprs(declarations, scope, true, arguments.as_slice(), least)
         }
         Node::Do { effect, arguments } => {
@@ -77,10 +77,10 @@ fn in_node<'a>(
             parameters,
         } => {
             let function = declarations.function(function);
-            let least = for_function(scope, function, arguments.as_slice(), least);
+            let least = for_function(declarations, scope, function, arguments.as_slice(), least);
             let least = in_exprs(declarations, scope, true, arguments.as_slice(), least);
             let handler = declarations.handler(handler);
-            let least = for_handler(scope, handler, parameters.as_slice(), least);
+            let least = for_handler(declarations, scope, handler, parameters.as_slice(), least);
             in_exprs(declarations, scope, true, parameters.as_slice(), least)
         }
         Node::Resume {

@@ -45,10 +45,16 @@ pub enum Rule {
     NoResumption,
     /// There is no function `main` without parameters.
     NoMain,
+    /// A `store` or `take` names no slots.
+    NoSlots,
+    /// Slots have no place, or more than 65,536.
+    SlotsOfOtherNumber,
+    /// A name that is stored is bound and is no resumption of the slots' handler.
+    StoredOfOtherType,
 }
 
 impl Rule {
-    /// Its number, from 1 to 18.
+    /// Its number, from 1 to 21.
     pub fn number(self) -> u8
         ensures value { result ≡ number_of self }
     {
@@ -71,6 +77,9 @@ impl Rule {
             Rule::ArgumentOfOtherType => 16,
             Rule::NoResumption => 17,
             Rule::NoMain => 18,
+            Rule::NoSlots => 19,
+            Rule::SlotsOfOtherNumber => 20,
+            Rule::StoredOfOtherType => 21,
         }
     }
 }

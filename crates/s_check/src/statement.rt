@@ -2,16 +2,21 @@
 ghost use Rattle.std.specs.Prelude.{◌≡◌, false, length, take, OnOk, IfOk};
 ghost use Rattle.s_syntax.specs.BlockOf.{statement_of, block_of};
 ghost use Rattle.s_check.specs.Least.{least_of};
-ghost use Rattle.s_check.specs.Rules.{in_target, in_use, bound_after, in_block};
+ghost use Rattle.std.specs.Option.{option_copied};
+ghost use Rattle.s_check.specs.Definitions.{slots_of};
+ghost use Rattle.s_check.specs.Rules.{in_target, in_use, for_slots, in_stored, handler_of_slots, bound_by, bound_after, in_block};
 ghost use Rattle.s_check.specs.Parts.{in_front, in_blocks};
 ghost use Rattle.s_check.specs.Scopes.{type_in};
+ghost use Rattle.s_syntax.specs.declared.script.VariableType.TheVariants.{Resumption as OfHandler};
+ghost use Rattle.s_check.specs.Views.{type_of};
 
+use crate::arguments::is_resumption_of;
 use crate::bound::{Binding, ValueType};
 use crate::declarations::Declarations;
 use crate::expression::in_expr;
-use crate::rule::{Rule, broken};
+use crate::rule::{Rule, broken, broken_where};
 use crate::scope::Scope;
-use s_syntax::{Block, Name, Statement, Use};
+use s_syntax::{Block, Name, Slots, Statement, Use};
 use std::alloc::AllocError;
 
 // The least rule, with those that the assignment of a name breaks.
@@ -25,31 +30,99 @@ fn in_target<'a>(scope: &Scope<'a>, name: &'a Name, least: Option<Rule>) -> Opti
     }
 }
 
+// The least rule, with that which is broken where slots are missing.
+fn for_slots(slots: Option<&Slots>, least: Option<Rule>) -> Option<Rule>
+    ensures value { result ≡ least_of least (for_slots (option_copied slots.entry)) }
+{
+    broken_where(slots.is_none(), Rule::NoSlots, least)
+}
+
+// The least rule, with those that a name breaks which is stored into slots.
+fn in_stored<'a>(
+    declarations: &Declarations<'a>,
+    scope: &Scope<'a>,
+    slots: Option<&Slots>,
+    name: &'a Name,
+    least: Option<Rule>,
+) -> Option<Rule>
+    ensures value { result ≡ least_of least (in_stored declarations.now (option_copied slots.entry) (type_in scope.now name.now)) }
+{
+    match (scope.find(name), slots) {
+        (None, _) => broken(Rule::NameNotBound, least),
+        (Some(_), None) => least,
+        (Some(ty), Some(slots)) => broken_where(
+            !is_resumption_of(declarations, &slots.handler, Some(ty)),
+            Rule::StoredOfOtherType,
+            least,
+        ),
+    }
+}
+
+// The type of what is taken from the slots of this name.
+fn taken_type<'a>(name: &'a Name, slots: Option<&'a Slots>) -> ValueType<'a>
+    ensures value { type_of result ≡ OfHandler (handler_of_slots name.now (option_copied slots.entry)) }
+{
+    match slots {
+        Some(slots) => ValueType::Resumption(&slots.handler),
+        None => ValueType::Resumption(name),
+    }
+}
+
 // The least rule, with those that the use of a value breaks.
-fn in_use<'a>(scope: &Scope<'a>, what: &'a Use, least: Option<Rule>) -> Option<Rule>
-    ensures value { result ≡ least_of least (in_use scope.now what.now) }
+#[tactic(auto, using(crate::proofs::Least::least_append))]
+fn in_use<'a>(
+    declarations: &Declarations<'a>,
+    scope: &Scope<'a>,
+    what: &'a Use,
+    least: Option<Rule>,
+) -> Option<Rule>
+    ensures value { result ≡ least_of least (in_use declarations.now scope.now what.now) }
 {
     match what {
         Use::Assign(name) => in_target(scope, name, least),
+        Use::Store { slots, name } => {
+            let slots = declarations.slots(slots);
+            let least = for_slots(slots, least);
+            in_stored(declarations, scope, slots, name, least)
+        }
+        Use::Take { name: _, slots } => for_slots(declarations.slots(slots), least),
         Use::Let(_) | Use::Print | Use::Return | Use::Drop => least,
     }
 }
 
-// Binds the name of a let.
-fn bind_let<'a>(scope: &mut Scope<'a>, statement: &'a Statement) -> Result<(), AllocError>
-    ensures value { OnOk result (scope.new ≡ bound_after (statement_of statement.now) scope.old) }
+// Binds the name of a let or of a take.
+fn bind_by<'a>(
+    declarations: &Declarations<'a>,
+    scope: &mut Scope<'a>,
+    what: &'a Use,
+) -> Result<(), AllocError>
+    ensures value { OnOk result (scope.new ≡ bound_by declarations.now what.now scope.old) }
 {
-    if let Statement::Evaluate {
-        what: Use::Let(name),
-        value: _,
-    } = statement
-    {
-        scope.bind(Binding {
+    match what {
+        Use::Let(name) => scope.bind(Binding {
             name,
             ty: ValueType::Int,
-        })?;
+        }),
+        Use::Take { name, slots } => scope.bind(Binding {
+            name,
+            ty: taken_type(slots, declarations.slots(slots)),
+        }),
+        _ => Ok(()),
     }
-    Ok(())
+}
+
+// Binds the name that a statement binds.
+fn bind_name<'a>(
+    declarations: &Declarations<'a>,
+    scope: &mut Scope<'a>,
+    statement: &'a Statement,
+) -> Result<(), AllocError>
+    ensures value { OnOk result (scope.new ≡ bound_after declarations.now (statement_of statement.now) scope.old) }
+{
+    match statement {
+        Statement::Evaluate { what, value: _ } => bind_by(declarations, scope, what),
+        _ => Ok(()),
+    }
 }
 
 // The least rule, with those that a statement breaks outside its blocks.
@@ -64,7 +137,7 @@ fn in_front<'a>(
 {
     match statement {
         Statement::Evaluate { what, value } => {
-            let least = in_use(scope, what, least);
+            let least = in_use(declarations, scope, what, least);
             in_expr(declarations, scope, false, value, least)
         }
         Statement::If {
@@ -121,7 +194,7 @@ fn in_statements<'a>(
     for statement in statements {
         least = in_front(declarations, scope, statement, least);
         least = in_blocks(declarations, scope, statement, least)?;
-        bind_let(scope, statement)?;
+        bind_name(declarations, scope, statement)?;
     }
     Ok(least)
 }

@@ -7,7 +7,7 @@ use Rattle.s_syntax.specs.BlockTree.{StatementTree, BlockTree, Evaluate, If, Whi
 use Rattle.s_check.specs.Rules.{count}
 use Rattle.s_check.specs.Scopes.{lets_by}
 use Rattle.s_check.specs.Size.{expr_size, exprs_size, operands_size, statement_size, block_size}
-use Rattle.s_code.specs.Temporaries.{high, high_args, high_aside, high_operands, high_statement, high_block}
+use Rattle.s_code.specs.Temporaries.{high, high_args, high_aside, high_operands, room_of, high_statement, high_block}
 use Rattle.s_code.proofs.Sizes.{some_size, count_within}
 
 mutual
@@ -33,9 +33,19 @@ mutual
   operands_high t NoOperands = omega arith
   operands_high t (MoreOperands o e ps) = let q = high_within t e in let r = operands_high t ps in omega (arith, q, r)
 
+-- a use takes one temporary at most
+pub room_few : (u : Use) → room_of u ≤ 1
+room_few (use_for.Let x) = omega arith
+room_few (use_for.Assign x) = omega arith
+room_few use_for.Print = omega arith
+room_few use_for.Return = omega arith
+room_few use_for.Drop = omega arith
+room_few (use_for.Store s k) = omega arith
+room_few (use_for.Take k s) = omega arith
+
 mutual
   statement_high : (s : StatementTree) → high_statement s ≤ statement_size s
-  statement_high (Evaluate u e) = let q = high_within 0 e in omega (arith, q)
+  statement_high (Evaluate u e) = let q = high_within 0 e in let r = room_few u in omega (arith, q, r)
   statement_high (If c a b) = let q = high_within 0 c in let r = block_high a in let s = block_high b in omega (arith, q, r, s)
   statement_high (While c b) = let q = high_within 0 c in let r = block_high b in omega (arith, q, r)
   statement_high Fail = omega arith
@@ -51,3 +61,5 @@ lets_by_few (use_for.Assign x) = omega arith
 lets_by_few use_for.Print = omega arith
 lets_by_few use_for.Return = omega arith
 lets_by_few use_for.Drop = omega arith
+lets_by_few (use_for.Store s k) = omega arith
+lets_by_few (use_for.Take k s) = omega arith

@@ -1,5 +1,6 @@
 -- The instructions that scripts are compiled to, each before the code that comes after it.
 use Rattle.std.specs.Prelude.{ℕ, ℤ, pos, negsuc, List}
+use Rattle.w_types.specs.declared.types.HeapType.TheVariants as heap
 use Rattle.w_types.specs.declared.types.ValType.TheVariants.{I64 as ValI64}
 use Rattle.w_syntax.specs.Code.{Code, Done, Plain, IfElse}
 use Rattle.w_syntax.specs.declared.numeric.IntType.TheVariants.{I32, I64}
@@ -12,6 +13,7 @@ use Rattle.w_syntax.specs.declared.numeric.NumericOp.TheVariants as numeric
 use Rattle.w_syntax.specs.declared.instructions.ControlOp.TheVariants as control
 use Rattle.w_syntax.specs.declared.instructions.ParametricOp.TheVariants as parametric
 use Rattle.w_syntax.specs.declared.instructions.VariableOp.TheVariants as variable
+use Rattle.w_syntax.specs.declared.instructions.TableOp.TheVariants as table
 use Rattle.w_syntax.specs.declared.instructions.ReferenceOp.TheVariants as reference
 use Rattle.w_syntax.specs.declared.instructions.Clause.{Clause}
 use Rattle.w_syntax.specs.declared.instructions.SwitchingOp.TheVariants as switching
@@ -30,6 +32,9 @@ use Rattle.s_syntax.specs.declared.operators.Arithmetic.TheVariants.{Add, Subtra
 abbrev pub constant : ℤ → Op
 constant z = op.Numeric (numeric.I64Const z)
 
+abbrev pub constant_32 : ℤ → Op
+constant_32 z = op.Numeric (numeric.I32Const z)
+
 abbrev pub is_zero : Op
 is_zero = op.Numeric (numeric.Eqz I64)
 
@@ -39,6 +44,10 @@ is_zero_32 = op.Numeric (numeric.Eqz I32)
 -- an i32, which is 0 or 1, as an i64
 abbrev pub extend : Op
 extend = op.Numeric (numeric.Convert cvtop.I64ExtendI32U)
+
+-- the lower half of an i64
+abbrev pub wrap : Op
+wrap = op.Numeric (numeric.Convert cvtop.I32WrapI64)
 
 abbrev pub binary : Binop → Op
 binary o = op.Numeric (numeric.Binary I64 o)
@@ -67,11 +76,27 @@ call x = op.Control (control.Call x)
 abbrev pub dropped : Op
 dropped = op.Parametric parametric.Drop
 
+-- of two numbers the first one, where the i32 behind them isn't 0
+abbrev pub select : Op
+select = op.Parametric parametric.Select
+
 abbrev pub local_get : ℕ → Op
 local_get x = op.Variable (variable.LocalGet x)
 
 abbrev pub local_set : ℕ → Op
 local_set x = op.Variable (variable.LocalSet x)
+
+abbrev pub table_get : ℕ → Op
+table_get x = op.Table (table.Get x)
+
+abbrev pub table_set : ℕ → Op
+table_set x = op.Table (table.Set x)
+
+abbrev pub null : ℕ → Op
+null x = op.Reference (reference.Null (heap.Index x))
+
+abbrev pub non_null : Op
+non_null = op.Reference reference.AsNonNull
 
 abbrev pub function_reference : ℕ → Op
 function_reference x = op.Reference (reference.Func x)

@@ -56,7 +56,7 @@ handler_of_name Γ x = handler_in (local_of Γ.names x)
 
 -- ## Temporaries
 
--- A bare name of a res type: it never changes, so it is read where it lies.
+-- A bare name of a res type: no expression sets it, so it is read where it lies.
 abbrev pub stays : Layout → ExprTree → Bool
 stays Γ (Read x) = is_some (handler_of_name Γ x)
 stays Γ _ = false

@@ -1,6 +1,7 @@
 pub mod Instructions
 pub mod Layouts
 pub mod Expressions
+pub mod Slots
 pub mod Statements
 pub mod Handlers
 pub mod Temporaries

@@ -1,9 +1,10 @@
 -- The module of a script. Each effect is a tag; each function is a function; each handler is one function, which runs what it handles and
--- its clauses. Numbers are i64, and resumptions are references to continuations.
-use Rattle.std.specs.Prelude.{ℕ, false, List, [], ◌∷◌, ◌++◌, map, codes, None}
+-- its clauses; slots are a table. Numbers are i64, and resumptions are references to continuations.
+use Rattle.std.specs.Prelude.{ℕ, true, false, List, [], ◌∷◌, ◌++◌, map, codes, Some, None}
 use Rattle.w_types.specs.declared.types.CompType.{CompType}
 use Rattle.w_types.specs.declared.types.RecGroup.{RecGroup}
 use Rattle.w_types.specs.declared.types.HeapType.TheVariants as heap
+use Rattle.w_syntax.specs.declared.module.Table.{Table}
 use Rattle.w_syntax.specs.declared.module.Tag.{Tag}
 use Rattle.w_syntax.specs.declared.module.Import.{Import}
 use Rattle.w_syntax.specs.declared.module.ExternType.TheVariants as extern
@@ -17,6 +18,7 @@ use Rattle.w_syntax.specs.Items.{reference_to}
 use Rattle.s_syntax.specs.declared.name.Name.{Name}
 use Rattle.s_syntax.specs.declared.script.Function.{Function}
 use Rattle.s_syntax.specs.declared.script.Handler.{Handler}
+use Rattle.s_syntax.specs.declared.script.Slots.{Slots}
 use Rattle.s_syntax.specs.declared.script.Definition.{Definition}
 use Rattle.s_syntax.specs.declared.script.Definition.TheVariants as definition
 use Rattle.s_syntax.specs.declared.script.Declaration.{Declaration}
@@ -24,7 +26,7 @@ use Rattle.s_syntax.specs.declared.script.Script.{Script}
 use Rattle.s_index.specs.Handled.{handled}
 use Rattle.s_index.specs.Indices.{type_table, function_type_index, handler_type_index, effect_type_index}
 use Rattle.s_index.specs.Numbers.{function_index}
-use Rattle.s_index.specs.Types.{printer_type}
+use Rattle.s_index.specs.Types.{printer_type, resumption_type}
 use Rattle.s_code.specs.Handlers.{handler_body}
 use Rattle.s_code.specs.Statements.{body}
 use Rattle.s_code.specs.Places.{function_layout, function_locals, return_layout, placed_clauses, handler_locals}
@@ -37,32 +39,52 @@ function_code ds f = record { locals = function_locals ds f; body = body ds (fun
 abbrev pub handler_code : List Declaration → Name → Handler → Func
 handler_code ds h i = record { locals = handler_locals ds h i; body = handler_body ds (return_layout ds h i) i (placed_clauses ds h i) }
 
+-- ## Slots
+
+-- all places are empty at first
+abbrev pub slots_table : Slots → Table
+slots_table s = record {
+  kind = record { element = record { nullable = true; heap = heap.Index resumption_type }; limits = record { min = s.places.value; max = Some s.places.value } };
+  init = None;
+}
+
 -- ## What each declaration adds
 
 abbrev pub function_type_of : List Declaration → Definition → List ℕ
 function_type_of ds (definition.Effect n) = []
 function_type_of ds (definition.Function f) = function_type_index ds f.parameters ∷ []
 function_type_of ds (definition.Handler i) = []
+function_type_of ds (definition.Slots s) = []
 
 abbrev pub handler_type_of : List Declaration → Definition → List ℕ
 handler_type_of ds (definition.Effect n) = []
 handler_type_of ds (definition.Function f) = []
 handler_type_of ds (definition.Handler i) = handler_type_index ds i.parameters ∷ []
+handler_type_of ds (definition.Slots s) = []
+
+abbrev pub table_of : Definition → List Table
+table_of (definition.Effect n) = []
+table_of (definition.Function f) = []
+table_of (definition.Handler i) = []
+table_of (definition.Slots s) = slots_table s ∷ []
 
 abbrev pub tag_of : List Declaration → Definition → List Tag
 tag_of ds (definition.Effect n) = record { type_index = effect_type_index ds n.value } ∷ []
 tag_of ds (definition.Function f) = []
 tag_of ds (definition.Handler i) = []
+tag_of ds (definition.Slots s) = []
 
 abbrev pub function_code_of : List Declaration → Definition → List Func
 function_code_of ds (definition.Effect n) = []
 function_code_of ds (definition.Function f) = function_code ds f ∷ []
 function_code_of ds (definition.Handler i) = []
+function_code_of ds (definition.Slots s) = []
 
 abbrev pub handler_code_of : List Declaration → Name → Definition → List Func
 handler_code_of ds h (definition.Effect n) = []
 handler_code_of ds h (definition.Function f) = []
 handler_code_of ds h (definition.Handler i) = handler_code ds h i ∷ []
+handler_code_of ds h (definition.Slots s) = []
 
 -- what all declarations of a list add, in order
 abbrev pub for_each : {A : Type 0} → (Declaration → List A) → List Declaration → List A
@@ -94,7 +116,7 @@ lowered_all ds = record {
   types = map group (type_table ds);
   imports = printer_import ∷ [];
   functions = for_each (λ d. function_type_of ds d.definition) ds ++ for_each (λ d. handler_type_of ds d.definition) ds;
-  tables = [];
+  tables = for_each (λ d. table_of d.definition) ds;
   memories = [];
   tags = for_each (λ d. tag_of ds d.definition) ds;
   globals = [];

@@ -10,18 +10,41 @@ use Rattle.s_syntax.specs.declared.script.Function.{Function}
 use Rattle.s_syntax.specs.declared.script.Clause.{Clause}
 use Rattle.s_syntax.specs.declared.script.Handler.{Handler}
 use Rattle.s_syntax.specs.declared.script.Declaration.{Declaration}
-use Rattle.s_syntax.specs.BlockTree.{BlockTree}
-use Rattle.s_check.specs.Scopes.{Bound, number, parameter, resumption, lets_in}
+use Rattle.s_syntax.specs.declared.statement.Use.{Use}
+use Rattle.s_syntax.specs.declared.statement.Use.TheVariants as use_for
+use Rattle.s_syntax.specs.BlockTree.{StatementTree, BlockTree, Evaluate, If, While, Fail, Done, ◌⨟◌}
+use Rattle.s_check.specs.Definitions.{slots_of}
+use Rattle.s_check.specs.Rules.{handler_of_slots}
+use Rattle.s_check.specs.Scopes.{Bound, number, parameter, resumption}
 use Rattle.s_index.specs.Types.{val_type}
 use Rattle.s_code.specs.Handlers.{Placed}
 use Rattle.s_code.specs.Layouts.{Layout, numbered}
 use Rattle.s_code.specs.Temporaries.{high_block}
 
--- ## Functions
+-- ## Names that lets and takes bind, each with its type
 
--- the names that a body binds, each with its type
-abbrev pub binds_in : List Declaration → BlockTree → List Bound
-binds_in ds b = map number (lets_in b)
+abbrev pub binds_by : List Declaration → Use → List Bound
+binds_by ds (use_for.Let x) = number x ∷ []
+binds_by ds (use_for.Assign x) = []
+binds_by ds use_for.Print = []
+binds_by ds use_for.Return = []
+binds_by ds use_for.Drop = []
+binds_by ds (use_for.Store s k) = []
+binds_by ds (use_for.Take k s) = resumption (handler_of_slots s (slots_of ds s)) k ∷ []
+
+-- in order, those of all blocks within
+abbrev mutual
+  pub binds_of : List Declaration → StatementTree → List Bound
+  binds_of ds (Evaluate u e) = binds_by ds u
+  binds_of ds (If c a b) = binds_in ds a ++ binds_in ds b
+  binds_of ds (While c b) = binds_in ds b
+  binds_of ds Fail = []
+
+  pub binds_in : List Declaration → BlockTree → List Bound
+  binds_in ds Done = []
+  binds_in ds (s ⨟ b) = binds_of ds s ++ binds_in ds b
+
+-- ## Functions
 
 abbrev pub function_names : List Declaration → Function → List Bound
 function_names ds f = map parameter f.parameters ++ binds_in ds f.body

@@ -11,6 +11,7 @@ use Rattle.s_syntax.specs.BlockTree.{StatementTree, BlockTree, Evaluate, If, Whi
 use Rattle.s_code.specs.Instructions.{constant, is_zero, call, local_set, unreachable, branch, branch_if, leave, dropped, if_zero}
 use Rattle.s_code.specs.Layouts.{Layout, local_number, is_own}
 use Rattle.s_code.specs.Expressions.{expr, tail_resume}
+use Rattle.s_code.specs.Slots.{store_code, take_code}
 
 -- the function that prints
 abbrev pub printer : ℕ
@@ -27,6 +28,8 @@ evaluate ds Γ D (use_for.Assign x) e c = expr ds Γ 0 e (Plain (local_set (loca
 evaluate ds Γ D use_for.Print e c = expr ds Γ 0 e (Plain (call printer) c)
 evaluate ds Γ D use_for.Return e c = return ds Γ D e c
 evaluate ds Γ D use_for.Drop e c = expr ds Γ 0 e (Plain dropped c)
+evaluate ds Γ D (use_for.Store s k) e c = expr ds Γ 0 e (store_code ds Γ s k c)
+evaluate ds Γ D (use_for.Take k s) e c = expr ds Γ 0 e (take_code ds Γ k s c)
 
 abbrev mutual
   pub statement : List Declaration → Layout → ℕ → StatementTree → Code → Code

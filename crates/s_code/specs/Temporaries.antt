@@ -1,6 +1,8 @@
 -- How many temporaries a body takes.
 use Rattle.std.specs.Prelude.{ℕ, ◌+◌, max}
 use Rattle.s_syntax.specs.ExprTree.{ExprTree, Literal, Read, Unary, Run, Call, Do, Handle, Resume, Exprs, NoExprs, MoreExprs, Operands, NoOperands, MoreOperands}
+use Rattle.s_syntax.specs.declared.statement.Use.{Use}
+use Rattle.s_syntax.specs.declared.statement.Use.TheVariants as use_for
 use Rattle.s_syntax.specs.BlockTree.{StatementTree, BlockTree, Evaluate, If, While, Fail, Done, ◌⨟◌}
 use Rattle.s_check.specs.Rules.{count}
 
@@ -28,9 +30,19 @@ abbrev mutual
   high_operands t NoOperands = t
   high_operands t (MoreOperands o e ps) = max (high t e) (high_operands t ps)
 
+-- how many temporaries the use of a value takes, which is behind those of its expression: the first ones again
+abbrev pub room_of : Use → ℕ
+room_of (use_for.Let x) = 0
+room_of (use_for.Assign x) = 0
+room_of use_for.Print = 0
+room_of use_for.Return = 0
+room_of use_for.Drop = 0
+room_of (use_for.Store s k) = 1
+room_of (use_for.Take k s) = 1
+
 abbrev mutual
   pub high_statement : StatementTree → ℕ
-  high_statement (Evaluate u e) = high 0 e
+  high_statement (Evaluate u e) = max (high 0 e) (room_of u)
   high_statement (If c a b) = max (high 0 c) (max (high_block a) (high_block b))
   high_statement (While c b) = max (high 0 c) (high_block b)
   high_statement Fail = 0

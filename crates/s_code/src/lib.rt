@@ -6,6 +6,7 @@ mod expression;
 mod handler;
 mod layout;
 mod operators;
+mod slots;
 mod statement;
 mod temporaries;
 

@@ -11,6 +11,7 @@ ghost use Rattle.s_index.specs.Limits.{number_limit};
 use crate::expression::{write_expr, write_tail_resume};
 use crate::layout::Layout;
 use crate::operators::{write_control, write_numeric, write_op, write_set, write_token};
+use crate::slots::{write_store, write_take};
 use s_index::Program;
 use s_syntax::{Block, Expr, Node, Statement, Use};
 use std::alloc::AllocError;
@@ -72,6 +73,14 @@ fn write_evaluate<'a>(
         Use::Drop => {
             write_expr(program, layout, 0, value, out)?;
             write_op(Op::Parametric(ParametricOp::Drop), out)
+        }
+        Use::Store { slots, name } => {
+            write_expr(program, layout, 0, value, out)?;
+            write_store(program, layout, slots, name, out)
+        }
+        Use::Take { name, slots } => {
+            write_expr(program, layout, 0, value, out)?;
+            write_take(program, layout, name, slots, out)
         }
     }
 }

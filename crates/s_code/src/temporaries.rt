@@ -4,10 +4,10 @@ ghost use Rattle.s_syntax.specs.BlockOf.{statement_of, block_of};
 ghost use Rattle.s_syntax.specs.ExprOf.{expr_of};
 ghost use Rattle.s_syntax.specs.ExprTree.{exprs, operands};
 ghost use Rattle.s_check.specs.Size.{expr_size, exprs_size, operands_size, statement_size, block_size};
-ghost use Rattle.s_code.specs.Temporaries.{high, high_args, high_aside, high_operands, high_statement, high_block};
+ghost use Rattle.s_code.specs.Temporaries.{high, high_args, high_aside, high_operands, room_of, high_statement, high_block};
 ghost use Rattle.s_index.specs.Limits.{number_limit};
 
-use s_syntax::{BinaryOperator, Block, Expr, Node, Statement};
+use s_syntax::{BinaryOperator, Block, Expr, Node, Statement, Use};
 
 // The first temporary that an expression doesn't use, where so many are in use.
 #[cycle(expressions)]
@@ -93,6 +93,16 @@ fn high_operands(used: u32, rest: &[(BinaryOperator, Expr)]) -> u32
     most.max(used)
 }
 
+// How many temporaries the use of a value takes.
+fn room(what: &Use) -> u32
+    ensures value { result ≡ room_of what.now }
+{
+    match what {
+        Use::Let(_) | Use::Assign(_) | Use::Print | Use::Return | Use::Drop => 0,
+        Use::Store { slots: _, name: _ } | Use::Take { name: _, slots: _ } => 1,
+    }
+}
+
 // That of a statement.
 #[cycle(statements)]
 fn high_statement(statement: &Statement) -> u32
@@ -100,7 +110,7 @@ fn high_statement(statement: &Statement) -> u32
     ensures value { result ≡ high_statement (statement_of statement.now) }
 {
     match statement {
-        Statement::Evaluate { what: _, value } => high(0, value),
+        Statement::Evaluate { what, value } => high(0, value).max(room(what)),
         Statement::If {
             condition,
             then_block,

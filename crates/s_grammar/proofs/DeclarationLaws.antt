@@ -5,7 +5,7 @@ use Rattle.s_syntax.specs.declared.token.Kind.TheVariants as kind
 use Rattle.s_syntax.specs.declared.token.Token.{Token}
 use Rattle.s_grammar.specs.Grammar.{Choice, Each}
 use Rattle.s_grammar.specs.Kinds.{is, other_than}
-use Rattle.s_grammar.specs.Parts.{parameter_of, clause_of, return_clause_of, function_of, handler_of, effect_of, script_of}
+use Rattle.s_grammar.specs.Parts.{parameter_of, clause_of, return_clause_of, function_of, handler_of, effect_of, slots_of, script_of}
 use Rattle.s_grammar.specs.Reading.{inside}
 use Rattle.s_grammar.specs.Reads.{parameter, parameters, listed, names, name, value_name, clause, return_clause, clauses, declaration_by, declarations, script}
 use Rattle.s_grammar.specs.Syntax.{ParameterOf, Parameters, Listed, Names, NAME, ValueName, ClauseOf, ReturnClauseOf, Clauses, DeclarationBy, ScriptOf}
@@ -83,6 +83,16 @@ module _ (bytes : List ℕ) where
       (in_turn_of (omega arith) (deeper_laws 2 (omega arith) (name_laws bytes n))
       (in_turn_of (omega arith) (deeper_laws 2 (omega arith) (parameters_laws n))
       (between_laws n 1 false (is kind.Return) (other_than (is kind.On)) kind.OpenBrace kind.CloseBrace braces (omega arith) (Clauses bytes) (inside (clauses bytes) n) (inside_of (clauses bytes) clauses_laws n) refl) refl) refl)))
+  declaration_laws_by n kind.Slots =
+      wider_of begins_declaration any_kind refl refl
+      (image_of slots_of
+      (deeper_laws 2 (omega arith)
+      (led_laws kind.Slots (omega arith) refl refl refl
+      (in_turn_of (omega arith) (name_laws bytes n)
+      (led_laws kind.Colon (omega arith) refl refl refl
+      (led_laws kind.Res (omega arith) refl refl refl
+      (in_turn_of (omega arith) (name_laws bytes n)
+      (led_laws kind.OpenBracket (omega arith) refl refl refl (ended_laws kind.Semicolon (omega arith) refl refl refl (ended_laws kind.CloseBracket (omega arith) refl refl refl (int_laws bytes n)))) refl))) refl))))
   declaration_laws_by n k =
       wider_of begins_declaration any_kind refl refl
       (image_of effect_of

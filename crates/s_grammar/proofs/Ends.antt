@@ -10,11 +10,11 @@ begins_expr = either (is kind.Name) (either (is kind.Int) (either (is kind.Minus
 
 -- what may begin a statement
 abbrev pub begins_statement : Kinds
-begins_statement = either begins_expr (either (is kind.Let) (either (is kind.If) (either (is kind.While) (either (is kind.Print) (either (is kind.Return) (is kind.Fail))))))
+begins_statement = either begins_expr (either (is kind.Let) (either (is kind.If) (either (is kind.While) (either (is kind.Print) (either (is kind.Return) (either (is kind.Fail) (either (is kind.Store) (is kind.Take))))))))
 
 -- what may begin a declaration
 abbrev pub begins_declaration : Kinds
-begins_declaration = either (is kind.Effect) (either (is kind.Fn) (is kind.Handler))
+begins_declaration = either (is kind.Effect) (either (is kind.Fn) (either (is kind.Handler) (is kind.Slots)))
 
 -- what ends an operand of each level
 abbrev pub ends_primary : Kinds

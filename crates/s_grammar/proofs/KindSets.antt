@@ -27,8 +27,8 @@ holds_of t (k ∷ ks) = t k && holds_of t ks
 abbrev pub kinds : List Kind
 kinds =
     kind.Name ∷ kind.Int ∷ kind.Effect ∷ kind.Fn ∷ kind.Handler ∷ kind.Return ∷ kind.On ∷ kind.Let ∷ kind.If ∷ kind.Else ∷ kind.While ∷ kind.Print ∷ kind.Fail
-    ∷ kind.Do ∷ kind.Handle ∷ kind.With ∷ kind.Resume ∷ kind.Res ∷ kind.Equal ∷ kind.NotEqual ∷ kind.AtMost ∷ kind.AtLeast ∷ kind.And ∷ kind.Or
-    ∷ kind.OpenParenthesis ∷ kind.CloseParenthesis ∷ kind.OpenBrace ∷ kind.CloseBrace ∷ kind.Comma ∷ kind.Semicolon ∷ kind.Colon ∷ kind.Slash ∷ kind.Assign
+    ∷ kind.Do ∷ kind.Handle ∷ kind.With ∷ kind.Resume ∷ kind.Res ∷ kind.Slots ∷ kind.Store ∷ kind.Take ∷ kind.Equal ∷ kind.NotEqual ∷ kind.AtMost ∷ kind.AtLeast ∷ kind.And ∷ kind.Or
+    ∷ kind.OpenParenthesis ∷ kind.CloseParenthesis ∷ kind.OpenBrace ∷ kind.CloseBrace ∷ kind.OpenBracket ∷ kind.CloseBracket ∷ kind.Comma ∷ kind.Semicolon ∷ kind.Colon ∷ kind.Slash ∷ kind.Assign
     ∷ kind.Plus ∷ kind.Minus ∷ kind.Star ∷ kind.Percent ∷ kind.Less ∷ kind.Greater ∷ kind.Not ∷ []
 
 -- each kind of a is one of b
@@ -107,6 +107,9 @@ nth_code kind.Handle = refl
 nth_code kind.With = refl
 nth_code kind.Resume = refl
 nth_code kind.Res = refl
+nth_code kind.Slots = refl
+nth_code kind.Store = refl
+nth_code kind.Take = refl
 nth_code kind.Equal = refl
 nth_code kind.NotEqual = refl
 nth_code kind.AtMost = refl
@@ -117,6 +120,8 @@ nth_code kind.OpenParenthesis = refl
 nth_code kind.CloseParenthesis = refl
 nth_code kind.OpenBrace = refl
 nth_code kind.CloseBrace = refl
+nth_code kind.OpenBracket = refl
+nth_code kind.CloseBracket = refl
 nth_code kind.Comma = refl
 nth_code kind.Semicolon = refl
 nth_code kind.Colon = refl

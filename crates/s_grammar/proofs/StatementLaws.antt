@@ -7,15 +7,15 @@ use Rattle.s_syntax.specs.declared.token.Kind.TheVariants as kind
 use Rattle.s_syntax.specs.declared.token.Token.{Token}
 use Rattle.s_grammar.specs.Grammar.{Grammar, Choice, Between, Inside}
 use Rattle.s_grammar.specs.Kinds.{kind_of, is, other_than}
-use Rattle.s_grammar.specs.Parts.{let_of, if_of, while_of, block_tree}
+use Rattle.s_grammar.specs.Parts.{let_of, store_of, take_of, if_of, while_of, block_tree}
 use Rattle.s_grammar.specs.Reading.{Reading, choice}
-use Rattle.s_grammar.specs.Reads.{expr, ended, statement_by, statements_by, in_braces, block}
-use Rattle.s_grammar.specs.Syntax.{StatementBy, Expr, ClosedBy, StatementsOf, Block}
+use Rattle.s_grammar.specs.Reads.{expr, ended, name, statement_by, statements_by, in_braces, block}
+use Rattle.s_grammar.specs.Syntax.{StatementBy, Expr, ClosedBy, NAME, StatementsOf, Block}
 use Rattle.s_grammar.proofs.Choices.{choice_laws}
 use Rattle.s_grammar.proofs.Enclosures.{InsideLaws, between_laws}
 use Rattle.s_grammar.proofs.Ends.{begins_expr, ends_expr, begins_statement, ends_statement}
 use Rattle.s_grammar.proofs.ExprLaws.{expr_laws, name_laws}
-use Rattle.s_grammar.proofs.ForParts.{wider_of, image_of, led_laws, in_turn_of, maybe_of, key_laws, many_of, braces}
+use Rattle.s_grammar.proofs.ForParts.{wider_of, image_of, led_laws, in_turn_of, maybe_of, key_laws, many_of, braces, ended_laws}
 use Rattle.s_grammar.proofs.Images.{deeper_laws, laws_as, fewer_laws}
 use Rattle.s_grammar.proofs.KindSets.{any_kind}
 use Rattle.s_grammar.proofs.ReadingLaws.{Begins, Laws}
@@ -66,10 +66,18 @@ module _ (bytes : List ℕ) where
     ended_one : Laws n 1 false begins_expr any_kind (λ m. ClosedBy (Expr bytes m) kind.Semicolon) (ended (expr bytes n) kind.Semicolon)
     ended_one = deeper_laws 1 (omega arith) (end_laws bytes n)
 
+    -- an expression and a bracket, where one may be
+    bracketed_one : Laws n 1 false begins_expr any_kind (λ m. ClosedBy (Expr bytes m) kind.CloseBracket) (ended (expr bytes n) kind.CloseBracket)
+    bracketed_one = ended_laws kind.CloseBracket (omega arith) refl refl refl expr_one
+
+    -- a name, where one bracket may be open
+    name_one : Laws n 1 false (is kind.Name) any_kind (λ m. NAME bytes) (name bytes)
+    name_one = deeper_laws 1 (omega arith) (name_laws bytes n)
+
     -- statements by their first token
     picked_laws : (k : Kind) → Laws n 1 false begins_statement ends_statement (PickedBy B k) (statement_by bytes (expr bytes n) b k)
     unfolding PickedBy StatementBy statement_by named
-    picked_laws kind.Let = wider_of begins_statement ends_statement refl refl (image_of let_of (led_laws kind.Let (omega arith) refl refl refl (in_turn_of (omega arith) (deeper_laws 1 (omega arith) (name_laws bytes n)) (led_laws kind.Assign (omega arith) refl refl refl ended_one) refl)))
+    picked_laws kind.Let = wider_of begins_statement ends_statement refl refl (image_of let_of (led_laws kind.Let (omega arith) refl refl refl (in_turn_of (omega arith) name_one (led_laws kind.Assign (omega arith) refl refl refl ended_one) refl)))
     picked_laws kind.If =
         wider_of begins_statement ends_statement refl refl
         (image_of if_of
@@ -79,6 +87,20 @@ module _ (bytes : List ℕ) where
     picked_laws kind.Print = wider_of begins_statement ends_statement refl refl (image_of (λ t. Evaluate use_for.Print t) (led_laws kind.Print (omega arith) refl refl refl ended_one))
     picked_laws kind.Return = wider_of begins_statement ends_statement refl refl (image_of (λ t. Evaluate use_for.Return t) (led_laws kind.Return (omega arith) refl refl refl ended_one))
     picked_laws kind.Fail = wider_of begins_statement ends_statement refl refl (image_of (λ _. Fail) (led_laws kind.Fail (omega arith) refl refl refl (deeper_laws 1 (omega arith) (key_laws n kind.Semicolon refl refl))))
+    picked_laws kind.Store =
+        wider_of begins_statement ends_statement refl refl
+        (image_of store_of
+        (led_laws kind.Store (omega arith) refl refl refl
+        (in_turn_of (omega arith) name_one
+        (led_laws kind.OpenBracket (omega arith) refl refl refl
+        (in_turn_of (omega arith) bracketed_one (led_laws kind.Assign (omega arith) refl refl refl (ended_laws kind.Semicolon (omega arith) refl refl refl name_one)) refl)) refl)))
+    picked_laws kind.Take =
+        wider_of begins_statement ends_statement refl refl
+        (image_of take_of
+        (led_laws kind.Take (omega arith) refl refl refl
+        (in_turn_of (omega arith) name_one
+        (led_laws kind.Assign (omega arith) refl refl refl
+        (in_turn_of (omega arith) name_one (led_laws kind.OpenBracket (omega arith) refl refl refl (ended_laws kind.Semicolon (omega arith) refl refl refl bracketed_one)) refl)) refl)))
     picked_laws kind.Name = wider_of begins_statement ends_statement refl refl (deeper_laws 1 (omega arith) (name_of_laws bytes n))
     picked_laws k = wider_of begins_statement ends_statement refl refl (deeper_laws 1 (omega arith) (semicolon_laws bytes n))
 

@@ -8,7 +8,7 @@ use Rattle.s_syntax.specs.declared.token.Kind.{Kind}
 use Rattle.s_syntax.specs.declared.token.Kind.TheVariants as kind
 use Rattle.s_grammar.specs.Kinds.{Kinds, other_than, is, kind_of}
 use Rattle.s_grammar.specs.Operators.{operator_of, or_operators, and_operators, comparisons, sum_operators, product_operators}
-use Rattle.s_grammar.specs.Parts.{latter, former, or_nothing, run_of, once_of, read_or_call, do_of, handle_of, resume_of, let_of, if_of, while_of, assign_of, block_tree, clause_of, return_clause_of, function_of, handler_of, effect_of, script_of}
+use Rattle.s_grammar.specs.Parts.{latter, former, or_nothing, run_of, once_of, read_or_call, do_of, handle_of, resume_of, let_of, if_of, while_of, assign_of, store_of, take_of, block_tree, clause_of, return_clause_of, function_of, handler_of, effect_of, slots_of, script_of}
 use Rattle.s_grammar.specs.Reading.{Reading, image, in_turn, maybe, many, cons, one, Refused, Wrong, inside}
 use Rattle.s_grammar.specs.Reads.{led, key, ended, listed, run, once, ahead, primary_by, name, int, unary_by, expr_by, ands, compares, sums, products, in_parentheses, expr, statement_by, assigned, evaluated, statements_by, block, parameters, parameter, names, clause, value_name, return_clause, clauses, declaration_by, script, declarations}
 use Rattle.s_grammar.proofs.Agreement.{agree_image, agree_in_turn, agree_maybe, agree_many, agree_same, agree_cond, AgreeInside, agree_choice, agree_between}
@@ -111,6 +111,14 @@ module _ (bytes : List ℕ) where
   statement_agree e e' b b' h i kind.Print = image_agrees (λ t. Evaluate use_for.Print t) (led_agrees kind.Print (ended_agrees kind.Semicolon h))
   statement_agree e e' b b' h i kind.Return = image_agrees (λ t. Evaluate use_for.Return t) (led_agrees kind.Return (ended_agrees kind.Semicolon h))
   statement_agree e e' b b' h i kind.Fail = agree_same (image (λ _. Fail) (led kind.Fail (key kind.Semicolon)))
+  statement_agree e e' b b' h i kind.Store =
+      image_agrees store_of
+      (led_agrees kind.Store
+      (in_turn_agrees (agree_same (name bytes)) (led_agrees kind.OpenBracket (in_turn_agrees (ended_agrees kind.CloseBracket h) (agree_same (led kind.Assign (ended (name bytes) kind.Semicolon)))))))
+  statement_agree e e' b b' h i kind.Take =
+      image_agrees take_of
+      (led_agrees kind.Take
+      (in_turn_agrees (agree_same (name bytes)) (led_agrees kind.Assign (in_turn_agrees (agree_same (name bytes)) (led_agrees kind.OpenBracket (ended_agrees kind.Semicolon (ended_agrees kind.CloseBracket h)))))))
   statement_agree e e' b b' h i kind.Name = ahead_agree kind.Name kind.Assign (image_agrees assign_of (in_turn_agrees (agree_same (name bytes)) (led_agrees kind.Assign (ended_agrees kind.Semicolon h)))) (image_agrees (λ t. Evaluate use_for.Drop t) (ended_agrees kind.Semicolon h))
   statement_agree e e' b b' h i k = image_agrees (λ t. Evaluate use_for.Drop t) (ended_agrees kind.Semicolon h)
 
@@ -164,6 +172,7 @@ module _ (bytes : List ℕ) where
   declaration_agree n m l kind.Handler =
       image_agrees handler_of
       (led_agrees kind.Handler (in_turn_agrees (agree_same (name bytes)) (in_turn_agrees (parameters_agree n m l) (agree_between kind.OpenBrace kind.CloseBrace (inside (clauses bytes) n) (inside (clauses bytes) m) (inside_agree (clauses bytes) clauses_agree n m l)))))
+  declaration_agree n m l kind.Slots = agree_same (image slots_of (led kind.Slots (in_turn (name bytes) (led kind.Colon (led kind.Res (in_turn (name bytes) (led kind.OpenBracket (ended (ended (int bytes) kind.CloseBracket) kind.Semicolon))))))))
   declaration_agree n m l k = agree_same (image effect_of (led kind.Effect (in_turn (name bytes) (led kind.Slash (ended (int bytes) kind.Semicolon)))))
 
   -- scripts

@@ -71,6 +71,13 @@ let_of p = Evaluate (use_for.Let p.0) p.1
 abbrev pub assign_of : Name × ExprTree → StatementTree
 assign_of p = Evaluate (use_for.Assign p.0) p.1
 
+-- a resumption of this name is stored, or taken
+abbrev pub store_of : Name × (ExprTree × Name) → StatementTree
+store_of p = Evaluate (use_for.Store p.0 p.1.1) p.1.0
+
+abbrev pub take_of : Name × (Name × ExprTree) → StatementTree
+take_of p = Evaluate (use_for.Take p.0 p.1.0) p.1.1
+
 -- without `else` no statements stand there
 abbrev pub if_of : ExprTree × (BlockTree × Option BlockTree) → StatementTree
 if_of (c, (a, None)) = If c a Done
@@ -107,6 +114,9 @@ function_of p = record { name = p.0; definition = definition.Function (record { 
 
 abbrev pub handler_of : Name × (List Parameter × (ReturnClause × List Clause)) → Declaration
 handler_of p = record { name = p.0; definition = definition.Handler (record { parameters = p.1.0; return_clause = p.1.1.0; clauses = p.1.1.1 }) }
+
+abbrev pub slots_of : Name × (Name × Number) → Declaration
+slots_of p = record { name = p.0; definition = definition.Slots (record { handler = p.1.0; places = p.1.1 }) }
 
 abbrev pub script_of : List Declaration → Script
 script_of ds = record { declarations = ds }

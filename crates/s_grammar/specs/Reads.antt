@@ -18,7 +18,7 @@ use Rattle.s_grammar.specs.Kinds.{Kinds, kind_of, is, other_than}
 use Rattle.s_grammar.specs.Reading.{Reading, Refused, Wrong, one, in_turn, image, maybe, cons, many, choice, between, inside}
 use Rattle.s_grammar.specs.Texts.{name_of, number_of}
 use Rattle.s_grammar.specs.Operators.{or_operators, and_operators, comparisons, sum_operators, product_operators, operator_of}
-use Rattle.s_grammar.specs.Parts.{itself, former, latter, or_nothing, run_of, once_of, read_or_call, do_of, handle_of, resume_of, let_of, assign_of, if_of, while_of, block_tree, parameter_of, clause_of, return_clause_of, effect_of, function_of, handler_of, script_of}
+use Rattle.s_grammar.specs.Parts.{itself, former, latter, or_nothing, run_of, once_of, read_or_call, do_of, handle_of, resume_of, let_of, assign_of, store_of, take_of, if_of, while_of, block_tree, parameter_of, clause_of, return_clause_of, effect_of, function_of, handler_of, slots_of, script_of}
 
 -- ## Parts of productions
 
@@ -108,6 +108,8 @@ module _ (bytes : List ℕ) where
   statement_by e b kind.Print = image (λ t. Evaluate use_for.Print t) (led kind.Print (ended e kind.Semicolon))
   statement_by e b kind.Return = image (λ t. Evaluate use_for.Return t) (led kind.Return (ended e kind.Semicolon))
   statement_by e b kind.Fail = image (λ _. Fail) (led kind.Fail (key kind.Semicolon))
+  statement_by e b kind.Store = image store_of (led kind.Store (in_turn name (led kind.OpenBracket (in_turn (ended e kind.CloseBracket) (led kind.Assign (ended name kind.Semicolon))))))
+  statement_by e b kind.Take = image take_of (led kind.Take (in_turn name (led kind.Assign (in_turn name (led kind.OpenBracket (ended (ended e kind.CloseBracket) kind.Semicolon))))))
   statement_by e b kind.Name = ahead kind.Name kind.Assign (assigned e) (evaluated e)
   statement_by e b k = evaluated e
 
@@ -144,6 +146,7 @@ module _ (bytes : List ℕ) where
   unfoldable pub declaration_by : ℕ → Kind → Reading Declaration
   declaration_by n kind.Fn = image function_of (led kind.Fn (in_turn name (in_turn (parameters n) (block n))))
   declaration_by n kind.Handler = image handler_of (led kind.Handler (in_turn name (in_turn (parameters n) (in_braces (inside clauses n)))))
+  declaration_by n kind.Slots = image slots_of (led kind.Slots (in_turn name (led kind.Colon (led kind.Res (in_turn name (led kind.OpenBracket (ended (ended int kind.CloseBracket) kind.Semicolon)))))))
   declaration_by n k = image effect_of (led kind.Effect (in_turn name (led kind.Slash (ended int kind.Semicolon))))
 
   unfoldable pub declarations : ℕ → Reading (List Declaration)

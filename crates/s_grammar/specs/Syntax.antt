@@ -18,7 +18,7 @@ use Rattle.s_grammar.specs.Kinds.{Kinds, is}
 use Rattle.s_grammar.specs.Grammar.{Grammar, One, InTurn, Image, Each, Maybe, Choice, Between, Never, Inside}
 use Rattle.s_grammar.specs.Texts.{name_of, number_of}
 use Rattle.s_grammar.specs.Operators.{or_operators, and_operators, comparisons, sum_operators, product_operators, operator_of}
-use Rattle.s_grammar.specs.Parts.{itself, former, latter, or_nothing, run_of, once_of, read_or_call, do_of, handle_of, resume_of, let_of, assign_of, if_of, while_of, block_tree, parameter_of, clause_of, return_clause_of, effect_of, function_of, handler_of, script_of}
+use Rattle.s_grammar.specs.Parts.{itself, former, latter, or_nothing, run_of, once_of, read_or_call, do_of, handle_of, resume_of, let_of, assign_of, store_of, take_of, if_of, while_of, block_tree, parameter_of, clause_of, return_clause_of, effect_of, function_of, handler_of, slots_of, script_of}
 use Rattle.s_grammar.specs.Reading.{cons}
 
 -- ## Parts of productions
@@ -99,7 +99,8 @@ module _ (bytes : List ℕ) where
   abbrev pub AssignOf : Grammar ExprTree → Grammar StatementTree
   AssignOf e = Image assign_of (InTurn NAME (Led kind.Assign (ClosedBy e kind.Semicolon)))
 
-  -- 'let' NAME '=' e ';' | 'if' e b ('else' b)? | 'while' e b | 'print' e ';' | 'return' e ';' | 'fail' ';' | NAME '=' e ';' | e ';'
+  -- 'let' NAME '=' e ';' | 'if' e b ('else' b)? | 'while' e b | 'print' e ';' | 'return' e ';' | 'fail' ';'
+  -- | 'store' NAME '[' e ']' '=' NAME ';' | 'take' NAME '=' NAME '[' e ']' ';' | NAME '=' e ';' | e ';'
   unfoldable pub StatementBy : Grammar ExprTree → Grammar BlockTree → Kind → Grammar StatementTree
   StatementBy e b kind.Let = Image let_of (Led kind.Let (InTurn NAME (Led kind.Assign (ClosedBy e kind.Semicolon))))
   StatementBy e b kind.If = Image if_of (Led kind.If (InTurn e (InTurn b (Maybe (Led kind.Else b)))))
@@ -107,6 +108,8 @@ module _ (bytes : List ℕ) where
   StatementBy e b kind.Print = Image (λ t. Evaluate use_for.Print t) (Led kind.Print (ClosedBy e kind.Semicolon))
   StatementBy e b kind.Return = Image (λ t. Evaluate use_for.Return t) (Led kind.Return (ClosedBy e kind.Semicolon))
   StatementBy e b kind.Fail = Image (λ _. Fail) (Led kind.Fail (Key kind.Semicolon))
+  StatementBy e b kind.Store = Image store_of (Led kind.Store (InTurn NAME (Led kind.OpenBracket (InTurn (ClosedBy e kind.CloseBracket) (Led kind.Assign (ClosedBy NAME kind.Semicolon))))))
+  StatementBy e b kind.Take = Image take_of (Led kind.Take (InTurn NAME (Led kind.Assign (InTurn NAME (Led kind.OpenBracket (ClosedBy (ClosedBy e kind.CloseBracket) kind.Semicolon))))))
   StatementBy e b kind.Name = λ ts s. AssignOf e ts s ⊎ EvaluateOf e ts s
   StatementBy e b k = EvaluateOf e
 
@@ -148,9 +151,11 @@ module _ (bytes : List ℕ) where
   Clauses m = InTurn (ReturnClauseOf m) (Each (ClauseOf m))
 
   -- 'effect' NAME '/' INT ';' | 'fn' NAME parameters block | 'handler' NAME parameters '{' return_clause clause* '}'
+  -- | 'slots' NAME ':' 'res' NAME '[' INT ']' ';'
   unfoldable pub DeclarationBy : ℕ → Kind → Grammar Declaration
   DeclarationBy m kind.Fn = Image function_of (Led kind.Fn (InTurn NAME (InTurn (Parameters m) (Block m))))
   DeclarationBy m kind.Handler = Image handler_of (Led kind.Handler (InTurn NAME (InTurn (Parameters m) (InBraces (Inside Clauses m)))))
+  DeclarationBy m kind.Slots = Image slots_of (Led kind.Slots (InTurn NAME (Led kind.Colon (Led kind.Res (InTurn NAME (Led kind.OpenBracket (ClosedBy (ClosedBy INT kind.CloseBracket) kind.Semicolon)))))))
   DeclarationBy m k = Image effect_of (Led kind.Effect (InTurn NAME (Led kind.Slash (ClosedBy INT kind.Semicolon))))
 
   -- declaration*

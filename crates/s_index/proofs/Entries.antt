@@ -13,9 +13,10 @@ use Rattle.s_syntax.specs.declared.name.Name.{Name}
 use Rattle.s_syntax.specs.declared.script.Definition.{Definition}
 use Rattle.s_syntax.specs.declared.script.Definition.TheVariants as definition
 use Rattle.s_syntax.specs.declared.script.Declaration.{Declaration}
+use Rattle.s_check.specs.Definitions.{definition_of, as_slots, slots_of}
 use Rattle.s_index.specs.declared.counts.Counts.{Counts}
 use Rattle.s_index.specs.declared.declarations.Numbered.{Numbered}
-use Rattle.s_index.specs.Numbers.{Entry, no_counts, counted, number_behind, entry_behind, entry_of}
+use Rattle.s_index.specs.Numbers.{Entry, no_counts, counted, number_behind, entry_behind, entry_of, slots_in}
 use Rattle.s_index.specs.Views.{entry_in, entry_at, found, or_else, entry_named}
 use Rattle.s_index.proofs.CountedDeclarations.{total, one_more}
 use Rattle.s_check.specs.Size.{size_limit}
@@ -24,12 +25,31 @@ pub or_none : {A : Type 0} (o : Option A) → or_else o None ≡ o
 or_none None = refl
 or_none (Some a) = refl
 
+-- the entry of a name is of its definition
+pub entry_defines : (n : Counts) (ds : List Declaration) (x : Name) → option_map (λ (e : Entry). e.definition) (entry_behind n ds x) ≡ definition_of ds x
+entry_defines n [] x = refl
+entry_defines n (d ∷ ds) x = by (bytes_eq d.name x) (entry_defines (counted n d.definition) ds x)
+  where
+    by : (b : Bool) → option_map (λ (e : Entry). e.definition) (entry_behind (counted n d.definition) ds x) ≡ definition_of ds x
+        → option_map (λ (e : Entry). e.definition) (cond b (Some (record { definition = d.definition; number = number_behind n d.definition })) (entry_behind (counted n d.definition) ds x)) ≡ cond b (Some d.definition) (definition_of ds x)
+    by true rest = refl
+    by false rest = rest
+
+-- so it tells which slots the name has
+pub slots_entered : (ds : List Declaration) (x : Name) → slots_in (entry_of ds x) ≡ slots_of ds x
+slots_entered ds x = by (entry_of ds x) ∙ ap as_slots (entry_defines no_counts ds x)
+  where
+    by : (o : Option Entry) → slots_in o ≡ as_slots (option_map (λ (e : Entry). e.definition) o)
+    by None = refl
+    by (Some e) = refl
+
 -- ## Numbers are small
 
 number_within : (n : Counts) (d : Definition) → number_behind n d ≤ total n
 number_within n (definition.Effect k) = omega arith
 number_within n (definition.Function f) = omega arith
 number_within n (definition.Handler h) = omega arith
+number_within n (definition.Slots s) = omega arith
 
 entry_within : (n : Counts) (ds : List Declaration) (x : Name) (e : Entry) → entry_behind n ds x ≡ Some e → e.number ≤ total n + length ds
 entry_within n [] x e is = absurd (cc)

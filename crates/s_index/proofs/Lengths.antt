@@ -47,6 +47,7 @@ sized : (d : Definition) → 1 ≤ definition_size d
 sized (definition.Effect n) = omega arith
 sized (definition.Function f) = omega arith
 sized (definition.Handler h) = omega arith
+sized (definition.Slots s) = omega arith
 
 pub few_declarations : (ds : List Declaration) → length ds ≤ sum_by (λ (d : Declaration). definition_size d.definition) ds
 few_declarations [] = omega arith
@@ -61,6 +62,7 @@ few_for : (d : Definition) → length (types_for d) ≤ definition_size d
 few_for (definition.Effect n) = omega arith
 few_for (definition.Function f) = omega arith
 few_for (definition.Handler h) = let q = few_clauses h.clauses in omega (arith, q)
+few_for (definition.Slots s) = omega arith
 
 few_types : (ds : List Declaration) → length (types_for_all ds) ≤ sum_by (λ (d : Declaration). definition_size d.definition) ds
 few_types [] = omega arith

@@ -48,6 +48,7 @@ abbrev pub handled_in_definition : Definition → List Name
 handled_in_definition (definition.Effect n) = []
 handled_in_definition (definition.Function f) = handled_in_block f.body
 handled_in_definition (definition.Handler h) = handled_in_block h.return_clause.body ++ handled_in_clauses h.clauses
+handled_in_definition (definition.Slots s) = []
 
 abbrev pub handled_names : List Declaration → List Name
 handled_names [] = []
@@ -57,6 +58,7 @@ abbrev pub is_function_among : List Name → Declaration → Definition → Bool
 is_function_among names d (definition.Effect n) = false
 is_function_among names d (definition.Function f) = is_among names d.name
 is_function_among names d (definition.Handler h) = false
+is_function_among names d (definition.Slots s) = false
 
 -- the functions that some handle names, in order of declaration
 abbrev pub handled : List Declaration → List Declaration

@@ -99,6 +99,7 @@ abbrev pub types_for : Definition → List CompType
 types_for (definition.Effect n) = effect_type n.value ∷ []
 types_for (definition.Function f) = function_type f.parameters ∷ []
 types_for (definition.Handler h) = handler_type h.parameters ∷ clause_types h.clauses
+types_for (definition.Slots s) = []
 
 abbrev pub types_for_all : List Declaration → List CompType
 types_for_all [] = []

@@ -8,6 +8,7 @@ use Rattle.std.specs.Cmp.Lexicographic.{slice_cmp}
 use Rattle.std.specs.Str.{bytes_eq}
 use Rattle.std.specs.Ordering.{nat_cmp}
 use Rattle.s_syntax.specs.declared.name.Name.{Name}
+use Rattle.s_syntax.specs.declared.script.Slots.{Slots}
 use Rattle.s_syntax.specs.declared.script.Declaration.{Declaration}
 use Rattle.s_index.specs.declared.declarations.Numbered.{Numbered}
 use Rattle.s_index.specs.Numbers.{Entry, entry_of}
@@ -20,6 +21,10 @@ entry_at o = option_map entry_in o
 
 abbrev pub found : BTreeMap (Bor (List ℕ)) Numbered → Name → Option Entry
 found m x = entry_at (tree.get_by (λ (k : Bor (List ℕ)). slice_cmp nat_cmp x k.now) m)
+
+-- slots that may be there
+abbrev pub slots_at : Option (Bor Slots) → Option Slots
+slots_at o = option_map (λ (s : Bor Slots). s.now) o
 
 -- the first of two that is there
 abbrev pub or_else : {A : Type 0} → Option A → Option A → Option A

@@ -11,6 +11,7 @@ pub struct Counts {
     pub effects: u32,
     pub functions: u32,
     pub handlers: u32,
+    pub slots: u32,
 }
 
 impl Counts {
@@ -22,12 +23,13 @@ impl Counts {
             effects: 0,
             functions: 0,
             handlers: 0,
+            slots: 0,
         }
     }
 
     /// One more, of the kind of this definition.
     pub(crate) fn counted(self, definition: &Definition) -> Counts
-        requires { self.effects + self.functions + self.handlers < number_limit }
+        requires { self.effects + self.functions + self.handlers + self.slots < number_limit }
         ensures value { result ≡ counted self definition.now }
     {
         match definition {
@@ -35,16 +37,25 @@ impl Counts {
                 effects: self.effects + 1,
                 functions: self.functions,
                 handlers: self.handlers,
+                slots: self.slots,
             },
             Definition::Function(_) => Counts {
                 effects: self.effects,
                 functions: self.functions + 1,
                 handlers: self.handlers,
+                slots: self.slots,
             },
             Definition::Handler(_) => Counts {
                 effects: self.effects,
                 functions: self.functions,
                 handlers: self.handlers + 1,
+                slots: self.slots,
+            },
+            Definition::Slots(_) => Counts {
+                effects: self.effects,
+                functions: self.functions,
+                handlers: self.handlers,
+                slots: self.slots + 1,
             },
         }
     }
@@ -57,6 +68,7 @@ impl Counts {
             Definition::Effect(_) => self.effects,
             Definition::Function(_) => self.functions,
             Definition::Handler(_) => self.handlers,
+            Definition::Slots(_) => self.slots,
         }
     }
 }

@@ -6,7 +6,7 @@ ghost use Rattle.s_index.specs.Views.{FindsEntries, found, or_else, entry_named}
 ghost use Rattle.s_check.specs.Size.{size_limit};
 
 use crate::counts::Counts;
-use s_syntax::{Declaration, Definition, Name, Parameter};
+use s_syntax::{Declaration, Definition, Name, Parameter, Slots};
 use std::alloc::{AllocError, Global};
 use std::collections::BTreeMap;
 use std::marker::Model;
@@ -85,9 +85,9 @@ fn number_all<'a>(alloc: Global, all: &'a [Declaration]) -> Result<Numbering<'a>
 
 impl<'a> NumberedDeclarations<'a> {
     ghost use Rattle.std.specs.Prelude.{◌≡◌, ◌≤◌, IfOk, IfSome, length};
-    ghost use Rattle.s_index.specs.Numbers.{counts_of, entry_of, function_index, handler_index, tag_index, first_handler};
+    ghost use Rattle.s_index.specs.Numbers.{counts_of, entry_of, slots_in, function_index, handler_index, tag_index, table_index, first_handler};
     ghost use Rattle.s_index.specs.Indices.{parameters_of};
-    ghost use Rattle.s_index.specs.Views.{entry_at};
+    ghost use Rattle.s_index.specs.Views.{entry_at, slots_at};
     ghost use Rattle.s_check.specs.Size.{size_limit};
 
     /// Those of a script. It fails only for want of memory.
@@ -167,6 +167,36 @@ impl<'a> NumberedDeclarations<'a> {
                 },
             ) => number,
             _ => 0,
+        }
+    }
+
+    /// The index of the table of slots in the module.
+    pub fn table_index(&self, name: &'a Name) -> u32
+        ensures value { result ≡ table_index self.now name.now }
+    {
+        match self.find(name) {
+            Some(
+                Numbered {
+                    definition: Definition::Slots(_),
+                    number,
+                },
+            ) => number,
+            _ => 0,
+        }
+    }
+
+    /// The slots of a name, where it is that of some.
+    pub fn slots(&self, name: &'a Name) -> Option<&'a Slots>
+        ensures value { slots_at result ≡ slots_in (entry_of self.now name.now) }
+    {
+        match self.find(name) {
+            Some(
+                Numbered {
+                    definition: Definition::Slots(slots),
+                    number: _,
+                },
+            ) => Some(slots),
+            _ => None,
         }
     }
 

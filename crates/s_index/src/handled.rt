@@ -141,7 +141,7 @@ fn push_in_definition<'a>(
     ensures value { OnOk result (names_of names.new.items ≡ names_of names.old.items ++ handled_in_definition definition.now) }
 {
     match definition {
-        Definition::Effect(_) => Ok(()),
+        Definition::Effect(_) | Definition::Slots(_) => Ok(()),
         Definition::Function(function) => push_in_block(&function.body, names),
         Definition::Handler(handler) => {
             push_in_block(&handler.return_clause.body, names)?;

@@ -12,7 +12,7 @@ use crate::declarations::NumberedDeclarations;
 use crate::handled::handled_names;
 use crate::table::{add_type, first_types, place};
 use crate::types::{clause_type, effect_type, function_type, handler_type};
-use s_syntax::{Clause, Declaration, Definition, Name, Parameter};
+use s_syntax::{Clause, Declaration, Definition, Name, Parameter, Slots};
 use std::alloc::{AllocError, Global};
 use std::collections::BTreeSet;
 use std::marker::Model;
@@ -89,6 +89,7 @@ fn add_types_for(
             add_type(types, handler_type(alloc, handler.parameters.as_slice())?)?;
             add_clause_types(alloc, handler.clauses.as_slice(), types)
         }
+        Definition::Slots(_) => Ok(()),
     }
 }
 
@@ -109,7 +110,7 @@ fn is_function_among<'a>(names: &BTreeSet<&'a [u8]>, declaration: &'a Declaratio
 {
     match &declaration.definition {
         Definition::Function(_) => names.contains(&declaration.name.as_bytes()),
-        Definition::Effect(_) | Definition::Handler(_) => false,
+        Definition::Effect(_) | Definition::Handler(_) | Definition::Slots(_) => false,
     }
 }
 
@@ -162,9 +163,11 @@ impl<'a> Program<'a> {
     ghost use Rattle.std.specs.Prelude.{◌≡◌, ◌≤◌, IfOk, sum_by};
     ghost use Rattle.s_syntax.specs.declared.script.Declaration.{Declaration as TheDeclaration};
     ghost use Rattle.s_check.specs.Size.{definition_size, size_limit};
-    ghost use Rattle.s_index.specs.Numbers.{function_index, handler_index, tag_index};
+    ghost use Rattle.s_check.specs.Definitions.{slots_of};
+    ghost use Rattle.s_index.specs.Numbers.{function_index, handler_index, tag_index, table_index};
     ghost use Rattle.s_index.specs.Handled.{handled_names, is_function_among};
     ghost use Rattle.s_index.specs.Indices.{type_table, type_index, clause_type_index, continuation_index};
+    ghost use Rattle.s_index.specs.Views.{slots_at};
 
     /// Those of a script whose size is within the limit. It fails only for want of memory.
     pub fn new(alloc: Global, all: &'a [Declaration]) -> Result<Program<'a>, AllocError>
@@ -261,5 +264,20 @@ impl<'a> Program<'a> {
         ensures value { result ≡ tag_index self.now name.now }
     {
         self.declarations.tag_index(name)
+    }
+
+    /// The index of the table of slots in the module.
+    pub fn table_index(&self, name: &'a Name) -> u32
+        ensures value { result ≡ table_index self.now name.now }
+    {
+        self.declarations.table_index(name)
+    }
+
+    /// The slots of a name, where it is that of some.
+    #[tactic(auto, using(crate::proofs::Entries::slots_entered))]
+    pub fn slots(&self, name: &'a Name) -> Option<&'a Slots>
+        ensures value { slots_at result ≡ slots_of self.now name.now }
+    {
+        self.declarations.slots(name)
     }
 }

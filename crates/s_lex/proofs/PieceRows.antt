@@ -10,6 +10,10 @@ keyword : piece_of (codes "if x") ≡ Token kind.If 2
 unfolding piece_of run word_kind
 keyword = refl
 
+keyword_of_slots : piece_of (codes "slots s") ≡ Token kind.Slots 5
+unfolding piece_of run word_kind
+keyword_of_slots = refl
+
 longer_word_is_a_name : piece_of (codes "iffy") ≡ Token kind.Name 4
 unfolding piece_of run word_kind
 longer_word_is_a_name = refl
@@ -45,6 +49,10 @@ first_of_three = refl
 shorter_symbol : piece_of (codes "<-") ≡ Token kind.Less 1
 unfolding piece_of
 shorter_symbol = refl
+
+bracket : piece_of (codes "[0]") ≡ Token kind.OpenBracket 1
+unfolding piece_of
+bracket = refl
 
 half_of_a_symbol : piece_of (codes "&") ≡ Bad
 unfolding piece_of

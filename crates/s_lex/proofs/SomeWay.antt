@@ -1,6 +1,5 @@
 -- Bytes are cut in some way.
 use Rattle.std.proofs.Common.{◌≡◌, ◌≢◌, ℕ, zero, suc, ◌+◌, ◌≤◌, List, [], ◌∷◌, length, drop, Ok, Err, refl, arith, length-drop}
-use Rattle.s_syntax.specs.declared.token.Kind.{Kind}
 use Rattle.s_lex.specs.declared.fault.LexFault.TheVariants as fault
 use Rattle.s_lex.specs.declared.piece.Piece.{Piece}
 use Rattle.s_lex.specs.declared.piece.Piece.TheVariants as piece

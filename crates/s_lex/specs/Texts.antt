@@ -30,7 +30,8 @@ keywords =
     (codes "effect", kind.Effect) ∷ (codes "fn", kind.Fn) ∷ (codes "handler", kind.Handler) ∷ (codes "return", kind.Return)
     ∷ (codes "on", kind.On) ∷ (codes "let", kind.Let) ∷ (codes "if", kind.If) ∷ (codes "else", kind.Else)
     ∷ (codes "while", kind.While) ∷ (codes "print", kind.Print) ∷ (codes "fail", kind.Fail) ∷ (codes "do", kind.Do)
-    ∷ (codes "handle", kind.Handle) ∷ (codes "with", kind.With) ∷ (codes "resume", kind.Resume) ∷ (codes "res", kind.Res) ∷ []
+    ∷ (codes "handle", kind.Handle) ∷ (codes "with", kind.With) ∷ (codes "resume", kind.Resume) ∷ (codes "res", kind.Res)
+    ∷ (codes "slots", kind.Slots) ∷ (codes "store", kind.Store) ∷ (codes "take", kind.Take) ∷ []
 
 -- the kind beside a text in a table
 abbrev pub kind_in : List (List ℕ × Kind) → List ℕ → Option Kind
@@ -65,9 +66,10 @@ long_symbols =
 abbrev pub short_symbols : List (List ℕ × Kind)
 short_symbols =
     (codes "(", kind.OpenParenthesis) ∷ (codes ")", kind.CloseParenthesis) ∷ (codes "{", kind.OpenBrace) ∷ (codes "}", kind.CloseBrace)
-    ∷ (codes ",", kind.Comma) ∷ (codes ";", kind.Semicolon) ∷ (codes ":", kind.Colon) ∷ (codes "/", kind.Slash)
-    ∷ (codes "=", kind.Assign) ∷ (codes "+", kind.Plus) ∷ (codes "-", kind.Minus) ∷ (codes "*", kind.Star)
-    ∷ (codes "%", kind.Percent) ∷ (codes "<", kind.Less) ∷ (codes ">", kind.Greater) ∷ (codes "!", kind.Not) ∷ []
+    ∷ (codes "[", kind.OpenBracket) ∷ (codes "]", kind.CloseBracket) ∷ (codes ",", kind.Comma) ∷ (codes ";", kind.Semicolon)
+    ∷ (codes ":", kind.Colon) ∷ (codes "/", kind.Slash) ∷ (codes "=", kind.Assign) ∷ (codes "+", kind.Plus)
+    ∷ (codes "-", kind.Minus) ∷ (codes "*", kind.Star) ∷ (codes "%", kind.Percent) ∷ (codes "<", kind.Less)
+    ∷ (codes ">", kind.Greater) ∷ (codes "!", kind.Not) ∷ []
 
 abbrev pub symbol_kind : List ℕ → Option Kind
 symbol_kind = kind_in (long_symbols ++ short_symbols)

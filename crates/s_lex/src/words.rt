@@ -41,6 +41,12 @@ pub(crate) fn word_kind(text: &[u8]) -> Kind
         Kind::Resume
     } else if text == "res".as_bytes() {
         Kind::Res
+    } else if text == "slots".as_bytes() {
+        Kind::Slots
+    } else if text == "store".as_bytes() {
+        Kind::Store
+    } else if text == "take".as_bytes() {
+        Kind::Take
     } else {
         Kind::Name
     }
@@ -70,6 +76,8 @@ pub(crate) fn short_symbol(byte: u8) -> Option<Kind>
         b')' => Some(Kind::CloseParenthesis),
         b'{' => Some(Kind::OpenBrace),
         b'}' => Some(Kind::CloseBrace),
+        b'[' => Some(Kind::OpenBracket),
+        b']' => Some(Kind::CloseBracket),
         b',' => Some(Kind::Comma),
         b';' => Some(Kind::Semicolon),
         b':' => Some(Kind::Colon),

@@ -7,34 +7,20 @@ use Rattle.s_syntax.specs.declared.name.Name.{Name}
 use Rattle.s_syntax.specs.declared.script.Clause.{Clause}
 use Rattle.s_syntax.specs.declared.script.Handler.{Handler}
 use Rattle.s_syntax.specs.declared.script.Declaration.{Declaration}
-use Rattle.s_syntax.specs.BlockTree.{StatementTree, BlockTree, Evaluate, If, While, Fail, Done, ◌⨟◌}
-use Rattle.s_check.specs.Scopes.{Bound, number, resumption, lets_of, lets_in}
-use Rattle.s_check.specs.Size.{statement_size, block_size, clause_size}
+use Rattle.s_check.specs.Scopes.{Bound, number, resumption}
+use Rattle.s_check.specs.Size.{block_size, clause_size}
 use Rattle.s_code.specs.Places.{binds_in, return_names, clause_names, clauses_names, high_clauses}
-use Rattle.s_code.proofs.Highs.{block_high, lets_by_few}
+use Rattle.s_code.proofs.Binds.{binds_within}
+use Rattle.s_code.proofs.Highs.{block_high}
 use Rattle.s_lower.specs.declared.names.TypedName.{TypedName}
 use Rattle.s_lower.specs.Views.{bound_of, bounds_of}
 
-mutual
-  lets_few : (s : StatementTree) → length (lets_of s) ≤ statement_size s
-  lets_few (Evaluate u e) = let q = lets_by_few u in omega (arith, q)
-  lets_few (If c a b) = let q = all_lets_few a in let r = all_lets_few b in let l = length-append (lets_in a) (lets_in b) in omega (arith, q, r, l)
-  lets_few (While c b) = let q = all_lets_few b in omega (arith, q)
-  lets_few Fail = omega arith
-
-  pub all_lets_few : (b : BlockTree) → length (lets_in b) ≤ block_size b
-  all_lets_few Done = omega arith
-  all_lets_few (s ⨟ b) = let q = lets_few s in let r = all_lets_few b in let l = length-append (lets_of s) (lets_in b) in omega (arith, q, r, l)
-
-pub lets_within : (ds : List Declaration) (b : BlockTree) → length (binds_in ds b) ≤ block_size b
-lets_within ds b = let q = all_lets_few b in let m = length-map (lets_in b) number in omega (arith, q, m)
-
 pub return_within : (ds : List Declaration) (i : Handler) → length (return_names ds i) ≤ 1 + block_size i.return_clause.body
-return_within ds i = let q = lets_within ds i.return_clause.body in omega (arith, q)
+return_within ds i = let q = binds_within ds i.return_clause.body in omega (arith, q)
 
 pub clause_within : (ds : List Declaration) (h : Name) (c : Clause) → length (clause_names ds h c) ≤ clause_size c
 clause_within ds h c =
-    let q = lets_within ds c.body in let m = length-map c.arguments number in
+    let q = binds_within ds c.body in let m = length-map c.arguments number in
     let l = length-append (map number c.arguments) (resumption h c.resumption ∷ binds_in ds c.body) in omega (arith, q, m, l)
 
 pub clauses_within : (ds : List Declaration) (h : Name) (cs : List Clause) → length (clauses_names ds h cs) ≤ sum_by clause_size cs

@@ -71,7 +71,7 @@ pub(crate) fn function_code<'a>(
     ensures value { IfOk result (λ code. code ≡ function_code program.now function.now) }
 {
     let parameters = parameters(alloc, function.parameters.as_slice())?;
-    let own = body_names(alloc, program.declarations(), &function.body)?;
+    let own = body_names(alloc, program, &function.body)?;
     let (parameters, own) = (parameters.as_slice(), own.as_slice());
     let locals = locals_for(alloc, own, high_block(&function.body))?;
     let body = body_with(alloc, program, function, parameters, own)?;
@@ -114,7 +114,7 @@ fn push_placed<'a>(
         parameters: parameters.len() as u32,
     };
     let mut own = Vec::new(alloc);
-    push_clause_names(program.declarations(), handler, clause, &mut own)?;
+    push_clause_names(program, handler, clause, &mut own)?;
     let layout = layout(
         alloc,
         parameters,
@@ -224,9 +224,8 @@ pub(crate) fn handler_code<'a>(
     ensures value { IfOk result (λ code. code ≡ handler_code program.now name.now handler.now) }
 {
     let parameters = parameters(alloc, handler.parameters.as_slice())?;
-    let declarations = program.declarations();
-    let own = return_names(alloc, declarations, handler)?;
-    let all = handler_names(alloc, declarations, name, handler)?;
+    let own = return_names(alloc, program, handler)?;
+    let all = handler_names(alloc, program, name, handler)?;
     let (parameters, own, all) = (parameters.as_slice(), own.as_slice(), all.as_slice());
     let temporaries = parameters.len() as u32 + 1 + all.len() as u32;
     let locals = handler_locals(alloc, handler, all)?;

@@ -11,7 +11,7 @@ ghost use Rattle.s_lower.specs.Views.{untyped};
 use crate::fault::LowerFault;
 use crate::parts::{
     groups, push_elements, push_function_codes, push_function_types, push_handler_codes,
-    push_handler_types, push_main, push_printer, push_tags,
+    push_handler_types, push_main, push_printer, push_tables, push_tags,
 };
 use s_check::CheckedScript;
 use s_index::Program;
@@ -38,6 +38,7 @@ fn add_parts<'a>(
     push_printer(alloc, &mut compiled.imports)?;
     push_function_types(alloc, program, &mut compiled.functions)?;
     push_handler_types(alloc, program, &mut compiled.functions)?;
+    push_tables(program, &mut compiled.tables)?;
     push_tags(alloc, program, &mut compiled.tags)?;
     push_main(alloc, program, main, &mut compiled.exports)?;
     push_elements(alloc, program, &mut compiled.elements)?;

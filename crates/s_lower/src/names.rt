@@ -1,20 +1,20 @@
 //! The names of bodies, and their locals.
 ghost use Rattle.std.specs.Prelude.{◌≡◌, ◌≤◌, ◌+◌, ◌++◌, ◌∷◌, [], map, length, sum_by, OnOk, IfOk};
 ghost use Rattle.s_syntax.specs.BlockOf.{statement_of};
-ghost use Rattle.s_check.specs.Scopes.{number, parameter, resumption, lets_by, lets_of, lets_in};
+ghost use Rattle.s_check.specs.Definitions.{slots_of};
+ghost use Rattle.s_check.specs.Rules.{handler_of_slots};
+ghost use Rattle.s_check.specs.Scopes.{number, parameter, resumption};
 ghost use Rattle.s_check.specs.Size.{block_size, clause_size};
 ghost use Rattle.s_code.specs.Layouts.{numbered};
-ghost use Rattle.s_code.specs.Places.{binds_in, name_runs, locals_for, clause_names, clauses_names, return_names};
+ghost use Rattle.s_code.specs.Places.{binds_by, binds_of, binds_in, name_runs, locals_for, clause_names, clauses_names, return_names};
 ghost use Rattle.s_code.specs.Views.{locals_in, type_of};
 ghost use Rattle.s_index.specs.Types.{val_type};
 ghost use Rattle.s_index.specs.Limits.{number_limit};
 ghost use Rattle.s_lower.specs.Views.{bound_of, bounds_of};
 
 use s_code::{LocalName, LocalType};
-use s_index::resumption_local;
-use s_syntax::{
-    Block, Clause, Declaration, Handler, Name, Parameter, Statement, Use, VariableType,
-};
+use s_index::{Program, resumption_local};
+use s_syntax::{Block, Clause, Handler, Name, Parameter, Statement, Use, VariableType};
 use std::alloc::{AllocError, Global};
 use w_syntax::{LocalRun, Locals};
 use w_types::PackedType;
@@ -74,49 +74,83 @@ fn push_numbers<'a>(all: &'a [Name], names: &mut Vec<TypedName<'a>>) -> Result<(
     Ok(())
 }
 
+// The handler of what is taken from the slots of this name.
+fn handler_of_slots<'a>(program: &Program<'a>, slots: &'a Name) -> &'a Name
+    ensures value { result.now ≡ handler_of_slots slots.now (slots_of program.now slots.now) }
+{
+    match program.slots(slots) {
+        Some(found) => &found.handler,
+        None => slots,
+    }
+}
+
+// A name of what is taken from slots.
+fn taken<'a>(program: &Program<'a>, name: &'a Name, slots: &'a Name) -> TypedName<'a>
+    ensures value { bound_of result ≡ resumption (handler_of_slots slots.now (slots_of program.now slots.now)) name.now }
+{
+    TypedName {
+        name,
+        ty: LocalType::Resumption(handler_of_slots(program, slots)),
+    }
+}
+
 // Puts the name that a use binds behind the others.
-fn push_lets_by<'a>(what: &'a Use, names: &mut Vec<TypedName<'a>>) -> Result<(), AllocError>
-    ensures value { OnOk result (bounds_of names.new.items ≡ bounds_of names.old.items ++ map number (lets_by what.now)) }
+fn push_lets_by<'a>(
+    program: &Program<'a>,
+    what: &'a Use,
+    names: &mut Vec<TypedName<'a>>,
+) -> Result<(), AllocError>
+    ensures value { OnOk result (bounds_of names.new.items ≡ bounds_of names.old.items ++ binds_by program.now what.now) }
 {
     match what {
         Use::Let(name) => {
             names.push(number(name))?;
             Ok(())
         }
-        Use::Assign(_) | Use::Print | Use::Return | Use::Drop => Ok(()),
+        Use::Take { name, slots } => {
+            names.push(taken(program, name, slots))?;
+            Ok(())
+        }
+        Use::Assign(_) | Use::Print | Use::Return | Use::Drop | Use::Store { slots: _, name: _ } =>
+            Ok(()),
     }
 }
 
 // Puts the names that a statement binds behind the others.
 #[cycle(lets)]
 fn push_lets_of<'a>(
+    program: &Program<'a>,
     statement: &'a Statement,
     names: &mut Vec<TypedName<'a>>,
 ) -> Result<(), AllocError>
-    ensures value { OnOk result (bounds_of names.new.items ≡ bounds_of names.old.items ++ map number (lets_of (statement_of statement.now))) }
+    ensures value { OnOk result (bounds_of names.new.items ≡ bounds_of names.old.items ++ binds_of program.now (statement_of statement.now)) }
 {
     match statement {
-        Statement::Evaluate { what, value: _ } => push_lets_by(what, names),
+        Statement::Evaluate { what, value: _ } => push_lets_by(program, what, names),
         Statement::If {
             condition: _,
             then_block,
             else_block,
         } => {
-            push_lets(then_block, names)?;
-            push_lets(else_block, names)
+            push_lets(program, then_block, names)?;
+            push_lets(program, else_block, names)
         }
-        Statement::While { condition: _, body } => push_lets(body, names),
+        Statement::While { condition: _, body } => push_lets(program, body, names),
         Statement::Fail => Ok(()),
     }
 }
 
 // Puts the names that a block binds behind the others.
 #[cycle(lets)]
-fn push_lets<'a>(block: &'a Block, names: &mut Vec<TypedName<'a>>) -> Result<(), AllocError>
-    ensures value { OnOk result (bounds_of names.new.items ≡ bounds_of names.old.items ++ map number (lets_in block.now)) }
+fn push_lets<'a>(
+    program: &Program<'a>,
+    block: &'a Block,
+    names: &mut Vec<TypedName<'a>>,
+) -> Result<(), AllocError>
+    ensures value { OnOk result (bounds_of names.new.items ≡ bounds_of names.old.items ++ binds_in program.now block.now) }
 {
     for statement in block.statements() {
-        push_lets_of(statement, names)?;
+        push_lets_of(program, statement, names)?;
     }
     Ok(())
 }
@@ -124,63 +158,63 @@ fn push_lets<'a>(block: &'a Block, names: &mut Vec<TypedName<'a>>) -> Result<(),
 /// The names that the body of a function binds. It fails only for want of memory.
 pub(crate) fn body_names<'a>(
     alloc: Global,
-    declarations: &'a [Declaration],
+    program: &Program<'a>,
     body: &'a Block,
 ) -> Result<Vec<TypedName<'a>>, AllocError>
-    ensures value { IfOk result (λ names. bounds_of names.items ≡ binds_in declarations.now body.now) }
+    ensures value { IfOk result (λ names. bounds_of names.items ≡ binds_in program.now body.now) }
     ensures few { IfOk result (λ names. length names.items ≤ block_size body.now) }
 {
     let mut names = Vec::new(alloc);
-    push_lets(body, &mut names)?;
+    push_lets(program, body, &mut names)?;
     Ok(names)
 }
 
 // Puts the names of a handler's clause for return behind the others.
 fn push_return_names<'a>(
-    declarations: &'a [Declaration],
+    program: &Program<'a>,
     handler: &'a Handler,
     names: &mut Vec<TypedName<'a>>,
 ) -> Result<(), AllocError>
-    ensures value { OnOk result (bounds_of names.new.items ≡ bounds_of names.old.items ++ return_names declarations.now handler.now) }
-    ensures many { OnOk result (length names.new.items ≡ length names.old.items + length (return_names declarations.now handler.now)) }
-    ensures few { length (return_names declarations.now handler.now) ≤ 1 + block_size handler.now.return_clause.body }
+    ensures value { OnOk result (bounds_of names.new.items ≡ bounds_of names.old.items ++ return_names program.now handler.now) }
+    ensures many { OnOk result (length names.new.items ≡ length names.old.items + length (return_names program.now handler.now)) }
+    ensures few { length (return_names program.now handler.now) ≤ 1 + block_size handler.now.return_clause.body }
 {
     names.push(number(&handler.return_clause.value))?;
-    push_lets(&handler.return_clause.body, names)
+    push_lets(program, &handler.return_clause.body, names)
 }
 
 /// Puts the names of a clause of this handler behind the others. It fails only for want of memory.
 pub(crate) fn push_clause_names<'a>(
-    declarations: &'a [Declaration],
+    program: &Program<'a>,
     handler: &'a Name,
     clause: &'a Clause,
     names: &mut Vec<TypedName<'a>>,
 ) -> Result<(), AllocError>
-    ensures value { OnOk result (bounds_of names.new.items ≡ bounds_of names.old.items ++ clause_names declarations.now handler.now clause.now) }
-    ensures many { OnOk result (length names.new.items ≡ length names.old.items + length (clause_names declarations.now handler.now clause.now)) }
-    ensures few { length (clause_names declarations.now handler.now clause.now) ≤ clause_size clause.now }
+    ensures value { OnOk result (bounds_of names.new.items ≡ bounds_of names.old.items ++ clause_names program.now handler.now clause.now) }
+    ensures many { OnOk result (length names.new.items ≡ length names.old.items + length (clause_names program.now handler.now clause.now)) }
+    ensures few { length (clause_names program.now handler.now clause.now) ≤ clause_size clause.now }
 {
     push_numbers(clause.arguments.as_slice(), names)?;
     names.push(TypedName {
         name: &clause.resumption,
         ty: LocalType::Resumption(handler),
     })?;
-    push_lets(&clause.body, names)
+    push_lets(program, &clause.body, names)
 }
 
 // Puts the names of clauses of this handler behind the others.
 fn push_clauses_names<'a>(
-    declarations: &'a [Declaration],
+    program: &Program<'a>,
     handler: &'a Name,
     clauses: &'a [Clause],
     names: &mut Vec<TypedName<'a>>,
 ) -> Result<(), AllocError>
-    ensures value { OnOk result (bounds_of names.new.items ≡ bounds_of names.old.items ++ clauses_names declarations.now handler.now clauses.now) }
-    ensures many { OnOk result (length names.new.items ≡ length names.old.items + length (clauses_names declarations.now handler.now clauses.now)) }
-    ensures few { length (clauses_names declarations.now handler.now clauses.now) ≤ sum_by clause_size clauses.now }
+    ensures value { OnOk result (bounds_of names.new.items ≡ bounds_of names.old.items ++ clauses_names program.now handler.now clauses.now) }
+    ensures many { OnOk result (length names.new.items ≡ length names.old.items + length (clauses_names program.now handler.now clauses.now)) }
+    ensures few { length (clauses_names program.now handler.now clauses.now) ≤ sum_by clause_size clauses.now }
 {
     for clause in clauses {
-        push_clause_names(declarations, handler, clause, names)?;
+        push_clause_names(program, handler, clause, names)?;
     }
     Ok(())
 }
@@ -188,32 +222,32 @@ fn push_clauses_names<'a>(
 /// The names of a handler's clause for return. It fails only for want of memory.
 pub(crate) fn return_names<'a>(
     alloc: Global,
-    declarations: &'a [Declaration],
+    program: &Program<'a>,
     handler: &'a Handler,
 ) -> Result<Vec<TypedName<'a>>, AllocError>
-    ensures value { IfOk result (λ names. bounds_of names.items ≡ return_names declarations.now handler.now) }
-    ensures many { IfOk result (λ names. length names.items ≡ length (return_names declarations.now handler.now)) }
-    ensures few { length (return_names declarations.now handler.now) ≤ 1 + block_size handler.now.return_clause.body }
+    ensures value { IfOk result (λ names. bounds_of names.items ≡ return_names program.now handler.now) }
+    ensures many { IfOk result (λ names. length names.items ≡ length (return_names program.now handler.now)) }
+    ensures few { length (return_names program.now handler.now) ≤ 1 + block_size handler.now.return_clause.body }
 {
     let mut names = Vec::new(alloc);
-    push_return_names(declarations, handler, &mut names)?;
+    push_return_names(program, handler, &mut names)?;
     Ok(names)
 }
 
 /// The names of a handler behind its parameters: those of the clause for return, and those of the clauses. It fails only for want of memory.
 pub(crate) fn handler_names<'a>(
     alloc: Global,
-    declarations: &'a [Declaration],
+    program: &Program<'a>,
     name: &'a Name,
     handler: &'a Handler,
 ) -> Result<Vec<TypedName<'a>>, AllocError>
-    ensures value { IfOk result (λ names. bounds_of names.items ≡ return_names declarations.now handler.now ++ clauses_names declarations.now name.now handler.now.clauses) }
+    ensures value { IfOk result (λ names. bounds_of names.items ≡ return_names program.now handler.now ++ clauses_names program.now name.now handler.now.clauses) }
     ensures few { IfOk result (λ names. length names.items ≤ 1 + block_size handler.now.return_clause.body + sum_by clause_size handler.now.clauses) }
 {
     let mut names = Vec::new(alloc);
-    push_return_names(declarations, handler, &mut names)?;
+    push_return_names(program, handler, &mut names)?;
     let clauses = handler.clauses.as_slice();
-    push_clauses_names(declarations, name, clauses, &mut names)?;
+    push_clauses_names(program, name, clauses, &mut names)?;
     Ok(names)
 }
 

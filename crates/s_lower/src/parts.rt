@@ -5,15 +5,18 @@ ghost use Rattle.s_index.specs.Numbers.{function_index};
 ghost use Rattle.s_syntax.specs.declared.script.Declaration.{Declaration as TheDeclaration};
 ghost use Rattle.s_check.specs.Size.{definition_size, size_limit};
 ghost use Rattle.s_index.specs.Handled.{handled};
-ghost use Rattle.s_code.specs.Lowered.{function_type_of, handler_type_of, tag_of, function_code_of, handler_code_of, for_each, group, printer_import, main_export, declared};
+ghost use Rattle.s_code.specs.Lowered.{function_type_of, handler_type_of, slots_table, table_of, tag_of, function_code_of, handler_code_of, for_each, group, printer_import, main_export, declared};
 
 use crate::code::{function_code, handler_code};
 use lists::ListOf;
-use s_index::{PRINTER, Program, effect_type, function_type, handler_type};
-use s_syntax::{Declaration, Definition, Name as DeclaredName, Number, Parameter};
+use s_index::{PRINTER, Program, RESUMPTION, effect_type, function_type, handler_type};
+use s_syntax::{Declaration, Definition, Name as DeclaredName, Number, Parameter, Slots};
 use std::alloc::{AllocError, Global};
-use w_syntax::{Elem, ElemMode, Export, ExternIndex, ExternType, Func, Import, Items, Name, Tag};
-use w_types::{CompType, RecGroup, RecGroups, RefType};
+use w_syntax::{
+    Elem, ElemMode, Export, ExternIndex, ExternType, Func, Import, Items, Limits, Name, Table,
+    TableType, Tag,
+};
+use w_types::{CompType, HeapType, RecGroup, RecGroups, RefType};
 
 // Puts this type in a group of its own behind the others.
 fn push_group(alloc: Global, ty: CompType, groups: &mut Vec<RecGroup>) -> Result<(), AllocError>
@@ -120,6 +123,37 @@ pub(crate) fn push_handler_types(
         if let Definition::Handler(handler) = &declaration.definition {
             let parameters = handler.parameters.as_slice();
             all.push(handler_type_index(alloc, program, parameters)?)?;
+        }
+    }
+    Ok(())
+}
+
+// The table of slots, whose places are all empty at first.
+fn table(slots: &Slots) -> Table
+    ensures value { result ≡ slots_table slots.now }
+{
+    let places = slots.places.value;
+    let element = RefType {
+        nullable: true,
+        heap: HeapType::Index(RESUMPTION),
+    };
+    let limits = Limits {
+        min: places,
+        max: Some(places),
+    };
+    Table {
+        kind: TableType { element, limits },
+        init: None,
+    }
+}
+
+/// Puts the tables of slots behind the others. It fails only for want of memory.
+pub(crate) fn push_tables(program: &Program, all: &mut ListOf<Table>) -> Result<(), AllocError>
+    ensures value { OnOk result (all.new ≡ all.old ++ for_each (λ (d : TheDeclaration). table_of d.definition) program.now) }
+{
+    for declaration in program.declarations() {
+        if let Definition::Slots(slots) = &declaration.definition {
+            all.push(table(slots))?;
         }
     }
     Ok(())

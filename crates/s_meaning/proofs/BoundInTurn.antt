@@ -5,7 +5,7 @@ use Rattle.s_syntax.specs.declared.name.Name.{Name}
 use Rattle.s_syntax.specs.declared.script.VariableType.{VariableType}
 use Rattle.s_check.specs.Scopes.{Bound, Scope, type_in, bind, bind_all, is_among, some_twice}
 use Rattle.s_meaning.specs.Typing.{Fits}
-use Rattle.s_meaning.proofs.Scopes.{same_is, bool_of, Agree}
+use Rattle.s_meaning.proofs.Scopes.{same_is, same_refl, bool_of, Agree}
 
 -- the first of two types that is there
 abbrev pub or_else : Option VariableType → Option VariableType → Option VariableType
@@ -63,6 +63,10 @@ bound_agrees b bs f = record { type_of = λ y. bound_type b y bs ∙ either y }
     either y = bool_of (bytes_eq b.name y) (λ q. or_else (type_in bs y) (if q then Some b.ty else None) ≡ (if q then Some b.ty else type_in bs y))
         (λ q. same_type y (type_in bs y) refl q) (λ q. or_none (type_in bs y))
 
+-- what isn't bound before another name is bound isn't bound behind it
+pub none_behind : (b : Bound) (y : Name) (bs : Scope) → bytes_eq b.name y ≡ false → type_in bs y ≡ None → type_in (bind b bs) y ≡ None
+none_behind b y bs other none = bound_type b y bs ∙ ap (λ (o : Option VariableType). or_else o (if bytes_eq b.name y then Some b.ty else None)) none ∙ ap (λ (q : Bool). if q then Some b.ty else None) other
+
 -- a type that a name has behind one that is bound it had before, or it is the type of that one
 pub type_behind : (b : Bound) (y : Name) (bs : Scope) (t : VariableType) → type_in (bind b bs) y ≡ Some t → (type_in bs y ≡ Some t) ⊎ (b.ty ≡ t)
 type_behind b y bs t e = was (bytes_eq b.name y) (type_in bs y) (sym (bound_type b y bs) ∙ e)
@@ -106,3 +110,40 @@ pub type_among : (x : Name) (t : VariableType) (bs : Scope) → type_in bs x ≡
 type_among x t [] e = absurd (cc)
 type_among x t (b ∷ bs) e = bool_of (bytes_eq b.name x) (λ c. (if c then Some b.ty else type_in bs x) ≡ Some t → (c || is_among (map (λ (d : Bound). d.name) bs) x) ≡ true)
     (λ q f. refl) (λ q f. type_among x t bs f) e
+
+-- ## Names that are bound once
+
+-- each of these names stands there once
+pub data Apart : List Name → Type 0 where
+  no_names : Apart []
+  name : {x : Name} {xs : List Name} → is_among xs x ≡ false → Apart xs → Apart (x ∷ xs)
+
+pub no_true : (b : Bool) → (b ≡ true → ⊥) → b ≡ false
+no_true true n = absurd (n refl)
+no_true false n = refl
+
+or_false : (a b : Bool) → (a || b) ≡ false → (a ≡ false) × (b ≡ false)
+or_false true b e = absurd (cc)
+or_false false b e = (refl, e)
+
+apart_of : (before xs : List Name) → some_twice before xs ≡ false → Apart xs
+apart_of before [] e = no_names
+apart_of before (x ∷ xs) e =
+    let r = (or_false (is_among before x) (some_twice (x ∷ before) xs) e).1 in
+    name (no_true (is_among xs x) (λ i. let t = twice_before x (x ∷ before) xs (or_left (bytes_eq x x) (is_among before x) (same_refl x)) i in cc (t, r))) (apart_of (x ∷ before) xs r)
+
+-- behind other names
+pub apart_behind : (before xs ys : List Name) → some_twice before (xs ++ ys) ≡ false → Apart ys
+apart_behind before [] ys e = apart_of before ys e
+apart_behind before (x ∷ xs) ys e = apart_behind (x ∷ before) xs ys (or_false (is_among before x) (some_twice (x ∷ before) (xs ++ ys)) e).1
+
+among_none : (x : Name) (xs ys : List Name) → is_among (xs ++ ys) x ≡ false → is_among xs x ≡ false
+among_none x xs ys e = no_true (is_among xs x) (λ i. let t = among_left x xs ys i in cc (t, e))
+
+pub apart_left : (xs ys : List Name) → Apart (xs ++ ys) → Apart xs
+apart_left [] ys t = no_names
+apart_left (x ∷ xs) ys (name n t) = name (among_none x xs ys n) (apart_left xs ys t)
+
+pub apart_right : (xs ys : List Name) → Apart (xs ++ ys) → Apart ys
+apart_right [] ys t = t
+apart_right (x ∷ xs) ys (name n t) = apart_right xs ys t

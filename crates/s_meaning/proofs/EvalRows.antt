@@ -14,8 +14,8 @@ use Rattle.s_syntax.specs.declared.operators.Arithmetic.TheVariants.{Add, Subtra
 use Rattle.s_syntax.specs.declared.operators.BinaryOperator.TheVariants.{Connects, Compares, Computes}
 use Rattle.s_syntax.specs.ExprTree.{ExprTree, Literal, Read, Unary, Run, Call, Do, Handle, Resume, Exprs, NoExprs, MoreExprs, NoOperands, MoreOperands}
 use Rattle.s_syntax.specs.declared.statement.Use.TheVariants as use_for
-use Rattle.s_syntax.specs.BlockTree.{Evaluate, If, While, Done, ◌⨟◌}
-use Rattle.s_meaning.specs.Numbers.{line, Overflow, Reused, Unhandled}
+use Rattle.s_syntax.specs.BlockTree.{BlockTree, Evaluate, If, While, Done, ◌⨟◌}
+use Rattle.s_meaning.specs.Numbers.{line, Overflow, Reused, Empty, Unhandled}
 use Rattle.s_meaning.specs.Terms.{acts, hands, kept}
 use Rattle.s_meaning.specs.Eval.{Eval}
 
@@ -542,3 +542,51 @@ connectives-hands = refl
 connectives-kept : kept (Eval connectives 34).term ≡ 0
 unfolding connectives int_wrap
 connectives-kept = refl
+
+-- slots keep the resumptions of jobs, which go on later in another order; then comes the rest of main
+
+unfoldable keeps_jobs : BlockTree → Script
+keeps_jobs rest = record {
+  declarations =
+      record { name = (codes "wait"); definition = effect_of_1 }
+      ∷ record { name = (codes "q"); definition = definition.Slots (record { handler = (codes "run"); places = record { value = 2; small = omega arith } }) }
+      ∷ record { name = (codes "job"); definition = definition.Function (record { parameters = (record { name = (codes "id"); ty = Int } ∷ []); body = (Evaluate use_for.Print (Read (codes "id")) ⨟ Evaluate use_for.Drop (Do (codes "wait") ((Read (codes "id")) ⊕ NoExprs)) ⨟ Evaluate use_for.Print (Run (Read (codes "id")) (MoreOperands (Computes Add) (int 10) NoOperands)) ⨟ Evaluate use_for.Return (int 0) ⨟ Done) }) }
+      ∷ record { name = (codes "run"); definition = definition.Handler (record { parameters = ([]); return_clause = record { value = (codes "x"); body = (Evaluate use_for.Return (Read (codes "x")) ⨟ Done) }; clauses = (record { effect = (codes "wait"); arguments = ((codes "i") ∷ []); resumption = (codes "k"); body = (Evaluate (use_for.Store (codes "q") (codes "k")) (Read (codes "i")) ⨟ Evaluate use_for.Return (int 0) ⨟ Done) } ∷ []) }) }
+      ∷ record { name = (codes "main"); definition = definition.Function (record { parameters = ([]); body = (Evaluate use_for.Drop (Handle (codes "job") ((int 0) ⊕ NoExprs) (codes "run") NoExprs) ⨟ Evaluate use_for.Drop (Handle (codes "job") ((int 1) ⊕ NoExprs) (codes "run") NoExprs) ⨟ Evaluate (use_for.Take (codes "a") (codes "q")) (int 1) ⨟ Evaluate use_for.Drop (Resume (codes "a") (int 0) NoExprs) ⨟ Evaluate (use_for.Take (codes "b") (codes "q")) (int 0) ⨟ Evaluate use_for.Drop (Resume (codes "b") (int 0) NoExprs) ⨟ rest) }) }
+      ∷ [];
+}
+
+unfoldable in_order : Script
+in_order = keeps_jobs (Evaluate use_for.Return (int 5) ⨟ Done)
+
+-- a place that is empty by then
+unfoldable takes_twice : Script
+takes_twice = keeps_jobs (Evaluate (use_for.Take (codes "c") (codes "q")) (int 1) ⨟ Done)
+
+-- place -1
+unfoldable takes_below : Script
+takes_below = keeps_jobs (Evaluate (use_for.Take (codes "c") (codes "q")) (Run (int 0) (MoreOperands (Computes Subtract) (int 1) NoOperands)) ⨟ Done)
+
+in_order-ends : (Eval in_order 54).outcome ≡ Value (pos 5)
+unfolding in_order keeps_jobs int_wrap
+in_order-ends = refl
+
+in_order-goes-on : (Eval in_order 53).outcome ≡ Going
+unfolding in_order keeps_jobs int_wrap
+in_order-goes-on = refl
+
+in_order-prints : (Eval in_order 54).printed ≡ still 7 (still 14 (still 15 (still 10 (still 3 [] ++ line (pos 0)) ++ line (pos 1)) ++ line (pos 11)) ++ line (pos 10))
+unfolding in_order keeps_jobs int_wrap
+in_order-prints = refl
+
+in_order-kept : kept (Eval in_order 22).term ≡ 2
+unfolding in_order keeps_jobs int_wrap
+in_order-kept = refl
+
+takes_twice-ends : (Eval takes_twice 54).outcome ≡ Fault Empty
+unfolding takes_twice keeps_jobs int_wrap
+takes_twice-ends = refl
+
+takes_below-ends : (Eval takes_below 56).outcome ≡ Fault Empty
+unfolding takes_below keeps_jobs int_wrap
+takes_below-ends = refl

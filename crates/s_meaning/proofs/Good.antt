@@ -1,5 +1,5 @@
 -- A script that breaks no rule is typed.
-use Rattle.std.proofs.Common.{◌≡◌, inl, inr, ℕ, zero, suc, nat_lt, nat_eq, Bool, true, false, not, ◌&&◌, List, [], ◌∷◌, ◌++◌, length, map, codes, Option, Some, None, is_some, if◌then◌else◌, refl, sym, ap, ◌∙◌, subst, arith, append-nil}
+use Rattle.std.proofs.Common.{◌≡◌, inl, inr, ℕ, zero, suc, nat_lt, nat_eq, Bool, true, false, not, ◌&&◌, ◌||◌, List, [], ◌∷◌, ◌++◌, length, map, codes, Option, Some, None, is_some, if◌then◌else◌, refl, sym, ap, ◌∙◌, subst, arith, append-nil}
 use Rattle.std.proofs.lemmas.Bool.Decides.{Decides-eqb}
 use Rattle.std.specs.Str.{bytes_eq}
 use Rattle.s_syntax.specs.declared.name.Name.{Name}
@@ -9,6 +9,7 @@ use Rattle.s_syntax.specs.declared.script.Parameter.{Parameter}
 use Rattle.s_syntax.specs.declared.script.Function.{Function}
 use Rattle.s_syntax.specs.declared.script.Clause.{Clause}
 use Rattle.s_syntax.specs.declared.script.Handler.{Handler}
+use Rattle.s_syntax.specs.declared.script.Slots.{Slots}
 use Rattle.s_syntax.specs.declared.script.Definition.{Definition}
 use Rattle.s_syntax.specs.declared.script.Definition.TheVariants as definition
 use Rattle.s_syntax.specs.declared.script.Declaration.{Declaration}
@@ -18,14 +19,14 @@ use Rattle.s_syntax.specs.declared.statement.Use.TheVariants as use_for
 use Rattle.s_syntax.specs.BlockTree.{Evaluate, If, While, Fail, BlockTree, Done, ◌⨟◌}
 use Rattle.s_check.specs.declared.rule.Rule.{Rule}
 use Rattle.s_check.specs.declared.rule.Rule.TheVariants as rule
-use Rattle.s_check.specs.Definitions.{definition_of, as_function, as_handler, function_of, handler_of, effect_of}
-use Rattle.s_check.specs.Scopes.{Bound, Scope, type_in, bind, bind_all, number as number_name, parameter, of_clause, of_return, lets_in, is_among, some_twice}
-use Rattle.s_check.specs.Rules.{when, is_resumption, is_resumption_of, suits, all_suit, count, against, for_function, for_effect, for_handler, for_resumed, for_handler_of_type, in_name, in_expr, in_exprs, in_operands, in_target, in_block, in_body, in_type, in_types, in_parameters, in_head, in_clauses, in_header, in_bodies, in_definition, in_declarations, is_main, in_main, broken_rules}
+use Rattle.s_check.specs.Definitions.{definition_of, as_function, as_handler, as_slots, function_of, handler_of, effect_of, slots_of}
+use Rattle.s_check.specs.Scopes.{Bound, Scope, type_in, bind, bind_all, number as number_name, resumption as resumption_name, parameter, of_clause, of_return, lets_in, is_among, some_twice}
+use Rattle.s_check.specs.Rules.{when, is_resumption, is_resumption_of, suits, all_suit, count, against, for_function, for_effect, for_handler, for_resumed, for_handler_of_type, for_slots, handler_of_slots, in_stored, in_name, in_expr, in_exprs, in_operands, in_target, in_block, in_body, in_type, in_types, in_parameters, in_head, in_clauses, in_header, in_bodies, in_definition, in_declarations, is_main, in_main, broken_rules}
 use Rattle.s_check.specs.Refusal.{first, Has, Good}
 use Rattle.s_meaning.specs.Steps.{clause_of}
-use Rattle.s_meaning.specs.Typing.{kinds, numbers, ExprTyped, OperandsTyped, ArgsTyped, literal, read, unary, run, call, does, handle, resume, no_more, next, no_args, number, resumption, Fits, lets, assigns, prints, returns, drops, evaluates, ifs, whiles, fails, BlockTyped, done, statement, ClauseTyped, ScriptTyped}
+use Rattle.s_meaning.specs.Typing.{kinds, numbers, ExprTyped, OperandsTyped, ArgsTyped, literal, read, unary, run, call, does, handle, resume, no_more, next, no_args, number, resumption, Fits, lets, assigns, prints, returns, drops, stores_in, takes_from, evaluates, ifs, whiles, fails, BlockTyped, done, statement, ClauseTyped, ScriptTyped}
 use Rattle.s_meaning.proofs.Scopes.{same_is, same_refl, bool_of, same_block}
-use Rattle.s_meaning.proofs.BoundInTurn.{starts_agree, bound_agrees, type_behind, or_left, or_right, among_left, among_right, twice_of, type_among}
+use Rattle.s_meaning.proofs.BoundInTurn.{starts_agree, bound_agrees, none_behind, type_behind, or_left, or_right, among_left, among_right, twice_of, type_among, Apart, name, no_true, apart_behind, apart_left, apart_right}
 
 -- ## No rule
 
@@ -60,10 +61,10 @@ read_alone None e = absurd (cc)
 read_alone (Some Int) e = refl
 read_alone (Some (Resumption h)) e = absurd (cc)
 
-read_resumption : (h : Name) (k : Option VariableType) → is_resumption_of h k ≡ true → k ≡ Some (Resumption h)
-read_resumption h None e = absurd (cc)
-read_resumption h (Some Int) e = absurd (cc)
-read_resumption h (Some (Resumption g)) e = ap (λ (n : Name). Some (Resumption n)) (sym (same_is h g e))
+-- the first of two sides holds, since the handler is there
+or_declared : (b : Bool) {o : Option Handler} {i : Handler} → o ≡ Some i → (b || not (is_some o)) ≡ true → b ≡ true
+or_declared true there e = refl
+or_declared false there e = rw there at e
 
 assigned : (k : Option VariableType) → in_target k ≡ [] → k ≡ Some Int
 assigned None e = absurd (cc)
@@ -78,9 +79,18 @@ if_equal false xs r e = absurd (cc)
 Handlers : List Declaration → Scope → Type 0
 Handlers ds Γ = (x h : Name) → type_in Γ x ≡ Some (Resumption h) → (i : Handler) × (handler_of ds h ≡ Some i)
 
+-- slots of this name
+a_slots : (o : Option Slots) → for_slots o ≡ [] → (d : Slots) × (o ≡ Some d)
+a_slots None e = absurd (cc)
+a_slots (Some d) e = (d, refl)
+
+-- each slots are of a handler
+SlotsHandled : List Declaration → Type 0
+SlotsHandled ds = (s : Name) (d : Slots) → slots_of ds s ≡ Some d → (i : Handler) × (handler_of ds d.handler ≡ Some i)
+
 module _ (p : Script) (Γ : Scope) (handlers : (x h : Name) → type_in Γ x ≡ Some (Resumption h) → (i : Handler) × (handler_of p.declarations h ≡ Some i)) where
   -- what is read elsewhere than as a whole argument suits a number
-  plain_suits : (e : ExprTree) → in_expr p.declarations Γ false e ≡ [] → suits Γ Int e ≡ true
+  plain_suits : (e : ExprTree) → in_expr p.declarations Γ false e ≡ [] → suits p.declarations Γ Int e ≡ true
   plain_suits (Literal n) q = refl
   plain_suits (Read x) q = ap (λ (k : Option VariableType). not (is_resumption k)) (read_alone (type_in Γ x) q)
   plain_suits (Unary o e) q = refl
@@ -90,12 +100,12 @@ module _ (p : Script) (Γ : Scope) (handlers : (x h : Name) → type_in Γ x ≡
   plain_suits (Handle f es h bs) q = refl
   plain_suits (Resume k e bs) q = refl
 
-  against_suits : (ps : List Parameter) (es : Exprs) → against Γ ps es ≡ [] → (count es ≡ length ps) × (all_suit Γ ps es ≡ true)
+  against_suits : (ps : List Parameter) (es : Exprs) → against p.declarations Γ ps es ≡ [] → (count es ≡ length ps) × (all_suit p.declarations Γ ps es ≡ true)
   against_suits ps es e =
-      let n = if_equal (nat_eq (count es) (length ps)) (when (not (all_suit Γ ps es)) rule.ArgumentOfOtherType) rule.OtherNumberOfArguments e in
-      (same_number (count es) (length ps) n.0, not_false (all_suit Γ ps es) (when_not (not (all_suit Γ ps es)) rule.ArgumentOfOtherType n.1))
+      let n = if_equal (nat_eq (count es) (length ps)) (when (not (all_suit p.declarations Γ ps es)) rule.ArgumentOfOtherType) rule.OtherNumberOfArguments e in
+      (same_number (count es) (length ps) n.0, not_false (all_suit p.declarations Γ ps es) (when_not (not (all_suit p.declarations Γ ps es)) rule.ArgumentOfOtherType n.1))
 
-  a_function : (o : Option Function) (es : Exprs) → for_function Γ o es ≡ [] → (g : Function) × (o ≡ Some g) × (against Γ g.parameters es ≡ [])
+  a_function : (o : Option Function) (es : Exprs) → for_function p.declarations Γ o es ≡ [] → (g : Function) × (o ≡ Some g) × (against p.declarations Γ g.parameters es ≡ [])
   a_function None es e = absurd (cc)
   a_function (Some g) es e = (g, refl, e)
 
@@ -103,23 +113,35 @@ module _ (p : Script) (Γ : Scope) (handlers : (x h : Name) → type_in Γ x ≡
   an_effect None es e = absurd (cc)
   an_effect (Some n) es e = (n, refl, same_number (count es) n (not_false (nat_eq (count es) n) (when_not (not (nat_eq (count es) n)) rule.OtherNumberOfArguments e)))
 
-  a_handler : (o : Option Handler) (es : Exprs) → for_handler Γ o es ≡ [] → (i : Handler) × (o ≡ Some i) × (against Γ i.parameters es ≡ [])
+  a_handler : (o : Option Handler) (es : Exprs) → for_handler p.declarations Γ o es ≡ [] → (i : Handler) × (o ≡ Some i) × (against p.declarations Γ i.parameters es ≡ [])
   a_handler None es e = absurd (cc)
   a_handler (Some i) es e = (i, refl, e)
 
-  resumed : (k : Option VariableType) (es : Exprs) → for_resumed p.declarations Γ k es ≡ [] → (h : Name) × (k ≡ Some (Resumption h)) × (for_handler_of_type Γ (handler_of p.declarations h) es ≡ [])
+  resumed : (k : Option VariableType) (es : Exprs) → for_resumed p.declarations Γ k es ≡ [] → (h : Name) × (k ≡ Some (Resumption h)) × (for_handler_of_type p.declarations Γ (handler_of p.declarations h) es ≡ [])
   resumed None es e = absurd (cc)
   resumed (Some Int) es e = absurd (cc)
   resumed (Some (Resumption h)) es e = (h, refl, e)
 
-  arg_of : (k : VariableType) (e : ExprTree) (ks : List VariableType) (es : Exprs) → (suits Γ Int e ≡ true → ExprTyped p Γ e) → suits Γ k e ≡ true → ArgsTyped p Γ ks es
+  read_resumption : (x h : Name) (k : Option VariableType) → type_in Γ x ≡ k → is_resumption_of p.declarations h k ≡ true → k ≡ Some (Resumption h)
+  read_resumption x h None q e = absurd (cc)
+  read_resumption x h (Some Int) q e = absurd (cc)
+  read_resumption x h (Some (Resumption g)) q e = ap (λ (n : Name). Some (Resumption n)) (sym (same_is h g (or_declared (bytes_eq g h) (handlers x g q).1 e)))
+
+  -- a name that is stored into slots
+  stored_type : (d : Slots) (x : Name) (k : Option VariableType) → type_in Γ x ≡ k → in_stored p.declarations (Some d) k ≡ [] → k ≡ Some (Resumption d.handler)
+  stored_type d x None q e = absurd (cc)
+  stored_type d x (Some t) q e =
+      let suits = not_false (is_resumption_of p.declarations d.handler (Some t)) (when_not (not (is_resumption_of p.declarations d.handler (Some t))) rule.StoredOfOtherType e) in
+      read_resumption x d.handler (Some t) q suits
+
+  arg_of : (k : VariableType) (e : ExprTree) (ks : List VariableType) (es : Exprs) → (suits p.declarations Γ Int e ≡ true → ExprTyped p Γ e) → suits p.declarations Γ k e ≡ true → ArgsTyped p Γ ks es
       → ArgsTyped p Γ (k ∷ ks) (MoreExprs e es)
   arg_of Int e ks es t s ts = number (t s) ts
-  arg_of (Resumption h) (Read x) ks es t s ts = resumption (read_resumption h (type_in Γ x) s) ts
+  arg_of (Resumption h) (Read x) ks es t s ts = resumption (read_resumption x h (type_in Γ x) refl s) ts
   arg_of (Resumption h) e ks es t s ts = absurd (cc)
 
   mutual
-    expr_of : (e : ExprTree) (whole : Bool) → in_expr p.declarations Γ whole e ≡ [] → suits Γ Int e ≡ true → ExprTyped p Γ e
+    expr_of : (e : ExprTree) (whole : Bool) → in_expr p.declarations Γ whole e ≡ [] → suits p.declarations Γ Int e ≡ true → ExprTyped p Γ e
     expr_of (Literal n) whole q s = literal
     expr_of (Read x) whole q s = read (read_number whole (type_in Γ x) q s)
     expr_of (Unary o e) whole q s = unary (expr_of e false q (plain_suits e q))
@@ -127,7 +149,7 @@ module _ (p : Script) (Γ : Scope) (handlers : (x h : Name) → type_in Γ x ≡
         let t = parts (in_expr p.declarations Γ false e) (in_operands p.declarations Γ es) q in
         run (expr_of e false t.0 (plain_suits e t.0)) (operands_of es t.1)
     expr_of (Call f es) whole q s =
-        let t = parts (for_function Γ (function_of p.declarations f) es) (in_exprs p.declarations Γ true es) q in
+        let t = parts (for_function p.declarations Γ (function_of p.declarations f) es) (in_exprs p.declarations Γ true es) q in
         let g = a_function (function_of p.declarations f) es t.0 in
         let a = against_suits g.0.parameters es g.2 in
         call g.1 (args_of g.0.parameters es t.1 a.0 a.1)
@@ -136,9 +158,9 @@ module _ (p : Script) (Γ : Scope) (handlers : (x h : Name) → type_in Γ x ≡
         let n = an_effect (effect_of p.declarations op) es t.0 in
         does n.1 (numbers_of n.0 es t.1 n.2)
     expr_of (Handle f es h bs) whole q s =
-        let q1 = parts (for_function Γ (function_of p.declarations f) es ++ in_exprs p.declarations Γ true es) (for_handler Γ (handler_of p.declarations h) bs ++ in_exprs p.declarations Γ true bs) q in
-        let t = parts (for_function Γ (function_of p.declarations f) es) (in_exprs p.declarations Γ true es) q1.0 in
-        let u = parts (for_handler Γ (handler_of p.declarations h) bs) (in_exprs p.declarations Γ true bs) q1.1 in
+        let q1 = parts (for_function p.declarations Γ (function_of p.declarations f) es ++ in_exprs p.declarations Γ true es) (for_handler p.declarations Γ (handler_of p.declarations h) bs ++ in_exprs p.declarations Γ true bs) q in
+        let t = parts (for_function p.declarations Γ (function_of p.declarations f) es) (in_exprs p.declarations Γ true es) q1.0 in
+        let u = parts (for_handler p.declarations Γ (handler_of p.declarations h) bs) (in_exprs p.declarations Γ true bs) q1.1 in
         let g = a_function (function_of p.declarations f) es t.0 in
         let i = a_handler (handler_of p.declarations h) bs u.0 in
         let a = against_suits g.0.parameters es g.2 in
@@ -158,13 +180,13 @@ module _ (p : Script) (Γ : Scope) (handlers : (x h : Name) → type_in Γ x ≡
         let t = parts (in_expr p.declarations Γ false e) (in_operands p.declarations Γ es) q in
         next (expr_of e false t.0 (plain_suits e t.0)) (operands_of es t.1)
 
-    args_of : (ps : List Parameter) (es : Exprs) → in_exprs p.declarations Γ true es ≡ [] → count es ≡ length ps → all_suit Γ ps es ≡ true → ArgsTyped p Γ (kinds ps) es
+    args_of : (ps : List Parameter) (es : Exprs) → in_exprs p.declarations Γ true es ≡ [] → count es ≡ length ps → all_suit p.declarations Γ ps es ≡ true → ArgsTyped p Γ (kinds ps) es
     args_of [] NoExprs q n s = no_args
     args_of [] (MoreExprs e es) q n s = absurd (omega arith)
     args_of (x ∷ ps) NoExprs q n s = absurd (omega arith)
     args_of (x ∷ ps) (MoreExprs e es) q n s =
         let t = parts (in_expr p.declarations Γ true e) (in_exprs p.declarations Γ true es) q in
-        let u = both (suits Γ x.ty e) (all_suit Γ ps es) s in
+        let u = both (suits p.declarations Γ x.ty e) (all_suit p.declarations Γ ps es) s in
         arg_of x.ty e (kinds ps) es (λ i. expr_of e true t.0 i) u.0 (args_of ps es t.1 (omega arith) u.1)
 
     numbers_of : (n : ℕ) (es : Exprs) → in_exprs p.declarations Γ false es ≡ [] → count es ≡ n → ArgsTyped p Γ (numbers n) es
@@ -184,69 +206,102 @@ bound ds Γ x hs y h e = elim (type_behind (number_name x) y Γ (Resumption h) e
   | inr new ↦ absurd (cc new)
 ]
 
--- each name that is bound later may be bound as a number already here
-Later : List Name → Scope → Type 0
-Later xs Γ = (x : Name) → is_among xs x ≡ true → Fits x Int Γ
+bound_resumption : (ds : List Declaration) (Γ : Scope) (g x : Name) (i : Handler) → handler_of ds g ≡ Some i → Handlers ds Γ → Handlers ds (bind (resumption_name g x) Γ)
+unfolding Handlers
+bound_resumption ds Γ g x i there hs y h e = elim (type_behind (resumption_name g x) y Γ (Resumption h) e) [
+  | inl old ↦ hs y h old
+  | inr new ↦ (i, ap (handler_of ds) (let same : h ≡ g = cc new in same) ∙ there)
+]
 
-fits_behind : (x y : Name) (Γ : Scope) → Fits y Int Γ → Fits y Int (bind (number_name x) Γ)
-fits_behind x y Γ f = record {
-  fits = λ k e. elim (type_behind (number_name x) y Γ k e) [
-    | inl old ↦ f.fits k old
-    | inr new ↦ sym new
-  ];
-}
+-- none of the names that are bound later is bound
+Later : List Name → Scope → Type 0
+Later xs Γ = (x : Name) → is_among xs x ≡ true → type_in Γ x ≡ None
+
+later_behind : (b : Bound) (xs : List Name) (Γ : Scope) → is_among xs b.name ≡ false → ((y : Name) → is_among (b.name ∷ xs) y ≡ true → type_in Γ y ≡ None) → Later xs (bind b Γ)
+unfolding Later
+later_behind b xs Γ once l y i = none_behind b y Γ (no_true (bytes_eq b.name y) (λ q. let e : is_among xs b.name ≡ true = ap (is_among xs) (sym (same_is y b.name q)) ∙ i in cc (e, once)))
+    (l y (or_right (bytes_eq b.name y) (is_among xs y) i))
 
 expr_typed : (p : Script) (Γ : Scope) → Handlers p.declarations Γ → (e : ExprTree) → in_expr p.declarations Γ false e ≡ [] → ExprTyped p Γ e
 unfolding Handlers
 expr_typed p Γ hs e q = expr_of p Γ hs e false q (plain_suits p Γ hs e q)
 
-mutual
-  unfolding Later
+typed_store : (p : Script) (Γ : Scope) → Handlers p.declarations Γ → (d : Slots) (k : Name) → in_stored p.declarations (Some d) (type_in Γ k) ≡ [] → type_in Γ k ≡ Some (Resumption d.handler)
+unfolding Handlers
+typed_store p Γ hs d k q = stored_type p Γ hs d k (type_in Γ k) refl q
 
-  block_typed : (p : Script) (Γ : Scope) (b : BlockTree) → Handlers p.declarations Γ → Later (lets_in b) Γ → in_block p.declarations Γ b ≡ [] → BlockTyped p Γ b
-  block_typed p Γ Done hs l q = done
-  block_typed p Γ (Evaluate (use_for.Let x) e ⨟ b) hs l q =
+fits_none : (x : Name) (t : VariableType) (Γ : Scope) → type_in Γ x ≡ None → Fits x t Γ
+fits_none x t Γ none = record { fits = λ k e. absurd (cc (e, none)) }
+
+module _ (p : Script) (slots : (s : Name) (d : Slots) → slots_of p.declarations s ≡ Some d → (i : Handler) × (handler_of p.declarations d.handler ≡ Some i)) where
+  block_typed : (Γ : Scope) (b : BlockTree) → Handlers p.declarations Γ → Apart (lets_in b) → Later (lets_in b) Γ → in_block p.declarations Γ b ≡ [] → BlockTyped p Γ b
+  unfolding Later
+  block_typed Γ Done hs a l q = done
+  block_typed Γ (Evaluate (use_for.Let x) e ⨟ b) hs (name once a) l q =
       let t = parts (in_expr p.declarations Γ false e) (in_block p.declarations (bind (number_name x) Γ) b) q in
-      let fit = l x (or_left (bytes_eq x x) (is_among (lets_in b) x) (same_refl x)) in
-      statement (evaluates (expr_typed p Γ hs e t.0) (lets fit))
-      (same_block (bound_agrees (number_name x) Γ fit)
-      (block_typed p (bind (number_name x) Γ) b (bound p.declarations Γ x hs) (λ y i. fits_behind x y Γ (l y (or_right (bytes_eq x y) (is_among (lets_in b) y) i))) t.1))
-  block_typed p Γ (Evaluate (use_for.Assign x) e ⨟ b) hs l q =
+      let none = l x (or_left (bytes_eq x x) (is_among (lets_in b) x) (same_refl x)) in
+      statement (evaluates (expr_typed p Γ hs e t.0) (lets (fits_none x Int Γ none)))
+      (same_block (bound_agrees (number_name x) Γ (fits_none x Int Γ none))
+      (block_typed (bind (number_name x) Γ) b (bound p.declarations Γ x hs) a (later_behind (number_name x) (lets_in b) Γ once l) t.1))
+  block_typed Γ (Evaluate (use_for.Assign x) e ⨟ b) hs a l q =
       let t = parts (in_target (type_in Γ x) ++ in_expr p.declarations Γ false e) (in_block p.declarations Γ b) q in
       let u = parts (in_target (type_in Γ x)) (in_expr p.declarations Γ false e) t.0 in
-      statement (evaluates (expr_typed p Γ hs e u.1) (assigns (assigned (type_in Γ x) u.0))) (block_typed p Γ b hs l t.1)
-  block_typed p Γ (If e b c ⨟ d) hs l q =
+      statement (evaluates (expr_typed p Γ hs e u.1) (assigns (assigned (type_in Γ x) u.0))) (block_typed Γ b hs a l t.1)
+  block_typed Γ (If e b c ⨟ d) hs a l q =
       let t = parts (in_expr p.declarations Γ false e ++ (in_block p.declarations Γ b ++ in_block p.declarations Γ c)) (in_block p.declarations Γ d) q in
       let u = parts (in_expr p.declarations Γ false e) (in_block p.declarations Γ b ++ in_block p.declarations Γ c) t.0 in
       let v = parts (in_block p.declarations Γ b) (in_block p.declarations Γ c) u.1 in
-      statement
-      (ifs (expr_typed p Γ hs e u.0)
-      (block_typed p Γ b hs (λ y i. l y (among_left y (lets_in b ++ lets_in c) (lets_in d) (among_left y (lets_in b) (lets_in c) i))) v.0)
-      (block_typed p Γ c hs (λ y i. l y (among_left y (lets_in b ++ lets_in c) (lets_in d) (among_right y (lets_in b) (lets_in c) i))) v.1))
-      (block_typed p Γ d hs (λ y i. l y (among_right y (lets_in b ++ lets_in c) (lets_in d) i)) t.1)
-  block_typed p Γ (While e b ⨟ d) hs l q =
+      let both = apart_left (lets_in b ++ lets_in c) (lets_in d) a in
+      statement (ifs (expr_typed p Γ hs e u.0)
+      (block_typed Γ b hs (apart_left (lets_in b) (lets_in c) both) (λ y i. l y (among_left y (lets_in b ++ lets_in c) (lets_in d) (among_left y (lets_in b) (lets_in c) i))) v.0)
+      (block_typed Γ c hs (apart_right (lets_in b) (lets_in c) both) (λ y i. l y (among_left y (lets_in b ++ lets_in c) (lets_in d) (among_right y (lets_in b) (lets_in c) i))) v.1))
+      (block_typed Γ d hs (apart_right (lets_in b ++ lets_in c) (lets_in d) a) (λ y i. l y (among_right y (lets_in b ++ lets_in c) (lets_in d) i)) t.1)
+  block_typed Γ (While e b ⨟ d) hs a l q =
       let t = parts (in_expr p.declarations Γ false e ++ in_block p.declarations Γ b) (in_block p.declarations Γ d) q in
       let v = parts (in_expr p.declarations Γ false e) (in_block p.declarations Γ b) t.0 in
-      statement (whiles (expr_typed p Γ hs e v.0) (block_typed p Γ b hs (λ y i. l y (among_left y (lets_in b) (lets_in d) i)) v.1))
-      (block_typed p Γ d hs (λ y i. l y (among_right y (lets_in b) (lets_in d) i)) t.1)
-  block_typed p Γ (Evaluate use_for.Print e ⨟ b) hs l q = let t = parts (in_expr p.declarations Γ false e) (in_block p.declarations Γ b) q in statement (evaluates (expr_typed p Γ hs e t.0) prints) (block_typed p Γ b hs l t.1)
-  block_typed p Γ (Evaluate use_for.Return e ⨟ b) hs l q = let t = parts (in_expr p.declarations Γ false e) (in_block p.declarations Γ b) q in statement (evaluates (expr_typed p Γ hs e t.0) returns) (block_typed p Γ b hs l t.1)
-  block_typed p Γ (Evaluate use_for.Drop e ⨟ b) hs l q = let t = parts (in_expr p.declarations Γ false e) (in_block p.declarations Γ b) q in statement (evaluates (expr_typed p Γ hs e t.0) drops) (block_typed p Γ b hs l t.1)
-  block_typed p Γ (Fail ⨟ b) hs l q = statement fails (block_typed p Γ b hs l q)
+      statement (whiles (expr_typed p Γ hs e v.0) (block_typed Γ b hs (apart_left (lets_in b) (lets_in d) a) (λ y i. l y (among_left y (lets_in b) (lets_in d) i)) v.1))
+      (block_typed Γ d hs (apart_right (lets_in b) (lets_in d) a) (λ y i. l y (among_right y (lets_in b) (lets_in d) i)) t.1)
+  block_typed Γ (Evaluate use_for.Print e ⨟ b) hs a l q = let t = parts (in_expr p.declarations Γ false e) (in_block p.declarations Γ b) q in statement (evaluates (expr_typed p Γ hs e t.0) prints) (block_typed Γ b hs a l t.1)
+  block_typed Γ (Evaluate use_for.Return e ⨟ b) hs a l q = let t = parts (in_expr p.declarations Γ false e) (in_block p.declarations Γ b) q in statement (evaluates (expr_typed p Γ hs e t.0) returns) (block_typed Γ b hs a l t.1)
+  block_typed Γ (Evaluate use_for.Drop e ⨟ b) hs a l q = let t = parts (in_expr p.declarations Γ false e) (in_block p.declarations Γ b) q in statement (evaluates (expr_typed p Γ hs e t.0) drops) (block_typed Γ b hs a l t.1)
+  block_typed Γ (Fail ⨟ b) hs a l q = statement fails (block_typed Γ b hs a l q)
+  block_typed Γ (Evaluate (use_for.Store s k) e ⨟ b) hs a l q =
+      let o = slots_of p.declarations s in
+      let t = parts ((for_slots o ++ in_stored p.declarations o (type_in Γ k)) ++ in_expr p.declarations Γ false e) (in_block p.declarations Γ b) q in
+      let u = parts (for_slots o ++ in_stored p.declarations o (type_in Γ k)) (in_expr p.declarations Γ false e) t.0 in
+      let v = parts (for_slots o) (in_stored p.declarations o (type_in Γ k)) u.0 in
+      let d = a_slots o v.0 in
+      statement (evaluates (expr_typed p Γ hs e u.1) (stores_in d.1 (typed_store p Γ hs d.0 k (subst (λ (o : Option Slots). in_stored p.declarations o (type_in Γ k) ≡ []) d.1 v.1)))) (block_typed Γ b hs a l t.1)
+  block_typed Γ (Evaluate (use_for.Take k s) e ⨟ b) hs (name once a) l q =
+      let o = slots_of p.declarations s in
+      let t = parts (for_slots o ++ in_expr p.declarations Γ false e) (in_block p.declarations (bind (resumption_name (handler_of_slots s o) k) Γ) b) q in
+      let u = parts (for_slots o) (in_expr p.declarations Γ false e) t.0 in
+      let d = a_slots o u.0 in
+      let i = slots s d.0 d.1 in
+      let h = d.0.handler in
+      let none = l k (or_left (bytes_eq k k) (is_among (lets_in b) k) (same_refl k)) in
+      statement (evaluates (expr_typed p Γ hs e u.1) (takes_from d.1 (fits_none k (Resumption h) Γ none)))
+      (same_block (bound_agrees (resumption_name h k) Γ (fits_none k (Resumption h) Γ none))
+      (block_typed (bind (resumption_name h k) Γ) b (bound_resumption p.declarations Γ h k i.0 i.1 hs) a (later_behind (resumption_name h k) (lets_in b) Γ once l)
+      (subst (λ (o : Option Slots). in_block p.declarations (bind (resumption_name (handler_of_slots s o) k) Γ) b ≡ []) d.1 t.1)))
 
 -- ## Bodies
 
 abbrev names : Scope → List Name
 names bs = map (λ (c : Bound). c.name) bs
 
-body_typed : (p : Script) (bs : Scope) (b : BlockTree) → Handlers p.declarations bs → in_body p.declarations bs b ≡ [] → BlockTyped p bs b
-unfolding Later Handlers
-body_typed p bs b hs q =
+not_bound : (bs : Scope) (x : Name) (ms : List Name) → some_twice [] (names bs ++ ms) ≡ false → is_among ms x ≡ true → (o : Option VariableType) → type_in bs x ≡ o → o ≡ None
+not_bound bs x ms once i None e = refl
+not_bound bs x ms once i (Some t) e = absurd (let r = twice_of x [] (names bs) ms (type_among x t bs e) i in cc (r, once))
+
+body_typed : (p : Script) → SlotsHandled p.declarations → (bs : Scope) (b : BlockTree) → Handlers p.declarations bs → in_body p.declarations bs b ≡ [] → BlockTyped p bs b
+unfolding Later Handlers SlotsHandled
+body_typed p slots bs b hs q =
     let t = parts (when (some_twice [] (names bs ++ lets_in b)) rule.NameBoundTwice) (in_block p.declarations (bind_all bs []) b) q in
     let once : some_twice [] (names bs ++ lets_in b) ≡ false = when_not (some_twice [] (names bs ++ lets_in b)) rule.NameBoundTwice t.0 in
     let agree = starts_agree bs in
-    same_block agree (block_typed p (bind_all bs []) b (λ x h e. hs x h (sym (agree.type_of x) ∙ e))
-    (λ x i. record { fits = λ k e. absurd (let r = twice_of x [] (names bs) (lets_in b) (type_among x k bs (sym (agree.type_of x) ∙ e)) i in cc (r, once)) }) t.1)
+    same_block agree (block_typed p slots (bind_all bs []) b (λ x h e. hs x h (sym (agree.type_of x) ∙ e)) (apart_behind [] (names bs) (lets_in b) once)
+    (λ x i. agree.type_of x ∙ not_bound bs x (lets_in b) once i (type_in bs x) refl) t.1)
 
 data Handled (ds : List Declaration) : Scope → Type 0 where
   no_names : Handled ds []
@@ -327,12 +382,21 @@ is_function None g e = absurd (cc)
 is_function (Some (definition.Effect n)) g e = absurd (cc)
 is_function (Some (definition.Function f)) g e = ap (λ (x : Function). Some (definition.Function x)) (cc e)
 is_function (Some (definition.Handler h)) g e = absurd (cc)
+is_function (Some (definition.Slots d)) g e = absurd (cc)
 
 pub is_handler : (o : Option Definition) (i : Handler) → as_handler o ≡ Some i → o ≡ Some (definition.Handler i)
 is_handler None i e = absurd (cc)
 is_handler (Some (definition.Effect n)) i e = absurd (cc)
 is_handler (Some (definition.Function f)) i e = absurd (cc)
+is_handler (Some (definition.Slots d)) i e = absurd (cc)
 is_handler (Some (definition.Handler h)) i e = ap (λ (x : Handler). Some (definition.Handler x)) (cc e)
+
+pub is_slots : (o : Option Definition) (d : Slots) → as_slots o ≡ Some d → o ≡ Some (definition.Slots d)
+is_slots None d e = absurd (cc)
+is_slots (Some (definition.Effect n)) d e = absurd (cc)
+is_slots (Some (definition.Function f)) d e = absurd (cc)
+is_slots (Some (definition.Handler h)) d e = absurd (cc)
+is_slots (Some (definition.Slots x)) d e = ap (λ (y : Slots). Some (definition.Slots y)) (cc e)
 
 -- a clause that breaks no rule
 record Clause_empty (ds : List Declaration) (h : Name) (i : Handler) (op : Name) (c : Clause) : Type 0 where
@@ -381,12 +445,19 @@ module _ (p : Script) (good : Good p) where
   last : AllEmpty (in_main p.declarations ∷ [])
   last = last_empty (in_declarations p.declarations [] p.declarations) (in_main p.declarations ∷ []) (all_empty (broken_rules p.declarations) good.none)
 
+  slots_handled : SlotsHandled p.declarations
+  unfolding SlotsHandled
+  slots_handled s d e =
+      let q = definition_empty p.declarations [] p.declarations s (definition.Slots d) all (is_slots (definition_of p.declarations s) d e) in
+      let t = parts (in_type p.declarations (Resumption d.handler)) (when (not (nat_lt 0 d.places.value && nat_lt d.places.value 65537)) rule.SlotsOfOtherNumber) q in
+      a_type p.declarations d.handler (handler_of p.declarations d.handler) t.0
+
   function_typed : (f : Name) (g : Function) → function_of p.declarations f ≡ Some g → BlockTyped p (map parameter g.parameters) g.body
   function_typed f g e =
       let q = definition_empty p.declarations [] p.declarations f (definition.Function g) all (is_function (definition_of p.declarations f) g e) in
       let t = parts (in_parameters p.declarations g.parameters) (in_body p.declarations (map parameter g.parameters) g.body) q in
       let hs = handled_parameters p.declarations g.parameters (types_handled p.declarations g.parameters t.0) no_names in
-      body_typed p (map parameter g.parameters) g.body (handlers_of (rw append-nil at hs)) t.1
+      body_typed p slots_handled (map parameter g.parameters) g.body (handlers_of (rw append-nil at hs)) t.1
 
   pub record Handler_empty (h : Name) (i : Handler) : Type 0 where
     pub types : in_types p.declarations i.parameters ≡ []
@@ -405,7 +476,7 @@ module _ (p : Script) (good : Good p) where
   return_typed : (h : Name) (i : Handler) → handler_of p.declarations h ≡ Some i → BlockTyped p (of_return i) i.return_clause.body
   return_typed h i e =
       let t = handler_empty h i e in
-      body_typed p (of_return i) i.return_clause.body (handlers_of (handled_parameters p.declarations i.parameters t.types (int no_names))) t.returned
+      body_typed p slots_handled (of_return i) i.return_clause.body (handlers_of (handled_parameters p.declarations i.parameters t.types (int no_names))) t.returned
 
   clause_typed : (h op : Name) (i : Handler) (c : Clause) → handler_of p.declarations h ≡ Some i → clause_of op i.clauses ≡ Some c → ClauseTyped p h op i c
   clause_typed h op i c e f =
@@ -413,7 +484,7 @@ module _ (p : Script) (good : Good p) where
       let u = clause_empty p.declarations h i [] i.clauses op c t.clauses f in
       record {
         is_effect = ap (effect_of p.declarations) u.named ∙ head_number (effect_of p.declarations c.effect) u.before c u.head;
-        body = body_typed p (of_clause h i c) c.body (handlers_of (handled_parameters p.declarations i.parameters t.types (handled_ints p.declarations c.arguments (res e no_names)))) u.body;
+        body = body_typed p slots_handled (of_clause h i c) c.body (handlers_of (handled_parameters p.declarations i.parameters t.types (handled_ints p.declarations c.arguments (res e no_names)))) u.body;
       }
 
   pub good_typed : ScriptTyped p

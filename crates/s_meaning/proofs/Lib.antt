@@ -4,6 +4,7 @@ pub mod BoundInTurn
 pub mod Good
 pub mod Variables
 pub mod Lists
+pub mod Slots
 pub mod Worlds
 pub mod TypedFocus
 pub mod Sound

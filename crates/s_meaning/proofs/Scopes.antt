@@ -7,8 +7,8 @@ use Rattle.s_syntax.specs.declared.script.VariableType.{VariableType}
 use Rattle.s_syntax.specs.declared.statement.Use.{Use as ValueUse}
 use Rattle.s_syntax.specs.BlockTree.{StatementTree, BlockTree}
 use Rattle.s_syntax.specs.declared.script.Script.{Script}
-use Rattle.s_check.specs.Scopes.{Bound, Scope, type_in, number as number_name}
-use Rattle.s_meaning.specs.Typing.{ExprTyped, OperandsTyped, ArgsTyped, literal, read, unary, run, call, does, handle, resume, no_more, next, no_args, number, resumption, Fits, ValueUseTyped, lets, assigns, prints, returns, drops, StatementTyped, evaluates, ifs, whiles, fails, BlockTyped, done, statement}
+use Rattle.s_check.specs.Scopes.{Bound, Scope, type_in, number as number_name, resumption as resumption_name}
+use Rattle.s_meaning.specs.Typing.{ExprTyped, OperandsTyped, ArgsTyped, literal, read, unary, run, call, does, handle, resume, no_more, next, no_args, number, resumption, Fits, ValueUseTyped, lets, assigns, prints, returns, drops, stores_in, takes_from, StatementTyped, evaluates, ifs, whiles, fails, BlockTyped, done, statement}
 use Rattle.s_meaning.specs.Typed.{Keeps, RestTyped, ends, begins, behind}
 use Rattle.s_meaning.specs.Steps.{◌⨟⨟◌}
 
@@ -52,17 +52,22 @@ mutual
   same_args m (resumption {x = x} q ts) = resumption (sym (m.type_of x) ∙ q) (same_args m ts)
 
 -- a use in a scope that agrees, and what is bound behind it
-record UsedAlike (Γ' : Scope) (u : ValueUse) (Δ : Scope) : Type 0 where
+record UsedAlike (p : Script) (Γ' : Scope) (u : ValueUse) (Δ : Scope) : Type 0 where
   after : Scope
   agree : Agree Δ after
-  typed : ValueUseTyped Γ' u after
+  typed : ValueUseTyped p Γ' u after
 
-same_use : {Γ Γ' Δ : Scope} {u : ValueUse} → Agree Γ Γ' → ValueUseTyped Γ u Δ → UsedAlike Γ' u Δ
-same_use m (lets {x = x} f) = record { after = _; agree = agree_more (number_name x) m; typed = lets (record { fits = λ k e. f.fits k (m.type_of x ∙ e) }) }
+same_fits : {x : Name} {t : VariableType} {Γ Γ' : Scope} → Agree Γ Γ' → Fits x t Γ → Fits x t Γ'
+same_fits {x = x} m f = record { fits = λ k e. f.fits k (m.type_of x ∙ e) }
+
+same_use : {p : Script} {Γ Γ' Δ : Scope} {u : ValueUse} → Agree Γ Γ' → ValueUseTyped p Γ u Δ → UsedAlike p Γ' u Δ
+same_use m (lets {x = x} f) = record { after = _; agree = agree_more (number_name x) m; typed = lets (same_fits m f) }
 same_use m (assigns {x = x} k) = record { after = _; agree = m; typed = assigns (sym (m.type_of x) ∙ k) }
 same_use m prints = record { after = _; agree = m; typed = prints }
 same_use m returns = record { after = _; agree = m; typed = returns }
 same_use m drops = record { after = _; agree = m; typed = drops }
+same_use m (stores_in {k = k} q i) = record { after = _; agree = m; typed = stores_in q (sym (m.type_of k) ∙ i) }
+same_use m (takes_from {k = k} {d = d} q f) = record { after = _; agree = agree_more (resumption_name d.handler k) m; typed = takes_from q (same_fits m f) }
 
 pub same_block : {p : Script} {Γ Γ' : Scope} {b : BlockTree} → Agree Γ Γ' → BlockTyped p Γ b → BlockTyped p Γ' b
 same_block m done = done
@@ -91,6 +96,8 @@ statement_keeps (evaluates t (assigns k)) = keeps_all
 statement_keeps (evaluates t prints) = keeps_all
 statement_keeps (evaluates t returns) = keeps_all
 statement_keeps (evaluates t drops) = keeps_all
+statement_keeps (evaluates t (stores_in q i)) = keeps_all
+statement_keeps (evaluates t (takes_from q f)) = keeps_bound f
 statement_keeps (ifs t b c) = keeps_all
 statement_keeps (whiles t b) = keeps_all
 statement_keeps fails = keeps_all

@@ -1,26 +1,29 @@
 -- Each step of a typed configuration gives a typed one, and none is wrong.
-use Rattle.std.proofs.Common.{◌≡◌, ℕ, zero, suc, ◌+◌, Bool, true, false, List, [], ◌∷◌, ◌++◌, inl, inr, length, Option, Some, None, slice_get, slice_set, if◌then◌else◌, refl, sym, ap, ◌∙◌, subst, length-append}
+use Rattle.std.proofs.Common.{◌≡◌, ℕ, zero, suc, ◌+◌, ℤ, pos, negsuc, Bool, true, false, List, [], ◌∷◌, ◌++◌, inl, inr, length, Option, Some, None, slice_get, if◌then◌else◌, refl, sym, ap, ◌∙◌, subst, length-append}
+use Rattle.std.specs.Str.{bytes_eq}
 use Rattle.s_syntax.specs.declared.name.Name.{Name}
 use Rattle.s_syntax.specs.declared.script.VariableType.{VariableType}
 use Rattle.s_syntax.specs.declared.script.VariableType.TheVariants.{Int, Resumption}
 use Rattle.s_syntax.specs.declared.operators.BinaryOperator.TheVariants.{Connects}
 use Rattle.s_syntax.specs.BlockTree.{BlockTree}
+use Rattle.s_syntax.specs.declared.script.Slots.{Slots}
 use Rattle.s_syntax.specs.declared.script.Clause.{Clause}
 use Rattle.s_syntax.specs.declared.script.Handler.{Handler}
 use Rattle.s_syntax.specs.declared.script.Script.{Script}
-use Rattle.s_check.specs.Definitions.{handler_of, effect_of}
-use Rattle.s_check.specs.Scopes.{Scope, type_in}
+use Rattle.s_check.specs.Definitions.{handler_of, effect_of, slots_of}
+use Rattle.s_check.specs.Scopes.{Scope, type_in, resumption as resumption_name}
 use Rattle.s_meaning.specs.Typing.{kinds, numbers, BlockTyped, ScriptTyped, ClauseTyped, whiles}
-use Rattle.s_meaning.proofs.Scopes.{bool_of, then_typed, block_rest}
-use Rattle.s_meaning.specs.Numbers.{Reused, Unhandled, Computed, Is, Faulty, operate, decided, holds, truth}
-use Rattle.s_meaning.specs.Terms.{Value, Number, Reference, Variable, Work, RightOf, Place, Activation, Handle, Context, Hole, Gives, Finds, Store, Configuration}
+use Rattle.s_meaning.proofs.Scopes.{same_is, bool_of, then_typed, block_rest}
+use Rattle.s_meaning.specs.Numbers.{Reused, Empty, Unhandled, Computed, Is, Faulty, operate, decided, holds, truth}
+use Rattle.s_meaning.specs.Terms.{Value, Number, Reference, Variable, Work, RightOf, Place, Activation, Handle, Context, Hole, Gives, Finds, Runs, Contents, Store, Configuration}
 use Rattle.s_meaning.specs.Focus.{Redex, left_of}
-use Rattle.s_meaning.specs.Steps.{clause_of, bind, number_parameters, Found, find, farther, with_clause, with_handler, with_kept, emptied as without, next_address, Around, whole, goes, goes_on, enters, leaves, resumes, applies, uses, rule, step_at, step, unless_faulty, or_fault, or_wrong}
+use Rattle.s_meaning.specs.Steps.{clause_of, bind, number_parameters, Found, find, farther, with_clause, with_handler, with_kept, emptied as without, next_address, contents_of, with_contents, place_at, with_place, put, with_variable, Around, whole, goes, goes_on, enters, leaves, resumes, applies, uses, rule, step_at, step, unless_faulty, or_fault, or_wrong}
 use Rattle.s_meaning.specs.Typed
-use Rattle.s_meaning.specs.Typed.{World, HasKind, int, reference, AllHave, none, more, Variable_typed, Covers, RestTyped, begins, UseTyped, stores, chooses, turns, WorkTyped, HeadTyped, calling, doing, handling, resuming, tail_resuming, ContextTyped, nothing, activation, handle, HoleTyped, gives, finds, runs, TermTyped, in_activation, in_handle, EntryTyped, emptied, kept, StoreTyped, Typed}
+use Rattle.s_meaning.specs.Typed.{World, HasKind, int, reference, AllHave, none, more, Variable_typed, Covers, RestTyped, begins, UseTyped, stores, chooses, turns, puts, takes, WorkTyped, HeadTyped, calling, doing, handling, resuming, tail_resuming, ContextTyped, nothing, activation, handle, HoleTyped, gives, finds, runs, TermTyped, in_activation, in_handle, EntryTyped, emptied, kept, PlacesTyped, ContentsTyped, SlotsThere, StoreTyped, Typed}
 use Rattle.s_meaning.specs.Laws.{StepGood, on, over, faulty}
 use Rattle.s_meaning.proofs.Lists.{get_before, get_last, get_appended, get_set, length_set}
-use Rattle.s_meaning.proofs.Variables.{covers_stored}
+use Rattle.s_meaning.proofs.Variables.{variable, covers_with, covers_stored}
+use Rattle.s_meaning.proofs.Slots.{contents_with, contents_other, contents_named, length_with}
 use Rattle.s_meaning.proofs.Worlds.{Grows, all_grows, context_grows, entry_grows, context_append, listed_typed, taken_typed, dropped_typed, Match, no_names, name, match_append, match_covers, bound_typed, ints_typed}
 use Rattle.s_meaning.proofs.TypedFocus.{RedexTyped, constant, lookup, on_unary, on_binary, decides, applying, using, failing, ending, left_typed, next_typed}
 
@@ -29,7 +32,7 @@ module _ (p : Script) (typed : ScriptTyped p) where
   gives_typed h (activation c w κ) = in_activation (gives c h w) κ
   gives_typed h (handle i ps κ) = in_handle h i ps κ
 
-  leaves_good : {Ξ : World} {v : Value} (σ : Store) (κ : Context) → StoreTyped p Ξ σ.resumptions → HasKind Ξ v Int → ContextTyped p Ξ κ → StepGood p (leaves σ κ v)
+  leaves_good : {Ξ : World} {v : Value} (σ : Store) (κ : Context) → StoreTyped p Ξ σ → HasKind Ξ v Int → ContextTyped p Ξ κ → StepGood p (leaves σ κ v)
   leaves_good σ [] s int κ = over
   leaves_good {Ξ} σ (place ∷ κ) s h t = on Ξ (record { store = s; term = gives_typed h t })
 
@@ -67,33 +70,90 @@ module _ (p : Script) (typed : ScriptTyped p) where
   grown : (Ξ : World) (h : Name) → Grows Ξ (Ξ ++ h ∷ [])
   grown Ξ h = record { keeps = λ a g e. get_before Ξ (h ∷ []) a g e }
 
-  kept_typed : {Ξ : World} {κ : Context} (h : Name) (entries : List (Option Context)) → StoreTyped p Ξ entries → ContextTyped p Ξ κ → StoreTyped p (Ξ ++ h ∷ []) (entries ++ Some κ ∷ [])
-  kept_typed {Ξ} {κ} h entries s t = record {
-    as_many = length-append entries (Some κ ∷ []) ∙ ap (λ (n : ℕ). n + 1) s.as_many ∙ sym (length-append Ξ (h ∷ []));
-    each = λ a e q. elim (get_appended entries (Some κ) e a q) [
+  places_grow : {Ξ Ξ' : World} {h : Name} {places : List (Option ℕ)} → Grows Ξ Ξ' → PlacesTyped Ξ h places → PlacesTyped Ξ' h places
+  places_grow {h = h} g t = record { each = λ n a q. g.keeps a h (t.each n a q) }
+
+  slots_grow : {Ξ Ξ' : World} {d : Slots} {o : Option Contents} → Grows Ξ Ξ' → SlotsThere Ξ d o → SlotsThere Ξ' d o
+  slots_grow g t = record { contents = t.contents; is = t.is; typed = record { handler = t.typed.handler; as_many = t.typed.as_many; holds = places_grow g t.typed.holds } }
+
+  kept_typed : {Ξ : World} {κ : Context} (h : Name) (σ : Store) → StoreTyped p Ξ σ → ContextTyped p Ξ κ → StoreTyped p (Ξ ++ h ∷ []) (with_kept σ κ)
+  kept_typed {Ξ} {κ} h σ s t = record {
+    as_many = length-append σ.resumptions (Some κ ∷ []) ∙ ap (λ (n : ℕ). n + 1) s.as_many ∙ sym (length-append Ξ (h ∷ []));
+    each = λ a e q. elim (get_appended σ.resumptions (Some κ) e a q) [
       | inl old ↦ entry_grows (grown Ξ h) (s.each a e old)
       | inr new ↦ subst (λ (x : Option Context). EntryTyped p (Ξ ++ h ∷ []) x) (sym new) (entry_grows (grown Ξ h) (kept t))
     ];
+    slots = λ x d q. slots_grow (grown Ξ h) (s.slots x d q);
   }
 
-  emptied_typed : {Ξ : World} (a : ℕ) (entries : List (Option Context)) → StoreTyped p Ξ entries → StoreTyped p Ξ (slice_set entries a None)
-  emptied_typed {Ξ} a entries s = record {
-    as_many = length_set entries a None ∙ s.as_many;
-    each = λ b e q. elim (get_set entries a None e b q) [
+  emptied_typed : {Ξ : World} (a : ℕ) (σ : Store) → StoreTyped p Ξ σ → StoreTyped p Ξ (without σ a)
+  emptied_typed {Ξ} a σ s = record {
+    as_many = length_set σ.resumptions a None ∙ s.as_many;
+    each = λ b e q. elim (get_set σ.resumptions a None e b q) [
       | inl old ↦ s.each b e old
       | inr new ↦ subst (λ (x : Option Context). EntryTyped p Ξ x) (sym new) emptied
     ];
+    slots = s.slots;
   }
+
+  -- ## Slots
+
+  -- the slots of a name are changed, in which as many places hold what they may
+  put_typed : {Ξ : World} (σ : Store) (c : Contents) (n : ℤ) (place : Option ℕ) → StoreTyped p Ξ σ → contents_of c.name σ.slots ≡ Some c → PlacesTyped Ξ c.handler (with_place c.places n place)
+      → StoreTyped p Ξ (put σ c n place)
+  put_typed {Ξ} σ c n place s present holds = record { as_many = s.as_many; each = s.each; slots = slots }
+    where
+      now : (d : Slots) → SlotsThere Ξ d (contents_of c.name σ.slots) → ContentsTyped Ξ d (record c { places = with_place c.places n place })
+      now d t = let same : t.contents ≡ c = let is = t.is in cc (is, present) in
+          record {
+            handler = ap (λ (x : Contents). x.handler) (sym same) ∙ t.typed.handler;
+            as_many = length_with c.places n place ∙ ap (λ (x : Contents). length x.places) (sym same) ∙ t.typed.as_many;
+            holds = holds;
+          }
+
+      slots : (x : Name) (d : Slots) → slots_of p.declarations x ≡ Some d → SlotsThere Ξ d (contents_of x (with_contents (record c { places = with_place c.places n place }) σ.slots))
+      slots x d q = bool_of (bytes_eq c.name x) (λ b. SlotsThere Ξ d (contents_of x (with_contents (record c { places = with_place c.places n place }) σ.slots)))
+          (λ e. let is : x ≡ c.name = same_is x c.name e in
+          record {
+            contents = record c { places = with_place c.places n place };
+            is = ap (λ (y : Name). contents_of y (with_contents (record c { places = with_place c.places n place }) σ.slots)) is ∙ contents_with (record c { places = with_place c.places n place }) σ.slots c present;
+            typed = now d (subst (λ (y : Name). SlotsThere Ξ d (contents_of y σ.slots)) is (s.slots x d q));
+          })
+          (λ e. subst (λ (o : Option Contents). SlotsThere Ξ d o) (sym (contents_other (record c { places = with_place c.places n place }) σ.slots x e)) (s.slots x d q))
+
+  -- a place that is filled, or emptied
+  filled_typed : {Ξ : World} {h : Name} (places : List (Option ℕ)) (n : ℤ) (a : ℕ) → slice_get Ξ a ≡ Some h → PlacesTyped Ξ h places → PlacesTyped Ξ h (with_place places n (Some a))
+  filled_typed {Ξ} {h} places (pos n) a present t = record {
+    each = λ m b q. elim (get_set places n (Some a) (Some b) m q) [
+      | inl old ↦ t.each m b old
+      | inr new ↦ ap (λ (z : ℕ). slice_get Ξ z) (let same : b ≡ a = cc new in same) ∙ present
+    ];
+  }
+  filled_typed places (negsuc n) a present t = t
+
+  freed_typed : {Ξ : World} {h : Name} (places : List (Option ℕ)) (n : ℤ) → PlacesTyped Ξ h places → PlacesTyped Ξ h (with_place places n None)
+  freed_typed places (pos n) t = record {
+    each = λ m b q. elim (get_set places n None (Some b) m q) [
+      | inl old ↦ t.each m b old
+      | inr new ↦ absurd (cc new)
+    ];
+  }
+  freed_typed places (negsuc n) t = t
+
+  -- what stands at a place
+  found_typed : {Ξ : World} {h : Name} (places : List (Option ℕ)) (n : ℤ) (a : ℕ) → place_at places n ≡ Some (Some a) → PlacesTyped Ξ h places → slice_get Ξ a ≡ Some h
+  found_typed places (pos n) a e t = t.each n a e
+  found_typed places (negsuc n) a e t = absurd (cc e)
 
   -- ## The rules
 
   -- a step of this form, where a number comes of it
-  computed_good : {Ξ : World} {Γ : Scope} (e : Around) (c : Computed) → StoreTyped p Ξ e.store.resumptions → Covers Ξ Γ e.variables → WorkTyped p Ξ Γ e.work Int
+  computed_good : {Ξ : World} {Γ : Scope} (e : Around) (c : Computed) → StoreTyped p Ξ e.store → Covers Ξ Γ e.variables → WorkTyped p Ξ Γ e.work Int
       → ContextTyped p Ξ e.outer → StepGood p (unless_faulty c (λ n. goes_on e (Gives (Number n))))
   computed_good {Ξ} e (Is n) s c w κ = on Ξ (record { store = s; term = in_activation (gives c int w) κ })
   computed_good e (Faulty f) s c w κ = faulty
 
-  enters_typed : {Ξ : World} {Γ : Scope} {vars : List Variable} {body : BlockTree} {owner : Option Name} {κ : Context} (σ : Store) → StoreTyped p Ξ σ.resumptions → Match Ξ Γ vars
+  enters_typed : {Ξ : World} {Γ : Scope} {vars : List Variable} {body : BlockTree} {owner : Option Name} {κ : Context} (σ : Store) → StoreTyped p Ξ σ → Match Ξ Γ vars
       → BlockTyped p Γ body → ContextTyped p Ξ κ → StepGood p (enters σ body vars owner κ)
   enters_typed {Ξ} σ s m b κ = on Ξ (record { store = s; term = in_activation (runs (match_covers m) (block_rest b)) κ })
 
@@ -122,13 +182,13 @@ module _ (p : Script) (typed : ScriptTyped p) where
   put_back h t i bs (activation c w inner) κ = in_activation (gives c t w) (context_append inner (handle i bs κ))
   put_back h t i bs (handle j ps inner) κ = in_handle t j ps (context_append inner (handle i bs κ))
 
-  entry_good : {Ξ : World} (h : Name) {i : Handler} {v : Value} {bs : List Value} {κ : Context} (σ : Store) (a : ℕ) (entry : Option Context) → StoreTyped p Ξ σ.resumptions → EntryTyped p Ξ entry
+  entry_good : {Ξ : World} (h : Name) {i : Handler} {v : Value} {bs : List Value} {κ : Context} (σ : Store) (a : ℕ) (entry : Option Context) → StoreTyped p Ξ σ → EntryTyped p Ξ entry
       → HasKind Ξ v Int → handler_of p.declarations h ≡ Some i → AllHave Ξ bs (kinds i.parameters) → ContextTyped p Ξ κ
       → StepGood p (or_fault Reused entry (λ inner. goes (without σ a) (Gives v) (inner ++ Handle h bs ∷ κ)))
   entry_good h σ a None s emptied t i bs κ = faulty
-  entry_good {Ξ} h σ a (Some inner) s (kept u) t i bs κ = on Ξ (record { store = emptied_typed a σ.resumptions s; term = put_back h t i bs u κ })
+  entry_good {Ξ} h σ a (Some inner) s (kept u) t i bs κ = on Ξ (record { store = emptied_typed a σ s; term = put_back h t i bs u κ })
 
-  resumes_good : {Ξ : World} {Γ : Scope} {h : Name} {i : Handler} {κ : Context} {vs : List Value} (e : Around) (k : Name) → StoreTyped p Ξ e.store.resumptions → Covers Ξ Γ e.variables
+  resumes_good : {Ξ : World} {Γ : Scope} {h : Name} {i : Handler} {κ : Context} {vs : List Value} (e : Around) (k : Name) → StoreTyped p Ξ e.store → Covers Ξ Γ e.variables
       → type_in Γ k ≡ Some (Resumption h) → handler_of p.declarations h ≡ Some i → AllHave Ξ vs (Int ∷ kinds i.parameters) → ContextTyped p Ξ κ → StepGood p (resumes e k vs κ)
   resumes_good {h = h} e k s c q i (more t bs) κ =
       let x = c.covers k (Resumption h) q in
@@ -137,7 +197,7 @@ module _ (p : Script) (typed : ScriptTyped p) where
       rw (x.there, x.of_kind, r.is, entry.1) (entry_good h e.store r.address entry.0 s (s.each r.address entry.0 entry.1) t i bs κ)
 
   -- E[do op(vs)]
-  caught_good : {Ξ : World} {op : Name} {n : ℕ} {vs : List Value} (e : Around) (o : Option Found) → StoreTyped p Ξ e.store.resumptions → FindGood Ξ op o → effect_of p.declarations op ≡ Some n
+  caught_good : {Ξ : World} {op : Name} {n : ℕ} {vs : List Value} (e : Around) (o : Option Found) → StoreTyped p Ξ e.store → FindGood Ξ op o → effect_of p.declarations op ≡ Some n
       → AllHave Ξ vs (numbers n) → StepGood p (or_fault (Unhandled op) o (λ f. or_wrong (bind f.handler.parameters f.params) (λ params. or_wrong (bind (number_parameters f.clause.arguments) vs) (λ args.
       let k : Variable = record { name = f.clause.resumption; ty = Resumption f.h; value = Reference (next_address e.store) } in
       enters (with_kept e.store f.inner) f.clause.body (params ++ (args ++ k ∷ [])) (Some f.h) f.outer))))
@@ -152,9 +212,9 @@ module _ (p : Script) (typed : ScriptTyped p) where
       let k : HasKind Ξ' (Reference (next_address e.store)) (Resumption f.h) =
       reference (subst (λ (a : ℕ). slice_get Ξ' a ≡ Some f.h) (sym s.as_many) (get_last Ξ f.h)) in
       rw (params.is, args.is)
-      (enters_typed (with_kept e.store f.inner) (kept_typed f.h e.store.resumptions s t.inner) (match_append params.match (match_append args.match (name k no_names))) ct.body (context_grows grows t.outer))
+      (enters_typed (with_kept e.store f.inner) (kept_typed f.h e.store s t.inner) (match_append params.match (match_append args.match (name k no_names))) ct.body (context_grows grows t.outer))
 
-  applies_good : {Ξ : World} {Γ : Scope} {head : _} {all : List VariableType} {vs : List Value} (e : Around) → StoreTyped p Ξ e.store.resumptions → Covers Ξ Γ e.variables
+  applies_good : {Ξ : World} {Γ : Scope} {head : _} {all : List VariableType} {vs : List Value} (e : Around) → StoreTyped p Ξ e.store → Covers Ξ Γ e.variables
       → HeadTyped p Ξ Γ head all e.work → AllHave Ξ vs all → ContextTyped p Ξ e.outer → StepGood p (applies p e head vs)
   applies_good e s c (calling {f = f} {g = g} q w) vs κ =
       let b = bound_typed g.parameters vs in
@@ -171,7 +231,27 @@ module _ (p : Script) (typed : ScriptTyped p) where
   either_typed P true t u = t
   either_typed P false t u = u
 
-  uses_good : {Ξ : World} {Γ Γ' : Scope} {u : _} {v : Value} {rest : BlockTree} (e : Around) → StoreTyped p Ξ e.store.resumptions → Covers Ξ Γ e.variables → e.work ≡ []
+  -- store s[n] = k, k being the resumption a
+  put_good : {Ξ : World} {Γ : Scope} {rest : BlockTree} (e : Around) (c : Contents) (n : ℤ) (a : ℕ) (o : Option (Option ℕ)) → StoreTyped p Ξ e.store → Covers Ξ Γ e.variables → e.work ≡ []
+      → contents_of c.name e.store.slots ≡ Some c → slice_get Ξ a ≡ Some c.handler → PlacesTyped Ξ c.handler c.places → RestTyped p Γ rest → ContextTyped p Ξ e.outer
+      → StepGood p (or_fault Empty o (λ place. goes_on (record e { store = put e.store c n (Some a) }) (Runs rest)))
+  put_good e c n a None s v w present of_handler holds b κ = faulty
+  put_good {Ξ} e c n a (Some place) s v w present of_handler holds b κ =
+      rw w (on Ξ (record { store = put_typed e.store c n (Some a) s present (filled_typed c.places n a of_handler holds); term = in_activation (runs v b) κ }))
+
+  -- take k = s[n]
+  take_good : {Ξ : World} {Γ : Scope} {rest : BlockTree} (e : Around) (c : Contents) (n : ℤ) (k : Name) (o : Option (Option ℕ)) → place_at c.places n ≡ o → StoreTyped p Ξ e.store → Covers Ξ Γ e.variables
+      → e.work ≡ [] → contents_of c.name e.store.slots ≡ Some c → PlacesTyped Ξ c.handler c.places → RestTyped p (resumption_name c.handler k ∷ Γ) rest → ContextTyped p Ξ e.outer
+      → StepGood p (or_fault Empty o (λ place. or_fault Empty place (λ a. goes_on (record e { store = put e.store c n None; variables = with_variable (variable k (Resumption c.handler) (Reference a)) e.variables }) (Runs rest))))
+  take_good e c n k None q s v w present holds b κ = faulty
+  take_good e c n k (Some None) q s v w present holds b κ = faulty
+  take_good {Ξ} e c n k (Some (Some a)) q s v w present holds b κ =
+      rw w (on Ξ (record {
+        store = put_typed e.store c n None s present (freed_typed c.places n holds);
+        term = in_activation (runs (covers_with k (reference (found_typed c.places n a q holds)) v) b) κ;
+      }))
+
+  uses_good : {Ξ : World} {Γ Γ' : Scope} {u : _} {v : Value} {rest : BlockTree} (e : Around) → StoreTyped p Ξ e.store → Covers Ξ Γ e.variables → e.work ≡ []
       → UseTyped p Γ u Γ' → RestTyped p Γ' rest → HasKind Ξ v Int → ContextTyped p Ξ e.outer → StepGood p (uses e u v rest)
   uses_good {Ξ} e s c w (stores {x = x}) b (int {n = n}) κ = rw w (on Ξ (record { store = s; term = in_activation (runs (covers_stored x n c) b) κ }))
   uses_good {Ξ} e s c w Typed.prints b int κ = rw w (on Ξ (record { store = s; term = in_activation (runs c b) κ }))
@@ -179,8 +259,21 @@ module _ (p : Script) (typed : ScriptTyped p) where
   uses_good e s c w Typed.returns b t κ = leaves_good e.store e.outer s t κ
   uses_good {Ξ} {Γ} e s c w (chooses t u) b (int {n = n}) κ = rw w (on Ξ (record { store = s; term = in_activation (runs c (then_typed (either_typed (BlockTyped p Γ) (holds n) t u) b)) κ }))
   uses_good {Ξ} {Γ} e s c w (turns t u) b (int {n = n}) κ = rw w (on Ξ (record { store = s; term = in_activation (runs c (either_typed (RestTyped p Γ) (holds n) (then_typed u (begins (whiles t u) b)) b)) κ }))
+  uses_good e s c w (puts {s = x} {k = k} {d = d} q i) b (int {n = n}) κ =
+      let v = c.covers k (Resumption d.handler) i in
+      let r = referred v.has in
+      let slots = s.slots x d q in
+      let now = slots.contents in
+      rw (v.there, r.is, slots.is)
+      (put_good e now n r.address (place_at now.places n) s c w (contents_named x e.store.slots now slots.is) (r.there ∙ ap (λ (h : Name). Some h) (sym slots.typed.handler)) slots.typed.holds b κ)
+  uses_good {Γ = Γ} {rest = rest} e s c w (takes {s = x} {k = k} {d = d} q) b (int {n = n}) κ =
+      let slots = s.slots x d q in
+      let now = slots.contents in
+      rw slots.is
+      (take_good e now n k (place_at now.places n) refl s c w (contents_named x e.store.slots now slots.is) slots.typed.holds
+      (subst (λ (h : Name). RestTyped p (resumption_name h k ∷ Γ) rest) (sym slots.typed.handler) b) κ)
 
-  rule_good : {Ξ : World} {Γ : Scope} {r : Redex} (e : Around) → StoreTyped p Ξ e.store.resumptions → Covers Ξ Γ e.variables → ContextTyped p Ξ e.outer
+  rule_good : {Ξ : World} {Γ : Scope} {r : Redex} (e : Around) → StoreTyped p Ξ e.store → Covers Ξ Γ e.variables → ContextTyped p Ξ e.outer
       → RedexTyped p Ξ Γ r e.work → StepGood p (rule p e r)
   rule_good {Ξ} e s c κ (constant w) = on Ξ (record { store = s; term = in_activation (gives c int w) κ })
   rule_good {Ξ} e s c κ (lookup {x = x} {k = k} q w) =
@@ -198,19 +291,19 @@ module _ (p : Script) (typed : ScriptTyped p) where
   rule_good e s c κ failing = faulty
   rule_good e s c κ ending = leaves_good e.store e.outer s int κ
 
-  hole_good : {Ξ : World} {hole : Hole} {vars : List Variable} {w : List Work} {κ : Context} (σ : Store) (owner : Option Name) → StoreTyped p Ξ σ.resumptions → HoleTyped p Ξ hole vars w
+  hole_good : {Ξ : World} {hole : Hole} {vars : List Variable} {w : List Work} {κ : Context} (σ : Store) (owner : Option Name) → StoreTyped p Ξ σ → HoleTyped p Ξ hole vars w
       → ContextTyped p Ξ κ → StepGood p (step_at p σ hole (Activation vars owner w ∷ κ))
   hole_good {vars = vars} {κ = κ'} σ owner s t κ =
       let n = next_typed owner t in
       rw n.is (rule_good (record { store = σ; variables = vars; owner = owner; work = n.focused.work; outer = κ' }) s n.covers κ n.typed)
 
-  return_good : {Ξ : World} {v : Value} (h : Name) {ps : List Value} {κ : Context} {i : Handler} (σ : Store) → StoreTyped p Ξ σ.resumptions → HasKind Ξ v Int → handler_of p.declarations h ≡ Some i
+  return_good : {Ξ : World} {v : Value} (h : Name) {ps : List Value} {κ : Context} {i : Handler} (σ : Store) → StoreTyped p Ξ σ → HasKind Ξ v Int → handler_of p.declarations h ≡ Some i
       → AllHave Ξ ps (kinds i.parameters) → ContextTyped p Ξ κ → StepGood p (step_at p σ (Gives v) (Handle h ps ∷ κ))
   return_good h {i = i} σ s int q hs κ =
       let b = bound_typed i.parameters hs in
       rw (q, b.is) (enters_typed σ s (match_append b.match (name int no_names)) (typed.returns h i q) κ)
 
-  term_good : {Ξ : World} {hole : Hole} {κ : Context} (σ : Store) → StoreTyped p Ξ σ.resumptions → TermTyped p Ξ hole κ → StepGood p (step_at p σ hole κ)
+  term_good : {Ξ : World} {hole : Hole} {κ : Context} (σ : Store) → StoreTyped p Ξ σ → TermTyped p Ξ hole κ → StepGood p (step_at p σ hole κ)
   term_good σ s (in_activation {owner = owner} t κ) = hole_good σ owner s t κ
   term_good σ s (in_handle {h = h} t i hs κ) = return_good h σ s t i hs κ
 

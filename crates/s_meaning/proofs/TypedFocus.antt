@@ -15,13 +15,13 @@ use Rattle.s_syntax.specs.BlockTree.{StatementTree, BlockTree, Done, ◌⨟◌}
 use Rattle.s_check.specs.Scopes.{Scope, type_in}
 use Rattle.s_check.specs.Rules.{count}
 use Rattle.s_meaning.specs.Typing
-use Rattle.s_meaning.specs.Typing.{kinds, numbers, ExprTyped, OperandsTyped, ArgsTyped, literal, read, unary, run, call, does, handle, resume, no_more, next, no_args, number, resumption, Fits, lets, assigns, StatementTyped, evaluates, ifs, whiles, fails}
+use Rattle.s_meaning.specs.Typing.{kinds, numbers, ExprTyped, OperandsTyped, ArgsTyped, literal, read, unary, run, call, does, handle, resume, no_more, next, no_args, number, resumption, Fits, lets, assigns, stores_in, takes_from, StatementTyped, evaluates, ifs, whiles, fails}
 use Rattle.s_meaning.proofs.Scopes.{bool_of, keeps_bound}
 use Rattle.s_meaning.proofs.Variables.{covers_less}
 use Rattle.s_meaning.specs.Terms.{Value, Row, ε, Variable, Head, Handling, Resuming, TailResuming, Use, Work, Among, Within, ToReturn, Hole}
 use Rattle.s_meaning.specs.Focus.{followed_by, Redex, Constant, Lookup, OnUnary, OnBinary, Decides, Applies, Uses, Fails, Ends, Focused, left_of, in_expr, in_args, in_both, variable_of, is_own, in_return, in_block, in_work, focus}
 use Rattle.s_meaning.specs.Typed
-use Rattle.s_meaning.specs.Typed.{World, HasKind, FirstHave, begun, further, RestTyped, begins, behind, UseTyped, stores, chooses, turns, WorkTyped, HeadTyped, under, left, right, among, within, calling, doing, handling, resuming, tail_resuming, HoleTyped, gives, finds, runs, Covers}
+use Rattle.s_meaning.specs.Typed.{World, HasKind, FirstHave, begun, further, RestTyped, begins, behind, UseTyped, stores, chooses, turns, puts, takes, WorkTyped, HeadTyped, under, left, right, among, within, calling, doing, handling, resuming, tail_resuming, HoleTyped, gives, finds, runs, Covers}
 
 -- a redex and the pending work around it
 pub data RedexTyped (p : Script) (Ξ : World) (Γ : Scope) : Redex → List Work → Type 0 where
@@ -110,6 +110,8 @@ module _ (p : Script) (Ξ : World) (Γ : Scope) where
   statement_focus vars owner (evaluates t Typing.prints) b = expr_focus t (within Typed.prints b)
   statement_focus vars owner (evaluates t Typing.returns) b = return_focus vars owner t b
   statement_focus vars owner (evaluates t Typing.drops) b = expr_focus t (within Typed.drops b)
+  statement_focus vars owner (evaluates t (stores_in q i)) b = expr_focus t (within (puts q i) b)
+  statement_focus vars owner (evaluates t (takes_from q f)) b = expr_focus t (within (takes q) b)
   statement_focus vars owner (ifs t b c) d = expr_focus t (within (chooses b c) d)
   statement_focus vars owner (whiles t b) d = expr_focus t (within (turns t b) d)
   statement_focus vars owner fails b = failing

@@ -3,10 +3,9 @@ use Rattle.std.proofs.Common.{◌≡◌, ℤ, Bool, true, false, List, [], ◌�
 use Rattle.std.specs.Str.{bytes_eq}
 use Rattle.s_syntax.specs.declared.name.Name.{Name}
 use Rattle.s_syntax.specs.declared.script.VariableType.{VariableType}
-use Rattle.s_syntax.specs.declared.script.VariableType.TheVariants.{Int}
 use Rattle.s_check.specs.Scopes.{Scope, type_in, number as number_name}
 use Rattle.s_meaning.proofs.Scopes.{same_is, same_refl, bool_of}
-use Rattle.s_meaning.specs.Terms.{Number, Variable}
+use Rattle.s_meaning.specs.Terms.{Value, Variable}
 use Rattle.s_meaning.specs.Focus.{variable_of}
 use Rattle.s_meaning.specs.Steps.{with_variable, stored}
 use Rattle.s_meaning.specs.Typed.{World, HasKind, int, Variable_typed, Covers, Keeps}
@@ -27,26 +26,30 @@ variable_other v (u ∷ vs) y other = bool_of (bytes_eq u.name v.name) (λ b. va
 pub covers_less : {Ξ : World} {Γ Γ' : Scope} {vars : List Variable} → Keeps Γ Γ' → Covers Ξ Γ' vars → Covers Ξ Γ vars
 covers_less m c = record { covers = λ x k e. c.covers x k (m.keeps x k e) }
 
-int_variable : Name → ℤ → Variable
-int_variable x n = record { name = x; ty = Int; value = Number n }
+abbrev pub variable : Name → VariableType → Value → Variable
+variable x t v = record { name = x; ty = t; value = v }
+
+-- a variable that takes the place of the one of its name
+pub covers_with : {Ξ : World} {Γ : Scope} {vars : List Variable} {t : VariableType} {v : Value} (x : Name) → HasKind Ξ v t → Covers Ξ Γ vars
+    → Covers Ξ (record { name = x; ty = t } ∷ Γ) (with_variable (variable x t v) vars)
+covers_with {Ξ} {Γ} {vars} {t} {v} x h c = record { covers = covers }
+  where
+    now : (y : Name) (k : VariableType) → bytes_eq x y ≡ true → t ≡ k → Variable_typed Ξ (with_variable (variable x t v) vars) y k
+    now y k q e = record {
+      variable = variable x t v;
+      there = ap (λ (z : Name). variable_of z (with_variable (variable x t v) vars)) (same_is y x q) ∙ variable_with (variable x t v) vars;
+      of_kind = e;
+      has = subst (λ (j : VariableType). HasKind Ξ v j) e h;
+    }
+
+    other : (y : Name) (k : VariableType) → bytes_eq x y ≡ false → type_in Γ y ≡ Some k → Variable_typed Ξ (with_variable (variable x t v) vars) y k
+    other y k q e = let u = c.covers y k e in
+        record { variable = u.variable; there = variable_other (variable x t v) vars y q ∙ u.there; of_kind = u.of_kind; has = u.has }
+
+    covers : (y : Name) (k : VariableType) → type_in (record { name = x; ty = t } ∷ Γ) y ≡ Some k → Variable_typed Ξ (with_variable (variable x t v) vars) y k
+    covers y k = bool_of (bytes_eq x y) (λ b. (if b then Some t else type_in Γ y) ≡ Some k → Variable_typed Ξ (with_variable (variable x t v) vars) y k)
+        (λ q e. now y k q (cc e)) (λ q e. other y k q e)
 
 -- a variable set to a number
 pub covers_stored : {Ξ : World} {Γ : Scope} {vars : List Variable} (x : Name) (n : ℤ) → Covers Ξ Γ vars → Covers Ξ (number_name x ∷ Γ) (stored x n vars)
-unfolding int_variable
-covers_stored {Ξ} {Γ} {vars} x n c = record { covers = covers }
-  where
-    now : (y : Name) (k : VariableType) → bytes_eq x y ≡ true → k ≡ Int → Variable_typed Ξ (stored x n vars) y k
-    now y k q e = record {
-      variable = int_variable x n;
-      there = ap (λ (z : Name). variable_of z (stored x n vars)) (same_is y x q) ∙ variable_with (int_variable x n) vars;
-      of_kind = sym e;
-      has = subst (λ (j : VariableType). HasKind Ξ (Number n) j) (sym e) int;
-    }
-
-    other : (y : Name) (k : VariableType) → bytes_eq x y ≡ false → type_in Γ y ≡ Some k → Variable_typed Ξ (stored x n vars) y k
-    other y k q e = let v = c.covers y k e in
-        record { variable = v.variable; there = variable_other (int_variable x n) vars y q ∙ v.there; of_kind = v.of_kind; has = v.has }
-
-    covers : (y : Name) (k : VariableType) → type_in (number_name x ∷ Γ) y ≡ Some k → Variable_typed Ξ (stored x n vars) y k
-    covers y k = bool_of (bytes_eq x y) (λ b. (if b then Some Int else type_in Γ y) ≡ Some k → Variable_typed Ξ (stored x n vars) y k)
-        (λ q e. now y k q (cc e)) (λ q e. other y k q e)
+covers_stored x n c = covers_with x int c

@@ -1,23 +1,38 @@
 -- Eval: what at most n steps of a script come to, and when a run of a module follows it.
-use Rattle.std.specs.Prelude.{ℕ, ◌≤◌, ◌<◌, ◌+◌, ℤ, List, [], ◌∷◌, codes, Option, Some, None}
+use Rattle.std.specs.Prelude.{ℕ, ◌≤◌, ◌<◌, ◌+◌, ℤ, List, [], ◌∷◌, ◌++◌, replicate, codes, Option, Some, None}
 use Rattle.following.specs.Follows.{after, End, Follows as FollowsAny}
 use Rattle.following.specs.Steps.{Evaled, step_on, evaluated}
 use Rattle.s_syntax.specs.declared.script.Function.{Function}
+use Rattle.s_syntax.specs.declared.name.Name.{Name}
+use Rattle.s_syntax.specs.declared.script.Definition.{Definition}
+use Rattle.s_syntax.specs.declared.script.Definition.TheVariants as definition
+use Rattle.s_syntax.specs.declared.script.Declaration.{Declaration}
 use Rattle.s_syntax.specs.declared.script.Script.{Script}
 use Rattle.s_syntax.specs.BlockTree.{BlockTree, Done}
 use Rattle.s_check.specs.Definitions.{function_of}
 use Rattle.s_meaning.specs.Numbers.{Fault}
-use Rattle.s_meaning.specs.Terms.{Activation, Runs, Configuration, acts, hands, kept}
+use Rattle.s_meaning.specs.Terms.{Activation, Runs, Contents, Configuration, acts, hands, kept}
 use Rattle.s_meaning.specs.Steps.{step}
 
 abbrev pub body_or_none : Option Function → BlockTree
 body_or_none None = Done
 body_or_none (Some f) = f.body
 
--- the start: an activation of main, and no resumption
+-- slots at the start: all places are empty
+abbrev pub contents_for : Name → Definition → List Contents
+contents_for s (definition.Effect n) = []
+contents_for s (definition.Function f) = []
+contents_for s (definition.Handler h) = []
+contents_for s (definition.Slots d) = record { name = s; handler = d.handler; places = replicate d.places.value None } ∷ []
+
+abbrev pub first_contents : List Declaration → List Contents
+first_contents [] = []
+first_contents (d ∷ ds) = contents_for d.name d.definition ++ first_contents ds
+
+-- the start: an activation of main, no resumption, and empty slots
 abbrev pub start : Script → Configuration
 start p = record {
-  store = record { resumptions = [] };
+  store = record { resumptions = []; slots = first_contents p.declarations };
   term = record { hole = Runs (body_or_none (function_of p.declarations (codes "main"))); around = Activation [] None [] ∷ [] };
 }
 

@@ -14,7 +14,7 @@ use Rattle.s_syntax.specs.declared.statement.Use.{Use as ValueUse}
 use Rattle.s_syntax.specs.declared.statement.Use.TheVariants as use_for
 use Rattle.s_syntax.specs.BlockTree.{Evaluate, If, While, Fail, BlockTree, Done, ◌⨟◌}
 use Rattle.s_check.specs.Rules.{count}
-use Rattle.s_meaning.specs.Terms.{Value, Row, ε, ◌▹◌, Variable, Head, Calling, Doing, Handling, Resuming, TailResuming, Use, ToStore, ToPrint, ToDrop, ToReturn, ToChoose, ToTurn, Work, UnderUnary, LeftOf, RightOf, Among, Within, Hole, Gives, Finds, Runs}
+use Rattle.s_meaning.specs.Terms.{Value, Row, ε, ◌▹◌, Variable, Head, Calling, Doing, Handling, Resuming, TailResuming, Use, ToStore, ToPrint, ToDrop, ToReturn, ToChoose, ToTurn, ToPut, ToTake, Work, UnderUnary, LeftOf, RightOf, Among, Within, Hole, Gives, Finds, Runs}
 
 -- r: what one step does, where all that it needs are values
 pub data Redex : Type 0 where
@@ -104,6 +104,8 @@ in_evaluate vars owner (use_for.Assign x) e rest = in_expr e (Within (ToStore x)
 in_evaluate vars owner use_for.Print e rest = in_expr e (Within ToPrint rest ∷ [])
 in_evaluate vars owner use_for.Return e rest = in_return vars owner e rest
 in_evaluate vars owner use_for.Drop e rest = in_expr e (Within ToDrop rest ∷ [])
+in_evaluate vars owner (use_for.Store s k) e rest = in_expr e (Within (ToPut s k) rest ∷ [])
+in_evaluate vars owner (use_for.Take k s) e rest = in_expr e (Within (ToTake k s) rest ∷ [])
 
 -- in the rest of a body
 abbrev pub in_block : List Variable → Option Name → BlockTree → Focused

@@ -17,7 +17,7 @@ use Rattle.s_syntax.specs.declared.operators.Arithmetic.TheVariants.{Add, Subtra
 use Rattle.s_syntax.specs.declared.operators.BinaryOperator.TheVariants.{Connects, Compares, Computes}
 
 pub data Fault : Type 0 where
-  DivZero Overflow Failed Reused : Fault
+  DivZero Overflow Failed Reused Empty : Fault
   Unhandled : (op : Name) → Fault
 
 abbrev pub least : ℤ

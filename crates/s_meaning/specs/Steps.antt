@@ -1,6 +1,6 @@
 -- The steps of scripts. Each rule's comment is the rule in the field's notation: σ is the store, E the context of the activation
 -- that takes the step, with its variables, and F, F' further contexts; E[..] stands for the step's result in that activation.
-use Rattle.std.specs.Prelude.{ℕ, ℤ, pos, List, [], ◌∷◌, ◌++◌, Option, Some, None, length, take, drop, slice_get, slice_set, option_map, if◌then◌else◌}
+use Rattle.std.specs.Prelude.{ℕ, ℤ, pos, negsuc, List, [], ◌∷◌, ◌++◌, Option, Some, None, length, take, drop, slice_get, slice_set, option_map, if◌then◌else◌}
 use Rattle.std.specs.Str.{bytes_eq}
 use Rattle.following.specs.Steps.{Stepped, Goes, Returns, Faults, Wrong}
 use Rattle.s_syntax.specs.declared.name.Name.{Name}
@@ -13,8 +13,8 @@ use Rattle.s_syntax.specs.declared.script.Script.{Script}
 use Rattle.s_syntax.specs.declared.operators.BinaryOperator.TheVariants.{Connects}
 use Rattle.s_syntax.specs.BlockTree.{BlockTree, While, Done, ◌⨟◌}
 use Rattle.s_check.specs.Definitions.{function_of, handler_of}
-use Rattle.s_meaning.specs.Numbers.{Fault, Failed, Reused, Unhandled, Computed, Is, Faulty, holds, truth, unary, operate, decided, line}
-use Rattle.s_meaning.specs.Terms.{Value, Number, Reference, listed, Variable, Head, Calling, Doing, Handling, Resuming, TailResuming, Use, ToStore, ToPrint, ToDrop, ToReturn, ToChoose, ToTurn, Work, RightOf, Place, Activation, Handle, Context, Hole, Gives, Finds, Runs, Store, Configuration}
+use Rattle.s_meaning.specs.Numbers.{Fault, Failed, Reused, Empty, Unhandled, Computed, Is, Faulty, holds, truth, unary, operate, decided, line}
+use Rattle.s_meaning.specs.Terms.{Value, Number, Reference, listed, Variable, Head, Calling, Doing, Handling, Resuming, TailResuming, Use, ToStore, ToPrint, ToDrop, ToReturn, ToChoose, ToTurn, ToPut, ToTake, Work, RightOf, Place, Activation, Handle, Context, Hole, Gives, Finds, Runs, Contents, Store, Configuration}
 use Rattle.s_meaning.specs.Focus.{Redex, Constant, Lookup, OnUnary, OnBinary, Decides, Applies, Uses, Fails, Ends, left_of, variable_of, focus}
 
 abbrev pub Step : Type 0
@@ -133,6 +133,31 @@ next_address σ = length σ.resumptions
 abbrev pub kept_at : Store → ℕ → Option (Option Context)
 kept_at σ a = slice_get σ.resumptions a
 
+-- ## Slots
+
+-- what the slots of this name hold
+abbrev pub contents_of : Name → List Contents → Option Contents
+contents_of s [] = None
+contents_of s (c ∷ cs) = if bytes_eq c.name s then Some c else contents_of s cs
+
+-- these take the place of those of their name
+abbrev pub with_contents : Contents → List Contents → List Contents
+with_contents c [] = []
+with_contents c (d ∷ ds) = if bytes_eq d.name c.name then c ∷ ds else (d ∷ with_contents c ds)
+
+-- the place of this number; there is none below 0, nor past the end
+abbrev pub place_at : {A : Type 0} → List A → ℤ → Option A
+place_at xs (pos n) = slice_get xs n
+place_at xs (negsuc n) = None
+
+abbrev pub with_place : {A : Type 0} → List A → ℤ → A → List A
+with_place xs (pos n) x = slice_set xs n x
+with_place xs (negsuc n) x = xs
+
+-- the slots c hold this at place n from now on
+abbrev pub put : Store → Contents → ℤ → Option ℕ → Store
+put σ c n place = record σ { slots = with_contents (record c { places = with_place c.places n place }) σ.slots }
+
 -- ## The rules
 
 -- where a redex stands: the store, its activation, and the context around that
@@ -221,6 +246,22 @@ uses e (ToChoose b d) v rest = do
 uses e (ToTurn c body) v rest = do
   n ← as_number v
   goes_on e (Runs (if holds n then body ⨟⨟ While c body ⨟ rest else rest))
+-- σ; E[store s[v] = k;]  ⟶  σ with k at place v of s; E[]   where s has this place
+uses e (ToPut s k) v rest = do
+  n ← as_number v
+  x ← or_wrong (variable_of k e.variables)
+  a ← as_reference x.value
+  c ← or_wrong (contents_of s e.store.slots)
+  place ← or_fault Empty (place_at c.places n)
+  goes_on (record e { store = put e.store c n (Some a) }) (Runs rest)
+-- σ; E[take k = s[v];]  ⟶  σ with place v of s empty; E[] with what stood there as k   where s has this place, and it isn't empty
+uses e (ToTake k s) v rest = do
+  n ← as_number v
+  c ← or_wrong (contents_of s e.store.slots)
+  place ← or_fault Empty (place_at c.places n)
+  a ← or_fault Empty place
+  let x : Variable = record { name = k; ty = Resumption c.handler; value = Reference a } in
+      goes_on (record e { store = put e.store c n None; variables = with_variable x e.variables }) (Runs rest)
 
 abbrev pub rule : Script → Around → Redex → Step
 -- E[n]  ⟶  E[n]

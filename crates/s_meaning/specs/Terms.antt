@@ -51,6 +51,9 @@ pub data Use : Type 0 where
   ToChoose : (a b : BlockTree) → Use
   -- while [ ] body, whose condition is e
   ToTurn : (e : ExprTree) (body : BlockTree) → Use
+  -- store s[ ] = k, and take k = s[ ]
+  ToPut : (s k : Name) → Use
+  ToTake : (k s : Name) → Use
 
 -- Pending work of an activation: what stands directly around an expression.
 pub data Work : Type 0 where
@@ -83,9 +86,16 @@ pub record Term : Type 0 where
   pub hole : Hole
   pub around : Context
 
--- What stays beside the term: the resumptions by address, `None` where consumed.
+-- slots: the places, each of which holds a resumption of the handler, by its address, or is empty
+pub record Contents : Type 0 where
+  pub name : Name
+  pub handler : Name
+  pub places : List (Option ℕ)
+
+-- What stays beside the term: the resumptions by address, `None` where consumed, and what slots hold, in the order of their declarations.
 pub record Store : Type 0 where
   pub resumptions : List (Option Context)
+  pub slots : List Contents
 
 pub record Configuration : Type 0 where
   pub store : Store

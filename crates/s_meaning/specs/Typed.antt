@@ -7,14 +7,16 @@ use Rattle.s_syntax.specs.declared.operators.UnaryOperator.{UnaryOperator}
 use Rattle.s_syntax.specs.declared.operators.BinaryOperator.{BinaryOperator}
 use Rattle.s_syntax.specs.declared.script.Function.{Function}
 use Rattle.s_syntax.specs.declared.script.Handler.{Handler}
+use Rattle.s_syntax.specs.declared.script.Slots.{Slots}
 use Rattle.s_syntax.specs.declared.script.Script.{Script}
 use Rattle.s_syntax.specs.ExprTree.{ExprTree, Exprs, Operands}
 use Rattle.s_syntax.specs.BlockTree.{StatementTree, BlockTree, Done, ◌⨟◌}
-use Rattle.s_check.specs.Definitions.{function_of, handler_of, effect_of}
-use Rattle.s_check.specs.Scopes.{Scope, type_in, number as number_name}
+use Rattle.s_check.specs.Definitions.{function_of, handler_of, effect_of, slots_of}
+use Rattle.s_check.specs.Scopes.{Scope, type_in, number as number_name, resumption as resumption_name}
 use Rattle.s_meaning.specs.Typing.{kinds, numbers, ExprTyped, OperandsTyped, ArgsTyped, StatementTyped, BlockTyped}
-use Rattle.s_meaning.specs.Terms.{Value, Number, Reference, Row, ε, ◌▹◌, Variable, Head, Calling, Doing, Handling, Resuming, TailResuming, Use, ToStore, ToPrint, ToDrop, ToReturn, ToChoose, ToTurn, Work, UnderUnary, LeftOf, RightOf, Among, Within, Activation, Handle, Context, Hole, Gives, Finds, Runs, Configuration}
+use Rattle.s_meaning.specs.Terms.{Value, Number, Reference, Row, ε, ◌▹◌, Variable, Head, Calling, Doing, Handling, Resuming, TailResuming, Use, ToStore, ToPrint, ToDrop, ToReturn, ToChoose, ToTurn, ToPut, ToTake, Work, UnderUnary, LeftOf, RightOf, Among, Within, Activation, Handle, Context, Hole, Gives, Finds, Runs, Contents, Store, Configuration}
 use Rattle.s_meaning.specs.Focus.{variable_of}
+use Rattle.s_meaning.specs.Steps.{contents_of}
 
 -- the handler of each address
 abbrev pub World : Type 0
@@ -62,6 +64,8 @@ pub data UseTyped (p : Script) (Γ : Scope) : Use → Scope → Type 0 where
   returns : UseTyped p Γ ToReturn Γ
   chooses : {b d : BlockTree} → BlockTyped p Γ b → BlockTyped p Γ d → UseTyped p Γ (ToChoose b d) Γ
   turns : {e : ExprTree} {b : BlockTree} → ExprTyped p Γ e → BlockTyped p Γ b → UseTyped p Γ (ToTurn e b) Γ
+  puts : {s k : Name} {d : Slots} → slots_of p.declarations s ≡ Some d → type_in Γ k ≡ Some (Resumption d.handler) → UseTyped p Γ (ToPut s k) Γ
+  takes : {s k : Name} {d : Slots} → slots_of p.declarations s ≡ Some d → UseTyped p Γ (ToTake k s) (resumption_name d.handler k ∷ Γ)
 
 mutual
   -- pending work that takes a value of this type
@@ -112,10 +116,26 @@ pub data EntryTyped (p : Script) (Ξ : World) : Option Context → Type 0 where
   emptied : EntryTyped p Ξ None
   kept : {κ : Context} → ContextTyped p Ξ κ → EntryTyped p Ξ (Some κ)
 
-pub record StoreTyped (p : Script) (Ξ : World) (entries : List (Option Context)) : Type 0 where
-  pub as_many : length entries ≡ length Ξ
-  pub each : (a : ℕ) (e : Option Context) → slice_get entries a ≡ Some e → EntryTyped p Ξ e
+-- places that hold resumptions of the handler h, as far as they hold any
+pub record PlacesTyped (Ξ : World) (h : Name) (places : List (Option ℕ)) : Type 0 where
+  pub each : (n a : ℕ) → slice_get places n ≡ Some (Some a) → slice_get Ξ a ≡ Some h
+
+-- what the slots of this declaration hold
+pub record ContentsTyped (Ξ : World) (d : Slots) (c : Contents) : Type 0 where
+  pub handler : c.handler ≡ d.handler
+  pub as_many : length c.places ≡ d.places.value
+  pub holds : PlacesTyped Ξ c.handler c.places
+
+pub record SlotsThere (Ξ : World) (d : Slots) (o : Option Contents) : Type 0 where
+  pub contents : Contents
+  pub is : o ≡ Some contents
+  pub typed : ContentsTyped Ξ d contents
+
+pub record StoreTyped (p : Script) (Ξ : World) (σ : Store) : Type 0 where
+  pub as_many : length σ.resumptions ≡ length Ξ
+  pub each : (a : ℕ) (e : Option Context) → slice_get σ.resumptions a ≡ Some e → EntryTyped p Ξ e
+  pub slots : (s : Name) (d : Slots) → slots_of p.declarations s ≡ Some d → SlotsThere Ξ d (contents_of s σ.slots)
 
 pub record Typed (p : Script) (Ξ : World) (c : Configuration) : Type 0 where
-  pub store : StoreTyped p Ξ c.store.resumptions
+  pub store : StoreTyped p Ξ c.store
   pub term : TermTyped p Ξ c.term.hole c.term.around

@@ -10,13 +10,14 @@ use Rattle.s_syntax.specs.declared.script.Parameter.{Parameter}
 use Rattle.s_syntax.specs.declared.script.Function.{Function}
 use Rattle.s_syntax.specs.declared.script.Clause.{Clause}
 use Rattle.s_syntax.specs.declared.script.Handler.{Handler}
+use Rattle.s_syntax.specs.declared.script.Slots.{Slots}
 use Rattle.s_syntax.specs.declared.script.Script.{Script}
 use Rattle.s_syntax.specs.ExprTree.{ExprTree, Literal, Read, Unary, Run, Call, Do, Handle, Resume, Exprs, NoExprs, MoreExprs, Operands, NoOperands, MoreOperands}
 use Rattle.s_syntax.specs.declared.statement.Use.{Use as ValueUse}
 use Rattle.s_syntax.specs.declared.statement.Use.TheVariants as use_for
 use Rattle.s_syntax.specs.BlockTree.{StatementTree, Evaluate, If, While, Fail, BlockTree, Done, ◌⨟◌}
-use Rattle.s_check.specs.Definitions.{function_of, handler_of, effect_of}
-use Rattle.s_check.specs.Scopes.{Scope, type_in, number as number_name, parameter, of_clause, of_return}
+use Rattle.s_check.specs.Definitions.{function_of, handler_of, effect_of, slots_of}
+use Rattle.s_check.specs.Scopes.{Scope, type_in, number as number_name, resumption as resumption_name, parameter, of_clause, of_return}
 use Rattle.s_meaning.specs.Steps.{clause_of}
 
 abbrev pub kinds : List Parameter → List VariableType
@@ -58,17 +59,21 @@ pub record Fits (x : Name) (t : VariableType) (Γ : Scope) : Type 0 where
   pub fits : (k : VariableType) → type_in Γ x ≡ Some k → k ≡ t
 
 -- what a statement does with its number, and what is bound behind it
-pub data ValueUseTyped (Γ : Scope) : ValueUse → Scope → Type 0 where
-  lets : {x : Name} → Fits x Int Γ → ValueUseTyped Γ (use_for.Let x) (number_name x ∷ Γ)
-  assigns : {x : Name} → type_in Γ x ≡ Some Int → ValueUseTyped Γ (use_for.Assign x) Γ
-  prints : ValueUseTyped Γ use_for.Print Γ
-  returns : ValueUseTyped Γ use_for.Return Γ
-  drops : ValueUseTyped Γ use_for.Drop Γ
+pub data ValueUseTyped (p : Script) (Γ : Scope) : ValueUse → Scope → Type 0 where
+  lets : {x : Name} → Fits x Int Γ → ValueUseTyped p Γ (use_for.Let x) (number_name x ∷ Γ)
+  assigns : {x : Name} → type_in Γ x ≡ Some Int → ValueUseTyped p Γ (use_for.Assign x) Γ
+  prints : ValueUseTyped p Γ use_for.Print Γ
+  returns : ValueUseTyped p Γ use_for.Return Γ
+  drops : ValueUseTyped p Γ use_for.Drop Γ
+  -- it is a place: a resumption of the slots' handler is put there, or taken from there
+  stores_in : {s k : Name} {d : Slots} → slots_of p.declarations s ≡ Some d → type_in Γ k ≡ Some (Resumption d.handler) → ValueUseTyped p Γ (use_for.Store s k) Γ
+  takes_from : {s k : Name} {d : Slots} → slots_of p.declarations s ≡ Some d → Fits k (Resumption d.handler) Γ
+      → ValueUseTyped p Γ (use_for.Take k s) (resumption_name d.handler k ∷ Γ)
 
 mutual
   -- a statement, and what is bound behind it
   pub data StatementTyped (p : Script) : Scope → StatementTree → Scope → Type 0 where
-    evaluates : {Γ Γ' : Scope} {u : ValueUse} {e : ExprTree} → ExprTyped p Γ e → ValueUseTyped Γ u Γ' → StatementTyped p Γ (Evaluate u e) Γ'
+    evaluates : {Γ Γ' : Scope} {u : ValueUse} {e : ExprTree} → ExprTyped p Γ e → ValueUseTyped p Γ u Γ' → StatementTyped p Γ (Evaluate u e) Γ'
     ifs : {Γ : Scope} {e : ExprTree} {b c : BlockTree} → ExprTyped p Γ e → BlockTyped p Γ b → BlockTyped p Γ c → StatementTyped p Γ (If e b c) Γ
     whiles : {Γ : Scope} {e : ExprTree} {b : BlockTree} → ExprTyped p Γ e → BlockTyped p Γ b → StatementTyped p Γ (While e b) Γ
     fails : {Γ : Scope} → StatementTyped p Γ Fail Γ

@@ -10,7 +10,7 @@ use crate::parameter::parameters_at;
 use crate::statement::block_at;
 use lists::ListOf;
 use s_expr::{Source, Stop, expect, int_at, is_kind, kind_at, name_at};
-use s_syntax::{Declaration, Definition, Function, Handler, Kind, Script};
+use s_syntax::{Declaration, Definition, Function, Handler, Kind, Script, Slots};
 
 // An effect.
 #[tactic(auto, unfolding(s_grammar::specs::Reads::declaration_by, s_grammar::specs::Reads::led, s_grammar::specs::Reads::ended))]
@@ -59,6 +59,25 @@ fn handler_at(source: &Source, at: usize, nest: usize) -> Result<(Declaration, u
     Ok((Declaration { name, definition }, at))
 }
 
+// Slots.
+#[tactic(auto, unfolding(s_grammar::specs::Reads::declaration_by, s_grammar::specs::Reads::led, s_grammar::specs::Reads::ended))]
+fn slots_at(source: &Source, at: usize, nest: usize) -> Result<(Declaration, usize), Stop>
+    requires within { at ≤ length source.now.tokens.now }
+    ensures reads { ReadsAt (declaration_by source.now.bytes.now nest kind.Slots) source.now.tokens.now at result }
+{
+    let (_, at) = expect(source, at, Kind::Slots)?;
+    let (name, at) = name_at(source, at)?;
+    let (_, at) = expect(source, at, Kind::Colon)?;
+    let (_, at) = expect(source, at, Kind::Res)?;
+    let (handler, at) = name_at(source, at)?;
+    let (_, at) = expect(source, at, Kind::OpenBracket)?;
+    let (places, at) = int_at(source, at)?;
+    let (_, at) = expect(source, at, Kind::CloseBracket)?;
+    let (_, at) = expect(source, at, Kind::Semicolon)?;
+    let definition = Definition::Slots(Slots { handler, places });
+    Ok((Declaration { name, definition }, at))
+}
+
 // A declaration.
 #[tactic(auto, unfolding(crate::specs::Items::declaration, s_grammar::specs::Reads::declaration_by))]
 fn declaration_at(source: &Source, at: usize, nest: usize) -> Result<(Declaration, usize), Stop>
@@ -68,6 +87,7 @@ fn declaration_at(source: &Source, at: usize, nest: usize) -> Result<(Declaratio
     match kind_at(source, at) {
         Kind::Fn => function_at(source, at, nest),
         Kind::Handler => handler_at(source, at, nest),
+        Kind::Slots => slots_at(source, at, nest),
         _ => effect_at(source, at, nest),
     }
 }

@@ -5,7 +5,7 @@ ghost use Rattle.s_syntax.specs.BlockOf.{statement_of};
 ghost use Rattle.s_syntax.specs.declared.token.Kind.TheVariants as kind;
 ghost use Rattle.s_grammar.specs.Kinds.{kind_of};
 ghost use Rattle.s_grammar.specs.Reading.{image};
-ghost use Rattle.s_grammar.specs.Reads.{expr, block, statement_by, ended, led, key, assigned, evaluated};
+ghost use Rattle.s_grammar.specs.Reads.{expr, block, statement_by, ended, led, key, name, assigned, evaluated};
 ghost use Rattle.s_expr.specs.Places.{ReadsAt, ReadsAs};
 ghost use Rattle.s_parse.specs.Items.{statement, statements, named_value, branches, or_done};
 
@@ -13,15 +13,15 @@ use s_expr::{Source, Stop, expect, expr_at, is_kind, kind_at, name_at};
 use s_syntax::{Block, Expr, Kind, Name, Statement, Use};
 use std::alloc::Global;
 
-// An expression and a semicolon. An expression that isn't answered goes by a call of `drop`, here and below: let go in place, each of its
+// An expression and a token of this kind. An expression that isn't answered goes by a call of `drop`, here and below: let go in place, each of its
 // forms would be a case of this function's proof.
 #[tactic(auto, unfolding(s_grammar::specs::Reads::ended))]
-fn ended_at(source: &Source, at: usize, nest: usize) -> Result<(Expr, usize), Stop>
+fn ended_at(source: &Source, at: usize, nest: usize, end: Kind) -> Result<(Expr, usize), Stop>
     requires within { at ≤ length source.now.tokens.now }
-    ensures reads { ReadsAt (ended (expr source.now.bytes.now nest) kind.Semicolon) source.now.tokens.now at result }
+    ensures reads { ReadsAt (ended (expr source.now.bytes.now nest) end) source.now.tokens.now at result }
 {
     let (value, at) = expr_at(source, at, nest)?;
-    match expect(source, at, Kind::Semicolon) {
+    match expect(source, at, end) {
         Ok((_, at)) => Ok((value, at)),
         Err(stop) => {
             drop(value);
@@ -38,7 +38,7 @@ fn named_value_at(source: &Source, at: usize, nest: usize) -> Result<((Name, Exp
 {
     let (name, at) = name_at(source, at)?;
     let (_, at) = expect(source, at, Kind::Assign)?;
-    let (value, at) = ended_at(source, at, nest)?;
+    let (value, at) = ended_at(source, at, nest, Kind::Semicolon)?;
     Ok(((name, value), at))
 }
 
@@ -71,7 +71,7 @@ fn evaluate_at(source: &Source, at: usize, nest: usize) -> Result<(Statement, us
     requires within { at ≤ length source.now.tokens.now }
     ensures reads { ReadsAs statement_of (evaluated (expr source.now.bytes.now nest)) source.now.tokens.now at result }
 {
-    let (value, at) = ended_at(source, at, nest)?;
+    let (value, at) = ended_at(source, at, nest, Kind::Semicolon)?;
     let what = Use::Drop;
     Ok((Statement::Evaluate { what, value }, at))
 }
@@ -83,7 +83,7 @@ fn print_at(source: &Source, at: usize, nest: usize) -> Result<(Statement, usize
     ensures reads { ReadsAs statement_of (statement_by source.now.bytes.now (expr source.now.bytes.now nest) (block source.now.bytes.now nest) kind.Print) source.now.tokens.now at result }
 {
     let (_, at) = expect(source, at, Kind::Print)?;
-    let (value, at) = ended_at(source, at, nest)?;
+    let (value, at) = ended_at(source, at, nest, Kind::Semicolon)?;
     let what = Use::Print;
     Ok((Statement::Evaluate { what, value }, at))
 }
@@ -95,8 +95,74 @@ fn return_at(source: &Source, at: usize, nest: usize) -> Result<(Statement, usiz
     ensures reads { ReadsAs statement_of (statement_by source.now.bytes.now (expr source.now.bytes.now nest) (block source.now.bytes.now nest) kind.Return) source.now.tokens.now at result }
 {
     let (_, at) = expect(source, at, Kind::Return)?;
-    let (value, at) = ended_at(source, at, nest)?;
+    let (value, at) = ended_at(source, at, nest, Kind::Semicolon)?;
     let what = Use::Return;
+    Ok((Statement::Evaluate { what, value }, at))
+}
+
+// The name of what is stored.
+#[tactic(auto, unfolding(s_grammar::specs::Reads::led, s_grammar::specs::Reads::ended))]
+fn stored_at(source: &Source, at: usize) -> Result<(Name, usize), Stop>
+    requires within { at ≤ length source.now.tokens.now }
+    ensures reads { ReadsAt (led kind.Assign (ended (name source.now.bytes.now) kind.Semicolon)) source.now.tokens.now at result }
+{
+    let (_, at) = expect(source, at, Kind::Assign)?;
+    let (name, at) = name_at(source, at)?;
+    let (_, at) = expect(source, at, Kind::Semicolon)?;
+    Ok((name, at))
+}
+
+// A resumption that is stored.
+#[tactic(auto, unfolding(s_grammar::specs::Reads::statement_by, s_grammar::specs::Reads::led))]
+fn store_at(source: &Source, at: usize, nest: usize) -> Result<(Statement, usize), Stop>
+    requires within { at ≤ length source.now.tokens.now }
+    ensures reads { ReadsAs statement_of (statement_by source.now.bytes.now (expr source.now.bytes.now nest) (block source.now.bytes.now nest) kind.Store) source.now.tokens.now at result }
+{
+    let (_, at) = expect(source, at, Kind::Store)?;
+    let (slots, at) = name_at(source, at)?;
+    let (_, at) = expect(source, at, Kind::OpenBracket)?;
+    let (value, at) = ended_at(source, at, nest, Kind::CloseBracket)?;
+    match stored_at(source, at) {
+        Ok((name, at)) => {
+            let what = Use::Store { slots, name };
+            Ok((Statement::Evaluate { what, value }, at))
+        }
+        Err(stop) => {
+            drop(value);
+            Err(stop)
+        }
+    }
+}
+
+// The place that a resumption is taken from.
+#[tactic(auto, unfolding(s_grammar::specs::Reads::ended))]
+fn taken_at(source: &Source, at: usize, nest: usize) -> Result<(Expr, usize), Stop>
+    requires within { at ≤ length source.now.tokens.now }
+    ensures reads { ReadsAt (ended (ended (expr source.now.bytes.now nest) kind.CloseBracket) kind.Semicolon) source.now.tokens.now at result }
+{
+    let (value, at) = ended_at(source, at, nest, Kind::CloseBracket)?;
+    match expect(source, at, Kind::Semicolon) {
+        Ok((_, at)) => Ok((value, at)),
+        Err(stop) => {
+            drop(value);
+            Err(stop)
+        }
+    }
+}
+
+// A resumption that is taken.
+#[tactic(auto, unfolding(s_grammar::specs::Reads::statement_by, s_grammar::specs::Reads::led))]
+fn take_at(source: &Source, at: usize, nest: usize) -> Result<(Statement, usize), Stop>
+    requires within { at ≤ length source.now.tokens.now }
+    ensures reads { ReadsAs statement_of (statement_by source.now.bytes.now (expr source.now.bytes.now nest) (block source.now.bytes.now nest) kind.Take) source.now.tokens.now at result }
+{
+    let (_, at) = expect(source, at, Kind::Take)?;
+    let (name, at) = name_at(source, at)?;
+    let (_, at) = expect(source, at, Kind::Assign)?;
+    let (slots, at) = name_at(source, at)?;
+    let (_, at) = expect(source, at, Kind::OpenBracket)?;
+    let (value, at) = taken_at(source, at, nest)?;
+    let what = Use::Take { name, slots };
     Ok((Statement::Evaluate { what, value }, at))
 }
 
@@ -215,6 +281,8 @@ fn statement_at(source: &Source, at: usize, nest: usize) -> Result<(Statement, u
         Kind::Print => print_at(source, at, nest),
         Kind::Return => return_at(source, at, nest),
         Kind::Fail => fail_at(source, at),
+        Kind::Store => store_at(source, at, nest),
+        Kind::Take => take_at(source, at, nest),
         Kind::Name => named_at(source, at, nest),
         _ => evaluate_at(source, at, nest),
     }

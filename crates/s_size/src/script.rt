@@ -32,7 +32,7 @@ fn after_definition(budget: u32, definition: &Definition) -> Option<u32>
 {
     let left = after(budget, 1)?;
     match definition {
-        Definition::Effect(_) => Some(left),
+        Definition::Effect(_) | Definition::Slots(_) => Some(left),
         Definition::Function(function) => {
             let left = after(left, function.parameters.as_slice().len())?;
             after_block(left, &function.body)

@@ -14,7 +14,7 @@ pub use name::Name;
 pub use number::Number;
 pub use operators::{Arithmetic, BinaryOperator, Comparison, Connective, UnaryOperator};
 pub use script::{
-    Clause, Declaration, Definition, Function, Handler, Parameter, ReturnClause, Script,
+    Clause, Declaration, Definition, Function, Handler, Parameter, ReturnClause, Script, Slots,
     VariableType,
 };
 pub use statement::{Block, Statement, Use};

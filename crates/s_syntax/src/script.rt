@@ -52,6 +52,13 @@ pub struct Handler {
     pub clauses: ListOf<Clause>,
 }
 
+/// Slots: how many places they have, each of which holds a resumption of the handler of this name, or nothing.
+#[derive(Drop)]
+pub struct Slots {
+    pub handler: Name,
+    pub places: Number,
+}
+
 /// What a declaration declares.
 #[derive(Drop)]
 pub enum Definition {
@@ -61,6 +68,8 @@ pub enum Definition {
     Function(Function),
     /// `handler name(parameters) { clauses }`, the return clause first.
     Handler(Handler),
+    /// `slots name: res handler [places];`.
+    Slots(Slots),
 }
 
 /// A declaration: a name, and what it stands for everywhere in the script.

@@ -24,6 +24,10 @@ pub enum Use {
     Return,
     /// `value;`, which is dropped.
     Drop,
+    /// `store slots[value] = name;`.
+    Store { slots: Name, name: Name },
+    /// `take name = slots[value];`.
+    Take { name: Name, slots: Name },
 }
 
 /// A statement.

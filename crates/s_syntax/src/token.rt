@@ -39,6 +39,12 @@ pub enum Kind {
     Resume,
     /// `res`.
     Res,
+    /// `slots`.
+    Slots,
+    /// `store`.
+    Store,
+    /// `take`.
+    Take,
     /// `==`.
     Equal,
     /// `!=`.
@@ -59,6 +65,10 @@ pub enum Kind {
     OpenBrace,
     /// `}`.
     CloseBrace,
+    /// `[`.
+    OpenBracket,
+    /// `]`.
+    CloseBracket,
     /// `,`.
     Comma,
     /// `;`.

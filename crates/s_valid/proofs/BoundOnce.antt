@@ -14,8 +14,9 @@ use Rattle.s_check.specs.declared.rule.Rule.TheVariants as rule
 use Rattle.s_check.specs.Definitions.{definition_of, function_of}
 use Rattle.s_check.specs.Refusal.{first, Has, Good}
 use Rattle.s_check.specs.Rules.{when, in_block, in_body, in_parameters, in_definition, in_declaration, in_declarations, in_main, broken_rules}
-use Rattle.s_check.specs.Scopes.{Bound, Scope, type_in, bind_all, number as number_name, parameter, lets_in, is_among, some_twice}
+use Rattle.s_check.specs.Scopes.{Bound, Scope, type_in, bind_all, parameter, lets_in, is_among, some_twice}
 use Rattle.s_code.specs.Places.{binds_in, function_names}
+use Rattle.s_code.proofs.Binds.{names_in}
 use Rattle.s_meaning.proofs.BoundInTurn.{or_left, or_right, among_left, twice_of}
 use Rattle.s_meaning.proofs.Good.{parts, when_not, is_function}
 use Rattle.s_meaning.proofs.Lists.{get_before}
@@ -55,16 +56,12 @@ body_names ds bs b q =
     let t = parts (when (some_twice [] (names bs ++ lets_in b)) rule.NameBoundTwice) (in_block ds (bind_all bs []) b) q in
     once_typed [] bs (lets_in b) (when_not (some_twice [] (names bs ++ lets_in b)) rule.NameBoundTwice t.0)
 
-pub names_of_lets : (xs : List Name) → names (map number_name xs) ≡ xs
-names_of_lets [] = refl
-names_of_lets (x ∷ xs) = ap (λ (ys : List Name). x ∷ ys) (names_of_lets xs)
-
 -- and each name that such a body binds
 pub each_typed : (ds : List Declaration) (bs : Scope) (b : BlockTree) → in_body ds bs b ≡ [] → EachTyped (bs ++ binds_in ds b)
 each_typed ds bs b q =
     let t = parts (when (some_twice [] (names bs ++ lets_in b)) rule.NameBoundTwice) (in_block ds (bind_all bs []) b) q in
     let all : names (bs ++ binds_in ds b) ++ [] ≡ names bs ++ lets_in b =
-    append-nil (names (bs ++ binds_in ds b)) ∙ map-append (λ (c : Bound). c.name) bs (binds_in ds b) ∙ ap (λ (xs : List Name). names bs ++ xs) (names_of_lets (lets_in b)) in
+    append-nil (names (bs ++ binds_in ds b)) ∙ map-append (λ (c : Bound). c.name) bs (binds_in ds b) ∙ ap (λ (xs : List Name). names bs ++ xs) (names_in ds b) in
     record {
       typed = once_typed [] (bs ++ binds_in ds b) []
           (ap (λ (xs : List Name). some_twice [] xs) all ∙ when_not (some_twice [] (names bs ++ lets_in b)) rule.NameBoundTwice t.0);

@@ -1,9 +1,11 @@
 -- What each declaration of a script that breaks no rule keeps.
-use Rattle.std.proofs.Common.{◌≡◌, ℕ, zero, suc, ◌≤◌, Bool, true, false, not, ◌||◌, List, [], ◌∷◌, ◌++◌, length, Option, Some, None, if◌then◌else◌, refl, sym, ap, ◌∙◌, subst, arith}
+use Rattle.std.proofs.Common.{◌≡◌, ℕ, zero, suc, ◌≤◌, Bool, true, false, not, ◌||◌, ◌&&◌, List, [], ◌∷◌, ◌++◌, length, Option, Some, None, if◌then◌else◌, refl, sym, ap, ◌∙◌, subst, arith}
 use Rattle.std.specs.Prelude.{nat_lt, nat_eq, slice_get}
 use Rattle.std.specs.Str.{bytes_eq}
-use Rattle.std.proofs.lemmas.Bool.{eqb-true, ltb-false}
+use Rattle.lists.proofs.Tests.{each_of}
+use Rattle.std.proofs.lemmas.Bool.{eqb-true, ltb-false, ltb-true}
 use Rattle.s_syntax.specs.declared.name.Name.{Name}
+use Rattle.s_syntax.specs.declared.script.VariableType.TheVariants.{Resumption}
 use Rattle.s_syntax.specs.declared.script.Parameter.{Parameter}
 use Rattle.s_syntax.specs.declared.script.Clause.{Clause}
 use Rattle.s_syntax.specs.declared.script.Handler.{Handler}
@@ -15,7 +17,7 @@ use Rattle.s_check.specs.declared.rule.Rule.{Rule}
 use Rattle.s_check.specs.declared.rule.Rule.TheVariants as rule
 use Rattle.s_check.specs.Definitions.{definition_of, as_effect, effect_of}
 use Rattle.s_check.specs.Refusal.{first, Has, Good}
-use Rattle.s_check.specs.Rules.{when, in_types, in_parameters, in_head, in_clauses, in_body, in_header, in_bodies, in_definition, in_declaration, in_declarations, in_main, broken_rules}
+use Rattle.s_check.specs.Rules.{when, in_type, in_types, in_parameters, in_head, in_clauses, in_body, in_header, in_bodies, in_definition, in_declaration, in_declarations, in_main, broken_rules}
 use Rattle.s_check.specs.Scopes.{is_among, of_clause, of_return}
 use Rattle.s_meaning.proofs.Scopes.{same_refl}
 use Rattle.s_valid.proofs.NumbersInModules.{get_left}
@@ -92,11 +94,12 @@ declares (c ∷ ds) x d e = by (bytes_eq c.name x) e (declares ds x d)
 
 -- ## Few
 
--- at most eight parameters, and arguments
+-- at most eight parameters, and arguments; at most 65536 places
 abbrev pub IsSmall : Definition → Type 0
 IsSmall (definition.Effect n) = n.value ≤ 8
 IsSmall (definition.Function f) = length f.parameters ≤ 8
 IsSmall (definition.Handler h) = (length h.parameters ≤ 8) × ((n : ℕ) (c : Clause) → slice_get h.clauses n ≡ Some c → length c.arguments ≤ 8)
+IsSmall (definition.Slots s) = s.places.value ≤ 65536
 
 few_parameters : (ds : List Declaration) (ps : List Parameter) → in_parameters ds ps ≡ [] → length ps ≤ 8
 few_parameters ds ps e = ltb-false 8 (length ps) (when_not (nat_lt 8 (length ps)) rule.TooManyParameters (parts (when (nat_lt 8 (length ps)) rule.TooManyParameters) (in_types ds ps) e).0)
@@ -127,6 +130,7 @@ effect_small ds x (definition.Effect k) q n e =
     omega (arith, few, same)
 effect_small ds x (definition.Function f) q n e = absurd (cc)
 effect_small ds x (definition.Handler h) q n e = absurd (cc)
+effect_small ds x (definition.Slots s) q n e = absurd (cc)
 
 effect_few : (ds : List Declaration) → AreEmpty (in_declarations ds [] ds) → (x : Name) (n : ℕ) → effect_of ds x ≡ Some n → n ≤ 8
 effect_few ds none x n e = by (definition_of ds x) refl e
@@ -138,6 +142,9 @@ effect_few ds none x n e = by (definition_of ds x) refl e
         let r = keeps_rules ds [] ds none k.place k.declaration k.is in
         effect_small ds k.declaration.name d (subst (λ (c : Definition). in_definition ds k.declaration.name c ≡ []) k.defines r) n q
 
+few_places : (n : ℕ) → (nat_lt 0 n && nat_lt n 65537) ≡ true → n ≤ 65536
+few_places n e = let lt = ltb-true n 65537 (each_of (nat_lt 0 n) (nat_lt n 65537) e).1 in omega (arith, lt)
+
 small_definition : (ds : List Declaration) → AreEmpty (in_declarations ds [] ds) → (x : Name) (d : Definition) → in_definition ds x d ≡ [] → IsSmall d
 small_definition ds none x (definition.Effect k) q = ltb-false 8 k.value (when_not (nat_lt 8 k.value) rule.EffectOfTooMany q)
 small_definition ds none x (definition.Function f) q = few_parameters ds f.parameters (parts (in_parameters ds f.parameters) _ q).0
@@ -146,6 +153,10 @@ small_definition ds none x (definition.Handler h) q =
     let u = parts (in_parameters ds h.parameters) _ t.0 in
     let v = parts (in_body ds (of_return h) h.return_clause.body) (in_clauses ds x h [] h.clauses) t.1 in
     (few_parameters ds h.parameters u.0, λ n c at. effect_few ds none c.effect (length c.arguments) (clause_effect ds x h [] h.clauses v.1 n c at))
+small_definition ds none x (definition.Slots s) q =
+    let n = s.places.value in
+    let t = parts (in_type ds (Resumption s.handler)) (when (not (nat_lt 0 n && nat_lt n 65537)) rule.SlotsOfOtherNumber) q in
+    few_places n (not_false (nat_lt 0 n && nat_lt n 65537) (when_not (not (nat_lt 0 n && nat_lt n 65537)) rule.SlotsOfOtherNumber t.1))
 
 -- each declaration has few
 pub small : (p : Script) → Good p → (k : ℕ) (e : Declaration) → slice_get p.declarations k ≡ Some e → IsSmall e.definition

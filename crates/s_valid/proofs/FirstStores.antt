@@ -1,31 +1,34 @@
--- The functions and handlers of a script stand in the first store of a run, each at its index, with its type and its code.
-use Rattle.std.proofs.Common.{◌≡◌, ℕ, suc, ◌+◌, true, List, [], ◌∷◌, ◌++◌, length, Option, Some, refl, sym, ap, ◌∙◌, arith}
+-- The functions, handlers and slots of a script stand in the first store of a run, each at its index: functions with their types and code,
+-- and slots with empty places.
+use Rattle.std.proofs.Common.{◌≡◌, ℕ, zero, suc, ◌+◌, true, List, [], ◌∷◌, ◌++◌, map, length, Option, Some, refl, sym, ap, ◌∙◌, arith}
 use Rattle.std.specs.Prelude.{slice_get}
 use Rattle.std.proofs.lemmas.Option.{slice_get_within}
 use Rattle.w_types.specs.declared.types.FuncType.{FuncType}
 use Rattle.w_types.specs.declared.types.ValType.TheVariants.{I64}
 use Rattle.w_syntax.specs.Functions.{type_at, type_of_function, code_of_function}
 use Rattle.w_syntax.specs.declared.module.Func.{Func as Body}
+use Rattle.w_syntax.specs.declared.module.Table.{Table as SyntaxTable}
 use Rattle.w_tables.specs.declared.entries.FuncEntry.TheVariants.{Own}
 use Rattle.w_rules.specs.Spaces.{context_of}
 use Rattle.s_syntax.specs.declared.name.Name.{Name}
 use Rattle.s_syntax.specs.declared.script.Function.{Function}
 use Rattle.s_syntax.specs.declared.script.Handler.{Handler}
+use Rattle.s_syntax.specs.declared.script.Slots.{Slots}
 use Rattle.s_syntax.specs.declared.script.Definition.{Definition}
 use Rattle.s_syntax.specs.declared.script.Definition.TheVariants as definition
 use Rattle.s_syntax.specs.declared.script.Declaration.{Declaration}
-use Rattle.s_check.specs.Definitions.{definition_of, function_of, handler_of}
+use Rattle.s_check.specs.Definitions.{definition_of, function_of, handler_of, slots_of}
 use Rattle.s_index.specs.declared.counts.Counts.{Counts}
 use Rattle.s_index.specs.Indices.{function_type_index, handler_type_index}
-use Rattle.s_index.specs.Numbers.{Entry, no_counts, counted, counts_of, with_entry, function_index, handler_index}
+use Rattle.s_index.specs.Numbers.{Entry, no_counts, counted, counts_of, with_entry, function_index, handler_index, table_index}
 use Rattle.s_index.specs.Types.{handler_type, clause_types, val_types, to_continuation, computation_type}
-use Rattle.s_code.specs.Lowered.{function_code, handler_code, function_code_of, handler_code_of, for_each, lowered_all}
+use Rattle.s_code.specs.Lowered.{slots_table, function_code, handler_code, function_code_of, handler_code_of, for_each, lowered_all}
 use Rattle.s_valid.specs.Offers.{arrow}
-use Rattle.s_valid.specs.Beginning.{first_store}
+use Rattle.s_valid.specs.Beginning.{empty_table, first_store}
 use Rattle.s_valid.proofs.MadeOnce.{here}
 use Rattle.s_valid.proofs.NumbersInModules.{get_left, get_right, found, all_made}
 use Rattle.s_valid.proofs.TypeTable.{is_function, is_handler, func_there}
-use Rattle.s_valid.proofs.ModuleOffers.{function_types_of, handler_types_of, found_function, function_index_is, function_type_there, found_handler, handler_index_is, handlers_behind, handler_type_there}
+use Rattle.s_valid.proofs.ModuleOffers.{function_types_of, handler_types_of, found_function, function_index_is, function_type_there, found_handler, handler_index_is, handlers_behind, handler_type_there, table_at}
 use Rattle.s_valid.proofs.Starts.{own_behind}
 
 -- what is invoked at an address: a function of the module, of this type and with this code
@@ -47,11 +50,13 @@ function_steps : (ds : List Declaration) (n : Counts) (d : Definition) → (coun
 function_steps ds n (definition.Effect k) = omega arith
 function_steps ds n (definition.Function f) = omega arith
 function_steps ds n (definition.Handler h) = omega arith
+function_steps ds n (definition.Slots s) = omega arith
 
 handler_steps : (ds : List Declaration) (x : Name) (n : Counts) (d : Definition) → (counted n d).handlers ≡ n.handlers + length (handler_code_of ds x d)
 handler_steps ds x n (definition.Effect k) = omega arith
 handler_steps ds x n (definition.Function f) = omega arith
 handler_steps ds x n (definition.Handler h) = omega arith
+handler_steps ds x n (definition.Slots s) = omega arith
 
 -- the number of an entry
 number_of : Option Entry → ℕ
@@ -107,3 +112,12 @@ handler_stored ds h i e =
           (handler_type_there ds h i (handler_type i.parameters) e (here (handler_type i.parameters) (clause_types i.clauses)));
       code = get_right (for_each (function_codes ds) ds) (for_each (handler_codes ds) ds) c.place (n + q.place) (handler_code ds h i) behind c.item;
     }
+
+-- slots of the script
+table_stored : (ts : List SyntaxTable) (x : ℕ) (t : SyntaxTable) → slice_get ts x ≡ Some t → slice_get (map empty_table ts) x ≡ Some (empty_table t)
+table_stored [] x t e = absurd (cc)
+table_stored (u ∷ ts) zero t e = let same : u ≡ t = cc in ap (λ (v : SyntaxTable). Some (empty_table v)) same
+table_stored (u ∷ ts) (suc x) t e = table_stored ts x t e
+
+pub slots_stored : (ds : List Declaration) (s : Name) (d : Slots) → slots_of ds s ≡ Some d → slice_get (first_store ds).tables (table_index ds s) ≡ Some (empty_table (slots_table d))
+slots_stored ds s d e = table_stored (lowered_all ds).tables (table_index ds s) (slots_table d) (table_at ds s d e)

@@ -7,7 +7,8 @@ use Rattle.std.proofs.lemmas.List.{append-nil}
 use Rattle.std.proofs.lemmas.Option.{slice_get-map}
 use Rattle.w_syntax.specs.Items.{reference_to}
 use Rattle.w_syntax.specs.declared.module.Elem.{Elem}
-use Rattle.w_rules.specs.Spaces.{declared_of, functions_of, named_in, named_of}
+use Rattle.w_syntax.specs.declared.module.Table.{Table}
+use Rattle.w_rules.specs.Spaces.{declared_of, functions_of, named_in, named_in_some, named_of}
 use Rattle.w_rules.proofs.Marks.{declared_decided}
 use Rattle.s_syntax.specs.declared.name.Name.{Name}
 use Rattle.s_syntax.specs.declared.script.Function.{Function}
@@ -20,6 +21,7 @@ use Rattle.s_index.specs.Handled.{is_function_among, handled_names, handled}
 use Rattle.s_index.specs.Indices.{continuation_of, continuations, parameters_of}
 use Rattle.s_index.specs.Numbers.{function_index}
 use Rattle.s_code.specs.Lowered.{declared, lowered_all}
+use Rattle.s_meaning.proofs.Lists.{get_before}
 use Rattle.s_meaning.proofs.Scopes.{same_is}
 use Rattle.s_valid.proofs.MadeOnce.{IsThere, there_at}
 use Rattle.s_valid.proofs.TypeTable.{is_function}
@@ -95,8 +97,9 @@ is_marked (b ∷ s) (suc x) e = is_marked s x e
 -- what the module names of its functions
 pub named_in_module : (ds : List Declaration) (x i : ℕ) → slice_get (map (λ (d : Declaration). function_index ds d.name) (handled ds)) i ≡ Some x → Contains (named_of (lowered_all ds)) x
 named_in_module ds x i e =
-    let segment : slice_get (flat_map (λ (e : Elem). flat_map named_in e.items) (declared ds (handled ds)) ++ []) i ≡ Some x =
-    ap (λ (xs : List ℕ). slice_get xs i) (append-nil (flat_map (λ (e : Elem). flat_map named_in e.items) (declared ds (handled ds))) ∙ named_by_segment ds (handled ds)) ∙ e in
+    let named = flat_map (λ (e : Elem). flat_map named_in e.items) (declared ds (handled ds)) in
+    let by_tables = flat_map (λ (t : Table). named_in_some t.init) (lowered_all ds).tables in
+    let segment : slice_get (named ++ by_tables) i ≡ Some x = get_before named by_tables i x (ap (λ (xs : List ℕ). slice_get xs i) (named_by_segment ds (handled ds)) ∙ e) in
     contains_at (named_of (lowered_all ds)) (suc i) x segment
 
 -- code may refer to it

@@ -1,6 +1,5 @@
 -- Layouts of bodies that stand in a context: each name of the scope has a local of its type, and the temporaries hold numbers.
 use Rattle.std.proofs.Common.{◌≡◌, ℕ, zero, suc, ◌+◌, ◌<◌, Bool, true, ◌||◌, ◌++◌, List, [], ◌∷◌, map, length, Option, Some, slice_get, if◌then◌else◌, refl, ap, ◌∙◌, arith}
-use Rattle.std.proofs.lemmas.List.{map-append}
 use Rattle.std.specs.Str.{bytes_eq}
 use Rattle.w_types.specs.declared.types.ValType.{ValType}
 use Rattle.w_types.specs.declared.types.ValType.TheVariants.{I64}
@@ -16,7 +15,7 @@ use Rattle.s_syntax.specs.declared.script.Parameter.{Parameter}
 use Rattle.s_syntax.specs.declared.script.Handler.{Handler}
 use Rattle.s_syntax.specs.declared.script.Declaration.{Declaration}
 use Rattle.s_check.specs.Definitions.{handler_of}
-use Rattle.s_check.specs.Scopes.{Bound, Scope, type_in, number as number_name, is_among}
+use Rattle.s_check.specs.Scopes.{Bound, Scope, type_in, is_among}
 use Rattle.s_index.specs.Handled.{handled_names}
 use Rattle.s_index.specs.Types.{val_type, val_types, numbers, to_continuation, computation_type}
 use Rattle.s_code.specs.Layouts.{Local, Owner, Layout, local_of, local_number, number_in, handler_in, handler_in_type, handler_of_name}
@@ -64,6 +63,7 @@ offers_inside ds C ts o = record {
   function = o.function;
   handler = o.handler;
   effect = o.effect;
+  slots = o.slots;
   handled = λ f g is among. let q = o.handled f g is among in
       record { index = q.index; continuation = q.continuation; type = q.type; function = q.function; declared = q.declared };
   clause = o.clause;
@@ -80,6 +80,7 @@ offers_in_body ds C ls us o = record {
   function = o.function;
   handler = o.handler;
   effect = o.effect;
+  slots = o.slots;
   handled = λ f g is among. let q = o.handled f g is among in
       record { index = q.index; continuation = q.continuation; type = q.type; function = q.function; declared = q.declared };
   clause = o.clause;
@@ -189,16 +190,11 @@ pub record EachTyped (bs : List Bound) : Type 0 where
 pub record LetsPlaced (L : Layout) (bs : List Bound) : Type 0 where
   pub placed : (n : ℕ) (b : Bound) → slice_get bs n ≡ Some b → Placed L b.name b.ty
 
-pub lets_left : {L : Layout} (xs ys : List Name) → LetsPlaced L (map number_name (xs ++ ys)) → LetsPlaced L (map number_name xs)
-lets_left xs ys a = record {
-  placed = λ n b e. a.placed n b (ap (λ (bs : List Bound). slice_get bs n) (map-append number_name xs ys) ∙ get_before (map number_name xs) (map number_name ys) n b e);
-}
+pub lets_left : {L : Layout} (bs cs : List Bound) → LetsPlaced L (bs ++ cs) → LetsPlaced L bs
+lets_left bs cs a = record { placed = λ n b e. a.placed n b (get_before bs cs n b e) }
 
-pub lets_right : {L : Layout} (xs ys : List Name) → LetsPlaced L (map number_name (xs ++ ys)) → LetsPlaced L (map number_name ys)
-lets_right xs ys a = record {
-  placed = λ n b e. let k = length (map number_name xs) + n in
-      a.placed k b (ap (λ (bs : List Bound). slice_get bs k) (map-append number_name xs ys) ∙ get-behind (map number_name xs) (map number_name ys) n ∙ e);
-}
+pub lets_right : {L : Layout} (bs cs : List Bound) → LetsPlaced L (bs ++ cs) → LetsPlaced L cs
+lets_right bs cs a = record { placed = λ n b e. a.placed (length bs + n) b (get-behind bs cs n ∙ e) }
 
 pub lets_first : {L : Layout} (b : Bound) (bs : List Bound) → LetsPlaced L (b ∷ bs) → Placed L b.name b.ty
 lets_first b bs a = a.placed 0 b refl

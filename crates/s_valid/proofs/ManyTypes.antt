@@ -221,6 +221,7 @@ definition_small P o (definition.Handler i) few t h = elim (there_cases t (handl
   | inl e ↦ subst P e (o.handler i.parameters few.0)
   | inr r ↦ clauses_small P o i.clauses few.1 t r
 ]
+definition_small P o (definition.Slots s) few t h = absurd (omega (arith, h))
 
 all_small : (P : CompType → Type 0) → OfSmall P → (ds : List Declaration) → ((k : ℕ) (e : Declaration) → slice_get ds k ≡ Some e → IsSmall e.definition) → (t : CompType) → IsThere t (types_for_all ds) → P t
 all_small P o [] few t h = absurd (omega (arith, h))

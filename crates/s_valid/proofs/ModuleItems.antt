@@ -1,6 +1,7 @@
 -- The items of the module of a script are valid, but for the bodies of its functions.
 use Rattle.std.proofs.Common.{◌≡◌, ◌⊎◌, inl, inr, ℕ, zero, suc, ◌+◌, ◌<◌, ◌≤◌, Bool, true, false, cond, List, [], ◌∷◌, ◌++◌, map, filter, length, codes, Option, Some, None, refl, sym, ap, ◌∙◌, subst, arith, length-append}
 use Rattle.std.specs.Prelude.{nat_eq, slice_get, All, IsSome}
+use Rattle.std.proofs.lemmas.Bool.{lt-ltb}
 use Rattle.std.proofs.lemmas.Option.{slice_get_within}
 use Rattle.std.proofs.lemmas.List.Elements.{All-nil, All-cons, All-append, All-tail, All-head}
 use Rattle.w_types.specs.declared.types.HeapType.TheVariants as heap
@@ -28,7 +29,7 @@ use Rattle.w_rules.specs.Operands.{Known}
 use Rattle.w_rules.specs.Spaces.{context_of, functions_of}
 use Rattle.w_rules.specs.Types.{IsValidType}
 use Rattle.w_rules.specs.Typing.{HasInstrType}
-use Rattle.w_rules.specs.Valid.{ImportValid, MemoryValid, TagValid, ElementValid, ExportValid, FunctionValid, TypeItem, ImportItem, TableItem, MemoryItem, TagItem, GlobalItem, ElementItem, DataItem, StartItem, ExportItem, FunctionItem, Valid}
+use Rattle.w_rules.specs.Valid.{ImportValid, TableValid, MemoryValid, TagValid, ElementValid, ExportValid, FunctionValid, TypeItem, ImportItem, TableItem, MemoryItem, TagItem, GlobalItem, ElementItem, DataItem, StartItem, ExportItem, FunctionItem, Valid}
 use Rattle.w_rules.proofs.Preorder.{row_refl}
 use Rattle.s_syntax.specs.declared.name.Name.{Name}
 use Rattle.s_syntax.specs.declared.script.Function.{Function}
@@ -43,12 +44,12 @@ use Rattle.s_check.specs.Scopes.{Bound}
 use Rattle.s_index.specs.Handled.{is_function_among, handled_names, handled}
 use Rattle.s_index.specs.Indices.{type_table, function_type_index, effect_type_index}
 use Rattle.s_index.specs.Numbers.{function_index}
-use Rattle.s_index.specs.Types.{place, from_to, function_type, handler_type, effect_type, clause_types, types_for, types_for_all, val_type, val_types, numbers, to_continuation, computation_type}
-use Rattle.s_code.specs.Lowered.{function_type_of, handler_type_of, tag_of, function_code_of, handler_code_of, function_code, handler_code, for_each, main_export, declared, lowered_all, lowered}
+use Rattle.s_index.specs.Types.{place, from_to, function_type, handler_type, effect_type, clause_types, types_for, types_for_all, val_type, val_types, numbers, to_continuation, resumption_type, computation_type}
+use Rattle.s_code.specs.Lowered.{slots_table, function_type_of, handler_type_of, table_of, tag_of, function_code_of, handler_code_of, function_code, handler_code, for_each, main_export, declared, lowered_all, lowered}
 use Rattle.s_code.specs.Places.{run, name_runs, locals_for, binds_in, return_names, clauses_names}
 use Rattle.s_meaning.proofs.Good.{good_typed}
 use Rattle.s_valid.specs.Offers.{arrow}
-use Rattle.s_valid.proofs.Declarations.{good_empty, first_of_name}
+use Rattle.s_valid.proofs.Declarations.{good_empty, first_of_name, IsSmall, small}
 use Rattle.s_valid.proofs.HandledNames.{handled_declared}
 use Rattle.s_valid.proofs.MadeOnce.{IsThere, here, there_left, there_right}
 use Rattle.s_valid.proofs.ModuleOffers.{function_at, function_type_there}
@@ -123,7 +124,7 @@ types_in_all t [] k d e h = absurd (cc)
 types_in_all t (c ∷ ds) zero d e h = let same : c ≡ d = cc in there_left t (types_for c.definition) (types_for_all ds) (subst (λ (x : Declaration). IsThere t (types_for x.definition)) (sym same) h)
 types_in_all t (c ∷ ds) (suc k) d e h = there_right t (types_for c.definition) (types_for_all ds) (types_in_all t ds k d e h)
 
--- ## Imports, memories and tags
+-- ## Imports, tables, memories and tags
 
 -- there are five types or more
 pub five_types : (ds : List Declaration) → 5 ≤ length (type_table ds)
@@ -133,6 +134,9 @@ five_types ds =
     let within = q.1 in
     omega (arith, at, within)
 
+pub module_types : (ds : List Declaration) → 5 ≤ length (types_of (lowered_all ds).types)
+module_types ds = subst (λ (ts : List CompType). 5 ≤ length ts) (sym (types_of_groups (type_table ds))) (five_types ds)
+
 pub import_valid : (ds : List Declaration) (i : ℕ) → i < length (lowered_all ds).imports → ImportValid (lowered_all ds) i
 import_valid ds zero h = record {
   value = _;
@@ -140,6 +144,28 @@ import_valid ds zero h = record {
   valid = record { type = arrow (I64 ∷ []) []; has_type = ap function_type_in (first_type (from_to (I64 ∷ []) []) ds (context_of (lowered_all ds)) refl (omega arith)) };
 }
 import_valid ds (suc i) h = absurd (omega (arith, h))
+
+table_by : (ds : List Declaration) (i : ℕ) (d : Definition) (n : ℕ) → n < length (table_of d) → IsSmall d → slice_get (lowered_all ds).tables i ≡ slice_get (table_of d) n → TableValid (lowered_all ds) i
+table_by ds i (definition.Effect k) n h few e = absurd (omega (arith, h))
+table_by ds i (definition.Function f) n h few e = absurd (omega (arith, h))
+table_by ds i (definition.Handler j) n h few e = absurd (omega (arith, h))
+table_by ds i (definition.Slots s) (suc n) h few e = absurd (omega (arith, h))
+table_by ds i (definition.Slots s) zero h few e =
+    let types = module_types ds in
+    record {
+      table = slots_table s;
+      is = e;
+      valid = record {
+        limits = record { min = omega (arith, few); max = (omega arith, omega (arith, few)) };
+        element = lt-ltb resumption_type (length (types_of (lowered_all ds).types)) (omega (arith, types));
+      };
+      init = refl;
+    }
+
+pub table_valid : (p : Script) → Good p → (i : ℕ) → i < length (lowered p).tables → TableValid (lowered p) i
+table_valid p good i h =
+    let q = added_by (λ (d : Declaration). table_of d.definition) (λ (d : Declaration). table_of d.definition) (λ d. refl) p.declarations i h in
+    table_by p.declarations i q.declaration.definition q.offset q.within (small p good q.place q.declaration q.is) q.one
 
 pub memory_valid : (ds : List Declaration) → MemoryValid (lowered_all ds)
 memory_valid ds = record { one = omega arith; limits = All-nil _ }
@@ -155,6 +181,7 @@ tag_by ds i (definition.Effect k) zero h types e = record {
 tag_by ds i (definition.Effect k) (suc n) h types e = absurd (omega (arith, h))
 tag_by ds i (definition.Function f) n h types e = absurd (omega (arith, h))
 tag_by ds i (definition.Handler f) n h types e = absurd (omega (arith, h))
+tag_by ds i (definition.Slots s) n h types e = absurd (omega (arith, h))
 
 pub tag_valid : (ds : List Declaration) (i : ℕ) → i < length (lowered_all ds).tags → TagValid (lowered_all ds) i
 tag_valid ds i h =
@@ -195,6 +222,7 @@ is_a_function : (names : List Name) (c : Declaration) (d : Definition) → is_fu
 is_a_function names c (definition.Effect n) e = absurd (cc)
 is_a_function names c (definition.Function g) e = (g, refl)
 is_a_function names c (definition.Handler h) e = absurd (cc)
+is_a_function names c (definition.Slots s) e = absurd (cc)
 
 handled_function : (p : Script) → Good p → (i : ℕ) (d : Declaration) → slice_get (handled p.declarations) i ≡ Some d → (g : Function) × (function_of p.declarations d.name ≡ Some g)
 handled_function p good i d e =
@@ -273,11 +301,13 @@ function_lengths : (ds : List Declaration) (d : Definition) → length (function
 function_lengths ds (definition.Effect n) = refl
 function_lengths ds (definition.Function f) = refl
 function_lengths ds (definition.Handler h) = refl
+function_lengths ds (definition.Slots s) = refl
 
 handler_lengths : (ds : List Declaration) (x : Name) (d : Definition) → length (handler_type_of ds d) ≡ length (handler_code_of ds x d)
 handler_lengths ds x (definition.Effect n) = refl
 handler_lengths ds x (definition.Function f) = refl
 handler_lengths ds x (definition.Handler h) = refl
+handler_lengths ds x (definition.Slots s) = refl
 
 function_parts : (ds es : List Declaration) → length (for_each (λ (d : Declaration). function_type_of ds d.definition) es) ≡ length (for_each (λ (d : Declaration). function_code_of ds d.definition) es)
 function_parts ds es = same_lengths (λ (d : Declaration). function_type_of ds d.definition) (λ (d : Declaration). function_code_of ds d.definition) (λ d. function_lengths ds d.definition) es
@@ -299,6 +329,7 @@ function_stands : (ds : List Declaration) (i : ℕ) (x : Name) (d : Definition) 
     → slice_get (lowered_all ds).functions i ≡ slice_get (function_type_of ds d) n → slice_get (lowered_all ds).codes i ≡ slice_get (function_code_of ds d) n → StandsAt ds i
 function_stands ds i x (definition.Effect k) n h named types e c = absurd (omega (arith, h))
 function_stands ds i x (definition.Handler k) n h named types e c = absurd (omega (arith, h))
+function_stands ds i x (definition.Slots k) n h named types e c = absurd (omega (arith, h))
 function_stands ds i x (definition.Function g) (suc n) h named types e c = absurd (omega (arith, h))
 function_stands ds i x (definition.Function g) zero h named types e c =
     of_function x g (ap as_function named)
@@ -311,6 +342,7 @@ handler_stands : (ds : List Declaration) (i : ℕ) (x : Name) (d : Definition) (
     → slice_get (lowered_all ds).functions i ≡ slice_get (handler_type_of ds d) n → slice_get (lowered_all ds).codes i ≡ slice_get (handler_code_of ds x d) n → StandsAt ds i
 handler_stands ds i x (definition.Effect k) n h named types e c = absurd (omega (arith, h))
 handler_stands ds i x (definition.Function k) n h named types e c = absurd (omega (arith, h))
+handler_stands ds i x (definition.Slots k) n h named types e c = absurd (omega (arith, h))
 handler_stands ds i x (definition.Handler j) (suc n) h named types e c = absurd (omega (arith, h))
 handler_stands ds i x (definition.Handler j) zero h named types e c =
     of_handler x j (ap as_handler named)
@@ -401,9 +433,6 @@ locals_valid n bs k h =
     (All-append (λ (x : LocalRun). IsValidType n x.kind) (name_runs bs) (run I64 k ∷ []) (names_valid n bs h)
     (All-cons (λ (x : LocalRun). IsValidType n x.kind) (run I64 k) [] refl (All-nil (λ (x : LocalRun). IsValidType n x.kind))))
 
-pub module_types : (ds : List Declaration) → 5 ≤ length (types_of (lowered_all ds).types)
-module_types ds = subst (λ (ts : List CompType). 5 ≤ length ts) (sym (types_of_groups (type_table ds))) (five_types ds)
-
 -- ## All of it
 
 -- the bodies of a script's functions and handlers are typed
@@ -438,7 +467,7 @@ no_start ds h = cc h
 pub valid_where_typed : (p : Script) → Good p → AreBodiesTyped p.declarations → Valid (lowered p)
 valid_where_typed p good typed (TypeItem i) h = type_valid p.declarations i h
 valid_where_typed p good typed (ImportItem i) h = import_valid p.declarations i h
-valid_where_typed p good typed (TableItem i) h = absurd (omega (arith, h))
+valid_where_typed p good typed (TableItem i) h = table_valid p good i h
 valid_where_typed p good typed MemoryItem h = memory_valid p.declarations
 valid_where_typed p good typed (TagItem i) h = tag_valid p.declarations i h
 valid_where_typed p good typed (GlobalItem i) h = absurd (omega (arith, h))

@@ -31,7 +31,8 @@ use Rattle.s_index.specs.Indices.{type_table}
 use Rattle.s_code.specs.Lowered.{lowered}
 use Rattle.s_code.specs.Places.{run, name_runs, locals_for, binds_in, function_locals, return_names, clause_names, clauses_names, high_clauses, handler_locals}
 use Rattle.s_code.specs.Temporaries.{high, high_args, high_aside, high_operands, high_statement, high_block}
-use Rattle.s_code.proofs.Highs.{lets_by_few}
+use Rattle.s_code.proofs.Binds.{as_many_in}
+use Rattle.s_code.proofs.Highs.{lets_by_few, room_few}
 use Rattle.s_valid.proofs.Declarations.{Declares, declares}
 use Rattle.s_valid.proofs.ManyTypes.{few_in_table, all_narrow}
 use Rattle.s_valid.proofs.ModuleItems.{StandsAt, of_function, of_handler, functions_and_codes, stands_at}
@@ -81,7 +82,7 @@ mutual
 -- names and temporaries together, no more than a block is large
 mutual
   room_statement : (s : StatementTree) → length (lets_of s) + high_statement s ≤ statement_size s
-  room_statement (Evaluate u e) = let q = high_expr 0 e in let r = lets_by_few u in omega (arith, q, r)
+  room_statement (Evaluate u e) = let q = high_expr 0 e in let r = lets_by_few u in let o = room_few u in let s = some_size e in omega (arith, q, r, o, s)
   room_statement (If c a b) =
       let q = high_expr 0 c in let r = room_block a in let s = room_block b in let l = length-append (lets_in a) (lets_in b) in omega (arith, q, r, s, l)
   room_statement (While c b) = let q = high_expr 0 c in let r = room_block b in omega (arith, q, r)
@@ -100,7 +101,7 @@ room_clauses ds h (c ∷ cs) =
     let l = length-append (clause_names ds h c) (clauses_names ds h cs) in
     let m = length-append (map number c.arguments) (resumption h c.resumption ∷ binds_in ds c.body) in
     let a = length-map c.arguments number in
-    let b = length-map (lets_in c.body) number in
+    let b = as_many_in ds c.body in
     omega (arith, q, r, s, l, m, a, b)
 
 -- ## Locals
@@ -142,7 +143,7 @@ function_room ds f =
     let t = total_locals (binds_in ds f.body) (high_block f.body) in
     let q = room_block f.body in
     let a = length-map f.parameters (λ (p : Parameter). val_type p.ty) in
-    let b = length-map (lets_in f.body) number in
+    let b = as_many_in ds f.body in
     omega (arith, t, q, a, b)
 
 handler_room : (ds : List Declaration) (h : Name) (i : Handler) → length (val_types i.parameters ++ to_continuation true computation_type ∷ []) + total (handler_locals ds h i) ≤ definition_size (definition.Handler i)
@@ -153,7 +154,7 @@ handler_room ds h i =
     let a = length-map i.parameters (λ (p : Parameter). val_type p.ty) in
     let b = length-append (val_types i.parameters) (to_continuation true computation_type ∷ []) in
     let c = length-append (return_names ds i) (clauses_names ds h i.clauses) in
-    let d = length-map (lets_in i.return_clause.body) number in
+    let d = as_many_in ds i.return_clause.body in
     omega (arith, t, q, r, a, b, c, d)
 
 -- a part of a sum

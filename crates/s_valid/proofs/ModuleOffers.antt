@@ -1,11 +1,12 @@
 -- The module of a script offers to the code of its bodies what they name.
-use Rattle.std.proofs.Common.{◌≡◌, ℕ, suc, ◌+◌, ◌<◌, true, false, List, [], ◌∷◌, ◌++◌, length, Option, Some, None, refl, sym, ap, ◌∙◌, subst, arith}
+use Rattle.std.proofs.Common.{◌≡◌, ℕ, zero, suc, ◌+◌, ◌<◌, true, false, List, [], ◌∷◌, ◌++◌, map, length, Option, Some, None, refl, sym, ap, ◌∙◌, subst, arith}
 use Rattle.std.specs.Prelude.{slice_get}
 use Rattle.std.proofs.lemmas.Option.{slice_get_within}
 use Rattle.w_types.specs.declared.types.CompType.{CompType}
 use Rattle.w_types.specs.declared.types.CompType.TheVariants.{Cont}
 use Rattle.w_types.specs.declared.types.ValType.TheVariants.{I64}
 use Rattle.w_syntax.specs.Functions.{function_type as function_type_in}
+use Rattle.w_syntax.specs.declared.module.Table.{Table}
 use Rattle.w_syntax.specs.declared.module.Tag.{Tag}
 use Rattle.w_rules.specs.Context.{type_of, func_of, func_at, type_of_func, tag_in, type_of_tag}
 use Rattle.w_rules.specs.Spaces.{context_of, functions_of}
@@ -14,20 +15,22 @@ use Rattle.s_syntax.specs.declared.script.Parameter.{Parameter}
 use Rattle.s_syntax.specs.declared.script.Function.{Function}
 use Rattle.s_syntax.specs.declared.script.Clause.{Clause}
 use Rattle.s_syntax.specs.declared.script.Handler.{Handler}
+use Rattle.s_syntax.specs.declared.script.Slots.{Slots}
 use Rattle.s_syntax.specs.declared.script.Definition.{Definition}
 use Rattle.s_syntax.specs.declared.script.Definition.TheVariants as definition
 use Rattle.s_syntax.specs.declared.script.Declaration.{Declaration}
 use Rattle.s_syntax.specs.declared.number.Number.{Number}
 use Rattle.s_syntax.specs.declared.script.Script.{Script}
-use Rattle.s_check.specs.Definitions.{definition_of, function_of, handler_of, as_effect, effect_of}
+use Rattle.s_check.specs.Definitions.{definition_of, function_of, handler_of, as_effect, effect_of, slots_of}
 use Rattle.s_check.specs.Refusal.{Good}
 use Rattle.s_check.specs.Scopes.{is_among}
 use Rattle.s_index.specs.declared.counts.Counts.{Counts}
 use Rattle.s_index.specs.Handled.{handled_names, handled}
 use Rattle.s_index.specs.Indices.{function_types, type_table, function_type_index, handler_type_index, effect_type_index, clause_type_index, parameters_of, continuation_of, continuations}
-use Rattle.s_index.specs.Numbers.{Entry, no_counts, counted, counts_of, with_entry, index_of_function, index_of_handler, index_of_tag, function_index, first_handler, handler_index, tag_index, parameters_in}
+use Rattle.s_index.specs.Numbers.{Entry, no_counts, counted, counts_of, with_entry, index_of_function, index_of_handler, index_of_tag, index_of_table, function_index, first_handler, handler_index, tag_index, table_index, parameters_in}
 use Rattle.s_index.specs.Types.{place, from_to, function_type, handler_type, effect_type, clause_type, clause_types, types_for, types_for_all, val_types, numbers, to_continuation, resumption_type, computation_type}
-use Rattle.s_code.specs.Lowered.{function_type_of, handler_type_of, tag_of, for_each, lowered_all, lowered}
+use Rattle.s_code.specs.Lowered.{slots_table, function_type_of, handler_type_of, table_of, tag_of, for_each, lowered_all, lowered}
+use Rattle.s_meaning.proofs.Good.{is_slots}
 use Rattle.s_valid.specs.Offers.{arrow, OffersHandled, Offers}
 use Rattle.s_valid.proofs.HandledNames.{handled_stands, continuation_there, handled_declared}
 use Rattle.s_valid.proofs.MadeOnce.{IsThere, here, behind, adds}
@@ -49,16 +52,28 @@ function_steps : (ds : List Declaration) (n : Counts) (d : Definition) → (coun
 function_steps ds n (definition.Effect k) = omega arith
 function_steps ds n (definition.Function f) = omega arith
 function_steps ds n (definition.Handler h) = omega arith
+function_steps ds n (definition.Slots s) = omega arith
 
 handler_steps : (ds : List Declaration) (n : Counts) (d : Definition) → (counted n d).handlers ≡ n.handlers + length (handler_type_of ds d)
 handler_steps ds n (definition.Effect k) = omega arith
 handler_steps ds n (definition.Function f) = omega arith
 handler_steps ds n (definition.Handler h) = omega arith
+handler_steps ds n (definition.Slots s) = omega arith
 
 tag_steps : (ds : List Declaration) (n : Counts) (d : Definition) → (counted n d).effects ≡ n.effects + length (tag_of ds d)
 tag_steps ds n (definition.Effect k) = omega arith
 tag_steps ds n (definition.Function f) = omega arith
 tag_steps ds n (definition.Handler h) = omega arith
+tag_steps ds n (definition.Slots s) = omega arith
+
+abbrev pub tables_for : Declaration → List Table
+tables_for d = table_of d.definition
+
+pub table_steps : (n : Counts) (d : Definition) → (counted n d).slots ≡ n.slots + length (table_of d)
+table_steps n (definition.Effect k) = omega arith
+table_steps n (definition.Function f) = omega arith
+table_steps n (definition.Handler h) = omega arith
+table_steps n (definition.Slots s) = omega arith
 
 abbrev pub FoundFunction : List Declaration → Name → Function → Type 0
 FoundFunction ds f g = Found (function_types_of ds) (λ (n : Counts). n.functions) no_counts ds f (definition.Function g) (function_type_index ds g.parameters)
@@ -129,6 +144,7 @@ is_effect None n e = absurd (cc)
 is_effect (Some (definition.Effect k)) n e = record { number = k; is = refl; value = cc e }
 is_effect (Some (definition.Function f)) n e = absurd (cc)
 is_effect (Some (definition.Handler h)) n e = absurd (cc)
+is_effect (Some (definition.Slots s)) n e = absurd (cc)
 
 effect_by : (ds : List Declaration) (op : Name) (n : ℕ) → IsEffect (definition_of ds op) n → type_of_tag (context_of (lowered_all ds)) (tag_index ds op) ≡ Some (arrow (numbers n) (I64 ∷ []))
 effect_by ds op n k =
@@ -144,6 +160,24 @@ effect_by ds op n k =
 
 effect_at : (ds : List Declaration) (op : Name) (n : ℕ) → effect_of ds op ≡ Some n → type_of_tag (context_of (lowered_all ds)) (tag_index ds op) ≡ Some (arrow (numbers n) (I64 ∷ []))
 effect_at ds op n e = effect_by ds op n (is_effect (definition_of ds op) n e)
+
+-- ## Slots
+
+-- the table of slots stands at its index
+pub table_at : (ds : List Declaration) (s : Name) (d : Slots) → slots_of ds s ≡ Some d → slice_get (lowered_all ds).tables (table_index ds s) ≡ Some (slots_table d)
+table_at ds s d e =
+    let q = found tables_for (λ (m : Counts). m.slots) (λ m c. table_steps m c.definition) no_counts ds s (definition.Slots d) (slots_table d)
+    (is_slots (definition_of ds s) d e) (λ c same named. ap table_of same) (λ m. refl) in
+    let index : table_index ds s ≡ q.place = ap (λ (o : Option Entry). with_entry index_of_table o) q.entry ∙ omega arith in
+    ap (λ (x : ℕ). slice_get (lowered_all ds).tables x) index ∙ q.item
+
+kind_at : (ts : List Table) (x : ℕ) (t : Table) → slice_get ts x ≡ Some t → slice_get (map (λ (u : Table). u.kind) ts) x ≡ Some t.kind
+kind_at [] x t e = absurd (cc)
+kind_at (u ∷ ts) zero t e = let same : u ≡ t = cc in ap (λ (v : Table). Some v.kind) same
+kind_at (u ∷ ts) (suc x) t e = kind_at ts x t e
+
+slots_offered : (ds : List Declaration) (s : Name) (d : Slots) → slots_of ds s ≡ Some d → slice_get (context_of (lowered_all ds)).tables (table_index ds s) ≡ Some (slots_table d).kind
+slots_offered ds s d e = kind_at (lowered_all ds).tables (table_index ds s) (slots_table d) (table_at ds s d e)
 
 -- ## All of it
 
@@ -207,6 +241,7 @@ offers_all ds =
       function = function_offered ds;
       handler = handler_offered ds;
       effect = effect_at ds;
+      slots = slots_offered ds;
       handled = handled_offers ds;
       clause = clause_offered ds;
     }

@@ -1,15 +1,16 @@
 -- Code that is typed whatever is known of its locals, since all of them are set: where the rest is typed behind an instruction, the whole is
 -- typed before it.
-use Rattle.std.proofs.Common.{◌≡◌, ℕ, zero, suc, ◌-◌, nat_le, Bool, true, ℤ, List, [], ◌∷◌, length, take, drop, Option, Some, slice_get, slice_set, refl, sym, ap, ap₂, ◌∙◌, subst, arith}
+use Rattle.std.proofs.Common.{◌≡◌, inl, ℕ, zero, suc, ◌-◌, nat_le, Bool, true, ℤ, List, [], ◌∷◌, length, take, drop, Option, Some, slice_get, slice_set, refl, sym, ap, ap₂, ◌∙◌, subst, arith}
 use Rattle.w_types.specs.declared.types.ValType.{ValType}
 use Rattle.w_types.specs.declared.types.HeapType.TheVariants.{Index}
-use Rattle.w_types.specs.declared.types.ValType.TheVariants.{I32, I64}
+use Rattle.w_types.specs.declared.types.ValType.TheVariants.{I32, I64, Ref}
 use Rattle.w_types.specs.declared.types.CompType.{CompType}
 use Rattle.w_types.specs.declared.types.CompType.TheVariants.{Cont}
 use Rattle.w_types.specs.declared.types.RecGroup.{RecGroup}
 use Rattle.lists.specs.Rows.{Row, ε, ◌▹◌, ◌⧺◌, row_of}
 use Rattle.w_syntax.specs.Code.{Code, Done, Plain, Block}
 use Rattle.w_syntax.specs.declared.instructions.Op.{Op}
+use Rattle.w_syntax.specs.declared.module.TableType.{TableType}
 use Rattle.w_syntax.specs.declared.instructions.BlockKind.TheVariants as kind
 use Rattle.w_syntax.specs.declared.instructions.BlockType.TheVariants as block
 use Rattle.w_syntax.specs.declared.numeric.Binop.{Binop}
@@ -21,14 +22,15 @@ use Rattle.w_canon.proofs.Preorder.{heap_refl, result_refl}
 use Rattle.w_rules.specs.Operands.{Operand}
 use Rattle.w_rules.specs.Operands.{Known}
 use Rattle.w_rules.specs.Matching.{RowMatches, none, more, value, known}
-use Rattle.w_rules.specs.Context.{Context, labelled, type_of, index_in_cont, cont_of, type_of_func, type_of_tag}
+use Rattle.w_rules.specs.Context.{Context, labelled, type_of, type_count, index_in_cont, cont_of, type_of_func, type_of_tag}
 use Rattle.w_rules.specs.Conditions.{Condition}
-use Rattle.w_rules.specs.InstructionTypes.{InstrType, fixed, polymorphic, instr_type, sets, get_type, set_type, br_type, br_if_type, call_type, ref_func_type, cont_new_type, cont_bind_type, if_valid, nullable, non_null}
+use Rattle.w_rules.specs.InstructionTypes.{InstrType, fixed, polymorphic, instr_type, sets, get_type, set_type, br_type, br_if_type, call_type, ref_func_type, table_get_type, table_set_type, cont_new_type, cont_bind_type, if_valid, nullable, non_null}
 use Rattle.w_rules.specs.Typing.{HasInstrType, Derives}
-use Rattle.w_rules.proofs.Preorder.{row_refl}
+use Rattle.w_rules.specs.Types.{has_heap}
+use Rattle.w_rules.proofs.Preorder.{operand_refl, row_refl}
 use Rattle.w_rules.proofs.Derive.{derives_left}
 use Rattle.s_index.specs.Types.{computation_type}
-use Rattle.s_code.specs.Instructions.{constant, is_zero, is_zero_32, extend, binary, compare, unreachable, nop, branch, branch_if, leave, call, dropped, local_get, local_set, function_reference, new_continuation, bind_continuation, suspend, number_if_zero, if_zero, truth}
+use Rattle.s_code.specs.Instructions.{constant, constant_32, is_zero, is_zero_32, extend, wrap, binary, compare, select, unreachable, nop, branch, branch_if, leave, call, dropped, local_get, local_set, table_get, table_set, null as null_reference, non_null as checked, function_reference, new_continuation, bind_continuation, suspend, number_if_zero, if_zero, truth}
 use Rattle.s_valid.specs.Offers.{arrow}
 
 -- all of these locals are set
@@ -122,6 +124,25 @@ module _ {C : Context} {us : Row Operand} where
   pub extend_typed : {vs : Row Operand} {c : Code} → Rest C c (vs ▹ Known I64) us → Rest C (Plain extend c) (vs ▹ Known I32) us
   extend_typed {vs} {c} r = instr_typed extend (ε ▹ I32) (ε ▹ I64) vs c tt (λ s all. refl) (λ s all. all) r
 
+  pub constant_32_typed : {vs : Row Operand} {c : Code} (z : ℤ) → Rest C c (vs ▹ Known I32) us → Rest C (Plain (constant_32 z) c) vs us
+  constant_32_typed {vs} {c} z r = instr_typed (constant_32 z) ε (ε ▹ I32) vs c tt (λ s all. refl) (λ s all. all) r
+
+  pub wrap_typed : {vs : Row Operand} {c : Code} → Rest C c (vs ▹ Known I32) us → Rest C (Plain wrap c) (vs ▹ Known I64) us
+  wrap_typed {vs} {c} r = instr_typed wrap (ε ▹ I64) (ε ▹ I32) vs c tt (λ s all. refl) (λ s all. all) r
+
+  -- a choice between two i32
+  pub select_typed : {vs : Row Operand} {c : Code} → Rest C c (vs ▹ Known I32) us → Rest C (Plain select c) (vs ▹ Known I32 ▹ Known I32 ▹ Known I32) us
+  select_typed {vs} {c} r = record {
+    typed = λ s all. (
+      tt,
+      (
+        vs ▹ Known I32,
+        (Known I32, inl (operand_refl C.types (Known I32)), record { beneath = vs; takes = row_refl C.types (vs ▹ Known I32 ▹ Known I32 ▹ Known I32); gives = row_refl C.types (vs ▹ Known I32) }),
+        r.typed s all,
+      ),
+    );
+  }
+
   pub binary_typed : {vs : Row Operand} {c : Code} (o : Binop) → Rest C c (vs ▹ Known I64) us → Rest C (Plain (binary o) c) (vs ▹ Known I64 ▹ Known I64) us
   binary_typed {vs} {c} o r = instr_typed (binary o) (ε ▹ I64 ▹ I64) (ε ▹ I64) vs c tt (λ s all. refl) (λ s all. all) r
 
@@ -136,6 +157,24 @@ module _ {C : Context} {us : Row Operand} where
 
   pub set_typed : {vs : Row Operand} {c : Code} {t : ValType} (x : ℕ) → slice_get C.locals x ≡ Some t → Rest C c vs us → Rest C (Plain (local_set x) c) (vs ▹ Known t) us
   set_typed {vs} {c} {t} x e r = instr_typed (local_set x) (ε ▹ t) ε vs c tt (λ s all. ap set_type e) (λ s all. still_set C.locals s x all) r
+
+  pub table_get_typed : {vs : Row Operand} {c : Code} {t : TableType} (x : ℕ) → slice_get C.tables x ≡ Some t → Rest C c (vs ▹ Known (Ref t.element)) us → Rest C (Plain (table_get x) c) (vs ▹ Known I32) us
+  table_get_typed {vs} {c} {t} x e r = instr_typed (table_get x) (ε ▹ I32) (ε ▹ Ref t.element) vs c tt (λ s all. ap table_get_type e) (λ s all. all) r
+
+  pub table_set_typed : {vs : Row Operand} {c : Code} {t : TableType} (x : ℕ) → slice_get C.tables x ≡ Some t → Rest C c vs us → Rest C (Plain (table_set x) c) (vs ▹ Known I32 ▹ Known (Ref t.element)) us
+  table_set_typed {vs} {c} {t} x e r = instr_typed (table_set x) (ε ▹ I32 ▹ Ref t.element) ε vs c tt (λ s all. ap table_set_type e) (λ s all. all) r
+
+  pub null_typed : {vs : Row Operand} {c : Code} (x : ℕ) → has_heap (type_count C) (Index x) ≡ true → Rest C c (vs ▹ Known (nullable x)) us → Rest C (Plain (null_reference x) c) vs us
+  null_typed {vs} {c} x e r = instr_typed (null_reference x) ε (ε ▹ nullable x) vs c tt (λ s all. ap (λ (b : Bool). if_valid b (fixed ε (ε ▹ nullable x))) e) (λ s all. all) r
+
+  -- a reference that isn't null goes on
+  pub checked_typed : {vs : Row Operand} {c : Code} (x : ℕ) → Rest C c (vs ▹ Known (non_null x)) us → Rest C (Plain checked c) (vs ▹ Known (nullable x)) us
+  checked_typed {vs} {c} x r = record {
+    typed = λ s all. (
+      tt,
+      (vs ▹ Known (non_null x), (Some (Index x), record { beneath = vs; takes = row_refl C.types (vs ▹ Known (nullable x)); gives = row_refl C.types (vs ▹ Known (non_null x)) }), r.typed s all),
+    );
+  }
 
   pub call_typed : (vs : Row Operand) {c : Code} (x : ℕ) (ts rs : List ValType) → type_of_func C x ≡ Some (arrow ts rs) → Rest C c (vs ⧺ known (row_of rs)) us
       → Rest C (Plain (call x) c) (vs ⧺ known (row_of ts)) us

@@ -27,12 +27,13 @@ use Rattle.s_syntax.specs.declared.statement.Use.TheVariants as use_for
 use Rattle.s_syntax.specs.BlockTree.{StatementTree, BlockTree, Evaluate, If as IfStatement, While, Fail, Done as NoStatements, ◌⨟◌}
 use Rattle.s_check.specs.Rules.{count}
 use Rattle.s_check.specs.Size.{expr_size, exprs_size, operands_size, statement_size, block_size, clause_size}
-use Rattle.s_index.specs.Numbers.{function_index, handler_index, tag_index}
+use Rattle.s_index.specs.Numbers.{function_index, handler_index, tag_index, table_index}
 use Rattle.s_index.specs.Indices.{continuation_index, clause_type_index}
 use Rattle.s_index.specs.Types.{resumption_type, computation_type}
-use Rattle.s_code.specs.Instructions.{call, local_get, local_set, nop, bind_continuation, suspend, branch, branch_if, is_zero, leave, dropped, truth, unary_operator, comparison, arithmetic, if_zero, resume}
+use Rattle.s_code.specs.Instructions.{call, local_get, local_set, table_get, table_set, wrap, null, non_null, nop, bind_continuation, suspend, branch, branch_if, is_zero, leave, dropped, truth, unary_operator, comparison, arithmetic, if_zero, resume}
 use Rattle.s_code.specs.Layouts.{Layout, local_number, handler_of_name, stays, slot, is_own, owner_parameters}
 use Rattle.s_code.specs.Expressions.{reload, begin, wake, handler_index_of, operator, expr, args, set_aside, operands, set_parameters, tail_resume}
+use Rattle.s_code.specs.Slots.{places_of, to_place, store_code, take_code}
 use Rattle.s_code.specs.Statements.{printer, return, statement, block, ending, body}
 use Rattle.s_code.specs.Handlers.{set_names, clause_code, blocks, labels, return_code, handling, handler_body}
 use Rattle.s_code.specs.Places.{layout_at, clause_names, placed_from, placed_clauses, return_layout, clauses_place}
@@ -62,6 +63,14 @@ number_short n = let q = number_short_in 9 n in omega (arith, q)
 -- a signed one too
 pub signed_short : (z : ℤ) → length (shortest_signed z) ≤ 10
 signed_short z = let q = signed_short_in 9 z in omega (arith, q)
+
+past_short : length (shortest_signed (negsuc 0)) ≡ 1
+unfolding signed_in
+past_short = refl
+
+null_short : length (shortest_signed (pos resumption_type)) ≡ 1
+unfolding signed_in
+null_short = refl
 
 -- ## Code
 
@@ -216,6 +225,24 @@ module _ (ds : List Declaration) (Γ : Layout) (few : owner_parameters Γ.owner 
       let q = expr_short ds Γ e 0 (Plain (local_set Γ.temporaries) (args ds Γ 1 ps (Plain (local_get Γ.temporaries) (wake Γ k rest)))) in
       omega (arith, few, b, s, o, w, g, p, t, q)
 
+  -- the place of a number
+  place_short : (n : ℕ) (c : Code) → code_bytes (to_place Γ.temporaries n c) ≤ 49 + code_bytes c
+  place_short n c =
+      let t = number_short Γ.temporaries in let a = signed_short (pos n) in let b = past_short in omega (arith, t, a, b)
+
+  store_short : (s k : Name) (c : Code) → code_bytes (store_code ds Γ s k c) ≤ 71 + code_bytes c
+  store_short s k c =
+      let k' = number_short (local_number Γ k) in let x = number_short (table_index ds s) in
+      let p = place_short (places_of ds s) (Plain (local_get (local_number Γ k)) (Plain (table_set (table_index ds s)) c)) in
+      omega (arith, k', x, p)
+
+  take_short : (k s : Name) (c : Code) → code_bytes (take_code ds Γ k s c) ≤ 97 + code_bytes c
+  take_short k s c =
+      let k' = number_short (local_number Γ k) in let x = number_short (table_index ds s) in let t = number_short Γ.temporaries in let n = null_short in
+      let emptied : Code = Plain (local_get Γ.temporaries) (Plain wrap (Plain (null resumption_type) (Plain (table_set (table_index ds s)) c))) in
+      let p = place_short (places_of ds s) (Plain (table_get (table_index ds s)) (Plain non_null (Plain (local_set (local_number Γ k)) emptied))) in
+      omega (arith, k', x, t, n, p)
+
   plain_short : (x : ExprTree) (c : Code) → code_bytes (expr ds Γ 0 x (Plain leave c)) ≤ 80 * (1 + expr_size x) + code_bytes c
   plain_short x c = let p = expr_short ds Γ x 0 (Plain leave c) in omega (arith, p)
 
@@ -249,6 +276,8 @@ module _ (ds : List Declaration) (Γ : Layout) (few : owner_parameters Γ.owner 
         omega (arith, n, m, p, q)
     statement_short (Evaluate use_for.Print e) D c = let p = expr_short ds Γ e 0 (Plain (call printer) c) in let q = call_short printer c in omega (arith, p, q)
     statement_short (Evaluate use_for.Return e) D c = return_short e D c
+    statement_short (Evaluate (use_for.Store s k) e) D c = let p = expr_short ds Γ e 0 (store_code ds Γ s k c) in let q = store_short s k c in omega (arith, p, q)
+    statement_short (Evaluate (use_for.Take k s) e) D c = let p = expr_short ds Γ e 0 (take_code ds Γ k s c) in let q = take_short k s c in omega (arith, p, q)
     statement_short Fail D c = omega arith
     statement_short (Evaluate use_for.Drop e) D c = let p = expr_short ds Γ e 0 (Plain dropped c) in omega (arith, p)
 

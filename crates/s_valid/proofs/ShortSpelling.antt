@@ -1,4 +1,4 @@
--- The spelling of the module of a script is at most 265 times as long as the script is large, and 400 bytes more.
+-- The spelling of the module of a script is at most 297 times as long as the script is large, and 421 bytes more.
 use Rattle.std.proofs.Common.{◌≡◌, ℕ, zero, suc, pos, ◌+◌, ◌*◌, ◌≤◌, Bool, true, false, cond, if◌then◌else◌, max, List, [], ◌∷◌, ◌++◌, map, filter, length, codes, Some, None, refl, ap, ◌∙◌, arith, length-append}
 use Rattle.std.specs.Prelude.{sum_by, nat_lt, nat_eq, slice_get, flat_map}
 use Rattle.std.proofs.lemmas.List.{length-map}
@@ -18,31 +18,31 @@ use Rattle.w_syntax.specs.Module.{header, any_uses_data}
 use Rattle.w_syntax.specs.declared.locals.LocalRun.{LocalRun}
 use Rattle.w_syntax.specs.declared.module.ElemMode.TheVariants as mode
 use Rattle.w_syntax.specs.declared.module.Func.{Func as Body}
-use Rattle.w_encode.specs.TypesWritten.{heaptype_written, ref_written, valtype_written, comptype_written, rectype_written}
+use Rattle.w_encode.specs.TypesWritten.{heaptype_written, ref_written, limits_written, valtype_written, comptype_written, rectype_written}
 use Rattle.w_encode.specs.InstructionsWritten.{expr_written}
-use Rattle.w_encode.specs.FieldsWritten.{bytes_written, externtype_written, externidx_written, import_written, tag_written, export_written, are_functions, function_written, elem_written}
+use Rattle.w_encode.specs.FieldsWritten.{bytes_written, externtype_written, externidx_written, import_written, table_written, tag_written, export_written, are_functions, function_written, elem_written}
 use Rattle.w_encode.specs.Canon.{run_written, func_written, code_written, list_section, number_section, data_count, Canon}
 use Rattle.s_syntax.specs.declared.name.Name.{Name}
 use Rattle.s_syntax.specs.declared.script.Parameter.{Parameter}
 use Rattle.s_syntax.specs.declared.script.Function.{Function}
 use Rattle.s_syntax.specs.declared.script.Clause.{Clause}
 use Rattle.s_syntax.specs.declared.script.Handler.{Handler}
+use Rattle.s_syntax.specs.declared.script.Slots.{Slots}
 use Rattle.s_syntax.specs.declared.script.Definition.{Definition}
 use Rattle.s_syntax.specs.declared.script.Definition.TheVariants as definition
 use Rattle.s_syntax.specs.declared.script.Declaration.{Declaration}
 use Rattle.s_syntax.specs.declared.script.Script.{Script}
-use Rattle.s_syntax.specs.BlockTree.{StatementTree, BlockTree, Evaluate, If, While, Fail, Done, ◌⨟◌}
 use Rattle.s_check.specs.Refusal.{Good}
-use Rattle.s_check.specs.Scopes.{Bound, number, resumption, lets_of, lets_in}
-use Rattle.s_check.specs.Size.{statement_size, block_size, clause_size, definition_size, Size, size_limit}
+use Rattle.s_check.specs.Scopes.{Bound, number, resumption}
+use Rattle.s_check.specs.Size.{block_size, clause_size, definition_size, Size, size_limit}
 use Rattle.s_index.specs.Handled.{handled_names, is_function_among, handled}
 use Rattle.s_index.specs.Indices.{function_types, continuations, parameters_of, type_table, function_type_index, handler_type_index, effect_type_index}
 use Rattle.s_index.specs.Numbers.{function_index}
 use Rattle.s_index.specs.Types.{place, from_to, first_types, function_type, handler_type, effect_type, clause_type, clause_types, types_for, types_for_all, with_type, with_types, val_type, val_types, numbers, to_continuation, computation_type, resumption_type}
-use Rattle.s_code.specs.Lowered.{function_code, handler_code, function_type_of, handler_type_of, tag_of, function_code_of, handler_code_of, for_each, group, printer_import, main_export, declared, lowered_all, lowered}
+use Rattle.s_code.specs.Lowered.{function_code, handler_code, slots_table, function_type_of, handler_type_of, table_of, tag_of, function_code_of, handler_code_of, for_each, group, printer_import, main_export, declared, lowered_all, lowered}
 use Rattle.s_code.specs.Places.{run, name_runs, locals_for, binds_in, function_layout, return_names, clause_names, clauses_names, high_clauses}
 use Rattle.s_code.specs.Temporaries.{high_block}
-use Rattle.s_code.proofs.Highs.{lets_by_few}
+use Rattle.s_code.proofs.Binds.{binds_within}
 use Rattle.s_valid.proofs.Declarations.{IsSmall, small}
 use Rattle.s_valid.proofs.ShortCode.{either_short, number_short, signed_short, code_bytes, written_length, body_short, handler_short}
 
@@ -133,27 +133,12 @@ locals_few bs n =
 
 -- ## Names
 
--- names are no more than what binds them is large
-mutual
-  lets_few : (s : StatementTree) → length (lets_of s) ≤ statement_size s
-  lets_few (Evaluate u e) = let q = lets_by_few u in omega (arith, q)
-  lets_few (If c a b) = let q = all_lets_few a in let r = all_lets_few b in let l = length-append (lets_in a) (lets_in b) in omega (arith, q, r, l)
-  lets_few (While c b) = let q = all_lets_few b in omega (arith, q)
-  lets_few Fail = omega arith
-
-  all_lets_few : (b : BlockTree) → length (lets_in b) ≤ block_size b
-  all_lets_few Done = omega arith
-  all_lets_few (s ⨟ b) = let q = lets_few s in let r = all_lets_few b in let l = length-append (lets_of s) (lets_in b) in omega (arith, q, r, l)
-
-lets_within : (ds : List Declaration) (b : BlockTree) → length (binds_in ds b) ≤ block_size b
-lets_within ds b = let q = all_lets_few b in let m = length-map (lets_in b) number in omega (arith, q, m)
-
 return_within : (ds : List Declaration) (i : Handler) → length (return_names ds i) ≤ 1 + block_size i.return_clause.body
-return_within ds i = let q = lets_within ds i.return_clause.body in omega (arith, q)
+return_within ds i = let q = binds_within ds i.return_clause.body in omega (arith, q)
 
 clause_within : (ds : List Declaration) (h : Name) (c : Clause) → length (clause_names ds h c) ≤ clause_size c
 clause_within ds h c =
-    let q = lets_within ds c.body in
+    let q = binds_within ds c.body in
     let m = length-map c.arguments number in
     let l = length-append (map number c.arguments) (resumption h c.resumption ∷ binds_in ds c.body) in
     omega (arith, q, m, l)
@@ -182,7 +167,7 @@ function_short : (ds : List Declaration) (f : Function) → length (code_written
 function_short ds f =
     let w = body_written_short (function_code ds f) in
     let n = locals_few (binds_in ds f.body) (high_block f.body) in
-    let k = lets_within ds f.body in
+    let k = binds_within ds f.body in
     let b = body_short ds (function_layout ds f) (omega arith) f.body 0 in
     omega (arith, w, n, k, b)
 
@@ -209,6 +194,7 @@ one_or_more : (d : Definition) → 1 ≤ definition_size d
 one_or_more (definition.Effect n) = omega arith
 one_or_more (definition.Function f) = omega arith
 one_or_more (definition.Handler h) = omega arith
+one_or_more (definition.Slots s) = omega arith
 
 declarations_few : (ds : List Declaration) → length ds ≤ sizes ds
 declarations_few [] = omega arith
@@ -311,6 +297,7 @@ types_short (definition.Handler h) few =
     let l = length-append (val_types h.parameters) (to_continuation true computation_type ∷ []) in
     let c = clause_types_short h.clauses in
     omega (arith, f, a, m, l, c)
+types_short (definition.Slots s) few = omega arith
 
 -- each of these has few parameters and arguments
 abbrev AreSmall : List Declaration → Type 0
@@ -367,7 +354,7 @@ table_short ds few =
     let h = handled_few ds in
     omega (arith, g, a, b, c, t, k, h)
 
--- ## Functions and tags
+-- ## Functions, tags and tables
 
 function_indices_short : (ds : List Declaration) (d : Definition) → bytes_by shortest (function_type_of ds d) + bytes_by shortest (handler_type_of ds d) ≤ 10 * definition_size d
 function_indices_short ds (definition.Effect n) = omega arith
@@ -375,6 +362,7 @@ function_indices_short ds (definition.Function f) =
     let n = number_short (function_type_index ds f.parameters) in let q = first_item shortest (function_type_index ds f.parameters) [] in omega (arith, n, q)
 function_indices_short ds (definition.Handler h) =
     let n = number_short (handler_type_index ds h.parameters) in let q = first_item shortest (handler_type_index ds h.parameters) [] in omega (arith, n, q)
+function_indices_short ds (definition.Slots s) = omega arith
 
 functions_short : (ds : List Declaration) → bytes_by shortest (lowered_all ds).functions ≤ 10 * sizes ds
 functions_short ds =
@@ -384,11 +372,32 @@ tag_short : (ds : List Declaration) (d : Definition) → bytes_by tag_written (t
 tag_short ds (definition.Effect n) = let x = number_short (effect_type_index ds n.value) in let q = length-append (tag_written (record { type_index = effect_type_index ds n.value })) [] in omega (arith, x, q)
 tag_short ds (definition.Function f) = omega arith
 tag_short ds (definition.Handler h) = omega arith
+tag_short ds (definition.Slots s) = omega arith
 
 tags_short : (ds : List Declaration) → bytes_by tag_written (lowered_all ds).tags ≤ 11 * sizes ds
 tags_short ds =
     let q = all_short tag_written (λ (d : Declaration). tag_of ds d.definition) (λ (d : Declaration). []) 11 ds (λ n e at. let t = tag_short ds e.definition in omega (arith, t)) in
     let b = both_parts tag_written (lowered_all ds).tags (for_each (λ (d : Declaration). []) ds) in
+    omega (arith, q, b)
+
+slots_table_short : (s : Slots) → length (table_written (slots_table s)) ≤ 32
+slots_table_short s =
+    let r = ref_short true (heap.Index resumption_type) in
+    let n = number_short s.places.value in
+    let l = length-append (shortest s.places.value) (shortest s.places.value) in
+    let a = length-append (ref_written true (heap.Index resumption_type)) (limits_written (slots_table s).kind.limits) in
+    omega (arith, r, n, l, a)
+
+table_of_short : (d : Definition) → bytes_by table_written (table_of d) ≤ 32 * definition_size d
+table_of_short (definition.Effect n) = omega arith
+table_of_short (definition.Function f) = omega arith
+table_of_short (definition.Handler h) = omega arith
+table_of_short (definition.Slots s) = let t = slots_table_short s in let q = first_item table_written (slots_table s) [] in omega (arith, t, q)
+
+tables_short : (ds : List Declaration) → bytes_by table_written (lowered_all ds).tables ≤ 32 * sizes ds
+tables_short ds =
+    let q = all_short table_written (λ (d : Declaration). table_of d.definition) (λ (d : Declaration). []) 32 ds (λ n e at. let t = table_of_short e.definition in omega (arith, t)) in
+    let b = both_parts table_written (lowered_all ds).tables (for_each (λ (d : Declaration). []) ds) in
     omega (arith, q, b)
 
 definition_code_short : (ds : List Declaration) (x : Name) (d : Definition) → IsSmall d → bytes_by code_written (function_code_of ds d) + bytes_by code_written (handler_code_of ds x d) ≤ 101 * definition_size d
@@ -397,6 +406,7 @@ definition_code_short ds x (definition.Function f) few =
     let c = function_short ds f in let q = first_item code_written (function_code ds f) [] in omega (arith, c, q)
 definition_code_short ds x (definition.Handler h) few =
     let c = handler_code_short ds x h few.0 in let q = first_item code_written (handler_code ds x h) [] in omega (arith, c, q)
+definition_code_short ds x (definition.Slots s) few = omega arith
 
 codes_short : (ds : List Declaration) → AreSmall ds → bytes_by code_written (lowered_all ds).codes ≤ 101 * sizes ds
 codes_short ds few =
@@ -460,26 +470,29 @@ data_count_short false n = omega arith
 
 -- ## All of it
 
-nine_parts : (a b c d e f g h i : List ℕ)
-    → length (a ++ (b ++ (c ++ (d ++ (e ++ (f ++ (g ++ (h ++ (i ++ []))))))))) ≡ length a + length b + length c + length d + length e + length f + length g + length h + length i
-nine_parts a b c d e f g h i =
-    let i1 = length-append i [] in
-    let i2 = length-append h (i ++ []) in
-    let i3 = length-append g (h ++ (i ++ [])) in
-    let i4 = length-append f (g ++ (h ++ (i ++ []))) in
-    let i5 = length-append e (f ++ (g ++ (h ++ (i ++ [])))) in
-    let i6 = length-append d (e ++ (f ++ (g ++ (h ++ (i ++ []))))) in
-    let i7 = length-append c (d ++ (e ++ (f ++ (g ++ (h ++ (i ++ [])))))) in
-    let i8 = length-append b (c ++ (d ++ (e ++ (f ++ (g ++ (h ++ (i ++ []))))))) in
-    let i9 = length-append a (b ++ (c ++ (d ++ (e ++ (f ++ (g ++ (h ++ (i ++ [])))))))) in
-    omega (arith, i1, i2, i3, i4, i5, i6, i7, i8, i9)
+ten_parts : (a b c d e f g h i j : List ℕ)
+    → length (a ++ (b ++ (c ++ (d ++ (e ++ (f ++ (g ++ (h ++ (i ++ (j ++ []))))))))))
+    ≡ length a + length b + length c + length d + length e + length f + length g + length h + length i + length j
+ten_parts a b c d e f g h i j =
+    let i1 = length-append j [] in
+    let i2 = length-append i (j ++ []) in
+    let i3 = length-append h (i ++ (j ++ [])) in
+    let i4 = length-append g (h ++ (i ++ (j ++ []))) in
+    let i5 = length-append f (g ++ (h ++ (i ++ (j ++ [])))) in
+    let i6 = length-append e (f ++ (g ++ (h ++ (i ++ (j ++ []))))) in
+    let i7 = length-append d (e ++ (f ++ (g ++ (h ++ (i ++ (j ++ [])))))) in
+    let i8 = length-append c (d ++ (e ++ (f ++ (g ++ (h ++ (i ++ (j ++ []))))))) in
+    let i9 = length-append b (c ++ (d ++ (e ++ (f ++ (g ++ (h ++ (i ++ (j ++ [])))))))) in
+    let i10 = length-append a (b ++ (c ++ (d ++ (e ++ (f ++ (g ++ (h ++ (i ++ (j ++ []))))))))) in
+    omega (arith, i1, i2, i3, i4, i5, i6, i7, i8, i9, i10)
 
-spelling_short : (ds : List Declaration) → AreSmall ds → length (Canon (lowered_all ds)) ≤ 265 * sizes ds + 400
+spelling_short : (ds : List Declaration) → AreSmall ds → length (Canon (lowered_all ds)) ≤ 297 * sizes ds + 421
 spelling_short ds few =
     let m = lowered_all ds in
     let t = section_short 0x01 rectype_written m.types in
     let i = section_short 0x02 import_written m.imports in
     let f = section_short 0x03 shortest m.functions in
+    let b = section_short 0x04 table_written m.tables in
     let g = section_short 0x0D tag_written m.tags in
     let e = section_short 0x07 export_written m.exports in
     let l = section_short 0x09 elem_written m.elements in
@@ -488,17 +501,18 @@ spelling_short ds few =
     let t1 = table_short ds few in
     let i1 = import_short in
     let f1 = functions_short ds in
+    let b1 = tables_short ds in
     let g1 = tags_short ds in
     let e1 = export_short ds in
     let l1 = segment_short ds (handled ds) in
     let h = handled_few ds in
     let c1 = codes_short ds few in
-    let all = nine_parts header (list_section 0x01 rectype_written m.types) (list_section 0x02 import_written m.imports) (list_section 0x03 shortest m.functions) (list_section 0x0D tag_written m.tags)
+    let all = ten_parts header (list_section 0x01 rectype_written m.types) (list_section 0x02 import_written m.imports) (list_section 0x03 shortest m.functions) (list_section 0x04 table_written m.tables) (list_section 0x0D tag_written m.tags)
     (list_section 0x07 export_written m.exports) (list_section 0x09 elem_written m.elements) (number_section 0x0C (data_count m)) (list_section 0x0A code_written m.codes) in
-    omega (arith, t, i, f, g, e, l, n, c, t1, i1, f1, g1, e1, l1, h, c1, all)
+    omega (arith, t, i, f, b, g, e, l, n, c, t1, i1, f1, b1, g1, e1, l1, h, c1, all)
 
--- the spelling of the module is at most 265 times as long as the script is large, and 400 bytes more
-pub spelled_short : (p : Script) → Good p → length (Canon (lowered p)) ≤ 265 * Size p + 400
+-- the spelling of the module is at most 297 times as long as the script is large, and 421 bytes more
+pub spelled_short : (p : Script) → Good p → length (Canon (lowered p)) ≤ 297 * Size p + 421
 spelled_short p good = spelling_short p.declarations (small p good)
 
 -- that of a script of size 50000 has at most 2^24 bytes

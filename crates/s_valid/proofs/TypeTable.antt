@@ -36,12 +36,14 @@ is_function None g e = absurd (cc)
 is_function (Some (definition.Effect n)) g e = absurd (cc)
 is_function (Some (definition.Function f)) g e = ap (λ (x : Function). Some (definition.Function x)) (cc e)
 is_function (Some (definition.Handler h)) g e = absurd (cc)
+is_function (Some (definition.Slots s)) g e = absurd (cc)
 
 pub is_handler : (o : Option Definition) (i : Handler) → as_handler o ≡ Some i → o ≡ Some (definition.Handler i)
 is_handler None i e = absurd (cc)
 is_handler (Some (definition.Effect n)) i e = absurd (cc)
 is_handler (Some (definition.Function f)) i e = absurd (cc)
 is_handler (Some (definition.Handler h)) i e = ap (λ (x : Handler). Some (definition.Handler x)) (cc e)
+is_handler (Some (definition.Slots s)) i e = absurd (cc)
 
 -- the types of a declaration are among those of all
 pub types_among : (t : CompType) (ds : List Declaration) (x : Name) (d : Definition) → definition_of ds x ≡ Some d → IsThere t (types_for d) → IsThere t (types_for_all ds)

@@ -1,7 +1,12 @@
 -- The code of statements is typed: it takes nothing, and leaves nothing.
-use Rattle.std.proofs.Common.{◌≡◌, ℕ, suc, ◌+◌, ◌<◌, ◌≤◌, Bool, true, pos, ◌++◌, List, [], ◌∷◌, length, Option, Some, None, slice_get, if◌then◌else◌, refl, sym, ap, ◌∙◌, subst, arith}
+use Rattle.std.proofs.Common.{◌≡◌, ℕ, suc, ◌+◌, ◌<◌, ◌≤◌, Bool, true, pos, negsuc, ◌++◌, List, [], ◌∷◌, length, Option, Some, None, slice_get, if◌then◌else◌, refl, sym, ap, ◌∙◌, subst, arith}
+use Rattle.std.proofs.lemmas.Bool.{lt-ltb}
+use Rattle.std.proofs.lemmas.Option.{slice_get_within}
+use Rattle.w_types.specs.declared.types.CompType.TheVariants.{Cont}
 use Rattle.w_types.specs.declared.types.ValType.{ValType}
-use Rattle.w_types.specs.declared.types.ValType.TheVariants.{I64}
+use Rattle.w_types.specs.declared.types.ValType.TheVariants.{I32, I64}
+use Rattle.w_types.specs.Groups.{types_of}
+use Rattle.w_syntax.specs.declared.numeric.Relop.TheVariants as relop
 use Rattle.lists.specs.Rows.{Row, ε, ◌▹◌, ◌⧺◌, row_of, onto, size}
 use Rattle.lists.proofs.Rows.{size-row_of}
 use Rattle.w_syntax.specs.Code.{Code, Plain}
@@ -14,23 +19,27 @@ use Rattle.s_syntax.specs.declared.name.Name.{Name}
 use Rattle.s_syntax.specs.declared.script.VariableType.TheVariants.{Int, Resumption}
 use Rattle.s_syntax.specs.declared.script.Parameter.{Parameter}
 use Rattle.s_syntax.specs.declared.script.Handler.{Handler}
+use Rattle.s_syntax.specs.declared.script.Slots.{Slots}
 use Rattle.s_syntax.specs.declared.script.Script.{Script}
 use Rattle.s_syntax.specs.ExprTree.{ExprTree, Literal, Read, Unary, Run, Call, Do, Handle, Resume, Exprs}
 use Rattle.s_syntax.specs.declared.statement.Use.TheVariants as use_for
 use Rattle.s_syntax.specs.BlockTree.{BlockTree, Evaluate, If, While, Fail, Done as NoStatements, ◌⨟◌}
-use Rattle.s_check.specs.Definitions.{handler_of}
-use Rattle.s_check.specs.Scopes.{Scope, type_in, number as number_name, lets_in}
+use Rattle.s_check.specs.Definitions.{handler_of, slots_of}
+use Rattle.s_check.specs.Rules.{handler_of_slots}
+use Rattle.s_check.specs.Scopes.{Scope, type_in, number as number_name, resumption as resumption_name}
 use Rattle.s_index.specs.Handled.{handled_in_expr, handled_in_exprs, handled_in_block}
-use Rattle.s_index.specs.Types.{computation_type, val_types}
+use Rattle.s_index.specs.Numbers.{table_index}
+use Rattle.s_index.specs.Types.{resumption_type, computation_type, val_types}
 use Rattle.s_code.specs.Instructions.{branch, leave, local_set}
 use Rattle.s_code.specs.Layouts.{Layout, Owner, local_number, handler_of_name, is_own, is_same_handler, owner_parameters}
 use Rattle.s_code.specs.Temporaries.{high, high_block}
 use Rattle.s_code.specs.Expressions.{expr, set_parameters, tail_resume}
 use Rattle.s_code.specs.Places.{binds_in}
+use Rattle.s_code.specs.Slots.{places_of, to_place, store_code, take_code}
 use Rattle.s_code.specs.Statements.{return, block, body, ending, printer}
-use Rattle.s_meaning.specs.Typing.{kinds, ExprTyped, resume, lets, assigns, prints, returns, drops, evaluates, ifs, whiles, fails, BlockTyped, done, statement}
+use Rattle.s_meaning.specs.Typing.{kinds, ExprTyped, resume, lets, assigns, prints, returns, drops, stores_in, takes_from, evaluates, ifs, whiles, fails, BlockTyped, done, statement}
 use Rattle.s_meaning.proofs.Scopes.{same_is, same_refl, bool_of}
-use Rattle.s_valid.proofs.Rests.{Rest, is_zero_typed, constant_typed, get_typed, set_typed, call_typed, end_typed, if_typed, loop_typed, branch_if_typed, dropped_typed, branch_typed, returned_typed, unreachable_typed}
+use Rattle.s_valid.proofs.Rests.{Rest, is_zero_typed, constant_typed, constant_32_typed, wrap_typed, compare_typed, select_typed, get_typed, set_typed, table_get_typed, table_set_typed, null_typed, checked_typed, less_typed, weaker, call_typed, end_typed, if_typed, loop_typed, branch_if_typed, dropped_typed, branch_typed, returned_typed, unreachable_typed}
 use Rattle.s_valid.proofs.LayoutTypes.{Scoped, inside, local_typed, handler_at, bound, types_of_kinds, AllHandled, handled_left, handled_right, LetsPlaced, lets_left, lets_right, lets_first}
 use Rattle.s_valid.proofs.TypedExpressions.{expr_typed, args_typed, least_args, on_top, wake_typed}
 
@@ -109,6 +118,48 @@ module _ {p : Script} {L : Layout} {n : ℕ} where
   return_typed (Do op es) s q h a r = expr_typed (Do op es) 0 s q h a (returned_typed ε s.results r)
   return_typed (Handle f es g ps) s q h a r = expr_typed (Handle f es g ps) 0 s q h a (returned_typed ε s.results r)
 
+  -- ## Slots
+
+  -- the first temporary
+  temporary : {Γ : Scope} {D : ℕ} {C : Context} → Scoped p.declarations L Γ n D C → 0 < n → slice_get C.locals L.temporaries ≡ Some I64
+  temporary {C = C} s free = ap (λ (x : ℕ). slice_get C.locals x) (let z : L.temporaries ≡ L.temporaries + 0 = omega arith in z) ∙ s.temporaries 0 free
+
+  -- the place that a number stands for
+  place_typed : {Γ : Scope} {D : ℕ} {C : Context} {us : Row Operand} {c : Code} (m : ℕ) → Scoped p.declarations L Γ n D C → 0 < n → Rest C c (ε ▹ Known I32) us
+      → Rest C (to_place L.temporaries m c) (ε ▹ Known I64) us
+  place_typed m s free r =
+      let number = temporary s free in
+      set_typed {vs = ε} L.temporaries number
+      (get_typed L.temporaries number
+      (wrap_typed {vs = ε}
+      (constant_32_typed (negsuc 0)
+      (get_typed L.temporaries number
+      (constant_typed (pos m)
+      (compare_typed {vs = ε ▹ Known I32 ▹ Known I32} relop.LtU
+      (select_typed {vs = ε} r)))))))
+
+  store_typed : {Γ : Scope} {D : ℕ} {C : Context} {us : Row Operand} {c : Code} (x k : Name) (d : Slots) → Scoped p.declarations L Γ n D C → 0 < n → slots_of p.declarations x ≡ Some d
+      → type_in Γ k ≡ Some (Resumption d.handler) → Rest C c ε us → Rest C (store_code p.declarations L x k c) (ε ▹ Known I64) us
+  store_typed x k d s free is named r =
+      place_typed (places_of p.declarations x) s free
+      (get_typed (local_number L k) (local_typed s k (Resumption d.handler) named)
+      (table_set_typed {vs = ε} (table_index p.declarations x) (s.offers.slots x d is) r))
+
+  -- a resumption that is taken gets the local of its name, which is bound already
+  take_typed : {Γ : Scope} {D : ℕ} {C : Context} {us : Row Operand} {c : Code} (x k : Name) (d : Slots) → Scoped p.declarations L Γ n D C → 0 < n → slots_of p.declarations x ≡ Some d
+      → type_in Γ k ≡ Some (Resumption d.handler) → Rest C c ε us → Rest C (take_code p.declarations L k x c) (ε ▹ Known I64) us
+  take_typed {C = C} x k d s free is named r =
+      let there = slice_get_within (types_of C.types) resumption_type (Cont 0) s.offers.resumption in
+      place_typed (places_of p.declarations x) s free
+      (table_get_typed {vs = ε} (table_index p.declarations x) (s.offers.slots x d is)
+      (checked_typed {vs = ε} resumption_type
+      (less_typed (weaker C ε resumption_type)
+      (set_typed {vs = ε} (local_number L k) (local_typed s k (Resumption d.handler) named)
+      (get_typed L.temporaries (temporary s free)
+      (wrap_typed {vs = ε}
+      (null_typed resumption_type (lt-ltb resumption_type (length (types_of C.types)) there)
+      (table_set_typed {vs = ε} (table_index p.declarations x) (s.offers.slots x d is) r))))))))
+
   -- ## Blocks
 
   set_name : {Γ : Scope} {D : ℕ} {C : Context} {us : Row Operand} {c : Code} (x : Name) → Scoped p.declarations L Γ n D C → type_in Γ x ≡ Some Int → Rest C c ε us
@@ -123,19 +174,19 @@ module _ {p : Script} {L : Layout} {n : ℕ} where
       let is_int : type_in (number_name x ∷ Γ) x ≡ Some Int = ap (λ (b : Bool). if b then Some Int else type_in Γ x) (same_refl x) in
       expr_typed e 0 s q (omega (arith, h)) (handled_left (handled_in_expr e) (handled_in_block b) a)
       (set_name x s' is_int
-      (block_typed b s' rest (lets_right (x ∷ []) (lets_in b) l) (omega (arith, h)) (handled_right (handled_in_expr e) (handled_in_block b) a) r))
+      (block_typed b s' rest (lets_right (number_name x ∷ []) (binds_in p.declarations b) l) (omega (arith, h)) (handled_right (handled_in_expr e) (handled_in_block b) a) r))
   block_typed (Evaluate (use_for.Assign x) e ⨟ b) s (statement (evaluates q (assigns is_int)) rest) l h a r =
       expr_typed e 0 s q (omega (arith, h)) (handled_left (handled_in_expr e) (handled_in_block b) a)
       (set_name x s is_int (block_typed b s rest l (omega (arith, h)) (handled_right (handled_in_expr e) (handled_in_block b) a) r))
   block_typed (If e b d ⨟ k) s (statement (ifs q first second) rest) l h a r =
       let here = handled_left (handled_in_expr e ++ (handled_in_block b ++ handled_in_block d)) (handled_in_block k) a in
       let both = handled_right (handled_in_expr e) (handled_in_block b ++ handled_in_block d) here in
-      let within = lets_left (lets_in b ++ lets_in d) (lets_in k) l in
+      let within = lets_left (binds_in p.declarations b ++ binds_in p.declarations d) (binds_in p.declarations k) l in
       expr_typed e 0 s q (omega (arith, h)) (handled_left (handled_in_expr e) (handled_in_block b ++ handled_in_block d) here)
       (if_typed
-      (block_typed d (inside ε s) second (lets_right (lets_in b) (lets_in d) within) (omega (arith, h)) (handled_right (handled_in_block b) (handled_in_block d) both) (end_typed ε))
-      (block_typed b (inside ε s) first (lets_left (lets_in b) (lets_in d) within) (omega (arith, h)) (handled_left (handled_in_block b) (handled_in_block d) both) (end_typed ε))
-      (block_typed k s rest (lets_right (lets_in b ++ lets_in d) (lets_in k) l) (omega (arith, h)) (handled_right (handled_in_expr e ++ (handled_in_block b ++ handled_in_block d)) (handled_in_block k) a) r))
+      (block_typed d (inside ε s) second (lets_right (binds_in p.declarations b) (binds_in p.declarations d) within) (omega (arith, h)) (handled_right (handled_in_block b) (handled_in_block d) both) (end_typed ε))
+      (block_typed b (inside ε s) first (lets_left (binds_in p.declarations b) (binds_in p.declarations d) within) (omega (arith, h)) (handled_left (handled_in_block b) (handled_in_block d) both) (end_typed ε))
+      (block_typed k s rest (lets_right (binds_in p.declarations b ++ binds_in p.declarations d) (binds_in p.declarations k) l) (omega (arith, h)) (handled_right (handled_in_expr e ++ (handled_in_block b ++ handled_in_block d)) (handled_in_block k) a) r))
   block_typed (While e b ⨟ k) {Γ = Γ} {D} {C} s (statement (whiles q inner) rest) l h a r =
       let here = handled_left (handled_in_expr e ++ handled_in_block b) (handled_in_block k) a in
       let P : ℕ → Type 0 = λ d. Scoped p.declarations L Γ n d (labelled (labelled C ε) ε) in
@@ -144,15 +195,26 @@ module _ {p : Script} {L : Layout} {n : ℕ} where
       (expr_typed e 0 s' q (omega (arith, h)) (handled_left (handled_in_expr e) (handled_in_block b) here)
       (is_zero_typed
       (branch_if_typed 1 refl
-      (block_typed b s' inner (lets_left (lets_in b) (lets_in k) l) (omega (arith, h)) (handled_right (handled_in_expr e) (handled_in_block b) here)
+      (block_typed b s' inner (lets_left (binds_in p.declarations b) (binds_in p.declarations k) l) (omega (arith, h)) (handled_right (handled_in_expr e) (handled_in_block b) here)
       (branch_typed {vs = ε} ε 0 refl (end_typed ε))))))
-      (block_typed k s rest (lets_right (lets_in b) (lets_in k) l) (omega (arith, h)) (handled_right (handled_in_expr e ++ handled_in_block b) (handled_in_block k) a) r)
+      (block_typed k s rest (lets_right (binds_in p.declarations b) (binds_in p.declarations k) l) (omega (arith, h)) (handled_right (handled_in_expr e ++ handled_in_block b) (handled_in_block k) a) r)
   block_typed (Evaluate use_for.Print e ⨟ b) s (statement (evaluates q prints) rest) l h a r =
       expr_typed e 0 s q (omega (arith, h)) (handled_left (handled_in_expr e) (handled_in_block b) a)
       (call_typed ε printer (I64 ∷ []) [] s.offers.printer (block_typed b s rest l (omega (arith, h)) (handled_right (handled_in_expr e) (handled_in_block b) a) r))
   block_typed (Evaluate use_for.Return e ⨟ b) s (statement (evaluates q returns) rest) l h a r =
       return_typed e s q (omega (arith, h)) (handled_left (handled_in_expr e) (handled_in_block b) a)
       (block_typed b s rest l (omega (arith, h)) (handled_right (handled_in_expr e) (handled_in_block b) a) r)
+  block_typed (Evaluate (use_for.Store x k) e ⨟ b) s (statement (evaluates q (stores_in {d = d} is named)) rest) l h a r =
+      expr_typed e 0 s q (omega (arith, h)) (handled_left (handled_in_expr e) (handled_in_block b) a)
+      (store_typed x k d s (omega (arith, h)) is named (block_typed b s rest l (omega (arith, h)) (handled_right (handled_in_expr e) (handled_in_block b) a) r))
+  block_typed (Evaluate (use_for.Take k x) e ⨟ b) {Γ = Γ} s (statement (evaluates q (takes_from {d = d} is fit)) rest) l h a r =
+      let t = resumption_name d.handler k in
+      let l' = subst (λ (o : Option Slots). LetsPlaced L (resumption_name (handler_of_slots x o) k ∷ binds_in p.declarations b)) is l in
+      let s' = bound s t (lets_first t (binds_in p.declarations b) l') in
+      let named : type_in (t ∷ Γ) k ≡ Some (Resumption d.handler) = ap (λ (b : Bool). if b then Some (Resumption d.handler) else type_in Γ k) (same_refl k) in
+      expr_typed e 0 s q (omega (arith, h)) (handled_left (handled_in_expr e) (handled_in_block b) a)
+      (take_typed x k d s' (omega (arith, h)) is named
+      (block_typed b s' rest (lets_right (t ∷ []) (binds_in p.declarations b) l') (omega (arith, h)) (handled_right (handled_in_expr e) (handled_in_block b) a) r))
   block_typed (Fail ⨟ b) s (statement fails rest) l h a r = unreachable_typed ε (block_typed b s rest l (omega (arith, h)) a r)
   block_typed (Evaluate use_for.Drop e ⨟ b) s (statement (evaluates q drops) rest) l h a r =
       expr_typed e 0 s q (omega (arith, h)) (handled_left (handled_in_expr e) (handled_in_block b) a)

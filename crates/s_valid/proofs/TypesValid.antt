@@ -142,6 +142,7 @@ definition_valid ts (definition.Handler i) t h = elim (there_cases t (handler_ty
       (All-append (IsValidType 5) (val_types i.parameters) (to_continuation true computation_type ∷ []) (val_types_valid i.parameters) (one_continuation true 3 (omega arith)), one_number 5)
   | inr r ↦ clauses_valid ts i.clauses t r
 ]
+definition_valid ts (definition.Slots s) t h = absurd (omega (arith, h))
 
 all_valid : (ts : List CompType) (ds : List Declaration) (t : CompType) → IsThere t (types_for_all ds) → IsValidCompType ts 5 t
 all_valid ts [] t h = absurd (omega (arith, h))
@@ -175,6 +176,7 @@ parameters_there ds x (Some e) is = by e.definition is
     by (definition.Effect n) q = none_there ds
     by (definition.Function f) q = in_function_types (function_type f.parameters) ds (types_among (function_type f.parameters) ds x (definition.Function f) (sym q) (here (function_type f.parameters) []))
     by (definition.Handler h) q = none_there ds
+    by (definition.Slots s) q = none_there ds
 
 -- the function type of a name's continuations is there
 pub continued_there : (ds : List Declaration) (x : Name) → IsThere (function_type (parameters_of ds x)) (function_types ds)

@@ -1,12 +1,13 @@
 -- What a run of the module of a script begins with: its store and its term.
-use Rattle.std.specs.Prelude.{List, [], ◌∷◌, codes, length, map}
+use Rattle.std.specs.Prelude.{List, [], ◌∷◌, codes, length, map, replicate}
 use Rattle.lists.specs.Rows.{ε}
 use Rattle.w_syntax.specs.Code.{Done}
+use Rattle.w_syntax.specs.declared.module.Table as syntax_table
 use Rattle.w_syntax.specs.declared.module.Tag.{Tag}
 use Rattle.w_tables.specs.declared.entries.FuncEntry.TheVariants as entry_of
 use Rattle.w_tables.specs.declared.entries.Printer.TheVariants as printer
-use Rattle.w_reduce.specs.Values.{Val}
-use Rattle.w_reduce.specs.Store.{Store}
+use Rattle.w_reduce.specs.Values.{Val, Null}
+use Rattle.w_reduce.specs.Store.{Store, Table}
 use Rattle.w_reduce.specs.Terms.{Term, Invoke}
 use Rattle.w_reduce.specs.Start.{own}
 use Rattle.s_syntax.specs.declared.script.Declaration.{Declaration}
@@ -19,11 +20,15 @@ abbrev pub segments_left : List Declaration → List (List Val)
 segments_left [] = []
 segments_left (d ∷ ds) = [] ∷ []
 
--- the printer, the module's functions and the tags' types, with these segments
+-- a table of slots, all of which are empty
+abbrev pub empty_table : syntax_table.Table → Table
+empty_table t = record { elements = replicate t.kind.limits.min Null; max = t.kind.limits.max }
+
+-- the printer, the module's functions, its tables and the tags' types, with these segments
 abbrev pub store_with : List Declaration → List (List Val) → Store
 store_with ds segments = record {
   functions = entry_of.Printer printer.I64 ∷ own (length (lowered_all ds).functions);
-  tables = [];
+  tables = map empty_table (lowered_all ds).tables;
   memories = [];
   globals = [];
   tags = map (λ (t : Tag). t.type_index) (lowered_all ds).tags;

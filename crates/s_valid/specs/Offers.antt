@@ -9,13 +9,15 @@ use Rattle.s_syntax.specs.declared.name.Name.{Name}
 use Rattle.s_syntax.specs.declared.script.Function.{Function}
 use Rattle.s_syntax.specs.declared.script.Clause.{Clause}
 use Rattle.s_syntax.specs.declared.script.Handler.{Handler}
+use Rattle.s_syntax.specs.declared.script.Slots.{Slots}
 use Rattle.s_syntax.specs.declared.script.Declaration.{Declaration}
-use Rattle.s_check.specs.Definitions.{function_of, handler_of, effect_of}
+use Rattle.s_check.specs.Definitions.{function_of, handler_of, effect_of, slots_of}
 use Rattle.s_check.specs.Scopes.{is_among}
 use Rattle.s_index.specs.Handled.{handled_names}
 use Rattle.s_index.specs.Indices.{clause_type_index, continuation_index}
-use Rattle.s_index.specs.Numbers.{function_index, handler_index, tag_index}
+use Rattle.s_index.specs.Numbers.{function_index, handler_index, tag_index, table_index}
 use Rattle.s_index.specs.Types.{resumption_type, computation_type, to_continuation, val_types, numbers}
+use Rattle.s_code.specs.Lowered.{slots_table}
 
 abbrev pub arrow : List ValType → List ValType → FuncType
 arrow ts us = record { params = ts; results = us }
@@ -39,6 +41,7 @@ pub record Offers (ds : List Declaration) (C : Context) : Type 0 where
   pub handler : (h : Name) (i : Handler) → handler_of ds h ≡ Some i
       → type_of_func C (handler_index ds h) ≡ Some (arrow (val_types i.parameters ++ to_continuation true computation_type ∷ []) (I64 ∷ []))
   pub effect : (op : Name) (n : ℕ) → effect_of ds op ≡ Some n → type_of_tag C (tag_index ds op) ≡ Some (arrow (numbers n) (I64 ∷ []))
+  pub slots : (s : Name) (d : Slots) → slots_of ds s ≡ Some d → slice_get C.tables (table_index ds s) ≡ Some (slots_table d).kind
   pub handled : (f : Name) (g : Function) → function_of ds f ≡ Some g → is_among (handled_names ds) f ≡ true → OffersHandled ds C f g
   pub clause : (h : Name) (i : Handler) (n : ℕ) (c : Clause) → handler_of ds h ≡ Some i → slice_get i.clauses n ≡ Some c
       → func_of C (clause_type_index ds (length c.arguments)) ≡ Some (arrow [] (numbers (length c.arguments) ++ to_continuation false resumption_type ∷ []))

@@ -14,7 +14,7 @@ from rows import (
     running_control, running_instances, running_suspends, running_clauses, running_switches, running_continuations,
     running_passing, running_switching_traps, running_coroutines, running_switching_limits, scripts, script_rules,
     script_sizes, script_names, script_modules, script_runs, script_operators, script_effects, script_random,
-    script_edges, examples)
+    script_edges, script_slots, script_slot_sizes, script_slot_runs, examples)
 from surroundings import pieces
 
 
@@ -122,6 +122,13 @@ _FILES = [
     _modules(
         'script_edges', 'Scripts at the edges of what the language says.', script_edges.TEXTS, script_edges.NAMES,
         script_edges.ORDER, script_edges.HANDLERS, script_edges.LIMITS),
+    _modules(
+        'script_slots', 'Scripts with slots that are checked.', script_slots.GRAMMAR, script_slots.NESTING,
+        script_slots.RULES, script_slots.ORDER, script_slot_sizes.SECTION),
+    _modules(
+        'script_slot_runs', 'Runs of scripts with slots, and how these are compiled.', script_slot_runs.RUNS,
+        script_slot_runs.PLACES, script_slot_runs.RESUMPTIONS, script_slot_runs.ORDER, script_slot_runs.STEPS,
+        script_slot_runs.LIMITS, script_slot_runs.MODULES, script_random.WITH_SLOTS),
     _modules('examples', 'The scripts of examples/.', examples.SECTION),
 ]
 

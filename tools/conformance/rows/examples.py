@@ -41,7 +41,8 @@ def gives(name, value, *printed):
 gives('generator', 28, 4, 2, 5, 1, 0, 2, 1, 3, 2)
 gives('state', 3, 6, 1, 8, 11, 11, 26, 3, 2, 13)
 gives('exceptions', 3, 3, -1, 1000, 2, -1)
-gives('scheduler', 12, 11, 12, 21, 22, 23, 31, 13, 14, 24, 32, 33, 34)
+gives('scheduler', 9, 11, 21, 31, 12, 22, 32, 13, 33, 14)
+gives('async', 17, 5, 10, 7)
 gives('pipeline', 100, 2, 12, 5, 5, 19, 2, 12, 30, 56, 8)
 gives('search', 19, 2413)
 

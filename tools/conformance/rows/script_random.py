@@ -9,16 +9,20 @@ from script_evaluator import evaluation_of
 from script_reader import VALID, answer
 
 SECTION = ScriptRunSection('random')
-SEED = 20240229
+WITH_SLOTS = ScriptRunSection('random-with-slots')
+SEED, SEED_WITH_SLOTS = 20240229, 20260714
 GREATEST_STEPS = 6000
 SHORTEST, LONGEST = 250, 1300       # bytes
+LONGEST_WITH_SLOTS = 1600
 # How many are kept that end so, each with effects that are handled.
 WANTED = {'=': 100, 'divzero': 35, 'failed': 20, 'reused': 40, 'unhandled': 25}
+# The same where resumptions are stored and taken; some are kept whose first take is the fault.
+WANTED_WITH_SLOTS = {'=': 25, 'divzero': 8, 'failed': 6, 'reused': 15, 'unhandled': 8, 'empty': 15}
 
 
-def kind_of(text):
+def kind_of(text, longest):
     """How a script ends that is of interest, or nothing."""
-    if not SHORTEST <= len(text) <= LONGEST:
+    if not SHORTEST <= len(text) <= longest:
         return None
     data = data_of(text)
     if answer(data) != VALID:
@@ -31,24 +35,39 @@ def kind_of(text):
     return evaluation.end.removeprefix('fault ').split()[0]
 
 
-def fill():
+def taking_kind_of(text):
+    """The same for a script with slots, of which something is taken, or whose take is a fault."""
+    kind = kind_of(text, LONGEST_WITH_SLOTS)
+    takes = evaluation_of(data_of(text)).context.takes if kind else 0
+    return kind if takes or kind == 'empty' else None
+
+
+def fill(section, made, kind_of_made, wanted, tries):
     """Rows of scripts, until there are enough of each kind, or too many were tried."""
-    random = Random(SEED)
     kept = Counter()
-    for number in range(6000):
-        text = RandomScript(random).text
-        kind = kind_of(text)
-        if kind is None or kept[kind] >= WANTED.get(kind, 5):
+    random, make = made
+    for number in range(tries):
+        text = make(random).text
+        kind = kind_of_made(text)
+        if kind is None or kept[kind] >= wanted.get(kind, 5):
             continue
         kept[kind] += 1
-        name = f'{number}'
-        SECTION.row(name, text)
-        steps = random.randrange(evaluation_of(data_of(text)).taken * 3)
-        SECTION.row(f'{name}/{steps}-reductions', text, steps)
-        if number % 5 == 0:
-            SECTION.module(f'{name}/module', text)
-        if all(kept[kind] >= count for kind, count in WANTED.items()):
+        add(section, random, number, text)
+        if all(kept[kind] >= count for kind, count in wanted.items()):
             return
 
 
-fill()
+def add(section, random, number, text):
+    """The rows of one script, whose name is its number; of those with slots, behind the name of these."""
+    name = f'{number}' if section is SECTION else f'random/{number}'
+    section.row(name, text)
+    steps = random.randrange(evaluation_of(data_of(text)).taken * 3)
+    section.row(f'{name}/{steps}-reductions', text, steps)
+    if number % 5 == 0:
+        section.module(f'{name}/module', text)
+
+
+fill(SECTION, (Random(SEED), RandomScript), lambda text: kind_of(text, LONGEST), WANTED, 6000)
+fill(
+    WITH_SLOTS, (Random(SEED_WITH_SLOTS), lambda random: RandomScript(random, has_slots=True)), taking_kind_of,
+    WANTED_WITH_SLOTS, 1000)

@@ -82,7 +82,7 @@ IN_CLAUSE = 'handler j() { return(a) { } on e(x) k { '
 OTHERS = [';', 'else', 'NEW', '7']
 
 
-def scripts_of(tokens, front, back):
+def scripts_of(tokens, front, back, others=OTHERS):
     """Scripts in which a token of these is left out, stands twice, or is another one."""
     yield 'whole', front + ' '.join(tokens) + back
     for place, token in enumerate(tokens):
@@ -90,7 +90,7 @@ def scripts_of(tokens, front, back):
             return front + ' '.join(tokens[:place] + part + tokens[place + 1:]) + back
         yield f'without-token-{place}', with_part([])
         yield f'token-{place}-twice', with_part([token, token])
-        for other in OTHERS:
+        for other in others:
             if other != token:
                 yield f'{other}-for-token-{place}', with_part([other])
     for place in range(len(tokens) - 1):

@@ -1,14 +1,15 @@
 """The code of expressions and statements."""
 
 from assembler.instructions import (
-    DROP, NOP, RETURN, UNREACHABLE, block, br, br_if, call, cont_bind, cont_new, i64_const, local_get, local_set, loop,
-    ref_func, suspend)
+    DROP, I32_WRAP_I64, NOP, REF_AS_NON_NULL, RETURN, UNREACHABLE, block, br, br_if, call, cont_bind, cont_new,
+    i64_const, local_get, local_set, loop, ref_func, ref_null, suspend, table_get, table_set)
 from assembler.types import EMPTY
 from script_compiler.indices import COMPUTATION_TYPE, PRINTER, RESUMPTION_TYPE
 from script_compiler.instructions import (
-    ARITHMETIC, COMPARISONS, EXTEND, IS_ZERO, NEGATE, NUMBER, TRUTH, if_zero)
+    ARITHMETIC, COMPARISONS, EXTEND, IS_ZERO, NEGATE, NUMBER, TRUTH, if_zero, place_of)
 from script_reader.trees import (
-    Assign, Call, Do, Evaluate, Fail, Handle, If, Let, Literal, Print, Read, Resume, Return, Run, Unary, While)
+    Assign, Call, Do, Evaluate, Fail, Handle, If, Let, Literal, Print, Read, Resume, Return, Run, Store, Take, Unary,
+    While)
 
 
 class Body:
@@ -96,6 +97,10 @@ class Body:
             return self._while(labels, tree)
         if isinstance(tree, Return):
             return self._return(labels, tree)
+        if isinstance(tree, Store):
+            return self._store(tree)
+        if isinstance(tree, Take):
+            return self._take(tree)
         return self.expression(0, tree.value) + self._ending(tree)
 
     def _ending(self, tree):
@@ -103,6 +108,21 @@ class Body:
         if isinstance(tree, (Let, Assign)):
             return local_set(self.layout.numbers[tree.name])
         return {Print: call(PRINTER), Evaluate: DROP}[type(tree)]
+
+    def _store(self, tree):
+        kept = local_get(self.layout.numbers[tree.resumption])
+        return self._place(tree) + kept + table_set(self.indices.tables[tree.slots])
+
+    def _take(self, tree):
+        """The place is read, and then emptied, by the number that the temporary still has."""
+        table = self.indices.tables[tree.slots]
+        taken = table_get(table) + REF_AS_NON_NULL + local_set(self.layout.numbers[tree.name])
+        emptied = local_get(self.layout.temporaries) + I32_WRAP_I64 + ref_null(RESUMPTION_TYPE) + table_set(table)
+        return self._place(tree) + taken + emptied
+
+    def _place(self, tree):
+        """The place of slots that a store or a take is of, by the first temporary."""
+        return self.expression(0, tree.place) + place_of(self.layout.temporaries, self.indices.places[tree.slots])
 
     def _if(self, labels, tree):
         blocks = (self.statements(labels + 1, each) for each in (tree.otherwise, tree.then))

@@ -1,4 +1,5 @@
-"""The types of the module of a script, each once and as it is spelled, and where types, functions and tags stand."""
+"""The types of the module of a script, each once and as it is spelled, and where types, functions, tables and tags
+stand."""
 
 from assembler.encoding import signed
 from assembler.types import functype, nullable, ref
@@ -52,17 +53,24 @@ def _types_for(declaration):
         return [effect_type(declaration.count)]
     if declaration.kind == 'fn':
         return [function_type(declaration.parameters)]
+    if declaration.kind == 'slots':
+        return []
     return [handler_type(declaration.parameters)] + [clause_type(len(each.arguments)) for each in declaration.clauses]
 
 
 class Indices:
-    """Where the types, functions, handlers and tags of declarations stand, whose bodies are trees."""
+    """Where the types, functions, handlers, tables and tags of declarations stand, whose bodies are trees; and how many
+    places slots have, and their handlers, by name."""
 
     def __init__(self, declarations):
         self.effects = [each for each in declarations if each.kind == 'effect']
         self.functions = [each for each in declarations if each.kind == 'fn']
         self.handlers = [each for each in declarations if each.kind == 'handler']
+        self.slots = [each for each in declarations if each.kind == 'slots']
         self.tags = _numbered(self.effects, 0)
+        self.tables = _numbered(self.slots, 0)
+        self.places = {each.name: each.count for each in self.slots}
+        self.kept = {each.name: each.kept for each in self.slots}
         self.numbers = _numbered(self.functions + self.handlers, PRINTER + 1)
         self.handled = self._handled(declarations)
         wanted = [made for each in declarations for made in _types_for(each)]

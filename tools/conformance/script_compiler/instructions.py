@@ -1,6 +1,6 @@
 """The instructions that scripts are compiled to, beside those that the assembler has."""
 
-from assembler.instructions import i64_const, if_, numeric
+from assembler.instructions import I32_WRAP_I64, SELECT, i32_const, i64_const, if_, local_get, local_set, numeric
 
 NUMBER = b'\x7e'                        # the block type of a number that is left
 
@@ -14,6 +14,12 @@ ARITHMETIC = {
 COMPARISONS = {
     sign: numeric(f'i64.{relation}') + EXTEND
     for sign, relation in {'==': 'eq', '!=': 'ne', '<': 'lt_s', '<=': 'le_s', '>': 'gt_s', '>=': 'ge_s'}.items()}
+
+
+def place_of(temporary, count):
+    """The number on the stack as a place of so many: where there is no such place, one that no table has."""
+    is_there = local_get(temporary) + i64_const(count) + numeric('i64.lt_u')
+    return local_set(temporary) + local_get(temporary) + I32_WRAP_I64 + i32_const(-1) + is_there + SELECT
 
 
 def if_zero(block_type, zero, other):

@@ -1,11 +1,13 @@
-"""Where the names of bodies are among the locals of their functions, and how many temporaries stand behind them."""
+"""Where the names of bodies are among the locals of their functions, and how many temporaries stand behind them.
+
+`kept` has for each slots declaration its handler, of which the names are that takes bind."""
 
 from itertools import groupby
 from typing import NamedTuple
 
 from script_compiler.indices import value_type
 from script_compiler.instructions import NUMBER
-from script_reader.trees import Call, Do, Handle, If, Let, Read, Resume, Run, Unary, While
+from script_reader.trees import Call, Do, Handle, If, Let, Read, Resume, Run, Store, Take, Unary, While
 from script_reader.rules import INT, Parameter
 
 
@@ -34,22 +36,22 @@ class Layout(NamedTuple):
         return self.owner is not None and self.handler_of(name) == self.owner.name
 
 
-def function_layout(function):
+def function_layout(kept, function):
     """The layout of a function's body."""
-    names = function.parameters + lets_in(function.body)
+    names = function.parameters + bound_in(kept, function.body)
     return _layout(names, range(len(names)), len(names))
 
 
-def function_locals(function):
+def function_locals(kept, function):
     """The locals of a function, in runs of one type."""
-    return _locals(lets_in(function.body), temporaries_in(function.body))
+    return _locals(bound_in(kept, function.body), temporaries_in(function.body))
 
 
-def handler_layouts(handler):
+def handler_layouts(kept, handler):
     """The layout of a handler's return clause, and those of its clauses."""
     computation = 1
     first = len(handler.parameters) + computation
-    rows = _handler_rows(handler)
+    rows = _handler_rows(kept, handler)
     temporaries = first + sum(map(len, rows))
     layouts = []
     for names in rows:
@@ -59,18 +61,18 @@ def handler_layouts(handler):
     return layouts[0], layouts[1:]
 
 
-def handler_locals(handler):
+def handler_locals(kept, handler):
     """The locals of a handler's function, in runs of one type."""
     bodies = [handler.body] + [clause.body for clause in handler.clauses]
-    return _locals(sum(_handler_rows(handler), []), max(map(temporaries_in, bodies)))
+    return _locals(sum(_handler_rows(kept, handler), []), max(map(temporaries_in, bodies)))
 
 
-def _handler_rows(handler):
+def _handler_rows(kept, handler):
     """The names of the return clause, and those of each clause."""
-    rows = [[Parameter(handler.result, INT), *lets_in(handler.body)]]
+    rows = [[Parameter(handler.result, INT), *bound_in(kept, handler.body)]]
     for clause in handler.clauses:
         arguments = [Parameter(name, INT) for name in clause.arguments]
-        rows.append(arguments + [Parameter(clause.resumption, ('res', handler.name)), *lets_in(clause.body)])
+        rows.append(arguments + [Parameter(clause.resumption, ('res', handler.name)), *bound_in(kept, clause.body)])
     return rows
 
 
@@ -85,14 +87,16 @@ def _locals(names, temporaries):
     return [(len(list(run)), kind) for kind, run in groupby(kinds)]
 
 
-def lets_in(statements):
+def bound_in(kept, statements):
     """The names that are bound in statements, those of blocks within too, in order."""
     names = []
     for statement in statements:
         if isinstance(statement, Let):
             names.append(Parameter(statement.name, INT))
+        if isinstance(statement, Take):
+            names.append(Parameter(statement.name, ('res', kept[statement.slots])))
         for inner in _blocks(statement):
-            names += lets_in(inner)
+            names += bound_in(kept, inner)
     return names
 
 
@@ -106,9 +110,12 @@ def temporaries_in(statements):
     """How many temporaries statements take."""
     most = 0
     for statement in statements:
-        for field in ('condition', 'value'):
+        for field in ('condition', 'value', 'place'):
             if hasattr(statement, field):
                 most = max(most, _most(0, getattr(statement, field)))
+        if isinstance(statement, (Store, Take)):
+            for_the_place = 1
+            most = max(most, for_the_place)
         most = max([most, *map(temporaries_in, _blocks(statement))])
     return most
 

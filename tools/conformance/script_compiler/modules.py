@@ -2,11 +2,12 @@
 
 from assembler.encoding import signed
 from assembler.instructions import block, local_get, local_set, loop, on, resume
-from assembler.modules import as_func, code, export, imported, module
+from assembler.modules import as_func, code, export, imported, module, table
 from assembler.segments import declared_functions
+from assembler.types import limits
 from script_compiler.bodies import Body
 from script_compiler.indices import (
-    COMPUTATION_TYPE, PRINTER_TYPE, Indices, clause_type, effect_type, function_type, handler_type)
+    COMPUTATION_TYPE, PRINTER_TYPE, RESUMPTION, Indices, clause_type, effect_type, function_type, handler_type)
 from script_compiler.instructions import NUMBER
 from script_compiler.layouts import function_layout, function_locals, handler_layouts, handler_locals
 
@@ -22,6 +23,7 @@ def module_of(declarations):
     sections = {
         'types': indices.types, 'imports': [imported(as_func(PRINTER_TYPE), 'print_i64', 'host')],
         'functions': [indices.type(each) for each in function_types + handler_types],
+        'tables': [table(RESUMPTION, limits(each.count, each.count)) for each in indices.slots],
         'tags': [indices.type(effect_type(each.count)) for each in indices.effects],
         'exports': [export('main', 'func', indices.numbers['main'])],
         'elements': [declared_functions(handled)] if handled else [], 'codes': codes}
@@ -29,17 +31,18 @@ def module_of(declarations):
 
 
 def _function_code(indices, function):
-    return code(Body(indices, function_layout(function)).whole(0, function.body), function_locals(function))
+    body = Body(indices, function_layout(indices.kept, function)).whole(0, function.body)
+    return code(body, function_locals(indices.kept, function))
 
 
 def _handler_code(indices, handler):
-    return code(loop(NUMBER, _turn(indices, handler)), handler_locals(handler))
+    return code(loop(NUMBER, _turn(indices, handler)), handler_locals(indices.kept, handler))
 
 
 def _turn(indices, handler):
     """One turn of a handler's loop: the resume and the return clause, in the blocks of the clauses, the first's the
     innermost."""
-    return_layout, clause_layouts = handler_layouts(handler)
+    return_layout, clause_layouts = handler_layouts(indices.kept, handler)
     count = len(handler.clauses)
     labels = [on(indices.tags[clause.effect], label) for label, clause in enumerate(handler.clauses)]
     turn = local_get(len(handler.parameters)) + resume(COMPUTATION_TYPE, *labels)

@@ -2,9 +2,10 @@
 
 from script_evaluator.ends import Fault
 from script_evaluator.numbers import BINARY, CONNECTIVES, UNARY, decides, truth
-from script_evaluator.steps import Calls, Gives, Handles, Performs, Prints, Resumes, Returns
+from script_evaluator.steps import Calls, Gives, Handles, Performs, Prints, Resumes, Returns, Stores, Takes
 from script_reader.trees import (
-    Assign, Call, Do, Evaluate, Fail, Handle, If, Let, Literal, Print, Read, Resume, Return, Run, Unary, While)
+    Assign, Call, Do, Evaluate, Fail, Handle, If, Let, Literal, Print, Read, Resume, Return, Run, Store, Take, Unary,
+    While)
 
 DONE = Gives(None)
 
@@ -28,7 +29,7 @@ class Body:
 
     # Statements. What behind a return is never asked for.
 
-    def store(self, statement):
+    def set(self, statement):
         self.variables[statement.name] = yield from self.expression(statement.value)
         yield DONE
 
@@ -59,6 +60,14 @@ class Body:
     def fail(self, _statement):
         raise Fault('failed')
         yield   # it is a generator too
+
+    def store(self, statement):
+        place = yield from self.expression(statement.place)
+        yield Stores(statement.slots, place, self.variables[statement.resumption])
+
+    def take(self, statement):
+        place = yield from self.expression(statement.place)
+        self.variables[statement.name] = yield Takes(statement.slots, place)
 
     def drop(self, statement):
         yield from self.expression(statement.value)
@@ -124,8 +133,8 @@ class Body:
 
 
 STATEMENTS = {
-    Let: Body.store, Assign: Body.store, If: Body.choose, While: Body.repeat, Print: Body.print, Return: Body.return_,
-    Fail: Body.fail, Evaluate: Body.drop}
+    Let: Body.set, Assign: Body.set, If: Body.choose, While: Body.repeat, Print: Body.print, Return: Body.return_,
+    Fail: Body.fail, Store: Body.store, Take: Body.take, Evaluate: Body.drop}
 EXPRESSIONS = {
     Literal: Body.literal, Read: Body.read, Unary: Body.unary, Run: Body.run, Call: Body.call, Do: Body.do,
     Handle: Body.handle, Resume: Body.resume}

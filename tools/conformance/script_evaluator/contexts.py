@@ -4,7 +4,7 @@ from typing import NamedTuple
 
 from script_evaluator.bodies import Body
 from script_evaluator.ends import Fault
-from script_evaluator.steps import Calls, Gives, Handles, Performs, Prints, Resumes, Returns
+from script_evaluator.steps import Calls, Gives, Handles, Performs, Prints, Resumes, Returns, Stores, Takes
 
 
 class ActiveHandle(NamedTuple):
@@ -26,14 +26,17 @@ class Resumption:
 
 class Context:
     """Places, the innermost last: activations, which are generators, and active handles. `given` is the value that the
-    innermost place goes on with; an activation begins with nothing.
+    innermost place goes on with; an activation begins with nothing. `slots` has for each slots declaration its places,
+    each with a resumption or nothing.
 
-    `acts` counts the activations, `hands` the active handles, and `kept` the resumptions that aren't consumed."""
+    `acts` counts the activations, `hands` the active handles, and `kept` the resumptions that aren't consumed; `takes`
+    those that were taken from slots."""
 
     def __init__(self, declarations):
         self.declarations = {each.name: each for each in declarations}
         self.places = []
-        self.acts = self.hands = self.kept = 0
+        self.slots = {each.name: [None] * each.count for each in declarations if each.kind == 'slots'}
+        self.acts = self.hands = self.kept = self.takes = 0
         self.given = None
         self.value = None       # that of main, at the end
         self._call(Calls('main', []))
@@ -118,6 +121,28 @@ class Context:
         self.places += captured
         self.given = said.value
 
+    def _store(self, said):
+        """What stood in the place is forgotten, and the resumption isn't consumed."""
+        places = self._slots_with(said.slots, said.place)
+        places[said.place] = said.resumption
+        self.given = None
+
+    def _take(self, said):
+        places = self._slots_with(said.slots, said.place)
+        taken = places[said.place]
+        if taken is None:
+            raise Fault('empty')
+        places[said.place] = None
+        self.takes += 1
+        self.given = taken
+
+    def _slots_with(self, slots, place):
+        """The places of slots, of which this is one."""
+        places = self.slots[slots]
+        if not 0 <= place < len(places):
+            raise Fault('empty')
+        return places
+
     def _return(self, said):
         self._end_activation()
         self.given = said.value
@@ -136,4 +161,4 @@ def _bound(declaration, values):
 
 RULES = {
     Calls: Context._call, Handles: Context._handle, Performs: Context._perform, Resumes: Context._resume,
-    Returns: Context._return}
+    Stores: Context._store, Takes: Context._take, Returns: Context._return}

@@ -47,6 +47,21 @@ class Resumes(NamedTuple):
     ends: bool
 
 
+class Stores(NamedTuple):
+    """A resumption is put into a place of slots."""
+
+    slots: str
+    place: int
+    resumption: object
+
+
+class Takes(NamedTuple):
+    """A place of slots is emptied, and gives what stood there."""
+
+    slots: str
+    place: int
+
+
 class Returns(NamedTuple):
     """The activation ends with this value."""
 

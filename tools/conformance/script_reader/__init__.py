@@ -75,7 +75,8 @@ def reading_of(data):
 
 
 def first_deep(tokens):
-    """The number of the first token at which more brackets are open than may be."""
+    """The number of the first token at which more parentheses and braces are open than may be; square brackets don't
+    count."""
     opened = 0
     for number, token in enumerate(tokens):
         opened += token.kind in ('(', '{')

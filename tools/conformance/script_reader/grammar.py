@@ -11,6 +11,7 @@ script := decl*
 decl := 'effect' NAME '/' INT ';'
 decl := 'fn' NAME '(' params? ')' block
 decl := 'handler' NAME '(' params? ')' '{' 'return' '(' NAME ')' block clause* '}'
+decl := 'slots' NAME ':' 'res' NAME '[' INT ']' ';'
 params := param (',' param)*
 param := NAME (':' 'res' NAME)?
 clause := 'on' NAME '(' (NAME (',' NAME)*)? ')' NAME block
@@ -22,6 +23,8 @@ stmt := 'while' expr block
 stmt := 'print' expr ';'
 stmt := 'return' expr ';'
 stmt := 'fail' ';'
+stmt := 'store' NAME '[' expr ']' '=' NAME ';'
+stmt := 'take' NAME '=' NAME '[' expr ']' ';'
 stmt := expr ';'
 expr := and ('||' and)*
 and := cmp ('&&' cmp)*

@@ -7,6 +7,7 @@ from script_reader.tokens import Token
 
 INT = 'int'     # the type of a number; that of a resumption is its handler's name in a pair
 RUNS = ('expr', 'and', 'cmp', 'sum', 'prod')
+GREATEST_PLACES = 65536     # of slots
 
 
 class Parameter(NamedTuple):
@@ -18,8 +19,8 @@ class Parameter(NamedTuple):
 
 
 class Declaration(NamedTuple):
-    """A declaration: effect, fn or handler; its number of arguments, or its parameters, bodies and clauses. Its tokens
-    are those that stand in no part of it."""
+    """A declaration: effect, fn, handler or slots; its number of arguments or of places, or its parameters, bodies and
+    clauses. Slots keep resumptions of the handler `kept`. Its tokens are those that stand in no part of it."""
 
     kind: str
     name: str
@@ -29,6 +30,7 @@ class Declaration(NamedTuple):
     result: str
     clauses: list
     tokens: tuple = ()
+    kept: str = None
 
     @property
     def token(self):
@@ -103,12 +105,19 @@ def _first_token(node):
 
 def _declaration(node):
     kind, (name, *more) = node.parts[0].kind, _names(node)
-    count = int(node.parts[3].text) if kind == 'effect' else 0
+    if kind == 'slots':
+        return Declaration(kind, name, _number_in(node), [], None, None, [], _tokens(node), more[0])
+    count = _number_in(node) if kind == 'effect' else 0
     parameters = [_parameter(each) for params in _nodes(node, 'params') for each in _nodes(params, 'param')]
     blocks = _nodes(node, 'block')
     return Declaration(
         kind, name, count, parameters, blocks[0] if blocks else None, more[0] if more else None,
         [_clause(each) for each in _nodes(node, 'clause')], _tokens(node))
+
+
+def _number_in(node):
+    """The number that stands in a node."""
+    return int(next(token.text for token in _tokens(node) if token.kind == 'INT'))
 
 
 def _parameter(node):
@@ -153,6 +162,9 @@ class _Rules:
         if declaration.kind == 'effect':
             self.test(2, declaration.tokens[3], declaration.count > 8)
             return
+        if declaration.kind == 'slots':
+            self.slots(declaration)
+            return
         self.test_count(3, declaration.parameters, 8)
         for parameter in declaration.parameters:
             absent = parameter.type != INT and not self.found('handler', parameter.type[1])
@@ -163,6 +175,11 @@ class _Rules:
             self.clauses(declaration)
             bound.append(_number(next(each for each in declaration.tokens[2:] if each.kind == 'NAME')))
         self.body(bound, declaration.body)
+
+    def slots(self, declaration):
+        *_, handler, _, number, _, _ = declaration.tokens
+        self.test(5, handler, not self.found('handler', declaration.kept))
+        self.test(20, number, not 1 <= declaration.count <= GREATEST_PLACES)
 
     def clauses(self, handler):
         effects = set()
@@ -178,7 +195,7 @@ class _Rules:
 
     def body(self, bound, block):
         names = set()
-        for token in [parameter.tokens[0] for parameter in bound] + _lets(block):
+        for token in [parameter.tokens[0] for parameter in bound] + _bound_in(block):
             self.test(6, token, token.text in names)
             names.add(token.text)
         self.block({parameter.name: parameter.type for parameter in bound}, block)
@@ -190,6 +207,9 @@ class _Rules:
 
     def statement(self, scope, statement):
         kinds = _kinds(statement)
+        if kinds[0] in ('store', 'take'):
+            {'store': self.store, 'take': self.take}[kinds[0]](scope, statement)
+            return
         for expression in _nodes(statement, 'expr'):
             self.expression(scope, expression)
         for block in _nodes(statement, 'block'):
@@ -199,8 +219,34 @@ class _Rules:
         elif kinds[0] == 'NAME':
             self.name(scope, _name_tokens(statement)[0])
 
+    def store(self, scope, statement):
+        token, stored = _name_tokens(statement)
+        slots = self.place(scope, token, statement)
+        self.name(scope, stored, whole=True)
+        if slots is not None and stored.text in scope:
+            self.test(21, stored, not self.is_resumption_of(slots.kept, scope[stored.text]))
+
+    def take(self, scope, statement):
+        """The name is bound also where there are no such slots; then its type is of no handler, unless one has the name
+        of the slots."""
+        name, token = _name_tokens(statement)
+        slots = self.place(scope, token, statement)
+        scope[name.text] = ('res', token.text if slots is None else slots.kept)
+
+    def place(self, scope, token, statement):
+        """The slots of a place, where they are declared."""
+        slots = self.found('slots', token.text)
+        self.test(19, token, slots is None)
+        self.expression(scope, _nodes(statement, 'expr')[0])
+        return slots
+
+    def is_resumption_of(self, handler, given):
+        """Whether a value of this type suits where a resumption of a handler is wanted; one of a handler that isn't
+        declared suits everywhere."""
+        return given != INT and (given[1] == handler or not self.found('handler', given[1]))
+
     def name(self, scope, token, whole=False):
-        """A name that is assigned, or read, as a whole argument or not."""
+        """A name that is assigned, or read, as a whole argument or not; a stored one counts as such."""
         self.test(10, token, token.text not in scope)
         self.test(11, token, not whole and scope.get(token.text, INT) != INT)
 
@@ -265,14 +311,15 @@ class _Rules:
         self.test(15, token, len(arguments) != len(declaration.parameters))
         if len(arguments) == len(declaration.parameters):
             for parameter, argument in zip(declaration.parameters, arguments):
-                unsuited = not _suits(scope, parameter.type, _bare_name(argument))
+                unsuited = not self.suits(scope, parameter.type, _bare_name(argument))
                 self.test(16, _first_token(argument), unsuited)
 
-
-def _suits(scope, wanted, name):
-    """Whether an argument, a bare name or another expression, suits a parameter of this type."""
-    given = None if name is None else scope.get(name)
-    return given == wanted if wanted != INT else given in (None, INT)
+    def suits(self, scope, wanted, name):
+        """Whether an argument, a bare name or another expression, suits a parameter of this type."""
+        given = None if name is None else scope.get(name)
+        if wanted == INT:
+            return given in (None, INT)
+        return given is not None and self.is_resumption_of(wanted[1], given)
 
 
 def _bare_name(node):
@@ -287,8 +334,8 @@ def _bare_name(node):
     return _names(node)[0] if _kinds(node) == ['NAME'] else None
 
 
-def _lets(node):
-    """The tokens of the names that lets bind within."""
-    if node.name == 'stmt' and _kinds(node)[0] == 'let':
-        return list(_name_tokens(node))
-    return [token for part in node.parts if isinstance(part, Node) for token in _lets(part)]
+def _bound_in(node):
+    """The tokens of the names that lets and takes bind within."""
+    if node.name == 'stmt' and _kinds(node)[0] in ('let', 'take'):
+        return list(_name_tokens(node))[:1]
+    return [token for part in node.parts if isinstance(part, Node) for token in _bound_in(part)]

@@ -3,8 +3,9 @@
 import re
 from typing import NamedTuple
 
-KEYWORDS = 'effect fn handler return on let if else while print fail do handle with resume res'.split()
-SYMBOLS = '== != <= >= && || ( ) { } , ; : / = + - * % < > !'.split()
+KEYWORDS = (
+    'effect fn handler return on let if else while print fail do handle with resume res slots store take').split()
+SYMBOLS = '== != <= >= && || ( ) { } [ ] , ; : / = + - * % < > !'.split()
 GREATEST_NUMBER = 9223372036854775807
 
 _SEPARATOR = re.compile(rb'[ \t\n\r]+|#[^\n]*')

@@ -111,6 +111,22 @@ class Fail(NamedTuple):
     """fail."""
 
 
+class Store(NamedTuple):
+    """store s[e] = k."""
+
+    slots: str
+    place: object
+    resumption: str
+
+
+class Take(NamedTuple):
+    """take k = s[e], which binds k."""
+
+    name: str
+    slots: str
+    place: object
+
+
 class Evaluate(NamedTuple):
     """An expression whose value is dropped."""
 
@@ -158,6 +174,10 @@ def _statement(node):
         return If(*values, *blocks) if len(blocks) == 2 else If(*values, *blocks, [])
     if kind == 'while':
         return While(*values, *blocks)
+    if kind == 'store':
+        return Store(node.parts[1].text, *values, node.parts[6].text)
+    if kind == 'take':
+        return Take(node.parts[1].text, node.parts[3].text, *values)
     return {'print': Print, 'return': Return, 'fail': Fail, 'expr': Evaluate}[kind](*values)
 
 

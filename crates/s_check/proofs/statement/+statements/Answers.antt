@@ -22,9 +22,9 @@ in_statements-in_blocks-requires t c =
 pub in_statements-loop-statement-preserved : goal.in_statements-loop-statement-preserved
 in_statements-loop-statement-preserved t c =
     let s = c.statement-item.result in
-    let after = c.in_ok-bind_let.ensures.value ∙ ap (λ (x : Scope). bound_after (statement_of s) x) c.in_ok-least.ensures.restored in
+    let after = c.in_ok-bind_name.ensures.value ∙ ap (λ (x : Scope). bound_after c.args.declarations.now (statement_of s) x) c.in_ok-least.ensures.restored in
     let now = c.in_ok-least.ensures.value ∙ ap (λ (o : Option Rule). least_of o (in_blocks c.args.declarations.now c.loop-statement.scope (statement_of s))) c.in_front-least.ensures.value ∙ sym (in_parts c.args.declarations.now c.loop-statement.scope (statement_of s) c.loop-statement.least) in
     record {
-      goes = block_more c.args.declarations.now c.args.statements.now c.loop-statement.statement-index s c.loop-statement.scope c.bind_let.new.scope c.loop-statement.least c.in_ok-least.least _ c.loop-statement-test.true c.statement-item.is c.loop-statement.invariant.goes now after;
-      kept = kept_after (statement_of s) c.args.scope.now c.loop-statement.scope c.bind_let.new.scope c.loop-statement.invariant.kept after;
+      goes = block_more c.args.declarations.now c.args.statements.now c.loop-statement.statement-index s c.loop-statement.scope c.bind_name.new.scope c.loop-statement.least c.in_ok-least.least _ c.loop-statement-test.true c.statement-item.is c.loop-statement.invariant.goes now after;
+      kept = kept_after c.args.declarations.now (statement_of s) c.args.scope.now c.loop-statement.scope c.bind_name.new.scope c.loop-statement.invariant.kept after;
     }

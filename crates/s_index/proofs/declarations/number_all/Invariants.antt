@@ -8,5 +8,5 @@ abbrev pub invariant-loop-declaration : goal.invariant-loop-declaration
 invariant-loop-declaration l = record {
   found : (x : Name) → or_else (found l.first x) (entry_behind l.counts (drop l.declaration-index l.all) x) ≡ entry_of l.all x;
   counts : counted_all l.counts (drop l.declaration-index l.all) ≡ counts_of l.all;
-  few : l.counts.effects + l.counts.functions + l.counts.handlers + length (drop l.declaration-index l.all) ≡ length l.all;
+  few : l.counts.effects + l.counts.functions + l.counts.handlers + l.counts.slots + length (drop l.declaration-index l.all) ≡ length l.all;
 }
