@@ -26,12 +26,18 @@ class BuildRow:
         return ['words stackwasm build x', f'file x{spelled_script(self.data)}', *self.wanted]
 
 
-def ends(name, text, printed, line, status):
-    """A script whose module prints these numbers, and whose run ends with this line and status."""
-    data = (text.strip() + '\n').encode()
+def module_of(name, data):
+    """The module of a script, which is not to be refused."""
     module = built(data)
     if isinstance(module, str):
         raise ValueError(f'{name}: {module}')
+    return module
+
+
+def ends(name, text, printed, line, status):
+    """A script whose module prints these numbers, and whose run ends with this line and status."""
+    data = (text.strip() + '\n').encode()
+    module = module_of(name, data)
     lines = ''.join(f'{number}\n' for number in printed)
     wanted = (f'{lines}{line}\n', '') if status == 0 else (lines, f'{line}\n')
     outcome = outcome_of(module)

@@ -1,10 +1,9 @@
 """Runs of scripts with slots, and how these are compiled. What a run is to come to where this is told was worked out by
 hand from what the language says, and the second readers are to come to the same; so were the bytes of code."""
 
-from rows.script_modules import BuildRow
+from rows.script_modules import BuildRow, module_of
 from rows.script_run_samples import ScriptRunSection, data_of
 from rows.sections import spelled
-from script_compiler import built
 
 RUNS = ScriptRunSection('runs')
 PLACES = ScriptRunSection('places')
@@ -20,9 +19,7 @@ LEAST = '(0 - 9223372036854775807 - 1)'
 def compiled(name, text, *codes):
     """How a script is compiled, and codes that its module has somewhere."""
     data = data_of(text)
-    module = built(data)
-    if isinstance(module, str):
-        raise ValueError(f'{name}: {module}')
+    module = module_of(name, data)
     for code in codes:
         if bytes.fromhex(code) not in module:
             raise ValueError(f'{name}: {code} is not in {module.hex().upper()}')
