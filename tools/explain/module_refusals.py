@@ -5,7 +5,7 @@ from itertools import groupby
 from pictures import byte_place, bytes_around, most
 from reader.instructions import LOADS, STORES
 from reader.module_decoding import SECTIONS
-from reader.types import FuncType, spelled, spelled_row
+from reader.types import FuncType, spelled, spelled_composite, spelled_row
 
 SECTION_NAMES = {0: 'custom'} | {number: field.replace('_', ' ') for number, (field, _) in SECTIONS.items()}
 SECTION_NAMES |= {1: 'types', 10: 'code', 11: 'data'}
@@ -14,6 +14,7 @@ ACCESSES = {name for name, _, _ in (LOADS | STORES).values()}
 GREATEST_RUNS = 8           # of locals that are shown
 GREATEST_AROUND = 5         # blocks from the outermost one and from the innermost one, where there are more
 GREATEST_OPERANDS = 20      # from the top
+GREATEST_SUPERTYPES = 8     # that are shown
 
 
 def module_lines(data, reading):
@@ -70,6 +71,8 @@ def _item_line(item, reading):
         index = module.functions[number]
         arrow = _arrow(reading.context.types, index)
         return f'function {number} of the module, whose index is {number + imported}, is of type {index}{arrow}'
+    if kind == 'type':
+        return f'type {number} of the module is {_declared(module.sub_types[number])}'
     if kind == 'import':
         each = module.imports[number]
         return f'import {number} of the module is {_quoted(each.module)} {_quoted(each.item)}'
@@ -80,12 +83,19 @@ def _item_line(item, reading):
     return f'{item} of the module' if number is not None else f'the {item} of the module'
 
 
+def _declared(sub_type):
+    """What is declared of a type, and the type."""
+    finality, supertypes = 'final' if sub_type.final else 'open', sub_type.supertypes
+    hidden = len(supertypes) - GREATEST_SUPERTYPES
+    shown = ' '.join(map(str, supertypes[:GREATEST_SUPERTYPES])) + (f' and {hidden} more' if hidden > 0 else '')
+    above = f' with the {"supertype" if len(supertypes) == 1 else "supertypes"} {shown}' if supertypes else ''
+    return f'{finality}{above}: {spelled_composite(sub_type.composite)}'
+
+
 def _arrow(types, index):
     """A function type behind its index, where there is one."""
     function_type = types[index] if index < len(types) else None
-    if not isinstance(function_type, FuncType):
-        return ''
-    return f', {spelled_row(function_type.parameters)} -> {spelled_row(function_type.results)}'
+    return f', {spelled_composite(function_type)}' if isinstance(function_type, FuncType) else ''
 
 
 def _quoted(name):

@@ -4,7 +4,7 @@ use std::alloc::{AllocError, Global};
 use std::process::Abort;
 use std::test::Fail;
 use w_syntax::Name;
-use w_types::{CompType, RecGroup, RecGroups};
+use w_types::{CompType, RecGroup, RecGroups, SubType};
 
 #[test]
 fn a_list_gives_what_was_pushed_in_order(rt: HostRuntime) -> Result<(), Fail> {
@@ -22,11 +22,11 @@ fn a_list_gives_what_was_pushed_in_order(rt: HostRuntime) -> Result<(), Fail> {
     Ok(())
 }
 
-// A group of continuation types of these indices.
+// A group of final continuation types of these indices, without supertypes.
 fn group(alloc: Global, indices: &[u32]) -> Result<RecGroup, AllocError> {
     let mut types = ListOf::new(alloc);
     for index in indices {
-        types.push(CompType::Cont(*index))?;
+        types.push(SubType::alone(alloc, CompType::Cont(*index)))?;
     }
     Ok(RecGroup { types })
 }
@@ -36,6 +36,14 @@ fn continued(types: &RecGroups, index: usize) -> Option<u32> {
     match types.get(index) {
         Some(CompType::Cont(function)) => Some(*function),
         Some(CompType::Func(_)) | None => None,
+    }
+}
+
+// How many supertypes a type has, where there is one.
+fn supertypes(types: &RecGroups, index: usize) -> Option<usize> {
+    match types.subtype(index) {
+        Some(found) => Some(found.supertypes.len()),
+        None => None,
     }
 }
 
@@ -56,6 +64,8 @@ fn types_are_those_of_the_groups(rt: &impl Abort, types: &RecGroups) {
         assert_eq!(rt; continued(types, index), function, "{index}");
     }
     assert_eq!(rt; types.as_slice().len(), 3);
+    assert_eq!(rt; supertypes(types, 2), Some(0));
+    assert_eq!(rt; supertypes(types, 3), None);
 }
 
 #[test]

@@ -161,7 +161,7 @@ pub(crate) fn run<O: Sink>(
         (Grew (O.held out.old) (O.held out.new)) (Rose (O.faults out.old) (O.faults out.new)) }
     ensures later { O.faults out.old ≤ O.faults out.new }
 {
-    // Which types are equivalent is known.
+    // Which types match which is known.
     let _classes = checked.classes();
     match instantiate(alloc, &checked) {
         Ok(instance) => run_from(alloc, origin, checked, instance, steps, stats, out),

@@ -213,7 +213,7 @@ start_reply on_trap steps stats p (StartTraps t) = on_trap t
 abbrev pub run_gives : TrapReply → ℕ → Bool → Program → Reply
 run_gives on_trap steps stats p = start_reply on_trap steps stats p (Start p)
 
--- so a module gives, by which of its types are equivalent
+-- so a module gives, by which of its types match which
 abbrev pub RunGives : TrapReply → ℕ → Bool → Module → Reply → Type 0
 RunGives on_trap steps stats m reply = (p : Program) × (p.source ≡ m) × IsProgram p × (reply ≡ run_gives on_trap steps stats p)
 

@@ -44,20 +44,20 @@ entered_active {p} facts g fn is {vs = vs} {ws = ws} vars enough values bound =
     let a = many_locals ws (function_locals p.declarations fn) in let b = sames_many values in let r = q.room in
     record { fine = q.fine; room = omega (arith, a, b, r, enough); holds = holds_bound q.parameters bound (held_first (function_locals p.declarations fn) values) }
 
-module _ {p : Script} (same : ℕ → ℕ → Bool) (facts : Facts p.declarations) {ρ : List ℕ} {σ : script.Store} {s : Store} (stores : Stores p.declarations ρ σ s) {Γ : Layout} {n D0 : ℕ} {L : Locals} {vars : List Variable} {owner : Option Name} {κ : script.Context} {below : Row Val} {c' : Code} {e' f : Context}
+module _ {p : Script} (matches : ℕ → ℕ → Bool) (facts : Facts p.declarations) {ρ : List ℕ} {σ : script.Store} {s : Store} (stores : Stores p.declarations ρ σ s) {Γ : Layout} {n D0 : ℕ} {L : Locals} {vars : List Variable} {owner : Option Name} {κ : script.Context} {below : Row Val} {c' : Code} {e' f : Context}
     (active : Active ρ Γ n L vars) (base : Base p.declarations Γ L below c' e' owner D0 f) (waits : Waits p.declarations ρ κ below c' e') where
   -- E[g(vs)]
   pub sim_call : {t : ℕ} {vs : Values} {ws : Row Val} {w : List Work} {ops : Row Val} {c : Code} {e : Context} (g : Name) (fn : Function) → function_of p.declarations g ≡ Some fn → many vs ≡ length fn.parameters
       → Sames ρ vs ws → Works p.declarations ρ Γ n D0 f t L w ops c e
-      → Matches p same 52 s (config e (ops ⧺ ws) (Plain (call (function_index p.declarations g)) c)) (applies p (record { store = σ; variables = vars; owner = owner; work = w; outer = κ }) (Calling g) (script.listed vs))
+      → Matches p matches 52 s (config e (ops ⧺ ws) (Plain (call (function_index p.declarations g)) c)) (applies p (record { store = σ; variables = vars; owner = owner; work = w; outer = κ }) (Calling g) (script.listed vs))
   sim_call {vs = vs} {ws = ws} {w = w} {ops = ops} {c = c} {e = e} g fn is enough values works =
       let ds = p.declarations in
       let q = facts.functions g fn is in
       let b = bind_known fn.parameters (script.listed vs) (sym enough ∙ sym (listed_many vs)) in
       let t : Term = config e (ops ⧺ ws) (Plain (call (function_index ds g)) c) in
       let t' : Term = config (entered (function_index ds g - 1) ops ws (function_locals ds fn) (rest_of c) e) ε (body ds (function_layout ds fn) 0 fn.body) in
-      let called : step (program_of p same) s t ≡ Went [] s t' =
-      invoke_step p same s e ops ws (rest_of c) (function_index ds g) (val_types fn.parameters) (record { locals = function_locals ds fn; body = body ds (function_layout ds fn) 0 fn.body }) stores.functions (function_stored ds g fn is)
+      let called : step (program_of p matches) s t ≡ Went [] s t' =
+      invoke_step p matches s e ops ws (rest_of c) (function_index ds g) (val_types fn.parameters) (record { locals = function_locals ds fn; body = body ds (function_layout ds fn) 0 fn.body }) stores.functions (function_stored ds g fn is)
       (types_many fn.parameters ∙ sym enough ∙ sames_many values) in
       rw (is, b.1)
       (went (go called (under_last s s t t' (omega arith)) stay) (omega arith) (omega arith)

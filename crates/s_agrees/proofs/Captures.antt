@@ -288,7 +288,7 @@ module _ {ds : List Declaration} {h : Name} {i : Handler} {z : Clause} {Γ : Lay
 abbrev clause_runs : script.Store → Found → Clause → List Variable → List Variable → Step
 clause_runs σ f z params arguments = enters (with_kept σ f.inner) z.body (params ++ (arguments ++ resumption_variable z f.h (next_address σ) ∷ [])) (Some f.h) f.outer
 
-module _ {p : Script} (same : ℕ → ℕ → Bool) {ρ : List ℕ} {σ : script.Store} {s : Store} (stores : Stores p.declarations ρ σ s) {op : Name} {k : ℕ} (known : effect_of p.declarations op ≡ Some k)
+module _ {p : Script} (matches : ℕ → ℕ → Bool) {ρ : List ℕ} {σ : script.Store} {s : Store} (stores : Stores p.declarations ρ σ s) {op : Name} {k : ℕ} (known : effect_of p.declarations op ≡ Some k)
     {vs : Values} {ws : Row Val} (values : Sames ρ vs ws) (number : many vs ≡ k) {ops : Row Val} {c : Code} {e : Context} {f : Found} (r : CutAt p.declarations ρ ops c e op f)
     (a : ClauseAt p.declarations op k f) where
   abbrev kept : Continuation
@@ -337,7 +337,7 @@ module _ {p : Script} (same : ℕ → ℕ → Bool) {ρ : List ℕ} {σ : script
       let z = live_more s.conts kept in
       in_blocks p.declarations f.h f.handler qs r.below r.code r.outside' (omega (arith, x)) (omega (arith, y)) (omega (arith, z))
 
-  branch_step : step (program_of p same) after_suspend (suspended the_handle ws (next_cont s))
+  branch_step : step (program_of p matches) after_suspend (suspended the_handle ws (next_cont s))
       ≡ Went [] after_suspend (config (frame_in a.behind r.locals) ((ε ⧺ ws) ▹ Cont (next_cont s)) (clause_code p.declarations (length a.behind) a.placed))
   unfolding the_handle
   branch_step =
@@ -348,10 +348,10 @@ module _ {p : Script} (same : ℕ → ℕ → Bool) {ρ : List ℕ} {σ : script
       (omega (arith, number, x, y))
 
   -- the resumption is set, and then the arguments
-  set_clause : Path (program_of p same) (caps_of s do_term clause_term) (suc (length a.placed.clause.arguments + 0)) after_suspend
+  set_clause : Path (program_of p matches) (caps_of s do_term clause_term) (suc (length a.placed.clause.arguments + 0)) after_suspend
       (config (frame_in a.behind r.locals) ((ε ⧺ ws) ▹ Cont (next_cont s)) (clause_code p.declarations (length a.behind) a.placed)) after_suspend clause_term
   set_clause =
-      let P = program_of p same in let caps = caps_of s do_term clause_term in let Γ = a.placed.layout in let z = a.placed.clause in
+      let P = program_of p matches in let caps = caps_of s do_term clause_term in let Γ = a.placed.layout in let z = a.placed.clause in
       let y = a.facts.first + length z.arguments in
       let done : Code = body p.declarations Γ (length a.behind) z.body in
       let code : Code = set_names Γ z.arguments done in
@@ -366,10 +366,10 @@ module _ {p : Script} (same : ℕ → ℕ → Bool) {ρ : List ℕ} {σ : script
       (subst (λ (us : Row Val). Path P caps (length z.arguments + 0) after_suspend (config (frame_in a.behind L1) us code) after_suspend clause_term) (onto_listed ε ws) names))
 
   -- all reductions, from the suspend to the clause's body
-  do_path : Path (program_of p same) (caps_of s do_term clause_term) (suc (suc (suc (length a.placed.clause.arguments + 0)))) s do_term after_suspend clause_term
+  do_path : Path (program_of p matches) (caps_of s do_term clause_term) (suc (suc (suc (length a.placed.clause.arguments + 0)))) s do_term after_suspend clause_term
   unfolding the_handle
   do_path =
-      go (suspend_step (program_of p same) s e ops ws c (tag_index p.declarations op) (arrow (numbers k) (I64 ∷ [])) the_handle ((offers_all p.declarations).effect op k known) as_many_operands handle_found)
+      go (suspend_step (program_of p matches) s e ops ws c (tag_index p.declarations op) (arrow (numbers k) (I64 ∷ [])) the_handle ((offers_all p.declarations).effect op k known) as_many_operands handle_found)
       ((around_clause (placed_clauses p.declarations f.h f.handler)).under r.locals)
       (go branch_step ((around_clause a.behind).under r.locals) set_clause)
 
@@ -385,7 +385,7 @@ module _ {p : Script} (same : ℕ → ℕ → Bool) {ρ : List ℕ} {σ : script
       omega (arith, few, x, y, z, n, m)
 
   do_caught : {params arguments : List Variable} → bind f.handler.parameters f.params ≡ Some params → bind (number_parameters a.placed.clause.arguments) (listed vs) ≡ Some arguments
-      → Matches p same 52 s do_term (clause_runs σ f a.placed.clause params arguments)
+      → Matches p matches 52 s do_term (clause_runs σ f a.placed.clause params arguments)
   do_caught q1 q2 =
       let g = grows_more ρ (next_cont s) in
       let long = clause_long a.facts r.locals (next_cont s) (vals_listed ws) r.room as_many_listed in let room = r.room in
@@ -406,38 +406,38 @@ do_with σ us f =
     or_wrong (bind f.handler.parameters f.params) (λ (params : List Variable).
     or_wrong (bind (number_parameters f.clause.arguments) us) (λ (arguments : List Variable). clause_runs σ f f.clause params arguments))
 
-module _ {p : Script} (same : ℕ → ℕ → Bool) (facts : Facts p.declarations) {ρ : List ℕ} {σ : script.Store} {s : Store} (stores : Stores p.declarations ρ σ s) (op : Name) {k : ℕ} (known : effect_of p.declarations op ≡ Some k)
+module _ {p : Script} (matches : ℕ → ℕ → Bool) (facts : Facts p.declarations) {ρ : List ℕ} {σ : script.Store} {s : Store} (stores : Stores p.declarations ρ σ s) (op : Name) {k : ℕ} (known : effect_of p.declarations op ≡ Some k)
     {vs : Values} {ws : Row Val} (values : Sames ρ vs ws) (number : many vs ≡ k) {ops : Row Val} {c : Code} {e : Context} where
   -- where a handle is found: all that the script binds is there
   do_clause : (f : Found) (r : CutAt p.declarations ρ ops c e op f) → ClauseAt p.declarations op k f
-      → Matches p same 52 s (config e (ops ⧺ ws) (Plain (suspend (tag_index p.declarations op)) c)) (do_with σ (listed vs) f)
+      → Matches p matches 52 s (config e (ops ⧺ ws) (Plain (suspend (tag_index p.declarations op)) c)) (do_with σ (listed vs) f)
   do_clause f r a =
       let x = a.as_many in let y = listed_long values in let z = number_parameters_length a.placed.clause.arguments in
       let q1 = bind_known f.handler.parameters f.params (sym r.as_many) in
       let q2 = bind_known (number_parameters a.placed.clause.arguments) (listed vs) (omega (arith, number, x, y, z)) in
       let t : Term = config e (ops ⧺ ws) (Plain (suspend (tag_index p.declarations op)) c) in
-      subst (λ (o : Option (List Variable)). Matches p same 52 s t (or_wrong o (λ (params : List Variable).
+      subst (λ (o : Option (List Variable)). Matches p matches 52 s t (or_wrong o (λ (params : List Variable).
       or_wrong (bind (number_parameters f.clause.arguments) (listed vs)) (λ (arguments : List Variable). clause_runs σ f f.clause params arguments)))) (sym q1.1)
-      (subst (λ (u : Clause). Matches p same 52 s t (or_wrong (bind (number_parameters u.arguments) (listed vs)) (λ (arguments : List Variable). clause_runs σ f u q1.0 arguments))) a.is
-      (subst (λ (o : Option (List Variable)). Matches p same 52 s t (or_wrong o (λ (arguments : List Variable). clause_runs σ f a.placed.clause q1.0 arguments))) (sym q2.1)
-      (do_caught same stores known values number r a q1.1 q2.1)))
+      (subst (λ (u : Clause). Matches p matches 52 s t (or_wrong (bind (number_parameters u.arguments) (listed vs)) (λ (arguments : List Variable). clause_runs σ f u q1.0 arguments))) a.is
+      (subst (λ (o : Option (List Variable)). Matches p matches 52 s t (or_wrong o (λ (arguments : List Variable). clause_runs σ f a.placed.clause q1.0 arguments))) (sym q2.1)
+      (do_caught matches stores known values number r a q1.1 q2.1)))
 
   -- where none is found the module traps, and the script is at fault
   do_found : {κ : script.Context} → Waits p.declarations ρ κ ops c e → (o : Option Found) → find p op κ ≡ o
-      → Matches p same 52 s (config e (ops ⧺ ws) (Plain (suspend (tag_index p.declarations op)) c)) (or_fault (Unhandled op) o (do_with σ (listed vs)))
+      → Matches p matches 52 s (config e (ops ⧺ ws) (Plain (suspend (tag_index p.declarations op)) c)) (or_fault (Unhandled op) o (do_with σ (listed vs)))
   do_found w None q =
       let x = numbers_long k in let y = sames_size values in
       faulted stay
-      (uncaught_step (program_of p same) s e ops ws c (tag_index p.declarations op) (arrow (numbers k) (I64 ∷ [])) ((offers_all p.declarations).effect op k known) (omega (arith, number, x, y))
+      (uncaught_step (program_of p matches) s e ops ws c (tag_index p.declarations op) (arrow (numbers k) (I64 ∷ [])) ((offers_all p.declarations).effect op k known) (omega (arith, number, x, y))
       ((finding_none ℕ (label_clause (tag_index p.declarations op)) e).1 (uncut facts op known w q)))
       (ap (λ (o : Option Name). option_map Unhandled o) (effect_named p.declarations op k known)) (omega arith)
   do_found w (Some f) q = let r = cut facts op known w f q in do_clause f r (clause_at facts known r)
 
-module _ {p : Script} (same : ℕ → ℕ → Bool) (facts : Facts p.declarations) {ρ : List ℕ} {σ : script.Store} {s : Store} (stores : Stores p.declarations ρ σ s) {Γ : Layout} {n D0 : ℕ} {L : Locals} {vars : List Variable}
+module _ {p : Script} (matches : ℕ → ℕ → Bool) (facts : Facts p.declarations) {ρ : List ℕ} {σ : script.Store} {s : Store} (stores : Stores p.declarations ρ σ s) {Γ : Layout} {n D0 : ℕ} {L : Locals} {vars : List Variable}
     {owner : Option Name} {κ : script.Context} {below : Row Val} {c' : Code} {e' f : Context}
     (active : Active ρ Γ n L vars) (base : Base p.declarations Γ L below c' e' owner D0 f) (waits : Waits p.declarations ρ κ below c' e') where
   pub sim_do : {t k : ℕ} (op : Name) {vs : Values} {ws : Row Val} {w : List Work} {ops : Row Val} {c : Code} {e : Context} → effect_of p.declarations op ≡ Some k → many vs ≡ k → Sames ρ vs ws
       → Works p.declarations ρ Γ n D0 f t L w ops c e
-      → Matches p same 52 s (config e (ops ⧺ ws) (Plain (suspend (tag_index p.declarations op)) c)) (applies p (record { store = σ; variables = vars; owner = owner; work = w; outer = κ }) (Doing op) (listed vs))
+      → Matches p matches 52 s (config e (ops ⧺ ws) (Plain (suspend (tag_index p.declarations op)) c)) (applies p (record { store = σ; variables = vars; owner = owner; work = w; outer = κ }) (Doing op) (listed vs))
   sim_do op {w = w} known number values works =
-      do_found same facts stores op known values number (activation active works base waits) (find p op (Activation vars owner w ∷ κ)) refl
+      do_found matches facts stores op known values number (activation active works base waits) (find p op (Activation vars owner w ∷ κ)) refl

@@ -56,12 +56,12 @@ use Rattle.s_agrees.proofs.Captures.{in_range}
 use Rattle.s_agrees.proofs.ValuesAtHandles.{sim_return}
 
 -- each rule is matched, where its redex is ready and typed
-pub record RulesMatched (p : Script) (same : ℕ → ℕ → Bool) : Type 0 where
+pub record RulesMatched (p : Script) (matches : ℕ → ℕ → Bool) : Type 0 where
   pub matched : {ρ : List ℕ} {σ : script.Store} {s : Store} {Γ : Layout} {n D0 t : ℕ} {L : Locals} {vars : List Variable} {owner : Option Name} {κ : script.Context} {below : Row Val} {c' : Code} {e' f : Context}
       {w : List Work} {ops : Row Val} {c : Code} {e : Context} {Ξ : World} {scope : Scope} (r : Redex)
       → Stores p.declarations ρ σ s → Active ρ Γ n L vars → Base p.declarations Γ L below c' e' owner D0 f → Waits p.declarations ρ κ below c' e' → StoreTyped p Ξ σ → Covers Ξ scope vars
       → Ready p.declarations ρ Γ n D0 f r t L w ops c e → RedexTyped p Ξ scope r w
-      → Matches p same 52 s (config e ops c) (rule p (record { store = σ; variables = vars; owner = owner; work = w; outer = κ }) r)
+      → Matches p matches 52 s (config e ops c) (rule p (record { store = σ; variables = vars; owner = owner; work = w; outer = κ }) r)
 
 -- ## What is done next stands ready
 
@@ -245,65 +245,65 @@ abbrev ruled : Script → script.Store → List Variable → Option Name → scr
 ruled p σ vars owner κ r = rule p (record { store = σ; variables = vars; owner = owner; work = r.work; outer = κ }) r.redex
 
 -- a local is set first, from the stack
-set_first : {p : Script} {same : ℕ → ℕ → Bool} {s : Store} {L : Locals} {e : Context} {ops : Row Val} {c : Code} {r : Step} (y : ℕ) (a : Val) → locals_of e ≡ L → y < length L
-    → Matches p same 52 s (config (with_local y a e) ops c) r → Matches p same 56 s (config e (ops ▹ a) (Plain (local_set y) c)) r
-set_first {p} {same} {s} {L} {e} {ops} {c} y a is lt m =
+set_first : {p : Script} {matches : ℕ → ℕ → Bool} {s : Store} {L : Locals} {e : Context} {ops : Row Val} {c : Code} {r : Step} (y : ℕ) (a : Val) → locals_of e ≡ L → y < length L
+    → Matches p matches 52 s (config (with_local y a e) ops c) r → Matches p matches 56 s (config e (ops ▹ a) (Plain (local_set y) c)) r
+set_first {p} {matches} {s} {L} {e} {ops} {c} y a is lt m =
     let old = in_range L y lt in let l = labels_set y a e in
-    more_room (omega arith) (before 1 (set_step (program_of p same) s e ops a c y old.0 (ap (λ (z : Locals). slice_get z y) is ∙ old.1)) (frames_set y a e) (handles_set y a e) (omega (arith, l)) m)
+    more_room (omega arith) (before 1 (set_step (program_of p matches) s e ops a c y old.0 (ap (λ (z : Locals). slice_get z y) is ∙ old.1)) (frames_set y a e) (handles_set y a e) (omega (arith, l)) m)
 
 -- a value that was set
 local_is_set : {ρ : List ℕ} {v : Value} {a : Val} (L : Locals) (y : ℕ) → y < length L → Same ρ v a → LocalIs ρ (slice_set L y (Some a)) y v
 local_is_set {a = a} L y lt v = let old = in_range L y lt in record { value = a; is = get_set_same L y (Some a) old.0 old.1; same = v }
 
-module _ {p : Script} (same : ℕ → ℕ → Bool) (rules : RulesMatched p same) {ρ : List ℕ} {σ : script.Store} {s : Store} (stores : Stores p.declarations ρ σ s) {Ξ : World} (store_typed : StoreTyped p Ξ σ)
+module _ {p : Script} (matches : ℕ → ℕ → Bool) (rules : RulesMatched p matches) {ρ : List ℕ} {σ : script.Store} {s : Store} (stores : Stores p.declarations ρ σ s) {Ξ : World} (store_typed : StoreTyped p Ξ σ)
     {Γ : Layout} {n D0 : ℕ} {L : Locals} {vars : List Variable} {owner : Option Name} {κ : script.Context} {below : Row Val} {c' : Code} {e' f : Context}
     (active : Active ρ Γ n L vars) (base : Base p.declarations Γ L below c' e' owner D0 f) (waits : Waits p.declarations ρ κ below c' e') where
   -- a redex that stands ready, in its pending work
-  sim_ready : {r : Focused} {ops : Row Val} {c : Code} {e : Context} → NextTyped p Ξ vars (Some r) → ReadyAt p.declarations ρ Γ n D0 f L r ops c e → Matches p same 52 s (config e ops c) (ruled p σ vars owner κ r)
+  sim_ready : {r : Focused} {ops : Row Val} {c : Code} {e : Context} → NextTyped p Ξ vars (Some r) → ReadyAt p.declarations ρ Γ n D0 f L r ops c e → Matches p matches 52 s (config e ops c) (ruled p σ vars owner κ r)
   sim_ready {r} q a = rules.matched r.redex stores active base waits store_typed q.covers a.ready (subst (λ (g : Focused). RedexTyped p Ξ q.scope g.redex g.work) (sym (some_is q.is)) q.typed)
 
 -- ## Values that are put aside
 
-module _ {p : Script} (same : ℕ → ℕ → Bool) (rules : RulesMatched p same) {ρ : List ℕ} {σ : script.Store} {s : Store} (stores : Stores p.declarations ρ σ s) {Ξ : World} (store_typed : StoreTyped p Ξ σ)
+module _ {p : Script} (matches : ℕ → ℕ → Bool) (rules : RulesMatched p matches) {ρ : List ℕ} {σ : script.Store} {s : Store} (stores : Stores p.declarations ρ σ s) {Ξ : World} (store_typed : StoreTyped p Ξ σ)
     {Γ : Layout} {n D0 : ℕ} {L : Locals} {vars : List Variable} {owner : Option Name} {κ : script.Context} {below : Row Val} {c' : Code} {e' f : Context}
     (active : Active ρ Γ n L vars) (base : Base p.declarations Γ L below c' e' owner D0 f) (waits : Waits p.declarations ρ κ below c' e') where
   -- a first argument of a handle is put aside
   sim_put_aside : {t t0 m u : ℕ} {g : Name} (h : Name) {us : Values} {v : Value} {a : Val} {es bs : Exprs} {w : List Work} {ops : Row Val} {c : Code} {e : Context} (ns : Row ℕ) → Same ρ v a → t0 ≤ t
       → Asides p.declarations ρ Γ n L g m t u ns us es bs → Works p.declarations ρ Γ n D0 f t0 L w ops c e → NextTyped p Ξ vars (Some (in_args (Handling g m h) (us ▸ v) (followed_by es bs) w))
-      → Matches p same 56 s (config e (ops ▹ a) (Plain (local_set (Γ.temporaries + t)) (asides_code p.declarations Γ g h t u (ns ▹ (Γ.temporaries + t)) es bs c)))
+      → Matches p matches 56 s (config e (ops ▹ a) (Plain (local_set (Γ.temporaries + t)) (asides_code p.declarations Γ g h t u (ns ▹ (Γ.temporaries + t)) es bs c)))
       (ruled p σ vars owner κ (in_args (Handling g m h) (us ▸ v) (followed_by es bs) w))
   sim_put_aside {t} {g = g} h {a = a} ns v le x k q =
       let y = Γ.temporaries + t in
       let room = active.room in let free = x.free in
       let lt : y < length L = omega (arith, room, free) in
       set_first y a (deep_locals (works_deep k).1 ∙ base_locals base) lt
-      (sim_ready same rules stores store_typed (active_kept y (Some a) (omega arith) active) (base_set y a base) waits q
+      (sim_ready matches rules stores store_typed (active_kept y (Some a) (omega arith) active) (base_set y a base) waits q
       (ready_behind g h ns le x.firsts x.behind x.handled x.asides x.args (held_at_kept y (Some a) (omega arith) x.held) (omega arith) (local_is_set L y lt v)
       (works_beyond (setting y a) (works_kept y (Some a) (omega (arith, le)) k))))
 
   -- the number that a resumption gets is put aside
   sim_put_number : {t : ℕ} (x : Name) {v : Value} {a : Val} {bs : Exprs} {w : List Work} {ops : Row Val} {c : Code} {e : Context} → Same ρ v a → t < n → WellArgs p.declarations n (t + 1) bs
       → Works p.declarations ρ Γ n D0 f t L w ops c e → NextTyped p Ξ vars (Some (in_args (Resuming x) (no_values ▸ v) bs w))
-      → Matches p same 56 s (config e (ops ▹ a) (Plain (local_set (Γ.temporaries + t)) (args p.declarations Γ (t + 1) bs (resume_code p.declarations Γ x (Γ.temporaries + t) c))))
+      → Matches p matches 56 s (config e (ops ▹ a) (Plain (local_set (Γ.temporaries + t)) (args p.declarations Γ (t + 1) bs (resume_code p.declarations Γ x (Γ.temporaries + t) c))))
       (ruled p σ vars owner κ (in_args (Resuming x) (no_values ▸ v) bs w))
   sim_put_number {t} x {a = a} v free vs k q =
       let y = Γ.temporaries + t in
       let room = active.room in
       let lt : y < length L = omega (arith, room, free) in
       set_first y a (deep_locals (works_deep k).1 ∙ base_locals base) lt
-      (sim_ready same rules stores store_typed (active_kept y (Some a) (omega arith) active) (base_set y a base) waits q
+      (sim_ready matches rules stores store_typed (active_kept y (Some a) (omega arith) active) (base_set y a base) waits q
       (ready_args vs (resuming_arguments x (omega arith) (omega arith) (local_is_set L y lt v) (works_beyond (setting y a) (works_kept y (Some a) (omega arith) k))) standing.Sames.none))
 
   -- and the one of a tail resume
   sim_put_tail : {D d : ℕ} (x : Name) {v : Value} {a : Val} {bs : Exprs} {e : Context} (c : Code) → Same ρ v a → 0 < n → layouts.is_own Γ x ≡ true → WellArgs p.declarations n 1 bs → Deep f d e → D ≡ d + D0
       → NextTyped p Ξ vars (Some (in_args (TailResuming x) (no_values ▸ v) bs []))
-      → Matches p same 56 s (config e (ε ▹ a) (Plain (local_set Γ.temporaries) (args p.declarations Γ 1 bs (tail_code Γ D x Γ.temporaries c)))) (ruled p σ vars owner κ (in_args (TailResuming x) (no_values ▸ v) bs []))
+      → Matches p matches 56 s (config e (ε ▹ a) (Plain (local_set Γ.temporaries) (args p.declarations Γ 1 bs (tail_code Γ D x Γ.temporaries c)))) (ruled p σ vars owner κ (in_args (TailResuming x) (no_values ▸ v) bs []))
   sim_put_tail x {a = a} c v free o vs d inside q =
       let y = Γ.temporaries in
       let room = active.room in
       let lt : y < length L = omega (arith, room, free) in
       set_first y a (deep_locals d ∙ base_locals base) lt
-      (sim_ready same rules stores store_typed (active_kept y (Some a) (omega arith) active) (base_set y a base) waits q
+      (sim_ready matches rules stores store_typed (active_kept y (Some a) (omega arith) active) (base_set y a base) waits q
       (ready_args vs (tail_arguments c (omega arith) o (local_is_set L y lt v) (deep_beyond (setting y a) d) inside) standing.Sames.none))
 
 -- ## In an activation
@@ -313,21 +313,21 @@ again_step : (P : Program) (s : Store) (e : Context) (turn rest : Code) → step
 unfolding after
 again_step P s e turn rest = refl
 
-module _ {p : Script} (same : ℕ → ℕ → Bool) (rules : RulesMatched p same) {ρ : List ℕ} {σ : script.Store} {s : Store} (stores : Stores p.declarations ρ σ s) {Ξ : World} (store_typed : StoreTyped p Ξ σ)
+module _ {p : Script} (matches : ℕ → ℕ → Bool) (rules : RulesMatched p matches) {ρ : List ℕ} {σ : script.Store} {s : Store} (stores : Stores p.declarations ρ σ s) {Ξ : World} (store_typed : StoreTyped p Ξ σ)
     {Γ : Layout} {n D0 : ℕ} {L : Locals} {vars : List Variable} {owner : Option Name} {κ : script.Context} {below : Row Val} {c' : Code} {e' f : Context}
     (active : Active ρ Γ n L vars) (base : Base p.declarations Γ L below c' e' owner D0 f) (waits : Waits p.declarations ρ κ below c' e') where
   -- no reduction comes before
-  now : {r : Focused} {ops : Row Val} {c : Code} {e : Context} → NextTyped p Ξ vars (Some r) → ReadyAt p.declarations ρ Γ n D0 f L r ops c e → Matches p same 56 s (config e ops c) (ruled p σ vars owner κ r)
-  now q a = more_room (omega arith) (sim_ready same rules stores store_typed active base waits q a)
+  now : {r : Focused} {ops : Row Val} {c : Code} {e : Context} → NextTyped p Ξ vars (Some r) → ReadyAt p.declarations ρ Γ n D0 f L r ops c e → Matches p matches 56 s (config e ops c) (ruled p σ vars owner κ r)
+  now q a = more_room (omega arith) (sim_ready matches rules stores store_typed active base waits q a)
 
   -- an expression
   sim_expr : {t : ℕ} {x : ExprTree} {w : List Work} {ops : Row Val} {c : Code} {e : Context} → WellExpr p.declarations n t x → Works p.declarations ρ Γ n D0 f t L w ops c e → NextTyped p Ξ vars (Some (in_expr x w))
-      → Matches p same 52 s (config e ops (expr p.declarations Γ t x c)) (ruled p σ vars owner κ (in_expr x w))
-  sim_expr x w q = sim_ready same rules stores store_typed active base waits q (ready_expr x w)
+      → Matches p matches 52 s (config e ops (expr p.declarations Γ t x c)) (ruled p σ vars owner κ (in_expr x w))
+  sim_expr x w q = sim_ready matches rules stores store_typed active base waits q (ready_expr x w)
 
   -- a value in the pending work
   sim_work : {t : ℕ} {w : List Work} {ops : Row Val} {c : Code} {e : Context} {v : Value} {a : Val} → Same ρ v a → Works p.declarations ρ Γ n D0 f t L w ops c e → NextTyped p Ξ vars (in_work v w)
-      → Matches p same 56 s (config e (ops ▹ a) c) (or_wrong (in_work v w) (λ (r : Focused). ruled p σ vars owner κ r))
+      → Matches p matches 56 s (config e (ops ▹ a) c) (or_wrong (in_work v w) (λ (r : Focused). ruled p σ vars owner κ r))
   sim_work v (standing.Works.under k) q = now q (record { used = _; ready = unary_ready v k })
   sim_work v (standing.Works.left {o = Connects o} x ps k) q = now q (record { used = _; ready = decides_ready v x ps k })
   sim_work v (standing.Works.left {o = Compares o} x ps k) q = now q (ready_expr x (standing.Works.compared v ps k))
@@ -337,25 +337,25 @@ module _ {p : Script} (same : ℕ → ℕ → Bool) (rules : RulesMatched p same
   sim_work v (standing.Works.connected d ps k) q = now q (record { used = _; ready = truth_ready d v (works_left ps k) })
   sim_work v (standing.Works.calling {g = g} us vs k) q = now q (ready_args us (calling_arguments g k) (standing.Sames.more vs v))
   sim_work v (standing.Works.doing {op = op} us vs k) q = now q (ready_args us (doing_arguments op k) (standing.Sames.more vs v))
-  sim_work v (standing.Works.handling_first {h = h} ns le x k) q = sim_put_aside same rules stores store_typed active base waits h ns v le x k q
+  sim_work v (standing.Works.handling_first {h = h} ns le x k) q = sim_put_aside matches rules stores store_typed active base waits h ns v le x k q
   sim_work v (standing.Works.handling_second {g = g} {h = h} ns le m i us held vs k) q = now q (ready_args us (handling_arguments g h ns le m i held k) (standing.Sames.more vs v))
-  sim_work v (standing.Works.resuming_first {x = x} lt us k) q = sim_put_number same rules stores store_typed active base waits x v lt us k q
+  sim_work v (standing.Works.resuming_first {x = x} lt us k) q = sim_put_number matches rules stores store_typed active base waits x v lt us k q
   sim_work v (standing.Works.resuming_second {x = x} le lt us l vs k) q = now q (ready_args us (resuming_arguments x le lt l k) (standing.Sames.more vs v))
-  sim_work v (standing.Works.tail_first {x = x} c lt o us d inside) q = sim_put_tail same rules stores store_typed active base waits x c v lt o us d inside q
+  sim_work v (standing.Works.tail_first {x = x} c lt o us d inside) q = sim_put_tail matches rules stores store_typed active base waits x c v lt o us d inside q
   sim_work v (standing.Works.tail_second c lt o us l vs d inside) q = now q (ready_args us (tail_arguments c lt o l d inside) (standing.Sames.more vs v))
   sim_work v (standing.Works.within u) q = now q (record { used = 0; ready = use_ready v u })
 
   -- a while, inside its block
   sim_loop : {D : ℕ} {x : ExprTree} {b rest : BlockTree} {c : Code} {e : Context} → WellExpr p.declarations n 0 x → WellBlock p.declarations Γ n b → Rest p.declarations Γ n D0 f D rest c e
       → NextTyped p Ξ vars (Some (in_expr x (Within (ToTurn x b) rest ∷ [])))
-      → Matches p same 54 s (config (Label ε 0 Done c ∷ e) ε (while_loop p.declarations Γ D x b)) (ruled p σ vars owner κ (in_expr x (Within (ToTurn x b) rest ∷ [])))
+      → Matches p matches 54 s (config (Label ε 0 Done c ∷ e) ε (while_loop p.declarations Γ D x b)) (ruled p σ vars owner κ (in_expr x (Within (ToTurn x b) rest ∷ [])))
   sim_loop v w r q =
       before 2 refl refl refl (omega arith) (sim_expr v (standing.Works.within (standing.Uses.turns v w r)) q)
 
   -- a statement, before the rest of its body
   sim_statement : {scope scope' : Scope} {D : ℕ} (st : StatementTree) {rest : BlockTree} {c : Code} {e : Context} → Covers Ξ scope vars → StatementTyped p scope st scope' → WellStatement p.declarations Γ n st
       → Rest p.declarations Γ n D0 f D rest c e → NextTyped p Ξ vars (Some (in_block vars owner (st ⨟ rest)))
-      → Matches p same 56 s (config e ε (statement p.declarations Γ D st c)) (ruled p σ vars owner κ (in_block vars owner (st ⨟ rest)))
+      → Matches p matches 56 s (config e ε (statement p.declarations Γ D st c)) (ruled p σ vars owner κ (in_block vars owner (st ⨟ rest)))
   sim_statement (Evaluate (use_for.Let x) y) covers t (standing.WellStatement.lets h w) r q = now q (ready_expr w (standing.Works.within (standing.Uses.sets h r)))
   sim_statement (Evaluate (use_for.Assign x) y) covers t (standing.WellStatement.assigns h w) r q = now q (ready_expr w (standing.Works.within (standing.Uses.sets h r)))
   sim_statement (If y a b) covers t (standing.WellStatement.ifs w u v) r q = now q (ready_expr w (standing.Works.within (standing.Uses.chooses u v r)))
@@ -369,35 +369,35 @@ module _ {p : Script} (same : ℕ → ℕ → Bool) (rules : RulesMatched p same
 
   -- the rest of a body
   sim_block : {scope : Scope} {D : ℕ} {b : BlockTree} {c : Code} {e : Context} → Covers Ξ scope vars → RestTyped p scope b → Rest p.declarations Γ n D0 f D b c e → NextTyped p Ξ vars (Some (in_block vars owner b))
-      → Matches p same 56 s (config e ε c) (ruled p σ vars owner κ (in_block vars owner b))
+      → Matches p matches 56 s (config e ε c) (ruled p σ vars owner κ (in_block vars owner b))
   sim_block covers t standing.Rest.ends q = now q (record { used = 0; ready = end_ready })
   sim_block covers t (standing.Rest.does {s = st} w r) q =
       let begun = rest_begun covers t in
       sim_statement st begun.covers begun.typed w r q
   sim_block covers t (standing.Rest.leaves r) q = before 0 refl refl refl (omega arith) (sim_block covers t r q)
   sim_block covers t (standing.Rest.turns {D = D} {x = x} {b = b} {c = c} {e = e} v w r) q =
-      more_room (omega arith) (before 0 (again_step (program_of p same) s (Label ε 0 Done c ∷ e) (while_turn p.declarations Γ D x b) Done) refl refl (omega arith) (sim_loop v w r q))
+      more_room (omega arith) (before 0 (again_step (program_of p matches) s (Label ε 0 Done c ∷ e) (while_turn p.declarations Γ D x b) Done) refl refl (omega arith) (sim_loop v w r q))
 
 -- ## All steps
 
-module _ {p : Script} (same : ℕ → ℕ → Bool) (facts : Facts p.declarations) (rules : RulesMatched p same) {ρ : List ℕ} {σ : script.Store} {s : Store} (stores : Stores p.declarations ρ σ s) {Ξ : World} (store_typed : StoreTyped p Ξ σ) where
+module _ {p : Script} (matches : ℕ → ℕ → Bool) (facts : Facts p.declarations) (rules : RulesMatched p matches) {ρ : List ℕ} {σ : script.Store} {s : Store} (stores : Stores p.declarations ρ σ s) {Ξ : World} (store_typed : StoreTyped p Ξ σ) where
   -- a value in its context
   sim_gives : {κ : script.Context} {ops : Row Val} {c : Code} {e : Context} {v : Value} {a : Val} → Same ρ v a → Waits p.declarations ρ κ ops c e → TermTyped p Ξ (Gives v) κ
-      → Matches p same 60 s (config e (ops ▹ a) c) (step_at p σ (Gives v) κ)
+      → Matches p matches 60 s (config e (ops ▹ a) c) (step_at p σ (Gives v) κ)
   sim_gives v standing.Waits.outside t = elim t [ ]
-  sim_gives v (standing.Waits.activation {owner = owner} active w base waits) (in_activation t κ) = more_room (omega arith) (sim_work same rules stores store_typed active base waits v w (next_typed owner t))
-  sim_gives v (standing.Waits.handle {h = h} is room long held waits) (in_handle typed.HasKind.int i ps κ) = more_room (omega arith) (sim_return same facts stores h is room long held waits v)
+  sim_gives v (standing.Waits.activation {owner = owner} active w base waits) (in_activation t κ) = more_room (omega arith) (sim_work matches rules stores store_typed active base waits v w (next_typed owner t))
+  sim_gives v (standing.Waits.handle {h = h} is room long held waits) (in_handle typed.HasKind.int i ps κ) = more_room (omega arith) (sim_return matches facts stores h is room long held waits v)
 
   -- a term
-  sim_stands : {T : script.Term} {t : Term} → Stands p.declarations ρ T t → TermTyped p Ξ T.hole T.around → Matches p same 60 s t (step_at p σ T.hole T.around)
+  sim_stands : {T : script.Term} {t : Term} → Stands p.declarations ρ T t → TermTyped p Ξ T.hole T.around → Matches p matches 60 s t (step_at p σ T.hole T.around)
   sim_stands (standing.Stands.gives v w) t = sim_gives v w t
   sim_stands (standing.Stands.lies {owner = owner} {g = g} {h = h} ns active le x lt l k base waits) (in_activation t κ) =
-      more_room (omega arith) (sim_ready same rules stores store_typed active base waits (next_typed owner t) (ready_behind g h ns le x.firsts x.behind x.handled x.asides x.args x.held (omega (arith, lt)) l k))
-  sim_stands (standing.Stands.finds {owner = owner} active x w base waits) (in_activation t κ) = more_room (omega arith) (sim_expr same rules stores store_typed active base waits x w (next_typed owner t))
+      more_room (omega arith) (sim_ready matches rules stores store_typed active base waits (next_typed owner t) (ready_behind g h ns le x.firsts x.behind x.handled x.asides x.args x.held (omega (arith, lt)) l k))
+  sim_stands (standing.Stands.finds {owner = owner} active x w base waits) (in_activation t κ) = more_room (omega arith) (sim_expr matches rules stores store_typed active base waits x w (next_typed owner t))
   sim_stands (standing.Stands.runs {owner = owner} active r base waits) (in_activation (typed.HoleTyped.runs covers b) κ) =
-      more_room (omega arith) (sim_block same rules stores store_typed active base waits covers b r (next_typed owner (typed.HoleTyped.runs covers b)))
+      more_room (omega arith) (sim_block matches rules stores store_typed active base waits covers b r (next_typed owner (typed.HoleTyped.runs covers b)))
 
 -- each step of a script is matched
-pub sim_step : {p : Script} (same : ℕ → ℕ → Bool) {Ξ : World} {ρ : List ℕ} {σ : script.Store} {T : script.Term} {s : Store} {t : Term} → Facts p.declarations → RulesMatched p same
-    → Typed p Ξ (record { store = σ; term = T }) → At p.declarations ρ (record { store = σ; term = T }) s t → Matches p same 60 s t (meaning.step p (record { store = σ; term = T }))
-sim_step same facts rules t a = sim_stands same facts rules a.stores t.store a.stands t.term
+pub sim_step : {p : Script} (matches : ℕ → ℕ → Bool) {Ξ : World} {ρ : List ℕ} {σ : script.Store} {T : script.Term} {s : Store} {t : Term} → Facts p.declarations → RulesMatched p matches
+    → Typed p Ξ (record { store = σ; term = T }) → At p.declarations ρ (record { store = σ; term = T }) s t → Matches p matches 60 s t (meaning.step p (record { store = σ; term = T }))
+sim_step matches facts rules t a = sim_stands matches facts rules a.stores t.store a.stands t.term

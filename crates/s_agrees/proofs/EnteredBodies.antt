@@ -95,13 +95,13 @@ held_first {ws = ws} locals s = record {
 abbrev pub entered : ℕ → Row Val → Row Val → List LocalRun → Rest → Context → Context
 entered place below ws locals rest e = Label ε 1 Done Done ∷ Frame below 1 place (first_locals ws locals) rest ∷ e
 
-pub invoke_step : (p : Script) (same : ℕ → ℕ → Bool) (s : Store) (e : Context) (ops ws : Row Val) (rest : Rest) (a : ℕ) (ts : List ValType) (b : Body)
+pub invoke_step : (p : Script) (matches : ℕ → ℕ → Bool) (s : Store) (e : Context) (ops ws : Row Val) (rest : Rest) (a : ℕ) (ts : List ValType) (b : Body)
     → s.functions ≡ (first_store p.declarations).functions → Stored p.declarations a (arrow ts (I64 ∷ [])) b → length ts ≡ size ws
-    → invoke (program_of p same) s e (ops ⧺ ws) a rest ≡ steps_to s (entered (a - 1) ops ws b.locals rest e) ε (rest_of b.body)
-invoke_step p same s e ops ws rest a ts b functions there enough =
+    → invoke (program_of p matches) s e (ops ⧺ ws) a rest ≡ steps_to s (entered (a - 1) ops ws b.locals rest e) ε (rest_of b.body)
+invoke_step p matches s e ops ws rest a ts b functions there enough =
     let entry : slice_get s.functions a ≡ Some (Own there.place) = ap (λ (l : List FuncEntry). slice_get l a) functions ∙ there.entry in
     let place : there.place ≡ a - 1 = let behind = there.behind in omega (arith, behind) in
-    subst (λ (k : ℕ). invoke (program_of p same) s e (ops ⧺ ws) a rest ≡ steps_to s (entered k ops ws b.locals rest e) ε (rest_of b.body)) place
+    subst (λ (k : ℕ). invoke (program_of p matches) s e (ops ⧺ ws) a rest ≡ steps_to s (entered k ops ws b.locals rest e) ε (rest_of b.body)) place
     (rw (entry, there.type, there.code)
     (takes (length ts) ops ws (λ q. steps_to s (Label ε 1 Done Done ∷ Frame q.0 1 there.place (map (λ (v : Val). Some v) (listed q.1) ++ defaults b.locals) rest ∷ e) ε (rest_of b.body)) enough))
 
@@ -149,37 +149,37 @@ under_clauses {e = e} ds ps u =
     }
 
 -- the blocks of clauses are entered
-pub block_path : (p : Script) (same : ℕ → ℕ → Bool) (h : Name) (i : Handler) → handler_of p.declarations h ≡ Some i → {k : Caps} {s : Store} {e : Context} (ps : List Placed) (c : Code)
+pub block_path : (p : Script) (matches : ℕ → ℕ → Bool) (h : Name) (i : Handler) → handler_of p.declarations h ≡ Some i → {k : Caps} {s : Store} {e : Context} (ps : List Placed) (c : Code)
     → AllAre i ps → Under k s e
-    → Path (program_of p same) k (length ps) s (config e ε (blocks p.declarations ps c)) s (config (clause_labels p.declarations ps e) ε c)
-block_path p same h i is [] c all u = stay
-block_path p same h i is {k} {s} {e} (q ∷ ps) c all u =
+    → Path (program_of p matches) k (length ps) s (config e ε (blocks p.declarations ps c)) s (config (clause_labels p.declarations ps e) ε c)
+block_path p matches h i is [] c all u = stay
+block_path p matches h i is {k} {s} {e} (q ∷ ps) c all u =
     let ds = p.declarations in
     let first = all 0 q refl in
     let b = block_type.Index (clause_type_index ds (length q.clause.arguments)) in
     let later : AllAre i ps = λ j r at. all (suc j) r at in
-    let before = block_path p same h i is {k = k} {s = s} {e = e} ps (Block kind.Block b c (clause_code ds (length ps) q)) later u in
-    let one : step (program_of p same) s (config (clause_labels ds ps e) ε (Block kind.Block b c (clause_code ds (length ps) q))) ≡ Went [] s (config (clause_labels ds (q ∷ ps) e) ε c) =
+    let before = block_path p matches h i is {k = k} {s = s} {e = e} ps (Block kind.Block b c (clause_code ds (length ps) q)) later u in
+    let one : step (program_of p matches) s (config (clause_labels ds ps e) ε (Block kind.Block b c (clause_code ds (length ps) q))) ≡ Went [] s (config (clause_labels ds (q ∷ ps) e) ε c) =
     rw (clause_arity p h i first.0 q.clause is first.1) refl in
-    subst (λ (j : ℕ). Path (program_of p same) k j s (config e ε (blocks ds (q ∷ ps) c)) s (config (clause_labels ds (q ∷ ps) e) ε c))
+    subst (λ (j : ℕ). Path (program_of p matches) k j s (config e ε (blocks ds (q ∷ ps) c)) s (config (clause_labels ds (q ∷ ps) e) ε c))
     (let z : length ps + 1 ≡ suc (length ps) = omega arith in z)
     (path_on before (go one (under_clauses ds (q ∷ ps) u) stay))
 
 -- the loop of a handler's function, and the resume of what it handles
-pub enter_path : (p : Script) (same : ℕ → ℕ → Bool) (h : Name) (i : Handler) → handler_of p.declarations h ≡ Some i
+pub enter_path : (p : Script) (matches : ℕ → ℕ → Bool) (h : Name) (i : Handler) → handler_of p.declarations h ≡ Some i
     → {k : Caps} {s : Store} {e : Context} {below : Row Val} {c : Code} {L : Locals} (b : ℕ) (kept : Continuation)
     → slice_get L (length i.parameters) ≡ Some (Some (Cont b)) → slice_get s.conts b ≡ Some (Some kept) → kept.takes ≡ 0
     → Under k s (Frame below 1 (handler_place p.declarations h) L (rest_of c) ∷ e)
     → Under k (without_cont b s) (kept.term.around ++ Handle ε (labels p.declarations 0 i.clauses) (return_code p.declarations (return_layout p.declarations h i) (length i.clauses) i)
     ∷ clause_labels p.declarations (placed_clauses p.declarations h i) (in_loop p.declarations h i L below c e))
-    → Path (program_of p same) k (3 + length i.clauses) s (config (Label ε 1 Done Done ∷ Frame below 1 (handler_place p.declarations h) L (rest_of c) ∷ e) ε (loop_code p.declarations h i))
+    → Path (program_of p matches) k (3 + length i.clauses) s (config (Label ε 1 Done Done ∷ Frame below 1 (handler_place p.declarations h) L (rest_of c) ∷ e) ε (loop_code p.declarations h i))
     (without_cont b s) (record {
       around = kept.term.around ++ Handle ε (labels p.declarations 0 i.clauses) (return_code p.declarations (return_layout p.declarations h i) (length i.clauses) i)
           ∷ clause_labels p.declarations (placed_clauses p.declarations h i) (in_loop p.declarations h i L below c e);
       operands = kept.term.operands;
       rest = kept.term.rest;
     })
-enter_path p same h i is {k} {s} {e} {below} {c} {L} b kept local there nothing u v =
+enter_path p matches h i is {k} {s} {e} {below} {c} {L} b kept local there nothing u v =
     let ds = p.declarations in
     let ps = placed_clauses ds h i in
     let inside : Under k s (in_loop ds h i L below c e) = record { frames = u.frames; handles = u.handles; conts = u.conts } in
@@ -188,11 +188,11 @@ enter_path p same h i is {k} {s} {e} {below} {c} {L} b kept local there nothing 
       operands = kept.term.operands;
       rest = kept.term.rest;
     } in
-    let resumed : step (program_of p same) s (config (clause_labels ds ps (in_loop ds h i L below c e)) (ε ▹ Cont b)
+    let resumed : step (program_of p matches) s (config (clause_labels ds ps (in_loop ds h i L below c e)) (ε ▹ Cont b)
     (Plain (resume computation_type (labels ds 0 i.clauses)) (return_code ds (return_layout ds h i) (length i.clauses) i))) ≡ Went [] (without_cont b s) end = rw (there, nothing) refl in
-    let entered_all = block_path p same h i is {k = k} {s = s} {e = in_loop ds h i L below c e} ps (handling ds (return_layout ds h i) i) (all_placed ds h i) inside in
-    let got : Path (program_of p same) k 2 s (config (clause_labels ds ps (in_loop ds h i L below c e)) ε (handling ds (return_layout ds h i) i)) (without_cont b s) end =
+    let entered_all = block_path p matches h i is {k = k} {s = s} {e = in_loop ds h i L below c e} ps (handling ds (return_layout ds h i) i) (all_placed ds h i) inside in
+    let got : Path (program_of p matches) k 2 s (config (clause_labels ds ps (in_loop ds h i L below c e)) ε (handling ds (return_layout ds h i) i)) (without_cont b s) end =
     get_path {L = L} (length i.parameters) (Cont b) (clauses_locals ds ps (in_loop ds h i L below c e)) local (under_clauses ds ps inside) (go resumed v stay) in
-    subst (λ (j : ℕ). Path (program_of p same) k j s (config (Label ε 1 Done Done ∷ Frame below 1 (handler_place ds h) L (rest_of c) ∷ e) ε (loop_code ds h i)) (without_cont b s) end)
+    subst (λ (j : ℕ). Path (program_of p matches) k j s (config (Label ε 1 Done Done ∷ Frame below 1 (handler_place ds h) L (rest_of c) ∷ e) ε (loop_code ds h i)) (without_cont b s) end)
     (let m = many_placed ds h i in let z : suc (length ps + 2) ≡ 3 + length i.clauses = omega (arith, m) in z)
     (go refl inside (path_on entered_all got))

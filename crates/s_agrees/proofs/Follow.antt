@@ -56,13 +56,13 @@ empty_elements (q ∷ ps) zero e vacant = absurd (omega (arith, e))
 empty_elements (None ∷ ps) (suc n) e vacant = element is_empty (empty_elements ps n (omega (arith, e)) (λ m. vacant (suc m)))
 empty_elements (Some a ∷ ps) (suc n) e vacant = absurd (vacant 0 a refl)
 
-module _ (p : Script) (same : ℕ → ℕ → Bool) (typed : ScriptTyped p) (known : Facts p.declarations) where
+module _ (p : Script) (matches : ℕ → ℕ → Bool) (typed : ScriptTyped p) (known : Facts p.declarations) where
   -- each step is matched
-  simulation : StepSimulation {V = ℤ} {F = Fault} {L = eval.RunLimit} (step p) Passes (reduce p same)
+  simulation : StepSimulation {V = ℤ} {F = Fault} {L = eval.RunLimit} (step p) Passes (reduce p matches)
   simulation = record {
     Related = Related p;
     potential = potential;
-    matches = λ {s} {x} r. within p same r.stands (step p s) refl (step_good p typed s r.typed) (sim_step same known (rules p same known) r.typed r.stands);
+    matches = λ {s} {x} r. within p matches r.stands (step p s) refl (step_good p typed s r.typed) (sim_step matches known (rules p matches known) r.typed r.stands);
   }
 
   -- main, which has no parameters
@@ -97,12 +97,12 @@ module _ (p : Script) (same : ℕ → ℕ → Bool) (typed : ScriptTyped p) (kno
   entered_main fn is = config (entered (function_index p.declarations (codes "main") - 1) ε ε (function_locals p.declarations fn) (rest_of Done) []) ε (body p.declarations (function_layout p.declarations fn) 0 fn.body)
 
   main_reduction : (fn : Function) (is : function_of p.declarations (codes "main") ≡ Some fn) → fn.parameters ≡ []
-      → reduce p same (at (first_store p.declarations) (first_term p.declarations)) ≡ steps.Went [] (at (first_store p.declarations) (entered_main fn is))
+      → reduce p matches (at (first_store p.declarations) (first_term p.declarations)) ≡ steps.Went [] (at (first_store p.declarations) (entered_main fn is))
   unfolding entered_main
   main_reduction fn is none_is =
       let ds = p.declarations in
-      let invoked : paths.step (program_of p same) (first_store ds) (first_term ds) ≡ Went [] (first_store ds) (entered_main fn is) =
-      invoke_step p same (first_store ds) [] ε ε (rest_of Done) (function_index ds (codes "main")) (val_types fn.parameters) (function_code ds fn) refl (function_stored ds (codes "main") fn is) (no_parameters fn none_is).0 in
+      let invoked : paths.step (program_of p matches) (first_store ds) (first_term ds) ≡ Went [] (first_store ds) (entered_main fn is) =
+      invoke_step p matches (first_store ds) [] ε ε (rest_of Done) (function_index ds (codes "main")) (val_types fn.parameters) (function_code ds fn) refl (function_stored ds (codes "main") fn is) (no_parameters fn none_is).0 in
       rw invoked refl
 
   first_related : (fn : Function) (is : function_of p.declarations (codes "main") ≡ Some fn) → fn.parameters ≡ [] → Related p (start p) (at (first_store p.declarations) (entered_main fn is))
@@ -121,18 +121,18 @@ module _ (p : Script) (same : ℕ → ℕ → Bool) (typed : ScriptTyped p) (kno
         };
       }
 
-  pub follows_all : RunFollows p (program_of p same)
+  pub follows_all : RunFollows p (program_of p matches)
   unfolding entered_main simulation
   follows_all = λ N.
       let ds = p.declarations in
       let fn = typed.entry.0 in let is = typed.entry.1 in let none_is = typed.entry.2 in
       let x = at (first_store ds) (entered_main fn is) in
-      let path : Reductions (reduce p same) (at (first_store ds) (first_term ds)) [] 1 x = steps.silent (main_reduction fn is none_is) steps.none in
-      follows_by p same simulation (start p) (first_store ds) (first_term ds) 1 x path (first_related fn is none_is) (omega arith) N
+      let path : Reductions (reduce p matches) (at (first_store ds) (first_term ds)) [] 1 x = steps.silent (main_reduction fn is none_is) steps.none in
+      follows_by p matches simulation (start p) (first_store ds) (first_term ds) 1 x path (first_related fn is none_is) (omega arith) N
 
 pub runs_follow : RunsFollow
 runs_follow p good program source =
     let typed = good_typed p good in
-    let all = follows_all p program.same typed (facts p good) in
-    let is : program_of p program.same ≡ program = ap (λ (m : Module). let q : Program = record { source = m; same = program.same } in q) (sym source) in
+    let all = follows_all p program.matches typed (facts p good) in
+    let is : program_of p program.matches ≡ program = ap (λ (m : Module). let q : Program = record { source = m; matches = program.matches } in q) (sym source) in
     subst (λ (q : Program). RunFollows p q) is all

@@ -61,11 +61,11 @@ module _ (ds : List Declaration) {ρ : List ℕ} {h : Name} {i : Handler} (facts
       let x = length-append (val_types i.parameters) (to_continuation true computation_type ∷ []) in let y = types_many i.parameters in let z = sames_many values in omega (arith, number, x, y, z)
 
 -- the function is entered
-pub handler_step : (p : Script) (same : ℕ → ℕ → Bool) {ρ : List ℕ} {σ : script.Store} {s : Store} (stores : Stores p.declarations ρ σ s) (h : Name) {i : Handler} (is : handler_of p.declarations h ≡ Some i)
+pub handler_step : (p : Script) (matches : ℕ → ℕ → Bool) {ρ : List ℕ} {σ : script.Store} {s : Store} (stores : Stores p.declarations ρ σ s) (h : Name) {i : Handler} (is : handler_of p.declarations h ≡ Some i)
     (facts : HandlerFacts p.declarations h i) (s' : Store) (functions : s'.functions ≡ s.functions) {vs : Values} {ws : Row Val} (values : Sames ρ vs ws) (number : many vs ≡ length i.parameters) (e : Context) (ops : Row Val)
     (c : Code) (b : ℕ)
-    → step (program_of p same) s' (config e ((ops ⧺ ws) ▹ Cont b) (Plain (call (handler_index p.declarations h)) c))
+    → step (program_of p matches) s' (config e ((ops ⧺ ws) ▹ Cont b) (Plain (call (handler_index p.declarations h)) c))
     ≡ Went [] s' (config (Label ε 1 Done Done ∷ Frame ops 1 (handler_place p.declarations h) (handler_first p.declarations h i ws b) (rest_of c) ∷ e) ε (loop_code p.declarations h i))
-handler_step p same stores h {i} is facts s' functions {ws = ws} values number e ops c b =
-    invoke_step p same s' e ops (ws ▹ Cont b) (rest_of c) (handler_index p.declarations h) (val_types i.parameters ++ to_continuation true computation_type ∷ []) (handler_code p.declarations h i)
+handler_step p matches stores h {i} is facts s' functions {ws = ws} values number e ops c b =
+    invoke_step p matches s' e ops (ws ▹ Cont b) (rest_of c) (handler_index p.declarations h) (val_types i.parameters ++ to_continuation true computation_type ∷ []) (handler_code p.declarations h i)
     (functions ∙ stores.functions) (handler_stored p.declarations h i is) (first_many p.declarations facts values number b)

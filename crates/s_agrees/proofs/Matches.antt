@@ -26,21 +26,21 @@ caps_of s t t' = record {
 }
 
 -- at most B reductions, and one more for each label that went
-pub data Matches (p : Script) (same : ℕ → ℕ → Bool) (B : ℕ) (s : Store) (t : Term) : Step → Type 0 where
+pub data Matches (p : Script) (matches : ℕ → ℕ → Bool) (B : ℕ) (s : Store) (t : Term) : Step → Type 0 where
   went : {ρ : List ℕ} {c : Configuration} {n : ℕ} {s' : Store} {t' : Term}
-      → Path (program_of p same) (caps_of s t t') n s t s' t' → 1 ≤ n → n + weight s' t' ≤ B + weight s t → At p.declarations ρ c s' t'
-      → Matches p same B s t (Goes [] c)
+      → Path (program_of p matches) (caps_of s t t') n s t s' t' → 1 ≤ n → n + weight s' t' ≤ B + weight s t → At p.declarations ρ c s' t'
+      → Matches p matches B s t (Goes [] c)
   prints : {ρ : List ℕ} {o : List ℕ} {c : Configuration} {n : ℕ} {s1 s' : Store} {t1 t' : Term}
-      → Path (program_of p same) (caps_of s t t) n s t s1 t1 → step (program_of p same) s1 t1 ≡ Went o s' t' → Under (caps_of s t t) s' t'.around
-      → suc n + weight s' t' ≤ B + weight s t → At p.declarations ρ c s' t' → Matches p same B s t (Goes o c)
+      → Path (program_of p matches) (caps_of s t t) n s t s1 t1 → step (program_of p matches) s1 t1 ≡ Went o s' t' → Under (caps_of s t t) s' t'.around
+      → suc n + weight s' t' ≤ B + weight s t → At p.declarations ρ c s' t' → Matches p matches B s t (Goes o c)
   returns : {z : ℤ} {w n : ℕ} {s1 : Store} {t1 : Term}
-      → Path (program_of p same) (caps_of s t t) n s t s1 t1 → 1 ≤ n → step (program_of p same) s1 t1 ≡ Ended (ε ▹ I64 w) → cast_signed w64 w ≡ z
-      → n ≤ B + weight s t → Matches p same B s t (Returns z)
+      → Path (program_of p matches) (caps_of s t t) n s t s1 t1 → 1 ≤ n → step (program_of p matches) s1 t1 ≡ Ended (ε ▹ I64 w) → cast_signed w64 w ≡ z
+      → n ≤ B + weight s t → Matches p matches B s t (Returns z)
   faulted : {f : Fault} {n : ℕ} {s1 : Store} {t1 : Term} {k : Trap}
-      → Path (program_of p same) (caps_of s t t) n s t s1 t1 → step (program_of p same) s1 t1 ≡ Trapped k → fault_of p.declarations k ≡ Some f
-      → suc n ≤ B + weight s t → Matches p same B s t (Faults f)
+      → Path (program_of p matches) (caps_of s t t) n s t s1 t1 → step (program_of p matches) s1 t1 ≡ Trapped k → fault_of p.declarations k ≡ Some f
+      → suc n ≤ B + weight s t → Matches p matches B s t (Faults f)
 
-pub more_room : {p : Script} {same : ℕ → ℕ → Bool} {B B' : ℕ} {s : Store} {t : Term} {r : Step} → B ≤ B' → Matches p same B s t r → Matches p same B' s t r
+pub more_room : {p : Script} {matches : ℕ → ℕ → Bool} {B B' : ℕ} {s : Store} {t : Term} {r : Step} → B ≤ B' → Matches p matches B s t r → Matches p matches B' s t r
 more_room h (went path n b a) = went path n (omega (arith, b, h)) a
 more_room h (prints path q u b a) = prints path q u (omega (arith, b, h)) a
 more_room h (returns path m q v b) = returns path m q v (omega (arith, b, h))
@@ -53,9 +53,9 @@ pub under_last : (s s' : Store) (t t' : Term) → live s' ≤ suc (live s) → U
 under_last s s' t t' h = record { frames = omega arith; handles = omega arith; conts = h }
 
 -- a reduction before, which leaves the store and the counts
-pub before : {p : Script} {same : ℕ → ℕ → Bool} {B : ℕ} (A : ℕ) {s : Store} {t t1 : Term} {r : Step} → step (program_of p same) s t ≡ Went [] s t1
+pub before : {p : Script} {matches : ℕ → ℕ → Bool} {B : ℕ} (A : ℕ) {s : Store} {t t1 : Term} {r : Step} → step (program_of p matches) s t ≡ Went [] s t1
     → frames t1.around ≡ frames t.around → handles t1.around ≡ handles t.around → suc (labels t1.around) ≤ A + labels t.around
-    → Matches p same B s t1 r → Matches p same (A + B) s t r
+    → Matches p matches B s t1 r → Matches p matches (A + B) s t r
 before A q f h l (went path n b a) =
     went (go q (record { frames = omega (arith, f); handles = omega (arith, h); conts = omega arith }) (path_wider (omega (arith, f)) (omega (arith, h)) (omega arith) path)) (omega arith) (omega (arith, b, l)) a
 before A q f h l (prints path x u b a) =

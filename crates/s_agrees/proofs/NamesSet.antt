@@ -1,5 +1,5 @@
 -- A name's local is set, to a value of the name's type: its variable is then set.
-use Rattle.std.proofs.Common.{◌≡◌, ℕ, ◌<◌, Bool, true, false, List, [], ◌∷◌, length, Option, Some, None, if◌then◌else◌, sym, ap, ◌∙◌, subst, arith}
+use Rattle.std.proofs.Common.{◌≡◌, ℕ, ◌<◌, Bool, true, false, List, length, Some, sym, ap, ◌∙◌, subst, arith}
 use Rattle.std.specs.Prelude.{slice_set}
 use Rattle.std.specs.Str.{bytes_eq}
 use Rattle.w_reduce.specs.Values.{Val}
@@ -11,27 +11,12 @@ use Rattle.s_meaning.specs.Focus.{variable_of}
 use Rattle.s_meaning.specs.Steps.{with_variable}
 use Rattle.s_meaning.proofs.Lists.{length_set}
 use Rattle.s_meaning.proofs.Scopes.{same_is, same_refl, bool_of}
-use Rattle.s_meaning.proofs.Variables.{variable}
+use Rattle.s_meaning.proofs.Variables.{variable, variable_with, variable_other}
 use Rattle.s_valid.proofs.LayoutTypes.{Placed as HasLocal}
 use Rattle.s_agrees.proofs.StandsFor.{Same, Locals, InLocal, Active}
 use Rattle.s_agrees.proofs.MoreResumptions.{get_set_same, get_set_other}
 use Rattle.s_agrees.proofs.BoundValues.{some_is}
 use Rattle.s_agrees.proofs.Captures.{in_range}
-
--- it is the value
-variable_set : (x : Name) (t : VariableType) (v : Value) (vs : List Variable) → variable_of x (with_variable (variable x t v) vs) ≡ Some (variable x t v)
-variable_set x t v [] = ap (λ (b : Bool). if b then Some (variable x t v) else None) (same_refl x)
-variable_set x t v (u ∷ vs) = bool_of (bytes_eq u.name x) (λ (b : Bool). variable_of x (if b then variable x t v ∷ vs else (u ∷ with_variable (variable x t v) vs)) ≡ Some (variable x t v))
-    (λ q. ap (λ (b : Bool). if b then Some (variable x t v) else variable_of x vs) (same_refl x))
-    (λ q. ap (λ (b : Bool). if b then Some u else variable_of x (with_variable (variable x t v) vs)) q ∙ variable_set x t v vs)
-
--- the others are as before
-variable_kept : (x y : Name) (t : VariableType) (v : Value) (vs : List Variable) → bytes_eq x y ≡ false → variable_of y (with_variable (variable x t v) vs) ≡ variable_of y vs
-variable_kept x y t v [] other = ap (λ (b : Bool). if b then Some (variable x t v) else None) other
-variable_kept x y t v (u ∷ vs) other = bool_of (bytes_eq u.name x) (λ (b : Bool). variable_of y (if b then variable x t v ∷ vs else (u ∷ with_variable (variable x t v) vs)) ≡ variable_of y (u ∷ vs))
-    (λ q. ap (λ (b : Bool). if b then Some (variable x t v) else variable_of y vs) other
-    ∙ sym (ap (λ (b : Bool). if b then Some u else variable_of y vs) (ap (λ (w : Name). bytes_eq w y) (sym (same_is x u.name q)) ∙ other)))
-    (λ q. ap (λ (o : Option Variable). if bytes_eq u.name y then Some u else o) (variable_kept x y t v vs other))
 
 module _ {ρ : List ℕ} {Γ : Layout} {n : ℕ} {L : Locals} {vars : List Variable} (x : Name) (t : VariableType) (v : Value) {a : Val} (h : HasLocal Γ x t) (same : Same ρ v a) (active : Active ρ Γ n L vars) where
   -- it is one of the frame's
@@ -75,7 +60,7 @@ module _ {ρ : List ℕ} {Γ : Layout} {n : ℕ} {L : Locals} {vars : List Varia
     room = let e = length_set L h.local.number (Some a) in let r = active.room in omega (arith, e, r);
     holds = record {
       each = λ y w q. bool_of (bytes_eq x y) (λ (b : Bool). InLocal ρ Γ set_locals y w)
-          (λ e. let s = same_is y x e in set_now y w s (sym (ap (λ (z : Name). variable_of z (with_variable (variable x t v) vars)) s ∙ variable_set x t v vars) ∙ q))
-          (λ e. set_other y w e (sym (variable_kept x y t v vars e) ∙ q));
+          (λ e. let s = same_is y x e in set_now y w s (sym (ap (λ (z : Name). variable_of z (with_variable (variable x t v) vars)) s ∙ variable_with (variable x t v) vars) ∙ q))
+          (λ e. set_other y w e (sym (variable_other (variable x t v) vars y e) ∙ q));
     };
   }

@@ -15,9 +15,9 @@ use Rattle.s_code.specs.Lowered.{lowered}
 use Rattle.s_agrees.proofs.StandsFor.{config, Locals}
 use Rattle.s_agrees.proofs.CountedContexts.{frames_set, handles_set}
 
--- the module of a script, with a test of which types are equivalent
+-- the module of a script, with a test of which types match which
 abbrev pub program_of : Script → (ℕ → ℕ → Bool) → Program
-program_of p same = record { source = lowered p; same = same }
+program_of p matches = record { source = lowered p; matches = matches }
 
 -- one reduction, before its limits are looked at
 abbrev pub step : Program → Store → Term → Reduced

@@ -87,14 +87,14 @@ computation_arity p =
     let o = offers_all p.declarations in
     ap (λ (t : Option CompType). func_at (context_of (lowered p)) (index_in_cont t)) o.computation ∙ o.computed
 
-pub bind_step : (p : Script) (same : ℕ → ℕ → Bool) (s : Store) (e : Context) (ops : Row Val) (w : Val) (c : Code) (b : ℕ) (k : Continuation) → slice_get s.conts b ≡ Some (Some k) → k.takes ≡ 1
-    → step (program_of p same) s (config e (ops ▹ w ▹ Cont b) (Plain (bind_continuation resumption_type computation_type) c)) ≡ Went [] (with_bound s b k w) (config e (ops ▹ Cont (next_cont s)) c)
-bind_step p same s e ops w c b k there one = rw (there, computation_arity p) (takes (k.takes - 0) ops (ε ▹ w) _ (omega (arith, one)))
+pub bind_step : (p : Script) (matches : ℕ → ℕ → Bool) (s : Store) (e : Context) (ops : Row Val) (w : Val) (c : Code) (b : ℕ) (k : Continuation) → slice_get s.conts b ≡ Some (Some k) → k.takes ≡ 1
+    → step (program_of p matches) s (config e (ops ▹ w ▹ Cont b) (Plain (bind_continuation resumption_type computation_type) c)) ≡ Went [] (with_bound s b k w) (config e (ops ▹ Cont (next_cont s)) c)
+bind_step p matches s e ops w c b k there one = rw (there, computation_arity p) (takes (k.takes - 0) ops (ε ▹ w) _ (omega (arith, one)))
 
 -- and a trap where it was consumed
-pub consumed_step : (p : Script) (same : ℕ → ℕ → Bool) (s : Store) (e : Context) (ops : Row Val) (c : Code) (b : ℕ) → slice_get s.conts b ≡ Some None
-    → step (program_of p same) s (config e (ops ▹ Cont b) (Plain (bind_continuation resumption_type computation_type) c)) ≡ Trapped trap.ConsumedContinuation
-consumed_step p same s e ops c b there = rw there refl
+pub consumed_step : (p : Script) (matches : ℕ → ℕ → Bool) (s : Store) (e : Context) (ops : Row Val) (c : Code) (b : ℕ) → slice_get s.conts b ≡ Some None
+    → step (program_of p matches) s (config e (ops ▹ Cont b) (Plain (bind_continuation resumption_type computation_type) c)) ≡ Trapped trap.ConsumedContinuation
+consumed_step p matches s e ops c b there = rw there refl
 
 module _ (s : Store) (b : ℕ) (k : Continuation) (w : Val) (there : slice_get s.conts b ≡ Some (Some k)) where
   pub spent_conts : (spent s b k w).conts ≡ slice_set s.conts b None ++ None ∷ []
@@ -145,15 +145,15 @@ module _ (ds : List Declaration) (h : Name) (i : Handler) (L : Locals) (below : 
       let x = labels_plug k.term.around (handler_around ds h i L below c e) in let y = clauses_labels ds (placed_clauses ds h i) (in_loop ds h i L below c e) in let z = many_placed ds h i in
       omega (arith, x, y, z)
 
-module _ (p : Script) (same : ℕ → ℕ → Bool) (s : Store) (b : ℕ) (k : Continuation) (w : Val) (there : slice_get s.conts b ≡ Some (Some k)) (h : Name) (i : Handler) (is : handler_of p.declarations h ≡ Some i)
+module _ (p : Script) (matches : ℕ → ℕ → Bool) (s : Store) (b : ℕ) (k : Continuation) (w : Val) (there : slice_get s.conts b ≡ Some (Some k)) (h : Name) (i : Handler) (is : handler_of p.declarations h ≡ Some i)
     (L : Locals) (below : Row Val) (c : Code) (e : Context) (local : slice_get L (length i.parameters) ≡ Some (Some (Cont (next_cont s)))) where
   -- from the handler's function to the kept context
-  pub resumed_path : Path (program_of p same) (resuming_caps s e k) (3 + length i.clauses)
+  pub resumed_path : Path (program_of p matches) (resuming_caps s e k) (3 + length i.clauses)
       (with_bound s b k w) (config (Label ε 1 Done Done ∷ Frame below 1 (handler_place p.declarations h) L (rest_of c) ∷ e) ε (loop_code p.declarations h i)) (spent s b k w) (resumed p.declarations h i L below c e k w)
   resumed_path =
       let f = resumed_frames p.declarations h i L below c e k w in let g = resumed_handles p.declarations h i L below c e k w in
       let x = bound_live s b k w there in let y = spent_live s b k w there in let z = live_less s.conts b k there in
-      enter_path p same h i is {k = resuming_caps s e k} {s = with_bound s b k w} {e = e} {below = below} {c = c} {L = L} (next_cont s) (bound k w) local
+      enter_path p matches h i is {k = resuming_caps s e k} {s = with_bound s b k w} {e = e} {below = below} {c = c} {L = L} (next_cont s) (bound k w) local
       (bound_there s b k w there) refl (record { frames = omega arith; handles = omega arith; conts = omega (arith, x) }) (record { frames = omega (arith, f); handles = omega (arith, g); conts = omega (arith, y, z) })
 
 -- the kept context stands there, in the handle
@@ -181,34 +181,34 @@ module _ (σ : script.Store) (vars : List Variable) {h : Name} (a : ℕ) {entry 
   resumes_is owner w κ0 κ = rw (listed_both (no_values ▸ u) vs, is, ty, value, kept) refl
 
 -- the continuation of a resumption, by what the script has of it
-module _ {p : Script} (same : ℕ → ℕ → Bool) {ρ : List ℕ} (σ : script.Store) {s : Store} (a b : ℕ) {B : ℕ} {t : Term} (on : script.Context → Step) where
+module _ {p : Script} (matches : ℕ → ℕ → Bool) {ρ : List ℕ} (σ : script.Store) {s : Store} (a b : ℕ) {B : ℕ} {t : Term} (on : script.Context → Step) where
   by_entry : {o : Option script.Context} {q : Option Continuation} → Entry p.declarations ρ (Some o) (Some q) → kept_at σ a ≡ Some o → slice_get s.conts b ≡ Some q
-      → (slice_get s.conts b ≡ Some None → Matches p same B s t (or_fault Reused None on))
-      → ((κ : script.Context) (k : Continuation) → kept_at σ a ≡ Some (Some κ) → slice_get s.conts b ≡ Some (Some k) → KeptAs p.declarations ρ κ k → Matches p same B s t (on κ))
-      → Matches p same B s t (or_fault Reused o on)
+      → (slice_get s.conts b ≡ Some None → Matches p matches B s t (or_fault Reused None on))
+      → ((κ : script.Context) (k : Continuation) → kept_at σ a ≡ Some (Some κ) → slice_get s.conts b ≡ Some (Some k) → KeptAs p.declarations ρ κ k → Matches p matches B s t (on κ))
+      → Matches p matches B s t (or_fault Reused o on)
   by_entry consumed l r faults goes_on = faults r
   by_entry (keeps {κ = κ} {k = k} z) l r faults goes_on = goes_on κ k l r z
 
   pub by_kept : Stores p.declarations ρ σ s → slice_get ρ a ≡ Some b → (entry : Option script.Context) → kept_at σ a ≡ Some entry
-      → (slice_get s.conts b ≡ Some None → Matches p same B s t (or_fault Reused None on))
-      → ((κ : script.Context) (k : Continuation) → kept_at σ a ≡ Some (Some κ) → slice_get s.conts b ≡ Some (Some k) → KeptAs p.declarations ρ κ k → Matches p same B s t (on κ))
-      → Matches p same B s t (or_fault Reused entry on)
+      → (slice_get s.conts b ≡ Some None → Matches p matches B s t (or_fault Reused None on))
+      → ((κ : script.Context) (k : Continuation) → kept_at σ a ≡ Some (Some κ) → slice_get s.conts b ≡ Some (Some k) → KeptAs p.declarations ρ κ k → Matches p matches B s t (on κ))
+      → Matches p matches B s t (or_fault Reused entry on)
   by_kept stores there entry is faults goes_on =
       let z = sides (stores.each a b there) in
-      subst (λ (o : Option script.Context). Matches p same B s t (or_fault Reused o on)) (some_is (sym z.left_is ∙ is)) (by_entry z.entry z.left_is z.right_is faults goes_on)
+      subst (λ (o : Option script.Context). Matches p matches B s t (or_fault Reused o on)) (some_is (sym z.left_is ∙ is)) (by_entry z.entry z.left_is z.right_is faults goes_on)
 
 -- ## The step
 
-module _ {p : Script} (same : ℕ → ℕ → Bool) (facts : Facts p.declarations) {ρ : List ℕ} {σ : script.Store} {s : Store} (stores : Stores p.declarations ρ σ s) {Γ : Layout} {n D0 : ℕ} {L : Locals} {vars : List Variable} {owner : Option Name} {κ : script.Context} {below : Row Val} {c' : Code} {e' f : Context}
+module _ {p : Script} (matches : ℕ → ℕ → Bool) (facts : Facts p.declarations) {ρ : List ℕ} {σ : script.Store} {s : Store} (stores : Stores p.declarations ρ σ s) {Γ : Layout} {n D0 : ℕ} {L : Locals} {vars : List Variable} {owner : Option Name} {κ : script.Context} {below : Row Val} {c' : Code} {e' f : Context}
     (active : Active ρ Γ n L vars) (base : Base p.declarations Γ L below c' e' owner D0 f) (waits : Waits p.declarations ρ κ below c' e') where
   -- a resumption that isn't consumed, whose handler is known
   resuming_kept : {t y : ℕ} (h : Name) {i : Handler} {u : Value} {vs : Values} {ws : Row Val} {w : List Work} {ops : Row Val} {c : Code} {e : Context} (x : Name) (a : ℕ) (κ' : script.Context) (k : Continuation)
       → (r : ResumptionIn ρ Γ L x h a) → kept_at σ a ≡ Some (Some κ') → slice_get s.conts r.continuation ≡ Some (Some k) → KeptAs p.declarations ρ κ' k
       → handler_of p.declarations h ≡ Some i → many vs ≡ length i.parameters → LocalIs ρ L y u → Sames ρ vs ws → Works p.declarations ρ Γ n D0 f t L w ops c e
-      → Matches p same 52 s (config e (ops ⧺ ws) (Plain (local_get y) (Plain (local_get (local_number Γ x)) (Plain (bind_continuation resumption_type computation_type) (Plain (call (handler_index p.declarations h)) c)))))
+      → Matches p matches 52 s (config e (ops ⧺ ws) (Plain (local_get y) (Plain (local_get (local_number Γ x)) (Plain (bind_continuation resumption_type computation_type) (Plain (call (handler_index p.declarations h)) c)))))
       (goes (emptied σ a) (Gives u) (κ' ++ Handled h (listed vs) ∷ Activation vars owner w ∷ κ))
   resuming_kept {y = y} h {i} {u} {vs} {ws} {w} {ops} {c} {e} x a κ' k r left_is right_is kept is number local values works =
-      let ds = p.declarations in let P = program_of p same in let hf = facts.handlers h i is in let v = local.value in let b = r.continuation in
+      let ds = p.declarations in let P = program_of p matches in let hf = facts.handlers h i is in let v = local.value in let b = r.continuation in
       let woken : Store = with_bound s b k v in
       let L' : Locals = handler_first p.declarations h i ws (next_cont s) in
       let caps : Caps = resuming_caps s e k in
@@ -226,9 +226,9 @@ module _ {p : Script} (same : ℕ → ℕ → Bool) (facts : Facts p.declaration
       (spent s b k v) end) (let z : suc (suc (suc (suc (3 + length i.clauses)))) ≡ 4 + (3 + length i.clauses) = omega arith in z)
       (get_path y v locals local.is there
       (get_path (local_number Γ x) (Cont b) locals r.is there
-      (go (bind_step p same s e (ops ⧺ ws) v (Plain (call (handler_index ds h)) c) b k right_is kept.takes) there'
-      (go (handler_step p same stores h is hf woken refl values number e ops c (next_cont s)) inside
-      (resumed_path p same s b k v right_is h i is L' ops c e (first_handled ds hf values number (next_cont s))))))) in
+      (go (bind_step p matches s e (ops ⧺ ws) v (Plain (call (handler_index ds h)) c) b k right_is kept.takes) there'
+      (go (handler_step p matches stores h is hf woken refl values number e ops c (next_cont s)) inside
+      (resumed_path p matches s b k v right_is h i is L' ops c e (first_handled ds hf values number (next_cont s))))))) in
       let ef = resumed_frames ds h i L' ops c e k v in let eh = resumed_handles ds h i L' ops c e k v in let el = resumed_labels ds h i L' ops c e k v in
       let es = spent_stored s b k v right_is in let few = hf.few_clauses in let long = listed_many vs in
       went (path_wider (omega (arith, ef)) (omega (arith, eh)) (omega arith) path) (omega arith) (omega (arith, el, es, few))
@@ -238,7 +238,7 @@ module _ {p : Script} (same : ℕ → ℕ → Bool) (facts : Facts p.declaration
   pub sim_resuming : {t y : ℕ} (h : Name) {i : Handler} {u : Value} {vs : Values} {ws : Row Val} {w : List Work} {ops : Row Val} {c : Code} {e : Context} (x : Name) (v : Variable) (a : ℕ) (entry : Option script.Context)
       → variable_of x vars ≡ Some v → v.ty ≡ Resumption h → v.value ≡ Reference a → kept_at σ a ≡ Some entry → handler_of p.declarations h ≡ Some i → many vs ≡ length i.parameters
       → LocalIs ρ L y u → Sames ρ vs ws → Works p.declarations ρ Γ n D0 f t L w ops c e
-      → Matches p same 52 s (config e (ops ⧺ ws) (resume_code p.declarations Γ x y c))
+      → Matches p matches 52 s (config e (ops ⧺ ws) (resume_code p.declarations Γ x y c))
       (applies p (record { store = σ; variables = vars; owner = owner; work = w; outer = κ }) (Resuming x) (listed ((no_values ▸ u) ⧻ vs)))
   sim_resuming {y = y} h {i} {u} {vs} {ws} {w} {ops} {c} {e} x v a entry bound_is ty value kept is number local values works =
       let ds = p.declarations in
@@ -248,10 +248,10 @@ module _ {p : Script} (same : ℕ → ℕ → Bool) (facts : Facts p.declaration
       let on : script.Context → Step = λ (inner : script.Context). goes (emptied σ a) (Gives u) (inner ++ Handled h (listed vs) ∷ Activation vars owner w ∷ κ) in
       let there : Under (caps_of s (config e (ops ⧺ ws) (code (handler_index ds h))) (config e (ops ⧺ ws) (code (handler_index ds h)))) s e =
       under_first s (config e (ops ⧺ ws) (code (handler_index ds h))) (config e (ops ⧺ ws) (code (handler_index ds h))) in
-      subst (λ (z : Step). Matches p same 52 s (config e (ops ⧺ ws) (resume_code ds Γ x y c)) z) (sym (resumes_is σ vars a x v bound_is ty value kept u vs owner w κ (Activation vars owner w ∷ κ)))
-      (subst (λ (o : Option Name). Matches p same 52 s (config e (ops ⧺ ws) (code (handler_index_of ds o))) (or_fault Reused entry on)) (sym r.handler)
-      (by_kept same σ a r.continuation on stores r.there entry kept
+      subst (λ (z : Step). Matches p matches 52 s (config e (ops ⧺ ws) (resume_code ds Γ x y c)) z) (sym (resumes_is σ vars a x v bound_is ty value kept u vs owner w κ (Activation vars owner w ∷ κ)))
+      (subst (λ (o : Option Name). Matches p matches 52 s (config e (ops ⧺ ws) (code (handler_index_of ds o))) (or_fault Reused entry on)) (sym r.handler)
+      (by_kept matches σ a r.continuation on stores r.there entry kept
       (λ (z : slice_get s.conts r.continuation ≡ Some None).
       faulted (get_path y local.value locals local.is there (get_path (local_number Γ x) (Cont r.continuation) locals r.is there stay))
-      (consumed_step p same s e ((ops ⧺ ws) ▹ local.value) (Plain (call (handler_index ds h)) c) r.continuation z) refl (omega arith))
+      (consumed_step p matches s e ((ops ⧺ ws) ▹ local.value) (Plain (call (handler_index ds h)) c) r.continuation z) refl (omega arith))
       (λ (κ' : script.Context) (k : Continuation) left_is right_is ka. resuming_kept h x a κ' k r left_is right_is ka is number local values works)))

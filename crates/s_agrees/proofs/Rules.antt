@@ -65,39 +65,39 @@ entry_there (x ∷ xs) (z ∷ ys) (suc a) y e q = entry_there xs ys a y (cc e) q
 
 -- ## All rules
 
-module _ (p : Script) (same : ℕ → ℕ → Bool) (facts : Facts p.declarations) where
+module _ (p : Script) (matches : ℕ → ℕ → Bool) (facts : Facts p.declarations) where
   matched : {ρ : List ℕ} {σ : script.Store} {s : Store} {Γ : Layout} {n D0 t : ℕ} {L : standing.Locals} {vars : List Variable} {owner : Option Name} {κ : script.Context} {below : Row Val} {c' : Code} {e' f : Context}
       {w : List Work} {ops : Row Val} {c : Code} {e : Context} {Ξ : World} {scope : Scope} (r : Redex)
       → Stores p.declarations ρ σ s → Active ρ Γ n L vars → Base p.declarations Γ L below c' e' owner D0 f → Waits p.declarations ρ κ below c' e' → StoreTyped p Ξ σ → Covers Ξ scope vars
       → Ready p.declarations ρ Γ n D0 f r t L w ops c e → RedexTyped p Ξ scope r w
-      → Matches p same 52 s (config e ops c) (rule p (record { store = σ; variables = vars; owner = owner; work = w; outer = κ }) r)
-  matched r stores active base waits typed covers (constant_ready {k = k} w) (constant t) = sim_constant same stores active base waits k w
-  matched r stores active base waits typed covers (lookup_ready {x = x} w) (lookup {k = k} q t) = let v = covers.covers x k q in sim_lookup same stores active base waits x v.variable v.there w
+      → Matches p matches 52 s (config e ops c) (rule p (record { store = σ; variables = vars; owner = owner; work = w; outer = κ }) r)
+  matched r stores active base waits typed covers (constant_ready {k = k} w) (constant t) = sim_constant matches stores active base waits k w
+  matched r stores active base waits typed covers (lookup_ready {x = x} w) (lookup {k = k} q t) = let v = covers.covers x k q in sim_lookup matches stores active base waits x v.variable v.there w
   matched r stores active base waits typed covers (aside_ready {x = x} {h = h} ns stays le a w) (lookup {k = k} q t) =
-      let v = covers.covers x k q in sim_aside same stores active base waits h ns x v.variable v.there le a w
-  matched r stores active base waits typed covers (unary_ready {o = o} v w) (on_unary int t) = sim_unary same stores active base waits o v w
-  matched r stores active base waits typed covers (comparison_ready {o = o} u v w) (on_binary int int t) = sim_comparison same stores active base waits o u v w
-  matched r stores active base waits typed covers (arithmetic_ready {o = o} u v w) (on_binary int int t) = sim_arithmetic same stores active base waits o u v w
-  matched r stores active base waits typed covers (truth_ready {o = o} {z = z} d v w) (on_binary x int t) = sim_truth same stores active base waits o z d v w
-  matched r stores active base waits typed covers (decides_ready {o = o} v x y w) (decides int a b t) = sim_decides same stores active base waits o v x y w
+      let v = covers.covers x k q in sim_aside matches stores active base waits h ns x v.variable v.there le a w
+  matched r stores active base waits typed covers (unary_ready {o = o} v w) (on_unary int t) = sim_unary matches stores active base waits o v w
+  matched r stores active base waits typed covers (comparison_ready {o = o} u v w) (on_binary int int t) = sim_comparison matches stores active base waits o u v w
+  matched r stores active base waits typed covers (arithmetic_ready {o = o} u v w) (on_binary int int t) = sim_arithmetic matches stores active base waits o u v w
+  matched r stores active base waits typed covers (truth_ready {o = o} {z = z} d v w) (on_binary x int t) = sim_truth matches stores active base waits o z d v w
+  matched r stores active base waits typed covers (decides_ready {o = o} v x y w) (decides int a b t) = sim_decides matches stores active base waits o v x y w
   matched r stores active base waits typed covers (call_ready {g = g} values w) (applying (calling {g = fn} is t) firsts) =
-      sim_call same facts stores active base waits g fn is (all_many firsts ∙ kinds_many fn.parameters) values w
+      sim_call matches facts stores active base waits g fn is (all_many firsts ∙ kinds_many fn.parameters) values w
   matched r stores active base waits typed covers (do_ready {op = op} values w) (applying (doing {n = k} is t) firsts) =
-      sim_do same facts stores active base waits op is (all_many firsts ∙ numbers_many k) values w
+      sim_do matches facts stores active base waits op is (all_many firsts ∙ numbers_many k) values w
   matched r stores active base waits typed covers (handle_ready {g = g} {h = h} {us = us} {vs = vs} ns m among held values w) (applying (handling {g = fn} {i = i} is_g is_h enough t) firsts) =
       let a = all_many firsts in let b = both_many us vs in let d = kinds_many fn.parameters in let e = kinds_many i.parameters in let l = length-append (kinds fn.parameters) (kinds i.parameters) in
-      sim_handling same facts stores active base waits g h fn i ns is_g is_h among m (omega (arith, m, enough)) (omega (arith, m, enough, a, b, d, e, l)) held values w
+      sim_handling matches facts stores active base waits g h fn i ns is_g is_h among m (omega (arith, m, enough)) (omega (arith, m, enough, a, b, d, e, l)) held values w
   matched r stores active base waits typed covers (resume_ready {x = x} {u = u} {vs = vs} number values w) (applying (resuming {h = h} {i = i} q is t) firsts) =
       let v = covers.covers x (Resumption h) q in let to = referred v.has in let entry = entry_there _ _ to.address h typed.as_many to.there in
       let a = all_many firsts in let b = both_many (no_values ▸ u) vs in let d = kinds_many i.parameters in
-      sim_resuming same facts stores active base waits h x v.variable to.address entry.0 v.there v.of_kind to.is entry.1 is (omega (arith, a, b, d)) number values w
+      sim_resuming matches facts stores active base waits h x v.variable to.address entry.0 v.there v.of_kind to.is entry.1 is (omega (arith, a, b, d)) number values w
   matched r stores active base waits typed covers (tail_ready {x = x} {u = u} {vs = vs} c own number values deep D) (applying (tail_resuming {h = h} {i = i} q is) firsts) =
       let v = covers.covers x (Resumption h) q in let to = referred v.has in let entry = entry_there _ _ to.address h typed.as_many to.there in
       let a = all_many firsts in let b = both_many (no_values ▸ u) vs in let d = kinds_many i.parameters in
-      sim_tail same facts stores active base waits h x v.variable to.address entry.0 v.there v.of_kind to.is entry.1 is (omega (arith, a, b, d)) number values own deep D c
-  matched r stores active base waits typed covers (use_ready v u) (using t b int) = sim_use same facts stores active base waits v u covers t
-  matched r stores active base waits typed covers (fail_ready c deep) failing = sim_fail same facts stores active base waits deep
-  matched r stores active base waits typed covers end_ready ending = sim_end same facts stores active base waits
+      sim_tail matches facts stores active base waits h x v.variable to.address entry.0 v.there v.of_kind to.is entry.1 is (omega (arith, a, b, d)) number values own deep D c
+  matched r stores active base waits typed covers (use_ready v u) (using t b int) = sim_use matches facts stores active base waits v u covers t
+  matched r stores active base waits typed covers (fail_ready c deep) failing = sim_fail matches facts stores active base waits deep
+  matched r stores active base waits typed covers end_ready ending = sim_end matches facts stores active base waits
 
-  pub rules : RulesMatched p same
+  pub rules : RulesMatched p matches
   rules = record { matched = matched }

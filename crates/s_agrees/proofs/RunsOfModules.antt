@@ -51,9 +51,9 @@ only_running ds (Traps t) e = absurd (fault_end (fault_of ds t) e)
 only_running ds (LimitMet name) e = absurd (cc)
 only_running ds NoRule e = absurd (cc)
 
-module _ (p : Script) (same : ℕ → ℕ → Bool) where
+module _ (p : Script) (matches : ℕ → ℕ → Bool) where
   abbrev P : Program
-  P = program_of p same
+  P = program_of p matches
 
   -- what a configuration has come to without a further reduction
   ending_is : (x : reduced.Reduced) → end_of p.declarations (outcome_by x) ≡ ending_before (reduced_to p.declarations x)
@@ -72,10 +72,10 @@ module _ (p : Script) (same : ℕ → ℕ → Bool) where
   }
 
   went_by : (r : RunState) (o : List ℕ) (y : Config) (x : reduced.Reduced) → reduced_to p.declarations x ≡ steps.Went o y
-      → let m = after_reduction P r x in (at m.store m.term ≡ y) × (m.output ≡ r.output ++ o) × (end_of p.declarations m.outcome ≡ ending_before (reduce p same y))
+      → let m = after_reduction P r x in (at m.store m.term ≡ y) × (m.output ≡ r.output ++ o) × (end_of p.declarations m.outcome ≡ ending_before (reduce p matches y))
   went_by r o y (Went o' s t) e =
       let is : at s t ≡ y = cc in let printed : o' ≡ o = cc in
-      (is, ap (λ (l : List ℕ). r.output ++ l) printed, ending_is (machine.reduce P s t) ∙ ap (λ (z : Config). ending_before (reduce p same z)) is)
+      (is, ap (λ (l : List ℕ). r.output ++ l) printed, ending_is (machine.reduce P s t) ∙ ap (λ (z : Config). ending_before (reduce p matches z)) is)
   went_by r o y (Trapped t) e = absurd (cc)
   went_by r o y (Limited name) e = absurd (cc)
   went_by r o y (Ended vs) e = absurd (cc)
@@ -113,10 +113,10 @@ module _ (p : Script) (same : ℕ → ℕ → Bool) where
   keeps_by r (LimitMet name) = ([], sym (append-nil r.output))
   keeps_by r NoRule = ([], sym (append-nil r.output))
 
-  reducing : Reducing runs Config (reduce p same)
+  reducing : Reducing runs Config (reduce p matches)
   reducing = record {
     term = λ r. at r.store r.term;
-    went = λ r o y ending e. subst (λ (m : RunState). (at m.store m.term ≡ y) × (m.output ≡ r.output ++ o) × (end_of p.declarations m.outcome ≡ ending_before (reduce p same y)))
+    went = λ r o y ending e. subst (λ (m : RunState). (at m.store m.term ≡ y) × (m.output ≡ r.output ++ o) × (end_of p.declarations m.outcome ≡ ending_before (reduce p matches y)))
         (sym (next_is r ending)) (went_by r o y (machine.reduce P r.store r.term) e);
     stopped = λ r e ending never f. subst (λ (m : RunState). (m.output ≡ r.output) × (end_of p.declarations m.outcome ≡ e)) (sym (next_is r ending)) (stopped_by r e (machine.reduce P r.store r.term) f);
     rests = λ r e ending never. rests_by r e r.outcome ending never;
@@ -129,13 +129,13 @@ module _ (p : Script) (same : ℕ → ℕ → Bool) where
   run_after s t (suc N) = ap (λ (r : RunState). continued P r r.outcome) (run_after s t N)
 
   -- the runs from a configuration that comes to stand for one of the script
-  pub follows_by : (r : StepSimulation {V = ℤ} {F = Fault} {L = eval.RunLimit} (step p) Passes (reduce p same)) (σ : Configuration) (s : Store) (t : Term) (k : ℕ) (y : Config)
-      → Reductions (reduce p same) (at s t) [] k y → r.Related σ y → k + r.potential σ y ≤ 64 → (N : ℕ)
+  pub follows_by : (r : StepSimulation {V = ℤ} {F = Fault} {L = eval.RunLimit} (step p) Passes (reduce p matches)) (σ : Configuration) (s : Store) (t : Term) (k : ℕ) (y : Config)
+      → Reductions (reduce p matches) (at s t) [] k y → r.Related σ y → k + r.potential σ y ≤ 64 → (N : ℕ)
       → (e : ScriptEnd) × (end_of p.declarations (Run P s t N).outcome ≡ Some e)
       × Follows ℤ Fault eval.RunLimit eval.Evaluated (after (steps.step_on (step p)) (steps.evaluated σ)) (λ q. q.printed) (λ q. q.outcome) (λ l q. Passes l q.term) N (Run P s t N).output e
   unfolding reducing
   follows_by r σ s t k y path related cost N =
       let m0 : RunState = state_at P 0 [] s t in
-      let all = follows_term ℤ Fault eval.RunLimit Configuration Config (step p) Passes (reduce p same) runs reducing r σ m0 k y refl (ending_is (machine.reduce P s t)) path related cost N in
+      let all = follows_term ℤ Fault eval.RunLimit Configuration Config (step p) Passes (reduce p matches) runs reducing r σ m0 k y refl (ending_is (machine.reduce P s t)) path related cost N in
       subst (λ (q : RunState). (e : ScriptEnd) × (end_of p.declarations q.outcome ≡ Some e)
       × Follows ℤ Fault eval.RunLimit eval.Evaluated (after (steps.step_on (step p)) (steps.evaluated σ)) (λ q. q.printed) (λ q. q.outcome) (λ l q. Passes l q.term) N q.output e) (run_after s t N) all

@@ -15,7 +15,6 @@ use Rattle.s_syntax.specs.declared.script.Definition.{Definition}
 use Rattle.s_syntax.specs.declared.script.Definition.TheVariants as definition
 use Rattle.s_syntax.specs.declared.script.Declaration.{Declaration}
 use Rattle.s_syntax.specs.declared.script.Script.{Script}
-use Rattle.s_syntax.specs.BlockTree.{BlockTree}
 use Rattle.s_check.specs.Refusal.{Good}
 use Rattle.s_check.specs.Scopes.{Bound, number, parameter, resumption}
 use Rattle.s_check.specs.Size.{block_size, clause_size, definition_size, Size, size_limit}
@@ -39,14 +38,10 @@ use Rattle.s_agrees.proofs.SpelledTokens.{ClausesSmall, local_get_spelled, local
 
 -- ## Names
 
--- no more names are bound than a body is large
-few_lets : (ds : List Declaration) (b : BlockTree) → length (binds_in ds b) ≤ block_size b
-few_lets ds b = binds_within ds b
-
 -- a clause binds no more than its size
 few_names : (ds : List Declaration) (h : Name) (c : Clause) → length (clause_names ds h c) ≤ clause_size c
 few_names ds h c =
-    let q = few_lets ds c.body in
+    let q = binds_within ds c.body in
     let l = length-append (map number c.arguments) (resumption h c.resumption ∷ binds_in ds c.body) in
     let a = length-map c.arguments number in
     omega (arith, q, l, a)
@@ -76,7 +71,7 @@ few_clauses (c ∷ cs) = let q = few_clauses cs in let s = sum_by-cons clause_si
 -- the names of a function, and its temporaries
 function_layout_small : (ds : List Declaration) (f : Function) → definition_size (definition.Function f) ≤ size_limit → SmallLayout (function_layout ds f)
 function_layout_small ds f few =
-    let q = few_lets ds f.body in
+    let q = binds_within ds f.body in
     let l = length-append (map parameter f.parameters) (binds_in ds f.body) in
     let m = length-map f.parameters parameter in
     record { name = names_small (function_names ds f) (omega (arith, few, q, l, m)); temporaries = omega (arith, few, q, l, m); parameters = omega arith }
@@ -84,7 +79,7 @@ function_layout_small ds f few =
 -- the code of a function that isn't too large
 pub function_spelled : (ds : List Declaration) (f : Function) → SmallIndices ds → definition_size (definition.Function f) ≤ size_limit → FunctionSpelled (function_code ds f)
 function_spelled ds f S few =
-    let q = few_lets ds f.body in
+    let q = binds_within ds f.body in
     let h = block_high f.body in
     let t = locals_total (binds_in ds f.body) (high_block f.body) in
     record {
@@ -130,7 +125,7 @@ labels_small ds S l (c ∷ cs) few = ((fits (tag_index ds c.effect) (S.tag c.eff
 -- how many locals the names and temporaries of a handler take
 handler_few : (ds : List Declaration) (h : Name) (i : Handler) → handler_temporaries ds h i + max (high_block i.return_clause.body) (high_clauses i.clauses) ≤ definition_size (definition.Handler i) + definition_size (definition.Handler i)
 handler_few ds h i =
-    let q = few_lets ds i.return_clause.body in
+    let q = binds_within ds i.return_clause.body in
     let r = all_names ds h i.clauses in
     let s = block_high i.return_clause.body in
     let t = all_high i.clauses in

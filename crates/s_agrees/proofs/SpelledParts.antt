@@ -16,7 +16,7 @@ use Rattle.w_types.specs.declared.types.CompType.{CompType}
 use Rattle.w_types.specs.declared.types.CompType.TheVariants.{Func, Cont}
 use Rattle.w_syntax.specs.Code.{Code}
 use Rattle.w_syntax.specs.Items.{reference_to}
-use Rattle.w_syntax.specs.Types.{nullable_to, non_null_to, reftype, valtype, functype, comptype, rectype, limits, tabletype}
+use Rattle.w_syntax.specs.Types.{nullable_to, non_null_to, reftype, valtype, functype, comptype, alone_of, subtype, rectype, limits, tabletype}
 use Rattle.w_syntax.specs.Fields.{name, table_of as table_format, tag, externtype, import, externidx, export, elemkind, function_item, elem}
 use Rattle.w_syntax.specs.declared.module.ExternType.TheVariants as extern
 use Rattle.w_syntax.specs.declared.module.ExternIndex.TheVariants as index
@@ -71,9 +71,9 @@ type_spelled (Func f) h =
 type_spelled (Cont x) h = (x, index_is_u32 (index_written x) x (signed_index_spelled x h), refl)
 
 group_spelled : (t : CompType) → TypeSpelled t → rectype.Spells (rectype_written (group t)) (group t)
-unfolding rectype
-group_spelled (Func f) h = (Func f, type_spelled (Func f) h, refl)
-group_spelled (Cont x) h = (Cont x, type_spelled (Cont x) h, refl)
+unfolding rectype subtype
+group_spelled (Func f) h = (alone_of (Func f), (Func f, type_spelled (Func f) h, refl), refl)
+group_spelled (Cont x) h = (alone_of (Cont x), (Cont x, type_spelled (Cont x) h, refl), refl)
 
 abbrev AllSpelled : List CompType → Type 0
 AllSpelled [] = Unit {0}

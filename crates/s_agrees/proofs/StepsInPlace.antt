@@ -104,15 +104,15 @@ truth_path : {P : Program} {k : Caps} {s : Store} {e : Context} {ops : Row Val} 
 truth_path {ops = ops} n c u = let v = under_label ops 1 Done c u in go refl v (go refl v (go refl v (go refl u stay)))
 
 -- one reduction that leaves all but the operands and the code
-pub one_step : {p : Script} {same : ℕ → ℕ → Bool} {ρ : List ℕ} {k : Configuration} {s : Store} {e : Context} {ops ops' : Row Val} {c c' : Code}
-    → step (program_of p same) s (config e ops c) ≡ Went [] s (config e ops' c') → At p.declarations ρ k s (config e ops' c') → Matches p same 52 s (config e ops c) (Goes [] k)
+pub one_step : {p : Script} {matches : ℕ → ℕ → Bool} {ρ : List ℕ} {k : Configuration} {s : Store} {e : Context} {ops ops' : Row Val} {c c' : Code}
+    → step (program_of p matches) s (config e ops c) ≡ Went [] s (config e ops' c') → At p.declarations ρ k s (config e ops' c') → Matches p matches 52 s (config e ops c) (Goes [] k)
 one_step {s = s} {e = e} {ops = ops} {ops' = ops'} {c = c} {c' = c'} q a =
     went (go q (under_first s (config e ops c) (config e ops' c')) stay) (omega arith) (omega arith) a
 
 -- two of them
-pub two_steps : {p : Script} {same : ℕ → ℕ → Bool} {ρ : List ℕ} {k : Configuration} {s : Store} {e : Context} {ops ops' : Row Val} {c c' : Code} (ops1 : Row Val) (c1 : Code)
-    → step (program_of p same) s (config e ops c) ≡ Went [] s (config e ops1 c1) → step (program_of p same) s (config e ops1 c1) ≡ Went [] s (config e ops' c')
-    → At p.declarations ρ k s (config e ops' c') → Matches p same 52 s (config e ops c) (Goes [] k)
+pub two_steps : {p : Script} {matches : ℕ → ℕ → Bool} {ρ : List ℕ} {k : Configuration} {s : Store} {e : Context} {ops ops' : Row Val} {c c' : Code} (ops1 : Row Val) (c1 : Code)
+    → step (program_of p matches) s (config e ops c) ≡ Went [] s (config e ops1 c1) → step (program_of p matches) s (config e ops1 c1) ≡ Went [] s (config e ops' c')
+    → At p.declarations ρ k s (config e ops' c') → Matches p matches 52 s (config e ops c) (Goes [] k)
 two_steps {s = s} {e = e} {ops = ops} {ops' = ops'} {c = c} {c' = c'} ops1 c1 q r a =
     let u = under_first s (config e ops c) (config e ops' c') in
     went (go q u (go r u stay)) (omega arith) (omega arith) a
@@ -125,7 +125,7 @@ works_left (operand x ps) w = left x ps w
 
 -- ## The steps
 
-module _ {p : Script} (same : ℕ → ℕ → Bool) {ρ : List ℕ} {σ : script.Store} {s : Store} (stores : Stores p.declarations ρ σ s) {Γ : Layout} {n D0 : ℕ} {L : Locals} {vars : List Variable} {owner : Option Name} {κ : script.Context} {below : Row Val} {c' : Code} {e' f : Context}
+module _ {p : Script} (matches : ℕ → ℕ → Bool) {ρ : List ℕ} {σ : script.Store} {s : Store} (stores : Stores p.declarations ρ σ s) {Γ : Layout} {n D0 : ℕ} {L : Locals} {vars : List Variable} {owner : Option Name} {κ : script.Context} {below : Row Val} {c' : Code} {e' f : Context}
     (active : Active ρ Γ n L vars) (base : Base p.declarations Γ L below c' e' owner D0 f) (waits : Waits p.declarations ρ κ below c' e') where
   -- where a redex stands
   abbrev pub around : List Work → Around
@@ -138,47 +138,47 @@ module _ {p : Script} (same : ℕ → ℕ → Bool) {ρ : List ℕ} {σ : script
 
   -- a literal
   pub sim_constant : {t : ℕ} {w : List Work} {ops : Row Val} {c : Code} {e : Context} (k : WrittenNumber) → Works p.declarations ρ Γ n D0 f t L w ops c e
-      → Matches p same 52 s (config e ops (Plain (constant (pos k.value)) c)) (rule p (around w) (Constant k))
+      → Matches p matches 52 s (config e ops (Plain (constant (pos k.value)) c)) (rule p (around w) (Constant k))
   sim_constant k w = one_step refl (at_value (number (constant_bits k) (constant_signed k)) w)
 
   -- a variable is in its local
   pub sim_lookup : {t : ℕ} {w : List Work} {ops : Row Val} {c : Code} {e : Context} (x : Name) (v : Variable) → variable_of x vars ≡ Some v → Works p.declarations ρ Γ n D0 f t L w ops c e
-      → Matches p same 52 s (config e ops (Plain (local_get (local_number Γ x)) c)) (rule p (around w) (Lookup x))
+      → Matches p matches 52 s (config e ops (Plain (local_get (local_number Γ x)) c)) (rule p (around w) (Lookup x))
   sim_lookup {w = w} {ops = ops} {c = c} {e = e} x v q k =
       let i = active.holds.each x v q in let there = ap number_in i.is in let locals = deep_locals (works_deep k).1 ∙ base_locals base in
-      subst (λ (o : Option Variable). Matches p same 52 s (config e ops (Plain (local_get (local_number Γ x)) c)) (or_wrong o (λ (u : Variable). goes_on (around w) (Gives u.value)))) (sym q)
-      (one_step (get_step (program_of p same) s e ops c (local_number Γ x) i.held.value ((λ j. slice_get (locals j) (there j)) ∙ i.held.is)) (at_value i.held.same k))
+      subst (λ (o : Option Variable). Matches p matches 52 s (config e ops (Plain (local_get (local_number Γ x)) c)) (or_wrong o (λ (u : Variable). goes_on (around w) (Gives u.value)))) (sym q)
+      (one_step (get_step (program_of p matches) s e ops c (local_number Γ x) i.held.value ((λ j. slice_get (locals j) (there j)) ∙ i.held.is)) (at_value i.held.same k))
 
   -- a first argument of a handle that is read where it lies
   pub sim_aside : {t t0 m u : ℕ} {g : Name} {us : Values} {es bs : Exprs} {w : List Work} {ops : Row Val} {c : Code} {e : Context} (h : Name) (ns : Row ℕ) (x : Name) (v : Variable)
       → variable_of x vars ≡ Some v → t0 ≤ t → Asides p.declarations ρ Γ n L g m t u ns us es bs → Works p.declarations ρ Γ n D0 f t0 L w ops c e
-      → Matches p same 52 s (config e ops (Plain nop (asides_code p.declarations Γ g h t u (ns ▹ local_number Γ x) es bs c)))
+      → Matches p matches 52 s (config e ops (Plain nop (asides_code p.declarations Γ g h t u (ns ▹ local_number Γ x) es bs c)))
       (rule p (around (Among (Handling g m h) us (followed_by es bs) ∷ w)) (Lookup x))
   sim_aside {t} {t0} {m} {u} {g} {us} {es} {bs} {w} {ops} {c} {e} h ns x v q le a k =
       let i = active.holds.each x v q in let there = ap number_in i.is in let below = active.fine.below x i.local i.is in
       let less : local_number Γ x < Γ.temporaries + t = omega (arith, there, below) in
       let held : LocalIs ρ L (local_number Γ x) v.value = record { value = i.held.value; is = ap (λ (j : ℕ). slice_get L j) there ∙ i.held.is; same = i.held.same } in
-      subst (λ (o : Option Variable). Matches p same 52 s (config e ops (Plain nop (asides_code p.declarations Γ g h t u (ns ▹ local_number Γ x) es bs c)))
+      subst (λ (o : Option Variable). Matches p matches 52 s (config e ops (Plain nop (asides_code p.declarations Γ g h t u (ns ▹ local_number Γ x) es bs c)))
       (or_wrong o (λ (y : Variable). goes_on (around (Among (Handling g m h) us (followed_by es bs) ∷ w)) (Gives y.value)))) (sym q)
       (one_step refl (record { stands = lies ns active le a less held k base waits; stores = stores }))
 
   -- an operator with the values of its operands
   pub sim_unary : {t : ℕ} {w : List Work} {ops : Row Val} {c : Code} {e : Context} {z : ℤ} {a : Val} (o : UnaryOperator) → Same ρ (Number z) a → Works p.declarations ρ Γ n D0 f t L w ops c e
-      → Matches p same 52 s (config e (ops ▹ a) (unary_operator o c)) (rule p (around w) (OnUnary o (Number z)))
+      → Matches p matches 52 s (config e (ops ▹ a) (unary_operator o c)) (rule p (around w) (OnUnary o (Number z)))
   sim_unary {ops = ops} {c = c} Minus (number {n = a} h e) k =
       two_steps (ops ▹ I64 a ▹ I64 (2 ^ 64 - 1)) (Plain (binary binop_names.Mul) c) refl refl (at_value (same_minus a h e) k)
   sim_unary {ops = ops} {c = c} {z = z} Not (number {n = a} h e) k =
       two_steps (ops ▹ I32 (ieqz 64 a)) (Plain extend c) refl refl (at_value (same_truth (not (holds z)) (ap bit.truth (zero_test a h e))) k)
 
   pub sim_comparison : {t : ℕ} {w : List Work} {ops : Row Val} {c : Code} {e : Context} {x y : ℤ} {a b : Val} (o : Comparison) → Same ρ (Number x) a → Same ρ (Number y) b → Works p.declarations ρ Γ n D0 f t L w ops c e
-      → Matches p same 52 s (config e (ops ▹ a ▹ b) (comparison o c)) (rule p (around w) (OnBinary (Compares o) (Number x) (Number y)))
+      → Matches p matches 52 s (config e (ops ▹ a ▹ b) (comparison o c)) (rule p (around w) (OnBinary (Compares o) (Number x) (Number y)))
   sim_comparison {ops = ops} {c = c} o (number {n = a} h q) (number {n = b} i r) k =
       two_steps (ops ▹ I32 (relop (relop_of o) 64 a b)) (Plain extend c) refl refl (at_value (same_compared o a b h q i r) k)
 
   -- a number, or a trap that is the script's fault
   answered : {t : ℕ} {w : List Work} {ops : Row Val} {c : Code} {e : Context} {r : Computed} {q : Result ℕ NumFault} (o : Arithmetic) (a b : ℕ) → Answers r q → binop (binop_of o) 64 a b ≡ q
       → Works p.declarations ρ Γ n D0 f t L w ops c e
-      → Matches p same 52 s (config e (ops ▹ I64 a ▹ I64 b) (arithmetic o c)) (unless_faulty r (λ (z : ℤ). goes_on (around w) (Gives (Number z))))
+      → Matches p matches 52 s (config e (ops ▹ I64 a ▹ I64 b) (arithmetic o c)) (unless_faulty r (λ (z : ℤ). goes_on (around w) (Gives (Number z))))
   answered {ops = ops} {c = c} {e = e} o a b (answers_number h i) q k =
       one_step (ap (λ (z : Result ℕ NumFault). unless_fault z (λ (j : ℕ). steps_to s e (ops ▹ I64 j) (rest_of c))) q) (at_value (number h i) k)
   answered {ops = ops} {c = c} {e = e} o a b divides_by_zero q k =
@@ -187,16 +187,16 @@ module _ {p : Script} (same : ℕ → ℕ → Bool) {ρ : List ℕ} {σ : script
       faulted stay (ap (λ (z : Result ℕ NumFault). unless_fault z (λ (j : ℕ). steps_to s e (ops ▹ I64 j) (rest_of c))) q) refl (omega arith)
 
   pub sim_arithmetic : {t : ℕ} {w : List Work} {ops : Row Val} {c : Code} {e : Context} {x y : ℤ} {a b : Val} (o : Arithmetic) → Same ρ (Number x) a → Same ρ (Number y) b → Works p.declarations ρ Γ n D0 f t L w ops c e
-      → Matches p same 52 s (config e (ops ▹ a ▹ b) (arithmetic o c)) (rule p (around w) (OnBinary (Computes o) (Number x) (Number y)))
+      → Matches p matches 52 s (config e (ops ▹ a ▹ b) (arithmetic o c)) (rule p (around w) (OnBinary (Computes o) (Number x) (Number y)))
   sim_arithmetic o (number {n = a} h q) (number {n = b} i r) k =
       answered o a b (subst (λ (z : Computed). Answers z (binop (binop_of o) 64 a b)) (λ j. compute o (q j) (r j)) (arithmetic_answers o a b h i)) refl k
 
   -- the right side of && or ||, behind a left one that didn't decide: 0 or 1, outside the label
   pub sim_truth : {t : ℕ} {w : List Work} {ops : Row Val} {c : Code} {e : Context} {y : ℤ} {b : Val} (o : Connective) (x : ℤ) → decided o x ≡ false → Same ρ (Number y) b → Works p.declarations ρ Γ n D0 f t L w ops c e
-      → Matches p same 52 s (config (Label ops 1 Done c ∷ e) (ε ▹ b) truth) (rule p (around w) (OnBinary (Connects o) (Number x) (Number y)))
+      → Matches p matches 52 s (config (Label ops 1 Done c ∷ e) (ε ▹ b) truth) (rule p (around w) (OnBinary (Connects o) (Number x) (Number y)))
   sim_truth {w = w} {ops = ops} {c = c} {e = e} {y = y} o x d (number {n = b} h q) k =
       let t : Term = config (Label ops 1 Done c ∷ e) (ε ▹ I64 b) truth in let t' : Term = config e (ops ▹ I64 (ieqz 32 (ieqz 64 b))) c in
-      subst (λ (z : Bool). Matches p same 52 s t (goes_on (around w) (Gives (Number (script_number.truth z))))) (sym (right_decides o x y d))
+      subst (λ (z : Bool). Matches p matches 52 s t (goes_on (around w) (Gives (Number (script_number.truth z))))) (sym (right_decides o x y d))
       (went (truth_path b c (under_last s s t t' (omega arith))) (omega arith) (omega arith) (at_value (same_holds b h q) k))
 
   -- a left side that doesn't decide: the right one is evaluated inside a label
@@ -216,7 +216,7 @@ module _ {p : Script} (same : ℕ → ℕ → Bool) {ρ : List ℕ} {σ : script
   -- a left side of &&, whose bits are 0 where it doesn't hold
   decides_and : {t : ℕ} {x : ExprTree} {more : Operands} {w : List Work} {ops : Row Val} {c : Code} {e : Context} (z : ℤ) (a : ℕ) (b : Bool) → holds z ≡ b → nat_eq a 0 ≡ not b
       → WellExpr p.declarations n t x → WellOperands p.declarations n t more → Works p.declarations ρ Γ n D0 f t L w ops c e
-      → Matches p same 52 s (config e (ops ▹ I64 a) (connective And (expr p.declarations Γ t x truth) (operands p.declarations Γ t more c)))
+      → Matches p matches 52 s (config e (ops ▹ I64 a) (connective And (expr p.declarations Γ t x truth) (operands p.declarations Γ t more c)))
       (if not b then goes_on (around (left_of more w)) (Gives (Number (script_number.truth b))) else goes_on (around (RightOf (Number z) (Connects And) more ∷ w)) (Finds x))
   decides_and {t} {x} {more} {w} {ops} {c} {e} z a true h q wx wm k =
       let right : Code = expr p.declarations Γ t x truth in let rest : Code = operands p.declarations Γ t more c in
@@ -231,7 +231,7 @@ module _ {p : Script} (same : ℕ → ℕ → Bool) {ρ : List ℕ} {σ : script
   -- and one of ||
   decides_or : {t : ℕ} {x : ExprTree} {more : Operands} {w : List Work} {ops : Row Val} {c : Code} {e : Context} (z : ℤ) (a : ℕ) (b : Bool) → holds z ≡ b → nat_eq a 0 ≡ not b
       → WellExpr p.declarations n t x → WellOperands p.declarations n t more → Works p.declarations ρ Γ n D0 f t L w ops c e
-      → Matches p same 52 s (config e (ops ▹ I64 a) (connective Or (expr p.declarations Γ t x truth) (operands p.declarations Γ t more c)))
+      → Matches p matches 52 s (config e (ops ▹ I64 a) (connective Or (expr p.declarations Γ t x truth) (operands p.declarations Γ t more c)))
       (if b then goes_on (around (left_of more w)) (Gives (Number (script_number.truth b))) else goes_on (around (RightOf (Number z) (Connects Or) more ∷ w)) (Finds x))
   decides_or {t} {x} {more} {w} {ops} {c} {e} z a true h q wx wm k =
       let right : Code = expr p.declarations Γ t x truth in let rest : Code = operands p.declarations Γ t more c in
@@ -246,6 +246,6 @@ module _ {p : Script} (same : ℕ → ℕ → Bool) {ρ : List ℕ} {σ : script
   -- a left side of && or ||
   pub sim_decides : {t : ℕ} {z : ℤ} {a : Val} {x : ExprTree} {more : Operands} {w : List Work} {ops : Row Val} {c : Code} {e : Context} (o : Connective) → Same ρ (Number z) a
       → WellExpr p.declarations n t x → WellOperands p.declarations n t more → Works p.declarations ρ Γ n D0 f t L w ops c e
-      → Matches p same 52 s (config e (ops ▹ a) (connective o (expr p.declarations Γ t x truth) (operands p.declarations Γ t more c))) (rule p (around w) (Decides o (Number z) x more))
+      → Matches p matches 52 s (config e (ops ▹ a) (connective o (expr p.declarations Γ t x truth) (operands p.declarations Γ t more c))) (rule p (around w) (Decides o (Number z) x more))
   sim_decides {z = z} And (number {n = a} h q) wx wm k = decides_and z a (holds z) refl (zero_test a h q) wx wm k
   sim_decides {z = z} Or (number {n = a} h q) wx wm k = decides_or z a (holds z) refl (zero_test a h q) wx wm k

@@ -166,30 +166,30 @@ in_clause_around deep ds h i ps below c e lf lh lc = record {
 -- ## The step
 
 -- back to the loop, and into the kept context
-tail_back : (p : Script) (same : ℕ → ℕ → Bool) (s : Store) {f : Context} {d D : ℕ} {e : Context} (h : Name) (i : Handler) (ps : List Placed) (b : ℕ) (k : Continuation) (w : Val) (M : Locals) (below : Row Val) (c' : Code) (e' : Context) (c : Code)
+tail_back : (p : Script) (matches : ℕ → ℕ → Bool) (s : Store) {f : Context} {d D : ℕ} {e : Context} (h : Name) (i : Handler) (ps : List Placed) (b : ℕ) (k : Continuation) (w : Val) (M : Locals) (below : Row Val) (c' : Code) (e' : Context) (c : Code)
     → handler_of p.declarations h ≡ Some i → slice_get s.conts b ≡ Some (Some k) → slice_get M (length i.parameters) ≡ Some (Some (Cont (next_cont s))) → (deep : Deep f d e) → D ≡ d + length ps
-    → Path (program_of p same) (resuming_caps s e' k) (suc (3 + length i.clauses)) (with_bound s b k w) (config (in_clause deep p.declarations h i ps below c' e' M) ε (Plain (branch D) c))
+    → Path (program_of p matches) (resuming_caps s e' k) (suc (3 + length i.clauses)) (with_bound s b k w) (config (in_clause deep p.declarations h i ps below c' e' M) ε (Plain (branch D) c))
     (spent s b k w) (resumed p.declarations h i M below c' e' k w)
-tail_back p same s {d = d} {D = D} h i ps b k w M below c' e' c is there local deep inside =
+tail_back p matches s {d = d} {D = D} h i ps b k w M below c' e' c is there local deep inside =
     let live_same = bound_live s b k w there in let woken : Store = with_bound s b k w in let ds = p.declarations in
-    let out : step (program_of p same) woken (config (in_clause deep ds h i ps below c' e' M) ε (Plain (branch D) c))
+    let out : step (program_of p matches) woken (config (in_clause deep ds h i ps below c' e' M) ε (Plain (branch D) c))
     ≡ Went [] woken (config (Label ε 1 Done Done ∷ Frame below 1 (handler_place ds h) M (rest_of c') ∷ e') ε (loop_code ds h i)) =
     branch_deep woken ε (length ps) D inside (rebase_deep (clause_labels ds ps (in_loop ds h i M below c' e')) deep)
     ∙ branch_clauses woken ds ps (in_loop ds h i M below c' e') ε ∙ branch_loop woken ds h i M below c' e' in
-    go out (record { frames = omega arith; handles = omega arith; conts = omega (arith, live_same) }) (resumed_path p same s b k w there h i is M below c' e' local)
+    go out (record { frames = omega arith; handles = omega arith; conts = omega (arith, live_same) }) (resumed_path p matches s b k w there h i is M below c' e' local)
 
-module _ {p : Script} (same : ℕ → ℕ → Bool) (facts : Facts p.declarations) {ρ : List ℕ} {σ : script.Store} {s : Store} (stores : Stores p.declarations ρ σ s) {κ : script.Context} {below : Row Val} {c' : Code} {e' : Context}
+module _ {p : Script} (matches : ℕ → ℕ → Bool) (facts : Facts p.declarations) {ρ : List ℕ} {σ : script.Store} {s : Store} (stores : Stores p.declarations ρ σ s) {κ : script.Context} {below : Row Val} {c' : Code} {e' : Context}
     (waits : Waits p.declarations ρ κ below c' e') where
   -- a resumption that isn't consumed
   tail_kept : {Γ : Layout} {L : Locals} {d D y : ℕ} {e : Context} (h : Name) {i : Handler} {u : Value} {vs : Values} {ws : Row Val} (x : Name) (a : ℕ) (κ' : script.Context) (k : Continuation) (ps : List Placed) (c : Code)
       → length ps ≤ 16 → handler_room p.declarations h i ≤ length L → Deep (clause_labels p.declarations ps (in_loop p.declarations h i L below c' e')) d e → D ≡ d + length ps
       → (r : ResumptionIn ρ Γ L x h a) → kept_at σ a ≡ Some (Some κ') → slice_get s.conts r.continuation ≡ Some (Some k) → KeptAs p.declarations ρ κ' k
       → handler_of p.declarations h ≡ Some i → many vs ≡ length i.parameters → LocalIs ρ L y u → Sames ρ vs ws
-      → Matches p same 52 s (config e (ε ⧺ ws) (Plain (local_get y) (Plain (local_get (local_number Γ x)) (Plain (bind_continuation resumption_type computation_type)
+      → Matches p matches 52 s (config e (ε ⧺ ws) (Plain (local_get y) (Plain (local_get (local_number Γ x)) (Plain (bind_continuation resumption_type computation_type)
       (Plain (local_set (many vs)) (set_parameters (many vs) (Plain (branch D) c)))))))
       (goes (emptied σ a) (Gives u) (κ' ++ Handled h (listed vs) ∷ κ))
   tail_kept {Γ} {L} {d} {D} {y} {e} h {i} {u} {vs} {ws} x a κ' k ps c few room deep inside r left_is right_is kept is number local values =
-      let ds = p.declarations in let P = program_of p same in let hf = facts.handlers h i is in let v = local.value in let b = r.continuation in
+      let ds = p.declarations in let P = program_of p matches in let hf = facts.handlers h i is in let v = local.value in let b = r.continuation in
       let woken : Store = with_bound s b k v in
       let caps : Caps = resuming_caps s e' k in
       let X : Locals → Context = in_clause deep ds h i ps below c' e' in
@@ -214,22 +214,22 @@ module _ {p : Script} (same : ℕ → ℕ → Bool) (facts : Facts p.declaration
       let sets : Path P caps (suc (many vs + suc (3 + length i.clauses))) woken (config e ((ε ⧺ ws) ▹ Cont (next_cont s)) code) (spent s b k v) end =
       subst (λ (z : Context). Path P caps (suc (many vs + suc (3 + length i.clauses))) woken (config z ((ε ⧺ ws) ▹ Cont (next_cont s)) code) (spent s b k v) end) (rebase_same deep)
       (set_path P caps woken X around L (ε ⧺ ws) (Cont (next_cont s)) (many vs) (set_parameters (many vs) (Plain (branch D) c)) lt
-      (path_on set.path (tail_back p same s h i ps b k v set.locals below c' e' c is right_is handled deep inside))) in
+      (path_on set.path (tail_back p matches s h i ps b k v set.locals below c' e' c is right_is handled deep inside))) in
       let path : Path P caps steps s (config e (ε ⧺ ws) (Plain (local_get y) (Plain (local_get (local_number Γ x)) (Plain (bind_continuation resumption_type computation_type) code)))) (spent s b k v) end =
       get_path y v locals local.is there
       (get_path (local_number Γ x) (Cont b) locals r.is there
-      (go (bind_step p same s e (ε ⧺ ws) v code b k right_is kept.takes) there' sets)) in
+      (go (bind_step p matches s e (ε ⧺ ws) v code b k right_is kept.takes) there' sets)) in
       let ef = resumed_frames ds h i set.locals below c' e' k v in let eh = resumed_handles ds h i set.locals below c' e' k v in let el = resumed_labels ds h i set.locals below c' e' k v in
       let es = spent_stored s b k v right_is in let long = listed_many vs in let long2 = set.long in
       went (path_wider (omega (arith, ef)) (omega (arith, eh)) (omega arith) path) (omega arith) (omega (arith, el, es, few_clauses, few_values, number, dl, cl))
       (resumed_at stores h is a b r.there left_is right_is kept local.same (omega (arith, room, long1, long2)) (omega (arith, long, number)) set.held waits)
 
-module _ {p : Script} (same : ℕ → ℕ → Bool) (facts : Facts p.declarations) {ρ : List ℕ} {σ : script.Store} {s : Store} (stores : Stores p.declarations ρ σ s) {Γ : Layout} {n D0 : ℕ} {L : Locals} {vars : List Variable} {owner : Option Name} {κ : script.Context} {below : Row Val} {c' : Code} {e' f : Context}
+module _ {p : Script} (matches : ℕ → ℕ → Bool) (facts : Facts p.declarations) {ρ : List ℕ} {σ : script.Store} {s : Store} (stores : Stores p.declarations ρ σ s) {Γ : Layout} {n D0 : ℕ} {L : Locals} {vars : List Variable} {owner : Option Name} {κ : script.Context} {below : Row Val} {c' : Code} {e' f : Context}
     (active : Active ρ Γ n L vars) (base : Base p.declarations Γ L below c' e' owner D0 f) (waits : Waits p.declarations ρ κ below c' e') where
   pub sim_tail : {y : ℕ} (h : Name) {i : Handler} {u : Value} {vs : Values} {ws : Row Val} {D d : ℕ} {e : Context} (x : Name) (v : Variable) (a : ℕ) (entry : Option script.Context)
       → variable_of x vars ≡ Some v → v.ty ≡ Resumption h → v.value ≡ Reference a → kept_at σ a ≡ Some entry → handler_of p.declarations h ≡ Some i → many vs ≡ length i.parameters
       → LocalIs ρ L y u → Sames ρ vs ws → is_own Γ x ≡ true → Deep f d e → D ≡ d + D0 → (c : Code)
-      → Matches p same 52 s (config e (ε ⧺ ws) (tail_code Γ D x y c))
+      → Matches p matches 52 s (config e (ε ⧺ ws) (tail_code Γ D x y c))
       (applies p (record { store = σ; variables = vars; owner = owner; work = []; outer = κ }) (TailResuming x) (listed ((no_values ▸ u) ⧻ vs)))
   sim_tail {y} h {i} {u} {vs} {ws} {D} {d} {e} x v a entry bound_is ty value kept is number local values mine deep inside c =
       let r : ResumptionIn ρ Γ L x h a = resumption_in v ty value (active.holds.each x v bound_is) in
@@ -241,11 +241,11 @@ module _ {p : Script} (same : ℕ → ℕ → Bool) (facts : Facts p.declaration
       let code : ℕ → Code = λ (m : ℕ). Plain (local_get y) (Plain (local_get (local_number Γ x)) (Plain (bind_continuation resumption_type computation_type) (rest m))) in
       let on : script.Context → Step = λ (inner : script.Context). goes (emptied σ a) (Gives u) (inner ++ Handled h (listed vs) ∷ κ) in
       let there : Under (caps_of s (config e (ε ⧺ ws) (code (many vs))) (config e (ε ⧺ ws) (code (many vs)))) s e = under_first s (config e (ε ⧺ ws) (code (many vs))) (config e (ε ⧺ ws) (code (many vs))) in
-      subst (λ (z : Step). Matches p same 52 s (config e (ε ⧺ ws) (tail_code Γ D x y c)) z) (sym (resumes_is σ vars a x v bound_is ty value kept u vs owner [] κ κ))
-      (subst (λ (m : ℕ). Matches p same 52 s (config e (ε ⧺ ws) (code m)) (or_fault Reused entry on)) as_many
-      (by_kept same σ a r.continuation on stores r.there entry kept
+      subst (λ (z : Step). Matches p matches 52 s (config e (ε ⧺ ws) (tail_code Γ D x y c)) z) (sym (resumes_is σ vars a x v bound_is ty value kept u vs owner [] κ κ))
+      (subst (λ (m : ℕ). Matches p matches 52 s (config e (ε ⧺ ws) (code m)) (or_fault Reused entry on)) as_many
+      (by_kept matches σ a r.continuation on stores r.there entry kept
       (λ (z : slice_get s.conts r.continuation ≡ Some None).
       faulted (get_path y local.value locals local.is there (get_path (local_number Γ x) (Cont r.continuation) locals r.is there stay))
-      (consumed_step p same s e ((ε ⧺ ws) ▹ local.value) (rest (many vs)) r.continuation z) refl (omega arith))
+      (consumed_step p matches s e ((ε ⧺ ws) ▹ local.value) (rest (many vs)) r.continuation z) refl (omega arith))
       (λ (κ' : script.Context) (k : Continuation) left_is right_is ka.
-      tail_kept same facts stores waits h x a κ' k q.placed c q.few q.room (subst (λ (z : Context). Deep z d e) q.frame deep) (omega (arith, inside, depth)) r left_is right_is ka is number local values)))
+      tail_kept matches facts stores waits h x a κ' k q.placed c q.few q.room (subst (λ (z : Context). Deep z d e) q.frame deep) (omega (arith, inside, depth)) r left_is right_is ka is number local values)))

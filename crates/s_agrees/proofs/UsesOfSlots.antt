@@ -136,7 +136,7 @@ kept_is (is_kept {b = b} e) = record { continuation = b; is = refl; there = e }
 
 -- ## The steps
 
-module _ {p : Script} (same : ℕ → ℕ → Bool) (facts : Facts p.declarations) {ρ : List ℕ} {σ : script.Store} {s : Store} (stores : Stores p.declarations ρ σ s) {Γ : Layout} {n D0 : ℕ} {L : Locals} {vars : List Variable} {owner : Option Name} {κ : script.Context} {below : Row Val} {c' : Code} {e' f : Context}
+module _ {p : Script} (matches : ℕ → ℕ → Bool) (facts : Facts p.declarations) {ρ : List ℕ} {σ : script.Store} {s : Store} (stores : Stores p.declarations ρ σ s) {Γ : Layout} {n D0 : ℕ} {L : Locals} {vars : List Variable} {owner : Option Name} {κ : script.Context} {below : Row Val} {c' : Code} {e' f : Context}
     (active : Active ρ Γ n L vars) (base : Base p.declarations Γ L below c' e' owner D0 f) (waits : Waits p.declarations ρ κ below c' e')
     (x k : Name) (d : Slots) (is : slots_of p.declarations x ≡ Some d) (local : HasLocal Γ k (Resumption d.handler)) (free : 0 < n) (z : ℤ) (m : ℕ) (bits : m < 2 ^ 64) (reads : signed 64 m ≡ z)
     {D : ℕ} {b : BlockTree} {c : Code} {e : Context} (rest : Rest p.declarations Γ n D0 f D b c e) where
@@ -192,7 +192,7 @@ module _ {p : Script} (same : ℕ → ℕ → Bool) (facts : Facts p.declaration
 
   -- k is the resumption a, whose continuation is i
   module _ (v : Variable) (a i : ℕ) (named : variable_of k vars ≡ Some v) (refers : v.value ≡ Reference a) (at : slice_get ρ a ≡ Some i) (held : slice_get L y ≡ Some (Some (Cont i))) where
-    put_by : (z : ℤ) → PlaceOf many m z → Matches p same 52 s (config e (ε ▹ I64 m) (put_code T many (table_index p.declarations x) y c)) (uses place (ToPut x k) (Number z) b)
+    put_by : (z : ℤ) → PlaceOf many m z → Matches p matches 52 s (config e (ε ▹ I64 m) (put_code T many (table_index p.declarations x) y c)) (uses place (ToPut x k) (Number z) b)
     put_by z (inside lt) =
         let here = in_range slots.contents.places m (let l = places_long in omega (arith, l, lt)) in
         let t = config e (ε ▹ I64 m) (put_code T many (table_index p.declarations x) y c) in
@@ -200,7 +200,7 @@ module _ {p : Script} (same : ℕ → ℕ → Bool) (facts : Facts p.declaration
         let labels = labels_set T (I64 m) e in
         rw (named, refers, slots.found, here.1)
         (went
-        (put_path (program_of p same) (caps_of s t t') s e L locals c T many m (table_index p.declarations x) y slots.table slots.there long few temporary.0 temporary.1 (under_first s t t') lt (Cont i) held apart)
+        (put_path (program_of p matches) (caps_of s t t') s e L locals c T many m (table_index p.declarations x) y slots.table slots.there long few temporary.0 temporary.1 (under_first s t t') lt (Cont i) held apart)
         (omega arith) (omega (arith, labels))
         (record {
           stands = runs (active_kept T (Some (I64 m)) (omega arith) active) (rest_beyond (setting T (I64 m)) rest) (base_set T (I64 m) base) waits;
@@ -208,25 +208,25 @@ module _ {p : Script} (same : ℕ → ℕ → Bool) (facts : Facts p.declaration
         }))
     put_by z (outside le none) =
         let t = config e (ε ▹ I64 m) (put_code T many (table_index p.declarations x) y c) in
-        let q = put_past (program_of p same) (caps_of s t t) s e L locals c T many m (table_index p.declarations x) y slots.table slots.there long few temporary.0 temporary.1 (under_first s t t) le (Cont i) held apart in
+        let q = put_past (program_of p matches) (caps_of s t t) s e L locals c T many m (table_index p.declarations x) y slots.table slots.there long few temporary.0 temporary.1 (under_first s t t) le (Cont i) held apart in
         rw (named, refers, slots.found, none slots.contents.places places_long)
         (faulted q.1 q.2 refl (omega arith))
 
-    pub put_matched : Matches p same 52 s (config e (ε ▹ I64 m) (store_code p.declarations Γ x k c)) (uses place (ToPut x k) (Number z) b)
+    pub put_matched : Matches p matches 52 s (config e (ε ▹ I64 m) (store_code p.declarations Γ x k c)) (uses place (ToPut x k) (Number z) b)
     put_matched =
-        subst (λ (j : ℕ). Matches p same 52 s (config e (ε ▹ I64 m) (put_code T many (table_index p.declarations x) j c)) (uses place (ToPut x k) (Number z) b)) (sym name_number)
+        subst (λ (j : ℕ). Matches p matches 52 s (config e (ε ▹ I64 m) (put_code T many (table_index p.declarations x) j c)) (uses place (ToPut x k) (Number z) b)) (sym name_number)
         (put_by z (place_of many m z few bits reads))
 
   -- ### Taking
 
   -- what stands at the place
   take_there : (q : Option ℕ) → m < many → slice_get slots.contents.places m ≡ Some q
-      → Matches p same 52 s (config e (ε ▹ I64 m) (take_code T many (table_index p.declarations x) y c)) (uses place (ToTake k x) (Number (pos m)) b)
+      → Matches p matches 52 s (config e (ε ▹ I64 m) (take_code T many (table_index p.declarations x) y c)) (uses place (ToTake k x) (Number (pos m)) b)
   take_there None lt held =
       let t = config e (ε ▹ I64 m) (take_code T many (table_index p.declarations x) y c) in
       let w = elements_at slots.elements m None held in
       let null : slice_get slots.table.elements m ≡ Some Null = w.1 ∙ ap (λ (u : Val). Some u) (empty_is w.2) in
-      let q = take_empty (program_of p same) (caps_of s t t) s e L locals c T many m (table_index p.declarations x) y slots.table slots.there long few temporary.0 temporary.1 (under_first s t t) lt null in
+      let q = take_empty (program_of p matches) (caps_of s t t) s e L locals c T many m (table_index p.declarations x) y slots.table slots.there long few temporary.0 temporary.1 (under_first s t t) lt null in
       rw (slots.found, held)
       (faulted q.1 q.2 refl (omega arith))
   take_there (Some a) lt held =
@@ -239,10 +239,10 @@ module _ {p : Script} (same : ℕ → ℕ → Bool) (facts : Facts p.declaration
       let first = labels_set T (I64 m) e in
       let second = labels_set y (Cont i) (with_local T (I64 m) e) in
       rw (slots.found, held)
-      (subst (λ (h : Name). Matches p same 52 s t (goes_on (record place { store = put σ slots.contents (pos m) None; variables = with_variable (variable k (Resumption h) (Reference a)) vars }) (script.Runs b)))
+      (subst (λ (h : Name). Matches p matches 52 s t (goes_on (record place { store = put σ slots.contents (pos m) None; variables = with_variable (variable k (Resumption h) (Reference a)) vars }) (script.Runs b)))
       (sym slots.of_handler)
       (went
-      (take_path (program_of p same) (caps_of s t t') s e L locals c T many m (table_index p.declarations x) y slots.table slots.there long few temporary.0 temporary.1 (under_first s t t') lt i there name_local.0 name_local.1 apart)
+      (take_path (program_of p matches) (caps_of s t t') s e L locals c T many m (table_index p.declarations x) y slots.table slots.there long few temporary.0 temporary.1 (under_first s t t') lt i there name_local.0 name_local.1 apart)
       (omega arith) (omega (arith, first, second))
       (record {
         stands = runs (active_with k (Resumption d.handler) (Reference a) local (reference r.there) (active_kept T (Some (I64 m)) (omega arith) active))
@@ -250,15 +250,15 @@ module _ {p : Script} (same : ℕ → ℕ → Bool) (facts : Facts p.declaration
         stores = stores_changed stores x d is m is_empty;
       })))
 
-  take_by : (z : ℤ) → PlaceOf many m z → Matches p same 52 s (config e (ε ▹ I64 m) (take_code T many (table_index p.declarations x) y c)) (uses place (ToTake k x) (Number z) b)
+  take_by : (z : ℤ) → PlaceOf many m z → Matches p matches 52 s (config e (ε ▹ I64 m) (take_code T many (table_index p.declarations x) y c)) (uses place (ToTake k x) (Number z) b)
   take_by z (inside lt) = let here = in_range slots.contents.places m (let l = places_long in omega (arith, l, lt)) in take_there here.0 lt here.1
   take_by z (outside le none) =
       let t = config e (ε ▹ I64 m) (take_code T many (table_index p.declarations x) y c) in
-      let q = take_past (program_of p same) (caps_of s t t) s e L locals c T many m (table_index p.declarations x) y slots.table slots.there long few temporary.0 temporary.1 (under_first s t t) le in
+      let q = take_past (program_of p matches) (caps_of s t t) s e L locals c T many m (table_index p.declarations x) y slots.table slots.there long few temporary.0 temporary.1 (under_first s t t) le in
       rw (slots.found, none slots.contents.places places_long)
       (faulted q.1 q.2 refl (omega arith))
 
-  pub take_matched : Matches p same 52 s (config e (ε ▹ I64 m) (lowered.take_code p.declarations Γ k x c)) (uses place (ToTake k x) (Number z) b)
+  pub take_matched : Matches p matches 52 s (config e (ε ▹ I64 m) (lowered.take_code p.declarations Γ k x c)) (uses place (ToTake k x) (Number z) b)
   take_matched =
-      subst (λ (j : ℕ). Matches p same 52 s (config e (ε ▹ I64 m) (take_code T many (table_index p.declarations x) j c)) (uses place (ToTake k x) (Number z) b)) (sym name_number)
+      subst (λ (j : ℕ). Matches p matches 52 s (config e (ε ▹ I64 m) (take_code T many (table_index p.declarations x) j c)) (uses place (ToTake k x) (Number z) b)) (sym name_number)
       (take_by z (place_of many m z few bits reads))

@@ -38,7 +38,7 @@ use Rattle.s_agrees.proofs.StandsFor.{config, Same, number, Locals, Active, Well
 use Rattle.s_agrees.proofs.Contexts.{setting, rest_beyond, deep_locals, rest_deep, base_locals, base_set}
 use Rattle.s_agrees.proofs.CountedContexts.{weight, labels_set, deep_labels, base_labels}
 use Rattle.s_agrees.proofs.Paths.{program_of, step, Caps, Under, Path, stay, go, path_wider, set_step}
-use Rattle.s_agrees.proofs.Matches as matches
+use Rattle.s_agrees.proofs.Matches as matching
 use Rattle.s_agrees.proofs.Matches.{caps_of, Matches, went, faulted, under_first, under_last}
 use Rattle.s_agrees.proofs.Numbers.{zero_signed, signed_cast}
 use Rattle.s_agrees.proofs.Facts.{Facts}
@@ -71,11 +71,11 @@ return_step : {ds : List Declaration} {Γ : Layout} {L : Locals} {below : Row Va
 return_step P s ops w c d b = returns_deep s (ops ▹ w) d ∙ returns_base s ops w b
 
 -- the value of an activation that ended, in what is around it
-left_with : {p : Script} {same : ℕ → ℕ → Bool} {ρ : List ℕ} {σ : script.Store} {s : Store} {κ : script.Context} {below : Row Val} {c' : Code} {e' : Context} {z : ℤ} {a : Val} {n : ℕ} {t : Term}
+left_with : {p : Script} {matches : ℕ → ℕ → Bool} {ρ : List ℕ} {σ : script.Store} {s : Store} {κ : script.Context} {below : Row Val} {c' : Code} {e' : Context} {z : ℤ} {a : Val} {n : ℕ} {t : Term}
     → Stores p.declarations ρ σ s → Waits p.declarations ρ κ below c' e' → Same ρ (Number z) a
-    → Path (program_of p same) (caps_of s t (config e' (below ▹ a) c')) n s t s (config e' (below ▹ a) c') → 1 ≤ n → n + weight s (config e' (below ▹ a) c') ≤ 52 + weight s t
-    → Matches p same 52 s t (leaves σ κ (Number z))
-left_with stores outside (number {n = n} h e) path m b = matches.Matches.returns (path_wider (omega arith) (omega arith) (omega arith) path) m refl (sym (signed_cast n h) ∙ e) (omega (arith, b))
+    → Path (program_of p matches) (caps_of s t (config e' (below ▹ a) c')) n s t s (config e' (below ▹ a) c') → 1 ≤ n → n + weight s (config e' (below ▹ a) c') ≤ 52 + weight s t
+    → Matches p matches 52 s t (leaves σ κ (Number z))
+left_with stores outside (number {n = n} h e) path m b = matching.Matches.returns (path_wider (omega arith) (omega arith) (omega arith) path) m refl (sym (signed_cast n h) ∙ e) (omega (arith, b))
 left_with stores (activation a w k u) v path m b = went path m b (record { stands = gives v (activation a w k u); stores = stores })
 left_with stores (handle is room n g u) v path m b = went path m b (record { stands = gives v (handle is room n g u); stores = stores })
 
@@ -100,7 +100,7 @@ out_step P s e again rest c = refl
 
 -- ## The steps
 
-module _ {p : Script} (same : ℕ → ℕ → Bool) (facts : Facts p.declarations) {ρ : List ℕ} {σ : script.Store} {s : Store} (stores : Stores p.declarations ρ σ s) {Γ : Layout} {n D0 : ℕ} {L : Locals} {vars : List Variable} {owner : Option Name} {κ : script.Context} {below : Row Val} {c' : Code} {e' f : Context}
+module _ {p : Script} (matches : ℕ → ℕ → Bool) (facts : Facts p.declarations) {ρ : List ℕ} {σ : script.Store} {s : Store} (stores : Stores p.declarations ρ σ s) {Γ : Layout} {n D0 : ℕ} {L : Locals} {vars : List Variable} {owner : Option Name} {κ : script.Context} {below : Row Val} {c' : Code} {e' f : Context}
     (active : Active ρ Γ n L vars) (base : Base p.declarations Γ L below c' e' owner D0 f) (waits : Waits p.declarations ρ κ below c' e') where
   -- the activation, with no pending work
   abbrev place : Around
@@ -108,24 +108,24 @@ module _ {p : Script} (same : ℕ → ℕ → Bool) (facts : Facts p.declaration
 
   -- let x = z; and x = z;
   sim_store : {D : ℕ} {x : Name} {z : ℤ} {a : Val} {b : BlockTree} {c : Code} {e : Context} → Same ρ (Number z) a → HasLocal Γ x Int → Rest p.declarations Γ n D0 f D b c e
-      → Matches p same 52 s (config e (ε ▹ a) (Plain (local_set (local_number Γ x)) c)) (uses place (ToStore x) (Number z) b)
+      → Matches p matches 52 s (config e (ε ▹ a) (Plain (local_set (local_number Γ x)) c)) (uses place (ToStore x) (Number z) b)
   sim_store {x = x} {z = z} {a = a} {b = b} {c = c} {e = e} v h r =
       let y = h.local.number in
       let old = in_range L y (local_below x Int (Number z) h v active) in
       let locals = deep_locals (rest_deep r).deep ∙ base_locals base in
       let l = labels_set y a e in
-      subst (λ (j : ℕ). Matches p same 52 s (config e (ε ▹ a) (Plain (local_set j) c)) (uses place (ToStore x) (Number z) b)) (sym (ap number_in h.is))
-      (went (go (set_step (program_of p same) s e ε a c y old.0 (ap (λ (w : Locals). slice_get w y) locals ∙ old.1))
+      subst (λ (j : ℕ). Matches p matches 52 s (config e (ε ▹ a) (Plain (local_set j) c)) (uses place (ToStore x) (Number z) b)) (sym (ap number_in h.is))
+      (went (go (set_step (program_of p matches) s e ε a c y old.0 (ap (λ (w : Locals). slice_get w y) locals ∙ old.1))
       (under_last s s (config e (ε ▹ a) (Plain (local_set y) c)) (config (with_local y a e) ε c) (omega arith)) stay) (omega arith) (omega (arith, l))
       (record { stands = runs (active_with x Int (Number z) h v active) (rest_beyond (setting y a) r) (base_set y a base) waits; stores = stores }))
 
   -- print z;
   sim_print : {D : ℕ} {z : ℤ} {a : Val} {b : BlockTree} {c : Code} {e : Context} → Same ρ (Number z) a → Rest p.declarations Γ n D0 f D b c e
-      → Matches p same 52 s (config e (ε ▹ a) (Plain (call printer) c)) (uses place ToPrint (Number z) b)
+      → Matches p matches 52 s (config e (ε ▹ a) (Plain (call printer) c)) (uses place ToPrint (Number z) b)
   sim_print {b = b} {c = c} {e = e} (number {n = m} h q) r =
       let t : Term = config e (ε ▹ I64 m) (Plain (call printer) c) in
-      matches.Matches.prints stay
-      (ap (λ (o : Option FuncEntry). or_stuck o (λ (g : FuncEntry). invoked (program_of p same) s e (ε ▹ I64 m) g (rest_of c)))
+      matching.Matches.prints stay
+      (ap (λ (o : Option FuncEntry). or_stuck o (λ (g : FuncEntry). invoked (program_of p matches) s e (ε ▹ I64 m) g (rest_of c)))
       (ap (λ (l : List FuncEntry). slice_get l 0) stores.functions ∙ printer_first p.declarations)
       ∙ ap (λ (y : ℤ). Went (line y) s (config e ε c)) q)
       (under_first s t t) (omega arith) (record { stands = runs active r base waits; stores = stores })
@@ -133,7 +133,7 @@ module _ {p : Script} (same : ℕ → ℕ → Bool) (facts : Facts p.declaration
   -- if z { x } else { y }, where t tells whether z holds
   sim_choose : {D m : ℕ} {b : BlockTree} {c : Code} {e : Context} (x y : BlockTree) (t : Bool) → nat_eq m 0 ≡ not t
       → WellBlock p.declarations Γ n x → WellBlock p.declarations Γ n y → Rest p.declarations Γ n D0 f D b c e
-      → Matches p same 52 s (config e (ε ▹ I64 m) (if_zero (block p.declarations Γ (D + 1) y Done) (block p.declarations Γ (D + 1) x Done) c)) (goes_on place (Runs ((if t then x else y) ⨟⨟ b)))
+      → Matches p matches 52 s (config e (ε ▹ I64 m) (if_zero (block p.declarations Γ (D + 1) y Done) (block p.declarations Γ (D + 1) x Done) c)) (goes_on place (Runs ((if t then x else y) ⨟⨟ b)))
   sim_choose {D} {m} {b} {c} {e} x y true q v w r =
       let u : Term = config e (ε ▹ I64 m) (if_zero (block p.declarations Γ (D + 1) y Done) (block p.declarations Γ (D + 1) x Done) c) in
       let u' : Term = config (Label ε 0 Done c ∷ e) ε (block p.declarations Γ (D + 1) x Done) in
@@ -148,34 +148,34 @@ module _ {p : Script} (same : ℕ → ℕ → Bool) (facts : Facts p.declaration
   -- while z { y }, whose condition is x
   sim_turn : {D m : ℕ} {b : BlockTree} {c : Code} {e : Context} (x : ExprTree) (y : BlockTree) (t : Bool) → nat_eq m 0 ≡ not t
       → WellExpr p.declarations n 0 x → WellBlock p.declarations Γ n y → Rest p.declarations Γ n D0 f D b c e
-      → Matches p same 52 s (config (Label ε 0 (while_loop p.declarations Γ D x y) Done ∷ Label ε 0 Done c ∷ e) (ε ▹ I64 m) (Plain is_zero (Plain (branch_if 1) (block p.declarations Γ (D + 2) y (Plain (branch 0) Done)))))
+      → Matches p matches 52 s (config (Label ε 0 (while_loop p.declarations Γ D x y) Done ∷ Label ε 0 Done c ∷ e) (ε ▹ I64 m) (Plain is_zero (Plain (branch_if 1) (block p.declarations Γ (D + 2) y (Plain (branch 0) Done)))))
       (goes_on place (Runs (if t then y ⨟⨟ While x y ⨟ b else b)))
   sim_turn {D} {m} {b} {c} {e} x y true q v w r =
       let e1 : Context = Label ε 0 (while_loop p.declarations Γ D x y) Done ∷ Label ε 0 Done c ∷ e in
       let body : Code = block p.declarations Γ (D + 2) y (Plain (branch 0) Done) in
       let u : Term = config e1 (ε ▹ I64 m) (Plain is_zero (Plain (branch_if 1) body)) in
       let under = under_first s u (config e1 ε body) in
-      went (go (zero_step (program_of p same) s e1 m (Plain (branch_if 1) body) false q) under (go refl under stay)) (omega arith) (omega arith)
+      went (go (zero_step (program_of p matches) s e1 m (Plain (branch_if 1) body) false q) under (go refl under stay)) (omega arith) (omega arith)
       (record { stands = runs active (rest_block w (standing.Rest.turns v w r)) base waits; stores = stores })
   sim_turn {D} {m} {b} {c} {e} x y false q v w r =
       let e1 : Context = Label ε 0 (while_loop p.declarations Γ D x y) Done ∷ Label ε 0 Done c ∷ e in
       let body : Code = block p.declarations Γ (D + 2) y (Plain (branch 0) Done) in
       let u : Term = config e1 (ε ▹ I64 m) (Plain is_zero (Plain (branch_if 1) body)) in
-      went (go (zero_step (program_of p same) s e1 m (Plain (branch_if 1) body) true q) (under_first s u (config e ε c))
-      (go (out_step (program_of p same) s e (while_loop p.declarations Γ D x y) body c) (under_last s s u (config e ε c) (omega arith)) stay)) (omega arith) (omega arith)
+      went (go (zero_step (program_of p matches) s e1 m (Plain (branch_if 1) body) true q) (under_first s u (config e ε c))
+      (go (out_step (program_of p matches) s e (while_loop p.declarations Γ D x y) body c) (under_last s s u (config e ε c) (omega arith)) stay)) (omega arith) (omega arith)
       (record { stands = runs active r base waits; stores = stores })
 
   -- return z;
   sim_leave : {d : ℕ} {z : ℤ} {a : Val} {c : Code} {e : Context} → Same ρ (Number z) a → Deep f d e
-      → Matches p same 52 s (config e (ε ▹ a) (Plain leave c)) (leaves σ κ (Number z))
+      → Matches p matches 52 s (config e (ε ▹ a) (Plain leave c)) (leaves σ κ (Number z))
   sim_leave {a = a} {c = c} {e = e} v d =
       let x = deep_labels d in let y = base_labels base in
       left_with stores waits v
-      (go (return_step (program_of p same) s ε a c d base) (under_last s s (config e (ε ▹ a) (Plain leave c)) (config e' (below ▹ a) c') (omega arith)) stay) (omega arith) (omega (arith, x, y))
+      (go (return_step (program_of p matches) s ε a c d base) (under_last s s (config e (ε ▹ a) (Plain leave c)) (config e' (below ▹ a) c') (omega arith)) stay) (omega arith) (omega (arith, x, y))
 
   -- a statement has its value
   pub sim_use : {Ξ : World} {scope scope' : Scope} {u : Use} {z : ℤ} {a : Val} {b : BlockTree} {c : Code} {e : Context} → Same ρ (Number z) a → standing.Uses p.declarations Γ n D0 f u b c e → Covers Ξ scope vars → UseTyped p scope u scope'
-      → Matches p same 52 s (config e (ε ▹ a) c) (uses (record { store = σ; variables = vars; owner = owner; work = []; outer = κ }) u (Number z) b)
+      → Matches p matches 52 s (config e (ε ▹ a) c) (uses (record { store = σ; variables = vars; owner = owner; work = []; outer = κ }) u (Number z) b)
   sim_use v (standing.Uses.sets h r) covers t = sim_store v h r
   sim_use v (standing.Uses.prints r) covers t = sim_print v r
   sim_use v (standing.Uses.drops r) covers t = one_step refl (record { stands = runs active r base waits; stores = stores })
@@ -188,18 +188,18 @@ module _ {p : Script} (same : ℕ → ℕ → Bool) (facts : Facts p.declaration
       let held = active.holds.each k v.variable v.there in
       let at = continued (subst (λ (w : Value). Same ρ w held.held.value) to.is held.held.same) in
       let one : local.local.number ≡ held.local.number = ap number_in (sym local.is ∙ held.is) in
-      put_matched same facts stores active base waits x k d is local free z m h q r v.variable to.address at.continuation v.there to.is at.there
+      put_matched matches facts stores active base waits x k d is local free z m h q r v.variable to.address at.continuation v.there to.is at.there
       (ap (λ (j : ℕ). slice_get L j) one ∙ held.held.is ∙ ap (λ (w : Val). Some (Some w)) at.is)
-  sim_use {z = z} (number {n = m} h q) (standing.Uses.takes {s = x} {k = k} {d = d} is local free r) covers t = take_matched same facts stores active base waits x k d is local free z m h q r
+  sim_use {z = z} (number {n = m} h q) (standing.Uses.takes {s = x} {k = k} {d = d} is local free r) covers t = take_matched matches facts stores active base waits x k d is local free z m h q r
 
   -- fail
-  pub sim_fail : {d : ℕ} {c : Code} {e : Context} → Deep f d e → Matches p same 52 s (config e ε (Plain unreachable c)) (Faults Failed)
+  pub sim_fail : {d : ℕ} {c : Code} {e : Context} → Deep f d e → Matches p matches 52 s (config e ε (Plain unreachable c)) (Faults Failed)
   sim_fail d = faulted stay refl refl (omega arith)
 
   -- a body that runs to its end
-  pub sim_end : Matches p same 52 s (config f ε ending) (leaves σ κ (Number (pos 0)))
+  pub sim_end : Matches p matches 52 s (config f ε ending) (leaves σ κ (Number (pos 0)))
   sim_end =
       let y = base_labels base in
       left_with stores waits (number (omega arith) zero_signed)
       (go refl (under_first s (config f ε ending) (config e' (below ▹ I64 0) c'))
-      (go (return_step (program_of p same) s ε (I64 0) Done here base) (under_last s s (config f ε ending) (config e' (below ▹ I64 0) c') (omega arith)) stay)) (omega arith) (omega (arith, y))
+      (go (return_step (program_of p matches) s ε (I64 0) Done here base) (under_last s s (config f ε ending) (config e' (below ▹ I64 0) c') (omega arith)) stay)) (omega arith) (omega (arith, y))

@@ -32,7 +32,7 @@ use Rattle.s_agrees.proofs.BoundValues.{bind_known, holds_bound, holds_append, h
 use Rattle.s_agrees.proofs.Bodies.{rest_body}
 use Rattle.s_agrees.proofs.Captures.{in_range, Around, in_blocks, set_path}
 
-module _ {p : Script} (same : ℕ → ℕ → Bool) (facts : Facts p.declarations) {ρ : List ℕ} {σ : script.Store} {s : Store} (stores : Stores p.declarations ρ σ s)
+module _ {p : Script} (matches : ℕ → ℕ → Bool) (facts : Facts p.declarations) {ρ : List ℕ} {σ : script.Store} {s : Store} (stores : Stores p.declarations ρ σ s)
     (h : Name) {i : Handler} {L : Locals} {ps : List Value} {κ : script.Context} {below : Row Val} {c : Code} {e : Context} (is : handler_of p.declarations h ≡ Some i) (room : handler_room p.declarations h i ≤ length L)
     (long : length ps ≡ length i.parameters) (held : Held ρ L ps) (waits : Waits p.declarations ρ κ below c e) {z : ℤ} {a : Val} (value : Same ρ (Number z) a) where
   of_return : ReturnFacts p.declarations h i
@@ -91,14 +91,14 @@ module _ {p : Script} (same : ℕ → ℕ → Bool) (facts : Facts p.declaration
   clause_term = config (frame_with locals_then) ε clause_code
 
   -- the handle is left, and the value is set
-  return_path : Path (program_of p same) (caps_of s handle_term clause_term) 2 s handle_term s clause_term
+  return_path : Path (program_of p matches) (caps_of s handle_term clause_term) 2 s handle_term s clause_term
   return_path =
       let x = clauses_frames p.declarations (placed_clauses p.declarations h i) (in_loop p.declarations h i L below c e) in
       let y = clauses_handles p.declarations (placed_clauses p.declarations h i) (in_loop p.declarations h i L below c e) in
       let around : Around (caps_of s handle_term clause_term) s frame_with = in_blocks p.declarations h i (placed_clauses p.declarations h i) below c e (omega (arith, x)) (omega (arith, y)) (omega arith) in
       go refl (around.under L)
-      (subst (λ (n : ℕ). Path (program_of p same) (caps_of s handle_term clause_term) 1 s (config (frame_with L) (ε ▹ a) (Plain (local_set n) clause_code)) s clause_term) (sym (ap number_in of_return.value))
-      (set_path (program_of p same) (caps_of s handle_term clause_term) s frame_with around L ε a place clause_code place_below stay))
+      (subst (λ (n : ℕ). Path (program_of p matches) (caps_of s handle_term clause_term) 1 s (config (frame_with L) (ε ▹ a) (Plain (local_set n) clause_code)) s clause_term) (sym (ap number_in of_return.value))
+      (set_path (program_of p matches) (caps_of s handle_term clause_term) s frame_with around L ε a place clause_code place_below stay))
 
   -- no label is added
   return_weight : 2 + weight s clause_term ≤ 52 + weight s handle_term
@@ -107,7 +107,7 @@ module _ {p : Script} (same : ℕ → ℕ → Bool) (facts : Facts p.declaration
       let y = clauses_labels p.declarations (placed_clauses p.declarations h i) (in_loop p.declarations h i locals_then below c e) in omega (arith, x, y)
 
   -- where the parameters are bound
-  return_bound : {params : List Variable} → bind i.parameters ps ≡ Some params → Matches p same 52 s handle_term (enters σ i.return_clause.body (params ++ result ∷ []) (Some h) κ)
+  return_bound : {params : List Variable} → bind i.parameters ps ≡ Some params → Matches p matches 52 s handle_term (enters σ i.return_clause.body (params ++ result ∷ []) (Some h) κ)
   return_bound q =
       let few = (facts.handlers h i is).few_clauses in let n = many_placed p.declarations h i in let l = length_set L place (Some a) in
       went return_path (omega arith) return_weight (record {
@@ -116,11 +116,11 @@ module _ {p : Script} (same : ℕ → ℕ → Bool) (facts : Facts p.declaration
       })
 
   -- a value at a handle
-  pub sim_return : Matches p same 52 s
+  pub sim_return : Matches p matches 52 s
       (config (Handle ε (clause_answers p.declarations 0 i.clauses) (return_code p.declarations (return_layout p.declarations h i) (length i.clauses) i) ∷ clause_labels p.declarations (placed_clauses p.declarations h i) (in_loop p.declarations h i L below c e)) (ε ▹ a) Done)
       (step_at p σ (Gives (Number z)) (Handled h ps ∷ κ))
   sim_return =
       let b = bind_known i.parameters ps (sym long) in
-      subst (λ (o : Option Handler). Matches p same 52 s handle_term (or_wrong o (λ (g : Handler). or_wrong (bind g.parameters ps) (λ (params : List Variable).
+      subst (λ (o : Option Handler). Matches p matches 52 s handle_term (or_wrong o (λ (g : Handler). or_wrong (bind g.parameters ps) (λ (params : List Variable).
       enters σ g.return_clause.body (params ++ record { name = g.return_clause.value; ty = Int; value = Number z } ∷ []) (Some h) κ)))) (sym is)
-      (subst (λ (o : Option (List Variable)). Matches p same 52 s handle_term (or_wrong o (λ (params : List Variable). enters σ i.return_clause.body (params ++ result ∷ []) (Some h) κ))) (sym b.1) (return_bound b.1))
+      (subst (λ (o : Option (List Variable)). Matches p matches 52 s handle_term (or_wrong o (λ (params : List Variable). enters σ i.return_clause.body (params ++ result ∷ []) (Some h) κ))) (sym b.1) (return_bound b.1))

@@ -42,7 +42,7 @@ reduced_to ds (Ended vs) = Over (end_of_values vs)
 reduced_to ds Stuck = Over None
 
 abbrev pub reduce : Script → (ℕ → ℕ → Bool) → Config → steps.Reduced ℤ Fault eval.RunLimit Config
-reduce p same x = reduced_to p.declarations (machine.reduce (program_of p same) x.store x.term)
+reduce p matches x = reduced_to p.declarations (machine.reduce (program_of p matches) x.store x.term)
 
 abbrev pub at : Store → Term → Config
 at s t = record { store = s; term = t }
@@ -69,28 +69,28 @@ first_beyond k s e u true true false x y z name q =
 first_beyond k s e u true true true x y z name q = absurd (cc)
 
 -- either a reduction goes on, or a limit is met
-pub data Went_on (p : Script) (same : ℕ → ℕ → Bool) (k : Caps) (x : Config) (o : List ℕ) (y : Config) : Type 0 where
-  goes_on : reduce p same x ≡ steps.Went o y → Went_on p same k x o y
-  stopped : (l : eval.RunLimit) → reduce p same x ≡ Stops (Some (Limit l)) → Beyond k l → Went_on p same k x o y
+pub data Went_on (p : Script) (matches : ℕ → ℕ → Bool) (k : Caps) (x : Config) (o : List ℕ) (y : Config) : Type 0 where
+  goes_on : reduce p matches x ≡ steps.Went o y → Went_on p matches k x o y
+  stopped : (l : eval.RunLimit) → reduce p matches x ≡ Stops (Some (Limit l)) → Beyond k l → Went_on p matches k x o y
 
-pub one : (p : Script) (same : ℕ → ℕ → Bool) (k : Caps) (s s' : Store) (t t' : Term) (o : List ℕ) → paths.step (program_of p same) s t ≡ Went o s' t' → Under k s' t'.around → Went_on p same k (at s t) o (at s' t')
-one p same k s s' t t' o e u = by (passed s' t'.around) refl
+pub one : (p : Script) (matches : ℕ → ℕ → Bool) (k : Caps) (s s' : Store) (t t' : Term) (o : List ℕ) → paths.step (program_of p matches) s t ≡ Went o s' t' → Under k s' t'.around → Went_on p matches k (at s t) o (at s' t')
+one p matches k s s' t t' o e u = by (passed s' t'.around) refl
   where
-    by : (l : Option RunLimit) → passed s' t'.around ≡ l → Went_on p same k (at s t) o (at s' t')
+    by : (l : Option RunLimit) → passed s' t'.around ≡ l → Went_on p matches k (at s t) o (at s' t')
     by None q = goes_on (rw (e, q) refl)
     by (Some name) q = stopped (limit_of name) (rw (e, q) refl)
         (first_beyond k s' t'.around u (nat_le (frames t'.around) most_frames) (nat_le (handles t'.around) most_handles) (nat_le (live s') most_conts) refl refl refl name q)
 
 -- reductions, of which one may meet a limit
-pub data Walked (p : Script) (same : ℕ → ℕ → Bool) (k : Caps) (n : ℕ) (x y : Config) : Type 0 where
-  all : Reductions (reduce p same) x [] n y → Walked p same k n x y
-  part : (l : eval.RunLimit) (j : ℕ) (z : Config) → j < n → Reductions (reduce p same) x [] j z → reduce p same z ≡ Stops (Some (Limit l)) → Beyond k l → Walked p same k n x y
+pub data Walked (p : Script) (matches : ℕ → ℕ → Bool) (k : Caps) (n : ℕ) (x y : Config) : Type 0 where
+  all : Reductions (reduce p matches) x [] n y → Walked p matches k n x y
+  part : (l : eval.RunLimit) (j : ℕ) (z : Config) → j < n → Reductions (reduce p matches) x [] j z → reduce p matches z ≡ Stops (Some (Limit l)) → Beyond k l → Walked p matches k n x y
 
-pub walked : (p : Script) (same : ℕ → ℕ → Bool) {k : Caps} {n : ℕ} {s s' : Store} {t t' : Term} → Path (program_of p same) k n s t s' t' → Walked p same k n (at s t) (at s' t')
-walked p same stay = all steps.none
-walked p same {k} {s = s} {s' = s''} {t = t} {t' = t''} (go {n = n} {s' = s'} {t' = t'} e u q) = by (one p same k s s' t t' [] e u) (walked p same q)
+pub walked : (p : Script) (matches : ℕ → ℕ → Bool) {k : Caps} {n : ℕ} {s s' : Store} {t t' : Term} → Path (program_of p matches) k n s t s' t' → Walked p matches k n (at s t) (at s' t')
+walked p matches stay = all steps.none
+walked p matches {k} {s = s} {s' = s''} {t = t} {t' = t''} (go {n = n} {s' = s'} {t' = t'} e u q) = by (one p matches k s s' t t' [] e u) (walked p matches q)
   where
-    by : Went_on p same k (at s t) [] (at s' t') → Walked p same k n (at s' t') (at s'' t'') → Walked p same k (suc n) (at s t) (at s'' t'')
+    by : Went_on p matches k (at s t) [] (at s' t') → Walked p matches k n (at s' t') (at s'' t'') → Walked p matches k (suc n) (at s t) (at s'' t'')
     by (stopped l h b) w = part l 0 (at s t) (omega arith) steps.none h b
     by (goes_on h) (all r) = all (steps.silent h r)
     by (goes_on h) (part l j z lt r f b) = part l (suc j) z (omega (arith, lt)) (steps.silent h r) f b
@@ -123,7 +123,7 @@ either_max n a b h = elim (cases_lt n a) [
   | inr x ↦ inr (omega (arith, x, h))
 ]
 
-module _ (p : Script) (same : ℕ → ℕ → Bool) {ρ : List ℕ} {σ : Configuration} {s : Store} {t : Term} (from : At p.declarations ρ σ s t) where
+module _ (p : Script) (matches : ℕ → ℕ → Bool) {ρ : List ℕ} {σ : Configuration} {s : Store} {t : Term} (from : At p.declarations ρ σ s t) where
   -- caps of one configuration
   pub passes_here : (l : eval.RunLimit) → Beyond (caps_of s t t) l → Passes l σ
   passes_here Frames (frames_beyond h) = let q = (stands_counted from.stands).frames in omega (arith, q, h)

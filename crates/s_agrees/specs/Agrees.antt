@@ -80,7 +80,7 @@ RunFollows p program =
     (e : Ended) × (end_of p.declarations r.outcome ≡ Some e) × Follows p N r.output e
 
 -- What the compiler promises of a script and its module: the module's canonical spelling is one, and a file has room for it; the module is
--- valid and within its limits; and its runs begin and follow the script, whatever tells which types are equivalent.
+-- valid and within its limits; and its runs begin and follow the script, whatever tells which types match which.
 pub record Agrees (p : Script) (m : Module) : Type 0 where
   pub spelled : Spells (Canon m) m
   pub short : length (Canon m) ≤ 16777216

@@ -15,6 +15,7 @@ use Rattle.w_syntax.specs.declared.module.ElemMode.TheVariants as mode
 use Rattle.w_syntax.specs.declared.module.Func.{Func}
 use Rattle.w_syntax.specs.declared.module.Module.{Module}
 use Rattle.w_syntax.specs.Items.{reference_to}
+use Rattle.w_syntax.specs.Types.{alone_of}
 use Rattle.s_syntax.specs.declared.name.Name.{Name}
 use Rattle.s_syntax.specs.declared.script.Function.{Function}
 use Rattle.s_syntax.specs.declared.script.Handler.{Handler}
@@ -93,8 +94,9 @@ for_each make (d ∷ ds) = make d ++ for_each make ds
 
 -- ## The module
 
+-- each type is final, without supertypes, in a group of its own
 abbrev pub group : CompType → RecGroup
-group t = record { types = t ∷ [] }
+group t = record { types = alone_of t ∷ [] }
 
 abbrev pub printer_import : Import
 printer_import = record { module_name = codes "host"; item_name = codes "print_i64"; kind = extern.Func printer_type }

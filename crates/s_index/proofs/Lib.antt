@@ -1,4 +1,4 @@
 mod CountedDeclarations
-mod Entries
+pub mod Entries
 mod Lengths
 mod SameTypes

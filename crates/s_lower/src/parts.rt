@@ -16,14 +16,14 @@ use w_syntax::{
     Elem, ElemMode, Export, ExternIndex, ExternType, Func, Import, Items, Limits, Name, Table,
     TableType, Tag,
 };
-use w_types::{CompType, HeapType, RecGroup, RecGroups, RefType};
+use w_types::{CompType, HeapType, RecGroup, RecGroups, RefType, SubType};
 
-// Puts this type in a group of its own behind the others.
+// Puts this type, final and without supertypes, in a group of its own behind the others.
 fn push_group(alloc: Global, ty: CompType, groups: &mut Vec<RecGroup>) -> Result<(), AllocError>
     ensures value { OnOk result (groups.new.items ≡ groups.old.items ++ group ty ∷ []) }
 {
     let mut types = ListOf::new(alloc);
-    types.push(ty)?;
+    types.push(SubType::alone(alloc, ty))?;
     groups.push(RecGroup { types })?;
     Ok(())
 }

@@ -10,13 +10,15 @@ use Rattle.s_meaning.specs.Focus.{variable_of}
 use Rattle.s_meaning.specs.Steps.{with_variable, stored}
 use Rattle.s_meaning.specs.Typed.{World, HasKind, int, Variable_typed, Covers, Keeps}
 
-variable_with : (v : Variable) (vs : List Variable) → variable_of v.name (with_variable v vs) ≡ Some v
+-- it is there, by its name
+pub variable_with : (v : Variable) (vs : List Variable) → variable_of v.name (with_variable v vs) ≡ Some v
 variable_with v [] = ap (λ (b : Bool). if b then Some v else None) (same_refl v.name)
 variable_with v (u ∷ vs) = bool_of (bytes_eq u.name v.name) (λ b. variable_of v.name (if b then v ∷ vs else (u ∷ with_variable v vs)) ≡ Some v)
     (λ q. ap (λ (b : Bool). if b then Some v else variable_of v.name vs) (same_refl v.name))
     (λ q. ap (λ (b : Bool). if b then Some u else variable_of v.name (with_variable v vs)) q ∙ variable_with v vs)
 
-variable_other : (v : Variable) (vs : List Variable) (y : Name) → bytes_eq v.name y ≡ false → variable_of y (with_variable v vs) ≡ variable_of y vs
+-- variables of other names are as before
+pub variable_other : (v : Variable) (vs : List Variable) (y : Name) → bytes_eq v.name y ≡ false → variable_of y (with_variable v vs) ≡ variable_of y vs
 variable_other v [] y other = ap (λ (b : Bool). if b then Some v else None) other
 variable_other v (u ∷ vs) y other = bool_of (bytes_eq u.name v.name) (λ b. variable_of y (if b then v ∷ vs else (u ∷ with_variable v vs)) ≡ variable_of y (u ∷ vs))
     (λ q. ap (λ (b : Bool). if b then Some v else variable_of y vs) other

@@ -55,6 +55,7 @@ pub record Scoped (ds : List Declaration) (L : Layout) (Γ : Scope) (n D : ℕ) 
 
 pub offers_inside : (ds : List Declaration) (C : Context) (ts : Row ValType) → Offers ds C → Offers ds (labelled C ts)
 offers_inside ds C ts o = record {
+  keeps = o.keeps;
   resumption = o.resumption;
   resumed = o.resumed;
   computation = o.computation;
@@ -72,6 +73,7 @@ offers_inside ds C ts o = record {
 -- in a body too
 pub offers_in_body : (ds : List Declaration) (C : Context) (ls us : List ValType) → Offers ds C → Offers ds (in_body C ls us)
 offers_in_body ds C ls us o = record {
+  keeps = o.keeps;
   resumption = o.resumption;
   resumed = o.resumed;
   computation = o.computation;

@@ -35,7 +35,7 @@ use Rattle.s_valid.specs.Offers.{arrow, OffersHandled, Offers}
 use Rattle.s_valid.proofs.HandledNames.{handled_stands, continuation_there, handled_declared}
 use Rattle.s_valid.proofs.MadeOnce.{IsThere, here, behind, adds}
 use Rattle.s_valid.proofs.NumbersInModules.{get_left, get_right, Found, found, all_made}
-use Rattle.s_valid.proofs.TypeTable.{is_function, is_handler, types_among, in_function_types, in_table, type_there, func_there, first_type, clause_among}
+use Rattle.s_valid.proofs.TypeTable.{kinds_kept, is_function, is_handler, types_among, in_function_types, in_table, type_there, func_there, first_type, clause_among}
 
 -- ## What declarations add, and what is counted
 
@@ -233,6 +233,7 @@ pub offers_all : (ds : List Declaration) → Offers ds (context_of (lowered_all 
 offers_all ds =
     let C = context_of (lowered_all ds) in
     record {
+      keeps = kinds_kept (type_table ds);
       resumption = first_type (Cont 0) ds C refl (omega arith);
       resumed = ap function_type_in (first_type (from_to (I64 ∷ []) (I64 ∷ [])) ds C refl (omega arith));
       computation = first_type (Cont 2) ds C refl (omega arith);

@@ -18,6 +18,7 @@ use Rattle.w_syntax.specs.declared.numeric.Relop.{Relop}
 use Rattle.w_canon.specs.Relations.{Pairwise}
 use Rattle.w_canon.specs.Relations as pairs
 use Rattle.w_canon.specs.Matching.{ResultMatches, ref}
+use Rattle.w_canon.specs.Supertypes.{KeepsKinds}
 use Rattle.w_canon.proofs.Preorder.{heap_refl, result_refl}
 use Rattle.w_rules.specs.Operands.{Operand}
 use Rattle.w_rules.specs.Operands.{Known}
@@ -109,8 +110,8 @@ module _ {C : Context} {us : Row Operand} where
   }
 
   -- what is typed for a row is typed for one that matches it
-  pub less_typed : {ts ts' : Row Operand} {c : Code} → RowMatches C.types ts' ts → Rest C c ts us → Rest C c ts' us
-  less_typed {ts} {ts'} {c} m r = record { typed = λ s all. derives_left C s c ts' ts us m (r.typed s all) }
+  pub less_typed : KeepsKinds C.types → {ts ts' : Row Operand} {c : Code} → RowMatches C.types ts' ts → Rest C c ts us → Rest C c ts' us
+  less_typed keeps {ts} {ts'} {c} m r = record { typed = λ s all. derives_left C keeps s c ts' ts us m (r.typed s all) }
 
   pub constant_typed : {vs : Row Operand} {c : Code} (z : ℤ) → Rest C c (vs ▹ Known I64) us → Rest C (Plain (constant z) c) vs us
   constant_typed {vs} {c} z r = instr_typed (constant z) ε (ε ▹ I64) vs c tt (λ s all. refl) (λ s all. all) r

@@ -59,7 +59,7 @@ main_found ds g e none =
     ∙ ap (λ (ps : List Parameter). entry_at i (Some (arrow (val_types ps) (I64 ∷ [])))) none
 
 abbrev program : List Declaration → (ℕ → ℕ → Bool) → Program
-program ds same = record { source = lowered_all ds; same = same }
+program ds matches = record { source = lowered_all ds; matches = matches }
 
 -- the segment is dropped, where there is one
 segments_started : (ds : List Declaration) (p : Program) (s : Store) (hs : List Declaration)
@@ -97,11 +97,11 @@ tables_small (e ∷ es) few = by e.definition (few 0 e refl) (tables_small es (�
 none_exceeded : (p : Script) → Good p → exceeded (lowered p) ≡ None
 none_exceeded p good = ap (λ (b : Bool). if b then None else Some limit.Table) (tables_small p.declarations (small p good))
 
-started : (script : Script) → Good script → (same : ℕ → ℕ → Bool) (g : Function) → function_of script.declarations (codes "main") ≡ Some g → g.parameters ≡ []
-    → Start (program script.declarations same) ≡ Ready (first_store script.declarations) (first_term script.declarations)
-started script good same g e none =
+started : (script : Script) → Good script → (matches : ℕ → ℕ → Bool) (g : Function) → function_of script.declarations (codes "main") ≡ Some g → g.parameters ≡ []
+    → Start (program script.declarations matches) ≡ Ready (first_store script.declarations) (first_term script.declarations)
+started script good matches g e none =
     let ds = script.declarations in
-    let p = program ds same in
+    let p = program ds matches in
     let main = function_index ds (codes "main") in
     let raw = with_tables p (bare (lowered_all ds) (printer.I64 ∷ [])) in
     let segments = map (λ (e : Elem). map (value_of p raw) e.items) (lowered_all ds).elements in
@@ -116,8 +116,8 @@ started script good same g e none =
 pub starts : (p : Script) → Good p → (P : Program) → P.source ≡ lowered p → Start P ≡ Ready (first_store p.declarations) (first_term p.declarations)
 starts p good P is =
     let g = (good_typed p good).entry in
-    ap (λ (m : Module). Start (record { source = m; same = P.same })) is
-    ∙ started p good P.same g.0 g.1 g.2
+    ap (λ (m : Module). Start (record { source = m; matches = P.matches })) is
+    ∙ started p good P.matches g.0 g.1 g.2
 
 -- no continuation is made at first
 pub none_made : (ds : List Declaration) → (made (first_store ds) ≡ 0) × (live (first_store ds) ≡ 0)

@@ -6,8 +6,11 @@ use Rattle.w_types.specs.declared.types.CompType.{CompType}
 use Rattle.w_types.specs.declared.types.CompType.TheVariants.{Func}
 use Rattle.w_types.specs.declared.types.FuncType.{FuncType}
 use Rattle.w_types.specs.declared.types.RecGroup.{RecGroup}
-use Rattle.w_types.specs.Groups.{types_of}
+use Rattle.w_types.specs.declared.types.SubType.{SubType}
+use Rattle.w_types.specs.Groups.{subtypes_of, types_of}
 use Rattle.w_syntax.specs.Functions.{function_type as function_type_in}
+use Rattle.w_syntax.specs.Types.{alone_of}
+use Rattle.w_canon.specs.Supertypes.{KeepsKinds}
 use Rattle.w_rules.specs.Context.{Context, type_of, func_of}
 use Rattle.s_syntax.specs.declared.name.Name.{Name}
 use Rattle.s_syntax.specs.declared.script.Function.{Function}
@@ -25,9 +28,20 @@ use Rattle.s_valid.proofs.MadeOnce.{IsThere, stands, here, there_left, there_rig
 
 -- the types of groups of one each
 pub types_of_groups : (ts : List CompType) → types_of (map group ts) ≡ ts
-unfolding types_of
+unfolding subtypes_of
 types_of_groups [] = refl
 types_of_groups (t ∷ ts) = ap (λ (us : List CompType). t ∷ us) (types_of_groups ts)
+
+-- none of them has supertypes
+no_supertypes : (ts : List CompType) (i : ℕ) (t : SubType) → slice_get (subtypes_of (map group ts)) i ≡ Some t → t.supertypes ≡ []
+unfolding subtypes_of
+no_supertypes [] i t e = absurd (cc)
+no_supertypes (u ∷ ts) zero t e = let same : alone_of u ≡ t = cc in ap (λ (s : SubType). s.supertypes) (sym same)
+no_supertypes (u ∷ ts) (suc i) t e = no_supertypes ts i t e
+
+-- so each supertype is of its subtypes' kind
+pub kinds_kept : (ts : List CompType) → KeepsKinds (map group ts)
+kinds_kept ts x z h = let none : h.type.supertypes ≡ [] = no_supertypes ts x h.type h.is in let one = h.alone in absurd (cc)
 
 -- ## Declarations
 

@@ -123,7 +123,7 @@ module _ {p : Script} {L : Layout} {Γ : Scope} {n D : ℕ} {C : Context} (s : S
       name_typed k (Resumption h) e
       (bind_typed vs resumption_type (I64 ∷ []) (ap (λ (t : Option CompType). func_at C (index_in_cont t)) o.resumption ∙ o.resumed)
       (ap (λ (t : Option CompType). func_at C (index_in_cont t)) o.computation ∙ o.computed)
-      (less_typed (weaker C vs computation_type) r))
+      (less_typed o.keeps (weaker C vs computation_type) r))
 
   -- a function that is given its arguments
   begin_typed : (vs : Row Operand) {us : Row Operand} {c : Code} (f : Name) (g : Function) → function_of p.declarations f ≡ Some g → is_among (handled_names p.declarations) f ≡ true
@@ -132,12 +132,12 @@ module _ {p : Script} {L : Layout} {Γ : Scope} {n D : ℕ} {C : Context} (s : S
       let o = s.offers in let q = o.handled f g is among in
       let ts = val_types g.parameters in let y = continuation_index p.declarations f in
       reference_typed (function_index p.declarations f) q.index q.function q.declared
-      (less_typed (weaker C (vs ⧺ known (row_of ts)) q.index)
+      (less_typed o.keeps (weaker C (vs ⧺ known (row_of ts)) q.index)
       (new_typed y q.index q.continuation
-      (less_typed (weaker C (vs ⧺ known (row_of ts)) y)
+      (less_typed o.keeps (weaker C (vs ⧺ known (row_of ts)) y)
       (bind_typed vs y ts (ap (λ (t : Option CompType). func_at C (index_in_cont t)) q.continuation ∙ q.type)
       (ap (λ (t : Option CompType). func_at C (index_in_cont t)) o.computation ∙ o.computed)
-      (less_typed (weaker C vs computation_type) r)))))
+      (less_typed o.keeps (weaker C vs computation_type) r)))))
 
   -- the function of a handler, which takes its parameters and a computation
   under_handler : (vs : Row Operand) {us : Row Operand} {c : Code} (h : Name) (i : Handler) → handler_of p.declarations h ≡ Some i → Rest C c (vs ▹ Known I64) us

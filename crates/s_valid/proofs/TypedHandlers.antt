@@ -132,7 +132,7 @@ clause_typed {p} {n} {D} {C} {us} h i q s typed lets high handled k ints =
     let set : Rest C code (pushed ε (numbers m) ▹ Known (nullable resumption_type)) us =
     set_typed (local_number L q.clause.resumption) (local_typed s q.clause.resumption (Resumption h) k) inner in
     subst P (sym (row_of-more (numbers m) (to_continuation false resumption_type)))
-    (less_typed (weaker C (ε ⧺ known (row_of (numbers m))) resumption_type) (subst Q (pushed_row ε (numbers m)) set))
+    (less_typed s.offers.keeps (weaker C (ε ⧺ known (row_of (numbers m))) resumption_type) (subst Q (pushed_row ε (numbers m)) set))
 
 -- ## Handlers
 

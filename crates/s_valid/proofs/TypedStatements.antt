@@ -153,7 +153,7 @@ module _ {p : Script} {L : Layout} {n : ℕ} where
       place_typed (places_of p.declarations x) s free
       (table_get_typed {vs = ε} (table_index p.declarations x) (s.offers.slots x d is)
       (checked_typed {vs = ε} resumption_type
-      (less_typed (weaker C ε resumption_type)
+      (less_typed s.offers.keeps (weaker C ε resumption_type)
       (set_typed {vs = ε} (local_number L k) (local_typed s k (Resumption d.handler) named)
       (get_typed L.temporaries (temporary s free)
       (wrap_typed {vs = ε}

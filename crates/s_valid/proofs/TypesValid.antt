@@ -1,7 +1,6 @@
 -- Each type of the module of a script is valid.
 use Rattle.std.proofs.Common.{◌≡◌, ◌⊎◌, inl, inr, ℕ, zero, suc, ◌+◌, ◌<◌, ◌≤◌, Bool, true, false, List, [], ◌∷◌, ◌++◌, map, length, Option, Some, None, if◌then◌else◌, refl, sym, ap, ◌∙◌, subst, arith, get_or, length-append}
 use Rattle.std.specs.Prelude.{nat_lt, slice_get, option_map, All}
-use Rattle.std.specs.Str.{bytes_eq}
 use Rattle.std.proofs.lemmas.Bool.{ltb-true, lt-ltb}
 use Rattle.std.proofs.lemmas.List.Elements.{All-nil, All-cons, All-append}
 use Rattle.w_types.specs.declared.types.HeapType.{HeapType}
@@ -11,6 +10,7 @@ use Rattle.w_types.specs.declared.types.ValType.TheVariants as val
 use Rattle.w_types.specs.declared.types.CompType.{CompType}
 use Rattle.w_types.specs.declared.types.CompType.TheVariants.{Func, Cont}
 use Rattle.w_types.specs.Groups.{types_of}
+use Rattle.w_syntax.specs.Types.{alone_of}
 use Rattle.w_rules.specs.Types.{IsValidHeap, IsValidType, IsValidCompType, with_ends}
 use Rattle.w_rules.specs.Valid.{TypeValid}
 use Rattle.s_syntax.specs.declared.name.Name.{Name}
@@ -22,11 +22,11 @@ use Rattle.s_syntax.specs.declared.script.Definition.{Definition}
 use Rattle.s_syntax.specs.declared.script.Definition.TheVariants as definition
 use Rattle.s_syntax.specs.declared.script.Declaration.{Declaration}
 use Rattle.s_check.specs.Definitions.{definition_of}
-use Rattle.s_index.specs.declared.counts.Counts.{Counts}
 use Rattle.s_index.specs.Types.{place, with_type, with_types, first_types, from_to, function_type, handler_type, effect_type, clause_type, clause_types, types_for, types_for_all, val_type, val_types, numbers, to_continuation, resumption_type, computation_type}
 use Rattle.s_index.specs.Indices.{function_types, type_table, parameters_of, continuation_of, continuations}
 use Rattle.s_index.specs.Handled.{handled}
-use Rattle.s_index.specs.Numbers.{Entry, no_counts, counted, number_behind, entry_behind, entry_of, parameters_in}
+use Rattle.s_index.specs.Numbers.{Entry, no_counts, entry_of, parameters_in}
+use Rattle.s_index.proofs.Entries.{entry_defines}
 use Rattle.s_code.specs.Lowered.{group, lowered_all}
 use Rattle.s_valid.proofs.MadeOnce.{IsThere, stands, here, behind, there_cases, there_either, keeps}
 use Rattle.s_valid.proofs.NumbersInModules.{get_left}
@@ -154,16 +154,6 @@ functions_sound ds = sound_more first_types (types_for_all ds) first_sound (all_
 
 -- ## Continuations
 
--- the entry of a name is of its definition
-entry_defines : (n : Counts) (ds : List Declaration) (x : Name) → option_map (λ (e : Entry). e.definition) (entry_behind n ds x) ≡ definition_of ds x
-entry_defines n [] x = refl
-entry_defines n (d ∷ ds) x = by (bytes_eq d.name x) (entry_defines (counted n d.definition) ds x)
-  where
-    by : (b : Bool) → option_map (λ (e : Entry). e.definition) (entry_behind (counted n d.definition) ds x) ≡ definition_of ds x
-        → option_map (λ (e : Entry). e.definition) (if b then Some (record { definition = d.definition; number = number_behind n d.definition }) else entry_behind (counted n d.definition) ds x) ≡ (if b then Some d.definition else definition_of ds x)
-    by true rest = refl
-    by false rest = rest
-
 -- a function without parameters has the type of computations
 none_there : (ds : List Declaration) → IsThere (function_type []) (function_types ds)
 none_there ds = (keeps (from_to [] (val.I64 ∷ [])) first_types (types_for_all ds) (omega arith)).1
@@ -195,10 +185,10 @@ table_sound ds = sound_more (function_types ds) (continuations ds (handled ds)) 
 
 -- ## In the module
 
-end_at : (ts : List CompType) (k i n : ℕ) (t : CompType) → n ≡ k + i + 1 → slice_get ts i ≡ Some t → slice_get (with_ends k (map group ts)) i ≡ Some (n, t)
+end_at : (ts : List CompType) (k i n : ℕ) (t : CompType) → n ≡ k + i + 1 → slice_get ts i ≡ Some t → slice_get (with_ends k (map group ts)) i ≡ Some (n, alone_of t)
 unfolding with_ends
 end_at [] k i n t is e = absurd (cc)
-end_at (u ∷ ts) k zero n t is e = let same : u ≡ t = cc in let end : k + 1 ≡ n = omega (arith, is) in ap (λ (v : CompType). Some (k + 1, v)) same ∙ ap (λ (m : ℕ). Some (m, t)) end
+end_at (u ∷ ts) k zero n t is e = let same : u ≡ t = cc in let end : k + 1 ≡ n = omega (arith, is) in ap (λ (v : CompType). Some (k + 1, alone_of v)) same ∙ ap (λ (m : ℕ). Some (m, alone_of t)) end
 end_at (u ∷ ts) k (suc i) n t is e = end_at ts (k + 1) i n t (omega (arith, is)) e
 
 -- each type is valid
@@ -208,8 +198,9 @@ type_valid ds i h =
     let within : i < length (type_table ds) = subst (λ (us : List CompType). i < length us) is h in
     let t = item (type_table ds) i within in
     record {
-      type = t.0;
+      type = alone_of t.0;
       end = suc i;
       is = end_at (type_table ds) 0 i (suc i) t.0 (omega arith) t.1;
       valid = subst (λ (us : List CompType). IsValidCompType us (suc i) t.0) (sym is) (table_sound ds i t.0 t.1);
+      supertypes = tt;
     }

@@ -19,7 +19,7 @@ ModulesValid = (p : Script) → Good p → Size p ≤ size_limit → Valid (lowe
 abbrev pub SpellingsShort : Type 0
 SpellingsShort = (p : Script) → Good p → Size p ≤ size_limit → length (Canon (lowered p)) ≤ 16777216
 
--- runs of them begin with this store and this term, whatever tells which types are equivalent: nothing that they import is missing, and no
+-- runs of them begin with this store and this term, whatever tells which types match which: nothing that they import is missing, and no
 -- segment traps
 abbrev pub RunsBegin : Type 0
 RunsBegin = (p : Script) → Good p → (program : Program) → program.source ≡ lowered p → Start program ≡ Ready (first_store p.declarations) (first_term p.declarations)

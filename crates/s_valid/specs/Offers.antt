@@ -4,6 +4,7 @@ use Rattle.w_types.specs.declared.types.CompType.TheVariants.{Cont}
 use Rattle.w_types.specs.declared.types.FuncType.{FuncType}
 use Rattle.w_types.specs.declared.types.ValType.{ValType}
 use Rattle.w_types.specs.declared.types.ValType.TheVariants.{I64}
+use Rattle.w_canon.specs.Supertypes.{KeepsKinds}
 use Rattle.w_rules.specs.Context.{Context, type_of, func_of, type_of_func, type_of_tag}
 use Rattle.s_syntax.specs.declared.name.Name.{Name}
 use Rattle.s_syntax.specs.declared.script.Function.{Function}
@@ -31,6 +32,8 @@ pub record OffersHandled (ds : List Declaration) (C : Context) (f : Name) (g : F
   pub declared : slice_get C.declared (function_index ds f) ≡ Some true
 
 pub record Offers (ds : List Declaration) (C : Context) : Type 0 where
+  -- no type has supertypes
+  pub keeps : KeepsKinds C.types
   -- resumptions are cont 0, which takes a number to a number; computations are cont 2, which gives one
   pub resumption : type_of C resumption_type ≡ Some (Cont 0)
   pub resumed : func_of C 0 ≡ Some (arrow (I64 ∷ []) (I64 ∷ []))

@@ -8,12 +8,12 @@ use Rattle.w_syntax.specs.Flat.{whole}
 use Rattle.w_syntax.specs.declared.instructions.Instr.{Instr}
 use Rattle.w_syntax.specs.declared.locals.LocalRun.{LocalRun}
 use Rattle.w_rules.specs.declared.context.Context as rt
-use Rattle.w_canon.specs.IsClassesOf.{IsClassesOf}
+use Rattle.w_canon.specs.Supertypes.{KeepsKinds}
 use Rattle.w_rules.specs.Bodies.{types_of_runs, set_first}
 use Rattle.w_rules.specs.Context.{Context}
 use Rattle.w_rules.specs.Matching.{none}
 use Rattle.w_rules.specs.Spaces.{in_body}
-use Rattle.w_rules.specs.View.{context_in, HasClasses}
+use Rattle.w_rules.specs.View.{context_in, AreClasses, HasClasses}
 use Rattle.w_vplain.specs.Prefixes.{Prefix, IsDerivable, ended, empty, follow, follow_all}
 use Rattle.w_vplain.specs.Measures.{peak_of, depth_of}
 use Rattle.w_vplain.specs.Standing as standing
@@ -50,7 +50,7 @@ classes_known : (cx : rt.Context) (b : Wanted) (c : Checker) → b.context ≡ c
     → standing.classes_for c ≡ cx.classes.now → standing.KnowsClasses c
 classes_known cx b c of classes e f =
     let types : (standing.context_for c).types ≡ cx.types.now = ap (λ (d : Context). d.types) e ∙ ap (λ (d : Context). d.types) of in
-    subst (λ es. IsClassesOf (standing.context_for c).types es) (sym f) (subst (λ gs. IsClassesOf gs cx.classes.now) (sym types) classes)
+    subst (λ es. AreClasses (standing.context_for c).types es) (sym f) (subst (λ gs. AreClasses gs cx.classes.now) (sym types) classes)
 
 pub begun : (cx : rt.Context) (b : Wanted) (c : Checker) → b.context ≡ context_in cx → HasClasses cx → standing.context_for c ≡ inner b
     → standing.classes_for c ≡ cx.classes.now → (standing.KnowsClasses c → standing.StandsFor c (first b) empty) → Reached b c []
@@ -86,19 +86,20 @@ all_followed : (is : List Instr) (k : Code) → is ≡ whole k → follow_all is
 all_followed is k e = ap (λ (js : List Instr). follow_all js empty) e ∙ follow_whole k
 
 -- where the rules derive a body, they derive its first instructions
-prefix_derivable : (c : Context) (s : List Bool) (is : List Instr) (n : ℕ) → IsDerivable c s (follow_all is empty) → IsDerivable c s (follow_all (take n is) empty)
-prefix_derivable c s is n g =
+prefix_derivable : (c : Context) → KeepsKinds c.types → (s : List Bool) (is : List Instr) (n : ℕ) → IsDerivable c s (follow_all is empty) → IsDerivable c s (follow_all (take n is) empty)
+prefix_derivable c keeps s is n g =
     let split : follow_all is empty ≡ follow_all (drop n is) (follow_all (take n is) empty) =
     sym (ap (λ (js : List Instr). follow_all js empty) (take-append-drop n is)) ∙ follow_all-append (take n is) (drop n is) empty in
-    derivable_before_all c s (drop n is) (follow_all (take n is) empty) (subst (IsDerivable c s) split g)
+    derivable_before_all c keeps s (drop n is) (follow_all (take n is) empty) (subst (IsDerivable c s) split g)
 
 pub refused : (b : Wanted) (c d : Checker) (is : List Instr) (k : Code) (n : ℕ) (i : Instr) (applies : Bool) → applies ≡ false → is ≡ whole k → n < length is → i ≡ get_or is n i → Reached b c (take n is)
     → standing.Answers c d (follow i) applies
     → IsMeasure b.context b.params b.runs b.results k None
 refused b c d is k n i applies denied of lt e r answers typed =
     let w : Prefix = follow_all (take n is) empty in
+    let keeps : KeepsKinds (inner b).types = subst (λ (x : Context). KeepsKinds x.types) r.context r.stands.classes.keeps in
     let all : IsDerivable (inner b) (first b) (follow_all is empty) = subst (IsDerivable (inner b) (first b)) (sym (all_followed is k of)) typed in
-    let here : IsDerivable (inner b) (first b) (follow i w) = subst (IsDerivable (inner b) (first b)) (followed_more is n i lt e) (prefix_derivable (inner b) (first b) is (n + 1) all) in
+    let here : IsDerivable (inner b) (first b) (follow i w) = subst (IsDerivable (inner b) (first b)) (followed_more is n i lt e) (prefix_derivable (inner b) keeps (first b) is (n + 1) all) in
     let no = (answers (first b) w r.stands).1.1 (subst (λ (x : Context). IsDerivable x (first b) (follow i w)) (sym r.context) here) in
     absurd (cc)
 

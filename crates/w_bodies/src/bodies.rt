@@ -53,8 +53,8 @@ fn call(checker: &mut Checker, packed: &PackedInstr) -> Result<bool, AllocError>
 }
 
 /// Types a body (Core, validation, functions): where it has its type, the greatest number of operands at a counted place of it, and
-/// one plus the greatest number of blocks around a place. It works in this room, and leaves it to the next one. It fails only when out of
-/// memory.
+/// one plus the greatest number of blocks around a place. That is so where the context has the classes of its types, and each supertype is
+/// of its subtypes' kind. It works in this room, and leaves it to the next one. It fails only when out of memory.
 pub fn check_body(
     alloc: Global,
     setting: Setting,
@@ -63,8 +63,7 @@ pub fn check_body(
     runs: &[LocalRun],
     body: &Body,
 ) -> Result<Option<(u64, u32)>, AllocError>
-    requires { HasClasses setting.cx.now }
-    ensures { IfOk result (λ measured. IsMeasure
+    ensures { HasClasses setting.entry.cx.now → IfOk result (λ measured. IsMeasure
         (context_in setting.entry.cx.now) params.now runs.now setting.entry.results.types.now body.now measured) }
 {
     let kept = mem::replace(room, Room::new(alloc));

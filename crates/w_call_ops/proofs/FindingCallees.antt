@@ -15,7 +15,7 @@ use Rattle.w_syntax.specs.declared.module.Module.{Module}
 use Rattle.w_segment.specs.Shape.{Shape}
 use Rattle.w_tables.specs.Store as instances
 use Rattle.w_tables.specs.Operations.{table_at}
-use Rattle.w_canon.specs.Equivalence.{SameIndex}
+use Rattle.w_canon.specs.Matching.{IndexMatches}
 use Rattle.w_rules.specs.Spaces.{functions_of}
 use Rattle.w_reduce.specs.declared.trap.Trap.{Trap}
 use Rattle.w_reduce.specs.declared.trap.Trap.TheVariants as trap
@@ -118,7 +118,7 @@ module _ (m : Module) (u : instances.Store) (s : Shape) (y : ℕ) (mv : MovesAt 
 
 -- what is done with the element that was found
 abbrev typed : Program → Store → Context → Code → Row Val → ℕ → ℕ → Option ℕ → Reduced
-typed p s e c vs y a o = or_stuck o (λ z. unless_mismatch (p.same z y) (invoke p s e vs a (rest_of c)))
+typed p s e c vs y a o = or_stuck o (λ z. unless_mismatch (p.matches z y) (invoke p s e vs a (rest_of c)))
 
 abbrev finding : Program → Store → Context → Code → Row Val → ℕ → Option Val → Reduced
 finding p s e c vs y o = or_trap trap.UndefinedElement o (λ r. as_function trap.NullElement r (λ a. typed p s e c vs y a (slice_get (functions_of p.source) a)))
@@ -182,37 +182,37 @@ module _ (m : Module) (u : instances.Store) (s : Shape) (y x : ℕ) (mv : MovesA
       pub indirect_function : (z : ℕ) × (slice_get (functions_of m) a ≡ Some z)
       indirect_function =
           let n = indirect_needs in
-          let k = found (slice_get (functions_of n.p.source) a) (λ z. unless_mismatch (n.p.same z y) (invoke n.p (store_of u) n.e (stack (drop 1 s.operands)) a (rest_of n.c)))
+          let k = found (slice_get (functions_of n.p.source) a) (λ z. unless_mismatch (n.p.matches z y) (invoke n.p (store_of u) n.e (stack (drop 1 s.operands)) a (rest_of n.c)))
           (λ q. indirect_needs.applies (v ∷ []) (drop 1 s.operands) whole (indirect_number, tt) (comes_to (Some (value.Func a)) h n.p n.e n.c ∙ q)) in
           subst (λ (x : Module). (z : ℕ) × (slice_get (functions_of x) a ≡ Some z)) n.source (k.item, k.is)
 
       -- with the index of its type
       with_kind : (z : ℕ) → slice_get (functions_of m) a ≡ Some z → (p : Program) (e : Context) (c : Code) → p.source ≡ m →
           indirect y x p (store_of u) e c (taken_of (Number int.I32 ∷ []) (v ∷ [])) (stack (drop 1 s.operands))
-          ≡ unless_mismatch (p.same z y) (invoke p (store_of u) e (stack (drop 1 s.operands)) a (rest_of c))
+          ≡ unless_mismatch (p.matches z y) (invoke p (store_of u) e (stack (drop 1 s.operands)) a (rest_of c))
       with_kind z k p e c g =
           comes_to (Some (value.Func a)) h p e c
           ∙ ap (typed p (store_of u) e c (stack (drop 1 s.operands)) y a) (ap (λ (x : Module). slice_get (functions_of x) a) g ∙ k)
 
-      pub indirect_calls : (z : ℕ) → slice_get (functions_of m) a ≡ Some z → ((p : Program) → p.source ≡ m → IsProgram p → p.same z y ≡ true) → Calls a 1 m u s
-      indirect_calls z k same =
+      pub indirect_calls : (z : ℕ) → slice_get (functions_of m) a ≡ Some z → ((p : Program) → p.source ≡ m → IsProgram p → p.matches z y ≡ true) → Calls a 1 m u s
+      indirect_calls z k fits =
           one_calls m u s (op.Control (control.CallIndirect y x)) (Number int.I32) (indirect y x) (by_table y x) mv v whole a refl
-          (λ p e c g is. with_kind z k p e c g ∙ ap (λ (b : Bool). unless_mismatch b (invoke p (store_of u) e (stack (drop 1 s.operands)) a (rest_of c))) (same p g is))
+          (λ p e c g is. with_kind z k p e c g ∙ ap (λ (b : Bool). unless_mismatch b (invoke p (store_of u) e (stack (drop 1 s.operands)) a (rest_of c))) (fits p g is))
 
-      pub indirect_mismatch : (z : ℕ) → slice_get (functions_of m) a ≡ Some z → ((p : Program) → p.source ≡ m → IsProgram p → p.same z y ≡ false) →
+      pub indirect_mismatch : (z : ℕ) → slice_get (functions_of m) a ≡ Some z → ((p : Program) → p.source ≡ m → IsProgram p → p.matches z y ≡ false) →
           Follows (did.Trapped trap.CallTypeMismatch) m [] u s u s
-      indirect_mismatch z k same =
+      indirect_mismatch z k fits =
           one_traps m u s (op.Control (control.CallIndirect y x)) (Number int.I32) (indirect y x) (by_table y x) mv v whole trap.CallTypeMismatch
-          (λ p e c g is. with_kind z k p e c g ∙ ap (λ (b : Bool). unless_mismatch b (invoke p (store_of u) e (stack (drop 1 s.operands)) a (rest_of c))) (same p g is))
+          (λ p e c g is. with_kind z k p e c g ∙ ap (λ (b : Bool). unless_mismatch b (invoke p (store_of u) e (stack (drop 1 s.operands)) a (rest_of c))) (fits p g is))
 
--- ## Equivalence
+-- ## Matching
 
--- two tests that hold just where types are equivalent agree
+-- two tests that hold just where one statement does agree
 agree : {P : Type 0} (a b : Bool) → (IsTrue a ↔ P) → (IsTrue b ↔ P) → a ≡ b
 agree true true h g = refl
 agree false false h g = refl
 agree true false h g = sym (g.1 (h.0 refl))
 agree false true h g = h.1 (g.0 refl)
 
-pub kinds_agree : (m : Module) (r : Bool) (z y : ℕ) → (IsTrue r ↔ SameIndex m.types z y) → (p : Program) → p.source ≡ m → IsProgram p → p.same z y ≡ r
-kinds_agree m r z y h p e is = agree (p.same z y) r (subst (λ (x : Module). IsTrue (p.same z y) ↔ SameIndex x.types z y) e (is z y)) h
+pub kinds_agree : (m : Module) (r : Bool) (z y : ℕ) → (IsTrue r ↔ IndexMatches m.types z y) → (p : Program) → p.source ≡ m → IsProgram p → p.matches z y ≡ r
+kinds_agree m r z y h p e is = agree (p.matches z y) r (subst (λ (x : Module). IsTrue (p.matches z y) ↔ IndexMatches x.types z y) e (is z y)) h

@@ -37,8 +37,8 @@ pub fn callee_by_reference(
     }
 }
 
-/// The address of the function that `call_indirect` calls, or its trap: the topmost operand is its place in a table, and its type is
-/// equivalent to the one named. `functions` has the index of each function's type, those that are imported in front.
+/// The address of the function that `call_indirect` calls, or its trap: the topmost operand is its place in a table, and its type
+/// matches the one named. `functions` has the index of each function's type, those that are imported in front.
 #[inline(always)]
 pub fn callee_by_table(
     program: &Module,
@@ -63,7 +63,8 @@ pub fn callee_by_table(
     match element {
         Value::Null => Err(Trap::NullElement),
         Value::Func(address) => {
-            if classes.same(functions[address as usize], kind) {
+            let own = functions[address as usize];
+            if classes.matches_index(own, kind) {
                 Ok(address)
             } else {
                 Err(Trap::CallTypeMismatch)

@@ -1,48 +1,27 @@
 -- Types have one class exactly where they are equivalent.
-use Rattle.std.proofs.Common.{◌≡◌, ◌↔◌, ◌⊎◌, inl, inr, ℕ, zero, suc, ◌+◌, ◌-◌, ◌<◌, ◌≤◌, List, [], ◌∷◌, ◌++◌, length, map, take, get_or, Some, None, slice_get, Vec, Global, refl, sym, ap, subst, ◌∙◌, arith}
-use Rattle.std.specs.BTreeMap.{BTreeMap}
+use Rattle.std.proofs.Common.{◌≡◌, ◌↔◌, ◌⊎◌, inl, inr, ℕ, zero, suc, ◌+◌, ◌-◌, ◌<◌, ◌≤◌, List, [], ◌∷◌, ◌++◌, length, map, take, get_or, Some, None, slice_get, refl, sym, ap, subst, ◌∙◌, append_assoc, arith}
 use Rattle.std.proofs.lemmas.Bool.{cases_lt}
-use Rattle.std.proofs.lemmas.List.{length-append, length-map, length-take-le, length_push, take-append-le, take_more, take_all, take_at, map-append, append-nil}
+use Rattle.std.proofs.lemmas.List.{length-append, length-map, length-take-le, take-append-le, take_more, take_all, take_at, map-append, append-nil}
 use Rattle.std.proofs.lemmas.Option.{slice_get_within}
-use Rattle.w_types.specs.declared.types.CompType.{CompType}
+use Rattle.w_types.specs.declared.types.SubType.{SubType}
 use Rattle.w_types.specs.declared.types.RecGroup.{RecGroup}
-use Rattle.w_types.specs.Groups.{types_of}
+use Rattle.w_types.specs.Groups.{subtypes_of, composite_of, types_of}
 use Rattle.w_canon.specs.declared.entry.Class.{Class}
 use Rattle.w_canon.specs.declared.entry.Kind.{Kind}
 use Rattle.w_canon.specs.declared.entry.Entry.{Entry}
 use Rattle.w_canon.specs.declared.key.Word.{Word}
+use Rattle.w_canon.specs.Classed.{Numbers, count, key_at, EntryAt, FirstAt, Classed}
 use Rattle.w_canon.specs.Entries.{kind_of, entries_from}
+use Rattle.w_canon.specs.Relations.{Pairwise}
 use Rattle.w_canon.specs.Equivalence.{AlikeGroup, Place, AtOnePosition, Same, SameIndex}
 use Rattle.w_canon.specs.Keys.{group_words}
 use Rattle.w_canon.specs.Numbers.{number_of, Finds}
-use Rattle.w_canon.specs.IsClassesOf.{OneClass, IsClassesOf}
+use Rattle.w_canon.specs.IsClassesOf.{OneClass, first_of, HaveFirsts, IsClassesOf}
 use Rattle.w_canon.proofs.EntriesOfTypes.{kinds-entries_from, class-entries_from}
 use Rattle.w_canon.proofs.KeysOfGroups.{ClassedBy, one_key}
 use Rattle.w_canon.proofs.Orders.{one_class}
 use Rattle.lists.proofs.Lists.{get-front, get-behind}
-use Rattle.w_canon.proofs.Places.{types_of-append, types_of-cons, types_of-nil, count, count-append, count-split, within_all, front_within, place, place_wider, one_place}
-
-abbrev pub Numbers : Type 0
-Numbers = BTreeMap (Vec Word Global) ℕ
-
--- the key of a group behind those in front, where all types have these entries
-abbrev pub key_at : List Entry → List RecGroup → RecGroup → List Word
-key_at es front g = group_words (take (count front) es) g
-
--- type i has an entry, whose class is the number that the key of its group leads to, and its position
-pub record EntryAt (m : Numbers) (gs : List RecGroup) (es : List Entry) (i : ℕ) : Type 0 where
-  pub place : Place gs i
-  pub entry : Entry
-  pub is : slice_get es i ≡ Some entry
-  pub position : entry.class.position ≡ place.position
-  pub named : number_of m (key_at es place.front place.group) ≡ Some entry.class.group
-
--- the types of these groups have these entries, and m leads from the keys of the groups to numbers, each from one key
-pub record Classed (m : Numbers) (gs : List RecGroup) (es : List Entry) : Type 0 where
-  pub kinds : map (λ (e : Entry). e.kind) es ≡ map kind_of (types_of gs)
-  pub entries : (i : ℕ) → i < count gs → EntryAt m gs es i
-  pub once : (q r : List Word) (n : ℕ) → number_of m q ≡ Some n → number_of m r ≡ Some n → q ≡ r
-  pub below : (q : List Word) (n : ℕ) → number_of m q ≡ Some n → n < length gs
+use Rattle.w_canon.proofs.Places.{subtypes_of-append, subtypes_of-cons, subtypes_of-nil, count-append, count-split, within_all, front_within, place, place_wider, one_place}
 
 -- ## Lists
 
@@ -59,7 +38,7 @@ entry_at (e ∷ es) (suc i) h = entry_at es i (omega arith)
 
 -- there are as many entries as types
 as_many : (gs : List RecGroup) (es : List Entry) → map (λ (e : Entry). e.kind) es ≡ map kind_of (types_of gs) → length es ≡ count gs
-as_many gs es h = sym (length-map es (λ (e : Entry). e.kind)) ∙ ap (λ (l : List Kind). length l) h ∙ length-map (types_of gs) kind_of
+as_many gs es h = sym (length-map es (λ (e : Entry). e.kind)) ∙ ap (λ (l : List Kind). length l) h ∙ length-map (types_of gs) kind_of ∙ length-map (subtypes_of gs) composite_of
 
 -- ## No groups
 
@@ -68,10 +47,11 @@ no_number m q n none h = let z : number_of m q ≡ None = rw none refl in cc
 
 pub classed_none : (m : Numbers) → m.entries ≡ [] → Classed m [] []
 classed_none m none = record {
-  kinds = ap (map kind_of) (sym types_of-nil);
-  entries = λ i h. absurd (let n = ap (λ (l : List CompType). length l) types_of-nil in omega arith);
+  kinds = ap (λ (l : List SubType). map kind_of (map composite_of l)) (sym subtypes_of-nil);
+  entries = λ i h. absurd (let n = ap (λ (l : List SubType). length l) subtypes_of-nil in omega arith);
   once = λ q r n h k. absurd (no_number m q n none h);
   below = λ q n h. absurd (no_number m q n none h);
+  firsts = λ q n h. absurd (no_number m q n none h);
 }
 
 -- ## One group more
@@ -87,11 +67,12 @@ entry_before m n gs es more g number first i len f E =
       is = get-front es more i (slice_get_within es i E.entry E.is) ∙ E.is;
       position = E.position;
       named = f.stays (key_at (es ++ more) E.place.front E.place.group) E.entry.class.group (ap (λ (l : List Entry). number_of m (group_words l E.place.group)) t ∙ E.named);
+      early = E.early;
     }
 
 entry_now : (m n : Numbers) (gs : List RecGroup) (es : List Entry) (g : RecGroup) (number first : ℕ) (i : ℕ)
-    → length es ≡ count gs → Finds m n (group_words es g) number first → count gs ≤ i → i - count gs < length g.types → EntryAt n (gs ++ g ∷ []) (es ++ entries_from first 0 g.types) i
-entry_now m n gs es g number first i len f le lt =
+    → length es ≡ count gs → Finds m n (group_words es g) number first → first ≤ count gs → count gs ≤ i → i - count gs < length g.types → EntryAt n (gs ++ g ∷ []) (es ++ entries_from first 0 g.types) i
+entry_now m n gs es g number first i len f no_later le lt =
     let p = i - count gs in
     let more = entries_from first 0 g.types in
     let e = class-entries_from first 0 g.types p lt in
@@ -103,59 +84,137 @@ entry_now m n gs es g number first i len f le lt =
       is = ap (slice_get (es ++ more)) j ∙ get-behind es more p ∙ e.1;
       position = e.3 ∙ omega arith;
       named = ap (λ (l : List Entry). number_of n (group_words l g)) t ∙ f.found ∙ ap (λ (x : ℕ). Some x) (sym e.2);
+      early = omega (arith, e.2);
     }
 
 entry_by : (m n : Numbers) (gs : List RecGroup) (es : List Entry) (g : RecGroup) (number first : ℕ)
-    → Classed m gs es → Finds m n (group_words es g) number first → (i : ℕ) → i < count (gs ++ g ∷ []) → (i < count gs) ⊎ (count gs ≤ i) → EntryAt n (gs ++ g ∷ []) (es ++ entries_from first 0 g.types) i
-entry_by m n gs es g number first c f i h (inl lt) = entry_before m n gs es (entries_from first 0 g.types) g number first i (as_many gs es c.kinds) f (c.entries i lt)
-entry_by m n gs es g number first c f i h (inr le) =
+    → Classed m gs es → Finds m n (group_words es g) number first → first ≤ count gs → (i : ℕ) → i < count (gs ++ g ∷ []) → (i < count gs) ⊎ (count gs ≤ i) → EntryAt n (gs ++ g ∷ []) (es ++ entries_from first 0 g.types) i
+entry_by m n gs es g number first c f no_later i h (inl lt) = entry_before m n gs es (entries_from first 0 g.types) g number first i (as_many gs es c.kinds) f (c.entries i lt)
+entry_by m n gs es g number first c f no_later i h (inr le) =
     let a = count-append gs (g ∷ []) in
-    let b = ap (λ (l : List CompType). length l) (types_of-cons g []) ∙ length-append g.types (types_of []) in
-    let z = ap (λ (l : List CompType). length l) types_of-nil in
-    entry_now m n gs es g number first i (as_many gs es c.kinds) f le (omega arith)
+    let b = ap (λ (l : List SubType). length l) (subtypes_of-cons g []) ∙ length-append g.types (subtypes_of []) in
+    let z = ap (λ (l : List SubType). length l) subtypes_of-nil in
+    entry_now m n gs es g number first i (as_many gs es c.kinds) f no_later le (omega arith)
+
+-- the types of one group more
+types_more : (gs : List RecGroup) (g : RecGroup) → subtypes_of (gs ++ g ∷ []) ≡ subtypes_of gs ++ g.types
+types_more gs g =
+    subtypes_of-append gs (g ∷ []) ∙ ap (λ (l : List SubType). subtypes_of gs ++ l) (subtypes_of-cons g [] ∙ ap (λ (l : List SubType). g.types ++ l) subtypes_of-nil ∙ append-nil g.types)
+
+count_more : (gs : List RecGroup) (g : RecGroup) → count (gs ++ g ∷ []) ≡ count gs + length g.types
+count_more gs g = ap (λ (l : List SubType). length l) (types_more gs g) ∙ length-append (subtypes_of gs) g.types
 
 kinds_more : (gs : List RecGroup) (es : List Entry) (g : RecGroup) (first : ℕ) → map (λ (e : Entry). e.kind) es ≡ map kind_of (types_of gs)
     → map (λ (e : Entry). e.kind) (es ++ entries_from first 0 g.types) ≡ map kind_of (types_of (gs ++ g ∷ []))
 kinds_more gs es g first h =
-    let a = map-append (λ (e : Entry). e.kind) es (entries_from first 0 g.types) in
-    let b = kinds-entries_from first 0 g.types in
-    let c = ap (map kind_of) (types_of-append gs (g ∷ []) ∙ ap (λ (l : List CompType). types_of gs ++ l) (types_of-cons g [] ∙ ap (λ (l : List CompType). g.types ++ l) types_of-nil ∙ append-nil g.types)) in
-    let d = map-append kind_of (types_of gs) g.types in
-    cc
+    map-append (λ (e : Entry). e.kind) es (entries_from first 0 g.types)
+    ∙ ap (λ (ks : List Kind). ks ++ map (λ (e : Entry). e.kind) (entries_from first 0 g.types)) h
+    ∙ ap (λ (ks : List Kind). map kind_of (types_of gs) ++ ks) (kinds-entries_from first 0 g.types)
+    ∙ sym (map-append kind_of (types_of gs) (map composite_of g.types))
+    ∙ ap (map kind_of) (sym (map-append composite_of (subtypes_of gs) g.types))
+    ∙ ap (λ (l : List SubType). map kind_of (map composite_of l)) (sym (types_more gs g))
 
 -- two keys with one number, each new or not
 once_by : (m : Numbers) (gs : List RecGroup) (es : List Entry) (q r key : List Word) (k : ℕ) → Classed m gs es
-    → (number_of m q ≡ Some k) ⊎ ((q ≡ key) × (k ≡ length gs)) → (number_of m r ≡ Some k) ⊎ ((r ≡ key) × (k ≡ length gs)) → q ≡ r
+    → (number_of m q ≡ Some k) ⊎ ((q ≡ key) × (k ≡ count gs)) → (number_of m r ≡ Some k) ⊎ ((r ≡ key) × (k ≡ count gs)) → q ≡ r
 once_by m gs es q r key k c (inl a) (inl b) = c.once q r k a b
 once_by m gs es q r key k c (inl a) (inr b) = absurd (let z = c.below q k a in omega (arith, b.1))
 once_by m gs es q r key k c (inr a) (inl b) = absurd (let z = c.below r k b in omega (arith, a.1))
 once_by m gs es q r key k c (inr a) (inr b) = a.0 ∙ sym b.0
 
-below_by : (m : Numbers) (gs : List RecGroup) (es : List Entry) (q key : List Word) (k : ℕ) → Classed m gs es
-    → (number_of m q ≡ Some k) ⊎ ((q ≡ key) × (k ≡ length gs)) → k < length gs + 1
-below_by m gs es q key k c (inl a) = let z = c.below q k a in omega arith
-below_by m gs es q key k c (inr a) = omega (arith, a.1)
+below_by : (m : Numbers) (gs : List RecGroup) (es : List Entry) (q key : List Word) (k n : ℕ) → 0 < n → Classed m gs es
+    → (number_of m q ≡ Some k) ⊎ ((q ≡ key) × (k ≡ count gs)) → k < count gs + n
+below_by m gs es q key k n some c (inl a) = let z = c.below q k a in omega arith
+below_by m gs es q key k n some c (inr a) = omega (arith, a.1)
 
-classed_more : (m n : Numbers) (gs : List RecGroup) (es : List Entry) (g : RecGroup) (first : ℕ)
-    → Classed m gs es → Finds m n (group_words es g) (length gs) first → Classed n (gs ++ g ∷ []) (es ++ entries_from first 0 g.types)
-classed_more m n gs es g first c f =
+-- the key of a group in front stays, where more types come behind
+key_kept : (es more : List Entry) (gs front : List RecGroup) (g : RecGroup) (back : List RecGroup) → length es ≡ count gs → gs ≡ front ++ g ∷ back
+    → key_at (es ++ more) front g ≡ key_at es front g
+key_kept es more gs front g back len is =
+    let s = count-split gs front g back is in
+    ap (λ (l : List Entry). group_words l g) (take-append-le (count front) es more (omega arith))
+
+first_by : (m : Numbers) (gs : List RecGroup) (es more : List Entry) (g : RecGroup) (q : List Word) (k : ℕ) → 0 < length g.types → Classed m gs es
+    → (number_of m q ≡ Some k) ⊎ ((q ≡ group_words es g) × (k ≡ count gs)) → FirstAt (gs ++ g ∷ []) (es ++ more) q k
+first_by m gs es more g q k some c (inl a) =
+    let f = c.firsts q k a in
+    record {
+      front = f.front;
+      group = f.group;
+      back = f.back ++ g ∷ [];
+      is = ap (λ (l : List RecGroup). l ++ g ∷ []) f.is ∙ append_assoc f.front (f.group ∷ f.back) (g ∷ []);
+      begins = f.begins;
+      key = key_kept es more gs f.front f.group f.back (as_many gs es c.kinds) f.is ∙ f.key;
+      some = f.some;
+    }
+first_by m gs es more g q k some c (inr a) = record {
+  front = gs;
+  group = g;
+  back = [];
+  is = refl;
+  begins = sym a.1;
+  key = ap (λ (l : List Entry). group_words l g) (take_at es more (count gs) (as_many gs es c.kinds)) ∙ sym a.0;
+  some = some;
+}
+
+-- one group more, which has types
+pub classed_more : (m n : Numbers) (gs : List RecGroup) (es : List Entry) (g : RecGroup) (first : ℕ) → 0 < length g.types
+    → Classed m gs es → Finds m n (group_words es g) (count gs) first → Classed n (gs ++ g ∷ []) (es ++ entries_from first 0 g.types)
+classed_more m n gs es g first some c f =
     let key = group_words es g in
+    let no_later : first ≤ count gs = elim (f.added key first f.found) [ inl a ↦ (let z = c.below key first a in omega arith) | inr b ↦ omega (arith, b.1) ] in
     record {
       kinds = kinds_more gs es g first c.kinds;
-      entries = λ i h. entry_by m n gs es g (length gs) first c f i h (cases_lt i (count gs));
+      entries = λ i h. entry_by m n gs es g (count gs) first c f no_later i h (cases_lt i (count gs));
       once = λ q r k h j. once_by m gs es q r key k c (f.added q k h) (f.added r k j);
-      below = λ q k h. let b = below_by m gs es q key k c (f.added q k h) in let l = length_push gs g in omega arith;
+      below = λ q k h. let b = below_by m gs es q key k (length g.types) some c (f.added q k h) in let l = count_more gs g in omega arith;
+      firsts = λ q k h. first_by m gs es (entries_from first 0 g.types) g q k some c (f.added q k h);
     }
 
+-- one group more, which has none
+pub classed_none_more : (m : Numbers) (gs : List RecGroup) (es : List Entry) (g : RecGroup) → length g.types ≡ 0 → Classed m gs es → Classed m (gs ++ g ∷ []) es
+classed_none_more m gs es g none c =
+    let l = count_more gs g in
+    let empty : g.types ≡ [] = no_items g.types none in
+    let same : subtypes_of (gs ++ g ∷ []) ≡ subtypes_of gs = types_more gs g ∙ ap (λ (ts : List SubType). subtypes_of gs ++ ts) empty ∙ append-nil (subtypes_of gs) in
+    record {
+      kinds = c.kinds ∙ ap (λ (ts : List SubType). map kind_of (map composite_of ts)) (sym same);
+      entries = λ i h.
+          let E = c.entries i (omega (arith, l, none)) in
+          record { place = place_wider (gs ++ g ∷ []) gs (g ∷ []) i refl E.place; entry = E.entry; is = E.is; position = E.position; named = E.named; early = E.early };
+      once = c.once;
+      below = λ q k h. let z = c.below q k h in omega (arith, z, l);
+      firsts = λ q k h.
+          let f = c.firsts q k h in
+          record {
+            front = f.front;
+            group = f.group;
+            back = f.back ++ g ∷ [];
+            is = ap (λ (x : List RecGroup). x ++ g ∷ []) f.is ∙ append_assoc f.front (f.group ∷ f.back) (g ∷ []);
+            begins = f.begins;
+            key = f.key;
+            some = f.some;
+          };
+    }
+  where
+    no_items : (ts : List SubType) → length ts ≡ 0 → ts ≡ []
+    no_items [] e = refl
+    no_items (t ∷ ts) e = absurd (omega arith)
+
+-- the same, by what a program finds
+pub classed_add : (m n : Numbers) (es new : List Entry) (g : RecGroup) (key : List Word) (number first : ℕ) → 0 < length g.types → key ≡ group_words es g → number ≡ length es
+    → Finds m n key number first → new ≡ es ++ entries_from first 0 g.types → (gs : List RecGroup) → Classed m gs es → Classed n (gs ++ g ∷ []) new
+classed_add m n es new g key number first some k l f e gs c =
+    let len : number ≡ count gs = l ∙ as_many gs es c.kinds in
+    let finds = subst (λ (x : ℕ). Finds m n (group_words es g) x first) len (subst (λ (q : List Word). Finds m n q number first) k f) in
+    subst (Classed n (gs ++ g ∷ [])) (sym e) (classed_more m n gs es g first some c finds)
+
 -- the first groups, and one more
-pub classed_next : (m n : Numbers) (gs : List RecGroup) (i : ℕ) (es new : List Entry) (g : RecGroup) (first : ℕ) (key : List Word)
-    → i < length gs → g ≡ get_or gs i g → key ≡ group_words es g → Finds m n key i first → new ≡ es ++ entries_from first 0 g.types
-    → Classed m (take i gs) es → Classed n (take (i + 1) gs) new
-classed_next m n gs i es new g first key lt is k f e c =
+pub classed_next : (m n : Numbers) (gs : List RecGroup) (i : ℕ) (es new : List Entry) (g : RecGroup) → i < length gs → g ≡ get_or gs i g
+    → ((fs : List RecGroup) → Classed m fs es → Classed n (fs ++ g ∷ []) new) → Classed m (take i gs) es → Classed n (take (i + 1) gs) new
+classed_next m n gs i es new g lt is next c =
     let t : take (i + 1) gs ≡ take i gs ++ g ∷ [] = take_more gs i g lt ∙ ap (λ (x : RecGroup). take i gs ++ x ∷ []) (sym is) in
-    let l : i ≡ length (take i gs) = sym (length-take-le i gs (omega arith)) in
-    let finds = subst (λ (x : ℕ). Finds m n (group_words es g) x first) l (subst (λ (q : List Word). Finds m n q i first) k f) in
-    subst (λ (x : List RecGroup). Classed n x new) (sym t) (subst (Classed n (take i gs ++ g ∷ [])) (sym e) (classed_more m n (take i gs) es g first c finds))
+    subst (λ (x : List RecGroup). Classed n x new) (sym t) (next (take i gs) c)
 
 -- ## Classes and equivalence
 
@@ -234,7 +293,7 @@ classed_to : (m : Numbers) (gs : List RecGroup) (es : List Entry) → Classed m 
 classed_to m gs es c zero = λ i j a b P Q p q h k. absurd (omega arith)
 classed_to m gs es c (suc n) = next m gs es c n (classed_to m gs es c n)
 
-stands_at : (m : Numbers) (gs : List RecGroup) (es : List Entry) → Classed m gs es → (i j : ℕ) (a b : Entry) → slice_get es i ≡ Some a → slice_get es j ≡ Some b → (a.class ≡ b.class) ↔ SameIndex gs i j
+pub stands_at : (m : Numbers) (gs : List RecGroup) (es : List Entry) → Classed m gs es → (i j : ℕ) (a b : Entry) → slice_get es i ≡ Some a → slice_get es j ≡ Some b → (a.class ≡ b.class) ↔ SameIndex gs i j
 stands_at m gs es c i j a b h k =
     let len = as_many gs es c.kinds in
     let x = slice_get_within es i a h in
@@ -246,13 +305,65 @@ stands_at m gs es c i j a b h k =
       λ s. elim s [ inl e ↦ (let f : Some a ≡ Some b = sym h ∙ ap (slice_get es) e ∙ k in let g : a ≡ b = cc in ap (λ (z : Entry). z.class) g) | inr r ↦ t.1 r ],
     )
 
--- the entries stand for the types of the module
-stands : (m : Numbers) (gs : List RecGroup) (es : List Entry) → Classed m gs es → IsClassesOf gs es
-stands m gs es c = record { kinds = c.kinds; classes = stands_at m gs es c }
-
 -- when all groups were classed
-pub stands_at_end : (m : Numbers) (gs : List RecGroup) (i : ℕ) (es : List Entry) → length gs ≤ i → Classed m (take i gs) es → IsClassesOf gs es
-stands_at_end m gs i es le c = stands m gs es (subst (λ (x : List RecGroup). Classed m x es) (take_all i gs le) c)
+pub classed_all : (m : Numbers) (gs : List RecGroup) (i : ℕ) (es : List Entry) → length gs ≤ i → Classed m (take i gs) es → Classed m gs es
+classed_all m gs i es le c = subst (λ (x : List RecGroup). Classed m x es) (take_all i gs le) c
+
+-- ## The first types of classes
+
+-- as many items
+one_length : {A : Type 0} {R : A → A → Type 0} {xs ys : List A} → Pairwise R xs ys → length xs ≡ length ys
+one_length Pairwise.none = refl
+one_length (Pairwise.more h t) = ap suc (one_length t)
+
+-- the first type of a class is in front of each other
+pub first_early : (m : Numbers) (gs : List RecGroup) (es : List Entry) → Classed m gs es → (i : ℕ) (a : Entry) → slice_get es i ≡ Some a → first_of a.class ≤ i
+first_early m gs es c i a h =
+    let len = as_many gs es c.kinds in
+    let E = c.entries i (omega (arith, len, slice_get_within es i a h)) in
+    let same : E.entry ≡ a = let e = E.is in cc in
+    let g = ap (λ (e : Entry). e.class.group) same in
+    let p = ap (λ (e : Entry). e.class.position) same in
+    let early = E.early in
+    let position = E.position in
+    let counts = E.place.counts in
+    omega (arith, g, p, early, position, counts)
+
+-- the first type of a class is of it
+pub first_alike : (m : Numbers) (gs : List RecGroup) (es : List Entry) → Classed m gs es → HaveFirsts es
+first_alike m gs es c i a h =
+    let len = as_many gs es c.kinds in
+    let P = place gs i (omega (arith, len, slice_get_within es i a h)) in
+    let x = class_at m gs es i P a c h in
+    let f = c.firsts (key_at es P.front P.group) a.class.group x.named in
+    let at_front : length f.front < length gs = let e = ap length f.is in let l = length-append f.front (f.group ∷ f.back) in omega arith in
+    let again = classed_to m gs es c (length gs) in
+    let begins : Place gs (count f.front) = record {
+      front = f.front;
+      group = f.group;
+      back = f.back;
+      position = 0;
+      is = f.is;
+      counts = omega arith;
+      within = f.some;
+    } in
+    let alike = (keys_alike (length gs) gs es len again (count f.front) i begins P (omega (arith, at_front)) (omega (arith, front_within gs i P))).0 f.key in
+    let long = one_length alike in
+    let within = P.within in
+    let Q : Place gs (first_of a.class) = record {
+      front = f.front;
+      group = f.group;
+      back = f.back;
+      position = a.class.position;
+      is = f.is;
+      counts = ap (λ n. n + a.class.position) (sym f.begins);
+      within = omega (arith, long, within, x.position);
+    } in
+    let all = within_all gs (first_of a.class) Q in
+    let b = entry_at es (first_of a.class) (omega (arith, all, len)) in
+    let y = class_at m gs es (first_of a.class) Q b.0 c b.1 in
+    let g : Some a.class.group ≡ Some b.0.class.group = sym x.named ∙ ap (number_of m) (sym f.key) ∙ y.named in
+    (a, b.0, h, b.1, one_class a.class b.0.class (cc) (sym y.position))
 
 -- ## Telling whether types are equivalent
 

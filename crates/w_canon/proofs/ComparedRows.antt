@@ -11,7 +11,7 @@ use Rattle.w_canon.specs.declared.rows.Comparison.{Comparison}
 use Rattle.w_canon.specs.declared.rows.Comparison.TheVariants.{Matching, Equality}
 use Rattle.w_canon.specs.declared.rows.Pair.{Pair}
 use Rattle.w_canon.specs.Relations.{Pairwise, none, more}
-use Rattle.w_canon.specs.Tests.{pairwise_test, one_class_test, heap_test, val_test, heap_same_test, val_same_test}
+use Rattle.w_canon.specs.Tests.{pairwise_test, one_class_test, one_below_test, heap_test, val_test, heap_same_test, val_same_test}
 use Rattle.w_canon.specs.Compared.{compared, IsAlike}
 
 -- ## One type
@@ -22,7 +22,8 @@ heap_matches es heap.Func = refl
 heap_matches es heap.NoFunc = refl
 heap_matches es heap.Cont = refl
 heap_matches es heap.NoCont = refl
-heap_matches es (heap.Index x) = ap (λ (b : Bool). b || one_class_test (slice_get es x) (slice_get es x)) (eq-eqb x x refl)
+heap_matches es (heap.Index x) =
+    ap (λ (b : Bool). (b || one_class_test (slice_get es x) (slice_get es x)) || one_below_test (slice_get es x) (slice_get es x)) (eq-eqb x x refl)
 
 may_be_null : (n b : Bool) → b ≡ true → (not n || n) && b ≡ true
 may_be_null true b e = e

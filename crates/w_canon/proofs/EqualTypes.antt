@@ -82,7 +82,7 @@ heap_equal_matches gs func = matching.HeapMatches.func
 heap_equal_matches gs no_func = matching.HeapMatches.no_func
 heap_equal_matches gs cont = matching.HeapMatches.cont
 heap_equal_matches gs no_cont = matching.HeapMatches.no_cont
-heap_equal_matches gs (index s) = matching.HeapMatches.index s
+heap_equal_matches gs (index s) = matching.HeapMatches.index (matching.IndexMatches.same s)
 
 val_equal_below : (gs : List RecGroup) {v w : ValType} → ValEqual gs v w → ValMatches gs v w
 val_equal_below gs i32 = matching.ValMatches.i32

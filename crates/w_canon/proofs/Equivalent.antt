@@ -1,16 +1,20 @@
 -- Equivalence of types is one, and equivalent types are of one kind.
-use Rattle.std.proofs.Common.{◌≡◌, inl, inr, ℕ, zero, suc, List, length, Some, slice_get, refl, sym, ap, subst, ◌∙◌, arith}
+use Rattle.std.proofs.Common.{◌≡◌, inl, inr, ℕ, zero, suc, List, length, Option, Some, None, slice_get, refl, sym, ap, subst, ◌∙◌, arith}
 use Rattle.std.specs.Option.{option_map}
+use Rattle.std.proofs.lemmas.Option.{slice_get-map}
+use Rattle.w_canon.specs.declared.entry.Kind.{Kind}
 use Rattle.w_types.specs.declared.types.HeapType.{HeapType}
 use Rattle.w_types.specs.declared.types.ValType.{ValType}
 use Rattle.w_types.specs.declared.types.CompType.{CompType}
+use Rattle.w_types.specs.declared.types.SubType.{SubType}
 use Rattle.w_types.specs.declared.types.RecGroup.{RecGroup}
-use Rattle.w_types.specs.Groups.{types_of}
+use Rattle.w_types.specs.Groups.{subtypes_of, composite_of, types_of}
 use Rattle.w_canon.specs.Entries.{kind_of}
 use Rattle.w_canon.specs.Relations.{Pairwise, none, more, IsReflexive, IsSymmetric, IsTransitive}
-use Rattle.w_canon.specs.Equivalence.{AlikeIndex, inside, outside, AlikeHeap, AlikeRef, AlikeVal, AlikeFunc, AlikeComp, AlikeGroup, AtOnePosition, Same, SameIndex}
+use Rattle.w_canon.specs.Equivalence.{AlikeIndex, inside, outside, AlikeHeap, AlikeRef, AlikeVal, AlikeFunc, AlikeComp, AlikeSub, AlikeGroup, AtOnePosition, Same, SameIndex}
 use Rattle.w_canon.specs.Equivalence as alike
-use Rattle.w_canon.proofs.Places.{count, one_place, type_at_place}
+use Rattle.w_canon.specs.Classed.{count}
+use Rattle.w_canon.proofs.Places.{one_place, type_at_place}
 
 -- ## Lists, item by item
 
@@ -45,6 +49,9 @@ module _ (S T : ℕ → ℕ → Type 0) (s t : ℕ) (turn : (x y : ℕ) → S x 
   turn_comp _ _ (alike.AlikeComp.func h) = alike.AlikeComp.func (record { params = turned turn_val h.params; results = turned turn_val h.results })
   turn_comp _ _ (alike.AlikeComp.cont {x} {y} h) = alike.AlikeComp.cont (turn_index x y h)
 
+  turn_sub : (a b : SubType) → AlikeSub S s t a b → AlikeSub T t s b a
+  turn_sub a b h = record { is_final = sym h.is_final; supertypes = turned turn_index h.supertypes; composite = turn_comp a.composite b.composite h.composite }
+
 -- ## One after the other
 
 module _ (S T U : ℕ → ℕ → Type 0) (s t u : ℕ) (join : (x y z : ℕ) → S x y → T y z → U x z) where
@@ -71,6 +78,13 @@ module _ (S T U : ℕ → ℕ → Type 0) (s t u : ℕ) (join : (x y z : ℕ) �
       alike.AlikeComp.func (record { params = joined join_val h.params k.params; results = joined join_val h.results k.results })
   join_comp _ _ _ (alike.AlikeComp.cont {x} {y} h) (alike.AlikeComp.cont {y = z} k) = alike.AlikeComp.cont (join_index x y z h k)
 
+  join_sub : (a b c : SubType) → AlikeSub S s t a b → AlikeSub T t u b c → AlikeSub U s u a c
+  join_sub a b c h k = record {
+    is_final = h.is_final ∙ k.is_final;
+    supertypes = joined join_index h.supertypes k.supertypes;
+    composite = join_comp a.composite b.composite c.composite h.composite k.composite;
+  }
+
 -- ## Equivalence
 
 same_turned : (n : ℕ) (gs : List RecGroup) (i j : ℕ) → Same n gs i j → Same n gs j i
@@ -81,7 +95,7 @@ same_turned (suc n) gs i j h = record {
   one_early = h.other_early;
   other_early = h.one_early;
   position = sym h.position;
-  groups = turned (turn_comp (Same n gs) (Same n gs) (count h.one.front) (count h.other.front) (same_turned n gs)) h.groups;
+  groups = turned (turn_sub (Same n gs) (Same n gs) (count h.one.front) (count h.other.front) (same_turned n gs)) h.groups;
 }
 
 same_joined : (n : ℕ) (gs : List RecGroup) (i j k : ℕ) → Same n gs i j → Same n gs j k → Same n gs i k
@@ -98,7 +112,7 @@ same_joined (suc n) gs i j k h l =
       one_early = h.one_early;
       other_early = l.other_early;
       position = h.position ∙ sym u.position ∙ l.position;
-      groups = joined (join_comp S S S (count h.one.front) (count h.other.front) (count l.other.front) (same_joined n gs)) h.groups g;
+      groups = joined (join_sub S S S (count h.one.front) (count h.other.front) (count l.other.front) (same_joined n gs)) h.groups g;
     }
 
 pub reflexive : (gs : List RecGroup) → IsReflexive (SameIndex gs)
@@ -119,18 +133,32 @@ alike_kinds : {S : ℕ → ℕ → Type 0} {s t : ℕ} {a b : CompType} → Alik
 alike_kinds (alike.AlikeComp.func h) = refl
 alike_kinds (alike.AlikeComp.cont h) = refl
 
-kinds_at : {S : ℕ → ℕ → Type 0} {s t : ℕ} {ts us : List CompType} (p : ℕ) → Pairwise (AlikeComp S s t) ts us → option_map kind_of (slice_get ts p) ≡ option_map kind_of (slice_get us p)
+-- the kind of a type
+abbrev kind_in : SubType → Kind
+kind_in t = kind_of t.composite
+
+kinds_at : {S : ℕ → ℕ → Type 0} {s t : ℕ} {ts us : List SubType} (p : ℕ) → Pairwise (AlikeSub S s t) ts us → option_map kind_in (slice_get ts p) ≡ option_map kind_in (slice_get us p)
 kinds_at p none = refl
-kinds_at zero (more h k) = ap (λ z. Some z) (alike_kinds h)
+kinds_at zero (more h k) = ap (λ z. Some z) (alike_kinds h.composite)
 kinds_at (suc p) (more h k) = kinds_at p k
+
+mapped_twice : (o : Option SubType) → option_map kind_of (option_map composite_of o) ≡ option_map kind_in o
+mapped_twice None = refl
+mapped_twice (Some t) = refl
+
+-- the kind of type i
+kind_here : (gs : List RecGroup) (i : ℕ) → option_map kind_of (slice_get (types_of gs) i) ≡ option_map kind_in (slice_get (subtypes_of gs) i)
+kind_here gs i = ap (option_map kind_of) (slice_get-map composite_of (subtypes_of gs) i) ∙ mapped_twice (slice_get (subtypes_of gs) i)
 
 same_kinds : (n : ℕ) (gs : List RecGroup) (i j : ℕ) → Same n gs i j → option_map kind_of (slice_get (types_of gs) i) ≡ option_map kind_of (slice_get (types_of gs) j)
 same_kinds zero gs i j h = absurd h
 same_kinds (suc n) gs i j h =
-    ap (option_map kind_of) (type_at_place gs i h.one)
+    kind_here gs i
+    ∙ ap (option_map kind_in) (type_at_place gs i h.one)
     ∙ kinds_at h.one.position h.groups
-    ∙ ap (λ (p : ℕ). option_map kind_of (slice_get h.other.group.types p)) h.position
-    ∙ ap (option_map kind_of) (sym (type_at_place gs j h.other))
+    ∙ ap (λ (p : ℕ). option_map kind_in (slice_get h.other.group.types p)) h.position
+    ∙ ap (option_map kind_in) (sym (type_at_place gs j h.other))
+    ∙ sym (kind_here gs j)
 
 -- equivalent types are of one kind
 pub one_kind : (gs : List RecGroup) (i j : ℕ) → SameIndex gs i j → option_map kind_of (slice_get (types_of gs) i) ≡ option_map kind_of (slice_get (types_of gs) j)

@@ -10,6 +10,7 @@ use Rattle.w_types.specs.declared.types.ValType.TheVariants as val
 use Rattle.w_types.specs.declared.types.FuncType.{FuncType}
 use Rattle.w_types.specs.declared.types.CompType.{CompType}
 use Rattle.w_types.specs.declared.types.CompType.TheVariants as comp
+use Rattle.w_types.specs.declared.types.SubType.{SubType}
 use Rattle.w_types.specs.declared.types.RecGroup.{RecGroup}
 use Rattle.w_canon.specs.declared.entry.Entry.{Entry}
 use Rattle.w_canon.specs.declared.key.HeapWord.{HeapWord}
@@ -19,9 +20,9 @@ use Rattle.w_canon.specs.declared.key.ValueWord.TheVariants as key_value
 use Rattle.w_canon.specs.declared.key.Word.{Word}
 use Rattle.w_canon.specs.declared.key.Word.TheVariants as key
 use Rattle.w_canon.specs.Relations.{Pairwise, none, more}
-use Rattle.w_canon.specs.Equivalence.{AlikeIndex, inside, outside, AlikeHeap, AlikeRef, AlikeVal, AlikeFunc, AlikeComp, AlikeGroup}
+use Rattle.w_canon.specs.Equivalence.{AlikeIndex, inside, outside, AlikeHeap, AlikeRef, AlikeVal, AlikeFunc, AlikeComp, AlikeSub, AlikeGroup}
 use Rattle.w_canon.specs.Equivalence as alike
-use Rattle.w_canon.specs.Keys.{seen_as, index_word, heap_word, ref_word, value_word, value_words, type_words, group_words}
+use Rattle.w_canon.specs.Keys.{seen_as, index_word, heap_word, ref_word, value_word, value_words, type_words, head_word, supertype_words, subtype_words, group_words}
 
 -- the types es in front of one group and fs in front of another have one class exactly where S says that they are equal
 abbrev pub ClassedBy : (ℕ → ℕ → Type 0) → List Entry → List Entry → Type 0
@@ -201,22 +202,70 @@ module _ (S : ℕ → ℕ → Type 0) (es fs : List Entry) (by : ClassedBy S es 
       cc
   type_to (alike.AlikeComp.cont {x} {y} h) = ap (λ (w : HeapWord). key.Cont w ∷ []) (index_to x y h)
 
+  -- ## Supertypes
+
+  supertypes_from : (xs ys : List ℕ) → supertype_words es xs ≡ supertype_words fs ys → Pairwise (AlikeIndex S (length es) (length fs)) xs ys
+  supertypes_from [] [] e = none
+  supertypes_from [] (y ∷ ys) e = absurd (cc)
+  supertypes_from (x ∷ xs) [] e = absurd (cc)
+  supertypes_from (x ∷ xs) (y ∷ ys) e = more (index_from x y (cc)) (supertypes_from xs ys (cc))
+
+  supertypes_to : {xs ys : List ℕ} → Pairwise (AlikeIndex S (length es) (length fs)) xs ys → supertype_words es xs ≡ supertype_words fs ys
+  supertypes_to none = refl
+  supertypes_to (more {x} {y} h t) =
+      let p = index_to x y h in
+      let q = supertypes_to t in
+      cc
+
+  -- ## Types with their supertypes
+
+  rest_from : (a b : SubType) (us vs : List Word) → a.is_final ≡ b.is_final → length a.supertypes ≡ length b.supertypes
+      → (supertype_words es a.supertypes ++ type_words es a.composite) ++ us ≡ (supertype_words fs b.supertypes ++ type_words fs b.composite) ++ vs
+      → AlikeSub S (length es) (length fs) a b × (us ≡ vs)
+  rest_from a b us vs f n e =
+      let m : length (supertype_words es a.supertypes) ≡ length (supertype_words fs b.supertypes) =
+      length-map a.supertypes (λ (x : ℕ). key.Supertype (index_word es x)) ∙ n ∙ sym (length-map b.supertypes (λ (x : ℕ). key.Supertype (index_word fs x))) in
+      let parts = same_parts (supertype_words es a.supertypes) (supertype_words fs b.supertypes) (type_words es a.composite ++ us) (type_words fs b.composite ++ vs) m
+      (sym (append_assoc (supertype_words es a.supertypes) (type_words es a.composite) us) ∙ e ∙ append_assoc (supertype_words fs b.supertypes) (type_words fs b.composite) vs) in
+      let t = type_from a.composite b.composite us vs parts.1 in
+      (record { is_final = f; supertypes = supertypes_from a.supertypes b.supertypes parts.0; composite = t.0 }, t.1)
+
+  sub_by : (a b : SubType) (us vs : List Word) (f g : Bool) → a.is_final ≡ f → b.is_final ≡ g
+      → head_word f (length a.supertypes) ∷ ((supertype_words es a.supertypes ++ type_words es a.composite) ++ us)
+      ≡ head_word g (length b.supertypes) ∷ ((supertype_words fs b.supertypes ++ type_words fs b.composite) ++ vs)
+      → AlikeSub S (length es) (length fs) a b × (us ≡ vs)
+  sub_by a b us vs true true i j e = rest_from a b us vs (i ∙ sym j) (cc) (cc)
+  sub_by a b us vs false false i j e = rest_from a b us vs (i ∙ sym j) (cc) (cc)
+  sub_by a b us vs true false i j e = absurd (cc)
+  sub_by a b us vs false true i j e = absurd (cc)
+
+  sub_from : (a b : SubType) (us vs : List Word) → subtype_words es a ++ us ≡ subtype_words fs b ++ vs → AlikeSub S (length es) (length fs) a b × (us ≡ vs)
+  sub_from a b us vs e = sub_by a b us vs a.is_final b.is_final refl refl e
+
+  sub_to : (a b : SubType) → AlikeSub S (length es) (length fs) a b → subtype_words es a ≡ subtype_words fs b
+  sub_to a b h =
+      let n = same_length h.supertypes in
+      let p = supertypes_to h.supertypes in
+      let q = type_to h.composite in
+      ap (λ (f : Bool). head_word f (length a.supertypes) ∷ (supertype_words es a.supertypes ++ type_words es a.composite)) h.is_final
+      ∙ ap (λ (k : ℕ). head_word b.is_final k ∷ (supertype_words es a.supertypes ++ type_words es a.composite)) n
+      ∙ ap (λ (ws : List Word). head_word b.is_final (length b.supertypes) ∷ (ws ++ type_words es a.composite)) p
+      ∙ ap (λ (ws : List Word). head_word b.is_final (length b.supertypes) ∷ (supertype_words fs b.supertypes ++ ws)) q
+
   -- ## Groups
 
-  types_from : (ts us : List CompType) → flat_map (type_words es) ts ≡ flat_map (type_words fs) us → Pairwise (AlikeComp S (length es) (length fs)) ts us
+  types_from : (ts us : List SubType) → flat_map (subtype_words es) ts ≡ flat_map (subtype_words fs) us → Pairwise (AlikeSub S (length es) (length fs)) ts us
   types_from [] [] e = none
-  types_from [] (comp.Func g ∷ us) e = absurd (cc)
-  types_from [] (comp.Cont y ∷ us) e = absurd (cc)
-  types_from (comp.Func f ∷ ts) [] e = absurd (cc)
-  types_from (comp.Cont x ∷ ts) [] e = absurd (cc)
+  types_from [] (u ∷ us) e = absurd (cc)
+  types_from (t ∷ ts) [] e = absurd (cc)
   types_from (t ∷ ts) (u ∷ us) e =
-      let h = type_from t u (flat_map (type_words es) ts) (flat_map (type_words fs) us) e in
+      let h = sub_from t u (flat_map (subtype_words es) ts) (flat_map (subtype_words fs) us) e in
       more h.0 (types_from ts us h.1)
 
-  types_to : {ts us : List CompType} → Pairwise (AlikeComp S (length es) (length fs)) ts us → flat_map (type_words es) ts ≡ flat_map (type_words fs) us
+  types_to : {ts us : List SubType} → Pairwise (AlikeSub S (length es) (length fs)) ts us → flat_map (subtype_words es) ts ≡ flat_map (subtype_words fs) us
   types_to none = refl
-  types_to (more h k) =
-      let p = type_to h in
+  types_to (more {x} {y} h k) =
+      let p = sub_to x y h in
       let q = types_to k in
       cc
 

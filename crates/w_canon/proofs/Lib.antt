@@ -16,4 +16,10 @@ pub mod WordCases
 pub mod WordsOfTypes
 pub mod WordsOfKinds
 pub mod WordsGiven
-pub mod FirstsOfTypes
+pub mod Laminar
+pub mod Sharing
+pub mod Spanning
+pub mod Supertypes
+pub mod SpansOfTypes
+pub mod ParentLists
+pub mod Composites

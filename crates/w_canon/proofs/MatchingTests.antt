@@ -1,5 +1,5 @@
 -- What the tests tell: where the entries are those of the types of groups, each test is true exactly where its relation holds.
-use Rattle.std.proofs.Common.{◌≡◌, ◌↔◌, inl, ℕ, Bool, not, ◌||◌, List, [], ◌∷◌, Option, Some, None, slice_get, refl, ap}
+use Rattle.std.proofs.Common.{◌≡◌, ◌↔◌, ◌⊎◌, inl, inr, ℕ, Bool, true, false, not, ◌||◌, List, [], ◌∷◌, Option, Some, None, slice_get, refl, sym, ap, ◌∙◌}
 use Rattle.std.specs.Prelude.{◌==◌, IsTrue}
 use Rattle.std.specs.Option.{option_map}
 use Rattle.std.specs.Bool.{beq}
@@ -10,6 +10,8 @@ use Rattle.w_types.specs.declared.types.RefType.{RefType}
 use Rattle.w_types.specs.declared.types.ValType.{ValType}
 use Rattle.w_types.specs.declared.types.ValType.TheVariants.{I32, I64, Ref}
 use Rattle.w_types.specs.declared.types.FuncType.{FuncType}
+use Rattle.w_types.specs.declared.types.CompType.{CompType}
+use Rattle.w_types.specs.declared.types.CompType.TheVariants as comp
 use Rattle.w_types.specs.declared.types.RecGroup.{RecGroup}
 use Rattle.w_canon.specs.declared.entry.Class.{Class}
 use Rattle.w_canon.specs.declared.entry.Kind.{Kind}
@@ -17,16 +19,17 @@ use Rattle.w_canon.specs.declared.entry.Kind.TheVariants as kind
 use Rattle.w_canon.specs.declared.entry.Entry.{Entry}
 use Rattle.w_canon.specs.Relations.{Pairwise, none, more}
 use Rattle.w_canon.specs.Equivalence.{SameIndex}
-use Rattle.w_canon.specs.Matching.{IsFunc, IsCont, HeapMatches, RefMatches, ValMatches, ResultMatches, FuncMatches}
+use Rattle.w_canon.specs.Matching.{IsFunc, IsCont, IndexMatches, HeapMatches, RefMatches, ValMatches, ResultMatches, FuncMatches, CompMatches}
 use Rattle.w_canon.specs.Matching as matching
 use Rattle.w_canon.specs.Equality.{HeapEqual, RefEqual, ValEqual, ResultEqual}
 use Rattle.w_canon.specs.Equality as equality
 use Rattle.w_canon.specs.IsClassesOf.{IsClassesOf}
-use Rattle.w_canon.specs.Tests.{pairwise_test, class_test, one_class_test, same_test, one_kind_test, has_kind_test, kind_test, heap_test, ref_test, val_test, result_test, func_test, heap_same_test, ref_same_test, val_same_test, result_same_test}
+use Rattle.w_canon.specs.Tests.{pairwise_test, class_test, one_class_test, same_test, one_below_test, index_test, one_kind_test, has_kind_test, kind_test, heap_test, ref_test, val_test, result_test, func_test, comp_test, heap_same_test, ref_same_test, val_same_test, result_same_test}
 use Rattle.w_canon.proofs.Orders.{one_class}
 use Rattle.w_canon.proofs.ClassesOfTypes.{decided_by_class}
 use Rattle.lists.proofs.Tests.{both_decided, either_decided, implied_decided}
 use Rattle.w_canon.proofs.Matches.{through, func_by_entry, cont_by_entry}
+use Rattle.w_canon.proofs.Supertypes.{matches_within, entry_there}
 
 -- ## Lists
 
@@ -91,6 +94,47 @@ module _ (gs : List RecGroup) (es : List Entry) (h : IsClassesOf gs es) where
       (λ t. inl ((unsigned_Decides i j).0 t))
       (λ f. through (one_class_decided (slice_get es i) (slice_get es j)) (decided_by_class gs es i j h (λ e. let t = (unsigned_Decides i j).1 e in cc)))
 
+  below_found : (i j : ℕ) (o p : Option Entry) → slice_get es i ≡ o → slice_get es j ≡ p → IsTrue (one_below_test o p) → IndexMatches gs i j
+  below_found i j None p e f t = absurd (cc)
+  below_found i j (Some a) None e f t = absurd (cc)
+  below_found i j (Some a) (Some b) e f t = (h.spans i j a b e f).0 t
+
+  -- an index that matches another does so by their spans, where both are of types
+  below_holds : (i j : ℕ) (o p : Option Entry) → slice_get es i ≡ o → slice_get es j ≡ p → IndexMatches gs i j → (i ≡ j) ⊎ IsTrue (one_below_test o p)
+  below_holds i j None p e f m = elim (matches_within gs m) [
+    | inl s ↦ inl s
+    | inr w ↦ absurd (let a = entry_there gs es i h w.0 in let g = a.1 in cc)
+  ]
+  below_holds i j (Some a) None e f m = elim (matches_within gs m) [
+    | inl s ↦ inl s
+    | inr w ↦ absurd (let b = entry_there gs es j h w.1 in let g = b.1 in cc)
+  ]
+  below_holds i j (Some a) (Some b) e f m = inr ((h.spans i j a b e f).1 m)
+
+  or_first : (b c : Bool) → IsTrue b → IsTrue (b || c)
+  or_first true c t = refl
+  or_first false c t = absurd (cc)
+
+  or_second : (b c : Bool) → IsTrue c → IsTrue (b || c)
+  or_second true c t = refl
+  or_second false c t = t
+
+  or_either : (b c : Bool) (P : Type 0) → IsTrue (b || c) → (IsTrue b → P) → (IsTrue c → P) → P
+  or_either true c P t f g = f refl
+  or_either false c P t f g = g t
+
+  -- a type matches another
+  pub index_decided : (i j : ℕ) → IsTrue (index_test es i j) ↔ IndexMatches gs i j
+  index_decided i j = (
+    λ t. or_either (same_test es i j) (one_below_test (slice_get es i) (slice_get es j)) (IndexMatches gs i j) t
+        (λ s. IndexMatches.same ((same_decided i j).0 s))
+        (λ b. below_found i j (slice_get es i) (slice_get es j) refl refl b),
+    λ m. elim (below_holds i j (slice_get es i) (slice_get es j) refl refl m) [
+      | inl e ↦ or_first (same_test es i j) _ ((same_decided i j).1 (inl e))
+      | inr b ↦ or_second (same_test es i j) _ b
+    ],
+  )
+
   -- a type is a function type
   pub func_kind_decided : (i : ℕ) → IsTrue (kind_test es i kind.Func) ↔ IsFunc gs i
   func_kind_decided i = through (has_kind_decided (slice_get es i) kind.Func) (func_by_entry gs es i h)
@@ -117,7 +161,7 @@ module _ (gs : List RecGroup) (es : List Entry) (h : IsClassesOf gs es) where
   heap_found NoCont b t = absurd (cc)
   heap_found (Index x) Func t = matching.HeapMatches.index_func ((func_kind_decided x).0 t)
   heap_found (Index x) Cont t = matching.HeapMatches.index_cont ((cont_kind_decided x).0 t)
-  heap_found (Index x) (Index y) t = matching.HeapMatches.index ((same_decided x y).0 t)
+  heap_found (Index x) (Index y) t = matching.HeapMatches.index ((index_decided x y).0 t)
   heap_found (Index x) b t = absurd (cc)
 
   -- heap types that match pass the test
@@ -126,7 +170,7 @@ module _ (gs : List RecGroup) (es : List Entry) (h : IsClassesOf gs es) where
   heap_holds matching.HeapMatches.no_func = refl
   heap_holds matching.HeapMatches.cont = refl
   heap_holds matching.HeapMatches.no_cont = refl
-  heap_holds (matching.HeapMatches.index {x} {y} s) = (same_decided x y).1 s
+  heap_holds (matching.HeapMatches.index {x} {y} s) = (index_decided x y).1 s
   heap_holds (matching.HeapMatches.index_func {x} f) = (func_kind_decided x).1 f
   heap_holds (matching.HeapMatches.index_cont {x} f) = (cont_kind_decided x).1 f
   heap_holds matching.HeapMatches.no_func_func = refl
@@ -172,6 +216,20 @@ module _ (gs : List RecGroup) (es : List Entry) (h : IsClassesOf gs es) where
   func_decided f g = through
       (both_decided (result_test es g.params f.params) (result_test es f.results g.results) (result_decided g.params f.params) (result_decided f.results g.results))
       (λ p. record { params = p.0; results = p.1 }, λ (m : FuncMatches gs f g). (m.params, m.results))
+
+  comp_found : (a b : CompType) → IsTrue (comp_test es a b) → CompMatches gs a b
+  comp_found (comp.Func f) (comp.Func g) t = matching.CompMatches.func ((func_decided f g).0 t)
+  comp_found (comp.Func f) (comp.Cont y) t = absurd (cc)
+  comp_found (comp.Cont x) (comp.Func g) t = absurd (cc)
+  comp_found (comp.Cont x) (comp.Cont y) t = matching.CompMatches.cont ((index_decided x y).0 t)
+
+  comp_holds : {a b : CompType} → CompMatches gs a b → IsTrue (comp_test es a b)
+  comp_holds (matching.CompMatches.func {f} {g} h) = (func_decided f g).1 h
+  comp_holds (matching.CompMatches.cont {x} {y} h) = (index_decided x y).1 h
+
+  -- composite types match
+  pub comp_decided : (a b : CompType) → IsTrue (comp_test es a b) ↔ CompMatches gs a b
+  comp_decided a b = (comp_found a b, comp_holds)
 
   -- ## Equality
 
@@ -228,3 +286,13 @@ module _ (gs : List RecGroup) (es : List Entry) (h : IsClassesOf gs es) where
   -- result types are equal
   pub result_same_decided : (ts us : List ValType) → IsTrue (result_same_test es ts us) ↔ ResultEqual gs ts us
   result_same_decided ts us = pairwise_decided (val_same_test es) (ValEqual gs) val_same_decided ts us
+
+-- ## As a program tests it
+
+-- types that are equivalent match
+pub index_same : (es : List Entry) (i j : ℕ) (b : Bool) → b ≡ same_test es i j → b ≡ true → b ≡ index_test es i j
+index_same es i j b e t = t ∙ sym (ap (λ (d : Bool). d || one_below_test (slice_get es i) (slice_get es j)) (sym e ∙ t))
+
+-- others match by their spans
+pub index_below : (es : List Entry) (i j : ℕ) (b c : Bool) → b ≡ same_test es i j → b ≡ false → c ≡ one_below_test (slice_get es i) (slice_get es j) → c ≡ index_test es i j
+index_below es i j b c e f h = h ∙ sym (ap (λ (d : Bool). d || one_below_test (slice_get es i) (slice_get es j)) (sym e ∙ f))

@@ -56,6 +56,9 @@ words (word.Func m n) (word.Func p q) e =
     let g = exact_unsigned m p h.0 in
     let k = exact_unsigned n q h.1 in
     cc
+words (word.Final m) (word.Final n) e = ap word.Final (exact_unsigned m n e)
+words (word.Open m) (word.Open n) e = ap word.Open (exact_unsigned m n e)
+words (word.Supertype x) (word.Supertype y) e = ap word.Supertype (heaps x y e)
 words (word.Cont x) (word.Cont y) e = ap word.Cont (heaps x y e)
 words (word.Value x) (word.Value y) e = ap word.Value (values x y e)
 words _ _ e = absurd (cc)

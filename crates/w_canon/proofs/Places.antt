@@ -3,40 +3,37 @@ use Rattle.std.proofs.Common.{◌≡◌, ◌⊎◌, inl, inr, ℕ, ◌+◌, ◌-
 use Rattle.std.proofs.lemmas.Bool.{cases_lt}
 use Rattle.std.proofs.lemmas.List.{length-append}
 use Rattle.lists.proofs.Lists.{get-front, get-behind}
-use Rattle.w_types.specs.declared.types.CompType.{CompType}
+use Rattle.w_types.specs.declared.types.SubType.{SubType}
 use Rattle.w_types.specs.declared.types.RecGroup.{RecGroup}
-use Rattle.w_types.specs.Groups.{types_of}
+use Rattle.w_types.specs.Groups.{subtypes_of}
+use Rattle.w_canon.specs.Classed.{count}
 use Rattle.w_canon.specs.Equivalence.{Place}
 
 -- ## Counts of types
 
-pub types_of-cons : (x : RecGroup) (xs : List RecGroup) → types_of (x ∷ xs) ≡ x.types ++ types_of xs
-unfolding types_of
-types_of-cons x xs = refl
+pub subtypes_of-cons : (x : RecGroup) (xs : List RecGroup) → subtypes_of (x ∷ xs) ≡ x.types ++ subtypes_of xs
+unfolding subtypes_of
+subtypes_of-cons x xs = refl
 
-pub types_of-nil : types_of [] ≡ []
-unfolding types_of
-types_of-nil = refl
+pub subtypes_of-nil : subtypes_of [] ≡ []
+unfolding subtypes_of
+subtypes_of-nil = refl
 
-pub types_of-append : (xs ys : List RecGroup) → types_of (xs ++ ys) ≡ types_of xs ++ types_of ys
-unfolding types_of
-types_of-append [] ys = refl
-types_of-append (x ∷ xs) ys = ap (λ (l : List CompType). x.types ++ l) (types_of-append xs ys) ∙ sym (append_assoc x.types (types_of xs) (types_of ys))
-
--- how many types groups have
-abbrev pub count : List RecGroup → ℕ
-count gs = length (types_of gs)
+pub subtypes_of-append : (xs ys : List RecGroup) → subtypes_of (xs ++ ys) ≡ subtypes_of xs ++ subtypes_of ys
+unfolding subtypes_of
+subtypes_of-append [] ys = refl
+subtypes_of-append (x ∷ xs) ys = ap (λ (l : List SubType). x.types ++ l) (subtypes_of-append xs ys) ∙ sym (append_assoc x.types (subtypes_of xs) (subtypes_of ys))
 
 count-cons : (x : RecGroup) (xs : List RecGroup) → count (x ∷ xs) ≡ length x.types + count xs
-unfolding types_of
-count-cons x xs = length-append x.types (types_of xs)
+unfolding subtypes_of
+count-cons x xs = length-append x.types (subtypes_of xs)
 
 count-nil : count [] ≡ 0
-unfolding types_of
+unfolding subtypes_of
 count-nil = refl
 
 pub count-append : (xs ys : List RecGroup) → count (xs ++ ys) ≡ count xs + count ys
-count-append xs ys = ap (λ (l : List CompType). length l) (types_of-append xs ys) ∙ length-append (types_of xs) (types_of ys)
+count-append xs ys = ap (λ (l : List SubType). length l) (subtypes_of-append xs ys) ∙ length-append (subtypes_of xs) (subtypes_of ys)
 
 -- the types in front of a group and those of the group are among all
 pub count-split : (gs front : List RecGroup) (g : RecGroup) (back : List RecGroup) → gs ≡ front ++ g ∷ back → count front + length g.types ≤ count gs
@@ -122,10 +119,10 @@ one_place gs i P Q = same_parts P.front Q.front P.group Q.group P.back Q.back P.
 -- ## The type at a place
 
 -- it is the one of its group at its position
-pub type_at_place : (gs : List RecGroup) (i : ℕ) (P : Place gs i) → slice_get (types_of gs) i ≡ slice_get P.group.types P.position
+pub type_at_place : (gs : List RecGroup) (i : ℕ) (P : Place gs i) → slice_get (subtypes_of gs) i ≡ slice_get P.group.types P.position
 type_at_place gs i P =
-    ap (λ (l : List RecGroup). slice_get (types_of l) i) P.is
-    ∙ ap (λ (l : List CompType). slice_get l i) (types_of-append P.front (P.group ∷ P.back) ∙ ap (λ (l : List CompType). types_of P.front ++ l) (types_of-cons P.group P.back))
-    ∙ ap (slice_get (types_of P.front ++ (P.group.types ++ types_of P.back))) P.counts
-    ∙ get-behind (types_of P.front) (P.group.types ++ types_of P.back) P.position
-    ∙ get-front P.group.types (types_of P.back) P.position P.within
+    ap (λ (l : List RecGroup). slice_get (subtypes_of l) i) P.is
+    ∙ ap (λ (l : List SubType). slice_get l i) (subtypes_of-append P.front (P.group ∷ P.back) ∙ ap (λ (l : List SubType). subtypes_of P.front ++ l) (subtypes_of-cons P.group P.back))
+    ∙ ap (slice_get (subtypes_of P.front ++ (P.group.types ++ subtypes_of P.back))) P.counts
+    ∙ get-behind (subtypes_of P.front) (P.group.types ++ subtypes_of P.back) P.position
+    ∙ get-front P.group.types (subtypes_of P.back) P.position P.within

@@ -11,10 +11,10 @@ use Rattle.w_canon.specs.declared.entry.Kind.TheVariants as kind
 use Rattle.w_canon.specs.declared.entry.Entry.{Entry}
 use Rattle.w_canon.specs.IsClassesOf.{IsClassesOf, OneClass}
 use Rattle.w_canon.specs.Matching.{ValMatches}
-use Rattle.w_canon.specs.Tests.{kind_test, one_class_test, heap_test, val_test}
+use Rattle.w_canon.specs.Tests.{kind_test, one_class_test, one_below_test, same_test, heap_test, val_test, heap_narrow_test, val_narrow_test}
 use Rattle.w_canon.specs.Words.{joined, bit_of, all_classes, given_class, wanted_class, given_classes, given_mark, given_word, IsGiven, wanted_classes, wanted_mark, wanted_word, IsWanted}
 use Rattle.w_canon.proofs.MatchingTests.{class_decided, val_decided}
-use Rattle.w_canon.proofs.WordCases.{GivenBy, WantedBy, given_found, wanted_found}
+use Rattle.w_canon.proofs.WordCases.{GivenBy, WantedBy, given_found, wanted_found, or_left}
 
 -- ## Bits
 
@@ -112,7 +112,7 @@ mark_wanted (Index x) e = omega arith
 
 -- heap types whose classes are not told match where they have no bit in common
 heaps_alone : (es : List Entry) (a b : HeapType) → bit_and (given_classes a) (wanted_classes b) ≡ 0 → bit_and (given_mark a) (wanted_mark b) ≡ 0 →
-    IsTrue (heap_test es a b)
+    IsTrue (heap_narrow_test es a b)
 heaps_alone es Func Func c m = refl
 heaps_alone es Func NoFunc c m = absurd (omega arith)
 heaps_alone es Func Cont c m = absurd (omega arith)
@@ -141,7 +141,7 @@ heaps_alone es (Index x) (Index y) c m = absurd (omega arith)
 
 -- so do a function type and another type whose class is not told
 func_given : (es : List Entry) (x c : ℕ) (b : HeapType) → IsTrue (kind_test es x kind.Func) → c < 16384 →
-    bit_and (given_class c) (wanted_classes b) ≡ 0 → bit_and 5 (wanted_mark b) ≡ 0 → IsTrue (heap_test es (Index x) b)
+    bit_and (given_class c) (wanted_classes b) ≡ 0 → bit_and 5 (wanted_mark b) ≡ 0 → IsTrue (heap_narrow_test es (Index x) b)
 func_given es x c Func k l e m = k
 func_given es x c NoFunc k l e m = absurd (no_class_given c l e)
 func_given es x c Cont k l e m = absurd (omega arith)
@@ -149,7 +149,7 @@ func_given es x c NoCont k l e m = absurd (omega arith)
 func_given es x c (Index y) k l e m = absurd (omega arith)
 
 cont_given : (es : List Entry) (x c : ℕ) (b : HeapType) → IsTrue (kind_test es x kind.Cont) → c < 16384 →
-    bit_and (given_class c) (wanted_classes b) ≡ 0 → bit_and 3 (wanted_mark b) ≡ 0 → IsTrue (heap_test es (Index x) b)
+    bit_and (given_class c) (wanted_classes b) ≡ 0 → bit_and 3 (wanted_mark b) ≡ 0 → IsTrue (heap_narrow_test es (Index x) b)
 cont_given es x c Func k l e m = absurd (omega arith)
 cont_given es x c NoFunc k l e m = absurd (omega arith)
 cont_given es x c Cont k l e m = k
@@ -157,7 +157,7 @@ cont_given es x c NoCont k l e m = absurd (no_class_given c l e)
 cont_given es x c (Index y) k l e m = absurd (omega arith)
 
 func_wanted : (es : List Entry) (a : HeapType) (y d : ℕ) → IsTrue (kind_test es y kind.Func) → d < 16384 →
-    bit_and (given_classes a) (wanted_class d) ≡ 0 → bit_and (given_mark a) 2 ≡ 0 → IsTrue (heap_test es a (Index y))
+    bit_and (given_classes a) (wanted_class d) ≡ 0 → bit_and (given_mark a) 2 ≡ 0 → IsTrue (heap_narrow_test es a (Index y))
 func_wanted es Func y d k l e m = absurd (no_class_wanted d l e)
 func_wanted es NoFunc y d k l e m = k
 func_wanted es Cont y d k l e m = absurd (omega arith)
@@ -165,7 +165,7 @@ func_wanted es NoCont y d k l e m = absurd (omega arith)
 func_wanted es (Index x) y d k l e m = absurd (omega arith)
 
 cont_wanted : (es : List Entry) (a : HeapType) (y d : ℕ) → IsTrue (kind_test es y kind.Cont) → d < 16384 →
-    bit_and (given_classes a) (wanted_class d) ≡ 0 → bit_and (given_mark a) 4 ≡ 0 → IsTrue (heap_test es a (Index y))
+    bit_and (given_classes a) (wanted_class d) ≡ 0 → bit_and (given_mark a) 4 ≡ 0 → IsTrue (heap_narrow_test es a (Index y))
 cont_wanted es Func y d k l e m = absurd (omega arith)
 cont_wanted es NoFunc y d k l e m = absurd (omega arith)
 cont_wanted es Cont y d k l e m = absurd (no_class_wanted d l e)
@@ -173,7 +173,7 @@ cont_wanted es NoCont y d k l e m = k
 cont_wanted es (Index x) y d k l e m = absurd (omega arith)
 
 -- types of one class are equivalent
-same_class : (es : List Entry) (x y c : ℕ) → OneClass es x c → OneClass es y c → IsTrue (heap_test es (Index x) (Index y))
+same_class : (es : List Entry) (x y c : ℕ) → OneClass es x c → OneClass es y c → IsTrue (heap_narrow_test es (Index x) (Index y))
 same_class es x y c (a, b, f, g, h) (d, e, i, j, k) =
     let one : b ≡ e = let s : Some b ≡ Some e = sym g ∙ j in cc in
     let same : a.class ≡ d.class = h ∙ ap (λ (z : Entry). z.class) one ∙ sym k in
@@ -189,12 +189,12 @@ same_class es x y c (a, b, f, g, h) (d, e, i, j, k) =
 
 -- reference types match where their parts have no bit in common
 module _ (es : List Entry) where
-  references : (n m : Bool) (a b : HeapType) → bit_and (bit_of n) (bit_of (not m)) ≡ 0 → IsTrue (heap_test es a b) →
-      IsTrue (val_test es (Ref (record { nullable = n; heap = a })) (Ref (record { nullable = m; heap = b })))
-  references n m a b e h = both (not n || m) (heap_test es a b) (null_kept n m e) h
+  references : (n m : Bool) (a b : HeapType) → bit_and (bit_of n) (bit_of (not m)) ≡ 0 → IsTrue (heap_narrow_test es a b) →
+      IsTrue (val_narrow_test es (Ref (record { nullable = n; heap = a })) (Ref (record { nullable = m; heap = b })))
+  references n m a b e h = both (not n || m) (heap_narrow_test es a b) (null_kept n m e) h
 
   -- two words whose classes are not told
-  both_alone : (t u : ValType) → bit_and (given_word t) (wanted_word u) ≡ 0 → IsTrue (val_test es t u)
+  both_alone : (t u : ValType) → bit_and (given_word t) (wanted_word u) ≡ 0 → IsTrue (val_narrow_test es t u)
   both_alone I32 I32 e = refl
   both_alone I32 I64 e = absurd (omega arith)
   both_alone I64 I32 e = absurd (omega arith)
@@ -218,8 +218,8 @@ module _ (es : List Entry) where
 
   -- a concrete type that is given, of either kind
   given_decided : (n : Bool) (x c m : ℕ) (u : ValType) → m < 8 → (bit_and m 1 ≡ 0 → ⊥) →
-      ((b : HeapType) → bit_and (given_class c) (wanted_classes b) ≡ 0 → bit_and m (wanted_mark b) ≡ 0 → IsTrue (heap_test es (Index x) b)) →
-      bit_and (joined (given_class c) m (bit_of n)) (wanted_word u) ≡ 0 → IsTrue (val_test es (Ref (record { nullable = n; heap = Index x })) u)
+      ((b : HeapType) → bit_and (given_class c) (wanted_classes b) ≡ 0 → bit_and m (wanted_mark b) ≡ 0 → IsTrue (heap_narrow_test es (Index x) b)) →
+      bit_and (joined (given_class c) m (bit_of n)) (wanted_word u) ≡ 0 → IsTrue (val_narrow_test es (Ref (record { nullable = n; heap = Index x })) u)
   given_decided n x c m I32 l k f e =
       absurd (k (parts (given_class c) (wanted_class 0) m 1 (bit_of n) 0 l (omega arith) (bit_below n) (omega arith) e).1.0)
   given_decided n x c m I64 l k f e =
@@ -230,8 +230,8 @@ module _ (es : List Entry) where
 
   -- and one that is wanted
   wanted_decided : (t : ValType) (m : Bool) (y d k : ℕ) → k < 8 → (bit_and 6 k ≡ 0 → ⊥) →
-      ((a : HeapType) → bit_and (given_classes a) (wanted_class d) ≡ 0 → bit_and (given_mark a) k ≡ 0 → IsTrue (heap_test es a (Index y))) →
-      bit_and (given_word t) (joined (wanted_class d) k (bit_of (not m))) ≡ 0 → IsTrue (val_test es t (Ref (record { nullable = m; heap = Index y })))
+      ((a : HeapType) → bit_and (given_classes a) (wanted_class d) ≡ 0 → bit_and (given_mark a) k ≡ 0 → IsTrue (heap_narrow_test es a (Index y))) →
+      bit_and (given_word t) (joined (wanted_class d) k (bit_of (not m))) ≡ 0 → IsTrue (val_narrow_test es t (Ref (record { nullable = m; heap = Index y })))
   wanted_decided I32 m y d k l h f e =
       absurd (h (parts (given_class 0) (wanted_class d) 6 k 0 (bit_of (not m)) (omega arith) l (omega arith) (bit_below (not m)) e).1.0)
   wanted_decided I64 m y d k l h f e =
@@ -243,7 +243,7 @@ module _ (es : List Entry) where
   -- two concrete types of one kind
   wide_decided : (n m : Bool) (x y c d k l : ℕ) → OneClass es x c → OneClass es y d → c < 16384 → d < 16384 → k < 8 → l < 8 →
       bit_and (joined (given_class c) k (bit_of n)) (joined (wanted_class d) l (bit_of (not m))) ≡ 0 →
-      IsTrue (val_test es (Ref (record { nullable = n; heap = Index x })) (Ref (record { nullable = m; heap = Index y })))
+      IsTrue (val_narrow_test es (Ref (record { nullable = n; heap = Index x })) (Ref (record { nullable = m; heap = Index y })))
   wide_decided n m x y c d k l one other hc hd hk hl e =
       let p = parts (given_class c) (wanted_class d) k l (bit_of n) (bit_of (not m)) hk hl (bit_below n) (bit_below (not m)) e in
       let same : c ≡ d = one_class c d hc hd p.0 in
@@ -252,7 +252,7 @@ module _ (es : List Entry) where
       ap_class : c ≡ d → OneClass es x c → OneClass es x d
       ap_class e o = subst (OneClass es x) e o
 
-  cases_fit : (t u : ValType) (w v : ℕ) → GivenBy es t w → WantedBy es u v → bit_and w v ≡ 0 → IsTrue (val_test es t u)
+  cases_fit : (t u : ValType) (w v : ℕ) → GivenBy es t w → WantedBy es u v → bit_and w v ≡ 0 → IsTrue (val_narrow_test es t u)
   cases_fit t u _ _ GivenBy.alone WantedBy.alone e = both_alone t u e
   cases_fit _ u _ _ (GivenBy.of_func {n} {x} {c} o k l) WantedBy.alone e =
       given_decided n x c 5 u (omega arith) (λ z. omega arith) (λ b. func_given es x c b k l) e
@@ -271,9 +271,38 @@ module _ (es : List Entry) where
   cases_fit _ _ _ _ (GivenBy.of_cont {n} {x} {c} o k l) (WantedBy.of_func {n = m} {x = y} {c = d} p i j) e =
       absurd (let q = (parts (given_class c) (wanted_class d) 3 2 (bit_of n) (bit_of (not m)) (omega arith) (omega arith) (bit_below n) (bit_below (not m)) e).1.0 in omega arith)
 
+  -- a word that is given and one that is wanted have no bit in common only where the first type matches the second, with equivalent indices
+  pub words_fit_narrowly : (t u : ValType) (w v : ℕ) → IsGiven es t w → IsWanted es u v → bit_and w v ≡ 0 → IsTrue (val_narrow_test es t u)
+  words_fit_narrowly t u w v g h e = cases_fit t u w v (given_found es t w g) (wanted_found es u v h) e
+
+  -- ## The narrow test and the test
+
+  heap_wider : (a b : HeapType) → IsTrue (heap_narrow_test es a b) → IsTrue (heap_test es a b)
+  heap_wider Func b h = h
+  heap_wider NoFunc b h = h
+  heap_wider Cont b h = h
+  heap_wider NoCont b h = h
+  heap_wider (Index x) Func h = h
+  heap_wider (Index x) NoFunc h = h
+  heap_wider (Index x) Cont h = h
+  heap_wider (Index x) NoCont h = h
+  heap_wider (Index x) (Index y) h = or_left (same_test es x y) (one_below_test (slice_get es x) (slice_get es y)) h
+
+  wider_ref : (t : Bool) (a b : HeapType) → IsTrue (t && heap_narrow_test es a b) → IsTrue (t && heap_test es a b)
+  wider_ref true a b h = heap_wider a b h
+  wider_ref false a b h = h
+
+  -- types that match with equivalent indices match
+  pub val_wider : (t u : ValType) → IsTrue (val_narrow_test es t u) → IsTrue (val_test es t u)
+  val_wider I32 u h = h
+  val_wider I64 u h = h
+  val_wider (Ref r) I32 h = h
+  val_wider (Ref r) I64 h = h
+  val_wider (Ref r) (Ref q) h = wider_ref (not r.nullable || q.nullable) r.heap q.heap h
+
   -- a word that is given and one that is wanted have no bit in common only where the first type matches the second
   pub words_fit : (t u : ValType) (w v : ℕ) → IsGiven es t w → IsWanted es u v → bit_and w v ≡ 0 → IsTrue (val_test es t u)
-  words_fit t u w v g h e = cases_fit t u w v (given_found es t w g) (wanted_found es u v h) e
+  words_fit t u w v g h e = val_wider t u (words_fit_narrowly t u w v g h e)
 
 -- and then the types match by the rules
 pub words_match : (gs : List RecGroup) (es : List Entry) (t u : ValType) (w v : ℕ) → IsClassesOf gs es → IsGiven es t w → IsWanted es u v → bit_and w v ≡ 0 → ValMatches gs t u

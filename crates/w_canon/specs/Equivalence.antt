@@ -10,8 +10,9 @@ use Rattle.w_types.specs.declared.types.ValType.TheVariants as val
 use Rattle.w_types.specs.declared.types.FuncType.{FuncType}
 use Rattle.w_types.specs.declared.types.CompType.{CompType}
 use Rattle.w_types.specs.declared.types.CompType.TheVariants as comp
+use Rattle.w_types.specs.declared.types.SubType.{SubType}
 use Rattle.w_types.specs.declared.types.RecGroup.{RecGroup}
-use Rattle.w_types.specs.Groups.{types_of}
+use Rattle.w_types.specs.Groups.{subtypes_of}
 use Rattle.w_canon.specs.Relations.{Pairwise}
 
 -- ## Groups that are equal, where S says which indices outside of them are. One begins with index s, the other with index t.
@@ -41,13 +42,18 @@ pub record AlikeFunc (S : ℕ → ℕ → Type 0) (s t : ℕ) (f g : FuncType) :
   pub params : Pairwise (AlikeVal S s t) f.params g.params
   pub results : Pairwise (AlikeVal S s t) f.results g.results
 
--- all that is compared of a type
 pub data AlikeComp (S : ℕ → ℕ → Type 0) (s t : ℕ) : CompType → CompType → Type 0 where
   func : {f g : FuncType} → AlikeFunc S s t f g → AlikeComp S s t (comp.Func f) (comp.Func g)
   cont : {x y : ℕ} → AlikeIndex S s t x y → AlikeComp S s t (comp.Cont x) (comp.Cont y)
 
+-- all that is compared of a type
+pub record AlikeSub (S : ℕ → ℕ → Type 0) (s t : ℕ) (a b : SubType) : Type 0 where
+  pub is_final : a.is_final ≡ b.is_final
+  pub supertypes : Pairwise (AlikeIndex S s t) a.supertypes b.supertypes
+  pub composite : AlikeComp S s t a.composite b.composite
+
 abbrev pub AlikeGroup : (ℕ → ℕ → Type 0) → ℕ → ℕ → RecGroup → RecGroup → Type 0
-AlikeGroup S s t g h = Pairwise (AlikeComp S s t) g.types h.types
+AlikeGroup S s t g h = Pairwise (AlikeSub S s t) g.types h.types
 
 -- ## Equivalence
 
@@ -58,7 +64,7 @@ pub record Place (gs : List RecGroup) (i : ℕ) : Type 0 where
   pub back : List RecGroup
   pub position : ℕ
   pub is : gs ≡ front ++ group ∷ back
-  pub counts : i ≡ length (types_of front) + position
+  pub counts : i ≡ length (subtypes_of front) + position
   pub within : position < length group.types
 
 -- types i and j stand at the same position of equal groups, at most n groups in front of each
@@ -68,7 +74,7 @@ pub record AtOnePosition (S : ℕ → ℕ → Type 0) (n : ℕ) (gs : List RecGr
   pub one_early : length one.front ≤ n
   pub other_early : length other.front ≤ n
   pub position : one.position ≡ other.position
-  pub groups : AlikeGroup S (length (types_of one.front)) (length (types_of other.front)) one.group other.group
+  pub groups : AlikeGroup S (length (subtypes_of one.front)) (length (subtypes_of other.front)) one.group other.group
 
 -- i and j are types of the first n groups, and equivalent
 abbrev pub Same : ℕ → List RecGroup → ℕ → ℕ → Type 0

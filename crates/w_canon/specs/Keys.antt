@@ -7,6 +7,7 @@ use Rattle.w_types.specs.declared.types.ValType.{ValType}
 use Rattle.w_types.specs.declared.types.ValType.TheVariants as val
 use Rattle.w_types.specs.declared.types.CompType.{CompType}
 use Rattle.w_types.specs.declared.types.CompType.TheVariants as comp
+use Rattle.w_types.specs.declared.types.SubType.{SubType}
 use Rattle.w_types.specs.declared.types.RecGroup.{RecGroup}
 use Rattle.w_canon.specs.declared.entry.Entry.{Entry}
 use Rattle.w_canon.specs.declared.key.HeapWord.{HeapWord}
@@ -48,5 +49,16 @@ type_words es (comp.Func f) =
     key.Func (length f.params) (length f.results) ∷ (value_words es f.params ++ value_words es f.results)
 type_words es (comp.Cont x) = key.Cont (index_word es x) ∷ []
 
+abbrev pub supertype_words : List Entry → List ℕ → List Word
+supertype_words es xs = map (λ (x : ℕ). key.Supertype (index_word es x)) xs
+
+-- whether the type is final, and how many supertypes it has
+abbrev pub head_word : Bool → ℕ → Word
+head_word true n = key.Final n
+head_word false n = key.Open n
+
+abbrev pub subtype_words : List Entry → SubType → List Word
+subtype_words es t = head_word t.is_final (length t.supertypes) ∷ (supertype_words es t.supertypes ++ type_words es t.composite)
+
 abbrev pub group_words : List Entry → RecGroup → List Word
-group_words es g = flat_map (type_words es) g.types
+group_words es g = flat_map (subtype_words es) g.types

@@ -2,6 +2,12 @@ pub mod Relations
 pub mod Equivalence
 pub mod Matching
 pub mod Equality
+pub mod Forest
+pub mod Shares
+pub mod Supertypes
+pub mod Classed
+pub mod Parents
+pub mod Spanned
 pub mod Keys
 pub mod Entries
 pub mod IsClassesOf
@@ -9,5 +15,4 @@ pub mod Tests
 pub mod Numbers
 pub mod Compared
 pub mod Shapes
-pub mod Firsts
 pub mod Words

@@ -9,7 +9,7 @@ use Rattle.w_canon.specs.declared.entry.Kind.TheVariants as kind
 use Rattle.w_canon.specs.declared.entry.Entry.{Entry}
 use Rattle.w_canon.specs.declared.shape.Shape.{Shape}
 use Rattle.w_canon.specs.declared.shape.Shape.TheVariants.{I32, I64, Func, NoFunc, Cont, NoCont, Index}
-use Rattle.w_canon.specs.Tests.{same_test, kind_test}
+use Rattle.w_canon.specs.Tests.{index_test, kind_test}
 
 abbrev pub heap_shape : HeapType → Shape
 heap_shape heap.Func = Func
@@ -47,5 +47,5 @@ shapes_test es NoCont x Index y = kind_test es y kind.Cont
 shapes_test es NoCont x s y = false
 shapes_test es Index x Func y = kind_test es x kind.Func
 shapes_test es Index x Cont y = kind_test es x kind.Cont
-shapes_test es Index x Index y = same_test es x y
+shapes_test es Index x Index y = index_test es x y
 shapes_test es Index x s y = false

@@ -1,10 +1,10 @@
 //! Keys of groups: two groups have one key exactly where they are equal.
 ghost use Rattle.std.specs.Prelude.{◌≡◌, ◌++◌, IfOk, OnOk};
-ghost use Rattle.w_canon.specs.Keys.{index_word, heap_word, value_word, value_words, type_words, group_words};
+ghost use Rattle.w_canon.specs.Keys.{index_word, heap_word, value_word, value_words, type_words, head_word, supertype_words, subtype_words, group_words};
 
 use crate::entry::{Class, Entry};
 use std::alloc::{AllocError, Global};
-use w_types::{CompType, HeapType, PackedType, RecGroup, ValType};
+use w_types::{CompType, HeapType, PackedType, RecGroup, SubType, ValType};
 
 /// A heap type. An index is a position in the group of the key, or a class of a type outside.
 #[derive(Clone, Copy, Debug, PartialEq, Eq, PartialOrd, Ord)]
@@ -26,9 +26,12 @@ pub enum ValueWord {
     Nullable(HeapWord),
 }
 
-/// A part of a key. A function type has its counts in front of its parameters and results, so that no key is read two ways.
+/// A part of a key. Counts stand in front of what they count, so that no key is read two ways.
 #[derive(Clone, Copy, Debug, PartialEq, Eq, PartialOrd, Ord)]
 pub enum Word {
+    Final { supertypes: usize },
+    Open { supertypes: usize },
+    Supertype(HeapWord),
     Func { params: usize, results: usize },
     Cont(HeapWord),
     Value(ValueWord),
@@ -106,13 +109,45 @@ fn push_type(words: &mut Vec<Word>, earlier: &[Entry], kind: &CompType) -> Resul
     }
 }
 
+// The word in front of a type with so many supertypes.
+fn head_word(is_final: bool, supertypes: usize) -> Word
+    ensures { result ≡ head_word is_final supertypes }
+{
+    if is_final {
+        Word::Final { supertypes }
+    } else {
+        Word::Open { supertypes }
+    }
+}
+
+fn push_supertypes(
+    words: &mut Vec<Word>,
+    earlier: &[Entry],
+    supertypes: &[u32],
+) -> Result<(), AllocError>
+    ensures { OnOk result (words.new.items ≡ words.old.items ++ supertype_words earlier.now supertypes.now) }
+{
+    for supertype in supertypes {
+        words.push(Word::Supertype(index_word(earlier, *supertype)))?;
+    }
+    Ok(())
+}
+
+fn push_subtype(words: &mut Vec<Word>, earlier: &[Entry], kind: &SubType) -> Result<(), AllocError>
+    ensures { OnOk result (words.new.items ≡ words.old.items ++ subtype_words earlier.now kind.now) }
+{
+    words.push(head_word(kind.is_final, kind.supertypes.len()))?;
+    push_supertypes(words, earlier, kind.supertypes.as_slice())?;
+    push_type(words, earlier, &kind.composite)
+}
+
 /// The key of a group behind these types.
 pub fn key_of(alloc: Global, earlier: &[Entry], group: &RecGroup) -> Result<Vec<Word>, AllocError>
     ensures { IfOk result (λ words. words.items ≡ group_words earlier.now group.now) }
 {
     let mut words = Vec::new(alloc);
     for kind in group.types.as_slice() {
-        push_type(&mut words, earlier, kind)?;
+        push_subtype(&mut words, earlier, kind)?;
     }
     Ok(words)
 }

@@ -4,6 +4,7 @@
 mod classes;
 mod entry;
 mod equality;
+mod forest;
 mod key;
 mod laws;
 mod matching;
@@ -13,7 +14,8 @@ mod words;
 
 pub use classes::Classes;
 pub use laws::{
-    func_matching_is_a_preorder, result_matching_is_a_preorder, same_is_an_equivalence,
-    val_matching_is_a_preorder, words_tell_matching,
+    composites_of_matching_indices_match, equivalent_types_have_equivalent_supertypes,
+    func_matching_is_a_preorder, index_matching_is_a_preorder, result_matching_is_a_preorder,
+    same_is_an_equivalence, val_matching_is_a_preorder, words_tell_matching,
 };
 pub use words::given_word;

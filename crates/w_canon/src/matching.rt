@@ -1,9 +1,9 @@
 //! Matching of types.
 ghost use Rattle.std.specs.Prelude.{◌≡◌, ◌↔◌, IsTrue, List};
 ghost use Rattle.w_types.specs.declared.types.RecGroup.{RecGroup};
-ghost use Rattle.w_canon.specs.Matching.{IsFunc, IsCont, HeapMatches, RefMatches, ValMatches, ResultMatches, FuncMatches};
+ghost use Rattle.w_canon.specs.Matching.{IsFunc, IsCont, HeapMatches, RefMatches, ValMatches, ResultMatches, FuncMatches, CompMatches};
 ghost use Rattle.w_canon.specs.IsClassesOf.{IsClassesOf};
-ghost use Rattle.w_canon.specs.Tests.{kind_test, heap_test, ref_test, val_test, result_test, func_test};
+ghost use Rattle.w_canon.specs.Tests.{kind_test, heap_test, ref_test, val_test, result_test, func_test, comp_test};
 ghost use Rattle.w_canon.specs.Shapes.{shapes_test};
 ghost use Rattle.w_canon.specs.declared.entry.Kind.TheVariants as kind;
 
@@ -11,7 +11,7 @@ use crate::classes::Classes;
 use crate::entry::Kind;
 use crate::rows::Comparison;
 use crate::shape::{Shape, keeps_null, shape_of};
-use w_types::{FuncType, HeapType, PackedType, RefType};
+use w_types::{CompType, FuncType, HeapType, PackedType, RefType};
 
 impl Classes {
     // Whether the type of this index is a function type.
@@ -53,7 +53,7 @@ impl Classes {
             Shape::Index => match other {
                 Shape::Func => self.is_func(x),
                 Shape::Cont => self.is_cont(x),
-                Shape::Index => self.same(x, y),
+                Shape::Index => self.matches_index(x, y),
                 Shape::I32 | Shape::I64 | Shape::NoFunc | Shape::NoCont => false,
             },
         }
@@ -99,5 +99,18 @@ impl Classes {
     {
         self.matches_result(b.params.as_slice(), a.params.as_slice())
             && self.matches_result(a.results.as_slice(), b.results.as_slice())
+    }
+
+    /// Whether a composite type matches another (Core, validation, matching; the explainer adds continuations): of function types as
+    /// above, and a continuation type matches where its function type's index does.
+    pub fn matches_comp(&self, a: &CompType, b: &CompType) -> bool
+        ensures computed { result ≡ comp_test self.now a.now b.now }
+        ensures related { (gs : List RecGroup) → IsClassesOf gs self.now → (IsTrue result ↔ CompMatches gs a.now b.now) }
+    {
+        match (a, b) {
+            (CompType::Func(one), CompType::Func(other)) => self.matches_func(one, other),
+            (CompType::Cont(one), CompType::Cont(other)) => self.matches_index(*one, *other),
+            _ => false,
+        }
     }
 }

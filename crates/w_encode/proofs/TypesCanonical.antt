@@ -10,7 +10,7 @@ use Rattle.w_leb.specs.Number.{shortest, shortest_signed, Signed}
 use Rattle.w_leb.specs.ShortestLaws.{shortest_is_short, within_bits}
 use Rattle.w_leb.specs.ShortestSignedLaws.{signed_spells}
 use Rattle.w_leb.specs.CanonicalLaws.{IsCanonical, canon_number, canon_signed, canon_pair, canon_image, canon_vec, vec_written}
-use Rattle.w_leb.specs.CanonicalTableLaws.{◌&◌, IsWritten, EntriesWritten, BeginsIn, has_none, are_apart, keys, apart_from, begins_table, canon_table, canon_table_or, default_spells, of_constant, of_image}
+use Rattle.w_leb.specs.CanonicalTableLaws.{◌&◌, IsWritten, EntriesWritten, BeginsIn, has_none, are_apart, keys, apart_from, begins_table, begins_table_or, canon_table, canon_table_or, default_spells, of_constant, of_image}
 use Rattle.w_leb.specs.IndexLaws.{index_is_u32, natural_begins, signed_is_longer}
 use Rattle.w_types.specs.declared.types.HeapType.{HeapType}
 use Rattle.w_types.specs.declared.types.HeapType.TheVariants as heap
@@ -18,10 +18,11 @@ use Rattle.w_types.specs.declared.types.RefType.{RefType}
 use Rattle.w_types.specs.declared.types.ValType.TheVariants as val
 use Rattle.w_types.specs.declared.types.CompType.{CompType}
 use Rattle.w_types.specs.declared.types.CompType.TheVariants as comp
+use Rattle.w_types.specs.declared.types.SubType.{SubType}
 use Rattle.w_types.specs.declared.types.RecGroup.{RecGroup}
 use Rattle.w_syntax.specs.declared.module.Mutability.TheVariants as access
-use Rattle.w_syntax.specs.Types.{is_natural, index33, index33_solid, heaptypes, heaptype, nullable_to, non_null_to, reftypes, reftype, entries_of, valtypes, valtype, functype, comptypes, comptype, comptype_solid, group_of, groups, rectype, limits_by_byte, limits, tabletype, mutabilities, mutability, globaltype}
-use Rattle.w_encode.specs.TypesWritten.{index_written, heaptype_written, ref_written, reftype_written, valtype_written, functype_written, comptype_written, rectype_written, limits_written, tabletype_written, mutability_written, globaltype_written}
+use Rattle.w_syntax.specs.Types.{is_natural, index33, index33_solid, heaptypes, heaptype, nullable_to, non_null_to, reftypes, reftype, entries_of, valtypes, valtype, functype, comptypes, comptype, comptype_solid, subtype_with, subtypes, alone_of, subtype, subtype_solid, group_of, groups, rectype, limits_by_byte, limits, tabletype, mutabilities, mutability, globaltype}
+use Rattle.w_encode.specs.TypesWritten.{index_written, heaptype_written, ref_written, reftype_written, valtype_written, functype_written, comptype_written, supertypes_written, subtype_written, rectype_written, limits_written, tabletype_written, mutability_written, globaltype_written}
 
 -- ## Indices of types
 
@@ -193,37 +194,78 @@ comptype_begins : BeginsIn (0x60 ∷ 0x5D ∷ []) comptype.Spells
 unfolding comptype
 comptype_begins k b x h = begins_table comptypes k b x h
 
+-- ## Types with supertypes
+
+abbrev plain : Format SubType
+plain = comptype ⇒ alone_of
+
+plain_apart : (k : ℕ) (b : List ℕ) (x : SubType) → plain.Spells (k ∷ b) x → has_none subtypes k ≡ true
+plain_apart k b x h = apart_from (0x60 ∷ 0x5D ∷ []) subtypes refl k (comptype_begins k b h.0 h.1)
+
+plain_spelled : (l : List ℕ) (x : SubType) → plain.Spells l x → ByFirst subtypes plain.Spells l x
+plain_spelled l x h = default_spells subtypes plain (λ x h. comptype_solid h.0 h.1) plain_apart l x h
+
+canon_supertypes : IsCanonical (vec (number 32) ⊗ comptype) supertypes_written
+canon_supertypes = canon_pair (vec (number 32)) comptype (vec_written shortest) comptype_written (canon_vec (number 32) shortest (canon_number 32 (omega arith))) canon_comptype
+
+-- a final type without supertypes behind 4F is written as its composite type
+final_is_written : (b xs : List ℕ) (c : CompType) → (vec (number 32) ⊗ comptype).Spells b (xs, c) → IsWritten (ByFirst subtypes plain.Spells) subtype_written b (subtype_with true (xs, c))
+final_is_written b (x ∷ xs) c h =
+    (omega (arith, canon_supertypes.short b (x ∷ xs, c) h), λ le. ((x ∷ xs, c), canon_supertypes.again b (x ∷ xs, c) h le, refl))
+final_is_written b [] c h =
+    let len : length b ≡ length h.0 + length h.1 = ap length h.2 ∙ length-append h.0 h.1 in
+    (omega (arith, canon_comptype.short h.1 c h.4), λ le. plain_spelled (comptype_written c) (subtype_with true ([], c)) (c, canon_comptype.again h.1 c h.4 (omega arith), refl))
+
+final_written_by : (b : List ℕ) (x : SubType) → (vec (number 32) ⊗ comptype ⇒ subtype_with true).Spells b x → IsWritten (ByFirst subtypes plain.Spells) subtype_written b x
+final_written_by b x h = subst (IsWritten (ByFirst subtypes plain.Spells) subtype_written b) h.2 (final_is_written b h.0.0 h.0.1 h.1)
+
+pub canon_subtype : IsCanonical subtype subtype_written
+unfolding subtype
+canon_subtype = canon_table_or subtypes plain (λ x h. comptype_solid h.0 h.1) subtype_written (canon_image comptype comptype_written alone_of subtype_written canon_comptype (λ t. refl)) plain_apart
+    (of_image (vec (number 32) ⊗ comptype) supertypes_written (subtype_with false) (ByFirst subtypes plain.Spells) subtype_written canon_supertypes (λ p. omega arith) (λ p s. (p, s, refl))
+    & final_written_by
+    & tt)
+
+plain_begins : BeginsIn (0x60 ∷ 0x5D ∷ []) plain.Spells
+plain_begins k b x h = comptype_begins k b h.0 h.1
+
+subtype_begins : BeginsIn (0x50 ∷ 0x4F ∷ 0x60 ∷ 0x5D ∷ []) subtype.Spells
+unfolding subtype
+subtype_begins k b x h = begins_table_or subtypes plain (λ x h. comptype_solid h.0 h.1) (0x60 ∷ 0x5D ∷ []) plain_begins k b x h
+
+-- ## Groups
+
 abbrev alone : Format RecGroup
-alone = comptype ⇒ λ t. group_of (t ∷ [])
+alone = subtype ⇒ λ t. group_of (t ∷ [])
 
 alone_apart : (k : ℕ) (b : List ℕ) (x : RecGroup) → alone.Spells (k ∷ b) x → has_none groups k ≡ true
-alone_apart k b x h = apart_from (0x60 ∷ 0x5D ∷ []) groups refl k (comptype_begins k b h.0 h.1)
+alone_apart k b x h = apart_from (0x50 ∷ 0x4F ∷ 0x60 ∷ 0x5D ∷ []) groups refl k (subtype_begins k b h.0 h.1)
 
 alone_spelled : (l : List ℕ) (x : RecGroup) → alone.Spells l x → ByFirst groups alone.Spells l x
-alone_spelled l x h = default_spells groups alone (λ x h. comptype_solid h.0 h.1) alone_apart l x h
+alone_spelled l x h = default_spells groups alone (λ x h. subtype_solid h.0 h.1) alone_apart l x h
 
-one_type : (b : List ℕ) (t : CompType) → Each comptype.Spells b (t ∷ []) → comptype.Spells b t
+one_type : (b : List ℕ) (t : SubType) → Each subtype.Spells b (t ∷ []) → subtype.Spells b t
 unfolding Each
-one_type b t h = subst (λ (l : List ℕ). comptype.Spells l t) (sym (h.2 ∙ ap (λ (l : List ℕ). h.0 ++ l) h.4 ∙ append-nil h.0)) h.3
+one_type b t h = subst (λ (l : List ℕ). subtype.Spells l t) (sym (h.2 ∙ ap (λ (l : List ℕ). h.0 ++ l) h.4 ∙ append-nil h.0)) h.3
 
 -- a group of one behind 4E is written as its type
-group_is_written : (b : List ℕ) (ts : List CompType) → (vec comptype).Spells b ts → IsWritten (ByFirst groups alone.Spells) rectype_written b (record { types = ts })
+group_is_written : (b : List ℕ) (ts : List SubType) → (vec subtype).Spells b ts → IsWritten (ByFirst groups alone.Spells) rectype_written b (record { types = ts })
 unfolding Counted
-group_is_written b [] h = let c = canon_vec comptype comptype_written canon_comptype in (omega (arith, c.short b [] h), λ le. ([], c.again b [] h le, refl))
+group_is_written b [] h = let c = canon_vec subtype subtype_written canon_subtype in (omega (arith, c.short b [] h), λ le. ([], c.again b [] h le, refl))
 group_is_written b (t ∷ u ∷ ts) h =
-    let c = canon_vec comptype comptype_written canon_comptype in
+    let c = canon_vec subtype subtype_written canon_subtype in
     (omega (arith, c.short b (t ∷ u ∷ ts) h), λ le. (t ∷ u ∷ ts, c.again b (t ∷ u ∷ ts) h le, refl))
 group_is_written b (t ∷ []) h =
     let s = one_type h.1 t h.4 in
     let len : length b ≡ length h.0 + length h.1 = ap length h.2 ∙ length-append h.0 h.1 in
-    (omega (arith, canon_comptype.short h.1 t s), λ le. alone_spelled (comptype_written t) (record { types = t ∷ [] }) (t, canon_comptype.again h.1 t s (omega arith), refl))
+    (omega (arith, canon_subtype.short h.1 t s), λ le. alone_spelled (subtype_written t) (record { types = t ∷ [] }) (t, canon_subtype.again h.1 t s (omega arith), refl))
 
-group_written_by : (b : List ℕ) (x : RecGroup) → (vec comptype ⇒ group_of).Spells b x → IsWritten (ByFirst groups alone.Spells) rectype_written b x
+group_written_by : (b : List ℕ) (x : RecGroup) → (vec subtype ⇒ group_of).Spells b x → IsWritten (ByFirst groups alone.Spells) rectype_written b x
 group_written_by b x h = subst (IsWritten (ByFirst groups alone.Spells) rectype_written b) h.2 (group_is_written b h.0 h.1)
 
 pub canon_rectype : IsCanonical rectype rectype_written
 unfolding rectype
-canon_rectype = canon_table_or groups alone (λ x h. comptype_solid h.0 h.1) rectype_written (canon_image comptype comptype_written (λ t. record { types = t ∷ [] }) rectype_written canon_comptype (λ t. refl)) alone_apart (group_written_by & tt)
+canon_rectype = canon_table_or groups alone (λ x h. subtype_solid h.0 h.1) rectype_written (canon_image subtype subtype_written (λ t. record { types = t ∷ [] }) rectype_written canon_subtype (λ t. refl)) alone_apart (group_written_by & tt)
 
 -- ## Limits, tables and globals
 

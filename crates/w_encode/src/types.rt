@@ -1,10 +1,10 @@
 //! Types.
-ghost use Rattle.w_encode.specs.TypesWritten.{heaptype_written, reftype_written, valtype_written, functype_written, comptype_written, rectype_written, limits_written, tabletype_written, mutability_written, globaltype_written};
+ghost use Rattle.w_encode.specs.TypesWritten.{heaptype_written, reftype_written, valtype_written, functype_written, comptype_written, subtype_written, rectype_written, limits_written, tabletype_written, mutability_written, globaltype_written};
 
 use crate::put::{Put, put_index, put_vec};
 use std::alloc::AllocError;
 use w_syntax::{GlobalType, Limits, Mutability, TableType};
-use w_types::{CompType, FuncType, HeapType, PackedType, RecGroup, RefType, ValType};
+use w_types::{CompType, FuncType, HeapType, PackedType, RecGroup, RefType, SubType, ValType};
 
 impl Put for HeapType {
     ghost written = { heaptype_written };
@@ -75,6 +75,21 @@ impl Put for CompType {
             CompType::Cont(index) => {
                 out.push(0x5D)?;
                 put_index(*index, out)
+            }
+        }
+    }
+}
+
+impl Put for SubType {
+    ghost written = { subtype_written };
+
+    fn put(&self, out: &mut Vec<u8>) -> Result<(), AllocError> {
+        match (self.is_final, self.supertypes.as_slice()) {
+            (true, []) => self.composite.put(out),
+            (is_final, supertypes) => {
+                out.push(if is_final { 0x4F } else { 0x50 })?;
+                put_vec(supertypes, out)?;
+                self.composite.put(out)
             }
         }
     }

@@ -5,13 +5,14 @@ use Rattle.w_types.specs.declared.types.ValType.{ValType}
 use Rattle.w_types.specs.declared.types.ValType.TheVariants.{I32, I64, Ref}
 use Rattle.lists.specs.Rows.{Row, ε, ◌▹◌, ◌⧺◌}
 use Rattle.w_canon.specs.declared.entry.Entry.{Entry}
-use Rattle.w_canon.specs.IsClassesOf.{IsClassesOf}
+use Rattle.w_canon.specs.Supertypes.{KeepsKinds}
 use Rattle.w_canon.proofs.MatchingTests.{val_decided}
 use Rattle.w_rules.specs.Operands.{Operand}
 use Rattle.w_rules.specs.Operands.{Known, Bottom, BottomRef}
 use Rattle.w_rules.specs.Conditions.{Holds}
 use Rattle.w_rules.specs.Matching.{OperandMatches, value, bottom, bottom_ref, RowMatches, none, more, known}
 use Rattle.w_rules.specs.Typing.{HasType}
+use Rattle.w_rules.specs.View.{AreClasses}
 use Rattle.w_rules.proofs.Preorder.{operand_refl, operand_trans, row_refl}
 use Rattle.w_flow.specs.Flow.{Covers, operand_test, pops, pop}
 use Rattle.w_flow.proofs.Options.{guard_in, guard_out, holds_map, with_value}
@@ -29,10 +30,10 @@ covers_refl gs p ε = tt
 covers_refl gs p (ts ▹ t) = (covers_refl gs p ts, operand_refl gs t)
 
 -- and for each row that matches one that they stand for
-pub covers_trans : (gs : List RecGroup) (p : Bool) (ts us vs : Row Operand) → Covers gs p ts us → RowMatches gs us vs → Covers gs p ts vs
-covers_trans gs p ts _ _ h none = h
-covers_trans gs p ε _ _ h (more r k) = h
-covers_trans gs p (ts ▹ t) _ _ h (more {ts = us} {us = vs} {t = u} {u = v} r k) = (covers_trans gs p ts us vs h.0 r, operand_trans gs t u v h.1 k)
+pub covers_trans : (gs : List RecGroup) → KeepsKinds gs → (p : Bool) (ts us vs : Row Operand) → Covers gs p ts us → RowMatches gs us vs → Covers gs p ts vs
+covers_trans gs keeps p ts _ _ h none = h
+covers_trans gs keeps p ε _ _ h (more r k) = h
+covers_trans gs keeps p (ts ▹ t) _ _ h (more {ts = us} {us = vs} {t = u} {u = v} r k) = (covers_trans gs keeps p ts us vs h.0 r, operand_trans gs keeps t u v h.1 k)
 
 -- ## The test of an operand
 
@@ -41,10 +42,10 @@ null_found : (n m : Bool) → IsTrue (if n then m else true) → IsTrue n → Is
 null_found true m h k = h
 null_found false m h k = absurd (cc)
 
-module _ (gs : List RecGroup) (es : List Entry) (s : IsClassesOf gs es) where
+module _ (gs : List RecGroup) (es : List Entry) (s : AreClasses gs es) where
   -- an operand that passes the test matches
   pub operand_found : (t : Operand) (u : ValType) → IsTrue (operand_test es t u) → OperandMatches gs t (Known u)
-  operand_found (Known t) u h = value ((val_decided gs es s t u).0 h)
+  operand_found (Known t) u h = value ((val_decided gs es s.classes t u).0 h)
   operand_found Bottom u h = bottom
   operand_found (BottomRef true) (Ref r) h = bottom_ref (λ k. h)
   operand_found (BottomRef false) (Ref r) h = bottom_ref (λ k. absurd (cc))
@@ -53,7 +54,7 @@ module _ (gs : List RecGroup) (es : List Entry) (s : IsClassesOf gs es) where
 
   -- an operand that matches passes the test
   pub operand_holds : (t : Operand) (u : ValType) → OperandMatches gs t (Known u) → IsTrue (operand_test es t u)
-  operand_holds _ _ (value {t} {u} h) = (val_decided gs es s t u).1 h
+  operand_holds _ _ (value {t} {u} h) = (val_decided gs es s.classes t u).1 h
   operand_holds _ u bottom = refl
   operand_holds _ _ (bottom_ref {n = true} f) = f refl
   operand_holds _ _ (bottom_ref {n = false} f) = refl
@@ -93,10 +94,10 @@ pop_out gs p (ts ▹ t) u rest h = h
 -- ## Giving operands
 
 -- operands with others at their right stand for what rows that they stand for and these others match
-pub push_in : (gs : List RecGroup) (p : Bool) (ts b rest us : Row Operand) → Covers gs p ts rest → RowMatches gs (rest ⧺ b) us →
+pub push_in : (gs : List RecGroup) → KeepsKinds gs → (p : Bool) (ts b rest us : Row Operand) → Covers gs p ts rest → RowMatches gs (rest ⧺ b) us →
     Covers gs p (ts ⧺ b) us
-push_in gs p ts ε rest us h m = covers_trans gs p ts rest us h m
-push_in gs p ts (b ▹ t) rest _ h (more {us} r k) = (push_in gs p ts b rest us h r, k)
+push_in gs keeps p ts ε rest us h m = covers_trans gs keeps p ts rest us h m
+push_in gs keeps p ts (b ▹ t) rest _ h (more {us} r k) = (push_in gs keeps p ts b rest us h r, k)
 
 -- and each row that they stand for is such a one
 pub push_out : (gs : List RecGroup) (p : Bool) (ts b us : Row Operand) → Covers gs p (ts ⧺ b) us →
@@ -109,14 +110,14 @@ push_out gs p ts (b ▹ t) (us ▹ u) h =
 
 -- ## Taking and giving
 
-module _ (gs : List RecGroup) (es : List Entry) (s : IsClassesOf gs es) where
+module _ (gs : List RecGroup) (es : List Entry) (s : AreClasses gs es) where
   -- operands that are given where others were taken stand for what [a] to [b] leads to
   pub steps_in : (p : Bool) (ts : Row Operand) (a : Row ValType) (b vs us : Row Operand) → Covers gs p ts vs → HasType gs (known a) b vs us →
       Holds (pops es p ts a) (λ (w : Row Operand). Covers gs p (w ⧺ b) us)
   steps_in p ts a b vs us h t =
       holds_map (pops es p ts a) (λ (w : Row Operand). Covers gs p w t.beneath) _
-      (pops_in gs es s p ts a t.beneath (covers_trans gs p ts vs (t.beneath ⧺ known a) h t.takes))
-      (λ w k. push_in gs p w b t.beneath us k t.gives)
+      (pops_in gs es s p ts a t.beneath (covers_trans gs s.keeps p ts vs (t.beneath ⧺ known a) h t.takes))
+      (λ w k. push_in gs s.keeps p w b t.beneath us k t.gives)
 
   -- and each row that they stand for is one that [a] to [b] leads to
   pub steps_out : (p : Bool) (ts : Row Operand) (a : Row ValType) (b us : Row Operand) →

@@ -5,12 +5,13 @@ use Rattle.w_types.specs.declared.types.ValType.{ValType}
 use Rattle.w_types.specs.declared.types.ValType.TheVariants.{I32}
 use Rattle.lists.specs.Rows.{Row, ε, ◌▹◌, ◌⧺◌, size}
 use Rattle.w_canon.specs.declared.entry.Entry.{Entry}
-use Rattle.w_canon.specs.IsClassesOf.{IsClassesOf}
+use Rattle.w_canon.specs.Supertypes.{KeepsKinds}
 use Rattle.w_rules.specs.Operands.{Operand}
 use Rattle.w_rules.specs.Operands.{Known}
 use Rattle.w_rules.specs.InstructionTypes.{InstrType, fixed, polymorphic, table_polymorphic, drops, selects, tests_null, as_non_null, on_null, untyped}
 use Rattle.w_rules.specs.Matching.{OperandMatches, RowMatches, more, known}
 use Rattle.w_rules.specs.Typing.{ref_to}
+use Rattle.w_rules.specs.View.{AreClasses}
 use Rattle.w_rules.proofs.Preorder.{operand_refl, operand_trans, row_refl}
 use Rattle.w_flow.specs.Flow.{Flow, Covers, pops, pop, pops_each, all_long, select_of, pop_ref, step, InFlow, Image, IsExact}
 use Rattle.w_flow.proofs.Options.{guard_in, guard_out, bind_in, bind_out, holds_map, with_value, and_true, and_intro}
@@ -24,11 +25,11 @@ abbrev In : List RecGroup → Row Operand → Flow → Type 0
 In gs us f = Covers gs f.any f.operands us
 
 -- one operand on top
-top_in : (gs : List RecGroup) (p : Bool) (ts : Row Operand) (x t : Operand) (rest us : Row Operand) → Covers gs p ts rest → OperandMatches gs x t →
+top_in : (gs : List RecGroup) → KeepsKinds gs → (p : Bool) (ts : Row Operand) (x t : Operand) (rest us : Row Operand) → Covers gs p ts rest → OperandMatches gs x t →
     RowMatches gs (rest ▹ t) us → Covers gs p (ts ▹ x) us
-top_in gs p ts x t rest _ c l (more {us} {u} r k) = (covers_trans gs p ts rest us c r, operand_trans gs x t u l k)
+top_in gs keeps p ts x t rest _ c l (more {us} {u} r k) = (covers_trans gs keeps p ts rest us c r, operand_trans gs keeps x t u l k)
 
-module _ (gs : List RecGroup) (es : List Entry) (s : IsClassesOf gs es) where
+module _ (gs : List RecGroup) (es : List Entry) (s : AreClasses gs es) where
   -- ## Each type
 
   -- [a] to [b]: what is left when a is taken, with b at its right
@@ -42,7 +43,7 @@ module _ (gs : List RecGroup) (es : List Entry) (s : IsClassesOf gs es) where
   polymorphic_in : (p : Bool) (ts : Row Operand) (a : Row ValType) (us : Row Operand) → Image gs (polymorphic a) p ts us → InFlow gs (step es (polymorphic a) p ts) us
   polymorphic_in p ts a us (vs, c, t) =
       bind_in (pops es p ts a) _ _ (holds_map (pops es p ts a) _ _
-      (pops_in gs es s p ts a t.beneath (covers_trans gs p ts vs (t.beneath ⧺ known a) c t.takes))
+      (pops_in gs es s p ts a t.beneath (covers_trans gs s.keeps p ts vs (t.beneath ⧺ known a) c t.takes))
       (λ w k. any_covers gs true refl us))
 
   polymorphic_out : (p : Bool) (ts : Row Operand) (a : Row ValType) (us : Row Operand) → InFlow gs (step es (polymorphic a) p ts) us → Image gs (polymorphic a) p ts us
@@ -59,7 +60,7 @@ module _ (gs : List RecGroup) (es : List Entry) (s : IsClassesOf gs es) where
   table_in p ts v vs us (ws, c, t) =
       let rest = t.polymorphic.beneath in
       bind_in (pops es p ts (ε ▹ I32)) _ _ (holds_map (pops es p ts (ε ▹ I32)) _ _
-      (pops_in gs es s p ts (ε ▹ I32) (rest ⧺ t.ins) (covers_trans gs p ts ws _ c t.polymorphic.takes)) (λ w k.
+      (pops_in gs es s p ts (ε ▹ I32) (rest ⧺ t.ins) (covers_trans gs s.keeps p ts ws _ c t.polymorphic.takes)) (λ w k.
       guard_in (all_long (size v) vs && pops_each es p w (v ∷ vs)) (Some (record { any = true; operands = ε })) _
       (and_intro (all_long (size v) vs) (pops_each es p w (v ∷ vs)) (each_long gs es s t.ins (size v) vs (long_as gs es s t.ins v t.each.0) t.each.1)
       (each_popped gs es s p w t.ins rest (v ∷ vs) k t.each))
@@ -85,8 +86,8 @@ module _ (gs : List RecGroup) (es : List Entry) (s : IsClassesOf gs es) where
   -- [t] to []: t is the topmost operand
   drops_in : (p : Bool) (ts us : Row Operand) → Image gs drops p ts us → InFlow gs (step es drops p ts) us
   drops_in p ts us (vs, c, (t, r)) =
-      bind_in (pop p ts) _ _ (holds_map (pop p ts) _ _ (pop_in gs p ts t r.beneath (covers_trans gs p ts vs _ c r.takes)) (λ q l.
-      covers_trans gs p q.0 r.beneath us l.0 r.gives))
+      bind_in (pop p ts) _ _ (holds_map (pop p ts) _ _ (pop_in gs p ts t r.beneath (covers_trans gs s.keeps p ts vs _ c r.takes)) (λ q l.
+      covers_trans gs s.keeps p q.0 r.beneath us l.0 r.gives))
 
   drops_out : (p : Bool) (ts us : Row Operand) → InFlow gs (step es drops p ts) us → Image gs drops p ts us
   drops_out p ts us i =
@@ -101,11 +102,11 @@ module _ (gs : List RecGroup) (es : List Entry) (s : IsClassesOf gs es) where
   selects_in p ts us (vs, c, (t, num, m)) =
       let rest = m.beneath in
       bind_in (pops es p ts (ε ▹ I32)) _ _ (holds_map (pops es p ts (ε ▹ I32)) _ _
-      (pops_in gs es s p ts (ε ▹ I32) (rest ▹ t ▹ t) (covers_trans gs p ts vs _ c m.takes)) (λ w k.
+      (pops_in gs es s p ts (ε ▹ I32) (rest ▹ t ▹ t) (covers_trans gs s.keeps p ts vs _ c m.takes)) (λ w k.
       bind_in (pop p w) _ _ (holds_map (pop p w) _ _ (pop_in gs p w t (rest ▹ t) k) (λ r l.
       bind_in (pop p r.0) _ _ (holds_map (pop p r.0) _ _ (pop_in gs p r.0 t rest l.0) (λ q h.
       bind_in (select_of q.1 r.1) _ _ (holds_map (select_of q.1 r.1) _ _ (select_below gs q.1 r.1 t h.1 l.1 num) (λ x b.
-      top_in gs p q.0 x t rest us h.0 b m.gives))))))))
+      top_in gs s.keeps p q.0 x t rest us h.0 b m.gives))))))))
 
   selects_out : (p : Bool) (ts us : Row Operand) → InFlow gs (step es selects p ts) us → Image gs selects p ts us
   selects_out p ts us i =
@@ -124,8 +125,8 @@ module _ (gs : List RecGroup) (es : List Entry) (s : IsClassesOf gs es) where
   -- [(ref null ht)] to [i32]: ht is the heap type of the topmost operand
   tests_in : (p : Bool) (ts us : Row Operand) → Image gs tests_null p ts us → InFlow gs (step es tests_null p ts) us
   tests_in p ts us (vs, c, (h, m)) =
-      bind_in (pop_ref p ts) _ _ (holds_map (pop_ref p ts) _ _ (pop_ref_in gs p ts h m.beneath (covers_trans gs p ts vs _ c m.takes)) (λ r l.
-      top_in gs p r.0 (Known I32) (Known I32) m.beneath us l.0 (operand_refl gs (Known I32)) m.gives))
+      bind_in (pop_ref p ts) _ _ (holds_map (pop_ref p ts) _ _ (pop_ref_in gs p ts h m.beneath (covers_trans gs s.keeps p ts vs _ c m.takes)) (λ r l.
+      top_in gs s.keeps p r.0 (Known I32) (Known I32) m.beneath us l.0 (operand_refl gs (Known I32)) m.gives))
 
   tests_out : (p : Bool) (ts us : Row Operand) → InFlow gs (step es tests_null p ts) us → Image gs tests_null p ts us
   tests_out p ts us i =
@@ -139,8 +140,8 @@ module _ (gs : List RecGroup) (es : List Entry) (s : IsClassesOf gs es) where
   -- [(ref null ht)] to [(ref ht)]: the same
   casts_in : (p : Bool) (ts us : Row Operand) → Image gs as_non_null p ts us → InFlow gs (step es as_non_null p ts) us
   casts_in p ts us (vs, c, (h, m)) =
-      bind_in (pop_ref p ts) _ _ (holds_map (pop_ref p ts) _ _ (pop_ref_in gs p ts h m.beneath (covers_trans gs p ts vs _ c m.takes)) (λ r l.
-      top_in gs p r.0 (ref_to false r.1) (ref_to false h) m.beneath us l.0 l.1 m.gives))
+      bind_in (pop_ref p ts) _ _ (holds_map (pop_ref p ts) _ _ (pop_ref_in gs p ts h m.beneath (covers_trans gs s.keeps p ts vs _ c m.takes)) (λ r l.
+      top_in gs s.keeps p r.0 (ref_to false r.1) (ref_to false h) m.beneath us l.0 l.1 m.gives))
 
   casts_out : (p : Bool) (ts us : Row Operand) → InFlow gs (step es as_non_null p ts) us → Image gs as_non_null p ts us
   casts_out p ts us i =
@@ -155,10 +156,10 @@ module _ (gs : List RecGroup) (es : List Entry) (s : IsClassesOf gs es) where
   on_null_in : (p : Bool) (ts : Row Operand) (a : Row ValType) (us : Row Operand) → Image gs (on_null a) p ts us → InFlow gs (step es (on_null a) p ts) us
   on_null_in p ts a us (vs, c, (h, m)) =
       let rest = m.beneath in
-      bind_in (pop_ref p ts) _ _ (holds_map (pop_ref p ts) _ _ (pop_ref_in gs p ts h (rest ⧺ known a) (covers_trans gs p ts vs _ c m.takes)) (λ r l.
+      bind_in (pop_ref p ts) _ _ (holds_map (pop_ref p ts) _ _ (pop_ref_in gs p ts h (rest ⧺ known a) (covers_trans gs s.keeps p ts vs _ c m.takes)) (λ r l.
       bind_in (pops es p r.0 a) _ _ (holds_map (pops es p r.0 a) _ _ (pops_in gs es s p r.0 a rest l.0) (λ w k.
-      top_in gs p (w ⧺ known a) (ref_to false r.1) (ref_to false h) (rest ⧺ known a) us
-      (push_in gs p w (known a) rest (rest ⧺ known a) k (row_refl gs (rest ⧺ known a))) l.1 m.gives))))
+      top_in gs s.keeps p (w ⧺ known a) (ref_to false r.1) (ref_to false h) (rest ⧺ known a) us
+      (push_in gs s.keeps p w (known a) rest (rest ⧺ known a) k (row_refl gs (rest ⧺ known a))) l.1 m.gives))))
 
   on_null_out : (p : Bool) (ts : Row Operand) (a : Row ValType) (us : Row Operand) → InFlow gs (step es (on_null a) p ts) us → Image gs (on_null a) p ts us
   on_null_out p ts a us i =
@@ -197,5 +198,5 @@ module _ (gs : List RecGroup) (es : List Entry) (s : IsClassesOf gs es) where
   step_out untyped p ts us i = absurd i
 
 -- a step is exact
-pub exact : (gs : List RecGroup) (es : List Entry) → IsClassesOf gs es → IsExact gs es
+pub exact : (gs : List RecGroup) (es : List Entry) → AreClasses gs es → IsExact gs es
 exact gs es s = λ l p ts us. (step_in gs es s l p ts us, step_out gs es s l p ts us)

@@ -8,14 +8,14 @@ use Rattle.w_types.specs.declared.types.RecGroup.{RecGroup}
 use Rattle.w_types.specs.declared.types.ValType.{ValType}
 use Rattle.w_types.specs.declared.types.ValType.TheVariants.{I32, I64, Ref}
 use Rattle.w_canon.specs.declared.entry.Entry.{Entry}
-use Rattle.w_canon.specs.Tests.{heap_test, heap_same_test, val_test, val_same_test, pairwise_test, result_test, result_same_test}
+use Rattle.w_canon.specs.Tests.{heap_narrow_test, heap_same_test, val_test, val_narrow_test, val_same_test, pairwise_test, result_test, result_narrow_test, result_same_test}
 use Rattle.w_canon.specs.Words.{IsGiven, IsWanted}
 use Rattle.w_canon.specs.Equality.{ResultEqual}
 use Rattle.w_canon.specs.IsClassesOf.{IsClassesOf}
 use Rattle.w_canon.specs.Matching.{ResultMatches}
 use Rattle.w_canon.proofs.MatchingTests.{result_decided, result_same_decided}
 use Rattle.w_canon.proofs.WordCases.{and_both}
-use Rattle.w_canon.proofs.WordsOfTypes.{words_fit}
+use Rattle.w_canon.proofs.WordsOfTypes.{words_fit_narrowly, val_wider}
 use Rattle.w_flow.specs.Fitting.{AreApart}
 use Rattle.w_flow.specs.Operands.{AreWords}
 use Rattle.w_flow.specs.TypeRows.{AreReady, IsReady}
@@ -24,7 +24,7 @@ use Rattle.w_flow.specs.declared.type_row.TypeRow.{TypeRow}
 
 module _ (es : List Entry) where
   -- types whose words have no bit in common with those of others match these
-  words_match : (ts us : List ValType) (gs ws : List ℕ) → AreWords (IsGiven es) ts gs → AreWords (IsWanted es) us ws → length gs ≡ length ws → AreApart gs ws → IsTrue (result_test es ts us)
+  words_match : (ts us : List ValType) (gs ws : List ℕ) → AreWords (IsGiven es) ts gs → AreWords (IsWanted es) us ws → length gs ≡ length ws → AreApart gs ws → IsTrue (result_narrow_test es ts us)
   words_match [] [] gs ws a b l c = refl
   words_match [] (u ∷ us) [] [] a b l c = absurd b
   words_match [] (u ∷ us) [] (w ∷ ws) a b l c = absurd (omega arith)
@@ -34,11 +34,11 @@ module _ (es : List Entry) where
   words_match (t ∷ ts) [] (g ∷ gs) (w ∷ ws) a b l c = absurd b
   words_match (t ∷ ts) (u ∷ us) (g ∷ gs) [] a b l c = absurd b
   words_match (t ∷ ts) (u ∷ us) (g ∷ gs) (w ∷ ws) a b l c =
-      and_both (val_test es t u) (pairwise_test (val_test es) ts us) (words_fit es t u g w a.0 b.0 c.0) (words_match ts us gs ws a.1 b.1 (omega arith) c.1)
+      and_both (val_narrow_test es t u) (pairwise_test (val_narrow_test es) ts us) (words_fit_narrowly es t u g w a.0 b.0 c.0) (words_match ts us gs ws a.1 b.1 (omega arith) c.1)
 
   -- so do rows that stand ready
   pub ready_match : (r q : TypeRow) (v w : RowWords) → r.words ≡ Some v → q.words ≡ Some w → IsReady es r → IsReady es q → length v.given.now ≡ length w.wanted.now →
-      AreApart v.given.now w.wanted.now → result_test es r.types.now q.types.now ≡ true
+      AreApart v.given.now w.wanted.now → result_narrow_test es r.types.now q.types.now ≡ true
   ready_match r q v w e f a b l c =
       let P : List ValType → Option RowWords → Type 0 = λ ts o. IfSome o (λ (x : RowWords). AreReady es ts x.operands.now x.given.now x.wanted.now) in
       let given : P r.types.now (Some v) = subst (P r.types.now) e a in
@@ -57,7 +57,7 @@ module _ (es : List Entry) where
   nulls_same false true a b = absurd (cc)
   nulls_same false false a b = refl
 
-  heaps_same : (a b : HeapType) → IsTrue (heap_test es a b) → IsTrue (heap_test es b a) → IsTrue (heap_same_test es a b)
+  heaps_same : (a b : HeapType) → IsTrue (heap_narrow_test es a b) → IsTrue (heap_narrow_test es b a) → IsTrue (heap_same_test es a b)
   heaps_same Func Func h k = refl
   heaps_same Func NoFunc h k = absurd (cc)
   heaps_same Func Cont h k = absurd (cc)
@@ -84,7 +84,7 @@ module _ (es : List Entry) where
   heaps_same (Index x) NoCont h k = absurd (cc)
   heaps_same (Index x) (Index y) h k = h
 
-  vals_same : (t u : ValType) → IsTrue (val_test es t u) → IsTrue (val_test es u t) → IsTrue (val_same_test es t u)
+  vals_same : (t u : ValType) → IsTrue (val_narrow_test es t u) → IsTrue (val_narrow_test es u t) → IsTrue (val_same_test es t u)
   vals_same I32 I32 h k = refl
   vals_same I32 I64 h k = absurd (cc)
   vals_same I32 (Ref q) h k = absurd (cc)
@@ -94,19 +94,28 @@ module _ (es : List Entry) where
   vals_same (Ref r) I32 h k = absurd (cc)
   vals_same (Ref r) I64 h k = absurd (cc)
   vals_same (Ref r) (Ref q) h k =
-      let there = both (not r.nullable || q.nullable) (heap_test es r.heap q.heap) h in
-      let back = both (not q.nullable || r.nullable) (heap_test es q.heap r.heap) k in
+      let there = both (not r.nullable || q.nullable) (heap_narrow_test es r.heap q.heap) h in
+      let back = both (not q.nullable || r.nullable) (heap_narrow_test es q.heap r.heap) k in
       and_both (beq r.nullable q.nullable) (heap_same_test es r.heap q.heap) (nulls_same r.nullable q.nullable there.0 back.0) (heaps_same r.heap q.heap there.1 back.1)
 
   -- rows that match each other are equal
-  pub rows_same : (ts us : List ValType) → result_test es ts us ≡ true → result_test es us ts ≡ true → result_same_test es ts us ≡ true
+  pub rows_same : (ts us : List ValType) → result_narrow_test es ts us ≡ true → result_narrow_test es us ts ≡ true → result_same_test es ts us ≡ true
   rows_same [] [] h k = refl
   rows_same [] (u ∷ us) h k = absurd (cc)
   rows_same (t ∷ ts) [] h k = absurd (cc)
   rows_same (t ∷ ts) (u ∷ us) h k =
-      let there = both (val_test es t u) (pairwise_test (val_test es) ts us) h in
-      let back = both (val_test es u t) (pairwise_test (val_test es) us ts) k in
+      let there = both (val_narrow_test es t u) (pairwise_test (val_narrow_test es) ts us) h in
+      let back = both (val_narrow_test es u t) (pairwise_test (val_narrow_test es) us ts) k in
       and_both (val_same_test es t u) (pairwise_test (val_same_test es) ts us) (vals_same t u there.0 back.0) (rows_same ts us there.1 back.1)
+
+  -- rows that match with equivalent indices match
+  pub rows_wider : (ts us : List ValType) → result_narrow_test es ts us ≡ true → result_test es ts us ≡ true
+  rows_wider [] [] h = refl
+  rows_wider [] (u ∷ us) h = absurd (cc)
+  rows_wider (t ∷ ts) [] h = absurd (cc)
+  rows_wider (t ∷ ts) (u ∷ us) h =
+      let there = both (val_narrow_test es t u) (pairwise_test (val_narrow_test es) ts us) h in
+      and_both (val_test es t u) (pairwise_test (val_test es) ts us) (val_wider es t u there.0) (rows_wider ts us there.1)
 
 -- ## By the rules
 

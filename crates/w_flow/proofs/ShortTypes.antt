@@ -71,3 +71,13 @@ module _ (es : List Entry) (p : Bool) where
       ap (λ (o : Option (Row TheType)). o >>= λ (r : Row TheType). Some (record { any = p; operands = r ⧺ known outs }))
       (pops_more ts us u ∙ ap (λ (o : Option (Row TheType)). o >>= λ (r : Row TheType). pops es p r us) first.1)
       ∙ ap (λ (b : Bool). step es (fixed us outs) b w.operands) (sym first.0)
+
+  not_taken : (o : Option (Row TheType)) → ◌≡◌ {A = Option Flow} (o >>= λ rest. Some (record { any = p; operands = rest })) None → o ≡ None
+  not_taken None e = refl
+  not_taken (Some rest) e = absurd (cc)
+
+  -- nor is there one where it can't be taken
+  pub none_below : (ts : Row TheType) (us outs : Row ValType) (u : ValType) → step es (fixed (ε ▹ u) ε) p ts ≡ None → step es (fixed (us ▹ u) outs) p ts ≡ None
+  none_below ts us outs u e =
+      ap (λ (o : Option (Row TheType)). o >>= λ (r : Row TheType). Some (record { any = p; operands = r ⧺ known outs }))
+      (pops_more ts us u ∙ ap (λ (o : Option (Row TheType)). o >>= λ (r : Row TheType). pops es p r us) (not_taken (pops es p ts (ε ▹ u)) e))

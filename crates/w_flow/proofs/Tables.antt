@@ -4,12 +4,12 @@ use Rattle.w_types.specs.declared.types.RecGroup.{RecGroup}
 use Rattle.w_types.specs.declared.types.ValType.{ValType}
 use Rattle.lists.specs.Rows.{Row, ε, ◌▹◌, ◌⧺◌, size}
 use Rattle.w_canon.specs.declared.entry.Entry.{Entry}
-use Rattle.w_canon.specs.IsClassesOf.{IsClassesOf}
 use Rattle.w_rules.specs.Operands.{Operand}
 use Rattle.w_rules.specs.Operands.{Bottom}
 use Rattle.w_rules.specs.Conditions.{Holds}
 use Rattle.w_rules.specs.Matching.{RowMatches, none, more, bottom, known}
 use Rattle.w_rules.specs.Typing.{MatchesEach}
+use Rattle.w_rules.specs.View.{AreClasses}
 use Rattle.w_rules.proofs.Preorder.{operand_refl, row_refl, row_size, row_beside}
 use Rattle.w_flow.specs.Flow.{Covers, operand_test, pops, is_popped, pops_each, all_long}
 use Rattle.w_flow.proofs.Options.{and_true, and_intro}
@@ -44,7 +44,7 @@ popped_by : (o : Option (Row Operand)) (P : Row Operand → Type 0) → Holds o 
 popped_by None P h = absurd h
 popped_by (Some x) P h = refl
 
-module _ (gs : List RecGroup) (es : List Entry) (s : IsClassesOf gs es) where
+module _ (gs : List RecGroup) (es : List Entry) (s : AreClasses gs es) where
   -- where a row can be taken, the topmost operands match it
   pub top_matches : (p : Bool) (ts : Row Operand) (v : Row ValType) → IsTrue (is_popped (pops es p ts v)) → RowMatches gs (top (size v) ts) (known v)
   top_matches p ts ε h = none
@@ -73,7 +73,7 @@ module _ (gs : List RecGroup) (es : List Entry) (s : IsClassesOf gs es) where
   each_popped p ts a rest (v ∷ vs) c m =
       and_intro (is_popped (pops es p ts v)) (pops_each es p ts vs)
       (popped_by (pops es p ts v) _ (pops_in gs es s p ts v rest
-      (covers_trans gs p ts (rest ⧺ a) (rest ⧺ known v) c (row_beside gs rest rest a (known v) (row_refl gs rest) m.0))))
+      (covers_trans gs s.keeps p ts (rest ⧺ a) (rest ⧺ known v) c (row_beside gs rest rest a (known v) (row_refl gs rest) m.0))))
       (each_popped p ts a rest vs c m.1)
 
   -- and the rows are as long

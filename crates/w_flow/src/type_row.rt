@@ -77,7 +77,7 @@ impl<'r> TypeRow<'r> {
     ghost use Rattle.w_canon.specs.Equality.{ResultEqual};
     ghost use Rattle.w_canon.specs.IsClassesOf.{IsClassesOf};
     ghost use Rattle.w_canon.specs.Matching.{ResultMatches};
-    ghost use Rattle.w_canon.specs.Tests.{result_test, result_same_test};
+    ghost use Rattle.w_canon.specs.Tests.{result_test, result_narrow_test, result_same_test};
     ghost use Rattle.w_flow.specs.TypeRows.{IsReady};
 
     /// A row for which nothing stands ready, as a short one.
@@ -115,10 +115,10 @@ impl<'r> TypeRow<'r> {
         }
     }
 
-    /// Whether the types match those of another row, if that shows at once.
+    /// Whether the types match those of another row, with equivalent indices, if that shows at once.
     pub(crate) fn fits(self, other: TypeRow) -> bool
         ensures { (es : List Entry) → IsReady es self.entry → IsReady es other.entry
-            → IsTrue result → result_test es self.entry.types.now other.entry.types.now ≡ true }
+            → IsTrue result → (result_narrow_test es self.entry.types.now other.entry.types.now ≡ true) × (result_test es self.entry.types.now other.entry.types.now ≡ true) }
     {
         match (self.words, other.words) {
             (Some(words), Some(others)) => {

@@ -3,3 +3,4 @@ pub mod Names
 pub mod Items
 pub mod Faults
 pub mod TypesOfGroups
+mod JudgedContexts

@@ -11,9 +11,9 @@ IsFirst m item None = (j : ℕ) → IsItem m (item j) → ItemValid m (item j)
 IsFirst m item (Some i) = IsItem m (item i) × (ItemValid m (item i) → ⊥) × ((j : ℕ) → j < i → IsItem m (item j) → ItemValid m (item j))
 
 -- of a list, this is the index of the first item that fails, or none does
-abbrev pub IsFirstFailing : {A : Type 0} → (A → Type 0) → List A → Option ℕ → Type 0
-IsFirstFailing {A} Holds xs None = (i : ℕ) (x : A) → slice_get xs i ≡ Some x → Holds x
-IsFirstFailing {A} Holds xs (Some k) = (x : A) × (slice_get xs k ≡ Some x) × (Holds x → ⊥) × ((i : ℕ) (y : A) → i < k → slice_get xs i ≡ Some y → Holds y)
+abbrev pub IsFirstFailing : {A : Type 0} → (ℕ → A → Type 0) → List A → Option ℕ → Type 0
+IsFirstFailing {A} Holds xs None = (i : ℕ) (x : A) → slice_get xs i ≡ Some x → Holds i x
+IsFirstFailing {A} Holds xs (Some k) = (x : A) × (slice_get xs k ≡ Some x) × (Holds k x → ⊥) × ((i : ℕ) (y : A) → i < k → slice_get xs i ≡ Some y → Holds i y)
 
 -- the fault is that of the module, or each item before z has a derivation
 abbrev pub IsFaultBefore : Module → Item → Option ValidFault → Type 0

@@ -3,7 +3,7 @@ ghost use Rattle.std.specs.Prelude.{IfOk};
 ghost use Rattle.w_rules.specs.Limits.{Within};
 ghost use Rattle.w_rules.specs.Valid.{ExportItem, FunctionItem};
 ghost use Rattle.w_items.specs.Firsts.{IsFaultBefore};
-ghost use Rattle.w_items.specs.Judged.{IsContextOf};
+ghost use Rattle.w_items.specs.Judged.{IsContextBefore};
 
 use crate::context::ModuleContext;
 use crate::exports::first_invalid_export;
@@ -15,15 +15,16 @@ use crate::types::first_invalid_type;
 use std::alloc::{AllocError, Global};
 
 // The first item before the exports that is not valid, if there is one.
+#[tactic(auto, using(crate::proofs::JudgedContexts::judged_context))]
 fn first_invalid_definition(
     alloc: Global,
     cx: &ModuleContext,
 ) -> Result<Option<ValidFault>, AllocError>
-    requires whole { IsContextOf cx.now }
+    requires whole { IsContextBefore cx.now }
     requires within { Within cx.now.candidate.now }
     ensures { IfOk result (λ first. IsFaultBefore cx.now.candidate.now (ExportItem 0) first) }
 {
-    if let Some(index) = first_invalid_type(cx.candidate) {
+    if let Some(index) = first_invalid_type(cx) {
         return Ok(Some(ValidFault::TypeAt(index)));
     }
     if let Some(index) = first_invalid(alloc, cx, ItemKind::Import)? {
@@ -54,11 +55,12 @@ fn first_invalid_definition(
 }
 
 /// The first item before the functions that is not valid, if there is one, in the order of `ValidFault`.
+#[tactic(auto, using(crate::proofs::JudgedContexts::judged_before))]
 pub fn first_invalid_item(
     alloc: Global,
     cx: &ModuleContext,
 ) -> Result<Option<ValidFault>, AllocError>
-    requires whole { IsContextOf cx.now }
+    requires whole { IsContextBefore cx.now }
     requires within { Within cx.now.candidate.now }
     ensures { IfOk result (λ first. IsFaultBefore cx.now.candidate.now (FunctionItem 0) first) }
 {

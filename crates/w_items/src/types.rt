@@ -1,14 +1,17 @@
 //! Validity of types.
-ghost use Rattle.std.specs.Prelude.{◌≡◌, ◌↔◌, ◌+◌, ◌≤◌, All, IsTrue, length, List};
+ghost use Rattle.std.specs.Prelude.{ℕ, ◌≡◌, ◌↔◌, ◌+◌, ◌≤◌, All, IsTrue, length, List};
 ghost use Rattle.w_types.specs.Groups.{types_of};
 ghost use Rattle.w_types.specs.declared.types.CompType.{CompType as TheType};
-ghost use Rattle.w_rules.specs.Types.{IsValidType, IsValidCompType};
+ghost use Rattle.w_rules.specs.Types.{IsValidType, IsValidCompType, IsSupertype, AreSupertypes};
 ghost use Rattle.w_rules.specs.Valid.{IsFunctionType, TypeItem};
 ghost use Rattle.w_items.specs.Firsts.{IsFirst, IsFirstFailing};
+ghost use Rattle.w_items.specs.Judged.{IsContextBefore};
+ghost use Rattle.w_items.specs.SubTypes.{IsValidSubType};
 
+use crate::context::ModuleContext;
 use w_rules::{func_type, has_type};
 use w_syntax::Module;
-use w_types::{CompType, PackedType};
+use w_types::{CompType, PackedType, SubType};
 
 // Whether each of these value types is valid, among so many types.
 fn are_valid(end: usize, kinds: &[PackedType]) -> bool
@@ -38,12 +41,49 @@ fn is_composite_valid(candidate: &Module, end: usize, kind: &CompType) -> bool
     }
 }
 
-// The position of the first type that is not valid, of those of a group that ends at this index.
-fn first_in_group(candidate: &Module, end: usize, types: &[CompType]) -> Option<usize>
-    ensures { IsFirstFailing (IsValidCompType (types_of candidate.now.types) end) types.now result }
+// Whether a type of this index and composite type may have this supertype.
+fn is_supertype(cx: &ModuleContext, index: usize, kind: &CompType, supertype: u32) -> bool
+    requires { IsContextBefore cx.now }
+    ensures { IsTrue result ↔ IsSupertype cx.now.candidate.now.types index kind.now supertype }
+{
+    match cx.candidate.types.subtype(supertype as usize) {
+        Some(above) => {
+            (supertype as usize) < index
+                && !above.is_final
+                && cx.context.classes.matches_comp(kind, &above.composite)
+        }
+        None => false,
+    }
+}
+
+// Whether a type of this index may have its supertypes: it has at most one.
+fn are_supertypes_valid(cx: &ModuleContext, index: usize, kind: &SubType) -> bool
+    requires { IsContextBefore cx.now }
+    ensures { IsTrue result ↔ AreSupertypes cx.now.candidate.now.types index kind.now.composite kind.now.supertypes }
+{
+    match kind.supertypes.as_slice() {
+        [] => true,
+        [supertype] => is_supertype(cx, index, &kind.composite, *supertype),
+        _ => false,
+    }
+}
+
+// Whether the type of this index is valid, where its group ends at this one.
+fn is_valid(cx: &ModuleContext, end: usize, index: usize, kind: &SubType) -> bool
+    requires { IsContextBefore cx.now }
+    ensures { IsTrue result ↔ IsValidSubType cx.now.candidate.now end index kind.now }
+{
+    is_composite_valid(cx.candidate, end, &kind.composite) && are_supertypes_valid(cx, index, kind)
+}
+
+// The position of the first type that is not valid, of those of a group that stands between these indices.
+fn first_in_group(cx: &ModuleContext, start: usize, end: usize, types: &[SubType]) -> Option<usize>
+    requires whole { IsContextBefore cx.now }
+    requires ends { end ≡ start + length types.now }
+    ensures { IsFirstFailing (λ (k : ℕ). IsValidSubType cx.now.candidate.now end (start + k)) types.now result }
 {
     for (position, kind) in types.iter().enumerate() {
-        if !is_composite_valid(candidate, end, kind) {
+        if !is_valid(cx, end, start + position, kind) {
             return Some(position);
         }
     }
@@ -51,15 +91,16 @@ fn first_in_group(candidate: &Module, end: usize, types: &[CompType]) -> Option<
 }
 
 /// The first type that is not valid, if there is one.
-pub(crate) fn first_invalid_type(candidate: &Module) -> Option<usize>
-    ensures { IsFirst candidate.now TypeItem result }
+pub(crate) fn first_invalid_type(cx: &ModuleContext) -> Option<usize>
+    requires { IsContextBefore cx.now }
+    ensures { IsFirst cx.now.candidate.now TypeItem result }
 {
     // no index of a type, nor the end of a group, is above it
-    let _count = candidate.types.type_count();
+    let _count = cx.candidate.types.type_count();
     let mut start = 0;
-    for group in candidate.types.as_slice() {
+    for group in cx.candidate.types.as_slice() {
         let end = start + group.types.len();
-        if let Some(position) = first_in_group(candidate, end, group.types.as_slice()) {
+        if let Some(position) = first_in_group(cx, start, end, group.types.as_slice()) {
             return Some(start + position);
         }
         start = end;

@@ -7,8 +7,8 @@ use Rattle.w_syntax.specs.Code.{Done}
 use Rattle.w_syntax.specs.declared.module.Module.{Module}
 use Rattle.w_canon.specs.declared.entry.Entry.{Entry}
 use Rattle.w_canon.specs.IsClassesOf.{IsClassesOf}
-use Rattle.w_canon.specs.Tests.{same_test}
-use Rattle.w_canon.proofs.MatchingTests.{same_decided}
+use Rattle.w_canon.specs.Tests.{index_test}
+use Rattle.w_canon.proofs.MatchingTests.{index_decided}
 use Rattle.w_rules.specs.Matching.{known}
 use Rattle.w_rules.specs.Operands.{Operand}
 use Rattle.w_rules.specs.Valid.{Valid}
@@ -43,12 +43,12 @@ use Rattle.w_switching.specs.Standing.{Chained, only, around}
 
 -- ## Where a machine stands
 
--- what says which of the module's types are equivalent
+-- what says which of the module's types match which
 abbrev pub program_by : (m : Module) → List Entry → Program
-program_by m es = record { source = m; same = same_test es }
+program_by m es = record { source = m; matches = index_test es }
 
 pub is_program : (m : Module) (es : List Entry) → IsClassesOf m.types es → IsProgram (program_by m es)
-is_program m es h i j = same_decided m.types es h i j
+is_program m es h i j = index_decided m.types es h i j
 
 -- a machine that keeps no outcome stands for a configuration
 pub stands_somewhere : {m : Module} {functions : List ℕ} {x : Parts} {waiting : Option (Box Segment Global)} {n a b : ℕ} (es : List Entry) → IsClassesOf m.types es

@@ -13,6 +13,7 @@ use Rattle.w_syntax.specs.declared.instructions.Op.TheVariants as op
 use Rattle.w_syntax.specs.declared.instructions.SwitchingOp.{SwitchingOp}
 use Rattle.w_syntax.specs.declared.instructions.SwitchingOp.TheVariants as switching
 use Rattle.w_syntax.specs.declared.module.Module.{Module}
+use Rattle.w_canon.specs.Supertypes.{KeepsKinds}
 use Rattle.w_canon.proofs.Matches.{one_length}
 use Rattle.w_rules.specs.Conditions.{SwitchingCondition, BindTyped, SwitchTyped}
 use Rattle.w_rules.specs.Context.{cont_of}
@@ -33,10 +34,11 @@ use Rattle.w_typed.specs.Stores.{ContTyped, kept, StoreTyped}
 use Rattle.w_typed.specs.Contexts.{Scope, in_scope, RestTyped, code_alone}
 use Rattle.w_typed.specs.Configurations.{Typed}
 use Rattle.w_typed.proofs.Indirect.{one_type}
+use Rattle.w_typed.proofs.KeptComposites.{keeps_kinds}
 use Rattle.w_typed.proofs.Places.{instance_at}
 use Rattle.w_typed.proofs.References.{if_valid_has, if_valid_holds}
 use Rattle.w_typed.proofs.Subsumption.{values_sub}
-use Rattle.w_typed.proofs.ContTypes.{SameCont, same_cont}
+use Rattle.w_typed.proofs.ContTypes.{SameCont, cont_matches}
 use Rattle.w_reduce.specs.Program.{Program}
 use Rattle.w_switching.proofs.ReferenceFirst.{KeptThere, kept_there}
 use Rattle.w_switching.proofs.References.{reference_of}
@@ -79,30 +81,30 @@ on_top : {m : Module} {K : Arrows} {vs : Row Val} {a x : ℕ} {ts : Row Operand}
 on_top (values b (a_value (a_continuation c))) = c
 
 -- of an instruction that takes it on other operands
-fixed_typed : {m : Module} {K : Arrows} {vs : Row Val} {a : ℕ} {ts ws : Row Operand} (x : ℕ) (ins outs : Row ValType) → HasInstrType m.types (fixed (ins ▹ nullable x) outs) ts ws
+fixed_typed : {m : Module} {K : Arrows} {vs : Row Val} {a : ℕ} {ts ws : Row Operand} → KeepsKinds m.types → (x : ℕ) (ins outs : Row ValType) → HasInstrType m.types (fixed (ins ▹ nullable x) outs) ts ws
     → ValuesTyped m K (vs ▹ Cont a) ts → ContinuationTyped m K a (Index x)
-fixed_typed {m = m} x ins outs h v = on_top (values_sub m h.takes v)
+fixed_typed {m = m} keeps x ins outs h v = on_top (values_sub m keeps h.takes v)
 
 -- of cont.bind, which gives one that takes no more
 record BoundTyped (m : Module) (K : Arrows) (a x : ℕ) (one other : FuncType) : Type 0 where
   reference : ContinuationTyped m K a (Index x)
   less : length other.params ≤ length one.params
 
-bound_typed : {m : Module} {K : Arrows} {vs : Row Val} {a : ℕ} (ts ws : Row Operand) (x y : ℕ) (one other : FuncType)
+bound_typed : {m : Module} {K : Arrows} {vs : Row Val} {a : ℕ} → KeepsKinds m.types → (ts ws : Row Operand) (x y : ℕ) (one other : FuncType)
     → HasInstrType m.types (cont_bind_type x y (Some one) (Some other)) ts ws → ValuesTyped m K (vs ▹ Cont a) ts → BoundTyped m K a x one other
-bound_typed {m = m} ts ws x y one other h v =
+bound_typed {m = m} keeps ts ws x y one other h v =
     let ins : Row ValType = row_of (take (length one.params - length other.params) one.params) in
     let test : Bool = nat_le (length other.params) (length one.params) in
     let type : InstrType = fixed (ins ▹ nullable x) (ε ▹ non_null y) in
     record {
-      reference = fixed_typed x ins (ε ▹ non_null y) (if_valid_has m test type ts ws h) v;
+      reference = fixed_typed keeps x ins (ε ▹ non_null y) (if_valid_has m test type ts ws h) v;
       less = le_of (length other.params) (length one.params) (if_valid_holds m test type ts ws h);
     }
 
 -- and of switch
-switched_typed : {m : Module} {K : Arrows} {vs : Row Val} {a : ℕ} {ts ws : Row Operand} (x : ℕ) (beneath : Row ValType) (other : FuncType)
+switched_typed : {m : Module} {K : Arrows} {vs : Row Val} {a : ℕ} {ts ws : Row Operand} → KeepsKinds m.types → (x : ℕ) (beneath : Row ValType) (other : FuncType)
     → HasInstrType m.types (switched_type x beneath (Some other)) ts ws → ValuesTyped m K (vs ▹ Cont a) ts → ContinuationTyped m K a (Index x)
-switched_typed x beneath other h v = fixed_typed x beneath (row_of other.params) h v
+switched_typed keeps x beneath other h v = fixed_typed keeps x beneath (row_of other.params) h v
 
 module _ {m : Module} (valid : Valid m) {K : Arrows} {s : Store} (u : StoreTyped m K s) where
   -- it takes as many values as that has parameters
@@ -112,10 +114,10 @@ module _ {m : Module} (valid : Valid m) {K : Arrows} {s : Store} (u : StoreTyped
       let here = instance_at a c.arrow u.conts c.is in
       let item : here.item ≡ Some k = let q = here.is in cc in
       let takes = kept_takes (subst (λ (o : Option Continuation). ContTyped m K o c.arrow) item here.holds) in
-      let same : SameCont m c.index type = same_cont m valid c.index x (one_type m c.heap) type is in
-      let one : c.type ≡ same.type = let p = c.has_type in let q = same.has_type in cc in
+      let below : SameCont m c.index type = cont_matches m valid (one_type m c.heap) type is in
+      let one : c.type ≡ below.type = let p = c.has_type in let q = below.has_type in cc in
       let first = one_length c.matches.params in
-      let second = one_length same.matches.params in
+      let second = one_length below.matches.params in
       takes ∙ sym first ∙ ap (λ (f : FuncType). length f.params) one ∙ sym second
 
   -- what cont.bind takes has as many parameters as what it gives, or more
@@ -123,7 +125,7 @@ module _ {m : Module} (valid : Valid m) {K : Arrows} {s : Store} (u : StoreTyped
       → cont_of (context_of m) y ≡ Some t → length t.params ≤ k.takes
   bind_takes x y a k t n there is =
       let c : BindTyped (in_scope m n.scope) x y = n.condition in
-      let b = bound_typed n.ins n.outs x y c.one c.other (rw (c.has_one, c.has_other) at n.has_type) n.operands in
+      let b = bound_typed (keeps_kinds m valid) n.ins n.outs x y c.one c.other (rw (c.has_one, c.has_other) at n.has_type) n.operands in
       let takes = takes_params a x c.one k c.has_one b.reference there in
       let less = b.less in
       let same : t ≡ c.other = let q = c.has_other in cc in
@@ -134,7 +136,7 @@ module _ {m : Module} (valid : Valid m) {K : Arrows} {s : Store} (u : StoreTyped
   switch_takes : (x e a : ℕ) (k : Continuation) {vs : Row Val} → TypedNext m K (vs ▹ Cont a) (switching.Switch x e) → slice_get s.conts a ≡ Some (Some k) → 1 ≤ k.takes
   switch_takes x e a k n there =
       let c : SwitchTyped (in_scope m n.scope) x e = n.condition in
-      let top = switched_typed x c.beneath c.other (rw (c.has_one, c.params, c.has_other) at n.has_type) n.operands in
+      let top = switched_typed (keeps_kinds m valid) x c.beneath c.other (rw (c.has_one, c.params, c.has_other) at n.has_type) n.operands in
       let takes = takes_params a x c.one k c.has_one top there in
       let long : size (row_of c.one.params) ≡ length c.one.params = size-row_of c.one.params in
       let some = ap (λ (r : Row ValType). size r) c.params in

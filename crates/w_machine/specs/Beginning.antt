@@ -8,7 +8,7 @@ use Rattle.w_reduce.specs.Program.{Program, IsProgram}
 use Rattle.w_reduce.specs.Start.{Start, Ready, start_term}
 use Rattle.w_stands.specs.Values.{store_of}
 
--- the run of the module begins with this store and this term; p tells which of its types are equivalent
+-- the run of the module begins with this store and this term; p tells which of its types match which
 pub record Begins (m : Module) (p : Program) (s : Store) (t : Term) : Type 0 where
   pub source : p.source ≡ m
   pub program : IsProgram p

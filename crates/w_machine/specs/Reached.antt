@@ -88,7 +88,7 @@ abbrev pub IsReachedBy : Option RunStop → Module → Option ℕ → Parts → 
 IsReachedBy None m waiting x n made_then live_then p r = IsReachedAt m waiting x n p r
 IsReachedBy (Some k) m waiting x n made_then live_then p r = EndsAt k x.chain r.outcome × (r.taken ≡ n) × Counts r made_then live_then
 
--- a run of the module begins, whatever tells which types are equivalent
+-- a run of the module begins, whatever tells which types match which
 abbrev pub IsStarted : Module → Type 0
 IsStarted m = (p : Program) → p.source ≡ m → (s : Store) × (t : Term) × (Start p ≡ Ready s t)
 

@@ -238,7 +238,7 @@ module _ (ks : List (Option Continuation)) (e : Context) (last : Bool) (most : �
   plainly_call_indirect p s vs y x k more =
       both_take_number closed int.I32 vs _ _ (λ q. both_or_stuck closed (slice_get s.tables x) _ _ (λ t. both_or_trap closed _ (slice_get t.elements q.1) _ _ (λ r.
       both_as_function closed _ r _ _ (λ a. both_or_stuck closed (slice_get (functions_of p.source) a) _ _ (λ z.
-      both_if closed (p.same z y) _ _ _ _ (plainly_invoke p s q.0 a (rest_of k) more) silent_trap)))))
+      both_if closed (p.matches z y) _ _ _ _ (plainly_invoke p s q.0 a (rest_of k) more) silent_trap)))))
 
   -- control instructions that hold no others
   pub plainly_control : (p : Program) (s : Store) (vs : Row Val) (o : ControlOp) (k : Code) → (is_call (op.Control o) ≡ true → suc (frames e) ≤ most) → Plainly ks e last most (control_op p s e vs o k) (control_op p (with_conts ks s) e vs o k)

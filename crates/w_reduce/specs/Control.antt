@@ -25,12 +25,12 @@ abbrev pub label_in : Option ℕ → ℕ → ℕ
 label_in (Some l) last = l
 label_in None last = last
 
--- the function of address a is of a type equivalent to type y
+-- the type of the function of address a matches type y
 abbrev pub unless_mismatch : Bool → Reduced → Reduced
 unless_mismatch fits go = if fits then go else Trapped trap.CallTypeMismatch
 
 -- v^n (i32.const i) (call_indirect x y)  ↪  v^n (invoke a), and that is reduced at once
--- where element i of table x is a function of address a, whose type is equivalent to y
+-- where element i of table x is a function of address a, whose type matches y
 abbrev pub call_indirect : Program → Store → Context → Row Val → ℕ → ℕ → Code → Reduced
 call_indirect p s e vs y x c = do
   (vs, i) ← take_i32 vs
@@ -38,7 +38,7 @@ call_indirect p s e vs y x c = do
   r ← or_trap trap.UndefinedElement (slice_get table.elements i)
   a ← as_function trap.NullElement r
   z ← or_stuck (slice_get (functions_of p.source) a)
-  unless_mismatch (p.same z y) (invoke p s e vs a (rest_of c))
+  unless_mismatch (p.matches z y) (invoke p s e vs a (rest_of c))
 
 abbrev pub control_op : Program → Store → Context → Row Val → ControlOp → Code → Reduced
 -- [Step_pure/unreachable]

@@ -1,20 +1,20 @@
--- What the rules know of a module: its parts, and which of its types are equivalent.
+-- What the rules know of a module: its parts, and which of its types match which.
 use Rattle.std.specs.Prelude.{◌↔◌, ℕ, Bool, IsTrue, length, Option, Some, None}
 use Rattle.w_types.specs.declared.types.FuncType.{FuncType}
 use Rattle.w_syntax.specs.Functions.{func_type}
 use Rattle.w_syntax.specs.declared.instructions.BlockType.{BlockType}
 use Rattle.w_syntax.specs.declared.instructions.BlockType.TheVariants as block
 use Rattle.w_syntax.specs.declared.module.Module.{Module}
-use Rattle.w_canon.specs.Equivalence.{SameIndex}
+use Rattle.w_canon.specs.Matching.{IndexMatches}
 
 pub record Program : Type 0 where
   pub source : Module
-  -- whether two types are equivalent
-  pub same : ℕ → ℕ → Bool
+  -- whether a type matches another
+  pub matches : ℕ → ℕ → Bool
 
--- it tells of all types which are equivalent
+-- it tells of all types which match which
 abbrev pub IsProgram : Program → Type 0
-IsProgram p = (i j : ℕ) → IsTrue (p.same i j) ↔ SameIndex p.source.types i j
+IsProgram p = (i j : ℕ) → IsTrue (p.matches i j) ↔ IndexMatches p.source.types i j
 
 -- How many operands a block takes and gives.
 pub record Arity : Type 0 where

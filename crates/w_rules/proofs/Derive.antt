@@ -5,6 +5,7 @@ use Rattle.w_types.specs.declared.types.ValType.TheVariants.{I32}
 use Rattle.lists.specs.Rows.{Row, ε, ◌▹◌, ◌⧺◌}
 use Rattle.lists.proofs.Rows.{beside_assoc}
 use Rattle.w_syntax.specs.Code.{Code, Done, Plain, Block, If, IfElse, after}
+use Rattle.w_canon.specs.Supertypes.{KeepsKinds}
 use Rattle.w_rules.specs.Operands.{Operand}
 use Rattle.w_rules.specs.Operands.{Known}
 use Rattle.w_rules.specs.Conditions.{Holds}
@@ -30,62 +31,62 @@ holds_pull (Some a) P Q R h f = f a h
 -- ## Subsumption
 
 -- of a step, on the left
-pub steps_left : (gs : List RecGroup) (ins outs ts' ts us : Row Operand) → RowMatches gs ts' ts → HasType gs ins outs ts us → HasType gs ins outs ts' us
-steps_left gs ins outs ts' ts us m h = record { beneath = h.beneath; takes = row_trans gs ts' ts (h.beneath ⧺ ins) m h.takes; gives = h.gives }
+pub steps_left : (gs : List RecGroup) → KeepsKinds gs → (ins outs ts' ts us : Row Operand) → RowMatches gs ts' ts → HasType gs ins outs ts us → HasType gs ins outs ts' us
+steps_left gs keeps ins outs ts' ts us m h = record { beneath = h.beneath; takes = row_trans gs keeps ts' ts (h.beneath ⧺ ins) m h.takes; gives = h.gives }
 
 -- on the right
-pub steps_right : (gs : List RecGroup) (ins outs ts us us' : Row Operand) → HasType gs ins outs ts us → RowMatches gs us us' → HasType gs ins outs ts us'
-steps_right gs ins outs ts us us' h m = record { beneath = h.beneath; takes = h.takes; gives = row_trans gs (h.beneath ⧺ outs) us us' h.gives m }
+pub steps_right : (gs : List RecGroup) → KeepsKinds gs → (ins outs ts us us' : Row Operand) → HasType gs ins outs ts us → RowMatches gs us us' → HasType gs ins outs ts us'
+steps_right gs keeps ins outs ts us us' h m = record { beneath = h.beneath; takes = h.takes; gives = row_trans gs keeps (h.beneath ⧺ outs) us us' h.gives m }
 
 -- of an instruction typed to any, on the left
-pub polymorphic_left : (gs : List RecGroup) (ins ts' ts : Row Operand) → RowMatches gs ts' ts → Polymorphic gs ins ts → Polymorphic gs ins ts'
-polymorphic_left gs ins ts' ts m h = record { beneath = h.beneath; takes = row_trans gs ts' ts (h.beneath ⧺ ins) m h.takes }
+pub polymorphic_left : (gs : List RecGroup) → KeepsKinds gs → (ins ts' ts : Row Operand) → RowMatches gs ts' ts → Polymorphic gs ins ts → Polymorphic gs ins ts'
+polymorphic_left gs keeps ins ts' ts m h = record { beneath = h.beneath; takes = row_trans gs keeps ts' ts (h.beneath ⧺ ins) m h.takes }
 
 -- of an instruction, on the left
-pub takes_left : (gs : List RecGroup) (l : InstrType) (ts' ts us : Row Operand) → RowMatches gs ts' ts → HasInstrType gs l ts us → HasInstrType gs l ts' us
-takes_left gs (fixed ins outs) ts' ts us m h = steps_left gs (known ins) (known outs) ts' ts us m h
-takes_left gs (polymorphic ins) ts' ts us m h = polymorphic_left gs (known ins) ts' ts m h
-takes_left gs (table_polymorphic one others) ts' ts us m h = record { ins = h.ins; polymorphic = polymorphic_left gs (h.ins ▹ Known I32) ts' ts m h.polymorphic; each = h.each }
-takes_left gs drops ts' ts us m (t, h) = (t, steps_left gs (ε ▹ t) ε ts' ts us m h)
-takes_left gs selects ts' ts us m (t, n, h) = (t, n, steps_left gs (ε ▹ t ▹ t ▹ Known I32) (ε ▹ t) ts' ts us m h)
-takes_left gs tests_null ts' ts us m (t, h) = (t, steps_left gs (ε ▹ ref_to true t) (ε ▹ Known I32) ts' ts us m h)
-takes_left gs as_non_null ts' ts us m (t, h) = (t, steps_left gs (ε ▹ ref_to true t) (ε ▹ ref_to false t) ts' ts us m h)
-takes_left gs (on_null vs) ts' ts us m (t, h) = (t, steps_left gs (known vs ▹ ref_to true t) (known vs ▹ ref_to false t) ts' ts us m h)
-takes_left gs untyped ts' ts us m h = h
+pub takes_left : (gs : List RecGroup) → KeepsKinds gs → (l : InstrType) (ts' ts us : Row Operand) → RowMatches gs ts' ts → HasInstrType gs l ts us → HasInstrType gs l ts' us
+takes_left gs keeps (fixed ins outs) ts' ts us m h = steps_left gs keeps (known ins) (known outs) ts' ts us m h
+takes_left gs keeps (polymorphic ins) ts' ts us m h = polymorphic_left gs keeps (known ins) ts' ts m h
+takes_left gs keeps (table_polymorphic one others) ts' ts us m h = record { ins = h.ins; polymorphic = polymorphic_left gs keeps (h.ins ▹ Known I32) ts' ts m h.polymorphic; each = h.each }
+takes_left gs keeps drops ts' ts us m (t, h) = (t, steps_left gs keeps (ε ▹ t) ε ts' ts us m h)
+takes_left gs keeps selects ts' ts us m (t, n, h) = (t, n, steps_left gs keeps (ε ▹ t ▹ t ▹ Known I32) (ε ▹ t) ts' ts us m h)
+takes_left gs keeps tests_null ts' ts us m (t, h) = (t, steps_left gs keeps (ε ▹ ref_to true t) (ε ▹ Known I32) ts' ts us m h)
+takes_left gs keeps as_non_null ts' ts us m (t, h) = (t, steps_left gs keeps (ε ▹ ref_to true t) (ε ▹ ref_to false t) ts' ts us m h)
+takes_left gs keeps (on_null vs) ts' ts us m (t, h) = (t, steps_left gs keeps (known vs ▹ ref_to true t) (known vs ▹ ref_to false t) ts' ts us m h)
+takes_left gs keeps untyped ts' ts us m h = h
 
 -- on the right
-pub takes_right : (gs : List RecGroup) (l : InstrType) (ts us us' : Row Operand) → HasInstrType gs l ts us → RowMatches gs us us' → HasInstrType gs l ts us'
-takes_right gs (fixed ins outs) ts us us' h m = steps_right gs (known ins) (known outs) ts us us' h m
-takes_right gs (polymorphic ins) ts us us' h m = h
-takes_right gs (table_polymorphic one others) ts us us' h m = h
-takes_right gs drops ts us us' (t, h) m = (t, steps_right gs (ε ▹ t) ε ts us us' h m)
-takes_right gs selects ts us us' (t, n, h) m = (t, n, steps_right gs (ε ▹ t ▹ t ▹ Known I32) (ε ▹ t) ts us us' h m)
-takes_right gs tests_null ts us us' (t, h) m = (t, steps_right gs (ε ▹ ref_to true t) (ε ▹ Known I32) ts us us' h m)
-takes_right gs as_non_null ts us us' (t, h) m = (t, steps_right gs (ε ▹ ref_to true t) (ε ▹ ref_to false t) ts us us' h m)
-takes_right gs (on_null vs) ts us us' (t, h) m = (t, steps_right gs (known vs ▹ ref_to true t) (known vs ▹ ref_to false t) ts us us' h m)
-takes_right gs untyped ts us us' h m = h
+pub takes_right : (gs : List RecGroup) → KeepsKinds gs → (l : InstrType) (ts us us' : Row Operand) → HasInstrType gs l ts us → RowMatches gs us us' → HasInstrType gs l ts us'
+takes_right gs keeps (fixed ins outs) ts us us' h m = steps_right gs keeps (known ins) (known outs) ts us us' h m
+takes_right gs keeps (polymorphic ins) ts us us' h m = h
+takes_right gs keeps (table_polymorphic one others) ts us us' h m = h
+takes_right gs keeps drops ts us us' (t, h) m = (t, steps_right gs keeps (ε ▹ t) ε ts us us' h m)
+takes_right gs keeps selects ts us us' (t, n, h) m = (t, n, steps_right gs keeps (ε ▹ t ▹ t ▹ Known I32) (ε ▹ t) ts us us' h m)
+takes_right gs keeps tests_null ts us us' (t, h) m = (t, steps_right gs keeps (ε ▹ ref_to true t) (ε ▹ Known I32) ts us us' h m)
+takes_right gs keeps as_non_null ts us us' (t, h) m = (t, steps_right gs keeps (ε ▹ ref_to true t) (ε ▹ ref_to false t) ts us us' h m)
+takes_right gs keeps (on_null vs) ts us us' (t, h) m = (t, steps_right gs keeps (known vs ▹ ref_to true t) (known vs ▹ ref_to false t) ts us us' h m)
+takes_right gs keeps untyped ts us us' h m = h
 
 -- of a sequence, on the left
-pub derives_left : (c : Context) (s : List Bool) (k : Code) (ts' ts us : Row Operand) → RowMatches c.types ts' ts → Derives c s k ts us → Derives c s k ts' us
-derives_left c s Done ts' ts us m d = row_trans c.types ts' ts us m d
-derives_left c s (Plain o k) ts' ts us m (p, (vs, t, d)) = (p, (vs, takes_left c.types (instr_type c s o) ts' ts vs m t, d))
-derives_left c s (Block kind x b k) ts' ts us m d =
-    holds_map (arrow_of c x) _ _ d (λ a h. (h.0, (h.1.0, steps_left c.types (known a.from) (known a.to) ts' ts h.1.0 m h.1.1, h.1.2)))
-derives_left c s (If x b k) ts' ts us m d =
-    holds_map (arrow_of c x) _ _ d (λ a h. (h.0, h.1, (h.2.0, steps_left c.types (known a.from ▹ Known I32) (known a.to) ts' ts h.2.0 m h.2.1, h.2.2)))
-derives_left c s (IfElse x b e k) ts' ts us m d =
-    holds_map (arrow_of c x) _ _ d (λ a h. (h.0, h.1, (h.2.0, steps_left c.types (known a.from ▹ Known I32) (known a.to) ts' ts h.2.0 m h.2.1, h.2.2)))
+pub derives_left : (c : Context) → KeepsKinds c.types → (s : List Bool) (k : Code) (ts' ts us : Row Operand) → RowMatches c.types ts' ts → Derives c s k ts us → Derives c s k ts' us
+derives_left c keeps s Done ts' ts us m d = row_trans c.types keeps ts' ts us m d
+derives_left c keeps s (Plain o k) ts' ts us m (p, (vs, t, d)) = (p, (vs, takes_left c.types keeps (instr_type c s o) ts' ts vs m t, d))
+derives_left c keeps s (Block kind x b k) ts' ts us m d =
+    holds_map (arrow_of c x) _ _ d (λ a h. (h.0, (h.1.0, steps_left c.types keeps (known a.from) (known a.to) ts' ts h.1.0 m h.1.1, h.1.2)))
+derives_left c keeps s (If x b k) ts' ts us m d =
+    holds_map (arrow_of c x) _ _ d (λ a h. (h.0, h.1, (h.2.0, steps_left c.types keeps (known a.from ▹ Known I32) (known a.to) ts' ts h.2.0 m h.2.1, h.2.2)))
+derives_left c keeps s (IfElse x b e k) ts' ts us m d =
+    holds_map (arrow_of c x) _ _ d (λ a h. (h.0, h.1, (h.2.0, steps_left c.types keeps (known a.from ▹ Known I32) (known a.to) ts' ts h.2.0 m h.2.1, h.2.2)))
 
 -- on the right
-pub derives_right : (c : Context) (s : List Bool) (k : Code) (ts us us' : Row Operand) → Derives c s k ts us → RowMatches c.types us us' → Derives c s k ts us'
-derives_right c s Done ts us us' d m = row_trans c.types ts us us' d m
-derives_right c s (Plain o k) ts us us' (p, (vs, t, d)) m = (p, (vs, t, derives_right c (sets o s) k vs us us' d m))
-derives_right c s (Block kind x b k) ts us us' d m =
-    holds_map (arrow_of c x) _ _ d (λ a h. (h.0, (h.1.0, h.1.1, derives_right c s k h.1.0 us us' h.1.2 m)))
-derives_right c s (If x b k) ts us us' d m =
-    holds_map (arrow_of c x) _ _ d (λ a h. (h.0, h.1, (h.2.0, h.2.1, derives_right c s k h.2.0 us us' h.2.2 m)))
-derives_right c s (IfElse x b e k) ts us us' d m =
-    holds_map (arrow_of c x) _ _ d (λ a h. (h.0, h.1, (h.2.0, h.2.1, derives_right c s k h.2.0 us us' h.2.2 m)))
+pub derives_right : (c : Context) → KeepsKinds c.types → (s : List Bool) (k : Code) (ts us us' : Row Operand) → Derives c s k ts us → RowMatches c.types us us' → Derives c s k ts us'
+derives_right c keeps s Done ts us us' d m = row_trans c.types keeps ts us us' d m
+derives_right c keeps s (Plain o k) ts us us' (p, (vs, t, d)) m = (p, (vs, t, derives_right c keeps (sets o s) k vs us us' d m))
+derives_right c keeps s (Block kind x b k) ts us us' d m =
+    holds_map (arrow_of c x) _ _ d (λ a h. (h.0, (h.1.0, h.1.1, derives_right c keeps s k h.1.0 us us' h.1.2 m)))
+derives_right c keeps s (If x b k) ts us us' d m =
+    holds_map (arrow_of c x) _ _ d (λ a h. (h.0, h.1, (h.2.0, h.2.1, derives_right c keeps s k h.2.0 us us' h.2.2 m)))
+derives_right c keeps s (IfElse x b e k) ts us us' d m =
+    holds_map (arrow_of c x) _ _ d (λ a h. (h.0, h.1, (h.2.0, h.2.1, derives_right c keeps s k h.2.0 us us' h.2.2 m)))
 
 -- ## Operands beneath
 
@@ -139,17 +140,17 @@ derives_frame c s (IfElse x b e k) beneath ts us d = holds_map (arrow_of c x) _ 
 -- ## One sequence after another
 
 -- two derivations make one of the two sequences
-pub after_in : (c : Context) (s : List Bool) (k l : Code) (ts us vs : Row Operand) → Derives c s k ts us → Derives c (set_by k s) l us vs
+pub after_in : (c : Context) → KeepsKinds c.types → (s : List Bool) (k l : Code) (ts us vs : Row Operand) → Derives c s k ts us → Derives c (set_by k s) l us vs
     → Derives c s (after k l) ts vs
 unfolding after
-after_in c s Done l ts us vs d e = derives_left c s l ts us vs d e
-after_in c s (Plain o k) l ts us vs (p, (ws, t, d)) e = (p, (ws, t, after_in c (sets o s) k l ws us vs d e))
-after_in c s (Block kind x b k) l ts us vs d e =
-    holds_map (arrow_of c x) _ _ d (λ a h. (h.0, (h.1.0, h.1.1, after_in c s k l h.1.0 us vs h.1.2 e)))
-after_in c s (If x b k) l ts us vs d e =
-    holds_map (arrow_of c x) _ _ d (λ a h. (h.0, h.1, (h.2.0, h.2.1, after_in c s k l h.2.0 us vs h.2.2 e)))
-after_in c s (IfElse x b f k) l ts us vs d e =
-    holds_map (arrow_of c x) _ _ d (λ a h. (h.0, h.1, (h.2.0, h.2.1, after_in c s k l h.2.0 us vs h.2.2 e)))
+after_in c keeps s Done l ts us vs d e = derives_left c keeps s l ts us vs d e
+after_in c keeps s (Plain o k) l ts us vs (p, (ws, t, d)) e = (p, (ws, t, after_in c keeps (sets o s) k l ws us vs d e))
+after_in c keeps s (Block kind x b k) l ts us vs d e =
+    holds_map (arrow_of c x) _ _ d (λ a h. (h.0, (h.1.0, h.1.1, after_in c keeps s k l h.1.0 us vs h.1.2 e)))
+after_in c keeps s (If x b k) l ts us vs d e =
+    holds_map (arrow_of c x) _ _ d (λ a h. (h.0, h.1, (h.2.0, h.2.1, after_in c keeps s k l h.2.0 us vs h.2.2 e)))
+after_in c keeps s (IfElse x b f k) l ts us vs d e =
+    holds_map (arrow_of c x) _ _ d (λ a h. (h.0, h.1, (h.2.0, h.2.1, after_in c keeps s k l h.2.0 us vs h.2.2 e)))
 
 -- and one of the two makes two
 pub after_out : (c : Context) (s : List Bool) (k l : Code) (ts vs : Row Operand) → Derives c s (after k l) ts vs

@@ -2,6 +2,7 @@ mod Groups
 pub mod Preorder
 pub mod Derive
 mod Rules
+pub mod ValidTypes
 mod SpacesSoFar
 pub mod Marks
 pub mod Contexts

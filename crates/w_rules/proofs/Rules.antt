@@ -5,6 +5,7 @@ use Rattle.w_types.specs.declared.types.ValType.TheVariants.{I32}
 use Rattle.lists.specs.Rows.{Row, ε, ◌▹◌, ◌⧺◌}
 use Rattle.lists.proofs.Rows.{unit_left}
 use Rattle.w_syntax.specs.Code.{Code, Done, Plain, Block, If, IfElse, after}
+use Rattle.w_canon.specs.Supertypes.{KeepsKinds}
 use Rattle.w_rules.specs.Operands.{Operand}
 use Rattle.w_rules.specs.Operands.{Known}
 use Rattle.w_rules.specs.Conditions.{Holds}
@@ -47,28 +48,28 @@ at_arrow : (o : Option Arrow) (a : Arrow) (P : Arrow → Type 0) → o ≡ Some 
 at_arrow o a P e h = let Q : Option Arrow → Type 0 = λ q. Holds q P in subst Q (sym e) h
 
 -- what the rules derive, the definition derives
-typed_derives : (c : Context) (s : List Bool) (k : Code) (ts us : Row Operand) → Typed c s k ts us → Derives c s k ts us
-typed_derives c s k ts us (empty c' s') = none
-typed_derives c s k ts us (instruction c' s' o ts' us' p h) = (p, (us', has_takes c'.types (instr_type c' s' o) ts' us' h, row_refl c'.types us'))
-typed_derives c s k ts us (block c' s' kind x a b e d) = at_arrow (arrow_of c' x) a _ e (
-  typed_derives (labelled c' (label_of kind a)) s' b (known a.from) (known a.to) d,
+typed_derives : (c : Context) → KeepsKinds c.types → (s : List Bool) (k : Code) (ts us : Row Operand) → Typed c s k ts us → Derives c s k ts us
+typed_derives c keeps s k ts us (empty c' s') = none
+typed_derives c keeps s k ts us (instruction c' s' o ts' us' p h) = (p, (us', has_takes c'.types (instr_type c' s' o) ts' us' h, row_refl c'.types us'))
+typed_derives c keeps s k ts us (block c' s' kind x a b e d) = at_arrow (arrow_of c' x) a _ e (
+  typed_derives (labelled c' (label_of kind a)) keeps s' b (known a.from) (known a.to) d,
   (known a.to, exactly c'.types (known a.from) (known a.to), row_refl c'.types (known a.to)),
 )
-typed_derives c s k ts us (if_then c' s' x a b e m d) = at_arrow (arrow_of c' x) a _ e (
+typed_derives c keeps s k ts us (if_then c' s' x a b e m d) = at_arrow (arrow_of c' x) a _ e (
   m,
-  typed_derives (labelled c' a.to) s' b (known a.from) (known a.to) d,
+  typed_derives (labelled c' a.to) keeps s' b (known a.from) (known a.to) d,
   (known a.to, exactly c'.types (known a.from ▹ Known I32) (known a.to), row_refl c'.types (known a.to)),
 )
-typed_derives c s k ts us (if_else c' s' x a b l e d f) = at_arrow (arrow_of c' x) a _ e (
-  typed_derives (labelled c' a.to) s' b (known a.from) (known a.to) d,
-  typed_derives (labelled c' a.to) s' l (known a.from) (known a.to) f,
+typed_derives c keeps s k ts us (if_else c' s' x a b l e d f) = at_arrow (arrow_of c' x) a _ e (
+  typed_derives (labelled c' a.to) keeps s' b (known a.from) (known a.to) d,
+  typed_derives (labelled c' a.to) keeps s' l (known a.from) (known a.to) f,
   (known a.to, exactly c'.types (known a.from ▹ Known I32) (known a.to), row_refl c'.types (known a.to)),
 )
-typed_derives c s k ts us (composition c' s' k' l ts' vs us' d f) =
-    after_in c' s' k' l ts' vs us' (typed_derives c' s' k' ts' vs d) (typed_derives c' (set_by k' s') l vs us' f)
-typed_derives c s k ts us (subsumption c' s' k' beneath ts' us' ts'' us'' d m n) =
-    derives_left c' s' k' ts'' (beneath ⧺ ts') us'' m
-    (derives_right c' s' k' (beneath ⧺ ts') (beneath ⧺ us') us'' (derives_frame c' s' k' beneath ts' us' (typed_derives c' s' k' ts' us' d)) n)
+typed_derives c keeps s k ts us (composition c' s' k' l ts' vs us' d f) =
+    after_in c' keeps s' k' l ts' vs us' (typed_derives c' keeps s' k' ts' vs d) (typed_derives c' keeps (set_by k' s') l vs us' f)
+typed_derives c keeps s k ts us (subsumption c' s' k' beneath ts' us' ts'' us'' d m n) =
+    derives_left c' keeps s' k' ts'' (beneath ⧺ ts') us'' m
+    (derives_right c' keeps s' k' (beneath ⧺ ts') (beneath ⧺ us') us'' (derives_frame c' s' k' beneath ts' us' (typed_derives c' keeps s' k' ts' us' d)) n)
 
 -- ## By the definition, and so by the rules
 
@@ -142,4 +143,4 @@ derives_typed c s (IfElse x b l k) ts us d = with_arrow (arrow_of c x) _ _ d (λ
 
 -- the two derive the same
 pub one_typing : OneTyping
-one_typing c s k ts us = (typed_derives c s k ts us, derives_typed c s k ts us)
+one_typing c keeps s k ts us = (typed_derives c keeps s k ts us, derives_typed c s k ts us)

@@ -10,6 +10,7 @@ use Rattle.w_syntax.specs.declared.instructions.BlockKind.{BlockKind}
 use Rattle.w_syntax.specs.declared.instructions.BlockType.{BlockType}
 use Rattle.w_syntax.specs.declared.instructions.Op.{Op}
 use Rattle.w_syntax.specs.Code.{Code, Done, Plain, Block, If, IfElse, after}
+use Rattle.w_canon.specs.Supertypes.{KeepsKinds}
 use Rattle.w_rules.specs.Operands.{Operand}
 use Rattle.w_rules.specs.Operands.{Known}
 use Rattle.w_rules.specs.Conditions.{Condition}
@@ -53,6 +54,6 @@ pub data Typed : Context → List Bool → Code → Row Operand → Row Operand 
   subsumption : (c : Context) (s : List Bool) (k : Code) (beneath ts us ts' us' : Row Operand)
       → Typed c s k ts us → RowMatches c.types ts' (beneath ⧺ ts) → RowMatches c.types (beneath ⧺ us) us' → Typed c s k ts' us'
 
--- the rules derive just what `Derives` says
+-- the rules derive just what `Derives` says, where each supertype is of its subtypes' kind
 abbrev pub OneTyping : Type 0
-OneTyping = (c : Context) (s : List Bool) (k : Code) (ts us : Row Operand) → Typed c s k ts us ↔ Derives c s k ts us
+OneTyping = (c : Context) → KeepsKinds c.types → (s : List Bool) (k : Code) (ts us : Row Operand) → Typed c s k ts us ↔ Derives c s k ts us

@@ -1,6 +1,6 @@
 -- Validity of a module, by item (Core, validation, modules).
 use Rattle.std.specs.Prelude.{◌≡◌, ◌⊎◌, ℕ, ◌<◌, ◌≤◌, All, IsTrue, List, [], length, Option, Some, None, IsSome, slice_get, option_map}
-use Rattle.w_types.specs.declared.types.CompType.{CompType}
+use Rattle.w_types.specs.declared.types.SubType.{SubType}
 use Rattle.w_types.specs.declared.types.FuncType.{FuncType}
 use Rattle.w_types.specs.declared.types.RefType.{RefType}
 use Rattle.w_types.specs.declared.types.ValType.TheVariants.{I32, Ref}
@@ -32,7 +32,7 @@ use Rattle.w_rules.specs.Bodies.{BodyTyped, ConstTyped}
 use Rattle.w_rules.specs.Conditions.{Holds}
 use Rattle.w_rules.specs.Context.{type_of_func}
 use Rattle.w_rules.specs.Spaces.{context_of, context_below, functions_of, tables_of, memories_of, globals_of, tags_of}
-use Rattle.w_rules.specs.Types.{IsValidHeap, IsValidType, IsValidCompType, with_ends}
+use Rattle.w_rules.specs.Types.{IsValidHeap, IsValidType, IsValidCompType, AreSupertypes, with_ends}
 
 -- An item of a module, by its index in its section; a type by its index through all groups. All memories are one item.
 pub data Item : Type 0 where
@@ -48,12 +48,13 @@ pub data Item : Type 0 where
   ExportItem : ℕ → Item
   FunctionItem : ℕ → Item
 
--- type i: its indices are below the end of its group
+-- type i: its indices are below the end of its group, and it has at most one supertype, which it matches
 pub record TypeValid (m : Module) (i : ℕ) : Type 0 where
-  pub type : CompType
+  pub type : SubType
   pub end : ℕ
   pub is : slice_get (with_ends 0 m.types) i ≡ Some (end, type)
-  pub valid : IsValidCompType (types_of m.types) end type
+  pub valid : IsValidCompType (types_of m.types) end type.composite
+  pub supertypes : AreSupertypes m.types i type.composite type.supertypes
 
 -- ## What a module has by its type (Core, validation, types)
 

@@ -3,6 +3,9 @@ ghost use Rattle.std.specs.Prelude.{◌≡◌, ◌≤◌, ℕ, Bool, List};
 ghost use Rattle.w_syntax.specs.declared.locals.LocalRun.{LocalRun};
 ghost use Rattle.w_syntax.specs.Locals.{joined};
 ghost use Rattle.w_syntax.specs.Code.{Code};
+ghost use Rattle.w_syntax.specs.declared.module.Module.{Module};
+ghost use Rattle.w_canon.specs.Matching.{ValMatches, ResultMatches, FuncMatches};
+ghost use Rattle.w_canon.specs.Relations.{IsReflexive, IsTransitive};
 ghost use Rattle.lists.specs.Rows.{Row};
 ghost use Rattle.w_rules.specs.Bodies.{types_of_runs};
 ghost use Rattle.w_rules.specs.Context.{Context};
@@ -11,6 +14,7 @@ ghost use Rattle.w_rules.specs.Operands.{Operand};
 ghost use Rattle.w_rules.specs.Peak.{peak};
 ghost use Rattle.w_rules.specs.Typing.{Derives};
 ghost use Rattle.w_rules.specs.Family.{OneTyping};
+ghost use Rattle.w_rules.specs.Valid.{Valid};
 
 /// The rules of the standard, with composition and subsumption as rules of their own, derive what the definition of typing
 /// says.
@@ -31,4 +35,11 @@ pub fn typed_by_what_is_named()
         → needs k ≤ d → Derives (with_datas d c) s k ts us }
     ensures peak { (c : Context) (n d : ℕ) (k : Code) (s : List Bool) (h : ℕ) → needs k ≤ n → needs k ≤ d
         → peak (with_datas n c) s k h ≡ peak (with_datas d c) s k h }
+{}
+
+/// Matching in a valid module is a preorder.
+pub fn matching_in_valid_modules_is_a_preorder()
+    ensures values { (m : Module) → Valid m → IsReflexive (ValMatches m.types) × IsTransitive (ValMatches m.types) }
+    ensures results { (m : Module) → Valid m → IsReflexive (ResultMatches m.types) × IsTransitive (ResultMatches m.types) }
+    ensures functions { (m : Module) → Valid m → IsReflexive (FuncMatches m.types) × IsTransitive (FuncMatches m.types) }
 {}

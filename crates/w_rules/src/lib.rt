@@ -16,7 +16,10 @@ pub use checked::Checked;
 pub use context::Context;
 pub use facts::Facts;
 pub use functions::{func_type, function_type};
-pub use laws::{joining_keeps_types, one_typing, typed_by_what_is_named};
+pub use laws::{
+    joining_keeps_types, matching_in_valid_modules_is_a_preorder, one_typing,
+    typed_by_what_is_named,
+};
 pub use limits::{SizeLimit, keeps_locals, keeps_type_limits, limits_of};
 pub use named_datas::data_needs;
 pub use named_functions::declared_functions;

@@ -1,5 +1,6 @@
 //! The limits on a module's size.
 ghost use Rattle.std.specs.Prelude.{◌≡◌, ◌+◌, ◌≤◌, ◌<◌, ◌↔◌, ◌^◌, All, length, IsTrue, IfSome, IfNone};
+ghost use Rattle.w_types.specs.declared.types.SubType.{SubType};
 ghost use Rattle.w_types.specs.Groups.{types_of};
 ghost use Rattle.w_syntax.specs.Functions.{type_of_function};
 ghost use Rattle.w_syntax.specs.Locals.{total};
@@ -40,9 +41,13 @@ fn is_narrow(kind: &CompType) -> bool
 
 // Whether each type of a group is narrow.
 fn is_group_narrow(group: &RecGroup) -> bool
-    ensures { IsTrue result ↔ All IsNarrow group.now.types }
+    ensures { IsTrue result ↔ All (λ (kind : SubType). IsNarrow kind.composite) group.now.types }
 {
-    group.types.as_slice().iter().all(|kind| is_narrow(kind))
+    group
+        .types
+        .as_slice()
+        .iter()
+        .all(|kind| is_narrow(&kind.composite))
 }
 
 // Whether each type of these groups is narrow.

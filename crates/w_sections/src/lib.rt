@@ -9,4 +9,6 @@ mod types;
 pub use exports::{ExportField, externidx_at};
 pub use imports::{ImportField, externtype_at};
 pub use tags::{TagField, tag_at};
-pub use types::{CompTypeField, FuncTypeField, RecGroupField, RecGroupsField, comptype_at};
+pub use types::{
+    FuncTypeField, RecGroupField, RecGroupsField, SubTypeField, comptype_at, subtype_at,
+};

@@ -1,14 +1,14 @@
 //! Types of a module (Core, binary format, types; the explainer, binary format).
 ghost use Rattle.std.specs.Prelude.{◌≡◌, IfOk, [], ◌∷◌};
 ghost use Rattle.w_leb.specs.Format.{ReadsAt, BeginsAt};
-ghost use Rattle.w_leb.specs.Formats.{vec};
-ghost use Rattle.w_syntax.specs.Types.{functype, comptype, rectype};
+ghost use Rattle.w_leb.specs.Formats.{vec, ◌⊗◌, ◌⇒◌, number};
+ghost use Rattle.w_syntax.specs.Types.{functype, comptype, subtype_with, subtype, rectype};
 
 use lists::ListOf;
 use std::alloc::{AllocError, Global};
-use w_fields::{Field, ValTypeField, vec_at};
+use w_fields::{Field, IndexField, ValTypeField, vec_at};
 use w_leb::{read_byte, read_u32};
-use w_types::{CompType, FuncType, RecGroup, RecGroups};
+use w_types::{CompType, FuncType, RecGroup, RecGroups, SubType};
 
 /// A function type, as a kind of field: what stands behind its byte.
 pub struct FuncTypeField;
@@ -75,25 +75,86 @@ pub fn comptype_at(
     read_comptype(alloc, bytes, at)
 }
 
-/// A composite type, as a kind of field.
-pub struct CompTypeField;
+// A type behind the byte that says whether it is final: its supertypes, and its composite type.
+fn read_supertypes(
+    alloc: Global,
+    bytes: &[u8],
+    at: usize,
+    is_final: bool,
+) -> Result<Option<(SubType, usize)>, AllocError>
+    ensures { IfOk result (ReadsAt (vec (number 32) ⊗ comptype ⇒ subtype_with is_final).read bytes.now at) }
+{
+    let Some((supertypes, next)) = vec_at::<IndexField>(alloc, bytes, at)? else {
+        return Ok(None);
+    };
+    let Some((composite, next)) = read_comptype(alloc, bytes, next)? else {
+        return Ok(None);
+    };
+    Ok(Some((
+        SubType {
+            is_final,
+            supertypes,
+            composite,
+        },
+        next,
+    )))
+}
 
-impl Field for CompTypeField {
-    type Item = CompType;
+// Reads a type with its supertypes, or a composite type alone.
+#[tactic(auto, unfolding(w_syntax::specs::Types::subtype))]
+fn read_subtype(
+    alloc: Global,
+    bytes: &[u8],
+    at: usize,
+) -> Result<Option<(SubType, usize)>, AllocError>
+    ensures { IfOk result (ReadsAt subtype.read bytes.now at) }
+{
+    let Some((tag, next)) = read_byte(bytes, at) else {
+        return Ok(None);
+    };
+    match tag {
+        0x50 => read_supertypes(alloc, bytes, next, false),
+        0x4F => read_supertypes(alloc, bytes, next, true),
+        _ => {
+            let Some((composite, next)) = read_comptype(alloc, bytes, at)? else {
+                return Ok(None);
+            };
+            Ok(Some((SubType::alone(alloc, composite), next)))
+        }
+    }
+}
 
-    ghost format = { comptype };
+/// The type at a place, with its supertypes. `None` exactly where no spelling of one begins.
+pub fn subtype_at(
+    alloc: Global,
+    bytes: &[u8],
+    at: usize,
+) -> Result<Option<(SubType, usize)>, AllocError>
+    ensures reads { IfOk result (ReadsAt subtype.read bytes.now at) }
+    ensures begins { IfOk result (BeginsAt subtype.Spells bytes.now at) }
+{
+    read_subtype(alloc, bytes, at)
+}
+
+/// A type with its supertypes, as a kind of field.
+pub struct SubTypeField;
+
+impl Field for SubTypeField {
+    type Item = SubType;
+
+    ghost format = { subtype };
 
     fn read(
         alloc: Global,
         bytes: &[u8],
         at: usize,
-    ) -> Result<Option<(CompType, usize)>, AllocError> {
-        comptype_at(alloc, bytes, at)
+    ) -> Result<Option<(SubType, usize)>, AllocError> {
+        subtype_at(alloc, bytes, at)
     }
 }
 
 // The group of one type.
-fn group_of_one(alloc: Global, kind: CompType) -> Result<RecGroup, AllocError>
+fn group_of_one(alloc: Global, kind: SubType) -> Result<RecGroup, AllocError>
     ensures { IfOk result (λ group. group ≡ record { types = kind ∷ [] }) }
 {
     let mut types = ListOf::new(alloc);
@@ -120,13 +181,13 @@ impl Field for RecGroupField {
         };
         match tag {
             0x4E => {
-                let Some((types, next)) = vec_at::<CompTypeField>(alloc, bytes, next)? else {
+                let Some((types, next)) = vec_at::<SubTypeField>(alloc, bytes, next)? else {
                     return Ok(None);
                 };
                 Ok(Some((RecGroup { types }, next)))
             }
             _ => {
-                let Some((kind, next)) = comptype_at(alloc, bytes, at)? else {
+                let Some((kind, next)) = subtype_at(alloc, bytes, at)? else {
                     return Ok(None);
                 };
                 Ok(Some((group_of_one(alloc, kind)?, next)))

@@ -11,6 +11,7 @@ use Rattle.w_types.specs.declared.types.ValType.TheVariants as val
 use Rattle.w_types.specs.declared.types.FuncType.{FuncType}
 use Rattle.w_types.specs.declared.types.CompType.{CompType}
 use Rattle.w_types.specs.declared.types.CompType.TheVariants as comp
+use Rattle.w_types.specs.declared.types.SubType.{SubType}
 use Rattle.w_types.specs.declared.types.RecGroup.{RecGroup}
 use Rattle.w_syntax.specs.declared.module.Limits.{Limits}
 use Rattle.w_syntax.specs.declared.module.TableType.{TableType}
@@ -83,15 +84,34 @@ pub comptype_solid : IsSolid comptype.Spells
 unfolding comptype
 comptype_solid x h = h
 
-abbrev pub group_of : List CompType → RecGroup
+-- a type that is final or not, with its supertypes
+abbrev pub subtype_with : Bool → List ℕ × CompType → SubType
+subtype_with f p = record { is_final = f; supertypes = p.0; composite = p.1 }
+
+abbrev pub subtypes : List (ℕ × Format SubType)
+subtypes = (0x50, vec (number 32) ⊗ comptype ⇒ subtype_with false) ∷ (0x4F, vec (number 32) ⊗ comptype ⇒ subtype_with true) ∷ []
+
+-- a final type without supertypes
+abbrev pub alone_of : CompType → SubType
+alone_of c = record { is_final = true; supertypes = []; composite = c }
+
+-- a type with supertypes, or a composite type alone
+unfoldable pub subtype : Format SubType
+subtype = table_or subtypes (comptype ⇒ alone_of) (λ x h. comptype_solid h.0 h.1)
+
+pub subtype_solid : IsSolid subtype.Spells
+unfolding subtype
+subtype_solid x h = h
+
+abbrev pub group_of : List SubType → RecGroup
 group_of ts = record { types = ts }
 
 abbrev pub groups : List (ℕ × Format RecGroup)
-groups = (0x4E, vec comptype ⇒ group_of) ∷ []
+groups = (0x4E, vec subtype ⇒ group_of) ∷ []
 
 -- a group, or one type that is a group of its own
 unfoldable pub rectype : Format RecGroup
-rectype = table_or groups (comptype ⇒ λ t. group_of (t ∷ [])) (λ x h. comptype_solid h.0 h.1)
+rectype = table_or groups (subtype ⇒ λ t. group_of (t ∷ [])) (λ x h. subtype_solid h.0 h.1)
 
 -- ## Limits, tables and globals
 

@@ -14,6 +14,7 @@ use Rattle.w_syntax.specs.declared.module.TableType.{TableType}
 use Rattle.w_memory.specs.Memory.{Memory, init}
 use Rattle.w_memory.specs.Parts.{copied}
 use Rattle.w_canon.specs.Matching.{RefMatches, ref}
+use Rattle.w_canon.specs.Supertypes.{KeepsKinds}
 use Rattle.w_rules.specs.Conditions.{Holds}
 use Rattle.w_rules.specs.Spaces.{tables_of, memories_of}
 use Rattle.w_rules.specs.Valid.{Valid, ElementItem, ElementValid, IsElemModeValid}
@@ -27,6 +28,7 @@ use Rattle.w_reduce.specs.Start as start
 use Rattle.w_reduce.specs.Start.{elements_copied, element_started, data_put, data_copied, data_started, in_order}
 use Rattle.w_typed.specs.Values.{Arrows}
 use Rattle.w_typed.specs.Stores.{TableTyped, MemoryTyped, SegmentTyped, StoreTyped}
+use Rattle.w_typed.proofs.KeptComposites.{keeps_kinds}
 use Rattle.w_typed.proofs.Elements.{all_sub}
 use Rattle.w_typed.proofs.Memories.{memory_put, data_dropped}
 use Rattle.w_typed.proofs.Pages.{init_typed, data_bytes}
@@ -52,7 +54,7 @@ module _ (p : Program) (y : ℕ) (e : Elem) (there : slice_get p.source.elements
   kind_there : slice_get (map (λ (e : Elem). e.kind) p.source.elements) y ≡ Some e.kind
   kind_there = slice_get-map (λ (e : Elem). e.kind) p.source.elements y ∙ ap (option_map (λ (e : Elem). e.kind)) there
 
-module _ (p : Program) {K : Arrows} (y : ℕ) (e : Elem) (there : slice_get p.source.elements y ≡ Some e) where
+module _ (p : Program) (keeps : KeepsKinds p.source.types) {K : Arrows} (y : ℕ) (e : Elem) (there : slice_get p.source.elements y ≡ Some e) where
   -- the segment may be dropped
   dropped : (s : Store) → StoreTyped p.source K s → StoreTyped p.source K (without_elements s y)
   dropped s u = elements_dropped p.source y e.kind s u (kind_there p y e there)
@@ -63,7 +65,7 @@ module _ (p : Program) {K : Arrows} (y : ℕ) (e : Elem) (there : slice_get p.so
       → TableTyped p.source K t k → SegmentTyped p.source K segment e.kind → StoreTyped p.source K s → StaysTyped p.source K (start.elements_put s x y t segment o)
   put_typed s x t k segment d None is at q h w u = none_stays_typed p.source
   put_typed s x t k segment d (Some vs) is at q h w u =
-      let sub = all_sub p.source K (Ref e.kind) (Ref k.element) segment (ref q) w in
+      let sub = all_sub p.source keeps K (Ref e.kind) (Ref k.element) segment (ref q) w in
       let new = table_copied p.source K k t h d 0 (length segment) segment vs sub is in
       stays_typed p.source (without_elements (with_elements s x t vs) y) (dropped (with_elements s x t vs) (elements_put p.source x k t vs s u at new))
 
@@ -141,7 +143,7 @@ module _ (p : Program) {K : Arrows} where
       let w : ElementValid p.source y = valid (ElementItem y) (slice_get_within p.source.elements y e there) in
       let same : w.element ≡ e = let a = w.is in cc in
       let mode = subst (λ (x : Elem). IsElemModeValid p.source x.kind x.mode) same w.mode in
-      element_kept p y e there s e.mode mode v)
+      element_kept p (keeps_kinds p.source valid) y e there s e.mode mode v)
       0 p.source.elements (λ i e there. subst (λ n. here n e) (omega arith) there) (Some s) (stays_typed p.source s u) r is
 
   -- and with all active data segments in their memories

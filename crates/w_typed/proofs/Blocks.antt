@@ -12,6 +12,7 @@ use Rattle.w_syntax.specs.declared.instructions.BlockKind.TheVariants.{Loop}
 use Rattle.w_syntax.specs.declared.instructions.BlockType.{BlockType}
 use Rattle.w_syntax.specs.declared.instructions.BlockType.TheVariants as blocktype
 use Rattle.w_syntax.specs.declared.module.Module.{Module}
+use Rattle.w_canon.specs.Supertypes.{KeepsKinds}
 use Rattle.w_rules.specs.Context as rules
 use Rattle.w_rules.specs.Context.{Arrow, arrow_of, arrow_at, arrow_of_type, type_count, labelled}
 use Rattle.w_rules.specs.Matching.{known}
@@ -75,7 +76,7 @@ pub record BlockTyped (m : Module) (c : Scope) (set : List Bool) (kind : BlockKi
   pub inside_low : (c.results ≡ None → ⊥) → IsLow m (under (size has_type.beneath) (rules.label_of kind arrow) c) set x (size arrow.from)
   pub again_low : kind ≡ Loop → (c.results ≡ None → ⊥) → IsLow m c set (Block Loop b x k) (size (has_type.beneath ⧺ known arrow.from))
 
-module _ (p : Program) {K : Arrows} (us : Row Operand) where
+module _ (p : Program) (keeps : KeepsKinds p.source.types) {K : Arrows} (us : Row Operand) where
   inside_there : (kind : BlockKind) {b : BlockType} {x k : Code} {c : Scope} {set : List Bool} {ts ws out : Row Operand} (h : BlockTyped p.source c set kind b x k ts ws out)
       → (below : Row Val) → ValuesTyped p.source K below h.has_type.beneath → (c.results ≡ None → ⊥)
       → IsLow p.source (under (size below) (rules.label_of kind h.arrow) c) set x (size (known h.arrow.from))
@@ -91,7 +92,7 @@ module _ (p : Program) {K : Arrows} (us : Row Operand) where
       → IsSafe p.source K us (steps_to s (label_of kind b (sizes h.arrow) x below k e) args (rest_of x))
   block_goes kind.Block {k = k} u still v h n w below args lower taken =
       let m = p.source in
-      let gives = as_later m (code_left m h.has_type.gives h.behind) in
+      let gives = as_later m (code_left m keeps h.has_type.gives h.behind) in
       goes_on m us u still taken (code_alone (record { derives = h.inside; none = λ e. absurd (n e); fits = h.inside_fits; low = inside_there kind.Block h below lower }))
       (label h.has_type.beneath (row_refl m.types (known h.arrow.to)) refl lower (rw (after_done k) gives) gives still w)
   block_goes kind.Loop {b = b} {x = x} {k = k} {c = c} {set = set} {ws = ws} {out = out} u still v h n w below args lower taken =
@@ -100,7 +101,7 @@ module _ (p : Program) {K : Arrows} (us : Row Operand) where
       let again : Derives (in_scope m c) set (Block kind.Loop b x k) from out = rw h.is (h.inside, (ws, record { beneath = h.has_type.beneath; takes = row_refl m.types from; gives = h.has_type.gives }, h.behind.derives)) in
       goes_on m us u still taken (code_alone (record { derives = h.inside; none = λ e. absurd (n e); fits = h.inside_fits; low = inside_there kind.Loop h below lower }))
       (label h.has_type.beneath (row_refl m.types (known h.arrow.to)) refl lower
-      (rw (after_block kind.Loop b x k) (record { derives = again; none = λ e. absurd (n e); fits = λ f. (h.inside_fits f, h.behind.fits f); low = λ i room. h.again_low refl i })) (as_later m (code_left m h.has_type.gives h.behind)) still w)
+      (rw (after_block kind.Loop b x k) (record { derives = again; none = λ e. absurd (n e); fits = λ f. (h.inside_fits f, h.behind.fits f); low = λ i room. h.again_low refl i })) (as_later m (code_left m keeps h.has_type.gives h.behind)) still w)
 
   -- a block is entered, with the operands that it takes
   pub block_safe : (kind : BlockKind) {b : BlockType} {x k : Code} {s : Store} {e : Context} {vs : Row Val} {c : Scope} {set now : List Bool} {ts ws out : Row Operand}
@@ -109,5 +110,5 @@ module _ (p : Program) {K : Arrows} (us : Row Operand) where
   block_safe kind {b = b} {vs = vs} {c = c} u still v h n w =
       let m = p.source in
       rw (arity_typed m c b h.arrow h.is)
-      (values_taken m us (size h.arrow.from) vs h.has_type.beneath (known h.arrow.from) _ (sym (size_known h.arrow.from)) (values_sub m h.has_type.takes v)
+      (values_taken m us (size h.arrow.from) vs h.has_type.beneath (known h.arrow.from) _ (sym (size_known h.arrow.from)) (values_sub m keeps h.has_type.takes v)
       (block_goes kind u still v h n w))

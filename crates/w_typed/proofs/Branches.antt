@@ -4,6 +4,7 @@ use Rattle.std.proofs.lemmas.Bool.{eq-eqb}
 use Rattle.w_types.specs.declared.types.ValType.{ValType}
 use Rattle.lists.specs.Rows.{Row, ◌⧺◌, size}
 use Rattle.w_syntax.specs.declared.module.Module.{Module}
+use Rattle.w_canon.specs.Supertypes.{KeepsKinds}
 use Rattle.w_rules.specs.Matching.{known}
 use Rattle.w_rules.specs.Operands.{Operand}
 use Rattle.w_rules.proofs.Preorder.{row_size}
@@ -57,17 +58,18 @@ module _ (m : Module) {K : Arrows} (us : Row Operand) where
       values_taken m us n vs beneath (known own) _ (size_is ∙ sym (size_known own)) (subst (λ (z : Row ValType). ValuesTyped m K vs (beneath ⧺ known z)) same v)
       (λ below args b a. goes_on m us u still (values_beside m h a) k w)
 
+module _ (m : Module) (keeps : KeepsKinds m.types) {K : Arrows} (us : Row Operand) where
   -- at the end of a sequence its values leave the label, the frame or the handle, or are the results
   pub leave_safe : {s : Store} {e : Context} {vs : Row Val} {c : Scope} {now : List Bool} {out : Row Operand} → StoreTyped m K s
       → ((c.results ≡ None → ⊥) → c.base + size out ≤ most_operands m c.function) → ValuesTyped m K vs out
       → Within m K us e c now out → IsSafe m K us (leave s e vs)
-  leave_safe u room v (outside r) = ends (values_sub m r v)
+  leave_safe u room v (outside r) = ends (values_sub m keeps r v)
   leave_safe {out = out} u room v (label {given = given} under r size_is h again k still w) =
       let low = values_size m h in
       let all = size_beside under given in
       let as_many = row_size m.types out given r in
-      goes_on m us u still (values_beside m h (values_sub m r v)) (code_alone (reached m (λ inside. let fits = room inside in omega (arith, fits, low, all, as_many)) k)) w
-  leave_safe u room v (handle results under r hs tops h k still w) = goes_on m us u still (values_beside m h (values_sub m r v)) (code_alone k) w
+      goes_on m us u still (values_beside m h (values_sub m keeps r v)) (code_alone (reached m (λ inside. let fits = room inside in omega (arith, fits, low, all, as_many)) k)) w
+  leave_safe u room v (handle results under r hs tops h k still w) = goes_on m us u still (values_beside m h (values_sub m keeps r v)) (code_alone k) w
   leave_safe {vs = vs} {out = out} u room v (frame {n = n} {results = own} under f r size_is ls h k still w) =
       let e : nat_eq (size vs) n ≡ true = subst (λ (z : ℕ). nat_eq (size vs) z ≡ true) (values_size m v ∙ row_size m.types out (known own) r ∙ size_known own ∙ sym size_is) (eq-eqb (size vs) (size vs) refl) in
-      rw e (goes_on m us u still (values_beside m h (values_sub m r v)) k w)
+      rw e (goes_on m us u still (values_beside m h (values_sub m keeps r v)) k w)

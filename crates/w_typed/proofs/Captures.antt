@@ -8,6 +8,7 @@ use Rattle.w_syntax.specs.Code.{Code, Plain}
 use Rattle.w_syntax.specs.declared.instructions.Op.TheVariants as op
 use Rattle.w_syntax.specs.declared.instructions.SwitchingOp.TheVariants as switching
 use Rattle.w_syntax.specs.declared.module.Module.{Module}
+use Rattle.w_canon.specs.Supertypes.{KeepsKinds}
 use Rattle.w_rules.specs.Conditions.{SwitchTyped}
 use Rattle.w_rules.specs.Context.{cont_of, type_of_tag}
 use Rattle.w_rules.specs.InstructionTypes.{call_type, switched_type}
@@ -15,7 +16,6 @@ use Rattle.w_rules.specs.Matching.{known}
 use Rattle.w_rules.specs.Operands.{Operand}
 use Rattle.w_rules.specs.Spaces.{context_of}
 use Rattle.w_rules.specs.Typing.{HasInstrType}
-use Rattle.w_rules.proofs.Preorder.{row_refl}
 use Rattle.w_reduce.specs.Values.{Val}
 use Rattle.w_reduce.specs.Store.{Store}
 use Rattle.w_reduce.specs.Terms.{rest_of, Context, Continuation, filled}
@@ -30,7 +30,7 @@ use Rattle.w_typed.proofs.Behind.{code_behind, code_here}
 use Rattle.w_typed.proofs.Low.{size_known}
 use Rattle.w_typed.proofs.OneWay.{some_same}
 use Rattle.w_typed.proofs.CutContexts.{HandleTyped, cut_found}
-use Rattle.w_typed.proofs.FilledTerms.{hole_filled}
+use Rattle.w_typed.proofs.FilledTerms.{hole_full}
 use Rattle.w_typed.proofs.Holes.{code_left}
 use Rattle.w_typed.proofs.Places.{instance_at}
 use Rattle.w_typed.proofs.ResultRows.{size_types}
@@ -72,6 +72,7 @@ module _ (m : Module) (K : Arrows) where
       clauses = cut.clauses;
     }
 
+  module _ (keeps : KeepsKinds m.types) (us : Row Operand) where
     -- by a suspend
     suspend_captures : (e : Context) (vs ws : Row Val) (x : ℕ) (k : Code) (t : FuncType) (f : Handler ℕ)
         → TermTyped m K us (record { around = e; operands = vs ⧺ ws; rest = rest_of (Plain (op.Switching (switching.Suspend x)) k) })
@@ -83,10 +84,10 @@ module _ (m : Module) (K : Arrows) where
         let inside : h.scope.results ≡ None → ⊥ = λ n. let q = d.none n in absurd (cc) in
         let q : HasInstrType m.types (call_type (Some t)) h.before given =
         subst (λ (o : Option FuncType). HasInstrType m.types (call_type o) h.before given) is d.derives.1.1 in
-        let behind = code_left m q.gives (code_behind m h.before given k (op.Switching (switching.Suspend x)) refl inside d.derives.1.1 d.derives.1.2 d.fits d.low) in
-        let lower = values_below vs ws q.beneath (known (row_of t.params)) (many ∙ sym (size_types t.params)) (values_sub m q.takes h.operands) in
+        let behind = code_left m keeps q.gives (code_behind m h.before given k (op.Switching (switching.Suspend x)) refl inside d.derives.1.1 d.derives.1.2 d.fits d.low) in
+        let lower = values_below vs ws q.beneath (known (row_of t.params)) (many ∙ sym (size_types t.params)) (values_sub m keeps q.takes h.operands) in
         let cut = cut_found m (label_clause x) e f ((finding ℕ (label_clause x) e f).0 found) h.around in
-        capture_typed t.results vs k f q.beneath cut h.still lower behind
+        capture_typed us t.results vs k f q.beneath cut h.still lower behind
 
     -- by a switch, whose types are these
     switch_typed_captures : (e : Context) (vs ws : Row Val) (u : Val) (x y : ℕ) (k : Code) (f : Handler (Unit {0}))
@@ -98,12 +99,12 @@ module _ (m : Module) (K : Arrows) where
         let given = d.derives.1.0 in
         let inside : h.scope.results ≡ None → ⊥ = λ n. let q = d.none n in absurd (cc) in
         let q : HasInstrType m.types (switched_type x c.beneath (Some c.other)) h.before given = rw (c.has_one, c.params, c.has_other) at d.derives.1.1 in
-        let behind = code_left m q.gives (code_behind m h.before given k (op.Switching (switching.Switch x y)) refl inside d.derives.1.1 d.derives.1.2 d.fits d.low) in
-        let last = one_below (values_sub m q.takes h.operands) in
+        let behind = code_left m keeps q.gives (code_behind m h.before given k (op.Switching (switching.Switch x y)) refl inside d.derives.1.1 d.derives.1.2 d.fits d.low) in
+        let last = one_below (values_sub m keeps q.takes h.operands) in
         let count : size ws ≡ size (known c.beneath) = omega (arith, size-row_of c.one.params, ap size c.params, size_known c.beneath) in
         let lower = values_below vs ws q.beneath (known c.beneath) count last in
         let cut = cut_found m (switch_clause y) e f ((finding (Unit {0}) (switch_clause y) e f).0 found) h.around in
-        capture_typed c.other.params vs k f q.beneath cut h.still lower behind
+        capture_typed us c.other.params vs k f q.beneath cut h.still lower behind
 
     switch_captures : (e : Context) (vs ws : Row Val) (u : Val) (x y z : ℕ) (k : Code) (t back : FuncType) (f : Handler (Unit {0}))
         → TermTyped m K us (record { around = e; operands = (vs ⧺ ws) ▹ u; rest = rest_of (Plain (op.Switching (switching.Switch x y)) k) })
@@ -129,15 +130,15 @@ module _ (m : Module) (K : Arrows) where
   kept_filled s u a k t vs is at v =
       let f = instance_at a t u.conts at in
       let there : f.item ≡ Some k = some_same (sym f.is ∙ is) in
-      hole_filled m (known (row_of t.params)) ε k.term (kept_there f.item k t f.holds there).term (row_refl m.types (known (row_of t.params))) v
+      hole_full m k.term (kept_there f.item k t f.holds there).term v
 
 -- what a suspend captures is typed
 pub suspends_typed : SuspendsCaptureTyped
-suspends_typed m K us e vs ws x k t f h is many found = suspend_captures m K us e vs ws x k t f h is many found
+suspends_typed m K us e vs ws x k t f keeps h is many found = suspend_captures m K keeps us e vs ws x k t f h is many found
 
 -- and what a switch does
 pub switches_typed : SwitchesCaptureTyped
-switches_typed m K us e vs ws u x y z k t back f h is many at there found = switch_captures m K us e vs ws u x y z k t back f h is many at there found
+switches_typed m K us e vs ws u x y z k t back f keeps h is many at there found = switch_captures m K keeps us e vs ws u x y z k t back f h is many at there found
 
 -- what a store keeps is a term once it is filled
 pub kept_contexts_are_terms : KeptContextsAreTerms

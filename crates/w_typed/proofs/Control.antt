@@ -12,6 +12,7 @@ use Rattle.w_syntax.specs.declared.instructions.Op.TheVariants as op
 use Rattle.w_syntax.specs.declared.module.Module.{Module}
 use Rattle.w_syntax.specs.declared.numeric.IntType.TheVariants as int
 use Rattle.w_canon.specs.Matching.{ref}
+use Rattle.w_canon.specs.Supertypes.{KeepsKinds}
 use Rattle.w_canon.proofs.Preorder.{heap_refl}
 use Rattle.w_rules.specs.Conditions.{ControlCondition}
 use Rattle.w_rules.specs.Context.{type_of_func}
@@ -94,8 +95,9 @@ module _ (p : Program) (K : Arrows) (us : Row Operand) where
   abbrev pub IsHeldThere : {s : Store} {e : Context} {k : Code} {ws : Row Operand} → Here s e k ws → Row Operand → Type 0
   IsHeldThere h ts = (h.scope.results ≡ None → ⊥) → IsHeld p.source h.scope (size ts)
 
+module _ (p : Program) (keeps : KeepsKinds p.source.types) (K : Arrows) (us : Row Operand) where
   -- it gives operands of types that match these
-  abbrev pub here_left : {s : Store} {e : Context} {k : Code} {ts ws : Row Operand} → RowMatches p.source.types ts ws → Here s e k ws → Here s e k ts
+  abbrev pub here_left : {s : Store} {e : Context} {k : Code} {ts ws : Row Operand} → RowMatches p.source.types ts ws → Here p K us s e k ws → Here p K us s e k ts
   here_left r h = record {
     scope = h.scope;
     set = h.set;
@@ -104,59 +106,59 @@ module _ (p : Program) (K : Arrows) (us : Row Operand) where
     still = h.still;
     store = h.store;
     leaving = h.leaving;
-    behind = λ n. code_left p.source r (h.behind n);
+    behind = λ n. code_left p.source keeps r (h.behind n);
     around = h.around;
     inside = h.inside;
   }
 
   -- a reference that may not be null is of each type of references to its heap type
   there : {r : RefType} {v : Val} → OperandTyped p.source K v (ref_to false (Some r.heap)) → OperandTyped p.source K v (Known (Ref r))
-  there {r = r} q = operand_sub p.source (value (ref (record { nullable = λ f. absurd (cc); heap = heap_refl p.source.types r.heap }))) q
+  there {r = r} q = operand_sub p.source keeps (value (ref (record { nullable = λ f. absurd (cc); heap = heap_refl p.source.types r.heap }))) q
 
   module _ {s : Store} {e : Context} {k : Code} {ts ws : Row Operand} {vs : Row Val} where
-    br_here : (l : ℕ) (h : Here s e k ws) → IsHeldThere h ts → (taken : Option (Row ValType)) → slice_get h.scope.labels l ≡ taken → HasInstrType p.source.types (br_type taken) ts ws
+    br_here : (l : ℕ) (h : Here p K us s e k ws) → IsHeldThere p K us h ts → (taken : Option (Row ValType)) → slice_get h.scope.labels l ≡ taken → HasInstrType p.source.types (br_type taken) ts ws
         → ValuesTyped p.source K vs ts → IsSafe p.source K us (control_op p s e vs (control.Br l) k)
     br_here l h held None is t v = absurd t
     br_here l h held (Some taken) is t v =
-        branch_safe p.source us l t.beneath taken h.store is (λ i. room p.source (taken_among p.source.types t.beneath taken t.takes) (held i)) (values_sub p.source t.takes v) h.around
+        branch_safe p.source us l t.beneath taken h.store is (λ i. room p.source (taken_among p.source.types t.beneath taken t.takes) (held i)) (values_sub p.source keeps t.takes v) h.around
 
-    br_if_here : (l : ℕ) (h : Here s e k ws) → h.leaving ≡ false → IsHeldThere h ts → (taken : Option (Row ValType)) → slice_get h.scope.labels l ≡ taken → HasInstrType p.source.types (br_if_type taken) ts ws
+    br_if_here : (l : ℕ) (h : Here p K us s e k ws) → h.leaving ≡ false → IsHeldThere p K us h ts → (taken : Option (Row ValType)) → slice_get h.scope.labels l ≡ taken → HasInstrType p.source.types (br_if_type taken) ts ws
         → ValuesTyped p.source K vs ts → IsSafe p.source K us (control_op p s e vs (control.BrIf l) k)
     br_if_here l h n held None is t v = absurd t
     br_if_here l h n held (Some taken) is t v =
         let m = p.source in
-        number_taken m us int.I32 vs (t.beneath ⧺ known taken) _ (values_sub m t.takes v) (λ below number b.
-        zero_or_not number _ _ (branch_safe m us l t.beneath taken h.store is (λ i. room m (taken_below m.types t.beneath taken t.takes) (held i)) b h.around)
-        (onward m us h.still (h.behind n) h.around s below h.store (values_sub m t.gives b)))
+        number_taken m us int.I32 vs (t.beneath ⧺ known taken) _ (values_sub m keeps t.takes v) (λ below number b.
+        zero_or_not p K us number _ _ (branch_safe m us l t.beneath taken h.store is (λ i. room m (taken_below m.types t.beneath taken t.takes) (held i)) b h.around)
+        (onward m us h.still (h.behind n) h.around s below h.store (values_sub m keeps t.gives b)))
 
-    br_table_here : (ls : List ℕ) (l : ℕ) (h : Here s e k ws) → IsHeldThere h ts → (one : Option (Row ValType)) (others : Option (List (Row ValType))) → slice_get h.scope.labels l ≡ one
+    br_table_here : (ls : List ℕ) (l : ℕ) (h : Here p K us s e k ws) → IsHeldThere p K us h ts → (one : Option (Row ValType)) (others : Option (List (Row ValType))) → slice_get h.scope.labels l ≡ one
         → labels_at h.scope.labels ls ≡ others → HasInstrType p.source.types (br_table_type one others) ts ws
         → ValuesTyped p.source K vs ts → IsSafe p.source K us (control_op p s e vs (control.BrTable ls l) k)
     br_table_here ls l h held None others is at t v = absurd t
     br_table_here ls l h held (Some one) None is at t v = absurd t
     br_table_here ls l h held (Some one) (Some others) is at t v =
         let m = p.source in
-        number_taken m us int.I32 vs (t.polymorphic.beneath ⧺ t.ins) _ (values_sub m t.polymorphic.takes v) (λ below i b.
+        number_taken m us int.I32 vs (t.polymorphic.beneath ⧺ t.ins) _ (values_sub m keeps t.polymorphic.takes v) (λ below i b.
         let f = table_label m h.scope.labels t.ins ls l i one others is at t.each.0 t.each.1 in
         branch_safe m us (label_in (slice_get ls i) l) t.polymorphic.beneath f.taken h.store f.is
         (λ i. room m (ins_below m.types t.polymorphic.beneath t.ins f.taken t.polymorphic.takes f.matches) (held i))
-        (values_sub m (row_beside m.types t.polymorphic.beneath t.polymorphic.beneath t.ins (known f.taken) (row_refl m.types t.polymorphic.beneath) f.matches) b) h.around)
+        (values_sub m keeps (row_beside m.types t.polymorphic.beneath t.polymorphic.beneath t.ins (known f.taken) (row_refl m.types t.polymorphic.beneath) f.matches) b) h.around)
 
-    return_here : (h : Here s e k ws) (taken : Option (Row ValType)) → h.scope.results ≡ taken → Polymorphic p.source.types (known (returned taken)) ts
+    return_here : (h : Here p K us s e k ws) (taken : Option (Row ValType)) → h.scope.results ≡ taken → Polymorphic p.source.types (known (returned taken)) ts
         → ValuesTyped p.source K vs ts → IsSafe p.source K us (control_op p s e vs control.Return k)
     return_here h None is t v = absurd (h.inside is)
-    return_here h (Some taken) is t v = returns_safe p.source us t.beneath taken h.store is (values_sub p.source t.takes v) h.around
+    return_here h (Some taken) is t v = returns_safe p.source us t.beneath taken h.store is (values_sub p.source keeps t.takes v) h.around
 
-    br_on_null_here : (l : ℕ) (h : Here s e k ws) → h.leaving ≡ false → IsHeldThere h ts → (taken : Option (Row ValType)) → slice_get h.scope.labels l ≡ taken → HasInstrType p.source.types (br_on_null_type taken) ts ws
+    br_on_null_here : (l : ℕ) (h : Here p K us s e k ws) → h.leaving ≡ false → IsHeldThere p K us h ts → (taken : Option (Row ValType)) → slice_get h.scope.labels l ≡ taken → HasInstrType p.source.types (br_on_null_type taken) ts ws
         → ValuesTyped p.source K vs ts → IsSafe p.source K us (control_op p s e vs (control.BrOnNull l) k)
     br_on_null_here l h n held None is t v = absurd t
     br_on_null_here l h n held (Some taken) is (heap, t) v =
         let m = p.source in
-        by_null_safe m us heap vs (t.beneath ⧺ known taken) _ _ (values_sub m t.takes v)
+        by_null_safe m keeps us heap vs (t.beneath ⧺ known taken) _ _ (values_sub m keeps t.takes v)
         (λ below b. branch_safe m us l t.beneath taken h.store is (λ i. room m (taken_below m.types t.beneath taken t.takes) (held i)) b h.around)
-        (λ below r b q. onward m us h.still (h.behind n) h.around s (below ▹ r) h.store (values_sub m t.gives (values b q)))
+        (λ below r b q. onward m us h.still (h.behind n) h.around s (below ▹ r) h.store (values_sub m keeps t.gives (values b q)))
 
-    br_on_non_null_here : (l : ℕ) (h : Here s e k ws) → h.leaving ≡ false → IsHeldThere h ts → (taken : Option (Row ValType)) → slice_get h.scope.labels l ≡ taken
+    br_on_non_null_here : (l : ℕ) (h : Here p K us s e k ws) → h.leaving ≡ false → IsHeldThere p K us h ts → (taken : Option (Row ValType)) → slice_get h.scope.labels l ≡ taken
         → HasInstrType p.source.types (br_on_non_null_type taken) ts ws → ValuesTyped p.source K vs ts → IsSafe p.source K us (control_op p s e vs (control.BrOnNonNull l) k)
     br_on_non_null_here l h n held None is t v = absurd t
     br_on_non_null_here l h n held (Some ε) is t v = absurd t
@@ -164,22 +166,22 @@ module _ (p : Program) (K : Arrows) (us : Row Operand) where
     br_on_non_null_here l h n held (Some (taken ▹ I64)) is t v = absurd t
     br_on_non_null_here l h n held (Some (taken ▹ Ref r)) is t v =
         let m = p.source in
-        by_null_safe m us (Some r.heap) vs (t.beneath ⧺ known taken) _ _ (values_sub m t.takes v)
-        (λ below b. onward m us h.still (h.behind n) h.around s below h.store (values_sub m t.gives b))
+        by_null_safe m keeps us (Some r.heap) vs (t.beneath ⧺ known taken) _ _ (values_sub m keeps t.takes v)
+        (λ below b. onward m us h.still (h.behind n) h.around s below h.store (values_sub m keeps t.gives b))
         (λ below w b q. branch_safe m us l t.beneath (taken ▹ Ref r) h.store is (λ i. room m (one_among m.types t.beneath taken t.takes) (held i)) (values b (there q)) h.around)
 
-    call_here : (x : ℕ) (h : Here s e k ws) → h.leaving ≡ false → Valid p.source → (t : Option FuncType) → type_of_func (context_of p.source) x ≡ t
+    call_here : (x : ℕ) (h : Here p K us s e k ws) → h.leaving ≡ false → Valid p.source → (t : Option FuncType) → type_of_func (context_of p.source) x ≡ t
         → HasInstrType p.source.types (call_type t) ts ws → ValuesTyped p.source K vs ts → IsSafe p.source K us (control_op p s e vs (control.Call x) k)
     call_here x h n valid None is t v = absurd t
     call_here x h n valid (Some f) is t v =
-        invoke_safe p us x f t.beneath valid h.store is (values_sub p.source t.takes v) (code_alone (code_left p.source t.gives (h.behind n))) h.still h.around
+        invoke_safe p us x f t.beneath valid h.store is (values_sub p.source keeps t.takes v) (code_alone (code_left p.source keeps t.gives (h.behind n))) h.still h.around
 
     -- a control instruction goes on, or traps
-    pub control_safe : (o : ControlOp) (h : Here s e k ws) → h.leaving ≡ leaves (op.Control o) → IsHeldThere h ts → IsProgram p → Valid p.source → ControlCondition (in_scope p.source h.scope) o
+    pub control_safe : (o : ControlOp) (h : Here p K us s e k ws) → h.leaving ≡ leaves (op.Control o) → IsHeldThere p K us h ts → IsProgram p → Valid p.source → ControlCondition (in_scope p.source h.scope) o
         → HasInstrType p.source.types (control_op_type (in_scope p.source h.scope) o) ts ws
         → ValuesTyped p.source K vs ts → IsSafe p.source K us (control_op p s e vs o k)
     control_safe control.Unreachable h n held prog valid q t v = traps
-    control_safe control.Nop h n held prog valid q t v = onward p.source us h.still (h.behind n) h.around s vs h.store (values_sub p.source t.gives (values_sub p.source t.takes v))
+    control_safe control.Nop h n held prog valid q t v = onward p.source us h.still (h.behind n) h.around s vs h.store (values_sub p.source keeps t.gives (values_sub p.source keeps t.takes v))
     control_safe (control.Br l) h n held prog valid q t v = br_here l h held (slice_get h.scope.labels l) refl t v
     control_safe (control.BrIf l) h n held prog valid q t v = br_if_here l h n held (slice_get h.scope.labels l) refl t v
     control_safe (control.BrTable ls l) h n held prog valid q t v = br_table_here ls l h held (slice_get h.scope.labels l) (labels_at h.scope.labels ls) refl refl t v
@@ -187,5 +189,5 @@ module _ (p : Program) (K : Arrows) (us : Row Operand) where
     control_safe (control.BrOnNull l) h n held prog valid q t v = br_on_null_here l h n held (slice_get h.scope.labels l) refl t v
     control_safe (control.BrOnNonNull l) h n held prog valid q t v = br_on_non_null_here l h n held (slice_get h.scope.labels l) refl t v
     control_safe (control.Call x) h n held prog valid q t v = call_here x h n valid (type_of_func (context_of p.source) x) refl t v
-    control_safe (control.CallIndirect y x) h n held prog valid q t v = call_indirect_safe p us y x prog valid h.store q t v (h.behind n) h.still h.around
-    control_safe (control.CallRef y) h n held prog valid q t v = call_ref_safe p us y valid h.store t v (h.behind n) h.still h.around
+    control_safe (control.CallIndirect y x) h n held prog valid q t v = call_indirect_safe p keeps us y x prog valid h.store q t v (h.behind n) h.still h.around
+    control_safe (control.CallRef y) h n held prog valid q t v = call_ref_safe p keeps us y valid h.store t v (h.behind n) h.still h.around

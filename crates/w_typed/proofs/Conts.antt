@@ -4,9 +4,9 @@ use Rattle.w_types.specs.declared.types.FuncType.{FuncType}
 use Rattle.w_types.specs.declared.types.HeapType.TheVariants.{Index}
 use Rattle.lists.specs.Rows.{Row}
 use Rattle.w_syntax.specs.declared.module.Module.{Module}
-use Rattle.w_canon.specs.Matching.{FuncMatches, index}
-use Rattle.w_canon.proofs.Preorder.{func_trans}
-use Rattle.w_canon.proofs.Equivalent.{reflexive}
+use Rattle.w_canon.specs.Matching.{FuncMatches}
+use Rattle.w_canon.specs.Supertypes.{KeepsKinds}
+use Rattle.w_canon.proofs.Preorder.{heap_refl, func_trans}
 use Rattle.w_rules.specs.Context.{cont_of}
 use Rattle.w_rules.specs.InstructionTypes.{nullable}
 use Rattle.w_rules.specs.Operands.{Operand}
@@ -26,7 +26,7 @@ use Rattle.w_typed.proofs.MoreContinuations.{grows_refl, grows_more, within_grow
 use Rattle.w_typed.proofs.Indirect.{one_type}
 use Rattle.w_typed.proofs.TypeKinds.{func_no_cont}
 use Rattle.w_typed.proofs.Calls.{function_there}
-use Rattle.w_typed.proofs.ContTypes.{SameCont, same_cont}
+use Rattle.w_typed.proofs.ContTypes.{SameCont, cont_matches}
 
 module _ (m : Module) {K : Arrows} where
   -- ## Stores
@@ -50,7 +50,7 @@ module _ (m : Module) {K : Arrows} where
     type = type;
     has_type = is;
     matches = h;
-    heap = index (reflexive m.types x);
+    heap = heap_refl m.types (Index x);
   }
 
   -- ## Configurations
@@ -64,7 +64,7 @@ module _ (m : Module) {K : Arrows} where
     term = record { scope = c; set = set; now = now; still = still; before = ts; after = out; operands = h; rest = k; around = within_grows m g w };
   })
 
-  module _ (us : Row Operand) where
+  module _ (keeps : KeepsKinds m.types) (us : Row Operand) where
     -- what the store has of a continuation: it was consumed, which traps, or is kept
     kept_or_consumed : {k : Option Continuation} {t : FuncType} (go : Continuation → Reduced) → ContTyped m K k t → ((k : Continuation) → KeptTyped m K k t → IsSafe m K us (go k))
         → IsSafe m K us (unless_consumed (Some k) go)
@@ -77,10 +77,10 @@ module _ (m : Module) {K : Arrows} where
         → ((a : ℕ) (k : Continuation) (t : FuncType) → slice_get K a ≡ Some t → KeptTyped m K k t → FuncMatches m.types t type → IsSafe m K us (go (a, k)))
         → IsSafe m K us (as_continuation s v go)
     continuation_taken x type go valid u is (a_null n) f = traps
-    continuation_taken x type go valid u is (a_function {a = a} {x = y} there h) f = absurd (func_no_cont m y x (function_there m a y valid u there) (one_type m h) type is)
+    continuation_taken x type go valid u is (a_function {a = a} {x = y} there h) f = absurd (func_no_cont m keeps y x (function_there m a y valid u there) (one_type m h) type is)
     continuation_taken x type go valid u is (a_continuation {a = a} c) f =
         let here = instance_at a c.arrow u.conts c.is in
-        let same : SameCont m c.index type = same_cont m valid c.index x (one_type m c.heap) type is in
-        let one : c.type ≡ same.type = let p = c.has_type in let q = same.has_type in cc in
-        let matches = func_trans m.types c.arrow c.type type c.matches (subst (λ (t : FuncType). FuncMatches m.types t type) (sym one) same.matches) in
+        let below : SameCont m c.index type = cont_matches m valid (one_type m c.heap) type is in
+        let one : c.type ≡ below.type = let p = c.has_type in let q = below.has_type in cc in
+        let matches = func_trans m.types keeps c.arrow c.type type c.matches (subst (λ (t : FuncType). FuncMatches m.types t type) (sym one) below.matches) in
         rw (here.is) (kept_or_consumed (λ k. go (a, k)) here.holds (λ k h. f a k c.arrow c.is h matches))

@@ -4,6 +4,7 @@ use Rattle.std.specs.Prelude.{◌&&◌, nat_le, nat_lt, if◌then◌else◌, Opt
 use Rattle.w_types.specs.declared.types.ValType.{ValType}
 use Rattle.w_syntax.specs.declared.module.Module.{Module}
 use Rattle.w_canon.specs.Matching.{ValMatches}
+use Rattle.w_canon.specs.Supertypes.{KeepsKinds}
 use Rattle.w_memory.specs.Parts.{is_within, part, written}
 use Rattle.w_tables.specs.Elements.{filled, copied, replaced, grown, most_elements}
 use Rattle.w_reduce.specs.Values.{Val}
@@ -11,9 +12,9 @@ use Rattle.w_typed.specs.Values.{Arrows, ValueTyped, AllTyped}
 use Rattle.w_typed.proofs.Subsumption.{value_sub}
 
 -- values of a type are values of each type that it matches
-pub all_sub : (m : Module) (K : Arrows) (t u : ValType) (vs : List Val) → ValMatches m.types t u → AllTyped m K t vs → AllTyped m K u vs
-all_sub m K t u [] k h = tt
-all_sub m K t u (v ∷ vs) k h = (value_sub m k h.0, all_sub m K t u vs k h.1)
+pub all_sub : (m : Module) → KeepsKinds m.types → (K : Arrows) (t u : ValType) (vs : List Val) → ValMatches m.types t u → AllTyped m K t vs → AllTyped m K u vs
+all_sub m keeps K t u [] k h = tt
+all_sub m keeps K t u (v ∷ vs) k h = (value_sub m keeps k h.0, all_sub m keeps K t u vs k h.1)
 
 module _ (m : Module) (K : Arrows) (t : ValType) where
   -- values beside values

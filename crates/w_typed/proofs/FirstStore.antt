@@ -17,6 +17,7 @@ use Rattle.w_syntax.specs.declared.module.Table as syntax_table
 use Rattle.w_syntax.specs.declared.module.TableType.{TableType}
 use Rattle.w_syntax.specs.declared.module.Tag.{Tag}
 use Rattle.w_memory.specs.Memory.{Memory, fresh}
+use Rattle.w_canon.specs.Supertypes.{KeepsKinds}
 use Rattle.w_rules.specs.Bodies.{ConstTyped}
 use Rattle.w_rules.specs.Spaces.{as_global, imports_by, context_of, globals_of, globals_below}
 use Rattle.w_rules.specs.Valid.{Valid, GlobalItem, TableItem, MemoryItem, ElementItem, most_elements, most_pages, AreLimitsValid, GlobalValid, TableValid, ElementValid, IsInitValid}
@@ -30,6 +31,7 @@ use Rattle.w_reduce.specs.Start.{bare, with_globals, filling, table_of, with_tab
 use Rattle.w_typed.specs.Values.{ValueTyped, a_null, AllTyped}
 use Rattle.w_typed.specs.Ranges.{ConstantsFit, InitFits, NumbersFit}
 use Rattle.w_typed.specs.Stores.{Instances, no_instance, instances, TableTyped, MemoryTyped, GlobalTyped, SegmentTyped, DataTyped, ContTyped, StoreTyped}
+use Rattle.w_typed.proofs.KeptComposites.{keeps_kinds}
 use Rattle.w_typed.proofs.ConstantValues.{knowing, Holding, value_typed}
 use Rattle.w_typed.proofs.ManyInstances.{seam, instances_beside, instances_made, instances_of}
 use Rattle.w_typed.proofs.Pages.{fresh_typed}
@@ -60,6 +62,9 @@ one_kind_more m done g =
     ∙ ap (λ (l : List GlobalType). imports_by as_global m ++ l) (sym (map-append (λ (g : GlobalVariable). g.kind) done (g ∷ [])))
 
 module _ (p : Program) (valid : Valid p.source) where
+  keeps : KeepsKinds p.source.types
+  keeps = keeps_kinds p.source valid
+
   -- where a store has the globals in front of one, the value of this one is of its type
   global_valued : (s : Store) (done : List GlobalVariable) (g : GlobalVariable) (rest : List GlobalVariable) → p.source.globals ≡ done ++ g ∷ rest
       → Holding p.source [] (before p.source done) s → ValueTyped p.source [] (value_of p s g.init) g.kind.kind
@@ -73,7 +78,7 @@ module _ (p : Program) (valid : Valid p.source) where
       let few : globals_below p.source (length done) ≡ before p.source done =
       ap (λ (l : List GlobalVariable). imports_by as_global p.source ++ take (length done) (kinds l)) e
       ∙ ap (λ (l : List GlobalType). imports_by as_global p.source ++ l) (front_kinds done (g ∷ rest)) in
-      value_typed p (before p.source done) s u g.init g.kind.kind
+      value_typed p keeps (before p.source done) s u g.init g.kind.kind
       (λ n. all_there (λ (x : GlobalVariable). ConstantsFit x.init) p.source.globals (length done) g n.globals here)
       (subst (λ (l : List GlobalType). ConstTyped (knowing p.source l) g.init g.kind.kind) few typed)
 
@@ -97,7 +102,7 @@ module _ (p : Program) (valid : Valid p.source) where
   filled_typed : (s : Store) (r : RefType) (init : Option Code) → Holding p.source [] (globals_of p.source) s → (NumbersFit p.source → InitFits init)
       → IsInitValid p.source r init → ValueTyped p.source [] (filling p s init) (Ref r)
   filled_typed s r None u fits h = a_null h
-  filled_typed s r (Some k) u fits h = value_typed p (globals_of p.source) s u k (Ref r) fits h
+  filled_typed s r (Some k) u fits h = value_typed p keeps (globals_of p.source) s u k (Ref r) fits h
 
   tables_made : (s : Store) → exceeded p.source ≡ None → Holding p.source [] (globals_of p.source) s
       → Instances (TableTyped p.source []) (map (table_of p s) p.source.tables) (map (λ (t : syntax_table.Table). t.kind) p.source.tables)
@@ -115,7 +120,7 @@ module _ (p : Program) (valid : Valid p.source) where
   items_typed s t [] u fits h = tt
   items_typed s t (k ∷ ks) u fits h =
       let P : Code → Type 0 = λ k. ConstTyped (context_of p.source) k t in (
-        value_typed p (globals_of p.source) s u k t (λ n. All-head ConstantsFit k ks (fits n)) (All-head P k ks h),
+        value_typed p keeps (globals_of p.source) s u k t (λ n. All-head ConstantsFit k ks (fits n)) (All-head P k ks h),
         items_typed s t ks u (λ n. All-tail ConstantsFit k ks (fits n)) (All-tail P k ks h),
       )
 

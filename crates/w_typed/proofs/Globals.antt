@@ -8,6 +8,7 @@ use Rattle.w_syntax.specs.declared.module.GlobalType.{GlobalType}
 use Rattle.w_syntax.specs.declared.module.Mutability.{Mutability}
 use Rattle.w_syntax.specs.declared.module.Mutability.TheVariants as mutability
 use Rattle.w_syntax.specs.declared.module.Module.{Module}
+use Rattle.w_canon.specs.Supertypes.{KeepsKinds}
 use Rattle.w_rules.specs.InstructionTypes.{global_get_type, global_set_type, write_type}
 use Rattle.w_rules.specs.Operands.{Operand}
 use Rattle.w_rules.specs.Operands.{Known}
@@ -51,12 +52,13 @@ module _ (m : Module) {K : Arrows} (us : Row Operand) where
       → ((below : Row Val) (v : Val) → ValuesTyped m K below beneath → ValueTyped m K v t → IsSafe m K us (go (below, v))) → IsSafe m K us (take_value vs go)
   value_taken t _ beneath go (values {vs = vs} {v = v} b (a_value h)) k = k vs v b h
 
+module _ (m : Module) (keeps : KeepsKinds m.types) {K : Arrows} (us : Row Operand) where
   get_safe : (x : ℕ) (ts ws : Row Operand) (s : Store) (e : Context) (vs : Row Val) (k : Code) (y : Option GlobalType)
       → slice_get (globals_of m) x ≡ y → StoreTyped m K s → HasInstrType m.types (global_get_type y) ts ws → ValuesTyped m K vs ts
       → Onward m K us e ws k → IsSafe m K us (variable_op s e vs (variable.GlobalGet x) k)
   get_safe x ts ws s e vs k None is u h v go = absurd h
   get_safe x ts ws s e vs k (Some g) is u h v go =
-      instance_found x g _ u.globals is (λ w q. go s _ u (values_sub m h.gives (values (values_sub m h.takes v) (a_value q))))
+      instance_found m us x g _ u.globals is (λ w q. go s _ u (values_sub m keeps h.gives (values (values_sub m keeps h.takes v) (a_value q))))
 
   -- a global that is read
   pub global_get_safe : (c : Scope) (x : ℕ) (ts ws : Row Operand) (s : Store) (e : Context) (vs : Row Val) (k : Code) → StoreTyped m K s
@@ -69,9 +71,9 @@ module _ (m : Module) {K : Arrows} (us : Row Operand) where
       → Onward m K us e ws k → IsSafe m K us (variable_op s e vs (variable.GlobalSet x) k)
   set_safe x ts ws s e vs k g mutability.Const is u h v go = absurd h
   set_safe x ts ws s e vs k g mutability.Var is u h v go =
-      instance_found x g _ u.globals is (λ old q.
-      value_taken g.kind vs h.beneath _ (values_sub m h.takes v) (λ below new b r.
-      go _ _ (global_put m x new g s u is r) (values_sub m h.gives b)))
+      instance_found m us x g _ u.globals is (λ old q.
+      value_taken m us g.kind vs h.beneath _ (values_sub m keeps h.takes v) (λ below new b r.
+      go _ _ (global_put m x new g s u is r) (values_sub m keeps h.gives b)))
 
   set_if_there : (x : ℕ) (ts ws : Row Operand) (s : Store) (e : Context) (vs : Row Val) (k : Code) (y : Option GlobalType)
       → slice_get (globals_of m) x ≡ y → StoreTyped m K s → HasInstrType m.types (global_set_type y) ts ws → ValuesTyped m K vs ts

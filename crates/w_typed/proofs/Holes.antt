@@ -4,6 +4,7 @@ use Rattle.w_types.specs.declared.types.ValType.{ValType}
 use Rattle.lists.specs.Rows.{Row, ◌⧺◌, row_of}
 use Rattle.w_syntax.specs.Code.{Code}
 use Rattle.w_syntax.specs.declared.module.Module.{Module}
+use Rattle.w_canon.specs.Supertypes.{KeepsKinds}
 use Rattle.w_rules.specs.Matching.{RowMatches, known}
 use Rattle.w_rules.specs.Operands.{Operand}
 use Rattle.w_rules.proofs.Derive.{derives_left}
@@ -96,23 +97,23 @@ module _ (m : Module) {K : Arrows} where
   put_within x t v (frame beneath f r n ls h k still w) is u = frame beneath f r n (local_put x t v ls is u) h k still w
   put_within x t v (handle results beneath r hs tops h k still w) is u = absurd (cc)
 
+module _ (m : Module) (keeps : KeepsKinds m.types) where
   -- ## Filling
 
   -- what a hole takes it takes of types that match these
-  pub within_sub : {us : Row Operand} {e : Context} {c : Scope} {now : List Bool} {ts ts' : Row Operand} → RowMatches m.types ts' ts → Within m K us e c now ts
+  pub within_sub : {K : Arrows} {us : Row Operand} {e : Context} {c : Scope} {now : List Bool} {ts ts' : Row Operand} → RowMatches m.types ts' ts → Within m K us e c now ts
       → Within m K us e c now ts'
-  within_sub {us} {ts = ts} {ts' = ts'} q (outside r) = outside (row_trans m.types ts' ts us q r)
-  within_sub {ts = ts} {ts' = ts'} q (label {given = given} beneath r n h again k still w) = label beneath (row_trans m.types ts' ts given q r) n h again k still w
-  within_sub {ts = ts} {ts' = ts'} q (frame {results = results} beneath f r n ls h k still w) = frame beneath f (row_trans m.types ts' ts (known results) q r) n ls h k still w
-  within_sub {ts = ts} {ts' = ts'} q (handle results beneath r hs tops h k still w) = handle results beneath (row_trans m.types ts' ts (known (row_of results)) q r) hs tops h k still w
+  within_sub {us = us} {ts = ts} {ts' = ts'} q (outside r) = outside (row_trans m.types keeps ts' ts us q r)
+  within_sub {ts = ts} {ts' = ts'} q (label {given = given} beneath r n h again k still w) = label beneath (row_trans m.types keeps ts' ts given q r) n h again k still w
+  within_sub {ts = ts} {ts' = ts'} q (frame {results = results} beneath f r n ls h k still w) = frame beneath f (row_trans m.types keeps ts' ts (known results) q r) n ls h k still w
+  within_sub {ts = ts} {ts' = ts'} q (handle results beneath r hs tops h k still w) = handle results beneath (row_trans m.types keeps ts' ts (known (row_of results)) q r) hs tops h k still w
 
-module _ (m : Module) where
   pub code_left : {c : Scope} {s : List Bool} {k : Code} {ts ts' us : Row Operand} → RowMatches m.types ts' ts → CodeTyped m c s k ts us → CodeTyped m c s k ts' us
-  code_left {c = c} {s = s} {k = k} {ts = ts} {ts' = ts'} {us = us} q h = record { derives = derives_left (in_scope m c) s k ts' ts us q h.derives; none = h.none; fits = h.fits; low = λ inside. low_sub m q (h.low inside) }
+  code_left {c = c} {s = s} {k = k} {ts = ts} {ts' = ts'} {us = us} q h = record { derives = derives_left (in_scope m c) keeps s k ts' ts us q h.derives; none = h.none; fits = h.fits; low = λ inside. low_sub m q (h.low inside) }
 
   pub rest_left : {c : Scope} {s : List Bool} {ahead : List Administrative} {k : Code} {ts ts' us : Row Operand} → RowMatches m.types ts' ts
       → RestTyped m c s ahead k ts us → RestTyped m c s ahead k ts' us
   rest_left q (code_alone h) = code_alone (code_left q h)
   rest_left {c = c} {ts = ts} {ts' = ts'} q (branch_first {taken = taken} beneath is r held_there) =
-      branch_first beneath is (row_trans m.types ts' ts (beneath ⧺ known taken) q r) (λ inside. subst (IsHeld m c) (sym (row_size m.types ts' ts q)) (held_there inside))
-  rest_left {ts = ts} {ts' = ts'} q (invoke_first {t = t} beneath is r h) = invoke_first beneath is (row_trans m.types ts' ts (beneath ⧺ known (row_of t.params)) q r) h
+      branch_first beneath is (row_trans m.types keeps ts' ts (beneath ⧺ known taken) q r) (λ inside. subst (IsHeld m c) (sym (row_size m.types ts' ts q)) (held_there inside))
+  rest_left {ts = ts} {ts' = ts'} q (invoke_first {t = t} beneath is r h) = invoke_first beneath is (row_trans m.types keeps ts' ts (beneath ⧺ known (row_of t.params)) q r) h

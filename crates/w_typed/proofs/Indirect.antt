@@ -11,8 +11,8 @@ use Rattle.w_syntax.specs.declared.instructions.ControlOp.TheVariants as control
 use Rattle.w_syntax.specs.declared.module.Module.{Module}
 use Rattle.w_syntax.specs.declared.module.TableType.{TableType}
 use Rattle.w_syntax.specs.declared.numeric.IntType.TheVariants as int
-use Rattle.w_canon.specs.Equivalence.{SameIndex}
-use Rattle.w_canon.specs.Matching.{HeapMatches, index, index_func, RefMatches}
+use Rattle.w_canon.specs.Matching.{IndexMatches, HeapMatches, index, index_func, RefMatches}
+use Rattle.w_canon.specs.Supertypes.{KeepsKinds}
 use Rattle.w_canon.proofs.Preorder.{heap_trans}
 use Rattle.w_rules.specs.Conditions.{Holds, funcref}
 use Rattle.w_rules.specs.Context.{func_at}
@@ -43,7 +43,7 @@ use Rattle.w_typed.proofs.TypedOperands.{number_taken, trapped_or}
 use Rattle.w_typed.proofs.Holes.{code_left}
 use Rattle.w_typed.proofs.Calls.{invoke_safe}
 use Rattle.w_typed.proofs.TypeKinds.{is_func, cont_no_func}
-use Rattle.w_typed.proofs.SameTypes.{same_function, result_rows}
+use Rattle.w_typed.proofs.SameTypes.{function_matches, result_rows}
 
 -- a function of this address, with its type
 pub record IsFunction (m : Module) (r : RefType) (a : ℕ) : Type 0 where
@@ -51,38 +51,38 @@ pub record IsFunction (m : Module) (r : RefType) (a : ℕ) : Type 0 where
   pub is : slice_get (functions_of m) a ≡ Some index
   pub matches : HeapMatches m.types (Index index) r.heap
 
--- an index that matches another is equivalent to it
-pub one_type : (m : Module) {x y : ℕ} → HeapMatches m.types (Index x) (Index y) → SameIndex m.types x y
+-- heap types that match are of indices that match
+pub one_type : (m : Module) {x y : ℕ} → HeapMatches m.types (Index x) (Index y) → IndexMatches m.types x y
 one_type m (index s) = s
 
-module _ (p : Program) {K : Arrows} (us : Row Operand) where
+module _ (p : Program) (keeps : KeepsKinds p.source.types) {K : Arrows} (us : Row Operand) where
   -- a reference to functions is null, and traps, or it is that of a function
   pub function_taken : (t : Trap) {v : Val} {r : RefType} (go : ℕ → Reduced) → HeapMatches p.source.types r.heap Func → ValueTyped p.source K v (Ref r)
       → ((a : ℕ) → IsFunction p.source r a → IsSafe p.source K us (go a)) → IsSafe p.source K us (as_function t v go)
   function_taken t go q (a_null n) f = traps
   function_taken t {r = r} go q (a_continuation c) f =
-      absurd (cont_no_func p.source c.index c.type c.has_type (heap_trans p.source.types (Index c.index) r.heap Func c.heap q))
+      absurd (cont_no_func p.source c.index c.type c.has_type (heap_trans p.source.types keeps (Index c.index) r.heap Func c.heap q))
   function_taken t go q (a_function {a = a} {x = x} is h) f = f a (record { index = x; is = is; matches = h })
 
-  -- the function is invoked, where its type is equivalent to this one
-  equivalent_invoked : {s : Store} {e : Context} {vs : Row Val} {k : Code} {c : Scope} {set now : List Bool} {out : Row Operand} (a z y : ℕ) (t : FuncType) (beneath : Row Operand)
-      → Valid p.source → StoreTyped p.source K s → slice_get (functions_of p.source) a ≡ Some z → SameIndex p.source.types z y → func_type p.source y ≡ Some t
+  -- the function is invoked, where its type matches this one
+  matching_invoked : {s : Store} {e : Context} {vs : Row Val} {k : Code} {c : Scope} {set now : List Bool} {out : Row Operand} (a z y : ℕ) (t : FuncType) (beneath : Row Operand)
+      → Valid p.source → StoreTyped p.source K s → slice_get (functions_of p.source) a ≡ Some z → IndexMatches p.source.types z y → func_type p.source y ≡ Some t
       → ValuesTyped p.source K vs (beneath ⧺ known (row_of t.params)) → CodeTyped p.source c set k (beneath ⧺ known (row_of t.results)) out
       → Subset set now → Within p.source K us e c now out → IsSafe p.source K us (invoke p s e vs a (rest_of k))
-  equivalent_invoked a z y t beneath valid u there same is v k still w =
+  matching_invoked a z y t beneath valid u there below is v k still w =
       let m = p.source in
-      let f = same_function m valid z y same t is in
+      let f = function_matches m valid below t is in
       let takes = row_beside m.types beneath beneath (known (row_of t.params)) (known (row_of f.type.params)) (row_refl m.types beneath) (result_rows m.types f.params) in
       let gives = row_beside m.types beneath beneath (known (row_of f.type.results)) (known (row_of t.results)) (row_refl m.types beneath) (result_rows m.types f.results) in
-      invoke_safe p us a f.type beneath valid u (ap (func_at (context_of m)) there ∙ f.has_type) (values_sub m takes v) (code_alone (code_left m gives k)) still w
+      invoke_safe p us a f.type beneath valid u (ap (func_at (context_of m)) there ∙ f.has_type) (values_sub m keeps takes v) (code_alone (code_left m keeps gives k)) still w
 
   unless_other : {s : Store} {e : Context} {vs : Row Val} {k : Code} {c : Scope} {set now : List Bool} {out : Row Operand} (b : Bool) (a z y : ℕ) (t : FuncType) (beneath : Row Operand)
-      → p.same z y ≡ b → IsProgram p
+      → p.matches z y ≡ b → IsProgram p
       → Valid p.source → StoreTyped p.source K s → slice_get (functions_of p.source) a ≡ Some z → func_type p.source y ≡ Some t
       → ValuesTyped p.source K vs (beneath ⧺ known (row_of t.params)) → CodeTyped p.source c set k (beneath ⧺ known (row_of t.results)) out
       → Subset set now → Within p.source K us e c now out → IsSafe p.source K us (unless_mismatch b (invoke p s e vs a (rest_of k)))
   unless_other false a z y t beneath d prog valid u there is v k still w = traps
-  unless_other true a z y t beneath d prog valid u there is v k still w = equivalent_invoked a z y t beneath valid u there ((prog z y).0 d) is v k still w
+  unless_other true a z y t beneath d prog valid u there is v k still w = matching_invoked a z y t beneath valid u there ((prog z y).0 d) is v k still w
 
   indirect_here : {s : Store} {e : Context} {vs : Row Val} {k : Code} {c : Scope} {set now : List Bool} {ts ws out : Row Operand} (y x : ℕ) (g : Option TableType) (t : Option FuncType)
       → IsProgram p → Valid p.source → StoreTyped p.source K s → slice_get (tables_of p.source) x ≡ g → func_type p.source y ≡ t
@@ -94,12 +94,12 @@ module _ (p : Program) {K : Arrows} (us : Row Operand) where
   indirect_here {s = s} {e = e} {vs = vs} {k = k} y x (Some g) (Some t) prog valid u there is q h v d still w =
       let m = p.source in
       let table = instance_at x g u.tables there in
-      number_taken m us int.I32 vs (h.beneath ⧺ known (row_of t.params)) _ (values_sub m h.takes v) (λ below i b.
+      number_taken m us int.I32 vs (h.beneath ⧺ known (row_of t.params)) _ (values_sub m keeps h.takes v) (λ below i b.
       rw (table.is) (trapped_or m us trap.UndefinedElement (slice_get table.item.elements i) _ (λ r at.
       function_taken trap.NullElement _ q.heap (all_get m K (Ref g.element) i r table.item.elements table.holds.elements at) (λ a f.
-      rw (f.is) (unless_other (p.same f.index y) a f.index y t h.beneath refl prog valid u f.is is b (code_left m h.gives d) still w)))))
+      rw (f.is) (unless_other (p.matches f.index y) a f.index y t h.beneath refl prog valid u f.is is b (code_left m keeps h.gives d) still w)))))
 
-  -- call_indirect invokes a function of an equivalent type, or traps
+  -- call_indirect invokes a function whose type matches, or traps
   pub call_indirect_safe : {s : Store} {e : Context} {vs : Row Val} {k : Code} {c : Scope} {set now : List Bool} {ts ws out : Row Operand} (y x : ℕ)
       → IsProgram p → Valid p.source → StoreTyped p.source K s
       → Holds (slice_get (tables_of p.source) x) (λ (t : TableType). RefMatches p.source.types t.element funcref)
@@ -112,14 +112,14 @@ module _ (p : Program) {K : Arrows} (us : Row Operand) where
       → ValuesTyped p.source K vs (beneath ⧺ known (row_of t.params ▹ nullable y)) → CodeTyped p.source c set k (beneath ⧺ known (row_of t.results)) out
       → Subset set now → Within p.source K us e c now out → IsSafe p.source K us (control_op p s e vs (control.CallRef y) k)
   ref_here y t beneath valid u is (values b (a_value q)) d still w =
-      function_taken trap.NullReference _ (index_func (is_func p.source y t is)) q (λ a f. equivalent_invoked a f.index y t beneath valid u f.is (one_type p.source f.matches) is b d still w)
+      function_taken trap.NullReference _ (index_func (is_func p.source y t is)) q (λ a f. matching_invoked a f.index y t beneath valid u f.is (one_type p.source f.matches) is b d still w)
 
   by_type : {s : Store} {e : Context} {vs : Row Val} {k : Code} {c : Scope} {set now : List Bool} {ts ws out : Row Operand} (y : ℕ) (t : Option FuncType)
       → Valid p.source → StoreTyped p.source K s → func_type p.source y ≡ t → HasInstrType p.source.types (call_ref_type y t) ts ws
       → ValuesTyped p.source K vs ts → CodeTyped p.source c set k ws out
       → Subset set now → Within p.source K us e c now out → IsSafe p.source K us (control_op p s e vs (control.CallRef y) k)
   by_type y None valid u is h v d still w = absurd h
-  by_type y (Some t) valid u is h v d still w = ref_here y t h.beneath valid u is (values_sub p.source h.takes v) (code_left p.source h.gives d) still w
+  by_type y (Some t) valid u is h v d still w = ref_here y t h.beneath valid u is (values_sub p.source keeps h.takes v) (code_left p.source keeps h.gives d) still w
 
   -- call_ref invokes the function, or traps where it is null
   pub call_ref_safe : {s : Store} {e : Context} {vs : Row Val} {k : Code} {c : Scope} {set now : List Bool} {ts ws out : Row Operand} (y : ℕ)

@@ -26,6 +26,7 @@ pub mod Blocks
 pub mod Calls
 pub mod TypeKinds
 pub mod AlikeTypes
+pub mod KeptComposites
 pub mod SameTypes
 pub mod ContTypes
 pub mod Conts

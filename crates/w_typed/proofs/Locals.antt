@@ -5,6 +5,7 @@ use Rattle.lists.specs.Rows.{Row, ◌▹◌}
 use Rattle.w_syntax.specs.Code.{Code}
 use Rattle.w_syntax.specs.declared.instructions.VariableOp.TheVariants as variable
 use Rattle.w_syntax.specs.declared.module.Module.{Module}
+use Rattle.w_canon.specs.Supertypes.{KeepsKinds}
 use Rattle.w_rules.specs.InstructionTypes.{get_type, set_type, tee_type}
 use Rattle.w_rules.specs.Operands.{Operand}
 use Rattle.w_rules.specs.Operands.{Known}
@@ -22,7 +23,7 @@ use Rattle.w_typed.proofs.Subsumption.{values_sub}
 use Rattle.w_typed.proofs.Holes.{local_within, put_within, set_still}
 use Rattle.w_typed.proofs.Onward.{Onward, goes_on}
 
-module _ (m : Module) {K : Arrows} (us : Row Operand) where
+module _ (m : Module) (keeps : KeepsKinds m.types) {K : Arrows} (us : Row Operand) where
   -- a local that is set has a value
   value_there : (l : Option Val) (t : ValType) (b : Bool) (go : Val → Reduced) → LocalTyped m K l t b → b ≡ true → ((v : Val) → ValueTyped m K v t → IsSafe m K us (go v))
       → IsSafe m K us (or_stuck l go)
@@ -37,7 +38,7 @@ module _ (m : Module) {K : Arrows} (us : Row Operand) where
   get_here x ts ws s e vs k c set now out (Some t) (Some false) is d u h v still w go = absurd h
   get_here x ts ws s e vs k c set now out (Some t) (Some true) is d u h v still w go =
       let l = local_within m x t w is in
-      rw (l.is) (value_there l.item t l.set _ l.holds (cc_set l.is_set (still.still x d)) (λ a p. go s _ u (values_sub m h.gives (values (values_sub m h.takes v) (a_value p)))))
+      rw (l.is) (value_there l.item t l.set _ l.holds (cc_set l.is_set (still.still x d)) (λ a p. go s _ u (values_sub m keeps h.gives (values (values_sub m keeps h.takes v) (a_value p)))))
     where
       cc_set : {a b : Bool} {o : Option Bool} → o ≡ Some a → o ≡ Some b → a ≡ b
       cc_set p q = cc
@@ -62,8 +63,8 @@ module _ (m : Module) {K : Arrows} (us : Row Operand) where
       → Subset set now → Within m K us e c now out → CodeTyped m c (slice_set set x true) k ws out → IsSafe m K us (variable_op s e vs (variable.LocalSet x) k)
   set_here x ts ws s e vs k c set now out None is u h v still w d = absurd h
   set_here x ts ws s e vs k c set now out (Some t) is u h v still w d =
-      put_there x s e vs k h.beneath t c now out (λ below a. below) (values_sub m h.takes v) is w
-      (λ below a set' there b p q. goes_on m us u (set_still x set' there still) (values_sub m h.gives b) (code_alone d) q)
+      put_there x s e vs k h.beneath t c now out (λ below a. below) (values_sub m keeps h.takes v) is w
+      (λ below a set' there b p q. goes_on m us u (set_still x set' there still) (values_sub m keeps h.gives b) (code_alone d) q)
 
   -- local.set goes on with the local set
   pub local_set_safe : (x : ℕ) (ts ws : Row Operand) (s : Store) (e : Context) (vs : Row Val) (k : Code) (c : Scope) (set now : List Bool) (out : Row Operand) → StoreTyped m K s
@@ -76,8 +77,8 @@ module _ (m : Module) {K : Arrows} (us : Row Operand) where
       → Subset set now → Within m K us e c now out → CodeTyped m c (slice_set set x true) k ws out → IsSafe m K us (variable_op s e vs (variable.LocalTee x) k)
   tee_here x ts ws s e vs k c set now out None is u h v still w d = absurd h
   tee_here x ts ws s e vs k c set now out (Some t) is u h v still w d =
-      put_there x s e vs k h.beneath t c now out (λ below a. below ▹ a) (values_sub m h.takes v) is w
-      (λ below a set' there b p q. goes_on m us u (set_still x set' there still) (values_sub m h.gives (values b (a_value p))) (code_alone d) q)
+      put_there x s e vs k h.beneath t c now out (λ below a. below ▹ a) (values_sub m keeps h.takes v) is w
+      (λ below a set' there b p q. goes_on m us u (set_still x set' there still) (values_sub m keeps h.gives (values b (a_value p))) (code_alone d) q)
 
   -- and local.tee leaves the value
   pub local_tee_safe : (x : ℕ) (ts ws : Row Operand) (s : Store) (e : Context) (vs : Row Val) (k : Code) (c : Scope) (set now : List Bool) (out : Row Operand) → StoreTyped m K s

@@ -20,6 +20,7 @@ use Rattle.w_syntax.specs.declared.module.Limits.{Limits}
 use Rattle.w_syntax.specs.declared.module.Module.{Module}
 use Rattle.w_syntax.specs.declared.numeric.IntType.TheVariants as int
 use Rattle.w_memory.specs.Memory.{Memory, page_count, load, store, fill, copy, init}
+use Rattle.w_canon.specs.Supertypes.{KeepsKinds}
 use Rattle.w_rules.specs.InstructionTypes.{fixed, of_int, load_type, load_width, store_type, store_width, has_memory, is_access, memory_op_type}
 use Rattle.w_rules.specs.Operands.{Operand}
 use Rattle.w_rules.specs.Operands.{Known}
@@ -151,6 +152,7 @@ module _ (m : Module) {K : Arrows} (us : Row Operand) where
       let one : length (memories_of m) ≤ 1 = (valid MemoryItem tt).one in
       rw (eq-eqb x y (omega (arith, first, second, one))) safe
 
+module _ (m : Module) (keeps : KeepsKinds m.types) {K : Arrows} (us : Row Operand) where
   -- ## The rules
 
   -- a memory instruction goes on, or traps
@@ -162,10 +164,10 @@ module _ (m : Module) {K : Arrows} (us : Row Operand) where
       let fits = nat_le a.align (load_width o) && nat_lt a.offset (2 ^ 32) in
       let there = each_of (has_memory (in_scope m c) 0) fits (if_valid_holds m test type ts ws h) in
       let g = if_valid_has m test type ts ws h in
-      number_taken m us int.I32 vs g.beneath _ (values_sub m g.takes v) (λ below i b.
-      memory_found c 0 s _ u there.0 (λ l mem at q.
+      number_taken m us int.I32 vs g.beneath _ (values_sub m keeps g.takes v) (λ below i b.
+      memory_found m us c 0 s _ u there.0 (λ l mem at q.
       trapped_or m us trap.MemoryOutOfBounds (load mem (i + a.offset) (loaded_size o)) _ (λ n is.
-      go s _ u (values_sub m g.gives (values b (loaded_typed m o (loaded o n)
+      go s _ u (values_sub m keeps g.gives (values b (loaded_typed m o (loaded o n)
       (λ f. loaded_below o n (loaded_bytes mem (i + a.offset) (loaded_size o) n is (q.bytes f)))))))))
   memory_safe c (memory.Store o a) ts ws s e vs k valid u h v go =
       let test = is_access (in_scope m c) (store_width o) a in
@@ -173,54 +175,54 @@ module _ (m : Module) {K : Arrows} (us : Row Operand) where
       let fits = nat_le a.align (store_width o) && nat_lt a.offset (2 ^ 32) in
       let there = each_of (has_memory (in_scope m c) 0) fits (if_valid_holds m test type ts ws h) in
       let g = if_valid_has m test type ts ws h in
-      let typed = subst (λ t. ValuesTyped m K vs (g.beneath ▹ Known I32 ▹ Known t)) (sym (as_stored o)) (values_sub m g.takes v) in
+      let typed = subst (λ t. ValuesTyped m K vs (g.beneath ▹ Known I32 ▹ Known t)) (sym (as_stored o)) (values_sub m keeps g.takes v) in
       number_taken m us (stored_type o) vs (g.beneath ▹ Known I32) _ typed (λ above n b.
       number_taken m us int.I32 above g.beneath _ b (λ below i d.
-      memory_found c 0 s _ u there.0 (λ l mem at q.
+      memory_found m us c 0 s _ u there.0 (λ l mem at q.
       trapped_or m us trap.MemoryOutOfBounds (store mem (i + a.offset) (stored_size o) n) _ (λ new is.
-      go _ _ (memory_put m 0 l new s u at (store_typed m l mem q (i + a.offset) (stored_size o) n new is)) (values_sub m g.gives d)))))
+      go _ _ (memory_put m 0 l new s u at (store_typed m l mem q (i + a.offset) (stored_size o) n new is)) (values_sub m keeps g.gives d)))))
   memory_safe c (memory.Size x) ts ws s e vs k valid u h v go =
       let test = has_memory (in_scope m c) x in
       let type = fixed ε (ε ▹ I32) in
       let g = if_valid_has m test type ts ws h in
-      memory_found c x s _ u (if_valid_holds m test type ts ws h) (λ l mem at q.
-      go s _ u (values_sub m g.gives (values (values_sub m g.takes v) (small_typed m (page_count mem) (pages_below m l mem q)))))
+      memory_found m us c x s _ u (if_valid_holds m test type ts ws h) (λ l mem at q.
+      go s _ u (values_sub m keeps g.gives (values (values_sub m keeps g.takes v) (small_typed m (page_count mem) (pages_below m l mem q)))))
   memory_safe c (memory.Grow x) ts ws s e vs k valid u h v go =
       let test = has_memory (in_scope m c) x in
       let type = fixed (ε ▹ I32) (ε ▹ I32) in
       let g = if_valid_has m test type ts ws h in
-      number_taken m us int.I32 vs g.beneath _ (values_sub m g.takes v) (λ below n b.
-      memory_found c x s _ u (if_valid_holds m test type ts ws h) (λ l mem at q.
-      go _ _ (memory_put m x l _ s u at (grow_typed m l mem q n)) (values_sub m g.gives (values b (small_typed m _ (grow_below m l mem q n))))))
+      number_taken m us int.I32 vs g.beneath _ (values_sub m keeps g.takes v) (λ below n b.
+      memory_found m us c x s _ u (if_valid_holds m test type ts ws h) (λ l mem at q.
+      go _ _ (memory_put m x l _ s u at (grow_typed m l mem q n)) (values_sub m keeps g.gives (values b (small_typed m _ (grow_below m l mem q n))))))
   memory_safe c (memory.Init y x) ts ws s e vs k valid u h v go =
       let test = has_memory (in_scope m c) x && nat_lt y (length m.datas) in
       let type = fixed (ε ▹ I32 ▹ I32 ▹ I32) ε in
       let there = each_of (has_memory (in_scope m c) x) (nat_lt y (length m.datas)) (if_valid_holds m test type ts ws h) in
       let g = if_valid_has m test type ts ws h in
-      three_taken vs g.beneath _ (values_sub m g.takes v) (λ below d j n b.
-      memory_found c x s _ u there.0 (λ l mem at q.
-      data_found y s _ u there.1 (λ segment bytes from are_bytes.
+      three_taken m us vs g.beneath _ (values_sub m keeps g.takes v) (λ below d j n b.
+      memory_found m us c x s _ u there.0 (λ l mem at q.
+      data_found m us y s _ u there.1 (λ segment bytes from are_bytes.
       trapped_or m us trap.MemoryOutOfBounds (init mem bytes d j n) _ (λ new is.
-      go _ _ (memory_put m x l new s u at (init_typed m l mem q bytes d j n new are_bytes is)) (values_sub m g.gives b)))))
+      go _ _ (memory_put m x l new s u at (init_typed m l mem q bytes d j n new are_bytes is)) (values_sub m keeps g.gives b)))))
   memory_safe c (memory.DataDrop y) ts ws s e vs k valid u h v go =
       let test = nat_lt y (length m.datas) in
       let g = if_valid_has m test (fixed ε ε) ts ws h in
-      data_found y s _ u (if_valid_holds m test (fixed ε ε) ts ws h) (λ d bytes is are_bytes.
-      go _ _ (data_dropped m y d s u is) (values_sub m g.gives (values_sub m g.takes v)))
+      data_found m us y s _ u (if_valid_holds m test (fixed ε ε) ts ws h) (λ d bytes is are_bytes.
+      go _ _ (data_dropped m y d s u is) (values_sub m keeps g.gives (values_sub m keeps g.takes v)))
   memory_safe c (memory.Copy x y) ts ws s e vs k valid u h v go =
       let test = has_memory (in_scope m c) x && has_memory (in_scope m c) y in
       let type = fixed (ε ▹ I32 ▹ I32 ▹ I32) ε in
       let there = each_of (has_memory (in_scope m c) x) (has_memory (in_scope m c) y) (if_valid_holds m test type ts ws h) in
       let g = if_valid_has m test type ts ws h in
-      three_taken vs g.beneath _ (values_sub m g.takes v) (λ below d j n b.
-      memory_found c x s _ u there.0 (λ l mem at q.
+      three_taken m us vs g.beneath _ (values_sub m keeps g.takes v) (λ below d j n b.
+      memory_found m us c x s _ u there.0 (λ l mem at q.
       trapped_or m us trap.MemoryOutOfBounds (copy mem d j n) _ (λ new is.
-      memory_same c x y _ valid there.0 there.1 (go _ _ (memory_put m x l new s u at (copy_typed m l mem q d j n new is)) (values_sub m g.gives b)))))
+      memory_same m us c x y _ valid there.0 there.1 (go _ _ (memory_put m x l new s u at (copy_typed m l mem q d j n new is)) (values_sub m keeps g.gives b)))))
   memory_safe c (memory.Fill x) ts ws s e vs k valid u h v go =
       let test = has_memory (in_scope m c) x in
       let type = fixed (ε ▹ I32 ▹ I32 ▹ I32) ε in
       let g = if_valid_has m test type ts ws h in
-      three_taken vs g.beneath _ (values_sub m g.takes v) (λ below d j n b.
-      memory_found c x s _ u (if_valid_holds m test type ts ws h) (λ l mem at q.
+      three_taken m us vs g.beneath _ (values_sub m keeps g.takes v) (λ below d j n b.
+      memory_found m us c x s _ u (if_valid_holds m test type ts ws h) (λ l mem at q.
       trapped_or m us trap.MemoryOutOfBounds (fill mem d (j % 256) n) _ (λ new is.
-      go _ _ (memory_put m x l new s u at (fill_typed m l mem q d (j % 256) n new (mod-lt j (omega arith)) is)) (values_sub m g.gives b))))
+      go _ _ (memory_put m x l new s u at (fill_typed m l mem q d (j % 256) n new (mod-lt j (omega arith)) is)) (values_sub m keeps g.gives b))))

@@ -9,6 +9,7 @@ use Rattle.w_syntax.specs.declared.numeric.NumericOp.{NumericOp}
 use Rattle.w_syntax.specs.declared.numeric.NumericOp.TheVariants as numeric
 use Rattle.w_syntax.specs.declared.module.Module.{Module}
 use Rattle.w_num.specs.declared.fault.NumFault.{NumFault}
+use Rattle.w_canon.specs.Supertypes.{KeepsKinds}
 use Rattle.w_rules.specs.InstructionTypes.{of_int, numeric_op_type, convert_type, fixed}
 use Rattle.w_rules.specs.Operands.{Operand}
 use Rattle.w_rules.specs.Operands.{Known}
@@ -38,7 +39,7 @@ as_converted conversion.I64Extend8S = refl
 as_converted conversion.I64Extend16S = refl
 as_converted conversion.I64Extend32S = refl
 
-module _ (m : Module) {K : Arrows} (us : Row Operand) where
+module _ (m : Module) (keeps : KeepsKinds m.types) {K : Arrows} (us : Row Operand) where
   faultless : (r : Result ℕ NumFault) (go : ℕ → Reduced) → ((n : ℕ) → r ≡ Ok n → IsSafe m K us (go n)) → IsSafe m K us (unless_fault r go)
   faultless (Ok n) go h = h n refl
   faultless (Err f) go h = traps
@@ -47,23 +48,23 @@ module _ (m : Module) {K : Arrows} (us : Row Operand) where
   pub numeric_safe : (o : NumericOp) (ts ws : Row Operand) (s : Store) (e : Context) (vs : Row Val) (k : Code) → StoreTyped m K s
       → (NumbersFit m → ConstantFits (op.Numeric o)) → HasInstrType m.types (numeric_op_type o) ts ws → ValuesTyped m K vs ts → Onward m K us e ws k
       → IsSafe m K us (numeric_op s e vs o k)
-  numeric_safe (numeric.I32Const z) ts ws s e vs k u fits h v go = go s _ u (values_sub m h.gives (values (values_sub m h.takes v) (a_value (an_i32 fits))))
-  numeric_safe (numeric.I64Const z) ts ws s e vs k u fits h v go = go s _ u (values_sub m h.gives (values (values_sub m h.takes v) (a_value (an_i64 fits))))
+  numeric_safe (numeric.I32Const z) ts ws s e vs k u fits h v go = go s _ u (values_sub m keeps h.gives (values (values_sub m keeps h.takes v) (a_value (an_i32 fits))))
+  numeric_safe (numeric.I64Const z) ts ws s e vs k u fits h v go = go s _ u (values_sub m keeps h.gives (values (values_sub m keeps h.takes v) (a_value (an_i64 fits))))
   numeric_safe (numeric.Eqz t) ts ws s e vs k u fits h v go =
-      number_taken m us t vs h.beneath _ (values_sub m h.takes v) (λ below n b. go s _ u (values_sub m h.gives (values b (small_typed m _ (truth_below _)))))
+      number_taken m us t vs h.beneath _ (values_sub m keeps h.takes v) (λ below n b. go s _ u (values_sub m keeps h.gives (values b (small_typed m _ (truth_below _)))))
   numeric_safe (numeric.Compare t o) ts ws s e vs k u fits h v go =
-      number_taken m us t vs (h.beneath ▹ Known (of_int t)) _ (values_sub m h.takes v) (λ above y a.
+      number_taken m us t vs (h.beneath ▹ Known (of_int t)) _ (values_sub m keeps h.takes v) (λ above y a.
       number_taken m us t above h.beneath _ a (λ below x b.
-      go s _ u (values_sub m h.gives (values b (small_typed m _ (relop_below o (width t) x y))))))
+      go s _ u (values_sub m keeps h.gives (values b (small_typed m _ (relop_below o (width t) x y))))))
   numeric_safe (numeric.Unary t o) ts ws s e vs k u fits h v go =
-      number_taken m us t vs h.beneath _ (values_sub m h.takes v) (λ below n b.
-      go s _ u (values_sub m h.gives (values b (number_typed m t (unop o (width t) n) (λ f. unop_below o (width t) n)))))
+      number_taken m us t vs h.beneath _ (values_sub m keeps h.takes v) (λ below n b.
+      go s _ u (values_sub m keeps h.gives (values b (number_typed m t (unop o (width t) n) (λ f. unop_below o (width t) n)))))
   numeric_safe (numeric.Binary t o) ts ws s e vs k u fits h v go =
-      number_in_range m us t vs (h.beneath ▹ Known (of_int t)) _ (values_sub m h.takes v) (λ above y a q.
+      number_in_range m us t vs (h.beneath ▹ Known (of_int t)) _ (values_sub m keeps h.takes v) (λ above y a q.
       number_in_range m us t above h.beneath _ a (λ below x b p.
       faultless (binop o (width t) x y) _ (λ r is.
-      go s _ u (values_sub m h.gives (values b (number_typed m t r (λ f. binop_below o (width t) x y r (width_there t) (p f) (q f) is)))))))
+      go s _ u (values_sub m keeps h.gives (values b (number_typed m t r (λ f. binop_below o (width t) x y r (width_there t) (p f) (q f) is)))))))
   numeric_safe (numeric.Convert o) ts ws s e vs k u fits h v go =
       let g = subst (λ l. HasInstrType m.types l ts ws) (as_converted o) h in
-      number_in_range m us (taken_by o) vs g.beneath _ (values_sub m g.takes v) (λ below n b p.
-      go s _ u (values_sub m g.gives (values b (number_typed m (given_by o) (cvtop o n) (λ f. cvtop_below o n (p f))))))
+      number_in_range m us (taken_by o) vs g.beneath _ (values_sub m keeps g.takes v) (λ below n b p.
+      go s _ u (values_sub m keeps g.gives (values b (number_typed m (given_by o) (cvtop o n) (λ f. cvtop_below o n (p f))))))

@@ -12,6 +12,7 @@ use Rattle.w_syntax.specs.declared.instructions.VariableOp.{VariableOp}
 use Rattle.w_syntax.specs.declared.instructions.VariableOp.TheVariants as variable
 use Rattle.w_syntax.specs.declared.module.Module.{Module}
 use Rattle.w_syntax.specs.declared.numeric.IntType.TheVariants as int
+use Rattle.w_canon.specs.Supertypes.{KeepsKinds}
 use Rattle.w_rules.specs.Conditions.{Holds, Condition}
 use Rattle.w_rules.specs.Context as rules
 use Rattle.w_rules.specs.Context.{Arrow, arrow_of, labelled}
@@ -37,6 +38,7 @@ use Rattle.w_reduce.specs.Room.{most_operands}
 use Rattle.w_typed.specs.Contexts.{Scope, under, in_scope, IsLow, CodeTyped, RestTyped, code_alone, invoke_first, branch_first, Subset, Within}
 use Rattle.w_typed.proofs.Switches.{switching_safe}
 use Rattle.w_typed.specs.Configurations.{IsSafe, goes, traps, is_limited, ends, ReductionsAreSafe, NextsAreSafe}
+use Rattle.w_typed.proofs.KeptComposites.{keeps_kinds}
 use Rattle.w_typed.proofs.Subsumption.{values_sub}
 use Rattle.w_typed.proofs.TypedOperands.{number_taken}
 use Rattle.w_typed.proofs.Behind.{code_behind}
@@ -181,7 +183,7 @@ module _ (m : Module) where
     again_low = λ e i. absurd (cc);
   }
 
-module _ (p : Program) {K : Arrows} (us : Row Operand) (prog : IsProgram p) (valid : Valid p.source) where
+module _ (p : Program) (keeps : KeepsKinds p.source.types) {K : Arrows} (us : Row Operand) (prog : IsProgram p) (valid : Valid p.source) where
   module _ {s : Store} {e : Context} {vs : Row Val} {c : Scope} {set now : List Bool} {ts out : Row Operand}
       (u : StoreTyped p.source K s) (v : ValuesTyped p.source K vs ts) (still : Subset set now) (w : Within p.source K us e c now out) (inside : c.results ≡ None → ⊥) where
     -- what comes behind an instruction, where it is reached
@@ -193,19 +195,19 @@ module _ (p : Program) {K : Arrows} (us : Row Operand) (prog : IsProgram p) (val
     variable_safe : (ws : Row Operand) (k : Code) (o : VariableOp) → HasInstrType p.source.types (variable_op_type (in_scope p.source c) set o) ts ws → Derives (in_scope p.source c) (sets (op.Variable o) set) k ws out
         → (NumbersFit p.source → ConstantsFit (Plain (op.Variable o) k)) → ((c.results ≡ None → ⊥) → IsLow p.source c set (Plain (op.Variable o) k) (size ts)) → IsSafe p.source K us (variable_op s e vs o k)
     variable_safe ws k (variable.LocalGet x) t d fits low =
-        local_get_safe p.source us x ts ws s e vs k c set now out u t v still w (onward p.source us still (coming ws k (op.Variable (variable.LocalGet x)) refl t d fits low) w)
-    variable_safe ws k (variable.LocalSet x) t d fits low = local_set_safe p.source us x ts ws s e vs k c set now out u t v still w (coming ws k (op.Variable (variable.LocalSet x)) refl t d fits low)
-    variable_safe ws k (variable.LocalTee x) t d fits low = local_tee_safe p.source us x ts ws s e vs k c set now out u t v still w (coming ws k (op.Variable (variable.LocalTee x)) refl t d fits low)
+        local_get_safe p.source keeps us x ts ws s e vs k c set now out u t v still w (onward p.source us still (coming ws k (op.Variable (variable.LocalGet x)) refl t d fits low) w)
+    variable_safe ws k (variable.LocalSet x) t d fits low = local_set_safe p.source keeps us x ts ws s e vs k c set now out u t v still w (coming ws k (op.Variable (variable.LocalSet x)) refl t d fits low)
+    variable_safe ws k (variable.LocalTee x) t d fits low = local_tee_safe p.source keeps us x ts ws s e vs k c set now out u t v still w (coming ws k (op.Variable (variable.LocalTee x)) refl t d fits low)
     variable_safe ws k (variable.GlobalGet x) t d fits low =
-        global_get_safe p.source us c x ts ws s e vs k u t v (onward p.source us still (coming ws k (op.Variable (variable.GlobalGet x)) refl t d fits low) w)
+        global_get_safe p.source keeps us c x ts ws s e vs k u t v (onward p.source us still (coming ws k (op.Variable (variable.GlobalGet x)) refl t d fits low) w)
     variable_safe ws k (variable.GlobalSet x) t d fits low =
-        global_set_safe p.source us c x ts ws s e vs k u t v (onward p.source us still (coming ws k (op.Variable (variable.GlobalSet x)) refl t d fits low) w)
+        global_set_safe p.source keeps us c x ts ws s e vs k u t v (onward p.source us still (coming ws k (op.Variable (variable.GlobalSet x)) refl t d fits low) w)
 
     instruction_safe : (ws : Row Operand) (k : Code) (o : Op) → Condition (in_scope p.source c) o → HasInstrType p.source.types (instr_type (in_scope p.source c) set o) ts ws
         → Derives (in_scope p.source c) (sets o set) k ws out → (NumbersFit p.source → ConstantsFit (Plain o k))
         → ((c.results ≡ None → ⊥) → IsLow p.source c set (Plain o k) (size ts)) → IsSafe p.source K us (instruction p s e vs o k)
     instruction_safe ws k (op.Control o) h t d fits low =
-        control_safe p K us o (record {
+        control_safe p keeps K us o (record {
           scope = c;
           set = set;
           now = now;
@@ -218,18 +220,18 @@ module _ (p : Program) {K : Arrows} (us : Row Operand) (prog : IsProgram p) (val
           behind = λ n. coming ws k (op.Control o) n t d fits low;
         }) refl (λ i. low_held p.source (low i)) prog valid h t v
     instruction_safe ws k (op.Parametric o) h t d fits low =
-        parametric_safe p.source us c o ts ws s e vs k u t v (onward p.source us still (coming ws k (op.Parametric o) refl t d fits low) w)
+        parametric_safe p.source keeps us c o ts ws s e vs k u t v (onward p.source us still (coming ws k (op.Parametric o) refl t d fits low) w)
     instruction_safe ws k (op.Variable o) h t d fits low = variable_safe ws k o t d fits low
     instruction_safe ws k (op.Table o) h t d fits low =
-        table_safe p.source us c o ts ws s e vs k u h t v (onward p.source us still (coming ws k (op.Table o) refl t d fits low) w)
+        table_safe p.source keeps us c o ts ws s e vs k u h t v (onward p.source us still (coming ws k (op.Table o) refl t d fits low) w)
     instruction_safe ws k (op.Memory o) h t d fits low =
-        memory_safe p.source us c o ts ws s e vs k valid u t v (onward p.source us still (coming ws k (op.Memory o) refl t d fits low) w)
+        memory_safe p.source keeps us c o ts ws s e vs k valid u t v (onward p.source us still (coming ws k (op.Memory o) refl t d fits low) w)
     instruction_safe ws k (op.Numeric o) h t d fits low =
-        numeric_safe p.source us o ts ws s e vs k u (λ f. (fits f).0) t v (onward p.source us still (coming ws k (op.Numeric o) refl t d fits low) w)
+        numeric_safe p.source keeps us o ts ws s e vs k u (λ f. (fits f).0) t v (onward p.source us still (coming ws k (op.Numeric o) refl t d fits low) w)
     instruction_safe ws k (op.Reference o) h t d fits low =
-        reference_safe p.source us c o ts ws s e vs k u t v (onward p.source us still (coming ws k (op.Reference o) refl t d fits low) w)
+        reference_safe p.source keeps us c o ts ws s e vs k u t v (onward p.source us still (coming ws k (op.Reference o) refl t d fits low) w)
     instruction_safe ws k (op.Switching o) h t d fits low =
-        switching_safe p K us valid o (record {
+        switching_safe p keeps K us valid o (record {
           scope = c;
           set = set;
           now = now;
@@ -246,26 +248,26 @@ module _ (p : Program) {K : Arrows} (us : Row Operand) (prog : IsProgram p) (val
       → StoreTyped p.source K s → ValuesTyped p.source K vs ts → Subset set now → Within p.source K us e c now out → (c.results ≡ None → ⊥)
       → Choice p.source b x y k c set ts ws out → IsSafe p.source K us (choice p s e vs b x y k)
   choice_safe {vs = vs} b x y k u v still w inside h =
-      number_taken p.source us int.I32 vs (h.has_type.beneath ⧺ known h.arrow.from) _ (values_sub p.source h.has_type.takes v) (λ below n lower.
-      block_safe p us kind.Block u still lower (chosen_typed p.source n inside h) inside w)
+      number_taken p.source us int.I32 vs (h.has_type.beneath ⧺ known h.arrow.from) _ (values_sub p.source keeps h.has_type.takes v) (λ below n lower.
+      block_safe p keeps us kind.Block u still lower (chosen_typed p.source n inside h) inside w)
 
   next_safe : {s : Store} {e : Context} {vs : Row Val} {c : Scope} {set now : List Bool} {ts out : Row Operand} (ahead : List Administrative) (k : Code)
       → StoreTyped p.source K s → ValuesTyped p.source K vs ts → RestTyped p.source c set ahead k ts out → Subset set now
       → Within p.source K us e c now out → IsSafe p.source K us (next p s e vs ahead k)
-  next_safe _ k u v (invoke_first {a = a} {t = t} beneath is r h) still w = invoke_safe p us a t beneath valid u is (values_sub p.source r v) h still w
+  next_safe _ k u v (invoke_first {a = a} {t = t} beneath is r h) still w = invoke_safe p us a t beneath valid u is (values_sub p.source keeps r v) h still w
   next_safe _ k u v (branch_first {l = l} {taken = taken} beneath is r held) still w =
-      branch_safe p.source us l beneath taken u is (λ i. room p.source (taken_among p.source.types beneath taken r) (held i)) (values_sub p.source r v) w
+      branch_safe p.source us l beneath taken u is (λ i. room p.source (taken_among p.source.types beneath taken r) (held i)) (values_sub p.source keeps r v) w
   next_safe {c = c} {ts = ts} {out = out} [] Done u v (code_alone h) still w =
       let as_many = row_size p.source.types ts out h.derives in
       let fits : (c.results ≡ None → ⊥) → c.base + size out ≤ most_operands p.source c.function =
       λ i. let held = low_held p.source (h.low i) in let there = held.operands in omega (arith, there, as_many) in
-      leave_safe p.source us u fits (values_sub p.source h.derives v) w
+      leave_safe p.source keeps us u fits (values_sub p.source keeps h.derives v) w
   next_safe [] (Plain o k) u v (code_alone h) still w =
       instruction_safe u v still w (λ e. let d = h.none e in absurd (cc)) h.derives.1.0 k o h.derives.0 h.derives.1.1 h.derives.1.2 h.fits h.low
   next_safe {c = c} {set = set} {ts = ts} {out = out} [] (Block kind b x k) u v (code_alone h) still w =
       let inside = λ (e : c.results ≡ None). (let d = h.none e in absurd (cc)) in
       let parts = block_parts p.source kind b x k c set ts out (arrow_of (in_scope p.source c) b) refl inside h.fits h.low h.derives in
-      block_safe p us kind u still v parts.1 inside w
+      block_safe p keeps us kind u still v parts.1 inside w
   next_safe {c = c} {set = set} {ts = ts} {out = out} [] (If b x k) u v (code_alone h) still w =
       let parts = if_parts p.source b x k c set ts out (arrow_of (in_scope p.source c) b) refl h.fits h.low h.derives in
       choice_safe b x Done k u v still w (λ e. let d = h.none e in absurd (cc)) parts.1
@@ -286,7 +288,7 @@ limited_safe m us _ (ends v) = ends v
 
 -- preservation and progress, before limits are looked at
 pub nexts_are_safe : NextsAreSafe
-nexts_are_safe p K us s t prog valid h = next_safe p us prog valid t.rest.ahead t.rest.code h.store h.term.operands h.term.rest h.term.still h.term.around
+nexts_are_safe p K us s t prog valid h = next_safe p (keeps_kinds p.source valid) us prog valid t.rest.ahead t.rest.code h.store h.term.operands h.term.rest h.term.still h.term.around
 
 pub reductions_are_safe : ReductionsAreSafe
 reductions_are_safe p K us s t prog valid h = limited_safe p.source us _ (nexts_are_safe p K us s t prog valid h)

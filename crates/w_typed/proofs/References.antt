@@ -1,6 +1,7 @@
 -- Parametric and reference instructions of typed configurations.
 use Rattle.std.proofs.Common.{◌≡◌, ℕ, zero, suc, Bool, true, false, IsTrue, [], ◌∷◌, Option, Some, None, slice_get, refl, arith}
 use Rattle.w_types.specs.declared.types.HeapType.{HeapType}
+use Rattle.w_types.specs.declared.types.HeapType.TheVariants.{Index}
 use Rattle.w_types.specs.declared.types.ValType.TheVariants.{I32, Ref}
 use Rattle.lists.specs.Rows.{Row, ε, ◌▹◌}
 use Rattle.w_syntax.specs.Code.{Code}
@@ -9,8 +10,8 @@ use Rattle.w_syntax.specs.declared.instructions.ParametricOp.TheVariants as para
 use Rattle.w_syntax.specs.declared.instructions.ReferenceOp.{ReferenceOp}
 use Rattle.w_syntax.specs.declared.instructions.ReferenceOp.TheVariants as reference
 use Rattle.w_syntax.specs.declared.module.Module.{Module}
-use Rattle.w_canon.specs.Matching.{index}
-use Rattle.w_canon.proofs.Equivalent.{reflexive}
+use Rattle.w_canon.specs.Supertypes.{KeepsKinds}
+use Rattle.w_canon.proofs.Preorder.{heap_refl}
 use Rattle.w_rules.specs.InstructionTypes.{InstrType, fixed, if_valid, parametric_op_type, reference_op_type, ref_func_type}
 use Rattle.w_rules.specs.Operands.{Operand}
 use Rattle.w_rules.specs.Operands.{Known}
@@ -56,7 +57,7 @@ null_or m (Some h) (a_value (a_function is k)) = is_function (a_value (a_functio
 null_or m (Some h) (a_value (a_continuation c)) = is_continuation (a_value (a_continuation c))
 null_or m None (a_bottom n) = it_is_null
 
-module _ (m : Module) {K : Arrows} (us : Row Operand) where
+module _ (m : Module) (keeps : KeepsKinds m.types) {K : Arrows} (us : Row Operand) where
   -- both ways of a reference
   pub either_way : (h : Option HeapType) (v : Val) (null other : Reduced) → NullOr m K h v → (v ≡ Null → IsSafe m K us null)
       → (OperandTyped m K v (ref_to false h) → IsSafe m K us other) → IsSafe m K us (by_null v null other)
@@ -73,17 +74,17 @@ module _ (m : Module) {K : Arrows} (us : Row Operand) where
   -- a parametric instruction goes on
   pub parametric_safe : (c : Scope) (o : ParametricOp) (ts ws : Row Operand) (s : Store) (e : Context) (vs : Row Val) (k : Code) → StoreTyped m K s
       → HasInstrType m.types (parametric_op_type (in_scope m c) o) ts ws → ValuesTyped m K vs ts → Onward m K us e ws k → IsSafe m K us (parametric_op s e vs o k)
-  parametric_safe c parametric.Drop ts ws s e vs k u (t, h) v go = drop_safe t ts ws s e vs k h.beneath u (values_sub m h.takes v) (λ below b. values_sub m h.gives b) go
+  parametric_safe c parametric.Drop ts ws s e vs k u (t, h) v go = drop_safe t ts ws s e vs k h.beneath u (values_sub m keeps h.takes v) (λ below b. values_sub m keeps h.gives b) go
     where
       drop_safe : (t : Operand) (ts ws : Row Operand) (s : Store) (e : Context) (vs : Row Val) (k : Code) (beneath : Row Operand) → StoreTyped m K s
           → ValuesTyped m K vs (beneath ▹ t) → ((below : Row Val) → ValuesTyped m K below beneath → ValuesTyped m K below ws)
           → Onward m K us e ws k → IsSafe m K us (parametric_op s e vs parametric.Drop k)
       drop_safe t ts ws s e _ k beneath u (values {vs = vs} b w) f go = go s vs u (f vs b)
-  parametric_safe c parametric.Select ts ws s e vs k u (t, n, h) v go = select_safe t ts ws s e vs k h.beneath u (values_sub m h.takes v) (λ below x b. values_sub m h.gives b) go
+  parametric_safe c parametric.Select ts ws s e vs k u (t, n, h) v go = select_safe t ts ws s e vs k h.beneath u (values_sub m keeps h.takes v) (λ below x b. values_sub m keeps h.gives b) go
   parametric_safe c (parametric.SelectOf []) ts ws s e vs k u h v go = absurd h
   parametric_safe c (parametric.SelectOf (t ∷ [])) ts ws s e vs k u h v go =
       let g = if_valid_has m (has_type (type_count (in_scope m c)) t) (fixed (ε ▹ t ▹ t ▹ I32) (ε ▹ t)) ts ws h in
-      select_safe (Known t) ts ws s e vs k g.beneath u (values_sub m g.takes v) (λ below x b. values_sub m g.gives b) go
+      select_safe (Known t) ts ws s e vs k g.beneath u (values_sub m keeps g.takes v) (λ below x b. values_sub m keeps g.gives b) go
   parametric_safe c (parametric.SelectOf (t ∷ y ∷ zs)) ts ws s e vs k u h v go = absurd h
 
   func_safe : (x : ℕ) (ts ws : Row Operand) (s : Store) (e : Context) (vs : Row Val) (k : Code) (y : Option ℕ) (d : Option Bool) → slice_get (functions_of m) x ≡ y → StoreTyped m K s
@@ -93,7 +94,7 @@ module _ (m : Module) {K : Arrows} (us : Row Operand) where
   func_safe x ts ws s e vs k (Some y) (Some false) is u h v go = absurd h
   func_safe x ts ws s e vs k (Some y) (Some true) is u h v go =
       let f = instance_at x y (entries_typed m u.functions) is in
-      rw (f.is) (go s _ u (values_sub m h.gives (values (values_sub m h.takes v) (a_value (a_function is (index (reflexive m.types y)))))))
+      rw (f.is) (go s _ u (values_sub m keeps h.gives (values (values_sub m keeps h.takes v) (a_value (a_function is (heap_refl m.types (Index y)))))))
 
   -- the topmost operand is a reference
   pub by_null_safe : (h : Option HeapType) (vs : Row Val) (beneath : Row Operand) (null other : Row Val × Val → Reduced)
@@ -108,11 +109,11 @@ module _ (m : Module) {K : Arrows} (us : Row Operand) where
       → HasInstrType m.types (reference_op_type (in_scope m c) o) ts ws → ValuesTyped m K vs ts → Onward m K us e ws k → IsSafe m K us (reference_op s e vs o k)
   reference_safe c (reference.Null x) ts ws s e vs k u h v go =
       let g = if_valid_has m (has_heap (type_count (in_scope m c)) x) (fixed ε (ε ▹ Ref (record { nullable = true; heap = x }))) ts ws h in
-      go s _ u (values_sub m g.gives (values (values_sub m g.takes v) (a_value (a_null refl))))
+      go s _ u (values_sub m keeps g.gives (values (values_sub m keeps g.takes v) (a_value (a_null refl))))
   reference_safe c reference.IsNull ts ws s e vs k u (x, h) v go =
-      by_null_safe x vs h.beneath _ _ (values_sub m h.takes v) (λ below b. go s _ u (values_sub m h.gives (values b (small_typed m 1 (omega arith)))))
-      (λ below w b q. go s _ u (values_sub m h.gives (values b (small_typed m 0 (omega arith)))))
+      by_null_safe x vs h.beneath _ _ (values_sub m keeps h.takes v) (λ below b. go s _ u (values_sub m keeps h.gives (values b (small_typed m 1 (omega arith)))))
+      (λ below w b q. go s _ u (values_sub m keeps h.gives (values b (small_typed m 0 (omega arith)))))
   reference_safe c (reference.Func x) ts ws s e vs k u h v go =
       func_safe x ts ws s e vs k (slice_get (functions_of m) x) (slice_get (declared_of m) x) refl u h v go
   reference_safe c reference.AsNonNull ts ws s e vs k u (x, h) v go =
-      by_null_safe x vs h.beneath _ _ (values_sub m h.takes v) (λ below b. traps) (λ below w b q. go s _ u (values_sub m h.gives (values b q)))
+      by_null_safe x vs h.beneath _ _ (values_sub m keeps h.takes v) (λ below b. traps) (λ below w b q. go s _ u (values_sub m keeps h.gives (values b q)))

@@ -7,6 +7,7 @@ use Rattle.w_syntax.specs.Code.{Code}
 use Rattle.w_syntax.specs.declared.instructions.Clause.{Clause}
 use Rattle.w_syntax.specs.declared.instructions.SwitchingOp.TheVariants as switching
 use Rattle.w_canon.specs.Matching.{ResultMatches, FuncMatches}
+use Rattle.w_canon.specs.Supertypes.{KeepsKinds}
 use Rattle.w_canon.proofs.Matches.{one_length}
 use Rattle.w_canon.proofs.Preorder.{result_refl, result_trans}
 use Rattle.w_rules.specs.Conditions.{Holds, ClauseTyped, BindTyped}
@@ -35,11 +36,11 @@ use Rattle.w_typed.proofs.References.{if_valid_has}
 use Rattle.w_typed.proofs.SameTypes.{result_rows}
 use Rattle.w_typed.proofs.ResultRows.{size_types, pairwise_take, pairwise_drop, rows_joined}
 use Rattle.w_typed.proofs.Low.{size_beside}
-use Rattle.w_typed.proofs.FilledTerms.{hole_filled, hole_within}
+use Rattle.w_typed.proofs.FilledTerms.{hole_full, hole_filled, hole_within}
 use Rattle.w_typed.proofs.Conts.{cont_consumed, cont_made, made_reference, goes_with_more, continuation_taken}
 use Rattle.w_typed.proofs.Control.{Here, here_left}
 
-module _ (p : Program) (K : Arrows) (us : Row Operand) {s : Store} {e : Context} {k : Code} where
+module _ (p : Program) (keeps : KeepsKinds p.source.types) (K : Arrows) (us : Row Operand) {s : Store} {e : Context} {k : Code} where
   -- ## resume
 
   -- with its type known
@@ -50,13 +51,13 @@ module _ (p : Program) (K : Arrows) (us : Row Operand) {s : Store} {e : Context}
       → IsSafe p.source K us (switching_op p s e vs (switching.Resume x hs) k)
   resumed x hs t beneath h n tops valid is clauses (values b (a_value q)) =
       let m = p.source in
-      continuation_taken m us x t _ valid h.store is q (λ a kept own there kt f.
+      continuation_taken m keeps us x t _ valid h.store is q (λ a kept own there kt f.
       let ps : Row Operand = known (row_of own.params) in
       values_taken m us kept.takes _ beneath ps _ (kt.takes ∙ sym (size_types own.params))
-      (values_sub m (row_beside m.types beneath beneath (known (row_of t.params)) ps (row_refl m.types beneath) (result_rows m.types f.params)) b)
+      (values_sub m keeps (row_beside m.types beneath beneath (known (row_of t.params)) ps (row_refl m.types beneath) (result_rows m.types f.params)) b)
       (λ below args lower taken. goes (grows_refl K) (record {
         store = cont_consumed m a own s h.store there;
-        term = hole_within m (filled kept.term args) (hole_filled m ps ε kept.term kt.term (row_refl m.types ps) taken)
+        term = hole_within m keeps (filled kept.term args) (hole_full m kept.term kt.term taken)
             (λ any. handle t.results beneath (result_rows m.types f.results) clauses tops lower (h.behind n) h.still h.around);
       })))
 
@@ -73,7 +74,7 @@ module _ (p : Program) (K : Arrows) (us : Row Operand) {s : Store} {e : Context}
       let above = size_beside t.beneath (known (row_of f.params)) in
       let params = size_types f.params in
       let under : h.scope.base + size ts - (length f.params + 1) ≡ h.scope.base + size t.beneath = omega (arith, all, above, params) in
-      resumed x hs f t.beneath (here_left p K us t.gives h) n (λ i. subst (λ (z : ℕ). clause_tops h.scope.labels z hs ≤ most_operands m h.scope.function) under (tops i)) valid is c (values_sub m t.takes v)
+      resumed x hs f t.beneath (here_left p keeps K us t.gives h) n (λ i. subst (λ (z : ℕ). clause_tops h.scope.labels z hs ≤ most_operands m h.scope.function) under (tops i)) valid is c (values_sub m keeps t.takes v)
 
   -- resume goes on in the continuation, under a handle, or traps
   pub resume_safe : {ts ws : Row Operand} {vs : Row Val} (x : ℕ) (hs : List Clause) (h : Here p K us s e k ws) → h.leaving ≡ false
@@ -95,7 +96,7 @@ module _ (p : Program) (K : Arrows) (us : Row Operand) {s : Store} {e : Context}
   bound x y one other beneath h leaving valid is_one is_other takes gives (values b (a_value q)) =
       let m = p.source in
       let n : ℕ = length one.params - length other.params in
-      continuation_taken m us x one _ valid h.store is_one q (λ a kept own there kt f.
+      continuation_taken m keeps us x one _ valid h.store is_one q (λ a kept own there kt f.
       let first : Row Operand = known (row_of (take n own.params)) in
       let as_many : length one.params ≡ length own.params = one_length f.params in
       let count : kept.takes - length other.params ≡ size first =
@@ -103,19 +104,19 @@ module _ (p : Program) (K : Arrows) (us : Row Operand) {s : Store} {e : Context}
       let new : FuncType = record { params = other.params; results = own.results } in
       let g = grows_more K new in
       rw (is_other) (values_taken m us (kept.takes - length other.params) _ beneath first _ count
-      (values_sub m (row_beside m.types beneath beneath (known (row_of (take n one.params))) first (row_refl m.types beneath)
+      (values_sub m keeps (row_beside m.types beneath beneath (known (row_of (take n one.params))) first (row_refl m.types beneath)
       (result_rows m.types (pairwise_take n f.params))) b)
       (λ below args lower taken.
       let rest = rows_joined m.types n own.params other.params
-      (result_trans m.types other.params (drop n one.params) (drop n own.params) takes (pairwise_drop n f.params)) in
+      (result_trans m.types keeps other.params (drop n one.params) (drop n own.params) takes (pairwise_drop n f.params)) in
       let cont : Continuation = record { takes = length other.params; term = filled kept.term args } in
       let cont_typed : KeptTyped m (K ++ new ∷ []) cont new = record {
         takes = refl;
-        term = hole_grows m g (hole_filled m first (known (row_of other.params)) kept.term kt.term rest taken);
+        term = hole_grows m g (hole_filled m keeps first (known (row_of other.params)) kept.term kt.term rest taken);
       } in
       let matches : FuncMatches m.types new other = record {
         params = result_refl m.types other.params;
-        results = result_trans m.types own.results one.results other.results f.results gives;
+        results = result_trans m.types keeps own.results one.results other.results f.results gives;
       } in
       goes_with_more m g (cont_made m cont new (without_cont a s) (cont_consumed m a own s h.store there) cont_typed) h.still
       (values (values_grow m g lower) (a_value (a_continuation (made_reference m new other y s h.store is_other matches))))
@@ -132,7 +133,7 @@ module _ (p : Program) (K : Arrows) (us : Row Operand) {s : Store} {e : Context}
       let m = p.source in
       let n : ℕ = length one.params - length other.params in
       let g = if_valid_has m (nat_le (length other.params) (length one.params)) (fixed (row_of (take n one.params) ▹ nullable x) (ε ▹ non_null y)) ts ws t in
-      bound x y one other g.beneath (here_left p K us g.gives h) leaving valid is_one is_other takes gives (values_sub m g.takes v)
+      bound x y one other g.beneath (here_left p keeps K us g.gives h) leaving valid is_one is_other takes gives (values_sub m keeps g.takes v)
 
   -- cont.bind makes a continuation that takes fewer values, or traps
   pub cont_bind_safe : {ts ws : Row Operand} {vs : Row Val} (x y : ℕ) (h : Here p K us s e k ws) → h.leaving ≡ false → Valid p.source → BindTyped (in_scope p.source h.scope) x y

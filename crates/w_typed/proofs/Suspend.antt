@@ -9,6 +9,7 @@ use Rattle.w_syntax.specs.Code.{Code}
 use Rattle.w_syntax.specs.declared.instructions.SwitchingOp.TheVariants as switching
 use Rattle.w_syntax.specs.declared.module.Module.{Module}
 use Rattle.w_canon.specs.Matching.{ResultMatches, FuncMatches}
+use Rattle.w_canon.specs.Supertypes.{KeepsKinds}
 use Rattle.w_rules.specs.Conditions.{LabelClauseTyped}
 use Rattle.w_rules.specs.Context.{type_of_tag}
 use Rattle.w_rules.specs.InstructionTypes.{call_type}
@@ -47,7 +48,7 @@ captured_typed m K t {c = c} {set = set} {now = now} {out = out} beneath still v
   term = record { scope = c; set = set; now = now; still = still; before = beneath; after = out; operands = v; rest = code_alone k; around = w };
 }
 
-module _ (p : Program) (K : Arrows) (us : Row Operand) {s : Store} {e : Context} {k : Code} where
+module _ (p : Program) (keeps : KeepsKinds p.source.types) (K : Arrows) (us : Row Operand) {s : Store} {e : Context} {k : Code} where
   -- with its handle found
   suspended : {below args : Row Val} {beneath : Row Operand} (x : ℕ) (t : FuncType) (h : Here p K us s e k (beneath ⧺ known (row_of t.results))) (f : Handler ℕ) → h.leaving ≡ false
       → type_of_tag (context_of p.source) x ≡ Some t → label_clause x f.clauses ≡ Some f.answer
@@ -71,7 +72,7 @@ module _ (p : Program) (K : Arrows) (us : Row Operand) {s : Store} {e : Context}
       } in
       let taken_there : Row ValType = l.beneath ▹ Ref (record { nullable = l.is_null; heap = Index l.index }) in
       goes_with_more m g (cont_made m _ new s h.store cont) cut.still
-      (values (values_grow m g (values_beside m cut.values (values_sub m args taken)))
+      (values (values_grow m g (values_beside m cut.values (values_sub m keeps args taken)))
       (a_value (a_continuation (made_reference m new l.target l.index s h.store l.has_cont matches))))
       (branch_first {us = cut.out} cut.beneath l.has_label (row_refl m.types (cut.beneath ⧺ known taken_there))
       (label_held m cut.beneath x f.answer f.clauses taken_there found l.has_label cut.tops (λ i. low_held m (cut.behind.low i)))) cut.around
@@ -90,7 +91,7 @@ module _ (p : Program) (K : Arrows) (us : Row Operand) {s : Store} {e : Context}
   suspend_by : {ts ws : Row Operand} {vs : Row Val} (x : ℕ) (o : Option FuncType) (h : Here p K us s e k ws) → h.leaving ≡ false → type_of_tag (context_of p.source) x ≡ o
       → HasInstrType p.source.types (call_type o) ts ws → ValuesTyped p.source K vs ts → IsSafe p.source K us (switching_op p s e vs (switching.Suspend x) k)
   suspend_by x None h n is t v = absurd t
-  suspend_by x (Some f) h n is t v = suspend_here x f t.beneath (here_left p K us t.gives h) n is (values_sub p.source t.takes v)
+  suspend_by x (Some f) h n is t v = suspend_here x f t.beneath (here_left p keeps K us t.gives h) n is (values_sub p.source keeps t.takes v)
 
   -- suspend makes a continuation of the context up to its handle, and branches there, or traps where there is none
   pub suspend_safe : {ts ws : Row Operand} {vs : Row Val} (x : ℕ) (h : Here p K us s e k ws) → h.leaving ≡ false

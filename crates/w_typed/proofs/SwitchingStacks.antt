@@ -5,11 +5,12 @@ use Rattle.w_types.specs.declared.types.HeapType.TheVariants.{Index}
 use Rattle.w_types.specs.declared.types.RecGroup.{RecGroup}
 use Rattle.w_types.specs.declared.types.ValType.{ValType}
 use Rattle.w_types.specs.declared.types.ValType.TheVariants.{Ref}
-use Rattle.lists.specs.Rows.{Row, ε, ◌▹◌, ◌⧺◌, size, row_of}
+use Rattle.lists.specs.Rows.{Row, ◌▹◌, ◌⧺◌, size, row_of}
 use Rattle.w_syntax.specs.Code.{Code}
 use Rattle.w_syntax.specs.declared.instructions.SwitchingOp.TheVariants as switching
 use Rattle.w_canon.specs.Equality.{ResultEqual}
 use Rattle.w_canon.specs.Matching.{ResultMatches, FuncMatches}
+use Rattle.w_canon.specs.Supertypes.{KeepsKinds}
 use Rattle.w_canon.proofs.EqualTypes.{result_equal_sym, result_equal_matches}
 use Rattle.w_canon.proofs.Preorder.{result_refl, result_trans}
 use Rattle.w_rules.specs.Conditions.{SwitchClauseTyped, SwitchTyped}
@@ -36,7 +37,7 @@ use Rattle.w_typed.proofs.TypedOperands.{values_taken}
 use Rattle.w_typed.proofs.MoreContinuations.{grows_more, values_grow, within_grows, hole_grows}
 use Rattle.w_typed.proofs.SameTypes.{result_rows}
 use Rattle.w_typed.proofs.ResultRows.{size_types}
-use Rattle.w_typed.proofs.FilledTerms.{hole_filled, hole_within}
+use Rattle.w_typed.proofs.FilledTerms.{hole_full, hole_within}
 use Rattle.w_typed.proofs.CutContexts.{HandleTyped, cut_found}
 use Rattle.w_typed.proofs.Clauses.{switch_found, handle_found}
 use Rattle.w_typed.proofs.Conts.{cont_consumed, cont_made, made_reference, continuation_taken}
@@ -55,7 +56,7 @@ record LastOf (gs : List RecGroup) (ts : Row Operand) (t : Operand) (us : Row Op
 last_of : (gs : List RecGroup) {ts us : Row Operand} {t : Operand} → RowMatches gs (ts ▹ t) us → LastOf gs ts t us
 last_of gs (more {us = us} {u = u} r h) = record { first = us; last = u; is = refl; others = r; matches = h }
 
-module _ (p : Program) (K : Arrows) (us : Row Operand) {s : Store} {e : Context} {k : Code} where
+module _ (p : Program) (keeps : KeepsKinds p.source.types) (K : Arrows) (us : Row Operand) {s : Store} {e : Context} {k : Code} where
   -- with its handle found
   switched : {below args : Row Val} (x y a : ℕ) (beneath : Row Operand) (own : FuncType) (cont : Continuation) (f : Handler (Unit {0})) {ws : Row Operand}
       (h : Here p K us s e k ws) (c : SwitchTyped (in_scope p.source h.scope) x y) → h.leaving ≡ false → ws ≡ beneath ⧺ known (row_of c.other.params)
@@ -75,21 +76,21 @@ module _ (p : Program) (K : Arrows) (us : Row Operand) {s : Store} {e : Context}
       let behind = subst (λ (r : Row Operand). CodeTyped m h.scope h.set k r h.out) gives (h.behind n) in
       let back = captured_typed m (K ++ new ∷ []) new beneath h.still (values_grow m g lower) behind (within_grows m g cut.inside) in
       let down : ResultMatches m.types cut.results c.other.results =
-      result_trans m.types cut.results c.tag.results c.other.results
+      result_trans m.types keeps cut.results c.tag.results c.other.results
       (result_equal_matches m.types cut.results c.tag.results (result_equal_sym m.types c.tag.results cut.results equal)) c.comes_back in
       let up : ResultMatches m.types own.results cut.results =
-      result_trans m.types own.results c.one.results cut.results matches.results
-      (result_trans m.types c.one.results c.tag.results cut.results c.results (result_equal_matches m.types c.tag.results cut.results equal)) in
+      result_trans m.types keeps own.results c.one.results cut.results matches.results
+      (result_trans m.types keeps c.one.results c.tag.results cut.results c.results (result_equal_matches m.types c.tag.results cut.results equal)) in
       let fits : FuncMatches m.types new c.other = record { params = result_refl m.types c.other.params; results = down } in
       let reference : OperandTyped m (K ++ new ∷ []) (Cont (next_cont s)) last.last =
-      operand_sub m last.matches (a_value (a_continuation (made_reference m new c.other c.index s h.store c.has_other fits))) in
+      operand_sub m keeps last.matches (a_value (a_continuation (made_reference m new c.other c.index s h.store c.has_other fits))) in
       let ps : Row Operand = known (row_of own.params) in
       let handed : ValuesTyped m (K ++ new ∷ []) (args ▹ Cont (next_cont s)) ps =
       subst (λ (r : Row Operand). ValuesTyped m (K ++ new ∷ []) (args ▹ Cont (next_cont s)) r) (sym last.is) (values (values_grow m g taken) reference) in
       goes g (record {
         store = cont_made m (continuation_at (length c.other.params) f.inner below k) new (without_cont a s) (cont_consumed m a own s h.store there) back;
-        term = hole_within m (filled cont.term (args ▹ Cont (next_cont s)))
-            (hole_filled m ps ε cont.term (hole_grows m g kt.term) (row_refl m.types ps) handed)
+        term = hole_within m keeps (filled cont.term (args ▹ Cont (next_cont s)))
+            (hole_full m cont.term (hole_grows m g kt.term) handed)
             (λ any. handle cut.results cut.beneath (result_rows m.types up) cut.clauses cut.tops (values_grow m g cut.values) cut.behind cut.still (within_grows m g cut.around));
       })
 
@@ -100,7 +101,7 @@ module _ (p : Program) (K : Arrows) (us : Row Operand) {s : Store} {e : Context}
       → IsSafe p.source K us (switching_op p s e vs (switching.Switch x y) k)
   switch_here x y beneath h c leaving gives valid (values b (a_value q)) =
       let m = p.source in
-      continuation_taken m us x c.one _ valid h.store c.has_one q (λ a cont own there kt matches.
+      continuation_taken m keeps us x c.one _ valid h.store c.has_one q (λ a cont own there kt matches.
       handle_found m us y (switch_clause y) e _ (λ f found.
       let handed : Operand = Known (Ref (record { nullable = c.is_null; heap = Index c.index })) in
       let ps : Row Operand = known (row_of own.params) in
@@ -109,7 +110,7 @@ module _ (p : Program) (K : Arrows) (us : Row Operand) {s : Store} {e : Context}
       let last = last_of m.types rows in
       let count : cont.takes - 1 ≡ size last.first = let n = kt.takes in omega (arith, size_types own.params, ap size last.is) in
       rw (c.has_one, c.params, c.has_other) (values_taken m us (cont.takes - 1) _ beneath last.first _ count
-      (values_sub m (row_beside m.types beneath beneath (known c.beneath) last.first (row_refl m.types beneath) last.others) b)
+      (values_sub m keeps (row_beside m.types beneath beneath (known c.beneath) last.first (row_refl m.types beneath) last.others) b)
       (λ below args lower taken.
       switched x y a beneath own cont f h c leaving gives there kt matches found.answers (cut_found m (switch_clause y) e f found h.around) last lower taken))))
 
@@ -117,7 +118,7 @@ module _ (p : Program) (K : Arrows) (us : Row Operand) {s : Store} {e : Context}
   switch_by : {ts ws : Row Operand} {vs : Row Val} (x y : ℕ) (h : Here p K us s e k ws) → h.leaving ≡ false → Valid p.source → (c : SwitchTyped (in_scope p.source h.scope) x y)
       → HasInstrType p.source.types (switched_type x c.beneath (Some c.other)) ts ws → ValuesTyped p.source K vs ts
       → IsSafe p.source K us (switching_op p s e vs (switching.Switch x y) k)
-  switch_by x y h n valid c t v = switch_here x y t.beneath (here_left p K us t.gives h) c n refl valid (values_sub p.source t.takes v)
+  switch_by x y h n valid c t v = switch_here x y t.beneath (here_left p keeps K us t.gives h) c n refl valid (values_sub p.source keeps t.takes v)
 
   -- switch goes on in the continuation, under the same handle, with a continuation of the context up to that, or traps
   pub switch_safe : {ts ws : Row Operand} {vs : Row Val} (x y : ℕ) (h : Here p K us s e k ws) → h.leaving ≡ false → Valid p.source → SwitchTyped (in_scope p.source h.scope) x y

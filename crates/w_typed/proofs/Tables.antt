@@ -11,6 +11,7 @@ use Rattle.w_syntax.specs.declared.module.Module.{Module}
 use Rattle.w_syntax.specs.declared.module.TableType.{TableType}
 use Rattle.w_syntax.specs.declared.numeric.IntType.TheVariants as int
 use Rattle.w_canon.specs.Matching.{RefMatches, ref}
+use Rattle.w_canon.specs.Supertypes.{KeepsKinds}
 use Rattle.w_tables.specs.Elements.{get, replaced, filled, copied, grown}
 use Rattle.w_tables.specs.Outcomes.{growth}
 use Rattle.w_rules.specs.Conditions.{Holds, TableCondition}
@@ -78,7 +79,7 @@ module _ (m : Module) {K : Arrows} where
   growth_typed n s after (Some new) u h = h new refl
   growth_typed n s after None u h = u
 
-module _ (m : Module) {K : Arrows} (us : Row Operand) where
+module _ (m : Module) (keeps : KeepsKinds m.types) {K : Arrows} (us : Row Operand) where
   -- ## The rules, where the tables and segments are
 
   get_safe : (x : ℕ) (ts ws : Row Operand) (s : Store) (e : Context) (vs : Row Val) (k : Code) (y : Option TableType)
@@ -86,21 +87,21 @@ module _ (m : Module) {K : Arrows} (us : Row Operand) where
       → Onward m K us e ws k → IsSafe m K us (table_op s e vs (table.Get x) k)
   get_safe x ts ws s e vs k None is u h v go = absurd h
   get_safe x ts ws s e vs k (Some t) is u h v go =
-      number_taken m us int.I32 vs h.beneath _ (values_sub m h.takes v) (λ below i b.
+      number_taken m us int.I32 vs h.beneath _ (values_sub m keeps h.takes v) (λ below i b.
       instance_found m us x t _ u.tables is (λ old q.
       trapped_or m us trap.TableOutOfBounds (get old.elements i) _ (λ w there.
-      go s _ u (values_sub m h.gives (values b (a_value (all_get m K (Ref t.element) i w old.elements q.elements there)))))))
+      go s _ u (values_sub m keeps h.gives (values b (a_value (all_get m K (Ref t.element) i w old.elements q.elements there)))))))
 
   set_safe : (x : ℕ) (ts ws : Row Operand) (s : Store) (e : Context) (vs : Row Val) (k : Code) (y : Option TableType)
       → slice_get (tables_of m) x ≡ y → StoreTyped m K s → HasInstrType m.types (table_set_type y) ts ws → ValuesTyped m K vs ts
       → Onward m K us e ws k → IsSafe m K us (table_op s e vs (table.Set x) k)
   set_safe x ts ws s e vs k None is u h v go = absurd h
   set_safe x ts ws s e vs k (Some t) is u h v go =
-      value_taken m us (Ref t.element) vs (h.beneath ▹ Known I32) _ (values_sub m h.takes v) (λ above w a r.
+      value_taken m us (Ref t.element) vs (h.beneath ▹ Known I32) _ (values_sub m keeps h.takes v) (λ above w a r.
       number_taken m us int.I32 above h.beneath _ a (λ below i b.
       instance_found m us x t _ u.tables is (λ old q.
       trapped_or m us trap.TableOutOfBounds (replaced old.elements i w) _ (λ new there.
-      go _ _ (elements_put m x t old new s u is (table_replaced m K t old q i w new r there)) (values_sub m h.gives b)))))
+      go _ _ (elements_put m x t old new s u is (table_replaced m K t old q i w new r there)) (values_sub m keeps h.gives b)))))
 
   init_safe : (y x : ℕ) (ts ws : Row Operand) (s : Store) (e : Context) (vs : Row Val) (k : Code) (a : Option RefType) (b : Option TableType)
       → slice_get (segment_types m) y ≡ a → slice_get (tables_of m) x ≡ b → StoreTyped m K s
@@ -109,12 +110,12 @@ module _ (m : Module) {K : Arrows} (us : Row Operand) where
   init_safe y x ts ws s e vs k None b from is u p h v go = absurd p
   init_safe y x ts ws s e vs k (Some r) None from is u p h v go = absurd p
   init_safe y x ts ws s e vs k (Some r) (Some t) from is u p h v go =
-      three_taken m us vs h.beneath _ (values_sub m h.takes v) (λ below d j n b.
+      three_taken m us vs h.beneath _ (values_sub m keeps h.takes v) (λ below d j n b.
       instance_found m us x t _ u.tables is (λ old q.
       instance_found m us y r _ u.elements from (λ segment w.
       trapped_or m us trap.TableOutOfBounds (copied old.elements segment d j n) _ (λ new there.
-      let sub = all_sub m K (Ref r) (Ref t.element) segment (ref p) w in
-      go _ _ (elements_put m x t old new s u is (table_copied m K t old q d j n segment new sub there)) (values_sub m h.gives b)))))
+      let sub = all_sub m keeps K (Ref r) (Ref t.element) segment (ref p) w in
+      go _ _ (elements_put m x t old new s u is (table_copied m K t old q d j n segment new sub there)) (values_sub m keeps h.gives b)))))
 
   drop_safe : (y : ℕ) (ts ws : Row Operand) (s : Store) (e : Context) (vs : Row Val) (k : Code) (a : Option RefType)
       → slice_get (segment_types m) y ≡ a → StoreTyped m K s → HasInstrType m.types (elem_drop_type a) ts ws → ValuesTyped m K vs ts
@@ -122,7 +123,7 @@ module _ (m : Module) {K : Arrows} (us : Row Operand) where
   drop_safe y ts ws s e vs k None from u h v go = absurd h
   drop_safe y ts ws s e vs k (Some r) from u h v go =
       instance_found m us y r _ u.elements from (λ segment w.
-      go _ _ (elements_dropped m y r s u from) (values_sub m h.gives (values_sub m h.takes v)))
+      go _ _ (elements_dropped m y r s u from) (values_sub m keeps h.gives (values_sub m keeps h.takes v)))
 
   copy_safe : (x y : ℕ) (ts ws : Row Operand) (s : Store) (e : Context) (vs : Row Val) (k : Code) (a b : Option TableType)
       → slice_get (tables_of m) x ≡ a → slice_get (tables_of m) y ≡ b → StoreTyped m K s
@@ -131,44 +132,44 @@ module _ (m : Module) {K : Arrows} (us : Row Operand) where
   copy_safe x y ts ws s e vs k None b is from u p h v go = absurd p
   copy_safe x y ts ws s e vs k (Some t) None is from u p h v go = absurd p
   copy_safe x y ts ws s e vs k (Some t) (Some r) is from u p h v go =
-      three_taken m us vs h.beneath _ (values_sub m h.takes v) (λ below d j n b.
+      three_taken m us vs h.beneath _ (values_sub m keeps h.takes v) (λ below d j n b.
       instance_found m us x t _ u.tables is (λ old q.
       instance_found m us y r _ u.tables from (λ source w.
       trapped_or m us trap.TableOutOfBounds (copied old.elements source.elements d j n) _ (λ new there.
-      let sub = all_sub m K (Ref r.element) (Ref t.element) source.elements (ref p) w.elements in
-      go _ _ (elements_put m x t old new s u is (table_copied m K t old q d j n source.elements new sub there)) (values_sub m h.gives b)))))
+      let sub = all_sub m keeps K (Ref r.element) (Ref t.element) source.elements (ref p) w.elements in
+      go _ _ (elements_put m x t old new s u is (table_copied m K t old q d j n source.elements new sub there)) (values_sub m keeps h.gives b)))))
 
   grow_safe : (x : ℕ) (ts ws : Row Operand) (s : Store) (e : Context) (vs : Row Val) (k : Code) (y : Option TableType)
       → slice_get (tables_of m) x ≡ y → StoreTyped m K s → HasInstrType m.types (table_grow_type y) ts ws → ValuesTyped m K vs ts
       → Onward m K us e ws k → IsSafe m K us (table_op s e vs (table.Grow x) k)
   grow_safe x ts ws s e vs k None is u h v go = absurd h
   grow_safe x ts ws s e vs k (Some t) is u h v go =
-      number_taken m us int.I32 vs (h.beneath ▹ Known (Ref t.element)) _ (values_sub m h.takes v) (λ above n a.
+      number_taken m us int.I32 vs (h.beneath ▹ Known (Ref t.element)) _ (values_sub m keeps h.takes v) (λ above n a.
       value_taken m us (Ref t.element) above h.beneath _ a (λ below w b r.
       instance_found m us x t _ u.tables is (λ old q.
       let all = growth_typed m (length old.elements) s (with_elements s x old) (grown old.elements old.max w n) u (λ new there.
       elements_put m x t old new s u is (table_grown m K t old q w n new r there)) in
       let below_there = growth_below (length old.elements) s (with_elements s x old) (grown old.elements old.max w n) (elements_below m K t old q) in
-      go _ _ all (values_sub m h.gives (values b (small_typed m _ below_there))))))
+      go _ _ all (values_sub m keeps h.gives (values b (small_typed m _ below_there))))))
 
   size_safe : (x : ℕ) (ts ws : Row Operand) (s : Store) (e : Context) (vs : Row Val) (k : Code) (y : Option TableType)
       → slice_get (tables_of m) x ≡ y → StoreTyped m K s → HasInstrType m.types (table_size_type y) ts ws → ValuesTyped m K vs ts
       → Onward m K us e ws k → IsSafe m K us (table_op s e vs (table.Size x) k)
   size_safe x ts ws s e vs k None is u h v go = absurd h
   size_safe x ts ws s e vs k (Some t) is u h v go =
-      instance_found m us x t _ u.tables is (λ old q. go s _ u (values_sub m h.gives (values (values_sub m h.takes v) (small_typed m (length old.elements) (elements_below m K t old q)))))
+      instance_found m us x t _ u.tables is (λ old q. go s _ u (values_sub m keeps h.gives (values (values_sub m keeps h.takes v) (small_typed m (length old.elements) (elements_below m K t old q)))))
 
   fill_safe : (x : ℕ) (ts ws : Row Operand) (s : Store) (e : Context) (vs : Row Val) (k : Code) (y : Option TableType)
       → slice_get (tables_of m) x ≡ y → StoreTyped m K s → HasInstrType m.types (table_fill_type y) ts ws → ValuesTyped m K vs ts
       → Onward m K us e ws k → IsSafe m K us (table_op s e vs (table.Fill x) k)
   fill_safe x ts ws s e vs k None is u h v go = absurd h
   fill_safe x ts ws s e vs k (Some t) is u h v go =
-      number_taken m us int.I32 vs (h.beneath ▹ Known I32 ▹ Known (Ref t.element)) _ (values_sub m h.takes v) (λ above n a.
+      number_taken m us int.I32 vs (h.beneath ▹ Known I32 ▹ Known (Ref t.element)) _ (values_sub m keeps h.takes v) (λ above n a.
       value_taken m us (Ref t.element) above (h.beneath ▹ Known I32) _ a (λ middle w b r.
       number_taken m us int.I32 middle h.beneath _ b (λ below i d.
       instance_found m us x t _ u.tables is (λ old q.
       trapped_or m us trap.TableOutOfBounds (filled old.elements i w n) _ (λ new there.
-      go _ _ (elements_put m x t old new s u is (table_filled m K t old q i w n new r there)) (values_sub m h.gives d))))))
+      go _ _ (elements_put m x t old new s u is (table_filled m K t old q i w n new r there)) (values_sub m keeps h.gives d))))))
 
   -- a table instruction goes on, or traps
   pub table_safe : (c : Scope) (o : TableOp) (ts ws : Row Operand) (s : Store) (e : Context) (vs : Row Val) (k : Code) → StoreTyped m K s

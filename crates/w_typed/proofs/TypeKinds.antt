@@ -1,5 +1,6 @@
 -- Function types and continuation types by their indices: no index has both.
 use Rattle.std.proofs.Common.{◌≡◌, ℕ, Option, Some, None, slice_get, refl, ap}
+use Rattle.std.specs.Prelude.{option_map}
 use Rattle.w_types.specs.declared.types.CompType.{CompType}
 use Rattle.w_types.specs.declared.types.CompType.TheVariants as comp
 use Rattle.w_types.specs.declared.types.FuncType.{FuncType}
@@ -7,10 +8,10 @@ use Rattle.w_types.specs.declared.types.HeapType.TheVariants.{Func, Index}
 use Rattle.w_types.specs.Groups.{types_of}
 use Rattle.w_syntax.specs.Functions.{function_type, func_type}
 use Rattle.w_syntax.specs.declared.module.Module.{Module}
-use Rattle.w_canon.specs.Equivalence.{SameIndex}
-use Rattle.w_canon.specs.Matching.{IsFunc, IsCont, HeapMatches, index, index_func}
-use Rattle.w_canon.proofs.Equivalent.{symmetric}
-use Rattle.w_canon.proofs.Preorder.{heap_trans}
+use Rattle.w_canon.specs.Entries.{kind_of}
+use Rattle.w_canon.specs.Matching.{IsFunc, IsCont, IndexMatches, HeapMatches, index_func}
+use Rattle.w_canon.specs.Supertypes.{KeepsKinds}
+use Rattle.w_canon.proofs.Supertypes.{index_kinds}
 use Rattle.w_rules.specs.Context as rules
 use Rattle.w_rules.specs.Context.{func_at, index_in_cont, cont_of}
 use Rattle.w_rules.specs.Spaces.{context_of}
@@ -40,7 +41,10 @@ module _ (m : Module) where
   pub cont_no_func : (x : ℕ) (f : FuncType) → cont_of (context_of m) x ≡ Some f → HeapMatches m.types (Index x) Func → ⊥
   cont_no_func x f h (index_func g) = let e = g.1 in let c = is_cont x f h in let d = c.1 in cc
 
-  -- nor is a function type equivalent to a continuation type
-  pub func_no_cont : (x y : ℕ) → IsFunc m.types x → SameIndex m.types x y → (f : FuncType) → cont_of (context_of m) y ≡ Some f → ⊥
-  func_no_cont x y g same f h =
-      cont_no_func y f h (heap_trans m.types (Index y) (Index x) Func (index (symmetric m.types x y same)) (index_func g))
+  -- nor does a function type match a continuation type
+  pub func_no_cont : KeepsKinds m.types → (x y : ℕ) → IsFunc m.types x → IndexMatches m.types x y → (f : FuncType) → cont_of (context_of m) y ≡ Some f → ⊥
+  func_no_cont keeps x y g s f h =
+      let below = ap (option_map kind_of) g.1 in
+      let above = ap (option_map kind_of) (is_cont y f h).1 in
+      let one = index_kinds m.types keeps s in
+      cc

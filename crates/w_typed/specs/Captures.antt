@@ -7,6 +7,7 @@ use Rattle.w_syntax.specs.Code.{Code, Plain}
 use Rattle.w_syntax.specs.declared.instructions.Op.TheVariants as op
 use Rattle.w_syntax.specs.declared.instructions.SwitchingOp.TheVariants as switching
 use Rattle.w_syntax.specs.declared.module.Module.{Module}
+use Rattle.w_canon.specs.Supertypes.{KeepsKinds}
 use Rattle.w_rules.specs.Conditions.{ClauseTyped}
 use Rattle.w_rules.specs.Context.{cont_of, type_of_tag}
 use Rattle.w_rules.specs.Matching.{known}
@@ -31,10 +32,12 @@ pub record CaptureTyped (m : Module) (K : Arrows) (us : Row Operand) {A : Type 0
 
 -- ## Laws
 
+-- Those of captures go by transitivity of matching, so each supertype is of its subtypes' kind, as in each valid module.
+
 -- E[v* w^n (suspend x)], where x is [t1^n] to [t2*], and a handle of E has a label for x: what is captured with v* takes t2*
 abbrev pub SuspendsCaptureTyped : Type 0
 SuspendsCaptureTyped = (m : Module) (K : Arrows) (us : Row Operand) (e : Context) (vs ws : Row Val) (x : ℕ) (c : Code) (t : FuncType) (h : Handler ℕ)
-    → TermTyped m K us (record { around = e; operands = vs ⧺ ws; rest = rest_of (Plain (op.Switching (switching.Suspend x)) c) })
+    → KeepsKinds m.types → TermTyped m K us (record { around = e; operands = vs ⧺ ws; rest = rest_of (Plain (op.Switching (switching.Suspend x)) c) })
     → type_of_tag (context_of m) x ≡ Some t → size ws ≡ length t.params → find (label_clause x) e ≡ Some h
     → CaptureTyped m K us h t.results (continuation_at (length t.results) h.inner vs c)
 
@@ -42,7 +45,7 @@ SuspendsCaptureTyped = (m : Module) (K : Arrows) (us : Row Operand) (e : Context
 -- what is captured with v* takes t3*
 abbrev pub SwitchesCaptureTyped : Type 0
 SwitchesCaptureTyped = (m : Module) (K : Arrows) (us : Row Operand) (e : Context) (vs ws : Row Val) (u : Val) (x y z : ℕ) (c : Code) (t back : FuncType) (h : Handler (Unit {0}))
-    → TermTyped m K us (record { around = e; operands = (vs ⧺ ws) ▹ u; rest = rest_of (Plain (op.Switching (switching.Switch x y)) c) })
+    → KeepsKinds m.types → TermTyped m K us (record { around = e; operands = (vs ⧺ ws) ▹ u; rest = rest_of (Plain (op.Switching (switching.Switch x y)) c) })
     → cont_of (context_of m) x ≡ Some t → size ws + 1 ≡ length t.params → back_type (row_of t.params) ≡ Some z → cont_of (context_of m) z ≡ Some back
     → find (switch_clause y) e ≡ Some h → CaptureTyped m K us h back.params (continuation_at (length back.params) h.inner vs c)
 

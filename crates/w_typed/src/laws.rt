@@ -35,7 +35,8 @@ pub fn next_has_room()
     ensures { NextHasRoom }
 {}
 
-/// What a suspend or a switch captures up to a handle, with the operands beneath, is a continuation of just the handle's results.
+/// What a suspend or a switch captures up to a handle, with the operands beneath, is a continuation of just the handle's results, where
+/// each supertype is of its subtypes' kind.
 pub fn captures_are_typed()
     ensures suspends { SuspendsCaptureTyped }
     ensures switches { SwitchesCaptureTyped }

@@ -1,10 +1,10 @@
 //! The types of a module.
 ghost use Rattle.std.specs.Prelude.{◌≡◌, [], ◌++◌, IfOk, OnOk, length, slice_get};
 ghost use Rattle.std.specs.Option.{option_copied};
-ghost use Rattle.w_types.specs.Groups.{types_of, places_in, places_of, type_at};
+ghost use Rattle.w_types.specs.Groups.{subtypes_of, types_of, places_in, places_of, type_at};
 
 use crate::packed_type::PackedType;
-use crate::types::{CompType, FuncType, RecGroup};
+use crate::types::{CompType, FuncType, RecGroup, SubType};
 use lists::ListOf;
 use std::alloc::{AllocError, Global};
 use std::marker::Model;
@@ -55,8 +55,8 @@ fn copy_types(alloc: Global, types: &ListOf<PackedType>) -> Result<ListOf<Packed
     Ok(ListOf::from_vec(items))
 }
 
-// The same type, with lists of its own.
-fn copy_type(alloc: Global, kind: &CompType) -> Result<CompType, AllocError>
+// The same composite type, with lists of its own.
+fn copy_composite(alloc: Global, kind: &CompType) -> Result<CompType, AllocError>
     ensures { IfOk result (λ copy. copy ≡ kind.now) }
 {
     match kind {
@@ -66,6 +66,18 @@ fn copy_type(alloc: Global, kind: &CompType) -> Result<CompType, AllocError>
         })),
         CompType::Cont(function) => Ok(CompType::Cont(*function)),
     }
+}
+
+// The same type, with lists of its own.
+fn copy_type(alloc: Global, kind: &SubType) -> Result<SubType, AllocError>
+    ensures { IfOk result (λ copy. copy ≡ kind.now) }
+{
+    let supertypes = Vec::from_slice(alloc, kind.supertypes.as_slice())?;
+    Ok(SubType {
+        is_final: kind.is_final,
+        supertypes: ListOf::from_vec(supertypes),
+        composite: copy_composite(alloc, &kind.composite)?,
+    })
 }
 
 // The same group, with types of its own.
@@ -129,7 +141,7 @@ impl RecGroups {
     }
 
     /// How many types there are.
-    #[tactic(auto, using(crate::proofs::PlacesOfTypes::as_many_places))]
+    #[tactic(auto, using(crate::proofs::PlacesOfTypes::as_many_types))]
     pub fn type_count(&self) -> usize
         ensures { result ≡ length (types_of self.now) }
     {
@@ -144,7 +156,7 @@ impl RecGroups {
     }
 
     // The type at a place.
-    fn at(&self, place: Place) -> Option<&CompType>
+    fn at(&self, place: Place) -> Option<&SubType>
         ensures { option_copied result ≡ type_at self.now place }
     {
         match self.groups.get(place.group) {
@@ -153,12 +165,22 @@ impl RecGroups {
         }
     }
 
-    /// The type of this index.
-    pub fn get(&self, index: usize) -> Option<&CompType>
-        ensures { option_copied result ≡ slice_get (types_of self.now) index }
+    /// The type of this index, with its supertypes.
+    pub fn subtype(&self, index: usize) -> Option<&SubType>
+        ensures { option_copied result ≡ slice_get (subtypes_of self.now) index }
     {
         match self.place(index) {
             Some(place) => self.at(place),
+            None => None,
+        }
+    }
+
+    /// The composite type of this index.
+    pub fn get(&self, index: usize) -> Option<&CompType>
+        ensures { option_copied result ≡ slice_get (types_of self.now) index }
+    {
+        match self.subtype(index) {
+            Some(kind) => Some(&kind.composite),
             None => None,
         }
     }

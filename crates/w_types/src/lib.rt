@@ -8,5 +8,5 @@ mod value;
 
 pub use groups::RecGroups;
 pub use packed_type::PackedType;
-pub use types::{CompType, FuncType, HeapType, RecGroup, RefType, ValType};
+pub use types::{CompType, FuncType, HeapType, RecGroup, RefType, SubType, ValType};
 pub use value::{ContRef, Value};

@@ -3,6 +3,7 @@ ghost use Rattle.std.specs.Prelude.{◌≡◌, true, false};
 
 use crate::packed_type::PackedType;
 use lists::ListOf;
+use std::alloc::Global;
 
 /// A heap type (Core, types, heap types; the explainer adds continuations). An index is that of a type of the module.
 #[derive(Clone, Copy, PartialEq, Eq)]
@@ -78,8 +79,32 @@ pub enum CompType {
     Cont(u32),
 }
 
+/// A composite type with the types that it is declared to match, by their indices (Core, types, recursive types). A final one is no
+/// supertype.
+#[derive(Drop)]
+pub struct SubType {
+    pub is_final: bool,
+    pub supertypes: ListOf<u32>,
+    pub composite: CompType,
+}
+
+impl SubType {
+    ghost use Rattle.std.specs.Prelude.{◌≡◌, true, []};
+
+    /// A final type without supertypes, as one that stands alone is spelled.
+    pub fn alone(alloc: Global, composite: CompType) -> SubType
+        ensures { result ≡ record { is_final = true; supertypes = []; composite = composite } }
+    {
+        SubType {
+            is_final: true,
+            supertypes: ListOf::new(alloc),
+            composite,
+        }
+    }
+}
+
 /// Types that are defined together, so that each may name the others (Core, types, recursive types).
 #[derive(Drop)]
 pub struct RecGroup {
-    pub types: ListOf<CompType>,
+    pub types: ListOf<SubType>,
 }

@@ -1,5 +1,5 @@
 -- A function is valid where its code is, in the context of its module, and has its height and its depth.
-use Rattle.std.proofs.Common.{◌≡◌, ℕ, length, Option, Some, None, sym, ap, subst, ◌∙◌}
+use Rattle.std.proofs.Common.{◌≡◌, ℕ, length, Option, Some, None, Result, Ok, Err, IfOk, sym, ap, subst, ◌∙◌}
 use Rattle.std.specs.Prelude.{All, slice_get}
 use Rattle.w_types.specs.Groups.{types_of}
 use Rattle.w_types.specs.declared.types.FuncType.{FuncType}
@@ -58,3 +58,9 @@ no_type m i none v = let e : ◌≡◌ {A = Option FuncType} None (Some v.type) 
 
 pub no_code : (m : Module) (i : ℕ) → code_of_function m i ≡ None → FunctionValid m i → ⊥
 no_code m i none v = let e : ◌≡◌ {A = Option Func} None (Some v.func) = sym none ∙ v.has_code in absurd cc
+
+-- whatever comes of measuring the code, comes of the function
+pub function_answered : {E : Type 0} (result : Result (Option (ℕ × ℕ)) E) (m : Module) (i x : ℕ) (f : Func) → slice_get m.functions i ≡ Some x → code_of_function m i ≡ Some f
+    → IfOk result (IsCodeMeasure (context_of m) x f) → IfOk result (IsFunctionMeasure m i)
+function_answered (Ok r) m i x f is code h = function_measured m i x f r is code h
+function_answered (Err e) m i x f is code h = tt

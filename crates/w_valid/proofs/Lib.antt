@@ -3,3 +3,4 @@ pub mod AnswersOfBodies
 pub mod BodiesJudged
 pub mod FunctionsMeasured
 pub mod Judgements
+mod KnownClasses

@@ -1,4 +1,5 @@
--- What is known of the first bodies of a module, before its last lists are there. All of it is said of modules within their limits.
+-- What is known of the first bodies of a module, before its last lists are there. All of it is said of modules within their limits, whose
+-- types have supertypes of their own kind.
 use Rattle.std.specs.Prelude.{◌≡◌, ◌↔◌, ◌⊎◌, ℕ, ◌<◌, ◌≤◌, List, length, Option, Some, None, slice_get}
 use Rattle.w_syntax.specs.declared.module.Module.{Module}
 use Rattle.w_rules.specs.Valid.{FunctionValid}

@@ -2,6 +2,7 @@
 ghost use Rattle.std.specs.Prelude.{◌↔◌, All, IfOk, IfNone, IsTrue};
 ghost use Rattle.w_types.specs.Groups.{types_of};
 ghost use Rattle.w_syntax.specs.declared.locals.LocalRun.{LocalRun as Run};
+ghost use Rattle.w_canon.specs.Supertypes.{KeepsKinds};
 ghost use Rattle.w_flow.specs.TypeRows.{AreTypeRows};
 ghost use Rattle.w_rules.specs.Types.{IsValidType};
 ghost use Rattle.w_rules.specs.Valid.{FunctionItem};
@@ -29,7 +30,8 @@ fn are_locals_valid(count: usize, runs: &[LocalRun]) -> bool
 }
 
 /// Whether the type of this index is a function type, and the code has valid locals and a body of this type (Core, validation,
-/// functions), and then its height and its depth. It works in this room, and leaves it to the next one.
+/// functions), and then its height and its depth, where each supertype of the context's types is of its subtypes' kind. It works in this
+/// room, and leaves it to the next one.
 pub(crate) fn measure_code(
     alloc: Global,
     setting: &BodySetting,
@@ -37,9 +39,8 @@ pub(crate) fn measure_code(
     kind: u32,
     code: &Func,
 ) -> Result<Option<(u64, u32)>, AllocError>
-    requires classes { HasClasses setting.now.context }
-    requires rows { AreTypeRows setting.now.context.classes.now (types_of setting.now.context.types.now) setting.now.rows.now }
-    ensures { IfOk result (IsCodeMeasure (context_in setting.now.context) kind code.now) }
+    requires { AreTypeRows setting.now.context.classes.now (types_of setting.now.context.types.now) setting.now.rows.now }
+    ensures { HasClasses setting.now.context → IfOk result (IsCodeMeasure (context_in setting.now.context) kind code.now) }
 {
     let BodySetting { context: cx, rows } = setting;
     let Some(kind) = rows.func_of(cx, kind) else {
@@ -65,7 +66,8 @@ fn measure_function(
     room: &mut Room,
     index: usize,
 ) -> Result<Option<(u64, u32)>, AllocError>
-    requires { AreTablesOf candidate.now tables.now }
+    requires tables { AreTablesOf candidate.now tables.now }
+    requires keeps { KeepsKinds candidate.now.types }
     ensures { IfOk result (IsFunctionMeasure candidate.now index) }
 {
     let Some(kind) = item_at(&candidate.functions, index) else {
@@ -88,6 +90,7 @@ pub(crate) fn first_invalid_function(
     bodies: &mut JudgedBodies,
 ) -> Result<Option<usize>, AllocError>
     requires tables { AreTablesOf candidate.now tables.now }
+    requires keeps { KeepsKinds candidate.now.types }
     requires bodies { AreJudged candidate.now bodies.old }
     ensures first { IfOk result (λ first. IsFirst candidate.now FunctionItem first) }
     ensures measured { IfOk result (λ first. IfNone first

@@ -2,6 +2,7 @@
 ghost use Rattle.std.specs.Prelude.{◌≡◌, ◌+◌, false, IfOk, IfErr, OnOk, OnErr, Ok, Err};
 ghost use Rattle.w_syntax.specs.Functions.{code_of_function};
 ghost use Rattle.w_syntax.specs.declared.module.Module.{Module as TheModule};
+ghost use Rattle.w_canon.specs.Supertypes.{KeepsKinds};
 ghost use Rattle.w_rules.specs.Limits.{Within, Passes};
 ghost use Rattle.w_rules.specs.Valid.{Item, Valid, IsInvalidAt};
 ghost use Rattle.w_rules.specs.declared.limits.SizeLimit.{SizeLimit as TheLimit};
@@ -34,7 +35,7 @@ pub struct Gradual {
 }
 
 // What is known of the body of this index, by the tables that its module makes: it is judged with just the data segments that it names.
-// Of a module that passes a limit all may be said.
+// Of a module that passes a limit, or whose types are not valid, all may be said: that is told before any body is.
 fn answer_of(
     alloc: Global,
     tables: &TablesSoFar,
@@ -44,7 +45,7 @@ fn answer_of(
 ) -> Result<Option<BodyMeasure>, AllocError>
     requires { AreDue tables.now }
     ensures { IfOk result (λ answer. (n : TheModule) → AreTablesIn n tables.now → SameBefore candidate.now n
-        → code_of_function candidate.now index ≡ code_of_function n index → Within n → IsBodyAnswer n index answer) }
+        → code_of_function candidate.now index ≡ code_of_function n index → Within n → KeepsKinds n.types → IsBodyAnswer n index answer) }
 {
     let TablesSoFar::Made(tables) = tables else {
         return Ok(None);

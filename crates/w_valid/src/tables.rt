@@ -2,10 +2,11 @@
 ghost use Rattle.std.specs.Prelude.{◌≡◌, IfOk, OnOk};
 ghost use Rattle.w_syntax.specs.declared.module.Module.{Module as TheModule};
 ghost use Rattle.w_types.specs.Groups.{types_of};
+ghost use Rattle.w_canon.specs.IsClassesOf.{IsClassesOf};
 ghost use Rattle.w_flow.specs.TypeRows.{AreTypeRows};
 ghost use Rattle.w_rules.specs.DataNeeds.{with_datas};
 ghost use Rattle.w_rules.specs.Spaces.{context_of};
-ghost use Rattle.w_rules.specs.View.{context_in, HasClasses};
+ghost use Rattle.w_rules.specs.View.{context_in};
 ghost use Rattle.w_syntax.specs.SameBefore.{SameBefore};
 ghost use Rattle.w_valid.specs.Tables.{AreDue, AreTablesIn, AreTablesOf};
 
@@ -49,7 +50,7 @@ impl ModuleTables {
     /// What bodies are judged in where there are so many data segments.
     pub fn setting(&self, datas: usize) -> BodySetting<'_>
         ensures context { (m : TheModule) → AreTablesOf m self.now → context_in result.context ≡ with_datas datas (context_of m) }
-        ensures classes { HasClasses result.context }
+        ensures classes { IsClassesOf result.context.types.now result.context.classes.now }
         ensures rows { AreTypeRows result.context.classes.now (types_of result.context.types.now) result.rows.now }
     {
         let lent = self.types.lent();

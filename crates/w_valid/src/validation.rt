@@ -1,11 +1,12 @@
 //! Validation of a module.
 ghost use Rattle.std.specs.Prelude.{◌≡◌, IfOk, IfErr, OnOk, Ok, Err};
+ghost use Rattle.w_canon.specs.Supertypes.{KeepsKinds};
 ghost use Rattle.w_rules.specs.Facts.{AreFacts};
 ghost use Rattle.w_rules.specs.Limits.{Within, Passes};
 ghost use Rattle.w_rules.specs.Valid.{Item, Valid, IsInvalidAt};
 ghost use Rattle.w_rules.specs.declared.limits.SizeLimit.{SizeLimit as TheLimit};
 ghost use Rattle.w_items.specs.Faults.{fault_of, IsFaultOf, IsAnswer};
-ghost use Rattle.w_items.specs.Judged.{IsContextOf};
+ghost use Rattle.w_items.specs.Judged.{IsContextBefore};
 ghost use Rattle.w_valid.specs.JudgedBodies.{AreJudged};
 ghost use Rattle.w_valid.specs.Measured.{AreMeasures};
 ghost use Rattle.w_valid.specs.Tables.{AreTablesOf, AreTablesIn};
@@ -30,7 +31,7 @@ fn judge_items(
 ) -> Result<(), ValidFault>
     requires within { Within candidate.now }
     requires tables { AreTablesOf candidate.now tables.now }
-    requires bodies { AreJudged candidate.now bodies.old }
+    requires bodies { KeepsKinds candidate.now.types → AreJudged candidate.now bodies.old }
     ensures valid { OnOk result (Valid candidate.now) }
     ensures measured { OnOk result (AreMeasures candidate.now bodies.new.heights.items bodies.new.depths.items) }
     ensures err { IfErr result (λ fault. IsFaultOf candidate.now fault) }
@@ -58,7 +59,7 @@ fn judge_by(
 ) -> Result<Facts, ValidFault>
     requires within { Within candidate.now }
     requires tables { AreTablesOf candidate.now tables }
-    requires bodies { AreJudged candidate.now bodies }
+    requires bodies { KeepsKinds candidate.now.types → AreJudged candidate.now bodies }
     ensures valid { OnOk result (Valid candidate.now) }
     ensures facts { IfOk result (λ facts. AreFacts candidate.now facts) }
     ensures err { IfErr result (λ fault. IsFaultOf candidate.now fault) }
@@ -87,7 +88,7 @@ pub(crate) fn judge(
     room: &mut Room,
 ) -> Result<Facts, ValidFault>
     requires tables { AreTablesIn candidate.now tables }
-    requires bodies { Within candidate.now → AreJudged candidate.now bodies }
+    requires bodies { Within candidate.now → KeepsKinds candidate.now.types → AreJudged candidate.now bodies }
     ensures within { OnOk result (Within candidate.now) }
     ensures valid { OnOk result (Valid candidate.now) }
     ensures facts { IfOk result (λ facts. AreFacts candidate.now facts) }

@@ -5,7 +5,7 @@ use Rattle.w_types.specs.declared.types.ValType.{ValType}
 use Rattle.lists.specs.Rows.{Row, ε, ◌▹◌}
 use Rattle.lists.proofs.Rows.{unit_left}
 use Rattle.w_canon.specs.declared.entry.Entry.{Entry}
-use Rattle.w_canon.specs.IsClassesOf.{IsClassesOf}
+use Rattle.w_rules.specs.View.{AreClasses}
 use Rattle.w_rules.specs.Operands.{Operand}
 use Rattle.w_rules.specs.Conditions.{Holds}
 use Rattle.w_rules.specs.Context.{Context, Arrow}
@@ -45,12 +45,12 @@ none_left_out gs p (Some ε) h = tt
 none_left_out gs p (Some (ts ▹ t)) h = absurd (cc)
 
 -- the operands are these exactly where these are covered
-pub ends_in : (gs : List RecGroup) (es : List Entry) → IsClassesOf gs es → (p : Bool) (ts : Row Operand) (us : Row ValType) → Covers gs p ts (known us) → IsTrue (ends es p ts us)
+pub ends_in : (gs : List RecGroup) (es : List Entry) → AreClasses gs es → (p : Bool) (ts : Row Operand) (us : Row ValType) → Covers gs p ts (known us) → IsTrue (ends es p ts us)
 ends_in gs es st p ts us h =
     none_left_in gs p (pops es p ts us) (pops_in gs es st p ts us ε (subst (λ (vs : Row Operand). Covers gs p ts vs) (sym (unit_left (known us))) h))
 
 -- and the other way
-pub ends_out : (gs : List RecGroup) (es : List Entry) → IsClassesOf gs es → (p : Bool) (ts : Row Operand) (us : Row ValType) → IsTrue (ends es p ts us) → Covers gs p ts (known us)
+pub ends_out : (gs : List RecGroup) (es : List Entry) → AreClasses gs es → (p : Bool) (ts : Row Operand) (us : Row ValType) → IsTrue (ends es p ts us) → Covers gs p ts (known us)
 ends_out gs es st p ts us h =
     subst (λ (vs : Row Operand). Covers gs p ts vs) (unit_left (known us)) (pops_out gs es st p ts us ε (none_left_out gs p (pops es p ts us) h))
 
@@ -62,14 +62,14 @@ EndTest c (kind.Then x) a = RowMatches c.types (known a.from) (known a.to)
 EndTest c (kind.Else x) a = Unit {0}
 
 -- its test is true
-pub end_test_in : (es : List Entry) (c : Context) → IsClassesOf c.types es → (k : FrameKind) (a : Arrow) → EndTest c k a → IsTrue (end_test es k a)
+pub end_test_in : (es : List Entry) (c : Context) → AreClasses c.types es → (k : FrameKind) (a : Arrow) → EndTest c k a → IsTrue (end_test es k a)
 end_test_in es c st kind.Body a h = refl
 end_test_in es c st (kind.Block b x) a h = refl
 end_test_in es c st (kind.Then x) a h = ends_in c.types es st false (known a.from) a.to (matches_covers c.types (known a.from) (known a.to) h)
 end_test_in es c st (kind.Else x) a h = refl
 
 -- and only then
-pub end_test_out : (es : List Entry) (c : Context) → IsClassesOf c.types es → (k : FrameKind) (a : Arrow) → IsTrue (end_test es k a) → EndTest c k a
+pub end_test_out : (es : List Entry) (c : Context) → AreClasses c.types es → (k : FrameKind) (a : Arrow) → IsTrue (end_test es k a) → EndTest c k a
 end_test_out es c st kind.Body a h = tt
 end_test_out es c st (kind.Block b x) a h = tt
 end_test_out es c st (kind.Then x) a h = covers_matches c.types (known a.from) (known a.to) (ends_out c.types es st false (known a.from) a.to h)

@@ -10,7 +10,7 @@ use Rattle.w_syntax.specs.declared.instructions.Op.TheVariants as op
 use Rattle.w_types.specs.declared.types.ValType.{ValType}
 use Rattle.lists.specs.Rows.{Row, row_of, size}
 use Rattle.w_canon.specs.declared.entry.Entry.{Entry}
-use Rattle.w_canon.specs.IsClassesOf.{IsClassesOf}
+use Rattle.w_rules.specs.View.{AreClasses}
 use Rattle.w_flow.specs.Flow.{◌>>=◌}
 use Rattle.w_rules.specs.Context.{Context}
 use Rattle.w_rules.specs.Peak.{or_none}
@@ -71,7 +71,7 @@ pub stands_by : (old new : Checker) (s : List Bool) (w w' : Prefix) → IsSameBo
     → (new.refused ≡ false → CountsFor (context_for old) s (frames_of new) w' × (new.peak ≡ peak_of (context_for old) s w') × HasBases new × IsDeep new × (new.depth ≡ depth_of w'))
     → StandsFor new s w'
 stands_by old new s w w' same types k counts = record {
-  classes = (let P : Context → List Entry → Type 0 = λ d es. IsClassesOf d.types es in
+  classes = (let P : Context → List Entry → Type 0 = λ d es. AreClasses d.types es in
       let Q : Context → Type 0 = λ d. P d (classes_for new) in
       subst Q (sym same.context) (subst (P (context_for old)) (sym same.classes) types));
   knows = (let P : Context → Type 0 = λ d. Knows d s (frames_of_derived new) w' in subst P (sym same.context) k);

@@ -8,7 +8,7 @@ use Rattle.w_syntax.specs.declared.instructions.Instr.TheVariants as flat
 use Rattle.w_syntax.specs.declared.instructions.Op.{Op}
 use Rattle.w_syntax.specs.declared.instructions.Op.TheVariants as op
 use Rattle.w_canon.specs.declared.entry.Entry.{Entry}
-use Rattle.w_canon.specs.IsClassesOf.{IsClassesOf}
+use Rattle.w_rules.specs.View.{AreClasses}
 use Rattle.w_rules.specs.Operands.{Operand}
 use Rattle.w_rules.specs.Conditions.{Holds}
 use Rattle.w_rules.specs.Context.{Context, Arrow}
@@ -31,16 +31,16 @@ use Rattle.w_flow.proofs.Covers.{covers_refl}
 use Rattle.w_rules.proofs.Derive.{holds_map}
 
 -- an instruction that does not switch stacks
-plain_known : (es : List Entry) (c : Context) → IsClassesOf c.types es → (s : List Bool) (o : Op) → is_switching o ≡ false → (p : Bool) (ts : Row Operand) (l : OpenBlock) (ls : List OpenBlock) (fs : List Frame) →
+plain_known : (es : List Entry) (c : Context) → AreClasses c.types es → (s : List Bool) (o : Op) → is_switching o ≡ false → (p : Bool) (ts : Row Operand) (l : OpenBlock) (ls : List OpenBlock) (fs : List Frame) →
     StandsAll c s ε (framed s p ts l ls ∷ fs) (l ∷ ls) →
     Knows c s (plain_next es c o (framed s p ts l ls) fs) (open_at (more l (Plain o Done)) ls)
 plain_known es c types s o h p ts l ls fs st =
     typed_known es c types s o (instr_type (within c (l.kind ∷ frame_kinds fs)) (set_at s (l ∷ ls)) o) (framed s p ts l ls) fs l ls st (condition_test es c o)
-    (condition_decided_within es c types (kinds_of (l ∷ ls)) o h)
+    (condition_decided_within es c types.classes (kinds_of (l ∷ ls)) o h)
     (ap (λ (ks : List FrameKind). instr_type (within c (l.kind ∷ ks)) (set_at s (l ∷ ls)) o) (sym (tail_kinds c s (framed s p ts l ls) fs l ls st)))
 
 -- the same, by its class
-op_known : (es : List Entry) (c : Context) → IsClassesOf c.types es → (s : List Bool) (o : Op) → is_checked (flat.Plain o) ≡ true → (p : Bool) (ts : Row Operand) (l : OpenBlock) (ls : List OpenBlock) (fs : List Frame) →
+op_known : (es : List Entry) (c : Context) → AreClasses c.types es → (s : List Bool) (o : Op) → is_checked (flat.Plain o) ≡ true → (p : Bool) (ts : Row Operand) (l : OpenBlock) (ls : List OpenBlock) (fs : List Frame) →
     StandsAll c s ε (framed s p ts l ls ∷ fs) (l ∷ ls) →
     Knows c s (op_next es c o (framed s p ts l ls) fs) (open_at (more l (Plain o Done)) ls)
 op_known es c types s (op.Switching o) h p ts l ls fs st = absurd (false≢true h)
@@ -53,7 +53,7 @@ op_known es c types s (op.Numeric o) h p ts l ls fs st = plain_known es c types 
 op_known es c types s (op.Reference o) h p ts l ls fs st = plain_known es c types s (op.Reference o) refl p ts l ls fs st
 
 -- any of these, where the frame is that of the open block
-framed_known : (es : List Entry) (c : Context) → IsClassesOf c.types es → (s : List Bool) (i : Instr) → is_checked i ≡ true → (p : Bool) (ts : Row Operand) (l : OpenBlock) (ls : List OpenBlock) (fs : List Frame) →
+framed_known : (es : List Entry) (c : Context) → AreClasses c.types es → (s : List Bool) (i : Instr) → is_checked i ≡ true → (p : Bool) (ts : Row Operand) (l : OpenBlock) (ls : List OpenBlock) (fs : List Frame) →
     StandsAll c s ε (framed s p ts l ls ∷ fs) (l ∷ ls) →
     Knows c s (frame_next es c i (framed s p ts l ls) fs) (followed i l ls)
 framed_known es c types s (flat.Plain o) h p ts l ls fs st = op_known es c types s o h p ts l ls fs st
@@ -63,7 +63,7 @@ framed_known es c types s flat.Else h p ts l ls fs st = other_known es c types s
 framed_known es c types s flat.End h p ts l ls fs st = end_known es c types s l.kind l.first l.code p ts ls fs st
 
 -- one call, where the frames stand for the sequence before it
-pub next_knows : (es : List Entry) (c : Context) → IsClassesOf c.types es → (s : List Bool) (i : Instr) → is_checked i ≡ true → (fs : List Frame) (w : Prefix) →
+pub next_knows : (es : List Entry) (c : Context) → AreClasses c.types es → (s : List Bool) (i : Instr) → is_checked i ≡ true → (fs : List Frame) (w : Prefix) →
     FramesStand c s fs w → Knows c s (next es c i fs) (follow i w)
 next_knows es c types s i h [] (open_at l ls) st = absurd st
 next_knows es c types s i h [] (ended k) st = λ good. good
@@ -94,9 +94,9 @@ stands_derivable c s (f ∷ fs) (open_at l ls) st =
     ((f.operands, st.0.reached f.operands (covers_refl c.types f.any f.operands)), around_of c s l.kind fs ls st.1)
 
 -- one call, from what is known before it
-pub step_knows : (es : List Entry) (c : Context) → IsClassesOf c.types es → (s : List Bool) (i : Instr) → is_checked i ≡ true → (o : Option (List Frame)) (w : Prefix) →
+pub step_knows : (es : List Entry) (c : Context) → AreClasses c.types es → (s : List Bool) (i : Instr) → is_checked i ≡ true → (o : Option (List Frame)) (w : Prefix) →
     Knows c s o w → Knows c s (o >>= next es c i) (follow i w)
-step_knows es c types s i h None w k = λ good. k (derivable_before c s i w good)
+step_knows es c types s i h None w k = λ good. k (derivable_before c types.keeps s i w good)
 step_knows es c types s i h (Some fs) w k = next_knows es c types s i h fs w k
 
 -- the answer that the frames give is whether the rules derive the sequence

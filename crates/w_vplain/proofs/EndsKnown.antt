@@ -5,7 +5,7 @@ use Rattle.lists.specs.Rows.{Row, ε, ◌⧺◌}
 use Rattle.w_syntax.specs.Code.{Code, Done}
 use Rattle.w_syntax.specs.declared.instructions.BlockType.{BlockType}
 use Rattle.w_canon.specs.declared.entry.Entry.{Entry}
-use Rattle.w_canon.specs.IsClassesOf.{IsClassesOf}
+use Rattle.w_rules.specs.View.{AreClasses}
 use Rattle.w_rules.specs.Operands.{Operand}
 use Rattle.w_rules.specs.Context.{Context, Arrow, arrow_of}
 use Rattle.w_rules.specs.Matching.{known}
@@ -27,7 +27,7 @@ use Rattle.w_flow.proofs.Options.{and_intro, and_true}
 -- ## The second branch begins
 
 -- by the test of what is left
-turn_test : (es : List Entry) (c : Context) → IsClassesOf c.types es → (s : List Bool) (x : BlockType) (f d : Code) (p : Bool) (ts : Row Operand) (m : OpenBlock) (ms : List OpenBlock) (g : Frame) (gs : List Frame) (a : Arrow) → arrow_of c x ≡ Some a →
+turn_test : (es : List Entry) (c : Context) → AreClasses c.types es → (s : List Bool) (x : BlockType) (f d : Code) (p : Bool) (ts : Row Operand) (m : OpenBlock) (ms : List OpenBlock) (g : Frame) (gs : List Frame) (a : Arrow) → arrow_of c x ≡ Some a →
     StandsAll c s ε (framed s p ts (open_block (kind.Then x) f d) (m ∷ ms) ∷ g ∷ gs) (open_block (kind.Then x) f d ∷ m ∷ ms) →
     (b : Bool) → ends es p ts a.to ≡ b →
     Knows c s (if b then Some (record { kind = kind.Else x; any = false; operands = known a.from; is_set = g.is_set } ∷ g ∷ gs) else None)
@@ -47,7 +47,7 @@ turn_test es c types s x f d p ts m ms g gs a eq st true test = (
 )
 
 -- by the type of the block
-turn_arrow : (es : List Entry) (c : Context) → IsClassesOf c.types es → (s : List Bool) (x : BlockType) (f d : Code) (p : Bool) (ts : Row Operand) (m : OpenBlock) (ms : List OpenBlock) (g : Frame) (gs : List Frame) (o : Option Arrow) → arrow_of c x ≡ o →
+turn_arrow : (es : List Entry) (c : Context) → AreClasses c.types es → (s : List Bool) (x : BlockType) (f d : Code) (p : Bool) (ts : Row Operand) (m : OpenBlock) (ms : List OpenBlock) (g : Frame) (gs : List Frame) (o : Option Arrow) → arrow_of c x ≡ o →
     StandsAll c s ε (framed s p ts (open_block (kind.Then x) f d) (m ∷ ms) ∷ g ∷ gs) (open_block (kind.Then x) f d ∷ m ∷ ms) →
     Knows c s (o >>= λ a. (if ends es p ts a.to
     then Some (record { kind = kind.Else x; any = false; operands = known a.from; is_set = g.is_set } ∷ g ∷ gs) else None))
@@ -56,7 +56,7 @@ turn_arrow es c types s x f d p ts m ms g gs None eq st = λ good. held_none (ar
 turn_arrow es c types s x f d p ts m ms g gs (Some a) eq st = turn_test es c types s x f d p ts m ms g gs a eq st _ refl
 
 -- an else
-pub other_known : (es : List Entry) (c : Context) → IsClassesOf c.types es → (s : List Bool) (k : FrameKind) (f d : Code) (p : Bool) (ts : Row Operand) (ls : List OpenBlock) (fs : List Frame) →
+pub other_known : (es : List Entry) (c : Context) → AreClasses c.types es → (s : List Bool) (k : FrameKind) (f d : Code) (p : Bool) (ts : Row Operand) (ls : List OpenBlock) (fs : List Frame) →
     StandsAll c s ε (framed s p ts (open_block k f d) ls ∷ fs) (open_block k f d ∷ ls) →
     Knows c s (other_next es c k (framed s p ts (open_block k f d) ls) fs) (in_else k d ls)
 other_known es c types s (kind.Then x) f d p ts [] [] st = λ good. good
@@ -70,14 +70,14 @@ other_known es c types s (kind.Else x) f d p ts ls fs st = λ good. good
 -- ## A block ends
 
 -- what is covered at the end of the block is what the rules ask of it
-whole_in : (es : List Entry) (c : Context) → IsClassesOf c.types es → (s : List Bool) (k : FrameKind) (f d : Code) (ls : List OpenBlock) (a : Arrow) → arrow_at c k ≡ Some a → (p : Bool) (ts : Row Operand) →
+whole_in : (es : List Entry) (c : Context) → AreClasses c.types es → (s : List Bool) (k : FrameKind) (f d : Code) (ls : List OpenBlock) (a : Arrow) → arrow_at c k ≡ Some a → (p : Bool) (ts : Row Operand) →
     ((us : Row Operand) → Reaches c s (open_block k f d) ls us → Covers c.types p ts us) →
     Whole c (set_at s ls) k f d (kinds_of ls) a → IsTrue (ends es p ts a.to && end_test es k a)
 whole_in es c types s k f d ls a eq p ts g w =
     and_intro _ _ (ends_in c.types es types p ts a.to (g (known a.to) (at_held (arrow_at c k) a _ eq w.0))) (end_test_in es c types k a w.1)
 
 -- and the other way
-whole_out : (es : List Entry) (c : Context) → IsClassesOf c.types es → (s : List Bool) (k : FrameKind) (f d : Code) (ls : List OpenBlock) (a : Arrow) → arrow_at c k ≡ Some a → (p : Bool) (ts : Row Operand) →
+whole_out : (es : List Entry) (c : Context) → AreClasses c.types es → (s : List Bool) (k : FrameKind) (f d : Code) (ls : List OpenBlock) (a : Arrow) → arrow_at c k ≡ Some a → (p : Bool) (ts : Row Operand) →
     ((us : Row Operand) → Covers c.types p ts us → Reaches c s (open_block k f d) ls us) →
     IsTrue (ends es p ts a.to && end_test es k a) → Whole c (set_at s ls) k f d (kinds_of ls) a
 whole_out es c types s k f d ls a eq p ts g h =
@@ -85,7 +85,7 @@ whole_out es c types s k f d ls a eq p ts g h =
     (held_at (arrow_at c k) a _ eq (g (known a.to) (ends_out c.types es types p ts a.to t.0)), end_test_out es c types k a t.1)
 
 -- in another block, by the test of what is left
-inner_test : (es : List Entry) (c : Context) → IsClassesOf c.types es → (s : List Bool) (k : FrameKind) → Inner k → (f d : Code) (m : OpenBlock) (ms : List OpenBlock) (a : Arrow) → arrow_at c k ≡ Some a → (p : Bool) (ts : Row Operand) →
+inner_test : (es : List Entry) (c : Context) → AreClasses c.types es → (s : List Bool) (k : FrameKind) → Inner k → (f d : Code) (m : OpenBlock) (ms : List OpenBlock) (a : Arrow) → arrow_at c k ≡ Some a → (p : Bool) (ts : Row Operand) →
     (g : Frame) (gs : List Frame) →
     StandsAt c s ε (framed s p ts (open_block k f d) (m ∷ ms)) (open_block k f d) (m ∷ ms) →
     StandsAll c s (taken_by k a) (g ∷ gs) (m ∷ ms) →
@@ -93,7 +93,7 @@ inner_test : (es : List Entry) (c : Context) → IsClassesOf c.types es → (s :
     Knows c s (if b then Some (record g { operands = g.operands ⧺ known a.to } ∷ gs) else None) (open_at (more m (node k f d)) ms)
 inner_test es c types s k inner f d m ms a eq p ts g gs st around false test = λ good.
     let r = reaches_out c s m ms (node k f d) good.0.0 good.0.1 in
-    let n = node_out c (set_at s (m ∷ ms)) k inner f d (kinds_of (m ∷ ms)) a eq r.0 good.0.0 r.2 in
+    let n = node_out c types.keeps (set_at s (m ∷ ms)) k inner f d (kinds_of (m ∷ ms)) a eq r.0 good.0.0 r.2 in
     false≢true (sym test ∙ whole_in es c types s k f d (m ∷ ms) a eq p ts st.reaches n.0)
 inner_test es c types s k inner f d m ms a eq p ts g gs st around true test =
     let w = whole_out es c types s k f d (m ∷ ms) a eq p ts st.reached test in (
@@ -102,12 +102,12 @@ inner_test es c types s k inner f d m ms a eq p ts g gs st around true test =
         is_set = around.0.is_set ∙ sym (node_sets k inner f d (set_at s (m ∷ ms))) ∙ sym (set_by-after m.code (node k f d) (set_at s ms));
         reaches = λ us r. (
             let q = reaches_out c s m ms (node k f d) us r in
-            let n = node_out c (set_at s (m ∷ ms)) k inner f d (kinds_of (m ∷ ms)) a eq q.0 us q.2 in
-            push_in c.types g.any g.operands (known a.to) n.1.beneath us
-            (around.0.reaches n.1.beneath (reaches_right c s m ms q.0 (n.1.beneath ⧺ known (taken_by k a)) q.1 n.1.takes)) n.1.gives);
+            let n = node_out c types.keeps (set_at s (m ∷ ms)) k inner f d (kinds_of (m ∷ ms)) a eq q.0 us q.2 in
+            push_in c.types types.keeps g.any g.operands (known a.to) n.1.beneath us
+            (around.0.reaches n.1.beneath (reaches_right c types.keeps s m ms q.0 (n.1.beneath ⧺ known (taken_by k a)) q.1 n.1.takes)) n.1.gives);
         reached = λ us h. (
             let q = push_out c.types g.any g.operands (known a.to) us h in
-            reaches_in c s m ms (node k f d) (q.0 ⧺ known (taken_by k a)) us (around.0.reached q.0 q.1)
+            reaches_in c types.keeps s m ms (node k f d) (q.0 ⧺ known (taken_by k a)) us (around.0.reached q.0 q.1)
             (node_in c (set_at s (m ∷ ms)) k inner f d (kinds_of (m ∷ ms)) a eq w (q.0 ⧺ known (taken_by k a)) us
             (record { beneath = q.0; takes = row_refl c.types (q.0 ⧺ known (taken_by k a)); gives = q.2 })));
       },
@@ -115,7 +115,7 @@ inner_test es c types s k inner f d m ms a eq p ts g gs st around true test =
     )
 
 -- by the type of the block
-inner_arrow : (es : List Entry) (c : Context) → IsClassesOf c.types es → (s : List Bool) (k : FrameKind) → Inner k → (f d : Code) (m : OpenBlock) (ms : List OpenBlock) (o : Option Arrow) → arrow_at c k ≡ o → (p : Bool) (ts : Row Operand) →
+inner_arrow : (es : List Entry) (c : Context) → AreClasses c.types es → (s : List Bool) (k : FrameKind) → Inner k → (f d : Code) (m : OpenBlock) (ms : List OpenBlock) (o : Option Arrow) → arrow_at c k ≡ o → (p : Bool) (ts : Row Operand) →
     (g : Frame) (gs : List Frame) →
     StandsAll c s ε (framed s p ts (open_block k f d) (m ∷ ms) ∷ g ∷ gs) (open_block k f d ∷ m ∷ ms) →
     Knows c s (o >>= λ a. (if ends es p ts a.to && end_test es k a then Some (leave a.to (g ∷ gs)) else None))
@@ -130,7 +130,7 @@ no_way c s None = λ good. good
 no_way c s (Some a) = λ good. good
 
 -- the body ends
-body_case : (es : List Entry) (c : Context) → IsClassesOf c.types es → (s : List Bool) (f d : Code) (p : Bool) (ts : Row Operand) →
+body_case : (es : List Entry) (c : Context) → AreClasses c.types es → (s : List Bool) (f d : Code) (p : Bool) (ts : Row Operand) →
     StandsAll c s ε (framed s p ts (open_block kind.Body f d) [] ∷ []) (open_block kind.Body f d ∷ []) →
     (b : Bool) → (ends es p ts c.results && true) ≡ b → Knows c s (if b then Some [] else None) (ended d)
 body_case es c types s f d p ts st false test = λ good.
@@ -139,7 +139,7 @@ body_case es c types s f d p ts st true test =
     (tt, (st.0.reached (known c.results) (ends_out c.types es types p ts c.results (and_true _ _ test).0)).1)
 
 -- an end
-pub end_known : (es : List Entry) (c : Context) → IsClassesOf c.types es → (s : List Bool) (k : FrameKind) (f d : Code) (p : Bool) (ts : Row Operand) (ls : List OpenBlock) (fs : List Frame) →
+pub end_known : (es : List Entry) (c : Context) → AreClasses c.types es → (s : List Bool) (k : FrameKind) (f d : Code) (p : Bool) (ts : Row Operand) (ls : List OpenBlock) (fs : List Frame) →
     StandsAll c s ε (framed s p ts (open_block k f d) ls ∷ fs) (open_block k f d ∷ ls) →
     Knows c s (end_next es c (framed s p ts (open_block k f d) ls) fs) (closed k f d ls)
 end_known es c types s kind.Body f d p ts [] [] st = body_case es c types s f d p ts st _ refl

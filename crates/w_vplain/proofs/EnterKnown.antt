@@ -3,7 +3,7 @@ use Rattle.std.proofs.Common.{◌≡◌, Bool, false, List, ◌∷◌, Option, S
 use Rattle.lists.specs.Rows.{Row, ε, ◌⧺◌}
 use Rattle.w_syntax.specs.Code.{Done}
 use Rattle.w_canon.specs.declared.entry.Entry.{Entry}
-use Rattle.w_canon.specs.IsClassesOf.{IsClassesOf}
+use Rattle.w_rules.specs.View.{AreClasses}
 use Rattle.w_rules.specs.Operands.{Operand}
 use Rattle.w_rules.specs.Conditions.{Holds}
 use Rattle.w_rules.specs.Context.{Context, Arrow}
@@ -51,7 +51,7 @@ enter_taken c s k a eq un p ts l ls fs st (Some w) f g = (
 )
 
 -- by the type of the block
-enter_arrow : (es : List Entry) (c : Context) → IsClassesOf c.types es → (s : List Bool) (k : FrameKind) (o : Option Arrow) → arrow_at c k ≡ o → Unbranched k → (p : Bool) (ts : Row Operand) (l : OpenBlock) (ls : List OpenBlock) (fs : List Frame) →
+enter_arrow : (es : List Entry) (c : Context) → AreClasses c.types es → (s : List Bool) (k : FrameKind) (o : Option Arrow) → arrow_at c k ≡ o → Unbranched k → (p : Bool) (ts : Row Operand) (l : OpenBlock) (ls : List OpenBlock) (fs : List Frame) →
     StandsAll c s ε (framed s p ts l ls ∷ fs) (l ∷ ls) →
     Knows c s (o >>= λ a. pops es p ts (taken_by k a) >>= λ w.
     Some (record { kind = k; any = false; operands = known a.from; is_set = set_at s (l ∷ ls) } ∷ framed s p w l ls ∷ fs)) (open_at (opened k) (l ∷ ls))
@@ -60,6 +60,6 @@ enter_arrow es c types s k (Some a) eq un p ts l ls fs st =
     enter_taken c s k a eq un p ts l ls fs st _ (λ us. pops_in c.types es types p ts (taken_by k a) us) (λ us. pops_out c.types es types p ts (taken_by k a) us)
 
 -- a block of this kind begins
-pub enter_known : (es : List Entry) (c : Context) → IsClassesOf c.types es → (s : List Bool) (k : FrameKind) → Unbranched k → (p : Bool) (ts : Row Operand) (l : OpenBlock) (ls : List OpenBlock) (fs : List Frame) →
+pub enter_known : (es : List Entry) (c : Context) → AreClasses c.types es → (s : List Bool) (k : FrameKind) → Unbranched k → (p : Bool) (ts : Row Operand) (l : OpenBlock) (ls : List OpenBlock) (fs : List Frame) →
     StandsAll c s ε (framed s p ts l ls ∷ fs) (l ∷ ls) → Knows c s (enter_next es c k (framed s p ts l ls) fs) (open_at (opened k) (l ∷ ls))
 enter_known es c types s k un p ts l ls fs st = enter_arrow es c types s k (arrow_at c k) refl un p ts l ls fs st

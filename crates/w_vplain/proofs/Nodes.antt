@@ -5,6 +5,7 @@ use Rattle.lists.specs.Rows.{Row}
 use Rattle.w_syntax.specs.Code.{Code}
 use Rattle.w_syntax.specs.declared.instructions.BlockKind.{BlockKind}
 use Rattle.w_syntax.specs.declared.instructions.BlockType.{BlockType}
+use Rattle.w_canon.specs.Supertypes.{KeepsKinds}
 use Rattle.w_rules.specs.Operands.{Operand}
 use Rattle.w_rules.specs.Context.{Context, Arrow, arrow_of, label_of, labelled}
 use Rattle.w_rules.specs.Matching.{known}
@@ -54,19 +55,19 @@ node_in c s k (is_else x) f d ks a eq w vs us st =
     )
 
 -- and only such a block is derived
-pub node_out : (c : Context) (s : List Bool) (k : FrameKind) → Inner k → (f d : Code) (ks : List FrameKind) (a : Arrow) → arrow_at c k ≡ Some a → (vs us : Row Operand) →
+pub node_out : (c : Context) → KeepsKinds c.types → (s : List Bool) (k : FrameKind) → Inner k → (f d : Code) (ks : List FrameKind) (a : Arrow) → arrow_at c k ≡ Some a → (vs us : Row Operand) →
     Derives (within c ks) s (node k f d) vs us → Whole c s k f d ks a × HasType c.types (known (taken_by k a)) (known a.to) vs us
-node_out c s k (is_block b x) f d ks a eq vs us n =
+node_out c keeps s k (is_block b x) f d ks a eq vs us n =
     let h = held_at (arrow_of c x) a _ eq n in (
       ((tt, subst (λ (v : Row ValType). Derives (labelled_by c ks v) s d (known a.from) (known a.to)) (sym (label_is (label_of b) (arrow_of c x) a eq)) h.0), tt),
-      steps_right c.types (known a.from) (known a.to) vs h.1.0 us h.1.1 h.1.2,
+      steps_right c.types keeps (known a.from) (known a.to) vs h.1.0 us h.1.1 h.1.2,
     )
-node_out c s k (is_then x) f d ks a eq vs us n =
+node_out c keeps s k (is_then x) f d ks a eq vs us n =
     let h = held_at (arrow_of c x) a _ eq n in (
       ((tt, subst (λ (v : Row ValType). Derives (labelled_by c ks v) s d (known a.from) (known a.to)) (sym (label_is to_of (arrow_of c x) a eq)) h.1), h.0),
-      steps_right c.types (known (taken_by (kind.Then x) a)) (known a.to) vs h.2.0 us h.2.1 h.2.2,
+      steps_right c.types keeps (known (taken_by (kind.Then x) a)) (known a.to) vs h.2.0 us h.2.1 h.2.2,
     )
-node_out c s k (is_else x) f d ks a eq vs us n =
+node_out c keeps s k (is_else x) f d ks a eq vs us n =
     let h = held_at (arrow_of c x) a _ eq n in (
       (
         (
@@ -75,7 +76,7 @@ node_out c s k (is_else x) f d ks a eq vs us n =
         ),
         tt,
       ),
-      steps_right c.types (known (taken_by (kind.Else x) a)) (known a.to) vs h.2.0 us h.2.1 h.2.2,
+      steps_right c.types keeps (known (taken_by (kind.Else x) a)) (known a.to) vs h.2.0 us h.2.1 h.2.2,
     )
 
 -- without a type it is not

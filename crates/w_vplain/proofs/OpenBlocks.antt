@@ -3,6 +3,7 @@ use Rattle.std.proofs.Common.{◌≡◌, Bool, List, [], ◌∷◌, length, suc,
 use Rattle.w_types.specs.declared.types.ValType.{ValType}
 use Rattle.lists.specs.Rows.{Row, ε}
 use Rattle.w_syntax.specs.Code.{Code}
+use Rattle.w_canon.specs.Supertypes.{KeepsKinds}
 use Rattle.w_rules.specs.Operands.{Operand}
 use Rattle.w_rules.specs.Context.{Context}
 use Rattle.w_rules.specs.Matching.{RowMatches, known}
@@ -20,10 +21,10 @@ abbrev pub open_block : FrameKind → Code → Code → OpenBlock
 open_block k f d = record { kind = k; first = f; code = d }
 
 -- a sequence behind what is there leads on
-pub reaches_in : (c : Context) (s : List Bool) (l : OpenBlock) (ls : List OpenBlock) (k : Code) (vs us : Row Operand) → Reaches c s l ls vs →
+pub reaches_in : (c : Context) → KeepsKinds c.types → (s : List Bool) (l : OpenBlock) (ls : List OpenBlock) (k : Code) (vs us : Row Operand) → Reaches c s l ls vs →
     Derives (within c (kinds_of (l ∷ ls))) (set_at s (l ∷ ls)) k vs us → Reaches c s (more l k) ls us
-reaches_in c s l ls k vs us r d =
-    holds_map (arrow_at c l.kind) _ _ r (λ a h. (h.0, after_in (within c (kinds_of (l ∷ ls))) (set_at s ls) l.code k (known a.from) vs us h.1 d))
+reaches_in c keeps s l ls k vs us r d =
+    holds_map (arrow_at c l.kind) _ _ r (λ a h. (h.0, after_in (within c (kinds_of (l ∷ ls))) keeps (set_at s ls) l.code k (known a.from) vs us h.1 d))
 
 -- and what is led to with it is led to through what is there
 pub reaches_out : (c : Context) (s : List Bool) (l : OpenBlock) (ls : List OpenBlock) (k : Code) (us : Row Operand) → Reaches c s (more l k) ls us →
@@ -34,10 +35,10 @@ reaches_out c s l ls k us r =
     (j.0, (h.0, j.1), j.2))
 
 -- with operands also operands that these match
-pub reaches_right : (c : Context) (s : List Bool) (l : OpenBlock) (ls : List OpenBlock) (us vs : Row Operand) → Reaches c s l ls us → RowMatches c.types us vs →
+pub reaches_right : (c : Context) → KeepsKinds c.types → (s : List Bool) (l : OpenBlock) (ls : List OpenBlock) (us vs : Row Operand) → Reaches c s l ls us → RowMatches c.types us vs →
     Reaches c s l ls vs
-reaches_right c s l ls us vs r m =
-    holds_map (arrow_at c l.kind) _ _ r (λ a h. (h.0, derives_right (within c (kinds_of (l ∷ ls))) (set_at s ls) l.code (known a.from) us vs h.1 m))
+reaches_right c keeps s l ls us vs r m =
+    holds_map (arrow_at c l.kind) _ _ r (λ a h. (h.0, derives_right (within c (kinds_of (l ∷ ls))) keeps (set_at s ls) l.code (known a.from) us vs h.1 m))
 
 -- ## Frames
 

@@ -6,7 +6,8 @@ use Rattle.w_syntax.specs.Code.{Done, Plain}
 use Rattle.w_syntax.specs.declared.instructions.Instr.TheVariants as flat
 use Rattle.w_syntax.specs.declared.instructions.Op.{Op}
 use Rattle.w_canon.specs.declared.entry.Entry.{Entry}
-use Rattle.w_canon.specs.IsClassesOf.{IsClassesOf}
+use Rattle.w_canon.specs.Supertypes.{KeepsKinds}
+use Rattle.w_rules.specs.View.{AreClasses}
 use Rattle.w_rules.specs.Context.{Context}
 use Rattle.w_rules.specs.InstructionTypes.{InstrType, fixed, sets}
 use Rattle.w_rules.specs.Peak.{or_none, extra}
@@ -36,7 +37,7 @@ row_is_typed es c s o ins outs raise f fs l ls st r =
 -- ## Typing
 
 -- where the frames stand for the sequence before it
-row_stands : (es : List Entry) (c : Context) → IsClassesOf c.types es → (s : List Bool) (o : Op) (ins outs : Row ValType) (raise : Option ℕ) (fs : List Frame) (w : Prefix) →
+row_stands : (es : List Entry) (c : Context) → AreClasses c.types es → (s : List Bool) (o : Op) (ins outs : Row ValType) (raise : Option ℕ) (fs : List Frame) (w : Prefix) →
     FramesStand c s fs w → IsRow c s w o ins outs raise → Knows c s (row_next es ins outs fs) (follow (flat.Plain o) w)
 row_stands es c types s o ins outs raise [] (open_at l ls) st r = absurd st
 row_stands es c types s o ins outs raise [] (ended k) st r = λ good. good
@@ -48,24 +49,24 @@ row_stands es c types s o ins outs raise (f ∷ fs) (open_at l ls) st r =
     (typed_known es c types s o (fixed ins outs) f fs l ls st true (λ t. r.condition, λ h. refl) r.row)
 
 -- what is known of the sequence followed by the instruction; the row need be its row only where the sequence is derived
-pub row_knows : (es : List Entry) (c : Context) → IsClassesOf c.types es → (s : List Bool) (o : Op) (ins outs : Row ValType) (raise : Option ℕ) (x : Option (List Frame)) (w : Prefix) →
+pub row_knows : (es : List Entry) (c : Context) → AreClasses c.types es → (s : List Bool) (o : Op) (ins outs : Row ValType) (raise : Option ℕ) (x : Option (List Frame)) (w : Prefix) →
     Knows c s x w → (IsDerivable c s w → IsRow c s w o ins outs raise) → Knows c s (x >>= row_next es ins outs) (follow (flat.Plain o) w)
-row_knows es c types s o ins outs raise None w k r = λ good. k (derivable_before c s (flat.Plain o) w good)
+row_knows es c types s o ins outs raise None w k r = λ good. k (derivable_before c types.keeps s (flat.Plain o) w good)
 row_knows es c types s o ins outs raise (Some fs) w k r = row_stands es c types s o ins outs raise fs w k (r (stands_derivable c s fs w k))
 
 -- whether there are frames is whether the rules derive it
-pub row_exact : (es : List Entry) (c : Context) → IsClassesOf c.types es → (s : List Bool) (o : Op) (ins outs : Row ValType) (raise : Option ℕ) (x : Option (List Frame)) (w : Prefix) →
+pub row_exact : (es : List Entry) (c : Context) → AreClasses c.types es → (s : List Bool) (o : Op) (ins outs : Row ValType) (raise : Option ℕ) (x : Option (List Frame)) (w : Prefix) →
     Knows c s x w → (IsDerivable c s w → IsRow c s w o ins outs raise) → (answer : Bool) → answer ≡ is_some (x >>= row_next es ins outs) → IsTrue answer ↔ IsDerivable c s (follow (flat.Plain o) w)
 row_exact es c types s o ins outs raise x w k r answer e =
     knows_derivable c s (x >>= row_next es ins outs) (follow (flat.Plain o) w) (row_knows es c types s o ins outs raise x w k r) answer e
 
 -- what is refused is not derived
-pub not_derivable : (c : Context) (s : List Bool) (o : Op) (w : Prefix) → IsRefused c s w o → IsDerivable c s (follow (flat.Plain o) w) → ⊥
-not_derivable c s o (ended k) r g = g
-not_derivable c s o malformed r g = g
-not_derivable c s o (open_at l ls) (inl no_condition) g = no_condition (typed_reached c s l ls o g.0.0 g.0.1).2
-not_derivable c s o (open_at l ls) (inr is_none) g =
-    let q = typed_reached c s l ls o g.0.0 g.0.1 in
+pub not_derivable : (c : Context) → KeepsKinds c.types → (s : List Bool) (o : Op) (w : Prefix) → IsRefused c s w o → IsDerivable c s (follow (flat.Plain o) w) → ⊥
+not_derivable c keeps s o (ended k) r g = g
+not_derivable c keeps s o malformed r g = g
+not_derivable c keeps s o (open_at l ls) (inl no_condition) g = no_condition (typed_reached c keeps s l ls o g.0.0 g.0.1).2
+not_derivable c keeps s o (open_at l ls) (inr is_none) g =
+    let q = typed_reached c keeps s l ls o g.0.0 g.0.1 in
     let P : InstrType → Type 0 = λ n. HasInstrType c.types n q.0 g.0.0 in
     subst P is_none q.3
 

@@ -5,7 +5,7 @@ use Rattle.lists.specs.Rows.{Row}
 use Rattle.w_syntax.specs.declared.instructions.Instr.TheVariants as flat
 use Rattle.w_syntax.specs.declared.instructions.Op.{Op}
 use Rattle.w_canon.specs.declared.entry.Entry.{Entry}
-use Rattle.w_canon.specs.IsClassesOf.{IsClassesOf}
+use Rattle.w_rules.specs.View.{AreClasses}
 use Rattle.w_flow.specs.Flow.{◌>>=◌}
 use Rattle.w_flow.specs.View.{flow_view}
 use Rattle.w_rules.specs.Context.{Context}
@@ -31,7 +31,7 @@ classes_for c = c.setting.cx.now.classes.now
 
 -- the classes are those of the module's types
 abbrev pub KnowsClasses : Checker → Type 0
-KnowsClasses c = IsClassesOf (context_for c).types (classes_for c)
+KnowsClasses c = AreClasses (context_for c).types (classes_for c)
 
 -- the innermost block, and those around it
 abbrev pub top_of : Checker → Frame

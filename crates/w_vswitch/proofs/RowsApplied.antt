@@ -42,7 +42,7 @@ refused_there c s malformed o r = tt
 -- what is refused where the sequence is derived is not derived
 underivable : (c : Checker) (o : SwitchingOp) → AtEnds c (RefusedAt o) → (s : List Bool) (w : Prefix) → StandsFor c s w → IsDerivable (context_for c) s (follow (instr_of o) w) → ⊥
 underivable c o r s w k g =
-    not_derivable (context_for c) s (op.Switching o) w (refused_there (context_for c) s w o (r s w k (derivable_before (context_for c) s (instr_of o) w g))) g
+    not_derivable (context_for c) k.classes.keeps s (op.Switching o) w (refused_there (context_for c) s w o (r s w k (derivable_before (context_for c) k.classes.keeps s (instr_of o) w g))) g
 
 -- ## The answers
 

@@ -1,6 +1,6 @@
 """Types: of values, of functions and continuations, recursive groups, and limits."""
 
-from assembler.encoding import signed, unsigned, vector
+from assembler.encoding import indices, signed, unsigned, vector
 
 I32 = b'\x7f'
 I64 = b'\x7e'
@@ -43,6 +43,16 @@ def functype(parameters, results):
 def conttype(function):
     """The type of continuations of the function type with this index."""
     return b'\x5d' + unsigned(function)
+
+
+def open_type(composite, *supertypes):
+    """A function or continuation type that others may have as their supertype, with supertypes of its own."""
+    return b'\x50' + indices(supertypes) + composite
+
+
+def final_type(composite, *supertypes):
+    """A function or continuation type that no other may have as its supertype, with supertypes of its own."""
+    return b'\x4f' + indices(supertypes) + composite
 
 
 def rec_group(members):

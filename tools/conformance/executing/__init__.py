@@ -72,8 +72,7 @@ def _told(module, main, outcome):
     """What is written of an outcome: what was printed, and then each value, signed, or the line."""
     if outcome.values is None:
         return outcome.printed, f'{outcome.line}\n'.encode(), outcome.status
-    types = [comp_type for group in module.groups for comp_type in group]
-    results = types[module.functions[main - len(module.imports)]].results
+    results = module.types[module.functions[main - len(module.imports)]].results
     lines = ''.join(
         f'= {signed(WIDTHS[value_type], value)}\n' for value_type, value in zip(results, outcome.values, strict=True))
     return outcome.printed + lines.encode(), b'', outcome.status

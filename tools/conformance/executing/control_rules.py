@@ -77,7 +77,7 @@ def call_indirect(machine, function_type, table):
     if elements[number] is NULL:
         raise Trap('null element')
     callee = machine.store.functions[elements[number]]
-    if machine.type_keys[callee.type] != machine.type_keys[function_type]:
+    if not machine.order.matches(callee.type, function_type):
         raise Trap('call type mismatch')
     machine.enter_function(elements[number])
 

@@ -36,7 +36,7 @@ def instantiated(module):
 
     What is in the way is raised, in this order: imports, the entry, limits, and the ranges of active segments.
     """
-    types = [comp_type for group in module.groups for comp_type in group]
+    types = module.types
     printers = [_printer(types, number, each) for number, each in enumerate(module.imports)]
     main = _entry(module, types)
     _check_limits(module)

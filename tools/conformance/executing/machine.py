@@ -47,9 +47,9 @@ class Machine:
     Operands, layers, frames, locals, code and place are those of the innermost segment.
     """
 
-    def __init__(self, types, type_keys, store, invokes):
+    def __init__(self, types, order, store, invokes):
         self.types = types
-        self.type_keys = type_keys
+        self.order = order
         self.store = store
         self.handles = []
         self.frames_around = 0      # frames of the segments around

@@ -12,7 +12,7 @@ from executing import control_rules, plain_rules, switching_rules
 from executing.ends import Exceeded, Trap
 from executing.machine import Machine
 from reader.instructions import Instruction
-from reader.matching import type_keys
+from reader.matching import TypeOrder
 
 RULES = control_rules.RULES | plain_rules.RULES | switching_rules.RULES
 
@@ -34,8 +34,7 @@ def begun(module, store, main):
     """The machine of a run with no reduction taken: first comes the start function, where there is one, and then main."""
     started = [main] if module.start is None else [module.start, main]
     invokes = [Instruction('invoke', (address,)) for address in started]
-    types = [comp_type for group in module.groups for comp_type in group]
-    return Machine(types, type_keys(module.groups), store, invokes)
+    return Machine(module.types, TypeOrder(module.groups), store, invokes)
 
 
 def run(module, store, main, steps):

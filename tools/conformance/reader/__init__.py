@@ -9,6 +9,7 @@ from typing import NamedTuple
 from reader.byte_source import Malformed
 from reader.context import Context, Invalid
 from reader.items import items
+from reader.matching import TypeOrder
 from reader.module_decoding import Module, decode
 from reader.types import FuncType
 
@@ -86,7 +87,8 @@ def _context(module):
         return [first for first, *_ in imported(kind)]
 
     return Context(
-        types=[comp_type for group in module.groups for comp_type in group],
+        types=module.types,
+        order=TypeOrder(module.groups),
         functions=firsts('func') + module.functions,
         tables=firsts('table') + [table.type for table in module.tables],
         memories=firsts('memory') + module.memories,

@@ -2,6 +2,7 @@
 
 from dataclasses import dataclass
 
+from reader.matching import TypeOrder
 from reader.types import ContType, FuncType, Ref
 
 
@@ -35,7 +36,8 @@ class Context:
     limits, globals for their types and whether they may be set, and element segments for their types.
     """
 
-    types: list
+    types: list                 # of functions and of continuations
+    order: TypeOrder
     functions: list
     tables: list
     memories: list
@@ -44,7 +46,6 @@ class Context:
     elements: list
     data_segments: int
     declared: set               # the functions that bodies may refer to
-    type_keys: list | None = None       # equal for equivalent types; known once the types are valid
 
     def kind(self, heap):
         """Whether a heap type is the index of a type of functions or of continuations, or neither."""

@@ -5,8 +5,8 @@ from functools import partial
 
 from reader.blocks import Block, Place
 from reader.context import Invalid, entry, require
-from reader.matching import matches, type_keys
-from reader.types import I32, FuncType, Ref, spelled
+from reader.matching import composite_matches, matches
+from reader.types import I32, FuncType, Ref, spelled, spelled_composite
 
 EXPORT_KINDS = ['function', 'table', 'memory', 'global', 'tag']
 GREATEST_TABLE = 2 ** 32 - 1
@@ -22,7 +22,6 @@ def items(module, context):
     An item is to be judged, and to be valid, before the next is asked for.
     """
     yield from _type_items(module, context)
-    context.type_keys = type_keys(module.groups)
     for number, each in enumerate(module.imports):
         yield f'import {number}', partial(_check_import, context, *each.type)
     for number, table in enumerate(module.tables):
@@ -49,24 +48,39 @@ def _type_items(module, context):
     number = end = 0
     for group in module.groups:
         end += len(group)
-        for comp_type in group:
-            yield f'type {number}', partial(_check_type, context, comp_type, end)
+        for sub_type in group:
+            yield f'type {number}', partial(_check_type, context, number, sub_type, end)
             number += 1
 
 
-def _check_type(context, comp_type, end):
-    """A type may name those before the end of its group."""
-    if isinstance(comp_type, FuncType):
-        for value_type in comp_type.parameters + comp_type.results:
-            if isinstance(value_type, Ref) and value_type.index is not None:
-                require(value_type.index < end, _below(end))
-    else:
-        require(comp_type.function < end, _below(end))
-        context.function_type(comp_type.function)
+def _check_type(context, number, sub_type, end):
+    """A type may name those before the end of its group, and have one supertype, which stands in front of it."""
+    wanted = f'indices of types before the end of the group, so below {end}'
+    require(all(index < end for index in _named_types(sub_type)), wanted)
+    if not isinstance(sub_type.composite, FuncType):
+        context.function_type(sub_type.composite.function)
+    count = len(sub_type.supertypes)
+    require(count <= 1, f'one supertype at most; there are {count}')
+    for supertype in sub_type.supertypes:
+        _check_supertype(context, number, supertype)
 
 
-def _below(end):
-    return f'indices of types before the end of the group, so below {end}'
+def _named_types(sub_type):
+    """The indices in a type."""
+    composite = sub_type.composite
+    if not isinstance(composite, FuncType):
+        return [*sub_type.supertypes, composite.function]
+    references = [each for each in composite.parameters + composite.results if isinstance(each, Ref)]
+    return [*sub_type.supertypes, *(each.index for each in references if each.index is not None)]
+
+
+def _check_supertype(context, number, supertype):
+    require(supertype < number, f'a supertype in front of the type, so below {number}; here it is {supertype}')
+    above = context.order.sub_types[supertype]
+    require(not above.final, f'a supertype that is open; type {supertype} is final')
+    if not composite_matches(context, context.types[number], above.composite):
+        below, above = spelled_composite(context.types[number]), spelled_composite(above.composite)
+        raise Invalid(f'{below} to match {above}, its supertype {supertype}')
 
 
 def _check_limits(greatest, limits):

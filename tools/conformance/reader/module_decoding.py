@@ -102,6 +102,16 @@ class Module:
     codes: list = field(default_factory=list)
     datas: list = field(default_factory=list)
 
+    @property
+    def sub_types(self):
+        """The types through all groups."""
+        return [sub_type for group in self.groups for sub_type in group]
+
+    @property
+    def types(self):
+        """The function and continuation types that they are."""
+        return [sub_type.composite for sub_type in self.sub_types]
+
 
 def _import(source):
     return Import(source.name(), source.name(), extern_type(source))

@@ -1,12 +1,16 @@
 """Reads types from bytes."""
 
 from reader.byte_source import Malformed
-from reader.types import I32, I64, ContType, FuncType, Limits, Ref
+from reader.types import I32, I64, ContType, FuncType, Limits, Ref, SubType
 
 HEAP_TYPES = {0x70: 'func', 0x73: 'nofunc', 0x68: 'cont', 0x75: 'nocont'}
 NUMBER_TYPES = {0x7f: I32, 0x7e: I64}
 NULLABLE = 0x63
 NOT_NULL = 0x64
+GROUP = 0x4e
+OPEN = 0x50
+FINAL = 0x4f
+COMPOSITE = '60 for a function or 5D for a continuation'
 
 
 def index(source):
@@ -47,21 +51,31 @@ def ref_type(source):
     return read
 
 
-def _comp_type(source):
+def _comp_type(source, wanted):
     byte = source.byte()
     if byte == 0x60:
         return FuncType(source.vector(value_type), source.vector(value_type))
     if byte == 0x5d:
         return ContType(index(source))
-    raise source.wrong('a type: 60 for a function, 5D for a continuation, or 4E for a group')
+    raise source.wrong(wanted)
+
+
+def _sub_type(source, others=''):
+    """A type behind its supertypes: open behind 50, final behind 4F. Where neither stands it is final, without any."""
+    byte = source.peek()
+    if byte not in (OPEN, FINAL):
+        return SubType(True, [], _comp_type(source, f'a type: {COMPOSITE}, 50 or 4F in front of supertypes{others}'))
+    source.byte()
+    supertypes = source.vector(index)
+    return SubType(byte == FINAL, supertypes, _comp_type(source, f'a type, behind its supertypes: {COMPOSITE}'))
 
 
 def rec_group(source):
     """A recursive group, or one type that stands for a group of its own, as a list of types."""
-    if source.peek() == 0x4e:
+    if source.peek() == GROUP:
         source.byte()
-        return source.vector(_comp_type)
-    return [_comp_type(source)]
+        return source.vector(_sub_type)
+    return [_sub_type(source, ', or 4E for a group')]
 
 
 def limits(source):

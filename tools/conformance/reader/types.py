@@ -40,6 +40,13 @@ def spelled_row(value_types):
     return f'[{" ".join(map(spelled, value_types))}]'
 
 
+def spelled_composite(composite):
+    """A function or continuation type, as the text of this tool spells it."""
+    if isinstance(composite, FuncType):
+        return f'{spelled_row(composite.parameters)} -> {spelled_row(composite.results)}'
+    return f'(cont {composite.function})'
+
+
 FUNCREF = Ref(True, 'func')
 
 
@@ -58,6 +65,16 @@ class ContType:
 
     kind = 'cont'
     function: int
+
+
+@dataclass(frozen=True)
+class SubType:
+    """A type of a group: a function or continuation type, the indices of its supertypes, and whether it is final, so
+    that no type may have it as its supertype."""
+
+    final: bool
+    supertypes: list
+    composite: FuncType | ContType
 
 
 @dataclass(frozen=True)

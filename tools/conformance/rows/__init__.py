@@ -9,12 +9,13 @@ from typing import NamedTuple
 from rows import (
     numeric, memory, tables, variables, references, control, branches, calls, making, suspending, handling, switching,
     whole_modules, without_a_memory, types_and_imports, tables_and_memories, constant_expressions, segments,
-    starts_exports_and_functions, orders, decoding, framing, fields, spellings, instructions,
-    equivalence, matching, limits, arithmetic, sizes, long_runs, running_numbers, running_memory, running_tables,
-    running_control, running_instances, running_suspends, running_clauses, running_switches, running_continuations,
-    running_passing, running_switching_traps, running_coroutines, running_switching_limits, scripts, script_rules,
-    script_sizes, script_names, script_modules, script_runs, script_operators, script_effects, script_random,
-    script_edges, script_slots, script_slot_sizes, script_slot_runs, examples)
+    starts_exports_and_functions, orders, decoding, framing, fields, spellings, instructions, equivalence, matching,
+    subtyping_spellings, subtyping, subtyping_of_operands, subtyping_by_chance, limits, arithmetic, sizes, long_runs,
+    running_numbers, running_memory, running_tables, running_control, running_instances, running_suspends,
+    running_clauses, running_switches, running_continuations, running_passing, running_subtyping,
+    running_switching_traps, running_coroutines, running_switching_limits, scripts, script_rules, script_sizes,
+    script_names, script_modules, script_runs, script_operators, script_effects, script_random, script_edges,
+    script_slots, script_slot_sizes, script_slot_runs, examples)
 from surroundings import pieces
 
 
@@ -57,6 +58,12 @@ _FILES = [
     lambda: RowFile(
         'equivalence', 'Types that are equivalent, and types that are not.', equivalence.PIECES, [equivalence.SECTION]),
     _modules('matching', 'Types that match and types that are equal.', matching.SECTION),
+    lambda: RowFile(
+        'subtyping', 'Types with supertypes: how they are spelled, which are valid, and what matches by them.',
+        subtyping.PIECES, [
+            subtyping_spellings.DECODING, subtyping_spellings.WRITING, subtyping.TYPES, subtyping.MATCHING,
+            subtyping.LARGE, subtyping.LARGE_RUNS, subtyping_of_operands.OPERANDS, subtyping_of_operands.CONSTANTS,
+            subtyping_of_operands.SWITCHING, subtyping_by_chance.SECTION]),
     _modules('limits', 'Limits on modules.', limits.SECTION),
     _modules('arithmetic', 'Runs of one operation.', arithmetic.SECTION),
     _modules('decoding', 'Bytes that spell a module, and bytes that spell none.', decoding.SECTION),
@@ -100,6 +107,9 @@ _FILES = [
     _modules(
         'running_passing', 'Runs in which continuations are kept and passed on.', running_passing.KEEPING,
         running_passing.PASSING),
+    _modules(
+        'running_subtyping', 'Runs with types below one another.', running_subtyping.CALLS, running_subtyping.PRINTERS,
+        running_subtyping.KEEPING, running_subtyping.SWITCHING),
     _modules(
         'running_switching_traps', 'Runs in which stack switching traps.', running_switching_traps.NULLS,
         running_switching_traps.CONSUMED, running_switching_traps.UNHANDLED),

@@ -2,7 +2,7 @@
 
 The types stand in groups, and behind them, each alone, the types of these functions. What is wanted comes from a plain
 definition: the types of one position of groups that are equal, where an index into the group is its position, and
-another one stands for all that are equivalent to it.
+another one stands for all that are equivalent to it. `subtyping_by_chance` takes this definition too.
 """
 
 from typing import NamedTuple
@@ -11,7 +11,7 @@ from assembler.encoding import indices, vector
 from assembler.instructions import local_get
 from assembler.modules import code, module, section
 from assembler.types import (
-    CONT, FUNC, I32, I64, NOCONT, NOFUNC, conttype, functype, nullable, rec_group, ref)
+    CONT, FUNC, I32, I64, NOCONT, NOFUNC, conttype, final_type, functype, nullable, open_type, rec_group, ref)
 from rows.sections import VALID, CallRow, ModuleSection, answered
 from rows.words import Pieces, shortest
 
@@ -40,6 +40,19 @@ class Cont(NamedTuple):
     function: int
 
 
+class Declared(NamedTuple):
+    """A function or continuation type with supertypes, and whether it is final. One alone is final and has none."""
+
+    composite: Func | Cont
+    final: bool = True
+    supertypes: tuple = ()
+
+
+def declared(member):
+    """A type of a group, which may be a function or continuation type alone, with what is declared of it."""
+    return member if isinstance(member, Declared) else Declared(member)
+
+
 def _value_bytes(value):
     if isinstance(value, Reference):
         return (nullable if value.null else ref)(value.heap)
@@ -47,6 +60,9 @@ def _value_bytes(value):
 
 
 def _type_bytes(comptype):
+    if isinstance(comptype, Declared):
+        spelled_type = final_type if comptype.final else open_type
+        return spelled_type(_type_bytes(comptype.composite), *comptype.supertypes)
     if isinstance(comptype, Cont):
         return conttype(comptype.function)
     parameters, results = ([_value_bytes(each) for each in values] for values in comptype)
@@ -92,15 +108,20 @@ def _equivalent(places, left, right):
     def same_values(a, b):
         return len(a) == len(b) and all(map(same_value, a, b))
 
-    def same_type(a, b):
+    def same_composite(a, b):
         if isinstance(a, Func) and isinstance(b, Func):
             return same_values(a.parameters, b.parameters) and same_values(a.results, b.results)
         return isinstance(a, Cont) and isinstance(b, Cont) and same_index(a.function, b.function)
 
+    def same_type(a, b):
+        a, b = declared(a), declared(b)
+        above = len(a.supertypes) == len(b.supertypes) and all(map(same_index, a.supertypes, b.supertypes))
+        return a.final == b.final and above and same_composite(a.composite, b.composite)
+
     return all(map(same_type, one, other))
 
 
-def _module(groups, pairs):
+def given_for(groups, pairs):
     """A module of these groups, with a function for each pair, which gives what it takes."""
     count = sum(map(len, groups))
     types = [_group_bytes(group) for group in groups]
@@ -116,9 +137,10 @@ def row(name, groups, alike, unlike=()):
             if equivalent(groups, left, right) != expected:
                 raise ValueError(f'{name}: {left} {right}')
     if alike:
-        SECTION.row(f'{name}/equivalent', VALID, _module(groups, [*alike, *((right, left) for left, right in alike)]))
+        both_ways = [*alike, *((right, left) for left, right in alike)]
+        SECTION.row(f'{name}/equivalent', VALID, given_for(groups, both_ways))
     for left, right in unlike:
-        SECTION.row(f'{name}/{left}-and-{right}', 'invalid function 0', _module(groups, [(left, right)]))
+        SECTION.row(f'{name}/{left}-and-{right}', 'invalid function 0', given_for(groups, [(left, right)]))
 
 
 PLAIN = Func()
@@ -245,12 +267,12 @@ class Chance:
             if groups and self.numbers.is_within(40):
                 added = self._again(groups)
             else:
-                added = self._group(kinds)
+                added = self._group(groups, kinds)
             groups.append(added)
-            kinds += [isinstance(each, Func) for each in added]
+            kinds += [isinstance(declared(each).composite, Func) for each in added]
         return groups
 
-    def _group(self, kinds):
+    def _group(self, _groups, kinds):
         """A new group: functions and continuations of functions in front, of it too."""
         new = [True] + [self.numbers.is_within(60) for _ in range(self.numbers.below(3))]
         known = kinds + new
@@ -286,10 +308,15 @@ class Chance:
                 return value._replace(heap=moved(value.heap))
             return value
 
-        return [
-            Cont(moved(each.function)) if isinstance(each, Cont)
-            else Func(tuple(map(moved_value, each.parameters)), tuple(map(moved_value, each.results)))
-            for each in groups[place]]
+        def moved_type(member):
+            if isinstance(member, Declared):
+                supertypes = tuple(map(moved, member.supertypes))
+                return member._replace(composite=moved_type(member.composite), supertypes=supertypes)
+            if isinstance(member, Cont):
+                return Cont(moved(member.function))
+            return Func(tuple(map(moved_value, member.parameters)), tuple(map(moved_value, member.results)))
+
+        return list(map(moved_type, groups[place]))
 
 
 CHOSEN = Numbers(SEED)

@@ -23,6 +23,12 @@ row('continuation-of-a-group-of-other-size', 'invalid function 0',
 row('continuation-of-the-function-type', VALID,
     spelled('01 0E 03 60 00 00 4E 02 60 00 00 60 00 00 5D 00 03 02 01 00 09 05 01 03 00 01 00 0A 09 01 07 00 '
             'D2 00 E0 03 1A 0B'))
+DECLARED = '03 02 01 01 09 05 01 03 00 01 00 0A 09 01 07 00 D2 00 E0 02 1A 0B'
+row('continuation-of-a-function-of-a-type-below', VALID,
+    spelled('01 0E 03 50 00 60 00 00 4F 01 00 60 00 00 5D 00' + DECLARED))
+row('a-type-below-a-final-one', 'invalid type 1', spelled('01 0C 03 60 00 00 4F 01 00 60 00 00 5D 00' + DECLARED))
+row('continuation-of-a-function-of-a-type-beside', 'invalid function 0',
+    spelled('01 0D 03 50 00 60 00 00 4F 00 60 00 00 5D 00' + DECLARED))
 row('switch-clause-with-matching-results', 'invalid function 0',
     spelled('01 0E 04 60 00 01 70 60 00 01 73 5D 01 60 00 00 03 02 01 03 0D 03 01 00 00 0A 0C 01 0A 00 D0 02 '
             'E3 02 01 01 00 1A 0B'))

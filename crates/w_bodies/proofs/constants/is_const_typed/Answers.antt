@@ -5,4 +5,4 @@ use Rattle.w_bodies.proofs.constants.is_const_typed.Goals as goal
 pub returns-in-Some : goal.returns-in-Some
 returns-in-Some c =
     let only = c.in-Some.ensures in
-    one_judged (context_in c.args.cx.now) only.0 c.args.body.now c.args.kind c.type_of_packed.result c.is_matched.result only.2 (c.type_of_packed.ensures only.0 only.1) c.is_matched.ensures
+    one_judged (context_in c.args.cx.now) c.requires.keeps only.0 c.args.body.now c.args.kind c.type_of_packed.result c.is_matched.result only.2 (c.type_of_packed.ensures only.0 only.1) c.is_matched.ensures

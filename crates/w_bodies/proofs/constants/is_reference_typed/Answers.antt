@@ -6,4 +6,4 @@ use Rattle.w_bodies.proofs.constants.is_reference_typed.Goals as goal
 
 pub returns : goal.returns
 returns c =
-    one_judged (context_in c.args.cx.now) (op.Reference c.args.reference) _ c.args.kind c.type_of_reference.result c.is_matched.result refl c.type_of_reference.ensures c.is_matched.ensures
+    one_judged (context_in c.args.cx.now) c.requires.keeps (op.Reference c.args.reference) _ c.args.kind c.type_of_reference.result c.is_matched.result refl c.type_of_reference.ensures c.is_matched.ensures

@@ -2,7 +2,7 @@ use Rattle.std.proofs.Common.{◌≡◌, ℕ, List, Some, inl, inr, sym, ap, ◌
 use Rattle.std.specs.Prelude.{◌<◌, ◌↔◌, IsTrue}
 use Rattle.std.proofs.lemmas.Option.{get_or_from_slice_get, slice_get_within}
 use Rattle.w_types.specs.declared.value.Value.{Value}
-use Rattle.w_canon.specs.Equivalence.{SameIndex}
+use Rattle.w_canon.specs.Matching.{IndexMatches}
 use Rattle.w_rules.specs.Spaces.{functions_of}
 use Rattle.w_tables.specs.Operations.{table_get}
 use Rattle.w_call_ops.proofs.FindingCallees.{indirect_some, indirect_number, indirect_table, indirect_past, indirect_null, indirect_kind, indirect_function, indirect_calls, indirect_mismatch, kinds_agree}
@@ -42,22 +42,22 @@ returns-in-Null-clause-traps c =
     indirect_null c.args.program.now c.args.store.now c.args.stack.now c.args.kind c.args.table c.requires.moves c.peek.result c.peek.ensures.value
     (ap (table_get c.args.store.now c.args.table) (sym c.i32_of-index.ensures) ∙ sym c.table_get.ensures.element ∙ c.in-Some.is ∙ ap (λ (v : Value). Some v) c.in-Null.is)
 
-pub returns-then-same-clause-found : goal.returns-then-same-clause-found
-returns-then-same-clause-found c =
+pub returns-then-matches_index-clause-found : goal.returns-then-matches_index-clause-found
+returns-then-matches_index-clause-found c =
     let a = c.in-Func.address in
     let found = ap (table_get c.args.store.now c.args.table) (sym c.i32_of-index.ensures) ∙ sym c.table_get.ensures.element ∙ c.in-Some.is ∙ ap (λ (v : Value). Some v) c.in-Func.is in
     let z = indirect_function c.args.program.now c.args.store.now c.args.stack.now c.args.kind c.args.table c.requires.moves c.peek.result c.peek.ensures.value a found in
     let same : get_or c.args.functions.now a 0 ≡ z.0 = ap (λ (l : List ℕ). get_or l a 0) c.requires.functions ∙ get_or_from_slice_get (functions_of c.args.program.now) a z.0 0 z.1 in
-    let related = subst (λ (n : ℕ). IsTrue c.same.result ↔ SameIndex c.args.program.now.types n c.args.kind) same (c.same.ensures.related c.args.program.now.types c.requires.classes) in
+    let related = subst (λ (n : ℕ). IsTrue c.matches_index.result ↔ IndexMatches c.args.program.now.types n c.args.kind) same (c.matches_index.ensures.related c.args.program.now.types c.requires.classes) in
     indirect_calls c.args.program.now c.args.store.now c.args.stack.now c.args.kind c.args.table c.requires.moves c.peek.result c.peek.ensures.value a found z.0 z.1
-    (λ p e is. kinds_agree c.args.program.now c.same.result z.0 c.args.kind related p e is ∙ c.if-same.true)
+    (λ p e is. kinds_agree c.args.program.now c.matches_index.result z.0 c.args.kind related p e is ∙ c.if-matches_index.true)
 
-pub returns-else-same-clause-traps : goal.returns-else-same-clause-traps
-returns-else-same-clause-traps c =
+pub returns-else-matches_index-clause-traps : goal.returns-else-matches_index-clause-traps
+returns-else-matches_index-clause-traps c =
     let a = c.in-Func.address in
     let found = ap (table_get c.args.store.now c.args.table) (sym c.i32_of-index.ensures) ∙ sym c.table_get.ensures.element ∙ c.in-Some.is ∙ ap (λ (v : Value). Some v) c.in-Func.is in
     let z = indirect_function c.args.program.now c.args.store.now c.args.stack.now c.args.kind c.args.table c.requires.moves c.peek.result c.peek.ensures.value a found in
     let same : get_or c.args.functions.now a 0 ≡ z.0 = ap (λ (l : List ℕ). get_or l a 0) c.requires.functions ∙ get_or_from_slice_get (functions_of c.args.program.now) a z.0 0 z.1 in
-    let related = subst (λ (n : ℕ). IsTrue c.same.result ↔ SameIndex c.args.program.now.types n c.args.kind) same (c.same.ensures.related c.args.program.now.types c.requires.classes) in
+    let related = subst (λ (n : ℕ). IsTrue c.matches_index.result ↔ IndexMatches c.args.program.now.types n c.args.kind) same (c.matches_index.ensures.related c.args.program.now.types c.requires.classes) in
     indirect_mismatch c.args.program.now c.args.store.now c.args.stack.now c.args.kind c.args.table c.requires.moves c.peek.result c.peek.ensures.value a found z.0 z.1
-    (λ p e is. kinds_agree c.args.program.now c.same.result z.0 c.args.kind related p e is ∙ c.if-same.false)
+    (λ p e is. kinds_agree c.args.program.now c.matches_index.result z.0 c.args.kind related p e is ∙ c.if-matches_index.false)

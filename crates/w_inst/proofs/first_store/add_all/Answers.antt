@@ -15,7 +15,7 @@ returns-clause-allocated c =
 
 pub returns-clause-stands : goal.returns-clause-stands
 returns-clause-stands c =
-    let p : Program = record { source = c.args.program.now; same = λ i j. true } in
+    let p : Program = record { source = c.args.program.now; matches = λ i j. true } in
     let e : p.source ≡ c.args.program.now = refl in
     let m = c.args.program.now in
     let gs = c.args.globals.now in
@@ -26,7 +26,7 @@ returns-clause-stands c =
 
 pub returns-clause-segments : goal.returns-clause-segments
 returns-clause-segments c =
-    let p : Program = record { source = c.args.program.now; same = λ i j. true } in
+    let p : Program = record { source = c.args.program.now; matches = λ i j. true } in
     let e : p.source ≡ c.args.program.now = refl in
     let m = c.args.program.now in
     let gs = c.args.globals.now in

@@ -1,17 +1,16 @@
-use Rattle.std.proofs.Common.{length, refl, arith}
+use Rattle.std.proofs.Common.{ℕ, ◌+◌, length, refl, arith}
 use Rattle.std.proofs.lemmas.Option.{slice_get_read, slice_get_within}
-use Rattle.w_types.specs.Groups.{types_of}
-use Rattle.w_rules.specs.Types.{IsValidCompType}
+use Rattle.w_items.specs.SubTypes.{IsValidSubType}
 use Rattle.w_items.proofs.TypesOfGroups.{one_more}
 use Rattle.w_items.proofs.types.first_in_group.Goals as goal
 
-pub returns-then-not-is_composite_valid : goal.returns-then-not-is_composite_valid
-returns-then-not-is_composite_valid c =
+pub returns-then-not-is_valid : goal.returns-then-not-is_valid
+returns-then-not-is_valid c =
     let types = c.args.types.now in
     let kind = c.index-types-position.result in (
       kind,
       slice_get_read types (length types) c.loop-position.position kind refl c.loop-position-test.true c.index-types-position.is,
-      λ t. let e = c.if-not-is_composite_valid.ensures.1 t in absurd (cc),
+      λ t. let e = c.if-not-is_valid.ensures.1 t in absurd (cc),
       c.loop-position.invariant,
     )
 
@@ -19,9 +18,9 @@ pub loop-position-preserved : goal.loop-position-preserved
 loop-position-preserved c =
     let types = c.args.types.now in
     let kind = c.index-types-position.result in
-    one_more (IsValidCompType (types_of c.args.candidate.now.types) c.args.end) types c.loop-position.position kind
+    one_more (λ (k : ℕ). IsValidSubType c.args.cx.now.candidate.now c.args.end (c.args.start + k)) types c.loop-position.position kind
     (slice_get_read types (length types) c.loop-position.position kind refl c.loop-position-test.true c.index-types-position.is)
-    (c.if-not-is_composite_valid.ensures.0 refl) c.loop-position.invariant
+    (c.if-not-is_valid.ensures.0 refl) c.loop-position.invariant
 
 pub returns : goal.returns
-returns c = λ i x is. c.loop-position.invariant i x (omega (arith, slice_get_within c.args.types.now i x is, c.loop-position-test.false)) is
+returns c = λ k t is. c.loop-position.invariant k t (omega (arith, slice_get_within c.args.types.now k t is, c.loop-position-test.false)) is

@@ -14,7 +14,7 @@ split_at-requires-clause-there c = front_within c.args.label.types.now c.in-Some
 pub returns-in-Some-cont_of : goal.returns-in-Some-cont_of
 returns-in-Some-cont_of c = λ classes ts rs ls l there.
     let cx = c.args.setting.now.cx.now in
-    clause_decided cx.classes.now (placed cx ts rs ls) classes c.args.results.types.now c.args.tag l c.args.label.types.now c.in-Some-last_index.beneath.now c.in-Some-last_index.index
+    clause_decided cx.classes.now (placed cx ts rs ls) classes.classes c.args.results.types.now c.args.tag l c.args.label.types.now c.in-Some-last_index.beneath.now c.in-Some-last_index.index
     (rows_type c.in-Some.tag) (rows_type c.in-Some-cont_of.target) there
     (found_rows c.type_of_tag.result c.in-Some.tag _ c.type_of_tag.ensures.kind c.in-Some.is)
     c.in-Some-last_index.ensures.index

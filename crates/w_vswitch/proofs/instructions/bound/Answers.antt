@@ -24,5 +24,5 @@ returns-then-matches-2-clause-bound c = λ classes ts rs ls.
     bind_row d c.args.before c.args.after c.in_ok-count.count (rows_type c.in_ok-one.one) (rows_type c.in_ok-other.other) c.split_at.result.0.types.now _
     (found_rows c.cont_of.result c.in_ok-one.one _ c.cont_of.ensures.kind c.in_ok-one.was) (found_rows c.cont_of-2.result c.in_ok-other.other _ c.cont_of-2.ensures.kind c.in_ok-other.was)
     (let e = c.in_ok-count.ensures in omega arith) (let e = c.in_ok-count.ensures in omega arith) c.split_at.ensures.front c.split_at.ensures.behind
-    ((c.matches.ensures.related d.types classes).0 c.if-matches.true)
-    ((c.matches-then-matches.ensures.related d.types classes).0 c.if-matches-2.true)
+    ((c.matches.ensures.related d.types classes.classes).0 c.if-matches.true)
+    ((c.matches-then-matches.ensures.related d.types classes.classes).0 c.if-matches-2.true)

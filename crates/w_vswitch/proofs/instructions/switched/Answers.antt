@@ -28,5 +28,5 @@ returns-then-matches-2-clause-switched c = λ classes ts rs ls.
     (found_rows c.cont_of-2.result c.in_ok-other.other _ c.cont_of-2.ensures.kind c.in_ok-other.was)
     (found_rows c.type_of_tag.result c.in_ok-tag.tag _ c.type_of_tag.ensures.kind c.in_ok-tag.was)
     (none_there tag.params c.if-tag-eq0.true)
-    ((c.matches.ensures.related d.types classes).0 c.if-matches.true)
-    ((c.matches-then-matches.ensures.related d.types classes).0 c.if-matches-2.true))
+    ((c.matches.ensures.related d.types classes.classes).0 c.if-matches.true)
+    ((c.matches-then-matches.ensures.related d.types classes.classes).0 c.if-matches-2.true))

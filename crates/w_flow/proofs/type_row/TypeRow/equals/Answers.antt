@@ -8,7 +8,7 @@ returns-then-fits-2 c =
     let es = c.args.classes.now in
     let same : result_same_test es c.args.self.types.now c.args.other.types.now ≡ true =
     rows_same es c.args.self.types.now c.args.other.types.now
-    (c.fits.ensures es c.requires.one c.requires.other c.if-fits.true) (c.fits-then-fits.ensures es c.requires.other c.requires.one c.if-fits-2.true) in
+    (c.fits.ensures es c.requires.one c.requires.other c.if-fits.true).0 (c.fits-then-fits.ensures es c.requires.other c.requires.one c.if-fits-2.true).0 in
     record {
       computed = sym same;
       related = equals_related es c.args.self.types.now c.args.other.types.now same;

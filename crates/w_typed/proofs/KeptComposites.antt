@@ -1,0 +1,118 @@
+-- In a valid module composite types match those of equivalent types and of supertypes.
+use Rattle.std.proofs.Common.{◌≡◌, inl, inr, ℕ, zero, suc, ◌+◌, ◌<◌, ◌≤◌, List, [], ◌∷◌, ◌++◌, map, length, refl, sym, ap, subst, ◌∙◌, arith}
+use Rattle.std.specs.Prelude.{Some, slice_get, option_map}
+use Rattle.std.proofs.lemmas.List.{length-append, length-map}
+use Rattle.std.proofs.lemmas.Option.{slice_get-map, slice_get_within}
+use Rattle.lists.proofs.Lists.{get-front, get-behind}
+use Rattle.w_types.specs.declared.types.CompType.{CompType}
+use Rattle.w_types.specs.declared.types.SubType.{SubType}
+use Rattle.w_types.specs.declared.types.RecGroup.{RecGroup}
+use Rattle.w_types.specs.Groups.{subtypes_of, composite_of, types_of}
+use Rattle.w_syntax.specs.declared.module.Module.{Module}
+use Rattle.w_canon.specs.Classed.{count}
+use Rattle.w_canon.specs.Equivalence.{Place, Same, SameIndex}
+use Rattle.w_canon.specs.Matching.{CompMatches}
+use Rattle.w_canon.specs.Supertypes.{KeepsKinds, KeepsComposites}
+use Rattle.w_canon.proofs.Composites.{comp_refl, kinds_kept}
+use Rattle.w_canon.proofs.Laminar.{item_at}
+use Rattle.w_canon.proofs.Places.{subtypes_of-cons, subtypes_of-nil, within_all, type_at_place}
+use Rattle.w_canon.proofs.Supertypes.{related_at}
+use Rattle.w_rules.specs.Types.{IsValidCompType, with_ends}
+use Rattle.w_rules.specs.Valid.{Valid, TypeItem, TypeValid}
+use Rattle.w_rules.proofs.ValidTypes.{matches_supertype}
+use Rattle.w_typed.proofs.AlikeTypes.{end_of, alike_same, alike_comp_matches}
+
+-- ## The end of a type's group
+
+abbrev paired : ℕ → List SubType → List (ℕ × SubType)
+paired end ts = map (λ t. (end, t)) ts
+
+length-paired : (end : ℕ) (ts : List SubType) → length (paired end ts) ≡ length ts
+length-paired end [] = refl
+length-paired end (t ∷ ts) = ap suc (length-paired end ts)
+
+ends_of_group : (start : ℕ) (g : RecGroup) (gs : List RecGroup)
+    → with_ends start (g ∷ gs) ≡ paired (start + length g.types) g.types ++ with_ends (start + length g.types) gs
+unfolding with_ends
+ends_of_group start g gs = refl
+
+count-cons : (g : RecGroup) (gs : List RecGroup) → count (g ∷ gs) ≡ length g.types + count gs
+count-cons g gs = ap (λ (ts : List SubType). length ts) (subtypes_of-cons g gs) ∙ length-append g.types (subtypes_of gs)
+
+-- the type at a position of a group behind others
+end_behind : (start : ℕ) (front : List RecGroup) (g : RecGroup) (back : List RecGroup) (p i end : ℕ) (t : SubType) → i ≡ count front + p
+    → end ≡ start + (count front + length g.types) → slice_get g.types p ≡ Some t → slice_get (with_ends start (front ++ g ∷ back)) i ≡ Some (end, t)
+end_behind start [] g back p i end t at is there =
+    let empty = ap (λ (ts : List SubType). length ts) subtypes_of-nil in
+    let same_end : start + length g.types ≡ end = omega arith in
+    let same_index : i ≡ p = omega arith in
+    let within : i < length (paired end g.types) = omega (arith, slice_get_within g.types p t there, length-paired end g.types) in
+    ap (λ l. slice_get l i) (ends_of_group start g back)
+    ∙ ap (λ (e : ℕ). slice_get (paired e g.types ++ with_ends e back) i) same_end
+    ∙ get-front (paired end g.types) (with_ends end back) i within
+    ∙ slice_get-map (λ u. (end, u)) g.types i
+    ∙ ap (λ (j : ℕ). option_map (λ u. (end, u)) (slice_get g.types j)) same_index
+    ∙ ap (option_map (λ u. (end, u))) there
+end_behind start (x ∷ front) g back p i end t at is there =
+    let n = count-cons x front in
+    let next = start + length x.types in
+    let same_index : i ≡ length (paired next x.types) + (count front + p) = omega (arith, length-paired next x.types) in
+    ap (λ l. slice_get l i) (ends_of_group start x (front ++ g ∷ back))
+    ∙ ap (slice_get (paired next x.types ++ with_ends next (front ++ g ∷ back))) same_index
+    ∙ get-behind (paired next x.types) (with_ends next (front ++ g ∷ back)) (count front + p)
+    ∙ end_behind next front g back p (count front + p) end t refl (omega arith) there
+
+-- ## Types of a valid module
+
+-- it is valid by the rule
+type_valid : (m : Module) → Valid m → (i : ℕ) → i < count m.types → TypeValid m i
+type_valid m v i lt = v (TypeItem i) (omega (arith, lt, length-map (subtypes_of m.types) composite_of))
+
+-- the indices in a type of a valid module are below the end of its group
+valid_at_place : (m : Module) → Valid m → (i : ℕ) (P : Place m.types i) (t : SubType) → slice_get P.group.types P.position ≡ Some t
+    → IsValidCompType (types_of m.types) (end_of m.types i P) t.composite
+valid_at_place m v i P t there =
+    let h : TypeValid m i = type_valid m v i (within_all m.types i P) in
+    let is : slice_get (with_ends 0 m.types) i ≡ Some (end_of m.types i P, t) =
+    ap (λ gs. slice_get (with_ends 0 gs) i) P.is
+    ∙ end_behind 0 P.front P.group P.back P.position i (end_of m.types i P) t P.counts (omega arith) there in
+    let same : ◌≡◌ {A = ℕ × SubType} (h.end, h.type) (end_of m.types i P, t) = let f = h.is in cc in
+    subst (λ (p : ℕ × SubType). IsValidCompType (types_of m.types) p.0 p.1.composite) same h.valid
+
+-- ## Composite types
+
+-- the composite type of a type
+pub composite_is : (gs : List RecGroup) (i : ℕ) (t : SubType) (c : CompType) → slice_get (subtypes_of gs) i ≡ Some t → slice_get (types_of gs) i ≡ Some c → t.composite ≡ c
+composite_is gs i t c is there = let e = slice_get-map composite_of (subtypes_of gs) i ∙ ap (option_map composite_of) is in cc
+
+-- those of types at one position of equal groups match
+composites_alike : (m : Module) → Valid m → (n : ℕ) → n ≤ length m.types → (x y : ℕ) → Same n m.types x y → (a b : CompType)
+    → slice_get (types_of m.types) x ≡ Some a → slice_get (types_of m.types) y ≡ Some b → CompMatches m.types a b
+composites_alike m v zero le x y h a b is at = absurd h
+composites_alike m v (suc n) le x y h a b is at =
+    let gs = m.types in
+    let t = item_at (subtypes_of gs) y (within_all gs y h.other) in
+    let here : slice_get h.other.group.types h.other.position ≡ Some t.0 = sym (type_at_place gs y h.other) ∙ t.1 in
+    let r = related_at h.other.position t.0 h.groups here in
+    let there : slice_get h.one.group.types h.one.position ≡ Some r.item = ap (slice_get h.one.group.types) h.position ∙ r.there in
+    let match : CompMatches gs r.item.composite t.0.composite =
+    alike_comp_matches gs (Same n gs) (count h.one.front) (count h.other.front) (end_of gs x h.one) (end_of gs y h.other) (alike_same n gs le x y h) (types_of gs) r.related.composite
+    (valid_at_place m v x h.one r.item there) (valid_at_place m v y h.other t.0 here) in
+    subst (λ (c : CompType). CompMatches gs c b) (composite_is gs x r.item a (type_at_place gs x h.one ∙ there) is)
+    (subst (CompMatches gs r.item.composite) (composite_is gs y t.0 b t.1 at) match)
+
+composites_same : (m : Module) → Valid m → (x y : ℕ) (a b : CompType) → SameIndex m.types x y
+    → slice_get (types_of m.types) x ≡ Some a → slice_get (types_of m.types) y ≡ Some b → CompMatches m.types a b
+composites_same m v x y a b (inl e) is at = let same : a ≡ b = cc in subst (CompMatches m.types a) same (comp_refl m.types a)
+composites_same m v x y a b (inr h) is at = composites_alike m v (length m.types) (omega arith) x y h a b is at
+
+-- types of a valid module match equivalent ones and their supertypes, composite type by composite type
+pub keeps_composites : (m : Module) → Valid m → KeepsComposites m.types
+keeps_composites m v = record {
+  equal = composites_same m v;
+  super = λ x z a b h is at. matches_supertype m x z (type_valid m v x (slice_get_within (subtypes_of m.types) x h.type h.is)) h a b is at;
+}
+
+-- so each is of its supertype's kind
+pub keeps_kinds : (m : Module) → Valid m → KeepsKinds m.types
+keeps_kinds m v = kinds_kept m.types (keeps_composites m v)
