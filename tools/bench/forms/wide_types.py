@@ -27,7 +27,7 @@ SAME = functype([I32] * WIDTH, [I32] * WIDTH)
 BELOW = functype([FUNCREF] * WIDTH, [NULLFUNCREF] * WIDTH)      # its results match its parameters by subtyping
 
 
-def _rows_of_calls(size, wide, operand, row, before=(), behind=(), **others):
+def rows_of_calls(size, wide, operand, row, before=(), behind=(), **others):
     """Functions that begin with a thousand operands, and go on with rows that take a thousand and give a thousand.
 
     Function 0 is of the wide type, which stands behind the types `before` and before those `behind`.
@@ -46,27 +46,27 @@ def _thousand_types():
 
 def wide_calls(size):
     """Calls in a row, each of which takes what the one before gave."""
-    return _rows_of_calls(size, SAME, NUMBER, call(0))
+    return rows_of_calls(size, SAME, NUMBER, call(0))
 
 
 def wide_calls_shifted(size):
     """The same with an operand more before each."""
-    return _rows_of_calls(size, SAME, NUMBER, NUMBER + call(0))
+    return rows_of_calls(size, SAME, NUMBER, NUMBER + call(0))
 
 
 def wide_calls_by_subtyping(size):
     """Calls in a row, each of which takes what the one before gave, by subtyping."""
-    return _rows_of_calls(size, BELOW, NULL, call(0))
+    return rows_of_calls(size, BELOW, NULL, call(0))
 
 
 def wide_calls_by_subtyping_shifted(size):
     """The same with an operand more before each."""
-    return _rows_of_calls(size, BELOW, NULL, NULL + call(0))
+    return rows_of_calls(size, BELOW, NULL, NULL + call(0))
 
 
 def wide_calls_by_subtyping_replaced(size):
     """The same with one operand taken away and another put in its place."""
-    return _rows_of_calls(size, BELOW, NULL, DROP + NULL + call(0))
+    return rows_of_calls(size, BELOW, NULL, DROP + NULL + call(0))
 
 
 def wide_calls_of_mixed_types_shifted(size):
@@ -74,20 +74,20 @@ def wide_calls_of_mixed_types_shifted(size):
     random = Random(40)
     results = random.choices([FUNCREF, NULLFUNCREF], k=WIDTH)
     row = b''.join(NULL * (1 + place % 7) + call(0) for place in range(7))
-    return _rows_of_calls(size, functype([FUNCREF] * WIDTH, results), NULL, row)
+    return rows_of_calls(size, functype([FUNCREF] * WIDTH, results), NULL, row)
 
 
 def wide_calls_of_a_thousand_types_shifted(size):
     """Calls whose results are references to a thousand types, each of which matches func in its own way."""
     types, results = _thousand_types()
-    return _rows_of_calls(size, functype([FUNCREF] * WIDTH, results), NULL, NULL + call(0), before=types)
+    return rows_of_calls(size, functype([FUNCREF] * WIDTH, results), NULL, NULL + call(0), before=types)
 
 
 def wide_calls_of_equal_types_shifted(size):
     """Calls whose results are references to one type, and whose parameters are references to equal ones."""
     types = [functype([I32], [I32])] * WIDTH
     parameters = [nullable(1 + place) for place in range(WIDTH)]
-    return _rows_of_calls(size, functype(parameters, [nullable(1)] * WIDTH), NULL, NULL + call(0), before=types)
+    return rows_of_calls(size, functype(parameters, [nullable(1)] * WIDTH), NULL, NULL + call(0), before=types)
 
 
 def wide_calls_of_a_thousand_types_by_turns(size):
@@ -108,13 +108,13 @@ def wide_calls_not_reached(size):
 
 def wide_calls_indirect(size):
     """Calls through a table."""
-    return _rows_of_calls(
+    return rows_of_calls(
         size, BELOW, NULL, NUMBER + call_indirect(1, 0), tables=[FUNCREF + limits(1)])
 
 
 def wide_calls_by_reference(size):
     """Calls of a reference."""
-    return _rows_of_calls(size, BELOW, NULL, ref_null(1) + call_ref(1))
+    return rows_of_calls(size, BELOW, NULL, ref_null(1) + call_ref(1))
 
 
 def wide_results_dropped(size):
@@ -125,32 +125,32 @@ def wide_results_dropped(size):
 
 def wide_blocks(size):
     """Blocks in a row, each of which hands on a thousand operands."""
-    return _rows_of_calls(size, SAME, NUMBER, block(signed(1), b''))
+    return rows_of_calls(size, SAME, NUMBER, block(signed(1), b''))
 
 
 def wide_blocks_by_subtyping(size):
     """Blocks whose contents match their results by subtyping, and calls that want what they give."""
     turn = functype([NULLFUNCREF] * WIDTH, [FUNCREF] * WIDTH)
-    return _rows_of_calls(size, BELOW, NULL, call(0) + block(signed(2), b''), behind=[turn])
+    return rows_of_calls(size, BELOW, NULL, call(0) + block(signed(2), b''), behind=[turn])
 
 
 def wide_blocks_by_subtyping_shifted(size):
     """The same with an operand more before each."""
     turn = functype([NULLFUNCREF] * WIDTH, [FUNCREF] * WIDTH)
     row = call(0) + NULL + block(signed(2), b'')
-    return _rows_of_calls(size, BELOW, NULL, row, behind=[turn])
+    return rows_of_calls(size, BELOW, NULL, row, behind=[turn])
 
 
 def wide_loops_by_subtyping(size):
     """Loops, likewise."""
     turn = functype([NULLFUNCREF] * WIDTH, [FUNCREF] * WIDTH)
-    return _rows_of_calls(size, BELOW, NULL, call(0) + loop(signed(2), b''), behind=[turn])
+    return rows_of_calls(size, BELOW, NULL, call(0) + loop(signed(2), b''), behind=[turn])
 
 
 def wide_ifs_by_subtyping(size):
     """Ifs with an else, both branches of which match the results by subtyping."""
     turn = functype([NULLFUNCREF] * WIDTH, [FUNCREF] * WIDTH)
-    return _rows_of_calls(size, BELOW, NULL, call(0) + NUMBER + if_(signed(2), b'', b''), behind=[turn])
+    return rows_of_calls(size, BELOW, NULL, call(0) + NUMBER + if_(signed(2), b'', b''), behind=[turn])
 
 
 def wide_ifs_without_else(size):
@@ -158,7 +158,7 @@ def wide_ifs_without_else(size):
     types, parameters = _thousand_types()
     turn = functype(parameters, [FUNCREF] * WIDTH)
     row = call(0) + NUMBER + if_(signed(2 + WIDTH), b'')
-    return _rows_of_calls(size, functype([FUNCREF] * WIDTH, parameters), NULL, row, before=types, behind=[turn])
+    return rows_of_calls(size, functype([FUNCREF] * WIDTH, parameters), NULL, row, before=types, behind=[turn])
 
 
 def wide_ifs_not_reached(size):
@@ -234,7 +234,7 @@ def wide_branch_tables(size):
     """Small br_tables by subtyping, each in a block of its own, whose operands a call gives."""
     inner = call(0) + NUMBER + br_table([0] * 20, 0)
     turn = functype([FUNCREF] * WIDTH, [FUNCREF] * WIDTH)
-    return _rows_of_calls(size, BELOW, NULL, block(signed(2), inner), behind=[turn])
+    return rows_of_calls(size, BELOW, NULL, block(signed(2), inner), behind=[turn])
 
 
 def wide_branch_tables_not_reached(size):
