@@ -4,7 +4,7 @@ use std::process::Abort;
 use std::test::Fail;
 use w_canon::Classes;
 use w_decode::decode;
-use w_flow::{TypeRow, TypeRows};
+use w_rows::{TypeRow, TypeRows};
 use w_rules::Context;
 use w_steps::Setting;
 use w_syntax::{

@@ -2,12 +2,14 @@
 use Rattle.std.proofs.Common.{◌↔◌, ◌≡◌, sym, subst, ℕ, ◌+◌, Bool, true, false, ◌&&◌, List, ◌∷◌, [], ◌++◌, IsTrue, refl}
 use Rattle.std.specs.List.{All, AllByRecursion}
 use Rattle.std.proofs.lemmas.List.Elements.{All-from_recursion, recursion_from_All}
+use Rattle.lists.proofs.Tests.{each_of}
 use Rattle.w_syntax.specs.Code.{Code, Done, Plain, Block, If, IfElse}
 use Rattle.w_syntax.specs.Flat.{laid, whole}
 use Rattle.w_syntax.specs.declared.instructions.Instr.{Instr}
 use Rattle.w_syntax.specs.declared.instructions.Instr.TheVariants as flat
 use Rattle.w_syntax.specs.declared.packed.PackedInstr.{PackedInstr}
 use Rattle.w_syntax.specs.Packed.{unpacked, unpacked_all}
+use Rattle.w_canon.proofs.TestsOfLists.{and_both}
 use Rattle.w_rules.specs.Bodies.{is_const, all_const}
 use Rattle.w_rules.specs.Context.{Context}
 use Rattle.w_bodies.specs.Constants.{is_const_at}
@@ -16,21 +18,12 @@ use Rattle.w_bodies.specs.Constants.{is_const_at}
 abbrev pub MayStand : Context → Instr → Type 0
 MayStand c i = IsTrue (is_const_at c i)
 
--- two tests
-both : (a b : Bool) → a ≡ true → b ≡ true → (a && b) ≡ true
-both true b e f = f
-both false b e f = absurd (cc)
-
-each : (a b : Bool) → (a && b) ≡ true → (a ≡ true) × (b ≡ true)
-each true b e = (refl, e)
-each false b e = absurd (cc)
-
 laid_const : (c : Context) (n : ℕ) (k : Code) → AllByRecursion (MayStand c) (laid n k ++ flat.End ∷ []) ↔ IsTrue (all_const c k)
 unfolding laid
 laid_const c n Done = (λ h. refl, λ h. (refl, tt))
 laid_const c n (Plain o k) = (
-  λ h. both (is_const c o) (all_const c k) h.0 ((laid_const c (n + 1) k).0 h.1),
-  λ h. let e = each (is_const c o) (all_const c k) h in (e.0, (laid_const c (n + 1) k).1 e.1),
+  λ h. and_both (is_const c o) (all_const c k) h.0 ((laid_const c (n + 1) k).0 h.1),
+  λ h. let e = each_of (is_const c o) (all_const c k) h in (e.0, (laid_const c (n + 1) k).1 e.1),
 )
 laid_const c n (Block kind x b k) = (λ h. let e = h.0 in absurd (cc), λ h. absurd (cc))
 laid_const c n (If x b k) = (λ h. let e = h.0 in absurd (cc), λ h. absurd (cc))

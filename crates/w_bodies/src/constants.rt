@@ -18,7 +18,7 @@ ghost use Rattle.w_bodies.specs.Constants.{IsOnly, is_const_at, given, fixed_typ
 
 use crate::bodies::check_body;
 use std::alloc::{AllocError, Global};
-use w_flow::{TypeRow, TypeRows};
+use w_rows::{TypeRow, TypeRows};
 use w_rules::Context;
 use w_steps::Setting;
 use w_syntax::{

@@ -12,10 +12,6 @@ pub mod Preorder
 pub mod EqualTypes
 pub mod ComparedRows
 pub mod ShapesOfTypes
-pub mod WordCases
-pub mod WordsOfTypes
-pub mod WordsOfKinds
-pub mod WordsGiven
 pub mod Laminar
 pub mod Sharing
 pub mod Spanning

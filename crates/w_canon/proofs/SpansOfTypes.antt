@@ -1,7 +1,8 @@
 -- The spans of the classes tell which types match.
-use Rattle.std.proofs.Common.{◌≡◌, ◌↔◌, inl, ℕ, zero, suc, ◌+◌, ◌<◌, nat_lt, cond, Bool, true, false, IsTrue, List, [], ◌∷◌, length, map, get_or, Option, Some, None, slice_get, refl, sym, ap, subst, ◌∙◌, arith, ltb-true, lt-ltb}
+use Rattle.std.proofs.Common.{◌≡◌, ◌↔◌, inl, ℕ, zero, suc, ◌+◌, ◌<◌, nat_lt, cond, Bool, true, false, IsTrue, List, [], ◌∷◌, length, map, get_or, Option, Some, None, slice_get, refl, sym, ap, subst, ◌∙◌, arith, nat_le, ◌≤◌, le-leb, ltb-true, lt-ltb}
 use Rattle.std.specs.Option.{option_map}
 use Rattle.std.proofs.lemmas.Option.{slice_get-map, slice_get_within, slice_get-get_or}
+use Rattle.lists.proofs.Tests.{each_of}
 use Rattle.w_types.specs.declared.types.SubType.{SubType}
 use Rattle.w_types.specs.declared.types.RecGroup.{RecGroup}
 use Rattle.w_types.specs.Groups.{subtypes_of}
@@ -13,7 +14,7 @@ use Rattle.w_canon.specs.Classed.{Numbers, count, Classed}
 use Rattle.w_canon.specs.Equivalence.{SameIndex}
 use Rattle.w_canon.specs.Forest.{IsParent, IsForest, IsUnder, itself, span_test, AreSpans}
 use Rattle.w_canon.specs.Forest as forest
-use Rattle.w_canon.specs.IsClassesOf.{OneClass, first_of, HaveFirsts, IsClassesOf}
+use Rattle.w_canon.specs.IsClassesOf.{OneClass, first_of, HaveFirsts, HaveSpans, IsClassesOf}
 use Rattle.w_canon.specs.Matching.{HasSupertype, IndexMatches, same, above}
 use Rattle.w_canon.specs.Parents.{first_at, parent_by, parents_from}
 use Rattle.w_canon.specs.Shares.{none}
@@ -22,6 +23,7 @@ use Rattle.w_canon.proofs.ClassesOfTypes.{stands_at, first_alike, first_early}
 use Rattle.w_canon.proofs.Equivalent.{symmetric}
 use Rattle.w_canon.proofs.Laminar.{item_at}
 use Rattle.w_canon.proofs.Supertypes.{supertype_same, index_joined, as_many_entries}
+use Rattle.w_canon.proofs.TestsOfLists.{and_both}
 
 -- ## Parents
 
@@ -188,3 +190,48 @@ module _ (m : Numbers) (gs : List RecGroup) (es : List Entry) (c : Classed m gs 
         let there : slice_get (map (spanned ss) es) (first_of f.entry.class) ≡ Some (spanned ss o.1) = slice_get-map (spanned ss) es (first_of f.entry.class) ∙ ap (option_map (spanned ss)) o.3 in
         let both : o.0.class ≡ f.entry.class = let x = o.2 in let y = f.is in let e : o.0 ≡ f.entry = cc in ap (λ (z : Entry). z.class) e in
         (a, spanned ss o.1, h, ap (λ (k : Class). slice_get (map (spanned ss) es) (first_of k)) (sym class) ∙ there, sym class ∙ sym both ∙ o.4)
+
+    -- no node stands under one behind it
+    under_front : {x y : ℕ} → IsUnder (parents_from es 0 (subtypes_of gs)) x y → y ≤ x
+    under_front itself = omega arith
+    under_front (forest.IsUnder.above {x} {p} h u) = let lt = is_forest x p h in let le = under_front u in omega arith
+
+    -- spans hold a place
+    proper_at : (i : ℕ) (a : Entry) → slice_get es i ≡ Some a → (get_or ss (first_of a.class) none).from < (get_or ss (first_of a.class) none).to
+    proper_at i a h =
+        let x = first_of a.class in
+        let s = get_or ss x none in
+        let t = (are.decided x x s s (span_at i a h) (span_at i a h)).1 itself in
+        ltb-true s.from s.to (each_of (nat_le s.from s.from) (nat_lt s.from s.to) t).1
+
+    -- classes whose spans begin at one place are one
+    begins_once : (i j : ℕ) (a b : Entry) → slice_get es i ≡ Some a → slice_get es j ≡ Some b
+        → (get_or ss (first_of a.class) none).from ≡ (get_or ss (first_of b.class) none).from → a.class ≡ b.class
+    begins_once i j a b h k e =
+        let x = first_of a.class in
+        let y = first_of b.class in
+        let s = get_or ss x none in
+        let t = get_or ss y none in
+        let inside : (u v : Span) → u.from ≡ v.from → v.from < v.to → IsTrue (span_test u v) =
+        λ u v f lt. and_both (nat_le v.from u.from) (nat_lt u.from v.to) (le-leb v.from u.from (omega arith)) (lt-ltb u.from v.to (omega arith)) in
+        let one = under_front ((are.decided x y s t (span_at i a h) (span_at j b k)).0 (inside s t e (proper_at j b k))) in
+        let other = under_front ((are.decided y x t s (span_at j b k) (span_at i a h)).0 (inside t s (sym e) (proper_at i a h))) in
+        let same : x ≡ y = omega arith in
+        let o = first_alike m gs es c i a h in
+        let p = first_alike m gs es c j b k in
+        let here : o.0.class ≡ a.class = let f = o.2 in let g : o.0 ≡ a = cc in ap (λ (z : Entry). z.class) g in
+        let there : p.0.class ≡ b.class = let f = p.2 in let g : p.0 ≡ b = cc in ap (λ (z : Entry). z.class) g in
+        let both : o.1 ≡ p.1 = same_some (sym o.3 ∙ ap (slice_get es) same ∙ p.3) in
+        sym here ∙ o.4 ∙ ap (λ (z : Entry). z.class) both ∙ sym p.4 ∙ there
+
+    pub all_spans : HaveSpans (map (spanned ss) es)
+    all_spans = record {
+      proper = λ i a h.
+          let f = from i a h in
+          subst (λ (z : Entry). z.span.from < z.span.to) f.same_entry (proper_at i f.entry f.is);
+      once = λ i j a b h k e.
+          let f = from i a h in
+          let g = from j b k in
+          let begins : (spanned ss f.entry).span.from ≡ (spanned ss g.entry).span.from = ap (λ (z : Entry). z.span.from) f.same_entry ∙ e ∙ sym (ap (λ (z : Entry). z.span.from) g.same_entry) in
+          sym (ap (λ (z : Entry). z.class) f.same_entry) ∙ begins_once i j f.entry g.entry f.is g.is begins ∙ ap (λ (z : Entry). z.class) g.same_entry;
+    }

@@ -1,8 +1,12 @@
--- The test of all pairs of two lists, pair by pair.
-use Rattle.std.proofs.Common.{◌≡◌, ℕ, suc, ◌+◌, ◌<◌, ◌≤◌, drop, get_or, Bool, true, false, ◌&&◌, List, [], ◌∷◌, length, refl, sym, ap, ◌∙◌, arith}
+-- Two tests that both hold, and the test of all pairs of two lists, pair by pair.
+use Rattle.std.proofs.Common.{◌≡◌, ℕ, suc, ◌+◌, ◌<◌, ◌≤◌, drop, get_or, Bool, true, false, IsTrue, ◌&&◌, List, [], ◌∷◌, length, refl, sym, ap, ◌∙◌, arith}
 use Rattle.std.proofs.lemmas.Bool.{and_left, and_right}
 use Rattle.std.proofs.lemmas.List.{drop_more, drop_all}
 use Rattle.w_canon.specs.Tests.{pairwise_test}
+
+pub and_both : (b c : Bool) → IsTrue b → IsTrue c → IsTrue (b && c)
+and_both true c p q = q
+and_both false c p q = absurd (cc)
 
 -- lists of two lengths fail
 pub lengths_differ : {A : Type 0} (f : A → A → Bool) (xs ys : List A) → (length xs ≡ length ys → ⊥) → false ≡ pairwise_test f xs ys

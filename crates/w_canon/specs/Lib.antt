@@ -15,4 +15,3 @@ pub mod Tests
 pub mod Numbers
 pub mod Compared
 pub mod Shapes
-pub mod Words

@@ -32,9 +32,9 @@ impl Model for Classes {
 
     ghost view = { λ a. a.entries.items };
 
-    ghost use Rattle.w_canon.specs.IsClassesOf.{HaveFirsts};
+    ghost use Rattle.w_canon.specs.IsClassesOf.{HaveFirsts, HaveSpans};
 
-    ghost invariant = { λ a. HaveFirsts a.entries.items };
+    ghost invariant = { λ a. HaveFirsts a.entries.items × HaveSpans a.entries.items };
 }
 
 fn kind_of(kind: &CompType) -> Kind
@@ -192,10 +192,10 @@ fn entries_of(alloc: Global, groups: &[RecGroup]) -> Result<Vec<Entry>, AllocErr
 }
 
 impl Classes {
-    ghost use Rattle.std.specs.Prelude.{◌≡◌, ◌↔◌, IsTrue, IfOk, IfSome, List, slice_get};
+    ghost use Rattle.std.specs.Prelude.{◌≡◌, ◌↔◌, ◌<◌, IsTrue, IfOk, IfSome, List, slice_get};
     ghost use Rattle.w_types.specs.declared.types.RecGroup.{RecGroup};
     ghost use Rattle.w_canon.specs.Equivalence.{SameIndex};
-    ghost use Rattle.w_canon.specs.IsClassesOf.{IsClassesOf, OneClass};
+    ghost use Rattle.w_canon.specs.IsClassesOf.{HaveSpans, IsClassesOf, OneClass};
     ghost use Rattle.w_canon.specs.Matching.{IndexMatches};
     ghost use Rattle.w_canon.specs.Tests.{one_class_test, one_below_test, same_test, index_test, kind_test};
 
@@ -247,9 +247,18 @@ impl Classes {
         self.same(i, j) || self.is_below(i, j)
     }
 
-    // The entry of the type of this index.
-    pub(crate) fn entry(&self, index: u32) -> Option<Entry>
-        ensures { result ≡ slice_get self.now index }
+    /// Says of the entries that spans hold a place, and that those of two classes begin at two.
+    #[inline(always)]
+    pub fn have_spans(&self)
+        ensures { HaveSpans self.now }
+    {
+        let _ = &self.entries;
+    }
+
+    /// The entry of the type of this index, whose span is not empty.
+    pub fn entry(&self, index: u32) -> Option<Entry>
+        ensures is { result ≡ slice_get self.now index }
+        ensures proper { IfSome result (λ entry. entry.span.from < entry.span.to) }
     {
         self.entries.get(index as usize).copied()
     }

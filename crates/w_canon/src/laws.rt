@@ -1,12 +1,8 @@
 //! Laws of the definitions, each the contract of a function that does nothing.
-ghost use Rattle.std.specs.Prelude.{◌≡◌, ℕ, bit_and, List, Some, slice_get};
-ghost use Rattle.w_types.specs.declared.types.ValType.{ValType};
+ghost use Rattle.std.specs.Prelude.{◌≡◌, ℕ, List, Some, slice_get};
 ghost use Rattle.w_types.specs.declared.types.CompType.{CompType};
 ghost use Rattle.w_types.specs.declared.types.RecGroup.{RecGroup};
 ghost use Rattle.w_types.specs.Groups.{types_of};
-ghost use Rattle.w_canon.specs.declared.entry.Entry.{Entry};
-ghost use Rattle.w_canon.specs.IsClassesOf.{IsClassesOf};
-ghost use Rattle.w_canon.specs.Words.{IsGiven, IsWanted};
 ghost use Rattle.w_canon.specs.Relations.{IsReflexive, IsSymmetric, IsTransitive};
 ghost use Rattle.w_canon.specs.Equivalence.{SameIndex};
 ghost use Rattle.w_canon.specs.Matching.{HasSupertype, IndexMatches, ValMatches, ResultMatches, FuncMatches, CompMatches};
@@ -56,12 +52,4 @@ pub fn composites_of_matching_indices_match()
     ensures composites { (gs : List RecGroup) → KeepsComposites gs → (x y : ℕ) (a b : CompType) → IndexMatches gs x y
         → slice_get (types_of gs) x ≡ Some a → slice_get (types_of gs) y ≡ Some b → CompMatches gs a b }
     ensures kinds { (gs : List RecGroup) → KeepsComposites gs → KeepsKinds gs }
-{}
-
-/// A word of a type that is given and one of a type that is wanted have no bit in common only where the first type matches the second (Core,
-/// validation, matching).
-#[tactic(auto, using(crate::proofs::WordsOfTypes::words_match))]
-pub fn words_tell_matching()
-    ensures { (gs : List RecGroup) (es : List Entry) (t u : ValType) (w v : ℕ) → IsClassesOf gs es
-        → IsGiven es t w → IsWanted es u v → bit_and w v ≡ 0 → ValMatches gs t u }
 {}

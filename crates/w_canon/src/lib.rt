@@ -10,12 +10,12 @@ mod laws;
 mod matching;
 mod rows;
 mod shape;
-mod words;
 
 pub use classes::Classes;
+pub use entry::{Entry, Kind};
+pub use forest::Span;
 pub use laws::{
     composites_of_matching_indices_match, equivalent_types_have_equivalent_supertypes,
     func_matching_is_a_preorder, index_matching_is_a_preorder, result_matching_is_a_preorder,
-    same_is_an_equivalence, val_matching_is_a_preorder, words_tell_matching,
+    same_is_an_equivalence, val_matching_is_a_preorder,
 };
-pub use words::given_word;

@@ -4,8 +4,10 @@ use Rattle.w_types.specs.declared.types.RecGroup.{RecGroup}
 use Rattle.w_types.specs.declared.types.ValType.{ValType}
 use Rattle.w_types.specs.declared.types.ValType.TheVariants.{I32}
 use Rattle.lists.specs.Rows.{Row, ε, ◌▹◌, ◌⧺◌, size}
+use Rattle.lists.proofs.Tests.{each_of}
 use Rattle.w_canon.specs.declared.entry.Entry.{Entry}
 use Rattle.w_canon.specs.Supertypes.{KeepsKinds}
+use Rattle.w_canon.proofs.TestsOfLists.{and_both}
 use Rattle.w_rules.specs.Operands.{Operand}
 use Rattle.w_rules.specs.Operands.{Known}
 use Rattle.w_rules.specs.InstructionTypes.{InstrType, fixed, polymorphic, table_polymorphic, drops, selects, tests_null, as_non_null, on_null, untyped}
@@ -14,7 +16,7 @@ use Rattle.w_rules.specs.Typing.{ref_to}
 use Rattle.w_rules.specs.View.{AreClasses}
 use Rattle.w_rules.proofs.Preorder.{operand_refl, operand_trans, row_refl}
 use Rattle.w_flow.specs.Flow.{Flow, Covers, pops, pop, pops_each, all_long, select_of, pop_ref, step, InFlow, Image, IsExact}
-use Rattle.w_flow.proofs.Options.{guard_in, guard_out, bind_in, bind_out, holds_map, with_value, and_true, and_intro}
+use Rattle.w_flow.proofs.Options.{guard_in, guard_out, bind_in, bind_out, holds_map, with_value}
 use Rattle.w_flow.proofs.Covers.{any_covers, covers_refl, covers_trans, pops_in, pops_out, pop_in, pop_out, push_in, push_out, steps_in, steps_out}
 use Rattle.w_flow.proofs.References.{pop_ref_in, pop_ref_out}
 use Rattle.w_flow.proofs.Selects.{select_below, select_is}
@@ -62,7 +64,7 @@ module _ (gs : List RecGroup) (es : List Entry) (s : AreClasses gs es) where
       bind_in (pops es p ts (ε ▹ I32)) _ _ (holds_map (pops es p ts (ε ▹ I32)) _ _
       (pops_in gs es s p ts (ε ▹ I32) (rest ⧺ t.ins) (covers_trans gs s.keeps p ts ws _ c t.polymorphic.takes)) (λ w k.
       guard_in (all_long (size v) vs && pops_each es p w (v ∷ vs)) (Some (record { any = true; operands = ε })) _
-      (and_intro (all_long (size v) vs) (pops_each es p w (v ∷ vs)) (each_long gs es s t.ins (size v) vs (long_as gs es s t.ins v t.each.0) t.each.1)
+      (and_both (all_long (size v) vs) (pops_each es p w (v ∷ vs)) (each_long gs es s t.ins (size v) vs (long_as gs es s t.ins v t.each.0) t.each.1)
       (each_popped gs es s p w t.ins rest (v ∷ vs) k t.each))
       (any_covers gs true refl us)))
 
@@ -70,8 +72,8 @@ module _ (gs : List RecGroup) (es : List Entry) (s : AreClasses gs es) where
       Image gs (table_polymorphic v vs) p ts us
   table_out p ts v vs us i =
       with_value (pops es p ts (ε ▹ I32)) _ _ (bind_out (pops es p ts (ε ▹ I32)) _ (In gs us) i) (λ w k e.
-      let g = and_true (all_long (size v) vs) (pops_each es p w (v ∷ vs)) (guard_out (all_long (size v) vs && pops_each es p w (v ∷ vs)) _ (In gs us) k).0 in
-      let h = and_true _ (pops_each es p w vs) g.1 in
+      let g = each_of (all_long (size v) vs) (pops_each es p w (v ∷ vs)) (guard_out (all_long (size v) vs && pops_each es p w (v ∷ vs)) _ (In gs us) k).0 in
+      let h = each_of _ (pops_each es p w vs) g.1 in
       let a = top (size v) w in
       let rest = beneath (size v) w in (
         (rest ⧺ a) ▹ Known I32,

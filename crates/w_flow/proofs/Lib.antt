@@ -7,9 +7,5 @@ pub mod Exact
 pub mod ShortTypes
 pub mod LabelsOfTables
 pub mod SameTypes
-pub mod SameRows
-pub mod WordedOperands
 pub mod RowsOfLists
 pub mod FittingRows
-pub mod MatchingRows
-pub mod ReadyTypes

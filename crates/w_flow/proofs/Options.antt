@@ -1,19 +1,7 @@
 -- What holds of the value of an option, where there is one.
-use Rattle.std.proofs.Common.{◌≡◌, Bool, true, false, ◌&&◌, Option, Some, None, IsTrue, if◌then◌else◌, refl}
+use Rattle.std.proofs.Common.{◌≡◌, Bool, true, false, Option, Some, None, IsTrue, if◌then◌else◌, refl}
 use Rattle.w_rules.specs.Conditions.{Holds}
 use Rattle.w_flow.specs.Flow.{◌>>=◌}
-
--- of two tests each holds where both do
-pub and_true : (a b : Bool) → IsTrue (a && b) → IsTrue a × IsTrue b
-and_true true true h = (refl, refl)
-and_true true false h = absurd (cc)
-and_true false b h = absurd (cc)
-
--- two tests that hold
-pub and_intro : (a b : Bool) → IsTrue a → IsTrue b → IsTrue (a && b)
-and_intro true true h k = refl
-and_intro true false h k = k
-and_intro false b h k = h
 
 module _ {A : Type 0} where
   -- where the test holds, what holds of the value still does

@@ -8,11 +8,11 @@ use Rattle.lists.proofs.Rows.{row_of-append, row_of-more, size-row_of, unit_left
 use Rattle.w_canon.specs.declared.entry.Entry.{Entry}
 use Rattle.w_rules.specs.Operands.{Operand as TheType, Known}
 use Rattle.w_rules.specs.Matching.{known}
+use Rattle.w_rows.specs.Operands.{type_of, types_of, row_in}
+use Rattle.w_rows.specs.declared.operand.Operand.{Operand}
+use Rattle.w_rows.proofs.WordedOperands.{row_more_in, types_length}
 use Rattle.w_flow.specs.Flow.{operand_test, pops, none_left}
-use Rattle.w_flow.specs.Operands.{type_of, types_of, row_in}
-use Rattle.w_flow.specs.declared.operand.Operand.{Operand}
 use Rattle.w_flow.proofs.SameTypes.{row_of_known}
-use Rattle.w_flow.proofs.WordedOperands.{row_more_in, types_length}
 
 -- one more at the end of a list is the topmost of its row
 pub row_more : {A : Type 0} (xs : List A) (x : A) → row_of (xs ++ x ∷ []) ≡ row_of xs ▹ x

@@ -6,10 +6,10 @@ use Rattle.w_canon.specs.declared.entry.Entry.{Entry}
 use Rattle.w_rules.specs.Operands.{Operand as TheType, Known}
 use Rattle.w_rules.specs.InstructionTypes.{fixed}
 use Rattle.w_rules.specs.Matching.{known}
+use Rattle.w_rows.specs.Operands.{type_of, row_in}
+use Rattle.w_rows.specs.declared.operand.Operand.{Operand}
+use Rattle.w_rows.proofs.WordedOperands.{row_pushed}
 use Rattle.w_flow.specs.Flow.{Flow, ◌>>=◌, operand_test, pops, step}
-use Rattle.w_flow.specs.Operands.{type_of, row_in}
-use Rattle.w_flow.specs.declared.operand.Operand.{Operand}
-use Rattle.w_flow.proofs.WordedOperands.{row_pushed}
 
 -- ## The topmost operand
 

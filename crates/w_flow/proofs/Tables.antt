@@ -3,7 +3,9 @@ use Rattle.std.proofs.Common.{◌≡◌, ℕ, zero, suc, Bool, true, false, List
 use Rattle.w_types.specs.declared.types.RecGroup.{RecGroup}
 use Rattle.w_types.specs.declared.types.ValType.{ValType}
 use Rattle.lists.specs.Rows.{Row, ε, ◌▹◌, ◌⧺◌, size}
+use Rattle.lists.proofs.Tests.{each_of}
 use Rattle.w_canon.specs.declared.entry.Entry.{Entry}
+use Rattle.w_canon.proofs.TestsOfLists.{and_both}
 use Rattle.w_rules.specs.Operands.{Operand}
 use Rattle.w_rules.specs.Operands.{Bottom}
 use Rattle.w_rules.specs.Conditions.{Holds}
@@ -12,7 +14,6 @@ use Rattle.w_rules.specs.Typing.{MatchesEach}
 use Rattle.w_rules.specs.View.{AreClasses}
 use Rattle.w_rules.proofs.Preorder.{operand_refl, row_refl, row_size, row_beside}
 use Rattle.w_flow.specs.Flow.{Covers, operand_test, pops, is_popped, pops_each, all_long}
-use Rattle.w_flow.proofs.Options.{and_true, and_intro}
 use Rattle.w_flow.proofs.Covers.{covers_refl, covers_trans, operand_found, pops_in}
 
 -- ## The topmost operands
@@ -71,7 +72,7 @@ module _ (gs : List RecGroup) (es : List Entry) (s : AreClasses gs es) where
       IsTrue (pops_each es p ts vs)
   each_popped p ts a rest [] c m = refl
   each_popped p ts a rest (v ∷ vs) c m =
-      and_intro (is_popped (pops es p ts v)) (pops_each es p ts vs)
+      and_both (is_popped (pops es p ts v)) (pops_each es p ts vs)
       (popped_by (pops es p ts v) _ (pops_in gs es s p ts v rest
       (covers_trans gs s.keeps p ts (rest ⧺ a) (rest ⧺ known v) c (row_beside gs rest rest a (known v) (row_refl gs rest) m.0))))
       (each_popped p ts a rest vs c m.1)
@@ -80,7 +81,7 @@ module _ (gs : List RecGroup) (es : List Entry) (s : AreClasses gs es) where
   pub each_long : (a : Row Operand) (n : ℕ) (vs : List (Row ValType)) → size a ≡ n → MatchesEach gs a vs → IsTrue (all_long n vs)
   each_long a n [] e m = refl
   each_long a n (v ∷ vs) e m =
-      and_intro _ (all_long n vs) (eq-eqb (size v) n (sym (known_size v) ∙ sym (row_size gs a (known v) m.0) ∙ e)) (each_long a n vs e m.1)
+      and_both _ (all_long n vs) (eq-eqb (size v) n (sym (known_size v) ∙ sym (row_size gs a (known v) m.0) ∙ e)) (each_long a n vs e m.1)
 
   -- a row is as long as the types that it matches
   pub long_as : (a : Row Operand) (v : Row ValType) → RowMatches gs a (known v) → size a ≡ size v
@@ -91,6 +92,6 @@ module _ (gs : List RecGroup) (es : List Entry) (s : AreClasses gs es) where
       MatchesEach gs (top n ts) vs
   each_matched p ts n [] l h = tt
   each_matched p ts n (v ∷ vs) l h =
-      let l2 = and_true _ (all_long n vs) l in
-      let h2 = and_true (is_popped (pops es p ts v)) (pops_each es p ts vs) h in
+      let l2 = each_of _ (all_long n vs) l in
+      let h2 = each_of (is_popped (pops es p ts v)) (pops_each es p ts vs) h in
       (subst (λ (m : ℕ). RowMatches gs (top m ts) (known v)) (eqb-true (size v) n l2.0) (top_matches p ts v h2.0), each_matched p ts n vs l2.1 h2.1)

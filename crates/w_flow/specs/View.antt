@@ -3,10 +3,10 @@ use Rattle.std.specs.Prelude.{Bool, true, false, List, Option, Some, None, if◌
 use Rattle.lists.specs.Rows.{Row, ε}
 use Rattle.w_canon.specs.declared.entry.Entry.{Entry}
 use Rattle.w_rules.specs.Operands.{Operand}
-use Rattle.w_flow.specs.declared.operand.Operand as code
+use Rattle.w_rows.specs.declared.operand.Operand as code
+use Rattle.w_rows.specs.Operands.{type_of, row_in, AreWorded}
 use Rattle.w_flow.specs.declared.flow.Flow as program
 use Rattle.w_flow.specs.Flow.{Flow}
-use Rattle.w_flow.specs.Operands.{type_of, row_in, AreWorded}
 
 abbrev pub flow_view : program.Flow → Flow
 flow_view f = record { any = f.any; operands = row_in f.operands }

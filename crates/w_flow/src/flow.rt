@@ -2,11 +2,11 @@
 //! `unreachable`. To enter is `pop_vals` and then `push_vals` in a new part, to give is `push_vals`, and `leave` is `unreachable()`.
 
 use crate::operand_list::OperandList;
-use crate::operands::{WIDE, give_behind, give_types, left};
-use crate::type_row::TypeRow;
+use crate::operands::{give_behind, give_types, left};
 use std::alloc::{AllocError, Global};
 use std::mem;
 use w_canon::Classes;
+use w_rows::{TypeRow, WIDE};
 
 /// The operands that stand at a place of a block, the topmost last, and whether more of any type may lie beneath them, since the
 /// place cannot be reached (Core, validation algorithm). Contracts see it as what `flow_view` gives. Where a method gives back
@@ -22,9 +22,9 @@ impl Flow {
     ghost use Rattle.lists.specs.Rows.{ε, ◌⧺◌, row_of, size};
     ghost use Rattle.w_canon.specs.declared.entry.Entry.{Entry};
     ghost use Rattle.w_rules.specs.Matching.{known};
+    ghost use Rattle.w_rows.specs.Operands.{row_in};
+    ghost use Rattle.w_rows.specs.TypeRows.{IsReady};
     ghost use Rattle.w_flow.specs.Flow.{pops, is_popped, ends};
-    ghost use Rattle.w_flow.specs.Operands.{row_in};
-    ghost use Rattle.w_flow.specs.TypeRows.{IsReady};
     ghost use Rattle.w_flow.specs.View.{flow_view, reached, HasWords};
 
     /// No operands, at a place that can be reached. They will stand in this room, whatever it had.
@@ -71,7 +71,7 @@ impl Flow {
     }
 
     /// How many operands there are.
-    #[tactic(auto, using(crate::proofs::WordedOperands::row_in_length))]
+    #[tactic(auto, using(w_rows::proofs::WordedOperands::row_in_length))]
     pub fn len(&self) -> usize
         ensures { result ≡ size (row_in self.now.operands) }
     {
@@ -114,7 +114,7 @@ impl Flow {
     /// Takes operands of these types where a block begins, and gives those that stand at its beginning; `None` where they cannot be
     /// taken. Those of the block stand in this room; where they are many, and all that there were, they stay where they are, and the others
     /// get the room. It fails only when out of memory.
-    #[tactic(auto, using(crate::proofs::WordedOperands::worded_taken, crate::proofs::WordedOperands::worded_none))]
+    #[tactic(auto, using(w_rows::proofs::WordedOperands::worded_taken, w_rows::proofs::WordedOperands::worded_none))]
     pub fn enter(
         &mut self,
         mut room: OperandList,
@@ -149,7 +149,7 @@ impl Flow {
 
     /// Gives operands of these types, where a block within has ended: in the room of that block's, where these are many and there are no
     /// others. Gives back the room that is left over. It fails only when out of memory.
-    #[tactic(auto, using(crate::proofs::WordedOperands::worded_same))]
+    #[tactic(auto, using(w_rows::proofs::WordedOperands::worded_same))]
     pub fn give(
         &mut self,
         mut room: OperandList,

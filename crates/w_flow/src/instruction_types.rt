@@ -1,14 +1,13 @@
 //! The types of instructions, each a step of a flow. Each step gives back whether its operands can be taken.
 
 use crate::flow::Flow;
-use crate::operand::Operand;
 use crate::operands::{
     give_each, give_types, non_null, selected, take_any, take_few, take_many, take_reference,
     take_type, turn_types,
 };
-use crate::type_row::TypeRow;
 use std::alloc::AllocError;
 use w_canon::Classes;
+use w_rows::{Operand, TypeRow};
 use w_types::PackedType;
 
 impl Flow {
@@ -17,9 +16,9 @@ impl Flow {
     ghost use Rattle.w_types.specs.declared.types.ValType.TheVariants as val;
     ghost use Rattle.w_canon.specs.declared.entry.Entry.{Entry};
     ghost use Rattle.w_rules.specs.InstructionTypes.{fixed, polymorphic, drops, selects, tests_null, as_non_null, on_null};
+    ghost use Rattle.w_rows.specs.Operands.{row_in};
+    ghost use Rattle.w_rows.specs.TypeRows.{IsReady};
     ghost use Rattle.w_flow.specs.Flow.{pops, step};
-    ghost use Rattle.w_flow.specs.Operands.{row_in};
-    ghost use Rattle.w_flow.specs.TypeRows.{IsReady};
     ghost use Rattle.w_flow.specs.View.{flow_view, flow_if, anything, HasWords};
 
     /// The type [ins] to [outs], of few types. It fails only when out of memory.
@@ -126,7 +125,7 @@ impl Flow {
     }
 
     /// The type of a `select` without a type. It fails only when out of memory.
-    #[tactic(auto, using(crate::proofs::WordedOperands::row_pushed, crate::proofs::WordedOperands::worded_pushed, crate::proofs::WordedOperands::worded_taken, crate::proofs::WordedOperands::worded_same))]
+    #[tactic(auto, using(w_rows::proofs::WordedOperands::row_pushed, w_rows::proofs::WordedOperands::worded_pushed, w_rows::proofs::WordedOperands::worded_taken, w_rows::proofs::WordedOperands::worded_same))]
     pub fn selects(&mut self, classes: &Classes) -> Result<bool, AllocError>
         ensures steps { IfOk result (λ applies. step classes.now selects self.old.any
             (row_in self.old.operands) ≡ flow_if applies self.new) }
@@ -149,7 +148,7 @@ impl Flow {
     }
 
     /// The type of `ref.is_null`. It compares no types, so the contract has no entries. It fails only when out of memory.
-    #[tactic(auto, using(crate::proofs::WordedOperands::row_pushed, crate::proofs::WordedOperands::worded_pushed, crate::proofs::WordedOperands::worded_taken, crate::proofs::WordedOperands::worded_same))]
+    #[tactic(auto, using(w_rows::proofs::WordedOperands::row_pushed, w_rows::proofs::WordedOperands::worded_pushed, w_rows::proofs::WordedOperands::worded_taken, w_rows::proofs::WordedOperands::worded_same))]
     pub fn tests_null(&mut self) -> Result<bool, AllocError>
         ensures steps { IfOk result (λ applies. step [] tests_null self.old.any
             (row_in self.old.operands) ≡ flow_if applies self.new) }
@@ -163,7 +162,7 @@ impl Flow {
     }
 
     /// The type of `ref.as_non_null`. It fails only when out of memory.
-    #[tactic(auto, using(crate::proofs::WordedOperands::row_pushed, crate::proofs::WordedOperands::worded_pushed, crate::proofs::WordedOperands::worded_taken, crate::proofs::WordedOperands::worded_same))]
+    #[tactic(auto, using(w_rows::proofs::WordedOperands::row_pushed, w_rows::proofs::WordedOperands::worded_pushed, w_rows::proofs::WordedOperands::worded_taken, w_rows::proofs::WordedOperands::worded_same))]
     pub fn as_non_null(&mut self, classes: &Classes) -> Result<bool, AllocError>
         ensures steps { IfOk result (λ applies. step classes.now as_non_null self.old.any
             (row_in self.old.operands) ≡ flow_if applies self.new) }
@@ -177,7 +176,7 @@ impl Flow {
     }
 
     /// The type of a `br_on_null` to a label that takes these types. It fails only when out of memory.
-    #[tactic(auto, using(crate::proofs::WordedOperands::row_pushed, crate::proofs::WordedOperands::worded_pushed, crate::proofs::WordedOperands::worded_taken, crate::proofs::WordedOperands::worded_same))]
+    #[tactic(auto, using(w_rows::proofs::WordedOperands::row_pushed, w_rows::proofs::WordedOperands::worded_pushed, w_rows::proofs::WordedOperands::worded_taken, w_rows::proofs::WordedOperands::worded_same))]
     pub fn on_null(&mut self, classes: &Classes, label: TypeRow) -> Result<bool, AllocError>
         requires words { HasWords classes.now self.old }
         requires ready { IsReady classes.now label }

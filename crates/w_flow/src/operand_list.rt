@@ -1,9 +1,9 @@
 //! Lists of operands that keep their room.
 ghost use Rattle.std.specs.Prelude.{◌≡◌, ◌≤◌, ◌+◌, ◌++◌, ◌∷◌, [], length, take, OnErr, OnOk};
 
-use crate::operand::Operand;
 use std::alloc::{AllocError, Global};
 use std::marker::Model;
+use w_rows::Operand;
 
 /// The operands of a block, the topmost last. Where operands are taken their places stay, so that the next ones are put there with no
 /// call for room. Contracts see the operands.
@@ -16,7 +16,7 @@ pub struct OperandList {
 
 impl Model for OperandList {
     ghost use Rattle.std.specs.Prelude.{◌≤◌, List, length, take};
-    ghost use Rattle.w_flow.specs.declared.operand.Operand.{Operand};
+    ghost use Rattle.w_rows.specs.declared.operand.Operand.{Operand};
 
     ghost Value = { List Operand };
 

@@ -1,27 +1,22 @@
 //! Operands that are taken and given, the topmost last.
-ghost use Rattle.std.specs.Prelude.{◌≡◌, ◌≤◌, ◌<◌, ◌+◌, ◌-◌, ◌++◌, List, length, take, Bool, IsTrue, if◌then◌else◌, IfOk, IfSome, Some, None};
+ghost use Rattle.std.specs.Prelude.{◌≡◌, ◌≤◌, ◌<◌, ◌-◌, List, length, take, Bool, if◌then◌else◌, IfOk, IfSome, Some, None};
 ghost use Rattle.std.specs.Option.{option_map};
 ghost use Rattle.lists.specs.Rows.{ε, ◌▹◌, ◌⧺◌, row_of};
 ghost use Rattle.w_canon.specs.declared.entry.Entry.{Entry};
 ghost use Rattle.w_rules.specs.Matching.{known};
 ghost use Rattle.w_rules.specs.Operands.{Known, Bottom};
 ghost use Rattle.w_rules.specs.Typing.{ref_to};
-ghost use Rattle.w_flow.specs.Flow.{operand_test, pops, pop, pop_ref, select_of, heap_of, step};
+ghost use Rattle.w_flow.specs.Flow.{operand_test, pops, pop, pop_ref, select_of, step};
 ghost use Rattle.w_rules.specs.InstructionTypes.{fixed};
-ghost use Rattle.w_flow.specs.Operands.{type_of, types_of, row_in, IsWorded, AreWorded};
-ghost use Rattle.w_flow.specs.Fitting.{AreApart, words_of};
-ghost use Rattle.w_flow.specs.TypeRows.{AreReady, IsReady};
+ghost use Rattle.w_rows.specs.Operands.{type_of, row_in, IsWorded, AreWorded};
+ghost use Rattle.w_rows.specs.TypeRows.{AreReady, IsReady};
 ghost use Rattle.w_flow.specs.View.{with_rest, with_type};
 
-use crate::operand::{Operand, OperandView};
 use crate::operand_list::OperandList;
-use crate::type_row::{RowWords, TypeRow};
 use std::alloc::AllocError;
 use w_canon::Classes;
+use w_rows::{Operand, OperandView, RowWords, TypeRow, WIDE, operands_fit};
 use w_types::{HeapType, PackedType, RefType, ValType};
-
-/// Rows of so many types are compared and given whole.
-pub(crate) const WIDE: usize = 8;
 
 // Whether an operand that is not just of this type stands where one of the type is wanted.
 #[inline(never)]
@@ -48,20 +43,6 @@ pub(crate) fn matches_type(classes: &Classes, operand: Operand, wanted: PackedTy
         return true;
     }
     matches_unlike(classes, operand, wanted)
-}
-
-// Whether no operand has a bit in common with the word at its place. It goes through all, so that the comparison has no branches.
-fn are_apart(operands: &[Operand], words: &[u32]) -> bool
-    requires { length operands.now ≡ length words.now }
-    ensures { IsTrue result → AreApart (words_of operands.now) words.now }
-{
-    let mut common = 0;
-    for i in 0..words.len() {
-        let given = operands[i].word;
-        let wanted = words[i];
-        common |= given & wanted;
-    }
-    common == 0
 }
 
 // How many operands are left when these types are taken one by one, or `None` where they can't be. It compares no more types than
@@ -94,7 +75,7 @@ fn left_by_each(
 
 // How many operands are left when these types are taken, or `None` where they can't be, if that shows at once. Where the place cannot be
 // reached there may be fewer operands than types, and those are compared too.
-#[tactic(auto, using(crate::proofs::FittingRows::ready_wanted))]
+#[tactic(auto, using(w_rows::proofs::ReadyRows::ready_wanted, w_rows::proofs::ReadyRows::ready_lengths))]
 fn left_at_once(
     classes: &Classes,
     any: bool,
@@ -103,7 +84,7 @@ fn left_at_once(
     words: RowWords,
 ) -> Option<Option<usize>>
     requires worded { AreWorded classes.now operands.now }
-    requires ready { AreReady classes.now types.now words.operands.now words.given.now words.wanted.now }
+    requires ready { AreReady classes.now types.now words.operands.now words.given.now words.wanted.now words.lengths.now }
     ensures what { IfSome result (λ left. pops classes.now any (row_in operands.now) (row_of types.now)
         ≡ option_map (λ n. row_in (take n operands.now)) left) }
     ensures within { IfSome result (λ left. IfSome left (λ n. n ≤ length operands.now)) }
@@ -111,7 +92,10 @@ fn left_at_once(
     let common = operands.len().min(types.len());
     let beneath = operands.len() - common;
     let made_up = types.len() - common;
-    if common < WIDE || !are_apart(&operands[beneath..], &words.wanted[made_up..]) {
+    let given = &operands[beneath..];
+    let wanted = &words.wanted[made_up..];
+    let lengths = &words.lengths[made_up..];
+    if common < WIDE || !operands_fit(given, wanted, lengths) {
         return None;
     }
     if made_up == 0 || any {
@@ -143,7 +127,7 @@ pub(crate) fn left(
 }
 
 /// Takes these types, which are few, or answers false.
-#[tactic(auto, using(crate::proofs::WordedOperands::worded_taken))]
+#[tactic(auto, using(w_rows::proofs::WordedOperands::worded_taken))]
 pub(crate) fn take_few(
     classes: &Classes,
     any: bool,
@@ -164,7 +148,7 @@ pub(crate) fn take_few(
 }
 
 /// Takes these types, which may be many, or answers false.
-#[tactic(auto, using(crate::proofs::WordedOperands::worded_taken))]
+#[tactic(auto, using(w_rows::proofs::WordedOperands::worded_taken))]
 pub(crate) fn take_many(
     classes: &Classes,
     any: bool,
@@ -187,7 +171,7 @@ pub(crate) fn take_many(
 }
 
 /// Takes an operand of this type, or answers false.
-#[tactic(auto, using(crate::proofs::WordedOperands::row_pushed, crate::proofs::WordedOperands::worded_taken))]
+#[tactic(auto, using(w_rows::proofs::WordedOperands::row_pushed, w_rows::proofs::WordedOperands::worded_taken))]
 #[inline(always)]
 pub(crate) fn take_type(
     classes: &Classes,
@@ -206,7 +190,7 @@ pub(crate) fn take_type(
 }
 
 /// Takes an operand, whatever it is.
-#[tactic(auto, using(crate::proofs::WordedOperands::row_pushed, crate::proofs::WordedOperands::worded_taken))]
+#[tactic(auto, using(w_rows::proofs::WordedOperands::row_pushed, w_rows::proofs::WordedOperands::worded_taken))]
 #[inline(always)]
 pub(crate) fn take_any(any: bool, operands: &mut OperandList) -> Option<Operand>
     ensures popped { pop any (row_in operands.old) ≡ with_type (row_in operands.new) result }
@@ -286,7 +270,7 @@ pub(crate) fn selected(one: Operand, other: Operand) -> Option<Operand>
 }
 
 /// Gives operands of these types, one by one.
-#[tactic(auto, using(crate::proofs::WordedOperands::worded_pushed))]
+#[tactic(auto, using(w_rows::proofs::WordedOperands::worded_pushed))]
 pub(crate) fn give_each(
     classes: &Classes,
     operands: &mut OperandList,
@@ -303,7 +287,7 @@ pub(crate) fn give_each(
 }
 
 /// Gives operands of these types behind the first so many, in the place of those that stand there.
-#[tactic(auto, using(crate::proofs::WordedOperands::worded_behind, crate::proofs::WordedOperands::worded_none, crate::proofs::WordedOperands::worded_taken, crate::proofs::FittingRows::ready_row, crate::proofs::FittingRows::ready_words))]
+#[tactic(auto, using(w_rows::proofs::WordedOperands::worded_behind, w_rows::proofs::WordedOperands::worded_none, w_rows::proofs::WordedOperands::worded_taken, crate::proofs::FittingRows::ready_row, w_rows::proofs::ReadyRows::ready_words))]
 pub(crate) fn give_behind(
     classes: &Classes,
     operands: &mut OperandList,

@@ -2,23 +2,22 @@
 //! Each step gives back whether its operands can be taken.
 
 use crate::flow::Flow;
-use crate::operand::Operand;
 use crate::operands::{matches_type, take_type};
 use std::alloc::AllocError;
 use w_canon::Classes;
+use w_rows::Operand;
 use w_types::PackedType;
 
 impl Flow {
-    ghost use Rattle.std.specs.Prelude.{◌≡◌, IfOk, List};
+    ghost use Rattle.std.specs.Prelude.{◌≡◌, IfOk};
     ghost use Rattle.lists.specs.Rows.{ε, ◌▹◌};
-    ghost use Rattle.w_canon.specs.declared.entry.Entry.{Entry};
     ghost use Rattle.w_rules.specs.InstructionTypes.{fixed};
+    ghost use Rattle.w_rows.specs.Operands.{row_in};
     ghost use Rattle.w_flow.specs.Flow.{step};
-    ghost use Rattle.w_flow.specs.Operands.{row_in};
     ghost use Rattle.w_flow.specs.View.{flow_if, HasWords};
 
     /// The type [] to [to]. It fails only when out of memory.
-    #[tactic(auto, using(crate::proofs::WordedOperands::row_pushed, crate::proofs::WordedOperands::worded_pushed, crate::proofs::WordedOperands::worded_replaced, crate::proofs::WordedOperands::worded_same))]
+    #[tactic(auto, using(w_rows::proofs::WordedOperands::row_pushed, w_rows::proofs::WordedOperands::worded_pushed, w_rows::proofs::WordedOperands::worded_replaced, w_rows::proofs::WordedOperands::worded_same))]
     #[inline(always)]
     pub fn gives(&mut self, classes: &Classes, to: PackedType) -> Result<bool, AllocError>
         ensures steps { IfOk result (λ applies. step classes.now (fixed ε (ε ▹ to)) self.old.any
@@ -49,7 +48,7 @@ impl Flow {
     }
 
     /// The type [from] to [to]. It fails only when out of memory.
-    #[tactic(auto, using(crate::proofs::WordedOperands::row_pushed, crate::proofs::WordedOperands::worded_pushed, crate::proofs::WordedOperands::worded_replaced, crate::proofs::WordedOperands::worded_same))]
+    #[tactic(auto, using(w_rows::proofs::WordedOperands::row_pushed, w_rows::proofs::WordedOperands::worded_pushed, w_rows::proofs::WordedOperands::worded_replaced, w_rows::proofs::WordedOperands::worded_same))]
     #[inline(always)]
     pub fn turns(
         &mut self,

@@ -4,13 +4,16 @@ use Rattle.std.specs.Prelude.{slice_get, option_map, get_or}
 use Rattle.std.proofs.lemmas.Bool.{cases_lt}
 use Rattle.std.proofs.lemmas.List.{length-append, length-map, drop_more}
 use Rattle.std.proofs.lemmas.Option.{slice_get-map, slice_get_within, slice_get-get_or}
+use Rattle.lists.proofs.Lists.{get-front}
 use Rattle.w_types.specs.declared.types.SubType.{SubType}
 use Rattle.w_types.specs.declared.types.CompType.TheVariants as comp
 use Rattle.w_types.specs.declared.types.RecGroup.{RecGroup}
 use Rattle.w_types.specs.Groups.{subtypes_of, composite_of, types_of}
 use Rattle.w_syntax.specs.declared.module.Module.{Module}
+use Rattle.w_canon.proofs.Places.{subtypes_of-cons}
 use Rattle.w_rules.specs.Types.{with_ends}
 use Rattle.w_rules.specs.Valid.{TypeValid}
+use Rattle.w_rules.proofs.ValidTypes.{paired, length-paired, ends_of_group, length-ends}
 use Rattle.w_items.specs.Firsts.{IsFirstFailing}
 use Rattle.w_items.specs.SubTypes.{IsValidSubType}
 
@@ -37,11 +40,6 @@ get_drop (suc n) [] i j e = refl
 get_drop (suc n) (x ∷ xs) i zero e = absurd (omega (arith, e))
 get_drop (suc n) (x ∷ xs) i (suc j) e = get_drop n xs i j (omega (arith, e))
 
-get_left : {A : Type 0} (xs ys : List A) (i : ℕ) → i < length xs → slice_get (xs ++ ys) i ≡ slice_get xs i
-get_left [] ys i lt = absurd (omega arith)
-get_left (x ∷ xs) ys zero lt = refl
-get_left (x ∷ xs) ys (suc i) lt = get_left xs ys i (omega arith)
-
 drop_front : {A : Type 0} (xs ys : List A) → drop (length xs) (xs ++ ys) ≡ ys
 drop_front [] ys = refl
 drop_front (x ∷ xs) ys = drop_front xs ys
@@ -58,27 +56,12 @@ drop_twice (suc n) k (suc j) (x ∷ xs) e = drop_twice n k j xs (omega (arith, e
 
 -- ## A group more
 
-abbrev paired : ℕ → List SubType → List (ℕ × SubType)
-paired end ts = map (λ t. (end, t)) ts
-
-length-paired : (end : ℕ) (ts : List SubType) → length (paired end ts) ≡ length ts
-length-paired end [] = refl
-length-paired end (t ∷ ts) = ap suc (length-paired end ts)
-
-ends_of_group : (start : ℕ) (g : RecGroup) (rest : List RecGroup) → with_ends start (g ∷ rest) ≡ paired (start + length g.types) g.types ++ with_ends (start + length g.types) rest
-unfolding with_ends
-ends_of_group start g rest = refl
-
-types_of_group : (g : RecGroup) (rest : List RecGroup) → subtypes_of (g ∷ rest) ≡ g.types ++ subtypes_of rest
-unfolding subtypes_of
-types_of_group g rest = refl
-
 -- the type at a position of the first group that is left
 at_position : (gs : List RecGroup) (start : ℕ) (g : RecGroup) (rest : List RecGroup) (k : ℕ) (t : SubType) → Left gs start (g ∷ rest) → slice_get g.types k ≡ Some t → slice_get (with_ends 0 gs) (start + k) ≡ Some (start + length g.types, t)
 at_position gs start g rest k t l e =
     let end = start + length g.types in
     let within : k < length (paired end g.types) = omega (arith, slice_get_within g.types k t e, length-paired end g.types) in
-    sym (get_drop start (with_ends 0 gs) k (start + k) refl) ∙ ap (λ xs. slice_get xs k) (l.stand ∙ ends_of_group start g rest) ∙ get_left (paired end g.types) (with_ends end rest) k within
+    sym (get_drop start (with_ends 0 gs) k (start + k) refl) ∙ ap (λ xs. slice_get xs k) (l.stand ∙ ends_of_group start g rest) ∙ get-front (paired end g.types) (with_ends end rest) k within
     ∙ slice_get-map (λ u. (end, u)) g.types k ∙ ap (option_map (λ u. (end, u))) e
 
 pub fewer_left : (gs : List RecGroup) (start : ℕ) (g : RecGroup) (rest : List RecGroup) → Left gs start (g ∷ rest) → Left gs (start + length g.types) rest
@@ -88,7 +71,7 @@ fewer_left gs start g rest l =
     record {
       stand = sym (drop_twice start (length g.types) end (with_ends 0 gs) refl) ∙ ap (drop (length g.types)) (l.stand ∙ ends_of_group start g rest)
           ∙ ap (λ (j : ℕ). drop j (paired end g.types ++ with_ends end rest)) (sym n) ∙ drop_front (paired end g.types) (with_ends end rest);
-      count = omega (arith, l.count, ap length (types_of_group g rest), length-append g.types (subtypes_of rest));
+      count = omega (arith, l.count, ap length (subtypes_of-cons g rest), length-append g.types (subtypes_of rest));
     }
 
 -- so many types are not more than there are
@@ -134,12 +117,6 @@ group_valid m start g rest l below f = split m start (length g.types) g rest l b
 -- and those before one that is not
 pub before_valid : (m : Module) (start k : ℕ) (g : RecGroup) (rest : List RecGroup) → Left m.types start (g ∷ rest) → ValidBelow m start → IsFailing m start (start + length g.types) g.types (Some k) → ValidBelow m (start + k)
 before_valid m start k g rest l below f = split m start k g rest l below (omega (arith, slice_get_within g.types k f.0 f.1)) (λ j t lt is. f.3 j t lt is)
-
-length-ends : (start : ℕ) (gs : List RecGroup) → length (with_ends start gs) ≡ length (subtypes_of gs)
-unfolding with_ends subtypes_of
-length-ends start [] = refl
-length-ends start (g ∷ gs) =
-    omega (arith, length-append (paired (start + length g.types) g.types) (with_ends (start + length g.types) gs), length-append g.types (subtypes_of gs), length-paired (start + length g.types) g.types, length-ends (start + length g.types) gs)
 
 -- a type below a bound of valid ones is typed
 pub typed_below : (m : Module) (n : ℕ) → ValidBelow m n → (j : ℕ) → j < n → j < length (types_of m.types) → TypeValid m j

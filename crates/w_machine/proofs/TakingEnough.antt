@@ -22,6 +22,7 @@ use Rattle.w_rules.specs.Operands.{Operand, Known}
 use Rattle.w_rules.specs.Spaces.{context_of}
 use Rattle.w_rules.specs.Typing.{HasInstrType}
 use Rattle.w_rules.specs.Valid.{Valid}
+use Rattle.w_rules.proofs.ValidTypes.{keeps_kinds}
 use Rattle.w_segment.specs.Link.{top}
 use Rattle.w_conts.specs.Conts.{kept_at}
 use Rattle.w_reduce.specs.Store.{Store}
@@ -34,7 +35,6 @@ use Rattle.w_typed.specs.Stores.{ContTyped, kept, StoreTyped}
 use Rattle.w_typed.specs.Contexts.{Scope, in_scope, RestTyped, code_alone}
 use Rattle.w_typed.specs.Configurations.{Typed}
 use Rattle.w_typed.proofs.Indirect.{one_type}
-use Rattle.w_typed.proofs.KeptComposites.{keeps_kinds}
 use Rattle.w_typed.proofs.Places.{instance_at}
 use Rattle.w_typed.proofs.References.{if_valid_has, if_valid_holds}
 use Rattle.w_typed.proofs.Subsumption.{values_sub}

@@ -2,7 +2,7 @@
 use Rattle.std.specs.Prelude.{List, [], ◌∷◌}
 use Rattle.std.specs.Coded.{×_prop, Unit-prop}
 use Rattle.w_canon.specs.declared.entry.Entry.{Entry}
-use Rattle.w_flow.specs.OneProof.{AreWorded-prop}
+use Rattle.w_rows.specs.OneProof.{AreWorded-prop}
 use Rattle.w_flow.specs.View.{HasWords}
 use Rattle.w_steps.specs.declared.frame.Frame as code
 

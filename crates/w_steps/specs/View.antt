@@ -5,12 +5,12 @@ use Rattle.w_types.specs.declared.types.ValType.{ValType}
 use Rattle.w_types.specs.declared.types.ValType.TheVariants.{Ref}
 use Rattle.lists.specs.Rows.{ε, ◌▹◌, row_of}
 use Rattle.w_flow.specs.Flow.{Flow}
-use Rattle.w_flow.specs.declared.type_row.TypeRow.{TypeRow}
-use Rattle.w_flow.specs.declared.type_rows.FuncRows.{FuncRows}
 use Rattle.w_rules.specs.Context.{Context, Arrow}
 use Rattle.w_rules.specs.InstructionTypes.{InstrType, fixed, untyped}
 use Rattle.w_rules.specs.Spaces.{in_body}
 use Rattle.w_rules.specs.View.{context_in}
+use Rattle.w_rows.specs.declared.type_row.TypeRow.{TypeRow}
+use Rattle.w_rows.specs.declared.type_rows.FuncRows.{FuncRows}
 use Rattle.w_steps.specs.Labels.{within}
 use Rattle.w_steps.specs.declared.frame_kind.FrameKind.{FrameKind}
 use Rattle.w_steps.specs.declared.frame.Frame as code

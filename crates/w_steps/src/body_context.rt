@@ -3,10 +3,10 @@ ghost use Rattle.std.specs.Prelude.{◌≡◌, [], ◌∷◌, List, IfSome, slic
 ghost use Rattle.std.specs.Option.{option_map};
 ghost use Rattle.lists.specs.Rows.{row_of};
 ghost use Rattle.w_canon.specs.declared.entry.Entry.{Entry};
-ghost use Rattle.w_flow.specs.TypeRows.{IsReady, AreReadyRows};
 ghost use Rattle.w_rules.specs.Context.{arrow_of};
 ghost use Rattle.w_rules.specs.Spaces.{in_body};
 ghost use Rattle.w_rules.specs.View.{context_in};
+ghost use Rattle.w_rows.specs.TypeRows.{IsReady, AreReadyRows};
 ghost use Rattle.w_steps.specs.Labels.{arrow_at, label_at, labels_of};
 ghost use Rattle.w_steps.specs.View.{arrow_view, outer_kinds};
 
@@ -14,8 +14,8 @@ use crate::frame::Frame;
 use crate::frame_kind::FrameKind;
 use crate::setting::Setting;
 use std::slice::from_ref;
-use w_flow::{FuncRows, TypeRow};
 use w_locals::Locals;
+use w_rows::{FuncRows, TypeRow};
 use w_syntax::{BlockKind, BlockType};
 
 /// What the typing of an instruction goes by, but for the operands: the module, the function's locals and those of them that are
@@ -120,7 +120,7 @@ impl<'c> BodyContext<'c> {
     ghost use Rattle.std.specs.Prelude.{◌≡◌, IfSome, slice_get};
     ghost use Rattle.std.specs.Option.{option_map};
     ghost use Rattle.lists.specs.Rows.{row_of};
-    ghost use Rattle.w_flow.specs.TypeRows.{IsReady};
+    ghost use Rattle.w_rows.specs.TypeRows.{IsReady};
     ghost use Rattle.w_steps.specs.View.{context_at};
 
     /// What a branch to a label takes.

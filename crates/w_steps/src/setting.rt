@@ -1,9 +1,9 @@
 //! What a body is typed in.
 ghost use Rattle.w_types.specs.Groups.{types_of};
-ghost use Rattle.w_flow.specs.TypeRows.{AreTypeRows, IsReady};
-ghost use Rattle.w_flow.specs.OneProof.{AreTypeRows-prop, IsReady-prop};
+ghost use Rattle.w_rows.specs.TypeRows.{AreTypeRows, IsReady};
+ghost use Rattle.w_rows.specs.OneProof.{AreTypeRows-prop, IsReady-prop};
 
-use w_flow::{FuncRows, TypeRow, TypeRows};
+use w_rows::{FuncRows, TypeRow, TypeRows};
 use w_rules::Context;
 
 /// What a body is typed in: what its module has by index, the parameters and results of the module's function types, of which wide ones
@@ -22,7 +22,7 @@ impl<'a> Setting<'a> {
     ghost use Rattle.std.specs.Option.{option_map};
     ghost use Rattle.w_rules.specs.Context.{func_of, cont_of, type_of_func, type_of_tag};
     ghost use Rattle.w_rules.specs.View.{context_in};
-    ghost use Rattle.w_flow.specs.TypeRows.{AreReadyRows, rows_type};
+    ghost use Rattle.w_rows.specs.TypeRows.{AreReadyRows, rows_type};
 
     /// The function type of this index, where the type of this index is one.
     pub fn func_of(&self, index: u32) -> Option<FuncRows<'a>>

@@ -18,6 +18,7 @@ use Rattle.w_canon.specs.Supertypes.{KeepsKinds}
 use Rattle.w_rules.specs.Conditions.{Holds}
 use Rattle.w_rules.specs.Spaces.{tables_of, memories_of}
 use Rattle.w_rules.specs.Valid.{Valid, ElementItem, ElementValid, IsElemModeValid}
+use Rattle.w_rules.proofs.ValidTypes.{keeps_kinds}
 use Rattle.w_reduce.specs.Values.{Val}
 use Rattle.w_reduce.specs.Store.{Store, Table}
 use Rattle.w_reduce.specs.Program.{Program}
@@ -28,7 +29,6 @@ use Rattle.w_reduce.specs.Start as start
 use Rattle.w_reduce.specs.Start.{elements_copied, element_started, data_put, data_copied, data_started, in_order}
 use Rattle.w_typed.specs.Values.{Arrows}
 use Rattle.w_typed.specs.Stores.{TableTyped, MemoryTyped, SegmentTyped, StoreTyped}
-use Rattle.w_typed.proofs.KeptComposites.{keeps_kinds}
 use Rattle.w_typed.proofs.Elements.{all_sub}
 use Rattle.w_typed.proofs.Memories.{memory_put, data_dropped}
 use Rattle.w_typed.proofs.Pages.{init_typed, data_bytes}

@@ -18,8 +18,8 @@ use Rattle.w_rules.specs.Context.{func_at, index_in_cont, func_index_of_cont, co
 use Rattle.w_rules.specs.Spaces.{context_of}
 use Rattle.w_rules.specs.Types.{IsValidCompType}
 use Rattle.w_rules.specs.Valid.{Valid, TypeItem, TypeValid}
-use Rattle.w_rules.proofs.ValidTypes.{subtype_there}
-use Rattle.w_typed.proofs.KeptComposites.{composite_is, keeps_composites, keeps_kinds}
+use Rattle.w_rules.proofs.ValidTypes.{subtype_there, composite_is, keeps_kinds}
+use Rattle.w_typed.proofs.KeptComposites.{keeps_composites}
 use Rattle.w_typed.proofs.TypeKinds.{is_cont}
 use Rattle.w_typed.proofs.SameTypes.{SameFunction, function_matches}
 

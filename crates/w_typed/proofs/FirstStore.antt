@@ -21,6 +21,7 @@ use Rattle.w_canon.specs.Supertypes.{KeepsKinds}
 use Rattle.w_rules.specs.Bodies.{ConstTyped}
 use Rattle.w_rules.specs.Spaces.{as_global, imports_by, context_of, globals_of, globals_below}
 use Rattle.w_rules.specs.Valid.{Valid, GlobalItem, TableItem, MemoryItem, ElementItem, most_elements, most_pages, AreLimitsValid, GlobalValid, TableValid, ElementValid, IsInitValid}
+use Rattle.w_rules.proofs.ValidTypes.{keeps_kinds}
 use Rattle.w_tables.specs.declared.entries.Printer.{Printer}
 use Rattle.w_reduce.specs.Values.{Val}
 use Rattle.w_reduce.specs.Store.{Store}
@@ -31,7 +32,6 @@ use Rattle.w_reduce.specs.Start.{bare, with_globals, filling, table_of, with_tab
 use Rattle.w_typed.specs.Values.{ValueTyped, a_null, AllTyped}
 use Rattle.w_typed.specs.Ranges.{ConstantsFit, InitFits, NumbersFit}
 use Rattle.w_typed.specs.Stores.{Instances, no_instance, instances, TableTyped, MemoryTyped, GlobalTyped, SegmentTyped, DataTyped, ContTyped, StoreTyped}
-use Rattle.w_typed.proofs.KeptComposites.{keeps_kinds}
 use Rattle.w_typed.proofs.ConstantValues.{knowing, Holding, value_typed}
 use Rattle.w_typed.proofs.ManyInstances.{seam, instances_beside, instances_made, instances_of}
 use Rattle.w_typed.proofs.Pages.{fresh_typed}

@@ -12,29 +12,17 @@ use Rattle.w_syntax.specs.declared.module.Module.{Module}
 use Rattle.w_canon.specs.Classed.{count}
 use Rattle.w_canon.specs.Equivalence.{Place, Same, SameIndex}
 use Rattle.w_canon.specs.Matching.{CompMatches}
-use Rattle.w_canon.specs.Supertypes.{KeepsKinds, KeepsComposites}
-use Rattle.w_canon.proofs.Composites.{comp_refl, kinds_kept}
+use Rattle.w_canon.specs.Supertypes.{KeepsComposites}
+use Rattle.w_canon.proofs.Composites.{comp_refl}
 use Rattle.w_canon.proofs.Laminar.{item_at}
 use Rattle.w_canon.proofs.Places.{subtypes_of-cons, subtypes_of-nil, within_all, type_at_place}
 use Rattle.w_canon.proofs.Supertypes.{related_at}
 use Rattle.w_rules.specs.Types.{IsValidCompType, with_ends}
 use Rattle.w_rules.specs.Valid.{Valid, TypeItem, TypeValid}
-use Rattle.w_rules.proofs.ValidTypes.{matches_supertype}
+use Rattle.w_rules.proofs.ValidTypes.{paired, length-paired, ends_of_group, composite_is, matches_supertype}
 use Rattle.w_typed.proofs.AlikeTypes.{end_of, alike_same, alike_comp_matches}
 
 -- ## The end of a type's group
-
-abbrev paired : ℕ → List SubType → List (ℕ × SubType)
-paired end ts = map (λ t. (end, t)) ts
-
-length-paired : (end : ℕ) (ts : List SubType) → length (paired end ts) ≡ length ts
-length-paired end [] = refl
-length-paired end (t ∷ ts) = ap suc (length-paired end ts)
-
-ends_of_group : (start : ℕ) (g : RecGroup) (gs : List RecGroup)
-    → with_ends start (g ∷ gs) ≡ paired (start + length g.types) g.types ++ with_ends (start + length g.types) gs
-unfolding with_ends
-ends_of_group start g gs = refl
 
 count-cons : (g : RecGroup) (gs : List RecGroup) → count (g ∷ gs) ≡ length g.types + count gs
 count-cons g gs = ap (λ (ts : List SubType). length ts) (subtypes_of-cons g gs) ∙ length-append g.types (subtypes_of gs)
@@ -81,10 +69,6 @@ valid_at_place m v i P t there =
 
 -- ## Composite types
 
--- the composite type of a type
-pub composite_is : (gs : List RecGroup) (i : ℕ) (t : SubType) (c : CompType) → slice_get (subtypes_of gs) i ≡ Some t → slice_get (types_of gs) i ≡ Some c → t.composite ≡ c
-composite_is gs i t c is there = let e = slice_get-map composite_of (subtypes_of gs) i ∙ ap (option_map composite_of) is in cc
-
 -- those of types at one position of equal groups match
 composites_alike : (m : Module) → Valid m → (n : ℕ) → n ≤ length m.types → (x y : ℕ) → Same n m.types x y → (a b : CompType)
     → slice_get (types_of m.types) x ≡ Some a → slice_get (types_of m.types) y ≡ Some b → CompMatches m.types a b
@@ -112,7 +96,3 @@ keeps_composites m v = record {
   equal = composites_same m v;
   super = λ x z a b h is at. matches_supertype m x z (type_valid m v x (slice_get_within (subtypes_of m.types) x h.type h.is)) h a b is at;
 }
-
--- so each is of its supertype's kind
-pub keeps_kinds : (m : Module) → Valid m → KeepsKinds m.types
-keeps_kinds m v = kinds_kept m.types (keeps_composites m v)

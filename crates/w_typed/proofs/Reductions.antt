@@ -23,6 +23,7 @@ use Rattle.w_rules.specs.Operands.{Known}
 use Rattle.w_rules.specs.Typing.{HasType, HasInstrType, Derives}
 use Rattle.w_rules.specs.Valid.{Valid}
 use Rattle.w_rules.proofs.Preorder.{row_refl, row_size}
+use Rattle.w_rules.proofs.ValidTypes.{keeps_kinds}
 use Rattle.w_reduce.specs.Values.{Val}
 use Rattle.w_reduce.specs.Store.{Store}
 use Rattle.w_reduce.specs.Terms.{Administrative, Context}
@@ -38,7 +39,6 @@ use Rattle.w_reduce.specs.Room.{most_operands}
 use Rattle.w_typed.specs.Contexts.{Scope, under, in_scope, IsLow, CodeTyped, RestTyped, code_alone, invoke_first, branch_first, Subset, Within}
 use Rattle.w_typed.proofs.Switches.{switching_safe}
 use Rattle.w_typed.specs.Configurations.{IsSafe, goes, traps, is_limited, ends, ReductionsAreSafe, NextsAreSafe}
-use Rattle.w_typed.proofs.KeptComposites.{keeps_kinds}
 use Rattle.w_typed.proofs.Subsumption.{values_sub}
 use Rattle.w_typed.proofs.TypedOperands.{number_taken}
 use Rattle.w_typed.proofs.Behind.{code_behind}

@@ -17,7 +17,8 @@ use Rattle.w_canon.proofs.Matches.{func_by_kind}
 use Rattle.w_canon.proofs.Supertypes.{index_kinds}
 use Rattle.w_rules.specs.Matching.{value, RowMatches, known}
 use Rattle.w_rules.specs.Valid.{Valid}
-use Rattle.w_typed.proofs.KeptComposites.{keeps_composites, keeps_kinds}
+use Rattle.w_rules.proofs.ValidTypes.{keeps_kinds}
+use Rattle.w_typed.proofs.KeptComposites.{keeps_composites}
 use Rattle.w_typed.proofs.TypeKinds.{func_here}
 
 -- ## Types that match

@@ -2,12 +2,12 @@
 ghost use Rattle.std.specs.Prelude.{◌≡◌, IfOk};
 ghost use Rattle.w_types.specs.Groups.{types_of};
 ghost use Rattle.w_canon.specs.IsClassesOf.{IsClassesOf};
-ghost use Rattle.w_flow.specs.TypeRows.{AreTypeRows};
+ghost use Rattle.w_rows.specs.TypeRows.{AreTypeRows};
 
 use std::alloc::{AllocError, Global};
 use std::marker::Model;
 use w_canon::Classes;
-use w_flow::TypeRows;
+use w_rows::TypeRows;
 use w_types::RecGroups;
 
 /// The types of a module with their classes, and the parameters and results of function types. It has lists of its own, so that the module
@@ -24,7 +24,7 @@ impl Model for ModuleTypes {
     ghost use Rattle.w_types.specs.declared.types.RecGroup.{RecGroup};
     ghost use Rattle.w_types.specs.Groups.{types_of};
     ghost use Rattle.w_canon.specs.IsClassesOf.{IsClassesOf};
-    ghost use Rattle.w_flow.specs.TypeRows.{AreTypeRows};
+    ghost use Rattle.w_rows.specs.TypeRows.{AreTypeRows};
 
     ghost Value = { List RecGroup };
 

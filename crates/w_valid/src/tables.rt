@@ -3,16 +3,16 @@ ghost use Rattle.std.specs.Prelude.{◌≡◌, IfOk, OnOk};
 ghost use Rattle.w_syntax.specs.declared.module.Module.{Module as TheModule};
 ghost use Rattle.w_types.specs.Groups.{types_of};
 ghost use Rattle.w_canon.specs.IsClassesOf.{IsClassesOf};
-ghost use Rattle.w_flow.specs.TypeRows.{AreTypeRows};
 ghost use Rattle.w_rules.specs.DataNeeds.{with_datas};
 ghost use Rattle.w_rules.specs.Spaces.{context_of};
 ghost use Rattle.w_rules.specs.View.{context_in};
 ghost use Rattle.w_syntax.specs.SameBefore.{SameBefore};
+ghost use Rattle.w_rows.specs.TypeRows.{AreTypeRows};
 ghost use Rattle.w_valid.specs.Tables.{AreDue, AreTablesIn, AreTablesOf};
 
 use crate::module_types::ModuleTypes;
 use std::alloc::{AllocError, Global};
-use w_flow::TypeRows;
+use w_rows::TypeRows;
 use w_rules::{Context, Spaces, declared_functions, keeps_type_limits};
 use w_syntax::Module;
 

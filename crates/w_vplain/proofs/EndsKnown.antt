@@ -2,9 +2,11 @@
 use Rattle.std.proofs.Common.{◌≡◌, Bool, true, false, ◌&&◌, List, [], ◌∷◌, Option, Some, None, if◌then◌else◌, IsTrue, refl, sym, ◌∙◌}
 use Rattle.std.proofs.lemmas.Bool.{false≢true}
 use Rattle.lists.specs.Rows.{Row, ε, ◌⧺◌}
+use Rattle.lists.proofs.Tests.{each_of}
 use Rattle.w_syntax.specs.Code.{Code, Done}
 use Rattle.w_syntax.specs.declared.instructions.BlockType.{BlockType}
 use Rattle.w_canon.specs.declared.entry.Entry.{Entry}
+use Rattle.w_canon.proofs.TestsOfLists.{and_both}
 use Rattle.w_rules.specs.View.{AreClasses}
 use Rattle.w_rules.specs.Operands.{Operand}
 use Rattle.w_rules.specs.Context.{Context, Arrow, arrow_of}
@@ -22,7 +24,6 @@ use Rattle.w_vplain.proofs.Nodes.{Inner, is_block, is_then, is_else, Whole, node
 use Rattle.w_rules.proofs.Derive.{set_by-after}
 use Rattle.w_rules.proofs.Preorder.{row_refl}
 use Rattle.w_flow.proofs.Covers.{push_in, push_out}
-use Rattle.w_flow.proofs.Options.{and_intro, and_true}
 
 -- ## The second branch begins
 
@@ -74,14 +75,14 @@ whole_in : (es : List Entry) (c : Context) → AreClasses c.types es → (s : Li
     ((us : Row Operand) → Reaches c s (open_block k f d) ls us → Covers c.types p ts us) →
     Whole c (set_at s ls) k f d (kinds_of ls) a → IsTrue (ends es p ts a.to && end_test es k a)
 whole_in es c types s k f d ls a eq p ts g w =
-    and_intro _ _ (ends_in c.types es types p ts a.to (g (known a.to) (at_held (arrow_at c k) a _ eq w.0))) (end_test_in es c types k a w.1)
+    and_both _ _ (ends_in c.types es types p ts a.to (g (known a.to) (at_held (arrow_at c k) a _ eq w.0))) (end_test_in es c types k a w.1)
 
 -- and the other way
 whole_out : (es : List Entry) (c : Context) → AreClasses c.types es → (s : List Bool) (k : FrameKind) (f d : Code) (ls : List OpenBlock) (a : Arrow) → arrow_at c k ≡ Some a → (p : Bool) (ts : Row Operand) →
     ((us : Row Operand) → Covers c.types p ts us → Reaches c s (open_block k f d) ls us) →
     IsTrue (ends es p ts a.to && end_test es k a) → Whole c (set_at s ls) k f d (kinds_of ls) a
 whole_out es c types s k f d ls a eq p ts g h =
-    let t = and_true _ _ h in
+    let t = each_of _ _ h in
     (held_at (arrow_at c k) a _ eq (g (known a.to) (ends_out c.types es types p ts a.to t.0)), end_test_out es c types k a t.1)
 
 -- in another block, by the test of what is left
@@ -134,9 +135,9 @@ body_case : (es : List Entry) (c : Context) → AreClasses c.types es → (s : L
     StandsAll c s ε (framed s p ts (open_block kind.Body f d) [] ∷ []) (open_block kind.Body f d ∷ []) →
     (b : Bool) → (ends es p ts c.results && true) ≡ b → Knows c s (if b then Some [] else None) (ended d)
 body_case es c types s f d p ts st false test = λ good.
-    false≢true (sym test ∙ and_intro _ _ (ends_in c.types es types p ts c.results (st.0.reaches (known c.results) (tt, good))) refl)
+    false≢true (sym test ∙ and_both _ _ (ends_in c.types es types p ts c.results (st.0.reaches (known c.results) (tt, good))) refl)
 body_case es c types s f d p ts st true test =
-    (tt, (st.0.reached (known c.results) (ends_out c.types es types p ts c.results (and_true _ _ test).0)).1)
+    (tt, (st.0.reached (known c.results) (ends_out c.types es types p ts c.results (each_of _ _ test).0)).1)
 
 -- an end
 pub end_known : (es : List Entry) (c : Context) → AreClasses c.types es → (s : List Bool) (k : FrameKind) (f d : Code) (p : Bool) (ts : Row Operand) (ls : List OpenBlock) (fs : List Frame) →

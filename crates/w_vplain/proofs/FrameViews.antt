@@ -10,7 +10,6 @@ use Rattle.w_syntax.specs.declared.instructions.Op.{Op}
 use Rattle.w_syntax.specs.declared.instructions.Op.TheVariants as op
 use Rattle.w_canon.specs.declared.entry.Entry.{Entry}
 use Rattle.w_flow.specs.Flow.{Flow, ◌>>=◌, step}
-use Rattle.w_flow.specs.declared.type_row.TypeRow.{TypeRow}
 use Rattle.w_flow.specs.View.{flow_view}
 use Rattle.w_rules.specs.Operands.{Operand}
 use Rattle.w_rules.specs.Context.{Context}
@@ -19,6 +18,7 @@ use Rattle.w_rules.specs.Matching.{known}
 use Rattle.w_rules.specs.Peak.{or_none}
 use Rattle.std.specs.Option.{unwrap_or}
 use Rattle.w_rules.specs.Spaces.{in_body}
+use Rattle.w_rows.specs.declared.type_row.TypeRow.{TypeRow}
 use Rattle.w_vplain.specs.Frames.{Frame, frame_kinds, no_frames, leave, other_next, end_next, op_next}
 use Rattle.w_steps.specs.Labels.{arrow_at, within}
 use Rattle.w_vplain.specs.Measures.{total, tally}

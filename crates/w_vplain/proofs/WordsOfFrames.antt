@@ -1,7 +1,7 @@
 -- The words of the operands of blocks, where blocks begin and end.
 use Rattle.std.proofs.Common.{◌≡◌, List, [], ◌∷◌, ◌++◌, sym, subst}
 use Rattle.w_canon.specs.declared.entry.Entry.{Entry}
-use Rattle.w_flow.specs.Operands.{AreWorded}
+use Rattle.w_rows.specs.Operands.{AreWorded}
 use Rattle.w_flow.specs.View.{HasWords}
 use Rattle.w_flow.specs.declared.flow.Flow.{Flow}
 use Rattle.w_steps.specs.FramesWorded.{EachHasWords}

@@ -9,8 +9,8 @@ use Rattle.w_rules.specs.Conditions.{Condition}
 use Rattle.w_rules.specs.Context.{Context}
 use Rattle.w_rules.specs.InstructionTypes.{fixed, untyped, instr_type, sets}
 use Rattle.w_rules.specs.Peak.{or_none, extra}
+use Rattle.w_rows.specs.TypeRows.{IsReady}
 use Rattle.w_flow.specs.Flow.{◌>>=◌, step}
-use Rattle.w_flow.specs.TypeRows.{IsReady}
 use Rattle.w_steps.specs.Labels.{within, labels_of}
 use Rattle.w_vplain.specs.Prefixes.{OpenBlock, Prefix, open_at, ended, malformed, kinds_of, set_at}
 use Rattle.w_vplain.specs.Frames.{Frame, next}

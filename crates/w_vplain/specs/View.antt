@@ -2,7 +2,7 @@
 use Rattle.std.specs.Prelude.{Bool, List, [], ◌∷◌, Option, Some, None}
 use Rattle.w_types.specs.declared.types.ValType.{ValType}
 use Rattle.lists.specs.Rows.{Row, ◌▹◌, row_of}
-use Rattle.w_flow.specs.declared.type_row.TypeRow.{TypeRow}
+use Rattle.w_rows.specs.declared.type_row.TypeRow.{TypeRow}
 use Rattle.w_flow.specs.View.{flow_view}
 use Rattle.w_vplain.specs.Frames.{Frame, leave}
 use Rattle.w_locals.specs.Locals.{first_set, outer_sets}

@@ -2,11 +2,11 @@
 ghost use Rattle.std.specs.Prelude.{◌≡◌, ◌∷◌, [], Bool, List, IfOk, IfSome, is_some, if◌then◌else◌};
 ghost use Rattle.lists.specs.Rows.{row_of};
 ghost use Rattle.w_flow.specs.Flow.{pops};
-ghost use Rattle.w_flow.specs.TypeRows.{IsReady, AreReadyRows};
 ghost use Rattle.w_flow.specs.View.{flow_view, reached, HasWords};
 ghost use Rattle.w_rules.specs.Matching.{known};
 ghost use Rattle.w_rules.specs.Spaces.{in_body};
 ghost use Rattle.w_rules.specs.View.{context_in};
+ghost use Rattle.w_rows.specs.TypeRows.{IsReady, AreReadyRows};
 ghost use Rattle.w_steps.specs.View.{arrow_view};
 ghost use Rattle.w_vplain.specs.Frames.{Frame as TheFrame, enter_next, other_next, end_test as needs_no_branch, end_next, no_frames};
 ghost use Rattle.w_vplain.specs.Prefixes.{taken_by};
@@ -15,7 +15,8 @@ ghost use Rattle.w_vplain.specs.View.{frame_view, inner_with, else_with, left_wi
 
 use std::alloc::AllocError;
 use w_canon::Classes;
-use w_flow::{Flow, FuncRows, OperandList, TypeRow};
+use w_flow::{Flow, OperandList};
+use w_rows::{FuncRows, TypeRow};
 use w_steps::{Frame, FrameKind, Setting, arrow};
 
 // Takes what a block with these parameters takes, and gives the operands at its beginning.

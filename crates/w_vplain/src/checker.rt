@@ -1,7 +1,7 @@
 //! The checker of one body. Of the standard's validation algorithm `outer` with `top` is `ctrls`, `enter_block` is `push_ctrl` and
 //! `end_block` is `pop_ctrl`; the log in `locals` is `inits`.
+ghost use Rattle.w_rows.specs.OneProof.{AreWorded-prop};
 ghost use Rattle.w_flow.specs.View.{HasWords};
-ghost use Rattle.w_flow.specs.OneProof.{AreWorded-prop};
 ghost use Rattle.w_steps.specs.FramesWorded.{EachHasWords, EachHasWords-prop};
 
 use std::alloc::Global;

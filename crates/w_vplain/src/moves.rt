@@ -1,6 +1,6 @@
 //! What a call of the checker is made for.
 
-use w_flow::TypeRow;
+use w_rows::TypeRow;
 use w_syntax::PackedInstr;
 use w_types::ValType;
 

@@ -2,8 +2,6 @@
 use Rattle.std.proofs.Common.{◌≡◌, ℕ, List, Option, Some, None, refl, sym, ap, ◌∙◌, subst}
 use Rattle.std.specs.Borrow.{Bor}
 use Rattle.std.specs.Option.{option_copied, option_map}
-use Rattle.w_flow.specs.TypeRows.{rows_type}
-use Rattle.w_flow.specs.declared.type_rows.FuncRows.{FuncRows}
 use Rattle.w_types.specs.declared.types.FuncType.{FuncType}
 use Rattle.w_types.specs.declared.types.ValType.{ValType}
 use Rattle.lists.specs.Rows.{Row, ε, ◌▹◌, row_of}
@@ -11,6 +9,8 @@ use Rattle.w_syntax.specs.declared.instructions.SwitchingOp.{SwitchingOp}
 use Rattle.w_syntax.specs.declared.instructions.SwitchingOp.TheVariants as op
 use Rattle.w_rules.specs.Context.{Context, type_of_tag, func_index_of_cont}
 use Rattle.w_rules.specs.InstructionTypes.{fixed, cont_new_type, call_type, nullable, non_null}
+use Rattle.w_rows.specs.TypeRows.{rows_type}
+use Rattle.w_rows.specs.declared.type_rows.FuncRows.{FuncRows}
 use Rattle.w_vswitch.specs.Rows.{RowAt}
 
 -- what was found is there

@@ -7,6 +7,7 @@ use Rattle.w_types.specs.declared.types.ValType.{ValType}
 use Rattle.w_types.specs.declared.types.ValType.TheVariants.{Ref}
 use Rattle.lists.specs.Rows.{Row, ◌▹◌, row_of, listed}
 use Rattle.lists.proofs.Rows.{listed-row_of}
+use Rattle.lists.proofs.Tests.{both_decided}
 use Rattle.w_canon.specs.declared.entry.Entry.{Entry}
 use Rattle.w_canon.specs.Matching.{ResultMatches}
 use Rattle.w_canon.specs.IsClassesOf.{IsClassesOf}
@@ -17,11 +18,6 @@ use Rattle.w_rules.specs.Context.{Context, type_of_tag, cont_of}
 use Rattle.w_vswitch.specs.Rows.{label_test, last_index}
 use Rattle.w_vswitch.proofs.FoundTypes.{one_value}
 use Rattle.w_vswitch.proofs.LastTypes.{last_found}
-
--- two tests tell both
-both_decided : (b c : Bool) {P Q : Type 0} → IsTrue b ↔ P → IsTrue c ↔ Q → IsTrue (b && c) ↔ (P × Q)
-both_decided true c h k = (λ t. (h.0 refl, k.0 t), λ p. k.1 p.1)
-both_decided false c h k = (λ t. absurd (cc), λ p. h.1 p.0)
 
 module _ (es : List Entry) (c : Context) (st : IsClassesOf c.types es) (results : List ValType) where
   -- the test tells that all match

@@ -3,15 +3,15 @@ ghost use Rattle.std.specs.Prelude.{◌≡◌, ◌↔◌, ℕ, ◌∷◌, [], Al
 ghost use Rattle.lists.specs.Rows.{row_of};
 ghost use Rattle.w_rules.specs.Conditions.{ClauseTyped, LabelClauseTyped, SwitchClauseTyped};
 ghost use Rattle.w_rules.specs.Peak.{clause_tops};
+ghost use Rattle.w_rows.specs.TypeRows.{IsReady, AreReadyRows, rows_type};
 ghost use Rattle.w_vplain.specs.Row.{above};
 ghost use Rattle.w_vswitch.specs.Places.{Anywhere, AtEnds};
 ghost use Rattle.w_vswitch.specs.Rows.{label_test};
 ghost use Rattle.w_vplain.specs.Standing.{classes_for};
-ghost use Rattle.w_flow.specs.TypeRows.{IsReady, AreReadyRows, rows_type};
 
 use crate::continuations::last_index;
 use w_canon::Classes;
-use w_flow::{FuncRows, TypeRow};
+use w_rows::{FuncRows, TypeRow};
 use w_steps::Setting;
 use w_syntax::Clause;
 use w_vplain::Checker;

@@ -2,11 +2,11 @@
 ghost use Rattle.std.specs.Prelude.{◌≡◌, IfOk, IfSome, IsTrue, Some, true, slice_get};
 ghost use Rattle.lists.specs.Rows.{row_of};
 ghost use Rattle.w_flow.specs.Flow.{step, fits_one, fit_each};
-ghost use Rattle.w_flow.specs.TypeRows.{IsReady};
 ghost use Rattle.w_flow.specs.View.{flow_view, flow_if, HasWords};
 ghost use Rattle.w_rules.specs.InstructionTypes.{br_if_type, br_on_null_type, br_on_non_null_type, br_table_type, labels_at, call_type, call_indirect_type, call_ref_type, control_op_type};
 ghost use Rattle.w_rules.specs.Context.{func_of, type_of_func};
 ghost use Rattle.w_rules.specs.View.{context_in};
+ghost use Rattle.w_rows.specs.TypeRows.{IsReady};
 ghost use Rattle.w_steps.specs.PlainTests.{holds_functions, control_test};
 ghost use Rattle.w_steps.specs.View.{context_at, gated, non_null_type};
 
@@ -14,7 +14,8 @@ use crate::body_context::BodyContext;
 use crate::setting::Setting;
 use std::alloc::AllocError;
 use w_canon::Classes;
-use w_flow::{Flow, TypeRow};
+use w_flow::Flow;
+use w_rows::TypeRow;
 use w_syntax::ControlOp;
 use w_types::{HeapType, PackedType, RefType, ValType};
 

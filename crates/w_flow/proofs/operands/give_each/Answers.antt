@@ -1,8 +1,8 @@
 use Rattle.std.proofs.Common.{◌∙◌, ap, arith}
 use Rattle.w_rules.specs.Operands.{Known}
-use Rattle.w_flow.specs.Operands.{row_in}
+use Rattle.w_rows.specs.Operands.{row_in}
+use Rattle.w_rows.proofs.WordedOperands.{worded_pushed}
 use Rattle.w_flow.proofs.RowsOfLists.{given_more}
-use Rattle.w_flow.proofs.WordedOperands.{worded_pushed}
 use Rattle.w_flow.proofs.operands.give_each.Goals as goal
 
 pub loop-kind-preserved : goal.loop-kind-preserved

@@ -1,7 +1,7 @@
 use Rattle.std.proofs.Common.{◌≡◌, take}
 use Rattle.lists.specs.Rows.{row_of, ◌⧺◌}
 use Rattle.w_rules.specs.Matching.{known}
-use Rattle.w_flow.specs.Operands.{row_in, AreWorded}
+use Rattle.w_rows.specs.Operands.{row_in, AreWorded}
 use Rattle.w_flow.proofs.operands.give_each.Given as goal
 
 -- the first types are given

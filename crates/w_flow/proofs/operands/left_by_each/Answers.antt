@@ -1,6 +1,6 @@
 use Rattle.std.proofs.Common.{◌-◌, get_or, ap, ◌∙◌, sym, arith}
-use Rattle.w_flow.specs.Operands.{type_of}
-use Rattle.w_flow.specs.declared.operand.Operand.{Operand}
+use Rattle.w_rows.specs.Operands.{type_of}
+use Rattle.w_rows.specs.declared.operand.Operand.{Operand}
 use Rattle.w_flow.specs.Flow.{operand_test}
 use Rattle.w_flow.proofs.RowsOfLists.{none_there, compared, decided}
 use Rattle.w_flow.proofs.operands.left_by_each.Goals as goal

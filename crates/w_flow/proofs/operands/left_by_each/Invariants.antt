@@ -1,7 +1,7 @@
 use Rattle.std.proofs.Common.{◌≡◌, ◌≤◌, length, take}
 use Rattle.lists.specs.Rows.{row_of}
+use Rattle.w_rows.specs.Operands.{row_in}
 use Rattle.w_flow.specs.Flow.{pops}
-use Rattle.w_flow.specs.Operands.{row_in}
 use Rattle.w_flow.proofs.operands.left_by_each.Given as goal
 
 -- taking all the types from all the operands is taking the first i from the first n

@@ -1,6 +1,6 @@
 use Rattle.std.proofs.Common.{List, ap, ◌∙◌}
 use Rattle.w_types.specs.declared.types.ValType.{ValType}
-use Rattle.w_flow.specs.TypeRows.{rows_type}
+use Rattle.w_rows.specs.TypeRows.{rows_type}
 use Rattle.w_vswitch.specs.Places.{placed}
 use Rattle.w_vswitch.specs.Rows.{label_test}
 use Rattle.w_vswitch.proofs.FoundTypes.{found_rows}

@@ -1,4 +1,4 @@
-use Rattle.w_flow.specs.TypeRows.{rows_type}
+use Rattle.w_rows.specs.TypeRows.{rows_type}
 use Rattle.w_vswitch.specs.Places.{placed}
 use Rattle.w_vswitch.proofs.FoundTypes.{found_rows}
 use Rattle.w_vswitch.proofs.SwitchClauses.{switch_decided}

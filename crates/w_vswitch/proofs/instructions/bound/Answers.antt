@@ -1,7 +1,7 @@
 use Rattle.std.proofs.Common.{◌<◌, ◌≤◌, length, sym, subst, Option, arith}
 use Rattle.std.specs.Option.{option_map}
-use Rattle.w_flow.specs.TypeRows.{rows_type}
-use Rattle.w_flow.specs.declared.type_row.TypeRow.{TypeRow}
+use Rattle.w_rows.specs.TypeRows.{rows_type}
+use Rattle.w_rows.specs.declared.type_row.TypeRow.{TypeRow}
 use Rattle.w_vswitch.specs.Places.{placed}
 use Rattle.w_vswitch.specs.Rows.{BoundBy}
 use Rattle.w_vswitch.proofs.FoundTypes.{found_rows}

@@ -1,8 +1,8 @@
 use Rattle.std.proofs.Common.{inr, refl, ap}
 use Rattle.lists.specs.Rows.{◌▹◌, row_of}
-use Rattle.w_flow.specs.TypeRows.{rows_type}
 use Rattle.w_syntax.specs.declared.instructions.SwitchingOp.TheVariants as op
 use Rattle.w_rules.specs.InstructionTypes.{resume_type}
+use Rattle.w_rows.specs.TypeRows.{rows_type}
 use Rattle.w_vswitch.specs.Rows.{RefusedAt}
 use Rattle.w_steps.specs.declared.setting.Setting.{Setting}
 use Rattle.w_vswitch.proofs.FoundTypes.{found_rows, missing_rows}

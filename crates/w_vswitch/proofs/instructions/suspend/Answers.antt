@@ -1,8 +1,8 @@
 use Rattle.std.proofs.Common.{inr, None, refl, ap}
 use Rattle.lists.specs.Rows.{row_of}
-use Rattle.w_flow.specs.TypeRows.{rows_type}
 use Rattle.w_syntax.specs.declared.instructions.SwitchingOp.TheVariants as op
 use Rattle.w_rules.specs.InstructionTypes.{call_type}
+use Rattle.w_rows.specs.TypeRows.{rows_type}
 use Rattle.w_vswitch.specs.Rows.{RowAt, RefusedAt}
 use Rattle.w_steps.specs.declared.setting.Setting.{Setting}
 use Rattle.w_vswitch.proofs.FoundTypes.{found_rows, missing_rows, suspend_row}

@@ -1,9 +1,9 @@
 use Rattle.std.proofs.Common.{List, None, sym, subst, ◌∙◌}
 use Rattle.w_types.specs.declared.types.ValType.{ValType}
 use Rattle.lists.specs.Rows.{◌▹◌, row_of}
-use Rattle.w_flow.specs.TypeRows.{rows_type}
 use Rattle.w_rules.specs.InstructionTypes.{nullable}
 use Rattle.w_syntax.specs.declared.instructions.SwitchingOp.TheVariants as op
+use Rattle.w_rows.specs.TypeRows.{rows_type}
 use Rattle.w_vswitch.specs.Places.{placed}
 use Rattle.w_vswitch.specs.Rows.{RowAt}
 use Rattle.w_vswitch.proofs.FoundTypes.{found_rows}

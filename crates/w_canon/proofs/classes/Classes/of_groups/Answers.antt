@@ -3,11 +3,11 @@ use Rattle.w_types.specs.Groups.{subtypes_of}
 use Rattle.w_canon.specs.declared.entry.Entry.{Entry}
 use Rattle.w_canon.specs.declared.forest.Span.{Span}
 use Rattle.w_canon.specs.Forest.{IsForest, AreSpans}
-use Rattle.w_canon.specs.IsClassesOf.{HaveFirsts, IsClassesOf}
+use Rattle.w_canon.specs.IsClassesOf.{HaveFirsts, HaveSpans, IsClassesOf}
 use Rattle.w_canon.specs.Parents.{parents_from}
 use Rattle.w_canon.specs.Spanned.{spanned}
 use Rattle.w_canon.proofs.ClassesOfTypes.{first_alike}
-use Rattle.w_canon.proofs.SpansOfTypes.{is_forest, as_many_spans, all_classes, all_firsts}
+use Rattle.w_canon.proofs.SpansOfTypes.{is_forest, as_many_spans, all_classes, all_firsts, all_spans}
 use Rattle.w_canon.proofs.classes.Classes.of_groups.Goals as goal
 
 pub parents_of-requires-clause-firsts : goal.parents_of-requires-clause-firsts
@@ -57,7 +57,7 @@ invariant_of-result c =
     let are : AreSpans (parents_from es 0 (subtypes_of gs)) ss = subst (λ (ps : List (Option ℕ)). AreSpans ps ss) parents c.in_ok-spans.ensures in
     let made : c.in_ok-entries-2.entries.items ≡ map (spanned ss) es =
     c.in_ok-entries-2.ensures ∙ ap (λ (l : List Span). map (spanned l) c.as_slice-3.result.now) c.as_slice-4.ensures.value ∙ ap (map (spanned ss)) c.as_slice-3.ensures.value in
-    subst HaveFirsts (sym made) (all_firsts m gs es classed ss are)
+    (subst HaveFirsts (sym made) (all_firsts m gs es classed ss are), subst HaveSpans (sym made) (all_spans m gs es classed ss are))
 
 pub returns : goal.returns
 returns c =

@@ -1,5 +1,5 @@
 use Rattle.std.proofs.Common.{◌-◌, length}
-use Rattle.w_flow.proofs.WordedOperands.{worded_taken}
+use Rattle.w_rows.proofs.WordedOperands.{worded_taken}
 use Rattle.w_flow.proofs.flow.Flow.drops.Goals as goal
 
 pub returns-clause-words : goal.returns-clause-words

@@ -1,8 +1,8 @@
 use Rattle.std.proofs.Common.{List, ◌∙◌, sym, ap}
 use Rattle.lists.specs.Rows.{row_of}
+use Rattle.w_rows.specs.Operands.{row_in}
+use Rattle.w_rows.specs.declared.operand.Operand.{Operand}
 use Rattle.w_flow.specs.Flow.{pops, none_left}
-use Rattle.w_flow.specs.Operands.{row_in}
-use Rattle.w_flow.specs.declared.operand.Operand.{Operand}
 use Rattle.w_flow.proofs.RowsOfLists.{none_first, none_wanted_last}
 use Rattle.w_flow.proofs.flow.Flow.ends_with.Goals as goal
 
