@@ -42,19 +42,29 @@ pub(crate) fn are_apart(given: &[u32], wanted: &[u32]) -> bool
     common == 0
 }
 
-/// Whether there are as many words on both sides, and each given one and the wanted one at its place, with the length of its span, tell that
-/// the types match (`TellBelow`).
-pub(crate) fn are_below(given: &[u32], wanted: &[u32], lengths: &[u32]) -> bool
-    ensures { IsTrue result → (length given.now ≡ length wanted.now) × AreBelow given.now wanted.now lengths.now }
+// Whether each given word and the wanted one at its place, with the length of its span, tell that the types match (`TellBelow`).
+fn are_below(given: &[u32], wanted: &[u32], lengths: &[u32]) -> bool
+    requires words { length given.now ≡ length wanted.now }
+    requires lengths { length lengths.now ≡ length wanted.now }
+    ensures { IsTrue result → AreBelow given.now wanted.now lengths.now }
 {
-    if given.len() != wanted.len() || lengths.len() != wanted.len() {
-        return false;
-    }
     let mut apart = 0;
     for i in 0..wanted.len() {
         apart |= apart_by(given[i], wanted[i], lengths[i]);
     }
     apart == 0
+}
+
+/// Whether there are as many words on both sides, and each given one and the wanted one at its place, with the length of its span, tell that
+/// the types match (`TellBelow`). Mostly the loop that has less to do tells it.
+#[tactic(auto, using(crate::proofs::WordRows::apart_below))]
+pub(crate) fn words_fit(given: &[u32], wanted: &[u32], lengths: &[u32]) -> bool
+    ensures { IsTrue result → (length given.now ≡ length wanted.now) × AreBelow given.now wanted.now lengths.now }
+{
+    if given.len() != wanted.len() || lengths.len() != wanted.len() {
+        return false;
+    }
+    are_apart(given, wanted) || are_below(given, wanted, lengths)
 }
 
 // Whether no operand has a bit in common with the word at its place.

@@ -1,6 +1,6 @@
 //! Rows of types, of which wide ones stand ready.
 
-use crate::fitting::{are_apart, are_below};
+use crate::fitting::{are_apart, words_fit};
 use crate::operand::Operand;
 use w_canon::Classes;
 use w_types::PackedType;
@@ -123,7 +123,7 @@ impl<'r> TypeRow<'r> {
             → IsTrue result → result_test es self.entry.types.now other.entry.types.now ≡ true }
     {
         match (self.words, other.words) {
-            (Some(words), Some(others)) => { are_below(words.given, others.wanted, others.lengths) }
+            (Some(words), Some(others)) => { words_fit(words.given, others.wanted, others.lengths) }
             _ => false,
         }
     }

@@ -9,4 +9,4 @@ loop-i-preserved c = λ e.
     below_more c.args.given.now c.args.wanted.now c.args.lengths.now c.loop-i.i 0 0 0 (omega arith) (omega arith) (omega arith) (c.apart_by-apart.ensures none.1) (c.loop-i.invariant none.0)
 
 pub returns : goal.returns
-returns c = λ t. (omega arith, below_all c.args.given.now c.args.wanted.now c.args.lengths.now c.loop-i.i (omega arith) (omega arith) (omega arith) (c.loop-i.invariant (eqb-true c.loop-i.apart 0 t)))
+returns c = λ t. below_all c.args.given.now c.args.wanted.now c.args.lengths.now c.loop-i.i c.requires.words c.requires.lengths (omega arith) (c.loop-i.invariant (eqb-true c.loop-i.apart 0 t))
