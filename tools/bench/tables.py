@@ -2,7 +2,7 @@
 script."""
 
 MEGA = 1000000
-MOST_TIMES = 10         # no form is to take longer than so many times the straight one
+MOST_TIMES = 15         # no form is to take longer than so many times the straight one
 
 FORM_HEADINGS = [
     'Form', 'Bytes', 'check MB/s', 'B/B', 'build MB/s', 'B/B', 'wasm-validate MB/s', 'B/B', 'check / wasm-validate',
