@@ -6,12 +6,13 @@ all the work.
 
 from assembler.instructions import (
     DROP, I32_ADD, I32_EQZ, I32_MUL, I32_WRAP_I64, I64_ADD, I64_EXTEND_I32_S, access, block, br, br_if, br_table, call,
-    call_indirect, i32_const, i64_const, if_, local_get, local_set, local_tee, loop, memory_fill, numeric)
+    call_indirect, i32_const, i64_const, if_, local_get, local_set, local_tee, loop, memory_fill, numeric, return_call)
 from assembler.modules import code, export, module, table
 from assembler.segments import active_functions
 from assembler.types import EMPTY, FUNCREF, I32, I64, functype, limits
 
-I32_SUB, I32_LT_U, I32_LE_U, I32_SHR_U = (numeric(f'i32.{name}') for name in ('sub', 'lt_u', 'le_u', 'shr_u'))
+I32_SUB, I32_LT_U, I32_LE_U, I32_SHR_U, I32_AND = (
+    numeric(f'i32.{name}') for name in ('sub', 'lt_u', 'le_u', 'shr_u', 'and'))
 I64_SUB, I64_MUL, I64_XOR, I64_ROTL = (numeric(f'i64.{name}') for name in ('sub', 'mul', 'xor', 'rotl'))
 
 REPEATS, RESULT, FIRST, SECOND, THIRD = range(5)    # locals of a main that loops: its own two, and the program's
@@ -108,6 +109,26 @@ def recursive_fibonacci(repeats):
     return _looping(repeats, work, others=[body])
 
 
+def calls_in_one_another(repeats):
+    """A function that counts down by calling itself, to set tail calls beside."""
+    return _counting_by(call, repeats)
+
+
+def tail_calls(repeats):
+    """The same function with a tail call, which has one frame however far it counts."""
+    return _counting_by(return_call, repeats)
+
+
+def _counting_by(calls, repeats):
+    """A function of a number that counts down in its nine lowest bits, which end as 0, and adds to those above them."""
+    low, above = 0x1FF, 0x1357 << 9
+    is_done = local_get(0) + i32_const(low) + I32_AND + I32_EQZ
+    further = local_get(0) + i32_const(above - 1) + I32_ADD + calls(1)
+    work = local_get(RESULT) + i32_const(OFTEN) + I32_ADD + call(1)
+    body = is_done + if_(I32, local_get(0), further)
+    return _looping(repeats, work + local_set(RESULT), others=[body])
+
+
 def calls_through_a_table(repeats):
     """`call_indirect` of sixteen functions of one type, in an order without a pattern."""
     bodies = [local_get(0) + _scrambled(number) for number in range(16)]
@@ -177,5 +198,5 @@ def _program(types, main, local_runs, others, other_runs=(), **sections):
 
 RUNS = {run.__name__.replace('_', ' '): run for run in (
     calls_and_arithmetic, calls_alone, straight_arithmetic, nested_loops, prime_sieve, memory_fill_and_sum,
-    recursive_fibonacci, calls_through_a_table, calls_of_many_locals, branch_table, branch_out_of_a_nest,
-    exits_of_a_nest)}
+    recursive_fibonacci, calls_in_one_another, tail_calls, calls_through_a_table, calls_of_many_locals, branch_table,
+    branch_out_of_a_nest, exits_of_a_nest)}

@@ -27,10 +27,10 @@ class Slots(NamedTuple):
 
 class RandomScript:
     """One script; `text` is its text. Without slots, the same script comes of the same random numbers as before slots
-    were in the language."""
+    were in the language. `tailing` is how likely a return is made a tail call, beside those that are so by chance."""
 
-    def __init__(self, random, has_slots=False):
-        self.random = random
+    def __init__(self, random, has_slots=False, tailing=0):
+        self.random, self.tailing = random, tailing
         self.effects = [(f'e{number}', random.choice([0, 0, 1, 1, 2, 3])) for number in range(random.randint(1, 2))]
         self.handlers = [
             Function(f'h{number}', self._types(number, 0.2)) for number in range(random.randint(1, 2))]
@@ -109,6 +109,9 @@ class RandomScript:
         return f'{text} {self._return(scope)}' if self.random.random() < 0.9 else text
 
     def _return(self, scope):
+        functions = self._callees(scope)
+        if self.tailing and functions and self.random.random() < self.tailing:
+            return f'return {self._call(scope, 1, functions)};'
         resumptions = [name for name, type in scope.items() if type is not NUMBER]
         if resumptions and self.random.random() < (0.2 if self.slots else 0.8):
             return f'return {self._resume(scope, 1, self.random.choice(resumptions))};'
@@ -219,16 +222,23 @@ class RandomScript:
         if self.random.random() < self.doing:
             effect, count = self.random.choice(self.effects)
             return f'do {effect}({self._list(scope, depth, [NUMBER] * count)})'
-        functions = [each for each in self.functions[self.first:] if self._fits(scope, each)]
+        functions = self._callees(scope)
         handlers = [each for each in self.handlers if self._fits(scope, each)]
         if functions and handlers and self.is_handling and (not self.doing or self.random.random() < 0.6):
             function, handler = self.random.choice(functions), self.random.choice(handlers)
             values, parameters = (self._list(scope, depth, each.types) for each in (function, handler))
             return f'handle {function.name}({values}) with {handler.name}({parameters})'
         if functions and self.random.random() < 0.7:
-            function = self.random.choice(functions)
-            return f'{function.name}({self._list(scope, depth, function.types)})'
+            return self._call(scope, depth, functions)
         return f'({self._expression(scope, depth)})'
+
+    def _callees(self, scope):
+        """The functions that may be called here."""
+        return [each for each in self.functions[self.first:] if self._fits(scope, each)]
+
+    def _call(self, scope, depth, functions):
+        function = self.random.choice(functions)
+        return f'{function.name}({self._list(scope, depth, function.types)})'
 
     def _fits(self, scope, declared):
         """Whether there is a name for each parameter that is a resumption."""

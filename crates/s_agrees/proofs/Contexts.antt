@@ -12,10 +12,10 @@ use Rattle.s_code.specs.Layouts.{Layout}
 use Rattle.s_code.specs.Expressions.{operands}
 use Rattle.s_code.specs.Handlers.{Placed, clause_code, labels, return_code}
 use Rattle.s_code.specs.Places.{return_layout, placed_clauses}
-use Rattle.s_meaning.specs.Terms.{Value, Use, Work, Activation, Handle as Handled}
+use Rattle.s_meaning.specs.Terms.{Use, Work, Handle as Handled}
 use Rattle.s_meaning.specs.Terms as script
 use Rattle.s_meaning.proofs.Lists.{length_set}
-use Rattle.s_agrees.proofs.StandsFor.{Locals, Deep, here, label, Rest, ends, does, leaves, while_loop, Uses, sets, prints, drops, returns, puts, chooses, Works, under, left, compared, computed, connected, calling, doing, handling_first, handling_second, resuming_first, resuming_second, tail_first, tail_second, within, clause_labels, loop_code, in_loop, Base, function, clause, Waits, outside, activation, handle}
+use Rattle.s_agrees.proofs.StandsFor.{Locals, Deep, here, label, Rest, ends, does, leaves, while_loop, Uses, sets, prints, drops, returns, puts, chooses, Works, under, left, compared, computed, connected, calling, doing, handling_first, handling_second, resuming_first, resuming_second, tail_first, tail_second, tail_calling, within, clause_labels, in_loop, Base, function, clause, Waits, outside, activation, handle}
 use Rattle.s_agrees.proofs.StandsFor as standing
 use Rattle.s_agrees.proofs.MoreResumptions.{Grows, same_grows, sames_grow, local_grows, held_grows, held_at_grows, active_grows, asides_grow, local_kept, held_at_kept, asides_kept}
 
@@ -77,6 +77,7 @@ module _ {F : Context → Context} (beyond : Beyond F) where
   works_beyond (resuming_second le lt a l s w) = resuming_second le lt a l s (works_beyond w)
   works_beyond (tail_first c lt o a p q) = tail_first c lt o a (deep_beyond p) q
   works_beyond (tail_second c lt o a l s p q) = tail_second c lt o a l s (deep_beyond p) q
+  works_beyond (tail_calling c a s p) = tail_calling c a s (deep_beyond p)
   works_beyond (within u) = within (uses_beyond u)
 
 -- ## More resumptions, and a temporary that is set
@@ -96,6 +97,7 @@ works_grow g (resuming_first lt a w) = resuming_first lt a (works_grow g w)
 works_grow g (resuming_second le lt a l s w) = resuming_second le lt a (local_grows g l) (sames_grow g s) (works_grow g w)
 works_grow g (tail_first c lt o a p q) = tail_first c lt o a p q
 works_grow g (tail_second c lt o a l s p q) = tail_second c lt o a (local_grows g l) (sames_grow g s) p q
+works_grow g (tail_calling c a s p) = tail_calling c a (sames_grow g s) p
 works_grow g (within u) = within u
 
 -- of the locals at and behind y, none is in use
@@ -114,6 +116,7 @@ works_kept y v r (resuming_first lt a w) = resuming_first lt a (works_kept y v r
 works_kept y v r (resuming_second le lt a l s w) = resuming_second le lt a (local_kept y v (omega (arith, lt, r)) l) s (works_kept y v (omega (arith, le, r)) w)
 works_kept y v r (tail_first c lt o a p q) = tail_first c lt o a p q
 works_kept y v r (tail_second c lt o a l s p q) = tail_second c lt o a (local_kept y v (omega (arith, lt, r)) l) s p q
+works_kept y v r (tail_calling c a s p) = tail_calling c a s p
 works_kept y v r (within u) = within u
 
 -- ## The labels of an activation
@@ -160,6 +163,7 @@ works_deep (resuming_first lt a w) = works_deep w
 works_deep (resuming_second le lt a l s w) = works_deep w
 works_deep (tail_first {d = d} c lt o a p q) = (d, p)
 works_deep (tail_second {d = d} c lt o a l s p q) = (d, p)
+works_deep (tail_calling {d = d} c a s p) = (d, p)
 works_deep (within u) = uses_deep u
 
 -- ## Cutting: what a context ends in
@@ -208,6 +212,7 @@ module _ {f : Context} (f1 tail : Context) (split : f ≡ f1 ++ tail) where
   works_cut (resuming_second le lt a l s w) = let x = works_cut w in (x.0, resuming_second le lt a l s x.1, x.2)
   works_cut (tail_first c lt o a p q) = let x = deep_cut p in (x.0, tail_first c lt o a x.1 q, x.2)
   works_cut (tail_second c lt o a l s p q) = let x = deep_cut p in (x.0, tail_second c lt o a l s x.1 q, x.2)
+  works_cut (tail_calling c a s p) = let x = deep_cut p in (x.0, tail_calling c a s x.1, x.2)
   works_cut (within u) = let x = uses_cut u in (x.0, within x.1, x.2)
 
 -- ## Frames

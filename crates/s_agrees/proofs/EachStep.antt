@@ -17,7 +17,7 @@ use Rattle.s_syntax.specs.declared.script.Handler.{Handler}
 use Rattle.s_syntax.specs.declared.script.Declaration.{Declaration}
 use Rattle.s_syntax.specs.declared.script.Script.{Script}
 use Rattle.s_syntax.specs.declared.operators.BinaryOperator.TheVariants.{Connects, Compares, Computes}
-use Rattle.s_syntax.specs.ExprTree.{ExprTree, Read, Resume, Exprs}
+use Rattle.s_syntax.specs.ExprTree.{ExprTree, Read, Call, Resume, Exprs}
 use Rattle.s_syntax.specs.declared.statement.Use.TheVariants as use_for
 use Rattle.s_syntax.specs.BlockTree.{StatementTree, BlockTree, Evaluate, If, While, Fail, ◌⨟◌}
 use Rattle.s_check.specs.Rules.{count}
@@ -25,12 +25,12 @@ use Rattle.s_check.specs.Scopes.{Scope, is_among}
 use Rattle.s_index.specs.Handled.{handled_names}
 use Rattle.s_index.specs.Numbers.{function_index, handler_index, tag_index}
 use Rattle.s_code.specs.Expressions.{reload, begin, expr, args, set_aside, aside, tail_resume}
-use Rattle.s_code.specs.Instructions.{branch, call, local_set, leave, nop, suspend}
+use Rattle.s_code.specs.Instructions.{branch, call, return_call, local_set, leave, nop, suspend}
 use Rattle.s_code.specs.Layouts.{Local, Owner, Layout, local_number, handler_in, handler_in_type, stays, slot, is_same_handler}
 use Rattle.s_code.specs.Layouts as layouts
 use Rattle.s_code.specs.Statements.{statement, return}
 use Rattle.s_meaning.specs.Terms as script
-use Rattle.s_meaning.specs.Terms.{Value, Variable, Head, Calling, Doing, Handling, Resuming, TailResuming, Work, Among, Within, ToReturn, ToTurn, Gives}
+use Rattle.s_meaning.specs.Terms.{Value, Variable, Head, Calling, Doing, Handling, Resuming, TailResuming, TailCalling, Work, Among, Within, ToReturn, ToTurn, Gives}
 use Rattle.s_meaning.specs.Focus.{Redex, Applies, Focused, at, followed_by, in_expr, in_args, variable_of, is_resumption_of, is_own, in_return, in_block, in_work}
 use Rattle.s_meaning.specs.Steps.{Step, or_wrong, rule, step_at}
 use Rattle.s_meaning.specs.Steps as meaning
@@ -48,7 +48,7 @@ use Rattle.s_agrees.proofs.Contexts.{setting, deep_beyond, works_beyond, works_k
 use Rattle.s_agrees.proofs.CountedContexts.{labels_set, frames_set, handles_set}
 use Rattle.s_agrees.proofs.Paths.{program_of, step, set_step}
 use Rattle.s_agrees.proofs.Matches.{Matches, more_room, before}
-use Rattle.s_agrees.proofs.Ready.{Ready, aside_ready, unary_ready, comparison_ready, arithmetic_ready, truth_ready, decides_ready, call_ready, do_ready, handle_ready, resume_ready, tail_ready, use_ready, fail_ready, end_ready, constant_ready, lookup_ready}
+use Rattle.s_agrees.proofs.Ready.{Ready, aside_ready, unary_ready, comparison_ready, arithmetic_ready, truth_ready, decides_ready, call_ready, do_ready, handle_ready, resume_ready, tail_ready, tail_call_ready, use_ready, fail_ready, end_ready, constant_ready, lookup_ready}
 use Rattle.s_agrees.proofs.Facts.{Facts}
 use Rattle.s_agrees.proofs.StepsInPlace.{works_left}
 use Rattle.s_agrees.proofs.BoundValues.{some_is}
@@ -123,6 +123,14 @@ module _ {ds : List Declaration} {ρ : List ℕ} {Γ : Layout} {n D0 : ℕ} {f :
   tail_arguments {t} c lt o l p q = record {
     among = λ vs ws es a s. standing.Works.tail_second c lt o a l s p q;
     applied = λ vs ws s. record { used = t; ready = tail_ready c o l s p q };
+  }
+
+  -- and those of a tail call
+  tail_calling_arguments : {t d : ℕ} (g : Name) {e : Context} (c : Code) → Deep f d e
+      → Arguments ds ρ Γ n D0 f L t (TailCalling g) (λ (vs : Values). vs) [] ε (Plain (return_call (function_index ds g)) c) e
+  tail_calling_arguments {t} g c p = record {
+    among = λ vs ws es a s. standing.Works.tail_calling c a s p;
+    applied = λ vs ws s. record { used = t; ready = tail_call_ready c s p };
   }
 
   -- ## A first argument of a handle
@@ -236,6 +244,7 @@ module _ {ds : List Declaration} {ρ : List ℕ} {Γ : Layout} {n D0 : ℕ} {L :
       let v = covers.covers k (Resumption h) q in
       subst (λ (b : Bool). ReadyAt ds ρ Γ n D0 f L (if b then in_expr x (Among (TailResuming k) no_values bs ∷ []) else in_expr x (Among (Resuming k) no_values bs ∷ Within ToReturn rest ∷ [])) ε
       (return ds Γ D (Resume k x bs) c) e) (own_agrees k v.variable v.there) (ready_resume (layouts.is_own Γ k) refl w r)
+  ready_return (Call g es) {c = c} covers t (standing.WellExpr.calls vs) r = ready_args vs (tail_calling_arguments g c (rest_deep r).deep) standing.Sames.none
   ready_return _ covers t w r = ready_expr w (standing.Works.within (standing.Uses.returns (rest_deep r).deep))
 
 -- ## Steps in an activation
@@ -343,6 +352,7 @@ module _ {p : Script} (matches : ℕ → ℕ → Bool) (rules : RulesMatched p m
   sim_work v (standing.Works.resuming_second {x = x} le lt us l vs k) q = now q (ready_args us (resuming_arguments x le lt l k) (standing.Sames.more vs v))
   sim_work v (standing.Works.tail_first {x = x} c lt o us d inside) q = sim_put_tail matches rules stores store_typed active base waits x c v lt o us d inside q
   sim_work v (standing.Works.tail_second c lt o us l vs d inside) q = now q (ready_args us (tail_arguments c lt o l d inside) (standing.Sames.more vs v))
+  sim_work v (standing.Works.tail_calling {g = g} c us vs d) q = now q (ready_args us (tail_calling_arguments g c d) (standing.Sames.more vs v))
   sim_work v (standing.Works.within u) q = now q (record { used = 0; ready = use_ready v u })
 
   -- a while, inside its block

@@ -17,12 +17,12 @@ use Rattle.s_syntax.specs.BlockTree.{BlockTree}
 use Rattle.s_check.specs.Scopes.{is_among}
 use Rattle.s_index.specs.Handled.{handled_names}
 use Rattle.s_index.specs.Numbers.{function_index, tag_index}
-use Rattle.s_code.specs.Instructions.{constant, call, local_get, nop, suspend, unreachable, truth, unary_operator, connective, comparison, arithmetic}
+use Rattle.s_code.specs.Instructions.{constant, call, return_call, local_get, nop, suspend, unreachable, truth, unary_operator, connective, comparison, arithmetic}
 use Rattle.s_code.specs.Layouts.{Layout, local_number, stays, is_own}
 use Rattle.s_code.specs.Expressions.{expr, operands}
 use Rattle.s_code.specs.Statements.{ending}
 use Rattle.s_meaning.specs.Numbers.{decided}
-use Rattle.s_meaning.specs.Terms.{Value, Number, Calling, Doing, Handling, Resuming, TailResuming, Use, Work, Among}
+use Rattle.s_meaning.specs.Terms.{Value, Number, Calling, Doing, Handling, Resuming, TailResuming, TailCalling, Use, Work, Among}
 use Rattle.s_meaning.specs.Focus.{Redex, Constant, Lookup, OnUnary, OnBinary, Decides, Applies, Uses, Fails, Ends, followed_by}
 use Rattle.s_agrees.proofs.ScriptRows.{Values, no_values, ◌▸◌, ◌⧻◌, many}
 use Rattle.s_agrees.proofs.StandsFor as standing
@@ -63,6 +63,8 @@ pub data Ready (ds : List Declaration) (ρ : List ℕ) (Γ : Layout) (n D0 : ℕ
   tail_ready : {t y D d : ℕ} {x : Name} {u : Value} {vs : Values} {ws : Row Val} {L : Locals} {e : Context} (c : Code)
       → is_own Γ x ≡ true → LocalIs ρ L y u → Sames ρ vs ws → Deep f d e → D ≡ d + D0
       → Ready ds ρ Γ n D0 f (Applies (TailResuming x) ((no_values ▸ u) ⧻ vs)) t L [] (ε ⧺ ws) (tail_code Γ D x y c) e
+  tail_call_ready : {t d : ℕ} {g : Name} {vs : Values} {ws : Row Val} {L : Locals} {e : Context} (c : Code) → Sames ρ vs ws → Deep f d e
+      → Ready ds ρ Γ n D0 f (Applies (TailCalling g) vs) t L [] (ε ⧺ ws) (Plain (return_call (function_index ds g)) c) e
   use_ready : {t : ℕ} {u : Use} {v : Value} {a : Val} {b : BlockTree} {L : Locals} {c : Code} {e : Context} → Same ρ v a → standing.Uses ds Γ n D0 f u b c e
       → Ready ds ρ Γ n D0 f (Uses u v b) t L [] (ε ▹ a) c e
   fail_ready : {t d : ℕ} {L : Locals} {e : Context} (c : Code) → Deep f d e → Ready ds ρ Γ n D0 f Fails t L [] ε (Plain unreachable c) e

@@ -23,7 +23,7 @@ use Rattle.s_index.specs.Numbers.{function_index, handler_index, tag_index, tabl
 use Rattle.s_index.specs.Types.{resumption_type, computation_type}
 use Rattle.s_index.specs.Indices.{continuation_index, function_type_index, parameters_of}
 use Rattle.s_index.specs.Limits.{number_limit as limit}
-use Rattle.s_code.specs.Instructions.{call, local_get, local_set, table_get, table_set, wrap, null, non_null, nop, suspend, branch, branch_if, is_zero, leave, dropped, truth, unary_operator, comparison, arithmetic, if_zero}
+use Rattle.s_code.specs.Instructions.{call, return_call, local_get, local_set, table_get, table_set, wrap, null, non_null, nop, suspend, branch, branch_if, is_zero, leave, dropped, truth, unary_operator, comparison, arithmetic, if_zero}
 use Rattle.s_code.specs.Layouts.{Layout, local_number, handler_of_name, stays, slot, is_own, owner_parameters}
 use Rattle.s_code.specs.Expressions.{reload, begin, wake, handler_index_of, operator, expr, args, set_aside, operands, set_parameters, tail_resume}
 use Rattle.s_code.specs.Slots.{places_in, places_of, to_place, store_code, take_code}
@@ -31,7 +31,7 @@ use Rattle.s_code.specs.Statements.{printer, return, statement, block, ending, b
 use Rattle.s_code.proofs.Sizes.{some_size, count_within}
 use Rattle.w_encode.specs.Spelled.{CodeSpelled}
 use Rattle.s_agrees.proofs.SpelledIndices.{fits, SmallIndices, SmallLayout}
-use Rattle.s_agrees.proofs.SpelledTokens.{constant_spelled, minus_one_spelled, minus_one_32_spelled, wrap_spelled, below_spelled, select_spelled, table_get_spelled, table_set_spelled, null_spelled, non_null_spelled, is_zero_spelled, is_zero_32_spelled, extend_spelled, unreachable_spelled, nop_spelled, leave_spelled, dropped_spelled, binary_spelled, times_spelled, compare_spelled, branch_spelled, branch_if_spelled, call_spelled, local_get_spelled, local_set_spelled, reference_spelled, new_continuation_spelled, suspend_spelled, bind_continuation_spelled, block_spelled, if_spelled}
+use Rattle.s_agrees.proofs.SpelledTokens.{constant_spelled, minus_one_spelled, minus_one_32_spelled, wrap_spelled, below_spelled, select_spelled, table_get_spelled, table_set_spelled, null_spelled, non_null_spelled, is_zero_spelled, is_zero_32_spelled, extend_spelled, unreachable_spelled, nop_spelled, leave_spelled, dropped_spelled, binary_spelled, times_spelled, compare_spelled, branch_spelled, branch_if_spelled, call_spelled, return_call_spelled, local_get_spelled, local_set_spelled, reference_spelled, new_continuation_spelled, suspend_spelled, bind_continuation_spelled, block_spelled, if_spelled}
 
 -- ## Operators
 
@@ -191,7 +191,8 @@ module _ (ds : List Declaration) (Γ : Layout) (S : SmallIndices ds) (L : SmallL
   return_spelled (Read x) D c few labels h = plain_spelled (Read x) c few h
   return_spelled (Unary o e) D c few labels h = plain_spelled (Unary o e) c few h
   return_spelled (Run e ps) D c few labels h = plain_spelled (Run e ps) c few h
-  return_spelled (Call f es) D c few labels h = plain_spelled (Call f es) c few h
+  return_spelled (Call f es) D c few labels h =
+      args_spelled es 0 (Plain (return_call (function_index ds f)) c) (omega (arith, few)) (return_call_spelled (function_index ds f) (fits (function_index ds f) (S.function f)), h)
   return_spelled (Do o es) D c few labels h = plain_spelled (Do o es) c few h
   return_spelled (Handle f es g ps) D c few labels h = plain_spelled (Handle f es g ps) c few h
   return_spelled (Resume k e ps) D c few labels h = resumed_spelled (is_own Γ k) k e ps D c few labels h

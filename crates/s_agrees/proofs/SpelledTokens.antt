@@ -39,7 +39,7 @@ use Rattle.s_syntax.specs.declared.operators.Arithmetic.TheVariants.{Add, Subtra
 use Rattle.s_syntax.specs.declared.script.VariableType.{VariableType}
 use Rattle.s_syntax.specs.declared.script.VariableType.TheVariants.{Int, Resumption}
 use Rattle.s_index.specs.Types.{to_continuation, val_type}
-use Rattle.s_code.specs.Instructions.{constant, constant_32, is_zero, is_zero_32, extend, wrap, binary, compare, unreachable, nop, branch, branch_if, leave, call, dropped, select, local_get, local_set, table_get, table_set, null, non_null, function_reference, new_continuation, bind_continuation, suspend, resume, binop_of, relop_of}
+use Rattle.s_code.specs.Instructions.{constant, constant_32, is_zero, is_zero_32, extend, wrap, binary, compare, unreachable, nop, branch, branch_if, leave, call, return_call, dropped, select, local_get, local_set, table_get, table_set, null, non_null, function_reference, new_continuation, bind_continuation, suspend, resume, binop_of, relop_of}
 use Rattle.w_encode.proofs.SpelledCode.{list_spells}
 use Rattle.w_encode.specs.Spelled.{EachSpelled, TokenSpelled}
 
@@ -129,6 +129,10 @@ branch_if_spelled x h = (branch_if x, (control.BrIf x, (x, u32_spelled x h, refl
 pub call_spelled : (x : ℕ) → x < 2 ^ 32 → TokenSpelled (tok.Plain (call x))
 unfolding token instruction
 call_spelled x h = (call x, (control.Call x, (x, u32_spelled x h, refl), refl), refl)
+
+pub return_call_spelled : (x : ℕ) → x < 2 ^ 32 → TokenSpelled (tok.Plain (return_call x))
+unfolding token instruction
+return_call_spelled x h = (return_call x, (control.ReturnCall x, (x, u32_spelled x h, refl), refl), refl)
 
 -- ## Locals and references
 

@@ -30,7 +30,7 @@ use Rattle.s_check.specs.Rules.{count}
 use Rattle.s_check.specs.Scopes.{is_among}
 use Rattle.s_index.specs.Handled.{handled_names}
 use Rattle.s_index.specs.Numbers.{function_index, handler_index, tag_index, table_index}
-use Rattle.s_code.specs.Instructions.{call, local_get, local_set, suspend, branch, branch_if, is_zero, leave, dropped, if_zero, truth, unary_operator, comparison, arithmetic}
+use Rattle.s_code.specs.Instructions.{call, return_call, local_get, local_set, suspend, branch, branch_if, is_zero, leave, dropped, if_zero, truth, unary_operator, comparison, arithmetic}
 use Rattle.s_code.specs.Layouts.{Local, Owner, Layout, local_of, local_number, handler_of_name, is_own, owner_parameters}
 use Rattle.s_code.specs.Temporaries.{high_block}
 use Rattle.s_code.specs.Expressions.{reload, begin, wake, handler_index_of, expr, args, set_aside, operands, set_parameters}
@@ -40,7 +40,7 @@ use Rattle.s_code.specs.Handlers.{Placed, clause_code, labels, return_code, hand
 use Rattle.s_code.specs.Places.{return_layout, placed_clauses, handler_temporaries, high_clauses}
 use Rattle.s_meaning.specs.Numbers.{decided}
 use Rattle.s_meaning.specs.Terms as script
-use Rattle.s_meaning.specs.Terms.{Value, Number, Reference, Variable, Head, Calling, Doing, Handling, Resuming, TailResuming, Use, ToStore, ToPrint, ToDrop, ToReturn, ToChoose, ToTurn, ToPut, ToTake, Work, UnderUnary, LeftOf, RightOf, Among, Within, Place, Activation, Handle as Handled, Hole, Gives, Finds, Runs, Contents, Configuration}
+use Rattle.s_meaning.specs.Terms.{Value, Number, Reference, Variable, Calling, Doing, Handling, Resuming, TailResuming, TailCalling, Use, ToStore, ToPrint, ToDrop, ToReturn, ToChoose, ToTurn, ToPut, ToTake, Work, UnderUnary, LeftOf, RightOf, Among, Within, Activation, Handle as Handled, Gives, Finds, Runs, Contents, Configuration}
 use Rattle.s_meaning.specs.Focus.{followed_by, variable_of}
 use Rattle.s_meaning.specs.Steps.{contents_of}
 use Rattle.s_valid.specs.Beginning.{first_store}
@@ -275,6 +275,8 @@ pub data Works (ds : List Declaration) (ρ : List ℕ) (Γ : Layout) (n D0 : ℕ
   tail_second : {t D d y : ℕ} {L : Locals} {x : Name} {u : Value} {vs : Values} {ws : Row Val} {es : Exprs} {e : Context} (c : Code)
       → y < Γ.temporaries + t → is_own Γ x ≡ true → WellArgs ds n t es → LocalIs ρ L y u → Sames ρ vs ws → Deep f d e → D ≡ d + D0
       → Works ds ρ Γ n D0 f t L (Among (TailResuming x) ((no_values ▸ u) ⧻ vs) es ∷ []) (ε ⧺ ws) (args ds Γ t es (tail_code Γ D x y c)) e
+  tail_calling : {t d : ℕ} {L : Locals} {g : Name} {vs : Values} {ws : Row Val} {es : Exprs} {e : Context} (c : Code) → WellArgs ds n t es → Sames ρ vs ws → Deep f d e
+      → Works ds ρ Γ n D0 f t L (Among (TailCalling g) vs es ∷ []) (ε ⧺ ws) (args ds Γ t es (Plain (return_call (function_index ds g)) c)) e
   within : {L : Locals} {u : Use} {b : BlockTree} {c : Code} {e : Context} → Uses ds Γ n D0 f u b c e → Works ds ρ Γ n D0 f 0 L (Within u b ∷ []) ε c e
 
 -- ## Places

@@ -73,6 +73,10 @@ leave = op.Control control.Return
 abbrev pub call : ℕ → Op
 call x = op.Control (control.Call x)
 
+-- a call in the place of the function that it stands in
+abbrev pub return_call : ℕ → Op
+return_call x = op.Control (control.ReturnCall x)
+
 abbrev pub dropped : Op
 dropped = op.Parametric parametric.Drop
 

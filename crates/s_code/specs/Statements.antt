@@ -4,21 +4,24 @@ use Rattle.w_syntax.specs.Code.{Code, Done, Plain, Block}
 use Rattle.w_syntax.specs.declared.instructions.BlockKind.TheVariants as kind
 use Rattle.w_syntax.specs.declared.instructions.BlockType.TheVariants as block_type
 use Rattle.s_syntax.specs.declared.script.Declaration.{Declaration}
-use Rattle.s_syntax.specs.ExprTree.{ExprTree, Resume}
+use Rattle.s_syntax.specs.ExprTree.{ExprTree, Call, Resume}
 use Rattle.s_syntax.specs.declared.statement.Use.{Use}
 use Rattle.s_syntax.specs.declared.statement.Use.TheVariants as use_for
 use Rattle.s_syntax.specs.BlockTree.{StatementTree, BlockTree, Evaluate, If, While, Fail, Done as NoStatements, ◌⨟◌}
-use Rattle.s_code.specs.Instructions.{constant, is_zero, call, local_set, unreachable, branch, branch_if, leave, dropped, if_zero}
+use Rattle.s_index.specs.Numbers.{function_index}
+use Rattle.s_code.specs.Instructions.{constant, is_zero, call, return_call, local_set, unreachable, branch, branch_if, leave, dropped, if_zero}
 use Rattle.s_code.specs.Layouts.{Layout, local_number, is_own}
-use Rattle.s_code.specs.Expressions.{expr, tail_resume}
+use Rattle.s_code.specs.Expressions.{expr, args, tail_resume}
 use Rattle.s_code.specs.Slots.{store_code, take_code}
 
 -- the function that prints
 abbrev pub printer : ℕ
 printer = 0
 
+-- a call of a function is a tail call
 abbrev pub return : List Declaration → Layout → ℕ → ExprTree → Code → Code
 return ds Γ D (Resume k e ps) c = if is_own Γ k then tail_resume ds Γ D k e ps c else expr ds Γ 0 (Resume k e ps) (Plain leave c)
+return ds Γ D (Call f es) c = args ds Γ 0 es (Plain (return_call (function_index ds f)) c)
 return ds Γ D e c = expr ds Γ 0 e (Plain leave c)
 
 -- an expression, and then what its value is used for

@@ -8,7 +8,7 @@ ghost use Rattle.s_code.specs.Statements.{return as return_code, evaluate as eva
 ghost use Rattle.s_code.specs.Writes.{Writes};
 ghost use Rattle.s_index.specs.Limits.{number_limit};
 
-use crate::expression::{write_expr, write_tail_resume};
+use crate::expression::{write_args, write_expr, write_tail_resume};
 use crate::layout::Layout;
 use crate::operators::{write_control, write_numeric, write_op, write_set, write_token};
 use crate::slots::{write_store, write_take};
@@ -20,7 +20,7 @@ use w_syntax::{BlockKind, BlockType, ControlOp, IntType, NumericOp, Op, Parametr
 // The function that prints.
 const PRINTER: u32 = 0;
 
-// Writes a return of an expression; of a resume of the own handler's resumption, the next turn of its loop.
+// Writes a return of an expression: of a resume of the own handler's resumption the next turn of its loop, and of a call a tail call.
 fn write_return<'a>(
     program: &Program<'a>,
     layout: &Layout<'a>,
@@ -43,6 +43,14 @@ fn write_return<'a>(
                 program, layout, labels, resumption, argument, parameters, out,
             );
         }
+    }
+    if let Node::Call {
+        function,
+        arguments,
+    } = value.node()
+    {
+        write_args(program, layout, 0, arguments.as_slice(), out)?;
+        return write_control(ControlOp::ReturnCall(program.function_index(function)), out);
     }
     write_expr(program, layout, 0, value, out)?;
     write_control(ControlOp::Return, out)

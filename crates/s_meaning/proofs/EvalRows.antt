@@ -247,19 +247,19 @@ recursion = record {
       ∷ [];
 }
 
-recursion-ends : (Eval recursion 49).outcome ≡ Value (pos 0)
+recursion-ends : (Eval recursion 42).outcome ≡ Value (pos 0)
 unfolding recursion int_wrap
 recursion-ends = refl
 
-recursion-prints : (Eval recursion 49).printed ≡ []
+recursion-prints : (Eval recursion 42).printed ≡ []
 unfolding recursion int_wrap
 recursion-prints = refl
 
-recursion-goes-on : (Eval recursion 48).outcome ≡ Going
+recursion-goes-on : (Eval recursion 41).outcome ≡ Going
 unfolding recursion int_wrap
 recursion-goes-on = refl
 
-recursion-acts : acts (Eval recursion 24).term ≡ 5
+recursion-acts : acts (Eval recursion 24).term ≡ 1
 unfolding recursion int_wrap
 recursion-acts = refl
 
@@ -311,19 +311,19 @@ handlers_in_one_another = record {
       ∷ [];
 }
 
-handlers_in_one_another-ends : (Eval handlers_in_one_another 57).outcome ≡ Value (pos 0)
+handlers_in_one_another-ends : (Eval handlers_in_one_another 56).outcome ≡ Value (pos 0)
 unfolding handlers_in_one_another int_wrap
 handlers_in_one_another-ends = refl
 
-handlers_in_one_another-prints : (Eval handlers_in_one_another 57).printed ≡ []
+handlers_in_one_another-prints : (Eval handlers_in_one_another 56).printed ≡ []
 unfolding handlers_in_one_another int_wrap
 handlers_in_one_another-prints = refl
 
-handlers_in_one_another-goes-on : (Eval handlers_in_one_another 56).outcome ≡ Going
+handlers_in_one_another-goes-on : (Eval handlers_in_one_another 55).outcome ≡ Going
 unfolding handlers_in_one_another int_wrap
 handlers_in_one_another-goes-on = refl
 
-handlers_in_one_another-acts : acts (Eval handlers_in_one_another 28).term ≡ 6
+handlers_in_one_another-acts : acts (Eval handlers_in_one_another 28).term ≡ 5
 unfolding handlers_in_one_another int_wrap
 handlers_in_one_another-acts = refl
 
@@ -379,19 +379,19 @@ a_resumption_is_handed_over = record {
       ∷ [];
 }
 
-a_resumption_is_handed_over-ends : (Eval a_resumption_is_handed_over 18).outcome ≡ Value (pos 10)
+a_resumption_is_handed_over-ends : (Eval a_resumption_is_handed_over 17).outcome ≡ Value (pos 10)
 unfolding a_resumption_is_handed_over int_wrap
 a_resumption_is_handed_over-ends = refl
 
-a_resumption_is_handed_over-prints : (Eval a_resumption_is_handed_over 18).printed ≡ []
+a_resumption_is_handed_over-prints : (Eval a_resumption_is_handed_over 17).printed ≡ []
 unfolding a_resumption_is_handed_over int_wrap
 a_resumption_is_handed_over-prints = refl
 
-a_resumption_is_handed_over-goes-on : (Eval a_resumption_is_handed_over 17).outcome ≡ Going
+a_resumption_is_handed_over-goes-on : (Eval a_resumption_is_handed_over 16).outcome ≡ Going
 unfolding a_resumption_is_handed_over int_wrap
 a_resumption_is_handed_over-goes-on = refl
 
-a_resumption_is_handed_over-acts : acts (Eval a_resumption_is_handed_over 9).term ≡ 4
+a_resumption_is_handed_over-acts : acts (Eval a_resumption_is_handed_over 9).term ≡ 3
 unfolding a_resumption_is_handed_over int_wrap
 a_resumption_is_handed_over-acts = refl
 

@@ -8,4 +8,5 @@ pub mod Slots
 pub mod Worlds
 pub mod TypedFocus
 pub mod Sound
+pub mod TailCalls
 pub mod TypedRuns

@@ -19,7 +19,7 @@ use Rattle.s_meaning.specs.Terms.{Value, Number, Reference, Variable, Work, Righ
 use Rattle.s_meaning.specs.Focus.{Redex, left_of}
 use Rattle.s_meaning.specs.Steps.{clause_of, bind, number_parameters, Found, find, farther, with_clause, with_handler, with_kept, emptied as without, next_address, contents_of, with_contents, place_at, with_place, put, with_variable, Around, whole, goes, goes_on, enters, leaves, resumes, applies, uses, rule, step_at, step, unless_faulty, or_fault, or_wrong}
 use Rattle.s_meaning.specs.Typed
-use Rattle.s_meaning.specs.Typed.{World, HasKind, int, reference, AllHave, none, more, Variable_typed, Covers, RestTyped, begins, UseTyped, stores, chooses, turns, puts, takes, WorkTyped, HeadTyped, calling, doing, handling, resuming, tail_resuming, ContextTyped, nothing, activation, handle, HoleTyped, gives, finds, runs, TermTyped, in_activation, in_handle, EntryTyped, emptied, kept, PlacesTyped, ContentsTyped, SlotsThere, StoreTyped, Typed}
+use Rattle.s_meaning.specs.Typed.{World, HasKind, int, reference, AllHave, more, Covers, RestTyped, begins, UseTyped, stores, chooses, turns, puts, takes, WorkTyped, HeadTyped, calling, tail_calling, doing, handling, resuming, tail_resuming, ContextTyped, nothing, activation, handle, HoleTyped, gives, finds, runs, TermTyped, in_activation, in_handle, EntryTyped, emptied, kept, PlacesTyped, ContentsTyped, SlotsThere, StoreTyped, Typed}
 use Rattle.s_meaning.specs.Laws.{StepGood, on, over, faulty}
 use Rattle.s_meaning.proofs.Lists.{get_before, get_last, get_appended, get_set, length_set}
 use Rattle.s_meaning.proofs.Variables.{variable, covers_with, covers_stored}
@@ -219,6 +219,9 @@ module _ (p : Script) (typed : ScriptTyped p) where
   applies_good e s c (calling {f = f} {g = g} q w) vs κ =
       let b = bound_typed g.parameters vs in
       rw (q, b.is) (enters_typed e.store s b.match (typed.functions f g q) (whole_typed e c w κ))
+  applies_good e s c (tail_calling {f = f} {g = g} q) vs κ =
+      let b = bound_typed g.parameters vs in
+      rw (q, b.is) (enters_typed e.store s b.match (typed.functions f g q) κ)
   applies_good e s c (doing {op = op} q w) vs κ = caught_good e (find p op (whole e)) s (find_good op (whole_typed e c w κ)) q vs
   applies_good {Ξ} {vs = us} e s c (handling {f = f} {g = g} {i = i} q j n w) vs κ =
       let b = bound_typed g.parameters (taken_typed (kinds i.parameters) g.parameters vs) in

@@ -15,13 +15,13 @@ use Rattle.s_syntax.specs.BlockTree.{StatementTree, BlockTree, Done, ◌⨟◌}
 use Rattle.s_check.specs.Scopes.{Scope, type_in}
 use Rattle.s_check.specs.Rules.{count}
 use Rattle.s_meaning.specs.Typing
-use Rattle.s_meaning.specs.Typing.{kinds, numbers, ExprTyped, OperandsTyped, ArgsTyped, literal, read, unary, run, call, does, handle, resume, no_more, next, no_args, number, resumption, Fits, lets, assigns, stores_in, takes_from, StatementTyped, evaluates, ifs, whiles, fails}
+use Rattle.s_meaning.specs.Typing.{kinds, ExprTyped, OperandsTyped, ArgsTyped, literal, read, unary, run, call, does, handle, resume, no_more, next, no_args, number, resumption, Fits, lets, assigns, stores_in, takes_from, StatementTyped, evaluates, ifs, whiles, fails}
 use Rattle.s_meaning.proofs.Scopes.{bool_of, keeps_bound}
 use Rattle.s_meaning.proofs.Variables.{covers_less}
 use Rattle.s_meaning.specs.Terms.{Value, Row, ε, Variable, Head, Handling, Resuming, TailResuming, Use, Work, Among, Within, ToReturn, Hole}
 use Rattle.s_meaning.specs.Focus.{followed_by, Redex, Constant, Lookup, OnUnary, OnBinary, Decides, Applies, Uses, Fails, Ends, Focused, left_of, in_expr, in_args, in_both, variable_of, is_own, in_return, in_block, in_work, focus}
 use Rattle.s_meaning.specs.Typed
-use Rattle.s_meaning.specs.Typed.{World, HasKind, FirstHave, begun, further, RestTyped, begins, behind, UseTyped, stores, chooses, turns, puts, takes, WorkTyped, HeadTyped, under, left, right, among, within, calling, doing, handling, resuming, tail_resuming, HoleTyped, gives, finds, runs, Covers}
+use Rattle.s_meaning.specs.Typed.{World, HasKind, FirstHave, begun, further, RestTyped, begins, behind, UseTyped, stores, chooses, turns, puts, takes, WorkTyped, HeadTyped, under, left, right, among, within, calling, tail_calling, doing, handling, resuming, tail_resuming, HoleTyped, gives, finds, runs, Covers}
 
 -- a redex and the pending work around it
 pub data RedexTyped (p : Script) (Ξ : World) (Γ : Scope) : Redex → List Work → Type 0 where
@@ -94,7 +94,7 @@ module _ (p : Script) (Ξ : World) (Γ : Scope) where
   return_focus vars owner (read q) b = expr_focus (read q) (within Typed.returns b)
   return_focus vars owner (unary t) b = expr_focus (unary t) (within Typed.returns b)
   return_focus vars owner (run t ts) b = expr_focus (run t ts) (within Typed.returns b)
-  return_focus vars owner (call f ts) b = expr_focus (call f ts) (within Typed.returns b)
+  return_focus vars owner (call f ts) b = args_focus (tail_calling f) begun ts
   return_focus vars owner (does op ts) b = expr_focus (does op ts) (within Typed.returns b)
   return_focus vars owner (handle f h ts us) b = expr_focus (handle f h ts us) (within Typed.returns b)
   return_focus vars owner {rest = rest} (resume {k = k} {e = e} {bs = bs} q i t us) b =

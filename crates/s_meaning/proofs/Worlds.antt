@@ -12,7 +12,7 @@ use Rattle.s_meaning.proofs.Scopes.{bool_of}
 use Rattle.s_meaning.specs.Terms.{Value, Row, listed, listed_before, Variable, Head, Work, Context}
 use Rattle.s_meaning.specs.Focus.{variable_of}
 use Rattle.s_meaning.specs.Steps.{bind, number_parameters}
-use Rattle.s_meaning.specs.Typed.{World, HasKind, int, reference, AllHave, none, more, FirstHave, begun, further, Variable_typed, Covers, WorkTyped, HeadTyped, under, left, right, among, within, calling, doing, handling, resuming, tail_resuming, ContextTyped, nothing, activation, handle, EntryTyped, emptied, kept}
+use Rattle.s_meaning.specs.Typed.{World, HasKind, int, reference, AllHave, none, more, FirstHave, begun, further, Variable_typed, Covers, WorkTyped, HeadTyped, under, left, right, among, within, calling, tail_calling, doing, handling, resuming, tail_resuming, ContextTyped, nothing, activation, handle, EntryTyped, emptied, kept}
 
 -- ## More resumptions
 
@@ -44,6 +44,7 @@ mutual
 
   pub head_grows : {p : Script} {Ξ Ξ' : World} {Γ : Scope} {head : Head} {all : List VariableType} {w : List Work} → Grows Ξ Ξ' → HeadTyped p Ξ Γ head all w → HeadTyped p Ξ' Γ head all w
   head_grows g (calling f w) = calling f (work_grows g w)
+  head_grows g (tail_calling f) = tail_calling f
   head_grows g (doing op w) = doing op (work_grows g w)
   head_grows g (handling f h n w) = handling f h n (work_grows g w)
   head_grows g (resuming k i w) = resuming k i (work_grows g w)

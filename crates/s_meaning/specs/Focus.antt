@@ -14,7 +14,7 @@ use Rattle.s_syntax.specs.declared.statement.Use.{Use as ValueUse}
 use Rattle.s_syntax.specs.declared.statement.Use.TheVariants as use_for
 use Rattle.s_syntax.specs.BlockTree.{Evaluate, If, While, Fail, BlockTree, Done, ◌⨟◌}
 use Rattle.s_check.specs.Rules.{count}
-use Rattle.s_meaning.specs.Terms.{Value, Row, ε, ◌▹◌, Variable, Head, Calling, Doing, Handling, Resuming, TailResuming, Use, ToStore, ToPrint, ToDrop, ToReturn, ToChoose, ToTurn, ToPut, ToTake, Work, UnderUnary, LeftOf, RightOf, Among, Within, Hole, Gives, Finds, Runs}
+use Rattle.s_meaning.specs.Terms.{Value, Row, ε, ◌▹◌, Variable, Head, Calling, Doing, Handling, Resuming, TailResuming, TailCalling, Use, ToStore, ToPrint, ToDrop, ToReturn, ToChoose, ToTurn, ToPut, ToTake, Work, UnderUnary, LeftOf, RightOf, Among, Within, Hole, Gives, Finds, Runs}
 
 -- r: what one step does, where all that it needs are values
 pub data Redex : Type 0 where
@@ -90,11 +90,12 @@ is_own None v = false
 is_own (Some h) None = false
 is_own (Some h) (Some v) = is_resumption_of h v.ty
 
--- `return e`: where e is `resume k(..) with (..)`, k is of type res h, and this is a clause or the return clause of h, it is a
--- tail resume
+-- `return e`: where e is a call of a function, it is a tail call; where e is `resume k(..) with (..)`, k is of type res h, and this is a
+-- clause or the return clause of h, it is a tail resume
 abbrev pub in_return : List Variable → Option Name → ExprTree → BlockTree → Focused
 in_return vars owner (Resume k e bs) rest =
     if is_own owner (variable_of k vars) then in_expr e (Among (TailResuming k) ε bs ∷ []) else in_expr e (Among (Resuming k) ε bs ∷ Within ToReturn rest ∷ [])
+in_return vars owner (Call f es) rest = in_args (TailCalling f) ε es []
 in_return vars owner e rest = in_expr e (Within ToReturn rest ∷ [])
 
 -- an expression, and then what its value is used for

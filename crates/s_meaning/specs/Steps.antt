@@ -14,7 +14,7 @@ use Rattle.s_syntax.specs.declared.operators.BinaryOperator.TheVariants.{Connect
 use Rattle.s_syntax.specs.BlockTree.{BlockTree, While, Done, ◌⨟◌}
 use Rattle.s_check.specs.Definitions.{function_of, handler_of}
 use Rattle.s_meaning.specs.Numbers.{Fault, Failed, Reused, Empty, Unhandled, Computed, Is, Faulty, holds, truth, unary, operate, decided, line}
-use Rattle.s_meaning.specs.Terms.{Value, Number, Reference, listed, Variable, Head, Calling, Doing, Handling, Resuming, TailResuming, Use, ToStore, ToPrint, ToDrop, ToReturn, ToChoose, ToTurn, ToPut, ToTake, Work, RightOf, Place, Activation, Handle, Context, Hole, Gives, Finds, Runs, Contents, Store, Configuration}
+use Rattle.s_meaning.specs.Terms.{Value, Number, Reference, listed, Variable, Head, Calling, Doing, Handling, Resuming, TailResuming, TailCalling, Use, ToStore, ToPrint, ToDrop, ToReturn, ToChoose, ToTurn, ToPut, ToTake, Work, RightOf, Place, Activation, Handle, Context, Hole, Gives, Finds, Runs, Contents, Store, Configuration}
 use Rattle.s_meaning.specs.Focus.{Redex, Constant, Lookup, OnUnary, OnBinary, Decides, Applies, Uses, Fails, Ends, left_of, variable_of, focus}
 
 abbrev pub Step : Type 0
@@ -202,12 +202,17 @@ resumes e k vs κ = do
   inner ← or_fault Reused entry
   goes (emptied e.store a) (Gives v) (inner ++ Handle h bs ∷ κ)
 
-abbrev pub applies : Script → Around → Head → List Value → Step
--- E[f(vs)]  ⟶  E[body of f, its parameters being vs]
-applies p e (Calling f) vs = do
+-- E[f(vs)]  ⟶  E[body of f, its parameters being vs], E being κ
+abbrev pub calls : Script → Store → Name → List Value → Context → Step
+calls p σ f vs κ = do
   g ← or_wrong (function_of p.declarations f)
   vars ← or_wrong (bind g.parameters vs)
-  enters e.store g.body vars None (whole e)
+  enters σ g.body vars None κ
+
+abbrev pub applies : Script → Around → Head → List Value → Step
+applies p e (Calling f) vs = calls p e.store f vs (whole e)
+-- E's activation ends first
+applies p e (TailCalling f) vs = calls p e.store f vs e.outer
 -- σ; F'[handle F[do op(vs)] with h(ps)]  ⟶  σ, k kept F; F'[clause of h for op, with vs, ps and k]
 -- where no handle in F has a clause for op
 applies p e (Doing op) vs = do

@@ -42,6 +42,8 @@ pub data Head : Type 0 where
   Resuming : (k : Name) → Head
   -- the same, but the activation ends before the handler is put back
   TailResuming : (k : Name) → Head
+  -- a call that takes the place of the activation
+  TailCalling : (f : Name) → Head
 
 -- what a statement does with the value of its expression
 pub data Use : Type 0 where

@@ -14,7 +14,7 @@ use Rattle.s_syntax.specs.BlockTree.{StatementTree, BlockTree, Done, ◌⨟◌}
 use Rattle.s_check.specs.Definitions.{function_of, handler_of, effect_of, slots_of}
 use Rattle.s_check.specs.Scopes.{Scope, type_in, number as number_name, resumption as resumption_name}
 use Rattle.s_meaning.specs.Typing.{kinds, numbers, ExprTyped, OperandsTyped, ArgsTyped, StatementTyped, BlockTyped}
-use Rattle.s_meaning.specs.Terms.{Value, Number, Reference, Row, ε, ◌▹◌, Variable, Head, Calling, Doing, Handling, Resuming, TailResuming, Use, ToStore, ToPrint, ToDrop, ToReturn, ToChoose, ToTurn, ToPut, ToTake, Work, UnderUnary, LeftOf, RightOf, Among, Within, Activation, Handle, Context, Hole, Gives, Finds, Runs, Contents, Store, Configuration}
+use Rattle.s_meaning.specs.Terms.{Value, Number, Reference, Row, ε, ◌▹◌, Variable, Head, Calling, Doing, Handling, Resuming, TailResuming, TailCalling, Use, ToStore, ToPrint, ToDrop, ToReturn, ToChoose, ToTurn, ToPut, ToTake, Work, UnderUnary, LeftOf, RightOf, Among, Within, Activation, Handle, Context, Hole, Gives, Finds, Runs, Contents, Store, Configuration}
 use Rattle.s_meaning.specs.Focus.{variable_of}
 use Rattle.s_meaning.specs.Steps.{contents_of}
 
@@ -82,6 +82,7 @@ mutual
   -- what is done with arguments of these types, and the work around it
   pub data HeadTyped (p : Script) (Ξ : World) (Γ : Scope) : Head → List VariableType → List Work → Type 0 where
     calling : {f : Name} {g : Function} {w : List Work} → function_of p.declarations f ≡ Some g → WorkTyped p Ξ Γ w Int → HeadTyped p Ξ Γ (Calling f) (kinds g.parameters) w
+    tail_calling : {f : Name} {g : Function} → function_of p.declarations f ≡ Some g → HeadTyped p Ξ Γ (TailCalling f) (kinds g.parameters) []
     doing : {op : Name} {n : ℕ} {w : List Work} → effect_of p.declarations op ≡ Some n → WorkTyped p Ξ Γ w Int → HeadTyped p Ξ Γ (Doing op) (numbers n) w
     handling : {f h : Name} {n : ℕ} {g : Function} {i : Handler} {w : List Work} → function_of p.declarations f ≡ Some g → handler_of p.declarations h ≡ Some i
         → n ≡ length g.parameters → WorkTyped p Ξ Γ w Int → HeadTyped p Ξ Γ (Handling f n h) (kinds g.parameters ++ kinds i.parameters) w

@@ -3,4 +3,6 @@
 
 mod laws;
 
-pub use laws::{good_scripts_are_never_wrong, typed_configurations_stay_typed};
+pub use laws::{
+    good_scripts_are_never_wrong, tail_calls_keep_activations, typed_configurations_stay_typed,
+};

@@ -4,10 +4,11 @@ use Rattle.std.proofs.Common.{◌≡◌, inl, ℕ, zero, suc, ◌-◌, nat_le, B
 use Rattle.w_types.specs.declared.types.ValType.{ValType}
 use Rattle.w_types.specs.declared.types.HeapType.TheVariants.{Index}
 use Rattle.w_types.specs.declared.types.ValType.TheVariants.{I32, I64, Ref}
+use Rattle.w_types.specs.declared.types.FuncType.{FuncType}
 use Rattle.w_types.specs.declared.types.CompType.{CompType}
 use Rattle.w_types.specs.declared.types.CompType.TheVariants.{Cont}
 use Rattle.w_types.specs.declared.types.RecGroup.{RecGroup}
-use Rattle.lists.specs.Rows.{Row, ε, ◌▹◌, ◌⧺◌, row_of}
+use Rattle.lists.specs.Rows.{Row, ε, ◌▹◌, ◌⧺◌, row_of, listed}
 use Rattle.w_syntax.specs.Code.{Code, Done, Plain, Block}
 use Rattle.w_syntax.specs.declared.instructions.Op.{Op}
 use Rattle.w_syntax.specs.declared.module.TableType.{TableType}
@@ -15,7 +16,6 @@ use Rattle.w_syntax.specs.declared.instructions.BlockKind.TheVariants as kind
 use Rattle.w_syntax.specs.declared.instructions.BlockType.TheVariants as block
 use Rattle.w_syntax.specs.declared.numeric.Binop.{Binop}
 use Rattle.w_syntax.specs.declared.numeric.Relop.{Relop}
-use Rattle.w_canon.specs.Relations.{Pairwise}
 use Rattle.w_canon.specs.Relations as pairs
 use Rattle.w_canon.specs.Matching.{ResultMatches, ref}
 use Rattle.w_canon.specs.Supertypes.{KeepsKinds}
@@ -24,14 +24,14 @@ use Rattle.w_rules.specs.Operands.{Operand}
 use Rattle.w_rules.specs.Operands.{Known}
 use Rattle.w_rules.specs.Matching.{RowMatches, none, more, value, known}
 use Rattle.w_rules.specs.Context.{Context, labelled, type_of, type_count, index_in_cont, cont_of, type_of_func, type_of_tag}
-use Rattle.w_rules.specs.Conditions.{Condition}
-use Rattle.w_rules.specs.InstructionTypes.{InstrType, fixed, polymorphic, instr_type, sets, get_type, set_type, br_type, br_if_type, call_type, ref_func_type, table_get_type, table_set_type, cont_new_type, cont_bind_type, if_valid, nullable, non_null}
+use Rattle.w_rules.specs.Conditions.{Condition, ReturnsTyped}
+use Rattle.w_rules.specs.InstructionTypes.{InstrType, fixed, polymorphic, instr_type, sets, get_type, set_type, br_type, br_if_type, call_type, tail_call_type, ref_func_type, table_get_type, table_set_type, cont_new_type, cont_bind_type, if_valid, nullable, non_null}
 use Rattle.w_rules.specs.Typing.{HasInstrType, Derives}
 use Rattle.w_rules.specs.Types.{has_heap}
 use Rattle.w_rules.proofs.Preorder.{operand_refl, row_refl}
 use Rattle.w_rules.proofs.Derive.{derives_left}
 use Rattle.s_index.specs.Types.{computation_type}
-use Rattle.s_code.specs.Instructions.{constant, constant_32, is_zero, is_zero_32, extend, wrap, binary, compare, select, unreachable, nop, branch, branch_if, leave, call, dropped, local_get, local_set, table_get, table_set, null as null_reference, non_null as checked, function_reference, new_continuation, bind_continuation, suspend, number_if_zero, if_zero, truth}
+use Rattle.s_code.specs.Instructions.{constant, constant_32, is_zero, is_zero_32, extend, wrap, binary, compare, select, unreachable, nop, branch, branch_if, leave, call, return_call, dropped, local_get, local_set, table_get, table_set, null as null_reference, non_null as checked, function_reference, new_continuation, bind_continuation, suspend, number_if_zero, if_zero, truth}
 use Rattle.s_valid.specs.Offers.{arrow}
 
 -- all of these locals are set
@@ -266,6 +266,15 @@ module _ {C : Context} {us : Row Operand} where
 
   pub returned_typed : {vs : Row Operand} {c : Code} (ws : Row Operand) → C.results ≡ ε ▹ I64 → Rest C c ws us → Rest C (Plain leave c) (vs ▹ Known I64) us
   returned_typed {vs} {c} ws e r = leave_typed leave (ε ▹ I64) vs ws c tt (λ s. ap polymorphic e) (λ s all. all) r
+
+  -- a function that gives what this one gives takes its place
+  pub return_call_typed : (vs ws : Row Operand) {c : Code} (x : ℕ) (ts : List ValType) → type_of_func C x ≡ Some (arrow ts (I64 ∷ [])) → C.results ≡ ε ▹ I64 → Rest C c ws us
+      → Rest C (Plain (return_call x) c) (vs ⧺ known (row_of ts)) us
+  return_call_typed vs ws {c} x ts e q r =
+      let Fits : Row ValType → Type 0 = λ rs. ResultMatches C.types (I64 ∷ []) (listed rs) in
+      let Gives : Option FuncType → Type 0 = λ t. ReturnsTyped C t in
+      let fits : Fits C.results = subst Fits (sym q) (result_refl C.types (I64 ∷ [])) in
+      leave_typed (return_call x) (row_of ts) vs ws c (subst Gives (sym e) fits) (λ s. ap tail_call_type e) (λ s all. all) r
 
   pub unreachable_typed : {vs : Row Operand} {c : Code} (ws : Row Operand) → Rest C c ws us → Rest C (Plain unreachable c) vs us
   unreachable_typed {vs} {c} ws r = leave_typed unreachable ε vs ws c tt (λ s. refl) (λ s all. all) r

@@ -30,7 +30,7 @@ use Rattle.s_check.specs.Size.{expr_size, exprs_size, operands_size, statement_s
 use Rattle.s_index.specs.Numbers.{function_index, handler_index, tag_index, table_index}
 use Rattle.s_index.specs.Indices.{continuation_index, clause_type_index}
 use Rattle.s_index.specs.Types.{resumption_type, computation_type}
-use Rattle.s_code.specs.Instructions.{call, local_get, local_set, table_get, table_set, wrap, null, non_null, nop, bind_continuation, suspend, branch, branch_if, is_zero, leave, dropped, truth, unary_operator, comparison, arithmetic, if_zero, resume}
+use Rattle.s_code.specs.Instructions.{call, return_call, local_get, local_set, table_get, table_set, wrap, null, non_null, nop, bind_continuation, suspend, branch, branch_if, is_zero, leave, dropped, truth, unary_operator, comparison, arithmetic, if_zero, resume}
 use Rattle.s_code.specs.Layouts.{Layout, local_number, handler_of_name, stays, slot, is_own, owner_parameters}
 use Rattle.s_code.specs.Expressions.{reload, begin, wake, handler_index_of, operator, expr, args, set_aside, operands, set_parameters, tail_resume}
 use Rattle.s_code.specs.Slots.{places_of, to_place, store_code, take_code}
@@ -130,6 +130,9 @@ set_short x c = let n = number_short x in omega (arith, n)
 
 call_short : (x : ℕ) (c : Code) → code_bytes (Plain (call x) c) ≤ 11 + code_bytes c
 call_short x c = let n = number_short x in omega (arith, n)
+
+return_call_short : (x : ℕ) (c : Code) → code_bytes (Plain (return_call x) c) ≤ 11 + code_bytes c
+return_call_short x c = let n = number_short x in omega (arith, n)
 
 unary_short : (o : UnaryOperator) (c : Code) → code_bytes (unary_operator o c) ≤ 12 + code_bytes c
 unary_short Minus c = let n = signed_short (negsuc 0) in omega (arith, n)
@@ -256,7 +259,7 @@ module _ (ds : List Declaration) (Γ : Layout) (few : owner_parameters Γ.owner 
   return_short (Read x) D c = plain_short (Read x) c
   return_short (Unary o e) D c = plain_short (Unary o e) c
   return_short (Run e ps) D c = plain_short (Run e ps) c
-  return_short (Call f es) D c = plain_short (Call f es) c
+  return_short (Call f es) D c = let p = args_short ds Γ es 0 (Plain (return_call (function_index ds f)) c) in let q = return_call_short (function_index ds f) c in omega (arith, p, q)
   return_short (Do o es) D c = plain_short (Do o es) c
   return_short (Handle f es h ps) D c = plain_short (Handle f es h ps) c
   return_short (Resume k e ps) D c = resumed_short k e ps D c (is_own Γ k)

@@ -28,7 +28,7 @@ use Rattle.s_check.specs.Definitions.{handler_of, slots_of}
 use Rattle.s_check.specs.Rules.{handler_of_slots}
 use Rattle.s_check.specs.Scopes.{Scope, type_in, number as number_name, resumption as resumption_name}
 use Rattle.s_index.specs.Handled.{handled_in_expr, handled_in_exprs, handled_in_block}
-use Rattle.s_index.specs.Numbers.{table_index}
+use Rattle.s_index.specs.Numbers.{function_index, table_index}
 use Rattle.s_index.specs.Types.{resumption_type, computation_type, val_types}
 use Rattle.s_code.specs.Instructions.{branch, leave, local_set}
 use Rattle.s_code.specs.Layouts.{Layout, Owner, local_number, handler_of_name, is_own, is_same_handler, owner_parameters}
@@ -37,9 +37,9 @@ use Rattle.s_code.specs.Expressions.{expr, set_parameters, tail_resume}
 use Rattle.s_code.specs.Places.{binds_in}
 use Rattle.s_code.specs.Slots.{places_of, to_place, store_code, take_code}
 use Rattle.s_code.specs.Statements.{return, block, body, ending, printer}
-use Rattle.s_meaning.specs.Typing.{kinds, ExprTyped, resume, lets, assigns, prints, returns, drops, stores_in, takes_from, evaluates, ifs, whiles, fails, BlockTyped, done, statement}
+use Rattle.s_meaning.specs.Typing.{kinds, ExprTyped, call as calls, resume, lets, assigns, prints, returns, drops, stores_in, takes_from, evaluates, ifs, whiles, fails, BlockTyped, done, statement}
 use Rattle.s_meaning.proofs.Scopes.{same_is, same_refl, bool_of}
-use Rattle.s_valid.proofs.Rests.{Rest, is_zero_typed, constant_typed, constant_32_typed, wrap_typed, compare_typed, select_typed, get_typed, set_typed, table_get_typed, table_set_typed, null_typed, checked_typed, less_typed, weaker, call_typed, end_typed, if_typed, loop_typed, branch_if_typed, dropped_typed, branch_typed, returned_typed, unreachable_typed}
+use Rattle.s_valid.proofs.Rests.{Rest, is_zero_typed, constant_typed, constant_32_typed, wrap_typed, compare_typed, select_typed, get_typed, set_typed, table_get_typed, table_set_typed, null_typed, checked_typed, less_typed, weaker, call_typed, end_typed, if_typed, loop_typed, branch_if_typed, dropped_typed, branch_typed, returned_typed, return_call_typed, unreachable_typed}
 use Rattle.s_valid.proofs.LayoutTypes.{Scoped, inside, local_typed, handler_at, bound, types_of_kinds, AllHandled, handled_left, handled_right, LetsPlaced, lets_left, lets_right, lets_first}
 use Rattle.s_valid.proofs.TypedExpressions.{expr_typed, args_typed, least_args, on_top, wake_typed}
 
@@ -114,7 +114,9 @@ module _ {p : Script} {L : Layout} {n : ℕ} where
   return_typed (Read x) s q h a r = expr_typed (Read x) 0 s q h a (returned_typed ε s.results r)
   return_typed (Unary o e) s q h a r = expr_typed (Unary o e) 0 s q h a (returned_typed ε s.results r)
   return_typed (Run e ps) s q h a r = expr_typed (Run e ps) 0 s q h a (returned_typed ε s.results r)
-  return_typed (Call f es) s q h a r = expr_typed (Call f es) 0 s q h a (returned_typed ε s.results r)
+  return_typed (Call f es) s (calls {g = g} is q) h a r =
+      args_typed es 0 s q h a (on_top ε (kinds g.parameters) (val_types g.parameters) (types_of_kinds g.parameters)
+      (return_call_typed ε ε (function_index p.declarations f) (val_types g.parameters) (s.offers.function f g is) s.results r))
   return_typed (Do op es) s q h a r = expr_typed (Do op es) 0 s q h a (returned_typed ε s.results r)
   return_typed (Handle f es g ps) s q h a r = expr_typed (Handle f es g ps) 0 s q h a (returned_typed ε s.results r)
 

@@ -35,25 +35,25 @@ use Rattle.w_call_ops.proofs.Invocations.{begins}
 -- ## The rule
 
 -- the address is that of this function of the host
-host_invoked : (p : Program) (u : instances.Store) (e : Context) (vs : List Value) (a : ℕ) (k : Printer) (rest : Rest) → slice_get u.functions a ≡ Some (entry.Printer k) →
+pub host_invoked : (p : Program) (u : instances.Store) (e : Context) (vs : List Value) (a : ℕ) (k : Printer) (rest : Rest) → slice_get u.functions a ≡ Some (entry.Printer k) →
     invoke p (store_of u) e (stack vs) a rest ≡ print (store_of u) e (stack vs) k rest
 host_invoked p u e vs a k rest h = ap (λ (o : Option FuncEntry). or_stuck o (λ f. invoked p (store_of u) e (stack vs) f rest)) h
 
 -- it takes a number
-print_there : (u : instances.Store) (e : Context) (k : Printer) (rest : Rest) (vs : List Value) → print (store_of u) e (stack vs) k rest ≢ Stuck → TakesNumber (taken_by k) vs
+pub print_there : (u : instances.Store) (e : Context) (k : Printer) (rest : Rest) (vs : List Value) → print (store_of u) e (stack vs) k rest ≢ Stuck → TakesNumber (taken_by k) vs
 print_there u e printer.I32 rest vs h = number_there int.I32 vs (λ q. Went (printed printer.I32 q.1) (store_of u) (record { around = e; operands = q.0; rest = rest })) h
 print_there u e printer.I64 rest vs h = number_there int.I64 vs (λ q. Went (printed printer.I64 q.1) (store_of u) (record { around = e; operands = q.0; rest = rest })) h
 print_there u e printer.Byte rest vs h = number_there int.I32 vs (λ q. Went (printed printer.Byte q.1) (store_of u) (record { around = e; operands = q.0; rest = rest })) h
 
 -- and prints it
-print_is : (u : instances.Store) (e : Context) (k : Printer) (rest : Rest) (v : Value) (vs : List Value) → IsNumber (taken_by k) v →
+pub print_is : (u : instances.Store) (e : Context) (k : Printer) (rest : Rest) (v : Value) (vs : List Value) → IsNumber (taken_by k) v →
     print (store_of u) e (stack (v ∷ vs)) k rest ≡ Went (printed k (bits_in v)) (store_of u) (record { around = e; operands = stack vs; rest = rest })
 print_is u e printer.I32 rest v vs h = number_top int.I32 v vs (λ q. Went (printed printer.I32 q.1) (store_of u) (record { around = e; operands = q.0; rest = rest })) h
 print_is u e printer.I64 rest v vs h = number_top int.I64 v vs (λ q. Went (printed printer.I64 q.1) (store_of u) (record { around = e; operands = q.0; rest = rest })) h
 print_is u e printer.Byte rest v vs h = number_top int.I32 v vs (λ q. Went (printed printer.Byte q.1) (store_of u) (record { around = e; operands = q.0; rest = rest })) h
 
 -- its argument is the first of these, and others are behind
-argument : (k : Printer) (vs : List Value) → TakesNumber (taken_by k) vs → (vs ≡ first vs ∷ drop 1 vs) × IsNumber (taken_by k) (first vs) × (0 < length vs)
+pub argument : (k : Printer) (vs : List Value) → TakesNumber (taken_by k) vs → (vs ≡ first vs ∷ drop 1 vs) × IsNumber (taken_by k) (first vs) × (0 < length vs)
 argument k vs t = subst (λ (l : List Value). (l ≡ first l ∷ drop 1 l) × IsNumber (taken_by k) (first l) × (0 < length l)) (sym t.is) (refl, t.number, omega arith)
 
 -- ## Called by an instruction

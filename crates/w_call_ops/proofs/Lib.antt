@@ -1,8 +1,8 @@
 mod Runs
 mod FirstValues
-mod FrameRoom
+pub mod FrameRoom
 mod Arguments
-mod InFunctions
+pub mod InFunctions
 pub mod OwnCalls
 pub mod Invocations
 mod FindingCallees

@@ -8,7 +8,7 @@ ghost use Rattle.w_stands.specs.Keeps.{Keeps};
 ghost use Rattle.w_stands.specs.Room.{Roomier};
 ghost use Rattle.w_types.specs.declared.types.FuncType.{FuncType as FuncKind};
 ghost use Rattle.w_syntax.specs.declared.module.Func.{Func as FuncCode};
-ghost use Rattle.w_call_ops.specs.Entering.{CanEnter, HasFrameRoom, IsEntered, IsFunction, first_values};
+ghost use Rattle.w_call_ops.specs.Entering.{CalleeFits, CanEnter, HasFrameRoom, IsEntered, IsFunction, first_values};
 
 use std::alloc::AllocError;
 use w_rules::{Checked, function_type};
@@ -16,8 +16,8 @@ use w_segment::{Entry, Stack};
 use w_syntax::{Func, LocalRun, Module};
 use w_types::{FuncType, Value};
 
-// The type and the code of a function of the module, which are there.
-fn find(program: &Module, function: u32) -> (&FuncType, &Func)
+/// The type and the code of a function of the module, which are there.
+pub fn find_callee(program: &Module, function: u32) -> (&FuncType, &Func)
     requires there { (t : FuncKind) × (f : FuncCode) × IsFunction program.now function t f }
     ensures { IsFunction program.now function result.0.now result.1.now }
 {
@@ -74,6 +74,65 @@ fn room_for_frame(
     stack.reserve(operands, levels, locals)
 }
 
+/// Takes room for the frame of a function of the module, with all that the function needs, where there is none and more may be asked
+/// for. It fails only when out of memory, or where there is no room and none may be asked for.
+#[inline(always)]
+pub fn room_for_callee(
+    program: &Checked,
+    stack: &mut Stack,
+    function: u32,
+    kind: &FuncType,
+    code: &Func,
+    may_grow: bool,
+) -> Result<(), AllocError>
+    requires there { IsFunction program.now function kind.now code.now }
+    ensures roomier { Roomier stack.old stack.new }
+    ensures ok { OnOk result (CalleeFits program.now kind.now code.now stack.new) }
+{
+    let _module = program.module();
+    let locals = kind.params.len() + count_locals(code.locals.as_slice());
+    let height = program.height(function);
+    let depth = program.depth(function);
+    room_for_frame(stack, height, depth, locals, may_grow)
+}
+
+/// Enters a function of the module where its arguments are the topmost operands and there is room for its frame; the function that ran
+/// before goes on at the stack's place.
+#[inline(always)]
+pub fn enter_callee(
+    program: &Checked,
+    stack: &mut Stack,
+    function: u32,
+    kind: &FuncType,
+    code: &Func,
+)
+    requires there { IsFunction program.now function kind.now code.now }
+    requires given { length kind.now.params ≤ length stack.old.operands }
+    requires fits { CalleeFits program.now kind.now code.now stack.old }
+    requires short { length (instrs program.now function) < 2 ^ 32 }
+    ensures room { HasFrameRoom program.now function stack.old stack.new }
+    ensures after { IsEntered program.now function stack.old.place stack.old.operands stack.old stack.new }
+    ensures keeps { Keeps stack.old stack.new }
+{
+    let _module = program.module();
+    let params = kind.params.len() as u32;
+    let arity = kind.results.len() as u32;
+    let runs = code.locals.as_slice();
+    let target = code.body.instrs().len() as u32;
+    stack.enter(Entry::Frame {
+        func: function,
+        params,
+        locals: params,
+        arity,
+    });
+    add_runs(stack, runs);
+    stack.enter(Entry::Label {
+        params: 0,
+        arity,
+        target,
+    });
+}
+
 /// Enters a function of the module, by its index among the module's own, once so many operands are gone; its arguments stand beneath
 /// them. The function that ran before goes on at `back`. The frame gets room for all that its function needs. It fails only when out of
 /// memory, or where there is no room and none may be asked for, and then the stack is as it was but for room.
@@ -94,28 +153,10 @@ pub(crate) fn enter(
     ensures keeps { OnOk result (Keeps stack.old stack.new) }
     ensures err { OnErr result (Roomier stack.old stack.new) }
 {
-    let (kind, code) = find(program.module(), function);
-    let params = kind.params.len() as u32;
-    let arity = kind.results.len() as u32;
-    let runs = code.locals.as_slice();
-    let target = code.body.instrs().len() as u32;
-    let locals = params as usize + count_locals(runs);
-    let height = program.height(function);
-    let depth = program.depth(function);
-    room_for_frame(stack, height, depth, locals, may_grow)?;
+    let (kind, code) = find_callee(program.module(), function);
+    room_for_callee(program, stack, function, kind, code, may_grow)?;
     stack.discard(popped);
     stack.go(back);
-    stack.enter(Entry::Frame {
-        func: function,
-        params,
-        locals: params,
-        arity,
-    });
-    add_runs(stack, runs);
-    stack.enter(Entry::Label {
-        params: 0,
-        arity,
-        target,
-    });
+    enter_callee(program, stack, function, kind, code);
     Ok(())
 }

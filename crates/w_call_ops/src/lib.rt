@@ -6,6 +6,7 @@ mod calls;
 mod entering;
 mod printers;
 
-pub use callees::{callee_by_reference, callee_by_table};
+pub use callees::{CallKind, callee_by_reference, callee_by_table};
 pub use calls::{call_own, invoke_own};
-pub use printers::{call_printer, invoke_printer};
+pub use entering::{enter_callee, find_callee, room_for_callee};
+pub use printers::{argument, call_printer, invoke_printer, spelled};

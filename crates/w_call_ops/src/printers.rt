@@ -31,8 +31,8 @@ fn number_line<I: Integer>(number: I) -> ArrayVec<u8, 41>
     line
 }
 
-// What a function of the host prints of a number.
-fn spelled(printer: Printer, value: Value) -> ArrayVec<u8, 41>
+/// What a function of the host prints of a number.
+pub fn spelled(printer: Printer, value: Value) -> ArrayVec<u8, 41>
     requires { IsNumber (taken_by printer) value }
     ensures { result.items ≡ printed printer (bits_in value) }
 {
@@ -47,8 +47,8 @@ fn spelled(printer: Printer, value: Value) -> ArrayVec<u8, 41>
     }
 }
 
-// The topmost operand but so many.
-fn argument(stack: &Stack, popped: usize) -> Value
+/// The topmost operand but so many.
+pub fn argument(stack: &Stack, popped: usize) -> Value
     requires { popped < length stack.now.operands }
     ensures { result ≡ first (drop popped stack.now.operands) }
 {

@@ -42,13 +42,20 @@ pub(crate) fn control_at(
         0x0C => ControlOp::Br(index),
         0x0D => ControlOp::BrIf(index),
         0x10 => ControlOp::Call(index),
-        0x11 => {
+        0x11 | 0x13 => {
             let Some((table, next)) = read_u32(bytes, next) else {
                 return Ok(None);
             };
-            return Ok(Some((ControlOp::CallIndirect(index, table), next)));
+            let call = if tag == 0x11 {
+                ControlOp::CallIndirect(index, table)
+            } else {
+                ControlOp::ReturnCallIndirect(index, table)
+            };
+            return Ok(Some((call, next)));
         }
+        0x12 => ControlOp::ReturnCall(index),
         0x14 => ControlOp::CallRef(index),
+        0x15 => ControlOp::ReturnCallRef(index),
         0xD5 => ControlOp::BrOnNull(index),
         0xD6 => ControlOp::BrOnNonNull(index),
         _ => return Ok(None),

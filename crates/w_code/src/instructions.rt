@@ -140,7 +140,7 @@ impl Field for OpField {
             return Ok(None);
         };
         match tag {
-            0x00..=0x01 | 0x0C..=0x11 | 0x14 | 0xD5..=0xD6 => {
+            0x00..=0x01 | 0x0C..=0x15 | 0xD5..=0xD6 => {
                 let Some((control, next)) = control_at(alloc, bytes, at)? else {
                     return Ok(None);
                 };

@@ -1,5 +1,5 @@
 -- Frames that are left: where a stack stands behind one.
-use Rattle.std.proofs.Common.{◌≡◌, ℕ, ◌≤◌, List, [], ◌∷◌, ◌++◌, Some, true, length, refl, sym, ap, ◌∙◌, subst, take}
+use Rattle.std.proofs.Common.{◌≡◌, ℕ, ◌≤◌, List, [], ◌∷◌, ◌++◌, Option, Some, None, slice_get, true, length, refl, sym, ap, ◌∙◌, subst, take}
 use Rattle.lists.specs.Rows.{Row, ◌⧺◌}
 use Rattle.w_types.specs.declared.value.Value.{Value}
 use Rattle.w_syntax.specs.declared.instructions.Instr.TheVariants as flat
@@ -7,18 +7,20 @@ use Rattle.w_syntax.specs.declared.instructions.Op.TheVariants as op
 use Rattle.w_syntax.specs.declared.instructions.ControlOp.TheVariants as control
 use Rattle.w_syntax.specs.declared.module.Module.{Module}
 use Rattle.w_segment.specs.declared.entry.Stage.TheVariants.{Body}
-use Rattle.w_segment.specs.Shape.{Shape, Level, ReturnTarget, frame_at, IsIn}
+use Rattle.w_segment.specs.Shape.{Shape, Level, Frame, ReturnTarget, frame_at, IsIn}
 use Rattle.w_segment.specs.Changes.{returned}
 use Rattle.w_segment.specs.Holds.{Holds}
 use Rattle.w_segment.proofs.FactsOfValues.{returned_holds}
 use Rattle.w_tables.specs.Store as instances
 use Rattle.w_reduce.specs.Values.{Val}
 use Rattle.w_reduce.specs.Store.{Store}
-use Rattle.w_reduce.specs.Terms.{Rest, rest_of, Context}
+use Rattle.w_reduce.specs.Terms.{Rest, rest_of, Frame as InFrame, Context}
 use Rattle.w_reduce.specs.Program.{Program}
-use Rattle.w_reduce.specs.Reduced.{steps_to, take_values}
+use Rattle.w_reduce.specs.Reduced.{Reduced, steps_to, take_values}
+use Rattle.w_reduce.specs.Calls.{around_frame}
 use Rattle.w_reduce.specs.Branches.{returns}
-use Rattle.w_stands.specs.Values.{stack, store_of}
+use Rattle.w_stands.specs.Values.{stack, local_vals, store_of}
+use Rattle.w_stands.specs.Code.{instrs}
 use Rattle.w_stands.specs.declared.did.Did.TheVariants as did
 use Rattle.w_stands.specs.Keeps.{Keeps}
 use Rattle.w_stands.specs.Stands.{LevelsAre, label, frame, outermost, StackIs, values}
@@ -39,7 +41,7 @@ inside (label b k g w) = refl
 inside (frame n k w) = refl
 inside (outermost n) = refl
 
--- what a return from it leads to
+-- what a return from it leads to, and a tail call
 pub record Framed (m : Module) (outer : Context) (behind : Rest) (ls : List Level) (e : Context) : Type 0 where
   pub caller : ReturnTarget
   pub at : frame_at ls ≡ Some caller
@@ -47,12 +49,16 @@ pub record Framed (m : Module) (outer : Context) (behind : Rest) (ls : List Leve
   pub rest : Rest
   pub leads : (u : Store) (vs : Row Val) → returns u e vs ≡ take_values caller.arity vs (λ x. steps_to u around (stack caller.below ⧺ x.1) rest)
   pub stands : (s' : Shape) → s'.levels ≡ caller.outer → s'.func ≡ caller.caller → s'.place ≡ caller.back → s'.stage ≡ stage_in caller.outer → StackIs m outer behind s' around rest
+  pub leads_out : (go : Row Val × Rest × Context → Reduced) → around_frame e go ≡ go (stack caller.below, rest, around)
+  -- the frame of another function in its place
+  pub replaced : (i q n : ℕ) (locals : List (Option Value)) → slice_get (instrs m i) q ≡ None
+      → LevelsAre m outer behind i q (Frame caller.below n locals caller.caller caller.back ∷ caller.outer) (InFrame (stack caller.below) n i (local_vals locals) rest ∷ around)
 
 -- there is one in each body
 pub framed : {m : Module} {outer : Context} {behind : Rest} {f q : ℕ} {ls : List Level} {e : Context} → LevelsAre m outer behind f q ls e → Framed m outer behind ls e
 framed (label b k g w) =
     let r = framed w in
-    record { caller = r.caller; at = r.at; around = r.around; rest = r.rest; leads = r.leads; stands = r.stands }
+    record { caller = r.caller; at = r.at; around = r.around; rest = r.rest; leads = r.leads; stands = r.stands; leads_out = r.leads_out; replaced = r.replaced }
 framed (frame {n = n} {caller = g} {back = b} {below = below} {rest = rest} {ls = ls} {e = e} p k w) = record {
   caller = record { below = below; arity = n; caller = g; back = b; outer = ls };
   at = refl;
@@ -60,6 +66,8 @@ framed (frame {n = n} {caller = g} {back = b} {below = below} {rest = rest} {ls 
   rest = rest_of rest;
   leads = λ u vs. refl;
   stands = λ s' l f at t. onward g b ls k w (t ∙ inside w) f at l;
+  leads_out = λ go. refl;
+  replaced = λ i q n' locals ends. frame ends k w;
 }
 framed {outer = outer} {behind = behind} (outermost {n = n} {caller = g} {back = b} {below = below} p) = record {
   caller = record { below = below; arity = n; caller = g; back = b; outer = [] };
@@ -68,6 +76,8 @@ framed {outer = outer} {behind = behind} (outermost {n = n} {caller = g} {back =
   rest = behind;
   leads = λ u vs. refl;
   stands = λ s' l f at t. values t l;
+  leads_out = λ go. refl;
+  replaced = λ i q n' locals ends. outermost ends;
 }
 
 -- ## Behind a frame
@@ -147,7 +157,7 @@ module _ (m : Module) (s : Shape) (k : MovesAlone (flat.Plain (op.Control contro
       (w.1.caller, w.1.at, enough k.u mv.p mv.o mv.e mv.r mv.at w.1 w.0)
 
   -- it goes on in the caller
-  pub return_follows : (t s' : Shape) → ((c : ReturnTarget) → frame_at s.levels ≡ Some c → t ≡ returned c s) → s' ≡ ended t → FollowsAlone did.Went m s s'
+  pub return_follows : (t s' : Shape) → ((c : ReturnTarget) → frame_at s.levels ≡ Some c → t ≡ returned c.arity c s) → s' ≡ ended t → FollowsAlone did.Went m s s'
   return_follows t s' back after = λ u p o e r a.
       let w = left u p o e r a in
       let g = w.1 in
@@ -169,8 +179,8 @@ module _ (m : Module) (s : Shape) (k : MovesAlone (flat.Plain (op.Control contro
       }
 
   -- what held of every value still holds
-  pub return_keeps : (t s' : Shape) → ((c : ReturnTarget) → frame_at s.levels ≡ Some c → t ≡ returned c s) → s' ≡ ended t → Keeps s s'
+  pub return_keeps : (t s' : Shape) → ((c : ReturnTarget) → frame_at s.levels ≡ Some c → t ≡ returned c.arity c s) → s' ≡ ended t → Keeps s s'
   return_keeps t s' back after = λ test on h.
       let P : Value → Type 0 = λ v. test v ≡ true in
       let at = return_there in
-      subst (Holds P) (sym after) (ended_holds P t (subst (Holds P) (sym (back at.0 at.1)) (returned_holds P at.0 s at.1 h)))
+      subst (Holds P) (sym after) (ended_holds P t (subst (Holds P) (sym (back at.0 at.1)) (returned_holds P at.0.arity at.0 s at.1 h)))

@@ -12,4 +12,5 @@ pub use block_steps::{block, choice};
 pub use branch_steps::{br, br_if, br_table, branch_left, return_};
 pub use exits::{exit_else, exit_end};
 pub use null_branches::{br_on_non_null, br_on_null};
+pub use outside::end_outside;
 pub use plain_steps::{nop, unreachable};

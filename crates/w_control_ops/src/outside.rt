@@ -6,7 +6,7 @@ use w_segment::{Stack, Stage};
 
 /// Behind the outermost frame the operands are what the segment gives.
 #[inline]
-pub(crate) fn end_outside(stack: &mut Stack)
+pub fn end_outside(stack: &mut Stack)
     ensures after { stack.new ≡ ended stack.old }
 {
     if stack.is_outside() {

@@ -307,7 +307,10 @@ controls_written =
     & of_constant control.Return (ByFirst controls Never) control_written (omega arith) (refl, refl)
     & of_image (number 32) shortest control.Call (ByFirst controls Never) control_written (canon_number 32 (omega arith)) (λ a. omega arith) (λ a s. (a, s, refl))
     & of_image (number 32 ⊗ number 32) (λ p. two_written p.0 p.1) (λ p. control.CallIndirect p.0 p.1) (ByFirst controls Never) control_written canon_two (λ a. omega arith) (λ a s. (a, s, refl))
+    & of_image (number 32) shortest control.ReturnCall (ByFirst controls Never) control_written (canon_number 32 (omega arith)) (λ a. omega arith) (λ a s. (a, s, refl))
+    & of_image (number 32 ⊗ number 32) (λ p. two_written p.0 p.1) (λ p. control.ReturnCallIndirect p.0 p.1) (ByFirst controls Never) control_written canon_two (λ a. omega arith) (λ a s. (a, s, refl))
     & of_image (number 32) shortest control.CallRef (ByFirst controls Never) control_written (canon_number 32 (omega arith)) (λ a. omega arith) (λ a s. (a, s, refl))
+    & of_image (number 32) shortest control.ReturnCallRef (ByFirst controls Never) control_written (canon_number 32 (omega arith)) (λ a. omega arith) (λ a s. (a, s, refl))
     & of_image (number 32) shortest control.BrOnNull (ByFirst controls Never) control_written (canon_number 32 (omega arith)) (λ a. omega arith) (λ a s. (a, s, refl))
     & of_image (number 32) shortest control.BrOnNonNull (ByFirst controls Never) control_written (canon_number 32 (omega arith)) (λ a. omega arith) (λ a s. (a, s, refl))
     & tt

@@ -70,9 +70,9 @@ stores : map store_code (store.I32Store ∷ store.I64Store ∷ store.I32Store8 �
     ≡ 0x36 ∷ 0x37 ∷ 0x3A ∷ 0x3B ∷ 0x3C ∷ 0x3D ∷ 0x3E ∷ []
 stores = refl
 
--- unreachable, nop, br, br_if, return, call, call_indirect, call_ref, br_on_null, br_on_non_null
-control_instructions : map control_written (control.Unreachable ∷ control.Nop ∷ (control.Br 5) ∷ (control.BrIf 5) ∷ control.Return ∷ (control.Call 5) ∷ (control.CallIndirect 5 6) ∷ (control.CallRef 5) ∷ (control.BrOnNull 5) ∷ (control.BrOnNonNull 5) ∷ [])
-    ≡ (0x00 ∷ []) ∷ (0x01 ∷ []) ∷ (0x0C ∷ 0x05 ∷ []) ∷ (0x0D ∷ 0x05 ∷ []) ∷ (0x0F ∷ []) ∷ (0x10 ∷ 0x05 ∷ []) ∷ (0x11 ∷ 0x05 ∷ 0x06 ∷ []) ∷ (0x14 ∷ 0x05 ∷ []) ∷ (0xD5 ∷ 0x05 ∷ []) ∷ (0xD6 ∷ 0x05 ∷ []) ∷ []
+-- unreachable, nop, br, br_if, return, call, call_indirect, return_call, return_call_indirect, call_ref, return_call_ref, br_on_null, br_on_non_null
+control_instructions : map control_written (control.Unreachable ∷ control.Nop ∷ (control.Br 5) ∷ (control.BrIf 5) ∷ control.Return ∷ (control.Call 5) ∷ (control.CallIndirect 5 6) ∷ (control.ReturnCall 5) ∷ (control.ReturnCallIndirect 5 6) ∷ (control.CallRef 5) ∷ (control.ReturnCallRef 5) ∷ (control.BrOnNull 5) ∷ (control.BrOnNonNull 5) ∷ [])
+    ≡ (0x00 ∷ []) ∷ (0x01 ∷ []) ∷ (0x0C ∷ 0x05 ∷ []) ∷ (0x0D ∷ 0x05 ∷ []) ∷ (0x0F ∷ []) ∷ (0x10 ∷ 0x05 ∷ []) ∷ (0x11 ∷ 0x05 ∷ 0x06 ∷ []) ∷ (0x12 ∷ 0x05 ∷ []) ∷ (0x13 ∷ 0x05 ∷ 0x06 ∷ []) ∷ (0x14 ∷ 0x05 ∷ []) ∷ (0x15 ∷ 0x05 ∷ []) ∷ (0xD5 ∷ 0x05 ∷ []) ∷ (0xD6 ∷ 0x05 ∷ []) ∷ []
 unfolding shortest_in signed_in
 control_instructions = refl
 

@@ -188,7 +188,10 @@ control_written (control.BrTable ls l) = 0x0E ∷ (vec_written shortest ls ++ sh
 control_written control.Return = 0x0F ∷ []
 control_written (control.Call f) = 0x10 ∷ shortest f
 control_written (control.CallIndirect t x) = 0x11 ∷ two_written t x
+control_written (control.ReturnCall f) = 0x12 ∷ shortest f
+control_written (control.ReturnCallIndirect t x) = 0x13 ∷ two_written t x
 control_written (control.CallRef t) = 0x14 ∷ shortest t
+control_written (control.ReturnCallRef t) = 0x15 ∷ shortest t
 control_written (control.BrOnNull l) = 0xD5 ∷ shortest l
 control_written (control.BrOnNonNull l) = 0xD6 ∷ shortest l
 

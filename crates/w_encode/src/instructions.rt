@@ -25,7 +25,10 @@ impl Put for ControlOp {
             ControlOp::Return => out.push(0x0F)?,
             ControlOp::Call(function) => put_one(&[0x10], *function, out)?,
             ControlOp::CallIndirect(kind, table) => put_two(&[0x11], *kind, *table, out)?,
+            ControlOp::ReturnCall(function) => put_one(&[0x12], *function, out)?,
+            ControlOp::ReturnCallIndirect(kind, table) => put_two(&[0x13], *kind, *table, out)?,
             ControlOp::CallRef(kind) => put_one(&[0x14], *kind, out)?,
+            ControlOp::ReturnCallRef(kind) => put_one(&[0x15], *kind, out)?,
             ControlOp::BrOnNull(label) => put_one(&[0xD5], *label, out)?,
             ControlOp::BrOnNonNull(label) => put_one(&[0xD6], *label, out)?,
         }

@@ -95,6 +95,20 @@ impl Flow {
         true
     }
 
+    /// The type [t* ins top] to any.
+    pub fn polymorphic_below(&mut self, classes: &Classes, ins: TypeRow, top: PackedType) -> bool
+        requires words { HasWords classes.now self.old }
+        requires ins { IsReady classes.now ins }
+        ensures steps { step classes.now (polymorphic (row_of ins.entry.types.now ▹ top)) self.old.any
+            (row_in self.old.operands) ≡ flow_if result self.new }
+        ensures words { HasWords classes.now self.new }
+    {
+        if !take_type(classes, self.any, &mut self.operands, top) {
+            return false;
+        }
+        self.polymorphic(classes, ins)
+    }
+
     /// Takes a number that is tested, as the index of a `br_table`, or what an `if` asks.
     pub fn take_tested(&mut self, classes: &Classes) -> bool
         ensures left { pops classes.now self.old.any (row_in self.old.operands) (ε ▹ val.I32)

@@ -29,7 +29,7 @@ use Rattle.w_stands.specs.Stands.{LevelsAre, label, frame, outermost, StackIs, b
 use Rattle.w_switching.specs.Standing.{Chained, only, around}
 use Rattle.w_typed.specs.Values.{Arrows}
 use Rattle.w_typed.specs.Configurations.{IsSafe, goes, traps, is_limited, ends}
-use Rattle.w_reduce.proofs.Plainly.{Plainly, silent, stays, silent_trap, silent_limit, silent_end, silent_stuck, is_last as is_end, plainly_next}
+use Rattle.w_reduce.proofs.Plainly.{Plainly, silent, stays, leaves_frame, silent_trap, silent_limit, silent_end, silent_stuck, is_last as is_end, plainly_next}
 use Rattle.w_machine.specs.declared.outcome.RunStop.{RunStop}
 use Rattle.w_machine.specs.declared.outcome.RunStop.TheVariants as run_stop
 use Rattle.w_machine.specs.Parts.{Parts, whole}
@@ -87,6 +87,7 @@ limited_end Stuck vs is = absurd (cc)
 plain_end : {ks : List (Option Continuation)} {e : Context} {last : Bool} {most : ℕ} {d d' : Reduced} (vs : Row Val) → Plainly ks e last most d d' → d ≡ Ended vs → last ≡ true
 plain_end vs (silent few) is = absurd (cc)
 plain_end vs (stays h) is = absurd (cc)
+plain_end vs (leaves_frame h) is = absurd (cc)
 plain_end vs silent_trap is = absurd (cc)
 plain_end vs silent_limit is = absurd (cc)
 plain_end vs (silent_end h) is = h

@@ -20,9 +20,9 @@ use Rattle.w_reduce.specs.Program.{Program}
 use Rattle.w_reduce.specs.Reduced.{Reduced, Went, Limited}
 use Rattle.w_reduce.specs.Reduce.{reduce, limited, unless_passed}
 use Rattle.w_reduce.specs.Store.{Store, with_conts}
-use Rattle.w_reduce.specs.Terms.{Context, Term, Continuation, frames}
+use Rattle.w_reduce.specs.Terms.{Context, Term, Continuation, frames, handles}
 use Rattle.w_reduce.proofs.PassedLimits.{within_none}
-use Rattle.w_reduce.proofs.Plainly.{Plainly, silent, stays, silent_trap, silent_limit, silent_end, silent_stuck, plainly_next, no_more_frames}
+use Rattle.w_reduce.proofs.Plainly.{Plainly, silent, stays, leaves_frame, silent_trap, silent_limit, silent_end, silent_stuck, plainly_next, no_more_frames}
 use Rattle.w_stands.specs.declared.did.Did.{Did}
 use Rattle.w_stands.specs.declared.did.Did.TheVariants as did
 use Rattle.w_stands.specs.Code.{instr_of}
@@ -52,10 +52,23 @@ use Rattle.w_machine.proofs.PartsOfRuns.{plain_next, calls_in, head, alone, stan
 
 -- ## What is printed
 
--- a reduction that goes on prints nothing, or its context stays
-quiet_text : {ks : List (Option Continuation)} {e : Context} {last : Bool} {most : ℕ} {d d' : Reduced} (text : List ℕ) (v : Store) (t : Term) → Plainly ks e last most d d' → d ≡ Went text v t → (text ≡ []) ⊎ (t.around ≡ e)
+-- a reduction that goes on prints nothing, or its context has no more frames and handles
+quiet_text : {ks : List (Option Continuation)} {e : Context} {last : Bool} {most : ℕ} {d d' : Reduced} (text : List ℕ) (v : Store) (t : Term) → Plainly ks e last most d d' → d ≡ Went text v t
+    → (text ≡ []) ⊎ ((frames t.around ≤ frames e) × (handles t.around ≤ handles e))
 quiet_text text v t (silent few) is = inl (cc)
-quiet_text {e = e} text v t (stays {t = old} h) is = let same : t ≡ old = cc in inr (ap (λ (x : Term). x.around) same ∙ h)
+quiet_text {e = e} text v t (stays {t = old} h) is =
+    let same : t ≡ old = cc in
+    let there : t.around ≡ e = ap (λ (x : Term). x.around) same ∙ h in
+    let a = ap frames there in
+    let b = ap handles there in
+    inr (omega (arith, a), omega (arith, b))
+quiet_text {e = e} text v t (leaves_frame {t = old} h) is =
+    let same : t ≡ old = cc in
+    let a = ap (λ (x : Term). frames x.around) same in
+    let b = ap (λ (x : Term). handles x.around) same in
+    let f = h.fewer in
+    let n = h.no_more in
+    inr (omega (arith, a, f), omega (arith, b, n))
 quiet_text text v t silent_trap is = absurd (cc)
 quiet_text text v t silent_limit is = absurd (cc)
 quiet_text text v t (silent_end ends) is = absurd (cc)
@@ -168,7 +181,7 @@ module _ {m : Module} {x : Parts} (valid : Valid m) (f : IsPlainAt m (top x.chai
         elim (quiet_text text (store_of u') (led_to to)
             (plainly_next [] p (store_of x.store) t.around (stack (top x.chain).shape.operands) t.rest.ahead t.rest.code (plain_next (head h).stands f)) to.is) [
               | inl none ↦ grew_none none grew
-              | inr same ↦ absurd (not_le (frames to.around) n (subst (λ (c : Context). frames c ≤ most_frames) (sym same) h.within.few_frames))
+              | inr few ↦ absurd (not_le (frames to.around) n (let most = h.within.few_frames in omega (arith, few.0, most)))
             ],
       )
 
@@ -185,14 +198,17 @@ module _ {m : Module} {x : Parts} (valid : Valid m) (f : IsPlainAt m (top x.chai
       elim (quiet_text text at.0 at.1
       (plainly_next [] p (store_of x.store) t.around (stack (top x.chain).shape.operands) t.rest.ahead t.rest.code (plain_next (head h).stands f)) at.2) [
         | inl none ↦ inl (front_none none grew)
-        | inr same ↦ inr (record {
+        | inr few ↦ inr (record {
           text = text;
           store = with_conts ks at.0;
           term = at.1;
           grew = grew;
           is = ap limited (alone h f ∙ ap (apart ks) at.2) ∙ within text (with_conts ks at.0) at.1
-              (subst (IsWithin (with_conts ks at.0)) (sym same)
-              (record { few_frames = h.within.few_frames; few_handles = h.within.few_handles; few_conts = h.within.few_conts }));
+              (record {
+                few_frames = (let most = h.within.few_frames in omega (arith, few.0, most));
+                few_handles = (let most = h.within.few_handles in omega (arith, few.1, most));
+                few_conts = h.within.few_conts;
+              });
         })
       ]
 

@@ -85,6 +85,9 @@ pub short_calls_none : (o : ShortControlOp) → is_call o ≡ false → calls_at
 short_calls_none (short.Call f) h = absurd (cc)
 short_calls_none (short.CallIndirect t k) h = absurd (cc)
 short_calls_none (short.CallRef t) h = absurd (cc)
+short_calls_none (short.ReturnCall f) h = absurd (cc)
+short_calls_none (short.ReturnCallIndirect t k) h = absurd (cc)
+short_calls_none (short.ReturnCallRef t) h = absurd (cc)
 short_calls_none o h = refl
 
 -- a common one

@@ -5,20 +5,24 @@ use Rattle.std.proofs.lemmas.Option.{slice_get_within}
 use Rattle.w_outside.specs.Outside.{Grew}
 use Rattle.w_syntax.specs.declared.module.Module.{Module}
 use Rattle.w_segment.specs.declared.entry.Stage.TheVariants.{Values}
-use Rattle.w_segment.specs.Shape.{Shape, SameParts}
-use Rattle.w_segment.specs.Changes.{discarded, staged}
+use Rattle.lists.specs.Rows.{◌⧺◌}
+use Rattle.w_segment.specs.Shape.{Shape, ReturnTarget, SameParts}
+use Rattle.w_segment.specs.Changes.{discarded, returned, staged}
 use Rattle.w_tables.specs.Store as instances
 use Rattle.w_tables.specs.declared.entries.FuncEntry.TheVariants as entry
 use Rattle.w_tables.specs.declared.entries.Printer.{Printer}
 use Rattle.w_reduce.specs.Terms.{rest_of}
-use Rattle.w_reduce.specs.Calls.{invoked}
+use Rattle.w_reduce.specs.Reduced.{or_stuck, take_values}
+use Rattle.w_reduce.specs.Calls.{invoked, params_of, around_frame}
 use Rattle.w_stands.specs.Values.{stack, store_of}
 use Rattle.w_stands.specs.GoingOn.{dropped}
 use Rattle.w_stands.proofs.LookedUp.{found}
 use Rattle.w_stands.proofs.PlainSteps.{following, applies}
-use Rattle.w_call_ops.specs.Calling.{Calls, Invokes}
+use Rattle.w_call_ops.specs.Calling.{Calls, TailCalls, Invokes}
 use Rattle.w_call_ops.specs.Printing.{text_of}
+use Rattle.w_control_ops.specs.Ended.{ended}
 use Rattle.w_call_ops.proofs.HostCalls.{print_follows, fresh_follows}
+use Rattle.w_tail_ops.proofs.HostTails.{tail_caller, tail_frame, tail_follows}
 use Rattle.w_syntax.specs.declared.instructions.Instr.TheVariants as flat
 use Rattle.w_syntax.specs.declared.instructions.Op.TheVariants as op
 use Rattle.w_syntax.specs.declared.instructions.ControlOp.TheVariants as control
@@ -53,12 +57,30 @@ callee_there a popped m u s k =
     (λ q. applies m u s mv.p mv.o mv.e mv.r k.i mv.at mv.stage mv.here (k.rule mv.p mv.e c mv.at.source mv.at.program ∙ q)) in
     slice_get_within u.functions a f.item f.is
 
+-- so is the one that a tail call names
+pub tail_callee_there : (a popped : ℕ) (m : Module) (u : instances.Store) (s : Shape) → TailCalls a popped m u s → a < length u.functions
+tail_callee_there a popped m u s k =
+    let mv = k.moves in
+    let c = following m u s mv.p mv.o mv.e mv.r k.i mv.at mv.stage mv.here in
+    let f = found (slice_get u.functions a)
+    (λ f. or_stuck (params_of mv.p f) (λ n. take_values n (stack (drop popped s.operands)) (λ q. around_frame mv.e (λ z. invoked mv.p (store_of u) z.2 (z.0 ⧺ q.1) f z.1))))
+    (λ q. applies m u s mv.p mv.o mv.e mv.r k.i mv.at mv.stage mv.here (k.rule mv.p mv.e c mv.at.source mv.at.program ∙ q)) in
+    slice_get_within u.functions a f.item f.is
+
 -- what they print
 pub call_prints : (a popped : ℕ) (h : Printer) (m : Module) (u : instances.Store) (s : Shape) → Calls a popped m u s → slice_get u.functions a ≡ Some (entry.Printer h) →
     Prints (text_of h popped s.operands) m u s
 call_prints a popped h m u s k host = λ p o e r at.
     let t = print_follows m u s a popped h k host (dropped (popped + 1) s) refl p o e r at in
     (store_of u, record { around = t.around; operands = stack (dropped (popped + 1) s).operands; rest = t.rest }, t.is)
+
+pub tail_prints : (a popped : ℕ) (h : Printer) (m : Module) (u : instances.Store) (s : Shape) → TailCalls a popped m u s → slice_get u.functions a ≡ Some (entry.Printer h) →
+    Prints (text_of h popped s.operands) m u s
+tail_prints a popped h m u s k host = λ p o e r at.
+    let left = returned 0 (tail_caller m u s a popped h k host) (discarded (popped + 1) s) in
+    let t = tail_follows m u s a popped h k host left (ended left) (λ c is. let one : Some (tail_caller m u s a popped h k host) ≡ Some c = sym (tail_frame m u s a popped h k host) ∙ is in
+    let same : tail_caller m u s a popped h k host ≡ c = cc in ap (λ (z : ReturnTarget). returned 0 z (discarded (popped + 1) s)) same) refl p o e r at in
+    (store_of u, record { around = t.around; operands = stack (ended left).operands; rest = t.rest }, t.is)
 
 pub invoke_prints : (h : Printer) (m : Module) (u : instances.Store) (s : Shape) → Invokes m u s → slice_get u.functions s.func ≡ Some (entry.Printer h) →
     Prints (text_of h 0 s.operands) m u s
@@ -92,3 +114,7 @@ call_calls m u s x k = record { i = op.Control (control.Call x); calls = refl; m
 pub printed_takes : (d : Did) (m : Module) (u u' : instances.Store) (s s' : Shape) (held : Option (List ℕ)) → Takes d m [] u s u' s' →
     (text : List ℕ) × Takes d m text u s u' s' × Grew held held text
 printed_takes d m u u' s s' held h = ([], h, grew_nothing held)
+
+-- so is the one that `return_call` names
+pub call_tails : (m : Module) (u : instances.Store) (s : Shape) (x : ℕ) → MovesAt (flat.Plain (op.Control (control.ReturnCall x))) m u s → TailCalls x 0 m u s
+call_tails m u s x k = record { i = op.Control (control.ReturnCall x); calls = refl; moves = k; there = omega arith; rule = λ p e c g h. refl }

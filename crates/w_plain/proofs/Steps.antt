@@ -15,7 +15,7 @@ use Rattle.w_stands.specs.Code.{instr_of}
 use Rattle.w_stands.specs.declared.did.Did.{Did}
 use Rattle.w_stands.specs.Keeps.{Keeps}
 use Rattle.w_stands.specs.Steps.{MovesAt, MovesAlone, Follows, FollowsAlone}
-use Rattle.w_call_ops.specs.Calling.{Calls, Invokes}
+use Rattle.w_call_ops.specs.Calling.{Onward, GoesTo, Invokes}
 use Rattle.w_plain.specs.Plainness.{takes_at, MayTakeAt, MayTake}
 use Rattle.w_plain.specs.Stepped.{Takes}
 
@@ -47,7 +47,7 @@ call_takes (op.Numeric o) h = absurd (cc)
 call_takes (op.Reference o) h = absurd (cc)
 call_takes (op.Switching o) h = absurd (cc)
 
-pub calls_take : {m : Module} {u : instances.Store} {s : Shape} {a popped : ℕ} → Calls a popped m u s → MayTake m s
+pub calls_take : {on : Onward} {m : Module} {u : instances.Store} {s : Shape} {a popped : ℕ} → GoesTo on a popped m u s → MayTake m s
 calls_take k = may_take k.moves (call_takes k.i k.calls)
 
 -- so does the invoke of a fresh segment

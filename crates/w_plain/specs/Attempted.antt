@@ -52,11 +52,14 @@ abbrev pub is_branch_table : Instr → Bool
 is_branch_table (flat.Plain (op.Control (control.BrTable labels last))) = true
 is_branch_table i = false
 
--- At an instruction that is common or a branch, and at the call of a function of the module by its index.
+-- At an instruction that is common or a branch, and at the call, or the tail call, of a function of the module by its index.
 abbrev pub is_attempted : List FuncEntry → PackedInstr → Bool
 is_attempted fs (packed.Control (short.Call f)) = is_own (slice_get fs f)
 is_attempted fs (packed.Control (short.CallIndirect t k)) = false
 is_attempted fs (packed.Control (short.CallRef t)) = false
+is_attempted fs (packed.Control (short.ReturnCall f)) = is_own (slice_get fs f)
+is_attempted fs (packed.Control (short.ReturnCallIndirect t k)) = false
+is_attempted fs (packed.Control (short.ReturnCallRef t)) = false
 is_attempted fs (packed.Boxed i) = is_branch_table i.value
 is_attempted fs (packed.Table o) = false
 is_attempted fs (packed.Memory o) = false

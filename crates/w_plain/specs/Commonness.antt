@@ -30,6 +30,9 @@ abbrev pub is_call : ShortControlOp → Bool
 is_call (short.Call f) = true
 is_call (short.CallIndirect t k) = true
 is_call (short.CallRef t) = true
+is_call (short.ReturnCall f) = true
+is_call (short.ReturnCallIndirect t k) = true
+is_call (short.ReturnCallRef t) = true
 is_call o = false
 
 -- those that print nothing, and switch no stacks: control instructions may call a printer

@@ -1,7 +1,7 @@
 //! Calls, whatever the function is.
 ghost use Rattle.std.specs.Prelude.{◌≡◌, ◌≤◌, Err};
 ghost use Rattle.w_outside.specs.Outside.{Rose};
-ghost use Rattle.w_call_ops.specs.Calling.{Calls, Invokes};
+ghost use Rattle.w_call_ops.specs.Calling.{Calls, TailCalls, Invokes};
 ghost use Rattle.w_plain.specs.Printing.{Printed};
 
 use crate::program::KnownProgram;
@@ -11,6 +11,7 @@ use w_outside::Sink;
 use w_segment::Stack;
 use w_stands::Did;
 use w_tables::{FuncEntry, Store};
+use w_tail_ops::{tail_own, tail_printer};
 
 /// Invokes the function that an instruction calls, by its address, once so many operands are gone.
 #[inline(always)]
@@ -44,6 +45,45 @@ pub(crate) fn call<O: Sink>(
         }
         FuncEntry::Printer(printer) => {
             match call_printer(program.source, store, stack, out, address, printer, popped) {
+                Ok(()) => Ok(Did::Went),
+                Err(fault) => Err(Stop::of_fault(fault)),
+            }
+        }
+    }
+}
+
+/// Invokes the function that a tail call names, by its address, in the place of the innermost frame, once so many operands are gone.
+#[inline(never)]
+pub(crate) fn tail_call<O: Sink>(
+    program: KnownProgram,
+    store: &mut Store,
+    stack: &mut Stack,
+    out: &mut O,
+    address: u32,
+    popped: usize,
+) -> Result<Did, Stop>
+    requires call { TailCalls address popped program.source.now store.old stack.old }
+    ensures step { Printed result (O.held out.old) (O.held out.new) program.entry.source.now store.old stack.old store.new stack.new }
+    ensures cause { result ≡ Err Stop.WriteFault → Rose (O.faults out.old) (O.faults out.new) }
+    ensures later { O.faults out.old ≤ O.faults out.new }
+{
+    match store.function(address) {
+        FuncEntry::Own(function) => {
+            match tail_own(
+                program.checked,
+                store,
+                stack,
+                address,
+                function,
+                popped,
+                true,
+            ) {
+                Ok(()) => Ok(Did::Went),
+                Err(_) => Err(Stop::OutOfMemory),
+            }
+        }
+        FuncEntry::Printer(printer) => {
+            match tail_printer(program.source, store, stack, out, address, printer, popped) {
                 Ok(()) => Ok(Did::Went),
                 Err(fault) => Err(Stop::of_fault(fault)),
             }

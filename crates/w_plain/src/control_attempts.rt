@@ -21,6 +21,7 @@ use w_segment::Stack;
 use w_stands::Did;
 use w_syntax::{ControlOp, Instr, Module, Op, ShortControlOp};
 use w_tables::{FuncEntry, Store};
+use w_tail_ops::tail_own;
 
 /// The attempt at a reduction that came to this.
 #[inline(always)]
@@ -62,6 +63,33 @@ fn call(
     }
 }
 
+// A tail call of a function of the module.
+#[inline(always)]
+#[tactic(auto, using(crate::proofs::Prints::call_tails))]
+fn tail_call(
+    program: &Module,
+    checked: &Checked,
+    store: &mut Store,
+    stack: &mut Stack,
+    address: u32,
+) -> Progress
+    requires same { checked.now ≡ program.now }
+    requires moves { MovesAt (flat.Plain (op.Control (control_of (short.ReturnCall address)))) program.now store.old stack.old }
+    ensures step { Attempted result program.now store.old stack.old store.new stack.new }
+    ensures made { was_made result ≡ is_own (slice_get store.old.functions address) }
+    ensures went { result ≢ progress.Went }
+{
+    match store.function(address) {
+        FuncEntry::Own(function) => {
+            match tail_own(checked, store, stack, address, function, 0, false) {
+                Ok(()) => Progress::Entered,
+                Err(_) => Progress::NoRoom,
+            }
+        }
+        FuncEntry::Printer(_) => Progress::NotAttempted,
+    }
+}
+
 /// A control instruction that holds no list.
 #[inline(always)]
 #[tactic(auto, using(crate::proofs::Steps::alone, crate::proofs::AttemptedReductions::nothing_attempted))]
@@ -82,6 +110,9 @@ pub(crate) fn control(
         ShortControlOp::Call(function) => call(program, checked, store, stack, function),
         ShortControlOp::CallIndirect(_, _) => Progress::NotAttempted,
         ShortControlOp::CallRef(_) => Progress::NotAttempted,
+        ShortControlOp::ReturnCall(function) => tail_call(program, checked, store, stack, function),
+        ShortControlOp::ReturnCallIndirect(_, _) => Progress::NotAttempted,
+        ShortControlOp::ReturnCallRef(_) => Progress::NotAttempted,
         _ => progress_of(Ok(branching(program, stack, operation))),
     }
 }

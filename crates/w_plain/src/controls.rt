@@ -9,10 +9,10 @@ ghost use Rattle.w_stands.specs.Steps.{MovesAt, MovesAlone, FollowsAlone};
 ghost use Rattle.w_plain.specs.Commonness.{is_call};
 ghost use Rattle.w_plain.specs.Printing.{Printed};
 
-use crate::calls::call;
+use crate::calls::{call, tail_call};
 use crate::program::KnownProgram;
 use crate::stop::Stop;
-use w_call_ops::{callee_by_reference, callee_by_table};
+use w_call_ops::{CallKind, callee_by_reference, callee_by_table};
 use w_control_ops::{br, br_if, br_on_non_null, br_on_null, nop, return_, unreachable};
 use w_outside::Sink;
 use w_segment::Stack;
@@ -43,7 +43,7 @@ pub(crate) fn branching(program: &Module, stack: &mut Stack, operation: ShortCon
 
 /// A control instruction that holds no list.
 #[inline(always)]
-#[tactic(auto, using(crate::proofs::Steps::alone, crate::proofs::Prints::printed_alone, crate::proofs::Prints::printed_trap, crate::proofs::Prints::call_calls))]
+#[tactic(auto, using(crate::proofs::Steps::alone, crate::proofs::Prints::printed_alone, crate::proofs::Prints::printed_trap, crate::proofs::Prints::call_calls, crate::proofs::Prints::call_tails))]
 pub(crate) fn control<O: Sink>(
     program: KnownProgram,
     store: &mut Store,
@@ -66,6 +66,7 @@ pub(crate) fn control<O: Sink>(
                 program.functions,
                 store,
                 stack,
+                CallKind::Nested,
                 kind,
                 table,
             ) {
@@ -73,10 +74,34 @@ pub(crate) fn control<O: Sink>(
                 Err(trap) => Ok(Did::Trapped(trap)),
             }
         }
-        ShortControlOp::CallRef(kind) => match callee_by_reference(source, store, stack, kind) {
-            Ok(address) => call(program, store, stack, out, address, 1),
-            Err(trap) => Ok(Did::Trapped(trap)),
-        },
+        ShortControlOp::CallRef(kind) => {
+            match callee_by_reference(source, store, stack, CallKind::Nested, kind) {
+                Ok(address) => call(program, store, stack, out, address, 1),
+                Err(trap) => Ok(Did::Trapped(trap)),
+            }
+        }
+        ShortControlOp::ReturnCall(function) => tail_call(program, store, stack, out, function, 0),
+        ShortControlOp::ReturnCallIndirect(kind, table) => {
+            match callee_by_table(
+                source,
+                program.checked.classes(),
+                program.functions,
+                store,
+                stack,
+                CallKind::Tail,
+                kind,
+                table,
+            ) {
+                Ok(address) => tail_call(program, store, stack, out, address, 1),
+                Err(trap) => Ok(Did::Trapped(trap)),
+            }
+        }
+        ShortControlOp::ReturnCallRef(kind) => {
+            match callee_by_reference(source, store, stack, CallKind::Tail, kind) {
+                Ok(address) => tail_call(program, store, stack, out, address, 1),
+                Err(trap) => Ok(Did::Trapped(trap)),
+            }
+        }
         _ => Ok(branching(source, stack, operation)),
     }
 }

@@ -61,6 +61,11 @@ fn control_op<O: Sink>(
         ControlOp::Call(function) => ShortControlOp::Call(*function),
         ControlOp::CallIndirect(kind, table) => ShortControlOp::CallIndirect(*kind, *table),
         ControlOp::CallRef(kind) => ShortControlOp::CallRef(*kind),
+        ControlOp::ReturnCall(function) => ShortControlOp::ReturnCall(*function),
+        ControlOp::ReturnCallIndirect(kind, table) => {
+            ShortControlOp::ReturnCallIndirect(*kind, *table)
+        }
+        ControlOp::ReturnCallRef(kind) => ShortControlOp::ReturnCallRef(*kind),
     };
     control(program, store, stack, out, short)
 }

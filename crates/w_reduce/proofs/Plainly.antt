@@ -1,8 +1,9 @@
 -- What a reduction by no rule of switching prints, and that it goes on apart from the store's continuations: one that prints leaves its
--- context as it was, and every other prints nothing; it neither looks at continuations nor changes them; and but for a call it adds no frame.
+-- context as it was, or leaves its frame, and every other prints nothing; it neither looks at continuations nor changes them; and but for a
+-- call it adds no frame.
 use Rattle.std.proofs.Common.{◌≡◌, ◌≤◌, ℕ, ℤ, zero, suc, ◌+◌, ◌%◌, Bool, true, false, List, [], ◌∷◌, length, Option, Some, None, refl, sym, subst, arith}
 use Rattle.std.specs.Prelude.{nat_eq, slice_get}
-use Rattle.lists.specs.Rows.{Row, ε, ◌▹◌, size}
+use Rattle.lists.specs.Rows.{Row, ◌▹◌, ◌⧺◌, size}
 use Rattle.w_syntax.specs.Code.{Code, Done, Plain, Block, If, IfElse}
 use Rattle.w_syntax.specs.Functions.{type_of_function, code_of_function}
 use Rattle.w_syntax.specs.declared.instructions.BlockKind.{BlockKind}
@@ -22,7 +23,6 @@ use Rattle.w_syntax.specs.declared.instructions.VariableOp.{VariableOp}
 use Rattle.w_syntax.specs.declared.instructions.VariableOp.TheVariants as variable
 use Rattle.w_syntax.specs.declared.memory_instructions.MemoryOp.{MemoryOp}
 use Rattle.w_syntax.specs.declared.memory_instructions.MemoryOp.TheVariants as memory
-use Rattle.w_syntax.specs.declared.numeric.IntType.{IntType}
 use Rattle.w_syntax.specs.declared.numeric.IntType.TheVariants as int
 use Rattle.w_syntax.specs.declared.numeric.NumericOp.{NumericOp}
 use Rattle.w_syntax.specs.declared.numeric.NumericOp.TheVariants as numeric
@@ -39,7 +39,7 @@ use Rattle.w_reduce.specs.declared.limit.RunLimit.{RunLimit}
 use Rattle.w_reduce.specs.declared.trap.Trap.{Trap}
 use Rattle.w_reduce.specs.Values.{Val, I32, I64, Null, Func}
 use Rattle.w_reduce.specs.Store.{Store, Table, with_conts}
-use Rattle.w_reduce.specs.Terms.{Administrative, Invoke, Branch, Rest, rest_of, Label, Frame, Handle, Context, Term, Continuation, locals_of, with_local, frames}
+use Rattle.w_reduce.specs.Terms.{Administrative, Invoke, Branch, Rest, rest_of, Label, Frame, Handle, Context, Term, Continuation, locals_of, with_local, frames, handles}
 use Rattle.w_reduce.specs.Program.{Program, arity_of}
 use Rattle.w_reduce.specs.Reduced.{Reduced, Went, Trapped, Limited, Ended, Stuck}
 use Rattle.w_reduce.specs.Reduced.{steps_to}
@@ -50,19 +50,26 @@ use Rattle.w_reduce.specs.Memories.{memory_op, loaded_size, stored_type, stored_
 use Rattle.w_reduce.specs.Tables.{table_op, with_elements}
 use Rattle.w_reduce.specs.Reference.{reference_op}
 use Rattle.w_reduce.specs.Branches.{block, chosen, choice, branch, returns}
-use Rattle.w_reduce.specs.Calls.{enter, print, invoked, invoke}
-use Rattle.w_reduce.specs.Control.{control_op, call_indirect, label_in}
+use Rattle.w_reduce.specs.Calls.{enter, print, invoked, invoke, params_of, around_frame, return_invoke}
+use Rattle.w_reduce.specs.Control.{control_op, callee_in_table, callee_in_reference, label_in}
 use Rattle.w_reduce.specs.Exits.{leave}
 use Rattle.w_reduce.specs.Reduce.{instruction, next}
 use Rattle.w_reduce.specs.Apart.{is_switching, switches, apart, PlainReductionsGoApart}
 use Rattle.w_reduce.specs.Entering.{is_call, calls, OnlyCallsAddFrames}
 use Rattle.w_reduce.proofs.GoesOn.{Relates, both_or_stuck, both_or_trap, both_unless_fault, both_take_value, both_take_values, both_take_number, both_take_three, both_as_function, both_if, both_unless_zero, both_by_null}
 
+-- what stands outside of a frame
+pub record IsOutside (f e : Context) : Type 0 where
+  pub fewer : suc (frames f) ≤ frames e
+  pub no_more : handles f ≤ handles e
+
 -- Of two reductions that see the same store but for its continuations, ks in the second: both do the same, print nothing or leave the
 -- context as it was, have so many frames at most where they don't leave it, and change no continuation; they may be the end where that is said.
 pub data Plainly (ks : List (Option Continuation)) (e : Context) (last : Bool) (most : ℕ) : Reduced → Reduced → Type 0 where
   silent : {s : Store} {t : Term} → frames t.around ≤ most → Plainly ks e last most (Went [] s t) (Went [] (with_conts ks s) t)
   stays : {out : List ℕ} {s : Store} {t : Term} → t.around ≡ e → Plainly ks e last most (Went out s t) (Went out (with_conts ks s) t)
+  -- it leaves the innermost frame
+  leaves_frame : {out : List ℕ} {s : Store} {t : Term} → IsOutside t.around e → Plainly ks e last most (Went out s t) (Went out (with_conts ks s) t)
   silent_trap : {t : Trap} → Plainly ks e last most (Trapped t) (Trapped t)
   silent_limit : {l : RunLimit} → Plainly ks e last most (Limited l) (Limited l)
   silent_end : {vs : Row Val} → last ≡ true → Plainly ks e last most (Ended vs) (Ended vs)
@@ -90,6 +97,19 @@ with_local_frames x v [] = refl
 with_local_frames x v (Label below n again rest ∷ e) = with_local_frames x v e
 with_local_frames x v (Frame below n g locals rest ∷ e) = refl
 with_local_frames x v (Handle below hs rest ∷ e) = refl
+
+-- what goes on plainly outside of a frame does so inside, as one that leaves it
+farther : {ks : List (Option Continuation)} {e f : Context} {last : Bool} {most : ℕ} {r r' : Reduced} → IsOutside f e → Plainly ks f last most r r' → Plainly ks e last most r r'
+farther less (silent few) = silent few
+farther {e = e} less (stays is) = leaves_frame (subst (λ (g : Context). IsOutside g e) (sym is) less)
+farther less (leaves_frame h) = leaves_frame (record {
+  fewer = let a = h.fewer in let b = less.fewer in omega (arith, a, b);
+  no_more = let a = h.no_more in let b = less.no_more in omega (arith, a, b);
+})
+farther less silent_trap = silent_trap
+farther less silent_limit = silent_limit
+farther less (silent_end is) = silent_end is
+farther less silent_stuck = silent_stuck
 
 module _ (ks : List (Option Continuation)) (e : Context) (last : Bool) (most : ℕ) (few : frames e ≤ most) where
   -- where there is no rule, and where both trap, both do the same
@@ -234,25 +254,51 @@ module _ (ks : List (Option Continuation)) (e : Context) (last : Bool) (most : �
   pub plainly_invoke : (p : Program) (s : Store) (vs : Row Val) (a : ℕ) (r : Rest) → suc (frames e) ≤ most → Plainly ks e last most (invoke p s e vs a r) (invoke p (with_conts ks s) e vs a r)
   plainly_invoke p s vs a r more = both_or_stuck closed (slice_get s.functions a) _ _ (λ f. plainly_invoked p s vs f r more)
 
-  plainly_call_indirect : (p : Program) (s : Store) (vs : Row Val) (y x : ℕ) (k : Code) → suc (frames e) ≤ most → Plainly ks e last most (call_indirect p s e vs y x k) (call_indirect p (with_conts ks s) e vs y x k)
-  plainly_call_indirect p s vs y x k more =
+  -- a callee that is found in a table, or by a reference
+  plainly_in_table : (p : Program) (s : Store) (vs : Row Val) (y x : ℕ) (go go' : Row Val × ℕ → Reduced) → ((q : Row Val × ℕ) → Plainly ks e last most (go q) (go' q))
+      → Plainly ks e last most (callee_in_table p s vs y x go) (callee_in_table p (with_conts ks s) vs y x go')
+  plainly_in_table p s vs y x go go' h =
       both_take_number closed int.I32 vs _ _ (λ q. both_or_stuck closed (slice_get s.tables x) _ _ (λ t. both_or_trap closed _ (slice_get t.elements q.1) _ _ (λ r.
       both_as_function closed _ r _ _ (λ a. both_or_stuck closed (slice_get (functions_of p.source) a) _ _ (λ z.
-      both_if closed (p.matches z y) _ _ _ _ (plainly_invoke p s q.0 a (rest_of k) more) silent_trap)))))
+      both_if closed (p.matches z y) _ _ _ _ (h (q.0, a)) silent_trap)))))
+
+  plainly_in_reference : (vs : Row Val) (go go' : Row Val × ℕ → Reduced) → ((q : Row Val × ℕ) → Plainly ks e last most (go q) (go' q))
+      → Plainly ks e last most (callee_in_reference vs go) (callee_in_reference vs go')
+  plainly_in_reference vs go go' h = both_take_value closed vs _ _ (λ q. both_as_function closed _ q.1 _ _ (λ a. h (q.0, a)))
+
+  -- a tail call goes on outside of the innermost frame
+  plainly_around : (f : Context) (go go' : Row Val × Rest × Context → Reduced) → ((q : Row Val × Rest × Context) → IsOutside q.2 f → Plainly ks e last most (go q) (go' q))
+      → Plainly ks e last most (around_frame f go) (around_frame f go')
+  plainly_around [] go go' h = silent_stuck
+  plainly_around (Label below n again rest ∷ f) go go' h = plainly_around f go go' (λ q less. h q (record { fewer = less.fewer; no_more = less.no_more }))
+  plainly_around (Frame below n g locals rest ∷ f) go go' h = h (below, rest, f) (record { fewer = omega arith; no_more = omega arith })
+  plainly_around (Handle below hs rest ∷ f) go go' h = silent_stuck
+
+  plainly_return_invoke : (p : Program) (s : Store) (vs : Row Val) (a : ℕ)
+      → ((f : Context) (ws : Row Val) (x : FuncEntry) (r : Rest) → IsOutside f e → Plainly ks f last most (invoked p s f ws x r) (invoked p (with_conts ks s) f ws x r))
+      → Plainly ks e last most (return_invoke p s e vs a) (return_invoke p (with_conts ks s) e vs a)
+  plainly_return_invoke p s vs a outer =
+      both_or_stuck closed (slice_get s.functions a) _ _ (λ x. both_or_stuck closed (params_of p x) _ _ (λ n.
+      both_take_values closed n vs _ _ (λ q. plainly_around e _ _ (λ g less. farther less (outer g.2 (g.0 ⧺ q.1) x g.1 less)))))
 
   -- control instructions that hold no others
-  pub plainly_control : (p : Program) (s : Store) (vs : Row Val) (o : ControlOp) (k : Code) → (is_call (op.Control o) ≡ true → suc (frames e) ≤ most) → Plainly ks e last most (control_op p s e vs o k) (control_op p (with_conts ks s) e vs o k)
-  plainly_control p s vs control.Unreachable k more = silent_trap
-  plainly_control p s vs control.Nop k more = stays refl
-  plainly_control p s vs (control.Br l) k more = plainly_branch s l e vs few
-  plainly_control p s vs (control.BrIf l) k more = both_take_number closed int.I32 vs _ _ (λ q. both_unless_zero closed q.1 _ _ _ _ (plainly_branch s l e q.0 few) (stays refl))
-  plainly_control p s vs (control.BrTable ls l) k more = both_take_number closed int.I32 vs _ _ (λ q. plainly_branch s (label_in (slice_get ls q.1) l) e q.0 few)
-  plainly_control p s vs control.Return k more = plainly_returns s e vs few
-  plainly_control p s vs (control.BrOnNull l) k more = both_take_value closed vs _ _ (λ q. both_by_null closed q.1 _ _ _ _ (plainly_branch s l e q.0 few) (stays refl))
-  plainly_control p s vs (control.BrOnNonNull l) k more = both_take_value closed vs _ _ (λ q. both_by_null closed q.1 _ _ _ _ (stays refl) (plainly_branch s l e (q.0 ▹ q.1) few))
-  plainly_control p s vs (control.Call x) k more = plainly_invoke p s vs x (rest_of k) (more refl)
-  plainly_control p s vs (control.CallIndirect y x) k more = plainly_call_indirect p s vs y x k (more refl)
-  plainly_control p s vs (control.CallRef y) k more = both_take_value closed vs _ _ (λ q. both_as_function closed _ q.1 _ _ (λ a. plainly_invoke p s q.0 a (rest_of k) (more refl)))
+  pub plainly_control : (p : Program) (s : Store) (vs : Row Val) (o : ControlOp) (k : Code) → (is_call (op.Control o) ≡ true → suc (frames e) ≤ most)
+      → ((f : Context) (ws : Row Val) (x : FuncEntry) (r : Rest) → IsOutside f e → Plainly ks f last most (invoked p s f ws x r) (invoked p (with_conts ks s) f ws x r))
+      → Plainly ks e last most (control_op p s e vs o k) (control_op p (with_conts ks s) e vs o k)
+  plainly_control p s vs control.Unreachable k more outer = silent_trap
+  plainly_control p s vs control.Nop k more outer = stays refl
+  plainly_control p s vs (control.Br l) k more outer = plainly_branch s l e vs few
+  plainly_control p s vs (control.BrIf l) k more outer = both_take_number closed int.I32 vs _ _ (λ q. both_unless_zero closed q.1 _ _ _ _ (plainly_branch s l e q.0 few) (stays refl))
+  plainly_control p s vs (control.BrTable ls l) k more outer = both_take_number closed int.I32 vs _ _ (λ q. plainly_branch s (label_in (slice_get ls q.1) l) e q.0 few)
+  plainly_control p s vs control.Return k more outer = plainly_returns s e vs few
+  plainly_control p s vs (control.BrOnNull l) k more outer = both_take_value closed vs _ _ (λ q. both_by_null closed q.1 _ _ _ _ (plainly_branch s l e q.0 few) (stays refl))
+  plainly_control p s vs (control.BrOnNonNull l) k more outer = both_take_value closed vs _ _ (λ q. both_by_null closed q.1 _ _ _ _ (stays refl) (plainly_branch s l e (q.0 ▹ q.1) few))
+  plainly_control p s vs (control.Call x) k more outer = plainly_invoke p s vs x (rest_of k) (more refl)
+  plainly_control p s vs (control.CallIndirect y x) k more outer = plainly_in_table p s vs y x _ _ (λ q. plainly_invoke p s q.0 q.1 (rest_of k) (more refl))
+  plainly_control p s vs (control.CallRef y) k more outer = plainly_in_reference vs _ _ (λ q. plainly_invoke p s q.0 q.1 (rest_of k) (more refl))
+  plainly_control p s vs (control.ReturnCall x) k more outer = plainly_return_invoke p s vs x outer
+  plainly_control p s vs (control.ReturnCallIndirect y x) k more outer = plainly_in_table p s vs y x _ _ (λ q. plainly_return_invoke p s q.0 q.1 outer)
+  plainly_control p s vs (control.ReturnCallRef y) k more outer = plainly_in_reference vs _ _ (λ q. plainly_return_invoke p s q.0 q.1 outer)
 
 -- ## One reduction
 
@@ -261,6 +307,8 @@ pub plainly_instruction : (ks : List (Option Continuation)) (p : Program) (s : S
     → Plainly ks e false (frames_after (is_call o) e) (instruction p s e vs o k) (instruction p (with_conts ks s) e vs o k)
 plainly_instruction ks p s e vs (op.Control o) k h =
     plainly_control ks e false (frames_after (is_call (op.Control o)) e) (at_least (is_call (op.Control o)) e) p s vs o k (one_more (is_call (op.Control o)) e)
+    (λ f ws x r outer. let least = at_least (is_call (op.Control o)) e in let less = outer.fewer in
+    plainly_invoked ks f false (frames_after (is_call (op.Control o)) e) (omega (arith, less, least)) p s ws x r (omega (arith, less, least)))
 plainly_instruction ks p s e vs (op.Parametric o) k h = plainly_parametric ks e false (frames e) (at_least false e) s vs o k
 plainly_instruction ks p s e vs (op.Variable o) k h = plainly_variable ks e false (frames e) (at_least false e) s vs o k
 plainly_instruction ks p s e vs (op.Table o) k h = plainly_table ks e false (frames e) (at_least false e) s vs o k
@@ -312,6 +360,7 @@ plainly_next ks p s e vs (a ∷ ahead) k h = plainly_ahead ks p s e vs a ahead k
 goes_apart : {ks : List (Option Continuation)} {e : Context} {last : Bool} {most : ℕ} {r r' : Reduced} → Plainly ks e last most r r' → r' ≡ apart ks r
 goes_apart (silent few) = refl
 goes_apart (stays is) = refl
+goes_apart (leaves_frame less) = refl
 goes_apart silent_trap = refl
 goes_apart silent_limit = refl
 goes_apart (silent_end is) = refl
@@ -326,6 +375,8 @@ few_after : {ks : List (Option Continuation)} {e : Context} {last : Bool} {most 
 few_after {most = most} few (silent {t = old} h) out v t is = let same : old ≡ t = cc in subst (λ (y : Term). frames y.around ≤ most) same h
 few_after {most = most} few (stays {t = old} h) out v t is =
     let same : old ≡ t = cc in subst (λ (y : Term). frames y.around ≤ most) same (subst (λ (f : Context). frames f ≤ most) (sym h) few)
+few_after {most = most} few (leaves_frame {t = old} h) out v t is =
+    let same : old ≡ t = cc in let less = h.fewer in subst (λ (y : Term). frames y.around ≤ most) same (omega (arith, few, less))
 few_after few silent_trap out v t is = absurd (cc)
 few_after few silent_limit out v t is = absurd (cc)
 few_after few (silent_end h) out v t is = absurd (cc)

@@ -1,6 +1,8 @@
 -- Function calls (Core, execution, function calls).
-use Rattle.std.specs.Prelude.{ℕ, List, ◌∷◌, ◌++◌, length, map, flat_map, replicate, Option, Some, slice_get}
-use Rattle.lists.specs.Rows.{Row, ε, listed}
+use Rattle.std.specs.Prelude.{ℕ, List, [], ◌∷◌, ◌++◌, length, map, flat_map, replicate, Option, Some, slice_get}
+use Rattle.std.specs.Option.{option_map}
+use Rattle.w_types.specs.declared.types.FuncType.{FuncType}
+use Rattle.lists.specs.Rows.{Row, ε, ◌⧺◌, listed}
 use Rattle.w_syntax.specs.Code.{Done}
 use Rattle.w_syntax.specs.Functions.{type_of_function, code_of_function}
 use Rattle.w_syntax.specs.declared.locals.LocalRun.{LocalRun}
@@ -10,10 +12,10 @@ use Rattle.w_tables.specs.declared.entries.Printer.{Printer}
 use Rattle.w_tables.specs.declared.entries.Printer.TheVariants as printer
 use Rattle.w_reduce.specs.Values.{Val, default_of}
 use Rattle.w_reduce.specs.Store.{Store}
-use Rattle.w_reduce.specs.Terms.{Rest, rest_of, Label, Frame, Context}
+use Rattle.w_reduce.specs.Terms.{Rest, rest_of, Label, Frame, Handle, Context}
 use Rattle.w_reduce.specs.Program.{Program}
 use Rattle.w_reduce.specs.Printed.{printed_i32, printed_i64, printed_byte}
-use Rattle.w_reduce.specs.Reduced.{Reduced, Went, steps_to, ◌>>=◌, or_stuck, take_values, take_i32, take_i64}
+use Rattle.w_reduce.specs.Reduced.{Reduced, Went, Stuck, steps_to, ◌>>=◌, or_stuck, take_values, take_i32, take_i64}
 
 -- what the locals of these runs begin with; a local without a default value is not set
 abbrev pub defaults : List LocalRun → List (Option Val)
@@ -51,3 +53,28 @@ abbrev pub invoke : Program → Store → Context → Row Val → ℕ → Rest �
 invoke p s e vs a rest = do
   f ← or_stuck (slice_get s.functions a)
   invoked p s e vs f rest
+
+-- ## Tail calls (Core, execution, function calls)
+
+-- how many arguments a function takes; one of the host takes what it prints
+abbrev pub params_of : Program → FuncEntry → Option ℕ
+params_of p (entry.Own i) = option_map (λ (t : FuncType). length t.params) (type_of_function p.source i)
+params_of p (entry.Printer out) = Some 1
+
+-- what stands around the innermost frame: the values below it, what comes behind it, and its context
+abbrev pub around_frame : Context → (Row Val × Rest × Context → Reduced) → Reduced
+around_frame [] go = Stuck
+around_frame (Label below n again rest ∷ e) go = around_frame e go
+around_frame (Frame below n f locals rest ∷ e) go = go (below, rest, e)
+around_frame (Handle below hs rest ∷ e) go = Stuck
+
+-- [Step_read/return_call_ref-frame-addr]
+-- frame_k{F} B*[v^n (return_invoke a)] end  ↪  v^n (invoke a), and that is reduced at once
+-- where the function of address a has n parameters
+abbrev pub return_invoke : Program → Store → Context → Row Val → ℕ → Reduced
+return_invoke p s e vs a = do
+  f ← or_stuck (slice_get s.functions a)
+  n ← or_stuck (params_of p f)
+  (_, args) ← take_values n vs
+  (below, rest, outer) ← around_frame e
+  invoked p s outer (below ⧺ args) f rest

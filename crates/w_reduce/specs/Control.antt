@@ -11,7 +11,7 @@ use Rattle.w_reduce.specs.Store.{Store}
 use Rattle.w_reduce.specs.Terms.{rest_of, Context}
 use Rattle.w_reduce.specs.Program.{Program}
 use Rattle.w_reduce.specs.Branches.{branch, returns}
-use Rattle.w_reduce.specs.Calls.{invoke}
+use Rattle.w_reduce.specs.Calls.{invoke, return_invoke}
 use Rattle.w_reduce.specs.Reference.{by_null}
 use Rattle.w_reduce.specs.Reduced.{Reduced, Trapped, steps_to, ◌>>=◌, or_stuck, or_trap, take_value, take_i32, as_function}
 
@@ -29,16 +29,22 @@ label_in None last = last
 abbrev pub unless_mismatch : Bool → Reduced → Reduced
 unless_mismatch fits go = if fits then go else Trapped trap.CallTypeMismatch
 
--- v^n (i32.const i) (call_indirect x y)  ↪  v^n (invoke a), and that is reduced at once
--- where element i of table x is a function of address a, whose type matches y
-abbrev pub call_indirect : Program → Store → Context → Row Val → ℕ → ℕ → Code → Reduced
-call_indirect p s e vs y x c = do
+-- (i32.const i): the function of address a at place i of table x, whose type matches y
+abbrev pub callee_in_table : Program → Store → Row Val → ℕ → ℕ → (Row Val × ℕ → Reduced) → Reduced
+callee_in_table p s vs y x go = do
   (vs, i) ← take_i32 vs
   table ← or_stuck (slice_get s.tables x)
   r ← or_trap trap.UndefinedElement (slice_get table.elements i)
   a ← as_function trap.NullElement r
   z ← or_stuck (slice_get (functions_of p.source) a)
-  unless_mismatch (p.matches z y) (invoke p s e vs a (rest_of c))
+  unless_mismatch (p.matches z y) (go (vs, a))
+
+-- (ref.func a): the function of address a
+abbrev pub callee_in_reference : Row Val → (Row Val × ℕ → Reduced) → Reduced
+callee_in_reference vs go = do
+  (vs, r) ← take_value vs
+  a ← as_function trap.NullReference r
+  go (vs, a)
 
 abbrev pub control_op : Program → Store → Context → Row Val → ControlOp → Code → Reduced
 -- [Step_pure/unreachable]
@@ -75,10 +81,25 @@ control_op p s e vs (control.BrOnNonNull l) c = do
 -- v^n (call x)  ↪  v^n (invoke a), and that is reduced at once; a is the address of function x, its index
 control_op p s e vs (control.Call x) c = invoke p s e vs x (rest_of c)
 -- [Step_pure/call_indirect]
-control_op p s e vs (control.CallIndirect y x) c = call_indirect p s e vs y x c
+-- v^n (i32.const i) (call_indirect x y)  ↪  v^n (invoke a), and that is reduced at once
+control_op p s e vs (control.CallIndirect y x) c = do
+  (vs, a) ← callee_in_table p s vs y x
+  invoke p s e vs a (rest_of c)
 -- [Step_read/call_ref-null, call_ref-func]
 -- v^n (ref.func a) (call_ref y)  ↪  v^n (invoke a), and that is reduced at once; a trap at null
 control_op p s e vs (control.CallRef y) c = do
-  (vs, r) ← take_value vs
-  a ← as_function trap.NullReference r
+  (vs, a) ← callee_in_reference vs
   invoke p s e vs a (rest_of c)
+-- [Step_read/return_call]
+-- v^n (return_call x)  ↪  v^n (return_invoke a), and that is reduced at once; a is the address of function x, its index
+control_op p s e vs (control.ReturnCall x) c = return_invoke p s e vs x
+-- [Step_pure/return_call_indirect]
+-- v^n (i32.const i) (return_call_indirect x y)  ↪  v^n (return_invoke a), and that is reduced at once
+control_op p s e vs (control.ReturnCallIndirect y x) c = do
+  (vs, a) ← callee_in_table p s vs y x
+  return_invoke p s e vs a
+-- [Step_read/return_call_ref-frame-null, return_call_ref-frame-addr]
+-- v^n (ref.func a) (return_call_ref y)  ↪  v^n (return_invoke a), and that is reduced at once; a trap at null
+control_op p s e vs (control.ReturnCallRef y) c = do
+  (vs, a) ← callee_in_reference vs
+  return_invoke p s e vs a

@@ -18,6 +18,9 @@ abbrev pub is_call : Op → Bool
 is_call (op.Control (control.Call x)) = true
 is_call (op.Control (control.CallIndirect y x)) = true
 is_call (op.Control (control.CallRef y)) = true
+is_call (op.Control (control.ReturnCall x)) = true
+is_call (op.Control (control.ReturnCallIndirect y x)) = true
+is_call (op.Control (control.ReturnCallRef y)) = true
 is_call o = false
 
 -- whether what comes next does

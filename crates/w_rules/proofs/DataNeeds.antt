@@ -32,10 +32,10 @@ use Rattle.w_syntax.specs.declared.memory_instructions.MemoryOp.TheVariants as m
 use Rattle.w_syntax.specs.declared.instructions.Op.{Op}
 use Rattle.w_syntax.specs.declared.instructions.Op.TheVariants as op
 use Rattle.w_syntax.specs.declared.module.Tag.{Tag}
-use Rattle.w_rules.specs.Conditions.{Holds, ControlCondition, TableCondition, SwitchingCondition, Condition, ClauseTyped}
+use Rattle.w_rules.specs.Conditions.{Holds, ReturnsTyped, ControlCondition, TableCondition, SwitchingCondition, Condition, ClauseTyped}
 use Rattle.w_rules.specs.Context.{Context, Arrow, func_at, cont_of, func_index_of_cont, type_of_func, tag_in, type_of_tag, arrow_of, label_of, labelled}
 use Rattle.w_rules.specs.DataNeeds.{memory_needs, op_needs, needs, with_datas}
-use Rattle.w_rules.specs.InstructionTypes.{InstrType, if_valid, has_memory, select_type, switch_to, switched_type, switch_type, params_of, call_type, cont_bind_type, resume_type, control_op_type, parametric_op_type, variable_op_type, memory_op_type, table_op_type, reference_op_type, switching_op_type, instr_type, sets}
+use Rattle.w_rules.specs.InstructionTypes.{InstrType, if_valid, has_memory, select_type, switch_to, switched_type, switch_type, params_of, call_type, tail_call_type, cont_bind_type, resume_type, control_op_type, parametric_op_type, variable_op_type, memory_op_type, table_op_type, reference_op_type, switching_op_type, instr_type, sets}
 use Rattle.w_rules.specs.Operands.{Operand}
 use Rattle.w_rules.specs.Peak.{net, past_net, past_arrow, in_arrow, extra, resume_tops, peak}
 use Rattle.w_rules.specs.Typing.{HasInstrType, Derives}
@@ -78,6 +78,9 @@ control_same c n d (control.BrOnNonNull l) = refl
 control_same c n d (control.Call x) = ap call_type (func_same c n d x)
 control_same c n d (control.CallIndirect y x) = refl
 control_same c n d (control.CallRef y) = refl
+control_same c n d (control.ReturnCall x) = ap tail_call_type (func_same c n d x)
+control_same c n d (control.ReturnCallIndirect y x) = refl
+control_same c n d (control.ReturnCallRef y) = refl
 
 select_same : (c : Context) (n d : ℕ) (ts : List ValType) → select_type (with_datas n c) ts ≡ select_type (with_datas d c) ts
 select_same c n d [] = refl
@@ -170,6 +173,9 @@ control_asks c n d (control.BrOnNonNull l) h = tt
 control_asks c n d (control.Call x) h = tt
 control_asks c n d (control.CallIndirect y x) h = h
 control_asks c n d (control.CallRef y) h = tt
+control_asks c n d (control.ReturnCall x) h = subst (ReturnsTyped (with_datas d c)) (func_same c n d x) h
+control_asks c n d (control.ReturnCallIndirect y x) h = h
+control_asks c n d (control.ReturnCallRef y) h = h
 
 table_asks : (c : Context) (n d : ℕ) (o : TableOp) → TableCondition (with_datas n c) o → TableCondition (with_datas d c) o
 table_asks c n d (table.Get x) h = tt

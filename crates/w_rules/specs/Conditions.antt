@@ -19,7 +19,7 @@ use Rattle.w_syntax.specs.declared.instructions.Op.TheVariants as op
 use Rattle.w_syntax.specs.declared.module.TableType.{TableType}
 use Rattle.w_canon.specs.Equality.{ResultEqual}
 use Rattle.w_canon.specs.Matching.{RefMatches, ResultMatches}
-use Rattle.w_rules.specs.Context.{Context, cont_of, type_of_tag}
+use Rattle.w_rules.specs.Context.{Context, func_of, type_of_func, cont_of, type_of_tag}
 
 -- what holds of the value, where there is one
 abbrev pub Holds : {A : Type 0} → Option A → (A → Type 0) → Type 0
@@ -31,10 +31,25 @@ Holds (Some a) P = P a
 abbrev pub funcref : RefType
 funcref = record { nullable = true; heap = Func }
 
--- call_indirect: the table holds functions
+-- the table holds functions
+abbrev pub HoldsFunctions : Context → ℕ → Type 0
+HoldsFunctions c x = Holds (slice_get c.tables x) (λ (t : TableType). RefMatches c.types t.element funcref)
+
+-- ## Calls
+
+-- the results of what is called match those of the function
+abbrev pub ReturnsTyped : Context → Option FuncType → Type 0
+ReturnsTyped c o = Holds o (λ (t : FuncType). ResultMatches c.types t.results (listed c.results))
+
+-- call_indirect: the table holds functions; a tail call: what is called gives the function's results
 abbrev pub ControlCondition : Context → ControlOp → Type 0
-ControlCondition c (control.CallIndirect y x) = Holds (slice_get c.tables x) (λ (t : TableType). RefMatches c.types t.element funcref)
+ControlCondition c (control.CallIndirect y x) = HoldsFunctions c x
+ControlCondition c (control.ReturnCall x) = ReturnsTyped c (type_of_func c x)
+ControlCondition c (control.ReturnCallIndirect y x) = HoldsFunctions c x × ReturnsTyped c (func_of c y)
+ControlCondition c (control.ReturnCallRef y) = ReturnsTyped c (func_of c y)
 ControlCondition c o = Unit {0}
+
+-- ## Filling tables
 
 -- table.init and table.copy: what is written matches the table
 abbrev pub TableCondition : Context → TableOp → Type 0

@@ -359,6 +359,21 @@ abbrev pub call_ref_type : ℕ → Option FuncType → InstrType
 call_ref_type x (Some t) = fixed (row_of t.params ▹ nullable x) (row_of t.results)
 call_ref_type x None = untyped
 
+-- ## Tail calls: [t1* operands] to [t2*] for any t1* and t2*, the operands those of the call of the same kind
+
+abbrev pub tail_call_type : Option FuncType → InstrType
+tail_call_type (Some t) = polymorphic (row_of t.params)
+tail_call_type None = untyped
+
+abbrev pub tail_call_indirect_type : Option TableType → Option FuncType → InstrType
+tail_call_indirect_type (Some u) (Some t) = polymorphic (row_of t.params ▹ I32)
+tail_call_indirect_type (Some u) None = untyped
+tail_call_indirect_type None o = untyped
+
+abbrev pub tail_call_ref_type : ℕ → Option FuncType → InstrType
+tail_call_ref_type x (Some t) = polymorphic (row_of t.params ▹ nullable x)
+tail_call_ref_type x None = untyped
+
 abbrev pub control_op_type : Context → ControlOp → InstrType
 -- [Instr_ok/unreachable]
 control_op_type c control.Unreachable = polymorphic ε
@@ -382,6 +397,12 @@ control_op_type c (control.Call x) = call_type (type_of_func c x)
 control_op_type c (control.CallIndirect y x) = call_indirect_type (slice_get c.tables x) (func_of c y)
 -- [Instr_ok/call_ref]
 control_op_type c (control.CallRef y) = call_ref_type y (func_of c y)
+-- [Instr_ok/return_call]
+control_op_type c (control.ReturnCall x) = tail_call_type (type_of_func c x)
+-- [Instr_ok/return_call_indirect]
+control_op_type c (control.ReturnCallIndirect y x) = tail_call_indirect_type (slice_get c.tables x) (func_of c y)
+-- [Instr_ok/return_call_ref]
+control_op_type c (control.ReturnCallRef y) = tail_call_ref_type y (func_of c y)
 
 -- ## Stack switching instructions (the explainer, validation)
 

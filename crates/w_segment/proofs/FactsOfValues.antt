@@ -134,9 +134,9 @@ module _ (P : Value → Type 0) where
   pub moved_holds : (p : ℕ) (s : Shape) → Holds P s → Holds P (moved p s)
   moved_holds p s h = record { operands = h.operands; levels = h.levels }
 
-  pub returned_holds : (c : ReturnTarget) (s : Shape) → frame_at s.levels ≡ Some c → Holds P s → Holds P (returned c s)
-  returned_holds c s e h = let w = caller_holds s.levels c h.levels e in
-      record { operands = all_append (take c.arity s.operands) c.below (all_take c.arity s.operands h.operands) w.0; levels = w.1 }
+  pub returned_holds : (n : ℕ) (c : ReturnTarget) (s : Shape) → frame_at s.levels ≡ Some c → Holds P s → Holds P (returned n c s)
+  returned_holds n c s e h = let w = caller_holds s.levels c h.levels e in
+      record { operands = all_append (take n s.operands) c.below (all_take n s.operands h.operands) w.0; levels = w.1 }
 
   pub entered_holds : (e : Entry) (s : Shape) → Holds P s → Holds P (entered e s)
   entered_holds (entry.Label k n t) s h = labelled_holds k n t s h

@@ -159,34 +159,33 @@ module _ {xs es ys : List Mark} {vs : List Value} {ls : List (Option Value)} {k 
       let m : es ≡ reverse ys = sym (ap reverse e ∙ r.marks) in
       (z.0 ∙ ap inner_in m, subst Nested m z.1)
 
-  module _ {ws : List Value} where
-    -- its results stand on the operands below it
-    pub returned_own : IsFrame xs es vs ls k p c n f q b j u → ys ≡ take p xs → base (reverse xs) ≤ length vs → ws ≡ take b vs ++ drop (length vs - n) vs
-        → n ≤ length (own (reverse xs) vs) → own (reverse ys) ws ≡ take c.arity (own (reverse xs) vs) ++ c.below
+  module _ {ws : List Value} (m : ℕ) where
+    -- the operands that are kept stand on those below it
+    pub returned_own : IsFrame xs es vs ls k p c n f q b j u → ys ≡ take p xs → base (reverse xs) ≤ length vs → ws ≡ take b vs ++ drop (length vs - m) vs
+        → m ≤ length (own (reverse xs) vs) → own (reverse ys) ws ≡ take m (own (reverse xs) vs) ++ c.below
     returned_own r e le w fits =
         ap (λ (zs : List Mark). own (reverse zs) ws) e ∙ ap (λ (zs : List Mark). own zs ws) r.marks
-        ∙ kept_top (reverse xs) es vs ws n b r.under r.low le fits w
-        ∙ ap (λ (m : ℕ). take m (own (reverse xs) vs) ++ own es (take b vs)) r.arity
-        ∙ ap (λ (zs : List Value). take c.arity (own (reverse xs) vs) ++ zs) (sym r.below)
+        ∙ kept_top (reverse xs) es vs ws m b r.under r.low le fits w
+        ∙ ap (λ (zs : List Value). take m (own (reverse xs) vs) ++ zs) (sym r.below)
 
     module _ {ls' : List (Option Value)} where
       -- the levels around it are left
-      pub returned_levels : IsFrame xs es vs ls k p c n f q b j u → ys ≡ take p xs → base (reverse xs) ≤ length vs → ws ≡ take b vs ++ drop (length vs - n) vs
+      pub returned_levels : IsFrame xs es vs ls k p c n f q b j u → ys ≡ take p xs → base (reverse xs) ≤ length vs → ws ≡ take b vs ++ drop (length vs - m) vs
           → ls' ≡ take k ls → levels_of (reverse ys) ws ls' j ≡ c.outer
       returned_levels r e le w l =
           let low = r.low in
           ap (λ (zs : List Mark). levels_of (reverse zs) ws ls' j) e ∙ ap (λ (zs : List Mark). levels_of zs ws ls' j) r.marks
           ∙ ap (λ (ks : List (Option Value)). levels_of es ws ks j) l
-          ∙ kept_levels es vs ws (drop (length vs - n) vs) (take k ls) j b r.under (omega (arith, low, le)) w ∙ sym r.outer
+          ∙ kept_levels es vs ws (drop (length vs - m) vs) (take k ls) j b r.under (omega (arith, low, le)) w ∙ sym r.outer
 
       -- and their marks are ordered
-      pub returned_ordered : IsFrame xs es vs ls k p c n f q b j u → ys ≡ take p xs → base (reverse xs) ≤ length vs → ws ≡ take b vs ++ drop (length vs - n) vs
+      pub returned_ordered : IsFrame xs es vs ls k p c n f q b j u → ys ≡ take p xs → base (reverse xs) ≤ length vs → ws ≡ take b vs ++ drop (length vs - m) vs
           → ls' ≡ take k ls → Ordered (reverse ys) (length ws) (length ls') j
       returned_ordered r e le w l =
           let low = r.low in
           let tl = length-take-le b vs (omega (arith, low, le)) in
-          let al = length-append (take b vs) (drop (length vs - n) vs) in
+          let al = length-append (take b vs) (drop (length vs - m) vs) in
           let wl = ap (λ (zs : List Value). length zs) w in
           let kl : length ls' ≡ k = ap (λ (ks : List (Option Value)). length ks) l ∙ length-take-le k ls r.within in
           subst (λ (zs : List Mark). Ordered zs (length ws) (length ls') j) (sym (ap reverse e ∙ r.marks))
-          (subst (λ (m : ℕ). Ordered es (length ws) m j) (sym kl) (ordered_more es b (length ws) k j (omega (arith, tl, al, wl)) r.ordered))
+          (subst (λ (y : ℕ). Ordered es (length ws) y j) (sym kl) (ordered_more es b (length ws) k j (omega (arith, tl, al, wl)) r.ordered))

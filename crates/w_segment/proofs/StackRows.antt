@@ -56,8 +56,12 @@ the_frame_is_around_its_labels : frame_at within ≡ Some the_frame_around
 the_frame_is_around_its_labels = refl
 
 a_return_keeps_its_arity : (c : Capacity)
-    → returned the_frame_around (in_body 9 8 within (I32 7 ∷ I32 6 ∷ []) c) ≡ in_body 7 4 [] (I32 7 ∷ I32 3 ∷ []) c
+    → returned the_frame_around.arity the_frame_around (in_body 9 8 within (I32 7 ∷ I32 6 ∷ []) c) ≡ in_body 7 4 [] (I32 7 ∷ I32 3 ∷ []) c
 a_return_keeps_its_arity c = refl
+
+a_tail_call_keeps_its_arguments : (c : Capacity)
+    → returned 2 the_frame_around (in_body 9 8 within (I32 7 ∷ I32 6 ∷ []) c) ≡ in_body 7 4 [] (I32 7 ∷ I32 6 ∷ I32 3 ∷ []) c
+a_tail_call_keeps_its_arguments c = refl
 
 a_local_is_set_behind_labels : (c : Capacity)
     → with_locals 1 (I32 9) (in_body 9 8 (Label [] 0 10 ∷ Frame [] 1 (None ∷ None ∷ []) 7 4 ∷ []) [] c)

@@ -55,9 +55,9 @@ left s = left_at s.levels s
 abbrev pub branched : Target → Shape → Shape
 branched t s = record s { levels = t.outer; operands = take t.arity s.operands ++ t.below; place = t.target }
 
--- without the innermost frame
-abbrev pub returned : ReturnTarget → Shape → Shape
-returned c s = record s { levels = c.outer; operands = take c.arity s.operands ++ c.below; func = c.caller; place = c.back }
+-- without the innermost frame, of which the n topmost operands are kept
+abbrev pub returned : ℕ → ReturnTarget → Shape → Shape
+returned n c s = record s { levels = c.outer; operands = take n s.operands ++ c.below; func = c.caller; place = c.back }
 
 -- ## Locals and places
 

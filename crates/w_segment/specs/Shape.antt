@@ -99,6 +99,10 @@ frame_at (Frame below n locals f p ∷ ls) = Some (record { below = below; arity
 abbrev pub IsAt : ℕ → Shape → Type 0
 IsAt l s = (t : Target) × (label_at l s.levels ≡ Some t) × (t.arity ≤ length s.operands)
 
+-- there is a frame, and so many operands
+abbrev pub HasFrame : ℕ → Shape → Type 0
+HasFrame n s = (c : ReturnTarget) × (frame_at s.levels ≡ Some c) × (n ≤ length s.operands)
+
 -- there is a frame, and its arity of operands
 abbrev pub IsIn : Shape → Type 0
 IsIn s = (c : ReturnTarget) × (frame_at s.levels ≡ Some c) × (c.arity ≤ length s.operands)

@@ -6,7 +6,7 @@ use crate::values::{keep_top, push_arguments, push_copies};
 
 impl Stack {
     ghost use Rattle.std.specs.Prelude.{◌≡◌, ◌+◌, ◌<◌, ◌≤◌, Some, length};
-    ghost use Rattle.w_segment.specs.Shape.{locals_all, label_at, frame_at, is_in_label, target_of, Target, ReturnTarget, IsAt, IsIn};
+    ghost use Rattle.w_segment.specs.Shape.{locals_all, label_at, frame_at, is_in_label, target_of, Target, ReturnTarget, IsAt, HasFrame, IsIn};
     ghost use Rattle.w_segment.specs.Changes.{labelled, framed, left, branched, returned};
     ghost use Rattle.w_segment.specs.Entered.{params_of, LocalsFit, entered};
 
@@ -142,24 +142,37 @@ impl Stack {
         }
     }
 
-    /// Leaves the innermost frame, whatever labels stand in it, where there is one and its arity of operands is there: the topmost
-    /// `arity` operands stand on those below it, and the place is where its caller goes on (Core, execution: return).
+    // How many results the innermost frame gives.
     #[inline(always)]
-    pub fn returns(&mut self)
-        requires there { IsIn self.old }
-        ensures after { (c : ReturnTarget) → frame_at self.old.levels ≡ Some c → self.new ≡ returned c self.old }
+    fn results(&self) -> u32
+        requires there { IsIn self.now }
+        ensures results { (c : ReturnTarget) → frame_at self.now.levels ≡ Some c → result ≡ c.arity }
+    {
+        let frame = self.inner - 1;
+        match self.marks[frame] {
+            Mark::Frame { arity, .. } => arity,
+            Mark::Label { .. } => unreachable!(),
+        }
+    }
+
+    /// Leaves the innermost frame, whatever labels stand in it, where there is one and so many operands are there: the topmost `kept`
+    /// operands stand on those below it, and the place is where its caller goes on (Core, execution: return, tail calls).
+    #[inline(always)]
+    pub fn leave_frame(&mut self, kept: u32)
+        requires there { HasFrame kept self.old }
+        ensures after { (c : ReturnTarget) → frame_at self.old.levels ≡ Some c → self.new ≡ returned kept c self.old }
     {
         let frame = self.inner - 1;
         match self.marks[frame] {
             Mark::Frame {
-                arity: results,
                 caller,
                 back,
                 below,
                 first,
                 outer,
+                ..
             } => {
-                keep_top(&mut self.operands, below, results as usize);
+                keep_top(&mut self.operands, below, kept as usize);
                 self.marks.truncate(frame);
                 self.locals.truncate(self.first);
                 self.frames -= 1;
@@ -170,5 +183,16 @@ impl Stack {
             }
             Mark::Label { .. } => unreachable!(),
         }
+    }
+
+    /// Leaves the innermost frame, where there is one and its arity of operands is there: these stand on those below it (Core,
+    /// execution: return).
+    #[inline(always)]
+    pub fn returns(&mut self)
+        requires there { IsIn self.old }
+        ensures after { (c : ReturnTarget) → frame_at self.old.levels ≡ Some c → self.new ≡ returned c.arity c self.old }
+    {
+        let results = self.results();
+        self.leave_frame(results);
     }
 }

@@ -1,3 +1,4 @@
 mod LabelsBack
+mod ListedResults
 mod TablesTaken
 mod LocalsSet

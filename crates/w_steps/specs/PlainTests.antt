@@ -1,6 +1,9 @@
 -- What a plain instruction asks beside its type, as a test on the entries of the types.
-use Rattle.std.specs.Prelude.{Bool, true, false, List, Option, Some, None, slice_get}
+use Rattle.std.specs.Prelude.{Bool, true, false, ◌&&◌, List, Option, Some, None, slice_get}
+use Rattle.w_types.specs.declared.types.FuncType.{FuncType}
 use Rattle.w_types.specs.declared.types.RefType.{RefType}
+use Rattle.w_types.specs.declared.types.ValType.{ValType}
+use Rattle.lists.specs.Rows.{Row, listed}
 use Rattle.w_syntax.specs.declared.instructions.ControlOp.{ControlOp}
 use Rattle.w_syntax.specs.declared.instructions.ControlOp.TheVariants as control
 use Rattle.w_syntax.specs.declared.instructions.Op.{Op}
@@ -9,16 +12,24 @@ use Rattle.w_syntax.specs.declared.instructions.TableOp.{TableOp}
 use Rattle.w_syntax.specs.declared.instructions.TableOp.TheVariants as table
 use Rattle.w_syntax.specs.declared.module.TableType.{TableType}
 use Rattle.w_canon.specs.declared.entry.Entry.{Entry}
-use Rattle.w_canon.specs.Tests.{ref_test}
+use Rattle.w_canon.specs.Tests.{ref_test, result_test}
 use Rattle.w_rules.specs.Conditions.{funcref}
-use Rattle.w_rules.specs.Context.{Context}
+use Rattle.w_rules.specs.Context.{Context, func_of, type_of_func}
 
 abbrev pub holds_functions : List Entry → Option TableType → Bool
 holds_functions es (Some t) = ref_test es t.element funcref
 holds_functions es None = false
 
+-- the results of what is called match these
+abbrev pub returns_test : List Entry → Row ValType → Option FuncType → Bool
+returns_test es results (Some t) = result_test es t.results (listed results)
+returns_test es results None = false
+
 abbrev pub control_test : List Entry → Context → ControlOp → Bool
 control_test es c (control.CallIndirect y x) = holds_functions es (slice_get c.tables x)
+control_test es c (control.ReturnCall x) = returns_test es c.results (type_of_func c x)
+control_test es c (control.ReturnCallIndirect y x) = holds_functions es (slice_get c.tables x) && returns_test es c.results (func_of c y)
+control_test es c (control.ReturnCallRef y) = returns_test es c.results (func_of c y)
 control_test es c o = true
 
 abbrev pub init_test : List Entry → Option RefType → Option TableType → Bool

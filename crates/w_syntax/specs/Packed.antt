@@ -61,6 +61,9 @@ control_of (short_control.BrOnNonNull l) = control.BrOnNonNull l
 control_of (short_control.Call f) = control.Call f
 control_of (short_control.CallIndirect t k) = control.CallIndirect t k
 control_of (short_control.CallRef t) = control.CallRef t
+control_of (short_control.ReturnCall f) = control.ReturnCall f
+control_of (short_control.ReturnCallIndirect t k) = control.ReturnCallIndirect t k
+control_of (short_control.ReturnCallRef t) = control.ReturnCallRef t
 
 abbrev pub memory_of : ShortMemoryOp → MemoryOp
 memory_of (short_memory.Size m) = memory.Size m

@@ -199,7 +199,10 @@ controls =
     ∷ (0x0F, constant control.Return)
     ∷ (0x10, number 32 ⇒ control.Call)
     ∷ (0x11, number 32 ⊗ number 32 ⇒ λ p. control.CallIndirect p.0 p.1)
+    ∷ (0x12, number 32 ⇒ control.ReturnCall)
+    ∷ (0x13, number 32 ⊗ number 32 ⇒ λ p. control.ReturnCallIndirect p.0 p.1)
     ∷ (0x14, number 32 ⇒ control.CallRef)
+    ∷ (0x15, number 32 ⇒ control.ReturnCallRef)
     ∷ (0xD5, number 32 ⇒ control.BrOnNull)
     ∷ (0xD6, number 32 ⇒ control.BrOnNonNull)
     ∷ []

@@ -24,6 +24,12 @@ pub enum ControlOp {
     CallIndirect(u32, u32),
     /// `call_ref`, with the type.
     CallRef(u32),
+    /// `return_call`, with the function.
+    ReturnCall(u32),
+    /// `return_call_indirect`, with the type and the table.
+    ReturnCallIndirect(u32, u32),
+    /// `return_call_ref`, with the type.
+    ReturnCallRef(u32),
 }
 
 /// A parametric instruction (Core, instructions, parametric instructions).

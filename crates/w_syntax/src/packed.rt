@@ -50,6 +50,9 @@ pub enum ShortControlOp {
     Call(u32),
     CallIndirect(u32, u32),
     CallRef(u32),
+    ReturnCall(u32),
+    ReturnCallIndirect(u32, u32),
+    ReturnCallRef(u32),
 }
 
 /// A memory instruction that is no load or store.
@@ -165,6 +168,11 @@ fn short_control(control: &ControlOp) -> Option<ShortControlOp>
         ControlOp::Call(function) => Some(ShortControlOp::Call(*function)),
         ControlOp::CallIndirect(kind, table) => Some(ShortControlOp::CallIndirect(*kind, *table)),
         ControlOp::CallRef(kind) => Some(ShortControlOp::CallRef(*kind)),
+        ControlOp::ReturnCall(function) => Some(ShortControlOp::ReturnCall(*function)),
+        ControlOp::ReturnCallIndirect(kind, table) => {
+            Some(ShortControlOp::ReturnCallIndirect(*kind, *table))
+        }
+        ControlOp::ReturnCallRef(kind) => Some(ShortControlOp::ReturnCallRef(*kind)),
     }
 }
 
@@ -335,6 +343,11 @@ impl ShortControlOp {
             ShortControlOp::Call(function) => ControlOp::Call(function),
             ShortControlOp::CallIndirect(kind, table) => ControlOp::CallIndirect(kind, table),
             ShortControlOp::CallRef(kind) => ControlOp::CallRef(kind),
+            ShortControlOp::ReturnCall(function) => ControlOp::ReturnCall(function),
+            ShortControlOp::ReturnCallIndirect(kind, table) => {
+                ControlOp::ReturnCallIndirect(kind, table)
+            }
+            ShortControlOp::ReturnCallRef(kind) => ControlOp::ReturnCallRef(kind),
         }
     }
 }

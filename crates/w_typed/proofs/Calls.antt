@@ -139,7 +139,7 @@ module _ (p : Program) {K : Arrows} (us : Row Operand) where
   printed {vs = vs} printer.Byte beneath u v k still w =
       number_taken p.source us int.I32 vs beneath _ v (λ below n b. goes_printing p.source us (printed_byte n) u still b k w)
 
-  entry_invoked : {s : Store} {e : Context} {vs : Row Val} {rest : Rest} {c : Scope} {set now : List Bool} {out : Row Operand} {f : FuncEntry} {x : ℕ} (t : FuncType)
+  pub entry_invoked : {s : Store} {e : Context} {vs : Row Val} {rest : Rest} {c : Scope} {set now : List Bool} {out : Row Operand} {f : FuncEntry} {x : ℕ} (t : FuncType)
       (beneath : Row Operand) → Valid p.source → StoreTyped p.source K s → EntryTyped p.source f x → func_type p.source x ≡ Some t
       → ValuesTyped p.source K vs (beneath ⧺ known (row_of t.params)) → RestTyped p.source c set rest.ahead rest.code (beneath ⧺ known (row_of t.results)) out
       → Subset set now → Within p.source K us e c now out → IsSafe p.source K us (invoked p s e vs f rest)

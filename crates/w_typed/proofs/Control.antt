@@ -42,6 +42,7 @@ use Rattle.w_typed.proofs.Holes.{code_left}
 use Rattle.w_typed.proofs.Branches.{branch_safe, returns_safe}
 use Rattle.w_typed.proofs.Calls.{invoke_safe}
 use Rattle.w_typed.proofs.Indirect.{call_indirect_safe, call_ref_safe}
+use Rattle.w_typed.proofs.TailCalls.{return_call_safe, return_call_indirect_safe, return_call_ref_safe}
 use Rattle.w_typed.proofs.Onward.{onward}
 use Rattle.w_typed.proofs.References.{by_null_safe}
 
@@ -191,3 +192,6 @@ module _ (p : Program) (keeps : KeepsKinds p.source.types) (K : Arrows) (us : Ro
     control_safe (control.Call x) h n held prog valid q t v = call_here x h n valid (type_of_func (context_of p.source) x) refl t v
     control_safe (control.CallIndirect y x) h n held prog valid q t v = call_indirect_safe p keeps us y x prog valid h.store q t v (h.behind n) h.still h.around
     control_safe (control.CallRef y) h n held prog valid q t v = call_ref_safe p keeps us y valid h.store t v (h.behind n) h.still h.around
+    control_safe (control.ReturnCall x) h n held prog valid q t v = return_call_safe p keeps us ws x valid h.store h.inside q t v h.around
+    control_safe (control.ReturnCallIndirect y x) h n held prog valid q t v = return_call_indirect_safe p keeps us ws y x k prog valid h.store h.inside q t v h.around
+    control_safe (control.ReturnCallRef y) h n held prog valid q t v = return_call_ref_safe p keeps us ws y k valid h.store h.inside q t v h.around

@@ -31,6 +31,7 @@ pub mod SameTypes
 pub mod ContTypes
 pub mod Conts
 pub mod Indirect
+pub mod TailCalls
 pub mod Elements
 pub mod SizedTables
 pub mod Globals

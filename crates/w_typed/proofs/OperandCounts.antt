@@ -44,6 +44,9 @@ leaves (op.Control control.Unreachable) = true
 leaves (op.Control (control.Br l)) = true
 leaves (op.Control (control.BrTable ls l)) = true
 leaves (op.Control control.Return) = true
+leaves (op.Control (control.ReturnCall x)) = true
+leaves (op.Control (control.ReturnCallIndirect y x)) = true
+leaves (op.Control (control.ReturnCallRef y)) = true
 leaves o = false
 
 module _ (gs : List RecGroup) (ts ws : Row Operand) where
@@ -227,6 +230,9 @@ module _ (gs : List RecGroup) (ts ws : Row Operand) where
   control_counted c (control.Call x) n h e = call_counted _ h e
   control_counted c (control.CallIndirect y x) n h e = call_indirect_counted _ _ h e
   control_counted c (control.CallRef y) n h e = call_ref_counted y _ h e
+  control_counted c (control.ReturnCall x) n h e = absurd (cc)
+  control_counted c (control.ReturnCallIndirect y x) n h e = absurd (cc)
+  control_counted c (control.ReturnCallRef y) n h e = absurd (cc)
 
   cont_new_counted : (x : ℕ) (f : Option ℕ) → Counted (cont_new_type x f)
   cont_new_counted x None h e = h

@@ -1,8 +1,10 @@
 -- What the tests of instructions tell: where the entries are those of the types, each is true exactly where the rule's condition holds.
 use Rattle.std.proofs.Common.{◌≡◌, ◌↔◌, true, false, List, Option, Some, None, slice_get, IsTrue, refl}
+use Rattle.w_types.specs.declared.types.FuncType.{FuncType}
 use Rattle.w_types.specs.declared.types.RefType.{RefType}
 use Rattle.w_types.specs.declared.types.ValType.{ValType}
-use Rattle.lists.specs.Rows.{Row}
+use Rattle.lists.specs.Rows.{Row, listed}
+use Rattle.lists.proofs.Tests.{both_decided}
 use Rattle.w_syntax.specs.declared.instructions.ControlOp.{ControlOp}
 use Rattle.w_syntax.specs.declared.instructions.ControlOp.TheVariants as control
 use Rattle.w_syntax.specs.declared.instructions.Op.{Op}
@@ -13,12 +15,12 @@ use Rattle.w_syntax.specs.declared.module.TableType.{TableType}
 use Rattle.w_canon.specs.declared.entry.Entry.{Entry}
 use Rattle.w_canon.specs.Matching.{RefMatches}
 use Rattle.w_canon.specs.IsClassesOf.{IsClassesOf}
-use Rattle.w_canon.proofs.MatchingTests.{ref_decided}
-use Rattle.w_rules.specs.Conditions.{Holds, funcref, ControlCondition, TableCondition, Condition}
-use Rattle.w_rules.specs.Context.{Context}
+use Rattle.w_canon.proofs.MatchingTests.{ref_decided, result_decided}
+use Rattle.w_rules.specs.Conditions.{Holds, funcref, ReturnsTyped, ControlCondition, TableCondition, Condition}
+use Rattle.w_rules.specs.Context.{Context, func_of, type_of_func}
 use Rattle.w_steps.specs.Labels.{labels_of, within}
 use Rattle.w_vplain.specs.Prefixes.{is_switching}
-use Rattle.w_steps.specs.PlainTests.{holds_functions, init_test, copy_test, control_test, table_test, condition_test}
+use Rattle.w_steps.specs.PlainTests.{holds_functions, returns_test, init_test, copy_test, control_test, table_test, condition_test}
 use Rattle.w_steps.specs.declared.frame_kind.FrameKind.{FrameKind}
 
 -- nothing is asked
@@ -49,9 +51,18 @@ module _ (es : List Entry) (c : Context) (st : IsClassesOf c.types es) where
   copy_decided (Some t) None = never
   copy_decided (Some t) (Some u) = ref_decided c.types es st u.element t.element
 
+  -- what is called gives the function's results
+  returned_decided : (o : Option FuncType) → IsTrue (returns_test es c.results o) ↔ ReturnsTyped c o
+  returned_decided None = never
+  returned_decided (Some t) = result_decided c.types es st t.results (listed c.results)
+
   -- a control instruction, whatever the labels take
   control_decided : (us : List (Row ValType)) (o : ControlOp) → IsTrue (control_test es c o) ↔ ControlCondition (record c { labels = us }) o
   control_decided us (control.CallIndirect y x) = functions_decided (slice_get c.tables x)
+  control_decided us (control.ReturnCall x) = returned_decided (type_of_func c x)
+  control_decided us (control.ReturnCallIndirect y x) =
+      both_decided (holds_functions es (slice_get c.tables x)) (returns_test es c.results (func_of c y)) (functions_decided (slice_get c.tables x)) (returned_decided (func_of c y))
+  control_decided us (control.ReturnCallRef y) = returned_decided (func_of c y)
   control_decided us o = nothing
 
   -- a table instruction

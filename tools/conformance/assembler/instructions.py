@@ -119,6 +119,18 @@ def call_ref(function_type):
     return b'\x14' + unsigned(function_type)
 
 
+def return_call(function):
+    return b'\x12' + unsigned(function)
+
+
+def return_call_indirect(function_type, table):
+    return b'\x13' + unsigned(function_type) + unsigned(table)
+
+
+def return_call_ref(function_type):
+    return b'\x15' + unsigned(function_type)
+
+
 def br_on_null(label):
     return b'\xd5' + unsigned(label)
 

@@ -69,7 +69,12 @@ def call(machine, function):
     machine.enter_function(function)
 
 
-def call_indirect(machine, function_type, table):
+def return_call(machine, function):
+    machine.replace_frame(function)
+
+
+def _element(machine, function_type, table):
+    """The function that an element of a table refers to, whose number is on top."""
     elements = machine.store.tables[table].elements
     number = machine.pop()
     if number >= len(elements):
@@ -79,19 +84,37 @@ def call_indirect(machine, function_type, table):
     callee = machine.store.functions[elements[number]]
     if not machine.order.matches(callee.type, function_type):
         raise Trap('call type mismatch')
-    machine.enter_function(elements[number])
+    return elements[number]
 
 
-def call_ref(machine, _function_type):
+def call_indirect(machine, function_type, table):
+    machine.enter_function(_element(machine, function_type, table))
+
+
+def return_call_indirect(machine, function_type, table):
+    machine.replace_frame(_element(machine, function_type, table))
+
+
+def _referred(machine):
+    """The function to which the reference on top refers."""
     reference = machine.pop()
     if reference is NULL:
         raise Trap('null reference')
-    machine.enter_function(reference)
+    return reference
+
+
+def call_ref(machine, _function_type):
+    machine.enter_function(_referred(machine))
+
+
+def return_call_ref(machine, _function_type):
+    machine.replace_frame(_referred(machine))
 
 
 # An invoke, which no module spells, stands for a function that is begun from outside.
 RULES = {
     'unreachable': unreachable, 'nop': nop, 'block': block, 'loop': loop, 'if': if_, 'br': br, 'br_if': br_if,
     'br_table': br_table, 'return': return_, 'br_on_null': br_on_null, 'br_on_non_null': br_on_non_null, 'call': call,
-    'call_indirect': call_indirect, 'call_ref': call_ref, 'invoke': call,
+    'call_indirect': call_indirect, 'call_ref': call_ref, 'return_call': return_call,
+    'return_call_indirect': return_call_indirect, 'return_call_ref': return_call_ref, 'invoke': call,
 }

@@ -111,6 +111,12 @@ class Machine:
         self.layers.append(Label(function.results, height, [], 0, 0))
         self.code, self.place = function.body, 0
 
+    def replace_frame(self, address):
+        """Put a function, whose arguments are on top, in place of the innermost frame and all that it holds."""
+        frame = self._end_frame()
+        self._keep_top(frame.height, self.arity(self.store.functions[address].type)[0])
+        self.enter_function(address)
+
     def _check_limits(self):
         """Pass the first limit that the term is above."""
         if self.frames_around + self.frames > GREATEST_FRAMES:
@@ -173,18 +179,23 @@ class Machine:
         """Leave the blocks up to this label, and go on where it does."""
         target = self.layers[-1 - label]
         del self.layers[-1 - label:]
-        self._keep_top(target)
+        self._keep_top(target.height, target.arity)
         self.code, self.place = target.code, target.again
 
     def return_(self):
-        """Leave the innermost frame and all labels in it."""
+        """Leave the innermost frame with what it gives."""
+        frame = self._end_frame()
+        self._keep_top(frame.height, frame.arity)
+
+    def _end_frame(self):
+        """Leave the innermost frame, which is given, and all labels in it, but none of the operands."""
         layer = self.layers.pop()
         while not isinstance(layer, Frame):
             layer = self.layers.pop()
         self._leave_frame(layer)
-        self._keep_top(layer)
         self.code, self.place = layer.code, layer.behind
+        return layer
 
-    def _keep_top(self, layer):
-        """Keep the operands beneath a layer, and those on top that it takes or gives."""
-        del self.operands[layer.height:len(self.operands) - layer.arity]
+    def _keep_top(self, height, count):
+        """Keep so many operands beneath, and so many on top."""
+        del self.operands[height:len(self.operands) - count]

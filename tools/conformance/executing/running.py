@@ -1,9 +1,9 @@
 """Runs: what at most so many reductions come to.
 
-Each instruction takes one. A call takes one, straight to the frame; so do a call of the host's, the invoke of the start
-function, that of main, and that of a continuation that begins. The exit of a label takes one, and so does that of a
-frame and that of a handle. A suspend that is caught takes one, and the branch that it leaves another. What traps or
-passes a limit counts.
+Each instruction takes one. A call takes one, straight to the frame; so do a tail call, a call of the host's, the
+invoke of the start function, that of main, and that of a continuation that begins. The exit of a label takes one, and
+so does that of a frame and that of a handle. A suspend that is caught takes one, and the branch that it leaves another.
+What traps or passes a limit counts.
 """
 
 from typing import NamedTuple

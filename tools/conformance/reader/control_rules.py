@@ -94,8 +94,21 @@ def br_on_non_null(block, label):
     block.give(*taken[:-1])
 
 
-def call(block, function):
-    _apply(block, block.context.function_type(entry(block.context.functions, function, 'function')))
+# What a call names: the type of a function, and the types of the operands that tell which function it is.
+
+
+def _function(block, function):
+    return [block.context.function_type(entry(block.context.functions, function, 'function'))]
+
+
+def _element(block, function_type, table):
+    is_callable = matches(block.context, entry(block.context.tables, table, 'table'), FUNCREF)
+    require(is_callable, 'a table of functions')
+    return block.context.function_type(function_type), I32
+
+
+def _reference(block, function_type):
+    return block.context.function_type(function_type), Ref(True, function_type)
 
 
 def _apply(block, function_type, *callee):
@@ -104,18 +117,41 @@ def _apply(block, function_type, *callee):
     block.give(*function_type.results)
 
 
+def _apply_at_last(block, function_type, *callee):
+    """The same, where the results are those of the function around, and nothing goes on behind."""
+    returned = block.returned
+    require(all_match(block.context, function_type.results, returned), f'a callee that gives {spelled_row(returned)}')
+    block.take(*function_type.parameters, *callee)
+    block.leave()
+
+
+def call(block, function):
+    _apply(block, *_function(block, function))
+
+
 def call_indirect(block, function_type, table):
-    is_callable = matches(block.context, entry(block.context.tables, table, 'table'), FUNCREF)
-    require(is_callable, 'a table of functions')
-    _apply(block, block.context.function_type(function_type), I32)
+    _apply(block, *_element(block, function_type, table))
 
 
 def call_ref(block, function_type):
-    _apply(block, block.context.function_type(function_type), Ref(True, function_type))
+    _apply(block, *_reference(block, function_type))
+
+
+def return_call(block, function):
+    _apply_at_last(block, *_function(block, function))
+
+
+def return_call_indirect(block, function_type, table):
+    _apply_at_last(block, *_element(block, function_type, table))
+
+
+def return_call_ref(block, function_type):
+    _apply_at_last(block, *_reference(block, function_type))
 
 
 RULES = {
     'unreachable': unreachable, 'nop': nop, 'block': block_, 'loop': loop, 'if': if_, 'br': br, 'br_if': br_if,
     'br_table': br_table, 'return': return_, 'br_on_null': br_on_null, 'br_on_non_null': br_on_non_null, 'call': call,
-    'call_indirect': call_indirect, 'call_ref': call_ref,
+    'call_indirect': call_indirect, 'call_ref': call_ref, 'return_call': return_call,
+    'return_call_indirect': return_call_indirect, 'return_call_ref': return_call_ref,
 }

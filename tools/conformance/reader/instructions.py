@@ -110,7 +110,8 @@ def _handler(source):
 PLAIN = {
     0x00: ('unreachable',), 0x01: ('nop',), 0x0c: ('br', index), 0x0d: ('br_if', index),
     0x0e: ('br_table', _indices, index), 0x0f: ('return',), 0x10: ('call', index),
-    0x11: ('call_indirect', index, index), 0x14: ('call_ref', index), 0x1a: ('drop',), 0x1b: ('select',),
+    0x11: ('call_indirect', index, index), 0x12: ('return_call', index), 0x13: ('return_call_indirect', index, index),
+    0x14: ('call_ref', index), 0x15: ('return_call_ref', index), 0x1a: ('drop',), 0x1b: ('select',),
     0x1c: ('select t', _types), 0x20: ('local.get', index), 0x21: ('local.set', index), 0x22: ('local.tee', index),
     0x23: ('global.get', index), 0x24: ('global.set', index), 0x25: ('table.get', index), 0x26: ('table.set', index),
     0x3f: ('memory.size', index), 0x40: ('memory.grow', index), 0x41: ('i32.const', _i32), 0x42: ('i64.const', _i64),

@@ -8,14 +8,14 @@ from typing import NamedTuple
 
 from rows import (
     numeric, memory, tables, variables, references, control, branches, calls, making, suspending, handling, switching,
-    whole_modules, without_a_memory, types_and_imports, tables_and_memories, constant_expressions, segments,
+    tail_calls, whole_modules, without_a_memory, types_and_imports, tables_and_memories, constant_expressions, segments,
     starts_exports_and_functions, orders, decoding, framing, fields, spellings, instructions, equivalence, matching,
     subtyping_spellings, subtyping, subtyping_of_operands, subtyping_by_chance, limits, arithmetic, sizes, long_runs,
     running_numbers, running_memory, running_tables, running_control, running_instances, running_suspends,
     running_clauses, running_switches, running_continuations, running_passing, running_subtyping,
-    running_switching_traps, running_coroutines, running_switching_limits, scripts, script_rules, script_sizes,
-    script_names, script_modules, script_runs, script_operators, script_effects, script_random, script_edges,
-    script_slots, script_slot_sizes, script_slot_runs, examples)
+    running_switching_traps, running_coroutines, running_switching_limits, running_tail_calls, scripts, script_rules,
+    script_sizes, script_names, script_modules, script_runs, script_operators, script_effects, script_random,
+    script_edges, script_slots, script_slot_sizes, script_slot_runs, script_tail_calls, examples)
 from surroundings import pieces
 
 
@@ -48,7 +48,8 @@ _FILES = [
     _functions(
         'references', 'instructions of references, and the matching of types', references.REFERENCES,
         references.MATCHING),
-    _functions('control', 'blocks, branches and calls', control.SECTION, branches.SECTION, calls.SECTION),
+    _functions('control', 'blocks, branches and calls', control.SECTION, branches.SECTION, calls.SECTION,
+        tail_calls.SECTION),
     _functions(
         'switching', 'stack switching', making.SECTION, suspending.SECTION, handling.SECTION, switching.SECTION),
     _modules(
@@ -75,7 +76,7 @@ _FILES = [
         [instructions.SECTION]),
     lambda: RowFile(
         'sizes', 'Modules as large as a file may be, or nested deeply.', sizes.PIECES, [sizes.SECTION]),
-    _modules('long_runs', 'Runs of ten million reductions.', long_runs.SECTION),
+    _modules('long_runs', 'Runs of ten million reductions, and of ten million tail calls.', long_runs.SECTION),
     _modules(
         'running_numbers', 'Runs of each operation of integers.', running_numbers.CONSTANTS,
         running_numbers.ONE_OPERAND, running_numbers.TWO_OPERANDS, running_numbers.DIVISIONS),
@@ -119,6 +120,9 @@ _FILES = [
     _modules(
         'running_switching_limits', 'Runs of stack switching at the limits.', running_switching_limits.HANDLES,
         running_switching_limits.FRAMES, running_switching_limits.LIVE, running_switching_limits.CHAINS),
+    _modules(
+        'running_tail_calls', 'Runs of tail calls.', running_tail_calls.CALLS, running_tail_calls.PRINTING,
+        running_tail_calls.TRAPS, running_tail_calls.SWITCHING, running_tail_calls.LIMITS, running_tail_calls.STEPS),
     _modules('script_tokens', 'Bytes that are cut into tokens, and bytes that are not.', scripts.LEXING),
     _modules('script_grammar', 'Tokens that are a script, and tokens that are none.', scripts.GRAMMAR, scripts.NESTING),
     _modules('script_rules', 'Rules of scripts that are broken, and their neighbours.', script_rules.SECTION, script_rules.ORDER),
@@ -139,6 +143,10 @@ _FILES = [
         'script_slot_runs', 'Runs of scripts with slots, and how these are compiled.', script_slot_runs.RUNS,
         script_slot_runs.PLACES, script_slot_runs.RESUMPTIONS, script_slot_runs.ORDER, script_slot_runs.STEPS,
         script_slot_runs.LIMITS, script_slot_runs.MODULES, script_random.WITH_SLOTS),
+    _modules(
+        'script_tail_calls', 'Runs of scripts with tail calls, and how these are compiled.', script_tail_calls.CALLS,
+        script_tail_calls.ORDER, script_tail_calls.EFFECTS, script_tail_calls.NO_TAIL_CALLS, script_tail_calls.STEPS,
+        script_tail_calls.LIMITS, script_tail_calls.MODULES, script_random.WITH_TAIL_CALLS),
     _modules('examples', 'The scripts of examples/.', examples.SECTION),
 ]
 

@@ -4,7 +4,7 @@ from assembler.instructions import (
     DROP, I32_ADD, I32_EXTEND8_S, I32_MUL, I32_WRAP_I64, I64_EXTEND_I32_S, NOP, OTHER_BINARY, REF_AS_NON_NULL,
     REF_IS_NULL, RETURN, SELECT, SUMS, UNARY, UNREACHABLE, access, block, br, br_if, br_table, call, call_ref,
     cont_bind, cont_new, elem_drop, global_get, global_set, i32_const, i64_const, if_, local_get, loop, memory_size,
-    numeric, ref_func, ref_null, resume, select, suspend, table_get, table_size)
+    numeric, ref_func, ref_null, resume, return_call, return_call_ref, select, suspend, table_get, table_size)
 from assembler.modules import as_global, global_, imported, module, table
 from assembler.segments import passive_expressions
 from assembler.types import CONT, CONTREF, EMPTY, FUNC, FUNCREF, I32, I64, NOCONT, NOFUNC, limits, nullable, ref
@@ -97,6 +97,8 @@ REFUSED = [
     ('not-constant-resume', I32, ref_null(1) + resume(1) + i32_const(0)),
     ('not-constant-global.set', I32, i32_const(0) * 2 + global_set(0)),
     ('not-constant-call_ref', I32, i32_const(0) + ref_null(2) + call_ref(2)),
+    ('not-constant-return_call', I32, i32_const(0) + return_call(1)),
+    ('not-constant-return_call_ref', I32, i32_const(0) + ref_null(2) + return_call_ref(2)),
     ('two-values', I32, i32_const(0) * 2), ('no-value', I32, b''), ('i64-as-i32', I32, i64_const(0)),
     ('i32-as-i64', I64, i32_const(0)), ('i32-as-reference', FUNCREF, i32_const(0)),
     ('reference-as-i32', I32, ref_null(FUNC)),

@@ -63,6 +63,8 @@ refused('a-body-that-fills-less-than-its-size', 'malformed content 3', spelled(F
 
 # Decoded, and then refused.
 refused('two-numbers-for-one-result', 'invalid function 0', spelled(FRONT + '0A08010600420642070B'))
+refused('a-tail-call-of-what-gives-a-number', 'invalid function 0', spelled(
+    '01080260 00017F 600000 0303020001 0A09020400 12010B 02000B'))
 refused('a-start-that-is-not-there', 'invalid start', spelled('080100'))
 refused('more-than-50-000-locals', 'limit locals', spelled(NOTHING + '0A08010601D186037F0B'))
 refused('a-product-of-nothing', 'invalid function 0', spelled(FRONT + '0A050103007E0B'))

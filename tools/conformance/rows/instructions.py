@@ -80,7 +80,9 @@ row('i64.store/at-the-last-offset', '37 03~ FFFFFFFF0F')
 for name, parts in [
         ('unreachable', '00'), ('nop', '01'), ('br', '0C 05~'), ('br_if', '0D 05~'), ('return', '0F'),
         ('br_table', '0E 02~ 05~ 06~ 04~'), ('br_table/without-labels', '0E 00~ 05~'), ('call', '10 05~'),
-        ('call_indirect', '11 06~ 05~'), ('call_ref', '14 06~'), ('br_on_null', 'D5 05~'), ('br_on_non_null', 'D6 05~'),
+        ('call_indirect', '11 06~ 05~'), ('call_ref', '14 06~'), ('return_call', '12 05~'),
+        ('return_call_indirect', '13 02~ 05~'), ('return_call_ref', '15 02~'), ('br_on_null', 'D5 05~'),
+        ('br_on_non_null', 'D6 05~'),
         ('drop', '1A'), ('select', '1B'), ('select/of-a-type', '1C 01~ 7E'), ('select/of-a-reference', '1C 01~ 64 03+'),
         ('local.get', '20 05~'), ('local.set', '21 05~'), ('local.tee', '22 05~'), ('global.get', '23 05~'),
         ('global.set', '24 05~'), ('table.get', '25 05~'), ('table.set', '26 05~'), ('table.init', 'FC 0C~ 05~ 06~'),
@@ -123,7 +125,7 @@ def refused(name, digits, answer='malformed content 2'):
 
 # The bytes with which an instruction or a mark begins, from and to.
 FIRST_BYTES = [
-    (0x00, 0x05), (0x0B, 0x0B), (0x0C, 0x11), (0x14, 0x14), (0x1A, 0x1C), (0x20, 0x26), (0x28, 0x29), (0x2C, 0x37),
+    (0x00, 0x05), (0x0B, 0x0B), (0x0C, 0x15), (0x1A, 0x1C), (0x20, 0x26), (0x28, 0x29), (0x2C, 0x37),
     (0x3A, 0x42), (0x45, 0x5A), (0x67, 0x8A), (0xA7, 0xA7), (0xAC, 0xAD), (0xC0, 0xC4), (0xD0, 0xD2), (0xD4, 0xD6),
     (0xE0, 0xE3), (0xE6, 0xE6), (0xFC, 0xFC)]
 for byte in range(256):

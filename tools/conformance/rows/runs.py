@@ -49,9 +49,9 @@ class RunSection(Section):
             raise ValueError(f'{name}: {err!r}')
         self.rows.append(CallRow(name, command, words or spelled(given), wanted_lines(out, err, status)))
 
-    def known(self, name, wanted, given, words_of=spelled):
+    def known(self, name, wanted, given, words_of=spelled, steps=None):
         """A run of a module that is known to come to these lines; how it is spelled by words may be given."""
-        self.row(name, given, words=words_of(given))
+        self.row(name, given, steps, words=words_of(given))
         if self.rows[-1].wanted != wanted:
             raise ValueError(f'{name}: {self.rows[-1].wanted} and not {wanted}')
 

@@ -281,7 +281,7 @@ LIMITS.is_known('resumes-whose-value-is-bound/one-more', ticking(
 LIMITS.is_known('resumes-in-a-sum', ticking(19998, 'return 0 + resume k(0) with (s);'), 'limit frames')
 # Main, 19,999 activations of a function, and the handle.
 LIMITS.is_known('calls-under-a-handle', '''
-fn f(n) { if n { return f(n - 1); } return 0; }
+fn f(n) { if n { return 0 + f(n - 1); } return 0; }
 handler id() { return(x) { return x; } }
 fn main() { return handle f(19998) with id(); }''', 'limit frames')
 LIMITS.is_known('dropped-resumptions', dropping(65536), '= 65536')

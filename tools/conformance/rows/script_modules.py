@@ -5,6 +5,7 @@ from itertools import product
 from pathlib import Path
 
 from executing import outcome_of
+from rows.script_run_samples import data_of
 from rows.script_samples import spelled_script
 from rows.sections import CallRow, Section, answered, spelled
 from script_compiler import built
@@ -32,6 +33,16 @@ def module_of(name, data):
     if isinstance(module, str):
         raise ValueError(f'{name}: {module}')
     return module
+
+
+def compiled_row(name, text, *codes):
+    """How a script is compiled, and codes that its module has somewhere."""
+    data = data_of(text)
+    module = module_of(name, data)
+    for code in codes:
+        if bytes.fromhex(code) not in module:
+            raise ValueError(f'{name}: {code} is not in {module.hex().upper()}')
+    return BuildRow(f'{name}/build', data, [f'out {spelled(module)}'])
 
 
 def ends(name, text, printed, line, status):

@@ -10,7 +10,8 @@ from script_reader import VALID, answer
 
 SECTION = ScriptRunSection('random')
 WITH_SLOTS = ScriptRunSection('random-with-slots')
-SEED, SEED_WITH_SLOTS = 20240229, 20260714
+WITH_TAIL_CALLS = ScriptRunSection('random-with-tail-calls')
+SEED, SEED_WITH_SLOTS, SEED_WITH_TAIL_CALLS = 20240229, 20260714, 20261201
 GREATEST_STEPS = 6000
 SHORTEST, LONGEST = 250, 1300       # bytes
 LONGEST_WITH_SLOTS = 1600
@@ -18,6 +19,8 @@ LONGEST_WITH_SLOTS = 1600
 WANTED = {'=': 100, 'divzero': 35, 'failed': 20, 'reused': 40, 'unhandled': 25}
 # The same where resumptions are stored and taken; some are kept whose first take is the fault.
 WANTED_WITH_SLOTS = {'=': 25, 'divzero': 8, 'failed': 6, 'reused': 15, 'unhandled': 8, 'empty': 15}
+# The same where most returns are tail calls.
+WANTED_WITH_TAIL_CALLS = {'=': 25, 'divzero': 8, 'failed': 6, 'reused': 12, 'unhandled': 10}
 
 
 def kind_of(text, longest):
@@ -58,7 +61,7 @@ def fill(section, made, kind_of_made, wanted, tries):
 
 
 def add(section, random, number, text):
-    """The rows of one script, whose name is its number; of those with slots, behind the name of these."""
+    """The rows of one script, whose name is its number; in the files of slots and of tail calls, behind a word."""
     name = f'{number}' if section is SECTION else f'random/{number}'
     section.row(name, text)
     steps = random.randrange(evaluation_of(data_of(text)).taken * 3)
@@ -71,3 +74,6 @@ fill(SECTION, (Random(SEED), RandomScript), lambda text: kind_of(text, LONGEST),
 fill(
     WITH_SLOTS, (Random(SEED_WITH_SLOTS), lambda random: RandomScript(random, has_slots=True)), taking_kind_of,
     WANTED_WITH_SLOTS, 1000)
+fill(
+    WITH_TAIL_CALLS, (Random(SEED_WITH_TAIL_CALLS), lambda random: RandomScript(random, tailing=0.7)),
+    lambda text: kind_of(text, LONGEST), WANTED_WITH_TAIL_CALLS, 1000)

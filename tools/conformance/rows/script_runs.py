@@ -53,11 +53,13 @@ CALLS.is_known('refused/no-main', 'effect e/0;', 'rule 1 18')
 CALLS.is_known('no-bytes', '', 'rule 0 18')
 
 # Limits. What is passed and what is just not passed.
-DOWN = 'fn f(n) { if n { return f(n - 1); } return 0; }\n'
-LIMITS.whole('frames', DOWN + 'fn main() { return f(19998); }', '= 0')
-LIMITS.whole('frames/one-more', DOWN + 'fn main() { return f(19999); }', 'limit frames')
-LIMITS.is_known('frames/behind-what-is-printed', DOWN + 'fn main() { print 3; print f(9); return f(19999); }',
+# The activation of main ends with its tail call.
+DOWN = 'fn f(n) { if n { return 0 + f(n - 1); } return 0; }\n'
+LIMITS.whole('frames', DOWN + 'fn main() { return f(19999); }', '= 0')
+LIMITS.whole('frames/one-more', DOWN + 'fn main() { return f(20000); }', 'limit frames')
+LIMITS.is_known('frames/behind-what-is-printed', DOWN + 'fn main() { print 3; print f(9); return f(20000); }',
                 'limit frames', 3, 0)
+LIMITS.whole('frames/tail-calls', DOWN.replace('0 + f', 'f') + 'fn main() { return f(20000); }', '= 0')
 HANDLED_DOWN = '''fn f(n) { if n { return handle f(n - 1) with id(); } return 0; }
 handler id() { return(x) { return x; } }
 '''

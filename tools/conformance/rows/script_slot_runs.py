@@ -1,9 +1,8 @@
 """Runs of scripts with slots, and how these are compiled. What a run is to come to where this is told was worked out by
 hand from what the language says, and the second readers are to come to the same; so were the bytes of code."""
 
-from rows.script_modules import BuildRow, module_of
-from rows.script_run_samples import ScriptRunSection, data_of
-from rows.sections import spelled
+from rows.script_modules import compiled_row
+from rows.script_run_samples import ScriptRunSection
 
 RUNS = ScriptRunSection('runs')
 PLACES = ScriptRunSection('places')
@@ -18,12 +17,7 @@ LEAST = '(0 - 9223372036854775807 - 1)'
 
 def compiled(name, text, *codes):
     """How a script is compiled, and codes that its module has somewhere."""
-    data = data_of(text)
-    module = module_of(name, data)
-    for code in codes:
-        if bytes.fromhex(code) not in module:
-            raise ValueError(f'{name}: {code} is not in {module.hex().upper()}')
-    MODULES.rows.append(BuildRow(f'{name}/build', data, [f'out {spelled(module)}']))
+    MODULES.rows.append(compiled_row(name, text, *codes))
 
 
 def whole(section, name, text, end, *printed):

@@ -2,7 +2,7 @@
 
 from assembler.instructions import (
     DROP, I32_WRAP_I64, NOP, REF_AS_NON_NULL, RETURN, UNREACHABLE, block, br, br_if, call, cont_bind, cont_new,
-    i64_const, local_get, local_set, loop, ref_func, ref_null, suspend, table_get, table_set)
+    i64_const, local_get, local_set, loop, ref_func, ref_null, return_call, suspend, table_get, table_set)
 from assembler.types import EMPTY
 from script_compiler.indices import COMPUTATION_TYPE, PRINTER, RESUMPTION_TYPE
 from script_compiler.instructions import (
@@ -48,8 +48,8 @@ class Body:
         behind = [_operated(operator, self.expression(used, operand)) for operator, operand in tree.others]
         return self.expression(used, tree.first) + b''.join(behind)
 
-    def _call(self, used, tree):
-        return self.expressions(used, tree.arguments) + call(self.indices.numbers[tree.function])
+    def _call(self, used, tree, made=call):
+        return self.expressions(used, tree.arguments) + made(self.indices.numbers[tree.function])
 
     def _do(self, used, tree):
         return self.expressions(used, tree.arguments) + suspend(self.indices.tags[tree.effect])
@@ -136,6 +136,8 @@ class Body:
         value = tree.value
         if isinstance(value, Resume) and self.layout.is_own(value.resumption):
             return self._next_turn(labels, value)
+        if isinstance(value, Call):
+            return self._call(0, value, return_call)
         return self.expression(0, value) + RETURN
 
     def _next_turn(self, labels, tree):

@@ -27,7 +27,7 @@ class Body:
         for statement in statements:
             yield from STATEMENTS[type(statement)](self, statement)
 
-    # Statements. What behind a return is never asked for.
+    # Statements. What stands behind a return is never asked for, nor what does behind a step that ends the activation.
 
     def set(self, statement):
         self.variables[statement.name] = yield from self.expression(statement.value)
@@ -54,6 +54,8 @@ class Body:
         tree = statement.value
         if isinstance(tree, Resume) and self.variables[tree.resumption].handler == self.owner:
             yield from self.resume(tree, ends=True)
+        if isinstance(tree, Call):
+            yield from self.call(tree, ends=True)
         value = yield from self.expression(tree)
         yield Returns(value)
 
@@ -113,9 +115,9 @@ class Body:
         value = yield from self.expression(right)
         return (yield Gives(truth(value)))
 
-    def call(self, tree):
+    def call(self, tree, ends=False):
         values = yield from self.expressions(tree.arguments)
-        return (yield Calls(tree.function, values))
+        return (yield Calls(tree.function, values, ends))
 
     def do(self, tree):
         values = yield from self.expressions(tree.arguments)

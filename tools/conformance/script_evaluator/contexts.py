@@ -39,7 +39,7 @@ class Context:
         self.acts = self.hands = self.kept = self.takes = 0
         self.given = None
         self.value = None       # that of main, at the end
-        self._call(Calls('main', []))
+        self._start('main', [])
 
     def step(self):
         """Take one step. What it prints is given, or nothing; a fault is raised."""
@@ -74,13 +74,19 @@ class Context:
         variables = _bound(handler, handle.parameters) | {handler.result: self.given}
         self._enter(handler.body, variables, handle.handler)
 
+    def _start(self, name, values):
+        """An activation of a function begins."""
+        function = self.declarations[name]
+        self._enter(function.body, _bound(function, values))
+
     def _call(self, said):
-        function = self.declarations[said.function]
-        self._enter(function.body, _bound(function, said.values))
+        if said.ends:
+            self._end_activation()
+        self._start(said.function, said.values)
 
     def _handle(self, said):
         self._enter_handle(said.handler, said.parameters)
-        self._call(said)
+        self._start(said.function, said.values)
 
     def _perform(self, said):
         """The clause takes the place of the handle, and what is inside of this is captured."""

@@ -16,10 +16,11 @@ class Prints(NamedTuple):
 
 
 class Calls(NamedTuple):
-    """A function is called with these values."""
+    """A function is called with these values; the activation may end first."""
 
     function: str
     values: list
+    ends: bool
 
 
 class Handles(NamedTuple):

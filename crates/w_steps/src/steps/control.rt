@@ -1,13 +1,14 @@
 //! Control instructions that hold no others.
-ghost use Rattle.std.specs.Prelude.{◌≡◌, IfOk, IfSome, IsTrue, Some, true, slice_get};
-ghost use Rattle.lists.specs.Rows.{row_of};
+ghost use Rattle.std.specs.Prelude.{◌≡◌, ◌&&◌, IfOk, IfSome, IsTrue, Some, true, slice_get};
+ghost use Rattle.lists.specs.Rows.{row_of, listed};
+ghost use Rattle.w_canon.specs.Tests.{result_test};
 ghost use Rattle.w_flow.specs.Flow.{step, fits_one, fit_each};
 ghost use Rattle.w_flow.specs.View.{flow_view, flow_if, HasWords};
-ghost use Rattle.w_rules.specs.InstructionTypes.{br_if_type, br_on_null_type, br_on_non_null_type, br_table_type, labels_at, call_type, call_indirect_type, call_ref_type, control_op_type};
+ghost use Rattle.w_rules.specs.InstructionTypes.{br_if_type, br_on_null_type, br_on_non_null_type, br_table_type, labels_at, call_type, call_indirect_type, call_ref_type, tail_call_type, tail_call_indirect_type, tail_call_ref_type, nullable, control_op_type};
 ghost use Rattle.w_rules.specs.Context.{func_of, type_of_func};
 ghost use Rattle.w_rules.specs.View.{context_in};
 ghost use Rattle.w_rows.specs.TypeRows.{IsReady};
-ghost use Rattle.w_steps.specs.PlainTests.{holds_functions, control_test};
+ghost use Rattle.w_steps.specs.PlainTests.{holds_functions, returns_test, control_test};
 ghost use Rattle.w_steps.specs.View.{context_at, gated, non_null_type};
 
 use crate::body_context::BodyContext;
@@ -16,7 +17,7 @@ use std::alloc::AllocError;
 use w_canon::Classes;
 use w_flow::Flow;
 use w_rows::TypeRow;
-use w_syntax::ControlOp;
+use w_syntax::{ControlOp, TableType};
 use w_types::{HeapType, PackedType, RefType, ValType};
 
 // Whether an index is the last one that was judged of those at its place.
@@ -188,6 +189,17 @@ fn call_step(setting: &Setting, flow: &mut Flow, function: u32) -> Result<bool, 
     }
 }
 
+// Whether a table holds functions.
+fn has_functions(setting: &Setting, table: TableType) -> bool
+    ensures { result ≡ holds_functions setting.now.cx.now.classes.now (Some table) }
+{
+    let functions = RefType {
+        nullable: true,
+        heap: HeapType::Func,
+    };
+    setting.cx.classes.matches_ref(table.element, functions)
+}
+
 // A call of a function of a table.
 fn call_indirect_step(
     setting: &Setting,
@@ -205,11 +217,7 @@ fn call_indirect_step(
     let Some(table) = setting.cx.table(table) else {
         return Ok(false);
     };
-    let functions = RefType {
-        nullable: true,
-        heap: HeapType::Func,
-    };
-    if !setting.cx.classes.matches_ref(table.element, functions) {
+    if !has_functions(setting, table) {
         return Ok(false);
     }
     match setting.func_of(kind) {
@@ -223,6 +231,16 @@ fn call_indirect_step(
     }
 }
 
+// A reference to this type that may be null.
+fn nullable_to(index: u32) -> PackedType
+    ensures { result ≡ nullable index }
+{
+    PackedType::reference(RefType {
+        nullable: true,
+        heap: HeapType::Index(index),
+    })
+}
+
 // A call of a function by a reference.
 fn call_ref_step(setting: &Setting, flow: &mut Flow, index: u32) -> Result<bool, AllocError>
     requires { HasWords setting.now.cx.now.classes.now flow.old }
@@ -231,18 +249,82 @@ fn call_ref_step(setting: &Setting, flow: &mut Flow, index: u32) -> Result<bool,
         ≡ flow_if applies flow.new) }
     ensures words { HasWords setting.now.cx.now.classes.now flow.new }
 {
-    let reference = PackedType::reference(RefType {
-        nullable: true,
-        heap: HeapType::Index(index),
-    });
     match setting.func_of(index) {
         Some(kind) => flow.turns_many_below(
             setting.cx.classes,
             kind.params,
-            reference,
+            nullable_to(index),
             kind.results,
         ),
         None => Ok(false),
+    }
+}
+
+// Whether these results match those of the function.
+fn are_returned(setting: &Setting, results: TypeRow) -> bool
+    requires { IsReady setting.now.cx.now.classes.now results }
+    ensures { result ≡ result_test setting.now.cx.now.classes.now results.entry.types.now (listed (row_of setting.now.results.types.now)) }
+{
+    results.matches(setting.cx.classes, setting.results)
+}
+
+// A tail call of a function.
+fn return_call_step(setting: &Setting, flow: &mut Flow, function: u32) -> bool
+    requires { HasWords setting.now.cx.now.classes.now flow.old }
+    ensures steps { let f = type_of_func (context_in setting.now.cx.now) function in
+        gated (returns_test setting.now.cx.now.classes.now (row_of setting.now.results.types.now) f)
+        (step setting.now.cx.now.classes.now (tail_call_type f) (flow_view flow.old).any (flow_view flow.old).operands)
+        ≡ flow_if result flow.new }
+    ensures words { HasWords setting.now.cx.now.classes.now flow.new }
+{
+    match setting.type_of_func(function) {
+        Some(kind) => {
+            are_returned(setting, kind.results) && flow.polymorphic(setting.cx.classes, kind.params)
+        }
+        None => false,
+    }
+}
+
+// A tail call of a function of a table.
+fn return_call_indirect_step(setting: &Setting, flow: &mut Flow, kind: u32, table: u32) -> bool
+    requires { HasWords setting.now.cx.now.classes.now flow.old }
+    ensures steps { let c = context_in setting.now.cx.now in
+        gated (holds_functions setting.now.cx.now.classes.now (slice_get c.tables table)
+        && returns_test setting.now.cx.now.classes.now (row_of setting.now.results.types.now) (func_of c kind))
+        (step setting.now.cx.now.classes.now (tail_call_indirect_type (slice_get c.tables table) (func_of c kind))
+        (flow_view flow.old).any (flow_view flow.old).operands) ≡ flow_if result flow.new }
+    ensures words { HasWords setting.now.cx.now.classes.now flow.new }
+{
+    let Some(table) = setting.cx.table(table) else {
+        return false;
+    };
+    if !has_functions(setting, table) {
+        return false;
+    }
+    match setting.func_of(kind) {
+        Some(kind) => {
+            are_returned(setting, kind.results)
+                && flow.polymorphic_below(setting.cx.classes, kind.params, PackedType::I32)
+        }
+        None => false,
+    }
+}
+
+// A tail call of a function by a reference.
+fn return_call_ref_step(setting: &Setting, flow: &mut Flow, index: u32) -> bool
+    requires { HasWords setting.now.cx.now.classes.now flow.old }
+    ensures steps { let f = func_of (context_in setting.now.cx.now) index in
+        gated (returns_test setting.now.cx.now.classes.now (row_of setting.now.results.types.now) f)
+        (step setting.now.cx.now.classes.now (tail_call_ref_type index f) (flow_view flow.old).any (flow_view flow.old).operands)
+        ≡ flow_if result flow.new }
+    ensures words { HasWords setting.now.cx.now.classes.now flow.new }
+{
+    match setting.func_of(index) {
+        Some(kind) => {
+            are_returned(setting, kind.results)
+                && flow.polymorphic_below(setting.cx.classes, kind.params, nullable_to(index))
+        }
+        None => false,
     }
 }
 
@@ -281,5 +363,10 @@ pub(crate) fn control_step(
         ControlOp::Call(function) => call_step(setting, flow, *function),
         ControlOp::CallIndirect(kind, table) => call_indirect_step(setting, flow, *kind, *table),
         ControlOp::CallRef(kind) => call_ref_step(setting, flow, *kind),
+        ControlOp::ReturnCall(function) => Ok(return_call_step(setting, flow, *function)),
+        ControlOp::ReturnCallIndirect(kind, table) => Ok(return_call_indirect_step(
+            setting, flow, *kind, *table,
+        )),
+        ControlOp::ReturnCallRef(kind) => Ok(return_call_ref_step(setting, flow, *kind)),
     }
 }

@@ -1,12 +1,12 @@
-use Rattle.std.proofs.Common.{◌≡◌, ℕ, ◌-◌, ◌≤◌, ◌++◌, List, Some, sym, ap, ◌∙◌, reverse, length, take, drop, arith, vec_len}
+use Rattle.std.proofs.Common.{◌≡◌, ℕ, ◌-◌, ◌≤◌, ◌++◌, List, ap, ◌∙◌, reverse, length, take, drop, arith, vec_len}
 use Rattle.std.proofs.lemmas.List.{length-reverse}
 use Rattle.w_types.specs.declared.value.Value.{Value}
-use Rattle.w_segment.specs.Shape.{ReturnTarget, frame_at}
+use Rattle.w_segment.specs.Shape.{frame_at}
 use Rattle.w_segment.specs.Flat.{own}
 use Rattle.w_segment.proofs.ReturnedFrames.{inner_within, frame_is, frame_is_no_label, returned_levels, returned_own, returned_ordered, returned_nested, returned_frames}
 use Rattle.w_segment.proofs.OwnOperands.{own_long, base_le}
 use Rattle.w_segment.proofs.SameShapes.{same_shape, same_capacity}
-use Rattle.w_segment.proofs.stack.Stack.returns.Goals as goal
+use Rattle.w_segment.proofs.stack.Stack.leave_frame.Goals as goal
 
 pub overflow_sub-frame : goal.overflow_sub-frame
 overflow_sub-frame c =
@@ -39,14 +39,13 @@ keep_top-requires c =
     let (r, h, n) = c.requires.there in
     let l = ap (λ s. frame_at s.levels) c.self.view_is ∙ h in
     let f = frame_is i.marks.items vs i.locals.items i.first (i.inner - 1) r c.index.result.now
-    c.in-Frame.results c.in-Frame.caller c.in-Frame.back c.in-Frame.below c.in-Frame.first c.in-Frame.outer
+    _ c.in-Frame.caller c.in-Frame.back c.in-Frame.below c.in-Frame.first c.in-Frame.outer
     c.self.invariant.0 l (ap (λ (n : ℕ). n - 1) c.self.invariant.2) c.index.ensures c.in-Frame.is in
     let le = base_le (reverse i.marks.items) (length vs) (length i.locals.items) i.first c.self.invariant.0 in
     let o = own_long (reverse i.marks.items) vs in
     let v = ap (λ s. length s.operands) c.self.view_is in
     let low = f.low in
-    let a = f.arity in
-    record { fits = omega (arith, a, o, v, n, low, le) }
+    record { fits = omega (arith, o, v, n, low, le) }
 
 pub overflow_sub-self : goal.overflow_sub-self
 overflow_sub-self c =
@@ -55,7 +54,7 @@ overflow_sub-self c =
     let (r, h, n) = c.requires.there in
     let l = ap (λ s. frame_at s.levels) c.self.view_is ∙ h in
     let f = frame_is i.marks.items vs i.locals.items i.first (i.inner - 1) r c.index.result.now
-    c.in-Frame.results c.in-Frame.caller c.in-Frame.back c.in-Frame.below c.in-Frame.first c.in-Frame.outer
+    _ c.in-Frame.caller c.in-Frame.back c.in-Frame.below c.in-Frame.first c.in-Frame.outer
     c.self.invariant.0 l (ap (λ (n : ℕ). n - 1) c.self.invariant.2) c.index.ensures c.in-Frame.is in
     let a = f.frames in
     omega (arith, a, c.self.invariant.1)
@@ -76,39 +75,35 @@ invariant_of-self c =
     let (r, h, n) = c.requires.there in
     let l = ap (λ s. frame_at s.levels) c.self.view_is ∙ h in
     let f = frame_is i.marks.items vs i.locals.items i.first (i.inner - 1) r c.index.result.now
-    c.in-Frame.results c.in-Frame.caller c.in-Frame.back c.in-Frame.below c.in-Frame.first c.in-Frame.outer
+    _ c.in-Frame.caller c.in-Frame.back c.in-Frame.below c.in-Frame.first c.in-Frame.outer
     c.self.invariant.0 l (ap (λ (n : ℕ). n - 1) c.self.invariant.2) c.index.ensures c.in-Frame.is in
     let le = base_le (reverse i.marks.items) (length vs) (length i.locals.items) i.first c.self.invariant.0 in
     let ln : vec_len i.operands ≡ length vs = omega arith in
-    let ws : c.keep_top.new.items.items ≡ take c.in-Frame.below vs ++ drop (length vs - c.in-Frame.results) vs =
-    c.keep_top.ensures.items ∙ ap (λ (k : ℕ). take c.in-Frame.below vs ++ drop (k - c.in-Frame.results) vs) ln in
+    let ws : c.keep_top.new.items.items ≡ take c.in-Frame.below vs ++ drop (length vs - c.args.kept) vs =
+    c.keep_top.ensures.items ∙ ap (λ (k : ℕ). take c.in-Frame.below vs ++ drop (k - c.args.kept) vs) ln in
     let a = returned_frames f c.truncate.ensures.items in
     let g = returned_nested f c.truncate.ensures.items c.self.invariant.3 in
-    (returned_ordered f c.truncate.ensures.items le ws c.truncate-in-Frame.ensures.items, omega (arith, a, c.self.invariant.1), g.0, g.1)
+    (returned_ordered c.args.kept f c.truncate.ensures.items le ws c.truncate-in-Frame.ensures.items, omega (arith, a, c.self.invariant.1), g.0, g.1)
 
 pub returns : goal.returns
 returns c = record {
   after = λ r h. (let i = c.self.inside in
       let vs = i.operands.items in
       let (r', h', n) = c.requires.there in
-      let same : Some r' ≡ Some r = sym h' ∙ h in
-      let re : r' ≡ r = cc in
       let l = ap (λ s. frame_at s.levels) c.self.view_is ∙ h in
       let f = frame_is i.marks.items vs i.locals.items i.first (i.inner - 1) r c.index.result.now
-      c.in-Frame.results c.in-Frame.caller c.in-Frame.back c.in-Frame.below c.in-Frame.first c.in-Frame.outer
+      _ c.in-Frame.caller c.in-Frame.back c.in-Frame.below c.in-Frame.first c.in-Frame.outer
       c.self.invariant.0 l (ap (λ (n : ℕ). n - 1) c.self.invariant.2) c.index.ensures c.in-Frame.is in
       let le = base_le (reverse i.marks.items) (length vs) (length i.locals.items) i.first c.self.invariant.0 in
       let ln : vec_len i.operands ≡ length vs = omega arith in
-      let ws : c.keep_top.new.items.items ≡ take c.in-Frame.below vs ++ drop (length vs - c.in-Frame.results) vs =
-      c.keep_top.ensures.items ∙ ap (λ (k : ℕ). take c.in-Frame.below vs ++ drop (k - c.in-Frame.results) vs) ln in
+      let ws : c.keep_top.new.items.items ≡ take c.in-Frame.below vs ++ drop (length vs - c.args.kept) vs =
+      c.keep_top.ensures.items ∙ ap (λ (k : ℕ). take c.in-Frame.below vs ++ drop (k - c.args.kept) vs) ln in
       let v = ap (λ s. s.operands) c.self.view_is in
       let vl = ap (λ (xs : List Value). length xs) v in
-      let na = ap (λ (x : ReturnTarget). x.arity) re in
-      let a = f.arity in
-      let fits : c.in-Frame.results ≤ length (own (reverse i.marks.items) vs) = omega (arith, vl, n, na, a) in
+      let fits : c.args.kept ≤ length (own (reverse i.marks.items) vs) = omega (arith, vl, n) in
       same_shape _ _
-      (returned_levels f c.truncate.ensures.items le ws c.truncate-in-Frame.ensures.items)
-      (returned_own f c.truncate.ensures.items le ws fits ∙ ap (λ (xs : List Value). take r.arity xs ++ r.below) v)
+      (returned_levels c.args.kept f c.truncate.ensures.items le ws c.truncate-in-Frame.ensures.items)
+      (returned_own c.args.kept f c.truncate.ensures.items le ws fits ∙ ap (λ (xs : List Value). take c.args.kept xs ++ r.below) v)
       f.caller f.back (ap (λ s. s.stage) c.self.view_is)
       (same_capacity _ _ _ _ _ _ c.keep_top.ensures.capacity c.truncate.ensures.capacity c.truncate-in-Frame.ensures.capacity ∙ ap (λ s. s.capacity) c.self.view_is));
 }

@@ -1,0 +1,3 @@
+pub mod LeftRoom
+pub mod OwnTails
+pub mod HostTails
