@@ -28,7 +28,9 @@ SWITCHING = [
 EACH = [
     ('calls', 'a continuation is resumed twice'), ('calls', 'two coroutines switch to one another'),
     ('script_runs', 'asking'), ('script_slot_runs', 'jobs')]
-MAY_ASK = {'call', 'call_indirect', 'call_ref', 'invoke', 'cont.new', 'memory.grow', 'table.grow'}
+MAY_ASK = {
+    'call', 'call_indirect', 'call_ref', 'return_call', 'return_call_indirect', 'return_call_ref', 'invoke', 'cont.new',
+    'memory.grow', 'table.grow'}
 RUNNING, WANTING = 10, 8      # statuses
 MOST_SECONDS = 60
 

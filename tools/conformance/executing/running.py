@@ -31,7 +31,7 @@ class Outcome(NamedTuple):
 
 
 def begun(module, store, main):
-    """The machine of a run with no reduction taken: first comes the start function, where there is one, and then main."""
+    """The machine of a run with no reduction taken: first the start function, where there is one, and then main."""
     started = [main] if module.start is None else [module.start, main]
     invokes = [Instruction('invoke', (address,)) for address in started]
     return Machine(module.types, TypeOrder(module.groups), store, invokes)

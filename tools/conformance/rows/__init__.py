@@ -125,7 +125,9 @@ _FILES = [
         running_tail_calls.TRAPS, running_tail_calls.SWITCHING, running_tail_calls.LIMITS, running_tail_calls.STEPS),
     _modules('script_tokens', 'Bytes that are cut into tokens, and bytes that are not.', scripts.LEXING),
     _modules('script_grammar', 'Tokens that are a script, and tokens that are none.', scripts.GRAMMAR, scripts.NESTING),
-    _modules('script_rules', 'Rules of scripts that are broken, and their neighbours.', script_rules.SECTION, script_rules.ORDER),
+    _modules(
+        'script_rules', 'Rules of scripts that are broken, and their neighbours.', script_rules.SECTION,
+        script_rules.ORDER),
     _modules('script_sizes', 'Scripts as long or as large as one may be.', script_sizes.SECTION),
     lambda: RowFile('script_names', 'Scripts of many names.', script_names.PIECES, [script_names.SECTION]),
     _modules('script_modules', 'Scripts that are compiled.', script_modules.SECTION),
