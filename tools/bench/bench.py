@@ -99,7 +99,8 @@ def check_calls(given, path):
 def run_calls(given, steps, switches, path):
     """The calls to time on a program that takes so many reductions; wasm-interp knows none that switches stacks."""
     calls = {'run': ([str(given.program), 'run', str(path), '--steps', str(steps)], True)}
-    return calls if switches else calls_with('wasm-interp', ['--run-all-exports', str(path)], calls)
+    words = ['--enable-tail-call', '--run-all-exports', str(path)]
+    return calls if switches else calls_with('wasm-interp', words, calls)
 
 
 def chosen(names, words, always=None):
