@@ -1,0 +1,10 @@
+pub mod Readings
+pub mod Lines
+pub mod Numerals
+pub mod Counts
+pub mod DigitByDigit
+pub mod HexadecimalWords
+pub mod TypeWords
+pub mod ReadLists
+pub mod Colons
+pub mod ClauseWords

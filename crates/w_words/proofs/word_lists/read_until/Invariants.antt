@@ -1,0 +1,10 @@
+use Rattle.std.proofs.Common.{◌≡◌, length}
+use Rattle.w_words.specs.Words.{each_until}
+use Rattle.w_words.proofs.ReadLists.{in_front_with}
+use Rattle.w_words.proofs.word_lists.read_until.Given as goal
+
+abbrev pub invariant-loop-word : goal.invariant-loop-word
+invariant-loop-word g l = in_front_with l.items.items (each_until l.end g.T.ReadWord.of l.words) ≡ each_until l.end g.T.ReadWord.of l.fn.words
+
+abbrev pub decreases-loop-word : goal.decreases-loop-word
+decreases-loop-word g l = length l.words
