@@ -1,0 +1,6 @@
+pub mod Items
+pub mod Parts
+pub mod Machine
+pub mod Text
+pub mod Standing
+pub mod Written
