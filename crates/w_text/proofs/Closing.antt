@@ -12,7 +12,8 @@ use Rattle.w_syntax.specs.Expr.{Path, Top, InBlock, InThen, InElse, step as toke
 use Rattle.w_syntax.specs.Module.{empty_module}
 use Rattle.w_lines.specs.declared.line.Line.{Line}
 use Rattle.w_lines.specs.declared.line.Line.TheVariants as line
-use Rattle.w_text.specs.Items.{Group, Head, FunctionHead}
+use Rattle.w_text.specs.declared.item.Item.TheVariants.{Group}
+use Rattle.w_text.specs.Items.{Head, FunctionHead}
 use Rattle.w_text.specs.Machine.{Open, Between, InGroup, InLocals, InExprs, Next, Opens, Gives, item_of, exprs_on, expr_on, head_rank, rank, rank_after, add, next, State, Fresh, Reading, open_rank, placed, step, run, run_on}
 use Rattle.w_text.proofs.Complete.{rank_of_item}
 

@@ -27,7 +27,9 @@ use Rattle.w_syntax.specs.declared.module.DataMode.TheVariants as data_mode
 use Rattle.w_lines.specs.declared.line.Mode.TheVariants as mode
 use Rattle.w_lines.specs.declared.line.Line.{Line}
 use Rattle.w_lines.specs.declared.line.Line.TheVariants as line
-use Rattle.w_text.specs.Items.{Item, Group, Imported, TableItem, Memory, TagItem, Global, Exported, Start, Elements, Bytes, Function, Head, TableHead, GlobalHead, ElemHead, DataHead, FunctionHead, expr_lines, exprs_lines, group_lines, head_lines, headed, table_lines, elem_lines, data_lines, item_lines}
+use Rattle.w_text.specs.declared.item.Item.{Item}
+use Rattle.w_text.specs.declared.item.Item.TheVariants.{Group, Imported, TableItem, Memory, TagItem, Global, Exported, Start, Elements, Bytes, Function}
+use Rattle.w_text.specs.Items.{Head, TableHead, GlobalHead, ElemHead, DataHead, FunctionHead, expr_lines, exprs_lines, group_lines, head_lines, headed, table_lines, elem_lines, data_lines, item_lines}
 use Rattle.w_text.specs.Machine.{Between, InGroup, InLocals, InExprs, Next, Opens, Gives, Refuses, item_of, wanted, exprs_on, expr_on, head_rank, rank, rank_after, add, unlike_last, may_follow, begin, next, State, Reading, placed, step, run, run_on}
 use Rattle.w_text.proofs.Told.{FewJoined, ItemFits}
 

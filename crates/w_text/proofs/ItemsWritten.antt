@@ -24,7 +24,9 @@ use Rattle.w_lines.specs.Spelling.{line_bytes}
 use Rattle.w_lines.specs.Written.{code_bytes}
 use Rattle.w_syntax.specs.declared.module.Func.{Func}
 use Rattle.w_text.specs.Text.{text_of}
-use Rattle.w_text.specs.Items.{Item, Group, Imported, TableItem, Memory, TagItem, Global, Exported, Start, Elements, Bytes, Function, GlobalHead, FunctionHead, expr_lines, exprs_lines, group_lines, head_lines, headed, table_lines, elem_lines, data_lines, item_lines, start_items, function_items, lists, joined_lists, items}
+use Rattle.w_text.specs.declared.item.Item.{Item}
+use Rattle.w_text.specs.declared.item.Item.TheVariants.{Group, Imported, TableItem, Memory, TagItem, Global, Exported, Start, Elements, Bytes, Function}
+use Rattle.w_text.specs.Items.{GlobalHead, FunctionHead, expr_lines, exprs_lines, group_lines, head_lines, headed, table_lines, elem_lines, data_lines, item_lines, start_items, function_items, lists, joined_lists, items}
 use Rattle.w_text.specs.Written.{local_bytes, group_bytes, table_bytes, elements_bytes, data_bytes, item_bytes}
 
 expr_written : (c : Code) → flat_map line_bytes (expr_lines c) ≡ code_bytes c

@@ -6,3 +6,12 @@ pub mod Whole
 pub mod Closing
 pub mod Least
 pub mod ItemsWritten
+pub mod LocalsSoFar
+pub mod SameKind
+pub mod Segments
+pub mod Openings
+pub mod Assemblies
+pub mod KeptCounts
+pub mod Feeds
+pub mod Faults
+pub mod LoopOverLines

@@ -10,7 +10,9 @@ use Rattle.w_syntax.specs.declared.module.Module.{Module}
 use Rattle.w_syntax.specs.Module.{empty_module}
 use Rattle.w_lines.specs.declared.line.Line.{Line}
 use Rattle.w_lines.specs.declared.line.Line.TheVariants as line
-use Rattle.w_text.specs.Items.{Item, Group, Imported, TableItem, Memory, TagItem, Global, Exported, Start, Elements, Bytes, Function, item_lines, function_items, lists, joined_lists, items}
+use Rattle.w_text.specs.declared.item.Item.{Item}
+use Rattle.w_text.specs.declared.item.Item.TheVariants.{Group, Imported, TableItem, Memory, TagItem, Global, Exported, Start, Elements, Bytes, Function}
+use Rattle.w_text.specs.Items.{item_lines, function_items, lists, joined_lists, items}
 use Rattle.w_text.specs.Machine.{Open, Between, InGroup, InLocals, InExprs, Next, Opens, Gives, Refuses, rank, rank_after, add, next, State, Fresh, Reading, open_rank, placed, opening, step, run, run_on}
 use Rattle.w_text.proofs.Lists.{EmptyFrom, grows, still_empty, empty_later, NoStart, lists_add, how_many_lists}
 use Rattle.w_text.proofs.Told.{open_lines, FewJoined, OpenFits, ItemFits, Told, next_told}

@@ -17,7 +17,9 @@ use Rattle.w_syntax.specs.LocalsLaws.{IsJoined}
 use Rattle.w_lines.specs.declared.line.Mode.TheVariants as mode
 use Rattle.w_lines.specs.declared.line.Line.{Line}
 use Rattle.w_lines.specs.declared.line.Line.TheVariants as line
-use Rattle.w_text.specs.Items.{Item, Function, Head, TableHead, GlobalHead, ElemHead, DataHead, FunctionHead, expr_lines, exprs_lines, group_lines, head_lines, headed, item_lines}
+use Rattle.w_text.specs.declared.item.Item.{Item}
+use Rattle.w_text.specs.declared.item.Item.TheVariants.{Function}
+use Rattle.w_text.specs.Items.{Head, TableHead, GlobalHead, ElemHead, DataHead, FunctionHead, expr_lines, exprs_lines, group_lines, head_lines, headed, item_lines}
 use Rattle.w_text.specs.Machine.{Open, Between, InGroup, InLocals, InExprs, Next, Opens, Gives, Refuses, first, item_of, wanted, exprs_on, expr_on, group_on, unlike_last, may_follow, begin, next}
 
 -- the lines of an open item so far
@@ -149,7 +151,7 @@ unfolding total
 total_more [] l = omega arith
 total_more (m ∷ ls) l = omega (arith, total_more ls l)
 
-few_more : (ls : List LocalRun) (l : LocalRun) → FewJoined ls → may_follow ls l ≡ true → FewJoined (ls ++ l ∷ [])
+pub few_more : (ls : List LocalRun) (l : LocalRun) → FewJoined ls → may_follow ls l ≡ true → FewJoined (ls ++ l ∷ [])
 few_more ls l f e =
     let a = both (unlike_last ls l) (not (nat_eq l.count 0) && nat_lt (total ls + l.count) (2 ^ 32)) e in
     let b = both (not (nat_eq l.count 0)) (nat_lt (total ls + l.count) (2 ^ 32)) a.1 in

@@ -19,7 +19,9 @@ use Rattle.w_syntax.specs.LocalsLaws.{IsJoined, all_joined, joined_twice}
 use Rattle.w_text.specs.Parts.{LocalsFit, EachLocalsFit, PartsFit}
 use Rattle.w_lines.specs.declared.line.Line.{Line}
 use Rattle.w_lines.specs.declared.line.Line.TheVariants as line
-use Rattle.w_text.specs.Items.{Item, Group, Imported, TableItem, Memory, TagItem, Global, Exported, Elements, Bytes, Function, item_lines, start_items, function_items, lists, joined_lists, items, module_lines}
+use Rattle.w_text.specs.declared.item.Item.{Item}
+use Rattle.w_text.specs.declared.item.Item.TheVariants.{Group, Imported, TableItem, Memory, TagItem, Global, Exported, Elements, Bytes, Function}
+use Rattle.w_text.specs.Items.{item_lines, start_items, function_items, lists, joined_lists, items, module_lines}
 use Rattle.w_text.specs.Machine.{Between, rank, rank_after, add, Fresh, Reading, step, run}
 use Rattle.w_text.proofs.Told.{FewJoined, ItemFits}
 use Rattle.w_text.proofs.Sound.{EachFew}
@@ -41,7 +43,7 @@ ordered_start : (k : ℕ) (o : Option ℕ) (more : List Item) → k ≤ 7 → Or
 ordered_start k None more le o = ordered_before k 8 more (omega arith) o
 ordered_start k (Some x) more le o = (le, tt, o)
 
-to_few : (ls : List LocalRun) → LocalsFit ls → FewJoined ls
+pub to_few : (ls : List LocalRun) → LocalsFit ls → FewJoined ls
 to_few ls f = record { alone = subst IsJoined f.alone (all_joined ls); few = f.few }
 
 pub from_few : (ls : List LocalRun) → FewJoined ls → LocalsFit ls

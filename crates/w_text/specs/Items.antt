@@ -3,23 +3,14 @@ use Rattle.std.specs.Prelude.{ℕ, true, false, List, [], ◌∷◌, ◌++◌, l
 use Rattle.std.specs.List.{flat_map}
 use Rattle.w_types.specs.declared.types.RefType.{RefType}
 use Rattle.w_types.specs.declared.types.SubType.{SubType}
-use Rattle.w_types.specs.declared.types.RecGroup.{RecGroup}
 use Rattle.w_syntax.specs.declared.instructions.Token.TheVariants as tok
 use Rattle.w_syntax.specs.declared.locals.LocalRun.{LocalRun}
-use Rattle.w_syntax.specs.declared.module.Limits.{Limits}
 use Rattle.w_syntax.specs.declared.module.TableType.{TableType}
 use Rattle.w_syntax.specs.declared.module.GlobalType.{GlobalType}
-use Rattle.w_syntax.specs.declared.module.Tag.{Tag}
-use Rattle.w_syntax.specs.declared.module.Import.{Import}
-use Rattle.w_syntax.specs.declared.module.Table.{Table}
-use Rattle.w_syntax.specs.declared.module.GlobalVariable.{GlobalVariable}
-use Rattle.w_syntax.specs.declared.module.Export.{Export}
 use Rattle.w_syntax.specs.declared.module.ElemMode.{ElemMode}
 use Rattle.w_syntax.specs.declared.module.ElemMode.TheVariants as elem_mode
-use Rattle.w_syntax.specs.declared.module.Elem.{Elem}
 use Rattle.w_syntax.specs.declared.module.DataMode.{DataMode}
 use Rattle.w_syntax.specs.declared.module.DataMode.TheVariants as data_mode
-use Rattle.w_syntax.specs.declared.module.Data.{Data}
 use Rattle.w_syntax.specs.declared.module.Func.{Func}
 use Rattle.w_syntax.specs.declared.module.Module.{Module}
 use Rattle.w_syntax.specs.Code.{Code}
@@ -28,23 +19,10 @@ use Rattle.w_lines.specs.declared.line.Mode.{Mode}
 use Rattle.w_lines.specs.declared.line.Mode.TheVariants as mode
 use Rattle.w_lines.specs.declared.line.Line.{Line}
 use Rattle.w_lines.specs.declared.line.Line.TheVariants as line
+use Rattle.w_text.specs.declared.item.Item.{Item}
+use Rattle.w_text.specs.declared.item.Item.TheVariants.{Group, Imported, TableItem, Memory, TagItem, Global, Exported, Start, Elements, Bytes, Function}
 
 -- ## Items
-
--- What a module lists.
-pub data Item : Type 0 where
-  Group : RecGroup → Item
-  Imported : Import → Item
-  TableItem : Table → Item
-  Memory : Limits → Item
-  TagItem : Tag → Item
-  Global : GlobalVariable → Item
-  Exported : Export → Item
-  Start : ℕ → Item
-  Elements : Elem → Item
-  Bytes : Data → Item
-  -- its type, and its code
-  Function : ℕ → Func → Item
 
 -- instructions, and then `end`
 unfoldable pub expr_lines : Code → List Line

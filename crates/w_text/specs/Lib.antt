@@ -4,3 +4,5 @@ pub mod Machine
 pub mod Text
 pub mod Standing
 pub mod Written
+pub mod Assembled
+pub mod Answers

@@ -13,7 +13,9 @@ use Rattle.w_syntax.specs.Module.{empty_module}
 use Rattle.w_lines.specs.declared.line.Mode.TheVariants as mode
 use Rattle.w_lines.specs.declared.line.Line.{Line}
 use Rattle.w_lines.specs.declared.line.Line.TheVariants as line
-use Rattle.w_text.specs.Items.{Item, Group, Imported, TableItem, Memory, TagItem, Global, Exported, Start, Elements, Bytes, Function, Head, TableHead, GlobalHead, ElemHead, DataHead, FunctionHead}
+use Rattle.w_text.specs.declared.item.Item.{Item}
+use Rattle.w_text.specs.declared.item.Item.TheVariants.{Group, Imported, TableItem, Memory, TagItem, Global, Exported, Start, Elements, Bytes, Function}
+use Rattle.w_text.specs.Items.{Head, TableHead, GlobalHead, ElemHead, DataHead, FunctionHead}
 
 -- ## Order
 

@@ -14,7 +14,8 @@ use Rattle.w_lines.specs.declared.line.Mode.TheVariants as mode
 use Rattle.w_lines.specs.declared.line.Line.TheVariants as line
 use Rattle.w_lines.specs.Spelling.{line_bytes}
 use Rattle.w_lines.specs.Written.{code_bytes}
-use Rattle.w_text.specs.Items.{Item, Group, Imported, TableItem, Memory, TagItem, Global, Exported, Start, Elements, Bytes, Function}
+use Rattle.w_text.specs.declared.item.Item.{Item}
+use Rattle.w_text.specs.declared.item.Item.TheVariants.{Group, Imported, TableItem, Memory, TagItem, Global, Exported, Start, Elements, Bytes, Function}
 
 abbrev pub type_bytes : SubType → List ℕ
 type_bytes t = line_bytes (line.Type t)

@@ -8,7 +8,7 @@ ghost use Rattle.w_text.specs.Parts.{PartsFit};
 ghost use Rattle.w_text.specs.Text.{Text, text_of};
 ghost use Rattle.w_text.specs.Written.{item_bytes};
 
-use crate::items::{put_function, put_items};
+use crate::putting::{put_function, put_items};
 use std::alloc::{AllocError, Global};
 use w_put_lines::{put_module_line, put_start_line};
 use w_syntax::{Func, Module};

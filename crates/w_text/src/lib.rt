@@ -1,9 +1,17 @@
 //! The texts of modules: one line after the other (`specs/`).
 #![tactic(auto)]
 
+mod assembling;
+mod assembly;
 mod dumping;
-mod items;
+mod fault;
+mod item;
 mod laws;
+mod pending;
+mod putting;
+mod runs;
 
+pub use assembling::asm;
 pub use dumping::dump;
+pub use fault::TextFault;
 pub use laws::{one_module, texts_are_right};

@@ -1,7 +1,9 @@
 use Rattle.std.proofs.Common.{ℕ, ◌++◌, ◌+◌, List, drop, get_or, sym, ap, ◌∙◌, append_assoc, arith}
 use Rattle.std.proofs.lemmas.List.{append-nil}
 use Rattle.std.specs.List.{flat_map}
-use Rattle.w_text.specs.Items.{Item, Function, function_items}
+use Rattle.w_text.specs.declared.item.Item.{Item}
+use Rattle.w_text.specs.declared.item.Item.TheVariants.{Function}
+use Rattle.w_text.specs.Items.{function_items}
 use Rattle.w_text.specs.Written.{item_bytes}
 use Rattle.w_text.proofs.ItemsWritten.{there_at, found_at, next_function, no_functions, no_codes}
 use Rattle.w_text.proofs.dumping.put_functions.Goals as goal

@@ -3,7 +3,8 @@ use Rattle.std.specs.List.{flat_map}
 use Rattle.w_syntax.specs.declared.module.Func.{Func}
 use Rattle.w_lines.specs.declared.line.Line.TheVariants as line
 use Rattle.w_lines.specs.Spelling.{line_bytes}
-use Rattle.w_text.specs.Items.{Group, Imported, TableItem, Memory, TagItem, Global, Exported, Elements, Bytes, function_items}
+use Rattle.w_text.specs.declared.item.Item.TheVariants.{Group, Imported, TableItem, Memory, TagItem, Global, Exported, Elements, Bytes}
+use Rattle.w_text.specs.Items.{function_items}
 use Rattle.w_text.specs.Written.{item_bytes}
 use Rattle.w_text.proofs.ItemsWritten.{behind, where_written, module_written}
 use Rattle.w_text.proofs.dumping.put_module.Goals as goal

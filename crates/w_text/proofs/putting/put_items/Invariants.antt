@@ -1,7 +1,7 @@
 use Rattle.std.proofs.Common.{◌≡◌, ◌++◌, drop, map}
 use Rattle.std.specs.List.{flat_map}
 use Rattle.w_text.specs.Written.{item_bytes}
-use Rattle.w_text.proofs.items.put_items.Given as goal
+use Rattle.w_text.proofs.putting.put_items.Given as goal
 
 -- what was written, and what is left, are all that is to be written
 abbrev pub invariant-loop-item : goal.invariant-loop-item

@@ -1,7 +1,7 @@
 use Rattle.std.proofs.Common.{◌≡◌, ◌++◌, drop}
 use Rattle.std.specs.List.{flat_map}
 use Rattle.w_lines.specs.Written.{code_bytes}
-use Rattle.w_text.proofs.items.put_segment_items.Given as goal
+use Rattle.w_text.proofs.putting.put_segment_items.Given as goal
 
 -- what was written, and what is left, are all that is to be written
 abbrev pub invariant-loop-place : goal.invariant-loop-place

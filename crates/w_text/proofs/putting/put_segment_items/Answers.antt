@@ -3,7 +3,7 @@ use Rattle.std.specs.List.{flat_map}
 use Rattle.w_syntax.specs.Items.{code_of}
 use Rattle.w_lines.specs.Written.{code_bytes}
 use Rattle.w_text.proofs.ItemsWritten.{next_written}
-use Rattle.w_text.proofs.items.put_segment_items.Goals as goal
+use Rattle.w_text.proofs.putting.put_segment_items.Goals as goal
 
 pub loop-place-preserved : goal.loop-place-preserved
 loop-place-preserved c =

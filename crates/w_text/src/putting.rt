@@ -2,7 +2,7 @@
 ghost use Rattle.std.specs.Prelude.{◌≡◌, ◌++◌, OnOk, map};
 ghost use Rattle.std.specs.List.{flat_map};
 ghost use Rattle.w_lines.specs.Written.{code_bytes};
-ghost use Rattle.w_text.specs.Items.{Group, Imported, TableItem, Memory, TagItem, Global, Exported, Elements, Bytes, Function};
+ghost use Rattle.w_text.specs.declared.item.Item.TheVariants.{Group, Imported, TableItem, Memory, TagItem, Global, Exported, Elements, Bytes, Function};
 ghost use Rattle.w_text.specs.Written.{type_bytes, local_bytes, elements_head, item_bytes};
 
 use std::alloc::AllocError;
@@ -21,7 +21,7 @@ use w_types::{RecGroup, RefType, SubType};
 /// What is an item of a module.
 pub(crate) trait PutItem {
     ghost use Rattle.std.specs.Prelude.{◌≡◌, ◌++◌, OnOk};
-    ghost use Rattle.w_text.specs.Items.{Item};
+    ghost use Rattle.w_text.specs.declared.item.Item.{Item};
     ghost use Rattle.w_text.specs.Written.{item_bytes};
 
     /// The item that it is.
