@@ -80,8 +80,9 @@ fn assemble(alloc: Global, text: &[u8]) -> Result<Module, TextFault>
     }
 }
 
-/// The module whose text these bytes are, or the least line, counted from 0, with which no text goes on: what stands behind the last
-/// line feed is a line too, also where nothing does. `OutOfMemory` may come of any bytes.
+/// The module whose text these bytes are, which are at most 2^24, as many as a file may have. `Line(l)`: with line l, counted from 0,
+/// no text goes on, and with each line before it one does; what stands behind the last line feed is a line too, also where nothing
+/// does. `OutOfMemory` may come of any bytes.
 pub fn asm(alloc: Global, text: &[u8]) -> Result<Module, TextFault>
     requires { length text.now ≤ 16777216 }
     // The module has this text, and the line is wrong.

@@ -215,7 +215,7 @@ fn begin_group(alloc: Global, count: u64) -> Outcome
             types: ListOf::new(alloc),
         })),
         1 => Outcome::Refuses,
-        _ => Outcome::Opens(Open::Group(count - 2 + 1, Vec::new(alloc))),
+        _ => Outcome::Opens(Open::Group(count - 1, Vec::new(alloc))),
     }
 }
 
