@@ -7,10 +7,11 @@ use Rattle.s_check.specs.Size.{Size, size_limit}
 use Rattle.s_judge.specs.Judgements.{IsGood}
 use Rattle.s_judge.specs.declared.fault.ScriptFault.{ScriptFault}
 use Rattle.s_judge.proofs.OneJudgement.{one_judgement}
+use Rattle.replies.specs.declared.file_kind.FileKind.TheVariants as file
 use Rattle.replies.specs.Answer.{Reply, OnFile, ScriptGives, ActionGives, script_gives, is_module}
 use Rattle.drive.specs.Meaning.{MeansRun, AnswersMean}
 use Rattle.drive.proofs.MeaningsOfRuns.{runs_mean}
-use Rattle.drive.proofs.WhatActionsGive.{is_then_script}
+use Rattle.drive.proofs.WhatActionsGive.{is_then_script, given_of}
 
 module _ (bytes : List ℕ) (p : Script) (good : IsGood bytes p) (small : Size p ≤ size_limit) (steps : ℕ) (stats : Bool) (reply : Reply) where
   of_script : ScriptGives (script_gives (RunFor steps stats)) bytes reply → MeansRun p steps reply
@@ -22,8 +23,7 @@ module _ (bytes : List ℕ) (p : Script) (good : IsGood bytes p) (small : Size p
       let e : ◌≡◌ {A = Result Script ScriptFault} (Ok p) (Err k.0) = one_judgement bytes (Ok p) (Err k.0) good k.1 in absurd (cc)
 
   of_bytes : is_module bytes ≡ false → ActionGives (RunFor steps stats) bytes reply → MeansRun p steps reply
-  of_bytes script (inl h) = let m = h.0 in let n = is_then_script (RunFor steps stats) bytes refl script in absurd (cc)
-  of_bytes script (inr h) = of_script h.1
+  of_bytes script h = of_script (given_of (RunFor steps stats) bytes file.Script (is_then_script (RunFor steps stats) bytes refl script) reply h)
 
   of_file : is_module bytes ≡ false → OnFile (holds bytes) (ActionGives (RunFor steps stats)) reply → MeansRun p steps reply
   of_file script (inl h) = of_bytes script h.1

@@ -1,5 +1,5 @@
 -- What `build` writes is the canonical spelling of a module that is valid and within its limits; so the program takes a file of it.
-use Rattle.std.proofs.Common.{◌≡◌, ◌≤◌, ℕ, suc, false, List, [], length, inl, inr, refl, sym, ap, subst, ◌∙◌, arith}
+use Rattle.std.proofs.Common.{◌≡◌, ◌≤◌, ℕ, suc, Bool, true, false, List, [], length, inl, inr, refl, sym, ap, subst, ◌∙◌, arith}
 use Rattle.std.specs.Prelude.{◌↔◌}
 use Rattle.w_outside.specs.Outside.{Known, untold, missing, holds}
 use Rattle.w_syntax.specs.declared.module.Module.{Module}
@@ -19,10 +19,11 @@ use Rattle.s_judge.specs.declared.fault.ScriptFault.{ScriptFault}
 use Rattle.s_judge.specs.declared.fault.ScriptFault.TheVariants as script
 use Rattle.s_code.specs.Lowered.{lowered}
 use Rattle.s_agrees.proofs.SpelledScripts.{scripts_agree}
-use Rattle.replies.specs.Answer.{Reply, OnFile, OnBytes, BytesGive, ScriptGives, ActionGives, script_gives, gives, built, malformed, invalid, bad_script, ok_module, is_module, input_limit, limit_input, limit_size, read_fault}
+use Rattle.replies.specs.declared.file_kind.FileKind.TheVariants as file
+use Rattle.replies.specs.Answer.{Reply, OnFile, OnBytes, BytesGive, ScriptGives, ActionGives, GivenAs, module_or_script, script_gives, gives, built, malformed, invalid, bad_script, ok_module, is_module, input_limit, limit_input, limit_size, read_fault}
 use Rattle.drive.specs.Built.{HoldsBuilt, BuildIsIdempotent, BuiltFilesAreAccepted, BuiltScriptsAreShort}
 use Rattle.drive.proofs.CanonicalFiles.{file_gives}
-use Rattle.drive.proofs.WhatActionsGive.{is_then_script}
+use Rattle.drive.proofs.WhatActionsGive.{is_then_script, given_of}
 
 -- ## Refusals have a status of their own
 
@@ -85,12 +86,12 @@ module _ (written : Reply) (done : written.status ≡ 0) where
   of_script bytes (inl h) = of_good h.0 h.1.good h.2
   of_script bytes (inr h) = let s = script_status h.0 in absurd (refused written (bad_script h.0) s.0 h.2 s.1 done)
 
-  of_either : (bytes : List ℕ) → length bytes ≤ input_limit → ActionGives Build bytes written → IsModule written
-  of_either bytes short (inl h) = of_module bytes short h.1
-  of_either bytes short (inr h) = of_script bytes h.1
+  of_either : (bytes : List ℕ) → length bytes ≤ input_limit → (begins : Bool) → GivenAs (module_or_script begins) Build bytes written → IsModule written
+  of_either bytes short true h = of_module bytes short h
+  of_either bytes short false h = of_script bytes h
 
   of_bytes : (bytes : List ℕ) → OnBytes (ActionGives Build) bytes written → IsModule written
-  of_bytes bytes (inl h) = of_either bytes h.0 h.1
+  of_bytes bytes (inl h) = of_either bytes h.0 (is_module bytes) h.1
   of_bytes bytes (inr h) = absurd (refused written limit_input 8 h.1 refl done)
 
   of_file : (known : Known) → OnFile known (ActionGives Build) written → IsModule written
@@ -115,14 +116,14 @@ module _ (files : List ℕ → Known) (name : List ℕ) (written : Reply) (h : H
 
   again : (reply : Reply) → OnFile (files name) (ActionGives Build) reply ↔ (reply ≡ written)
   again reply =
-      let g = file_gives made.source made.spelled made.within made.valid Build reply fits in (
+      let g = file_gives made.source made.spelled made.within made.valid Build reply refl fits in (
         λ a. g.0 (subst (λ (k : Known). OnFile k (ActionGives Build) reply) held a) ∙ sym made.is,
         λ e. subst (λ (k : Known). OnFile k (ActionGives Build) reply) (sym held) (g.1 (e ∙ made.is)),
       )
 
   accepted : (reply : Reply) → OnFile (files name) (ActionGives Check) reply ↔ (reply ≡ ok_module)
   accepted reply =
-      let g = file_gives made.source made.spelled made.within made.valid Check reply fits in (
+      let g = file_gives made.source made.spelled made.within made.valid Check reply refl fits in (
         λ a. g.0 (subst (λ (k : Known). OnFile k (ActionGives Check) reply) held a),
         λ e. subst (λ (k : Known). OnFile k (ActionGives Check) reply) (sym held) (g.1 e),
       )
@@ -156,8 +157,7 @@ module _ (bytes : List ℕ) (written : Reply) where
   short_script (inr h) = nothing_written written (bad_script h.0) h.2 (script_writes_nothing h.0)
 
   short_bytes : is_module bytes ≡ false → OnBytes (ActionGives Build) bytes written → length written.out ≤ input_limit
-  short_bytes script (inl (short, inl h)) = let m = h.0 in let n = is_then_script Build bytes refl script in absurd (cc)
-  short_bytes script (inl (short, inr h)) = short_script h.1
+  short_bytes script (inl h) = short_script (given_of Build bytes file.Script (is_then_script Build bytes refl script) written h.1)
   short_bytes script (inr h) = nothing_written written limit_input h.1 refl
 
 pub built_scripts_are_short : BuiltScriptsAreShort

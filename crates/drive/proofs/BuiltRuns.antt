@@ -54,7 +54,6 @@ runs_alike p good steps stats reply other h g =
 -- and so is a run of its file, whose bytes give what the module gives
 pub built_runs : BuiltRunsAreAlike
 built_runs p good small steps stats more reply other (inr h) a = absurd (omega (arith, h.0, small))
-built_runs p good small steps stats more reply other (inl h) (inr a) = let e : false ≡ true = a.0 in absurd (cc)
-built_runs p good small steps stats more reply other (inl h) (inl a) =
+built_runs p good small steps stats more reply other (inl h) a =
     let agrees = scripts_agree p good small in
-    runs_alike p good steps more reply other h.1 (only_gives (lowered p) agrees.spelled agrees.within agrees.valid (RunFor steps more) other a.1)
+    runs_alike p good steps more reply other h.1 (only_gives (lowered p) agrees.spelled agrees.within agrees.valid (RunFor steps more) other a)

@@ -1,13 +1,12 @@
 -- What a file is shows in its first four bytes.
-use Rattle.std.proofs.Common.{◌≡◌, ◌≤◌, ℕ, Bool, List, [], ◌∷◌, ◌++◌, length, not, ◌&&◌, refl, sym, ap, ◌∙◌, arith}
-use Rattle.words.specs.Request.{takes_scripts}
+use Rattle.std.proofs.Common.{◌≡◌, ◌≤◌, ℕ, List, [], ◌∷◌, ◌++◌, length, refl, arith}
 use Rattle.words.specs.declared.request.Action.{Action}
-use Rattle.replies.specs.Answer.{is_module, is_script}
+use Rattle.replies.specs.Answer.{kind_of}
 
 -- and stays so
-pub script_stays : (action : Action) (b x : List ℕ) → 4 ≤ length b → is_script action (b ++ x) ≡ is_script action b
-script_stays action [] x le = absurd (omega arith)
-script_stays action (p ∷ []) x le = absurd (omega arith)
-script_stays action (p ∷ q ∷ []) x le = absurd (omega arith)
-script_stays action (p ∷ q ∷ r ∷ []) x le = absurd (omega arith)
-script_stays action (p ∷ q ∷ r ∷ s ∷ b) x le = refl
+pub kind_stays : (action : Action) (b x : List ℕ) → 4 ≤ length b → kind_of action (b ++ x) ≡ kind_of action b
+kind_stays action [] x le = absurd (omega arith)
+kind_stays action (p ∷ []) x le = absurd (omega arith)
+kind_stays action (p ∷ q ∷ []) x le = absurd (omega arith)
+kind_stays action (p ∷ q ∷ r ∷ []) x le = absurd (omega arith)
+kind_stays action (p ∷ q ∷ r ∷ s ∷ b) x le = refl

@@ -6,6 +6,7 @@ pub mod Statistics
 pub mod Replies
 pub mod Programs
 pub mod OneAnswer
+pub mod TextsDecided
 pub mod SomeAnswer
 pub mod CanonicalFiles
 pub mod BuiltFiles

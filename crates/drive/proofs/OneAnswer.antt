@@ -9,16 +9,20 @@ use Rattle.w_decode.specs.declared.fault.DecodeFault.{DecodeFault}
 use Rattle.w_decode.proofs.ReadingExact.{spelled_exactly, fault_exactly, one_module}
 use Rattle.w_items.specs.declared.fault.ValidFault.{ValidFault}
 use Rattle.w_items.proofs.Faults.{one_fault as one_fault_of, no_fault as no_fault_of}
-use Rattle.w_items.specs.declared.fault.ValidFault.TheVariants as valid
 use Rattle.s_judge.proofs.OneJudgement.{one_judgement}
 use Rattle.s_judge.specs.declared.fault.ScriptFault.{ScriptFault}
 use Rattle.s_syntax.specs.declared.script.Script.{Script}
 use Rattle.words.specs.declared.request.Action.{Action}
-use Rattle.words.specs.declared.request.Action.TheVariants.{Check, Run as RunFor, Build}
+use Rattle.words.specs.declared.request.Action.TheVariants.{Check, Run as RunFor, Build, Dump, Assemble}
 use Rattle.s_code.specs.Lowered.{lowered}
 use Rattle.s_generate.specs.Generated.{generated as generated_script}
 use Rattle.words.specs.Line.{on_file as line_on_file, generated, bad}
-use Rattle.replies.specs.Answer.{Reply, HasModuleFault, OnFile, OnBytes, BytesGive, ScriptGives, ActionGives, TrapReply, gives, script_gives, RunGives, Compiled, trapped, faulted, built, run_gives, malformed, invalid, bad_script, generated_steps, ok_script}
+use Rattle.w_text.specs.Text.{Text}
+use Rattle.w_text.proofs.Least.{one_module as one_text_module, text_is_right}
+use Rattle.w_text.proofs.Faults.{least_is_one}
+use Rattle.replies.specs.declared.file_kind.FileKind.{FileKind}
+use Rattle.replies.specs.declared.file_kind.FileKind.TheVariants as file
+use Rattle.replies.specs.Answer.{Reply, HasModuleFault, OnFile, OnBytes, GivenOf, BytesGive, TextGives, NotSpelled, NoText, ScriptGives, GivenAs, kind_of, wrong_text, ActionGives, TrapReply, gives, script_gives, RunGives, Compiled, trapped, faulted, built, run_gives, malformed, invalid, bad_script, generated_steps, ok_script}
 use Rattle.drive.specs.Laws.{OneAnswer}
 use Rattle.drive.proofs.Programs.{one_program}
 
@@ -27,16 +31,7 @@ use Rattle.drive.proofs.Programs.{one_program}
 one_module_fault : (m : Module) (f g : ValidFault) → HasModuleFault m f → HasModuleFault m g → f ≡ g
 one_module_fault m f g h k = one_fault_of m f g h.0 k.0 h.1 k.1
 
--- ## Bytes
-
-one_fault : (b : List ℕ) (f g : DecodeFault) → HasFault b f → HasFault b g → f ≡ g
-one_fault b f g h k = let e : ◌≡◌ {A = Result Module DecodeFault} (Err f) (Err g) = sym ((fault_exactly b f).1 h) ∙ (fault_exactly b g).1 k in cc
-
-not_both : (b : List ℕ) (m : Module) (f : DecodeFault) → Spells b m → HasFault b f → ⊥
-not_both b m f s h = let e : ◌≡◌ {A = Result Module DecodeFault} (Ok m) (Err f) = sym ((spelled_exactly b m).1 s) ∙ (fault_exactly b f).1 h in absurd cc
-
-moved : (b : List ℕ) (m n : Module) (f : ValidFault) → Spells b m → Spells b n → HasModuleFault n f → HasModuleFault m f
-moved b m n f s t h = subst (λ (k : Module). HasModuleFault k f) (one_module b n m t s) h
+-- ## What a file has, a module or a fault
 
 -- what a module gives is one
 abbrev IsOne : (Reply → Type 0) → Type 0
@@ -45,16 +40,20 @@ IsOne Due = (r s : Reply) → Due r → Due s → r ≡ s
 accepted_once : (Accepted : Module → Reply → Type 0) → ((m : Module) → IsOne (Accepted m)) → (m n : Module) (r s : Reply) → m ≡ n → Accepted m r → Accepted n s → r ≡ s
 accepted_once Accepted one m n r s e h k = one m r s h (subst (λ (x : Module). Accepted x s) (sym e) k)
 
-one_reply : (Accepted : Module → Reply → Type 0) → ((m : Module) → IsOne (Accepted m)) → (b : List ℕ) → IsOne (BytesGive Accepted b)
-one_reply Accepted one b r s (inl h) (inl k) = accepted_once Accepted one h.0 k.0 r s (one_module b h.0 k.0 h.1 k.1) h.4 k.4
-one_reply Accepted one b r s (inl h) (inr (inl k)) = let f = moved b h.0 k.0 k.2.0 h.1 k.1 k.2.1 in absurd (no_fault_of h.0 k.2.0 h.2 h.3 f.0 f.1)
-one_reply Accepted one b r s (inl h) (inr (inr k)) = absurd (not_both b h.0 k.0 h.1 k.1)
-one_reply Accepted one b r s (inr (inl h)) (inl k) = let f = moved b k.0 h.0 h.2.0 k.1 h.1 h.2.1 in absurd (no_fault_of k.0 h.2.0 k.2 k.3 f.0 f.1)
-one_reply Accepted one b r s (inr (inl h)) (inr (inl k)) = h.2.2 ∙ ap invalid (one_module_fault h.0 h.2.0 k.2.0 h.2.1 (moved b h.0 k.0 k.2.0 h.1 k.1 k.2.1)) ∙ sym k.2.2
-one_reply Accepted one b r s (inr (inl h)) (inr (inr k)) = absurd (not_both b h.0 k.0 h.1 k.1)
-one_reply Accepted one b r s (inr (inr h)) (inl k) = absurd (not_both b k.0 h.0 k.1 h.1)
-one_reply Accepted one b r s (inr (inr h)) (inr (inl k)) = absurd (not_both b k.0 h.0 k.1 h.1)
-one_reply Accepted one b r s (inr (inr h)) (inr (inr k)) = h.2 ∙ ap malformed (one_fault b h.0 k.0 h.1 k.1) ∙ sym k.2
+module _ (Reads : Module → Type 0) (NoModule : Reply → Type 0) (one_read : (m n : Module) → Reads m → Reads n → m ≡ n) (not_both : (m : Module) (r : Reply) → Reads m → NoModule r → ⊥) (one_none : IsOne NoModule) where
+  moved : (m n : Module) (f : ValidFault) → Reads m → Reads n → HasModuleFault n f → HasModuleFault m f
+  moved m n f s t h = subst (λ (k : Module). HasModuleFault k f) (one_read n m t s) h
+
+  one_reply : (Accepted : Module → Reply → Type 0) → ((m : Module) → IsOne (Accepted m)) → IsOne (GivenOf Reads NoModule Accepted)
+  one_reply Accepted one r s (inl h) (inl k) = accepted_once Accepted one h.0 k.0 r s (one_read h.0 k.0 h.1 k.1) h.4 k.4
+  one_reply Accepted one r s (inl h) (inr (inl k)) = let f = moved h.0 k.0 k.2.0 h.1 k.1 k.2.1 in absurd (no_fault_of h.0 k.2.0 h.2 h.3 f.0 f.1)
+  one_reply Accepted one r s (inl h) (inr (inr k)) = absurd (not_both h.0 s h.1 k)
+  one_reply Accepted one r s (inr (inl h)) (inl k) = let f = moved k.0 h.0 h.2.0 k.1 h.1 h.2.1 in absurd (no_fault_of k.0 h.2.0 k.2 k.3 f.0 f.1)
+  one_reply Accepted one r s (inr (inl h)) (inr (inl k)) = h.2.2 ∙ ap invalid (one_module_fault h.0 h.2.0 k.2.0 h.2.1 (moved h.0 k.0 k.2.0 h.1 k.1 k.2.1)) ∙ sym k.2.2
+  one_reply Accepted one r s (inr (inl h)) (inr (inr k)) = absurd (not_both h.0 s h.1 k)
+  one_reply Accepted one r s (inr (inr h)) (inl k) = absurd (not_both k.0 r k.1 h)
+  one_reply Accepted one r s (inr (inr h)) (inr (inl k)) = absurd (not_both k.0 r k.1 h)
+  one_reply Accepted one r s (inr (inr h)) (inr (inr k)) = one_none r s h k
 
 one_run : (say : TrapReply) (steps : ℕ) (stats : Bool) (m : Module) → IsOne (RunGives say steps stats m)
 one_run say steps stats m r s h k = h.3 ∙ ap (run_gives say steps stats) (one_program m h.0 k.0 h.1 k.1 h.2 k.2) ∙ sym k.3
@@ -63,6 +62,30 @@ one_given : (action : Action) (m : Module) → IsOne (gives action m)
 one_given Check m r s h k = h ∙ sym k
 one_given (RunFor steps stats) m r s h k = one_run trapped steps stats m r s h k
 one_given Build m r s h k = h ∙ sym k
+one_given Dump m r s h k = h ∙ sym k
+one_given Assemble m r s h k = h ∙ sym k
+
+-- ## Bytes
+
+one_fault : (b : List ℕ) (f g : DecodeFault) → HasFault b f → HasFault b g → f ≡ g
+one_fault b f g h k = let e : ◌≡◌ {A = Result Module DecodeFault} (Err f) (Err g) = sym ((fault_exactly b f).1 h) ∙ (fault_exactly b g).1 k in cc
+
+spelled_or_not : (b : List ℕ) (m : Module) (r : Reply) → Spells b m → NotSpelled b r → ⊥
+spelled_or_not b m r s h = let e : ◌≡◌ {A = Result Module DecodeFault} (Ok m) (Err h.0) = sym ((spelled_exactly b m).1 s) ∙ (fault_exactly b h.0).1 h.1 in absurd cc
+
+one_malformed : (b : List ℕ) → IsOne (NotSpelled b)
+one_malformed b r s h k = h.2 ∙ ap malformed (one_fault b h.0 k.0 h.1 k.1) ∙ sym k.2
+
+bytes_once : (action : Action) (b : List ℕ) → IsOne (BytesGive (gives action) b)
+bytes_once action b = one_reply (Spells b) (NotSpelled b) (one_module b) (spelled_or_not b) (one_malformed b) (gives action) (one_given action)
+
+-- ## Texts
+
+one_wrong : (t : List ℕ) → IsOne (NoText t)
+one_wrong t r s h k = h.2 ∙ ap wrong_text (least_is_one t h.0 k.0 h.1 k.1) ∙ sym k.2
+
+text_once : (action : Action) (t : List ℕ) → IsOne (TextGives (gives action) t)
+text_once action t = one_reply (Text t) (NoText t) (one_text_module t) (λ m r h k. text_is_right t m k.0 h k.1) (one_wrong t) (gives action) (one_given action)
 
 -- ## Scripts
 
@@ -76,6 +99,8 @@ script_given_once : (action : Action) (p : Script) → IsOne (script_gives actio
 script_given_once Check p r s h k = compiled_once (λ m reply. reply ≡ ok_script) (λ m r s h k. h ∙ sym k) p r s h k
 script_given_once (RunFor steps stats) p r s h k = compiled_once (RunGives (faulted p) steps false) (one_run (faulted p) steps false) p r s h k
 script_given_once Build p r s h k = compiled_once (λ m reply. reply ≡ built m) (λ m r s h k. h ∙ sym k) p r s h k
+script_given_once Dump p r s h k = absurd h
+script_given_once Assemble p r s h k = absurd h
 
 script_once : (Accepted : Script → Reply → Type 0) → ((p : Script) → IsOne (Accepted p)) → (b : List ℕ) → IsOne (ScriptGives Accepted b)
 script_once Accepted one b r s (inl h) (inl k) =
@@ -89,13 +114,15 @@ script_once Accepted one b r s (inr h) (inr k) =
     let same : h.0 ≡ k.0 = cc in
     h.2 ∙ ap bad_script same ∙ sym k.2
 
--- ## Modules and scripts
+-- ## What a file is
+
+one_as : (kind : FileKind) (action : Action) (b : List ℕ) → IsOne (GivenAs kind action b)
+one_as file.Module action b = bytes_once action b
+one_as file.Script action b = script_once (script_gives action) (script_given_once action) b
+one_as file.Text action b = text_once action b
 
 one_done : (action : Action) (b : List ℕ) → IsOne (ActionGives action b)
-one_done action b r s (inl h) (inl k) = one_reply (gives action) (one_given action) b r s h.1 k.1
-one_done action b r s (inl h) (inr k) = let m = h.0 in let n = k.0 in absurd (cc)
-one_done action b r s (inr h) (inl k) = let m = h.0 in let n = k.0 in absurd (cc)
-one_done action b r s (inr h) (inr k) = script_once (script_gives action) (script_given_once action) b r s h.1 k.1
+one_done action b = one_as (kind_of action b) action b
 
 -- ## Files
 

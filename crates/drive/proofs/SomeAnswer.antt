@@ -1,5 +1,5 @@
 -- Each line has an answer, for whatever is told of the files: there can't be none.
-use Rattle.std.proofs.Common.{◌≡◌, ◌⊎◌, ◌≤◌, ◌<◌, ◌+◌, inl, inr, refl, sym, ◌∙◌, subst, List, [], ℕ, zero, suc, Bool, true, false, length, Result, Ok, Err, arith}
+use Rattle.std.proofs.Common.{◌≡◌, ◌⊎◌, ◌≤◌, ◌<◌, ◌+◌, inl, inr, refl, sym, ◌∙◌, subst, List, [], ℕ, zero, suc, Bool, false, length, Result, Ok, Err, arith}
 use Rattle.w_outside.specs.Outside.{Known, untold, missing, holds}
 use Rattle.w_syntax.specs.declared.module.Module.{Module}
 use Rattle.w_decode.specs.declared.fault.DecodeFault.{DecodeFault}
@@ -22,13 +22,20 @@ use Rattle.s_judge.specs.declared.fault.ScriptFault.{ScriptFault}
 use Rattle.s_syntax.specs.declared.script.Script.{Script}
 use Rattle.s_check.specs.Size.{Size, size_limit}
 use Rattle.words.specs.declared.request.Action.{Action}
-use Rattle.words.specs.declared.request.Action.TheVariants.{Check, Run as RunFor, Build}
+use Rattle.words.specs.Request.{taken_by}
+use Rattle.words.specs.declared.request.Action.TheVariants.{Check, Run as RunFor, Build, Dump, Assemble}
+use Rattle.words.specs.declared.request.Takes.TheVariants.{ModulesAndScripts}
 use Rattle.s_code.specs.Lowered.{lowered}
 use Rattle.s_generate.specs.Generated.{generated as generated_script}
 use Rattle.words.specs.Line.{on_file as line_on_file, generated, bad}
-use Rattle.replies.specs.Answer.{Reply, HasModuleFault, OnFile, OnBytes, BytesGive, ScriptGives, ActionGives, TrapReply, is_script, gives, script_gives, RunGives, Compiled, trapped, faulted, built, generated_steps, input_limit, ok_script}
+use Rattle.w_text.specs.Text.{Text}
+use Rattle.replies.specs.declared.file_kind.FileKind.{FileKind}
+use Rattle.replies.specs.declared.file_kind.FileKind.TheVariants as file
+use Rattle.replies.specs.Answer.{Reply, HasModuleFault, OnFile, OnBytes, GivenOf, BytesGive, TextGives, NotSpelled, NoText, ScriptGives, GivenAs, kind_of, ActionGives, TrapReply, gives, script_gives, RunGives, Compiled, trapped, faulted, built, generated_steps, input_limit, ok_script}
 use Rattle.drive.specs.Laws.{SomeAnswer}
 use Rattle.drive.proofs.Programs.{some_program}
+use Rattle.drive.proofs.TextsDecided.{text_or_wrong}
+use Rattle.drive.proofs.WhatActionsGive.{takes_it}
 
 -- there can't be no reply of which it holds
 abbrev IsTotal : (Reply → Type 0) → Type 0
@@ -200,11 +207,26 @@ spelled_or_not bytes = by_reading (decoded bytes) refl
     by_reading (Ok m) e = inl (m, (spelled_exactly bytes m).0 e)
     by_reading (Err fault) e = inr (fault, (fault_exactly bytes fault).0 e)
 
+-- Reads and NoModule can't both hold of nothing
+abbrev HasOne : (Module → Type 0) → (Reply → Type 0) → Type 0
+HasOne Reads NoModule = ((m : Module) → Reads m → ⊥) → ((r : Reply) → NoModule r → ⊥) → ⊥
+
+given_total : (Reads : Module → Type 0) (NoModule : Reply → Type 0) → HasOne Reads NoModule → (Accepted : Module → Reply → Type 0) → ((m : Module) → IsTotal (Accepted m)) → IsTotal (GivenOf Reads NoModule Accepted)
+given_total Reads NoModule has Accepted total none =
+    has (λ m reads. module_total m (λ ok. total m (λ r gives. none r (inl (m, reads, ok.0, ok.1, gives)))) (λ fault is. none _ (inr (inl (m, reads, (fault, is, refl))))))
+    (λ r no. none r (inr (inr no)))
+
 bytes_total : (Accepted : Module → Reply → Type 0) → ((m : Module) → IsTotal (Accepted m)) → (bytes : List ℕ) → IsTotal (BytesGive Accepted bytes)
-bytes_total Accepted total bytes none = elim (spelled_or_not bytes) [
-  | inl h ↦ module_total h.0 (λ ok. total h.0 (λ r gives. none r (inl (h.0, h.1, ok.0, ok.1, gives)))) (λ fault has. none _ (inr (inl (h.0, h.1, (fault, has, refl)))))
-  | inr h ↦ none _ (inr (inr (h.0, h.1, refl)))
-]
+bytes_total Accepted total bytes = given_total (Spells bytes) (NotSpelled bytes) has Accepted total
+  where
+    has : HasOne (Spells bytes) (NotSpelled bytes)
+    has never none = elim (spelled_or_not bytes) [ inl h ↦ never h.0 h.1 | inr h ↦ none _ (h.0, h.1, refl) ]
+
+text_total : (Accepted : Module → Reply → Type 0) → ((m : Module) → IsTotal (Accepted m)) → (bytes : List ℕ) → IsTotal (TextGives Accepted bytes)
+text_total Accepted total bytes = given_total (Text bytes) (NoText bytes) has Accepted total
+  where
+    has : HasOne (Text bytes) (NoText bytes)
+    has never none = elim (text_or_wrong bytes) [ inl h ↦ never h.0 h.1 | inr h ↦ none _ (h.0, h.1, refl) ]
 
 some_run : (say : TrapReply) (steps : ℕ) (stats : Bool) (m : Module) → IsTotal (RunGives say steps stats m)
 some_run say steps stats m none = some_program m (λ p source is. none _ (p, source, is, refl))
@@ -213,6 +235,8 @@ some_given : (action : Action) (m : Module) → IsTotal (gives action m)
 some_given Check m none = none _ refl
 some_given (RunFor steps stats) m none = some_run trapped steps stats m none
 some_given Build m none = none _ refl
+some_given Dump m none = none _ refl
+some_given Assemble m none = none _ refl
 
 -- ## Scripts
 
@@ -222,10 +246,13 @@ compiled_total Accepted total p none = elim (cases_lt size_limit (Size p)) [
   | inr small ↦ total (lowered p) (λ r h. none r (inl (small, h)))
 ]
 
-some_script_given : (action : Action) (p : Script) → IsTotal (script_gives action p)
-some_script_given Check p none = compiled_total (λ m reply. reply ≡ ok_script) (λ m none. none _ refl) p none
-some_script_given (RunFor steps stats) p none = compiled_total (RunGives (faulted p) steps false) (some_run (faulted p) steps false) p none
-some_script_given Build p none = compiled_total (λ m reply. reply ≡ built m) (λ m none. none _ refl) p none
+-- the action takes scripts
+some_script_given : (action : Action) → taken_by action ≡ ModulesAndScripts → (p : Script) → IsTotal (script_gives action p)
+some_script_given Check takes p none = compiled_total (λ m reply. reply ≡ ok_script) (λ m none. none _ refl) p none
+some_script_given (RunFor steps stats) takes p none = compiled_total (RunGives (faulted p) steps false) (some_run (faulted p) steps false) p none
+some_script_given Build takes p none = compiled_total (λ m reply. reply ≡ built m) (λ m none. none _ refl) p none
+some_script_given Dump takes p none = absurd cc
+some_script_given Assemble takes p none = absurd cc
 
 script_total : (Accepted : Script → Reply → Type 0) → ((p : Script) → IsTotal (Accepted p)) → (bytes : List ℕ) → IsTotal (ScriptGives Accepted bytes)
 script_total Accepted total bytes none = let j = some_judgement bytes in by j.0 j.1
@@ -234,13 +261,15 @@ script_total Accepted total bytes none = let j = some_judgement bytes in by j.0 
     by (Ok p) m = total p (λ r h. none r (inl (p, m, h)))
     by (Err fault) m = none _ (inr (fault, m, refl))
 
--- a module or a script
+-- ## What a file is
+
+some_as : (kind : FileKind) (action : Action) (bytes : List ℕ) → kind_of action bytes ≡ kind → IsTotal (GivenAs kind action bytes)
+some_as file.Module action bytes e = bytes_total (gives action) (some_given action) bytes
+some_as file.Script action bytes e = script_total (script_gives action) (some_script_given action (takes_it action bytes e)) bytes
+some_as file.Text action bytes e = text_total (gives action) (some_given action) bytes
+
 some_done : (action : Action) (bytes : List ℕ) → IsTotal (ActionGives action bytes)
-some_done action bytes none = by (is_script action bytes) refl
-  where
-    by : (b : Bool) → is_script action bytes ≡ b → ⊥
-    by false e = bytes_total (gives action) (some_given action) bytes (λ r h. none r (inl (e, h)))
-    by true e = script_total (script_gives action) (some_script_given action) bytes (λ r h. none r (inr (e, h)))
+some_done action bytes = some_as (kind_of action bytes) action bytes refl
 
 pub some_answer : SomeAnswer
 some_answer (line_on_file name action) files none = on_file (files name) (ActionGives action) (some_done action) none

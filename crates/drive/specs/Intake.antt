@@ -1,5 +1,5 @@
 -- What was taken in of the bytes of a file.
-use Rattle.std.specs.Prelude.{◌≡◌, ◌<◌, ◌≤◌, ℕ, true, false, List, ◌++◌, length, Option}
+use Rattle.std.specs.Prelude.{◌≡◌, ◌<◌, ◌≤◌, ℕ, List, ◌++◌, length, Option, ⊤}
 use Rattle.std.specs.Io.KnownBytes.{prepend_known}
 use Rattle.w_syntax.specs.Spells.{Spells}
 use Rattle.w_syntax.specs.declared.module.Module.{Module}
@@ -7,7 +7,8 @@ use Rattle.w_decode.specs.Pieces.{StandsFor}
 use Rattle.w_valid.specs.Gradual.{AnswersFor}
 use Rattle.w_outside.specs.Outside.{Known, Opens}
 use Rattle.words.specs.declared.request.Action.{Action}
-use Rattle.replies.specs.Answer.{is_script}
+use Rattle.replies.specs.Answer.{kind_of, input_limit}
+use Rattle.replies.specs.declared.file_kind.FileKind.TheVariants as file
 use Rattle.drive.specs.declared.intake.Input.{Input}
 use Rattle.drive.specs.declared.intake.Input.TheVariants as input
 use Rattle.drive.specs.declared.intake.Intake.{Intake}
@@ -20,10 +21,17 @@ pub record IsModuleOf (m : ModuleIntake) (b : List ℕ) : Type 0 where
   pub decoder : StandsFor m.decoder b
   pub bodies : (c : List ℕ) (n : Module) → Spells (b ++ c) n → AnswersFor m.gradual n
 
--- these are the bytes of a script to the action, or of a module
+-- these bytes are so to the action
 abbrev pub IsInputOf : Action → Input → List ℕ → Type 0
-IsInputOf action (input.Script bytes) b = (bytes.items ≡ b) × (is_script action b ≡ true)
-IsInputOf action (input.Module m) b = (is_script action b ≡ false) × IsModuleOf m b
+IsInputOf action (input.Script bytes) b = (bytes.items ≡ b) × (kind_of action b ≡ file.Script)
+IsInputOf action (input.Text bytes) b = (bytes.items ≡ b) × (kind_of action b ≡ file.Text)
+IsInputOf action (input.Module m) b = (kind_of action b ≡ file.Module) × IsModuleOf m b
+
+-- a text is no longer than a file may be
+abbrev pub IsShort : Input → Type 0
+IsShort (input.Script bytes) = ⊤
+IsShort (input.Text bytes) = length bytes.items ≤ input_limit
+IsShort (input.Module m) = ⊤
 
 -- so many bytes say what a file is
 abbrev pub front_length : ℕ

@@ -2,7 +2,7 @@
 ghost use Rattle.std.specs.Prelude.{◌≡◌, ◌≤◌};
 ghost use Rattle.w_outside.specs.Outside.{Grew, Rose};
 ghost use Rattle.words.specs.Request.{IsWithinSteps};
-ghost use Rattle.replies.specs.Answer.{gives, ok_module, built};
+ghost use Rattle.replies.specs.Answer.{gives, ok_module, built, dumped};
 ghost use Rattle.drive.specs.Leaving.{Leaves};
 ghost use Rattle.replies.specs.Stop.{Gives};
 
@@ -14,6 +14,7 @@ use w_encode::encode;
 use w_outside::Sink;
 use w_rules::Checked;
 use w_syntax::Module;
+use w_text::dump as text_of;
 use words::Action;
 
 // What is said of a module that is valid.
@@ -30,6 +31,32 @@ pub(crate) fn build(alloc: Global, program: &Module) -> Result<Output, Stop>
 {
     let spelling = encode(alloc, program)?;
     Ok(Output::of_piece(alloc, spelling)?)
+}
+
+// A module is written as text, as one piece.
+fn dump(alloc: Global, program: &Module) -> Result<Output, Stop>
+    ensures { Gives (λ reply. reply ≡ dumped program.now) result }
+{
+    let text = text_of(alloc, program)?;
+    Ok(Output::of_piece(alloc, text)?)
+}
+
+// A module that is let go once it is written.
+fn build_checked(alloc: Global, checked: Checked) -> Result<Output, Stop>
+    ensures { Gives (λ reply. reply ≡ built checked) result }
+{
+    let output = build(alloc, checked.module());
+    drop(checked);
+    output
+}
+
+// The same, as text.
+fn dump_checked(alloc: Global, checked: Checked) -> Result<Output, Stop>
+    ensures { Gives (λ reply. reply ≡ dumped checked) result }
+{
+    let output = dump(alloc, checked.module());
+    drop(checked);
+    output
 }
 
 /// Does with a module what is asked for. What a run prints goes to out; the answer is what is left to write.
@@ -51,10 +78,8 @@ pub(crate) fn finish<O: Sink>(
             confirm(alloc)
         }
         Action::Run { steps, stats } => run(alloc, Origin::Module, checked, steps, stats, out),
-        Action::Build => {
-            let output = build(alloc, checked.module());
-            drop(checked);
-            output
-        }
+        Action::Build => build_checked(alloc, checked),
+        Action::Dump => dump_checked(alloc, checked),
+        Action::Assemble => build_checked(alloc, checked),
     }
 }

@@ -1,10 +1,10 @@
 //! The bytes of a file, taken in as they are read.
 ghost use Rattle.std.specs.Prelude.{◌≡◌, ◌++◌, ℕ, List, [], IfOk, OnOk};
 ghost use Rattle.words.specs.declared.request.Action.{Action as TheAction};
-ghost use Rattle.drive.specs.Intake.{IsInputOf, TakesIn};
+ghost use Rattle.drive.specs.Intake.{IsInputOf, IsModuleOf, TakesIn};
 
 use crate::module_intake::ModuleIntake;
-use crate::scripts::is_script;
+use replies::FileKind;
 use std::alloc::{AllocError, Global};
 use std::mem;
 use words::Action;
@@ -17,6 +17,8 @@ const FRONT_LENGTH: usize = 4;
 pub(crate) enum Input {
     /// A script, by its bytes.
     Script(Vec<u8>),
+    /// The text of a module, by its bytes.
+    Text(Vec<u8>),
     /// A module, whose bytes are not kept.
     Module(ModuleIntake),
 }
@@ -29,6 +31,20 @@ pub(crate) enum Intake {
     Known(Input),
 }
 
+// The first bytes of a module.
+fn begin_module(alloc: Global, bytes: &[u8]) -> Result<ModuleIntake, AllocError>
+    ensures { IfOk result (λ m. IsModuleOf m bytes.now) }
+{
+    let mut module = ModuleIntake::new(alloc)?;
+    match module.take(bytes) {
+        Ok(()) => Ok(module),
+        Err(error) => {
+            drop(module);
+            Err(error)
+        }
+    }
+}
+
 impl Input {
     /// What the bytes are to an action.
     pub(crate) fn of_bytes(
@@ -38,16 +54,10 @@ impl Input {
     ) -> Result<Input, AllocError>
         ensures { IfOk result (λ input. IsInputOf action input bytes.items) }
     {
-        if is_script(action, bytes.as_slice()) {
-            return Ok(Input::Script(bytes));
-        }
-        let mut module = ModuleIntake::new(alloc)?;
-        match module.take(bytes.as_slice()) {
-            Ok(()) => Ok(Input::Module(module)),
-            Err(error) => {
-                drop(module);
-                Err(error)
-            }
+        match FileKind::of(action, bytes.as_slice()) {
+            FileKind::Script => Ok(Input::Script(bytes)),
+            FileKind::Text => Ok(Input::Text(bytes)),
+            FileKind::Module => Ok(Input::Module(begin_module(alloc, bytes.as_slice())?)),
         }
     }
 }
@@ -96,6 +106,10 @@ impl Intake {
                 self.take_front(alloc, action, front, piece)
             }
             Intake::Known(Input::Script(bytes)) => {
+                bytes.extend_from_slice(piece)?;
+                Ok(())
+            }
+            Intake::Known(Input::Text(bytes)) => {
                 bytes.extend_from_slice(piece)?;
                 Ok(())
             }

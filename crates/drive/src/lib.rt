@@ -1,4 +1,4 @@
-//! The program, over any files and sinks: words, files, modules and scripts, their judgement and their runs.
+//! The program, over any files and sinks: words, files, modules, scripts and texts, their judgement and their runs.
 #![tactic(auto)]
 
 mod delivery;
@@ -12,6 +12,7 @@ mod module_intake;
 mod program;
 mod running;
 mod scripts;
+mod texts;
 
 pub use laws::{
     answers_to_scripts_mean, build_is_idempotent, built_files_are_accepted, built_runs_are_alike,

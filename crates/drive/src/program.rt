@@ -7,7 +7,7 @@ ghost use Rattle.words.specs.declared.request.Action.TheVariants.{Run as RunFor}
 ghost use Rattle.s_generate.specs.Generated.{generated as generated_script};
 ghost use Rattle.replies.specs.Answer.{ActionGives, Answer, HasStatus, generated_steps};
 ghost use Rattle.drive.specs.Delivery.{Answers, Answered, Stopped, MayFail, Replies};
-ghost use Rattle.drive.specs.Intake.{IsInputOf};
+ghost use Rattle.drive.specs.Intake.{IsInputOf, IsShort};
 ghost use Rattle.drive.specs.Leaving.{Leaves};
 
 use crate::delivery::deliver;
@@ -15,6 +15,7 @@ use crate::files::open;
 use crate::finishing::finish;
 use crate::intake::Input;
 use crate::scripts::act_on_script;
+use crate::texts::judge_text;
 use replies::{Output, Status, Stop, refuse};
 use s_generate::generate;
 use std::alloc::Global;
@@ -25,18 +26,24 @@ use words::{Action, Request, WordsFault, request_of};
 const GENERATED_STEPS: u64 = 10_000_000_000;
 
 static USAGE: &[u8] =
-    b"usage: stackwasm check FILE | run FILE [--steps N] [--stats] | build FILE | gen N\n";
+    b"usage: stackwasm check FILE | run FILE [--steps N] [--stats] | build FILE | gen N | dump FILE | asm FILE\n";
 
-// Does with a script or a module what is asked for. What a run prints goes to out; the answer is what is left to write.
+// Does with a script, a text or a module what is asked for. What a run prints goes to out; the answer is what is left to write.
 fn act<O: Sink>(alloc: Global, action: Action, input: Input, out: &mut O) -> Result<Output, Stop>
     requires steps { IsWithinSteps action }
     requires bytes { (b : List ℕ) × IsInputOf action input b }
+    requires short { IsShort input }
     ensures leaves { (b : List ℕ) → IsInputOf action input b → Leaves (ActionGives action b) result
         (Grew (O.held out.old) (O.held out.new)) (Rose (O.faults out.old) (O.faults out.new)) }
     ensures later { O.faults out.old ≤ O.faults out.new }
 {
     match input {
         Input::Script(bytes) => act_on_script(alloc, action, bytes.as_slice(), out),
+        Input::Text(bytes) => {
+            let checked = judge_text(alloc, bytes.as_slice())?;
+            drop(bytes);
+            finish(alloc, action, checked, out)
+        }
         Input::Module(module) => {
             let checked = module.judge(alloc)?;
             finish(alloc, action, checked, out)

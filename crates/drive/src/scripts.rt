@@ -4,8 +4,9 @@ ghost use Rattle.w_outside.specs.Outside.{Grew, Rose};
 ghost use Rattle.w_machine.specs.Position.{most_reductions};
 ghost use Rattle.s_check.specs.Size.{Size, size_limit};
 ghost use Rattle.s_code.specs.Lowered.{lowered};
-ghost use Rattle.words.specs.Request.{IsWithinSteps};
-ghost use Rattle.replies.specs.Answer.{Compiled, RunGives, ScriptGives, Sized, bad_script, built, faulted, is_module as begins_module, is_script as a_script, limit_size, ok_script, script_gives};
+ghost use Rattle.words.specs.Request.{IsWithinSteps, taken_by};
+ghost use Rattle.words.specs.declared.request.Takes.TheVariants.{ModulesAndScripts};
+ghost use Rattle.replies.specs.Answer.{Compiled, RunGives, ScriptGives, Sized, bad_script, built, faulted, limit_size, ok_script, script_gives};
 ghost use Rattle.drive.specs.Leaving.{Leaves};
 ghost use Rattle.replies.specs.Status.{code_of};
 ghost use Rattle.replies.specs.Stop.{Ends, Gives, Refuses};
@@ -22,20 +23,6 @@ use std::alloc::Global;
 use w_outside::Sink;
 use w_syntax::Module;
 use words::Action;
-
-// Whether bytes begin as modules do.
-fn is_module(bytes: &[u8]) -> bool
-    ensures value { result ≡ begins_module bytes.now }
-{
-    matches!(bytes, [0x00, 0x61, 0x73, 0x6D, ..])
-}
-
-// Whether bytes are a script to the action; else they are judged as a module.
-pub(crate) fn is_script(action: Action, bytes: &[u8]) -> bool
-    ensures value { result ≡ a_script action bytes.now }
-{
-    !is_module(bytes) && action.takes_scripts()
-}
 
 // The status of a script that is refused.
 fn script_status(fault: ScriptFault) -> Status
@@ -157,7 +144,8 @@ pub(crate) fn act_on_script<O: Sink>(
     bytes: &[u8],
     out: &mut O,
 ) -> Result<Output, Stop>
-    requires { IsWithinSteps action }
+    requires steps { IsWithinSteps action }
+    requires takes { taken_by action ≡ ModulesAndScripts }
     ensures leaves { Leaves (ScriptGives (script_gives action) bytes.now) result
         (Grew (O.held out.old) (O.held out.new)) (Rose (O.faults out.old) (O.faults out.new)) }
     ensures later { O.faults out.old ≤ O.faults out.new }
@@ -166,5 +154,7 @@ pub(crate) fn act_on_script<O: Sink>(
         Action::Check => check_script(alloc, bytes),
         Action::Run { steps, .. } => run_script(alloc, bytes, steps, out),
         Action::Build => build_script(alloc, bytes),
+        Action::Dump => unreachable!(),
+        Action::Assemble => unreachable!(),
     }
 }

@@ -1,5 +1,5 @@
 -- What the program answers to a line, given what is told of the files.
-use Rattle.std.specs.Prelude.{◌≡◌, ◌≢◌, ◌⊎◌, ◌<◌, ◌≤◌, ℕ, nat_eq, Bool, true, false, not, ◌&&◌, List, [], ◌∷◌, ◌++◌, codes, decimal, length, flat_map, slice_get, Option, Some, None}
+use Rattle.std.specs.Prelude.{◌≡◌, ◌≢◌, ◌⊎◌, ◌<◌, ◌≤◌, ℕ, nat_eq, Bool, true, false, ◌&&◌, List, [], ◌∷◌, ◌++◌, codes, decimal, length, flat_map, slice_get, Option, Some, None}
 use Rattle.std.specs.Int.{w32, w64, cast_signed}
 use Rattle.std.specs.Fmt.{signed_decimal}
 use Rattle.w_outside.specs.Outside.{Known, untold, missing, holds}
@@ -28,6 +28,7 @@ use Rattle.w_reduce.specs.Program.{Program, IsProgram}
 use Rattle.w_reduce.specs.Start.{Started, Ready, NoPrinter, NoEntry, Exceeds, StartTraps, Start}
 use Rattle.w_reduce.specs.Run.{Outcome, Running, Values, Traps, Limit, NoRule, RunState, Run}
 use Rattle.w_encode.specs.Canon.{Canon}
+use Rattle.w_text.specs.Text.{Text, text_of, IsWrongAt}
 use Rattle.s_syntax.specs.declared.name.Name.{Name}
 use Rattle.s_syntax.specs.declared.script.Script.{Script}
 use Rattle.s_check.specs.Refusal.{number_of}
@@ -38,10 +39,14 @@ use Rattle.s_generate.specs.Generated.{generated as generated_script}
 use Rattle.s_judge.specs.Judgements as script
 use Rattle.s_judge.specs.declared.fault.ScriptFault.{ScriptFault}
 use Rattle.s_judge.specs.declared.fault.ScriptFault.TheVariants as script_fault
-use Rattle.words.specs.Request.{takes_scripts}
+use Rattle.words.specs.Request.{taken_by}
+use Rattle.words.specs.declared.request.Takes.{Takes}
+use Rattle.words.specs.declared.request.Takes.TheVariants as takes
 use Rattle.words.specs.declared.request.Action.{Action}
-use Rattle.words.specs.declared.request.Action.TheVariants.{Check, Run as RunFor, Build}
+use Rattle.words.specs.declared.request.Action.TheVariants.{Check, Run as RunFor, Build, Dump, Assemble}
 use Rattle.words.specs.Line.{Line, on_file, generated, bad}
+use Rattle.replies.specs.declared.file_kind.FileKind.{FileKind}
+use Rattle.replies.specs.declared.file_kind.FileKind.TheVariants as file
 
 -- what is written to out and to err, and the status
 pub record Reply : Type 0 where
@@ -60,7 +65,7 @@ refusal text status = record { out = []; err = line text; status = status }
 -- ## The refusals
 
 abbrev pub usage : Reply
-usage = refusal (codes "usage: stackwasm check FILE | run FILE [--steps N] [--stats] | build FILE | gen N") 2
+usage = refusal (codes "usage: stackwasm check FILE | run FILE [--steps N] [--stats] | build FILE | gen N | dump FILE | asm FILE") 2
 
 -- what bytes with this fault give; want of memory is none of theirs
 abbrev pub malformed_text : DecodeFault → List ℕ
@@ -72,6 +77,10 @@ malformed_text decode.OutOfMemory = []
 
 abbrev pub malformed : DecodeFault → Reply
 malformed fault = refusal (malformed_text fault) 3
+
+-- no text goes on with this line
+abbrev pub wrong_text : ℕ → Reply
+wrong_text l = refusal (codes "text " ++ decimal l) 12
 
 -- the names of limits, on a module and of a run
 abbrev pub size_limit_text : SizeLimit → List ℕ
@@ -221,11 +230,17 @@ RunGives on_trap steps stats m reply = (p : Program) × (p.source ≡ m) × IsPr
 abbrev pub built : Module → Reply
 built m = record { out = Canon m; err = []; status = 0 }
 
+-- and its text
+abbrev pub dumped : Module → Reply
+dumped m = record { out = text_of m; err = []; status = 0 }
+
 -- what an action gives of a valid module
 abbrev pub gives : Action → Module → Reply → Type 0
 gives Check m reply = reply ≡ ok_module
 gives (RunFor steps stats) m reply = RunGives trapped steps stats m reply
 gives Build m reply = reply ≡ built m
+gives Dump m reply = reply ≡ dumped m
+gives Assemble m reply = reply ≡ built m
 
 -- the module has this fault
 abbrev pub HasModuleFault : Module → ValidFault → Type 0
@@ -235,14 +250,39 @@ HasModuleFault m fault = (fault ≢ valid.OutOfMemory) × IsFaultOf m fault
 abbrev pub ModuleRefusal : Module → Reply → Type 0
 ModuleRefusal m reply = (fault : ValidFault) × HasModuleFault m fault × (reply ≡ invalid fault)
 
+-- Below, Reads says which module a file has, and NoModule why it has none.
+
+-- why a file is refused
+abbrev pub RefusedOf : (Module → Type 0) → (Reply → Type 0) → Reply → Type 0
+RefusedOf Reads NoModule reply = ((m : Module) × Reads m × ModuleRefusal m reply) ⊎ NoModule reply
+
+-- what a file gives, where a valid module gives this
+abbrev pub GivenOf : (Module → Type 0) → (Reply → Type 0) → (Module → Reply → Type 0) → Reply → Type 0
+GivenOf Reads NoModule Accepted reply = ((m : Module) × Reads m × Within m × Valid m × Accepted m reply) ⊎ RefusedOf Reads NoModule reply
+
+-- bytes that spell no module
+abbrev pub NotSpelled : List ℕ → Reply → Type 0
+NotSpelled bytes reply = (fault : DecodeFault) × HasFault bytes fault × (reply ≡ malformed fault)
+
 -- why bytes are refused
 abbrev pub BytesRefusal : List ℕ → Reply → Type 0
-BytesRefusal bytes reply = ((m : Module) × Spells bytes m × ModuleRefusal m reply)
-    ⊎ ((fault : DecodeFault) × HasFault bytes fault × (reply ≡ malformed fault))
+BytesRefusal bytes = RefusedOf (Spells bytes) (NotSpelled bytes)
 
 -- what bytes give, where a valid module gives this
 abbrev pub BytesGive : (Module → Reply → Type 0) → List ℕ → Reply → Type 0
-BytesGive Accepted bytes reply = ((m : Module) × Spells bytes m × Within m × Valid m × Accepted m reply) ⊎ BytesRefusal bytes reply
+BytesGive Accepted bytes = GivenOf (Spells bytes) (NotSpelled bytes) Accepted
+
+-- bytes that are no text
+abbrev pub NoText : List ℕ → Reply → Type 0
+NoText bytes reply = (l : ℕ) × IsWrongAt bytes l × (reply ≡ wrong_text l)
+
+-- why a text is refused
+abbrev pub TextRefusal : List ℕ → Reply → Type 0
+TextRefusal bytes = RefusedOf (Text bytes) (NoText bytes)
+
+-- what a text gives, where a valid module gives this
+abbrev pub TextGives : (Module → Reply → Type 0) → List ℕ → Reply → Type 0
+TextGives Accepted bytes = GivenOf (Text bytes) (NoText bytes) Accepted
 
 -- ## A script
 
@@ -293,17 +333,19 @@ fault_text p t = trap_text t
 abbrev pub faulted : Script → Trap → Reply
 faulted p t = refusal (fault_text p t) 1
 
--- what an action gives of a script that breaks no rule; no statistics are told of its run
+-- what an action gives of a script that breaks no rule; no statistics are told of its run, and two take no scripts
 abbrev pub script_gives : Action → Script → Reply → Type 0
 script_gives Check p reply = Sized (λ r. r ≡ ok_script) p reply
 script_gives (RunFor steps stats) p reply = Compiled (RunGives (faulted p) steps false) p reply
 script_gives Build p reply = Compiled (λ m reply. reply ≡ built m) p reply
+script_gives Dump p reply = ⊥
+script_gives Assemble p reply = ⊥
 
 -- what bytes of a script give, where one that breaks no rule gives this
 abbrev pub ScriptGives : (Script → Reply → Type 0) → List ℕ → Reply → Type 0
 ScriptGives Accepted bytes reply = ((p : Script) × script.IsGood bytes p × Accepted p reply) ⊎ ScriptRefusal bytes reply
 
--- ## Modules and scripts
+-- ## What a file is
 
 abbrev pub begins_with : List ℕ → List ℕ → Bool
 begins_with [] bytes = true
@@ -314,14 +356,29 @@ begins_with (m ∷ ms) (b ∷ bytes) = nat_eq b m && begins_with ms bytes
 abbrev pub is_module : List ℕ → Bool
 is_module = begins_with (0 ∷ 97 ∷ 115 ∷ 109 ∷ [])
 
--- what begins otherwise is a script, where the action takes scripts
-abbrev pub is_script : Action → List ℕ → Bool
-is_script action bytes = not (is_module bytes) && takes_scripts action
+-- to an action on modules and scripts
+abbrev pub module_or_script : Bool → FileKind
+module_or_script true = file.Module
+module_or_script false = file.Script
 
--- what an action gives of bytes; those that are no script are judged as a module
+-- by which files the action takes, and whether this one begins as modules do
+abbrev pub kind_among : Takes → Bool → FileKind
+kind_among takes.ModulesAndScripts begins = module_or_script begins
+kind_among takes.Modules begins = file.Module
+kind_among takes.Texts begins = file.Text
+
+-- what bytes are to an action
+abbrev pub kind_of : Action → List ℕ → FileKind
+kind_of action bytes = kind_among (taken_by action) (is_module bytes)
+
+-- what an action gives of bytes of a kind
+abbrev pub GivenAs : FileKind → Action → List ℕ → Reply → Type 0
+GivenAs file.Module action bytes = BytesGive (gives action) bytes
+GivenAs file.Script action bytes = ScriptGives (script_gives action) bytes
+GivenAs file.Text action bytes = TextGives (gives action) bytes
+
 abbrev pub ActionGives : Action → List ℕ → Reply → Type 0
-ActionGives action bytes reply =
-    ((is_script action bytes ≡ false) × BytesGive (gives action) bytes reply) ⊎ ((is_script action bytes ≡ true) × ScriptGives (script_gives action) bytes reply)
+ActionGives action bytes = GivenAs (kind_of action bytes) action bytes
 
 -- ## Files
 

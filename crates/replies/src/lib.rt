@@ -2,15 +2,17 @@
 //! and why there is no output.
 #![tactic(auto)]
 
+mod file_kind;
 mod lines;
 mod origin;
 mod output;
 mod status;
 mod stop;
 
+pub use file_kind::FileKind;
 pub use lines::{
     invalid_line, malformed_line, printer_line, run_limit_line, script_line, start_limit_line,
-    stats_line, value_line,
+    stats_line, value_line, wrong_line,
 };
 pub use origin::Origin;
 pub use output::Output;

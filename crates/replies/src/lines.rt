@@ -4,7 +4,7 @@ ghost use Rattle.std.specs.Borrow.{Bor};
 ghost use Rattle.s_syntax.specs.declared.name.Name.{Name as TheName};
 ghost use Rattle.w_reduce.specs.Values.{val};
 ghost use Rattle.s_agrees.specs.Agrees.{effect_names};
-ghost use Rattle.replies.specs.Answer.{line, count_text, result_line, malformed, limit, size_limit_text, run_limit_text, start_limit_text, trapped, invalid, no_printer, counts_line, bad_script, faulted};
+ghost use Rattle.replies.specs.Answer.{line, count_text, result_line, malformed, wrong_text, limit, size_limit_text, run_limit_text, start_limit_text, trapped, invalid, no_printer, counts_line, bad_script, faulted};
 
 use itoa::{Buffer, Integer};
 use s_judge::ScriptFault;
@@ -60,6 +60,13 @@ pub fn malformed_line(alloc: Global, fault: DecodeFault) -> Result<Vec<u8>, Allo
         DecodeFault::Counts => Ok(Vec::from_slice(alloc, b"malformed counts\n")?),
         DecodeFault::OutOfMemory => Ok(Vec::from_slice(alloc, b"\n")?),
     }
+}
+
+/// The line of bytes with whose line of this number, counted from 0, no text goes on.
+pub fn wrong_line(alloc: Global, number: usize) -> Result<Vec<u8>, AllocError>
+    ensures { IfOk result (λ v. v.items ≡ (wrong_text number).err) }
+{
+    number_line(alloc, b"text ", number)
 }
 
 /// The line of a limit on a module that is passed.

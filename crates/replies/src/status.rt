@@ -27,6 +27,8 @@ pub enum Status {
     Limit,
     /// The steps are used up, and the run has not ended.
     Running,
+    /// The file is no text of a module.
+    BadText,
 }
 
 impl Status {
@@ -46,6 +48,7 @@ impl Status {
             Status::OutOfMemory => 8,
             Status::Limit => 9,
             Status::Running => 10,
+            Status::BadText => 12,
         }
     }
 }

@@ -12,7 +12,7 @@ use Rattle.w_text.proofs.Least.{one_module, text_is_right}
 abbrev Right : List ℕ → TextFault → Type 0
 Right t e = (l : ℕ) → e ≡ fault.Line l → IsWrongAt t l
 
-least_is_one : (t : List ℕ) (k l : ℕ) → IsWrongAt t k → IsWrongAt t l → k ≡ l
+pub least_is_one : (t : List ℕ) (k l : ℕ) → IsWrongAt t k → IsWrongAt t l → k ≡ l
 least_is_one t k l v w = elim (cases_lt k l) [
   | inl lt ↦ absurd (v.0 (w.1 k lt))
   | inr ge ↦ elim (cases_lt l k) [ inl lt ↦ absurd (w.0 (v.1 l lt)) | inr le ↦ omega arith ]

@@ -3,7 +3,7 @@ use Rattle.std.proofs.Common.{◌≡◌, ℕ, nat_eq, List, [], ◌∷◌, refl,
 use Rattle.std.specs.Fmt.{digits}
 use Rattle.clap.specs.Walk.{Text}
 use Rattle.clap.proofs.OnLiterals.{clap_on_literals}
-use Rattle.words.specs.declared.request.Action.TheVariants.{Check, Run, Build}
+use Rattle.words.specs.declared.request.Action.TheVariants.{Check, Run, Build, Dump, Assemble}
 use Rattle.words.specs.Line.{Line, line_of, on_file, generated, bad}
 
 -- what the words after the program's name ask for
@@ -220,6 +220,40 @@ gen_below_none = refl
 gen_for_steps : asked (codes "gen" ∷ codes "5" ∷ codes "--steps" ∷ codes "9" ∷ []) ≡ bad
 unfolding line_of clap_on_literals digits
 gen_for_steps = refl
+
+-- ## `dump` and `asm`
+
+dump_file : asked (codes "dump" ∷ codes "two" ∷ []) ≡ on_file (codes "two") Dump
+unfolding line_of clap_on_literals digits
+dump_file = refl
+
+dump_alone : asked (codes "dump" ∷ []) ≡ bad
+unfolding line_of clap_on_literals digits
+dump_alone = refl
+
+dump_two_files : asked (codes "dump" ∷ codes "two" ∷ codes "three" ∷ []) ≡ bad
+unfolding line_of clap_on_literals digits
+dump_two_files = refl
+
+dump_for_stats : asked (codes "dump" ∷ codes "two" ∷ codes "--stats" ∷ []) ≡ bad
+unfolding line_of clap_on_literals digits
+dump_for_stats = refl
+
+asm_file : asked (codes "asm" ∷ codes "two" ∷ []) ≡ on_file (codes "two") Assemble
+unfolding line_of clap_on_literals digits
+asm_file = refl
+
+asm_named_asm : asked (codes "asm" ∷ codes "asm" ∷ []) ≡ on_file (codes "asm") Assemble
+unfolding line_of clap_on_literals digits
+asm_named_asm = refl
+
+asm_alone : asked (codes "asm" ∷ []) ≡ bad
+unfolding line_of clap_on_literals digits
+asm_alone = refl
+
+asm_for_steps : asked (codes "asm" ∷ codes "two" ∷ codes "--steps" ∷ codes "5" ∷ []) ≡ bad
+unfolding line_of clap_on_literals digits
+asm_for_steps = refl
 
 -- ## Steps that are no number in the range
 

@@ -7,7 +7,7 @@ use Rattle.clap.specs.Simple.{App, Shape, new_app, new_rule, on_top, subcommand_
 use Rattle.clap.specs.Faults.{fault_of}
 use Rattle.clap.specs.declared.builder.action.ArgAction.TheVariants.{SetTrue}
 use Rattle.words.specs.declared.request.Action.{Action}
-use Rattle.words.specs.declared.request.Action.TheVariants.{Check, Run, Build}
+use Rattle.words.specs.declared.request.Action.TheVariants.{Check, Run, Build, Dump, Assemble}
 
 pub data Line : Type 0 where
   -- this action on the module of this file
@@ -55,6 +55,14 @@ build_app = with_rule (new_app (codes "build")) file_rule
 abbrev pub gen_app : App
 gen_app = with_rule (new_app (codes "gen")) number_rule
 
+-- `dump FILE`
+abbrev pub dump_app : App
+dump_app = with_rule (new_app (codes "dump")) file_rule
+
+-- `asm FILE`
+abbrev pub asm_app : App
+asm_app = with_rule (new_app (codes "asm")) file_rule
+
 -- a command has to be named; `help` and `--help` are words like others
 abbrev pub settings : Shape → Shape
 settings s = record s {
@@ -67,9 +75,13 @@ settings s = record s {
 abbrev pub base_app : App
 base_app = with_subcommand (with_subcommand (on_top settings (new_app (codes "stackwasm"))) check_app.top) run_app.top
 
+-- those that make modules too
+abbrev pub making_app : App
+making_app = with_subcommand (with_subcommand base_app build_app.top) gen_app.top
+
 -- the program's commands
 abbrev pub the_app : App
-the_app = with_subcommand (with_subcommand base_app build_app.top) gen_app.top
+the_app = with_subcommand (with_subcommand making_app dump_app.top) asm_app.top
 
 -- ## What its matches say
 
@@ -120,7 +132,9 @@ abbrev pub action_of : Text → List Row → Option Action
 action_of name rows = if bytes_eq name (codes "check") then Some Check
     else (if bytes_eq name (codes "run") then run_of (steps_in (first_of (codes "steps") rows)) (stats_in (first_of (codes "stats") rows))
     else (if bytes_eq name (codes "build") then Some Build
-    else None))
+    else (if bytes_eq name (codes "dump") then Some Dump
+    else (if bytes_eq name (codes "asm") then Some Assemble
+    else None))))
 
 -- the line of the matches of a command on a file
 abbrev pub file_line : Text → List Row → Line

@@ -1,7 +1,9 @@
 -- The line that a request is.
-use Rattle.std.specs.Prelude.{◌≡◌, ◌≤◌, ⊤, Bool, true, Option, Some, None}
+use Rattle.std.specs.Prelude.{◌≡◌, ◌≤◌, ⊤, Option, Some, None}
 use Rattle.words.specs.declared.request.Action.{Action}
-use Rattle.words.specs.declared.request.Action.TheVariants.{Check, Run, Build}
+use Rattle.words.specs.declared.request.Action.TheVariants.{Check, Run, Build, Dump, Assemble}
+use Rattle.words.specs.declared.request.Takes.{Takes}
+use Rattle.words.specs.declared.request.Takes.TheVariants.{ModulesAndScripts, Modules, Texts}
 use Rattle.words.specs.declared.request.Request.{Request}
 use Rattle.words.specs.declared.request.Request.TheVariants.{OnFile, Generated}
 use Rattle.words.specs.Line.{Line, on_file, generated, bad, most_steps, most_generated}
@@ -15,17 +17,21 @@ abbrev pub Asks : Option Request → Line → Type 0
 Asks (Some request) line = line ≡ asked_by request
 Asks None line = line ≡ bad
 
--- whether it is done with scripts too, and not with modules alone
-abbrev pub takes_scripts : Action → Bool
-takes_scripts Check = true
-takes_scripts (Run steps stats) = true
-takes_scripts Build = true
+-- which files an action takes
+abbrev pub taken_by : Action → Takes
+taken_by Check = ModulesAndScripts
+taken_by (Run steps stats) = ModulesAndScripts
+taken_by Build = ModulesAndScripts
+taken_by Dump = Modules
+taken_by Assemble = Texts
 
 -- no more steps than the words may give
 abbrev pub IsWithinSteps : Action → Type 0
 IsWithinSteps Check = ⊤
 IsWithinSteps (Run steps stats) = steps ≤ most_steps
 IsWithinSteps Build = ⊤
+IsWithinSteps Dump = ⊤
+IsWithinSteps Assemble = ⊤
 
 -- no more steps than the words may give, and a number from 1 to the most
 abbrev pub IsAllowed : Request → Type 0

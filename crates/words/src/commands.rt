@@ -93,7 +93,9 @@ fn commands<'a>(alloc: Global) -> Result<Command<'a>, AllocError>
     let checking = with_command(program(alloc), file_command(alloc, "check"))?;
     let running = with_command(checking, run_command(alloc))?;
     let building = with_command(running, file_command(alloc, "build"))?;
-    let all = with_command(building, gen_command(alloc))?;
+    let making = with_command(building, gen_command(alloc))?;
+    let dumping = with_command(making, file_command(alloc, "dump"))?;
+    let all = with_command(dumping, file_command(alloc, "asm"))?;
     Ok(all)
 }
 

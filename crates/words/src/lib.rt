@@ -8,4 +8,4 @@ mod request;
 
 pub use options::{DEFAULT_STEPS, MOST_GENERATED, MOST_STEPS};
 pub use reading::{WordsFault, request_of};
-pub use request::{Action, Request};
+pub use request::{Action, Request, Takes};

@@ -24,7 +24,7 @@ pub enum WordsFault {
     OutOfMemory,
 }
 
-// What a command does with the module of its file.
+// What a command does with its file.
 fn action_named(name: &str, found: &ArgMatches) -> Option<Action>
     ensures action { result ≡ action_of name.now (rows_of (found_of found.now)) }
     ensures within { IfSome result IsWithinSteps }
@@ -39,6 +39,12 @@ fn action_named(name: &str, found: &ArgMatches) -> Option<Action>
     }
     if name == "build" {
         return Some(Action::Build);
+    }
+    if name == "dump" {
+        return Some(Action::Dump);
+    }
+    if name == "asm" {
+        return Some(Action::Assemble);
     }
     None
 }

@@ -1,6 +1,6 @@
 //! What the words ask for.
 ghost use Rattle.std.specs.Prelude.{◌≡◌};
-ghost use Rattle.words.specs.Request.{takes_scripts as scripts_too};
+ghost use Rattle.words.specs.Request.{taken_by};
 
 /// What is done with the module of a file.
 #[derive(Clone, Copy)]
@@ -11,17 +11,34 @@ pub enum Action {
     Run { steps: u64, stats: bool },
     /// It is written in its canonical spelling.
     Build,
+    /// It is written as text.
+    Dump,
+    /// It is read from its text, and written in its canonical spelling.
+    Assemble,
+}
+
+/// Which files an action takes.
+#[derive(Clone, Copy)]
+pub enum Takes {
+    /// Modules, and as scripts all files that don't begin as modules do.
+    ModulesAndScripts,
+    /// Modules alone: a file that is none is malformed.
+    Modules,
+    /// Texts of modules, whatever they begin with.
+    Texts,
 }
 
 impl Action {
-    /// Whether it is done with scripts too. Of an action on modules alone a file that is none is malformed.
-    pub fn takes_scripts(self) -> bool
-        ensures { result ≡ scripts_too self }
+    /// Which files it takes.
+    pub fn takes(self) -> Takes
+        ensures { result ≡ taken_by self }
     {
         match self {
-            Action::Check => true,
-            Action::Run { steps: _, stats: _ } => true,
-            Action::Build => true,
+            Action::Check => Takes::ModulesAndScripts,
+            Action::Run { steps: _, stats: _ } => Takes::ModulesAndScripts,
+            Action::Build => Takes::ModulesAndScripts,
+            Action::Dump => Takes::Modules,
+            Action::Assemble => Takes::Texts,
         }
     }
 }

@@ -1,9 +1,8 @@
-use Rattle.std.proofs.Common.{◌≡◌, sym, ap, subst}
+use Rattle.std.proofs.Common.{◌≡◌, sym, subst}
 use Rattle.w_outside.specs.Outside.{Grew, Rose}
 use Rattle.words.specs.declared.request.Action.{Action}
-use Rattle.replies.specs.Answer.{gives, ok_module, built}
+use Rattle.replies.specs.Answer.{gives, ok_module, built, dumped}
 use Rattle.drive.specs.Leaving.{Leaves}
-use Rattle.drive.proofs.Refusals.{gives_same}
 use Rattle.drive.proofs.Replies.{all_left}
 use Rattle.drive.proofs.finishing.finish.Goals as goal
 
@@ -18,5 +17,19 @@ pub returns-in-Build-clause-leaves : goal.returns-in-Build-clause-leaves
 returns-in-Build-clause-leaves g c =
     let held = g.O.Sink.held c.args.out.now in
     let rose = Rose (g.O.Sink.faults c.args.out.now) (g.O.Sink.faults c.args.out.now) in
-    subst (λ (a : Action). Leaves (gives a c.args.checked) c.build-output.result (Grew held held) rose) (sym c.in-Build.is)
-    (all_left (λ reply. reply ≡ built c.args.checked) held rose c.build-output.result (gives_same c.build-output.result (ap built c.module.ensures.same) c.build-output.ensures))
+    subst (λ (a : Action). Leaves (gives a c.args.checked) c.build_checked.result (Grew held held) rose) (sym c.in-Build.is)
+    (all_left (λ reply. reply ≡ built c.args.checked) held rose c.build_checked.result c.build_checked.ensures)
+
+pub returns-in-Dump-clause-leaves : goal.returns-in-Dump-clause-leaves
+returns-in-Dump-clause-leaves g c =
+    let held = g.O.Sink.held c.args.out.now in
+    let rose = Rose (g.O.Sink.faults c.args.out.now) (g.O.Sink.faults c.args.out.now) in
+    subst (λ (a : Action). Leaves (gives a c.args.checked) c.dump_checked.result (Grew held held) rose) (sym c.in-Dump.is)
+    (all_left (λ reply. reply ≡ dumped c.args.checked) held rose c.dump_checked.result c.dump_checked.ensures)
+
+pub returns-in-Assemble-clause-leaves : goal.returns-in-Assemble-clause-leaves
+returns-in-Assemble-clause-leaves g c =
+    let held = g.O.Sink.held c.args.out.now in
+    let rose = Rose (g.O.Sink.faults c.args.out.now) (g.O.Sink.faults c.args.out.now) in
+    subst (λ (a : Action). Leaves (gives a c.args.checked) c.build_checked-in-Assemble.result (Grew held held) rose) (sym c.in-Assemble.is)
+    (all_left (λ reply. reply ≡ built c.args.checked) held rose c.build_checked-in-Assemble.result c.build_checked-in-Assemble.ensures)

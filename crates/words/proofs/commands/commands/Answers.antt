@@ -1,6 +1,6 @@
 use Rattle.std.proofs.Common.{◌≡◌, ap, ◌∙◌, codes}
 use Rattle.clap.specs.Simple.{App, app_of, new_app, on_top, with_subcommand}
-use Rattle.words.specs.Line.{settings, file_app, run_app, gen_app, check_app, build_app, base_app}
+use Rattle.words.specs.Line.{settings, file_app, run_app, gen_app, check_app, build_app, base_app, making_app, dump_app, asm_app}
 use Rattle.words.proofs.AddedCommands.{added}
 use Rattle.words.proofs.commands.commands.Goals as goal
 
@@ -15,5 +15,11 @@ returns c =
     let building : app_of c.in_ok-building.building ≡ with_subcommand base_app build_app.top =
     added c.in_ok-running.running c.file_command-2.result (file_app (codes "build")) c.file_command-2.ensures.app c.file_command-2.ensures.local c.in_ok-building.building c.in_ok-building.ensures
     ∙ ap (λ (a : App). with_subcommand a build_app.top) running in
-    added c.in_ok-building.building c.gen_command.result gen_app c.gen_command.ensures.app c.gen_command.ensures.local c.in_ok-all.all c.in_ok-all.ensures
-    ∙ ap (λ (a : App). with_subcommand a gen_app.top) building
+    let making : app_of c.in_ok-making.making ≡ making_app =
+    added c.in_ok-building.building c.gen_command.result gen_app c.gen_command.ensures.app c.gen_command.ensures.local c.in_ok-making.making c.in_ok-making.ensures
+    ∙ ap (λ (a : App). with_subcommand a gen_app.top) building in
+    let dumping : app_of c.in_ok-dumping.dumping ≡ with_subcommand making_app dump_app.top =
+    added c.in_ok-making.making c.file_command-3.result (file_app (codes "dump")) c.file_command-3.ensures.app c.file_command-3.ensures.local c.in_ok-dumping.dumping c.in_ok-dumping.ensures
+    ∙ ap (λ (a : App). with_subcommand a dump_app.top) making in
+    added c.in_ok-dumping.dumping c.file_command-4.result (file_app (codes "asm")) c.file_command-4.ensures.app c.file_command-4.ensures.local c.in_ok-all.all c.in_ok-all.ensures
+    ∙ ap (λ (a : App). with_subcommand a asm_app.top) dumping
