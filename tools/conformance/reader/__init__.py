@@ -48,6 +48,11 @@ def reading_of(data):
         module = decode(data)
     except Malformed as fault:
         return Reading(f'malformed {fault}', fault)
+    return judgement_of(module)
+
+
+def judgement_of(module):
+    """The reading of a module that is decoded, or that a text gives: its limits, and then whether it is valid."""
     context = _context(module)
     limit = _passed_limit(module, context.types)
     if limit is not None:

@@ -262,10 +262,20 @@ def _check_counts(module, source):
         wanted = f'as many bodies as functions; the functions are {functions}, the bodies {codes}'
         raise Malformed(source.end, wanted, 'counts')
     if module.data_count is None:
-        instructions = (each for code in module.codes for each in all_instructions(code.body))
-        named = {each.name for each in instructions} & {'memory.init', 'data.drop'}
+        named = _that_name_data(module)
         if named:
             raise Malformed(source.end, f'a data count, since a body has {min(named)}', 'counts')
     elif module.data_count != segments:
         wanted = f'as many data segments as the data count tells, {module.data_count}; there are {segments}'
         raise Malformed(source.end, wanted, 'counts')
+
+
+def names_data(module):
+    """Whether a body of the module names a data segment, so that there is to be a data count."""
+    return bool(_that_name_data(module))
+
+
+def _that_name_data(module):
+    """The names of the instructions in bodies that name data segments."""
+    instructions = (each for code in module.codes for each in all_instructions(code.body))
+    return {each.name for each in instructions} & {'memory.init', 'data.drop'}
