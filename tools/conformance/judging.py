@@ -1,8 +1,10 @@
-"""Judges rows by the second reader, by the second compiler of scripts, and by the second reader of their meaning."""
+"""Judges rows by the second readers of modules, of their texts and of scripts, by the second compiler of scripts, and
+by the second reader of their meaning."""
 
 import re
 from collections import Counter
 
+from assembler.canonical import canonical
 from executing import USUAL_STEPS
 from following import contradiction, outcome_of_script
 from generated_scripts import GENERATED_STEPS, GREATEST_NUMBER, generated
@@ -11,6 +13,10 @@ from reader.module_decoding import decode
 from rows.sections import STATUSES, VALID
 from script_compiler import built
 from script_reader import answer as answer_to_script, is_script
+from text_reader import reading_of as reading_of_text
+from text_reader.expressions import flat
+from text_reader.reading import WrongLine, module_of
+from text_reader.writing import text_of
 
 OPTIONS = ('--steps', '--stats')
 GENERATED = re.compile('[1-9][0-9]{0,2}')
@@ -68,13 +74,17 @@ def _contradiction(row):
     command, given = _call(row)
     if _is_script_run(command, given):
         return _contradicted_run(row, given)
+    if command == 'asm':
+        return _contradicted_assembly(row, given)
     if command == 'build' and is_script(given):
         return _contradicted_module(row, built(given))
     said = answer_to_script(given) if command == 'check' and is_script(given) else answer(given)
     if said != VALID or command == 'check':
         return _contradicted_answer(row, said)
     if command == 'build':
-        return _contradicted_spelling(row, given)
+        return _contradicted_spelling(row, decode(given))
+    if command == 'dump':
+        return _contradicted_text(row, decode(given))
     return None
 
 
@@ -106,27 +116,36 @@ def _contradicted_module(row, wanted):
     return None
 
 
-def _contradicted_spelling(row, given):
-    """What is written is to be a module, and the given one."""
+def _contradicted_assembly(row, given):
+    """What is written of a text is to be the module that it has."""
+    reading = reading_of_text(given)
+    if reading.said != VALID:
+        return _contradicted_answer(row, reading.said)
+    return _contradicted_spelling(row, reading.module)
+
+
+def _contradicted_spelling(row, module):
+    """What is written is to be this module, to be valid, and to be the canonical spelling."""
     if row.status or row.err:
         return 'the second reader says that it is valid'
-    if answer(row.out) != VALID or _with_joined_locals(decode(row.out)) != _with_joined_locals(decode(given)):
+    if answer(row.out) != VALID:
+        return 'the second reader says that what is written is not valid'
+    if flat(decode(row.out)) != flat(module):
         return 'the second reader says that another module is written'
+    if canonical(module) != row.out:
+        return f'the canonical spelling is {canonical(module).hex().upper()}'
     return None
 
 
-def _with_joined_locals(module):
-    """The module without its data count, and with neighbouring locals of one type in one run."""
-    module.data_count = None
-    module.codes = [(_joined(code.runs), code.body) for code in module.codes]
-    return module
-
-
-def _joined(runs):
-    joined = []
-    for count, value_type in runs:
-        if count and joined and joined[-1][1] == value_type:
-            joined[-1] = (joined[-1][0] + count, value_type)
-        elif count:
-            joined.append((count, value_type))
-    return joined
+def _contradicted_text(row, module):
+    """What is written is to be the text of the module, of which the second reader of texts reads the module again."""
+    text = text_of(module)
+    try:
+        is_read_again = flat(module_of(text)) == flat(module)
+    except WrongLine:
+        is_read_again = False
+    if not is_read_again:
+        return 'the second reader reads another module from the text'
+    if (row.out, row.err, row.status) != (text, b'', 0):
+        return f'the second writer writes {text!r}'
+    return None

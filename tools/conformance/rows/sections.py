@@ -10,7 +10,8 @@ from assembler.modules import code_contents
 from assembler.types import I32, I64, functype
 from surroundings import words_with
 
-STATUSES = {'ok': 0, 'malformed': 3, 'invalid': 4, 'lex': 5, 'parse': 5, 'deep': 5, 'rule': 5, 'limit': 9}
+STATUSES = {
+    'ok': 0, 'malformed': 3, 'invalid': 4, 'lex': 5, 'parse': 5, 'deep': 5, 'rule': 5, 'limit': 9, 'text': 12}
 HEADER_LENGTH = 8
 VALID = 'ok module'
 
