@@ -1,6 +1,6 @@
 #!/usr/bin/env python3
-"""Makes modules, and times the program on them: checks beside wasm-validate, or runs beside wasm-interp; or runs of
-scripts beside Lua and Guile.
+"""Makes modules, and times the program on them: checks beside wasm-validate, runs beside wasm-interp, or dump and asm;
+or runs of scripts beside Lua and Guile.
 
 Modules are made in a process of their own, so that this one stays small: a child begins as a copy of it, and the
 system counts the copy as the child's peak.
@@ -33,6 +33,7 @@ from switching import MOST_REPEATS, RUNS as SWITCHING_RUNS  # noqa: E402
 
 PROGRAM = ROOT / 'crates' / 'stackwasm' / 'out' / 'stackwasm'
 MEBI = 1 << 20
+GREATEST_TEXT = 16 * MEBI       # as much as the program reads
 RUNS = PLAIN_RUNS | SWITCHING_RUNS
 STRAIGHT_NAME = next(name for name, form in FORMS.items() if form is STRAIGHT)
 INTERPRETED = re.compile(r'main\(\) => (i32|i64):(\d+)')     # what wasm-interp says of a result
@@ -41,7 +42,8 @@ INTERPRETED = re.compile(r'main\(\) => (i32|i64):(\d+)')     # what wasm-interp 
 def arguments():
     parser = argparse.ArgumentParser(description=__doc__, formatter_class=argparse.RawDescriptionHelpFormatter)
     parser.add_argument('--program', default=PROGRAM, type=Path, help='the program to time')
-    parser.add_argument('--size', default=16, type=float, help='MiB of each module (16, the most that it reads)')
+    parser.add_argument('--size', type=float,
+                        help='MiB of each module (16, the most that it reads; 0.9 with --texts, whose texts are longer)')
     parser.add_argument('--forms', nargs='+', metavar='WORDS',
                         help='only forms, or programs or scripts to run, whose names have one of these words')
     parser.add_argument('--rounds', default=3, type=int, help='each figure is the best of so many (3)')
@@ -52,6 +54,7 @@ def arguments():
     parser.add_argument('--list', action='store_true', help='name the forms, programs or scripts, and what they are')
     parser.add_argument('--run', action='store_true', help='time run, on programs that run long')
     parser.add_argument('--steps', default=100000000, type=int, help='about so many reductions a run (100,000,000)')
+    parser.add_argument('--texts', action='store_true', help='time dump, and asm of what it writes')
     parser.add_argument('--scripts', action='store_true', help='time run on scripts, beside lua5.4 and guile')
     parser.add_argument('--effects', default=10000000, type=int, help='about so many effects a script (10,000,000)')
     return parser.parse_args()
@@ -113,7 +116,7 @@ def time_forms(given, folder):
     print(tables.heading(tables.FORM_HEADINGS), flush=True)
     straight_rate, odd = None, []
     for name in chosen(FORMS, given.forms, STRAIGHT_NAME):
-        make = partial(FORMS[name], int(given.size * MEBI))
+        make = partial(FORMS[name], int((given.size or 16) * MEBI))
         size, best = timed(given, folder, name, make, partial(check_calls, given))
         straight_rate = straight_rate or tables.rate(best['check'], size)
         print(tables.form_row(name, size, best, straight_rate), flush=True)
@@ -132,6 +135,37 @@ def form_oddities(name, best, times):
     if build and (build.status or build.ended):
         found.append(f'{name}: build ended with status {build.status}: {build.said!r}')
     return found
+
+
+def time_texts(given, folder):
+    """Print the table of forms as text, and give what is odd in it."""
+    print(tables.heading(tables.TEXT_HEADINGS), flush=True)
+    straight, odd = None, []
+    for name in chosen(FORMS, given.forms, STRAIGHT_NAME):
+        text = folder / f'{name.replace(" ", "_")}.text'
+        make = partial(FORMS[name], int((given.size or 0.9) * MEBI))
+        size, best = timed(given, folder, name, make, partial(text_calls, given, text))
+        text_size = text.stat().st_size
+        straight = straight or {program: tables.rate(call, text_size) for program, call in best.items()}
+        print(tables.text_row(name, size, text_size, best, straight), flush=True)
+        odd += text_oddities(name, text_size, best)
+        if not given.keep:
+            text.unlink()
+    return odd
+
+
+def text_calls(given, text, path):
+    """The calls to time on a form: its text is written, and read where it has been written."""
+    return {'dump': ([str(given.program), 'dump', str(path)], str(text)),
+            'asm': ([str(given.program), 'asm', str(text)], False)}
+
+
+def text_oddities(name, text_size, best):
+    """What a reader is to look at: a module that isn't written, a text that isn't read, and one that is too long."""
+    if text_size > GREATEST_TEXT:
+        return [f'{name}: its text has {text_size:,} bytes, more than asm reads']
+    return [f'{name}: {program} said {call.said!r}, with status {call.status}'
+            for program, call in best.items() if call.status or call.ended]
 
 
 def time_runs(given, folder):
@@ -242,6 +276,15 @@ def kinds(given):
     return {name: made.__doc__.strip().splitlines()[0] for name, made in (RUNS if given.run else FORMS).items()}
 
 
+def timing_of(given):
+    """What is to be timed."""
+    if given.scripts:
+        return time_scripts
+    if given.texts:
+        return time_texts
+    return time_runs if given.run else time_forms
+
+
 def main():
     given = arguments()
     if given.list:
@@ -252,7 +295,7 @@ def main():
     with tempfile.TemporaryDirectory() as temporary:
         folder = given.keep or Path(temporary)
         folder.mkdir(parents=True, exist_ok=True)
-        odd = (time_scripts if given.scripts else time_runs if given.run else time_forms)(given, folder)
+        odd = timing_of(given)(given, folder)
     for line in odd:
         print(f'\n{line}', end='')
     print()

@@ -20,10 +20,11 @@ class Measured:
 
 
 def measured(words, limit, hears=True):
-    """One call of a program, which is ended after so many seconds of the clock."""
+    """One call of a program, which is ended after so many seconds of the clock. Its out is listened to, thrown away, or
+    written to a file, where `hears` is a path."""
     with tempfile.TemporaryFile() as told:
-        out = (os.POSIX_SPAWN_DUP2, told.fileno(), 1) if hears else (
-            os.POSIX_SPAWN_OPEN, 1, os.devnull, os.O_WRONLY, 0)
+        out = (os.POSIX_SPAWN_DUP2, told.fileno(), 1) if hears is True else (
+            os.POSIX_SPAWN_OPEN, 1, hears or os.devnull, os.O_WRONLY | os.O_CREAT | os.O_TRUNC, 0o644)
         child = os.posix_spawnp(
             words[0], words, os.environ, file_actions=[out, (os.POSIX_SPAWN_DUP2, told.fileno(), 2)])
         ended, status, usage = _awaited(child, limit)

@@ -7,6 +7,9 @@ MOST_TIMES = 15         # no form is to take longer than so many times the strai
 FORM_HEADINGS = [
     'Form', 'Bytes', 'check MB/s', 'B/B', 'build MB/s', 'B/B', 'wasm-validate MB/s', 'B/B', 'check / wasm-validate',
     'time / mixed code']
+TEXT_HEADINGS = [
+    'Form', 'Bytes', 'Bytes of text', 'dump MB/s', 'B/B', 'asm MB/s', 'B/B', 'time of dump / mixed code',
+    'time of asm / mixed code']
 RUN_HEADINGS = ['Program', 'Reductions', 'run M/s', 'MB', 'wasm-interp M/s', 'MB', 'run / wasm-interp']
 SCRIPT_HEADINGS = [
     'Script', 'Effects', 'Steps', 'Reductions / step', 'run M/s', 'run s', 'MB', 'lua5.4 s', 'MB', 'guile s', 'MB',
@@ -27,6 +30,16 @@ def form_row(name, size, best, straight_rate):
     cells.append(_ratio_of_rates(check, best.get('wasm-validate'), size))
     above = '> ' if check.ended else ''
     cells.append(above + _ratio(straight_rate, rate(check, size)) if _counts(check) else '')
+    return _line(cells)
+
+
+def text_row(name, size, text_size, best, straight):
+    """The line of a form as text, from the best calls of dump and asm: rates are of bytes of text."""
+    cells = [name, f'{size:,}', f'{text_size:,}']
+    for program in ('dump', 'asm'):
+        cells += _rate_and_peak(best[program], text_size, text_size)
+    for program in ('dump', 'asm'):
+        cells.append(_ratio(straight[program], rate(best[program], text_size)) if _counts(best[program]) else '')
     return _line(cells)
 
 

@@ -22,7 +22,7 @@ use Rattle.s_agrees.proofs.SpelledScripts.{scripts_agree}
 use Rattle.replies.specs.declared.file_kind.FileKind.TheVariants as file
 use Rattle.replies.specs.Answer.{Reply, OnFile, OnBytes, BytesGive, ScriptGives, ActionGives, GivenAs, module_or_script, script_gives, gives, built, malformed, invalid, bad_script, ok_module, is_module, input_limit, limit_input, limit_size, read_fault}
 use Rattle.drive.specs.Built.{HoldsBuilt, BuildIsIdempotent, BuiltFilesAreAccepted, BuiltScriptsAreShort}
-use Rattle.drive.proofs.CanonicalFiles.{file_gives}
+use Rattle.drive.proofs.FilesOfModules.{file_gives}
 use Rattle.drive.proofs.WhatActionsGive.{is_then_script, given_of}
 
 -- ## Refusals have a status of their own
@@ -116,14 +116,14 @@ module _ (files : List ℕ → Known) (name : List ℕ) (written : Reply) (h : H
 
   again : (reply : Reply) → OnFile (files name) (ActionGives Build) reply ↔ (reply ≡ written)
   again reply =
-      let g = file_gives made.source made.spelled made.within made.valid Build reply refl fits in (
+      let g = file_gives made.source made.within made.valid Build reply (Canon made.source) made.spelled refl fits in (
         λ a. g.0 (subst (λ (k : Known). OnFile k (ActionGives Build) reply) held a) ∙ sym made.is,
         λ e. subst (λ (k : Known). OnFile k (ActionGives Build) reply) (sym held) (g.1 (e ∙ made.is)),
       )
 
   accepted : (reply : Reply) → OnFile (files name) (ActionGives Check) reply ↔ (reply ≡ ok_module)
   accepted reply =
-      let g = file_gives made.source made.spelled made.within made.valid Check reply refl fits in (
+      let g = file_gives made.source made.within made.valid Check reply (Canon made.source) made.spelled refl fits in (
         λ a. g.0 (subst (λ (k : Known). OnFile k (ActionGives Check) reply) held a),
         λ e. subst (λ (k : Known). OnFile k (ActionGives Check) reply) (sym held) (g.1 e),
       )

@@ -1,5 +1,6 @@
 -- A run of what `build` writes of a script is alike the run of the script.
 use Rattle.std.proofs.Common.{◌≡◌, ℕ, Bool, true, false, List, ◌++◌, inl, inr, refl, ap, ◌∙◌, arith}
+use Rattle.w_encode.specs.Canon.{Canon}
 use Rattle.w_reduce.specs.Run.{Outcome, Running, Values, Traps, Limit, NoRule, RunState, Run}
 use Rattle.words.specs.declared.request.Action.TheVariants.{Run as RunFor}
 use Rattle.s_syntax.specs.declared.script.Script.{Script}
@@ -10,7 +11,7 @@ use Rattle.s_valid.proofs.Starts.{starts}
 use Rattle.s_agrees.proofs.SpelledScripts.{scripts_agree}
 use Rattle.replies.specs.Answer.{Reply, RunGives, start_reply, run_gives, run_reply, with_stats, behind, end_reply, faulted, trapped}
 use Rattle.drive.specs.Meaning.{BuiltRunsAreAlike}
-use Rattle.drive.proofs.CanonicalFiles.{only_gives}
+use Rattle.drive.proofs.FilesOfModules.{only_gives}
 use Rattle.drive.proofs.Programs.{one_program}
 
 -- the second writes the same to out as the first and ends with the same status
@@ -56,4 +57,4 @@ pub built_runs : BuiltRunsAreAlike
 built_runs p good small steps stats more reply other (inr h) a = absurd (omega (arith, h.0, small))
 built_runs p good small steps stats more reply other (inl h) a =
     let agrees = scripts_agree p good small in
-    runs_alike p good steps more reply other h.1 (only_gives (lowered p) agrees.spelled agrees.within agrees.valid (RunFor steps more) other a)
+    runs_alike p good steps more reply other h.1 (only_gives (lowered p) agrees.within agrees.valid (RunFor steps more) other (Canon (lowered p)) agrees.spelled a)

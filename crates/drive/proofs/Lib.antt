@@ -8,7 +8,7 @@ pub mod Programs
 pub mod OneAnswer
 pub mod TextsDecided
 pub mod SomeAnswer
-pub mod CanonicalFiles
+pub mod FilesOfModules
 pub mod BuiltFiles
 pub mod ScriptRuns
 pub mod WhatActionsGive

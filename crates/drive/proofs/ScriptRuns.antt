@@ -8,7 +8,7 @@ use Rattle.s_code.specs.Lowered.{lowered}
 use Rattle.s_valid.proofs.LoweredValid.{lowered_valid}
 use Rattle.s_valid.proofs.ModuleLimits.{within}
 use Rattle.replies.specs.Answer.{Reply, Compiled, HasModuleFault, ModuleRefusal, RunGives, faulted}
-use Rattle.drive.proofs.CanonicalFiles.{no_fault}
+use Rattle.drive.proofs.FilesOfModules.{no_fault}
 
 -- it is valid and within its limits, so nothing refuses it
 pub never_refused : (p : Script) (m : Module) → Good p → Size p ≤ size_limit → m ≡ lowered p → (r : Reply) → ModuleRefusal m r → ⊥
