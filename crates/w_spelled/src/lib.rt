@@ -1,0 +1,6 @@
+//! Each module that bytes spell has a text, and that text is of no other module.
+#![tactic(auto)]
+
+mod laws;
+
+pub use laws::{one_text, spelled_fits, text_keeps_module};
