@@ -27,17 +27,17 @@ use Rattle.drive.proofs.WhatActionsGive.{is_then_script, given_of}
 
 -- ## Refusals have a status of their own
 
-refused : (written reply : Reply) (n : ℕ) → written ≡ reply → reply.status ≡ suc n → written.status ≡ 0 → ⊥
+pub refused : (written reply : Reply) (n : ℕ) → written ≡ reply → reply.status ≡ suc n → written.status ≡ 0 → ⊥
 refused written reply n is status done = let e = ap (λ (r : Reply). r.status) is in absurd (omega (arith, e, status, done))
 
-malformed_status : (f : DecodeFault) → (malformed f).status ≡ suc 2
+pub malformed_status : (f : DecodeFault) → (malformed f).status ≡ suc 2
 malformed_status decode.Header = refl
 malformed_status (decode.Frame i) = refl
 malformed_status (decode.Content i) = refl
 malformed_status decode.Counts = refl
 malformed_status decode.OutOfMemory = refl
 
-invalid_status : (f : ValidFault) → (n : ℕ) × ((invalid f).status ≡ suc n)
+pub invalid_status : (f : ValidFault) → (n : ℕ) × ((invalid f).status ≡ suc n)
 invalid_status (valid.Limit name) = (8, refl)
 invalid_status (valid.TypeAt i) = (3, refl)
 invalid_status (valid.Import i) = (3, refl)

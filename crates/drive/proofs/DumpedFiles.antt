@@ -1,7 +1,6 @@
 -- What `dump` writes of a module is its text; so `asm` answers of a file of it what `build` answers of the module's file.
-use Rattle.std.proofs.Common.{◌≡◌, ◌≤◌, ℕ, Bool, true, List, [], ◌∷◌, length, inl, inr, refl, sym, ap, subst, ◌∙◌, arith}
+use Rattle.std.proofs.Common.{◌≡◌, ◌≤◌, ℕ, true, List, length, inl, inr, refl, sym, ap, subst, ◌∙◌}
 use Rattle.std.specs.Prelude.{◌↔◌}
-use Rattle.hex.specs.Hex.{IsBytes}
 use Rattle.w_outside.specs.Outside.{Known, holds}
 use Rattle.w_syntax.specs.declared.module.Module.{Module}
 use Rattle.w_syntax.specs.Spells.{Spells}
@@ -11,7 +10,7 @@ use Rattle.w_text.specs.Text.{Text, text_of}
 use Rattle.w_spelled.proofs.ModulesGiven.{spelled_fits}
 use Rattle.words.specs.declared.request.Action.TheVariants.{Build, Dump, Assemble}
 use Rattle.replies.specs.declared.file_kind.FileKind.TheVariants as file
-use Rattle.replies.specs.Answer.{Reply, OnFile, OnBytes, BytesGive, ActionGives, gives, dumped, built, malformed, invalid, is_module, kind_of, module_or_script, input_limit, limit_input}
+use Rattle.replies.specs.Answer.{Reply, OnFile, OnBytes, BytesGive, ActionGives, gives, dumped, malformed, invalid, is_module, kind_of, module_or_script, input_limit, limit_input}
 use Rattle.drive.specs.Dumped.{HoldsDumped, DumpedFilesAreBuilt}
 use Rattle.drive.proofs.BuiltFiles.{refused, malformed_status, invalid_status}
 use Rattle.drive.proofs.FilesOfModules.{file_gives, text_file_gives}

@@ -10,6 +10,7 @@ pub mod TextsDecided
 pub mod SomeAnswer
 pub mod FilesOfModules
 pub mod BuiltFiles
+pub mod DumpedFiles
 pub mod ScriptRuns
 pub mod WhatActionsGive
 pub mod MeaningsOfRuns

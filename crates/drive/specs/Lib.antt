@@ -1,5 +1,6 @@
 pub mod InputFault
 pub mod Built
+pub mod Dumped
 pub mod Laws
 pub mod Delivery
 pub mod Leaving

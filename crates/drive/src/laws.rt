@@ -1,5 +1,6 @@
 //! Laws of the definitions, each the contract of a function that does nothing.
 ghost use Rattle.drive.specs.Built.{BuildIsIdempotent, BuiltFilesAreAccepted, BuiltScriptsAreShort};
+ghost use Rattle.drive.specs.Dumped.{DumpedFilesAreBuilt};
 ghost use Rattle.drive.specs.Laws.{OneAnswer, SomeAnswer};
 ghost use Rattle.drive.specs.Meaning.{AnswersMean, BuiltRunsAreAlike, RunsMean, StoppedRunsMean};
 
@@ -26,6 +27,11 @@ pub fn built_files_are_accepted()
 /// What `build` writes of a script is never too long for a file.
 pub fn built_scripts_are_short()
     ensures { BuiltScriptsAreShort }
+{}
+
+/// What `dump` wrote of a file, `asm` takes for the module of that file.
+pub fn dumped_files_are_built()
+    ensures { DumpedFilesAreBuilt }
 {}
 
 /// The run of a script prints, faults and ends as its meaning says, for each number of reductions.

@@ -16,7 +16,7 @@ mod texts;
 
 pub use laws::{
     answers_to_scripts_mean, build_is_idempotent, built_files_are_accepted, built_runs_are_alike,
-    built_scripts_are_short, one_answer, runs_of_scripts_mean, some_answer,
+    built_scripts_are_short, dumped_files_are_built, one_answer, runs_of_scripts_mean, some_answer,
     stopped_runs_of_scripts_mean,
 };
 pub use program::command;
