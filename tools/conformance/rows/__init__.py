@@ -15,8 +15,8 @@ from rows import (
     running_clauses, running_switches, running_continuations, running_passing, running_subtyping,
     running_switching_traps, running_coroutines, running_switching_limits, running_tail_calls, scripts, script_rules,
     script_sizes, script_names, script_modules, script_runs, script_operators, script_effects, script_random,
-    script_edges, script_slots, script_slot_sizes, script_slot_runs, script_tail_calls, examples, texts, text_refusals,
-    text_lines, text_instructions)
+    script_edges, script_slots, script_slot_sizes, script_slot_runs, script_tail_calls, examples, example_modules,
+    texts, text_refusals, text_lines, text_instructions)
 from surroundings import pieces
 
 
@@ -150,7 +150,7 @@ _FILES = [
         'script_tail_calls', 'Runs of scripts with tail calls, and how these are compiled.', script_tail_calls.CALLS,
         script_tail_calls.ORDER, script_tail_calls.EFFECTS, script_tail_calls.NO_TAIL_CALLS, script_tail_calls.STEPS,
         script_tail_calls.LIMITS, script_tail_calls.MODULES, script_random.WITH_TAIL_CALLS),
-    _modules('examples', 'The scripts of examples/.', examples.SECTION),
+    _modules('examples', 'The scripts and modules of examples/.', examples.SECTION, example_modules.SECTION),
     _modules('texts', 'Modules and their texts, each from the other.', texts.ITEMS, texts.BODIES, texts.WRITTEN),
     _modules(
         'text_refusals', 'Texts of modules that are refused, and files that have no text.', text_refusals.ORDER,
