@@ -57,10 +57,10 @@ def _table_init(name, segment, table):
     return f'{name} {number(table)} {number(segment)}'
 
 
-def _without_memory(indices):
-    """What has so many indices, and then perhaps some of memories, which are 0 and are left out."""
+def _with_memories(indices, memories):
+    """What has so many indices and then so many memories, which are 0 and are left out."""
     def told(name, *words):
-        if any(word != '0' for word in words[indices:]):
+        if words[indices:] != ('0',) * memories:
             raise ValueError('another memory than the one that there is')
         return _alike(*[number] * indices)(name, *words[:indices])
     return told
@@ -97,7 +97,8 @@ FORMS = {
     **_each('block loop if', _block), 'select_t': _select,
     **_each(f'{_of_both(_ACCESSES)} {_LONG_ACCESSES}', _access),
     **_each('call_indirect return_call_indirect', _indirect), 'table.init': _table_init,
-    **_each('memory.size memory.grow memory.fill memory.copy', _without_memory(0)), 'memory.init': _without_memory(1),
+    **_each('memory.size memory.grow memory.fill', _with_memories(0, 1)), 'memory.copy': _with_memories(0, 2),
+    'memory.init': _with_memories(1, 1),
     'resume': _resume,
 }
 

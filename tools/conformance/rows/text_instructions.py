@@ -90,11 +90,11 @@ for name in ('get', 'set', 'tee'):
 row('local.get 300', bytes_of.local_get(300), local_lines=['local 301 i32'], runs=[(301, I32)])
 row('global.get 1', bytes_of.global_get(1), GLOBALS)
 row('global.set 1', bytes_of.global_set(1), GLOBALS)
-row('memory.size', bytes_of.memory_size(0), MEMORY)
-row('memory.grow', bytes_of.memory_grow(0), MEMORY)
-row('memory.fill', bytes_of.memory_fill(0), MEMORY)
-row('memory.copy', bytes_of.memory_copy(0, 0), MEMORY)
-row('memory.init 1', bytes_of.memory_init(1, 0), DATA)
+row('memory.size 0', bytes_of.memory_size(0), MEMORY)
+row('memory.grow 0', bytes_of.memory_grow(0), MEMORY)
+row('memory.fill 0', bytes_of.memory_fill(0), MEMORY)
+row('memory.copy 0 0', bytes_of.memory_copy(0, 0), MEMORY)
+row('memory.init 1 0', bytes_of.memory_init(1, 0), DATA)
 row('data.drop 1', bytes_of.data_drop(1), DATA)
 for heap, word in [(FUNC, 'func'), (NOFUNC, 'nofunc'), (CONT, 'cont'), (NOCONT, 'nocont'), (0, '0')]:
     row(f'ref.null {word}', bytes_of.ref_null(heap))
@@ -132,9 +132,10 @@ GREATEST = {'index': 2 ** 32 - 1, 'alignment': 63, 'offset': 2 ** 64 - 1}
 IMMEDIATES = {
     'index': (
         'br br_if call return_call call_ref return_call_ref local.get local.set local.tee global.get global.set '
-        'table.get table.set table.size table.grow table.fill elem.drop memory.init data.drop ref.func br_on_null '
-        'br_on_non_null cont.new suspend resume ref.null br_table'),
-    'index index': 'call_indirect return_call_indirect table.copy table.init cont.bind switch br_table',
+        'table.get table.set table.size table.grow table.fill elem.drop data.drop ref.func br_on_null '
+        'br_on_non_null memory.size memory.grow memory.fill cont.new suspend resume ref.null br_table'),
+    'index index': (
+        'call_indirect return_call_indirect table.copy table.init memory.init memory.copy cont.bind switch br_table'),
     'alignment offset': 'i32.load i64.load16_u i32.store8 i64.store'}
 
 
@@ -163,7 +164,8 @@ for name, line in [
     more = ['end'] if line.split()[0] in ('block', 'loop', 'if') else []
     EDGES.refused(f'valid-text/{name}', 'invalid function 0', [
         'module', 'func ->', 'function 0', 'unreachable', line, *more, 'unreachable', 'end'])
-for line in ('memory.size 0', 'memory.grow 0', 'memory.fill 0', 'memory.copy 0 0', 'memory.init 0 0', 'memory.init',
+for line in ('memory.size', 'memory.size 0 0', 'memory.grow', 'memory.fill', 'memory.fill 0 0', 'memory.copy 0',
+             'memory.copy 0 0 0', 'memory.init 0', 'memory.init 0 0 0', 'memory.init',
              'data.drop', 'br_table', 'select 0', 'call_indirect 0', 'i32.load 0', 'i32.load', 'i32.add 0',
              'ref.null', 'ref.func func', 'resume', 'cont.new', 'cont.bind 0', 'switch 0', 'suspend', 'suspend 0 0'):
     edge(f'count/{line.replace(" ", "-")}', 'text 4', line)
@@ -198,9 +200,7 @@ form('clauses', 'resume 0@index on:0:1@clause/on* switch:0@clause/switch*')
 form('in-a-constant-expression', 'i32.add', 'module; global i32 const; i32.const 1; i32.const 2', 'end')
 
 # Each name without its last letter, or with this letter twice where that is another name.
-WITHOUT = (
-    'unreachable nop else end return drop select ref.is_null ref.as_non_null memory.size memory.grow memory.fill '
-    'memory.copy')
+WITHOUT = 'unreachable nop else end return drop select ref.is_null ref.as_non_null'
 WORDS = {'block': ' void', 'loop': ' void', 'if': ' void', 'select_t': ' i32', 'i32.const': ' 0', 'i64.const': ' 0'}
 for told, names in IMMEDIATES.items():
     WORDS |= {name: ' 0' * len(told.split()) for name in names.split()}

@@ -254,7 +254,7 @@ for name, said, lines in [
         ('function-of-a-continuation-type', 'invalid function 0', 'func ->; cont 0; function 1; end'),
         ('second-function', 'invalid function 1', 'func ->; func -> i32; function 0; end; function 1; end'),
         ('product-of-nothing', 'invalid function 0', 'func -> i64; function 0; i64.mul; end'),
-        ('memory.size-without-a-memory', 'invalid function 0', 'func -> i32; function 0; memory.size; end')]:
+        ('memory.size-without-a-memory', 'invalid function 0', 'func -> i32; function 0; memory.size 0; end')]:
     JUDGED.refused(f'invalid/{name}', said, f'module; {lines}')
 for name, said, lines in [
         ('text-before-a-type', 'text 2', 'cont 9; tag'), ('text-before-a-type-at-the-end', 'text 2', 'cont 9; tag 0 0'),

@@ -277,7 +277,7 @@ BODIES.both('functions/a-product', spelled(
 BODIES.both('functions/that-name-data', spelled(
     TYPE + sec('functions', '01 00') + sec('memories', '01 00 00') + sec('data_count', '02')
     + code('00 00 FC0801 00 FC0900 0B') + sec('datas', '02 01 00 01 01FF')),
-    f'{TYPE_LINE}; memory 0 -; data passive x; data passive xff; function 0; unreachable; memory.init 1; data.drop 0; '
+    f'{TYPE_LINE}; memory 0 -; data passive x; data passive xff; function 0; unreachable; memory.init 1 0; data.drop 0; '
     'end')
 
 # Indices of two bytes: a function of the last of 200 types.

@@ -1,7 +1,6 @@
 """The instructions of texts: their names, and what their immediates are, in the order of the binary format.
 
-A memory is an immediate that is 0 and takes no word. Labels are all words but the last; types and clauses are all words
-that are left.
+A memory is an index as others are. Labels are all words but the last; types and clauses are all words that are left.
 """
 
 from reader.instructions import LOADS, NUMERIC, STORES
@@ -15,10 +14,10 @@ _NAMES = {
     'index': (
         'br br_if call return_call call_ref return_call_ref br_on_null br_on_non_null local.get local.set local.tee '
         'global.get global.set table.get table.set table.grow table.size table.fill elem.drop data.drop ref.func '
-        'cont.new suspend'),
-    'index index': 'call_indirect return_call_indirect table.init table.copy cont.bind switch',
+        'memory.size memory.grow memory.fill cont.new suspend'),
+    'index index': (
+        'call_indirect return_call_indirect table.init table.copy memory.init memory.copy cont.bind switch'),
     'labels index': 'br_table', 'types': 'select_t', 'heap': 'ref.null', 'index clauses': 'resume',
-    'memory': 'memory.size memory.grow memory.fill', 'memory memory': 'memory.copy', 'index memory': 'memory.init',
     'i32': 'i32.const', 'i64': 'i64.const',
 }
 

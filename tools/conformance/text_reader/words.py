@@ -178,7 +178,7 @@ IMMEDIATES = {
     'index': index, 'alignment': _alignment, 'offset': _offset, 'i32': partial(_constant, 32),
     'i64': partial(_constant, 64), 'heap': lambda words: _heap_type(words.word()), 'shape': _shape,
     'labels': lambda words: words.up_to_the_last(1, index), 'types': lambda words: words.up_to_the_last(0, value_type),
-    'clauses': lambda words: words.up_to_the_last(0, _clause), 'memory': lambda words: 0,
+    'clauses': lambda words: words.up_to_the_last(0, _clause),
 }
 
 

@@ -149,13 +149,6 @@ def _shape(shape):
     return map(_value_type, shape) if shape else ['void']
 
 
-def _memory(memory):
-    """No words: a valid module has one memory at most."""
-    if memory:
-        raise ValueError(f'no text names memory {memory}')
-    return []
-
-
 def _clause(clause):
     return ':'.join(map(str, clause))
 
@@ -168,5 +161,5 @@ def _alone(word):
 _IMMEDIATES = {
     'index': _alone, 'alignment': _alone, 'offset': _alone, 'i32': _alone, 'i64': _alone, 'heap': _alone,
     'shape': _shape, 'labels': list, 'types': lambda types: map(_value_type, types),
-    'clauses': lambda clauses: map(_clause, clauses), 'memory': _memory,
+    'clauses': lambda clauses: map(_clause, clauses),
 }
