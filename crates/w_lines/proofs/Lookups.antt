@@ -1,5 +1,5 @@
 -- Names are looked up by their places in the table.
-use Rattle.std.proofs.Common.{◌≡◌, ℕ, zero, suc, ◌+◌, ◌<◌, ◌≤◌, Bool, true, false, ◌&&◌, cond, List, [], ◌∷◌, length, map, Option, Some, None, refl, sym, ap, ◌∙◌, arith, slice_index_or, slice_get, Bor}
+use Rattle.std.proofs.Common.{◌≡◌, ℕ, zero, suc, ◌+◌, ◌<◌, ◌≤◌, Bool, true, false, ◌&&◌, ◌||◌, cond, List, [], ◌∷◌, length, map, Option, Some, None, refl, sym, ap, ◌∙◌, arith, slice_index_or, slice_get, Bor}
 use Rattle.std.specs.Prelude.{nat_eq}
 use Rattle.std.specs.Str.{bytes_eq}
 use Rattle.std.proofs.lemmas.Bool.Decides.{Decides-eqb}
@@ -8,7 +8,10 @@ use Rattle.w_words.specs.Words.{Word}
 use Rattle.w_words.proofs.Readings.{both}
 use Rattle.w_lines.specs.Instructions.{Row, rows, row_in}
 use Rattle.w_lines.specs.NameTable.{kind_of, names_of, codes_of, kinds_of, IsRow}
+use Rattle.w_lines.specs.Spelling.{Reader, reader_in, is_first, kinds}
+use Rattle.w_lines.specs.declared.line.Line.{Line}
 use Rattle.w_lines.specs.declared.names.Immediates.{Immediates}
+use Rattle.w_lines.proofs.InstructionRows.{names_are_no_kinds}
 
 -- ## Lists
 
@@ -85,19 +88,41 @@ same_some : {A : Type 0} (o : Option A) (x y : A) → o ≡ Some x → o ≡ Som
 same_some None x y e f = absurd cc
 same_some (Some z) x y e f = let s : z ≡ x = cc in let t : z ≡ y = cc in sym s ∙ t
 
--- the row of a name
-pub is_row : (i k : ℕ) (m : Immediates) (w : Word) → slice_get (names_of rows) i ≡ Some w → slice_get (codes_of rows) i ≡ Some k → slice_get (kinds_of rows) i ≡ Some m → IsRow w (record { opcode = k; immediates = m })
-is_row i k m w e f g =
+-- the row of a name, in the table
+record Named (i : ℕ) (w : Word) : Type 0 where
+  row : Row
+  there : slice_get rows i ≡ Some row
+  here : row_in rows w ≡ Some row
+
+named : (i : ℕ) (w : Word) → slice_get (names_of rows) i ≡ Some w → Named i w
+named i w e =
     let a = row_there (λ (r : Row). r.1) rows i w e in
     let q = its_place rows 0 rows i a.0 all_first a.1 in
     let p : first_place rows a.0.1 ≡ i = omega (arith, q) in
-    let here : row_in rows a.0.1 ≡ Some a.0 = sym (at_first rows a.0.1) ∙ ap (slice_get rows) p ∙ a.1 in
+    record { row = a.0; there = a.1; here = ap (row_in rows) (sym a.2) ∙ sym (at_first rows a.0.1) ∙ ap (slice_get rows) p ∙ a.1 }
+
+-- the row of a name
+pub is_row : (i k : ℕ) (m : Immediates) (w : Word) → slice_get (names_of rows) i ≡ Some w → slice_get (codes_of rows) i ≡ Some k → slice_get (kinds_of rows) i ≡ Some m → IsRow w (record { opcode = k; immediates = m })
+is_row i k m w e f g =
+    let n = named i w e in
     record {
-      row = a.0;
-      here = ap (row_in rows) (sym a.2) ∙ here;
-      opcode = same_some (slice_get (codes_of rows) i) a.0.0 k (made_there (λ (r : Row). r.0) rows i a.0 a.1) f;
-      immediates = same_some (slice_get (kinds_of rows) i) (kind_of a.0.2) m (made_there (λ (r : Row). kind_of r.2) rows i a.0 a.1) g;
+      row = n.row;
+      here = n.here;
+      opcode = same_some (slice_get (codes_of rows) i) n.row.0 k (made_there (λ (r : Row). r.0) rows i n.row n.there) f;
+      immediates = same_some (slice_get (kinds_of rows) i) (kind_of n.row.2) m (made_there (λ (r : Row). kind_of r.2) rows i n.row n.there) g;
     }
+
+first_has_reader : (rs : List (Word × Reader Line)) (w : Word) → is_first rs w ≡ true → reader_in rs w ≡ None → ⊥
+first_has_reader [] w t e = absurd cc
+first_has_reader (r ∷ rs) w t e = cases (bytes_eq w r.0) (first_has_reader rs w) t e
+  where
+    cases : (b : Bool) → (is_first rs w ≡ true → reader_in rs w ≡ None → ⊥) → (b || is_first rs w) ≡ true → cond b (Some r.1) (reader_in rs w) ≡ None → ⊥
+    cases true more t e = absurd cc
+    cases false more t e = more t e
+
+-- a word that begins a line of another kind is no name
+pub no_kind_is_named : (w : Word) → is_first kinds w ≡ true → (i : ℕ) → slice_get (names_of rows) i ≡ Some w → ⊥
+no_kind_is_named w t i e = let n = named i w e in first_has_reader kinds w t (names_are_no_kinds w n.row n.here)
 
 found_at : (rs : List Row) (w : Word) (r : Row) → row_in rs w ≡ Some r → (i : ℕ) × (slice_get (names_of rs) i ≡ Some w)
 found_at [] w r e = absurd cc

@@ -1,5 +1,5 @@
 -- The lines of a text: their words, and lines as bytes.
-use Rattle.std.specs.Prelude.{◌≡◌, if◌then◌else◌, ℕ, ◌^◌, ◌<◌, Bool, true, false, nat_eq, List, [], ◌∷◌, ◌++◌, map, Option, Some, None, option_map, codes, decimal, ⊤}
+use Rattle.std.specs.Prelude.{◌≡◌, ◌||◌, if◌then◌else◌, ℕ, ◌^◌, ◌<◌, Bool, true, false, nat_eq, List, [], ◌∷◌, ◌++◌, map, Option, Some, None, option_map, codes, decimal, ⊤}
 use Rattle.std.specs.Str.{bytes_eq}
 use Rattle.hex.specs.Hex.{IsBytes}
 use Rattle.w_types.specs.declared.types.FuncType.{FuncType}
@@ -189,6 +189,11 @@ Reader A = List Word → Option A
 abbrev pub reader_in : {A : Type 0} → List (Word × Reader A) → Word → Option (Reader A)
 reader_in [] w = None
 reader_in (r ∷ rs) w = if bytes_eq w r.0 then Some r.1 else reader_in rs w
+
+-- whether a word is the first of one of these
+abbrev pub is_first : {A : Type 0} → List (Word × Reader A) → Word → Bool
+is_first [] w = false
+is_first (r ∷ rs) w = bytes_eq w r.0 || is_first rs w
 
 abbrev pub by_first : {A : Type 0} → List (Word × Reader A) → Reader A
 by_first rs [] = None

@@ -1,5 +1,6 @@
 //! Instructions: a name, and what stands behind it.
-ghost use Rattle.std.specs.Prelude.{◌≡◌, ◌<◌, ◌^◌, ◌++◌, ℕ, ℤ, List, IfOk, IfSome};
+ghost use Rattle.std.specs.Prelude.{◌≡◌, ◌<◌, ◌≤◌, ◌+◌, ◌^◌, ◌++◌, ℕ, ℤ, List, IfOk, IfSome, length};
+ghost use Rattle.arrayvec.specs.ArrayVec.{array_vec_len};
 ghost use Rattle.w_types.specs.declared.types.HeapType.{HeapType as TheHeap};
 ghost use Rattle.w_types.specs.declared.types.ValType.{ValType as TheType};
 ghost use Rattle.w_syntax.specs.declared.memory_instructions.MemArg.{MemArg as TheMemArg};
@@ -12,6 +13,7 @@ ghost use Rattle.w_lines.specs.Instructions.{Alone, Index, Indices, Access, Cons
 ghost use Rattle.w_lines.specs.NameTable.{IsRow, opcode_bytes, Makes, ReadsAs};
 
 use crate::names::{Immediates, NameRow};
+use arrayvec::ArrayVec;
 use lists::ListOf;
 use std::alloc::{AllocError, Global};
 use w_code::token_at;
@@ -23,6 +25,18 @@ use w_syntax::{
 use w_types::HeapType;
 use w_words::{Words, index_of, labels_of, number_of, read_each, read_one, read_two};
 
+// An opcode of two bytes at most, and two numbers of ten.
+type Spelling = ArrayVec<u8, 22>;
+
+// Adds bytes for which there is room.
+fn extend(bytes: &mut Spelling, more: &[u8])
+    requires { array_vec_len bytes.old + length more.now ≤ 22 }
+    ensures items { bytes.new.items ≡ bytes.old.items ++ more.now }
+    ensures len { array_vec_len bytes.new ≡ array_vec_len bytes.old + length more.now }
+{
+    let _fits = bytes.try_extend_from_slice(more);
+}
+
 // The token that an opcode and what stands behind it spell.
 fn spelled(
     alloc: Global,
@@ -30,15 +44,16 @@ fn spelled(
     first: &[u8],
     second: &[u8],
 ) -> Result<Option<Token>, AllocError>
+    requires { (length first.now ≤ 10) × (length second.now ≤ 10) }
     ensures { IfOk result (ReadsAs (opcode_bytes opcode ++ (first.now ++ second.now))) }
 {
-    let mut bytes = Vec::with_capacity(alloc, 24)?;
+    let mut bytes = Spelling::new();
     if opcode >= 256 {
-        bytes.push((opcode / 256) as u8)?;
+        bytes.push((opcode / 256) as u8);
     }
-    bytes.push((opcode % 256) as u8)?;
-    bytes.extend_from_slice(first)?;
-    bytes.extend_from_slice(second)?;
+    bytes.push((opcode % 256) as u8);
+    extend(&mut bytes, first);
+    extend(&mut bytes, second);
     match token_at(alloc, bytes.as_slice(), 0)? {
         Some((token, _)) => Ok(Some(token)),
         None => Ok(None),

@@ -2,6 +2,9 @@
 ghost use Rattle.std.specs.Prelude.{◌≡◌, ◌<◌, ℕ, IfSome, IfNone, None, Some, slice_get};
 ghost use Rattle.w_lines.specs.Instructions.{rows, row_in};
 ghost use Rattle.w_lines.specs.NameTable.{names_of, codes_of, kinds_of, IsRow};
+ghost use Rattle.w_lines.specs.Spelling.{is_first, kinds};
+
+use w_words::is;
 
 /// What stands behind the name of an instruction.
 #[derive(Clone, Copy)]
@@ -324,15 +327,32 @@ const IMMEDIATES: [Immediates; COUNT] = [
     Immediates::Index,
 ];
 
-// The places of the names in the order of the alphabet. A wrong one costs time alone.
-const IN_ORDER: [u8; COUNT] = [
-    2, 7, 8, 121, 120, 9, 11, 12, 15, 123, 122, 128, 17, 132, 5, 6, 23, 24, 75, 82, 72, 48, 73, 78,
-    79, 51, 50, 112, 111, 59, 60, 55, 56, 57, 58, 27, 31, 32, 29, 30, 53, 54, 77, 52, 83, 74, 80,
-    81, 88, 89, 85, 86, 87, 39, 42, 41, 76, 108, 84, 93, 100, 90, 49, 91, 96, 97, 62, 61, 114, 115,
-    113, 109, 110, 70, 71, 66, 67, 68, 69, 28, 35, 36, 37, 38, 33, 34, 64, 65, 95, 63, 101, 92, 98,
-    99, 106, 107, 103, 104, 105, 40, 44, 45, 43, 94, 102, 4, 20, 21, 22, 3, 129, 130, 47, 127, 46,
-    1, 119, 118, 117, 116, 125, 10, 13, 14, 16, 18, 19, 124, 126, 133, 136, 25, 134, 131, 26, 135,
-    0,
+// A factor by which the hashes of all names differ.
+const FACTOR: u32 = 1_904_966_057;
+
+// How many hashes there are.
+const HASHES: usize = 512;
+
+// The place of a name by its hash, where one has it. A wrong one costs time alone.
+static PLACES: [u8; HASHES] = [
+    0, 44, 0, 0, 0, 0, 0, 27, 0, 0, 0, 0, 59, 0, 0, 93, 0, 126, 0, 0, 0, 0, 0, 40, 103, 0, 0, 0, 0,
+    0, 0, 0, 0, 0, 0, 115, 0, 52, 2, 12, 0, 48, 0, 0, 0, 0, 0, 0, 112, 0, 0, 116, 0, 0, 0, 0, 0, 0,
+    0, 92, 0, 0, 0, 0, 0, 0, 0, 50, 0, 0, 7, 0, 38, 0, 0, 0, 73, 0, 0, 0, 0, 0, 0, 0, 0, 23, 0, 0,
+    0, 0, 0, 0, 0, 67, 3, 0, 0, 0, 17, 0, 0, 0, 0, 0, 34, 0, 101, 0, 129, 0, 32, 75, 0, 0, 41, 39,
+    0, 119, 0, 125, 85, 0, 0, 128, 0, 71, 95, 0, 0, 0, 37, 0, 0, 111, 120, 0, 105, 0, 0, 18, 0, 0,
+    0, 0, 0, 0, 107, 0, 88, 130, 66, 0, 0, 0, 45, 0, 0, 0, 0, 0, 0, 0, 33, 0, 0, 0, 0, 0, 31, 0, 0,
+    0, 0, 0, 135, 123, 0, 0, 28, 121, 13, 26, 11, 70, 0, 0, 0, 0, 0, 0, 108, 0, 83, 0, 104, 0, 0,
+    0, 0, 0, 0, 0, 100, 0, 62, 0, 0, 0, 0, 114, 0, 0, 0, 0, 0, 0, 0, 0, 0, 0, 0, 0, 77, 0, 0, 0,
+    97, 102, 87, 0, 0, 0, 0, 0, 0, 54, 0, 0, 42, 0, 0, 0, 0, 0, 0, 36, 0, 0, 0, 0, 43, 0, 0, 0, 0,
+    0, 0, 0, 0, 0, 0, 0, 0, 134, 0, 0, 0, 58, 0, 99, 0, 0, 0, 0, 0, 21, 0, 0, 0, 0, 16, 0, 0, 0,
+    96, 0, 86, 0, 0, 0, 51, 0, 4, 53, 0, 0, 0, 82, 0, 0, 94, 0, 0, 35, 0, 0, 0, 0, 0, 110, 5, 0, 0,
+    0, 0, 0, 0, 15, 79, 106, 19, 131, 84, 0, 0, 57, 0, 98, 0, 0, 117, 0, 0, 0, 0, 0, 0, 0, 0, 0, 0,
+    30, 14, 90, 0, 0, 0, 0, 22, 0, 0, 0, 113, 46, 0, 0, 0, 0, 0, 0, 0, 81, 0, 0, 0, 0, 24, 109, 0,
+    0, 0, 0, 0, 0, 0, 122, 78, 0, 0, 6, 0, 0, 0, 0, 0, 0, 0, 0, 0, 1, 0, 0, 0, 0, 0, 0, 76, 0, 0,
+    29, 0, 0, 0, 0, 0, 0, 65, 0, 0, 0, 118, 0, 25, 0, 0, 0, 0, 0, 0, 80, 0, 0, 0, 0, 10, 0, 0, 0,
+    0, 9, 0, 0, 0, 56, 0, 74, 0, 0, 69, 72, 133, 0, 0, 47, 0, 0, 0, 0, 0, 8, 0, 0, 0, 0, 0, 0, 0,
+    0, 0, 0, 0, 49, 0, 63, 64, 0, 60, 0, 0, 132, 0, 0, 0, 0, 0, 0, 0, 0, 0, 0, 0, 124, 136, 61, 0,
+    0, 0, 89, 0, 0, 0, 55, 91, 0, 0, 0, 68, 0, 0, 0, 127, 0, 0, 0, 0, 0, 20, 0, 0, 0, 0, 0,
 ];
 
 // The name at a place of the table.
@@ -361,21 +381,38 @@ fn immediates_at(place: usize) -> Immediates
 
 // The place where a name should be, if it is one.
 fn sought_place(name: &[u8]) -> usize {
-    let mut low = 0;
-    let mut high = COUNT - 1;
-    while low < high {
-        let middle = (low + high) / 2;
-        let place = usize::from(IN_ORDER[middle]);
-        if place < COUNT && name_at(place).as_bytes() < name {
-            low = middle + 1;
-        } else {
-            high = middle;
-        }
+    let mut hash: u32 = 0;
+    for byte in name {
+        hash = hash.wrapping_add(u32::from(*byte)).wrapping_mul(FACTOR);
     }
-    usize::from(IN_ORDER[low])
+    usize::from(PLACES[(hash >> 23) as usize])
 }
 
-// The place of a name in the table. Where it isn't at the one where it should be, all are looked at.
+// Whether a word begins a line that is no instruction.
+fn is_kind(word: &[u8]) -> bool
+    ensures { result ≡ is_first kinds word.now }
+{
+    is(word, "module")
+        || is(word, "rec")
+        || is(word, "func")
+        || is(word, "cont")
+        || is(word, "final")
+        || is(word, "open")
+        || is(word, "import")
+        || is(word, "table")
+        || is(word, "memory")
+        || is(word, "tag")
+        || is(word, "global")
+        || is(word, "export")
+        || is(word, "start")
+        || is(word, "elem")
+        || is(word, "data")
+        || is(word, "function")
+        || is(word, "local")
+}
+
+// The place of a name in the table. Where it isn't at the one where it should be, and begins no line of another kind, all are looked at.
+#[tactic(auto, using(crate::proofs::Lookups::no_kind_is_named))]
 fn place_of(name: &[u8]) -> Option<usize>
     ensures some { IfSome result (λ place. (place < 137) × (slice_get (names_of rows) place ≡ Some name.now)) }
     ensures none { IfNone result ((place : ℕ) → slice_get (names_of rows) place ≡ Some name.now → ⊥) }
@@ -383,6 +420,9 @@ fn place_of(name: &[u8]) -> Option<usize>
     let place = sought_place(name);
     if place < COUNT && name == name_at(place).as_bytes() {
         return Some(place);
+    }
+    if is_kind(name) {
+        return None;
     }
     for place in 0..COUNT {
         if name == name_at(place).as_bytes() {
