@@ -1,0 +1,11 @@
+pub mod ShiftedTypes
+pub mod ShiftedMatching
+pub mod Rows
+pub mod ShiftedRows
+pub mod FineTypes
+pub mod FineInstructions
+pub mod Conditions
+pub mod Carried
+pub mod Peaks
+pub mod Identity
+pub mod Itself

@@ -1,0 +1,5 @@
+pub mod Shifted
+pub mod Resolved
+pub mod Fits
+pub mod Fine
+pub mod Laws
