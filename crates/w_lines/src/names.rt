@@ -187,7 +187,7 @@ const OPCODES: [u16; COUNT] = [
     0xFC08, 0xFC09, 0xFC0A, 0xFC0B, 0xFC0C, 0xFC0D, 0xFC0E, 0xFC0F, 0xFC10, 0xFC11,
 ];
 
-const IMMEDIATES: [Immediates; COUNT] = [
+static IMMEDIATES: [Immediates; COUNT] = [
     Immediates::None,
     Immediates::None,
     Immediates::Block,

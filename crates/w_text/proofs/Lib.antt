@@ -11,6 +11,7 @@ pub mod SameKind
 pub mod Segments
 pub mod Openings
 pub mod Assemblies
+pub mod OpenExpressions
 pub mod KeptCounts
 pub mod Feeds
 pub mod Faults

@@ -3,7 +3,7 @@ use Rattle.std.specs.Prelude.{◌≡◌, ℕ, ⊤, List, [], ◌∷◌, ◌++◌
 use Rattle.w_syntax.specs.declared.module.ElemMode.{ElemMode}
 use Rattle.w_syntax.specs.declared.module.ElemMode.TheVariants as elem_mode
 use Rattle.w_syntax.specs.Code.{Code}
-use Rattle.w_syntax.specs.Builds.{Builds}
+use Rattle.w_syntax.specs.Builds.{Builds, Holds}
 use Rattle.w_lines.specs.declared.line.Line.{Line}
 use Rattle.w_lines.specs.declared.line.Mode.{Mode}
 use Rattle.w_lines.specs.declared.line.Mode.TheVariants as mode
@@ -14,7 +14,7 @@ use Rattle.w_text.specs.declared.pending.Open.TheVariants as opened
 use Rattle.w_text.specs.declared.pending.Outcome.{Outcome}
 use Rattle.w_text.specs.declared.pending.Outcome.TheVariants as outcome
 use Rattle.w_text.specs.Items.{Head, TableHead, GlobalHead, ElemHead, DataHead, FunctionHead}
-use Rattle.w_text.specs.Machine.{Open, Between, InGroup, InLocals, InExprs, Next, Opens, Gives, Refuses, State, step}
+use Rattle.w_text.specs.Machine.{Open, Between, InGroup, InLocals, InExprs, Next, Opens, Gives, Refuses, exprs_on, State, step}
 
 -- the state that a line leads to, where it says something
 abbrev pub on_line : State → Option Line → Option State
@@ -59,6 +59,20 @@ IsOpen (InGroup n ts) (opened.Group left types) = (n ≡ left) × (ts ≡ types.
 IsOpen (InLocals x ls) (opened.Locals kind runs) = (x ≡ kind) × (ls ≡ runs)
 IsOpen (InExprs h n cs p c) (opened.Expression what builder) = (h ≡ head_of what) × (n ≡ left_of what) × (cs ≡ exprs_of what) × Builds p c builder
 IsOpen _ _ = ⊥
+
+abbrev pub IsNoExpression : CodeOpen → Type 0
+IsNoExpression (opened.Expression what builder) = ⊥
+IsNoExpression _ = ⊤
+
+-- an expression is open, of which all has come: it is d
+abbrev pub IsClosed : Code → CodeOpen → Type 0
+IsClosed d (opened.Expression what builder) = Holds d builder
+IsClosed d _ = ⊥
+
+-- what comes of it
+abbrev pub closed_next : CodeOpen → Code → Next
+closed_next (opened.Expression what builder) d = exprs_on (head_of what) (left_of what) (exprs_of what ++ d ∷ [])
+closed_next _ d = Refuses
 
 abbrev pub NextIs : Next → Outcome → Type 0
 NextIs (Opens o) (outcome.Opens p) = IsOpen o p

@@ -1,16 +1,17 @@
 //! The module that lines make, as far as they have come.
 ghost use Rattle.std.specs.Prelude.{◌≡◌, Option, IfOk, OnOk, true};
 ghost use Rattle.w_syntax.specs.declared.module.Module.{Module as TheModule};
-ghost use Rattle.w_text.specs.Machine.{Open as TheOpen, Opens, Gives, State, Fresh, rank, rank_after, head_rank, open_rank, add, placed, opening, next, step, finished};
-ghost use Rattle.w_text.specs.Standing.{head_of, IsOpen};
+ghost use Rattle.w_text.specs.Machine.{Open as TheOpen, Next, Opens, Gives, State, Fresh, rank, rank_after, head_rank, open_rank, add, placed, opening, next as after_line, step, finished};
+ghost use Rattle.w_text.specs.Standing.{head_of, IsClosed, IsOpen, NextIs, closed_next};
+ghost use Rattle.w_syntax.specs.Code.{Code};
 ghost use Rattle.w_text.specs.Assembled.{so_far, Stands, SteppedTo};
 
 use crate::item::Item;
-use crate::pending::{Open, Outcome, Pending, next};
+use crate::pending::{Open, Outcome, Pending, finished, next};
 use std::alloc::{AllocError, Global};
 use std::mem;
 use w_lines::Line;
-use w_syntax::Module;
+use w_syntax::{Module, Progress};
 use w_types::{RecGroup, RecGroups};
 
 /// What the lines so far made of a module.
@@ -107,8 +108,9 @@ fn add_item(program: &mut Module, groups: &mut Vec<RecGroup>, item: Item) -> Res
 
 impl Assembly {
     ghost use Rattle.std.specs.Prelude.{◌≡◌, Option, IfOk, true};
-    ghost use Rattle.w_text.specs.Machine.{Open as TheOpen, Opens, Gives, State, Fresh, placed, opening, next, step, finished};
-    ghost use Rattle.w_text.specs.Standing.{IsOpen};
+    ghost use Rattle.w_syntax.specs.Code.{Code};
+    ghost use Rattle.w_text.specs.Machine.{Open as TheOpen, Next, Opens, Gives, State, Fresh, placed, opening, next as after_line, step, finished};
+    ghost use Rattle.w_text.specs.Standing.{IsClosed, IsOpen, NextIs, closed_next};
     ghost use Rattle.w_text.specs.Assembled.{so_far, Stands, SteppedTo};
 
     /// No line yet.
@@ -140,17 +142,47 @@ impl Assembly {
     }
 
     // Goes on with what is open, where its place has not been passed.
-    fn go_on(&mut self, opened: Open) -> bool
+    fn stay(&mut self) -> bool
         requires { self.old.begun ≡ true }
-        ensures { (o : TheOpen) → IsOpen o opened → SteppedTo (placed self.old.place (so_far self.old.program self.old.groups.items) (Opens o)) result self.new }
+        ensures { (o : TheOpen) → IsOpen o self.old.opened → SteppedTo (placed self.old.place (so_far self.old.program self.old.groups.items) (Opens o)) result self.new }
     {
-        let rank = rank_of_open(&opened, self.place);
+        let rank = rank_of_open(&self.opened, self.place);
         if rank < self.place {
             return false;
         }
         self.place = rank;
-        self.opened = opened;
         true
+    }
+
+    // Takes what came of a line.
+    fn follow(&mut self, outcome: Outcome) -> Result<bool, AllocError>
+        requires { self.old.begun ≡ true }
+        ensures { IfOk result (λ r. (n : Next) → NextIs n outcome → SteppedTo (placed self.old.place (so_far self.old.program self.old.groups.items) n) r self.new) }
+    {
+        match outcome {
+            Outcome::Opens(opened) => {
+                self.opened = opened;
+                Ok(self.stay())
+            }
+            Outcome::Gives(item) => self.take(item),
+            Outcome::Refuses => Ok(false),
+        }
+    }
+
+    // Takes the body that the open expression has come to.
+    fn close(&mut self) -> Result<bool, AllocError>
+        requires begun { self.old.begun ≡ true }
+        requires whole { (d : Code) × IsClosed d self.old.opened }
+        ensures { IfOk result (λ r. (d : Code) → IsClosed d self.old.opened → SteppedTo (placed self.old.place (so_far self.old.program self.old.groups.items) (closed_next self.old.opened d)) r self.new) }
+    {
+        match mem::replace(&mut self.opened, Open::Between) {
+            Open::Expression(pending, builder) => {
+                let body = builder.into_body()?;
+                let outcome = finished(self.alloc, pending, body)?;
+                self.follow(outcome)
+            }
+            Open::Between | Open::Group(_, _) | Open::Locals(_, _) => unreachable!(),
+        }
     }
 
     // Takes the first line.
@@ -171,14 +203,22 @@ impl Assembly {
     fn read(&mut self, line: Line) -> Result<bool, AllocError>
         requires begun { self.old.begun ≡ true }
         requires is_open { (o : TheOpen) × IsOpen o self.old.opened }
-        ensures { IfOk result (λ r. (o : TheOpen) → IsOpen o self.old.opened → SteppedTo (placed self.old.place (so_far self.old.program self.old.groups.items) (next o line)) r self.new) }
+        ensures { IfOk result (λ r. (o : TheOpen) → IsOpen o self.old.opened → SteppedTo (placed self.old.place (so_far self.old.program self.old.groups.items) (after_line o line)) r self.new) }
     {
-        let opened = mem::replace(&mut self.opened, Open::Between);
-        match next(self.alloc, opened, line)? {
-            Outcome::Opens(opened) => Ok(self.go_on(opened)),
-            Outcome::Gives(item) => self.take(item),
-            Outcome::Refuses => Ok(false),
+        // Most lines stand in an expression, which grows where it is.
+        if let Open::Expression(_, builder) = &mut self.opened {
+            let Line::Token(token) = line else {
+                return Ok(false);
+            };
+            return match builder.push(token)? {
+                Progress::More => Ok(self.stay()),
+                Progress::Wrong => Ok(false),
+                Progress::Finished => self.close(),
+            };
         }
+        let opened = mem::replace(&mut self.opened, Open::Between);
+        let outcome = next(self.alloc, opened, line)?;
+        self.follow(outcome)
     }
 
     /// Takes a line: `false` exactly where no module goes on with it, and nothing is known of the assembly then. It fails only for

@@ -5,8 +5,8 @@ ghost use Rattle.w_syntax.specs.Builds.{Builds};
 ghost use Rattle.w_syntax.specs.Code.{Code, Done};
 ghost use Rattle.w_syntax.specs.Expr.{Path, Top, step as token_step};
 ghost use Rattle.w_text.specs.Items.{ElemHead};
-ghost use Rattle.w_text.specs.Machine.{Open as TheOpen, Opens, InExprs, exprs_on, expr_on, begin, in_group, in_locals, in_exprs, next};
-ghost use Rattle.w_text.specs.Standing.{mode_of, place_of, head_of, left_of, exprs_of, NextIs, IsOpen};
+ghost use Rattle.w_text.specs.Machine.{Open as TheOpen, Opens, InExprs, exprs_on, expr_on, begin, in_group, in_locals, next};
+ghost use Rattle.w_text.specs.Standing.{mode_of, place_of, head_of, left_of, exprs_of, NextIs, IsNoExpression, IsOpen};
 
 use crate::item::Item;
 use crate::runs::Runs;
@@ -98,8 +98,8 @@ fn with_item(
     items_on(alloc, mode, kind, count, left, items)
 }
 
-// An expression is finished.
-fn finished(alloc: Global, pending: Pending, body: Body) -> Result<Outcome, AllocError>
+/// What comes of an expression that is finished. It fails only for want of memory.
+pub(crate) fn finished(alloc: Global, pending: Pending, body: Body) -> Result<Outcome, AllocError>
     ensures { IfOk result (NextIs (exprs_on (head_of pending) (left_of pending) (exprs_of pending ++ body ∷ []))) }
 {
     match pending {
@@ -146,22 +146,6 @@ fn token_on(
             let body = builder.into_body()?;
             finished(alloc, pending, body)
         }
-    }
-}
-
-// A line where an expression is open.
-fn in_exprs(
-    alloc: Global,
-    pending: Pending,
-    builder: BodyBuilder,
-    line: Line,
-) -> Result<Outcome, AllocError>
-    requires { (p : Path) × (c : Code) × Builds p c builder }
-    ensures { IfOk result (λ r. (p : Path) (c : Code) → Builds p c builder → NextIs (in_exprs (head_of pending) (left_of pending) (exprs_of pending) p c line) r) }
-{
-    match line {
-        Line::Token(token) => token_on(alloc, pending, builder, token),
-        _ => Ok(Outcome::Refuses),
     }
 }
 
@@ -296,15 +280,15 @@ fn in_locals(alloc: Global, kind: u32, runs: Runs, line: Line) -> Result<Outcome
     }
 }
 
-/// What comes of a line where this is open. It fails only for want of memory.
+/// What comes of a line where this is open, and no expression. It fails only for want of memory.
 pub(crate) fn next(alloc: Global, opened: Open, line: Line) -> Result<Outcome, AllocError>
-    requires { (o : TheOpen) × IsOpen o opened }
+    requires { IsNoExpression opened }
     ensures { IfOk result (λ r. (o : TheOpen) → IsOpen o opened → NextIs (next o line) r) }
 {
     match opened {
         Open::Between => begin(alloc, line),
         Open::Group(left, types) => in_group(left, types, line),
         Open::Locals(kind, runs) => in_locals(alloc, kind, runs, line),
-        Open::Expression(pending, builder) => in_exprs(alloc, pending, builder, line),
+        Open::Expression(_, _) => unreachable!(),
     }
 }

@@ -10,6 +10,3 @@ returns-in-Group c = found_next c.in_group.result c.args.opened (opened.Group c.
 
 pub returns-in-Locals : goal.returns-in-Locals
 returns-in-Locals c = found_next c.in_locals.result c.args.opened (opened.Locals c.in-Locals.kind c.in-Locals.runs) c.args.line c.in-Locals.is c.in_locals.ensures
-
-pub returns-in-Expression : goal.returns-in-Expression
-returns-in-Expression c = found_next c.in_exprs.result c.args.opened (opened.Expression c.in-Expression.pending c.in-Expression.builder) c.args.line c.in-Expression.is c.in_exprs.ensures
