@@ -1,5 +1,5 @@
 -- A constant expression by its list.
-use Rattle.std.proofs.Common.{◌↔◌, ◌≡◌, sym, subst, ℕ, ◌+◌, Bool, true, false, ◌&&◌, List, ◌∷◌, [], ◌++◌, IsTrue, refl}
+use Rattle.std.proofs.Common.{◌↔◌, ◌≡◌, sym, subst, ℕ, ◌+◌, List, ◌∷◌, [], ◌++◌, IsTrue, refl}
 use Rattle.std.specs.List.{All, AllByRecursion}
 use Rattle.std.proofs.lemmas.List.Elements.{All-from_recursion, recursion_from_All}
 use Rattle.lists.proofs.Tests.{each_of}

@@ -1,17 +1,14 @@
 -- A constant expression of one instruction, by the type of the instruction.
-use Rattle.std.proofs.Common.{◌≡◌, ◌↔◌, ℕ, ◌+◌, Bool, true, false, ◌&&◌, cond, List, [], ◌∷◌, ◌++◌, length, get_or, Option, Some, None, IsTrue, refl, sym, ap, ◌∙◌, subst, arith}
-use Rattle.std.specs.Prelude.{slice_get}
-use Rattle.std.proofs.lemmas.List.{length-append}
+use Rattle.std.proofs.Common.{◌≡◌, ◌↔◌, ℕ, Bool, true, false, ◌&&◌, cond, List, Option, Some, None, IsTrue, refl, sym, subst, arith}
+use Rattle.std.specs.Prelude.{option_map, slice_get}
 use Rattle.lists.specs.Rows.{Row, ε, ◌▹◌}
 use Rattle.w_types.specs.declared.types.RecGroup.{RecGroup}
 use Rattle.w_types.specs.declared.types.ValType.{ValType}
 use Rattle.w_types.specs.declared.types.ValType.TheVariants.{I32, I64}
 use Rattle.w_syntax.specs.Code.{Code, Done, Plain, Block, If, IfElse}
-use Rattle.w_syntax.specs.Flat.{laid, size, whole}
+use Rattle.w_syntax.specs.Flat.{only}
 use Rattle.w_syntax.specs.declared.instructions.Instr.{Instr}
 use Rattle.w_syntax.specs.declared.instructions.Instr.TheVariants as flat
-use Rattle.w_syntax.specs.declared.packed.PackedInstr.{PackedInstr}
-use Rattle.w_syntax.specs.Packed.{unpacked, unpacked_all}
 use Rattle.w_syntax.specs.declared.instructions.Op.{Op}
 use Rattle.w_syntax.specs.declared.instructions.Op.TheVariants as op
 use Rattle.w_syntax.specs.declared.instructions.ReferenceOp.TheVariants as reference
@@ -30,7 +27,7 @@ use Rattle.w_rules.specs.Matching.{RowMatches, none, more, value}
 use Rattle.w_rules.specs.Types.{has_heap}
 use Rattle.w_rules.specs.Typing.{HasInstrType}
 use Rattle.w_rules.proofs.Preorder.{row_refl, row_trans, row_size}
-use Rattle.w_bodies.specs.Constants.{IsOnly, given, fixed_type, type_of_one}
+use Rattle.w_bodies.specs.Constants.{given, fixed_type, type_of_one}
 
 -- ## What an instruction gives that stands alone
 
@@ -115,30 +112,16 @@ one_judged c keeps o k t found fits is e h =
       λ typed. h.1 (subst (λ (p : Option ValType). Fits c.types p t) (sym e) (one.0 (subst (λ (l : Code). ConstTyped c l t) is typed))),
     )
 
--- ## A body whose list has two instructions
+-- ## A body of one instruction
 
--- is one instruction, and its end
-two_are : (k : Code) (i j : Instr) → whole k ≡ i ∷ j ∷ [] → IsOnly k i
-unfolding laid
-two_are Done i j e = absurd cc
-two_are (Plain p Done) i j e = let f : i ≡ flat.Plain p = cc in (p, f, refl)
-two_are (Plain p (Plain q r)) i j e = absurd (omega (arith, ap length e, length-append (laid 2 r) (flat.End ∷ [])))
-two_are (Plain p (Block k b x r)) i j e =
-    absurd (omega (arith, ap length e, length-append (laid 2 x ++ flat.End ∷ laid (3 + size x) r) (flat.End ∷ []), length-append (laid 2 x) (flat.End ∷ laid (3 + size x) r)))
-two_are (Plain p (If b x r)) i j e =
-    absurd (omega (arith, ap length e, length-append (laid 2 x ++ flat.End ∷ laid (3 + size x) r) (flat.End ∷ []), length-append (laid 2 x) (flat.End ∷ laid (3 + size x) r)))
-two_are (Plain p (IfElse b x y r)) i j e =
-    let rest = laid (3 + size x) y ++ flat.End ∷ laid (4 + size x + size y) r in
-    absurd (omega (arith, ap length e, length-append (laid 2 x ++ flat.Else ∷ rest) (flat.End ∷ []), length-append (laid 2 x) (flat.Else ∷ rest)))
-two_are (Block k b x r) i j e = absurd (omega (arith, ap length e, length-append (laid 1 x ++ flat.End ∷ laid (2 + size x) r) (flat.End ∷ []), length-append (laid 1 x) (flat.End ∷ laid (2 + size x) r)))
-two_are (If b x r) i j e = absurd (omega (arith, ap length e, length-append (laid 1 x ++ flat.End ∷ laid (2 + size x) r) (flat.End ∷ []), length-append (laid 1 x) (flat.End ∷ laid (2 + size x) r)))
-two_are (IfElse b x y r) i j e =
-    let rest = laid (2 + size x) y ++ flat.End ∷ laid (3 + size x + size y) r in
-    absurd (omega (arith, ap length e, length-append (laid 1 x ++ flat.Else ∷ rest) (flat.End ∷ []), length-append (laid 1 x) (flat.Else ∷ rest)))
-
--- the packed instruction at its front is all of it
-pub only_packed : (k : Code) (ps : List PackedInstr) (p : PackedInstr) → unpacked_all ps ≡ whole k → p ≡ get_or ps 0 p → length ps ≡ 2 → IsOnly k (unpacked p)
-only_packed k [] p e f l = absurd (omega (arith, l))
-only_packed k (q ∷ []) p e f l = absurd (omega (arith, l))
-only_packed k (q ∷ r ∷ []) p e f l = two_are k (unpacked p) (unpacked r) (sym e ∙ ap (λ (n : PackedInstr). unpacked n ∷ unpacked r ∷ []) (sym f))
-only_packed k (q ∷ r ∷ t ∷ ps) p e f l = absurd (omega (arith, l))
+-- the one that is found is plain, and all of the body
+pub only_is : (k : Code) (i : Instr) → Some i ≡ option_map (λ o. flat.Plain o) (only k) → (o : Op) × (i ≡ flat.Plain o) × (k ≡ Plain o Done)
+only_is (Plain o Done) i e = (o, cc, refl)
+only_is (Plain o (Plain p r)) i e = absurd cc
+only_is (Plain o (Block kind x b r)) i e = absurd cc
+only_is (Plain o (If x b r)) i e = absurd cc
+only_is (Plain o (IfElse x b d r)) i e = absurd cc
+only_is Done i e = absurd cc
+only_is (Block kind x b r) i e = absurd cc
+only_is (If x b r) i e = absurd cc
+only_is (IfElse x b d r) i e = absurd cc

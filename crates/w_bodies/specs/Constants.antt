@@ -1,9 +1,8 @@
 -- Constant expressions, as lists, and those of one instruction.
-use Rattle.std.specs.Prelude.{◌≡◌, Bool, true, false, cond, Option, Some, None, slice_get}
+use Rattle.std.specs.Prelude.{Bool, true, false, cond, Option, Some, None, slice_get}
 use Rattle.lists.specs.Rows.{ε, ◌▹◌}
 use Rattle.w_types.specs.declared.types.ValType.{ValType}
 use Rattle.w_types.specs.declared.types.ValType.TheVariants.{I32, I64}
-use Rattle.w_syntax.specs.Code.{Code, Done, Plain}
 use Rattle.w_syntax.specs.declared.instructions.Instr.{Instr}
 use Rattle.w_syntax.specs.declared.instructions.Instr.TheVariants as flat
 use Rattle.w_syntax.specs.declared.instructions.Op.{Op}
@@ -40,7 +39,3 @@ type_of_one c (op.Numeric (numeric.I64Const z)) = Some I64
 type_of_one c (op.Reference o) = given (reference_op_type c o)
 type_of_one c (op.Variable (variable.GlobalGet x)) = fixed_type (slice_get c.globals x)
 type_of_one c o = None
-
--- the sequence is this instruction alone
-abbrev pub IsOnly : Code → Instr → Type 0
-IsOnly k i = (o : Op) × (i ≡ flat.Plain o) × (k ≡ Plain o Done)

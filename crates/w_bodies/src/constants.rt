@@ -1,5 +1,5 @@
 //! Constant expressions.
-ghost use Rattle.std.specs.Prelude.{◌≡◌, ◌↔◌, All, IfOk, IfSome, IsTrue, Option};
+ghost use Rattle.std.specs.Prelude.{◌≡◌, ◌↔◌, All, IfOk, IsTrue, Option};
 ghost use Rattle.w_syntax.specs.Code.{Done, Plain};
 ghost use Rattle.w_syntax.specs.declared.packed.PackedInstr.{PackedInstr as Packed};
 ghost use Rattle.w_syntax.specs.Packed.{unpacked};
@@ -14,7 +14,7 @@ ghost use Rattle.w_rules.specs.Conditions.{Holds};
 ghost use Rattle.w_rules.specs.Context.{Context as TheContext};
 ghost use Rattle.w_rules.specs.InstructionTypes.{reference_op_type};
 ghost use Rattle.w_rules.specs.View.{context_in, HasClasses};
-ghost use Rattle.w_bodies.specs.Constants.{IsOnly, is_const_at, given, fixed_type, type_of_one};
+ghost use Rattle.w_bodies.specs.Constants.{is_const_at, given, fixed_type, type_of_one};
 
 use crate::bodies::check_body;
 use std::alloc::{AllocError, Global};
@@ -227,16 +227,6 @@ fn type_of_packed(cx: &Context, packed: &PackedInstr) -> Option<PackedType>
     }
 }
 
-// The instruction of a body of one.
-fn only_of(body: &Body) -> Option<&PackedInstr>
-    ensures { IfSome result (λ p. IsOnly body.now (unpacked p.now)) }
-{
-    match body.instrs() {
-        [packed, _] => Some(packed),
-        _ => None,
-    }
-}
-
 // Whether an expression is constant and gives a value of this type, by checking it as a body.
 fn is_body_typed(
     alloc: Global,
@@ -273,7 +263,7 @@ pub fn is_const_typed(
     requires { HasClasses cx.now }
     ensures { IfOk result (λ typed. IsTrue typed ↔ ConstTyped (context_in cx.now) body.now kind) }
 {
-    match only_of(body) {
+    match body.only() {
         Some(packed) => Ok(is_matched(cx, type_of_packed(cx, packed), kind)),
         None => is_body_typed(alloc, cx, body, kind),
     }

@@ -9,7 +9,7 @@ ghost use Rattle.w_call_ops.specs.Calling.{Calls, Invokes};
 
 use crate::entering::enter;
 use std::alloc::AllocError;
-use w_rules::Checked;
+use w_rules::Runnable;
 use w_segment::Stack;
 use w_tables::Store;
 
@@ -18,7 +18,7 @@ use w_tables::Store;
 /// but for room.
 #[inline(always)]
 pub fn call_own(
-    program: &Checked,
+    program: &Runnable,
     store: &Store,
     stack: &mut Stack,
     address: u32,
@@ -41,7 +41,7 @@ pub fn call_own(
 /// memory, and then the stack is as it was but for room.
 #[inline(always)]
 pub fn invoke_own(
-    program: &Checked,
+    program: &Runnable,
     store: &Store,
     stack: &mut Stack,
     function: u32,

@@ -11,7 +11,7 @@ ghost use Rattle.w_syntax.specs.declared.module.Func.{Func as FuncCode};
 ghost use Rattle.w_call_ops.specs.Entering.{CalleeFits, CanEnter, HasFrameRoom, IsEntered, IsFunction, first_values};
 
 use std::alloc::AllocError;
-use w_rules::{Checked, function_type};
+use w_rules::{Runnable, function_type};
 use w_segment::{Entry, Stack};
 use w_syntax::{Func, LocalRun, Module};
 use w_types::{FuncType, Value};
@@ -78,7 +78,7 @@ fn room_for_frame(
 /// for. It fails only when out of memory, or where there is no room and none may be asked for.
 #[inline(always)]
 pub fn room_for_callee(
-    program: &Checked,
+    program: &Runnable,
     stack: &mut Stack,
     function: u32,
     kind: &FuncType,
@@ -100,7 +100,7 @@ pub fn room_for_callee(
 /// before goes on at the stack's place.
 #[inline(always)]
 pub fn enter_callee(
-    program: &Checked,
+    program: &Runnable,
     stack: &mut Stack,
     function: u32,
     kind: &FuncType,
@@ -138,7 +138,7 @@ pub fn enter_callee(
 /// memory, or where there is no room and none may be asked for, and then the stack is as it was but for room.
 #[inline(never)]
 pub(crate) fn enter(
-    program: &Checked,
+    program: &Runnable,
     stack: &mut Stack,
     function: u32,
     popped: usize,

@@ -22,7 +22,14 @@ fn memarg_at(bytes: &[u8], at: usize) -> Option<(MemArg, usize)>
         return None;
     };
     let align = align as u8;
-    Some((MemArg { align, offset }, next))
+    Some((
+        MemArg {
+            align,
+            memory: 0,
+            offset,
+        },
+        next,
+    ))
 }
 
 // The load. Out of line it is looked up, where a jump would be guessed.

@@ -147,7 +147,7 @@ canon_two = canon_pair (number 32) (number 32) shortest shortest (canon_number 3
 
 canon_memarg : IsCanonical memarg memarg_written
 unfolding memarg
-canon_memarg = canon_image (such_that (λ n. nat_lt n 64) (number 32) ⊗ number 64) (λ p. shortest p.0 ++ shortest p.1) (λ p. record { align = p.0; offset = p.1 }) memarg_written
+canon_memarg = canon_image (such_that (λ n. nat_lt n 64) (number 32) ⊗ number 64) (λ p. shortest p.0 ++ shortest p.1) (λ p. record { align = p.0; memory = 0; offset = p.1 }) memarg_written
     (canon_pair (such_that (λ n. nat_lt n 64) (number 32)) (number 64) shortest shortest (canon_such (λ n. nat_lt n 64) (number 32) shortest (canon_number 32 (omega arith))) (canon_number 64 (omega arith)))
     (λ p. refl)
 

@@ -1,6 +1,5 @@
 mod Cases
 mod BytesBehindBytes
-mod FlatBodies
 mod ItemsWritten
 mod TypesCanonical
 mod InstructionsCanonical

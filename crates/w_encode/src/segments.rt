@@ -49,10 +49,7 @@ fn packed_function(packed: &PackedInstr) -> Option<u32>
 fn function_of_body(body: &Body) -> Option<u32>
     ensures { result ≡ function_of body.now }
 {
-    match body.instrs() {
-        [packed, _] => packed_function(packed),
-        _ => None,
-    }
+    packed_function(body.only()?)
 }
 
 // The function of an item that is one `ref.func`.

@@ -1,13 +1,11 @@
 -- Segments in order: how far they are started.
-use Rattle.std.proofs.Common.{◌≡◌, ℕ, ◌<◌, ◌≤◌, List, length, drop, get_or, sym, ap, ◌∙◌, arith, length-append}
+use Rattle.std.proofs.Common.{◌≡◌, ℕ, ◌<◌, List, length, drop, get_or, sym, ap, ◌∙◌, arith}
 use Rattle.std.specs.Prelude.{Option, Some, option_map}
 use Rattle.std.proofs.lemmas.Option.{slice_get-get_or}
 use Rattle.w_types.specs.declared.value.Value.{Value}
 use Rattle.w_syntax.specs.declared.module.Data.{Data}
 use Rattle.w_syntax.specs.declared.module.Elem.{Elem}
 use Rattle.w_syntax.specs.declared.module.Module.{Module}
-use Rattle.w_rules.specs.Spaces.{imports_by, as_memory}
-use Rattle.w_rules.specs.Valid.{Valid, MemoryItem}
 use Rattle.w_tables.specs.Store as instances
 use Rattle.w_reduce.specs.Store.{Store}
 use Rattle.w_reduce.specs.Program.{Program}
@@ -42,7 +40,3 @@ by_data p s y d = data_started p s y d.mode
 pub record DatasStarted (m : Module) (gs : List Value) (n : ℕ) (first s : instances.Store) (i : ℕ) : Type 0 where
   pub stands : StandsFor m gs n s
   pub same : (p : Program) → in_order (by_data p) (Some (store_of s)) i (drop i m.datas) ≡ in_order (by_data p) (Some (store_of first)) 0 m.datas
-
--- there is at most one memory
-pub one_memory : (m : Module) → Valid m → length m.memories ≤ 1
-one_memory m v = let e = length-append (imports_by as_memory m) m.memories in let h = (v MemoryItem tt).one in omega (arith, e, h)

@@ -1,4 +1,4 @@
--- What a valid module within its limits has room for, and that its expressions are constant.
+-- What a sound module within its limits has room for, and that its expressions are constant.
 use Rattle.std.proofs.Common.{◌≡◌, ℕ, zero, suc, ◌<◌, ◌≤◌, List, [], ◌∷◌, length, get_or, map, refl, sym, ap, ◌∙◌, subst, arith}
 use Rattle.std.specs.Prelude.{Bool, true, false, if◌then◌else◌, nat_le, All, IfSome, Option, Some, None}
 use Rattle.std.proofs.lemmas.List.Elements.{All-get_or, All-weaker}
@@ -22,7 +22,8 @@ use Rattle.w_types.specs.declared.types.ValType.{ValType}
 use Rattle.w_types.specs.declared.types.RefType.{RefType}
 use Rattle.w_types.specs.declared.types.ValType.TheVariants.{Ref}
 use Rattle.w_rules.specs.Spaces.{context_of}
-use Rattle.w_rules.specs.Valid.{Valid, IsInitValid, IsElemModeValid, IsDataModeValid, IsMaxValid, AreLimitsValid, most_pages, most_elements, MemoryItem, TableItem, GlobalItem, ElementItem, DataItem}
+use Rattle.w_rules.specs.Sound.{Sound}
+use Rattle.w_rules.specs.Valid.{IsInitValid, IsElemModeValid, IsDataModeValid, IsMaxValid, AreLimitsValid, most_pages, most_elements, TableItem, GlobalItem, ElementItem, DataItem}
 use Rattle.w_reduce.specs.declared.limit.StartLimit.TheVariants as limit
 use Rattle.w_reduce.specs.Start.{none_above, exceeded}
 use Rattle.w_inst.specs.Constants.{IsConstant}
@@ -59,7 +60,7 @@ pub record FitsIn (bound : ℕ) (l : Limits) : Type 0 where
   pub max : IfSome l.max (λ n. n < 4294967296)
 
 -- the limits of the memory at a place
-pub memory_fits : (m : Module) (xs : List Limits) (i : ℕ) (d : Limits) → Valid m → exceeded m ≡ None → xs ≡ m.memories → i < length xs → FitsIn page_limit (get_or xs i d)
+pub memory_fits : (m : Module) (xs : List Limits) (i : ℕ) (d : Limits) → Sound m → exceeded m ≡ None → xs ≡ m.memories → i < length xs → FitsIn page_limit (get_or xs i d)
 memory_fits m xs i d v w e h =
     let P : List Limits → Type 0 = λ l. i < length l in
     let Q : List Limits → Type 0 = λ l. FitsIn page_limit (get_or l i d) in
@@ -67,7 +68,7 @@ memory_fits m xs i d v w e h =
     let l = get_or m.memories i d in
     subst Q (sym e) (record {
       min = within_at page_limit (λ (n : Limits). n.min) m.memories i d (none_exceeded m w).0 k;
-      max = max_fits most_pages l.min l.max (omega arith) (All-get_or (AreLimitsValid most_pages) m.memories i d k (v MemoryItem tt).limits).max;
+      max = max_fits most_pages l.min l.max (omega arith) (All-get_or (AreLimitsValid most_pages) m.memories i d k v.memories).max;
     })
 
 -- ## Expressions
@@ -77,10 +78,10 @@ constant_typed : (c : Context) (k : Code) (t : ValType) → ConstTyped c k t →
 constant_typed c k t w = record { within = c; constant = w.constant }
 
 -- the global at a place begins with constant code
-pub global_constant : (m : Module) (xs : List GlobalVariable) (i : ℕ) (d : GlobalVariable) → Valid m → xs ≡ m.globals → i < length xs → d ≡ get_or xs i d → IsConstant d.init
+pub global_constant : (m : Module) (xs : List GlobalVariable) (i : ℕ) (d : GlobalVariable) → Sound m → xs ≡ m.globals → i < length xs → d ≡ get_or xs i d → IsConstant d.init
 global_constant m xs i d v e h f =
     let P : List GlobalVariable → Type 0 = λ l. i < length l in
-    let w = v (GlobalItem i) (subst P e h) in
+    let w = v.items (GlobalItem i) refl (subst P e h) in
     let Q : GlobalVariable → Type 0 = λ g. IsConstant g.init in
     let same = sym (get_or_from_slice_get m.globals i w.global d w.is) ∙ ap (λ (l : List GlobalVariable). get_or l i d) (sym e) ∙ sym f in
     subst Q same (constant_typed _ _ _ w.init)
@@ -96,11 +97,11 @@ init_constant m r None h = tt
 init_constant m r (Some k) h = constant_typed _ _ _ h
 
 -- the table at a place
-pub table_fits : (m : Module) (xs : List Table) (i : ℕ) (d : Table) → Valid m → exceeded m ≡ None → xs ≡ m.tables → i < length xs → d ≡ get_or xs i d → TableFits d
+pub table_fits : (m : Module) (xs : List Table) (i : ℕ) (d : Table) → Sound m → exceeded m ≡ None → xs ≡ m.tables → i < length xs → d ≡ get_or xs i d → TableFits d
 table_fits m xs i d v w e h f =
     let P : List Table → Type 0 = λ l. i < length l in
     let k = subst P e h in
-    let t = v (TableItem i) k in
+    let t = v.items (TableItem i) refl k in
     let here = get_or_from_slice_get m.tables i t.table d t.is in
     let same = sym here ∙ ap (λ (l : List Table). get_or l i d) (sym e) ∙ sym f in
     let at_most : t.table.kind.limits.min ≤ table_limit =
@@ -124,10 +125,10 @@ pub record ElementConstant (e : Elem) : Type 0 where
   pub mode : IsElemConstant e.mode
 
 -- the element segment at a place
-pub element_constant : (m : Module) (xs : List Elem) (i : ℕ) (d : Elem) → Valid m → xs ≡ m.elements → i < length xs → d ≡ get_or xs i d → ElementConstant d
+pub element_constant : (m : Module) (xs : List Elem) (i : ℕ) (d : Elem) → Sound m → xs ≡ m.elements → i < length xs → d ≡ get_or xs i d → ElementConstant d
 element_constant m xs i d v e h f =
     let P : List Elem → Type 0 = λ l. i < length l in
-    let w = v (ElementItem i) (subst P e h) in
+    let w = v.items (ElementItem i) refl (subst P e h) in
     let same = sym (get_or_from_slice_get m.elements i w.element d w.is) ∙ ap (λ (l : List Elem). get_or l i d) (sym e) ∙ sym f in
     subst ElementConstant same (record {
       items = All-weaker (λ (k : Code). ConstTyped (context_of m) k (Ref w.element.kind)) IsConstant (λ k t. constant_typed _ _ _ t) w.element.items w.items;
@@ -140,10 +141,10 @@ data_constant m (data_mode.Active x k) h = constant_typed _ _ _ h.1
 data_constant m data_mode.Passive h = tt
 
 -- the data segment at a place
-pub offset_constant : (m : Module) (xs : List Data) (i : ℕ) (d : Data) → Valid m → xs ≡ m.datas → i < length xs → d ≡ get_or xs i d → IsDataConstant d.mode
+pub offset_constant : (m : Module) (xs : List Data) (i : ℕ) (d : Data) → Sound m → xs ≡ m.datas → i < length xs → d ≡ get_or xs i d → IsDataConstant d.mode
 offset_constant m xs i d v e h f =
     let P : List Data → Type 0 = λ l. i < length l in
-    let w = v (DataItem i) (subst P e h) in
+    let w = v.items (DataItem i) refl (subst P e h) in
     let Q : Data → Type 0 = λ x. IsDataConstant x.mode in
     let same = sym (get_or_from_slice_get m.datas i w.segment d w.is) ∙ ap (λ (l : List Data). get_or l i d) (sym e) ∙ sym f in
     subst Q same (data_constant m w.segment.mode w.mode)

@@ -17,15 +17,15 @@ abbrev pub left_by_copy : Bool → instances.Store → Option Store
 left_by_copy true s = Some (store_of s)
 left_by_copy false s = None
 
--- data segment y was copied into the first memory at d, or passed its end
-pub record CopiesData (s : instances.Store) (y d : ℕ) (done : Option (Unit {0})) (t : instances.Store) : Type 0 where
+-- data segment y was copied into memory x at d, or passed its end
+pub record CopiesData (s : instances.Store) (x y d : ℕ) (done : Option (Unit {0})) (t : instances.Store) : Type 0 where
   pub memory : Memory
   pub bytes : List ℕ
   pub left : Memory
-  pub has_memory : slice_get s.memories 0 ≡ Some memory
+  pub has_memory : slice_get s.memories x ≡ Some memory
   pub has_bytes : slice_get s.datas y ≡ Some bytes
   pub copied : init memory bytes d 0 (length bytes) ≡ left_by done left
-  pub new : t ≡ with_memory s left
+  pub new : t ≡ with_memory s x left
 
 -- element segment y was copied into table x at d and dropped, or passed its end
 abbrev pub ElementsCopied : instances.Store → (x y d : ℕ) → Bool → instances.Store → Type 0

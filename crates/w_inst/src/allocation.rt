@@ -1,11 +1,11 @@
 //! Allocation of what asks for no value: functions, memories, tags and data segments (Core, execution, instantiation).
-ghost use Rattle.std.specs.Prelude.{◌≡◌, ◌<◌, ◌≤◌, ◌^◌, All, IfSome, OnOk, None, map};
+ghost use Rattle.std.specs.Prelude.{◌≡◌, ◌<◌, ◌^◌, IfSome, OnOk, None, map};
 ghost use Rattle.w_memory.specs.Memory.{fresh};
 ghost use Rattle.w_tables.specs.declared.entries.FuncEntry.TheVariants as function;
 ghost use Rattle.w_syntax.specs.declared.module.Data.{Data as TheData};
 ghost use Rattle.w_syntax.specs.declared.module.Limits.{Limits as TheLimits};
 ghost use Rattle.w_syntax.specs.declared.module.Tag.{Tag as TheTag};
-ghost use Rattle.w_rules.specs.Valid.{Valid};
+ghost use Rattle.w_rules.specs.Sound.{Sound};
 ghost use Rattle.w_reduce.specs.Start.{own, exceeded};
 ghost use Rattle.w_stands.specs.Values.{store_of};
 ghost use Rattle.w_inst.specs.Adding.{with_functions, with_memories, with_tags, with_datas};
@@ -56,7 +56,7 @@ pub(crate) fn add_memories(
     program: &Module,
 ) -> Result<(), AllocError>
     requires within { exceeded program.now ≡ None }
-    requires valid { Valid program.now }
+    requires sound { Sound program.now }
     ensures added { OnOk result (store_of store.new ≡ with_memories (store_of store.old) (map (λ (l : TheLimits). fresh l.min l.max) program.now.memories)) }
 {
     for limits in program.memories.as_slice() {

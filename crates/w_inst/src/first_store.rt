@@ -1,7 +1,7 @@
 //! The store that a run begins with (Core, execution, instantiation).
 ghost use Rattle.std.specs.Prelude.{◌≡◌, ◌+◌, IfOk, OnOk, None, length};
 ghost use Rattle.w_tables.specs.Operations.{empty};
-ghost use Rattle.w_rules.specs.Valid.{Valid};
+ghost use Rattle.w_rules.specs.Sound.{Sound};
 ghost use Rattle.w_reduce.specs.Program.{Program};
 ghost use Rattle.w_reduce.specs.Start as start;
 ghost use Rattle.w_stands.specs.Values.{vals, store_of};
@@ -31,7 +31,7 @@ fn add_bare(
     printers: &[Printer],
 ) -> Result<(), AllocError>
     requires within { start.exceeded program.now ≡ None }
-    requires valid { Valid program.now }
+    requires sound { Sound program.now }
     requires nothing { store.old ≡ empty }
     ensures bare { OnOk result (store_of store.new ≡ start.bare program.now printers.now) }
 {
@@ -52,7 +52,7 @@ fn add_all(
     functions: usize,
 ) -> Result<(), AllocError>
     requires within { start.exceeded program.now ≡ None }
-    requires valid { Valid program.now }
+    requires sound { Sound program.now }
     requires nothing { store.old ≡ empty }
     requires count { functions ≡ length printers.now + length program.now.functions }
     requires values { (p : Program) → start.with_globals p (start.bare program.now printers.now)
@@ -76,7 +76,7 @@ pub(crate) fn allocate(
     printers: &[Printer],
 ) -> Result<FirstStore, AllocError>
     requires within { start.exceeded program.now ≡ None }
-    requires valid { Valid program.now }
+    requires sound { Sound program.now }
     ensures allocated { IfOk result (λ f. (p : Program) → p.source ≡ program.now → store_of f.store ≡ start.allocated p printers.now) }
     ensures stands { IfOk result (λ f. StandsFor program.now f.globals.items f.functions f.store) }
     ensures segments { IfOk result (λ f. SegmentsFrom program.now 0 f.store) }

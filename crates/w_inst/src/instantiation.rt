@@ -54,7 +54,7 @@ pub struct Instance {
 pub fn instantiate(alloc: Global, checked: &Checked) -> Result<Instance, InstFault>
     ensures begins { (p : Program) → p.source ≡ checked.now → BeginsAs p result }
 {
-    let program = checked.module();
+    let program = checked.runnable().module();
     let printers = match find_printers(alloc, program)? {
         Imports::All(printers) => printers,
         Imports::Missing(import) => return Err(InstFault::Import(import)),

@@ -1,5 +1,5 @@
 //! Active segments, one by one (Core, execution, instantiation).
-ghost use Rattle.std.specs.Prelude.{◌≡◌, ◌<◌, ◌≤◌, ℕ, Some, length, IfNone, IfOk};
+ghost use Rattle.std.specs.Prelude.{◌≡◌, ◌<◌, ℕ, Some, length, IfNone, IfOk};
 ghost use Rattle.w_memory.specs.Memory.{init, left_by};
 ghost use Rattle.w_tables.specs.Operations as op;
 ghost use Rattle.w_reduce.specs.Values.{val};
@@ -41,13 +41,13 @@ fn put_bytes(memory: &mut Mem, bytes: &[u8], at: u32) -> Option<()>
     memory.init(bytes, at, 0, bytes.len() as u32)
 }
 
-// Copies a data segment into the first memory. `None`, a trap, exactly where it passes the end.
-fn copy_data(store: &mut Store, segment: u32, at: u32) -> Option<()>
-    requires memory { 0 < length store.old.memories }
+// Copies a data segment into a memory. `None`, a trap, exactly where it passes the end.
+fn copy_data(store: &mut Store, memory: u32, segment: u32, at: u32) -> Option<()>
+    requires memory { memory < length store.old.memories }
     requires segment { segment < length store.old.datas }
-    ensures copies { CopiesData store.old segment at result store.new }
+    ensures copies { CopiesData store.old memory segment at result store.new }
 {
-    let (memory, bytes) = store.memory_with(Some(segment));
+    let (memory, bytes) = store.memory_with(memory, Some(segment));
     put_bytes(memory, bytes, at)
 }
 
@@ -125,14 +125,13 @@ pub(crate) fn start_element(
 fn put_data(store: &mut Store, memory: u32, segment: u32, at: u32, memories: usize) -> bool
     requires segment { segment < length store.old.datas }
     requires memories { memories ≡ length store.old.memories }
-    requires one { memories ≤ 1 }
     ensures copied { DataCopied store.old memory segment at result store.new }
     ensures keeps { IfWent result (KeepsSizes store.old store.new) }
 {
     if memory as usize >= memories {
         return false;
     }
-    let Some(()) = copy_data(store, segment, at) else {
+    let Some(()) = copy_data(store, memory, segment, at) else {
         return false;
     };
     store.data_drop(segment);
@@ -152,7 +151,6 @@ pub(crate) fn start_data(
     requires constant { IsDataConstant mode.now }
     requires segment { segment < length store.old.datas }
     requires memories { memories ≡ length store.old.memories }
-    requires one { memories ≤ 1 }
     requires sees { Sees globals.now functions (store_of store.old) }
     ensures started { IfOk result (λ went. (p : Program) → start.data_started p (store_of store.old) segment mode.now ≡ left_by_copy went store.new) }
     ensures keeps { IfOk result (λ went. IfWent went (KeepsSizes store.old store.new)) }

@@ -2,7 +2,7 @@
 ghost use Rattle.std.specs.Prelude.{◌≡◌, Some, IfOk};
 ghost use Rattle.w_syntax.specs.declared.module.Data.{Data as TheData};
 ghost use Rattle.w_syntax.specs.declared.module.Elem.{Elem as TheElem};
-ghost use Rattle.w_rules.specs.Valid.{Valid};
+ghost use Rattle.w_rules.specs.Sound.{Sound};
 ghost use Rattle.w_reduce.specs.Program.{Program};
 ghost use Rattle.w_reduce.specs.Start as start;
 ghost use Rattle.w_stands.specs.Values.{store_of};
@@ -23,7 +23,7 @@ pub(crate) fn start_elements(
     globals: &[Value],
     functions: usize,
 ) -> Result<bool, AllocError>
-    requires valid { Valid program.now }
+    requires sound { Sound program.now }
     requires stands { StandsFor program.now globals.now functions store.old }
     requires segments { SegmentsFrom program.now 0 store.old }
     ensures started { IfOk result (λ went. (p : Program)
@@ -52,7 +52,7 @@ pub(crate) fn start_datas(
     globals: &[Value],
     functions: usize,
 ) -> Result<bool, AllocError>
-    requires valid { Valid program.now }
+    requires sound { Sound program.now }
     requires stands { StandsFor program.now globals.now functions store.old }
     ensures started { IfOk result (λ went. (p : Program)
         → start.in_order (λ s y (d : TheData). start.data_started p s y d.mode) (Some (store_of store.old)) 0 program.now.datas ≡ left_by_copy went store.new) }

@@ -1,9 +1,9 @@
 //! Allocation of what asks for values: globals, tables and element segments (Core, execution, instantiation).
-ghost use Rattle.std.specs.Prelude.{◌≡◌, All, IfSome, IfOk, OnOk, None, List, [], map, length};
+ghost use Rattle.std.specs.Prelude.{◌≡◌, All, IfSome, IfOk, OnOk, None, [], map, length};
 ghost use Rattle.w_syntax.specs.Code.{Code};
 ghost use Rattle.w_syntax.specs.Items.{code_of};
 ghost use Rattle.w_syntax.specs.declared.module.Elem.{Elem as TheElem};
-ghost use Rattle.w_rules.specs.Valid.{Valid};
+ghost use Rattle.w_rules.specs.Sound.{Sound};
 ghost use Rattle.w_reduce.specs.Values.{val};
 ghost use Rattle.w_reduce.specs.Store.{Store as TheStore};
 ghost use Rattle.w_reduce.specs.Program.{Program};
@@ -26,7 +26,7 @@ pub(crate) fn global_values(
     program: &Module,
     functions: usize,
 ) -> Result<Vec<Value>, AllocError>
-    requires valid { Valid program.now }
+    requires sound { Sound program.now }
     ensures values { IfOk result (λ vs. (p : Program) (s : TheStore) → length s.functions ≡ functions → s.globals ≡ []
         → start.with_globals p s program.now.globals ≡ record s { globals = vals vs.items }) }
 {
@@ -73,7 +73,7 @@ pub(crate) fn add_tables(
     functions: usize,
 ) -> Result<(), AllocError>
     requires within { start.exceeded program.now ≡ None }
-    requires valid { Valid program.now }
+    requires sound { Sound program.now }
     ensures added { OnOk result ((p : Program) (s : TheStore) → Sees globals.now functions s
         → store_of store.new ≡ with_tables (store_of store.old) (map (start.table_of p s) program.now.tables)) }
 {
@@ -133,7 +133,7 @@ pub(crate) fn add_elements(
     globals: &[Value],
     functions: usize,
 ) -> Result<(), AllocError>
-    requires valid { Valid program.now }
+    requires sound { Sound program.now }
     ensures added { OnOk result ((p : Program) (s : TheStore) → Sees globals.now functions s
         → store_of store.new ≡ with_elements (store_of store.old) (map (λ (e : TheElem). map (value_of p s) e.items) program.now.elements)) }
 {

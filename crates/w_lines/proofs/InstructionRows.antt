@@ -230,11 +230,12 @@ to_has t u w vs ws h e s = subst (λ (v : Token). Has v w ws) s (subst (Has t w)
 accesses : IsListSpelling (λ (m : MemArg). two_words m.align m.offset) access_of ArgFits
 accesses = record {
   sound = λ ws m e. (
-      let a = mapped (λ (p : ℕ × ℕ). record { align = p.0; offset = p.1 }) (two_of (number_of 6) (number_of 64) ws) m e in
+      let a = mapped (λ (p : ℕ × ℕ). record { align = p.0; memory = 0; offset = p.1 }) (two_of (number_of 6) (number_of 64) ws) m e in
       let h = (twos (numbers 6 (omega arith)) (numbers 64 (omega arith))).sound ws a.0 a.1 in
-      subst (λ (n : MemArg). ArgFits n × (two_words n.align n.offset ≡ ws)) a.2 (h.0, h.1));
-  complete = λ m f. ap (option_map (λ (p : ℕ × ℕ). record { align = p.0; offset = p.1 })) ((twos (numbers 6 (omega arith)) (numbers 64 (omega arith))).complete (m.align, m.offset) f);
-  clean = λ m f. (twos (numbers 6 (omega arith)) (numbers 64 (omega arith))).clean (m.align, m.offset) f;
+      subst (λ (n : MemArg). ArgFits n × (two_words n.align n.offset ≡ ws)) a.2 ((h.0.0, refl, h.0.1), h.1));
+  complete = λ m f. ap (option_map (λ (p : ℕ × ℕ). record { align = p.0; memory = 0; offset = p.1 })) ((twos (numbers 6 (omega arith)) (numbers 64 (omega arith))).complete (m.align, m.offset) (f.0, f.2))
+      ∙ ap (λ (x : ℕ). Some (record { align = m.align; memory = x; offset = m.offset })) (sym f.1);
+  clean = λ m f. (twos (numbers 6 (omega arith)) (numbers 64 (omega arith))).clean (m.align, m.offset) (f.0, f.2);
 }
 
 abbrev HandlerFits : ℕ × List Clause → Type 0

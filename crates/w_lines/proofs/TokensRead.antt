@@ -56,21 +56,21 @@ indices_some k x y ws bs cs first second o f e g i s q r h =
 
 -- ## With the alignment and the offset of an access
 
-access_read : (a o : ℕ) (bs cs : List ℕ) → a < 2 ^ 6 → Unsigned 32 bs a → Unsigned 64 cs o → memarg.read (bs ++ cs) ≡ Some (record { align = a; offset = o }, [])
+access_read : (a o : ℕ) (bs cs : List ℕ) → a < 2 ^ 6 → Unsigned 32 bs a → Unsigned 64 cs o → memarg.read (bs ++ cs) ≡ Some (record { align = a; memory = 0; offset = o }, [])
 unfolding memarg
 access_read a o bs cs f u v =
     ap memarg.read (sym (append-nil (bs ++ cs)))
-    ∙ memarg.exact.complete (bs ++ cs) (record { align = a; offset = o }) [] ((a, o), (bs, cs, refl, (u, lt-ltb a 64 (omega (arith, f))), v), refl)
+    ∙ memarg.exact.complete (bs ++ cs) (record { align = a; memory = 0; offset = o }) [] ((a, o), (bs, cs, refl, (u, lt-ltb a 64 (omega (arith, f))), v), refl)
 
 pub access_none : (k : ℕ) (ws : List Word) (f : MemArg → Token) → two_of (number_of 6) (number_of 64) ws ≡ None → Makes k (Access f) ws None
-access_none k ws f e h = sym (ap (λ (o : Option (ℕ × ℕ)). option_map f (option_map (λ (p : ℕ × ℕ). record { align = p.0; offset = p.1 }) o)) e)
+access_none k ws f e h = sym (ap (λ (o : Option (ℕ × ℕ)). option_map f (option_map (λ (p : ℕ × ℕ). record { align = p.0; memory = 0; offset = p.1 }) o)) e)
 
 pub access_some : (k a o : ℕ) (ws : List Word) (bs cs first second : List ℕ) (t : Option Token) (f : MemArg → Token) → two_of (number_of 6) (number_of 64) ws ≡ Some (a, o) → a < 2 ^ 6 → Unsigned 32 first a → Unsigned 64 second o → bs ≡ first → cs ≡ second → ReadsAs (opcode_bytes k ++ (bs ++ cs)) t → Makes k (Access f) ws t
 access_some k a o ws bs cs first second t f e lt g i s q r h =
     let u = subst (λ (l : List ℕ). Unsigned 32 l a) (sym s) g in
     let v = subst (λ (l : List ℕ). Unsigned 64 l o) (sym q) i in
-    r (f (record { align = a; offset = o })) (h (bs ++ cs) [] (record { align = a; offset = o }) (access_read a o bs cs lt u v))
-    ∙ sym (ap (λ (p : Option (ℕ × ℕ)). option_map f (option_map (λ (q : ℕ × ℕ). record { align = q.0; offset = q.1 }) p)) e)
+    r (f (record { align = a; memory = 0; offset = o })) (h (bs ++ cs) [] (record { align = a; memory = 0; offset = o }) (access_read a o bs cs lt u v))
+    ∙ sym (ap (λ (p : Option (ℕ × ℕ)). option_map f (option_map (λ (q : ℕ × ℕ). record { align = q.0; memory = 0; offset = q.1 }) p)) e)
 
 -- ## By the row of the name
 

@@ -1,5 +1,5 @@
 -- The names of instructions, and how their immediates are written.
-use Rattle.std.specs.Prelude.{if◌then◌else◌, ℕ, ◌+◌, ◌^◌, ◌<◌, nat_eq, List, [], ◌∷◌, ◌++◌, map, Option, Some, None, option_map, codes, decimal, ℤ, ⊤}
+use Rattle.std.specs.Prelude.{◌≡◌, if◌then◌else◌, ℕ, ◌+◌, ◌^◌, ◌<◌, nat_eq, List, [], ◌∷◌, ◌++◌, map, Option, Some, None, option_map, codes, decimal, ℤ, ⊤}
 use Rattle.std.specs.Fmt.{signed_decimal}
 use Rattle.std.specs.Str.{bytes_eq}
 use Rattle.w_types.specs.declared.types.HeapType.{HeapType}
@@ -277,8 +277,9 @@ immediates tok.End = []
 
 -- ## What has a text
 
+-- a text names no memory: a load or a store of a file is of its only one
 abbrev pub ArgFits : MemArg → Type 0
-ArgFits m = (m.align < 2 ^ 6) × (m.offset < 2 ^ 64)
+ArgFits m = (m.align < 2 ^ 6) × (m.memory ≡ 0) × (m.offset < 2 ^ 64)
 
 abbrev pub OpFits : Op → Type 0
 OpFits (op.Control (control.Br x)) = Index32 x
@@ -339,7 +340,7 @@ row_in [] w = None
 row_in (r ∷ rs) w = if bytes_eq w r.1 then Some r else row_in rs w
 
 abbrev pub access_of : List Word → Option MemArg
-access_of ws = option_map (λ p. record { align = p.0; offset = p.1 }) (two_of (number_of 6) (number_of 64) ws)
+access_of ws = option_map (λ p. record { align = p.0; memory = 0; offset = p.1 }) (two_of (number_of 6) (number_of 64) ws)
 
 -- a continuation type, and clauses
 abbrev pub handler_of : List Word → Option (ℕ × List Clause)

@@ -1,13 +1,12 @@
 -- Lines as they are written.
 use Rattle.std.specs.Prelude.{ℕ, List, [], ◌∷◌, ◌++◌}
 use Rattle.std.specs.List.{flat_map}
-use Rattle.w_syntax.specs.declared.instructions.Instr.{Instr}
-use Rattle.w_syntax.specs.declared.instructions.Instr.TheVariants as flat
 use Rattle.w_syntax.specs.declared.instructions.Token.{Token}
 use Rattle.w_syntax.specs.declared.instructions.Token.TheVariants as tok
 use Rattle.w_syntax.specs.declared.packed.PackedInstr.{PackedInstr}
 use Rattle.w_syntax.specs.Code.{Code}
 use Rattle.w_syntax.specs.Expr.{tokens}
+use Rattle.w_syntax.specs.Flat.{as_token}
 use Rattle.w_syntax.specs.Packed.{unpacked}
 use Rattle.w_words.specs.Words.{Word, behind_spaces}
 use Rattle.w_lines.specs.declared.line.Line.TheVariants as line
@@ -19,14 +18,6 @@ named_bytes w ws = (w ++ behind_spaces ws) ++ 10 ∷ []
 
 abbrev pub token_bytes : Token → List ℕ
 token_bytes t = line_bytes (line.Token t)
-
--- an instruction of a flat list as a token
-abbrev pub as_token : Instr → Token
-as_token (flat.Plain o) = tok.Plain o
-as_token (flat.Block k b e) = tok.Block k b
-as_token (flat.If b m e) = tok.If b
-as_token flat.Else = tok.Else
-as_token flat.End = tok.End
 
 abbrev pub packed_bytes : PackedInstr → List ℕ
 packed_bytes p = token_bytes (as_token (unpacked p))

@@ -293,16 +293,12 @@ module _ (i : Instance) (c d : Context) (fits : Fits i c d) where
   both true false e f h k is = absurd (cc)
   both false b e f h k is = absurd (cc)
 
-  -- where a file has a memory, there is one at address 0
-  first_has : has_memory c 0 ≡ true → has_memory d 0 ≡ true
-  first_has e = lt-ltb 0 (length d.memories) (omega (arith, fits.memories 0 (ltb-true 0 (length c.memories) e)))
-
-  access_has : (w : ℕ) (a : MemArg) → is_access c w a ≡ true → is_access d w a ≡ true
-  access_has w a = both (has_memory c 0) _ (has_memory d 0) _ first_has (λ e. e)
+  access_has : (w : ℕ) (a : MemArg) → is_access c w a ≡ true → is_access d w (record a { memory = at i.memories a.memory }) ≡ true
+  access_has w a = both (has_memory c a.memory) _ (has_memory d (at i.memories a.memory)) _ (memory_has a.memory) (λ e. e)
 
   fine_memory : (o : MemoryOp) → Fine d.types (instr_shifted i.types (memory_op_type c o)) (memory_op_type d (memory_resolved i o))
-  fine_memory (memory.Load o a) = fine_if d.types i.types (is_access c (load_width o) a) (is_access d (load_width o) a) _ _ (access_has (load_width o) a) (rw (load_shifted i.types o) refl)
-  fine_memory (memory.Store o a) = fine_if d.types i.types (is_access c (store_width o) a) (is_access d (store_width o) a) _ _ (access_has (store_width o) a) (rw (store_shifted i.types o) refl)
+  fine_memory (memory.Load o a) = fine_if d.types i.types (is_access c (load_width o) a) _ _ _ (access_has (load_width o) a) (rw (load_shifted i.types o) refl)
+  fine_memory (memory.Store o a) = fine_if d.types i.types (is_access c (store_width o) a) _ _ _ (access_has (store_width o) a) (rw (store_shifted i.types o) refl)
   fine_memory (memory.Size x) = fine_if d.types i.types (has_memory c x) (has_memory d (at i.memories x)) _ _ (memory_has x) refl
   fine_memory (memory.Grow x) = fine_if d.types i.types (has_memory c x) (has_memory d (at i.memories x)) _ _ (memory_has x) refl
   fine_memory (memory.Init y x) = fine_if d.types i.types (has_memory c x && nat_lt y c.datas) (has_memory d (at i.memories x) && nat_lt (i.datas + y) d.datas) _ _

@@ -117,8 +117,8 @@ module _ (i : Instance) (w : IsWhole i) where
   table_same (table.Fill x) = ap table.Fill (w.tables x)
 
   memory_same : (o : MemoryOp) → memory_resolved i o ≡ o
-  memory_same (memory.Load o arg) = refl
-  memory_same (memory.Store o arg) = refl
+  memory_same (memory.Load o arg) = rw (w.memories arg.memory) refl
+  memory_same (memory.Store o arg) = rw (w.memories arg.memory) refl
   memory_same (memory.Size x) = ap memory.Size (w.memories x)
   memory_same (memory.Grow x) = ap memory.Grow (w.memories x)
   memory_same (memory.Init y x) = rw (none_before i.datas y w.datas, w.memories x) refl

@@ -97,10 +97,10 @@ table_resolved i (table.Grow x) = table.Grow (at i.tables x)
 table_resolved i (table.Size x) = table.Size (at i.tables x)
 table_resolved i (table.Fill x) = table.Fill (at i.tables x)
 
--- A load or a store names no memory, as there is one at most: it is of the memory at address 0, where the file's has to stand.
+-- a load and a store name their memory beside their alignment and offset, which stay as they are
 abbrev pub memory_resolved : Instance → MemoryOp → MemoryOp
-memory_resolved i (memory.Load o arg) = memory.Load o arg
-memory_resolved i (memory.Store o arg) = memory.Store o arg
+memory_resolved i (memory.Load o arg) = memory.Load o (record arg { memory = at i.memories arg.memory })
+memory_resolved i (memory.Store o arg) = memory.Store o (record arg { memory = at i.memories arg.memory })
 memory_resolved i (memory.Size x) = memory.Size (at i.memories x)
 memory_resolved i (memory.Grow x) = memory.Grow (at i.memories x)
 memory_resolved i (memory.Init y x) = memory.Init (i.datas + y) (at i.memories x)

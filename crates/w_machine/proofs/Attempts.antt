@@ -4,7 +4,7 @@ use Rattle.std.specs.Prelude.{Box}
 use Rattle.std.specs.declared.alloc.Global.{Global}
 use Rattle.w_outside.proofs.Growth.{grew_nothing}
 use Rattle.w_syntax.specs.declared.module.Module.{Module}
-use Rattle.w_rules.specs.Valid.{Valid}
+use Rattle.w_rules.specs.Sound.{Sound}
 use Rattle.w_tables.specs.Store as instances
 use Rattle.w_segment.specs.declared.entry.Stage.TheVariants.{Body}
 use Rattle.w_segment.specs.declared.segment.Segment.{Segment}
@@ -45,25 +45,25 @@ pub plain_at : (m : Module) (s : Shape) → s.stage ≡ Body → switches_at (in
 plain_at m s body plain = (λ b. plain, λ v. absurd (let e = sym body ∙ v in cc))
 
 -- there a rule applies
-pub applies_there : {m : Module} {x : Parts} → Valid m → StandsSomewhere m x → (top x.chain).shape.stage ≡ Body
+pub applies_there : {m : Module} {x : Parts} → Sound m → StandsSomewhere m x → (top x.chain).shape.stage ≡ Body
     → switches_at (instr_of m (top x.chain).shape.func (top x.chain).shape.place) ≡ false → Applies m x.store (top x.chain).shape
-applies_there {m = m} {x = x} valid h body plain = plain_applies valid h (plain_at m (top x.chain).shape body plain)
+applies_there {m = m} {x = x} sound h body plain = plain_applies sound h (plain_at m (top x.chain).shape body plain)
 
 -- and where it was taken, so is one of the run
-pub attempted : {m : Module} {x : Parts} → Valid m → (top x.chain).shape.stage ≡ Body → switches_at (instr_of m (top x.chain).shape.func (top x.chain).shape.place) ≡ false
+pub attempted : {m : Module} {x : Parts} → Sound m → (top x.chain).shape.stage ≡ Body → switches_at (instr_of m (top x.chain).shape.func (top x.chain).shape.place) ≡ false
     → (u' : instances.Store) (s' : Shape) (chain' : List Link) (n : ℕ) (b : Bool) → b ≡ nat_le n most_frames → n ≡ frames_in_all chain' → chain' ≡ with_top s' x.chain
     → Takes did.Went m [] x.store (top x.chain).shape u' s' → (held : Option (List ℕ)) → PartsReduce (if b then None else Some (run_stop.Limit Frames)) m x (parts u' chain' x.conts) held held
-attempted {m = m} {x = x} valid body plain u' s' chain' n b test count is takes held =
-    stop_reduces valid (plain_at m (top x.chain).shape body plain) u' s' chain' held held (Ok did.Went) n (if b then None else Some (run_stop.Limit Frames))
+attempted {m = m} {x = x} sound body plain u' s' chain' n b test count is takes held =
+    stop_reduces sound (plain_at m (top x.chain).shape body plain) u' s' chain' held held (Ok did.Went) n (if b then None else Some (run_stop.Limit Frames))
     (ap (λ (y : Bool). if y then None else Some (run_stop.Limit Frames)) test) count is ([], takes, grew_nothing held)
 
 -- where no function was called, that is within the limits
-pub attempted_within : {m : Module} {x : Parts} → Valid m → StandsSomewhere m x → (top x.chain).shape.stage ≡ Body
+pub attempted_within : {m : Module} {x : Parts} → Sound m → StandsSomewhere m x → (top x.chain).shape.stage ≡ Body
     → switches_at (instr_of m (top x.chain).shape.func (top x.chain).shape.place) ≡ false → calls_at (instr_of m (top x.chain).shape.func (top x.chain).shape.place) ≡ false
     → (u' : instances.Store) (s' : Shape) (chain' : List Link) → chain' ≡ with_top s' x.chain → Takes did.Went m [] x.store (top x.chain).shape u' s' → AttemptsStep (Some true) m x (parts u' chain' x.conts)
-attempted_within {m = m} {x = x} valid h body plain none u' s' chain' is takes held =
-    let few = few_there valid (plain_at m (top x.chain).shape body plain) h.stands body none takes in
-    attempted valid body plain u' s' chain' (frames_in_all chain') true (sym (ap (λ (c : List Link). nat_le (frames_in_all c) most_frames) is ∙ few)) refl is takes held
+attempted_within {m = m} {x = x} sound h body plain none u' s' chain' is takes held =
+    let few = few_there sound (plain_at m (top x.chain).shape body plain) h.stands body none takes in
+    attempted sound body plain u' s' chain' (frames_in_all chain') true (sym (ap (λ (c : List Link). nat_le (frames_in_all c) most_frames) is ∙ few)) refl is takes held
 
 -- ## With other room
 

@@ -5,7 +5,7 @@ use Rattle.std.specs.declared.alloc.Global.{Global}
 use Rattle.w_syntax.specs.declared.module.Module.{Module}
 use Rattle.w_canon.specs.declared.entry.Entry.{Entry}
 use Rattle.w_canon.specs.IsClassesOf.{IsClassesOf}
-use Rattle.w_rules.specs.Valid.{Valid}
+use Rattle.w_rules.specs.Sound.{Sound}
 use Rattle.w_segment.specs.declared.segment.Segment.{Segment}
 use Rattle.w_segment.specs.Link.{Link}
 use Rattle.w_conts.specs.Conts.{live_of}
@@ -46,11 +46,11 @@ module _ {m m' : Module} {functions : List ℕ} {x : Parts} {waiting : Option (B
       chained_long (reduces_here None x x' before now program goes here.waiting here.p here.ks here.t here.stands).stand.term
 
   -- it took a reduction
-  pub machine_advanced : (x' : Parts) (before now : Option (List ℕ)) {chain : List Link} {waiting' : Option (Box Segment Global)} (es : List Entry) → IsClassesOf m.types es → Valid m
+  pub machine_advanced : (x' : Parts) (before now : Option (List ℕ)) {chain : List Link} {waiting' : Option (Box Segment Global)} (es : List Entry) → IsClassesOf m.types es → Sound m
       → n < most_reductions → PartsReduce None m' x x' before now → HasTurned waiting x'.chain chain waiting' → IsReached m functions (with_chain chain x') waiting' k (n + 1) a b
-  machine_advanced x' before now {chain = chain} {waiting' = waiting'} es classes valid lt goes t =
+  machine_advanced x' before now {chain = chain} {waiting' = waiting'} es classes sound lt goes t =
       subst (λ (o : Option RunStop). IsReached m functions (with_chain chain x') waiting' o (n + 1) a b) (sym (none_stopped k none))
-      (advanced es classes valid reached lt (reduces_here None x x' before now program goes) t)
+      (advanced es classes sound reached lt (reduces_here None x x' before now program goes) t)
 
   -- it was stopped
   pub machine_stopped : (x' : Parts) (before now : Option (List ℕ)) (y : RunStop) (c made_then live_then : ℕ) → c ≡ counted y → made_then ≡ length x.conts.entries → live_then ≡ live_of x.conts
@@ -61,11 +61,11 @@ module _ {m m' : Module} {functions : List ℕ} {x : Parts} {waiting : Option (B
 
   -- its step
   pub machine_steps : (x' : Parts) (before now : Option (List ℕ)) (q : Position) (r : Option RunStop) → record { program = m; taken = n; stop = k } ≡ q → r ≡ None
-      → Valid m → PartsReduce None m' x x' before now → Steps q r (record { program = m; taken = n + 1; stop = k }) before now
-  machine_steps x' before now q r view is valid goes =
+      → Sound m → PartsReduce None m' x x' before now → Steps q r (record { program = m; taken = n + 1; stop = k }) before now
+  machine_steps x' before now q r view is sound goes =
       subst₂ (λ (y : Position) (z : Option RunStop). Steps y z (record { program = m; taken = n + 1; stop = k }) before now) view (sym is)
       (subst (λ (o : Option RunStop). Steps (record { program = m; taken = n; stop = o }) None (record { program = m; taken = n + 1; stop = o }) before now) (sym (none_stopped k none))
-      (stepped (record { program = m; taken = n; stop = None }) valid reached (reduces_here None x x' before now program goes)))
+      (stepped (record { program = m; taken = n; stop = None }) sound reached (reduces_here None x x' before now program goes)))
 
   pub machine_step_stopped : (x' : Parts) (before now : Option (List ℕ)) (q : Position) (y : RunStop) (c : ℕ) → record { program = m; taken = n; stop = k } ≡ q
       → c ≡ counted y → PartsReduce (Some y) m' x x' before now → Steps q (Some y) (record { program = m; taken = n + c; stop = Some y }) before now
@@ -91,11 +91,11 @@ module _ {m m' : Module} {functions : List ℕ} {x : Parts} {waiting : Option (B
   segments_stay x' before now es classes nothing goes = machine_went_long k program none h x' before now es classes (stopped_as m' x x' before now r None nothing goes)
 
   -- it took a reduction, and keeps nothing
-  pub keeps_nothing : (x' : Parts) (before now : Option (List ℕ)) {chain : List Link} {waiting' : Option (Box Segment Global)} (es : List Entry) → IsClassesOf m.types es → Valid m
+  pub keeps_nothing : (x' : Parts) (before now : Option (List ℕ)) {chain : List Link} {waiting' : Option (Box Segment Global)} (es : List Entry) → IsClassesOf m.types es → Sound m
       → n < most_reductions → r ≡ None → PartsReduce r m' x x' before now → HasTurned waiting x'.chain chain waiting' → IsReached m functions (with_chain chain x') waiting' r (n + 1) a b
-  keeps_nothing x' before now {chain = chain} {waiting' = waiting'} es classes valid lt nothing goes t =
+  keeps_nothing x' before now {chain = chain} {waiting' = waiting'} es classes sound lt nothing goes t =
       subst (λ (o : Option RunStop). IsReached m functions (with_chain chain x') waiting' o (n + 1) a b) (none_stopped k none ∙ sym nothing)
-      (machine_advanced k program none h x' before now es classes valid lt (stopped_as m' x x' before now r None nothing goes) t)
+      (machine_advanced k program none h x' before now es classes sound lt (stopped_as m' x x' before now r None nothing goes) t)
 
   -- it was stopped, and keeps why
   pub keeps_something : (x' : Parts) (before now : Option (List ℕ)) (y : RunStop) (c made_then live_then : ℕ) → c ≡ counted y → made_then ≡ length x.conts.entries → live_then ≡ live_of x.conts
@@ -107,10 +107,10 @@ module _ {m m' : Module} {functions : List ℕ} {x : Parts} {waiting : Option (B
 
   -- its step
   pub steps_on : (x' : Parts) (before now : Option (List ℕ)) (q : Position) → record { program = m; taken = n; stop = k } ≡ q → r ≡ None
-      → Valid m → PartsReduce r m' x x' before now → Steps q r (record { program = m; taken = n + 1; stop = r }) before now
-  steps_on x' before now q view nothing valid goes =
+      → Sound m → PartsReduce r m' x x' before now → Steps q r (record { program = m; taken = n + 1; stop = r }) before now
+  steps_on x' before now q view nothing sound goes =
       subst (λ (o : Option RunStop). Steps q r (record { program = m; taken = n + 1; stop = o }) before now) (none_stopped k none ∙ sym nothing)
-      (machine_steps k program none h x' before now q r view nothing valid (stopped_as m' x x' before now r None nothing goes))
+      (machine_steps k program none h x' before now q r view nothing sound (stopped_as m' x x' before now r None nothing goes))
 
   pub steps_last : (x' : Parts) (before now : Option (List ℕ)) (q : Position) (y : RunStop) (c : ℕ) → record { program = m; taken = n; stop = k } ≡ q
       → c ≡ counted y → r ≡ Some y → PartsReduce r m' x x' before now → Steps q r (record { program = m; taken = n + c; stop = r }) before now

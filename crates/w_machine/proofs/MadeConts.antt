@@ -1,7 +1,7 @@
 -- An instruction that switches stacks makes at most one continuation.
 use Rattle.std.proofs.Common.{◌≡◌, ℕ, zero, suc, ◌+◌, ◌-◌, ◌≤◌, List, [], ◌∷◌, ◌++◌, length, Option, None, refl, ap, arith, length-append}
 use Rattle.std.specs.Prelude.{slice_set}
-use Rattle.lists.specs.Rows.{Row, ε, row_of}
+use Rattle.lists.specs.Rows.{Row, row_of}
 use Rattle.w_syntax.specs.Code.{Code}
 use Rattle.w_syntax.specs.declared.instructions.SwitchingOp.{SwitchingOp}
 use Rattle.w_syntax.specs.declared.instructions.SwitchingOp.TheVariants as switching

@@ -7,7 +7,7 @@ use Rattle.w_syntax.specs.Code.{Code, Done, Plain, Block, If, IfElse}
 use Rattle.w_syntax.specs.declared.instructions.Op.TheVariants as op
 use Rattle.w_syntax.specs.declared.module.Module.{Module}
 use Rattle.w_rules.specs.Operands.{Operand}
-use Rattle.w_rules.specs.Valid.{Valid}
+use Rattle.w_rules.specs.Sound.{Sound}
 use Rattle.w_segment.specs.declared.segment.Segment.{Segment}
 use Rattle.w_segment.specs.declared.entry.Stage.{Stage}
 use Rattle.w_segment.specs.declared.entry.Stage.TheVariants as stage
@@ -147,10 +147,10 @@ safe_running is_limited never = refl
 safe_running (ends {vs = vs} h) never = absurd (never vs refl)
 
 -- a rule applies
-still_running : {m : Module} {waiting : Option ℕ} {x : Parts} {p : Program} {ks : List (Option Continuation)} {t : Term} → Valid m → Stands m waiting x p ks t → (IsLast x.chain → ⊥)
+still_running : {m : Module} {waiting : Option ℕ} {x : Parts} {p : Program} {ks : List (Option Continuation)} {t : Term} → Sound m → Stands m waiting x p ks t → (IsLast x.chain → ⊥)
     → outcome_by (reduce p (whole x.store ks) t) ≡ Running
-still_running {waiting = waiting} {x = x} {p = p} {ks = ks} {t = t} valid h not =
-    safe_running (reduces_safely valid h) (λ vs is.
+still_running {waiting = waiting} {x = x} {p = p} {ks = ks} {t = t} sound h not =
+    safe_running (reduces_safely sound h) (λ vs is.
     let last = end_reached_by p (whole x.store ks) t.around t.operands vs t.rest.ahead t.rest.code (switches t.rest.ahead t.rest.code) refl (limited_end _ vs is) in
     let more = more_left waiting h.stand.term not in
     absurd (cc))
@@ -184,11 +184,11 @@ module _ {m : Module} {functions : List ℕ} {x : Parts} {waiting : Option (Box 
       let l = ended_last (top x.chain).shape.stage x.chain k refl e in
       subst (λ (y : RunStop). IsReached m functions x waiting (Some y) n (length x.conts.entries) (live_of x.conts)) (sym l.1) (end_reached l.0)
 
-  stops_there : Valid m → (r : Option RunStop) → r ≡ end_at x.chain → (p : Program) (s₀ : Store) (t₀ : Term) → Begins m p s₀ t₀ → IsStoppedBy (Run p s₀ t₀ n) r
-  stops_there valid None e p s₀ t₀ begins =
+  stops_there : Sound m → (r : Option RunStop) → r ≡ end_at x.chain → (p : Program) (s₀ : Store) (t₀ : Term) → Begins m p s₀ t₀ → IsStoppedBy (Run p s₀ t₀ n) r
+  stops_there sound None e p s₀ t₀ begins =
       let at = h.reached p s₀ t₀ begins in
-      outcome_here p at.is ∙ still_running valid at.stands (none_last (top x.chain).shape.stage x.chain refl e)
-  stops_there valid (Some k) e p s₀ t₀ begins = stops_so k x.chain _ ((some_reached k e).reached p s₀ t₀ begins).0
+      outcome_here p at.is ∙ still_running sound at.stands (none_last (top x.chain).shape.stage x.chain refl e)
+  stops_there sound (Some k) e p s₀ t₀ begins = stops_so k x.chain _ ((some_reached k e).reached p s₀ t₀ begins).0
 
 -- none of this is a fault
 no_fault : (r : Option RunStop) (xs : List Link) → r ≡ end_at xs → IsNoFault r
@@ -214,20 +214,20 @@ module _ {m : Module} {functions : List ℕ} {x : Parts} {waiting : Option (Box 
           subst (λ (u : ℕ). IsReached m functions x waiting (Some y) n u d) (sym made)
           (subst (λ (v : ℕ). IsReached m functions x waiting (Some y) n (length x.conts.entries) v) (sym live) (some_reached none_reached y t))
 
-  stops_all : Valid m → (p : Program) (s₀ : Store) (t₀ : Term) → Begins q.program p s₀ t₀ → IsStoppedBy (Run p s₀ t₀ q.taken) r
-  stops_all valid = subst (λ (x : Position). (p : Program) (s₀ : Store) (t₀ : Term) → Begins x.program p s₀ t₀ → IsStoppedBy (Run p s₀ t₀ x.taken) r) view (stops_there none_reached valid r result_is)
+  stops_all : Sound m → (p : Program) (s₀ : Store) (t₀ : Term) → Begins q.program p s₀ t₀ → IsStoppedBy (Run p s₀ t₀ q.taken) r
+  stops_all sound = subst (λ (x : Position). (p : Program) (s₀ : Store) (t₀ : Term) → Begins x.program p s₀ t₀ → IsStoppedBy (Run p s₀ t₀ x.taken) r) view (stops_there none_reached sound r result_is)
 
   -- it has ended
-  pub stops_some : Valid m → true ≡ is_some r → StopsIfEnded q r (record { program = m; taken = n; stop = r })
-  stops_some valid some = (subst (λ (x : Position). record { program = m; taken = n; stop = r } ≡ with_stop x r) view (after_some r some), no_fault r x.chain result_is, stops_all valid)
+  pub stops_some : Sound m → true ≡ is_some r → StopsIfEnded q r (record { program = m; taken = n; stop = r })
+  stops_some sound some = (subst (λ (x : Position). record { program = m; taken = n; stop = r } ≡ with_stop x r) view (after_some r some), no_fault r x.chain result_is, stops_all sound)
     where
       after_some : (o : Option RunStop) → true ≡ is_some o → record { program = m; taken = n; stop = o } ≡ with_stop (record { program = m; taken = n; stop = k }) o
       after_some (Some x) e = refl
       after_some None e = absurd (cc)
 
   -- nothing is
-  pub stops_none : Valid m → false ≡ is_some r → StopsIfEnded q r q
-  stops_none valid e = (after_none r e, no_fault r x.chain result_is, stops_all valid)
+  pub stops_none : Sound m → false ≡ is_some r → StopsIfEnded q r q
+  stops_none sound e = (after_none r e, no_fault r x.chain result_is, stops_all sound)
     where
       after_none : (o : Option RunStop) → false ≡ is_some o → q ≡ with_stop q o
       after_none None e = refl

@@ -9,7 +9,7 @@ use Rattle.w_syntax.specs.declared.module.Module.{Module}
 use Rattle.w_syntax.specs.declared.module.TableType.{TableType}
 use Rattle.w_canon.specs.declared.entry.Entry.{Entry}
 use Rattle.w_canon.specs.IsClassesOf.{IsClassesOf}
-use Rattle.w_rules.specs.Valid.{Valid}
+use Rattle.w_rules.specs.Sound.{Sound}
 use Rattle.w_tables.specs.Store as instances
 use Rattle.w_segment.specs.Holds.{AllOf}
 use Rattle.w_reduce.specs.Values.{val}
@@ -53,6 +53,6 @@ store_plain : {m : Module} (u : instances.Store) → StoreTyped m [] (store_of u
 store_plain u h = record { tables = tables_plain u.tables h.tables; globals = globals_plain u.globals h.globals; segments = segments_plain u.elems h.elements }
 
 -- that with which a run begins has none
-pub begins_plain : {m : Module} (es : List Entry) (u : instances.Store) (main : ℕ) → IsClassesOf m.types es → Valid m → BeginsWith m u main → StoreHolds IsPlain u
-begins_plain {m = m} es u main classes valid with_this =
-    store_plain u (starts_typed (program_by m es) _ _ (is_program m es classes) valid (with_this (program_by m es) refl)).typed.store
+pub begins_plain : {m : Module} (es : List Entry) (u : instances.Store) (main : ℕ) → IsClassesOf m.types es → Sound m → BeginsWith m u main → StoreHolds IsPlain u
+begins_plain {m = m} es u main classes sound with_this =
+    store_plain u (starts_typed (program_by m es) _ _ (is_program m es classes) sound (with_this (program_by m es) refl)).typed.store

@@ -11,7 +11,7 @@ use Rattle.w_canon.specs.Tests.{index_test}
 use Rattle.w_canon.proofs.MatchingTests.{index_decided}
 use Rattle.w_rules.specs.Matching.{known}
 use Rattle.w_rules.specs.Operands.{Operand}
-use Rattle.w_rules.specs.Valid.{Valid}
+use Rattle.w_rules.specs.Sound.{Sound}
 use Rattle.w_rules.proofs.Preorder.{row_size}
 use Rattle.w_segment.specs.declared.segment.Segment.{Segment}
 use Rattle.w_segment.specs.declared.entry.Stage.{Stage}
@@ -89,11 +89,11 @@ limited_within (Limited l) text v t is = absurd (cc)
 limited_within (Ended vs) text v t is = absurd (cc)
 limited_within Stuck text v t is = absurd (cc)
 
-module _ {m : Module} {waiting : Option ℕ} {x : Parts} {p : Program} {ks : List (Option Continuation)} {t : Term} (valid : Valid m) (h : Stands m waiting x p ks t) where
+module _ {m : Module} {waiting : Option ℕ} {x : Parts} {p : Program} {ks : List (Option Continuation)} {t : Term} (sound : Sound m) (h : Stands m waiting x p ks t) where
   -- the reduction is safe
   pub reduces_safely : IsSafe p.source h.arrows h.results (reduce p (whole x.store ks) t)
   reduces_safely =
-      reductions_are_safe p h.arrows h.results (whole x.store ks) t h.stand.program (subst Valid (sym h.stand.source) valid)
+      reductions_are_safe p h.arrows h.results (whole x.store ks) t h.stand.program (subst Sound (sym h.stand.source) sound)
       (subst (λ (n : Module). Typed n h.arrows h.results (whole x.store ks) t) (sym h.stand.source) h.typed)
 
   -- it is typed again

@@ -3,7 +3,7 @@ use Rattle.std.proofs.Common.{◌≡◌, ◌≢◌, ℕ, ◌≤◌, false, List,
 use Rattle.lists.specs.Rows.{Row}
 use Rattle.w_syntax.specs.declared.module.Module.{Module}
 use Rattle.w_rules.specs.Operands.{Operand}
-use Rattle.w_rules.specs.Valid.{Valid, MemoryItem}
+use Rattle.w_rules.specs.Sound.{Sound}
 use Rattle.w_segment.specs.declared.entry.Stage.TheVariants.{Body}
 use Rattle.w_segment.specs.Shape.{Shape}
 use Rattle.w_segment.specs.Link.{top}
@@ -25,7 +25,6 @@ use Rattle.w_plain.specs.Plainness.{switches_at, calls_at}
 use Rattle.w_switching.specs.Sound.{most_segments}
 use Rattle.w_typed.specs.Values.{Arrows}
 use Rattle.w_typed.specs.Configurations.{Typed, IsSafe, goes, traps, is_limited, ends}
-use Rattle.w_typed.proofs.Places.{instance_count}
 use Rattle.w_typed.proofs.Reductions.{reductions_are_safe}
 use Rattle.w_machine.specs.Parts.{Parts, whole}
 use Rattle.w_machine.specs.Standing.{behind_of, Stands, StandsSomewhere}
@@ -38,9 +37,9 @@ use Rattle.w_machine.proofs.ConfigurationCounts.{all_handles}
 
 -- ## The module
 
--- what was checked is valid
-pub known_valid : {m checked : Module} {functions : List ℕ} → IsKnown m checked functions → Valid checked → Valid m
-known_valid known valid = subst (λ (n : Module). Valid n) known.checked_is valid
+-- what runs is sound
+pub known_sound : {m runnable : Module} {functions : List ℕ} → IsKnown m runnable functions → Sound runnable → Sound m
+known_sound known sound = subst (λ (n : Module). Sound n) known.runnable_is sound
 
 -- ## What comes next
 
@@ -81,13 +80,9 @@ module _ {m : Module} {waiting : Option ℕ} {x : Parts} {p : Program} {ks : Lis
   typed_by h = subst (λ (n : Module). Typed n h.arrows h.results (whole x.store ks) t) (sym h.stand.source) h.typed
 
   -- to the configuration a rule applies
-  pub rule_applies : Valid m → Stands m waiting x p ks t → reduce p (whole x.store ks) t ≢ Stuck
-  rule_applies valid h is =
-      never_stuck (reductions_are_safe p h.arrows h.results (whole x.store ks) t h.stand.program (subst Valid (sym h.stand.source) valid) (typed_by h)) is
-
-  -- there is at most one memory
-  pub one_memory : Valid m → Stands m waiting x p ks t → length x.store.memories ≤ 1
-  one_memory valid h = let one = (valid MemoryItem tt).one in let same = instance_count h.typed.store.memories in subst (λ (n : ℕ). n ≤ 1) (sym same) one
+  pub rule_applies : Sound m → Stands m waiting x p ks t → reduce p (whole x.store ks) t ≢ Stuck
+  rule_applies sound h is =
+      never_stuck (reductions_are_safe p h.arrows h.results (whole x.store ks) t h.stand.program (subst Sound (sym h.stand.source) sound) (typed_by h)) is
 
   -- there are few segments
   pub few_segments : Stands m waiting x p ks t → length x.chain ≤ most_segments
@@ -105,21 +100,18 @@ module _ {m : Module} {waiting : Option ℕ} {x : Parts} {p : Program} {ks : Lis
       ∙ plain_apart ks p (store_of x.store) t.around (stack (top x.chain).shape.operands) t.rest.ahead t.rest.code (plain_next (head h).stands f)
 
   -- so a rule applies where the innermost segment stands
-  pub standing_at : Valid m → (h : Stands m waiting x p ks t) → IsPlainAt m (top x.chain).shape → Configured m x.store (top x.chain).shape p (head h).o t.around t.rest
-  standing_at valid h f = record {
+  pub standing_at : Sound m → (h : Stands m waiting x p ks t) → IsPlainAt m (top x.chain).shape → Configured m x.store (top x.chain).shape p (head h).o t.around t.rest
+  standing_at sound h f = record {
     source = h.stand.source;
     program = h.stand.program;
     short = h.stand.short;
     narrow = h.stand.narrow;
     stands = (head h).stands;
-    applies = λ is. rule_applies valid h (ap limited (alone h f ∙ ap (apart ks) is));
+    applies = λ is. rule_applies sound h (ap limited (alone h f ∙ ap (apart ks) is));
     room = links_top m x.chain h.room.running;
     fits = next_fits h;
   }
 
 -- wherever they stand
-pub memory_there : {m : Module} {x : Parts} → Valid m → StandsSomewhere m x → length x.store.memories ≤ 1
-memory_there valid h = one_memory valid h.stands
-
-pub plain_applies : {m : Module} {x : Parts} → Valid m → StandsSomewhere m x → IsPlainAt m (top x.chain).shape → Applies m x.store (top x.chain).shape
-plain_applies valid h f = record { p = h.p; o = (head h.stands).o; e = h.t.around; r = h.t.rest; at = standing_at valid h.stands f }
+pub plain_applies : {m : Module} {x : Parts} → Sound m → StandsSomewhere m x → IsPlainAt m (top x.chain).shape → Applies m x.store (top x.chain).shape
+plain_applies sound h f = record { p = h.p; o = (head h.stands).o; e = h.t.around; r = h.t.rest; at = standing_at sound h.stands f }

@@ -3,7 +3,7 @@ use Rattle.std.proofs.Common.{◌≡◌, ◌⊎◌, inl, inr, ℕ, ◌≤◌, Bo
 use Rattle.w_outside.specs.Outside.{Grew, GrewByFront, IsFront}
 use Rattle.w_outside.proofs.Growth.{grew_nothing}
 use Rattle.w_syntax.specs.declared.module.Module.{Module}
-use Rattle.w_rules.specs.Valid.{Valid}
+use Rattle.w_rules.specs.Sound.{Sound}
 use Rattle.w_tables.specs.Store as instances
 use Rattle.w_segment.specs.Holds.{Holds}
 use Rattle.w_segment.specs.Shape.{Shape}
@@ -114,7 +114,7 @@ led_to {s = s} to = record { around = to.around; operands = stack s.operands; re
 
 -- ## Each answer
 
-module _ {m : Module} {x : Parts} (valid : Valid m) (f : IsPlainAt m (top x.chain).shape) where
+module _ {m : Module} {x : Parts} (sound : Sound m) (f : IsPlainAt m (top x.chain).shape) where
   -- references are still those of the store
   kept_values : {waiting : Option ℕ} {p : Program} {ks : List (Option Continuation)} {t : Term} {d : Did} {text : List ℕ} {u' : instances.Store} {s' : Shape} → Stands m waiting x p ks t
       → TakesPlain d m text x.store (top x.chain).shape u' s' → StoreHolds (λ v. is_of x.conts v ≡ true) u' × Holds (λ v. is_of x.conts v ≡ true) s'
@@ -149,7 +149,7 @@ module _ {m : Module} {x : Parts} (valid : Valid m) (f : IsPlainAt m (top x.chai
       → calls_at (instr_of m (top x.chain).shape.func (top x.chain).shape.place) ≡ false → {u' : instances.Store} {s' : Shape} → TakesPlain did.Went m [] x.store (top x.chain).shape u' s'
       → nat_le (frames_in_all (with_top s' x.chain)) most_frames ≡ true
   few_there {p = p} {t = t} h body none {u'} {s'} takes =
-      let to = takes.goes p (head h).o t.around t.rest (standing_at valid h f) in
+      let to = takes.goes p (head h).o t.around t.rest (standing_at sound h f) in
       let fewer = no_more_frames p (store_of x.store) t.around (stack (top x.chain).shape.operands) t.rest.ahead t.rest.code (plain_next (head h).stands f)
       (calls_in (head h).stands body ∙ none) [] (store_of u') (led_to to) to.is in
       let same = all_frames (stands_there h to) in
@@ -160,7 +160,7 @@ module _ {m : Module} {x : Parts} (valid : Valid m) (f : IsPlainAt m (top x.chai
   went : (u' : instances.Store) (s' : Shape) (before now : Option (List ℕ)) (b : Bool) → nat_le (frames_in_all (with_top s' x.chain)) most_frames ≡ b
       → Printed (Ok did.Went) before now m x.store (top x.chain).shape u' s' → PartsReduce (if b then None else Some (run_stop.Limit Frames)) m x (parts u' (with_top s' x.chain) x.conts) before now
   went u' s' before now true few (text, takes, grew) waiting p ks t h =
-      let to = takes.goes p (head h).o t.around t.rest (standing_at valid h f) in
+      let to = takes.goes p (head h).o t.around t.rest (standing_at sound h f) in
       let values = kept_values h takes in
       record {
         text = text;
@@ -175,7 +175,7 @@ module _ {m : Module} {x : Parts} (valid : Valid m) (f : IsPlainAt m (top x.chai
         grew = grew;
       }
   went u' s' before now false many (text, takes, grew) waiting p ks t h =
-      let to = takes.goes p (head h).o t.around t.rest (standing_at valid h f) in
+      let to = takes.goes p (head h).o t.around t.rest (standing_at sound h f) in
       let n : nat_le (frames to.around) most_frames ≡ false = frames_there h to false many in (
         ap limited (alone h f ∙ ap (apart ks) to.is) ∙ past text (whole u' ks) (led_to to) n,
         elim (quiet_text text (store_of u') (led_to to)
@@ -188,13 +188,13 @@ module _ {m : Module} {x : Parts} (valid : Valid m) (f : IsPlainAt m (top x.chai
   trapped : (u' : instances.Store) (s' : Shape) (before now : Option (List ℕ)) (t : Trap) → Printed (Ok (did.Trapped t)) before now m x.store (top x.chain).shape u' s'
       → PartsReduce (Some (run_stop.Trapped t)) m x (parts u' (with_top s' x.chain) x.conts) before now
   trapped u' s' before now y (text, takes, grew) waiting p ks t h =
-      (ap limited (alone h f ∙ ap (apart ks) (takes.goes.0 p (head h).o t.around t.rest (standing_at valid h f))), grew_none takes.goes.1 grew)
+      (ap limited (alone h f ∙ ap (apart ks) (takes.goes.0 p (head h).o t.around t.rest (standing_at sound h f))), grew_none takes.goes.1 grew)
 
   began : {before now : Option (List ℕ)} {waiting : Option ℕ} {p : Program} {ks : List (Option Continuation)} {t : Term} → Stands m waiting x p ks t
       → Began before now m x.store (top x.chain).shape → (now ≡ before) ⊎ Begun (reduce p (whole x.store ks) t) before now
   began h (inl same) = inl same
   began {waiting = waiting} {p = p} {ks = ks} {t = t} h (inr (text, prints, grew)) =
-      let at = prints p (head h).o t.around t.rest (standing_at valid h f) in
+      let at = prints p (head h).o t.around t.rest (standing_at sound h f) in
       elim (quiet_text text at.0 at.1
       (plainly_next [] p (store_of x.store) t.around (stack (top x.chain).shape.operands) t.rest.ahead t.rest.code (plain_next (head h).stands f)) at.2) [
         | inl none ↦ inl (front_none none grew)

@@ -8,7 +8,7 @@ use Rattle.w_syntax.specs.Code.{Done}
 use Rattle.w_syntax.specs.declared.module.Module.{Module}
 use Rattle.w_rules.specs.Matching.{known}
 use Rattle.w_rules.specs.Operands.{Operand}
-use Rattle.w_rules.specs.Valid.{Valid}
+use Rattle.w_rules.specs.Sound.{Sound}
 use Rattle.w_segment.specs.declared.entry.Stage.TheVariants.{Values}
 use Rattle.w_segment.specs.Shape.{Shape}
 use Rattle.w_segment.specs.Link.{Link, top, rest}
@@ -88,11 +88,11 @@ holds_safe (ends h) = λ o v w is. absurd (cc)
 
 module _ {m : Module} {waiting : Option ℕ} {x : Parts} {p : Program} {ks : List (Option Continuation)} {t : Term} where
   -- after the next reduction no frame holds more
-  pub holds_next : Valid m → Stands m waiting x p ks t → HoldsAfter m (next p (whole x.store ks) t.around t.operands t.rest.ahead t.rest.code)
-  holds_next valid h =
+  pub holds_next : Sound m → Stands m waiting x p ks t → HoldsAfter m (next p (whole x.store ks) t.around t.operands t.rest.ahead t.rest.code)
+  holds_next sound h =
       let d = next p (whole x.store ks) t.around t.operands t.rest.ahead t.rest.code in
       subst (λ (n : Module). HoldsAfter n d) h.stand.source
-      (holds_safe (nexts_are_safe p h.arrows h.results (whole x.store ks) t h.stand.program (subst Valid (sym h.stand.source) valid)
+      (holds_safe (nexts_are_safe p h.arrows h.results (whole x.store ks) t h.stand.program (subst Sound (sym h.stand.source) sound)
       (subst (λ (n : Module). Typed n h.arrows h.results (whole x.store ks) t) (sym h.stand.source) h.typed)))
 
   -- before it there is room for what comes next
@@ -124,10 +124,10 @@ inside_rest (only h q) two b = absurd (omega (arith, two))
 inside_rest (around h q clauses w k) two b = values_rest h b
 
 -- the segment around it has room for the values
-pub leaving_room : {m : Module} {x : Parts} → Valid m → StandsSomewhere m x → 1 < length x.chain → (top x.chain).shape.stage ≡ Values
+pub leaving_room : {m : Module} {x : Parts} → Sound m → StandsSomewhere m x → 1 < length x.chain → (top x.chain).shape.stage ≡ Values
     → HasRoomFor (length (top x.chain).shape.operands) (rest x.chain)
-leaving_room {m} {x} valid h two b =
+leaving_room {m} {x} sound h two b =
     let t = h.t in
     let s = whole x.store h.ks in
     exit_room h.stands.stand two b h.stands.room.running
-    (subst (λ (r : Rest). HoldsAfter m (next h.p s t.around t.operands r.ahead r.code)) (inside_rest h.stands.stand.term two b) (holds_next valid h.stands))
+    (subst (λ (r : Rest). HoldsAfter m (next h.p s t.around t.operands r.ahead r.code)) (inside_rest h.stands.stand.term two b) (holds_next sound h.stands))

@@ -6,7 +6,7 @@ use Rattle.lists.specs.Rows.{Row, ε}
 use Rattle.w_syntax.specs.declared.module.Module.{Module}
 use Rattle.w_canon.specs.declared.entry.Entry.{Entry}
 use Rattle.w_canon.specs.IsClassesOf.{IsClassesOf}
-use Rattle.w_rules.specs.Valid.{Valid}
+use Rattle.w_rules.specs.Sound.{Sound as SoundModule}
 use Rattle.w_segment.specs.declared.segment.Segment.{Segment}
 use Rattle.w_segment.specs.Link.{Link, top, one}
 use Rattle.w_segment.specs.Shape.{Capacity, fresh_shape}
@@ -57,7 +57,7 @@ turn_chained main c outer empty behind = only (fresh_in main c outer behind) emp
 -- ## One run
 
 module _ {m : Module} {waiting : Option ℕ} {x : Parts} {n : ℕ} {p : Program} {x' : Parts} {k : ℕ} {before now : Option (List ℕ)} (s₀ : Store) (t₀ : Term)
-    (valid : Valid m) (at : IsReachedAt m waiting x n p (Run p s₀ t₀ n)) (went : TakesReduction m waiting p (reduce p (whole x.store at.ks) at.t) k x' before now) where
+    (valid : SoundModule m) (at : IsReachedAt m waiting x n p (Run p s₀ t₀ n)) (went : TakesReduction m waiting p (reduce p (whole x.store at.ks) at.t) k x' before now) where
   -- it was running
   pub was_running : (Run p s₀ t₀ n).outcome ≡ Running
   was_running = (state_went p at.is went.is).0
@@ -76,7 +76,7 @@ module _ {m : Module} {waiting : Option ℕ} {x : Parts} {n : ℕ} {p : Program}
 
 -- the segments that run next stand for the next state of the run
 pub next_at : {m : Module} {waiting waiting' : Option ℕ} {x : Parts} {n : ℕ} {p : Program} {x' : Parts} {chain : List Link} {k : ℕ} {before now : Option (List ℕ)}
-    (s₀ : Store) (t₀ : Term) → Valid m → (at : IsReachedAt m waiting x n p (Run p s₀ t₀ n)) → TakesReduction m waiting p (reduce p (whole x.store at.ks) at.t) k x' before now
+    (s₀ : Store) (t₀ : Term) → SoundModule m → (at : IsReachedAt m waiting x n p (Run p s₀ t₀ n)) → TakesReduction m waiting p (reduce p (whole x.store at.ks) at.t) k x' before now
     → Turn waiting x'.chain waiting' chain → IsReachedAt m waiting' (with_chain chain x') (n + 1) p (Run p s₀ t₀ (n + 1))
 next_at {x = x} {p = p} {x' = x'} s₀ t₀ valid at went (stays_on done) =
     let typed = went_typed valid at.stands went.is in
@@ -165,7 +165,7 @@ turned {waiting = waiting} xs chain {waiting' = waiting'} fresh some stays turns
 
 -- the machine stands for the run with one reduction more
 pub advanced : {m : Module} {functions : List ℕ} {x : Parts} {waiting : Option (Box Segment Global)} {n a b : ℕ} {x' : Parts}
-    {before now : Option (List ℕ)} {chain : List Link} {waiting' : Option (Box Segment Global)} (es : List Entry) → IsClassesOf m.types es → Valid m
+    {before now : Option (List ℕ)} {chain : List Link} {waiting' : Option (Box Segment Global)} (es : List Entry) → IsClassesOf m.types es → SoundModule m
     → IsReached m functions x waiting None n a b → n < most_reductions → PartsReduce None m x x' before now → HasTurned waiting x'.chain chain waiting'
     → IsReached m functions (with_chain chain x') waiting' None (n + 1) a b
 advanced {waiting = waiting} {n = n} es classes valid h lt goes t =
@@ -186,7 +186,7 @@ advanced {waiting = waiting} {n = n} es classes valid h lt goes t =
 
 -- and so it took a step
 pub stepped : {functions : List ℕ} {x : Parts} {waiting : Option (Box Segment Global)} {a b : ℕ} {x' : Parts}
-    {before now : Option (List ℕ)} (old : Position) → Valid old.program → IsReached old.program functions x waiting None old.taken a b
+    {before now : Option (List ℕ)} (old : Position) → SoundModule old.program → IsReached old.program functions x waiting None old.taken a b
     → PartsReduce None old.program x x' before now → StepsFrom None old None (record old { taken = old.taken + 1 }) before now
 stepped {waiting = waiting} old valid h goes = (
   refl,

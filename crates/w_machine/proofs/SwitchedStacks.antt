@@ -9,7 +9,7 @@ use Rattle.w_syntax.specs.declared.instructions.Instr.TheVariants as flat
 use Rattle.w_syntax.specs.declared.instructions.Op.TheVariants as op
 use Rattle.w_syntax.specs.declared.instructions.SwitchingOp.{SwitchingOp}
 use Rattle.w_syntax.specs.declared.module.Module.{Module}
-use Rattle.w_rules.specs.Valid.{Valid}
+use Rattle.w_rules.specs.Sound.{Sound as SoundModule}
 use Rattle.w_tables.specs.Store as instances
 use Rattle.w_segment.specs.declared.entry.Stage.TheVariants.{Body}
 use Rattle.w_segment.specs.Holds.{AllOf}
@@ -82,7 +82,7 @@ comes_in : {m : Module} {outer : Context} {behind : Rest} {s : Shape} {e : Conte
     → instr_of m s.func s.place ≡ Some (flat.Plain (op.Switching o)) → Comes o r
 comes_in o k b h = let there = here k b in let at = shows_plain (op.Switching o) there.reads h in record { code = at.following; is = there.rest ∙ ap rest_of at.is }
 
-module _ {m : Module} {x : Parts} (valid : Valid m) (o : SwitchingOp) (b : (top x.chain).shape.stage ≡ Body)
+module _ {m : Module} {x : Parts} (valid : SoundModule m) (o : SwitchingOp) (b : (top x.chain).shape.stage ≡ Body)
     (at : instr_of m (top x.chain).shape.func (top x.chain).shape.place ≡ Some (flat.Plain (op.Switching o))) where
   module _ {waiting : Option ℕ} {p : Program} {ks : List (Option Continuation)} {t : Term} (h : Stands m waiting x p ks t) where
     comes : Comes o t.rest

@@ -21,8 +21,8 @@ use Rattle.w_rules.specs.InstructionTypes.{InstrType, fixed, switching_op_type, 
 use Rattle.w_rules.specs.Operands.{Operand, Known}
 use Rattle.w_rules.specs.Spaces.{context_of}
 use Rattle.w_rules.specs.Typing.{HasInstrType}
-use Rattle.w_rules.specs.Valid.{Valid}
-use Rattle.w_rules.proofs.ValidTypes.{keeps_kinds}
+use Rattle.w_rules.specs.Sound.{Sound}
+use Rattle.w_typed.proofs.KeptComposites.{keeps_kinds}
 use Rattle.w_segment.specs.Link.{top}
 use Rattle.w_conts.specs.Conts.{kept_at}
 use Rattle.w_reduce.specs.Store.{Store}
@@ -106,7 +106,7 @@ switched_typed : {m : Module} {K : Arrows} {vs : Row Val} {a : ℕ} {ts ws : Row
     → HasInstrType m.types (switched_type x beneath (Some other)) ts ws → ValuesTyped m K (vs ▹ Cont a) ts → ContinuationTyped m K a (Index x)
 switched_typed keeps x beneath other h v = fixed_typed keeps x beneath (row_of other.params) h v
 
-module _ {m : Module} (valid : Valid m) {K : Arrows} {s : Store} (u : StoreTyped m K s) where
+module _ {m : Module} (sound : Sound m) {K : Arrows} {s : Store} (u : StoreTyped m K s) where
   -- it takes as many values as that has parameters
   takes_params : (a x : ℕ) (type : FuncType) (k : Continuation) → cont_of (context_of m) x ≡ Some type → ContinuationTyped m K a (Index x) → slice_get s.conts a ≡ Some (Some k)
       → k.takes ≡ length type.params
@@ -114,7 +114,7 @@ module _ {m : Module} (valid : Valid m) {K : Arrows} {s : Store} (u : StoreTyped
       let here = instance_at a c.arrow u.conts c.is in
       let item : here.item ≡ Some k = let q = here.is in cc in
       let takes = kept_takes (subst (λ (o : Option Continuation). ContTyped m K o c.arrow) item here.holds) in
-      let below : SameCont m c.index type = cont_matches m valid (one_type m c.heap) type is in
+      let below : SameCont m c.index type = cont_matches m sound (one_type m c.heap) type is in
       let one : c.type ≡ below.type = let p = c.has_type in let q = below.has_type in cc in
       let first = one_length c.matches.params in
       let second = one_length below.matches.params in
@@ -125,7 +125,7 @@ module _ {m : Module} (valid : Valid m) {K : Arrows} {s : Store} (u : StoreTyped
       → cont_of (context_of m) y ≡ Some t → length t.params ≤ k.takes
   bind_takes x y a k t n there is =
       let c : BindTyped (in_scope m n.scope) x y = n.condition in
-      let b = bound_typed (keeps_kinds m valid) n.ins n.outs x y c.one c.other (rw (c.has_one, c.has_other) at n.has_type) n.operands in
+      let b = bound_typed (keeps_kinds m sound) n.ins n.outs x y c.one c.other (rw (c.has_one, c.has_other) at n.has_type) n.operands in
       let takes = takes_params a x c.one k c.has_one b.reference there in
       let less = b.less in
       let same : t ≡ c.other = let q = c.has_other in cc in
@@ -136,7 +136,7 @@ module _ {m : Module} (valid : Valid m) {K : Arrows} {s : Store} (u : StoreTyped
   switch_takes : (x e a : ℕ) (k : Continuation) {vs : Row Val} → TypedNext m K (vs ▹ Cont a) (switching.Switch x e) → slice_get s.conts a ≡ Some (Some k) → 1 ≤ k.takes
   switch_takes x e a k n there =
       let c : SwitchTyped (in_scope m n.scope) x e = n.condition in
-      let top = switched_typed (keeps_kinds m valid) x c.beneath c.other (rw (c.has_one, c.params, c.has_other) at n.has_type) n.operands in
+      let top = switched_typed (keeps_kinds m sound) x c.beneath c.other (rw (c.has_one, c.params, c.has_other) at n.has_type) n.operands in
       let takes = takes_params a x c.one k c.has_one top there in
       let long : size (row_of c.one.params) ≡ length c.one.params = size-row_of c.one.params in
       let some = ap (λ (r : Row ValType). size r) c.params in
@@ -144,7 +144,7 @@ module _ {m : Module} (valid : Valid m) {K : Arrows} {s : Store} (u : StoreTyped
 
 -- ## Operands of a segment
 
-module _ {m : Module} (valid : Valid m) {waiting : Option ℕ} {x : Parts} {p : Program} {ks : List (Option Continuation)} {t : Term} (h : Stands m waiting x p ks t) where
+module _ {m : Module} (sound : Sound m) {waiting : Option ℕ} {x : Parts} {p : Program} {ks : List (Option Continuation)} {t : Term} (h : Stands m waiting x p ks t) where
   -- the continuation on top, as the configuration has it
   there : (r : ContRef) (vs : List Value) (b : Stored) → (top x.chain).shape.operands ≡ value.Cont r ∷ vs → kept_at x.conts r.serial ≡ Some b → KeptThere m (whole x.store ks) r.serial b
   there r vs b on is = kept_there h.stand r (reference_of x.chain x.conts r vs h.sound on) b is
@@ -159,9 +159,9 @@ module _ {m : Module} (valid : Valid m) {waiting : Option ℕ} {x : Parts} {p : 
   takes_enough (switching.ContNew y) c is = tt
   takes_enough (switching.ContBind y z) c is = λ f f_is r vs b on b_is.
       let k = there r vs b on b_is in
-      subst (λ (n : ℕ). length f.params ≤ n) k.takes (bind_takes valid h.typed.store y z r.serial k.k f (next_with (switching.ContBind y z) c r vs is on) k.is f_is)
+      subst (λ (n : ℕ). length f.params ≤ n) k.takes (bind_takes sound h.typed.store y z r.serial k.k f (next_with (switching.ContBind y z) c r vs is on) k.is f_is)
   takes_enough (switching.Suspend e) c is = tt
   takes_enough (switching.Resume y hs) c is = tt
   takes_enough (switching.Switch y e) c is = λ r vs b on b_is.
       let k = there r vs b on b_is in
-      subst (λ (n : ℕ). 1 ≤ n) k.takes (switch_takes valid h.typed.store y e r.serial k.k (next_with (switching.Switch y e) c r vs is on) k.is)
+      subst (λ (n : ℕ). 1 ≤ n) k.takes (switch_takes sound h.typed.store y e r.serial k.k (next_with (switching.Switch y e) c r vs is on) k.is)

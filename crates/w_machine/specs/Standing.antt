@@ -13,7 +13,7 @@ use Rattle.w_segment.specs.Link.{Link, top}
 use Rattle.w_reduce.specs.Limits.{IsWithin}
 use Rattle.w_reduce.specs.Terms.{Rest, Term, Continuation}
 use Rattle.w_reduce.specs.Program.{Program}
-use Rattle.w_reduce.specs.Start.{invokes}
+use Rattle.w_reduce.specs.Start.{invokes, starts_of}
 use Rattle.w_stands.specs.Keeps.{StoreHolds}
 use Rattle.w_typed.specs.Values.{Arrows}
 use Rattle.w_typed.specs.Configurations.{Typed}
@@ -23,7 +23,7 @@ use Rattle.w_machine.specs.Parts.{Parts, whole}
 
 -- what comes behind the outermost frame: main's invoke, while the start function runs
 abbrev pub behind_of : Option ℕ → Rest
-behind_of waiting = record { ahead = invokes waiting; code = Done }
+behind_of waiting = record { ahead = invokes (starts_of waiting); code = Done }
 
 -- the run ends with the results of main, which takes nothing
 pub record EndsWith (m : Module) (us : Row Operand) (main : ℕ) : Type 0 where

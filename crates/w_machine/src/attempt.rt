@@ -6,13 +6,13 @@ ghost use Rattle.w_machine.specs.AttemptedStep.{AttemptsStep};
 use crate::configuration::Configuration;
 use crate::reduction::MOST_FRAMES;
 use w_plain::{Progress, attempt, instr_at};
-use w_rules::Checked;
+use w_rules::Runnable;
 use w_segment::Stage;
 
 /// Attempts one reduction in the body where the innermost segment stands, and says whether its result is within the limits. `None`: none
 /// was taken, and all is as it was but for room.
 #[inline(always)]
-pub(crate) fn attempt_step(program: &Checked, configuration: &mut Configuration) -> Option<bool>
+pub(crate) fn attempt_step(program: &Runnable, configuration: &mut Configuration) -> Option<bool>
     requires stands { StandsSomewhere program.now configuration.old }
     ensures attempts { AttemptsStep result program.now configuration.old configuration.new }
     ensures conts { configuration.new.conts ≡ configuration.old.conts }

@@ -27,7 +27,7 @@ use w_inst::Instance;
 use w_outside::Sink;
 use w_plain::KnownProgram;
 use w_reduce::RunLimit;
-use w_rules::{Checked, Spaces};
+use w_rules::{Checked, Runnable, Spaces};
 use w_segment::{Segment, Stage};
 use w_syntax::Module;
 use w_types::Value;
@@ -36,7 +36,7 @@ use w_types::Value;
 #[derive(Drop)]
 pub struct Machine {
     alloc: Global,
-    checked: Checked,
+    runnable: Runnable,
     /// The index of each function's type, imported functions in front.
     functions: Vec<u32>,
     configuration: Configuration,
@@ -57,9 +57,9 @@ impl Model for Machine {
 
     ghost coded = { position_code };
 
-    ghost view = { λ a. record { program = a.checked; taken = a.taken; stop = a.stop } };
+    ghost view = { λ a. record { program = a.runnable; taken = a.taken; stop = a.stop } };
 
-    ghost invariant = { λ a. IsReached a.checked a.functions.items a.configuration a.waiting a.stop a.taken a.made a.live };
+    ghost invariant = { λ a. IsReached a.runnable a.functions.items a.configuration a.waiting a.stop a.taken a.made a.live };
 }
 
 // Whether each body has fewer than 2^32 instructions, so that their places are numbers of 32 bits.
@@ -161,12 +161,13 @@ impl Machine {
         requires { BeginsWith checked instance.store instance.main }
         ensures { IfOk result (λ machine. machine ≡ record { program = checked; taken = 0; stop = None }) }
     {
-        let module = checked.module();
-        let _classes = checked.classes();
+        let runnable = checked.into_runnable();
+        let module = runnable.module();
+        let _classes = runnable.classes();
         match first_parts(alloc, module, instance.main) {
             Ok(beginning) => Ok(Machine {
                 alloc,
-                checked,
+                runnable,
                 functions: beginning.functions,
                 configuration: Configuration {
                     store: instance.store,
@@ -180,7 +181,7 @@ impl Machine {
                 live: 0,
             }),
             Err(error) => {
-                drop(checked);
+                drop(runnable);
                 drop(instance);
                 Err(error)
             }
@@ -245,11 +246,11 @@ impl Machine {
             return true;
         }
         let program = KnownProgram {
-            source: self.checked.module(),
-            checked: &self.checked,
+            source: self.runnable.module(),
+            runnable: &self.runnable,
             functions: self.functions.as_slice(),
         };
-        let _classes = self.checked.classes();
+        let _classes = self.runnable.classes();
         let conts = &self.configuration.conts;
         let (made, live) = (conts.made(), conts.live());
         let stopped = reduce(
@@ -282,9 +283,9 @@ impl Machine {
         requires none { self.old.stop ≡ None }
         ensures attempts { AttemptsStepOn result self.old self.new }
     {
-        let _module = self.checked.module();
-        let _classes = self.checked.classes();
-        let within = attempt_step(&self.checked, &mut self.configuration)?;
+        let _module = self.runnable.module();
+        let _classes = self.runnable.classes();
+        let within = attempt_step(&self.runnable, &mut self.configuration)?;
         self.taken += 1;
         if within {
             turn(&mut self.configuration.chain, &mut self.waiting);
@@ -318,7 +319,7 @@ impl Machine {
         ensures { StopsIfEnded self.old result self.new }
     {
         // the run of a valid module is never stuck
-        let _module = self.checked.module();
+        let _module = self.runnable.module();
         let stopped = end_of(&self.configuration.chain);
         if stopped.is_some() {
             self.stop = stopped;

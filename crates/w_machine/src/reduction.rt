@@ -143,8 +143,8 @@ fn plain_reduction<O: Sink>(
     ensures later { O.faults out.old ≤ O.faults out.new }
     ensures conts { configuration.new.conts ≡ configuration.old.conts }
 {
-    // a module that was checked is valid
-    let _module = program.checked.module();
+    // a module that runs is sound
+    let _module = program.runnable.module();
     let outcome = plain(
         program,
         &mut configuration.store,
@@ -208,8 +208,8 @@ fn switching(
     ensures no_fault { result ≢ Some RunStop.WriteFault }
     ensures store { configuration.new.store ≡ configuration.old.store }
 {
-    // a module that was checked is valid
-    let _module = program.checked.module();
+    // a module that runs is sound
+    let _module = program.runnable.module();
     let outcome = switch_by(
         program.source,
         alloc,
@@ -229,8 +229,8 @@ fn leave_handle(program: KnownProgram, configuration: &mut Configuration)
     ensures reduces { (held : Option (List ℕ)) → PartsReduce None program.entry.source.now configuration.old configuration.new held held }
     ensures store { configuration.new.store ≡ configuration.old.store }
 {
-    // a module that was checked is valid
-    let _module = program.checked.module();
+    // a module that runs is sound
+    let _module = program.runnable.module();
     exit_handle(&mut configuration.chain, &mut configuration.conts);
 }
 

@@ -1,4 +1,4 @@
-//! Filling, copying within a memory, and copying from a data segment.
+//! Filling, copying within a memory, and copying from a data segment or another memory.
 ghost use Rattle.std.specs.Prelude.{◌≡◌, ◌+◌, ◌≤◌, length, replicate, IfNone};
 ghost use Rattle.w_memory.specs.Memory.{copy, fill, init, left_by};
 ghost use Rattle.w_memory.specs.Parts.{is_within, part, written};
@@ -87,5 +87,15 @@ impl Mem {
             n as usize,
         );
         Some(())
+    }
+
+    /// Writes the `n` bytes of another memory from `from` on, from byte `to` of this one on (Core, execution, `memory.copy`). `None`, a
+    /// trap, exactly where `from + n` passes the end of the other or `to + n` that of this one, also for `n` = 0, and then nothing
+    /// changed.
+    pub fn copy_from(&mut self, source: &Mem, to: u32, from: u32, n: u32) -> Option<()>
+        ensures outcome { init self.old source.now.bytes to from n ≡ left_by result self.new }
+        ensures unchanged { IfNone result (self.new ≡ self.old) }
+    {
+        self.init(source.bytes.as_slice(), to, from, n)
     }
 }

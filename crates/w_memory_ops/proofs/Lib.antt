@@ -3,6 +3,7 @@ mod Addresses
 mod Rules
 mod Operands
 mod Changes
+mod Copies
 mod Loads
 mod MemorySizes
 mod DataDrop

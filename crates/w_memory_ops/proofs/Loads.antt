@@ -1,5 +1,6 @@
 -- What a load needs, and where it goes.
 use Rattle.std.proofs.Common.{◌≡◌, ℕ, ◌+◌, ◌<◌, List, [], ◌∷◌, Option, Some, None, length, slice_get, refl, sym, ap, ◌∙◌}
+use Rattle.std.proofs.lemmas.Option.{slice_get_within}
 use Rattle.lists.specs.Rows.{◌▹◌}
 use Rattle.w_types.specs.declared.value.Value.{Value}
 use Rattle.w_memory.specs.Memory.{Memory, load}
@@ -24,30 +25,29 @@ use Rattle.w_stands.specs.GoingOn.{replaced}
 use Rattle.w_stands.proofs.Numbers.{number_val}
 use Rattle.w_stands.proofs.NextInstructions.{Needs, take_needs, take_follows, take_traps, replaced_behind}
 use Rattle.w_stands.proofs.LookedUp.{Found, found}
-use Rattle.w_memory_ops.proofs.Parts.{some_there}
 use Rattle.w_memory_ops.proofs.Operands.{on_operands}
 use Rattle.w_memory_ops.proofs.Rules.{one, loading, load_rule}
 
 -- its operand and the memory
-pub record LoadNeeds (m : Module) (u : instances.Store) (s : Shape) (o : LoadOp) (offset : ℕ) : Type 0 where
-  pub operands : Needs m u s one (loading o offset)
-  pub memory : 0 < length u.memories
+pub record LoadNeeds (m : Module) (u : instances.Store) (s : Shape) (o : LoadOp) (x offset : ℕ) : Type 0 where
+  pub operands : Needs m u s one (loading o x offset)
+  pub memory : x < length u.memories
 
 module _ {m : Module} {u : instances.Store} {s : Shape} (o : LoadOp) (arg : MemArg) (k : MovesAt (flat.Plain (op.Memory (memory.Load o arg))) m u s) where
   -- it has them where its rule applies
-  pub load_needs : LoadNeeds m u s o arg.offset
+  pub load_needs : LoadNeeds m u s o arg.memory arg.offset
   load_needs =
-      let n = take_needs m u s (op.Memory (memory.Load o arg)) one (loading o arg.offset) (load_rule o arg) k in
-      let a = on_operands m u s one (loading o arg.offset) n in
-      let r : Found (slice_get u.memories 0) _ = found (slice_get u.memories 0) _ a.applies in
-      record { operands = n; memory = some_there u.memories 0 r.item r.is }
+      let n = take_needs m u s (op.Memory (memory.Load o arg)) one (loading o arg.memory arg.offset) (load_rule o arg) k in
+      let a = on_operands m u s one (loading o arg.memory arg.offset) n in
+      let r : Found (slice_get u.memories arg.memory) _ = found (slice_get u.memories arg.memory) _ a.applies in
+      record { operands = n; memory = slice_get_within u.memories arg.memory r.item r.is }
 
-  module _ (top : Value) (rest : List Value) (is : s.operands ≡ top ∷ rest) (from : Memory) (there : slice_get u.memories 0 ≡ Some from) where
+  module _ (top : Value) (rest : List Value) (is : s.operands ≡ top ∷ rest) (from : Memory) (there : slice_get u.memories arg.memory ≡ Some from) where
     -- it reads a number
     pub load_follows : (n : ℕ) (v : Value) (s' : Shape) → load from (bits_in top + arg.offset) (loaded_size o) ≡ Some n → v ≡ value_of (loaded_type o) (loaded o n) →
         s' ≡ replaced 1 v s → Follows did.Went m [] u s u s'
     load_follows n v s' reads made after =
-        take_follows m u s (op.Memory (memory.Load o arg)) one (loading o arg.offset) (load_rule o arg) k.stage k.here (top ∷ []) rest is
+        take_follows m u s (op.Memory (memory.Load o arg)) one (loading o arg.memory arg.offset) (load_rule o arg) k.stage k.here (top ∷ []) rest is
         (load_needs.operands.of (top ∷ []) rest is refl) [] u s' (v ∷ []) (replaced_behind 1 v s s' after)
         (λ p e c source program.
         let go = λ (x : ℕ). steps_to (store_of u) e (stack rest ▹ number (loaded_type o) (loaded o x)) (rest_of c) in
@@ -58,7 +58,7 @@ module _ {m : Module} {u : instances.Store} {s : Shape} (o : LoadOp) (arg : MemA
     -- it reads past the end
     pub load_traps : load from (bits_in top + arg.offset) (loaded_size o) ≡ None → Follows (did.Trapped trap.MemoryOutOfBounds) m [] u s u s
     load_traps reads =
-        take_traps m u s (op.Memory (memory.Load o arg)) one (loading o arg.offset) (load_rule o arg) k.stage k.here (top ∷ []) rest is
+        take_traps m u s (op.Memory (memory.Load o arg)) one (loading o arg.memory arg.offset) (load_rule o arg) k.stage k.here (top ∷ []) rest is
         (load_needs.operands.of (top ∷ []) rest is refl) trap.MemoryOutOfBounds s refl
         (λ p e c source program.
         let go = λ (x : ℕ). steps_to (store_of u) e (stack rest ▹ number (loaded_type o) (loaded o x)) (rest_of c) in

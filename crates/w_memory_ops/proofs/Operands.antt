@@ -1,5 +1,5 @@
 -- Where an instruction's operands are there, its rule applies to them.
-use Rattle.std.proofs.Common.{◌≡◌, ℕ, List, ◌++◌, length, take, drop, sym, ap, ◌∙◌}
+use Rattle.std.proofs.Common.{◌≡◌, ℕ, List, ◌++◌, length, take, drop, sym, ap, ◌∙◌, subst}
 use Rattle.std.specs.Prelude.{◌≢◌}
 use Rattle.std.proofs.lemmas.List.{take-append-drop, length-take-le}
 use Rattle.w_types.specs.declared.value.Value.{Value}
@@ -29,3 +29,7 @@ on_operands m u s ks go n =
 -- an operation on bits that were read
 pub by_three : {A : Type 0} (g : ℕ → ℕ → ℕ → A) {a b n a' b' n' : ℕ} {r : A} → a' ≡ a → b' ≡ b → n' ≡ n → g a' b' n' ≡ r → g a b n ≡ r
 by_three g {a} {b} {n} {a'} {b'} {n'} e h k l = sym (ap (λ (x : ℕ). g x b' n') e ∙ ap (λ (x : ℕ). g a x n') h ∙ ap (g a b) k) ∙ l
+
+-- a fact of bits that were read
+pub of_three : (P : ℕ → ℕ → ℕ → Type 0) {a b n a' b' n' : ℕ} → a' ≡ a → b' ≡ b → n' ≡ n → P a' b' n' → P a b n
+of_three P {a} {b} {n} {a'} {b'} {n'} e h k p = subst (λ (x : ℕ). P a b x) k (subst (λ (x : ℕ). P a x n') h (subst (λ (x : ℕ). P x b' n') e p))

@@ -1,7 +1,7 @@
 -- The rules of memory instructions, by the operands that they take.
-use Rattle.std.proofs.Common.{ℕ, ◌+◌, ◌%◌, List, [], ◌∷◌, Some, None, true, nat_eq, slice_get, refl}
+use Rattle.std.proofs.Common.{ℕ, ◌+◌, ◌%◌, List, [], ◌∷◌, slice_get, refl}
 use Rattle.lists.specs.Rows.{◌▹◌}
-use Rattle.w_memory.specs.Memory.{page_count, load, store, fill, copy, init, grow}
+use Rattle.w_memory.specs.Memory.{page_count, load, store, fill, init, grow}
 use Rattle.w_num.specs.Signed.{inverse}
 use Rattle.w_syntax.specs.declared.numeric.IntType.TheVariants as int
 use Rattle.w_syntax.specs.declared.instructions.Op.TheVariants as op
@@ -15,7 +15,7 @@ use Rattle.w_reduce.specs.Terms.{rest_of}
 use Rattle.w_reduce.specs.Reduced.{steps_to, or_stuck, or_trap, number, ◌>>=◌}
 use Rattle.w_reduce.specs.Memories.{loaded, loaded_size, loaded_type, stored_size, stored_type, with_memory, without_data}
 use Rattle.w_stands.specs.Taking.{Kind, Number, Going, IsTaking}
-use Rattle.w_memory_ops.specs.Changing.{bits_at, Change, changing}
+use Rattle.w_memory_ops.specs.Changing.{bits_at, Nowhere, InSegment, InMemory, Change, changing}
 
 -- ## The operands
 
@@ -37,40 +37,36 @@ two o = Number (stored_type o) ∷ Number int.I32 ∷ []
 abbrev pub storing : StoreOp → ℕ → Change
 storing o offset bytes xs m = store m (bits_at 1 xs + offset) (stored_size o) (bits_at 0 xs)
 
-pub store_rule : (o : StoreOp) (arg : MemArg) → IsTaking (op.Memory (memory.Store o arg)) (two o) (changing 0 None true (storing o arg.offset))
+pub store_rule : (o : StoreOp) (arg : MemArg) → IsTaking (op.Memory (memory.Store o arg)) (two o) (changing arg.memory Nowhere (storing o arg.offset))
 store_rule o arg = λ p s e vs c. refl
 
--- memory.init
+-- memory.init and memory.copy
 abbrev pub initialising : Change
 initialising bytes xs m = init m bytes (bits_at 2 xs) (bits_at 1 xs) (bits_at 0 xs)
 
-pub init_rule : (y x : ℕ) → IsTaking (op.Memory (memory.Init y x)) three (changing x (Some y) true initialising)
+pub init_rule : (y x : ℕ) → IsTaking (op.Memory (memory.Init y x)) three (changing x (InSegment y) initialising)
 init_rule y x = λ p s e vs c. refl
 
--- memory.copy, which has a rule where it names one memory twice
-abbrev pub copying : Change
-copying bytes xs m = copy m (bits_at 2 xs) (bits_at 1 xs) (bits_at 0 xs)
-
-pub copy_rule : (x y : ℕ) → IsTaking (op.Memory (memory.Copy x y)) three (changing x None (nat_eq x y) copying)
+pub copy_rule : (x y : ℕ) → IsTaking (op.Memory (memory.Copy x y)) three (changing x (InMemory y) initialising)
 copy_rule x y = λ p s e vs c. refl
 
 -- memory.fill
 abbrev pub filling : Change
 filling bytes xs m = fill m (bits_at 2 xs) (bits_at 1 xs % 256) (bits_at 0 xs)
 
-pub fill_rule : (x : ℕ) → IsTaking (op.Memory (memory.Fill x)) three (changing x None true filling)
+pub fill_rule : (x : ℕ) → IsTaking (op.Memory (memory.Fill x)) three (changing x Nowhere filling)
 fill_rule x = λ p s e vs c. refl
 
 -- ## The others
 
 -- t.loadN_sx
-abbrev pub loading : LoadOp → ℕ → Going
-loading o offset p s e c xs rest = do
-  m ← or_stuck (slice_get s.memories 0)
+abbrev pub loading : LoadOp → ℕ → ℕ → Going
+loading o x offset p s e c xs rest = do
+  m ← or_stuck (slice_get s.memories x)
   n ← or_trap trap.MemoryOutOfBounds (load m (bits_at 0 xs + offset) (loaded_size o))
   steps_to s e (rest ▹ number (loaded_type o) (loaded o n)) (rest_of c)
 
-pub load_rule : (o : LoadOp) (arg : MemArg) → IsTaking (op.Memory (memory.Load o arg)) one (loading o arg.offset)
+pub load_rule : (o : LoadOp) (arg : MemArg) → IsTaking (op.Memory (memory.Load o arg)) one (loading o arg.memory arg.offset)
 load_rule o arg = λ p s e vs c. refl
 
 -- memory.size

@@ -1,5 +1,5 @@
 //! Loads and stores (Core, execution, memory instructions).
-ghost use Rattle.std.specs.Prelude.{◌≡◌, ◌≤◌, [], length};
+ghost use Rattle.std.specs.Prelude.{[]};
 ghost use Rattle.w_syntax.specs.declared.instructions.Instr.TheVariants as flat;
 ghost use Rattle.w_syntax.specs.declared.instructions.Op.TheVariants as op;
 ghost use Rattle.w_syntax.specs.declared.memory_instructions.MemoryOp.TheVariants as memory;
@@ -28,7 +28,7 @@ pub(crate) fn load(
     ensures keeps { KeepsAll store.now stack.old store.now stack.new }
 {
     let _program = program;
-    let memory = store.memory();
+    let memory = store.memory(arg.memory);
     let at = address(memory, i32_of(stack.peek()), arg.offset);
     match memory.load(at, loaded_size(operation)) {
         Some(number) => {
@@ -49,15 +49,13 @@ pub(crate) fn store_number(
     arg: MemArg,
 ) -> Did
     requires moves { MovesAt (flat.Plain (op.Memory (memory.Store operation arg))) program.now store.old stack.old }
-    requires one { length store.old.memories ≤ 1 }
     ensures goes { Follows result program.now [] store.old stack.old store.new stack.new }
     ensures keeps { KeepsAll store.old stack.old store.new stack.new }
-    ensures count { length store.new.memories ≡ length store.old.memories }
 {
     let _program = program;
     let (base, value) = top_two(stack);
     let number = stored_bits(operation, value);
-    let (memory, _) = store.memory_with(None);
+    let (memory, _) = store.memory_with(arg.memory, None);
     let at = address(memory, i32_of(base), arg.offset);
     let done = memory.store(at, stored_size(operation), number);
     finish(stack, 2, done)

@@ -1,5 +1,5 @@
 //! Operations on many bytes, and on data segments (Core, execution, memory instructions).
-ghost use Rattle.std.specs.Prelude.{◌≡◌, ◌≤◌, [], length};
+ghost use Rattle.std.specs.Prelude.{[]};
 ghost use Rattle.w_syntax.specs.declared.instructions.Instr.TheVariants as flat;
 ghost use Rattle.w_syntax.specs.declared.instructions.Op.TheVariants as op;
 ghost use Rattle.w_syntax.specs.declared.memory_instructions.MemoryOp.TheVariants as memory;
@@ -22,15 +22,12 @@ pub(crate) fn init(
     index: u32,
 ) -> Did
     requires moves { MovesAt (flat.Plain (op.Memory (memory.Init segment index))) program.now store.old stack.old }
-    requires one { length store.old.memories ≤ 1 }
     ensures goes { Follows result program.now [] store.old stack.old store.new stack.new }
     ensures keeps { KeepsAll store.old stack.old store.new stack.new }
-    ensures count { length store.new.memories ≡ length store.old.memories }
 {
     let _program = program;
-    let _index = index;
     let (to, from, count) = top_three(stack);
-    let (memory, bytes) = store.memory_with(Some(segment));
+    let (memory, bytes) = store.memory_with(index, Some(segment));
     let done = memory.init(bytes, i32_of(to), i32_of(from), i32_of(count));
     finish(stack, 3, done)
 }
@@ -40,7 +37,6 @@ pub(crate) fn data_drop(program: &Module, store: &mut Store, stack: &mut Stack, 
     requires moves { MovesAt (flat.Plain (op.Memory (memory.DataDrop segment))) program.now store.old stack.old }
     ensures goes { Follows did.Went program.now [] store.old stack.old store.new stack.new }
     ensures keeps { KeepsAll store.old stack.old store.new stack.new }
-    ensures count { length store.new.memories ≡ length store.old.memories }
 {
     let _program = program;
     store.data_drop(segment);
@@ -56,32 +52,25 @@ pub(crate) fn copy(
     read: u32,
 ) -> Did
     requires moves { MovesAt (flat.Plain (op.Memory (memory.Copy written read))) program.now store.old stack.old }
-    requires one { length store.old.memories ≤ 1 }
     ensures goes { Follows result program.now [] store.old stack.old store.new stack.new }
     ensures keeps { KeepsAll store.old stack.old store.new stack.new }
-    ensures count { length store.new.memories ≡ length store.old.memories }
 {
     let _program = program;
-    let _indices = (written, read);
     let (to, from, count) = top_three(stack);
-    let (memory, _) = store.memory_with(None);
-    let done = memory.copy(i32_of(to), i32_of(from), i32_of(count));
+    let done = store.memory_copy(written, read, i32_of(to), i32_of(from), i32_of(count));
     finish(stack, 3, done)
 }
 
 /// `memory.fill`, or its trap.
 pub(crate) fn fill(program: &Module, store: &mut Store, stack: &mut Stack, index: u32) -> Did
     requires moves { MovesAt (flat.Plain (op.Memory (memory.Fill index))) program.now store.old stack.old }
-    requires one { length store.old.memories ≤ 1 }
     ensures goes { Follows result program.now [] store.old stack.old store.new stack.new }
     ensures keeps { KeepsAll store.old stack.old store.new stack.new }
-    ensures count { length store.new.memories ≡ length store.old.memories }
 {
     let _program = program;
-    let _index = index;
     let (to, value, count) = top_three(stack);
     let byte = (i32_of(value) % 256) as u8;
-    let (memory, _) = store.memory_with(None);
+    let (memory, _) = store.memory_with(index, None);
     let done = memory.fill(i32_of(to), byte, i32_of(count));
     finish(stack, 3, done)
 }

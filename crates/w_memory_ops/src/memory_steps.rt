@@ -1,5 +1,5 @@
 //! Memory instructions (Core, execution, memory instructions).
-ghost use Rattle.std.specs.Prelude.{◌≡◌, ◌≤◌, true, [], length, IfOk, OnErr, OnOk};
+ghost use Rattle.std.specs.Prelude.{◌≡◌, true, [], IfOk, OnErr, OnOk};
 ghost use Rattle.w_syntax.specs.declared.instructions.Instr.TheVariants as flat;
 ghost use Rattle.w_syntax.specs.declared.instructions.Op.TheVariants as op;
 ghost use Rattle.w_reduce.specs.Room.{takes_memory};
@@ -25,10 +25,8 @@ pub fn memory(
     operation: MemoryOp,
 ) -> Result<Did, AllocError>
     requires moves { MovesAt (flat.Plain (op.Memory operation)) program.now store.old stack.old }
-    requires one { length store.old.memories ≤ 1 }
     ensures goes { IfOk result (λ did. Follows did program.now [] store.old stack.old store.new stack.new) }
     ensures keeps { OnOk result (KeepsAll store.old stack.old store.new stack.new) }
-    ensures count { length store.new.memories ≡ length store.old.memories }
     ensures store { OnErr result (store.new ≡ store.old) }
     ensures stack { OnErr result (stack.new ≡ stack.old) }
     ensures takes { OnErr result (takes_memory (op.Memory operation) ≡ true) }

@@ -4,9 +4,10 @@ use Rattle.std.specs.Prelude.{slice_get}
 use Rattle.w_syntax.specs.declared.instructions.SwitchingOp.TheVariants as switching
 use Rattle.w_syntax.specs.declared.module.Module.{Module}
 use Rattle.w_reduce.specs.Apart.{PlainReductionsGoApart}
+use Rattle.w_reduce.specs.Program.{Program}
 use Rattle.w_reduce.specs.Run.{Run}
 use Rattle.w_reduce.specs.Store.{Store}
-use Rattle.w_reduce.specs.Terms.{Continuation}
+use Rattle.w_reduce.specs.Terms.{Continuation, Term}
 use Rattle.w_typed.specs.Configurations.{StartsAreTyped}
 use Rattle.w_typed.specs.Stores.{Instances, no_instance, ContTyped}
 use Rattle.w_once.specs.Consumptions.{emptied, Consumptions, Each, Once, IsConsumed, AreConsumedOnce, IsConsumedOnce, ConsumedTraps}
@@ -48,15 +49,19 @@ more_consumed xs s s' later h =
 
 -- ## Runs
 
-no_arrows : {m : Module} {K : List _} {ks : List (Option Continuation)} → Instances (ContTyped m K) ks [] → ks ≡ []
+-- no continuation is typed by no arrow
+pub no_arrows : {m : Module} {K : List _} {ks : List (Option Continuation)} → Instances (ContTyped m K) ks [] → ks ≡ []
 no_arrows no_instance = refl
 
+-- from a store without continuations on
+pub consumed_from : PlainReductionsGoApart → (p : Program) (s : Store) (t : Term) → s.conts ≡ [] → (n : ℕ) → AreConsumedOnce (Consumptions p s t n) (Run p s t n).store
+consumed_from plain p s t none zero = record { once = tt; are_consumed = tt; count = rw none refl }
+consumed_from plain p s t none (suc n) =
+    more_consumed (Consumptions p s t n) (Run p s t n).store (Run p s t (suc n)).store (later_run plain p s t n) (consumed_from plain p s t none n)
+
+-- and so from the start of a sound module on
 pub consumed_once : StartsAreTyped → PlainReductionsGoApart → IsConsumedOnce
-consumed_once starts plain p s t program valid ready zero =
-    let none : s.conts ≡ [] = no_arrows (starts p s t program valid ready).typed.store.conts in
-    record { once = tt; are_consumed = tt; count = rw none refl }
-consumed_once starts plain p s t program valid ready (suc n) =
-    more_consumed (Consumptions p s t n) (Run p s t n).store (Run p s t (suc n)).store (later_run plain p s t n) (consumed_once starts plain p s t program valid ready n)
+consumed_once starts plain p s t program valid ready n = consumed_from plain p s t (no_arrows (starts p s t program valid ready).typed.store.conts) n
 
 -- ## Uses
 

@@ -1,7 +1,7 @@
 -- Each reduction leads to a later store of continuations.
 use Rattle.std.proofs.Common.{◌≡◌, ℕ, suc, false, List, [], ◌∷◌, Option, Some, None, refl, sym, ap, subst}
 use Rattle.std.specs.Prelude.{◌-◌, length}
-use Rattle.lists.specs.Rows.{Row, ε, row_of}
+use Rattle.lists.specs.Rows.{Row, row_of}
 use Rattle.w_syntax.specs.Code.{Code, Done, Plain, Block, If, IfElse}
 use Rattle.w_syntax.specs.declared.instructions.Op.TheVariants as op
 use Rattle.w_syntax.specs.declared.instructions.SwitchingOp.{SwitchingOp}

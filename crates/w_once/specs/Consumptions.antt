@@ -5,7 +5,7 @@ use Rattle.w_syntax.specs.Code.{Code, Plain}
 use Rattle.w_syntax.specs.declared.instructions.Op.TheVariants as op
 use Rattle.w_syntax.specs.declared.instructions.SwitchingOp.{SwitchingOp}
 use Rattle.w_syntax.specs.declared.instructions.SwitchingOp.TheVariants as switching
-use Rattle.w_rules.specs.Valid.{Valid}
+use Rattle.w_rules.specs.Sound.{Sound}
 use Rattle.w_reduce.specs.declared.trap.Trap.TheVariants.{ConsumedContinuation}
 use Rattle.w_reduce.specs.Values.{Val, Cont}
 use Rattle.w_reduce.specs.Store.{Store, consumed}
@@ -54,9 +54,9 @@ pub record AreConsumedOnce (xs : List ℕ) (s : Store) : Type 0 where
   pub are_consumed : Each (IsConsumed s.conts) xs
   pub count : length xs ≡ consumed s
 
--- each continuation that a run of a valid module consumes it consumes once, and it stays consumed
+-- each continuation that a run of a sound module consumes it consumes once, and it stays consumed
 abbrev pub IsConsumedOnce : Type 0
-IsConsumedOnce = (p : Program) (s : Store) (t : Term) → IsProgram p → Valid p.source → Start p ≡ Ready s t
+IsConsumedOnce = (p : Program) (s : Store) (t : Term) → IsProgram p → Sound p.source → Start p ≡ Ready s t
     → (n : ℕ) → AreConsumedOnce (Consumptions p s t n) (Run p s t n).store
 
 -- whether an instruction uses the continuation that its topmost operand refers to

@@ -4,7 +4,7 @@ ghost use Rattle.w_once.specs.Consumptions.{ConsumedTraps, IsConsumedOnce};
 use w_reduce::plain_reductions_go_apart;
 use w_typed::starts_are_typed;
 
-/// No address stands twice among those that the reductions of a run of a valid module empty; they stay empty, and `consumed` is how many they
+/// No address stands twice among those that the reductions of a run of a sound module empty; they stay empty, and `consumed` is how many they
 /// are.
 pub fn continuations_are_consumed_once()
     ensures { IsConsumedOnce }

@@ -101,7 +101,7 @@ printed_alone d m u s s' held g k = ([], takes_alone d m u s s' g k, grew_nothin
 
 pub printed_trap : (t : Trap) (m : Module) (u : instances.Store) (s : Shape) (held : Option (List ℕ)) → Follows (did.Trapped t) m [] u s u s →
     (text : List ℕ) × Takes (did.Trapped t) m text u s u s × Grew held held text
-printed_trap t m u s held g = ([], record { goes = g; keeps = λ test on h k. (h, k); memories = refl }, grew_nothing held)
+printed_trap t m u s held g = ([], record { goes = g; keeps = λ test on h k. (h, k) }, grew_nothing held)
 
 pub printed_step : (r : Result Did AllocError) (m : Module) (u u' : instances.Store) (s s' : Shape) (held : Option (List ℕ)) → HasStepped r m u s u' s' → Printed (widened r) held held m u s u' s'
 printed_step (Ok d) m u u' s s' held h = ([], h, grew_nothing held)

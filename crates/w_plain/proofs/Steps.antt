@@ -1,11 +1,10 @@
 -- Calls on a stack alone, and on a stack with a store, said in one way.
-use Rattle.std.proofs.Common.{◌≡◌, ℕ, true, List, [], length, Option, refl, sym, ap, subst}
+use Rattle.std.proofs.Common.{◌≡◌, ℕ, true, List, [], Option, sym, subst}
 use Rattle.w_syntax.specs.declared.instructions.Instr.{Instr}
 use Rattle.w_syntax.specs.declared.instructions.Instr.TheVariants as flat
 use Rattle.w_syntax.specs.declared.instructions.Op.{Op}
 use Rattle.w_syntax.specs.declared.instructions.Op.TheVariants as op
 use Rattle.w_syntax.specs.declared.module.Module.{Module}
-use Rattle.w_memory.specs.Memory.{Memory}
 use Rattle.w_segment.specs.declared.entry.Stage.{Stage}
 use Rattle.w_segment.specs.Shape.{Shape}
 use Rattle.w_tables.specs.Store as instances
@@ -25,11 +24,11 @@ alone {u = u} k = record { u = u; moves = k }
 
 -- a call on the stack alone leaves the store
 pub takes_alone : (d : Did) (m : Module) (u : instances.Store) (s s' : Shape) → FollowsAlone d m s s' → Keeps s s' → Takes d m [] u s u s'
-takes_alone d m u s s' g k = record { goes = g u; keeps = λ test on h g. (h, k test on g); memories = refl }
+takes_alone d m u s s' g k = record { goes = g u; keeps = λ test on h g. (h, k test on g) }
 
 -- one that reads the store, and may print
 pub takes_stack : (d : Did) (m : Module) (text : List ℕ) (u : instances.Store) (s s' : Shape) → Follows d m text u s u s' → Keeps s s' → Takes d m text u s u s'
-takes_stack d m text u s s' g k = record { goes = g; keeps = λ test on h g. (h, k test on g); memories = refl }
+takes_stack d m text u s s' g k = record { goes = g; keeps = λ test on h g. (h, k test on g) }
 
 -- an instruction that may take memory stands there
 pub may_take : {m : Module} {u : instances.Store} {s : Shape} {o : Op} → MovesAt (flat.Plain o) m u s → takes_memory o ≡ true → MayTake m s
@@ -53,6 +52,3 @@ calls_take k = may_take k.moves (call_takes k.i k.calls)
 -- so does the invoke of a fresh segment
 pub invokes_take : {m : Module} {u : instances.Store} {s : Shape} → Invokes m u s → MayTake m s
 invokes_take {m} {u} {s} k = subst (λ (x : Stage). MayTakeAt x (instr_of m s.func s.place)) (sym k.stage) tt
-
-pub same_count : (u u' : instances.Store) → u'.memories ≡ u.memories → length u'.memories ≡ length u.memories
-same_count u u' e = ap (λ (l : List Memory). length l) e

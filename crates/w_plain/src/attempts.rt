@@ -1,5 +1,5 @@
 //! Attempts at the commonest reductions, of which nothing but what each came to is answered.
-ghost use Rattle.std.specs.Prelude.{◌≡◌, ◌≤◌, true, false, length, Some, option_map};
+ghost use Rattle.std.specs.Prelude.{◌≡◌, true, false, Some, option_map};
 ghost use Rattle.w_syntax.specs.Packed.{unpacked};
 ghost use Rattle.w_syntax.specs.declared.instructions.Instr.TheVariants as flat;
 ghost use Rattle.w_syntax.specs.declared.instructions.Op.TheVariants as op;
@@ -18,24 +18,35 @@ use crate::exits::{leave_else, leave_end};
 use crate::families::{in_memory, number, parametric};
 use crate::progress::Progress;
 use crate::values::variable;
-use w_rules::Checked;
+use w_rules::Runnable;
 use w_segment::Stack;
 use w_syntax::{MemArg, MemoryOp, Module, NumericOp, PackedInstr, ParametricOp};
 use w_tables::Store;
+
+// What a load or a store takes.
+#[inline(always)]
+fn argument_of(align: u8, memory: u32, offset: u64) -> MemArg
+    ensures { result ≡ record { align = align; memory = memory; offset = offset } }
+{
+    MemArg {
+        align,
+        memory,
+        offset,
+    }
+}
 
 // Attempts the reduction at an instruction. One match over all of them looks at the instruction once.
 #[inline(always)]
 #[tactic(auto, using(crate::proofs::AttemptedReductions::common_attempt, crate::proofs::Ends::end_meets, crate::proofs::AttemptedReductions::rare_attempt, crate::proofs::AttemptedReductions::short_calls_none))]
 fn at_instruction(
     program: &Module,
-    checked: &Checked,
+    runnable: &Runnable,
     store: &mut Store,
     stack: &mut Stack,
     packed: &PackedInstr,
 ) -> Progress
-    requires same { checked.now ≡ program.now }
+    requires same { runnable.now ≡ program.now }
     requires moves { switches_at (Some (unpacked packed.now)) ≡ false → MovesAt (unpacked packed.now) program.now store.old stack.old }
-    requires one { length store.old.memories ≤ 1 }
     ensures attempt { IsAttempt result packed.now program.now store.old stack.old store.new stack.new }
 {
     match packed {
@@ -54,14 +65,14 @@ fn at_instruction(
             stack,
             &ParametricOp::Select,
         ))),
-        PackedInstr::Load(operation, align, offset) => {
-            let (align, offset) = (*align, *offset);
-            let operation = MemoryOp::Load(*operation, MemArg { align, offset });
+        PackedInstr::Load(operation, align, memory, offset) => {
+            let argument = argument_of(*align, *memory, *offset);
+            let operation = MemoryOp::Load(*operation, argument);
             progress_of(in_memory(program, store, stack, operation))
         }
-        PackedInstr::Store(operation, align, offset) => {
-            let (align, offset) = (*align, *offset);
-            let operation = MemoryOp::Store(*operation, MemArg { align, offset });
+        PackedInstr::Store(operation, align, memory, offset) => {
+            let argument = argument_of(*align, *memory, *offset);
+            let operation = MemoryOp::Store(*operation, argument);
             progress_of(in_memory(program, store, stack, operation))
         }
         PackedInstr::I32Const(value) => progress_of(Ok(number(
@@ -113,7 +124,7 @@ fn at_instruction(
         }
         PackedInstr::Else => progress_of(Ok(leave_else(program, store, stack))),
         PackedInstr::End => progress_of(Ok(leave_end(program, store, stack))),
-        PackedInstr::Control(operation) => control(program, checked, store, stack, *operation),
+        PackedInstr::Control(operation) => control(program, runnable, store, stack, *operation),
         PackedInstr::Boxed(instr) => attempt_boxed(program, store, stack, instr),
         _ => Progress::NotAttempted,
     }
@@ -126,7 +137,7 @@ fn at_instruction(
 #[inline(always)]
 #[tactic(auto, using(crate::proofs::AttemptedReductions::moves_at, crate::proofs::AttemptedReductions::ends_at, crate::proofs::AttemptedReductions::attempted_step, crate::proofs::AttemptedReductions::made, crate::proofs::AttemptedReductions::attempted_plain, crate::proofs::AttemptedReductions::calls_there))]
 pub fn attempt(
-    program: &Checked,
+    program: &Runnable,
     store: &mut Store,
     stack: &mut Stack,
     found: Option<&PackedInstr>,
@@ -134,7 +145,6 @@ pub fn attempt(
     requires applies { switches_at (instr_of program.now stack.old.func stack.old.place) ≡ false → Applies program.now store.old stack.old }
     requires body { stack.old.stage ≡ Body }
     requires found { option_map (λ p. unpacked p.now) found ≡ instr_of program.now stack.old.func stack.old.place }
-    requires one { length store.old.memories ≤ 1 }
     ensures step { Attempted result program.now store.old stack.old store.new stack.new }
     // It is attempted exactly at what is common, and that switches no stacks.
     ensures made { was_made result ≡ is_attempted_at store.old.functions (option_map (λ p. p.now) found.entry) }

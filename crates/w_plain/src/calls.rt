@@ -31,7 +31,7 @@ pub(crate) fn call<O: Sink>(
     match store.function(address) {
         FuncEntry::Own(function) => {
             match call_own(
-                program.checked,
+                program.runnable,
                 store,
                 stack,
                 address,
@@ -70,7 +70,7 @@ pub(crate) fn tail_call<O: Sink>(
     match store.function(address) {
         FuncEntry::Own(function) => {
             match tail_own(
-                program.checked,
+                program.runnable,
                 store,
                 stack,
                 address,
@@ -105,7 +105,7 @@ pub(crate) fn invoke<O: Sink>(
     ensures later { O.faults out.old ≤ O.faults out.new }
 {
     match store.function(stack.func()) {
-        FuncEntry::Own(function) => match invoke_own(program.checked, store, stack, function) {
+        FuncEntry::Own(function) => match invoke_own(program.runnable, store, stack, function) {
             Ok(()) => Ok(Did::Went),
             Err(_) => Err(Stop::OutOfMemory),
         },

@@ -16,7 +16,7 @@ use crate::progress::Progress;
 use std::alloc::AllocError;
 use w_call_ops::call_own;
 use w_control_ops::br_table;
-use w_rules::Checked;
+use w_rules::Runnable;
 use w_segment::Stack;
 use w_stands::Did;
 use w_syntax::{ControlOp, Instr, Module, Op, ShortControlOp};
@@ -40,12 +40,12 @@ pub(crate) fn progress_of(outcome: Result<Did, AllocError>) -> Progress
 #[tactic(auto, using(crate::proofs::Prints::call_calls))]
 fn call(
     program: &Module,
-    checked: &Checked,
+    runnable: &Runnable,
     store: &mut Store,
     stack: &mut Stack,
     address: u32,
 ) -> Progress
-    requires same { checked.now ≡ program.now }
+    requires same { runnable.now ≡ program.now }
     requires moves { MovesAt (flat.Plain (op.Control (control_of (short.Call address)))) program.now store.old stack.old }
     ensures step { Attempted result program.now store.old stack.old store.new stack.new }
     ensures made { was_made result ≡ is_own (slice_get store.old.functions address) }
@@ -54,7 +54,7 @@ fn call(
     match store.function(address) {
         FuncEntry::Own(function) => {
             // where it has no room the whole step asks for it, so that each growth is asked for once
-            match call_own(checked, store, stack, address, function, 0, false) {
+            match call_own(runnable, store, stack, address, function, 0, false) {
                 Ok(()) => Progress::Entered,
                 Err(_) => Progress::NoRoom,
             }
@@ -68,12 +68,12 @@ fn call(
 #[tactic(auto, using(crate::proofs::Prints::call_tails))]
 fn tail_call(
     program: &Module,
-    checked: &Checked,
+    runnable: &Runnable,
     store: &mut Store,
     stack: &mut Stack,
     address: u32,
 ) -> Progress
-    requires same { checked.now ≡ program.now }
+    requires same { runnable.now ≡ program.now }
     requires moves { MovesAt (flat.Plain (op.Control (control_of (short.ReturnCall address)))) program.now store.old stack.old }
     ensures step { Attempted result program.now store.old stack.old store.new stack.new }
     ensures made { was_made result ≡ is_own (slice_get store.old.functions address) }
@@ -81,7 +81,7 @@ fn tail_call(
 {
     match store.function(address) {
         FuncEntry::Own(function) => {
-            match tail_own(checked, store, stack, address, function, 0, false) {
+            match tail_own(runnable, store, stack, address, function, 0, false) {
                 Ok(()) => Progress::Entered,
                 Err(_) => Progress::NoRoom,
             }
@@ -95,22 +95,24 @@ fn tail_call(
 #[tactic(auto, using(crate::proofs::Steps::alone, crate::proofs::AttemptedReductions::nothing_attempted))]
 pub(crate) fn control(
     program: &Module,
-    checked: &Checked,
+    runnable: &Runnable,
     store: &mut Store,
     stack: &mut Stack,
     operation: ShortControlOp,
 ) -> Progress
-    requires same { checked.now ≡ program.now }
+    requires same { runnable.now ≡ program.now }
     requires moves { MovesAt (flat.Plain (op.Control (control_of operation))) program.now store.old stack.old }
     ensures step { Attempted result program.now store.old stack.old store.new stack.new }
     ensures made { was_made result ≡ is_attempted store.old.functions (packed.Control operation) }
     ensures went { result ≡ progress.Went → is_call operation ≡ false }
 {
     match operation {
-        ShortControlOp::Call(function) => call(program, checked, store, stack, function),
+        ShortControlOp::Call(function) => call(program, runnable, store, stack, function),
         ShortControlOp::CallIndirect(_, _) => Progress::NotAttempted,
         ShortControlOp::CallRef(_) => Progress::NotAttempted,
-        ShortControlOp::ReturnCall(function) => tail_call(program, checked, store, stack, function),
+        ShortControlOp::ReturnCall(function) => tail_call(
+            program, runnable, store, stack, function,
+        ),
         ShortControlOp::ReturnCallIndirect(_, _) => Progress::NotAttempted,
         ShortControlOp::ReturnCallRef(_) => Progress::NotAttempted,
         _ => progress_of(Ok(branching(program, stack, operation))),

@@ -62,7 +62,7 @@ pub(crate) fn control<O: Sink>(
         ShortControlOp::CallIndirect(kind, table) => {
             match callee_by_table(
                 source,
-                program.checked.classes(),
+                program.runnable.classes(),
                 program.functions,
                 store,
                 stack,
@@ -84,7 +84,7 @@ pub(crate) fn control<O: Sink>(
         ShortControlOp::ReturnCallIndirect(kind, table) => {
             match callee_by_table(
                 source,
-                program.checked.classes(),
+                program.runnable.classes(),
                 program.functions,
                 store,
                 stack,

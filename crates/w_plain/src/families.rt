@@ -1,5 +1,5 @@
 //! Families of instructions that print nothing, each said in one way.
-ghost use Rattle.std.specs.Prelude.{◌≤◌, [], length};
+ghost use Rattle.std.specs.Prelude.{[]};
 ghost use Rattle.w_syntax.specs.declared.instructions.Instr.TheVariants as flat;
 ghost use Rattle.w_syntax.specs.declared.instructions.Op.TheVariants as op;
 ghost use Rattle.w_stands.specs.Steps.{MovesAt};
@@ -40,7 +40,6 @@ pub(crate) fn in_memory(
     operation: MemoryOp,
 ) -> Result<Did, AllocError>
     requires moves { MovesAt (flat.Plain (op.Memory operation)) program.now store.old stack.old }
-    requires one { length store.old.memories ≤ 1 }
     ensures step { HasStepped result program.now store.old stack.old store.new stack.new }
 {
     memory(program, store, stack, operation)
@@ -48,7 +47,7 @@ pub(crate) fn in_memory(
 
 /// A table instruction.
 #[inline(never)]
-#[tactic(auto, using(crate::proofs::Steps::may_take, crate::proofs::Steps::same_count))]
+#[tactic(auto, using(crate::proofs::Steps::may_take))]
 pub(crate) fn in_table(
     program: &Module,
     store: &mut Store,

@@ -1,5 +1,5 @@
 //! One reduction at an instruction, as a body keeps it.
-ghost use Rattle.std.specs.Prelude.{◌≡◌, ◌≤◌, false, length, Err, Some};
+ghost use Rattle.std.specs.Prelude.{◌≡◌, ◌≤◌, false, Err, Some};
 ghost use Rattle.w_syntax.specs.declared.instructions.Instr.TheVariants as flat;
 ghost use Rattle.w_syntax.specs.declared.instructions.Op.TheVariants as op;
 ghost use Rattle.w_syntax.specs.Packed.{unpacked};
@@ -82,7 +82,6 @@ fn boxed_control_or_silent<O: Sink>(
 ) -> Result<Did, Stop>
     requires moves { MovesAt instr.now program.source.now store.old stack.old }
     requires plain { switches_at (Some instr.now) ≡ false }
-    requires one { length store.old.memories ≤ 1 }
     ensures step { Printed result (O.held out.old) (O.held out.new) program.entry.source.now store.old stack.old store.new stack.new }
     ensures cause { result ≡ Err Stop.WriteFault → Rose (O.faults out.old) (O.faults out.new) }
     ensures later { O.faults out.old ≤ O.faults out.new }
@@ -105,7 +104,6 @@ fn step_boxed<O: Sink>(
 ) -> Result<Did, Stop>
     requires moves { MovesAt operation.now program.source.now store.old stack.old }
     requires plain { switches_at (Some operation.now) ≡ false }
-    requires one { length store.old.memories ≤ 1 }
     ensures step { Printed result (O.held out.old) (O.held out.new) program.entry.source.now store.old stack.old store.new stack.new }
     ensures cause { result ≡ Err Stop.WriteFault → Rose (O.faults out.old) (O.faults out.new) }
     ensures later { O.faults out.old ≤ O.faults out.new }
@@ -129,7 +127,6 @@ pub(crate) fn instruction<O: Sink>(
 ) -> Result<Did, Stop>
     requires moves { MovesAt (unpacked packed.now) program.source.now store.old stack.old }
     requires plain { switches_at (Some (unpacked packed.now)) ≡ false }
-    requires one { length store.old.memories ≤ 1 }
     ensures step { Printed result (O.held out.old) (O.held out.new) program.entry.source.now store.old stack.old store.new stack.new }
     ensures cause { result ≡ Err Stop.WriteFault → Rose (O.faults out.old) (O.faults out.new) }
     ensures later { O.faults out.old ≤ O.faults out.new }

@@ -1,5 +1,5 @@
 //! Rarer instructions, which print nothing: those on tables and references, and those on memory but for loads and stores.
-ghost use Rattle.std.specs.Prelude.{◌≡◌, ◌≤◌, true, length};
+ghost use Rattle.std.specs.Prelude.{◌≡◌, true};
 ghost use Rattle.w_syntax.specs.Packed.{unpacked};
 ghost use Rattle.w_stands.specs.Steps.{MovesAt};
 ghost use Rattle.w_plain.specs.Commonness.{is_rare};
@@ -24,7 +24,6 @@ pub(crate) fn step_rare(
 ) -> Result<Did, AllocError>
     requires rare { is_rare packed.now ≡ true }
     requires moves { MovesAt (unpacked packed.now) program.now store.old stack.old }
-    requires one { length store.old.memories ≤ 1 }
     ensures step { HasStepped result program.now store.old stack.old store.new stack.new }
 {
     match packed {

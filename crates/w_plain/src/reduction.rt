@@ -1,5 +1,5 @@
 //! One plain reduction of a segment's stack.
-ghost use Rattle.std.specs.Prelude.{◌≡◌, ◌≢◌, ◌≤◌, false, length, Err, option_map};
+ghost use Rattle.std.specs.Prelude.{◌≡◌, ◌≢◌, ◌≤◌, false, Err, option_map};
 ghost use Rattle.w_syntax.specs.Packed.{unpacked};
 ghost use Rattle.w_stands.specs.Code.{instr_of};
 ghost use Rattle.w_segment.specs.declared.entry.Stage.TheVariants.{Body, Values};
@@ -34,7 +34,6 @@ fn in_body<O: Sink>(
     requires body { stack.old.stage ≡ Body }
     requires found { option_map (λ p. unpacked p.now) found ≡ instr_of program.source.now stack.old.func stack.old.place }
     requires plain { switches_at (instr_of program.source.now stack.old.func stack.old.place) ≡ false }
-    requires one { length store.old.memories ≤ 1 }
     ensures step { Printed result (O.held out.old) (O.held out.new) program.entry.source.now store.old stack.old store.new stack.new }
     ensures cause { result ≡ Err Stop.WriteFault → Rose (O.faults out.old) (O.faults out.new) }
     ensures later { O.faults out.old ≤ O.faults out.new }
@@ -62,7 +61,6 @@ pub fn plain<O: Sink>(
     requires inside { stack.old.stage ≢ Values }
     requires found { stack.old.stage ≡ Body → option_map (λ p. unpacked p.now) found ≡ instr_of program.source.now stack.old.func stack.old.place }
     requires plain { stack.old.stage ≡ Body → switches_at (instr_of program.source.now stack.old.func stack.old.place) ≡ false }
-    requires one { length store.old.memories ≤ 1 }
     ensures step { Printed result (O.held out.old) (O.held out.new) program.entry.source.now store.old stack.old store.new stack.new }
     ensures cause { result ≡ Err Stop.WriteFault → Rose (O.faults out.old) (O.faults out.new) }
     ensures later { O.faults out.old ≤ O.faults out.new }

@@ -1,5 +1,5 @@
 //! Instructions that print nothing, where they stand in a box or weren't attempted.
-ghost use Rattle.std.specs.Prelude.{◌≡◌, ◌≤◌, true, [], length};
+ghost use Rattle.std.specs.Prelude.{◌≡◌, true, []};
 ghost use Rattle.w_syntax.specs.Packed.{unpacked};
 ghost use Rattle.w_syntax.specs.declared.instructions.Instr.TheVariants as flat;
 ghost use Rattle.w_stands.specs.Steps.{MovesAt};
@@ -25,7 +25,6 @@ fn silent_op(
 ) -> Result<Did, AllocError>
     requires silent { is_silent (flat.Plain operation.now) ≡ true }
     requires moves { MovesAt (flat.Plain operation.now) program.now store.old stack.old }
-    requires one { length store.old.memories ≤ 1 }
     ensures step { HasStepped result program.now store.old stack.old store.new stack.new }
 {
     match operation {
@@ -71,7 +70,6 @@ pub(crate) fn step_silent(
 ) -> Result<Did, AllocError>
     requires silent { is_silent instr.now ≡ true }
     requires moves { MovesAt instr.now program.now store.old stack.old }
-    requires one { length store.old.memories ≤ 1 }
     ensures step { HasStepped result program.now store.old stack.old store.new stack.new }
 {
     match instr {
@@ -104,7 +102,6 @@ pub(crate) fn silent_packed(
 ) -> Result<Did, AllocError>
     requires silent { is_silent (unpacked packed.now) ≡ true }
     requires moves { MovesAt (unpacked packed.now) program.now store.old stack.old }
-    requires one { length store.old.memories ≤ 1 }
     ensures step { HasStepped result program.now store.old stack.old store.new stack.new }
 {
     let view = packed.view();

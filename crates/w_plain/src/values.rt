@@ -16,7 +16,7 @@ use w_value_ops::{
 
 /// An instruction on a local or a global.
 #[inline(always)]
-#[tactic(auto, using(crate::proofs::Steps::alone, crate::proofs::Steps::takes_alone, crate::proofs::Steps::same_count))]
+#[tactic(auto, using(crate::proofs::Steps::alone, crate::proofs::Steps::takes_alone))]
 pub(crate) fn variable(
     program: &Module,
     store: &mut Store,

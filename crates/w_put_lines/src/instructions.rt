@@ -4,10 +4,11 @@ ghost use Rattle.std.specs.List.{flat_map};
 ghost use Rattle.w_syntax.specs.declared.instructions.Op.TheVariants as op;
 ghost use Rattle.w_syntax.specs.declared.instructions.Token.TheVariants as tok;
 ghost use Rattle.w_syntax.specs.declared.instructions.BlockType.{BlockType as TheBlock};
+ghost use Rattle.w_syntax.specs.Flat.{as_token};
 ghost use Rattle.w_syntax.specs.Items.{code_of};
 ghost use Rattle.w_lines.specs.Instructions.{token_name};
 ghost use Rattle.w_words.specs.Clauses.{clause_word};
-ghost use Rattle.w_lines.specs.Written.{named_bytes, token_bytes, as_token, packed_bytes, code_bytes};
+ghost use Rattle.w_lines.specs.Written.{named_bytes, token_bytes, packed_bytes, code_bytes};
 
 use crate::named::{end_line, put_alone, put_index, put_indices, put_spaced, put_word, put_words};
 use crate::numeric::{put_memory, put_numeric};

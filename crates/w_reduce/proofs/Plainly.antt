@@ -26,7 +26,7 @@ use Rattle.w_syntax.specs.declared.memory_instructions.MemoryOp.TheVariants as m
 use Rattle.w_syntax.specs.declared.numeric.IntType.TheVariants as int
 use Rattle.w_syntax.specs.declared.numeric.NumericOp.{NumericOp}
 use Rattle.w_syntax.specs.declared.numeric.NumericOp.TheVariants as numeric
-use Rattle.w_memory.specs.Memory.{load, store, fill, copy, init}
+use Rattle.w_memory.specs.Memory.{load, store, fill, init}
 use Rattle.w_tables.specs.declared.entries.FuncEntry.{FuncEntry}
 use Rattle.w_tables.specs.declared.entries.FuncEntry.TheVariants as entry
 use Rattle.w_tables.specs.declared.entries.Printer.{Printer}
@@ -37,7 +37,7 @@ use Rattle.w_num.specs.Signed.{inverse}
 use Rattle.w_rules.specs.Spaces.{functions_of}
 use Rattle.w_reduce.specs.declared.limit.RunLimit.{RunLimit}
 use Rattle.w_reduce.specs.declared.trap.Trap.{Trap}
-use Rattle.w_reduce.specs.Values.{Val, I32, I64, Null, Func}
+use Rattle.w_reduce.specs.Values.{Val, I32}
 use Rattle.w_reduce.specs.Store.{Store, Table, with_conts}
 use Rattle.w_reduce.specs.Terms.{Administrative, Invoke, Branch, Rest, rest_of, Label, Frame, Handle, Context, Term, Continuation, locals_of, with_local, frames, handles}
 use Rattle.w_reduce.specs.Program.{Program, arity_of}
@@ -152,10 +152,10 @@ module _ (ks : List (Option Continuation)) (e : Context) (last : Bool) (most : �
   -- memory instructions
   pub plainly_memory : (s : Store) (vs : Row Val) (o : MemoryOp) (k : Code) → Plainly ks e last most (memory_op s e vs o k) (memory_op (with_conts ks s) e vs o k)
   plainly_memory s vs (memory.Load o arg) k =
-      both_take_number closed int.I32 vs _ _ (λ p. both_or_stuck closed (slice_get s.memories 0) _ _ (λ m.
+      both_take_number closed int.I32 vs _ _ (λ p. both_or_stuck closed (slice_get s.memories arg.memory) _ _ (λ m.
       both_or_trap closed _ (load m (p.1 + arg.offset) (loaded_size o)) _ _ (λ n. stays refl)))
   plainly_memory s vs (memory.Store o arg) k =
-      both_take_number closed (stored_type o) vs _ _ (λ p. both_take_number closed int.I32 p.0 _ _ (λ q. both_or_stuck closed (slice_get s.memories 0) _ _ (λ m.
+      both_take_number closed (stored_type o) vs _ _ (λ p. both_take_number closed int.I32 p.0 _ _ (λ q. both_or_stuck closed (slice_get s.memories arg.memory) _ _ (λ m.
       both_or_trap closed _ (store m (q.1 + arg.offset) (stored_size o) p.1) _ _ (λ n. stays refl))))
   plainly_memory s vs (memory.Size x) k = both_or_stuck closed (slice_get s.memories x) _ _ (λ m. stays refl)
   plainly_memory s vs (memory.Grow x) k = both_take_number closed int.I32 vs _ _ (λ p. both_or_stuck closed (slice_get s.memories x) _ _ (λ m. stays refl))
@@ -164,8 +164,8 @@ module _ (ks : List (Option Continuation)) (e : Context) (last : Bool) (most : �
       both_or_trap closed _ (init m bytes d.1 j.1 n.1) _ _ (λ new. stays refl))))
   plainly_memory s vs (memory.DataDrop y) k = both_or_stuck closed (slice_get s.datas y) _ _ (λ bytes. stays refl)
   plainly_memory s vs (memory.Copy x y) k =
-      both_take_three closed vs _ _ (λ n j d. both_or_stuck closed (slice_get s.memories x) _ _ (λ m.
-      both_or_trap closed _ (copy m d.1 j.1 n.1) _ _ (λ new. both_if closed (nat_eq x y) _ _ _ _ (stays refl) silent_stuck)))
+      both_take_three closed vs _ _ (λ n j d. both_or_stuck closed (slice_get s.memories x) _ _ (λ m. both_or_stuck closed (slice_get s.memories y) _ _ (λ source.
+      both_or_trap closed _ (init m source.bytes d.1 j.1 n.1) _ _ (λ new. stays refl))))
   plainly_memory s vs (memory.Fill x) k =
       both_take_three closed vs _ _ (λ n b d. both_or_stuck closed (slice_get s.memories x) _ _ (λ m. both_or_trap closed _ (fill m d.1 (b.1 % 256) n.1) _ _ (λ new. stays refl)))
 

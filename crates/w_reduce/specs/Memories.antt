@@ -1,9 +1,9 @@
--- Memory instructions (Core, execution, memory instructions). A module has at most one memory.
-use Rattle.std.specs.Prelude.{ℕ, ◌+◌, ◌%◌, nat_eq, if◌then◌else◌, [], slice_get, slice_set}
+-- Memory instructions (Core, execution, memory instructions).
+use Rattle.std.specs.Prelude.{ℕ, ◌+◌, ◌%◌, [], slice_get, slice_set}
 use Rattle.lists.specs.Rows.{Row, ◌▹◌}
 use Rattle.w_num.specs.Signed.{inverse}
 use Rattle.w_num.specs.Conversions.{extend_s}
-use Rattle.w_memory.specs.Memory.{Memory, page_count, load, store, fill, copy, init, grow}
+use Rattle.w_memory.specs.Memory.{Memory, page_count, load, store, fill, init, grow}
 use Rattle.w_syntax.specs.Code.{Code}
 use Rattle.w_syntax.specs.declared.numeric.IntType.{IntType}
 use Rattle.w_syntax.specs.declared.numeric.IntType.TheVariants as int
@@ -17,7 +17,7 @@ use Rattle.w_reduce.specs.declared.trap.Trap.TheVariants as trap
 use Rattle.w_reduce.specs.Values.{Val, I32}
 use Rattle.w_reduce.specs.Store.{Store}
 use Rattle.w_reduce.specs.Terms.{rest_of, Context}
-use Rattle.w_reduce.specs.Reduced.{Reduced, Stuck, steps_to, ◌>>=◌, or_stuck, or_trap, take_number, take_i32, number}
+use Rattle.w_reduce.specs.Reduced.{Reduced, steps_to, ◌>>=◌, or_stuck, or_trap, take_number, take_i32, number}
 
 -- ## What loads and stores move
 
@@ -83,7 +83,7 @@ abbrev pub memory_op : Store → Context → Row Val → MemoryOp → Code → R
 -- S; (i32.const i) (t.loadN_sx ao)  ↪  S; (t.const c)   where c is read at i + ao.offset
 memory_op s e vs (memory.Load o arg) c = do
   (vs, i) ← take_i32 vs
-  m ← or_stuck (slice_get s.memories 0)
+  m ← or_stuck (slice_get s.memories arg.memory)
   n ← or_trap trap.MemoryOutOfBounds (load m (i + arg.offset) (loaded_size o))
   steps_to s e (vs ▹ number (loaded_type o) (loaded o n)) (rest_of c)
 -- [Step/store-num-oob, store-num-val, store-pack-oob, store-pack-val]
@@ -91,9 +91,9 @@ memory_op s e vs (memory.Load o arg) c = do
 memory_op s e vs (memory.Store o arg) c = do
   (vs, n) ← take_number (stored_type o) vs
   (vs, i) ← take_i32 vs
-  m ← or_stuck (slice_get s.memories 0)
+  m ← or_stuck (slice_get s.memories arg.memory)
   m ← or_trap trap.MemoryOutOfBounds (store m (i + arg.offset) (stored_size o) n)
-  steps_to (with_memory s 0 m) e vs (rest_of c)
+  steps_to (with_memory s arg.memory m) e vs (rest_of c)
 -- [Step_read/memory.size]
 -- S; (memory.size x)  ↪  S; (i32.const n)   where memory x has n pages
 memory_op s e vs (memory.Size x) c = do
@@ -122,14 +122,15 @@ memory_op s e vs (memory.DataDrop y) c = do
   segment ← or_stuck (slice_get s.datas y)
   steps_to (without_data s y) e vs (rest_of c)
 -- [Step_read/memory.copy-oob, memory.copy-zero, memory.copy-le, memory.copy-gt]
--- S; (i32.const d) (i32.const j) (i32.const n) (memory.copy x x)  ↪  S'; ε
+-- S; (i32.const d) (i32.const j) (i32.const n) (memory.copy x y)  ↪  S'; ε
 memory_op s e vs (memory.Copy x y) c = do
   (vs, n) ← take_i32 vs
   (vs, j) ← take_i32 vs
   (vs, d) ← take_i32 vs
   m ← or_stuck (slice_get s.memories x)
-  m ← or_trap trap.MemoryOutOfBounds (copy m d j n)
-  if nat_eq x y then steps_to (with_memory s x m) e vs (rest_of c) else Stuck
+  source ← or_stuck (slice_get s.memories y)
+  m ← or_trap trap.MemoryOutOfBounds (init m source.bytes d j n)
+  steps_to (with_memory s x m) e vs (rest_of c)
 -- [Step_read/memory.fill-oob, memory.fill-zero, memory.fill-succ]
 -- S; (i32.const d) val (i32.const n) (memory.fill x)  ↪  S'; ε
 memory_op s e vs (memory.Fill x) c = do

@@ -174,14 +174,22 @@ in_order f (Some s) y (x ∷ xs) = in_order f (f s y x) (suc y) xs
 
 -- ## The first term
 
--- the invoke of the function of this address, where there is one
-abbrev pub invokes : Option ℕ → List Administrative
-invokes (Some a) = Invoke a ∷ []
-invokes None = []
+-- the invokes of the functions of these addresses
+abbrev pub invokes : List ℕ → List Administrative
+invokes addresses = map (λ (a : ℕ). Invoke a) addresses
 
--- the invoke of the start function, where there is one, and then that of main
+-- the invokes of functions that run before main, and then that of main
+abbrev pub first_term : List ℕ → ℕ → Term
+first_term starts main = record { around = []; operands = ε; rest = record { ahead = invokes starts ++ Invoke main ∷ []; code = Done } }
+
+-- the start function, where there is one
+abbrev pub starts_of : Option ℕ → List ℕ
+starts_of (Some a) = a ∷ []
+starts_of None = []
+
+-- the first term of a module: its start function runs before main
 abbrev pub start_term : Module → ℕ → Term
-start_term m main = record { around = []; operands = ε; rest = record { ahead = invokes m.start ++ Invoke main ∷ []; code = Done } }
+start_term m main = first_term (starts_of m.start) main
 
 -- ## All in order
 

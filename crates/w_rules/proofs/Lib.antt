@@ -9,3 +9,4 @@ pub mod Contexts
 pub mod JoinedTypes
 pub mod DataNeeds
 mod NeedsOfBodies
+mod SoundModules

@@ -1,5 +1,5 @@
--- What is known of a module that was checked.
-use Rattle.std.specs.Prelude.{◌≡◌, ℕ, ◌++◌, length, Some, slice_get}
+-- What is known of a module that was checked, and of one that runs.
+use Rattle.std.specs.Prelude.{◌≡◌, ℕ, ◌++◌, List, length, Some, slice_get}
 use Rattle.w_types.specs.declared.types.FuncType.{FuncType}
 use Rattle.w_syntax.specs.Functions.{type_of_function, code_of_function}
 use Rattle.w_syntax.specs.declared.module.Func.{Func}
@@ -14,13 +14,15 @@ use Rattle.w_rules.specs.Spaces.{context_of, declared_of, in_body}
 abbrev pub height_of : Module → FuncType → Func → ℕ
 height_of m t f = peak (in_body (context_of m) (t.params ++ types_of_runs f.locals) t.results) (set_first t.params f.locals) f.body 0
 
--- these are the facts of the module: a height and a depth for each code
+-- a height and a depth for each code of the module
+pub record AreMeasures (m : Module) (hs ds : List ℕ) : Type 0 where
+  pub as_many_heights : length hs ≡ length m.codes
+  pub as_many_depths : length ds ≡ length m.codes
+  pub heights : (i : ℕ) (t : FuncType) (f : Func) → type_of_function m i ≡ Some t → code_of_function m i ≡ Some f → slice_get hs i ≡ Some (height_of m t f)
+  pub depths : (i : ℕ) (t : FuncType) (f : Func) → type_of_function m i ≡ Some t → code_of_function m i ≡ Some f → slice_get ds i ≡ Some (depth f.body)
+
+-- these are the facts of the module
 pub record AreFacts (m : Module) (facts : Facts) : Type 0 where
-  pub as_many_heights : length facts.heights.items ≡ length m.codes
-  pub as_many_depths : length facts.depths.items ≡ length m.codes
-  pub heights : (i : ℕ) (t : FuncType) (f : Func) → type_of_function m i ≡ Some t → code_of_function m i ≡ Some f
-      → slice_get facts.heights.items i ≡ Some (height_of m t f)
-  pub depths : (i : ℕ) (t : FuncType) (f : Func) → type_of_function m i ≡ Some t → code_of_function m i ≡ Some f
-      → slice_get facts.depths.items i ≡ Some (depth f.body)
+  pub measures : AreMeasures m facts.heights.items facts.depths.items
   pub declared : facts.declared.items ≡ declared_of m
   pub classes : IsClassesOf m.types facts.classes

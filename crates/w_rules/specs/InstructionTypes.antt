@@ -214,9 +214,9 @@ store_width store.I64Store = 3
 abbrev pub has_memory : Context → ℕ → Bool
 has_memory c x = nat_lt x (length c.memories)
 
--- memory 0 is there, the alignment is at most the width, and the offset is below 2^32
+-- the memory is there, the alignment is at most the width, and the offset is below 2^32
 abbrev pub is_access : Context → ℕ → MemArg → Bool
-is_access c width a = has_memory c 0 && (nat_le a.align width && nat_lt a.offset (2 ^ 32))
+is_access c width a = has_memory c a.memory && (nat_le a.align width && nat_lt a.offset (2 ^ 32))
 
 abbrev pub memory_op_type : Context → MemoryOp → InstrType
 -- [Instr_ok/load-val, load-pack]

@@ -12,6 +12,7 @@ pub mod Named
 pub mod Bodies
 pub mod Limits
 pub mod Valid
+pub mod Sound
 pub mod Facts
 pub mod View
 pub mod DataNeeds

@@ -1,6 +1,7 @@
 //! Modules that were found valid and within their limits.
 
 use crate::facts::Facts;
+use crate::runnable::Runnable;
 use std::marker::Model;
 use w_canon::Classes;
 use w_syntax::Module;
@@ -8,14 +9,15 @@ use w_syntax::Module;
 /// A valid module within its limits, with what the check of it found out. Contracts see the module.
 #[derive(Drop)]
 pub struct Checked {
-    module: Module,
-    facts: Facts,
+    runnable: Runnable,
+    declared: Vec<bool>,
 }
 
 impl Model for Checked {
+    ghost use Rattle.std.specs.Prelude.{◌≡◌};
     ghost use Rattle.w_syntax.specs.declared.module.Module.{Module};
-    ghost use Rattle.w_rules.specs.Facts.{AreFacts};
     ghost use Rattle.w_rules.specs.Limits.{Within};
+    ghost use Rattle.w_rules.specs.Spaces.{declared_of};
     ghost use Rattle.w_rules.specs.Valid.{Valid};
 
     ghost Value = { Module };
@@ -24,9 +26,9 @@ impl Model for Checked {
 
     ghost coded = { module_contract.the_row.coded };
 
-    ghost view = { λ a. a.module };
+    ghost view = { λ a. a.runnable };
 
-    ghost invariant = { λ a. Within a.module × (Valid a.module × AreFacts a.module a.facts) };
+    ghost invariant = { λ a. Within a.runnable × (Valid a.runnable × (a.declared.items ≡ declared_of a.runnable)) };
 }
 
 impl Checked {
@@ -42,15 +44,22 @@ impl Checked {
     ghost use Rattle.w_rules.specs.Valid.{Valid};
 
     /// Keeps a module that is valid and within its limits, with what the check of it found out.
+    #[tactic(auto, using(crate::proofs::SoundModules::valid_is_sound))]
     pub fn make(valid: Module, facts: Facts) -> Checked
         requires within { Within valid }
         requires valid { Valid valid }
         requires facts { AreFacts valid facts }
         ensures { result ≡ valid }
     {
+        let Facts {
+            heights,
+            depths,
+            declared,
+            classes,
+        } = facts;
         Checked {
-            module: valid,
-            facts,
+            runnable: Runnable::make(valid, heights, depths, classes),
+            declared,
         }
     }
 
@@ -60,7 +69,7 @@ impl Checked {
         ensures within { Within self.now }
         ensures valid { Valid self.now }
     {
-        &self.module
+        self.runnable.module()
     }
 
     /// The greatest number of operands at a counted place of the body of this function, of those that the module defines; 0 where
@@ -70,10 +79,7 @@ impl Checked {
             → code_of_function self.now function ≡ Some f → result ≡ height_of self.now t f }
         ensures none { code_of_function self.now function ≡ None → result ≡ 0 }
     {
-        match self.facts.heights.get(function as usize) {
-            Some(height) => *height,
-            None => 0,
-        }
+        self.runnable.height(function)
     }
 
     /// One plus the greatest number of blocks around a place of the body of this function, of those that the module defines; 0 where
@@ -83,10 +89,7 @@ impl Checked {
             → code_of_function self.now function ≡ Some f → result ≡ depth f.body }
         ensures none { code_of_function self.now function ≡ None → result ≡ 0 }
     {
-        match self.facts.depths.get(function as usize) {
-            Some(depth) => *depth,
-            None => 0,
-        }
+        self.runnable.depth(function)
     }
 
     /// Whether `ref.func` may name the function of this index. Imported functions stand in front.
@@ -94,7 +97,7 @@ impl Checked {
         ensures flag { result ≡ slice_index_or (declared_of self.now) function false }
         ensures declared { IsTrue result ↔ IsDeclared self.now function }
     {
-        match self.facts.declared.get(function as usize) {
+        match self.declared.get(function as usize) {
             Some(declared) => *declared,
             None => false,
         }
@@ -104,6 +107,20 @@ impl Checked {
     pub fn classes(&self) -> &Classes
         ensures { IsClassesOf self.now.types result.now }
     {
-        &self.facts.classes
+        self.runnable.classes()
+    }
+
+    /// The module as one that can be run, to be looked at.
+    pub fn runnable(&self) -> &Runnable
+        ensures { result.now ≡ self.now }
+    {
+        &self.runnable
+    }
+
+    /// The module as one that can be run. This takes no memory.
+    pub fn into_runnable(self) -> Runnable
+        ensures { result ≡ self }
+    {
+        self.runnable
     }
 }

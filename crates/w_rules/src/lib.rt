@@ -9,6 +9,7 @@ mod laws;
 mod limits;
 mod named_datas;
 mod named_functions;
+mod runnable;
 mod spaces;
 mod types;
 
@@ -23,5 +24,6 @@ pub use laws::{
 pub use limits::{SizeLimit, keeps_locals, keeps_type_limits, limits_of};
 pub use named_datas::data_needs;
 pub use named_functions::declared_functions;
+pub use runnable::Runnable;
 pub use spaces::Spaces;
 pub use types::{has_heap, has_type};

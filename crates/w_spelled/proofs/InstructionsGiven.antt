@@ -1,4 +1,5 @@
 -- What the formats of instructions give: that their numbers are in their ranges.
+use Rattle.std.proofs.Common.{refl}
 use Rattle.std.proofs.lemmas.Bool.{ltb-true}
 use Rattle.w_leb.specs.Formats.{number, ◌⊗◌}
 use Rattle.w_leb.specs.CanonicalTableLaws.{◌&◌}
@@ -114,7 +115,7 @@ numeric_given = of_table_or numerics _
 
 memarg_given : Gives memarg ArgFits
 unfolding memarg
-memarg_given = of_image (of_pair (weaker (λ n h. ltb-true n 64 h.1) (of_such index_given)) (of_number 64))
+memarg_given = of_image (weaker (λ p h. (h.0, refl, h.1)) (of_pair (weaker (λ n h. ltb-true n 64 h.1) (of_such index_given)) (of_number 64)))
 
 accesses_give : AllGive accesses (λ o. OpFits (op.Memory o))
 accesses_give =

@@ -57,8 +57,8 @@ is_rare (packed.Compare k o) = false
 is_rare (packed.Unary k o) = false
 is_rare (packed.Binary k o) = false
 is_rare packed.Drop = false
-is_rare (packed.Load l a o) = false
-is_rare (packed.Store s a o) = false
+is_rare (packed.Load l a x o) = false
+is_rare (packed.Store s a x o) = false
 is_rare p = true
 
 -- the packed instruction gets or sets a local or a global

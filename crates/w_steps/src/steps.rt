@@ -106,11 +106,11 @@ fn common_step(
         PackedInstr::Unary(kind, _) => Some(flow.turns(cx.classes, of_int(*kind), of_int(*kind))),
         PackedInstr::Binary(kind, _) => Some(flow.joins(cx.classes, of_int(*kind), of_int(*kind))),
         PackedInstr::Drop => Some(Ok(flow.drops())),
-        PackedInstr::Load(load, align, offset) => {
-            Some(load_step(cx, flow, *load, *align, *offset))
+        PackedInstr::Load(load, align, memory, offset) => {
+            Some(load_step(cx, flow, *load, *align, *memory, *offset))
         }
-        PackedInstr::Store(store, align, offset) => {
-            Some(Ok(store_step(cx, flow, *store, *align, *offset)))
+        PackedInstr::Store(store, align, memory, offset) => {
+            Some(Ok(store_step(cx, flow, *store, *align, *memory, *offset)))
         }
         _ => None,
     }

@@ -9,5 +9,7 @@ mod SomeOf
 mod FunctionsName
 mod LocalRows
 pub mod PackedLists
+pub mod LaidTokens
+mod OneInstruction
 pub mod PlainInstructions
 pub mod SameLists

@@ -1,5 +1,5 @@
 -- Modules that have the same lists in front of the code section.
-use Rattle.std.proofs.Common.{◌≡◌, List, refl, sym, ◌∙◌}
+use Rattle.std.proofs.Common.{List, refl, ◌∙◌}
 use Rattle.w_syntax.specs.Module.{with_contents}
 use Rattle.w_syntax.specs.SameBefore.{SameBefore}
 use Rattle.w_syntax.specs.declared.module.Data.{Data}

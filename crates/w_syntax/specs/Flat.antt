@@ -1,7 +1,10 @@
 -- The one list that a sequence of instructions is kept in, where a block names the places of its else and its end.
-use Rattle.std.specs.Prelude.{◌≡◌, ℕ, ◌+◌, Bool, true, false, List, [], ◌∷◌, ◌++◌, Some, None}
+use Rattle.std.specs.Prelude.{◌≡◌, ℕ, ◌+◌, Bool, true, false, List, [], ◌∷◌, ◌++◌, Option, Some, None}
 use Rattle.w_syntax.specs.declared.instructions.Instr.{Instr}
 use Rattle.w_syntax.specs.declared.instructions.Instr.TheVariants as flat
+use Rattle.w_syntax.specs.declared.instructions.Op.{Op}
+use Rattle.w_syntax.specs.declared.instructions.Token.{Token}
+use Rattle.w_syntax.specs.declared.instructions.Token.TheVariants as tok
 use Rattle.w_syntax.specs.Code.{Code, Done, Plain, Block, If, IfElse}
 
 -- how many instructions a sequence is written with
@@ -58,3 +61,16 @@ whole c = laid 0 c ++ flat.End ∷ []
 -- the list is that of a body
 unfoldable pub IsFlat : List Instr → Type 0
 IsFlat is = is ≡ whole (tree_of is)
+
+-- the token that an instruction of the list is written as
+abbrev pub as_token : Instr → Token
+as_token (flat.Plain o) = tok.Plain o
+as_token (flat.Block k b e) = tok.Block k b
+as_token (flat.If b m e) = tok.If b
+as_token flat.Else = tok.Else
+as_token flat.End = tok.End
+
+-- the instruction, where the sequence is one alone that holds no others
+abbrev pub only : Code → Option Op
+only (Plain o Done) = Some o
+only c = None

@@ -139,7 +139,7 @@ numeric_solid x h = h
 
 -- the exponent of the alignment, below 64, and the offset
 unfoldable pub memarg : Format MemArg
-memarg = such_that (λ n. nat_lt n 64) (number 32) ⊗ number 64 ⇒ λ p. record { align = p.0; offset = p.1 }
+memarg = such_that (λ n. nat_lt n 64) (number 32) ⊗ number 64 ⇒ λ p. record { align = p.0; memory = 0; offset = p.1 }
 
 abbrev pub accesses : List (ℕ × Format MemoryOp)
 accesses =

@@ -71,10 +71,11 @@ impl Model for Body {
 }
 
 impl Body {
-    ghost use Rattle.std.specs.Prelude.{◌≡◌};
-    ghost use Rattle.w_syntax.specs.Flat.{tree_of, IsFlat, whole};
+    ghost use Rattle.std.specs.Prelude.{◌≡◌, option_map};
+    ghost use Rattle.w_syntax.specs.declared.instructions.Instr.TheVariants as flat;
+    ghost use Rattle.w_syntax.specs.Flat.{only, tree_of, IsFlat, whole};
     ghost use Rattle.w_syntax.specs.DataUses.{uses_data};
-    ghost use Rattle.w_syntax.specs.Packed.{unpacked_all};
+    ghost use Rattle.w_syntax.specs.Packed.{unpacked, unpacked_all};
 
     /// The body that this list is laid out from.
     pub fn new(code: Vec<PackedInstr>) -> Body
@@ -97,6 +98,17 @@ impl Body {
         ensures { unpacked_all result.now ≡ whole self.now }
     {
         self.code.as_slice()
+    }
+
+    /// The instruction, where the body is one alone that holds no others.
+    pub fn only(&self) -> Option<&PackedInstr>
+        ensures { option_map (λ p. unpacked p.now) result ≡ option_map (λ o. flat.Plain o) (only self.now) }
+    {
+        let instrs = self.instrs();
+        if instrs.len() != 2 {
+            return None;
+        }
+        Some(&instrs[0])
     }
 }
 

@@ -1,8 +1,10 @@
 //! The items of element segments. Most are one `ref.func` or one `ref.null`, which need no list of instructions.
-ghost use Rattle.std.specs.Prelude.{◌≡◌, ◌<◌, Some, IfOk, length, map, slice_get};
+ghost use Rattle.std.specs.Prelude.{◌≡◌, ◌<◌, Some, IfOk, IfSome, length, map, slice_get};
 ghost use Rattle.w_syntax.specs.Items.{reference_to, null_of, code_of};
 
 use crate::body::Body;
+use crate::instructions::ReferenceOp;
+use crate::packed::PackedInstr;
 use lists::ListOf;
 use std::alloc::{AllocError, Global};
 use std::marker::Model;
@@ -72,6 +74,19 @@ impl Model for Items {
     ghost view = { λ a. codes_of_form a.form };
 }
 
+// The item of a body that is one `ref.func` or one `ref.null`.
+fn short_item(body: &Body) -> Option<Item>
+    ensures { IfSome result (λ item. item ≡ body.now) }
+{
+    match body.only() {
+        Some(PackedInstr::Reference(ReferenceOp::Func(function))) => Some(Item::function(
+            *function,
+        )),
+        Some(PackedInstr::Reference(ReferenceOp::Null(heap))) => Some(Item::null(*heap)),
+        _ => None,
+    }
+}
+
 impl Item {
     /// One `ref.func` of this function.
     pub fn function(function: u32) -> Item
@@ -91,10 +106,13 @@ impl Item {
         }
     }
 
-    /// This expression. It fails only for want of memory.
+    /// This expression, which is kept short where it is one `ref.func` or one `ref.null`. It fails only for want of memory.
     pub fn expression(alloc: Global, body: Body) -> Result<Item, AllocError>
         ensures { IfOk result (λ item. item ≡ body) }
     {
+        if let Some(item) = short_item(&body) {
+            return Ok(item);
+        }
         let body = Box::new(alloc, body)?;
         Ok(Item {
             form: ItemForm::Expression(body),

@@ -19,7 +19,7 @@ pub use instructions::{
     TableOp, Token, VariableOp,
 };
 pub use items::{Item, ItemView, Items};
-pub use locals::{LocalRun, Locals};
+pub use locals::{LocalRun, Locals, are_one_type};
 pub use memory_instructions::{LoadOp, MemArg, MemoryOp, StoreOp};
 pub use module::{
     Data, DataMode, Elem, ElemMode, Export, ExternIndex, ExternType, Func, GlobalType,

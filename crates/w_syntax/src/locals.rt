@@ -46,9 +46,9 @@ fn are_few(runs: &[LocalRun]) -> bool
     true
 }
 
-// Whether the types are one.
+/// Whether two types are one: the same words, whatever groups there are.
 #[tactic(auto, using(crate::proofs::SameKind::kinds_alike))]
-fn are_one_type(one: PackedType, other: PackedType) -> bool
+pub fn are_one_type(one: PackedType, other: PackedType) -> bool
     ensures { result ≡ same_kind one other }
 {
     one.whole() == other.whole()

@@ -29,10 +29,11 @@ pub enum StoreOp {
     I64Store32,
 }
 
-/// How a load or a store names its address: the exponent of the alignment, which is below 64, and the offset.
+/// How a load or a store names its address: the exponent of the alignment, which is below 64, the memory, and the offset.
 #[derive(Clone, Copy)]
 pub struct MemArg {
     pub align: u8,
+    pub memory: u32,
     pub offset: u64,
 }
 

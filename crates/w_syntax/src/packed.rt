@@ -84,10 +84,10 @@ pub enum PackedInstr {
     Select,
     Variable(VariableOp),
     Table(TableOp),
-    /// A load, with the exponent of the alignment and the offset.
-    Load(LoadOp, u8, u64),
-    /// A store, with the exponent of the alignment and the offset.
-    Store(StoreOp, u8, u64),
+    /// A load, with the exponent of the alignment, the memory and the offset.
+    Load(LoadOp, u8, u32, u64),
+    /// A store, with the exponent of the alignment, the memory and the offset.
+    Store(StoreOp, u8, u32, u64),
     Memory(ShortMemoryOp),
     I32Const(i32),
     I64Const(i64),
@@ -191,10 +191,10 @@ fn packed_memory(memory: MemoryOp) -> PackedInstr
 {
     let short = match memory {
         MemoryOp::Load(load, argument) => {
-            return PackedInstr::Load(load, argument.align, argument.offset);
+            return PackedInstr::Load(load, argument.align, argument.memory, argument.offset);
         }
         MemoryOp::Store(store, argument) => {
-            return PackedInstr::Store(store, argument.align, argument.offset);
+            return PackedInstr::Store(store, argument.align, argument.memory, argument.offset);
         }
         MemoryOp::Size(memory) => ShortMemoryOp::Size(memory),
         MemoryOp::Grow(memory) => ShortMemoryOp::Grow(memory),
@@ -432,16 +432,18 @@ impl PackedInstr {
             PackedInstr::Select => made(Op::Parametric(ParametricOp::Select)),
             PackedInstr::Variable(op) => made(Op::Variable(*op)),
             PackedInstr::Table(op) => made(Op::Table(*op)),
-            PackedInstr::Load(load, align, offset) => {
+            PackedInstr::Load(load, align, memory, offset) => {
                 let argument = MemArg {
                     align: *align,
+                    memory: *memory,
                     offset: *offset,
                 };
                 made(Op::Memory(MemoryOp::Load(*load, argument)))
             }
-            PackedInstr::Store(store, align, offset) => {
+            PackedInstr::Store(store, align, memory, offset) => {
                 let argument = MemArg {
                     align: *align,
+                    memory: *memory,
                     offset: *offset,
                 };
                 made(Op::Memory(MemoryOp::Store(*store, argument)))

@@ -1,2 +1,4 @@
 mod ChangedTables
+mod ChangedMemories
 mod TableRows
+mod MemoryRows

@@ -1,7 +1,7 @@
 -- What the calls on a store answer, and the store after them.
 use Rattle.std.specs.Prelude.{ℕ, ℤ, List, [], ◌∷◌, ◌++◌, length, replicate, Option, Some, None, slice_index_or, slice_set}
 use Rattle.w_types.specs.declared.value.Value.{Value}
-use Rattle.w_memory.specs.Memory.{Memory}
+use Rattle.w_memory.specs.Memory.{Memory, init}
 use Rattle.w_tables.specs.declared.entries.FuncEntry.{FuncEntry}
 use Rattle.w_tables.specs.Outcomes.{outcome, growth}
 use Rattle.w_tables.specs.Elements.{get, replaced, filled, copied, grown}
@@ -108,9 +108,17 @@ bytes_at datas None = []
 
 -- ## Memories and globals
 
--- with this as the first memory
-abbrev pub with_memory : Store → Memory → Store
-with_memory s m = record s { memories = slice_set s.memories 0 m }
+-- the memory at an address
+abbrev pub memory_at : List Memory → ℕ → Memory
+memory_at memories x = slice_index_or memories x (record { bytes = []; max = None })
+
+-- with this as the memory at an address
+abbrev pub with_memory : Store → ℕ → Memory → Store
+with_memory s x m = record s { memories = slice_set s.memories x m }
+
+-- memory.copy: bytes of a memory, of another or of the same one
+unfoldable pub memory_copy : Store → (dst src to from n : ℕ) → Option (Unit {0}) × Store
+memory_copy s dst src to from n = outcome s (with_memory s dst) (init (memory_at s.memories dst) (memory_at s.memories src).bytes to from n)
 
 -- global.set
 abbrev pub global_set : Store → ℕ → Value → Store

@@ -5,6 +5,7 @@ mod adding;
 mod elements;
 mod entries;
 mod globals;
+mod memories;
 mod segments;
 mod store;
 mod tables;

@@ -1,5 +1,5 @@
 //! Tables.
-ghost use Rattle.std.specs.Prelude.{◌≡◌, ◌≢◌, ◌≤◌, ◌<◌, length, IfOk, OnErr, slice_get};
+ghost use Rattle.std.specs.Prelude.{◌≡◌, ◌≢◌, ◌≤◌, ◌<◌, length, IfOk, OnErr};
 ghost use Rattle.w_tables.specs.Elements.{copied, table_limit};
 ghost use Rattle.w_tables.specs.Operations as op;
 ghost use Rattle.w_tables.specs.Operations.{elements_at, with_elements_at};

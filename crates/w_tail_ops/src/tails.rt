@@ -14,7 +14,7 @@ use std::alloc::AllocError;
 use w_call_ops::{argument, enter_callee, find_callee, room_for_callee, spelled};
 use w_control_ops::end_outside;
 use w_outside::{Fault, Sink, put};
-use w_rules::Checked;
+use w_rules::Runnable;
 use w_segment::Stack;
 use w_syntax::Module;
 use w_tables::{Printer, Store};
@@ -24,7 +24,7 @@ use w_tables::{Printer, Store};
 /// for, and then the stack is as it was but for room.
 #[inline(never)]
 pub fn tail_own(
-    program: &Checked,
+    program: &Runnable,
     store: &Store,
     stack: &mut Stack,
     address: u32,

@@ -7,7 +7,6 @@ pub mod Closing
 pub mod Least
 pub mod ItemsWritten
 pub mod LocalsSoFar
-pub mod SameKind
 pub mod Segments
 pub mod Openings
 pub mod Assemblies

@@ -1,12 +1,11 @@
 //! The locals of a function, as their lines come.
 ghost use Rattle.std.specs.Prelude.{◌≡◌, ◌<◌, ◌^◌};
-ghost use Rattle.w_syntax.specs.Locals.{same_kind, total};
+ghost use Rattle.w_syntax.specs.Locals.{total};
 ghost use Rattle.w_text.specs.Machine.{unlike_last, may_follow};
 
 use std::alloc::{AllocError, Global};
 use std::marker::Model;
-use w_syntax::{LocalRun, Locals};
-use w_types::PackedType;
+use w_syntax::{LocalRun, Locals, are_one_type};
 
 /// The runs so far: none is empty, neighbours have unlike types, and there are fewer than 2^32 locals. Contracts see the list of
 /// runs.
@@ -28,14 +27,6 @@ impl Model for Runs {
     ghost view = { λ a. a.runs.items };
 
     ghost invariant = { λ a. LocalsFit a.runs.items × (a.count ≡ total a.runs.items) };
-}
-
-// Whether the types are one.
-#[tactic(auto, using(crate::proofs::SameKind::kinds_alike))]
-fn are_one_type(one: PackedType, other: PackedType) -> bool
-    ensures { result ≡ same_kind one other }
-{
-    one.whole() == other.whole()
 }
 
 // Whether a run is of another type than the last of these.

@@ -16,9 +16,9 @@ use Rattle.w_memory.specs.Parts.{copied}
 use Rattle.w_canon.specs.Matching.{RefMatches, ref}
 use Rattle.w_canon.specs.Supertypes.{KeepsKinds}
 use Rattle.w_rules.specs.Conditions.{Holds}
+use Rattle.w_rules.specs.Sound.{Sound}
 use Rattle.w_rules.specs.Spaces.{tables_of, memories_of}
-use Rattle.w_rules.specs.Valid.{Valid, ElementItem, ElementValid, IsElemModeValid}
-use Rattle.w_rules.proofs.ValidTypes.{keeps_kinds}
+use Rattle.w_rules.specs.Valid.{ElementItem, ElementValid, IsElemModeValid}
 use Rattle.w_reduce.specs.Values.{Val}
 use Rattle.w_reduce.specs.Store.{Store, Table}
 use Rattle.w_reduce.specs.Program.{Program}
@@ -29,6 +29,7 @@ use Rattle.w_reduce.specs.Start as start
 use Rattle.w_reduce.specs.Start.{elements_copied, element_started, data_put, data_copied, data_started, in_order}
 use Rattle.w_typed.specs.Values.{Arrows}
 use Rattle.w_typed.specs.Stores.{TableTyped, MemoryTyped, SegmentTyped, StoreTyped}
+use Rattle.w_typed.proofs.KeptComposites.{keeps_kinds}
 use Rattle.w_typed.proofs.Elements.{all_sub}
 use Rattle.w_typed.proofs.Memories.{memory_put, data_dropped}
 use Rattle.w_typed.proofs.Pages.{init_typed, data_bytes}
@@ -37,11 +38,11 @@ use Rattle.w_typed.proofs.SizedTables.{table_copied}
 use Rattle.w_typed.proofs.Tables.{elements_put, elements_dropped}
 
 -- where there is a store, it is of the module's types
-abbrev StaysTyped : Module → Arrows → Option Store → Type 0
+abbrev pub StaysTyped : Module → Arrows → Option Store → Type 0
 StaysTyped m K o = (s : Store) → o ≡ Some s → StoreTyped m K s
 
 -- a store is itself
-stays_typed : (m : Module) {K : Arrows} (s : Store) → StoreTyped m K s → StaysTyped m K (Some s)
+pub stays_typed : (m : Module) {K : Arrows} (s : Store) → StoreTyped m K s → StaysTyped m K (Some s)
 stays_typed m {K} s u r is = subst (StoreTyped m K) (cc) u
 
 none_stays_typed : (m : Module) {K : Arrows} → StaysTyped m K None
@@ -86,7 +87,7 @@ module _ (p : Program) (keeps : KeepsKinds p.source.types) {K : Arrows} (y : ℕ
       put_typed s x t k segment d (copied t.elements segment d 0 (length segment)) refl at q table values u
 
   -- what a segment's mode asks for is done
-  element_kept : (s : Store) (mode : ElemMode) → IsElemModeValid p.source e.kind mode → StoreTyped p.source K s
+  pub element_kept : (s : Store) (mode : ElemMode) → IsElemModeValid p.source e.kind mode → StoreTyped p.source K s
       → StaysTyped p.source K (element_started p s y mode)
   element_kept s (elem_mode.Active x offset) q u =
       let d = number_in (value_of p s offset) in
@@ -115,7 +116,7 @@ module _ (p : Program) {K : Arrows} where
   bytes_there s x y d (Some n) None a b u = none_stays_typed p.source
   bytes_there s x y d None bytes a b u = none_stays_typed p.source
 
-  data_kept : (s : Store) (y : ℕ) (mode : DataMode) → StoreTyped p.source K s → StaysTyped p.source K (data_started p s y mode)
+  pub data_kept : (s : Store) (y : ℕ) (mode : DataMode) → StoreTyped p.source K s → StaysTyped p.source K (data_started p s y mode)
   data_kept s y (data_mode.Active x offset) u =
       bytes_there s x y (number_in (value_of p s offset)) (slice_get s.memories x) (slice_get s.datas y) refl refl u
   data_kept s y data_mode.Passive u = stays_typed p.source s u
@@ -123,7 +124,7 @@ module _ (p : Program) {K : Arrows} where
 -- ## All of them
 
 -- Where each step keeps a store's types, all of them do. Q is what is known of the items by their places.
-in_order_typed : {A : Type 0} (m : Module) {K : Arrows} (Q : ℕ → A → Type 0) (f : Store → ℕ → A → Option Store)
+pub in_order_typed : {A : Type 0} (m : Module) {K : Arrows} (Q : ℕ → A → Type 0) (f : Store → ℕ → A → Option Store)
     → ((s : Store) (y : ℕ) (x : A) → Q y x → StoreTyped m K s → StaysTyped m K (f s y x)) → (y : ℕ) (xs : List A)
     → ((i : ℕ) (x : A) → slice_get xs i ≡ Some x → Q (y + i) x) → (o : Option Store) → StaysTyped m K o → StaysTyped m K (in_order f o y xs)
 in_order_typed m Q f k y xs q None u = none_stays_typed m
@@ -135,12 +136,12 @@ in_order_typed m Q f k y (x ∷ xs) q (Some s) u =
 
 module _ (p : Program) {K : Arrows} where
   -- with all active element segments put in their tables, a store keeps its types
-  pub elements_typed : Valid p.source → (s r : Store) → StoreTyped p.source K s
+  pub elements_typed : Sound p.source → (s r : Store) → StoreTyped p.source K s
       → in_order (λ s y (e : Elem). element_started p s y e.mode) (Some s) 0 p.source.elements ≡ Some r → StoreTyped p.source K r
   elements_typed valid s r u is =
       let here : ℕ → Elem → Type 0 = λ y e. slice_get p.source.elements y ≡ Some e in
       in_order_typed p.source here (λ s y (e : Elem). element_started p s y e.mode) (λ s y e there v.
-      let w : ElementValid p.source y = valid (ElementItem y) (slice_get_within p.source.elements y e there) in
+      let w : ElementValid p.source y = valid.items (ElementItem y) refl (slice_get_within p.source.elements y e there) in
       let same : w.element ≡ e = let a = w.is in cc in
       let mode = subst (λ (x : Elem). IsElemModeValid p.source x.kind x.mode) same w.mode in
       element_kept p (keeps_kinds p.source valid) y e there s e.mode mode v)

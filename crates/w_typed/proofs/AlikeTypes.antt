@@ -1,10 +1,12 @@
--- Types of equal groups: those at one position of them match.
+-- Types of equal groups: those at one position of them are equal.
 use Rattle.std.proofs.Common.{inr, ℕ, suc, ◌+◌, ◌<◌, All, List, length, arith}
 use Rattle.std.proofs.lemmas.Bool.{ltb-true}
 use Rattle.std.proofs.lemmas.List.Elements.{All-head, All-tail}
 use Rattle.w_types.specs.declared.types.HeapType.{HeapType}
 use Rattle.w_types.specs.declared.types.ValType.{ValType}
 use Rattle.w_types.specs.declared.types.CompType.{CompType}
+use Rattle.w_types.specs.declared.types.CompType.TheVariants as comp
+use Rattle.w_types.specs.declared.types.FuncType.{FuncType}
 use Rattle.w_types.specs.declared.types.RecGroup.{RecGroup}
 use Rattle.w_canon.specs.Classed.{count}
 use Rattle.w_canon.specs.Relations.{Pairwise, none, more}
@@ -12,10 +14,13 @@ use Rattle.w_canon.specs.Equality.{HeapEqual, ValEqual, ResultEqual}
 use Rattle.w_canon.specs.Equality as equal
 use Rattle.w_canon.specs.Equivalence.{AlikeIndex, inside, outside, AlikeHeap, AlikeVal, AlikeComp, Place, AtOnePosition, Same, SameIndex}
 use Rattle.w_canon.specs.Equivalence as alike
-use Rattle.w_canon.specs.Matching.{IndexMatches, CompMatches}
-use Rattle.w_canon.proofs.EqualTypes.{result_equal_sym, result_equal_matches}
 use Rattle.w_canon.proofs.Supertypes.{same_wider, at_index}
 use Rattle.w_rules.specs.Types.{IsValidHeap, IsValidType, IsValidCompType}
+
+-- composite types are equal: function types with equal parameters and results, continuation types of equivalent types
+pub data CompEqual (gs : List RecGroup) : CompType → CompType → Type 0 where
+  func : {f g : FuncType} → ResultEqual gs f.params g.params → ResultEqual gs f.results g.results → CompEqual gs (comp.Func f) (comp.Func g)
+  cont : {x y : ℕ} → SameIndex gs x y → CompEqual gs (comp.Cont x) (comp.Cont y)
 
 -- ## Indices
 
@@ -63,10 +68,7 @@ module _ (gs : List RecGroup) (S : ℕ → ℕ → Type 0) (s t one_end other_en
       more (alike_val_equal h (All-head (IsValidType one_end) x xs p) (All-head (IsValidType other_end) y ys q))
       (alike_result_equal k (All-tail (IsValidType one_end) x xs p) (All-tail (IsValidType other_end) y ys q))
 
-  -- and composite types match
-  pub alike_comp_matches : (ts : List CompType) {a b : CompType} → AlikeComp S s t a b → IsValidCompType ts one_end a → IsValidCompType ts other_end b → CompMatches gs a b
-  alike_comp_matches ts (alike.AlikeComp.func {f} {g} h) p q = CompMatches.func (record {
-    params = result_equal_matches gs g.params f.params (result_equal_sym gs f.params g.params (alike_result_equal h.params p.0 q.0));
-    results = result_equal_matches gs f.results g.results (alike_result_equal h.results p.1 q.1);
-  })
-  alike_comp_matches ts (alike.AlikeComp.cont {x} {y} h) p q = CompMatches.cont (IndexMatches.same (same x y p.0 q.0 h))
+  -- and so are composite types
+  pub alike_comp_equal : (ts : List CompType) {a b : CompType} → AlikeComp S s t a b → IsValidCompType ts one_end a → IsValidCompType ts other_end b → CompEqual gs a b
+  alike_comp_equal ts (alike.AlikeComp.func h) p q = CompEqual.func (alike_result_equal h.params p.0 q.0) (alike_result_equal h.results p.1 q.1)
+  alike_comp_equal ts (alike.AlikeComp.cont {x} {y} h) p q = CompEqual.cont (same x y p.0 q.0 h)

@@ -21,8 +21,9 @@ use Rattle.w_rules.specs.Peak.{depth}
 use Rattle.w_rules.specs.Matching.{RowMatches, known}
 use Rattle.w_rules.specs.Operands.{Operand}
 use Rattle.w_rules.specs.Operands.{Known}
+use Rattle.w_rules.specs.Sound.{Sound}
 use Rattle.w_rules.specs.Spaces.{functions_of, context_of}
-use Rattle.w_rules.specs.Valid.{Valid, FunctionItem, FunctionValid}
+use Rattle.w_rules.specs.Valid.{FunctionItem, FunctionValid}
 use Rattle.w_rules.proofs.Preorder.{row_refl}
 use Rattle.w_tables.specs.declared.entries.FuncEntry.{FuncEntry}
 use Rattle.w_tables.specs.declared.entries.Printer.{Printer}
@@ -97,13 +98,13 @@ module _ (m : Module) {K : Arrows} where
 -- ## Invokes
 
 -- the index of a function of the store is that of a function type
-entry_there : (m : Module) {f : FuncEntry} {x : ℕ} → Valid m → EntryTyped m f x → IsFunc m.types x
+entry_there : (m : Module) {f : FuncEntry} {x : ℕ} → Sound m → EntryTyped m f x → IsFunc m.types x
 entry_there m valid (own {i = i} {x = x} there) =
-    let f : FunctionValid m i = valid (FunctionItem i) (inl (slice_get_within m.functions i x there)) in
+    let f : FunctionValid m i = valid.items (FunctionItem i) refl (inl (slice_get_within m.functions i x there)) in
     is_func m x f.type (sym (ap (type_at m) there) ∙ f.has_type)
 entry_there m valid (host {x = x} h) = is_func m x h.type h.has_type
 
-pub function_there : (m : Module) {K : Arrows} {s : Store} (a x : ℕ) → Valid m → StoreTyped m K s → slice_get (functions_of m) a ≡ Some x → IsFunc m.types x
+pub function_there : (m : Module) {K : Arrows} {s : Store} (a x : ℕ) → Sound m → StoreTyped m K s → slice_get (functions_of m) a ≡ Some x → IsFunc m.types x
 function_there m a x valid u is = let f = instance_at a x (entries_typed m u.functions) is in entry_there m valid f.holds
 
 module _ (p : Program) {K : Arrows} (us : Row Operand) where
@@ -140,12 +141,12 @@ module _ (p : Program) {K : Arrows} (us : Row Operand) where
       number_taken p.source us int.I32 vs beneath _ v (λ below n b. goes_printing p.source us (printed_byte n) u still b k w)
 
   pub entry_invoked : {s : Store} {e : Context} {vs : Row Val} {rest : Rest} {c : Scope} {set now : List Bool} {out : Row Operand} {f : FuncEntry} {x : ℕ} (t : FuncType)
-      (beneath : Row Operand) → Valid p.source → StoreTyped p.source K s → EntryTyped p.source f x → func_type p.source x ≡ Some t
+      (beneath : Row Operand) → Sound p.source → StoreTyped p.source K s → EntryTyped p.source f x → func_type p.source x ≡ Some t
       → ValuesTyped p.source K vs (beneath ⧺ known (row_of t.params)) → RestTyped p.source c set rest.ahead rest.code (beneath ⧺ known (row_of t.results)) out
       → Subset set now → Within p.source K us e c now out → IsSafe p.source K us (invoked p s e vs f rest)
   entry_invoked {vs = vs} {rest = rest} {c = c} {set = set} {out = out} t beneath valid u (own {i = i} {x = x} there) is v k still w =
       let m = p.source in
-      let f : FunctionValid m i = valid (FunctionItem i) (inl (slice_get_within m.functions i x there)) in
+      let f : FunctionValid m i = valid.items (FunctionItem i) refl (inl (slice_get_within m.functions i x there)) in
       let same : t ≡ f.type = some_same (sym is ∙ ap (type_at m) (sym there) ∙ f.has_type) in
       entered i beneath f u (subst (λ (z : FuncType). ValuesTyped m K vs (beneath ⧺ known (row_of z.params))) same v)
       (subst (λ (z : FuncType). RestTyped m c set rest.ahead rest.code (beneath ⧺ known (row_of z.results)) out) same k) still w
@@ -158,7 +159,7 @@ module _ (p : Program) {K : Arrows} (us : Row Operand) where
       (subst (λ (ts : List ValType). RestTyped m c set rest.ahead rest.code (beneath ⧺ known (row_of ts)) out) given k) still w
 
   found_invoked : {s : Store} {e : Context} {vs : Row Val} {rest : Rest} {c : Scope} {set now : List Bool} {out : Row Operand} (a : ℕ) (x : Option ℕ) (t : FuncType)
-      (beneath : Row Operand) → Valid p.source → StoreTyped p.source K s → slice_get (functions_of p.source) a ≡ x → func_at (context_of p.source) x ≡ Some t
+      (beneath : Row Operand) → Sound p.source → StoreTyped p.source K s → slice_get (functions_of p.source) a ≡ x → func_at (context_of p.source) x ≡ Some t
       → ValuesTyped p.source K vs (beneath ⧺ known (row_of t.params)) → RestTyped p.source c set rest.ahead rest.code (beneath ⧺ known (row_of t.results)) out
       → Subset set now → Within p.source K us e c now out → IsSafe p.source K us (invoke p s e vs a rest)
   found_invoked a None t beneath valid u there is v k still w = absurd (cc)
@@ -168,7 +169,7 @@ module _ (p : Program) {K : Arrows} (us : Row Operand) where
 
   -- an invoke goes on in the function, or prints
   pub invoke_safe : {s : Store} {e : Context} {vs : Row Val} {rest : Rest} {c : Scope} {set now : List Bool} {out : Row Operand} (a : ℕ) (t : FuncType)
-      (beneath : Row Operand) → Valid p.source → StoreTyped p.source K s → type_of_func (context_of p.source) a ≡ Some t
+      (beneath : Row Operand) → Sound p.source → StoreTyped p.source K s → type_of_func (context_of p.source) a ≡ Some t
       → ValuesTyped p.source K vs (beneath ⧺ known (row_of t.params)) → RestTyped p.source c set rest.ahead rest.code (beneath ⧺ known (row_of t.results)) out
       → Subset set now → Within p.source K us e c now out → IsSafe p.source K us (invoke p s e vs a rest)
   invoke_safe a t beneath valid u is v k still w = found_invoked a (slice_get (functions_of p.source) a) t beneath valid u refl is v k still w

@@ -13,9 +13,9 @@ use Rattle.w_rules.specs.Context.{type_of_func, func_at, func_index_of_cont}
 use Rattle.w_rules.specs.InstructionTypes.{cont_new_type, nullable, non_null}
 use Rattle.w_rules.specs.Matching.{RowMatches, known}
 use Rattle.w_rules.specs.Operands.{Operand, Known}
+use Rattle.w_rules.specs.Sound.{Sound}
 use Rattle.w_rules.specs.Spaces.{context_of, functions_of}
 use Rattle.w_rules.specs.Typing.{HasInstrType}
-use Rattle.w_rules.specs.Valid.{Valid}
 use Rattle.w_rules.proofs.Preorder.{row_refl}
 use Rattle.w_reduce.specs.declared.trap.Trap.TheVariants as trap
 use Rattle.w_reduce.specs.Values.{Val}
@@ -30,6 +30,7 @@ use Rattle.w_typed.proofs.Subsumption.{values_sub}
 use Rattle.w_typed.proofs.Holes.{subset_refl}
 use Rattle.w_typed.proofs.MoreContinuations.{grows_more, values_grow}
 use Rattle.w_typed.proofs.TypeKinds.{is_func}
+use Rattle.w_typed.proofs.KeptComposites.{types_valid}
 use Rattle.w_typed.proofs.SameTypes.{SameFunction, function_matches, result_rows}
 use Rattle.w_typed.proofs.Indirect.{function_taken, one_type}
 use Rattle.w_typed.proofs.ContTypes.{IsContOf, is_cont_of}
@@ -64,20 +65,20 @@ fresh_typed m K a x t is f =
 
 module _ (p : Program) (keeps : KeepsKinds p.source.types) (K : Arrows) (us : Row Operand) {s : Store} {e : Context} {k : Code} where
   -- with the function type known
-  made : {vs : Row Val} (x f : ℕ) {beneath : Row Operand} (h : Here p K us s e k (beneath ▹ Known (non_null x))) → h.leaving ≡ false → Valid p.source → IsContOf p.source x f
+  made : {vs : Row Val} (x f : ℕ) {beneath : Row Operand} (h : Here p K us s e k (beneath ▹ Known (non_null x))) → h.leaving ≡ false → Sound p.source → IsContOf p.source x f
       → ValuesTyped p.source K vs (beneath ▹ Known (nullable f)) → IsSafe p.source K us (switching_op p s e vs (switching.ContNew x) k)
   made x f h n valid c (values b (a_value q)) =
       let m = p.source in
       let t : FuncType = c.type in
       function_taken p keeps us trap.NullReference _ (index_func (is_func m f t c.has_func)) q (λ a g.
-      let same : SameFunction m g.index t = function_matches m valid (one_type m g.matches) t c.has_func in
+      let same : SameFunction m g.index t = function_matches m (types_valid m valid) (one_type m g.matches) t c.has_func in
       let one = grows_more K t in
       rw (c.has_cont) (goes_with_more m one (cont_made m (fresh_continuation a (length t.params)) t s h.store (fresh_typed m (K ++ t ∷ []) a g.index t g.is same)) h.still
       (values (values_grow m one b) (a_value (a_continuation (made_reference m t t x s h.store c.has_cont (func_refl m.types t)))))
       (code_alone (h.behind n)) h.around))
 
   -- by whether there is a function type
-  by_index : {ts ws : Row Operand} {vs : Row Val} (x : ℕ) (f : Option ℕ) (h : Here p K us s e k ws) → h.leaving ≡ false → Valid p.source → func_index_of_cont (context_of p.source) x ≡ f
+  by_index : {ts ws : Row Operand} {vs : Row Val} (x : ℕ) (f : Option ℕ) (h : Here p K us s e k ws) → h.leaving ≡ false → Sound p.source → func_index_of_cont (context_of p.source) x ≡ f
       → HasInstrType p.source.types (cont_new_type x f) ts ws → ValuesTyped p.source K vs ts → IsSafe p.source K us (switching_op p s e vs (switching.ContNew x) k)
   by_index x None h n valid is t v = absurd t
   by_index x (Some f) h n valid is t v =
@@ -85,6 +86,6 @@ module _ (p : Program) (keeps : KeepsKinds p.source.types) (K : Arrows) (us : Ro
       made x f (here_left p keeps K us t.gives h) n valid (is_cont_of m valid x f is) (values_sub m keeps t.takes v)
 
   -- cont.new makes a continuation of the function, or traps where it is null
-  pub cont_new_safe : {ts ws : Row Operand} {vs : Row Val} (x : ℕ) (h : Here p K us s e k ws) → h.leaving ≡ false → Valid p.source
+  pub cont_new_safe : {ts ws : Row Operand} {vs : Row Val} (x : ℕ) (h : Here p K us s e k ws) → h.leaving ≡ false → Sound p.source
       → HasInstrType p.source.types (cont_new_type x (func_index_of_cont (context_of p.source) x)) ts ws → ValuesTyped p.source K vs ts → IsSafe p.source K us (switching_op p s e vs (switching.ContNew x) k)
   cont_new_safe x h n valid t v = by_index x (func_index_of_cont (context_of p.source) x) h n valid refl t v

@@ -20,9 +20,9 @@ use Rattle.w_rules.specs.InstructionTypes.{br_type, br_if_type, br_table_type, b
 use Rattle.w_rules.specs.Matching.{RowMatches, known, value}
 use Rattle.w_rules.specs.Operands.{Operand}
 use Rattle.w_rules.specs.Operands.{Known}
+use Rattle.w_rules.specs.Sound.{Sound}
 use Rattle.w_rules.specs.Spaces.{context_of}
 use Rattle.w_rules.specs.Typing.{Polymorphic, MatchesEach, HasInstrType, ref_to}
-use Rattle.w_rules.specs.Valid.{Valid}
 use Rattle.w_rules.proofs.Preorder.{row_refl, row_beside}
 use Rattle.w_reduce.specs.Values.{Val}
 use Rattle.w_reduce.specs.Store.{Store}
@@ -171,14 +171,14 @@ module _ (p : Program) (keeps : KeepsKinds p.source.types) (K : Arrows) (us : Ro
         (λ below b. onward m us h.still (h.behind n) h.around s below h.store (values_sub m keeps t.gives b))
         (λ below w b q. branch_safe m us l t.beneath (taken ▹ Ref r) h.store is (λ i. room m (one_among m.types t.beneath taken t.takes) (held i)) (values b (there q)) h.around)
 
-    call_here : (x : ℕ) (h : Here p K us s e k ws) → h.leaving ≡ false → Valid p.source → (t : Option FuncType) → type_of_func (context_of p.source) x ≡ t
+    call_here : (x : ℕ) (h : Here p K us s e k ws) → h.leaving ≡ false → Sound p.source → (t : Option FuncType) → type_of_func (context_of p.source) x ≡ t
         → HasInstrType p.source.types (call_type t) ts ws → ValuesTyped p.source K vs ts → IsSafe p.source K us (control_op p s e vs (control.Call x) k)
     call_here x h n valid None is t v = absurd t
     call_here x h n valid (Some f) is t v =
         invoke_safe p us x f t.beneath valid h.store is (values_sub p.source keeps t.takes v) (code_alone (code_left p.source keeps t.gives (h.behind n))) h.still h.around
 
     -- a control instruction goes on, or traps
-    pub control_safe : (o : ControlOp) (h : Here p K us s e k ws) → h.leaving ≡ leaves (op.Control o) → IsHeldThere p K us h ts → IsProgram p → Valid p.source → ControlCondition (in_scope p.source h.scope) o
+    pub control_safe : (o : ControlOp) (h : Here p K us s e k ws) → h.leaving ≡ leaves (op.Control o) → IsHeldThere p K us h ts → IsProgram p → Sound p.source → ControlCondition (in_scope p.source h.scope) o
         → HasInstrType p.source.types (control_op_type (in_scope p.source h.scope) o) ts ws
         → ValuesTyped p.source K vs ts → IsSafe p.source K us (control_op p s e vs o k)
     control_safe control.Unreachable h n held prog valid q t v = traps

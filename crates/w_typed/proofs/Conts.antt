@@ -10,8 +10,8 @@ use Rattle.w_canon.proofs.Preorder.{heap_refl, func_trans}
 use Rattle.w_rules.specs.Context.{cont_of}
 use Rattle.w_rules.specs.InstructionTypes.{nullable}
 use Rattle.w_rules.specs.Operands.{Operand}
+use Rattle.w_rules.specs.Sound.{Sound}
 use Rattle.w_rules.specs.Spaces.{context_of}
-use Rattle.w_rules.specs.Valid.{Valid}
 use Rattle.w_reduce.specs.Values.{Val}
 use Rattle.w_reduce.specs.Store.{Store, next_cont, with_cont, without_cont}
 use Rattle.w_reduce.specs.Terms.{Rest, Context, Continuation}
@@ -72,7 +72,7 @@ module _ (m : Module) {K : Arrows} where
     kept_or_consumed go (kept {k = k} h) f = f k h
 
     -- a reference to a continuation type is null, or that of a continuation, which was consumed, or is of a function type that matches
-    pub continuation_taken : {v : Val} {s : Store} (x : ℕ) (type : FuncType) (go : ℕ × Continuation → Reduced) → Valid m → StoreTyped m K s
+    pub continuation_taken : {v : Val} {s : Store} (x : ℕ) (type : FuncType) (go : ℕ × Continuation → Reduced) → Sound m → StoreTyped m K s
         → cont_of (context_of m) x ≡ Some type → ValueTyped m K v (nullable x)
         → ((a : ℕ) (k : Continuation) (t : FuncType) → slice_get K a ≡ Some t → KeptTyped m K k t → FuncMatches m.types t type → IsSafe m K us (go (a, k)))
         → IsSafe m K us (as_continuation s v go)

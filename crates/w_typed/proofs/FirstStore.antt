@@ -19,9 +19,9 @@ use Rattle.w_syntax.specs.declared.module.Tag.{Tag}
 use Rattle.w_memory.specs.Memory.{Memory, fresh}
 use Rattle.w_canon.specs.Supertypes.{KeepsKinds}
 use Rattle.w_rules.specs.Bodies.{ConstTyped}
+use Rattle.w_rules.specs.Sound.{Sound}
 use Rattle.w_rules.specs.Spaces.{as_global, imports_by, context_of, globals_of, globals_below}
-use Rattle.w_rules.specs.Valid.{Valid, GlobalItem, TableItem, MemoryItem, ElementItem, most_elements, most_pages, AreLimitsValid, GlobalValid, TableValid, ElementValid, IsInitValid}
-use Rattle.w_rules.proofs.ValidTypes.{keeps_kinds}
+use Rattle.w_rules.specs.Valid.{GlobalItem, TableItem, ElementItem, most_elements, most_pages, AreLimitsValid, GlobalValid, TableValid, ElementValid, IsInitValid}
 use Rattle.w_tables.specs.declared.entries.Printer.{Printer}
 use Rattle.w_reduce.specs.Values.{Val}
 use Rattle.w_reduce.specs.Store.{Store}
@@ -32,6 +32,7 @@ use Rattle.w_reduce.specs.Start.{bare, with_globals, filling, table_of, with_tab
 use Rattle.w_typed.specs.Values.{ValueTyped, a_null, AllTyped}
 use Rattle.w_typed.specs.Ranges.{ConstantsFit, InitFits, NumbersFit}
 use Rattle.w_typed.specs.Stores.{Instances, no_instance, instances, TableTyped, MemoryTyped, GlobalTyped, SegmentTyped, DataTyped, ContTyped, StoreTyped}
+use Rattle.w_typed.proofs.KeptComposites.{keeps_kinds}
 use Rattle.w_typed.proofs.ConstantValues.{knowing, Holding, value_typed}
 use Rattle.w_typed.proofs.ManyInstances.{seam, instances_beside, instances_made, instances_of}
 use Rattle.w_typed.proofs.Pages.{fresh_typed}
@@ -61,7 +62,7 @@ one_kind_more m done g =
     append_assoc (imports_by as_global m) (kinds done) (g.kind ∷ [])
     ∙ ap (λ (l : List GlobalType). imports_by as_global m ++ l) (sym (map-append (λ (g : GlobalVariable). g.kind) done (g ∷ [])))
 
-module _ (p : Program) (valid : Valid p.source) where
+module _ (p : Program) (valid : Sound p.source) where
   keeps : KeepsKinds p.source.types
   keeps = keeps_kinds p.source valid
 
@@ -70,7 +71,7 @@ module _ (p : Program) (valid : Valid p.source) where
       → Holding p.source [] (before p.source done) s → ValueTyped p.source [] (value_of p s g.init) g.kind.kind
   global_valued s done g rest e u =
       let within : length done < length p.source.globals = omega (arith, ap length e, length-append done (g ∷ rest)) in
-      let v : GlobalValid p.source (length done) = valid (GlobalItem (length done)) within in
+      let v : GlobalValid p.source (length done) = valid.items (GlobalItem (length done)) refl within in
       let here = ap (λ (l : List GlobalVariable). slice_get l (length done)) e ∙ seam done g rest in
       let same : v.global ≡ g = let a = v.is in cc in
       let below = knowing p.source (globals_below p.source (length done)) in
@@ -107,7 +108,7 @@ module _ (p : Program) (valid : Valid p.source) where
   tables_made : (s : Store) → exceeded p.source ≡ None → Holding p.source [] (globals_of p.source) s
       → Instances (TableTyped p.source []) (map (table_of p s) p.source.tables) (map (λ (t : syntax_table.Table). t.kind) p.source.tables)
   tables_made s none u = instances_made (table_of p s) (λ (t : syntax_table.Table). t.kind) p.source.tables (λ i t is.
-      let v : TableValid p.source i = valid (TableItem i) (slice_get_within p.source.tables i t is) in
+      let v : TableValid p.source i = valid.items (TableItem i) refl (slice_get_within p.source.tables i t is) in
       let same : v.table ≡ t = let a = v.is in cc in
       let init = subst (λ (x : syntax_table.Table). IsInitValid p.source x.kind.element x.init) same v.init in
       let limits = subst (λ (x : syntax_table.Table). AreLimitsValid most_elements x.kind.limits) same v.valid.limits in
@@ -128,7 +129,7 @@ module _ (p : Program) (valid : Valid p.source) where
       → Instances (SegmentTyped p.source []) (map (λ (e : Elem). map (value_of p s) e.items) p.source.elements)
       (map (λ (e : Elem). e.kind) p.source.elements)
   segments_made s u = instances_made (λ (e : Elem). map (value_of p s) e.items) (λ (e : Elem). e.kind) p.source.elements (λ i e is.
-      let v : ElementValid p.source i = valid (ElementItem i) (slice_get_within p.source.elements i e is) in
+      let v : ElementValid p.source i = valid.items (ElementItem i) refl (slice_get_within p.source.elements i e is) in
       let same : v.element ≡ e = let a = v.is in cc in
       let items = subst (λ (x : Elem). All (λ (k : Code). ConstTyped (context_of p.source) k (Ref x.kind)) x.items) same v.items in
       let fits = λ (n : NumbersFit p.source). all_there (λ (x : Elem). All ConstantsFit x.items) p.source.elements i e n.elements is in
@@ -138,7 +139,7 @@ module _ (p : Program) (valid : Valid p.source) where
 
   memories_made : exceeded p.source ≡ None → Instances (MemoryTyped p.source) (map (λ (l : Limits). fresh l.min l.max) p.source.memories) p.source.memories
   memories_made none = instances_of (λ (l : Limits). fresh l.min l.max) p.source.memories (λ i l is.
-      let v : AreLimitsValid most_pages l = all_there (AreLimitsValid most_pages) p.source.memories i l (valid MemoryItem tt).limits is in
+      let v : AreLimitsValid most_pages l = all_there (AreLimitsValid most_pages) p.source.memories i l valid.memories is in
       fresh_typed p.source l (first_pages p.source none most_pages i l is v.max))
 
   datas_made : Instances DataTyped (map (λ (d : Data). d.bytes) p.source.datas) p.source.datas

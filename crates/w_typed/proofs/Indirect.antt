@@ -19,9 +19,9 @@ use Rattle.w_rules.specs.Context.{func_at}
 use Rattle.w_rules.specs.InstructionTypes.{call_indirect_type, call_ref_type, nullable}
 use Rattle.w_rules.specs.Matching.{known}
 use Rattle.w_rules.specs.Operands.{Operand, Known}
+use Rattle.w_rules.specs.Sound.{Sound}
 use Rattle.w_rules.specs.Spaces.{context_of, functions_of, tables_of}
 use Rattle.w_rules.specs.Typing.{HasInstrType}
-use Rattle.w_rules.specs.Valid.{Valid}
 use Rattle.w_rules.proofs.Preorder.{row_refl, row_beside}
 use Rattle.w_reduce.specs.declared.trap.Trap.{Trap}
 use Rattle.w_reduce.specs.declared.trap.Trap.TheVariants as trap
@@ -43,6 +43,7 @@ use Rattle.w_typed.proofs.TypedOperands.{number_taken, trapped_or}
 use Rattle.w_typed.proofs.Holes.{code_left}
 use Rattle.w_typed.proofs.Calls.{invoke_safe}
 use Rattle.w_typed.proofs.TypeKinds.{is_func, cont_no_func}
+use Rattle.w_typed.proofs.KeptComposites.{types_valid}
 use Rattle.w_typed.proofs.SameTypes.{function_matches, result_rows}
 
 -- a function of this address, with its type
@@ -66,12 +67,12 @@ module _ (p : Program) (keeps : KeepsKinds p.source.types) {K : Arrows} (us : Ro
 
   -- the function is invoked, where its type matches this one
   matching_invoked : {s : Store} {e : Context} {vs : Row Val} {k : Code} {c : Scope} {set now : List Bool} {out : Row Operand} (a z y : ℕ) (t : FuncType) (beneath : Row Operand)
-      → Valid p.source → StoreTyped p.source K s → slice_get (functions_of p.source) a ≡ Some z → IndexMatches p.source.types z y → func_type p.source y ≡ Some t
+      → Sound p.source → StoreTyped p.source K s → slice_get (functions_of p.source) a ≡ Some z → IndexMatches p.source.types z y → func_type p.source y ≡ Some t
       → ValuesTyped p.source K vs (beneath ⧺ known (row_of t.params)) → CodeTyped p.source c set k (beneath ⧺ known (row_of t.results)) out
       → Subset set now → Within p.source K us e c now out → IsSafe p.source K us (invoke p s e vs a (rest_of k))
   matching_invoked a z y t beneath valid u there below is v k still w =
       let m = p.source in
-      let f = function_matches m valid below t is in
+      let f = function_matches m (types_valid m valid) below t is in
       let takes = row_beside m.types beneath beneath (known (row_of t.params)) (known (row_of f.type.params)) (row_refl m.types beneath) (result_rows m.types f.params) in
       let gives = row_beside m.types beneath beneath (known (row_of f.type.results)) (known (row_of t.results)) (row_refl m.types beneath) (result_rows m.types f.results) in
       invoke_safe p us a f.type beneath valid u (ap (func_at (context_of m)) there ∙ f.has_type) (values_sub m keeps takes v) (code_alone (code_left m keeps gives k)) still w
@@ -106,7 +107,7 @@ module _ (p : Program) (keeps : KeepsKinds p.source.types) {K : Arrows} (us : Ro
   -- ## Calls
 
   indirect_here : {s : Store} {e : Context} {vs : Row Val} {k : Code} {c : Scope} {set now : List Bool} {ts ws out : Row Operand} (y x : ℕ) (g : Option TableType) (t : Option FuncType)
-      → IsProgram p → Valid p.source → StoreTyped p.source K s → slice_get (tables_of p.source) x ≡ g → func_type p.source y ≡ t
+      → IsProgram p → Sound p.source → StoreTyped p.source K s → slice_get (tables_of p.source) x ≡ g → func_type p.source y ≡ t
       → Holds g (λ (t : TableType). RefMatches p.source.types t.element funcref)
       → HasInstrType p.source.types (call_indirect_type g t) ts ws → ValuesTyped p.source K vs ts → CodeTyped p.source c set k ws out
       → Subset set now → Within p.source K us e c now out → IsSafe p.source K us (control_op p s e vs (control.CallIndirect y x) k)
@@ -118,14 +119,14 @@ module _ (p : Program) (keeps : KeepsKinds p.source.types) {K : Arrows} (us : Ro
 
   -- call_indirect invokes a function whose type matches, or traps
   pub call_indirect_safe : {s : Store} {e : Context} {vs : Row Val} {k : Code} {c : Scope} {set now : List Bool} {ts ws out : Row Operand} (y x : ℕ)
-      → IsProgram p → Valid p.source → StoreTyped p.source K s
+      → IsProgram p → Sound p.source → StoreTyped p.source K s
       → Holds (slice_get (tables_of p.source) x) (λ (t : TableType). RefMatches p.source.types t.element funcref)
       → HasInstrType p.source.types (call_indirect_type (slice_get (tables_of p.source) x) (func_type p.source y)) ts ws → ValuesTyped p.source K vs ts
       → CodeTyped p.source c set k ws out → Subset set now → Within p.source K us e c now out → IsSafe p.source K us (control_op p s e vs (control.CallIndirect y x) k)
   call_indirect_safe y x prog valid u q h v d still w = indirect_here y x (slice_get (tables_of p.source) x) (func_type p.source y) prog valid u refl refl q h v d still w
 
   by_type : {s : Store} {e : Context} {vs : Row Val} {k : Code} {c : Scope} {set now : List Bool} {ts ws out : Row Operand} (y : ℕ) (t : Option FuncType)
-      → Valid p.source → StoreTyped p.source K s → func_type p.source y ≡ t → HasInstrType p.source.types (call_ref_type y t) ts ws
+      → Sound p.source → StoreTyped p.source K s → func_type p.source y ≡ t → HasInstrType p.source.types (call_ref_type y t) ts ws
       → ValuesTyped p.source K vs ts → CodeTyped p.source c set k ws out
       → Subset set now → Within p.source K us e c now out → IsSafe p.source K us (control_op p s e vs (control.CallRef y) k)
   by_type y None valid u is h v d still w = absurd h
@@ -135,7 +136,7 @@ module _ (p : Program) (keeps : KeepsKinds p.source.types) {K : Arrows} (us : Ro
 
   -- call_ref invokes the function, or traps where it is null
   pub call_ref_safe : {s : Store} {e : Context} {vs : Row Val} {k : Code} {c : Scope} {set now : List Bool} {ts ws out : Row Operand} (y : ℕ)
-      → Valid p.source → StoreTyped p.source K s → HasInstrType p.source.types (call_ref_type y (func_type p.source y)) ts ws
+      → Sound p.source → StoreTyped p.source K s → HasInstrType p.source.types (call_ref_type y (func_type p.source y)) ts ws
       → ValuesTyped p.source K vs ts → CodeTyped p.source c set k ws out
       → Subset set now → Within p.source K us e c now out → IsSafe p.source K us (control_op p s e vs (control.CallRef y) k)
   call_ref_safe y valid u h v d still w = by_type y (func_type p.source y) valid u refl h v d still w

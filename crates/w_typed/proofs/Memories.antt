@@ -1,7 +1,7 @@
 -- Memory instructions of typed configurations.
-use Rattle.std.proofs.Common.{◌≡◌, inr, ℕ, ◌+◌, ◌%◌, ◌<◌, ◌≤◌, ◌^◌, IsTrue, List, [], length, get_or, Some, None, refl, sym, subst, arith}
-use Rattle.std.specs.Prelude.{◌&&◌, nat_eq, nat_lt, nat_le, if◌then◌else◌, slice_get}
-use Rattle.std.proofs.lemmas.Bool.{eq-eqb, ltb-true}
+use Rattle.std.proofs.Common.{◌≡◌, inr, ℕ, ◌+◌, ◌%◌, ◌^◌, IsTrue, List, [], length, get_or, Some, None, refl, sym, subst, arith}
+use Rattle.std.specs.Prelude.{◌&&◌, nat_lt, nat_le, slice_get}
+use Rattle.std.proofs.lemmas.Bool.{ltb-true}
 use Rattle.std.proofs.lemmas.Option.{slice_get-get_or}
 use Rattle.std.proofs.Math.Nat.{mod-lt}
 use Rattle.w_types.specs.declared.types.ValType.TheVariants.{I32}
@@ -19,20 +19,19 @@ use Rattle.w_syntax.specs.declared.module.DataMode.TheVariants as data_mode
 use Rattle.w_syntax.specs.declared.module.Limits.{Limits}
 use Rattle.w_syntax.specs.declared.module.Module.{Module}
 use Rattle.w_syntax.specs.declared.numeric.IntType.TheVariants as int
-use Rattle.w_memory.specs.Memory.{Memory, page_count, load, store, fill, copy, init}
+use Rattle.w_memory.specs.Memory.{Memory, page_count, load, store, fill, init}
 use Rattle.w_canon.specs.Supertypes.{KeepsKinds}
 use Rattle.w_rules.specs.InstructionTypes.{fixed, of_int, load_type, load_width, store_type, store_width, has_memory, is_access, memory_op_type}
 use Rattle.w_rules.specs.Operands.{Operand}
 use Rattle.w_rules.specs.Operands.{Known}
 use Rattle.w_rules.specs.Spaces.{memories_of}
 use Rattle.w_rules.specs.Typing.{HasInstrType}
-use Rattle.w_rules.specs.Valid.{Valid, MemoryItem}
 use Rattle.w_reduce.specs.declared.trap.Trap.TheVariants as trap
 use Rattle.w_reduce.specs.Numeric.{width}
 use Rattle.w_reduce.specs.Values.{Val}
 use Rattle.w_reduce.specs.Store.{Store}
 use Rattle.w_reduce.specs.Terms.{Context}
-use Rattle.w_reduce.specs.Reduced.{Reduced, Stuck, take_i32, number, or_stuck}
+use Rattle.w_reduce.specs.Reduced.{Reduced, take_i32, number, or_stuck}
 use Rattle.w_reduce.specs.Memories.{loaded_type, loaded_size, loaded, stored_type, stored_size, with_memory, without_data, memory_op}
 use Rattle.w_typed.specs.Ranges.{AreBytes, NumbersFit, IsBelow}
 use Rattle.w_typed.specs.Values.{Arrows, OperandTyped, ValuesTyped, values}
@@ -42,7 +41,7 @@ use Rattle.w_typed.specs.Configurations.{IsSafe}
 use Rattle.w_typed.proofs.Subsumption.{values_sub}
 use Rattle.w_typed.proofs.TypedOperands.{number_taken, number_typed, small_typed, trapped_or}
 use Rattle.w_typed.proofs.Bytes.{loaded_bytes}
-use Rattle.w_typed.proofs.Pages.{store_typed, fill_typed, copy_typed, init_typed, grow_typed, pages_below, grow_below, data_bytes}
+use Rattle.w_typed.proofs.Pages.{store_typed, fill_typed, init_typed, grow_typed, pages_below, grow_below, data_bytes}
 use Rattle.w_typed.proofs.Places.{instance_at, instance_set}
 use Rattle.w_typed.proofs.Ranges.{loaded_below}
 use Rattle.w_typed.proofs.Onward.{Onward}
@@ -143,58 +142,49 @@ module _ (m : Module) {K : Arrows} (us : Row Operand) where
       let f = instance_at y d u.datas is in
       rw (f.is) (k d f.item is (data_bytes m y d f.item is f.holds))
 
-  -- there is at most one memory, so two are the same
-  pub memory_same : (c : Scope) (x y : ℕ) (go : Reduced) → Valid m → IsTrue (has_memory (in_scope m c) x) → IsTrue (has_memory (in_scope m c) y)
-      → IsSafe m K us go → IsSafe m K us (if nat_eq x y then go else Stuck)
-  memory_same c x y go valid h k safe =
-      let first : x < length (memories_of m) = ltb-true x (length (memories_of m)) h in
-      let second : y < length (memories_of m) = ltb-true y (length (memories_of m)) k in
-      let one : length (memories_of m) ≤ 1 = (valid MemoryItem tt).one in
-      rw (eq-eqb x y (omega (arith, first, second, one))) safe
-
 module _ (m : Module) (keeps : KeepsKinds m.types) {K : Arrows} (us : Row Operand) where
   -- ## The rules
 
   -- a memory instruction goes on, or traps
-  pub memory_safe : (c : Scope) (o : MemoryOp) (ts ws : Row Operand) (s : Store) (e : Context) (vs : Row Val) (k : Code) → Valid m → StoreTyped m K s
+  pub memory_safe : (c : Scope) (o : MemoryOp) (ts ws : Row Operand) (s : Store) (e : Context) (vs : Row Val) (k : Code) → StoreTyped m K s
       → HasInstrType m.types (memory_op_type (in_scope m c) o) ts ws → ValuesTyped m K vs ts → Onward m K us e ws k → IsSafe m K us (memory_op s e vs o k)
-  memory_safe c (memory.Load o a) ts ws s e vs k valid u h v go =
+  memory_safe c (memory.Load o a) ts ws s e vs k u h v go =
       let test = is_access (in_scope m c) (load_width o) a in
       let type = fixed (ε ▹ I32) (ε ▹ load_type o) in
       let fits = nat_le a.align (load_width o) && nat_lt a.offset (2 ^ 32) in
-      let there = each_of (has_memory (in_scope m c) 0) fits (if_valid_holds m test type ts ws h) in
+      let there = each_of (has_memory (in_scope m c) a.memory) fits (if_valid_holds m test type ts ws h) in
       let g = if_valid_has m test type ts ws h in
       number_taken m us int.I32 vs g.beneath _ (values_sub m keeps g.takes v) (λ below i b.
-      memory_found m us c 0 s _ u there.0 (λ l mem at q.
+      memory_found m us c a.memory s _ u there.0 (λ l mem at q.
       trapped_or m us trap.MemoryOutOfBounds (load mem (i + a.offset) (loaded_size o)) _ (λ n is.
       go s _ u (values_sub m keeps g.gives (values b (loaded_typed m o (loaded o n)
       (λ f. loaded_below o n (loaded_bytes mem (i + a.offset) (loaded_size o) n is (q.bytes f)))))))))
-  memory_safe c (memory.Store o a) ts ws s e vs k valid u h v go =
+  memory_safe c (memory.Store o a) ts ws s e vs k u h v go =
       let test = is_access (in_scope m c) (store_width o) a in
       let type = fixed (ε ▹ I32 ▹ store_type o) ε in
       let fits = nat_le a.align (store_width o) && nat_lt a.offset (2 ^ 32) in
-      let there = each_of (has_memory (in_scope m c) 0) fits (if_valid_holds m test type ts ws h) in
+      let there = each_of (has_memory (in_scope m c) a.memory) fits (if_valid_holds m test type ts ws h) in
       let g = if_valid_has m test type ts ws h in
       let typed = subst (λ t. ValuesTyped m K vs (g.beneath ▹ Known I32 ▹ Known t)) (sym (as_stored o)) (values_sub m keeps g.takes v) in
       number_taken m us (stored_type o) vs (g.beneath ▹ Known I32) _ typed (λ above n b.
       number_taken m us int.I32 above g.beneath _ b (λ below i d.
-      memory_found m us c 0 s _ u there.0 (λ l mem at q.
+      memory_found m us c a.memory s _ u there.0 (λ l mem at q.
       trapped_or m us trap.MemoryOutOfBounds (store mem (i + a.offset) (stored_size o) n) _ (λ new is.
-      go _ _ (memory_put m 0 l new s u at (store_typed m l mem q (i + a.offset) (stored_size o) n new is)) (values_sub m keeps g.gives d)))))
-  memory_safe c (memory.Size x) ts ws s e vs k valid u h v go =
+      go _ _ (memory_put m a.memory l new s u at (store_typed m l mem q (i + a.offset) (stored_size o) n new is)) (values_sub m keeps g.gives d)))))
+  memory_safe c (memory.Size x) ts ws s e vs k u h v go =
       let test = has_memory (in_scope m c) x in
       let type = fixed ε (ε ▹ I32) in
       let g = if_valid_has m test type ts ws h in
       memory_found m us c x s _ u (if_valid_holds m test type ts ws h) (λ l mem at q.
       go s _ u (values_sub m keeps g.gives (values (values_sub m keeps g.takes v) (small_typed m (page_count mem) (pages_below m l mem q)))))
-  memory_safe c (memory.Grow x) ts ws s e vs k valid u h v go =
+  memory_safe c (memory.Grow x) ts ws s e vs k u h v go =
       let test = has_memory (in_scope m c) x in
       let type = fixed (ε ▹ I32) (ε ▹ I32) in
       let g = if_valid_has m test type ts ws h in
       number_taken m us int.I32 vs g.beneath _ (values_sub m keeps g.takes v) (λ below n b.
       memory_found m us c x s _ u (if_valid_holds m test type ts ws h) (λ l mem at q.
       go _ _ (memory_put m x l _ s u at (grow_typed m l mem q n)) (values_sub m keeps g.gives (values b (small_typed m _ (grow_below m l mem q n))))))
-  memory_safe c (memory.Init y x) ts ws s e vs k valid u h v go =
+  memory_safe c (memory.Init y x) ts ws s e vs k u h v go =
       let test = has_memory (in_scope m c) x && nat_lt y (length m.datas) in
       let type = fixed (ε ▹ I32 ▹ I32 ▹ I32) ε in
       let there = each_of (has_memory (in_scope m c) x) (nat_lt y (length m.datas)) (if_valid_holds m test type ts ws h) in
@@ -204,21 +194,22 @@ module _ (m : Module) (keeps : KeepsKinds m.types) {K : Arrows} (us : Row Operan
       data_found m us y s _ u there.1 (λ segment bytes from are_bytes.
       trapped_or m us trap.MemoryOutOfBounds (init mem bytes d j n) _ (λ new is.
       go _ _ (memory_put m x l new s u at (init_typed m l mem q bytes d j n new are_bytes is)) (values_sub m keeps g.gives b)))))
-  memory_safe c (memory.DataDrop y) ts ws s e vs k valid u h v go =
+  memory_safe c (memory.DataDrop y) ts ws s e vs k u h v go =
       let test = nat_lt y (length m.datas) in
       let g = if_valid_has m test (fixed ε ε) ts ws h in
       data_found m us y s _ u (if_valid_holds m test (fixed ε ε) ts ws h) (λ d bytes is are_bytes.
       go _ _ (data_dropped m y d s u is) (values_sub m keeps g.gives (values_sub m keeps g.takes v)))
-  memory_safe c (memory.Copy x y) ts ws s e vs k valid u h v go =
+  memory_safe c (memory.Copy x y) ts ws s e vs k u h v go =
       let test = has_memory (in_scope m c) x && has_memory (in_scope m c) y in
       let type = fixed (ε ▹ I32 ▹ I32 ▹ I32) ε in
       let there = each_of (has_memory (in_scope m c) x) (has_memory (in_scope m c) y) (if_valid_holds m test type ts ws h) in
       let g = if_valid_has m test type ts ws h in
       three_taken m us vs g.beneath _ (values_sub m keeps g.takes v) (λ below d j n b.
       memory_found m us c x s _ u there.0 (λ l mem at q.
-      trapped_or m us trap.MemoryOutOfBounds (copy mem d j n) _ (λ new is.
-      memory_same m us c x y _ valid there.0 there.1 (go _ _ (memory_put m x l new s u at (copy_typed m l mem q d j n new is)) (values_sub m keeps g.gives b)))))
-  memory_safe c (memory.Fill x) ts ws s e vs k valid u h v go =
+      memory_found m us c y s _ u there.1 (λ k source from r.
+      trapped_or m us trap.MemoryOutOfBounds (init mem source.bytes d j n) _ (λ new is.
+      go _ _ (memory_put m x l new s u at (init_typed m l mem q source.bytes d j n new r.bytes is)) (values_sub m keeps g.gives b)))))
+  memory_safe c (memory.Fill x) ts ws s e vs k u h v go =
       let test = has_memory (in_scope m c) x in
       let type = fixed (ε ▹ I32 ▹ I32 ▹ I32) ε in
       let g = if_valid_has m test type ts ws h in

@@ -9,7 +9,7 @@ use Rattle.w_syntax.specs.declared.module.Data.{Data}
 use Rattle.w_syntax.specs.declared.module.Limits.{Limits}
 use Rattle.w_syntax.specs.declared.module.Module.{Module}
 use Rattle.w_memory.specs.Bytes.{bytes_of}
-use Rattle.w_memory.specs.Memory.{Memory, with_bytes, page_size, page_limit, fresh, page_count, most_pages, store, fill, copy, init, grown, answered, grow}
+use Rattle.w_memory.specs.Memory.{Memory, with_bytes, page_size, page_limit, fresh, page_count, most_pages, store, fill, init, grown, answered, grow}
 use Rattle.w_memory.specs.Parts.{is_within, written, filled, copied}
 use Rattle.w_typed.specs.Ranges.{AreBytes, NumbersFit}
 use Rattle.w_typed.specs.Stores.{MemoryTyped, DataTyped}
@@ -69,11 +69,6 @@ module _ (m : Module) (l : Limits) (old : Memory) (q : MemoryTyped m old l) wher
   unfolding fill
   fill_typed to b n new h is = put_typed (filled old.bytes to b n) new (λ bs e.
       as_many bs (length-filled to b n old.bytes bs e) (λ f. bytes_filled to b n old.bytes bs h (q.bytes f) e)) is
-
-  pub copy_typed : (to from n : ℕ) (new : Memory) → copy old to from n ≡ Some new → MemoryTyped m new l
-  unfolding copy
-  copy_typed to from n new is = put_typed (copied old.bytes old.bytes to from n) new (λ bs e.
-      as_many bs (length-copied to from n old.bytes old.bytes bs e) (λ f. bytes_copied to from n old.bytes old.bytes bs (q.bytes f) (q.bytes f) e)) is
 
   pub init_typed : (source : List ℕ) (to from n : ℕ) (new : Memory) → (NumbersFit m → AreBytes source) → init old source to from n ≡ Some new
       → MemoryTyped m new l

@@ -20,10 +20,9 @@ use Rattle.w_rules.specs.InstructionTypes.{instr_type, sets, variable_op_type}
 use Rattle.w_rules.specs.Matching.{RowMatches, known}
 use Rattle.w_rules.specs.Operands.{Operand}
 use Rattle.w_rules.specs.Operands.{Known}
+use Rattle.w_rules.specs.Sound.{Sound}
 use Rattle.w_rules.specs.Typing.{HasType, HasInstrType, Derives}
-use Rattle.w_rules.specs.Valid.{Valid}
 use Rattle.w_rules.proofs.Preorder.{row_refl, row_size}
-use Rattle.w_rules.proofs.ValidTypes.{keeps_kinds}
 use Rattle.w_reduce.specs.Values.{Val}
 use Rattle.w_reduce.specs.Store.{Store}
 use Rattle.w_reduce.specs.Terms.{Administrative, Context}
@@ -37,6 +36,7 @@ use Rattle.w_typed.specs.Values.{Arrows, ValuesTyped}
 use Rattle.w_typed.specs.Stores.{StoreTyped}
 use Rattle.w_reduce.specs.Room.{most_operands}
 use Rattle.w_typed.specs.Contexts.{Scope, under, in_scope, IsLow, CodeTyped, RestTyped, code_alone, invoke_first, branch_first, Subset, Within}
+use Rattle.w_typed.proofs.KeptComposites.{keeps_kinds}
 use Rattle.w_typed.proofs.Switches.{switching_safe}
 use Rattle.w_typed.specs.Configurations.{IsSafe, goes, traps, is_limited, ends, ReductionsAreSafe, NextsAreSafe}
 use Rattle.w_typed.proofs.Subsumption.{values_sub}
@@ -183,7 +183,7 @@ module _ (m : Module) where
     again_low = λ e i. absurd (cc);
   }
 
-module _ (p : Program) (keeps : KeepsKinds p.source.types) {K : Arrows} (us : Row Operand) (prog : IsProgram p) (valid : Valid p.source) where
+module _ (p : Program) (keeps : KeepsKinds p.source.types) {K : Arrows} (us : Row Operand) (prog : IsProgram p) (valid : Sound p.source) where
   module _ {s : Store} {e : Context} {vs : Row Val} {c : Scope} {set now : List Bool} {ts out : Row Operand}
       (u : StoreTyped p.source K s) (v : ValuesTyped p.source K vs ts) (still : Subset set now) (w : Within p.source K us e c now out) (inside : c.results ≡ None → ⊥) where
     -- what comes behind an instruction, where it is reached
@@ -225,7 +225,7 @@ module _ (p : Program) (keeps : KeepsKinds p.source.types) {K : Arrows} (us : Ro
     instruction_safe ws k (op.Table o) h t d fits low =
         table_safe p.source keeps us c o ts ws s e vs k u h t v (onward p.source us still (coming ws k (op.Table o) refl t d fits low) w)
     instruction_safe ws k (op.Memory o) h t d fits low =
-        memory_safe p.source keeps us c o ts ws s e vs k valid u t v (onward p.source us still (coming ws k (op.Memory o) refl t d fits low) w)
+        memory_safe p.source keeps us c o ts ws s e vs k u t v (onward p.source us still (coming ws k (op.Memory o) refl t d fits low) w)
     instruction_safe ws k (op.Numeric o) h t d fits low =
         numeric_safe p.source keeps us o ts ws s e vs k u (λ f. (fits f).0) t v (onward p.source us still (coming ws k (op.Numeric o) refl t d fits low) w)
     instruction_safe ws k (op.Reference o) h t d fits low =

@@ -16,9 +16,9 @@ use Rattle.w_rules.specs.InstructionTypes.{fixed, resume_type, cont_bind_type, n
 use Rattle.w_rules.specs.Matching.{known}
 use Rattle.w_rules.specs.Operands.{Operand, Known}
 use Rattle.w_rules.specs.Peak.{clause_tops, resume_tops}
+use Rattle.w_rules.specs.Sound.{Sound}
 use Rattle.w_rules.specs.Spaces.{context_of}
 use Rattle.w_rules.specs.Typing.{HasInstrType}
-use Rattle.w_rules.specs.Valid.{Valid}
 use Rattle.w_rules.proofs.Preorder.{row_refl, row_beside, row_size}
 use Rattle.w_reduce.specs.Values.{Val}
 use Rattle.w_reduce.specs.Store.{Store, without_cont}
@@ -46,7 +46,7 @@ module _ (p : Program) (keeps : KeepsKinds p.source.types) (K : Arrows) (us : Ro
   -- with its type known
   resumed : {vs : Row Val} (x : ℕ) (hs : List Clause) (t : FuncType) (beneath : Row Operand) (h : Here p K us s e k (beneath ⧺ known (row_of t.results)))
       → h.leaving ≡ false → ((h.scope.results ≡ None → ⊥) → clause_tops h.scope.labels (h.scope.base + size beneath) hs ≤ most_operands p.source h.scope.function)
-      → Valid p.source → cont_of (context_of p.source) x ≡ Some t → All (ClauseTyped (in_scope p.source h.scope) t.results) hs
+      → Sound p.source → cont_of (context_of p.source) x ≡ Some t → All (ClauseTyped (in_scope p.source h.scope) t.results) hs
       → ValuesTyped p.source K vs ((beneath ⧺ known (row_of t.params)) ▹ Known (nullable x))
       → IsSafe p.source K us (switching_op p s e vs (switching.Resume x hs) k)
   resumed x hs t beneath h n tops valid is clauses (values b (a_value q)) =
@@ -63,7 +63,7 @@ module _ (p : Program) (keeps : KeepsKinds p.source.types) (K : Arrows) (us : Ro
 
   -- by whether it has one
   resume_by : {ts ws : Row Operand} {vs : Row Val} (x : ℕ) (hs : List Clause) (o : Option FuncType) (h : Here p K us s e k ws) → h.leaving ≡ false
-      → ((h.scope.results ≡ None → ⊥) → resume_tops h.scope.labels (h.scope.base + size ts) hs o ≤ most_operands p.source h.scope.function) → Valid p.source
+      → ((h.scope.results ≡ None → ⊥) → resume_tops h.scope.labels (h.scope.base + size ts) hs o ≤ most_operands p.source h.scope.function) → Sound p.source
       → cont_of (context_of p.source) x ≡ o → Holds o (λ (t : FuncType). All (ClauseTyped (in_scope p.source h.scope) t.results) hs)
       → HasInstrType p.source.types (resume_type x o) ts ws → ValuesTyped p.source K vs ts
       → IsSafe p.source K us (switching_op p s e vs (switching.Resume x hs) k)
@@ -78,7 +78,7 @@ module _ (p : Program) (keeps : KeepsKinds p.source.types) (K : Arrows) (us : Ro
 
   -- resume goes on in the continuation, under a handle, or traps
   pub resume_safe : {ts ws : Row Operand} {vs : Row Val} (x : ℕ) (hs : List Clause) (h : Here p K us s e k ws) → h.leaving ≡ false
-      → ((h.scope.results ≡ None → ⊥) → resume_tops h.scope.labels (h.scope.base + size ts) hs (cont_of (context_of p.source) x) ≤ most_operands p.source h.scope.function) → Valid p.source
+      → ((h.scope.results ≡ None → ⊥) → resume_tops h.scope.labels (h.scope.base + size ts) hs (cont_of (context_of p.source) x) ≤ most_operands p.source h.scope.function) → Sound p.source
       → Holds (cont_of (context_of p.source) x) (λ (t : FuncType). All (ClauseTyped (in_scope p.source h.scope) t.results) hs)
       → HasInstrType p.source.types (resume_type x (cont_of (context_of p.source) x)) ts ws → ValuesTyped p.source K vs ts
       → IsSafe p.source K us (switching_op p s e vs (switching.Resume x hs) k)
@@ -87,7 +87,7 @@ module _ (p : Program) (keeps : KeepsKinds p.source.types) (K : Arrows) (us : Ro
   -- ## cont.bind
 
   -- with operands of its type
-  bound : {vs : Row Val} (x y : ℕ) (one other : FuncType) (beneath : Row Operand) (h : Here p K us s e k (beneath ▹ Known (non_null y))) → h.leaving ≡ false → Valid p.source
+  bound : {vs : Row Val} (x y : ℕ) (one other : FuncType) (beneath : Row Operand) (h : Here p K us s e k (beneath ▹ Known (non_null y))) → h.leaving ≡ false → Sound p.source
       → cont_of (context_of p.source) x ≡ Some one → cont_of (context_of p.source) y ≡ Some other
       → ResultMatches p.source.types other.params (drop (length one.params - length other.params) one.params)
       → ResultMatches p.source.types one.results other.results
@@ -123,7 +123,7 @@ module _ (p : Program) (keeps : KeepsKinds p.source.types) (K : Arrows) (us : Ro
       (code_alone (h.behind leaving)) h.around)))
 
   -- with both types known
-  bind_by : {ts ws : Row Operand} {vs : Row Val} (x y : ℕ) (one other : FuncType) (h : Here p K us s e k ws) → h.leaving ≡ false → Valid p.source
+  bind_by : {ts ws : Row Operand} {vs : Row Val} (x y : ℕ) (one other : FuncType) (h : Here p K us s e k ws) → h.leaving ≡ false → Sound p.source
       → cont_of (context_of p.source) x ≡ Some one → cont_of (context_of p.source) y ≡ Some other
       → ResultMatches p.source.types other.params (drop (length one.params - length other.params) one.params)
       → ResultMatches p.source.types one.results other.results
@@ -136,7 +136,7 @@ module _ (p : Program) (keeps : KeepsKinds p.source.types) (K : Arrows) (us : Ro
       bound x y one other g.beneath (here_left p keeps K us g.gives h) leaving valid is_one is_other takes gives (values_sub m keeps g.takes v)
 
   -- cont.bind makes a continuation that takes fewer values, or traps
-  pub cont_bind_safe : {ts ws : Row Operand} {vs : Row Val} (x y : ℕ) (h : Here p K us s e k ws) → h.leaving ≡ false → Valid p.source → BindTyped (in_scope p.source h.scope) x y
+  pub cont_bind_safe : {ts ws : Row Operand} {vs : Row Val} (x y : ℕ) (h : Here p K us s e k ws) → h.leaving ≡ false → Sound p.source → BindTyped (in_scope p.source h.scope) x y
       → HasInstrType p.source.types (cont_bind_type x y (cont_of (context_of p.source) x) (cont_of (context_of p.source) y)) ts ws → ValuesTyped p.source K vs ts
       → IsSafe p.source K us (switching_op p s e vs (switching.ContBind x y) k)
   cont_bind_safe {ts} {ws} x y h leaving valid c t v =

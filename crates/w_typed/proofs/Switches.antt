@@ -10,8 +10,8 @@ use Rattle.w_rules.specs.Conditions.{SwitchingCondition}
 use Rattle.w_rules.specs.InstructionTypes.{switching_op_type}
 use Rattle.w_rules.specs.Operands.{Operand}
 use Rattle.w_rules.specs.Peak.{extra}
+use Rattle.w_rules.specs.Sound.{Sound}
 use Rattle.w_rules.specs.Typing.{HasInstrType}
-use Rattle.w_rules.specs.Valid.{Valid}
 use Rattle.w_reduce.specs.Values.{Val}
 use Rattle.w_reduce.specs.Store.{Store}
 use Rattle.w_reduce.specs.Terms.{Context}
@@ -27,7 +27,7 @@ use Rattle.w_typed.proofs.Resume.{resume_safe, cont_bind_safe}
 use Rattle.w_typed.proofs.Suspend.{suspend_safe}
 use Rattle.w_typed.proofs.SwitchingStacks.{switch_safe}
 
-module _ (p : Program) (keeps : KeepsKinds p.source.types) (K : Arrows) (us : Row Operand) (valid : Valid p.source) {s : Store} {e : Context} {vs : Row Val} where
+module _ (p : Program) (keeps : KeepsKinds p.source.types) (K : Arrows) (us : Row Operand) (valid : Sound p.source) {s : Store} {e : Context} {vs : Row Val} where
   -- by the instruction
   pub switching_safe : {k : Code} {ts ws : Row Operand} (o : SwitchingOp) (h : Here p K us s e k ws) → h.leaving ≡ false
       → ((h.scope.results ≡ None → ⊥) → extra (in_scope p.source h.scope) (op.Switching o) (h.scope.base + size ts) ≤ most_operands p.source h.scope.function)

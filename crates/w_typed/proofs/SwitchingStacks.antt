@@ -18,9 +18,9 @@ use Rattle.w_rules.specs.Context.{cont_of}
 use Rattle.w_rules.specs.InstructionTypes.{switch_type, switched_type, params_of, nullable}
 use Rattle.w_rules.specs.Matching.{OperandMatches, RowMatches, more, known}
 use Rattle.w_rules.specs.Operands.{Operand, Known}
+use Rattle.w_rules.specs.Sound.{Sound}
 use Rattle.w_rules.specs.Spaces.{context_of}
 use Rattle.w_rules.specs.Typing.{HasInstrType}
-use Rattle.w_rules.specs.Valid.{Valid}
 use Rattle.w_rules.proofs.Preorder.{row_refl, row_beside}
 use Rattle.w_reduce.specs.Values.{Val, Cont}
 use Rattle.w_reduce.specs.Store.{Store, next_cont, with_cont, without_cont}
@@ -96,7 +96,7 @@ module _ (p : Program) (keeps : KeepsKinds p.source.types) (K : Arrows) (us : Ro
 
   -- with operands of its type
   switch_here : {vs : Row Val} (x y : ℕ) (beneath : Row Operand) {ws : Row Operand} (h : Here p K us s e k ws) (c : SwitchTyped (in_scope p.source h.scope) x y) → h.leaving ≡ false
-      → ws ≡ beneath ⧺ known (row_of c.other.params) → Valid p.source
+      → ws ≡ beneath ⧺ known (row_of c.other.params) → Sound p.source
       → ValuesTyped p.source K vs ((beneath ⧺ known c.beneath) ▹ Known (nullable x))
       → IsSafe p.source K us (switching_op p s e vs (switching.Switch x y) k)
   switch_here x y beneath h c leaving gives valid (values b (a_value q)) =
@@ -115,13 +115,13 @@ module _ (p : Program) (keeps : KeepsKinds p.source.types) (K : Arrows) (us : Ro
       switched x y a beneath own cont f h c leaving gives there kt matches found.answers (cut_found m (switch_clause y) e f found h.around) last lower taken))))
 
   -- with its type known
-  switch_by : {ts ws : Row Operand} {vs : Row Val} (x y : ℕ) (h : Here p K us s e k ws) → h.leaving ≡ false → Valid p.source → (c : SwitchTyped (in_scope p.source h.scope) x y)
+  switch_by : {ts ws : Row Operand} {vs : Row Val} (x y : ℕ) (h : Here p K us s e k ws) → h.leaving ≡ false → Sound p.source → (c : SwitchTyped (in_scope p.source h.scope) x y)
       → HasInstrType p.source.types (switched_type x c.beneath (Some c.other)) ts ws → ValuesTyped p.source K vs ts
       → IsSafe p.source K us (switching_op p s e vs (switching.Switch x y) k)
   switch_by x y h n valid c t v = switch_here x y t.beneath (here_left p keeps K us t.gives h) c n refl valid (values_sub p.source keeps t.takes v)
 
   -- switch goes on in the continuation, under the same handle, with a continuation of the context up to that, or traps
-  pub switch_safe : {ts ws : Row Operand} {vs : Row Val} (x y : ℕ) (h : Here p K us s e k ws) → h.leaving ≡ false → Valid p.source → SwitchTyped (in_scope p.source h.scope) x y
+  pub switch_safe : {ts ws : Row Operand} {vs : Row Val} (x y : ℕ) (h : Here p K us s e k ws) → h.leaving ≡ false → Sound p.source → SwitchTyped (in_scope p.source h.scope) x y
       → HasInstrType p.source.types (switch_type (in_scope p.source h.scope) x (params_of (cont_of (context_of p.source) x))) ts ws → ValuesTyped p.source K vs ts
       → IsSafe p.source K us (switching_op p s e vs (switching.Switch x y) k)
   switch_safe {ts} {ws} x y h n valid c t v =

@@ -18,9 +18,10 @@ use Rattle.w_rules.specs.Context.{type_of_func, func_at}
 use Rattle.w_rules.specs.InstructionTypes.{tail_call_type, tail_call_indirect_type, tail_call_ref_type}
 use Rattle.w_rules.specs.Matching.{RowMatches, known}
 use Rattle.w_rules.specs.Operands.{Operand}
+use Rattle.w_rules.specs.Sound.{Sound}
 use Rattle.w_rules.specs.Spaces.{context_of, functions_of, tables_of}
 use Rattle.w_rules.specs.Typing.{HasInstrType}
-use Rattle.w_rules.specs.Valid.{Valid, FunctionItem, FunctionValid}
+use Rattle.w_rules.specs.Valid.{FunctionItem, FunctionValid}
 use Rattle.w_rules.proofs.Preorder.{row_refl, row_trans, row_beside}
 use Rattle.w_tables.specs.declared.entries.FuncEntry.{FuncEntry}
 use Rattle.w_reduce.specs.Values.{Val}
@@ -42,6 +43,7 @@ use Rattle.w_typed.proofs.Functions.{EntryTyped, own, host, entries_typed}
 use Rattle.w_typed.proofs.Places.{instance_at}
 use Rattle.w_typed.proofs.Calls.{entry_invoked}
 use Rattle.w_typed.proofs.Indirect.{in_table_safe, in_reference_safe}
+use Rattle.w_typed.proofs.KeptComposites.{types_valid}
 use Rattle.w_typed.proofs.SameTypes.{function_matches, result_rows}
 use Rattle.w_typed.proofs.ResultRows.{row_of-listed}
 
@@ -54,10 +56,10 @@ results_match m t (Some us) taken is h =
     subst (λ (z : Row ValType). RowMatches m.types (known (row_of t.results)) (known z)) (row_of-listed us ∙ same) (result_rows m.types h)
 
 -- a function takes as many arguments as its type says
-as_many : (p : Program) {f : FuncEntry} {x : ℕ} (t : FuncType) → Valid p.source → EntryTyped p.source f x → func_type p.source x ≡ Some t → params_of p f ≡ Some (length t.params)
+as_many : (p : Program) {f : FuncEntry} {x : ℕ} (t : FuncType) → Sound p.source → EntryTyped p.source f x → func_type p.source x ≡ Some t → params_of p f ≡ Some (length t.params)
 as_many p t valid (own {i = i} {x = x} there) is =
     let m = p.source in
-    let f : FunctionValid m i = valid (FunctionItem i) (inl (slice_get_within m.functions i x there)) in
+    let f : FunctionValid m i = valid.items (FunctionItem i) refl (inl (slice_get_within m.functions i x there)) in
     let same : t ≡ f.type = some_same (sym is ∙ ap (type_at m) (sym there) ∙ f.has_type) in
     ap (option_map (λ (z : FuncType). length z.params)) f.has_type ∙ ap (λ (z : FuncType). Some (length z.params)) (sym same)
 as_many p t valid (host {p = by} h) is =
@@ -67,7 +69,7 @@ as_many p t valid (host {p = by} h) is =
 module _ (p : Program) (keeps : KeepsKinds p.source.types) {K : Arrows} (us : Row Operand) where
   -- the frame is found, and what is called comes in its place
   frame_replaced : {s : Store} {e : Context} {c : Scope} {now : List Bool} {out : Row Operand} {args : Row Val} {f : FuncEntry} {x : ℕ} (t : FuncType) (taken : Row ValType)
-      → Valid p.source → StoreTyped p.source K s → EntryTyped p.source f x → func_type p.source x ≡ Some t → c.results ≡ Some taken
+      → Sound p.source → StoreTyped p.source K s → EntryTyped p.source f x → func_type p.source x ≡ Some t → c.results ≡ Some taken
       → RowMatches p.source.types (known (row_of t.results)) (known taken) → ValuesTyped p.source K args (known (row_of t.params)) → Within p.source K us e c now out
       → IsSafe p.source K us (around_frame e (λ q. invoked p s q.2 (q.0 ⧺ args) f q.1))
   frame_replaced t taken valid u g has is r v (outside q) = absurd (cc)
@@ -81,7 +83,7 @@ module _ (p : Program) (keeps : KeepsKinds p.source.types) {K : Arrows} (us : Ro
       (rest_left m keeps (row_beside m.types under under (known (row_of t.results)) (known kept) (row_refl m.types under) gives) k) still w
 
   found_returned : {s : Store} {e : Context} {vs : Row Val} {c : Scope} {now : List Bool} {out : Row Operand} (a : ℕ) (x : Option ℕ) (t : FuncType) (beneath : Row Operand) (taken : Row ValType)
-      → Valid p.source → StoreTyped p.source K s → slice_get (functions_of p.source) a ≡ x → func_at (context_of p.source) x ≡ Some t → c.results ≡ Some taken
+      → Sound p.source → StoreTyped p.source K s → slice_get (functions_of p.source) a ≡ x → func_at (context_of p.source) x ≡ Some t → c.results ≡ Some taken
       → RowMatches p.source.types (known (row_of t.results)) (known taken) → ValuesTyped p.source K vs (beneath ⧺ known (row_of t.params)) → Within p.source K us e c now out
       → IsSafe p.source K us (return_invoke p s e vs a)
   found_returned a None t beneath taken valid u there has is r v w = absurd (cc)
@@ -95,19 +97,19 @@ module _ (p : Program) (keeps : KeepsKinds p.source.types) {K : Arrows} (us : Ro
 
   -- a function is invoked in the place of the innermost frame
   pub return_safe : {s : Store} {e : Context} {vs : Row Val} {c : Scope} {now : List Bool} {out : Row Operand} (a : ℕ) (t : FuncType) (beneath : Row Operand) (taken : Row ValType)
-      → Valid p.source → StoreTyped p.source K s → type_of_func (context_of p.source) a ≡ Some t → c.results ≡ Some taken
+      → Sound p.source → StoreTyped p.source K s → type_of_func (context_of p.source) a ≡ Some t → c.results ≡ Some taken
       → RowMatches p.source.types (known (row_of t.results)) (known taken) → ValuesTyped p.source K vs (beneath ⧺ known (row_of t.params)) → Within p.source K us e c now out
       → IsSafe p.source K us (return_invoke p s e vs a)
   return_safe a t beneath taken valid u has is r v w = found_returned a (slice_get (functions_of p.source) a) t beneath taken valid u refl has is r v w
 
   -- a function of a type that matches one whose results are right
   matching_returned : {s : Store} {e : Context} {vs : Row Val} {c : Scope} {now : List Bool} {out : Row Operand} (a z y : ℕ) (t : FuncType) (beneath : Row Operand) (taken : Row ValType)
-      → Valid p.source → StoreTyped p.source K s → slice_get (functions_of p.source) a ≡ Some z → IndexMatches p.source.types z y → func_type p.source y ≡ Some t → c.results ≡ Some taken
+      → Sound p.source → StoreTyped p.source K s → slice_get (functions_of p.source) a ≡ Some z → IndexMatches p.source.types z y → func_type p.source y ≡ Some t → c.results ≡ Some taken
       → RowMatches p.source.types (known (row_of t.results)) (known taken) → ValuesTyped p.source K vs (beneath ⧺ known (row_of t.params)) → Within p.source K us e c now out
       → IsSafe p.source K us (return_invoke p s e vs a)
   matching_returned a z y t beneath taken valid u there fits has is r v w =
       let m = p.source in
-      let f = function_matches m valid fits t has in
+      let f = function_matches m (types_valid m valid) fits t has in
       let takes = row_beside m.types beneath beneath (known (row_of t.params)) (known (row_of f.type.params)) (row_refl m.types beneath) (result_rows m.types f.params) in
       let gives = row_trans m.types keeps (known (row_of f.type.results)) (known (row_of t.results)) (known taken) (result_rows m.types f.results) r in
       return_safe a f.type beneath taken valid u (ap (func_at (context_of m)) there ∙ f.has_type) is gives (values_sub m keeps takes v) w
@@ -115,7 +117,7 @@ module _ (p : Program) (keeps : KeepsKinds p.source.types) {K : Arrows} (us : Ro
   -- ## By instruction
 
   module _ {s : Store} {e : Context} {vs : Row Val} {c : Scope} {now : List Bool} {ts : Row Operand} (ws : Row Operand) {out : Row Operand} where
-    call_by : (x : ℕ) (f : Option FuncType) (o : Option (Row ValType)) → Valid p.source → StoreTyped p.source K s → (c.results ≡ None → ⊥) → type_of_func (context_of p.source) x ≡ f → c.results ≡ o
+    call_by : (x : ℕ) (f : Option FuncType) (o : Option (Row ValType)) → Sound p.source → StoreTyped p.source K s → (c.results ≡ None → ⊥) → type_of_func (context_of p.source) x ≡ f → c.results ≡ o
         → Holds f (λ (t : FuncType). ResultMatches p.source.types t.results (listed (returned o))) → HasInstrType p.source.types (tail_call_type f) ts ws → ValuesTyped p.source K vs ts
         → Within p.source K us e c now out → IsSafe p.source K us (return_invoke p s e vs x)
     call_by x None o valid u inside has is q t v w = absurd q
@@ -124,12 +126,12 @@ module _ (p : Program) (keeps : KeepsKinds p.source.types) {K : Arrows} (us : Ro
         return_safe x f t.beneath taken valid u has is (results_match p.source f (Some taken) taken refl q) (values_sub p.source keeps t.takes v) w
 
     -- return_call
-    pub return_call_safe : (x : ℕ) → Valid p.source → StoreTyped p.source K s → (c.results ≡ None → ⊥) → ReturnsTyped (in_scope p.source c) (type_of_func (context_of p.source) x)
+    pub return_call_safe : (x : ℕ) → Sound p.source → StoreTyped p.source K s → (c.results ≡ None → ⊥) → ReturnsTyped (in_scope p.source c) (type_of_func (context_of p.source) x)
         → HasInstrType p.source.types (tail_call_type (type_of_func (context_of p.source) x)) ts ws → ValuesTyped p.source K vs ts → Within p.source K us e c now out
         → IsSafe p.source K us (return_invoke p s e vs x)
     return_call_safe x valid u inside q t v w = call_by x (type_of_func (context_of p.source) x) c.results valid u inside refl refl q t v w
 
-    indirect_by : (y x : ℕ) (k : Code) (g : Option TableType) (f : Option FuncType) (o : Option (Row ValType)) → IsProgram p → Valid p.source → StoreTyped p.source K s → (c.results ≡ None → ⊥)
+    indirect_by : (y x : ℕ) (k : Code) (g : Option TableType) (f : Option FuncType) (o : Option (Row ValType)) → IsProgram p → Sound p.source → StoreTyped p.source K s → (c.results ≡ None → ⊥)
         → slice_get (tables_of p.source) x ≡ g → func_type p.source y ≡ f → c.results ≡ o
         → Holds g (λ (t : TableType). RefMatches p.source.types t.element funcref) × Holds f (λ (t : FuncType). ResultMatches p.source.types t.results (listed (returned o)))
         → HasInstrType p.source.types (tail_call_indirect_type g f) ts ws → ValuesTyped p.source K vs ts → Within p.source K us e c now out
@@ -142,13 +144,13 @@ module _ (p : Program) (keeps : KeepsKinds p.source.types) {K : Arrows} (us : Ro
         (λ below a z at fits b. matching_returned a z y f t.beneath taken valid u at fits has is (results_match p.source f (Some taken) taken refl q.1) b w)
 
     -- return_call_indirect
-    pub return_call_indirect_safe : (y x : ℕ) (k : Code) → IsProgram p → Valid p.source → StoreTyped p.source K s → (c.results ≡ None → ⊥)
+    pub return_call_indirect_safe : (y x : ℕ) (k : Code) → IsProgram p → Sound p.source → StoreTyped p.source K s → (c.results ≡ None → ⊥)
         → Holds (slice_get (tables_of p.source) x) (λ (t : TableType). RefMatches p.source.types t.element funcref) × ReturnsTyped (in_scope p.source c) (func_type p.source y)
         → HasInstrType p.source.types (tail_call_indirect_type (slice_get (tables_of p.source) x) (func_type p.source y)) ts ws → ValuesTyped p.source K vs ts → Within p.source K us e c now out
         → IsSafe p.source K us (control_op p s e vs (control.ReturnCallIndirect y x) k)
     return_call_indirect_safe y x k prog valid u inside q t v w = indirect_by y x k (slice_get (tables_of p.source) x) (func_type p.source y) c.results prog valid u inside refl refl refl q t v w
 
-    ref_by : (y : ℕ) (k : Code) (f : Option FuncType) (o : Option (Row ValType)) → Valid p.source → StoreTyped p.source K s → (c.results ≡ None → ⊥) → func_type p.source y ≡ f → c.results ≡ o
+    ref_by : (y : ℕ) (k : Code) (f : Option FuncType) (o : Option (Row ValType)) → Sound p.source → StoreTyped p.source K s → (c.results ≡ None → ⊥) → func_type p.source y ≡ f → c.results ≡ o
         → Holds f (λ (t : FuncType). ResultMatches p.source.types t.results (listed (returned o))) → HasInstrType p.source.types (tail_call_ref_type y f) ts ws → ValuesTyped p.source K vs ts
         → Within p.source K us e c now out → IsSafe p.source K us (control_op p s e vs (control.ReturnCallRef y) k)
     ref_by y k None o valid u inside has is q t v w = absurd q
@@ -158,7 +160,7 @@ module _ (p : Program) (keeps : KeepsKinds p.source.types) {K : Arrows} (us : Ro
         (λ below a z at fits b. matching_returned a z y f t.beneath taken valid u at fits has is (results_match p.source f (Some taken) taken refl q) b w)
 
     -- return_call_ref
-    pub return_call_ref_safe : (y : ℕ) (k : Code) → Valid p.source → StoreTyped p.source K s → (c.results ≡ None → ⊥) → ReturnsTyped (in_scope p.source c) (func_type p.source y)
+    pub return_call_ref_safe : (y : ℕ) (k : Code) → Sound p.source → StoreTyped p.source K s → (c.results ≡ None → ⊥) → ReturnsTyped (in_scope p.source c) (func_type p.source y)
         → HasInstrType p.source.types (tail_call_ref_type y (func_type p.source y)) ts ws → ValuesTyped p.source K vs ts → Within p.source K us e c now out
         → IsSafe p.source K us (control_op p s e vs (control.ReturnCallRef y) k)
     return_call_ref_safe y k valid u inside q t v w = ref_by y k (func_type p.source y) c.results valid u inside refl refl q t v w

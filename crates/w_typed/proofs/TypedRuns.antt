@@ -2,7 +2,7 @@
 use Rattle.std.proofs.Common.{◌≡◌, ◌≢◌, ℕ, zero, suc, List, [], ◌++◌, refl}
 use Rattle.lists.specs.Rows.{Row}
 use Rattle.w_rules.specs.Operands.{Operand}
-use Rattle.w_rules.specs.Valid.{Valid}
+use Rattle.w_rules.specs.Sound.{Sound}
 use Rattle.w_reduce.specs.Store.{Store}
 use Rattle.w_reduce.specs.Terms.{Term}
 use Rattle.w_reduce.specs.Program.{Program, IsProgram}
@@ -13,7 +13,7 @@ use Rattle.w_typed.specs.Values.{Arrows}
 use Rattle.w_typed.specs.Configurations.{Typed, IsSafe, goes, traps, is_limited, ends, RunIsTyped, RunsAreTyped}
 use Rattle.w_typed.proofs.Reductions.{reductions_are_safe}
 
-module _ (p : Program) (us : Row Operand) (prog : IsProgram p) (valid : Valid p.source) where
+module _ (p : Program) (us : Row Operand) (prog : IsProgram p) (valid : Sound p.source) where
   -- a rule applies to what is safe
   safe_goes : {K : Arrows} (r : Reduced) → IsSafe p.source K us r → outcome_by r ≢ NoRule
   safe_goes _ (goes g h) is = absurd (cc)

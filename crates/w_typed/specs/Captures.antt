@@ -32,7 +32,7 @@ pub record CaptureTyped (m : Module) (K : Arrows) (us : Row Operand) {A : Type 0
 
 -- ## Laws
 
--- Those of captures go by transitivity of matching, so each supertype is of its subtypes' kind, as in each valid module.
+-- Those of captures go by transitivity of matching, so each supertype is of its subtypes' kind, as in each sound module.
 
 -- E[v* w^n (suspend x)], where x is [t1^n] to [t2*], and a handle of E has a label for x: what is captured with v* takes t2*
 abbrev pub SuspendsCaptureTyped : Type 0

@@ -6,8 +6,8 @@ use Rattle.w_syntax.specs.declared.module.Module.{Module}
 use Rattle.w_rules.specs.Context.{type_of_func}
 use Rattle.w_rules.specs.Matching.{known}
 use Rattle.w_rules.specs.Operands.{Operand}
+use Rattle.w_rules.specs.Sound.{Sound}
 use Rattle.w_rules.specs.Spaces.{context_of}
-use Rattle.w_rules.specs.Valid.{Valid}
 use Rattle.w_reduce.specs.declared.limit.RunLimit.{RunLimit}
 use Rattle.w_reduce.specs.declared.trap.Trap.{Trap}
 use Rattle.w_reduce.specs.Values.{Val}
@@ -40,11 +40,11 @@ pub data IsSafe (m : Module) (K : Arrows) (us : Row Operand) : Reduced → Type 
 
 -- preservation and progress
 abbrev pub ReductionsAreSafe : Type 0
-ReductionsAreSafe = (p : Program) (K : Arrows) (us : Row Operand) (s : Store) (t : Term) → IsProgram p → Valid p.source → Typed p.source K us s t → IsSafe p.source K us (reduce p s t)
+ReductionsAreSafe = (p : Program) (K : Arrows) (us : Row Operand) (s : Store) (t : Term) → IsProgram p → Sound p.source → Typed p.source K us s t → IsSafe p.source K us (reduce p s t)
 
 -- also where the result passes a limit
 abbrev pub NextsAreSafe : Type 0
-NextsAreSafe = (p : Program) (K : Arrows) (us : Row Operand) (s : Store) (t : Term) → IsProgram p → Valid p.source → Typed p.source K us s t
+NextsAreSafe = (p : Program) (K : Arrows) (us : Row Operand) (s : Store) (t : Term) → IsProgram p → Sound p.source → Typed p.source K us s t
     → IsSafe p.source K us (next p s t.around t.operands t.rest.ahead t.rest.code)
 
 -- a run stays typed, and is never stuck: a rule applies wherever its term isn't values
@@ -54,9 +54,9 @@ pub record RunIsTyped (p : Program) (us : Row Operand) (r : RunState) : Type 0 w
   pub never_stuck : r.outcome ≢ NoRule
 
 abbrev pub RunsAreTyped : Type 0
-RunsAreTyped = (p : Program) (K : Arrows) (us : Row Operand) (s : Store) (t : Term) → IsProgram p → Valid p.source → Typed p.source K us s t → (n : ℕ) → RunIsTyped p us (Run p s t n)
+RunsAreTyped = (p : Program) (K : Arrows) (us : Row Operand) (s : Store) (t : Term) → IsProgram p → Sound p.source → Typed p.source K us s t → (n : ℕ) → RunIsTyped p us (Run p s t n)
 
--- where a run of a valid module begins, the configuration is typed, and its results are those of main, which takes nothing
+-- where a run of a sound module begins, the configuration is typed, and its results are those of main, which takes nothing
 pub record StartsTyped (m : Module) (s : Store) (t : Term) : Type 0 where
   pub main : ℕ
   pub type : FuncType
@@ -66,7 +66,7 @@ pub record StartsTyped (m : Module) (s : Store) (t : Term) : Type 0 where
   pub typed : Typed m [] (known (row_of type.results)) s t
 
 abbrev pub StartsAreTyped : Type 0
-StartsAreTyped = (p : Program) (s : Store) (t : Term) → IsProgram p → Valid p.source → Start p ≡ Ready s t → StartsTyped p.source s t
+StartsAreTyped = (p : Program) (s : Store) (t : Term) → IsProgram p → Sound p.source → Start p ≡ Ready s t → StartsTyped p.source s t
 
 -- where no function is invoked next, what the innermost frame holds fits, with what the hole takes
 abbrev pub FramesHoldNoMore : Type 0

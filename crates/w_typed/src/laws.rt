@@ -2,7 +2,7 @@
 ghost use Rattle.w_typed.specs.Captures.{KeptContextsAreTerms, SuspendsCaptureTyped, SwitchesCaptureTyped};
 ghost use Rattle.w_typed.specs.Configurations.{FramesHoldNoMore, NextHasRoom, NextsAreSafe, ReductionsAreSafe, RunsAreTyped, StartsAreTyped};
 
-/// Preservation and progress: a reduction of a typed configuration of a valid module leads to one of the same results, to a trap, to a
+/// Preservation and progress: a reduction of a typed configuration of a sound module leads to one of the same results, to a trap, to a
 /// limit or to values, and is never stuck.
 pub fn reductions_are_safe()
     ensures { ReductionsAreSafe }
@@ -13,12 +13,12 @@ pub fn nexts_are_safe()
     ensures { NextsAreSafe }
 {}
 
-/// Where a run of a valid module begins, the configuration is typed, and its results are main's.
+/// Where a run of a sound module begins, the configuration is typed, and its results are main's.
 pub fn starts_are_typed()
     ensures { StartsAreTyped }
 {}
 
-/// A run from a typed configuration of a valid module stays typed, and is never stuck.
+/// A run from a typed configuration of a sound module stays typed, and is never stuck.
 pub fn runs_are_typed()
     ensures { RunsAreTyped }
 {}

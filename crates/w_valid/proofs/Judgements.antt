@@ -15,10 +15,12 @@ declared_by m n flags e f = e ∙ ap (λ (k : ℕ). marked (replicate k false) (
 -- the facts of a module
 pub are_facts : (m : Module) (facts : Facts) → AreMeasures m facts.heights.items facts.depths.items → facts.declared.items ≡ declared_of m → IsClassesOf m.types facts.classes → AreFacts m facts
 are_facts m facts measures declared classes = record {
-  as_many_heights = measures.as_many_heights;
-  as_many_depths = measures.as_many_depths;
-  heights = λ i t f a b. measures.heights i t f a b (slice_get_within m.codes i f b);
-  depths = λ i t f a b. measures.depths i t f a b (slice_get_within m.codes i f b);
+  measures = record {
+    as_many_heights = measures.as_many_heights;
+    as_many_depths = measures.as_many_depths;
+    heights = λ i t f a b. measures.heights i t f a b (slice_get_within m.codes i f b);
+    depths = λ i t f a b. measures.depths i t f a b (slice_get_within m.codes i f b);
+  };
   declared = declared;
   classes = classes;
 }

@@ -72,10 +72,10 @@ fn store_width(store: StoreOp) -> u32
 }
 
 // Whether an access of this width, as a power of two, is one.
-fn is_access(cx: &Context, width: u32, align: u8, offset: u64) -> bool
-    ensures { result ≡ the_access (context_in cx.now) width (record { align = align; offset = offset }) }
+fn is_access(cx: &Context, width: u32, align: u8, memory: u32, offset: u64) -> bool
+    ensures { result ≡ the_access (context_in cx.now) width (record { align = align; memory = memory; offset = offset }) }
 {
-    cx.has_memory(0) && (u32::from(align) <= width && offset < 1 << 32)
+    cx.has_memory(memory) && (u32::from(align) <= width && offset < 1 << 32)
 }
 
 // Whether a copy of a data segment into a memory has both.
@@ -102,37 +102,39 @@ fn takes_three_if_valid(classes: &Classes, flow: &mut Flow, test: bool) -> Resul
     fixed_if_valid(classes, flow, test, &three, &[])
 }
 
-/// A load, with the exponent of the alignment and the offset.
+/// A load, with the exponent of the alignment, the memory and the offset.
 pub(crate) fn load_step(
     cx: &Context,
     flow: &mut Flow,
     load: LoadOp,
     align: u8,
+    memory: u32,
     offset: u64,
 ) -> Result<bool, AllocError>
     ensures steps { IfOk result (λ applies. step cx.now.classes.now (memory_op_type (context_in cx.now)
-        (op.Load load (record { align = align; offset = offset }))) (flow_view flow.old).any
+        (op.Load load (record { align = align; memory = memory; offset = offset }))) (flow_view flow.old).any
         (flow_view flow.old).operands ≡ flow_if applies flow.new) }
     ensures words { HasWords cx.now.classes.now flow.old → HasWords cx.now.classes.now flow.new }
 {
-    let access = is_access(cx, load_width(load), align, offset);
+    let access = is_access(cx, load_width(load), align, memory, offset);
     turns_if_valid(cx.classes, flow, access, PackedType::I32, load_type(load))
 }
 
-/// A store, with the exponent of the alignment and the offset.
+/// A store, with the exponent of the alignment, the memory and the offset.
 pub(crate) fn store_step(
     cx: &Context,
     flow: &mut Flow,
     store: StoreOp,
     align: u8,
+    memory: u32,
     offset: u64,
 ) -> bool
     ensures steps { step cx.now.classes.now (memory_op_type (context_in cx.now)
-        (op.Store store (record { align = align; offset = offset }))) (flow_view flow.old).any
+        (op.Store store (record { align = align; memory = memory; offset = offset }))) (flow_view flow.old).any
         (flow_view flow.old).operands ≡ flow_if result flow.new }
     ensures words { HasWords cx.now.classes.now flow.old → HasWords cx.now.classes.now flow.new }
 {
-    let access = is_access(cx, store_width(store), align, offset);
+    let access = is_access(cx, store_width(store), align, memory, offset);
     takes_two_if_valid(cx.classes, flow, access, PackedType::I32, store_type(store))
 }
 
@@ -144,10 +146,24 @@ pub(crate) fn memory_step(cx: &Context, flow: &mut Flow, op: MemoryOp) -> Result
 {
     match op {
         MemoryOp::Load(load, argument) => {
-            load_step(cx, flow, load, argument.align, argument.offset)
+            load_step(
+                cx,
+                flow,
+                load,
+                argument.align,
+                argument.memory,
+                argument.offset,
+            )
         }
         MemoryOp::Store(store, argument) => {
-            Ok(store_step(cx, flow, store, argument.align, argument.offset))
+            Ok(store_step(
+                cx,
+                flow,
+                store,
+                argument.align,
+                argument.memory,
+                argument.offset,
+            ))
         }
         MemoryOp::Size(memory) => gives_if_valid(
             cx.classes,

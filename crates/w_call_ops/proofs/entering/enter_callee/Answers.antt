@@ -19,13 +19,13 @@ use Rattle.w_call_ops.proofs.entering.enter_callee.Goals as goal
 
 pub overflow_cast-params : goal.overflow_cast-params
 overflow_cast-params c =
-    let few = (narrow_function c.args.program.now c.args.function c.args.kind.now c.module-module.ensures.within.params c.requires.there.type_is).0 in
+    let few = (narrow_function c.args.program.now c.args.function c.args.kind.now c.module-module.ensures.narrow c.requires.there.type_is).0 in
     let l = c.len-params.ensures in
     omega (arith, few, l)
 
 pub overflow_cast-arity : goal.overflow_cast-arity
 overflow_cast-arity c =
-    let few = (narrow_function c.args.program.now c.args.function c.args.kind.now c.module-module.ensures.within.params c.requires.there.type_is).1 in
+    let few = (narrow_function c.args.program.now c.args.function c.args.kind.now c.module-module.ensures.narrow c.requires.there.type_is).1 in
     let l = c.len-arity.ensures in
     omega (arith, few, l)
 

@@ -10,16 +10,16 @@ use Rattle.w_inst.proofs.allocation.add_memories.Goals as goal
 
 pub overflow_cast-limits : goal.overflow_cast-limits
 overflow_cast-limits c =
-    let fits = memory_fits c.args.program.now c.as_slice-limits-items.result.now c.loop-limits.limits-index (record { min = 0; max = None }) c.requires.valid c.requires.within c.as_slice-limits-items.ensures c.loop-limits-test.true in
+    let fits = memory_fits c.args.program.now c.as_slice-limits-items.result.now c.loop-limits.limits-index (record { min = 0; max = None }) c.requires.sound c.requires.within c.as_slice-limits-items.ensures c.loop-limits-test.true in
     omega (arith, fits.min)
 
 pub narrowed-requires : goal.narrowed-requires
 narrowed-requires c =
-    (memory_fits c.args.program.now c.as_slice-limits-items.result.now c.loop-limits.limits-index (record { min = 0; max = None }) c.requires.valid c.requires.within c.as_slice-limits-items.ensures c.loop-limits-test.true).max
+    (memory_fits c.args.program.now c.as_slice-limits-items.result.now c.loop-limits.limits-index (record { min = 0; max = None }) c.requires.sound c.requires.within c.as_slice-limits-items.ensures c.loop-limits-test.true).max
 
 pub new-requires : goal.new-requires
 new-requires c =
-    (memory_fits c.args.program.now c.as_slice-limits-items.result.now c.loop-limits.limits-index (record { min = 0; max = None }) c.requires.valid c.requires.within c.as_slice-limits-items.ensures c.loop-limits-test.true).min
+    (memory_fits c.args.program.now c.as_slice-limits-items.result.now c.loop-limits.limits-index (record { min = 0; max = None }) c.requires.sound c.requires.within c.as_slice-limits-items.ensures c.loop-limits-test.true).min
 
 pub loop-limits-preserved : goal.loop-limits-preserved
 loop-limits-preserved c =

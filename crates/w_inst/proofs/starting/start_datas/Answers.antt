@@ -1,15 +1,11 @@
-use Rattle.std.proofs.Common.{subst, arith}
+use Rattle.std.proofs.Common.{subst}
 use Rattle.w_syntax.specs.declared.module.Data.{Data}
 use Rattle.w_inst.specs.Segments.{IsDataConstant}
 use Rattle.w_inst.proofs.RoomInModules.{offset_constant}
-use Rattle.w_inst.proofs.InOrder.{one_memory}
 use Rattle.w_inst.proofs.starting.start_datas.Goals as goal
 
 pub start_data-requires-clause-constant : goal.start_data-requires-clause-constant
 start_data-requires-clause-constant c =
     let P : Data → Type 0 = λ d. IsDataConstant d.mode in
     subst P c.index-datas-index.is
-    (offset_constant c.args.program.now c.as_slice-datas.result.now c.loop-index.index c.index-datas-index.result c.requires.valid c.as_slice-datas.ensures c.loop-index-test.true c.index-datas-index.is)
-
-pub start_data-requires-clause-one : goal.start_data-requires-clause-one
-start_data-requires-clause-one c = omega (arith, one_memory c.args.program.now c.requires.valid, c.len-memories.ensures)
+    (offset_constant c.args.program.now c.as_slice-datas.result.now c.loop-index.index c.index-datas-index.result c.requires.sound c.as_slice-datas.ensures c.loop-index-test.true c.index-datas-index.is)

@@ -7,7 +7,7 @@ use Rattle.w_inst.proofs.starting.start_elements.Goals as goal
 
 pub start_element-requires-clause-constant : goal.start_element-requires-clause-constant
 start_element-requires-clause-constant c =
-    (element_constant c.args.program.now c.as_slice-elements.result.now c.loop-index.index c.index-elements-index.result c.requires.valid c.as_slice-elements.ensures c.loop-index-test.true c.index-elements-index.is).mode
+    (element_constant c.args.program.now c.as_slice-elements.result.now c.loop-index.index c.index-elements-index.result c.requires.sound c.as_slice-elements.ensures c.loop-index-test.true c.index-elements-index.is).mode
 
 pub start_element-requires-clause-count : goal.start_element-requires-clause-count
 start_element-requires-clause-count c =

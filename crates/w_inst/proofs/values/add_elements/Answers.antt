@@ -13,7 +13,7 @@ loop-segment-init c = λ p s w. ap (λ (l : List Elem). with_elements (store_of 
 
 pub item_values-requires : goal.item_values-requires
 item_values-requires c = record {
-  constant = (element_constant c.args.program.now c.as_slice-segment-items.result.now c.loop-segment.segment-index c.segment-item.result c.requires.valid c.as_slice-segment-items.ensures c.loop-segment-test.true c.segment-item.is).items;
+  constant = (element_constant c.args.program.now c.as_slice-segment-items.result.now c.loop-segment.segment-index c.segment-item.result c.requires.sound c.as_slice-segment-items.ensures c.loop-segment-test.true c.segment-item.is).items;
 }
 
 pub loop-segment-preserved : goal.loop-segment-preserved

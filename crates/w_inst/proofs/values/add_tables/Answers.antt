@@ -14,21 +14,21 @@ loop-table-init c = λ p s w. ap (λ (l : List Table). with_tables (store_of c.a
 
 pub filling-requires : goal.filling-requires
 filling-requires c = record {
-  constant = (table_fits c.args.program.now c.as_slice-table-items.result.now c.loop-table.table-index c.table-item.result c.requires.valid c.requires.within c.as_slice-table-items.ensures c.loop-table-test.true c.table-item.is).init;
+  constant = (table_fits c.args.program.now c.as_slice-table-items.result.now c.loop-table.table-index c.table-item.result c.requires.sound c.requires.within c.as_slice-table-items.ensures c.loop-table-test.true c.table-item.is).init;
 }
 
 pub overflow_cast-limits : goal.overflow_cast-limits
 overflow_cast-limits c =
-    let fits = table_fits c.args.program.now c.as_slice-table-items.result.now c.loop-table.table-index c.table-item.result c.requires.valid c.requires.within c.as_slice-table-items.ensures c.loop-table-test.true c.table-item.is in
+    let fits = table_fits c.args.program.now c.as_slice-table-items.result.now c.loop-table.table-index c.table-item.result c.requires.sound c.requires.within c.as_slice-table-items.ensures c.loop-table-test.true c.table-item.is in
     omega (arith, fits.limits.min)
 
 pub narrowed-requires : goal.narrowed-requires
 narrowed-requires c =
-    (table_fits c.args.program.now c.as_slice-table-items.result.now c.loop-table.table-index c.table-item.result c.requires.valid c.requires.within c.as_slice-table-items.ensures c.loop-table-test.true c.table-item.is).limits.max
+    (table_fits c.args.program.now c.as_slice-table-items.result.now c.loop-table.table-index c.table-item.result c.requires.sound c.requires.within c.as_slice-table-items.ensures c.loop-table-test.true c.table-item.is).limits.max
 
 pub add_table-requires : goal.add_table-requires
 add_table-requires c = record {
-  size = (table_fits c.args.program.now c.as_slice-table-items.result.now c.loop-table.table-index c.table-item.result c.requires.valid c.requires.within c.as_slice-table-items.ensures c.loop-table-test.true c.table-item.is).limits.min;
+  size = (table_fits c.args.program.now c.as_slice-table-items.result.now c.loop-table.table-index c.table-item.result c.requires.sound c.requires.within c.as_slice-table-items.ensures c.loop-table-test.true c.table-item.is).limits.min;
 }
 
 pub loop-table-preserved : goal.loop-table-preserved

@@ -16,7 +16,7 @@ loop-global-init c =
     subst P (sym c.new-values.ensures.items) (globals_first c.args.functions c.args.program.now.globals c.as_slice-global-items.result.now c.as_slice-global-items.ensures)
 
 pub constant-requires : goal.constant-requires
-constant-requires c = record { constant = global_constant c.args.program.now c.as_slice-global-items.result.now c.loop-global.global-index c.global-item.result c.requires.valid c.as_slice-global-items.ensures c.loop-global-test.true c.global-item.is }
+constant-requires c = record { constant = global_constant c.args.program.now c.as_slice-global-items.result.now c.loop-global.global-index c.global-item.result c.requires.sound c.as_slice-global-items.ensures c.loop-global-test.true c.global-item.is }
 
 pub loop-global-preserved : goal.loop-global-preserved
 loop-global-preserved c =

@@ -1,4 +1,4 @@
-use Rattle.w_machine.proofs.PartsOfRuns.{known_valid}
+use Rattle.w_machine.proofs.PartsOfRuns.{known_sound}
 use Rattle.w_machine.proofs.LeftHandles.{left_handle}
 use Rattle.w_machine.proofs.Rooms.{leaving_room}
 use Rattle.w_machine.proofs.reduction.leave_handle.Goals as goal
@@ -7,7 +7,7 @@ pub exit_handle-requires-clause-sound : goal.exit_handle-requires-clause-sound
 exit_handle-requires-clause-sound c = c.requires.stands.stands.sound
 
 pub exit_handle-requires-clause-room : goal.exit_handle-requires-clause-room
-exit_handle-requires-clause-room c = leaving_room (known_valid c.args.program.known c.module-module.ensures.valid) c.requires.stands c.requires.two c.requires.values
+exit_handle-requires-clause-room c = leaving_room (known_sound c.args.program.known c.module-module.ensures.sound) c.requires.stands c.requires.two c.requires.values
 
 pub returns-clause-reduces : goal.returns-clause-reduces
 returns-clause-reduces c = λ held.

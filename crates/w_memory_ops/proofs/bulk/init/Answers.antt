@@ -1,4 +1,4 @@
-use Rattle.std.proofs.Common.{ℕ, [], ◌∷◌, Some, true, drop, refl}
+use Rattle.std.proofs.Common.{ℕ, [], ◌∷◌, drop, refl}
 use Rattle.w_syntax.specs.declared.instructions.Op.TheVariants as op
 use Rattle.w_syntax.specs.declared.instructions.Instr.TheVariants as flat
 use Rattle.w_syntax.specs.declared.memory_instructions.MemoryOp.TheVariants as memory
@@ -7,15 +7,16 @@ use Rattle.w_memory.specs.Memory.{init}
 use Rattle.w_segment.specs.Shape.{Shape}
 use Rattle.w_tables.specs.Store as instances
 use Rattle.w_stands.specs.Steps.{MovesAt}
-use Rattle.w_memory_ops.specs.Changing.{changing}
+use Rattle.w_memory_ops.specs.Changing.{InSegment, changing}
 use Rattle.w_memory_ops.proofs.Rules.{three, initialising, init_rule}
 use Rattle.w_memory_ops.proofs.Operands.{by_three}
+use Rattle.w_memory_ops.proofs.Parts.{segment_lent}
 use Rattle.w_memory_ops.proofs.Changes.{ChangeNeeds, change_needs, change_follows}
 use Rattle.w_memory_ops.proofs.bulk.init.Goals as goal
 
 -- what it needs
-needs : {m : Module} {u : instances.Store} {s : Shape} (segment index : ℕ) → MovesAt (flat.Plain (op.Memory (memory.Init segment index))) m u s → ChangeNeeds m u s three (Some segment) (changing index (Some segment) true initialising)
-needs {m} {u} {s} segment index k = change_needs m u s (op.Memory (memory.Init segment index)) three index (Some segment) true initialising (init_rule segment index) k
+needs : {m : Module} {u : instances.Store} {s : Shape} (segment index : ℕ) → MovesAt (flat.Plain (op.Memory (memory.Init segment index))) m u s → ChangeNeeds m u s three index (InSegment segment) (changing index (InSegment segment) initialising)
+needs {m} {u} {s} segment index k = change_needs m u s (op.Memory (memory.Init segment index)) three index (InSegment segment) initialising (init_rule segment index) k
 
 pub top_three-to-requires : goal.top_three-to-requires
 top_three-to-requires c = (needs c.args.segment c.args.index c.requires.moves).operands.some
@@ -33,16 +34,17 @@ pub memory_with-memory-requires-clause-memory : goal.memory_with-memory-requires
 memory_with-memory-requires-clause-memory c = (needs c.args.segment c.args.index c.requires.moves).memory
 
 pub memory_with-memory-requires-clause-segment : goal.memory_with-memory-requires-clause-segment
-memory_with-memory-requires-clause-segment c = (needs c.args.segment c.args.index c.requires.moves).segment
+memory_with-memory-requires-clause-segment c = (needs c.args.segment c.args.index c.requires.moves).source
 
 pub finish-requires-clause-place : goal.finish-requires-clause-place
 finish-requires-clause-place c = (needs c.args.segment c.args.index c.requires.moves).operands.place
 
 pub returns-clause-goes : goal.returns-clause-goes
 returns-clause-goes c =
-    change_follows c.args.program.now c.args.store.now c.args.stack.now (op.Memory (memory.Init c.args.segment c.args.index)) three c.args.index (Some c.args.segment) true initialising (init_rule c.args.segment c.args.index) c.requires.moves
-    c.requires.one (c.top_three-to.result.2 ∷ c.top_three-to.result.1 ∷ c.top_three-to.result.0 ∷ []) (drop 3 c.args.stack.now.operands) c.top_three-to.ensures refl
-    c.memory_with-memory.result.0.now c.init-done.new.self c.memory_with-memory.ensures.memory c.memory_with-memory.result.1.now c.memory_with-memory.ensures.bytes
+    change_follows c.args.program.now c.args.store.now c.args.stack.now (op.Memory (memory.Init c.args.segment c.args.index)) three c.args.index (InSegment c.args.segment) initialising (init_rule c.args.segment c.args.index) c.requires.moves
+    (c.top_three-to.result.2 ∷ c.top_three-to.result.1 ∷ c.top_three-to.result.0 ∷ []) (drop 3 c.args.stack.now.operands) c.top_three-to.ensures refl
+    c.memory_with-memory.result.0.now c.init-done.new.self c.memory_with-memory.ensures.memory c.memory_with-memory.result.1.now
+    (segment_lent c.args.store.now c.args.segment c.memory_with-memory.result.1.now (needs c.args.segment c.args.index c.requires.moves).source c.memory_with-memory.ensures.bytes)
     c.init-done.result c.finish.result c.finish.new.stack
     (by_three (λ (a b n : ℕ). init c.memory_with-memory.result.0.now c.memory_with-memory.result.1.now a b n) c.i32_of.ensures c.i32_of-2.ensures c.i32_of-3.ensures c.init-done.ensures.outcome)
     c.init-done.ensures.unchanged c.finish.ensures.did c.finish.ensures.after

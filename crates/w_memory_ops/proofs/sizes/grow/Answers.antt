@@ -35,12 +35,12 @@ always (Err e) p = p
 pub returns-in_err-answer-clause-store : goal.returns-in_err-answer-clause-store
 returns-in_err-answer-clause-store c =
     always c.from_residual.result
-    (ap (with_memory c.args.store.now) c.in_err-answer.ensures.err ∙ same_memory c.args.store.now c.memory_with-memory.result.0.now c.memory_with-memory.ensures.memory)
+    (ap (with_memory c.args.store.now c.args.index) c.in_err-answer.ensures.err ∙ same_memory c.args.store.now c.args.index c.memory_with-memory.result.0.now c.memory_with-memory.ensures.memory)
 
 pub returns-clause-goes : goal.returns-clause-goes
 returns-clause-goes c =
     let fits : SFits w32 c.in_ok-answer.answer = search rules in
-    grow_follows c.args.index c.requires.moves c.requires.one c.peek.result (drop 1 c.args.stack.now.operands) c.memory_with-memory.result.0.now c.grow.new.self
+    grow_follows c.args.index c.requires.moves c.peek.result (drop 1 c.args.stack.now.operands) c.memory_with-memory.result.0.now c.grow.new.self
     c.in_ok-answer.answer c.cast_unsigned.result c.replace.new.stack c.peek.ensures.value c.memory_with-memory.ensures.memory
     (ap (grow c.memory_with-memory.result.0.now) (sym c.i32_of-pages.ensures) ∙ c.in_ok-answer.ensures.grown)
     (c.cast_unsigned.ensures ∙ ap (of_z w32) (to_z-of_z w32 c.in_ok-answer.answer fits) ∙ bits_are c.in_ok-answer.answer) c.replace.ensures.after

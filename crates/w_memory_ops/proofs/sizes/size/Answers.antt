@@ -13,5 +13,5 @@ push_next-requires c = record { place = (size_needs c.args.index c.requires.move
 
 pub returns-clause-goes : goal.returns-clause-goes
 returns-clause-goes c =
-    size_follows c.args.index c.requires.moves c.requires.one c.memory.result.now c.size.result c.push_next.new.stack c.memory.ensures.memory c.size.ensures.pages
+    size_follows c.args.index c.requires.moves c.memory.result.now c.size.result c.push_next.new.stack c.memory.ensures.memory c.size.ensures.pages
     c.push_next.ensures.after

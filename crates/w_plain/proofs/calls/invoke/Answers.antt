@@ -9,7 +9,7 @@ use Rattle.w_plain.proofs.Prints.{may_stop, grew_nothing, same_parts, invoke_pri
 use Rattle.w_plain.proofs.calls.invoke.Goals as goal
 
 pub invoke_own-requires-clause-invoke : goal.invoke_own-requires-clause-invoke
-invoke_own-requires-clause-invoke g c = subst (λ (m : Module). Invokes m c.args.store.now c.args.stack.now) (sym c.args.program.known.checked_is) c.requires.invoke
+invoke_own-requires-clause-invoke g c = subst (λ (m : Module). Invokes m c.args.store.now c.args.stack.now) (sym c.args.program.known.runnable_is) c.requires.invoke
 
 pub returns-in-Err-clause-step : goal.returns-in-Err-clause-step
 returns-in-Err-clause-step g c = (refl, c.in-Err.ensures.err.same, inl refl, invokes_take c.requires.invoke)
@@ -18,7 +18,7 @@ pub returns-in-Ok-clause-step : goal.returns-in-Ok-clause-step
 returns-in-Ok-clause-step g c = (
   [],
   takes_stack did.Went c.args.program.source.now [] c.args.store.now c.args.stack.now c.invoke_own.new.stack
-      (subst (λ (m : Module). Follows did.Went m [] c.args.store.now c.args.stack.now c.args.store.now c.invoke_own.new.stack) c.args.program.known.checked_is c.in-Ok.ensures.goes) c.in-Ok.ensures.keeps,
+      (subst (λ (m : Module). Follows did.Went m [] c.args.store.now c.args.stack.now c.args.store.now c.invoke_own.new.stack) c.args.program.known.runnable_is c.in-Ok.ensures.goes) c.in-Ok.ensures.keeps,
   grew_nothing (g.O.Sink.held c.args.out.now),
 )
 

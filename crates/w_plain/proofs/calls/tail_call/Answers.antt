@@ -12,7 +12,7 @@ pub function-requires : goal.function-requires
 function-requires g c = record { function = tail_callee_there c.args.address c.args.popped c.args.program.source.now c.args.store.now c.args.stack.now c.requires.call }
 
 pub tail_own-requires-clause-call : goal.tail_own-requires-clause-call
-tail_own-requires-clause-call g c = subst (λ (m : Module). TailCalls c.args.address c.args.popped m c.args.store.now c.args.stack.now) (sym c.args.program.known.checked_is) c.requires.call
+tail_own-requires-clause-call g c = subst (λ (m : Module). TailCalls c.args.address c.args.popped m c.args.store.now c.args.stack.now) (sym c.args.program.known.runnable_is) c.requires.call
 
 pub returns-in-Err-clause-step : goal.returns-in-Err-clause-step
 returns-in-Err-clause-step g c = (refl, c.in-Err.ensures.err.same, inl refl, calls_take c.requires.call)
@@ -21,7 +21,7 @@ pub returns-in-Ok-clause-step : goal.returns-in-Ok-clause-step
 returns-in-Ok-clause-step g c = (
   [],
   takes_stack did.Went c.args.program.source.now [] c.args.store.now c.args.stack.now c.tail_own.new.stack
-      (subst (λ (m : Module). Follows did.Went m [] c.args.store.now c.args.stack.now c.args.store.now c.tail_own.new.stack) c.args.program.known.checked_is c.in-Ok.ensures.goes) c.in-Ok.ensures.keeps,
+      (subst (λ (m : Module). Follows did.Went m [] c.args.store.now c.args.stack.now c.args.store.now c.tail_own.new.stack) c.args.program.known.runnable_is c.in-Ok.ensures.goes) c.in-Ok.ensures.keeps,
   grew_nothing (g.O.Sink.held c.args.out.now),
 )
 

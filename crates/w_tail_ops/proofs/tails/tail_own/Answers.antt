@@ -21,7 +21,7 @@ find_callee-requires c =
 pub overflow_cast-len : goal.overflow_cast-len
 overflow_cast-len c =
     let f = subst (λ (x : Module). IsFunction x c.args.function c.find_callee.result.0.now c.find_callee.result.1.now) c.module.ensures.same c.find_callee.ensures in
-    let few = (narrow_function c.args.program.now c.args.function c.find_callee.result.0.now c.module.ensures.within.params f.type_is).0 in
+    let few = (narrow_function c.args.program.now c.args.function c.find_callee.result.0.now c.module.ensures.narrow f.type_is).0 in
     let l = c.len.ensures in
     omega (arith, few, l)
 

@@ -21,7 +21,7 @@ turn-requires-clause-some g c =
 pub invariant_of-self : goal.invariant_of-self
 invariant_of-self g c =
     let nothing = nothing_stopped c.reduce-stopped.new.stop (sym c.reduce-stopped.ensures.stops ∙ c.if-not-stopped.true) in
-    keeps_nothing c.self.inside.stop c.module.ensures.same c.if-is_some.ensures c.self.invariant c.reduce-stopped.new.stop _ _ _ c.classes-classes.result.now c.classes-classes.ensures c.module.ensures.valid
+    keeps_nothing c.self.inside.stop c.module.ensures.same c.if-is_some.ensures c.self.invariant c.reduce-stopped.new.stop _ _ _ c.classes-classes.result.now c.classes-classes.ensures c.module.ensures.sound
     (subst (λ (q : Position). q.taken < most_reductions) (sym c.self.view_is) c.requires) nothing c.reduce-stopped.ensures.reduces
     (turned _ c.turn.new.chain c.self.invariant.fresh
     (segments_stay c.self.inside.stop c.module.ensures.same c.if-is_some.ensures c.self.invariant c.reduce-stopped.new.stop _ _ _ c.classes-classes.result.now c.classes-classes.ensures nothing c.reduce-stopped.ensures.reduces)
@@ -36,7 +36,7 @@ invariant_of-self-in-Some g c =
 pub returns-then-not-stopped-clause-steps : goal.returns-then-not-stopped-clause-steps
 returns-then-not-stopped-clause-steps g c =
     steps_on c.self.inside.stop c.module.ensures.same c.if-is_some.ensures c.self.invariant c.reduce-stopped.new.stop _ _ _ c.args.self.now c.self.view_is
-    (nothing_stopped c.reduce-stopped.new.stop (sym c.reduce-stopped.ensures.stops ∙ c.if-not-stopped.true)) c.module.ensures.valid c.reduce-stopped.ensures.reduces
+    (nothing_stopped c.reduce-stopped.new.stop (sym c.reduce-stopped.ensures.stops ∙ c.if-not-stopped.true)) c.module.ensures.sound c.reduce-stopped.ensures.reduces
 
 pub returns-clause-steps : goal.returns-clause-steps
 returns-clause-steps g c =

@@ -30,7 +30,7 @@ invariant_of-self-then-within c =
     let nothing = ap (λ (q : Position). q.stop) c.self.view_is ∙ c.requires.none in
     let goes = went_within c.in_ok-within.within c.if-within.true _ _ _ c.in_ok-within.ensures.attempts None in
     machine_advanced c.self.inside.stop refl (sym (ap is_some nothing)) c.self.invariant _ None None c.classes-classes.result.now c.classes-classes.ensures
-    c.module-module.ensures.valid (subst (λ (q : Position). q.taken < most_reductions) (sym c.self.view_is) c.requires.few) goes
+    c.module-module.ensures.sound (subst (λ (q : Position). q.taken < most_reductions) (sym c.self.view_is) c.requires.few) goes
     (turned _ c.turn.new.chain c.self.invariant.fresh
     (machine_went_long c.self.inside.stop refl (sym (ap is_some nothing)) c.self.invariant _ None None c.classes-classes.result.now c.classes-classes.ensures goes)
     c.turn.ensures.stays c.turn.ensures.turns)
@@ -43,7 +43,7 @@ returns-then-within c =
         sym (ap is_some nothing),
         subst IsNoFault (sym nothing) tt,
         λ held. machine_steps c.self.inside.stop refl (sym (ap is_some nothing)) c.self.invariant _ held held c.args.self.now c.self.inside.stop c.self.view_is
-            nothing c.module-module.ensures.valid (went_within c.in_ok-within.within c.if-within.true _ _ _ c.in_ok-within.ensures.attempts held),
+            nothing c.module-module.ensures.sound (went_within c.in_ok-within.within c.if-within.true _ _ _ c.in_ok-within.ensures.attempts held),
       );
     }
 

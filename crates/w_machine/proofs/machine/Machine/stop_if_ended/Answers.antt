@@ -8,8 +8,8 @@ invariant_of-self c =
 
 pub returns-then-is_some : goal.returns-then-is_some
 returns-then-is_some c =
-    stops_some c.self.inside.stop c.end_of-stopped.result c.args.self.now c.self.view_is c.requires c.end_of-stopped.ensures c.self.invariant c.module-module.ensures.valid c.if-is_some.ensures
+    stops_some c.self.inside.stop c.end_of-stopped.result c.args.self.now c.self.view_is c.requires c.end_of-stopped.ensures c.self.invariant c.module-module.ensures.sound c.if-is_some.ensures
 
 pub returns-else-is_some : goal.returns-else-is_some
 returns-else-is_some c =
-    stops_none c.self.inside.stop c.end_of-stopped.result c.args.self.now c.self.view_is c.requires c.end_of-stopped.ensures c.self.invariant c.module-module.ensures.valid c.if-is_some.ensures
+    stops_none c.self.inside.stop c.end_of-stopped.result c.args.self.now c.self.view_is c.requires c.end_of-stopped.ensures c.self.invariant c.module-module.ensures.sound c.if-is_some.ensures

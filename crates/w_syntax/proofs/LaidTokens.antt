@@ -9,10 +9,9 @@ use Rattle.w_syntax.specs.declared.instructions.Token.TheVariants as tok
 use Rattle.w_syntax.specs.declared.packed.PackedInstr.{PackedInstr}
 use Rattle.w_syntax.specs.Code.{Code, Done, Plain, Block, If, IfElse}
 use Rattle.w_syntax.specs.Expr.{tokens}
-use Rattle.w_syntax.specs.Flat.{laid, size, whole}
-use Rattle.w_syntax.specs.Packed.{unpacked_all}
+use Rattle.w_syntax.specs.Flat.{laid, size, whole, as_token}
+use Rattle.w_syntax.specs.Packed.{unpacked, unpacked_all}
 use Rattle.w_syntax.proofs.PackedLists.{flat_map_unpacked}
-use Rattle.w_lines.specs.Written.{as_token, token_bytes, packed_bytes, code_bytes}
 
 -- a sequence, where what follows it is written alike
 written_laid : (w : Token → List ℕ) (k : ℕ) (c : Code) (is : List Instr) (ts : List Token) → flat_map (λ i. w (as_token i)) is ≡ flat_map w ts → flat_map (λ i. w (as_token i)) (laid k c ++ is) ≡ flat_map w (tokens c ++ ts)
@@ -35,10 +34,9 @@ written_laid w k (IfElse b x y r) is ts e =
     let g : (tokens x ++ tok.Else ∷ (tokens y ++ tok.End ∷ tokens r)) ++ ts ≡ tokens x ++ tok.Else ∷ (tokens y ++ tok.End ∷ (tokens r ++ ts)) = simp append_assoc in
     ap (λ (l : List ℕ). w (tok.If b) ++ l) (ap (flat_map (λ i. w (as_token i))) f ∙ inner ∙ ap (flat_map w) (sym g))
 
-code_written : (c : Code) → flat_map (λ i. token_bytes (as_token i)) (whole c) ≡ code_bytes c
-code_written c = written_laid token_bytes 0 c (flat.End ∷ []) (tok.End ∷ []) refl
-
 -- what writing a body's packed list did, it did of the body
-pub put_body : {E : Type 0} (result : Result (Unit {0}) E) (new old : List ℕ) (ps : List PackedInstr) (c : Code) → unpacked_all ps ≡ whole c → OnOk result (new ≡ old ++ flat_map packed_bytes ps) → OnOk result (new ≡ old ++ code_bytes c)
-put_body (Ok t) new old ps c e h = h ∙ ap (λ (l : List ℕ). old ++ l) (flat_map_unpacked (λ i. token_bytes (as_token i)) ps ∙ ap (flat_map (λ i. token_bytes (as_token i))) e ∙ code_written c)
-put_body (Err x) new old ps c e h = h
+pub put_laid : {E : Type 0} (w : Token → List ℕ) (result : Result (Unit {0}) E) (new old : List ℕ) (ps : List PackedInstr) (c : Code) → unpacked_all ps ≡ whole c
+    → OnOk result (new ≡ old ++ flat_map (λ p. w (as_token (unpacked p))) ps) → OnOk result (new ≡ old ++ flat_map w (tokens c ++ tok.End ∷ []))
+put_laid w (Ok t) new old ps c e h =
+    h ∙ ap (λ (l : List ℕ). old ++ l) (flat_map_unpacked (λ i. w (as_token i)) ps ∙ ap (flat_map (λ i. w (as_token i))) e ∙ written_laid w 0 c (flat.End ∷ []) (tok.End ∷ []) refl)
+put_laid w (Err x) new old ps c e h = h
