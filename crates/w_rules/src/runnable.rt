@@ -66,6 +66,14 @@ impl Runnable {
         &self.module
     }
 
+    /// The module itself, with the heights and the depths of its functions.
+    pub fn into_parts(self) -> (Module, Vec<u64>, Vec<u32>)
+        ensures module { result.0 ≡ self }
+        ensures measures { AreMeasures self result.1.items result.2.items }
+    {
+        (self.module, self.heights, self.depths)
+    }
+
     /// The greatest number of operands at a counted place of the body of this function, of those that the module defines; 0 where
     /// there is none.
     pub fn height(&self, function: u32) -> u64

@@ -4,7 +4,7 @@ mod SameKind
 pub mod Totals
 pub mod Steps
 pub mod Places
-mod Whole
+pub mod Whole
 mod SomeOf
 mod FunctionsName
 mod LocalRows

@@ -100,6 +100,13 @@ impl Body {
         self.code.as_slice()
     }
 
+    /// The list itself, with the end behind the instructions: `new` makes a body of one that is laid out alike.
+    pub fn into_instrs(self) -> Vec<PackedInstr>
+        ensures { unpacked_all result.items ≡ whole self }
+    {
+        self.code
+    }
+
     /// The instruction, where the body is one alone that holds no others.
     pub fn only(&self) -> Option<&PackedInstr>
         ensures { option_map (λ p. unpacked p.now) result ≡ option_map (λ o. flat.Plain o) (only self.now) }

@@ -1,6 +1,6 @@
 //! The items of element segments. Most are one `ref.func` or one `ref.null`, which need no list of instructions.
 ghost use Rattle.std.specs.Prelude.{◌≡◌, ◌<◌, Some, IfOk, IfSome, length, map, slice_get};
-ghost use Rattle.w_syntax.specs.Items.{reference_to, null_of, code_of};
+ghost use Rattle.w_syntax.specs.Items.{reference_to, null_of, code_of, code_of_form, codes_of_form};
 
 use crate::body::Body;
 use crate::instructions::ReferenceOp;
@@ -10,9 +10,9 @@ use std::alloc::{AllocError, Global};
 use std::marker::Model;
 use w_types::HeapType;
 
-// How an item is kept.
+/// How an item is kept: one `ref.func` with its function, one `ref.null` with its heap type, or an expression.
 #[derive(Drop)]
-enum ItemForm {
+pub enum ItemForm {
     Function(u32),
     Null(HeapType),
     Expression(Box<Body>),
@@ -24,9 +24,9 @@ pub struct Item {
     form: ItemForm,
 }
 
-// How the items of a segment are kept.
+/// How the items of a segment are kept.
 #[derive(Drop)]
-enum ItemsForm {
+pub enum ItemsForm {
     /// Each is one `ref.func`.
     Functions(ListOf<u32>),
     Mixed(ListOf<Item>),
@@ -119,6 +119,13 @@ impl Item {
         })
     }
 
+    /// The item, as it is kept.
+    pub fn into_form(self) -> ItemForm
+        ensures { code_of_form result ≡ self }
+    {
+        self.form
+    }
+
     /// The item, to be looked at.
     pub fn view(&self) -> ItemView<'_>
         ensures { code_of result ≡ self.now }
@@ -148,6 +155,13 @@ impl Items {
         Items {
             form: ItemsForm::Mixed(items),
         }
+    }
+
+    /// The items, as they are kept.
+    pub fn into_form(self) -> ItemsForm
+        ensures { codes_of_form result ≡ self }
+    {
+        self.form
     }
 
     /// How many items there are.

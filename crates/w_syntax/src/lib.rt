@@ -18,7 +18,7 @@ pub use instructions::{
     BlockKind, BlockType, Clause, ControlOp, Instr, Op, ParametricOp, ReferenceOp, SwitchingOp,
     TableOp, Token, VariableOp,
 };
-pub use items::{Item, ItemView, Items};
+pub use items::{Item, ItemForm, ItemView, Items, ItemsForm};
 pub use locals::{LocalRun, Locals, are_one_type};
 pub use memory_instructions::{LoadOp, MemArg, MemoryOp, StoreOp};
 pub use module::{

@@ -106,6 +106,15 @@ impl Locals {
         Ok(Some(Locals { runs }))
     }
 
+    /// The runs themselves.
+    pub fn into_runs(self) -> Vec<LocalRun>
+        ensures runs { result.items ≡ self }
+        ensures joined { joined result.items ≡ result.items }
+        ensures few { total result.items < 2 ^ 32 }
+    {
+        self.runs
+    }
+
     /// The runs.
     pub fn as_slice(&self) -> &[LocalRun]
         ensures runs { result.now ≡ self.now }
