@@ -1,19 +1,12 @@
 //! Lists of types in which none stands twice.
 ghost use Rattle.std.specs.Prelude.{◌≡◌, [], ◌∷◌, ◌≤◌, ◌<◌, OnOk, IfOk, length};
 ghost use Rattle.w_types.specs.declared.types.ValType.TheVariants.{I64};
-ghost use Rattle.w_syntax.specs.Locals.{same_kind};
 ghost use Rattle.s_index.specs.Types.{same_kinds, same_type, place, with_type, first_types, from_to};
 
 use lists::ListOf;
 use std::alloc::{AllocError, Global};
+use w_syntax::are_one_type;
 use w_types::{CompType, FuncType, PackedType};
-
-// Whether two value types are one.
-fn is_same_kind(one: PackedType, other: PackedType) -> bool
-    ensures value { result ≡ same_kind one other }
-{
-    one.whole() == other.whole()
-}
 
 // Whether lists of value types are one.
 fn are_same_kinds(these: &[PackedType], those: &[PackedType]) -> bool
@@ -23,7 +16,7 @@ fn are_same_kinds(these: &[PackedType], those: &[PackedType]) -> bool
         return false;
     }
     for index in 0..these.len() {
-        if !is_same_kind(these[index], those[index]) {
+        if !are_one_type(these[index], those[index]) {
             return false;
         }
     }
