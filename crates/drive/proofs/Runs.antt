@@ -13,7 +13,7 @@ use Rattle.w_reduce.specs.Start.{Start, Ready}
 use Rattle.w_stands.specs.Values.{vals}
 use Rattle.w_machine.specs.declared.outcome.RunStop.{RunStop}
 use Rattle.w_machine.specs.declared.outcome.RunStop.TheVariants as run_stop
-use Rattle.w_machine.specs.Beginning.{Begins}
+use Rattle.w_machine.specs.Beginning.{Origin, Begins}
 use Rattle.w_machine.specs.Position.{Position, StopsWith, is_fault, IsNoFault, HasTaken, HasTakenBy, after_run, PrintedBetween, PrintedAtMost, PrintedIf, PrintedBy, RunPrints, RunsOn, Runs}
 use Rattle.w_machine.proofs.RunsOfMany.{settled_at, printed_part}
 use Rattle.w_machine.specs.Results.{HasResults}
@@ -29,8 +29,8 @@ use Rattle.drive.proofs.Replies.{front_first}
 
 -- ## Runs from the start
 
-abbrev First : Module → Position
-First m = record { program = m; taken = 0; stop = None }
+abbrev First : Origin → Position
+First o = record { origin = o; taken = 0; stop = None }
 
 -- of a whole run from its first reduction on: it is running, or what is told of it; and all that it prints was printed, or where a fault
 -- stopped it a first part
@@ -48,42 +48,42 @@ module _ (p : Program) (s : Store) (t : Term) (n steps : ℕ) (before now : Opti
   as_whole (Some k) taken h = (h.0, as_part (is_fault k) taken h.1)
 
 -- so it is told of a machine that has taken no reduction
-pub from_first : (m : Module) (p : Program) (s : Store) (t : Term) (steps : ℕ) (q new : Position) (k : Option RunStop) (before now : Option (List ℕ)) → q ≡ First m
-    → Begins q.program p s t → Runs q steps k new before now → HasRunWhole (Run p s t) steps k before now
+pub from_first : (m : Origin) (p : Program) (s : Store) (t : Term) (steps : ℕ) (q new : Position) (k : Option RunStop) (before now : Option (List ℕ)) → q ≡ First m
+    → Begins q.origin p s t → Runs q steps k new before now → HasRunWhole (Run p s t) steps k before now
 from_first m p s t steps q new k before now first begins runs =
     let h = subst (λ (z : Position). Runs z steps k new before now) first runs in
-    as_whole p s t h.0 steps before now k h.1 (h.3 p s t (subst (λ (z : Position). Begins z.program p s t) first begins))
+    as_whole p s t h.0 steps before now k h.1 (h.3 p s t (subst (λ (z : Position). Begins z.origin p s t) first begins))
 
 -- a run that ended keeps that, and took no more reductions than were asked for
 pub record IsDone (p : Program) (s : Store) (t : Term) (steps : ℕ) (new : Position) : Type 0 where
   pub stop : new.stop ≡ Some run_stop.Ended
-  pub begins : Begins new.program p s t
+  pub begins : Begins new.origin p s t
   pub within : new.taken ≤ steps
 
-pub first_ended : (m : Module) (p : Program) (s : Store) (t : Term) (steps : ℕ) (q new : Position) (before now : Option (List ℕ)) → q ≡ First m
-    → Begins q.program p s t → Runs q steps (Some run_stop.Ended) new before now → IsDone p s t steps new
+pub first_ended : (m : Origin) (p : Program) (s : Store) (t : Term) (steps : ℕ) (q new : Position) (before now : Option (List ℕ)) → q ≡ First m
+    → Begins q.origin p s t → Runs q steps (Some run_stop.Ended) new before now → IsDone p s t steps new
 first_ended m p s t steps q new before now first begins runs =
     let h = subst (λ (z : Position). Runs z steps (Some run_stop.Ended) new before now) first runs in
     let there = ap (λ (z : Position). z.taken) h.2 in
     record {
       stop = ap (λ (z : Position). z.stop) h.2;
-      begins = subst (λ (n : Module). Begins n p s t) (ap (λ (z : Position). z.program) first ∙ sym (ap (λ (z : Position). z.program) h.2)) begins;
+      begins = subst (λ (n : Origin). Begins n p s t) (ap (λ (z : Position). z.origin) first ∙ sym (ap (λ (z : Position). z.origin) h.2)) begins;
       within = omega (arith, there, h.1);
     }
 
--- it is that of the same module
-pub first_program : (m : Module) (steps : ℕ) (q new : Position) (k : Option RunStop) (before now : Option (List ℕ)) → q ≡ First m → Runs q steps k new before now
-    → new.program ≡ q.program
-first_program m steps q new k before now first runs =
+-- it begins as before
+pub first_origin : (m : Origin) (steps : ℕ) (q new : Position) (k : Option RunStop) (before now : Option (List ℕ)) → q ≡ First m → Runs q steps k new before now
+    → new.origin ≡ q.origin
+first_origin m steps q new k before now first runs =
     let h = subst (λ (z : Position). Runs z steps k new before now) first runs in
-    ap (λ (z : Position). z.program) h.2 ∙ same k h.0 ∙ sym (ap (λ (z : Position). z.program) first)
+    ap (λ (z : Position). z.origin) h.2 ∙ same k h.0 ∙ sym (ap (λ (z : Position). z.origin) first)
   where
-    same : (o : Option RunStop) (n : ℕ) → (after_run (First m) n o).program ≡ m
+    same : (o : Option RunStop) (n : ℕ) → (after_run (First m) n o).origin ≡ m
     same None n = refl
     same (Some x) n = refl
 
 -- it is the run of so many reductions, where no fault stopped it
-pub first_after : (m : Module) (steps : ℕ) (q new : Position) (k : Option RunStop) (before now : Option (List ℕ)) → q ≡ First m → Runs q steps k new before now
+pub first_after : (m : Origin) (steps : ℕ) (q new : Position) (k : Option RunStop) (before now : Option (List ℕ)) → q ≡ First m → Runs q steps k new before now
     → IsNoFault k → IsAfter new steps
 first_after m steps q new k before now first runs none =
     let h = subst (λ (z : Position). Runs z steps k new before now) first runs in

@@ -5,7 +5,7 @@ use Rattle.w_machine.specs.Position.{Position, is_fault}
 
 -- no reduction was taken, and no outcome is kept
 abbrev pub IsFirst : Position → Type 0
-IsFirst position = position ≡ record { program = position.program; taken = 0; stop = None }
+IsFirst position = position ≡ record { origin = position.origin; taken = 0; stop = None }
 
 -- so many reductions were taken, or what isn't a fault stopped the machine before
 abbrev pub IsAfterBy : Option RunStop → ℕ → ℕ → Type 0

@@ -7,7 +7,7 @@ ghost use Rattle.w_reduce.specs.Store.{Store};
 ghost use Rattle.w_reduce.specs.Terms.{Term};
 ghost use Rattle.w_reduce.specs.Values.{val};
 ghost use Rattle.w_inst.specs.Instances.{BeginsAs};
-ghost use Rattle.w_machine.specs.Beginning.{Begins, BeginsWith};
+ghost use Rattle.w_machine.specs.Beginning.{Begins, BeginsWith, origin_of};
 ghost use Rattle.w_machine.specs.Position.{most_reductions};
 ghost use Rattle.replies.specs.Answer.{result_line, stats_line as the_stats_line, run_reply, run_gives, RunGives};
 ghost use Rattle.drive.specs.Leaving.{Leaves};
@@ -60,11 +60,11 @@ fn run_machine<O: Sink>(
 ) -> Result<Output, Stop>
     requires within { steps ≤ most_reductions }
     requires first { IsFirst machine.old }
-    ensures leaves { (p : Program) (s : Store) (t : Term) → Begins machine.old.program p s t
+    ensures leaves { (p : Program) (s : Store) (t : Term) → Begins machine.old.origin p s t
         → Leaves (λ reply. reply ≡ run_reply (trap_reply_of origin.entry) false (Run p s t steps)) result
         (Grew (O.held out.old) (O.held out.new)) (Rose (O.faults out.old) (O.faults out.new)) }
     ensures after { IsReply result → IsAfter machine.new steps }
-    ensures program { machine.new.program ≡ machine.old.program }
+    ensures origin { machine.new.origin ≡ machine.old.origin }
     ensures later { O.faults out.old ≤ O.faults out.new }
 {
     match machine.run(steps, out) {
@@ -90,7 +90,7 @@ fn with_stats(
     machine: &Machine,
     answer: Result<Output, Stop>,
 ) -> Result<Output, Stop>
-    ensures asked { stats ≡ true → (p : Program) (s : Store) (t : Term) (steps : ℕ) → Begins machine.now.program p s t
+    ensures asked { stats ≡ true → (p : Program) (s : Store) (t : Term) (steps : ℕ) → Begins machine.now.origin p s t
         → (IsReply answer → IsAfter machine.now steps) → WritesMore (the_stats_line (Run p s t steps)) answer result }
     ensures unasked { stats ≡ false → result ≡ answer }
 {
@@ -119,7 +119,7 @@ fn run_from<O: Sink>(
 ) -> Result<Output, Stop>
     requires within { steps ≤ most_reductions }
     requires first { BeginsWith checked instance.store instance.main }
-    ensures leaves { (p : Program) (s : Store) (t : Term) → Begins checked p s t
+    ensures leaves { (p : Program) (s : Store) (t : Term) → Begins (origin_of checked instance.main) p s t
         → Leaves (λ reply. reply ≡ run_reply (trap_reply_of origin.entry) stats (Run p s t steps)) result
         (Grew (O.held out.old) (O.held out.new)) (Rose (O.faults out.old) (O.faults out.new)) }
     ensures later { O.faults out.old ≤ O.faults out.new }

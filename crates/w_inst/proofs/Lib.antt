@@ -5,7 +5,7 @@ pub mod ConstantCode
 pub mod AddedItems
 pub mod RoomInModules
 pub mod FoundValues
-pub mod FirstStore
+pub mod AllocatedStores
 pub mod SegmentCopies
 pub mod InOrder
 pub mod FirstTerms

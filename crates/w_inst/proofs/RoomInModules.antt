@@ -1,8 +1,8 @@
 -- What a sound module within its limits has room for, and that its expressions are constant.
-use Rattle.std.proofs.Common.{◌≡◌, ℕ, zero, suc, ◌<◌, ◌≤◌, List, [], ◌∷◌, length, get_or, map, refl, sym, ap, ◌∙◌, subst, arith}
-use Rattle.std.specs.Prelude.{Bool, true, false, if◌then◌else◌, nat_le, All, IfSome, Option, Some, None}
+use Rattle.std.proofs.Common.{◌≡◌, ℕ, zero, suc, ◌+◌, ◌<◌, ◌≤◌, List, [], ◌∷◌, length, get_or, map, refl, sym, ap, ◌∙◌, subst, arith}
+use Rattle.std.specs.Prelude.{Bool, true, false, if◌then◌else◌, nat_le, All, IfSome, Option, Some, None, slice_get}
 use Rattle.std.proofs.lemmas.List.Elements.{All-get_or, All-weaker}
-use Rattle.std.proofs.lemmas.Option.{get_or_from_slice_get}
+use Rattle.std.proofs.lemmas.Option.{get_or_from_slice_get, slice_get-get_or, slice_get_within}
 use Rattle.w_memory.specs.Memory.{page_limit}
 use Rattle.w_tables.specs.Elements.{table_limit}
 use Rattle.w_syntax.specs.Code.{Code}
@@ -28,6 +28,8 @@ use Rattle.w_reduce.specs.declared.limit.StartLimit.TheVariants as limit
 use Rattle.w_reduce.specs.Start.{none_above, exceeded}
 use Rattle.w_inst.specs.Constants.{IsConstant}
 use Rattle.w_inst.proofs.ConstantCode.{each}
+use Rattle.w_inst.proofs.InOrder.{whole_part}
+use Rattle.w_inst.specs.Instances.{IsPart}
 use Rattle.w_inst.specs.Segments.{IsElemConstant, IsDataConstant}
 
 -- ## Limits
@@ -124,27 +126,30 @@ pub record ElementConstant (e : Elem) : Type 0 where
   pub items : All IsConstant e.items
   pub mode : IsElemConstant e.mode
 
--- the element segment at a place
-pub element_constant : (m : Module) (xs : List Elem) (i : ℕ) (d : Elem) → Sound m → xs ≡ m.elements → i < length xs → d ≡ get_or xs i d → ElementConstant d
-element_constant m xs i d v e h f =
-    let P : List Elem → Type 0 = λ l. i < length l in
-    let w = v.items (ElementItem i) refl (subst P e h) in
-    let same = sym (get_or_from_slice_get m.elements i w.element d w.is) ∙ ap (λ (l : List Elem). get_or l i d) (sym e) ∙ sym f in
+-- the element segment at a place of a part of them
+pub element_constant : (m : Module) (part : List Elem) (from i : ℕ) (d : Elem) → Sound m → IsPart from part m.elements → i < length part → d ≡ get_or part i d → ElementConstant d
+element_constant m part from i d v is h f =
+    let there : slice_get m.elements (from + i) ≡ Some d = sym (is i h) ∙ slice_get-get_or part i d h ∙ ap Some (sym f) in
+    let w = v.items (ElementItem (from + i)) refl (slice_get_within m.elements (from + i) d there) in
+    let same : w.element ≡ d = let a = w.is in cc in
     subst ElementConstant same (record {
       items = All-weaker (λ (k : Code). ConstTyped (context_of m) k (Ref w.element.kind)) IsConstant (λ k t. constant_typed _ _ _ t) w.element.items w.items;
       mode = elem_constant m w.element.kind w.element.mode w.mode;
     })
+
+-- the same of one at a place of all
+pub element_constant_at : (m : Module) (xs : List Elem) (i : ℕ) (d : Elem) → Sound m → xs ≡ m.elements → i < length xs → d ≡ get_or xs i d → ElementConstant d
+element_constant_at m xs i d v e h f = element_constant m xs 0 i d v (whole_part xs m.elements e) h f
 
 -- so is the offset of an active segment
 data_constant : (m : Module) (o : DataMode) → IsDataModeValid m o → IsDataConstant o
 data_constant m (data_mode.Active x k) h = constant_typed _ _ _ h.1
 data_constant m data_mode.Passive h = tt
 
--- the data segment at a place
-pub offset_constant : (m : Module) (xs : List Data) (i : ℕ) (d : Data) → Sound m → xs ≡ m.datas → i < length xs → d ≡ get_or xs i d → IsDataConstant d.mode
-offset_constant m xs i d v e h f =
-    let P : List Data → Type 0 = λ l. i < length l in
-    let w = v.items (DataItem i) refl (subst P e h) in
-    let Q : Data → Type 0 = λ x. IsDataConstant x.mode in
-    let same = sym (get_or_from_slice_get m.datas i w.segment d w.is) ∙ ap (λ (l : List Data). get_or l i d) (sym e) ∙ sym f in
-    subst Q same (data_constant m w.segment.mode w.mode)
+-- the data segment at a place of a part of them
+pub offset_constant : (m : Module) (part : List Data) (from i : ℕ) (d : Data) → Sound m → IsPart from part m.datas → i < length part → d ≡ get_or part i d → IsDataConstant d.mode
+offset_constant m part from i d v is h f =
+    let there : slice_get m.datas (from + i) ≡ Some d = sym (is i h) ∙ slice_get-get_or part i d h ∙ ap Some (sym f) in
+    let w = v.items (DataItem (from + i)) refl (slice_get_within m.datas (from + i) d there) in
+    let same : w.segment ≡ d = let a = w.is in cc in
+    subst (λ (x : Data). IsDataConstant x.mode) same (data_constant m w.segment.mode w.mode)

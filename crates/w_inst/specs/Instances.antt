@@ -1,5 +1,5 @@
 -- What instantiation answers, and what holds on the way.
-use Rattle.std.specs.Prelude.{◌≡◌, ℕ, ◌≤◌, List, length, option_map, Result, Ok, Err, slice_get}
+use Rattle.std.specs.Prelude.{◌≡◌, ℕ, ◌+◌, ◌<◌, ◌≤◌, List, length, option_map, Result, Ok, Err, slice_get}
 use Rattle.w_types.specs.declared.value.Value.{Value}
 use Rattle.w_syntax.specs.declared.module.Elem.{Elem}
 use Rattle.w_syntax.specs.declared.module.Module.{Module}
@@ -20,6 +20,10 @@ pub record StandsFor (m : Module) (gs : List Value) (n : ℕ) (s : instances.Sto
   pub memories : length s.memories ≡ length m.memories
   pub elements : length s.elems ≡ length m.elements
   pub datas : length s.datas ≡ length m.datas
+
+-- these are the items from this place on
+abbrev pub IsPart : {A : Type 0} → ℕ → List A → List A → Type 0
+IsPart first part all = (j : ℕ) → j < length part → slice_get part j ≡ slice_get all (first + j)
 
 -- from this one on, each element segment has as many values as items
 abbrev pub SegmentsFrom : Module → ℕ → instances.Store → Type 0

@@ -74,7 +74,7 @@ fn entry_of(program: &Module, what: ExternIndex) -> Option<u32>
 }
 
 /// The entry: the function that is exported as main, where its type is `[]` to integers.
-pub(crate) fn entry(program: &Module) -> Option<u32>
+pub fn entry(program: &Module) -> Option<u32>
     ensures { result ≡ start.entry program.now }
 {
     for export in program.exports.as_slice() {

@@ -16,11 +16,11 @@ use w_types::Value;
 
 /// The store that a run begins with, before active segments are copied, and what constant expressions see of it.
 #[derive(Drop)]
-pub(crate) struct FirstStore {
-    pub(crate) store: Store,
+pub struct FirstStore {
+    pub store: Store,
     /// How many functions it has.
-    pub(crate) functions: usize,
-    pub(crate) globals: Vec<Value>,
+    pub functions: usize,
+    pub globals: Vec<Value>,
 }
 
 // Adds what asks for no value.
@@ -70,7 +70,7 @@ fn add_all(
 
 /// Allocates what a module defines, behind the functions of the host that it imports (Core, execution, allocation of modules). It fails
 /// only for want of memory.
-pub(crate) fn allocate(
+pub fn allocate(
     alloc: Global,
     program: &Module,
     printers: &[Printer],

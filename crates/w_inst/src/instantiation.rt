@@ -70,10 +70,13 @@ pub fn instantiate(alloc: Global, checked: &Checked) -> Result<Instance, InstFau
         functions,
         globals,
     } = allocate(alloc, program, printers.as_slice())?;
-    if !start_elements(alloc, &mut store, program, globals.as_slice(), functions)? {
+    let globals = globals.as_slice();
+    let elements = program.elements.as_slice();
+    let datas = program.datas.as_slice();
+    if !start_elements(alloc, &mut store, program, elements, 0, globals, functions)? {
         return Err(InstFault::Trap(Trap::TableOutOfBounds));
     }
-    if !start_datas(alloc, &mut store, program, globals.as_slice(), functions)? {
+    if !start_datas(alloc, &mut store, program, datas, 0, globals, functions)? {
         return Err(InstFault::Trap(Trap::MemoryOutOfBounds));
     }
     Ok(Instance { store, main })

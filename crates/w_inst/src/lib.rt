@@ -12,4 +12,9 @@ mod segments;
 mod starting;
 mod values;
 
+pub use exports::entry;
+pub use first_store::{FirstStore, allocate};
 pub use instantiation::{InstFault, Instance, instantiate};
+pub use limits::exceeded;
+pub use printers::{Imports, find_printers, printer_of};
+pub use starting::{start_datas, start_elements};

@@ -40,7 +40,7 @@ fn are_tables_within(tables: &[Table]) -> bool
 }
 
 /// The limit that a module passes at first, memories before tables (Core, appendix, implementation limitations).
-pub(crate) fn exceeded(program: &Module) -> Option<StartLimit>
+pub fn exceeded(program: &Module) -> Option<StartLimit>
     ensures { result ≡ start.exceeded program.now }
 {
     if !are_memories_within(program.memories.as_slice()) {

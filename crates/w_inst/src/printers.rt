@@ -12,7 +12,7 @@ use w_types::{FuncType, PackedType, ValType};
 
 /// What the imports of a module come to: a function of the host for each of them, or the number of the first that names none.
 #[derive(Drop)]
-pub(crate) enum Imports {
+pub enum Imports {
     All(Vec<Printer>),
     Missing(usize),
 }
@@ -95,8 +95,8 @@ fn printer_as(program: &Module, name: &str, kind: ExternType) -> Option<Printer>
     }
 }
 
-// The function of the host that an import names.
-fn printer_of(program: &Module, import: &Import) -> Option<Printer>
+/// The function of the host that an import names, where it names one of its type (Core, execution, instantiation).
+pub fn printer_of(program: &Module, import: &Import) -> Option<Printer>
     ensures { result ≡ imports.printer_of program.now import.now }
 {
     if import.module_name.as_str() == "host" {
@@ -108,7 +108,7 @@ fn printer_of(program: &Module, import: &Import) -> Option<Printer>
 
 /// The functions of the host that the imports of a module name, in order, or the number of the first import that names none (Core,
 /// execution, instantiation). It fails only for want of memory.
-pub(crate) fn find_printers(alloc: Global, program: &Module) -> Result<Imports, AllocError>
+pub fn find_printers(alloc: Global, program: &Module) -> Result<Imports, AllocError>
     ensures found { IfOk result (λ found. imports.printers_of program.now program.now.imports ≡ found_of found) }
 {
     let mut printers = Vec::new(alloc);

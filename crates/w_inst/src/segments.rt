@@ -127,6 +127,7 @@ fn put_data(store: &mut Store, memory: u32, segment: u32, at: u32, memories: usi
     requires memories { memories ≡ length store.old.memories }
     ensures copied { DataCopied store.old memory segment at result store.new }
     ensures keeps { IfWent result (KeepsSizes store.old store.new) }
+    ensures elements { IfWent result (store.new.elems ≡ store.old.elems) }
 {
     if memory as usize >= memories {
         return false;
@@ -154,6 +155,7 @@ pub(crate) fn start_data(
     requires sees { Sees globals.now functions (store_of store.old) }
     ensures started { IfOk result (λ went. (p : Program) → start.data_started p (store_of store.old) segment mode.now ≡ left_by_copy went store.new) }
     ensures keeps { IfOk result (λ went. IfWent went (KeepsSizes store.old store.new)) }
+    ensures elements { IfOk result (λ went. IfWent went (store.new.elems ≡ store.old.elems)) }
 {
     match mode {
         DataMode::Active(memory, offset) => {

@@ -32,6 +32,7 @@ use Rattle.w_machine.specs.declared.outcome.RunStop.TheVariants as run_stop
 use Rattle.w_machine.specs.Parts.{Parts, parts}
 use Rattle.w_machine.specs.Standing.{IsLast, Stands, StandsSomewhere}
 use Rattle.w_machine.specs.Reducing.{PartsReduce, IsPlainAt}
+use Rattle.w_machine.specs.Beginning.{Origin}
 use Rattle.w_machine.specs.Reached.{IsReached}
 use Rattle.w_machine.specs.AttemptedStep.{SameButRoom, AttemptsStep}
 use Rattle.w_machine.specs.Position.{IsNoFault, is_fault}
@@ -72,7 +73,7 @@ last_same s [] h l = l
 last_same s (x ∷ xs) h l = (l.0, sym h.stage ∙ l.1)
 
 -- the parts stand where they stood
-pub stands_same : {m : Module} {waiting : Option ℕ} {x : Parts} {p : Program} {ks : List (Option Continuation)} {t : Term} (s : Shape) → Roomier (top x.chain).shape s
+pub stands_same : {m : Module} {waiting : List ℕ} {x : Parts} {p : Program} {ks : List (Option Continuation)} {t : Term} (s : Shape) → Roomier (top x.chain).shape s
     → Stands m waiting x p ks t → Stands m waiting (parts x.store (with_top s x.chain) x.conts) p ks t
 stands_same {m = m} {x = x} s roomier h = let same = roomier.same in record {
   stand = record {
@@ -100,8 +101,8 @@ none_there None e = refl
 none_there (Some k) e = absurd (cc)
 
 -- and for the run that they stood for
-reached_same : {m : Module} {functions : List ℕ} {x : Parts} {waiting : Option (Box Segment Global)} {n a b : ℕ} (s : Shape) → Roomier (top x.chain).shape s
-    → IsReached m functions x waiting None n a b → IsReached m functions (parts x.store (with_top s x.chain) x.conts) waiting None n a b
+reached_same : {from : Origin} {functions : List ℕ} {x : Parts} {waiting : List (Box Segment Global)} {n a b : ℕ} (s : Shape) → Roomier (top x.chain).shape s
+    → IsReached from functions x waiting None n a b → IsReached from functions (parts x.store (with_top s x.chain) x.conts) waiting None n a b
 reached_same {x = x} s same h = record {
   functions_are = h.functions_are;
   fresh = h.fresh;
@@ -112,14 +113,14 @@ reached_same {x = x} s same h = record {
   reached = λ p s₀ t₀ begins. let at = h.reached p s₀ t₀ begins in record { ks = at.ks; t = at.t; stands = stands_same s same at.stands; is = at.is };
 }
 
-pub still_reached : {m : Module} {functions : List ℕ} {x x' : Parts} {waiting : Option (Box Segment Global)} {n a b : ℕ} (k : Option RunStop) → false ≡ is_some k
-    → IsReached m functions x waiting k n a b → SameButRoom x x' → IsReached m functions x' waiting k n a b
-still_reached {m = m} {functions = functions} {x = x} {x' = x'} {waiting = waiting} {n = n} {a = a} {b = b} k none h r =
+pub still_reached : {from : Origin} {functions : List ℕ} {x x' : Parts} {waiting : List (Box Segment Global)} {n a b : ℕ} (k : Option RunStop) → false ≡ is_some k
+    → IsReached from functions x waiting k n a b → SameButRoom x x' → IsReached from functions x' waiting k n a b
+still_reached {from = from} {functions = functions} {x = x} {x' = x'} {waiting = waiting} {n = n} {a = a} {b = b} k none h r =
     let k_none = none_there k none in
-    let before : IsReached m functions x waiting None n a b = subst (λ (o : Option RunStop). IsReached m functions x waiting o n a b) k_none h in
-    let after : IsReached m functions (parts x.store (with_top r.shape x.chain) x.conts) waiting None n a b = reached_same r.shape r.same before in
-    subst (λ (o : Option RunStop). IsReached m functions x' waiting o n a b) (sym k_none)
-    (subst (λ (y : Parts). IsReached m functions y waiting None n a b) (sym r.is) after)
+    let before : IsReached from functions x waiting None n a b = subst (λ (o : Option RunStop). IsReached from functions x waiting o n a b) k_none h in
+    let after : IsReached from functions (parts x.store (with_top r.shape x.chain) x.conts) waiting None n a b = reached_same r.shape r.same before in
+    subst (λ (o : Option RunStop). IsReached from functions x' waiting o n a b) (sym k_none)
+    (subst (λ (y : Parts). IsReached from functions y waiting None n a b) (sym r.is) after)
 
 -- ## What it came to
 

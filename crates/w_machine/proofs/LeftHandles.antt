@@ -100,9 +100,9 @@ last_there : {m : Module} {behind : Rest} {chain : List Link} {e : Context} {vs 
 last_there (only h q) one b = let w = values_there h b in (w.0, w.1, q)
 last_there (around h q clauses c k) one b = absurd (omega (arith, one))
 
-ended_there : (p : Program) (u : Store) (vs : Row Val) (waiting : Option ℕ) → waiting ≡ None → limited (next p u [] vs (behind_of waiting).ahead (behind_of waiting).code) ≡ Ended vs
-ended_there p u vs None e = refl
-ended_there p u vs (Some a) e = absurd (cc)
+ended_there : (p : Program) (u : Store) (vs : Row Val) (waiting : List ℕ) → waiting ≡ [] → limited (next p u [] vs (behind_of waiting).ahead (behind_of waiting).code) ≡ Ended vs
+ended_there p u vs [] e = refl
+ended_there p u vs (f ∷ fs) e = absurd (cc)
 
 -- where one segment is left, and that is values, the term is
 pub reduces_ended : {m : Module} {x : Parts} {before : Option (List ℕ)} → length x.chain ≡ 1 → (top x.chain).shape.stage ≡ Values → PartsReduce (Some run_stop.Ended) m x x before before

@@ -10,6 +10,7 @@ pub mod SwitchedStacks
 pub mod LeftHandles
 pub mod OneMoreReduction
 pub mod NoReferences
+pub mod FirstStores
 pub mod RunsGoOn
 pub mod StoppedMachines
 pub mod Machines

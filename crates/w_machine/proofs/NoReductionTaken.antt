@@ -35,7 +35,7 @@ use Rattle.w_machine.specs.declared.outcome.RunStop.TheVariants as run_stop
 use Rattle.w_machine.specs.Parts.{Parts, whole}
 use Rattle.w_machine.specs.Standing.{behind_of, IsLast, Stands}
 use Rattle.w_machine.specs.Reducing.{end_by, end_at}
-use Rattle.w_machine.specs.Beginning.{Begins}
+use Rattle.w_machine.specs.Beginning.{Origin, Begins}
 use Rattle.w_machine.specs.Position.{Position, is_fault, with_stop, IsStoppedBy, IsNoFault, StopsIfEnded}
 use Rattle.w_machine.specs.Reached.{waiting_of, EndsAt, Counts, IsReached}
 use Rattle.w_machine.proofs.OneMoreReduction.{reduces_safely, last_there, is_last_true}
@@ -62,7 +62,7 @@ none_last stage.Body xs at e h = let s = h.1 in absurd (cc)
 none_last stage.Fresh xs at e h = let s = h.1 in absurd (cc)
 none_last (stage.Branch l) xs at e h = let s = h.1 in absurd (cc)
 
-nothing_left : (p : Program) (u : Store) (t : Term) (waiting : Option ℕ) → t.around ≡ [] → t.rest ≡ behind_of waiting → waiting ≡ None → reduce p u t ≡ Ended t.operands
+nothing_left : (p : Program) (u : Store) (t : Term) (waiting : List ℕ) → t.around ≡ [] → t.rest ≡ behind_of waiting → waiting ≡ [] → reduce p u t ≡ Ended t.operands
 nothing_left p u t waiting outer behind none =
     ap (λ (e : Context). limited (next p u e t.operands t.rest.ahead t.rest.code)) outer
     ∙ ap (λ (r : Rest). limited (next p u [] t.operands r.ahead r.code)) (behind ∙ ap behind_of none)
@@ -128,14 +128,14 @@ inside_more {r = r} (left h k w) = around_more r w
 inside_more (fresh h k) = refl
 inside_more (values h k) = refl
 
-alone_more : {m : Module} (waiting : Option ℕ) {s : Shape} {e : Context} {r : Rest} → StackIs m [] (behind_of waiting) s e r → (s.stage ≡ stage.Values → ⊥) → is_end e r.ahead r.code ≡ false
+alone_more : {m : Module} (waiting : List ℕ) {s : Shape} {e : Context} {r : Rest} → StackIs m [] (behind_of waiting) s e r → (s.stage ≡ stage.Values → ⊥) → is_end e r.ahead r.code ≡ false
 alone_more waiting {r = r} (body h k w) not = around_more r w
 alone_more waiting {r = r} (left h k w) not = around_more r w
 alone_more waiting (fresh h k) not = refl
 alone_more waiting (values h k) not = absurd (not h)
 
 -- where more than one segment is left, or one that isn't values, something is left
-more_left : {m : Module} (waiting : Option ℕ) {xs : List Link} {e : Context} {vs : Row Val} {r : Rest} → Chained m [] (behind_of waiting) xs e vs r → (IsLast xs → ⊥)
+more_left : {m : Module} (waiting : List ℕ) {xs : List Link} {e : Context} {vs : Row Val} {r : Rest} → Chained m [] (behind_of waiting) xs e vs r → (IsLast xs → ⊥)
     → is_end e r.ahead r.code ≡ false
 more_left waiting (only i v) not = alone_more waiting i (λ h. not (refl, h))
 more_left waiting (around i v c g k) not = inside_more i
@@ -147,7 +147,7 @@ safe_running is_limited never = refl
 safe_running (ends {vs = vs} h) never = absurd (never vs refl)
 
 -- a rule applies
-still_running : {m : Module} {waiting : Option ℕ} {x : Parts} {p : Program} {ks : List (Option Continuation)} {t : Term} → Sound m → Stands m waiting x p ks t → (IsLast x.chain → ⊥)
+still_running : {m : Module} {waiting : List ℕ} {x : Parts} {p : Program} {ks : List (Option Continuation)} {t : Term} → Sound m → Stands m waiting x p ks t → (IsLast x.chain → ⊥)
     → outcome_by (reduce p (whole x.store ks) t) ≡ Running
 still_running {waiting = waiting} {x = x} {p = p} {ks = ks} {t = t} sound h not =
     safe_running (reduces_safely sound h) (λ vs is.
@@ -157,8 +157,8 @@ still_running {waiting = waiting} {x = x} {p = p} {ks = ks} {t = t} sound h not 
 
 -- ## Of a machine
 
-module _ {m : Module} {functions : List ℕ} {x : Parts} {waiting : Option (Box Segment Global)} {n a b : ℕ} (h : IsReached m functions x waiting None n a b) where
-  stop_outcome : (p : Program) (s₀ : Store) (t₀ : Term) → Begins m p s₀ t₀ → IsLast x.chain
+module _ {from : Origin} {functions : List ℕ} {x : Parts} {waiting : List (Box Segment Global)} {n a b : ℕ} (h : IsReached from functions x waiting None n a b) where
+  stop_outcome : (p : Program) (s₀ : Store) (t₀ : Term) → Begins from p s₀ t₀ → IsLast x.chain
       → EndsAt run_stop.Ended x.chain (Run p s₀ t₀ n).outcome × ((Run p s₀ t₀ n).taken ≡ n) × Counts (Run p s₀ t₀ n) (length x.conts.entries) (live_of x.conts)
   stop_outcome p s₀ t₀ begins last =
       let at = h.reached p s₀ t₀ begins in
@@ -167,7 +167,7 @@ module _ {m : Module} {functions : List ℕ} {x : Parts} {waiting : Option (Box 
       (outcome_here p at.is ∙ ap outcome_by (ended ∙ ap Ended (top_operands at.stands.stand.term)), taken_is p at.is, counts_here p s₀ t₀ at refl)
 
   -- where it stops it keeps that
-  end_reached : IsLast x.chain → IsReached m functions x waiting (Some run_stop.Ended) n (length x.conts.entries) (live_of x.conts)
+  end_reached : IsLast x.chain → IsReached from functions x waiting (Some run_stop.Ended) n (length x.conts.entries) (live_of x.conts)
   end_reached last = record {
     functions_are = h.functions_are;
     fresh = h.fresh;
@@ -179,12 +179,12 @@ module _ {m : Module} {functions : List ℕ} {x : Parts} {waiting : Option (Box 
   }
 
   -- and so it keeps that it has
-  pub some_reached : (k : RunStop) → Some k ≡ end_at x.chain → IsReached m functions x waiting (Some k) n (length x.conts.entries) (live_of x.conts)
+  pub some_reached : (k : RunStop) → Some k ≡ end_at x.chain → IsReached from functions x waiting (Some k) n (length x.conts.entries) (live_of x.conts)
   some_reached k e =
       let l = ended_last (top x.chain).shape.stage x.chain k refl e in
-      subst (λ (y : RunStop). IsReached m functions x waiting (Some y) n (length x.conts.entries) (live_of x.conts)) (sym l.1) (end_reached l.0)
+      subst (λ (y : RunStop). IsReached from functions x waiting (Some y) n (length x.conts.entries) (live_of x.conts)) (sym l.1) (end_reached l.0)
 
-  stops_there : Sound m → (r : Option RunStop) → r ≡ end_at x.chain → (p : Program) (s₀ : Store) (t₀ : Term) → Begins m p s₀ t₀ → IsStoppedBy (Run p s₀ t₀ n) r
+  stops_there : Sound from.source → (r : Option RunStop) → r ≡ end_at x.chain → (p : Program) (s₀ : Store) (t₀ : Term) → Begins from p s₀ t₀ → IsStoppedBy (Run p s₀ t₀ n) r
   stops_there sound None e p s₀ t₀ begins =
       let at = h.reached p s₀ t₀ begins in
       outcome_here p at.is ∙ still_running sound at.stands (none_last (top x.chain).shape.stage x.chain refl e)
@@ -196,37 +196,37 @@ no_fault None xs e = tt
 no_fault (Some k) xs e = let l = ended_last (top xs).shape.stage xs k refl e in subst (λ (x : RunStop). is_fault x ≡ false) (sym l.1) refl
 
 -- with a machine's own fields
-module _ {m : Module} {functions : List ℕ} {x : Parts} {waiting : Option (Box Segment Global)} {n a b : ℕ} (k : Option RunStop) (r : Option RunStop) (q : Position)
-    (view : record { program = m; taken = n; stop = k } ≡ q) (none : q.stop ≡ None) (result_is : r ≡ end_at x.chain) (h : IsReached m functions x waiting k n a b) where
+module _ {from : Origin} {functions : List ℕ} {x : Parts} {waiting : List (Box Segment Global)} {n a b : ℕ} (k : Option RunStop) (r : Option RunStop) (q : Position)
+    (view : record { origin = from; taken = n; stop = k } ≡ q) (none : q.stop ≡ None) (result_is : r ≡ end_at x.chain) (h : IsReached from functions x waiting k n a b) where
   was_none : k ≡ None
   was_none = ap (λ (x : Position). x.stop) view ∙ none
 
-  none_reached : IsReached m functions x waiting None n a b
-  none_reached = subst (λ (o : Option RunStop). IsReached m functions x waiting o n a b) was_none h
+  none_reached : IsReached from functions x waiting None n a b
+  none_reached = subst (λ (o : Option RunStop). IsReached from functions x waiting o n a b) was_none h
 
   -- it keeps whether it has, with how many continuations there are
-  pub stop_reached : (c d : ℕ) → true ≡ is_some r → c ≡ length x.conts.entries → d ≡ live_of x.conts → IsReached m functions x waiting r n c d
+  pub stop_reached : (c d : ℕ) → true ≡ is_some r → c ≡ length x.conts.entries → d ≡ live_of x.conts → IsReached from functions x waiting r n c d
   stop_reached c d some made live = by r some result_is
     where
-      by : (o : Option RunStop) → true ≡ is_some o → o ≡ end_at x.chain → IsReached m functions x waiting o n c d
+      by : (o : Option RunStop) → true ≡ is_some o → o ≡ end_at x.chain → IsReached from functions x waiting o n c d
       by None e t = absurd (cc)
       by (Some y) e t =
-          subst (λ (u : ℕ). IsReached m functions x waiting (Some y) n u d) (sym made)
-          (subst (λ (v : ℕ). IsReached m functions x waiting (Some y) n (length x.conts.entries) v) (sym live) (some_reached none_reached y t))
+          subst (λ (u : ℕ). IsReached from functions x waiting (Some y) n u d) (sym made)
+          (subst (λ (v : ℕ). IsReached from functions x waiting (Some y) n (length x.conts.entries) v) (sym live) (some_reached none_reached y t))
 
-  stops_all : Sound m → (p : Program) (s₀ : Store) (t₀ : Term) → Begins q.program p s₀ t₀ → IsStoppedBy (Run p s₀ t₀ q.taken) r
-  stops_all sound = subst (λ (x : Position). (p : Program) (s₀ : Store) (t₀ : Term) → Begins x.program p s₀ t₀ → IsStoppedBy (Run p s₀ t₀ x.taken) r) view (stops_there none_reached sound r result_is)
+  stops_all : Sound from.source → (p : Program) (s₀ : Store) (t₀ : Term) → Begins q.origin p s₀ t₀ → IsStoppedBy (Run p s₀ t₀ q.taken) r
+  stops_all sound = subst (λ (x : Position). (p : Program) (s₀ : Store) (t₀ : Term) → Begins x.origin p s₀ t₀ → IsStoppedBy (Run p s₀ t₀ x.taken) r) view (stops_there none_reached sound r result_is)
 
   -- it has ended
-  pub stops_some : Sound m → true ≡ is_some r → StopsIfEnded q r (record { program = m; taken = n; stop = r })
-  stops_some sound some = (subst (λ (x : Position). record { program = m; taken = n; stop = r } ≡ with_stop x r) view (after_some r some), no_fault r x.chain result_is, stops_all sound)
+  pub stops_some : Sound from.source → true ≡ is_some r → StopsIfEnded q r (record { origin = from; taken = n; stop = r })
+  stops_some sound some = (subst (λ (x : Position). record { origin = from; taken = n; stop = r } ≡ with_stop x r) view (after_some r some), no_fault r x.chain result_is, stops_all sound)
     where
-      after_some : (o : Option RunStop) → true ≡ is_some o → record { program = m; taken = n; stop = o } ≡ with_stop (record { program = m; taken = n; stop = k }) o
+      after_some : (o : Option RunStop) → true ≡ is_some o → record { origin = from; taken = n; stop = o } ≡ with_stop (record { origin = from; taken = n; stop = k }) o
       after_some (Some x) e = refl
       after_some None e = absurd (cc)
 
   -- nothing is
-  pub stops_none : Sound m → false ≡ is_some r → StopsIfEnded q r q
+  pub stops_none : Sound from.source → false ≡ is_some r → StopsIfEnded q r q
   stops_none sound e = (after_none r e, no_fault r x.chain result_is, stops_all sound)
     where
       after_none : (o : Option RunStop) → false ≡ is_some o → q ≡ with_stop q o

@@ -1,5 +1,5 @@
 -- Where a run begins no value refers to a continuation.
-use Rattle.std.proofs.Common.{◌≡◌, ℕ, true, List, [], ◌∷◌, map, refl}
+use Rattle.std.proofs.Common.{◌≡◌, true, List, [], ◌∷◌, map, refl}
 use Rattle.w_types.specs.declared.types.ValType.{ValType}
 use Rattle.w_types.specs.declared.types.RefType.{RefType}
 use Rattle.w_types.specs.declared.value.Value.{Value}
@@ -7,9 +7,6 @@ use Rattle.w_types.specs.declared.value.Value.TheVariants as value
 use Rattle.w_syntax.specs.declared.module.GlobalType.{GlobalType}
 use Rattle.w_syntax.specs.declared.module.Module.{Module}
 use Rattle.w_syntax.specs.declared.module.TableType.{TableType}
-use Rattle.w_canon.specs.declared.entry.Entry.{Entry}
-use Rattle.w_canon.specs.IsClassesOf.{IsClassesOf}
-use Rattle.w_rules.specs.Sound.{Sound}
 use Rattle.w_tables.specs.Store as instances
 use Rattle.w_segment.specs.Holds.{AllOf}
 use Rattle.w_reduce.specs.Values.{val}
@@ -17,10 +14,7 @@ use Rattle.w_stands.specs.Values.{vals, table_of, store_of}
 use Rattle.w_stands.specs.Keeps.{TablesHold, SegmentsHold, StoreHolds}
 use Rattle.w_typed.specs.Values.{ValueTyped, a_continuation, AllTyped}
 use Rattle.w_typed.specs.Stores.{Instances, no_instance, instances as more_instances, TableTyped, GlobalTyped, SegmentTyped, StoreTyped}
-use Rattle.w_typed.proofs.FirstConfigurations.{starts_typed}
 use Rattle.w_switching.specs.Sound.{is_of}
-use Rattle.w_machine.specs.Beginning.{BeginsWith}
-use Rattle.w_machine.proofs.OneMoreReduction.{program_by, is_program}
 
 abbrev pub IsPlain : Value → Type 0
 IsPlain v = is_of (record { entries = []; spare = 0 }) v ≡ true
@@ -49,10 +43,6 @@ segments_plain : {m : Module} (vss : List (List Value)) {rs : List RefType} → 
 segments_plain [] no_instance = tt
 segments_plain (vs ∷ vss) (more_instances h k) = (all_plain _ _ vs h, segments_plain vss k)
 
-store_plain : {m : Module} (u : instances.Store) → StoreTyped m [] (store_of u) → StoreHolds IsPlain u
+-- nor of a store that is typed with no continuation
+pub store_plain : {m : Module} (u : instances.Store) → StoreTyped m [] (store_of u) → StoreHolds IsPlain u
 store_plain u h = record { tables = tables_plain u.tables h.tables; globals = globals_plain u.globals h.globals; segments = segments_plain u.elems h.elements }
-
--- that with which a run begins has none
-pub begins_plain : {m : Module} (es : List Entry) (u : instances.Store) (main : ℕ) → IsClassesOf m.types es → Sound m → BeginsWith m u main → StoreHolds IsPlain u
-begins_plain {m = m} es u main classes sound with_this =
-    store_plain u (starts_typed (program_by m es) _ _ (is_program m es classes) sound (with_this (program_by m es) refl)).typed.store

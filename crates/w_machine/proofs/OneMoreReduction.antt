@@ -9,7 +9,7 @@ use Rattle.w_canon.specs.declared.entry.Entry.{Entry}
 use Rattle.w_canon.specs.IsClassesOf.{IsClassesOf}
 use Rattle.w_canon.specs.Tests.{index_test}
 use Rattle.w_canon.proofs.MatchingTests.{index_decided}
-use Rattle.w_rules.specs.Matching.{known}
+use Rattle.w_rules.specs.Matching.{RowMatches, known}
 use Rattle.w_rules.specs.Operands.{Operand}
 use Rattle.w_rules.specs.Sound.{Sound}
 use Rattle.w_rules.proofs.Preorder.{row_size}
@@ -20,10 +20,11 @@ use Rattle.w_segment.specs.Link.{Link}
 use Rattle.w_segment.specs.Shape.{Shape, Capacity, fresh_shape}
 use Rattle.w_reduce.specs.Values.{Val}
 use Rattle.w_reduce.specs.Store.{Store}
-use Rattle.w_reduce.specs.Terms.{Invoke, Rest, Context, Term, Continuation}
+use Rattle.w_reduce.specs.Terms.{Rest, Context, Term, Continuation}
 use Rattle.w_reduce.specs.Program.{Program, IsProgram}
 use Rattle.w_reduce.specs.Reduced.{Reduced, Went, Trapped, Limited, Ended, Stuck}
 use Rattle.w_reduce.specs.Reduce.{limited, reduce, unless_passed}
+use Rattle.w_reduce.specs.Start.{invokes, first_term}
 use Rattle.w_reduce.specs.Run.{Running, RunState, outcome_by, state_at, after_reduction, continued, Run}
 use Rattle.w_stands.specs.Stands.{StackIs, body, left, fresh, values}
 use Rattle.w_typed.specs.Values.{ValuesTyped, no_values, values as more_values}
@@ -34,7 +35,8 @@ use Rattle.w_typed.specs.Values.{Arrows}
 use Rattle.w_typed.specs.Configurations.{Typed, IsSafe, goes, traps, is_limited, ends}
 use Rattle.w_typed.proofs.Reductions.{reductions_are_safe}
 use Rattle.w_machine.specs.Parts.{Parts, whole}
-use Rattle.w_machine.specs.Standing.{behind_of, EndsWith, IsLast, Stands, StandsSomewhere}
+use Rattle.w_machine.specs.Beginning.{Origin}
+use Rattle.w_machine.specs.Standing.{behind_of, MayWait, IsLast, Stands, StandsSomewhere}
 use Rattle.w_machine.specs.Reached.{waiting_of, is_values, is_last, IsReached}
 use Rattle.w_reduce.specs.Limits.{passed, IsWithin}
 use Rattle.w_reduce.specs.declared.limit.RunLimit.{RunLimit}
@@ -51,12 +53,13 @@ pub is_program : (m : Module) (es : List Entry) → IsClassesOf m.types es → I
 is_program m es h i j = index_decided m.types es h i j
 
 -- a machine that keeps no outcome stands for a configuration
-pub stands_somewhere : {m : Module} {functions : List ℕ} {x : Parts} {waiting : Option (Box Segment Global)} {n a b : ℕ} (es : List Entry) → IsClassesOf m.types es
-    → IsReached m functions x waiting None n a b → StandsSomewhere m x
-stands_somewhere {m = m} {waiting = waiting} es classes h =
-    let p = program_by m es in
-    let start = h.started p refl in
-    let at = h.reached p start.0 start.1 (record { source = refl; program = is_program m es classes; start = start.2 }) in
+pub stands_somewhere : {from : Origin} {functions : List ℕ} {x : Parts} {waiting : List (Box Segment Global)} {n a b : ℕ} (es : List Entry) → IsClassesOf from.source.types es
+    → IsReached from functions x waiting None n a b → StandsSomewhere from.source x
+stands_somewhere {from = from} {waiting = waiting} es classes h =
+    let p = program_by from.source es in
+    let program = is_program from.source es classes in
+    let start = h.started p refl program in
+    let at = h.reached p start.0 (first_term from.starts from.main) (record { source = refl; program = program; store = start.1; term = refl }) in
     record { waiting = waiting_of waiting; p = p; ks = at.ks; t = at.t; stands = at.stands }
 
 -- ## What a reduction that was taken leaves
@@ -89,7 +92,7 @@ limited_within (Limited l) text v t is = absurd (cc)
 limited_within (Ended vs) text v t is = absurd (cc)
 limited_within Stuck text v t is = absurd (cc)
 
-module _ {m : Module} {waiting : Option ℕ} {x : Parts} {p : Program} {ks : List (Option Continuation)} {t : Term} (sound : Sound m) (h : Stands m waiting x p ks t) where
+module _ {m : Module} {waiting : List ℕ} {x : Parts} {p : Program} {ks : List (Option Continuation)} {t : Term} (sound : Sound m) (h : Stands m waiting x p ks t) where
   -- the reduction is safe
   pub reduces_safely : IsSafe p.source h.arrows h.results (reduce p (whole x.store ks) t)
   reduces_safely =
@@ -100,7 +103,7 @@ module _ {m : Module} {waiting : Option ℕ} {x : Parts} {p : Program} {ks : Lis
   pub went_typed : {text : List ℕ} {v : Store} {u : Term} → reduce p (whole x.store ks) t ≡ Went text v u → SomehowTyped m h.results v u
   went_typed {v = v} {u = u} went = subst (λ (n : Module). SomehowTyped n h.results v u) h.stand.source (safe_went reduces_safely went)
 
--- ## Main's turn
+-- ## The turn of the next one
 
 size_beside : (xs ys : Row Operand) → size (xs ⧺ ys) ≡ size xs + size ys
 size_beside xs ε = omega arith
@@ -116,20 +119,30 @@ outside_size m {us = us} {out = out} (outside r) = row_size m.types out us r
 done_size : (m : Module) {c : Scope} {set : List Bool} {ts out : Row Operand} → RestTyped m c set [] Done ts out → size ts ≡ size out
 done_size m {ts = ts} {out = out} (code_alone h) = row_size m.types ts out h.derives
 
--- before main's invoke, with nothing around it, there are no operands
-invoke_alone : (m : Module) {K : Arrows} {us : Row Operand} {main : ℕ} {vs : Row Val} {c : Scope} {set now : List Bool} {ts out : Row Operand} → EndsWith m us main → ValuesTyped m K vs ts
-    → RestTyped m c set (Invoke main ∷ []) Done ts out → Within m K us [] c now out → vs ≡ ε
-invoke_alone m {us = us} {ts = ts} {out = out} last v (invoke_first {t = t} beneath is takes h) w =
+-- a function that takes nothing is invoked on as many operands as there are beneath
+size_beneath : (m : Module) (beneath ts : Row Operand) (params : List ValType) → params ≡ [] → RowMatches m.types ts (beneath ⧺ known (row_of params)) → size ts ≡ size beneath
+size_beneath m beneath ts params none takes =
+    let taken : size (known (row_of params)) ≡ 0 = ap (λ (l : List ValType). size (known (row_of l))) none in
+    let all = row_size m.types ts (beneath ⧺ known (row_of params)) takes in
+    let split = size_beside beneath (known (row_of params)) in
+    omega (arith, taken, all, split)
+
+-- before the invokes of those that wait, with nothing around them, there are no operands
+no_operands_wait : (m : Module) (us : Row Operand) {c : Scope} {set : List Bool} {ts out : Row Operand} (f : ℕ) (fs : List ℕ) → MayWait m us (f ∷ fs)
+    → RestTyped m c set (invokes (f ∷ fs)) Done ts out → size out ≡ size us → size ts ≡ 0
+no_operands_wait m us {ts = ts} f [] last (invoke_first {t = t} beneath is takes h) ended =
     let same : t ≡ last.type = (let one = is in let two = last.has_type in cc) in
     let results : size (known (row_of t.results)) ≡ size us = ap (λ (f : FuncType). size (known (row_of f.results))) same ∙ sym (ap size last.is) in
     let whole = size_beside beneath (known (row_of t.results)) in
-    let ended = done_size m h ∙ outside_size m w in
-    let nothing : size beneath ≡ 0 = omega (arith, results, whole, ended) in
-    let params : t.params ≡ [] = ap (λ (f : FuncType). f.params) same ∙ last.no_params in
-    let taken : size (known (row_of t.params)) ≡ 0 = ap (λ (l : List ValType). size (known (row_of l))) params in
-    let all = row_size m.types ts (beneath ⧺ known (row_of t.params)) takes in
-    let split = size_beside beneath (known (row_of t.params)) in
-    no_operand m v (omega (arith, nothing, taken, all, split))
+    let left = done_size m h in
+    let here = size_beneath m beneath ts t.params (ap (λ (f : FuncType). f.params) same ∙ last.no_params) takes in
+    omega (arith, results, whole, left, ended, here)
+no_operands_wait m us {ts = ts} f (g ∷ fs) (before, others) (invoke_first {t = t} beneath is takes h) ended =
+    let same : t ≡ before.type = (let one = is in let two = before.has_type in cc) in
+    let whole = size_beside beneath (known (row_of t.results)) in
+    let left = no_operands_wait m us g fs others h ended in
+    let here = size_beneath m beneath ts t.params (ap (λ (f : FuncType). f.params) same ∙ before.no_params) takes in
+    omega (arith, whole, left, here)
 
 -- ## The run goes on
 
@@ -154,10 +167,10 @@ next_run p s₀ t₀ n = ap (Run p s₀ t₀) (let e : n + 1 ≡ suc n = omega a
 
 -- ## The segment that runs next
 
-pub fresh_in : {m : Module} (main : ℕ) (c : Capacity) {e : Context} {r : Rest} → e ≡ [] → r ≡ behind_of (Some main) → StackIs m [] (behind_of None) (fresh_shape main c) e r
-fresh_in {m = m} main c {e = e} {r = r} outer behind =
-    subst (λ (x : Context). StackIs m [] (behind_of None) (fresh_shape main c) x r) (sym outer)
-    (subst (λ (x : Rest). StackIs m [] (behind_of None) (fresh_shape main c) [] x) (sym behind) (fresh refl refl))
+pub fresh_in : {m : Module} (f : ℕ) (fs : List ℕ) (c : Capacity) {e : Context} {r : Rest} → e ≡ [] → r ≡ behind_of (f ∷ fs) → StackIs m [] (behind_of fs) (fresh_shape f c) e r
+fresh_in {m = m} f fs c {e = e} {r = r} outer behind =
+    subst (λ (x : Context). StackIs m [] (behind_of fs) (fresh_shape f c) x r) (sym outer)
+    (subst (λ (x : Rest). StackIs m [] (behind_of fs) (fresh_shape f c) [] x) (sym behind) (fresh refl refl))
 
 left_there : {m : Module} {outer : Context} {behind : Rest} {s : Shape} {e : Context} {r : Rest} → StackIs m outer behind s e r → s.stage ≡ AtValues → (e ≡ outer) × (r ≡ behind)
 left_there (body h k w) b = absurd (cc)
@@ -189,9 +202,9 @@ is_last_one [] e = absurd (cc)
 is_last_one (x ∷ []) e = (refl, values_stage x.shape.stage e)
 is_last_one (x ∷ y ∷ ys) e = absurd (cc)
 
--- where main's turn comes there are no operands
-pub turn_empty : {m : Module} {K : Arrows} {us : Row Operand} {v : Store} (t : Term) {main : ℕ} → EndsWith m us main → Typed m K us v t → t.around ≡ [] → t.rest ≡ behind_of (Some main)
-    → t.operands ≡ ε
-turn_empty {m = m} {K = K} {us = us} {v = v} t {main = main} last h outer behind =
+-- where the turn of the next one comes there are no operands
+pub turn_empty : {m : Module} {K : Arrows} {us : Row Operand} {v : Store} (t : Term) (f : ℕ) (fs : List ℕ) → MayWait m us (f ∷ fs) → Typed m K us v t → t.around ≡ []
+    → t.rest ≡ behind_of (f ∷ fs) → t.operands ≡ ε
+turn_empty {m = m} {K = K} {us = us} {v = v} t f fs wait h outer behind =
     let at = subst₂ (λ (x : Context) (y : Rest). Typed m K us v (record { around = x; operands = t.operands; rest = y })) outer behind h in
-    invoke_alone m last at.term.operands at.term.rest at.term.around
+    no_operand m at.term.operands (no_operands_wait m us f fs wait at.term.rest (outside_size m at.term.around))

@@ -74,7 +74,7 @@ never_stuck traps e = absurd (cc)
 never_stuck is_limited e = absurd (cc)
 never_stuck (ends h) e = absurd (cc)
 
-module _ {m : Module} {waiting : Option ℕ} {x : Parts} {p : Program} {ks : List (Option Continuation)} {t : Term} where
+module _ {m : Module} {waiting : List ℕ} {x : Parts} {p : Program} {ks : List (Option Continuation)} {t : Term} where
   -- the configuration is typed by the program's module
   pub typed_by : (h : Stands m waiting x p ks t) → Typed p.source h.arrows h.results (whole x.store ks) t
   typed_by h = subst (λ (n : Module). Typed n h.arrows h.results (whole x.store ks) t) (sym h.stand.source) h.typed

@@ -116,11 +116,11 @@ led_to {s = s} to = record { around = to.around; operands = stack s.operands; re
 
 module _ {m : Module} {x : Parts} (sound : Sound m) (f : IsPlainAt m (top x.chain).shape) where
   -- references are still those of the store
-  kept_values : {waiting : Option ℕ} {p : Program} {ks : List (Option Continuation)} {t : Term} {d : Did} {text : List ℕ} {u' : instances.Store} {s' : Shape} → Stands m waiting x p ks t
+  kept_values : {waiting : List ℕ} {p : Program} {ks : List (Option Continuation)} {t : Term} {d : Did} {text : List ℕ} {u' : instances.Store} {s' : Shape} → Stands m waiting x p ks t
       → TakesPlain d m text x.store (top x.chain).shape u' s' → StoreHolds (λ v. is_of x.conts v ≡ true) u' × Holds (λ v. is_of x.conts v ≡ true) s'
   kept_values h takes = takes.keeps (is_of x.conts) (passes_plain x.conts) h.held (hold_top (is_of x.conts) x.chain h.sound.references)
 
-  module _ {waiting : Option ℕ} {p : Program} {ks : List (Option Continuation)} {t : Term} (h : Stands m waiting x p ks t) {text : List ℕ} {u' : instances.Store} {s' : Shape} where
+  module _ {waiting : List ℕ} {p : Program} {ks : List (Option Continuation)} {t : Term} (h : Stands m waiting x p ks t) {text : List ℕ} {u' : instances.Store} {s' : Shape} where
     -- the parts stand there
     stands_there : {d : Reduced} (to : LeadsTo m (head h).o text u' s' d) → Stand m (behind_of waiting) (with_top s' x.chain) x.conts p (whole u' ks) (led_to to)
     stands_there to = record {
@@ -145,7 +145,7 @@ module _ {m : Module} {x : Parts} (sound : Sound m) (f : IsPlainAt m (top x.chai
     frames_there to b is = ap (λ (n : ℕ). nat_le n most_frames) (all_frames (stands_there to)) ∙ is
 
   -- where no function was called, it has no more of them
-  pub few_there : {waiting : Option ℕ} {p : Program} {ks : List (Option Continuation)} {t : Term} → Stands m waiting x p ks t → (top x.chain).shape.stage ≡ Body
+  pub few_there : {waiting : List ℕ} {p : Program} {ks : List (Option Continuation)} {t : Term} → Stands m waiting x p ks t → (top x.chain).shape.stage ≡ Body
       → calls_at (instr_of m (top x.chain).shape.func (top x.chain).shape.place) ≡ false → {u' : instances.Store} {s' : Shape} → TakesPlain did.Went m [] x.store (top x.chain).shape u' s'
       → nat_le (frames_in_all (with_top s' x.chain)) most_frames ≡ true
   few_there {p = p} {t = t} h body none {u'} {s'} takes =
@@ -190,7 +190,7 @@ module _ {m : Module} {x : Parts} (sound : Sound m) (f : IsPlainAt m (top x.chai
   trapped u' s' before now y (text, takes, grew) waiting p ks t h =
       (ap limited (alone h f ∙ ap (apart ks) (takes.goes.0 p (head h).o t.around t.rest (standing_at sound h f))), grew_none takes.goes.1 grew)
 
-  began : {before now : Option (List ℕ)} {waiting : Option ℕ} {p : Program} {ks : List (Option Continuation)} {t : Term} → Stands m waiting x p ks t
+  began : {before now : Option (List ℕ)} {waiting : List ℕ} {p : Program} {ks : List (Option Continuation)} {t : Term} → Stands m waiting x p ks t
       → Began before now m x.store (top x.chain).shape → (now ≡ before) ⊎ Begun (reduce p (whole x.store ks) t) before now
   began h (inl same) = inl same
   began {waiting = waiting} {p = p} {ks = ks} {t = t} h (inr (text, prints, grew)) =
@@ -212,7 +212,7 @@ module _ {m : Module} {x : Parts} (sound : Sound m) (f : IsPlainAt m (top x.chai
         })
       ]
 
-  failed : {u' : instances.Store} {s' : Shape} {before now : Option (List ℕ)} (y : Stop) {waiting : Option ℕ} {p : Program} {ks : List (Option Continuation)} {t : Term}
+  failed : {u' : instances.Store} {s' : Shape} {before now : Option (List ℕ)} (y : Stop) {waiting : List ℕ} {p : Program} {ks : List (Option Continuation)} {t : Term}
       → Printed (Err y) before now m x.store (top x.chain).shape u' s' → Stands m waiting x p ks t → Fails (reduce p (whole x.store ks) t) x (parts u' (with_top s' x.chain) x.conts) before now
   failed {s' = s'} y (same, shape, begun, may) h = record { store = same; chain = same_top s' x.chain shape; conts = refl; sink = began h begun }
 

@@ -17,7 +17,7 @@ use Rattle.w_reduce.specs.Run.{RunState, Run}
 use Rattle.w_stands.specs.Values.{stack, vals}
 use Rattle.w_machine.specs.declared.outcome.RunStop.{RunStop}
 use Rattle.w_machine.specs.declared.outcome.RunStop.TheVariants as run_stop
-use Rattle.w_machine.specs.Beginning.{Begins}
+use Rattle.w_machine.specs.Beginning.{Origin, Begins}
 use Rattle.w_machine.specs.Position.{Position, StopsWith}
 use Rattle.w_machine.specs.Reached.{waiting_of, Counts, IsReached, IsReachedBy}
 use Rattle.w_machine.specs.Results.{HasResults}
@@ -37,14 +37,14 @@ listed_stack [] = refl
 listed_stack (v ∷ vs) = ap vals (reverse-append (v ∷ []) vs) ∙ map_end (reverse vs) v ∙ ap (λ (l : List Val). l ++ val v ∷ []) (listed_stack vs)
 
 -- they are the run's, and stay so however long it is
-pub machine_results : {m : Module} {functions : List ℕ} {x : Parts} {waiting : Option (Box Segment Global)} {n a b : ℕ} {k : Option RunStop}
-    (q : Position) (s : Shape) (values : List Value) → IsReached m functions x waiting k n a b → record { program = m; taken = n; stop = k } ≡ q
+pub machine_results : {from : Origin} {functions : List ℕ} {x : Parts} {waiting : List (Box Segment Global)} {n a b : ℕ} {k : Option RunStop}
+    (q : Position) (s : Shape) (values : List Value) → IsReached from functions x waiting k n a b → record { origin = from; taken = n; stop = k } ≡ q
     → s ≡ (top x.chain).shape → values ≡ reverse s.operands → q.stop ≡ Some run_stop.Ended
-    → (p : Program) (s₀ : Store) (t₀ : Term) → Begins q.program p s₀ t₀ → (l : ℕ) → q.taken ≤ l → HasResults (Run p s₀ t₀ l).outcome (vals values)
-machine_results {m = m} {functions = functions} {x = x} {waiting = waiting} {n = n} {a = a} {b = b} {k = k} q s values h view here are ended =
+    → (p : Program) (s₀ : Store) (t₀ : Term) → Begins q.origin p s₀ t₀ → (l : ℕ) → q.taken ≤ l → HasResults (Run p s₀ t₀ l).outcome (vals values)
+machine_results {from = from} {functions = functions} {x = x} {waiting = waiting} {n = n} {a = a} {b = b} {k = k} q s values h view here are ended =
     let kept_is : k ≡ Some run_stop.Ended = ap (λ (x : Position). x.stop) view ∙ ended in
-    let done = subst (λ (o : Option RunStop). IsReached m functions x waiting o n a b) kept_is h in
-    subst (λ (y : Position). (p : Program) (s₀ : Store) (t₀ : Term) → Begins y.program p s₀ t₀ → (l : ℕ) → y.taken ≤ l → HasResults (Run p s₀ t₀ l).outcome (vals values)) view
+    let done = subst (λ (o : Option RunStop). IsReached from functions x waiting o n a b) kept_is h in
+    subst (λ (y : Position). (p : Program) (s₀ : Store) (t₀ : Term) → Begins y.origin p s₀ t₀ → (l : ℕ) → y.taken ≤ l → HasResults (Run p s₀ t₀ l).outcome (vals values)) view
     (λ p s₀ t₀ begins l le.
     let is = (done.reached p s₀ t₀ begins).0 in
     let last = settled_at p s₀ t₀ n l le (λ runs. let e = is in absurd (cc)) in (
@@ -54,8 +54,8 @@ machine_results {m = m} {functions = functions} {x = x} {waiting = waiting} {n =
     ))
 
 -- a machine whose run ended has a segment
-pub ended_long : {m : Module} {functions : List ℕ} {x : Parts} {waiting : Option (Box Segment Global)} {n a b : ℕ} (k : Option RunStop) → true ≡ is_ended k
-    → IsReached m functions x waiting k n a b → 0 < length x.chain
+pub ended_long : {from : Origin} {functions : List ℕ} {x : Parts} {waiting : List (Box Segment Global)} {n a b : ℕ} (k : Option RunStop) → true ≡ is_ended k
+    → IsReached from functions x waiting k n a b → 0 < length x.chain
 ended_long (Some run_stop.Ended) e h = h.usable
 ended_long None e h = absurd (cc)
 ended_long (Some (run_stop.Limit name)) e h = absurd (cc)
@@ -65,39 +65,39 @@ ended_long (Some run_stop.OutOfMemory) e h = absurd (cc)
 
 -- ## The run's own counts
 
-counted_by : (m : Module) (waiting : Option ℕ) (x : Parts) (n a b : ℕ) (k : Option RunStop) (p : Program) (r : RunState) → IsReachedBy k m waiting x n a b p r → r.taken ≡ n
+counted_by : (m : Module) (waiting : List ℕ) (x : Parts) (n a b : ℕ) (k : Option RunStop) (p : Program) (r : RunState) → IsReachedBy k m waiting x n a b p r → r.taken ≡ n
 counted_by m waiting x n a b None p r h = ap (λ (y : RunState). y.taken) h.is
 counted_by m waiting x n a b (Some k) p r h = h.1
 
-module _ {m : Module} {functions : List ℕ} {x : Parts} {waiting : Option (Box Segment Global)} {n a b : ℕ} {k : Option RunStop} (q : Position)
-    (h : IsReached m functions x waiting k n a b) (view : record { program = m; taken = n; stop = k } ≡ q) where
-  here : (p : Program) (s₀ : Store) (t₀ : Term) → Begins q.program p s₀ t₀ → IsReachedBy k m (waiting_of waiting) x n a b p (Run p s₀ t₀ n)
-  here p s₀ t₀ begins = h.reached p s₀ t₀ (subst (λ (m : Module). Begins m p s₀ t₀) (sym (ap (λ (x : Position). x.program) view)) begins)
+module _ {from : Origin} {functions : List ℕ} {x : Parts} {waiting : List (Box Segment Global)} {n a b : ℕ} {k : Option RunStop} (q : Position)
+    (h : IsReached from functions x waiting k n a b) (view : record { origin = from; taken = n; stop = k } ≡ q) where
+  here : (p : Program) (s₀ : Store) (t₀ : Term) → Begins q.origin p s₀ t₀ → IsReachedBy k from.source (waiting_of waiting) x n a b p (Run p s₀ t₀ n)
+  here p s₀ t₀ begins = h.reached p s₀ t₀ (subst (λ (o : Origin). Begins o p s₀ t₀) (sym (ap (λ (x : Position). x.origin) view)) begins)
 
   -- of reductions
-  pub machine_counts : (p : Program) (s₀ : Store) (t₀ : Term) → Begins q.program p s₀ t₀ → (Run p s₀ t₀ n).taken ≡ n
+  pub machine_counts : (p : Program) (s₀ : Store) (t₀ : Term) → Begins q.origin p s₀ t₀ → (Run p s₀ t₀ n).taken ≡ n
   machine_counts p s₀ t₀ begins = counted_by _ _ _ n a b k p (Run p s₀ t₀ n) (here p s₀ t₀ begins)
 
   -- what stopped it is what the run came to
-  pub machine_stops_with : (p : Program) (s₀ : Store) (t₀ : Term) → Begins q.program p s₀ t₀ → (j : RunStop) → q.stop ≡ Some j → StopsWith j (Run p s₀ t₀ n).outcome
+  pub machine_stops_with : (p : Program) (s₀ : Store) (t₀ : Term) → Begins q.origin p s₀ t₀ → (j : RunStop) → q.stop ≡ Some j → StopsWith j (Run p s₀ t₀ n).outcome
   machine_stops_with p s₀ t₀ begins j is =
       stops_so j x.chain (Run p s₀ t₀ n).outcome
-      (subst (λ (o : Option RunStop). IsReachedBy o m (waiting_of waiting) x n a b p (Run p s₀ t₀ n)) (ap (λ (x : Position). x.stop) view ∙ is) (here p s₀ t₀ begins)).0
+      (subst (λ (o : Option RunStop). IsReachedBy o from.source (waiting_of waiting) x n a b p (Run p s₀ t₀ n)) (ap (λ (x : Position). x.stop) view ∙ is) (here p s₀ t₀ begins)).0
 
   -- of continuations, by whether an outcome is kept
-  pub counts_kept : true ≡ is_some k → (p : Program) (s₀ : Store) (t₀ : Term) → Begins q.program p s₀ t₀ → Counts (Run p s₀ t₀ q.taken) a b
+  pub counts_kept : true ≡ is_some k → (p : Program) (s₀ : Store) (t₀ : Term) → Begins q.origin p s₀ t₀ → Counts (Run p s₀ t₀ q.taken) a b
   counts_kept some p s₀ t₀ begins =
       subst (λ (y : Position). Counts (Run p s₀ t₀ y.taken) a b) view (by k some (here p s₀ t₀ begins))
     where
-      by : (o : Option RunStop) → true ≡ is_some o → IsReachedBy o m (waiting_of waiting) x n a b p (Run p s₀ t₀ n) → Counts (Run p s₀ t₀ n) a b
+      by : (o : Option RunStop) → true ≡ is_some o → IsReachedBy o from.source (waiting_of waiting) x n a b p (Run p s₀ t₀ n) → Counts (Run p s₀ t₀ n) a b
       by None e g = absurd (cc)
       by (Some y) e g = g.2
 
-  pub counts_going : false ≡ is_some k → (p : Program) (s₀ : Store) (t₀ : Term) → Begins q.program p s₀ t₀ → Counts (Run p s₀ t₀ q.taken) (length x.conts.entries) (live_of x.conts)
+  pub counts_going : false ≡ is_some k → (p : Program) (s₀ : Store) (t₀ : Term) → Begins q.origin p s₀ t₀ → Counts (Run p s₀ t₀ q.taken) (length x.conts.entries) (live_of x.conts)
   counts_going none p s₀ t₀ begins =
       subst (λ (y : Position). Counts (Run p s₀ t₀ y.taken) (length x.conts.entries) (live_of x.conts)) view (by k none (here p s₀ t₀ begins))
     where
-      by : (o : Option RunStop) → false ≡ is_some o → IsReachedBy o m (waiting_of waiting) x n a b p (Run p s₀ t₀ n) → Counts (Run p s₀ t₀ n) (length x.conts.entries) (live_of x.conts)
+      by : (o : Option RunStop) → false ≡ is_some o → IsReachedBy o from.source (waiting_of waiting) x n a b p (Run p s₀ t₀ n) → Counts (Run p s₀ t₀ n) (length x.conts.entries) (live_of x.conts)
       by None e g = counts_here p s₀ t₀ g refl
       by (Some y) e g = absurd (cc)
 

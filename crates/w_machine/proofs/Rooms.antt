@@ -86,7 +86,7 @@ holds_safe traps = λ o v w is. absurd (cc)
 holds_safe is_limited = λ o v w is. absurd (cc)
 holds_safe (ends h) = λ o v w is. absurd (cc)
 
-module _ {m : Module} {waiting : Option ℕ} {x : Parts} {p : Program} {ks : List (Option Continuation)} {t : Term} where
+module _ {m : Module} {waiting : List ℕ} {x : Parts} {p : Program} {ks : List (Option Continuation)} {t : Term} where
   -- after the next reduction no frame holds more
   pub holds_next : Sound m → Stands m waiting x p ks t → HoldsAfter m (next p (whole x.store ks) t.around t.operands t.rest.ahead t.rest.code)
   holds_next sound h =

@@ -121,7 +121,7 @@ step_from old l new i r b a at none h =
     subst (λ (o : Option RunStop). StepsFrom o (At old i) r new b a) none (subst (λ (x : Position). Steps x r new b a) at h)
 
 module _ (old l new : Position) (i steps : ℕ) (first b a : Option (List ℕ)) (at : l ≡ At old i) (none : old.stop ≡ None)
-    (printed : (p : Program) (s : Store) (t : Term) → Begins old.program p s t → PrintedBetween (Run p s t old.taken) (Run p s t (old.taken + i)) first b) where
+    (printed : (p : Program) (s : Store) (t : Term) → Begins old.origin p s t → PrintedBetween (Run p s t old.taken) (Run p s t (old.taken + i)) first b) where
   one_further : old.taken + i + 1 ≡ old.taken + (i + 1)
   one_further = omega arith
 
@@ -131,7 +131,7 @@ module _ (old l new : Position) (i steps : ℕ) (first b a : Option (List ℕ)) 
   took_more (Some k) e h = absurd (cc)
 
   pub printed_further : (r : Option RunStop) → false ≡ is_some r → Steps l r new b a
-      → (p : Program) (s : Store) (t : Term) → Begins old.program p s t → PrintedBetween (Run p s t old.taken) (Run p s t (old.taken + (i + 1))) first a
+      → (p : Program) (s : Store) (t : Term) → Begins old.origin p s t → PrintedBetween (Run p s t old.taken) (Run p s t (old.taken + (i + 1))) first a
   printed_further None e h p s t begins =
       subst (λ (n : ℕ). PrintedBetween (Run p s t old.taken) (Run p s t n) first a) one_further
       (printed_more (printed p s t begins) ((step_from old l new i None b a at none h).1 p s t begins).1)
@@ -153,7 +153,7 @@ module _ (old l new : Position) (i steps : ℕ) (first b a : Option (List ℕ)) 
   fault_stops run_stop.WriteFault o f = tt
   fault_stops run_stop.OutOfMemory o f = tt
 
-  stop_at_last : (k : RunStop) (f : Bool) → is_fault k ≡ f → (c : ℕ) → c ≡ counted k → c ≤ 1 → i < steps → (p : Program) (s : Store) (t : Term) → Begins old.program p s t
+  stop_at_last : (k : RunStop) (f : Bool) → is_fault k ≡ f → (c : ℕ) → c ≡ counted k → c ≤ 1 → i < steps → (p : Program) (s : Store) (t : Term) → Begins old.origin p s t
       → StopsWith k (Run p s t (old.taken + i + c)).outcome → PrintedIf f (Run p s t (old.taken + i)) (Run p s t (old.taken + i + 1)) b a
       → StopsWith k (Run p s t (old.taken + steps)).outcome × RunPrints f (Run p s t) old.taken (i + c) steps first a
   stop_at_last k true f c count one lt p s t begins stops print =

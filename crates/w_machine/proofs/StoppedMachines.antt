@@ -23,6 +23,7 @@ use Rattle.w_machine.specs.declared.outcome.RunStop.TheVariants as run_stop
 use Rattle.w_machine.specs.Reducing.{Fails, ComesTo, PartsReduce}
 use Rattle.w_machine.specs.Position.{Position, StopsWith, counted, PrintedBetween, PrintedAtMost, PrintedBy, MayStopAt, StepsFrom, most_reductions}
 use Rattle.w_machine.specs.Standing.{StandsSomewhere}
+use Rattle.w_machine.specs.Beginning.{Origin}
 use Rattle.w_machine.specs.Reached.{waiting_of, IsReachedAt, EndsAt, Counts, IsUsable, IsReached}
 use Rattle.w_machine.proofs.OneMoreReduction.{state_went, next_run}
 use Rattle.w_machine.specs.Parts.{Parts, whole}
@@ -80,7 +81,7 @@ output_grows p s₀ t₀ n =
 
 -- ## What stops it
 
-module _ {m : Module} {waiting : Option ℕ} {x : Parts} {n : ℕ} (p : Program) (s₀ : Store) (t₀ : Term) (at : IsReachedAt m waiting x n p (Run p s₀ t₀ n)) where
+module _ {m : Module} {waiting : List ℕ} {x : Parts} {n : ℕ} (p : Program) (s₀ : Store) (t₀ : Term) (at : IsReachedAt m waiting x n p (Run p s₀ t₀ n)) where
   still_there : Run p s₀ t₀ (n + 0) ≡ Run p s₀ t₀ n
   still_there = ap (Run p s₀ t₀) (let e : n + 0 ≡ n = omega arith in e)
 
@@ -162,7 +163,7 @@ counts_one run_stop.WriteFault = omega arith
 counts_one run_stop.OutOfMemory = omega arith
 
 -- where the run ended there is a segment
-usable_after : (m : Module) (waiting : Option ℕ) (p : Program) (d : Reduced) (r : Rest) (x x' : Parts) (before now : Option (List ℕ)) (k : RunStop) (n : ℕ) → 0 < length x.chain
+usable_after : (m : Module) (waiting : List ℕ) (p : Program) (d : Reduced) (r : Rest) (x x' : Parts) (before now : Option (List ℕ)) (k : RunStop) (n : ℕ) → 0 < length x.chain
     → ComesTo (Some k) m waiting p d r x x' before now → IsUsable (Some k) x' n
 usable_after m waiting p d r x x' before now run_stop.Ended n some (is, same) = subst (λ (y : Parts). 0 < length y.chain) (sym same.same) some
 usable_after m waiting p d r x x' before now (run_stop.Limit name) n some h = tt
@@ -171,17 +172,17 @@ usable_after m waiting p d r x x' before now run_stop.WriteFault n some h = tt
 usable_after m waiting p d r x x' before now run_stop.OutOfMemory n some h = tt
 
 -- the machine keeps it, with how many continuations there were before
-pub stopped : {m : Module} {functions : List ℕ} {x : Parts} {waiting : Option (Box Segment Global)} {n a b made_then live_then : ℕ} (x' : Parts)
+pub stopped : {from : Origin} {functions : List ℕ} {x : Parts} {waiting : List (Box Segment Global)} {n a b made_then live_then : ℕ} (x' : Parts)
     (before now : Option (List ℕ)) (k : RunStop) (c : ℕ) → c ≡ counted k → made_then ≡ length x.conts.entries → live_then ≡ live_of x.conts
-    → StandsSomewhere m x → IsReached m functions x waiting None n a b → n < most_reductions
-    → PartsReduce (Some k) m x x' before now → IsReached m functions x' waiting (Some k) (n + c) made_then live_then
-stopped {m = m} {functions = functions} {x = x} {waiting = waiting} {n = n} {made_then = made_then} {live_then = live_then} x' before now k c count made_is live_is here h lt goes =
+    → StandsSomewhere from.source x → IsReached from functions x waiting None n a b → n < most_reductions
+    → PartsReduce (Some k) from.source x x' before now → IsReached from functions x' waiting (Some k) (n + c) made_then live_then
+stopped {from = from} {functions = functions} {x = x} {waiting = waiting} {n = n} {made_then = made_then} {live_then = live_then} x' before now k c count made_is live_is here h lt goes =
     let one = counts_one k in
     record {
       functions_are = h.functions_are;
       fresh = h.fresh;
       bound = omega (arith, lt, one, count);
-      usable = usable_after m here.waiting here.p _ here.t.rest x x' before now k (n + c) h.usable.0 (goes here.waiting here.p here.ks here.t here.stands);
+      usable = usable_after from.source here.waiting here.p _ here.t.rest x x' before now k (n + c) h.usable.0 (goes here.waiting here.p here.ks here.t here.stands);
       started = h.started;
       fewer = (let l = live_made x.conts.entries in omega (arith, l, made_is, live_is));
       reached = λ p s₀ t₀ begins.
@@ -193,9 +194,9 @@ stopped {m = m} {functions = functions} {x = x} {waiting = waiting} {n = n} {mad
     }
 
 -- and so its step stopped
-pub step_stopped : {functions : List ℕ} {x : Parts} {waiting : Option (Box Segment Global)} {a b : ℕ} (x' : Parts)
-    (before now : Option (List ℕ)) (old : Position) (k : RunStop) (c : ℕ) → c ≡ counted k → IsReached old.program functions x waiting None old.taken a b
-    → PartsReduce (Some k) old.program x x' before now → StepsFrom None old (Some k) (record old { taken = old.taken + c; stop = Some k }) before now
+pub step_stopped : {functions : List ℕ} {x : Parts} {waiting : List (Box Segment Global)} {a b : ℕ} (x' : Parts)
+    (before now : Option (List ℕ)) (old : Position) (k : RunStop) (c : ℕ) → c ≡ counted k → IsReached old.origin functions x waiting None old.taken a b
+    → PartsReduce (Some k) old.origin.source x x' before now → StepsFrom None old (Some k) (record old { taken = old.taken + c; stop = Some k }) before now
 step_stopped {waiting = waiting} x' before now old k c count h goes = (
   ap (λ (x : ℕ). let q : Position = record old { taken = old.taken + x; stop = Some k } in q) count,
   λ p s₀ t₀ begins.

@@ -84,7 +84,7 @@ comes_in o k b h = let there = here k b in let at = shows_plain (op.Switching o)
 
 module _ {m : Module} {x : Parts} (valid : SoundModule m) (o : SwitchingOp) (b : (top x.chain).shape.stage ≡ Body)
     (at : instr_of m (top x.chain).shape.func (top x.chain).shape.place ≡ Some (flat.Plain (op.Switching o))) where
-  module _ {waiting : Option ℕ} {p : Program} {ks : List (Option Continuation)} {t : Term} (h : Stands m waiting x p ks t) where
+  module _ {waiting : List ℕ} {p : Program} {ks : List (Option Continuation)} {t : Term} (h : Stands m waiting x p ks t) where
     comes : Comes o t.rest
     comes = comes_in o (head h).stands b at
 

@@ -144,7 +144,7 @@ module _ {m : Module} (sound : Sound m) {K : Arrows} {s : Store} (u : StoreTyped
 
 -- ## Operands of a segment
 
-module _ {m : Module} (sound : Sound m) {waiting : Option ℕ} {x : Parts} {p : Program} {ks : List (Option Continuation)} {t : Term} (h : Stands m waiting x p ks t) where
+module _ {m : Module} (sound : Sound m) {waiting : List ℕ} {x : Parts} {p : Program} {ks : List (Option Continuation)} {t : Term} (h : Stands m waiting x p ks t) where
   -- the continuation on top, as the configuration has it
   there : (r : ContRef) (vs : List Value) (b : Stored) → (top x.chain).shape.operands ≡ value.Cont r ∷ vs → kept_at x.conts r.serial ≡ Some b → KeptThere m (whole x.store ks) r.serial b
   there r vs b on is = kept_there h.stand r (reference_of x.chain x.conts r vs h.sound on) b is

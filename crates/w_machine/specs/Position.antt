@@ -1,7 +1,7 @@
--- The machine as contracts see it: the module that it runs, how many reductions it took, and what stopped it, if anything did. It
--- stands for the run of the module after so many reductions.
+-- The machine as contracts see it: where its run begins, how many reductions it took, and what stopped it, if anything did. It stands for
+-- that run after so many reductions.
 use Rattle.std.specs.Prelude.{◌≡◌, ◌+◌, ◌^◌, ◌<◌, ◌≤◌, ℕ, List, ◌++◌, Bool, true, false, ⊤, Option, Some, None, refl}
-use Rattle.std.specs.Coded.{Coded, code_by, coded×, coded_ℕ, coded_option}
+use Rattle.std.specs.Coded.{Coded, code_by, coded×, coded_ℕ, coded_list, coded_option}
 use Rattle.lists.specs.Rows.{Row}
 use Rattle.w_outside.specs.Outside.{Grew, GrewByFront}
 use Rattle.w_syntax.specs.declared.module.Module.{Module}
@@ -15,17 +15,21 @@ use Rattle.w_reduce.specs.Run.{Outcome, Running, Values, Traps, Limit, RunState,
 use Rattle.w_machine.specs.declared.outcome.RunStop.{RunStop}
 use Rattle.w_machine.specs.declared.outcome.RunStop.TheVariants as run_stop
 use Rattle.w_machine.specs.contracts.outcome.RunStop as run_stop_contract
-use Rattle.w_machine.specs.Beginning.{Begins}
+use Rattle.w_machine.specs.Beginning.{Origin, Begins}
 
 pub record Position : Type 0 where
-  pub program : Module
+  pub origin : Origin
   pub taken : ℕ
   pub stop : Option RunStop
 
--- a position is stored as the tuple of its fields
+-- each is stored as the tuple of its fields
+abbrev pub origin_code : Coded Origin
+origin_code = code_by (Module × (List ℕ × ℕ)) (coded× module_contract.the_row.coded (coded× (coded_list coded_ℕ) coded_ℕ))
+    (λ o. (o.source, (o.starts, o.main))) (λ q. record { source = q.0; starts = q.1.0; main = q.1.1 }) (λ _. refl)
+
 abbrev pub position_code : Coded Position
-position_code = code_by (Module × (ℕ × Option RunStop)) (coded× module_contract.the_row.coded (coded× coded_ℕ (coded_option run_stop_contract.the_row.coded)))
-    (λ p. (p.program, (p.taken, p.stop))) (λ q. record { program = q.0; taken = q.1.0; stop = q.1.1 }) (λ _. refl)
+position_code = code_by (Origin × (ℕ × Option RunStop)) (coded× origin_code (coded× coded_ℕ (coded_option run_stop_contract.the_row.coded)))
+    (λ p. (p.origin, (p.taken, p.stop))) (λ q. record { origin = q.0; taken = q.1.0; stop = q.1.1 }) (λ _. refl)
 
 -- the most reductions that a machine takes
 abbrev pub most_reductions : ℕ
@@ -94,7 +98,7 @@ StepsOn run n (Some k) before now = StopsWith k (run (n + counted k)).outcome ×
 abbrev pub StepsFrom : Option RunStop → Position → Option RunStop → Position → Option (List ℕ) → Option (List ℕ) → Type 0
 StepsFrom (Some k) old result new before now = (result ≡ Some k) × (new ≡ old) × (now ≡ before)
 StepsFrom None old result new before now =
-    (new ≡ after_step old result) × ((p : Program) (s : Store) (t : Term) → Begins old.program p s t → StepsOn (Run p s t) old.taken result before now)
+    (new ≡ after_step old result) × ((p : Program) (s : Store) (t : Term) → Begins old.origin p s t → StepsOn (Run p s t) old.taken result before now)
 
 abbrev pub Steps : Position → Option RunStop → Position → Option (List ℕ) → Option (List ℕ) → Type 0
 Steps old result new before now = StepsFrom old.stop old result new before now
@@ -115,7 +119,7 @@ IsNoFault (Some k) = is_fault k ≡ false
 
 abbrev pub StopsIfEnded : Position → Option RunStop → Position → Type 0
 StopsIfEnded old result new =
-    (new ≡ with_stop old result) × IsNoFault result × ((p : Program) (s : Store) (t : Term) → Begins old.program p s t → IsStoppedBy (Run p s t old.taken) result)
+    (new ≡ with_stop old result) × IsNoFault result × ((p : Program) (s : Store) (t : Term) → Begins old.origin p s t → IsStoppedBy (Run p s t old.taken) result)
 
 -- ## A run of so many reductions at most
 
@@ -158,8 +162,8 @@ abbrev pub RunsFrom : Option RunStop → Position → ℕ → Option RunStop →
 RunsFrom (Some k) old steps result new before now = (result ≡ Some k) × (new ≡ old) × (now ≡ before)
 RunsFrom None old steps result new before now =
     (n : ℕ) × HasTaken n steps result × (new ≡ after_run old n result)
-    × ((p : Program) (s : Store) (t : Term) → Begins old.program p s t → RunsOn (Run p s t) old.taken n steps result before now)
-    × ((p : Program) (s : Store) (t : Term) → Begins old.program p s t → StopsAt result (Run p s t (old.taken + n)).term)
+    × ((p : Program) (s : Store) (t : Term) → Begins old.origin p s t → RunsOn (Run p s t) old.taken n steps result before now)
+    × ((p : Program) (s : Store) (t : Term) → Begins old.origin p s t → StopsAt result (Run p s t (old.taken + n)).term)
 
 abbrev pub Runs : Position → ℕ → Option RunStop → Position → Option (List ℕ) → Option (List ℕ) → Type 0
 Runs old steps result new before now = RunsFrom old.stop old steps result new before now

@@ -39,7 +39,7 @@ use Rattle.w_machine.specs.Standing.{behind_of, Stands}
 
 -- It was taken: the parts stand for what it leads to, at most one continuation more was made than the n before, and the sink grew by what
 -- it prints.
-pub record TakesReduction (m : Module) (waiting : Option ℕ) (p : Program) (d : Reduced) (n : ℕ) (x : Parts) (before now : Option (List ℕ)) : Type 0 where
+pub record TakesReduction (m : Module) (waiting : List ℕ) (p : Program) (d : Reduced) (n : ℕ) (x : Parts) (before now : Option (List ℕ)) : Type 0 where
   pub text : List ℕ
   pub ks : List (Option Continuation)
   pub t : Term
@@ -72,7 +72,7 @@ pub record Fails (d : Reduced) (x x' : Parts) (before now : Option (List ℕ)) :
   pub sink : (now ≡ before) ⊎ Begun d before now
 
 -- in a configuration where r comes next, whose reduction comes to d; it fails for want of memory only where that may take some
-abbrev pub ComesTo : Option RunStop → Module → Option ℕ → Program → Reduced → Rest → Parts → Parts → Option (List ℕ) → Option (List ℕ) → Type 0
+abbrev pub ComesTo : Option RunStop → Module → List ℕ → Program → Reduced → Rest → Parts → Parts → Option (List ℕ) → Option (List ℕ) → Type 0
 ComesTo None m waiting p d r x x' before now = TakesReduction m waiting p d (length x.conts.entries) x' before now
 ComesTo (Some run_stop.Ended) m waiting p d r x x' before now = (d ≡ Ended (stack (top x.chain).shape.operands)) × Unchanged x x' before now
 ComesTo (Some (run_stop.Limit name)) m waiting p d r x x' before now = (d ≡ Limited name) × (now ≡ before)
@@ -82,7 +82,7 @@ ComesTo (Some run_stop.OutOfMemory) m waiting p d r x x' before now = Fails d x 
 
 -- in each configuration that they stand for
 abbrev pub PartsReduce : Option RunStop → Module → Parts → Parts → Option (List ℕ) → Option (List ℕ) → Type 0
-PartsReduce result m x x' before now = (waiting : Option ℕ) (p : Program) (ks : List (Option Continuation)) (t : Term) → Stands m waiting x p ks t
+PartsReduce result m x x' before now = (waiting : List ℕ) (p : Program) (ks : List (Option Continuation)) (t : Term) → Stands m waiting x p ks t
     → ComesTo result m waiting p (reduce p (whole x.store ks) t) t.rest x x' before now
 
 -- ## What a call answers

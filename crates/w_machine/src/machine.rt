@@ -1,19 +1,19 @@
 //! The machine.
-ghost use Rattle.std.specs.Prelude.{◌≡◌, ◌≢◌, ◌+◌, ◌<◌, ◌≤◌, ℕ, true, false, [], length, Some, None, is_some, IfOk};
+ghost use Rattle.std.specs.Prelude.{◌≡◌, ◌≢◌, ◌+◌, ◌<◌, ◌≤◌, ℕ, true, false, [], length, All, Some, None, is_some, IfOk};
 ghost use Rattle.w_outside.specs.Outside.{Rose};
 ghost use Rattle.w_reduce.specs.Store.{Store as TheStore, made, live, consumed};
 ghost use Rattle.w_reduce.specs.Terms.{Term};
 ghost use Rattle.w_reduce.specs.Program.{Program as TheProgram};
 ghost use Rattle.w_reduce.specs.Run.{Run};
-ghost use Rattle.w_rules.specs.Spaces.{functions_of};
 ghost use Rattle.w_stands.specs.Code.{AllShort};
 ghost use Rattle.w_stands.specs.Values.{vals};
-ghost use Rattle.w_machine.specs.Beginning.{Begins, BeginsWith};
+ghost use Rattle.w_reduce.specs.Start.{starts_of};
+ghost use Rattle.w_machine.specs.Beginning.{origin_of, Begins, BeginsWith, BeginsAt};
 ghost use Rattle.w_machine.specs.RunStop.{stopped_at, stopped_in};
 ghost use Rattle.w_machine.specs.AttemptedStepOn.{AttemptsStepOn};
 ghost use Rattle.w_machine.specs.Position.{Steps, StopsWith, StopsIfEnded, Runs, counted, most_reductions};
 ghost use Rattle.w_machine.specs.Results.{HasResults};
-ghost use Rattle.w_machine.specs.Reached.{AreFirst, IsBeginning, IsTurned, IsFresh, is_last};
+ghost use Rattle.w_machine.specs.Reached.{AreFirst, IsTurned, IsFresh, is_last};
 
 use crate::attempt::attempt_step;
 use crate::configuration::Configuration;
@@ -30,6 +30,7 @@ use w_reduce::RunLimit;
 use w_rules::{Checked, Runnable, Spaces};
 use w_segment::{Segment, Stage};
 use w_syntax::Module;
+use w_tables::Store;
 use w_types::Value;
 
 /// A run of a module. After so many steps it stands for the run of so many reductions.
@@ -37,11 +38,14 @@ use w_types::Value;
 pub struct Machine {
     alloc: Global,
     runnable: Runnable,
+    /// The functions that run before main, in order, and main.
+    starts: Vec<u32>,
+    main: u32,
     /// The index of each function's type, imported functions in front.
     functions: Vec<u32>,
     configuration: Configuration,
-    /// The segment of main, while the start function runs.
-    waiting: Option<Box<Segment>>,
+    /// The segments of the functions that run later. The next one is last, and main's is first.
+    waiting: Vec<Box<Segment>>,
     taken: u64,
     stop: Option<RunStop>,
     /// How many continuations were made, and weren't consumed, before what stopped it.
@@ -57,9 +61,9 @@ impl Model for Machine {
 
     ghost coded = { position_code };
 
-    ghost view = { λ a. record { program = a.runnable; taken = a.taken; stop = a.stop } };
+    ghost view = { λ a. record { origin = record { source = a.runnable; starts = a.starts.items; main = a.main }; taken = a.taken; stop = a.stop } };
 
-    ghost invariant = { λ a. IsReached a.runnable a.functions.items a.configuration a.waiting a.stop a.taken a.made a.live };
+    ghost invariant = { λ a. IsReached (record { source = a.runnable; starts = a.starts.items; main = a.main }) a.functions.items a.configuration a.waiting.items a.stop a.taken a.made a.live };
 }
 
 // Whether each body has fewer than 2^32 instructions, so that their places are numbers of 32 bits.
@@ -74,69 +78,51 @@ fn are_short(program: &Module) -> bool
     true
 }
 
-// The segments that a run begins with: that of main, or that of the start function, for which main's waits.
+// The start function, where there is one.
+fn start_list(alloc: Global, start: Option<u32>) -> Result<Vec<u32>, AllocError>
+    ensures { IfOk result (λ starts. starts.items ≡ starts_of start) }
+{
+    let mut starts = Vec::new(alloc);
+    if let Some(function) = start {
+        starts.push(function)?;
+    }
+    Ok(starts)
+}
+
+// The segment that runs first, and those that wait: of the functions of `starts`, and of main.
 fn first_segments(
     alloc: Global,
-    start: Option<u32>,
+    starts: &[u32],
     main: u32,
-) -> Result<(Box<Segment>, Option<Box<Segment>>), AllocError>
-    ensures { IfOk result (λ r. AreFirst start main r.0 r.1) }
+) -> Result<(Box<Segment>, Vec<Box<Segment>>), AllocError>
+    ensures { IfOk result (λ r. AreFirst starts.now main r.0 r.1.items) }
 {
-    let main = Segment::fresh(alloc, main, 0)?;
-    match start {
-        Some(function) => Ok((Segment::fresh(alloc, function, 0)?, Some(main))),
-        None => Ok((main, None)),
+    let mut waiting = Vec::new(alloc);
+    let mut next = Segment::fresh(alloc, main, 0)?;
+    let mut left = starts.len();
+    while left > 0 {
+        left -= 1;
+        waiting.push(next)?;
+        next = Segment::fresh(alloc, starts[left], 0)?;
     }
+    Ok((next, waiting))
 }
 
-// What a machine begins with, beside its module and its store.
-#[derive(Drop)]
-struct Beginning {
-    functions: Vec<u32>,
-    chain: Chain,
-    waiting: Option<Box<Segment>>,
-}
-
-// The index of each function's type, imported functions in front. It fails only for want of memory.
-fn function_types(alloc: Global, program: &Module) -> Result<Vec<u32>, AllocError>
-    ensures { IfOk result (λ functions. functions.items ≡ functions_of program.now) }
-{
-    Ok(Spaces::of_module(alloc, program)?.functions)
-}
-
-// The beginning of a module whose bodies are short.
-fn first_parts(alloc: Global, program: &Module, main: u32) -> Result<Beginning, AllocError>
-    ensures { IfOk result (λ b. IsBeginning program.now main b.functions.items b.chain b.waiting) }
-{
-    if !are_short(program) {
-        return Err(AllocError);
-    }
-    let (segment, waiting) = first_segments(alloc, program.start, main)?;
-    let functions = function_types(alloc, program)?;
-    let mut chain = Chain::new();
-    chain.push(segment);
-    Ok(Beginning {
-        functions,
-        chain,
-        waiting,
-    })
-}
-
-// Where the last segment is left, the one that waits runs next.
+// Where the last segment is left, the next one of those that wait runs.
 #[inline(always)]
-fn turn(chain: &mut Chain, waiting: &mut Option<Box<Segment>>)
+fn turn(chain: &mut Chain, waiting: &mut Vec<Box<Segment>>)
     requires some { 0 < length chain.old }
-    requires one { IsFresh waiting.old }
-    ensures stays { is_last chain.old ≡ false → (chain.new ≡ chain.old) × (waiting.new ≡ waiting.old) }
-    ensures turns { is_last chain.old ≡ true → IsTurned waiting.old chain.old chain.new × (waiting.new ≡ None) }
+    requires fresh { All IsFresh waiting.old.items }
+    ensures stays { is_last chain.old ≡ false → (chain.new ≡ chain.old) × (waiting.new.items ≡ waiting.old.items) }
+    ensures turns { is_last chain.old ≡ true → IsTurned waiting.old.items chain.old chain.new waiting.new.items }
 {
     // mostly none waits, which is found sooner than where the last one stands
-    if waiting.is_none() {
+    if waiting.is_empty() {
         return;
     }
     if let Stage::Values = chain.stack().stage() {
         if chain.handles() == 0 {
-            if let Some(next) = waiting.take() {
+            if let Some(next) = waiting.pop() {
                 let _left = chain.pop();
                 chain.push(next);
             }
@@ -155,46 +141,79 @@ fn count(stop: RunStop) -> u64
 }
 
 impl Machine {
+    // The run of a module from its first store, with no reduction taken: the functions of `starts` run in order, and then main.
+    fn begun(
+        alloc: Global,
+        runnable: Runnable,
+        store: Store,
+        starts: Vec<u32>,
+        main: u32,
+    ) -> Result<Machine, AllocError>
+        requires { BeginsAt runnable store starts.items main }
+        ensures { IfOk result (λ machine. machine ≡ record { origin = record { source = runnable; starts = starts.items; main = main }; taken = 0; stop = None }) }
+    {
+        let module = runnable.module();
+        if !are_short(module) {
+            return Err(AllocError);
+        }
+        let functions = Spaces::of_module(alloc, module)?.functions;
+        let (segment, waiting) = first_segments(alloc, starts.as_slice(), main)?;
+        let mut chain = Chain::new();
+        chain.push(segment);
+        Ok(Machine {
+            alloc,
+            runnable,
+            starts,
+            main,
+            functions,
+            configuration: Configuration {
+                store,
+                chain,
+                conts: ContStore::new(alloc),
+            },
+            waiting,
+            taken: 0,
+            stop: None,
+            made: 0,
+            live: 0,
+        })
+    }
+
     /// The run of a module from its first store, with no reduction taken. It fails only for want of memory, as where a body has 2^32
     /// instructions or more.
     pub fn new(alloc: Global, checked: Checked, instance: Instance) -> Result<Machine, AllocError>
         requires { BeginsWith checked instance.store instance.main }
-        ensures { IfOk result (λ machine. machine ≡ record { program = checked; taken = 0; stop = None }) }
+        ensures { IfOk result (λ machine. machine ≡ record { origin = origin_of checked instance.main; taken = 0; stop = None }) }
     {
         let runnable = checked.into_runnable();
         let module = runnable.module();
         let _classes = runnable.classes();
-        match first_parts(alloc, module, instance.main) {
-            Ok(beginning) => Ok(Machine {
-                alloc,
-                runnable,
-                functions: beginning.functions,
-                configuration: Configuration {
-                    store: instance.store,
-                    chain: beginning.chain,
-                    conts: ContStore::new(alloc),
-                },
-                waiting: beginning.waiting,
-                taken: 0,
-                stop: None,
-                made: 0,
-                live: 0,
-            }),
-            Err(error) => {
-                drop(runnable);
-                drop(instance);
-                Err(error)
-            }
-        }
+        let starts = start_list(alloc, module.start)?;
+        Machine::begun(alloc, runnable, instance.store, starts, instance.main)
+    }
+
+    /// The run of a module that was made of several files, from its first store, with no reduction taken: the functions of `starts` run
+    /// in order, and then main. It fails only for want of memory, as where a body has 2^32 instructions or more.
+    pub fn linked(
+        alloc: Global,
+        runnable: Runnable,
+        store: Store,
+        starts: Vec<u32>,
+        main: u32,
+    ) -> Result<Machine, AllocError>
+        requires { BeginsAt runnable store starts.items main }
+        ensures { IfOk result (λ machine. machine ≡ record { origin = record { source = runnable; starts = starts.items; main = main }; taken = 0; stop = None }) }
+    {
+        Machine::begun(alloc, runnable, store, starts, main)
     }
 
     /// How many reductions were taken.
     pub fn taken(&self) -> u64
         ensures value { result ≡ self.now.taken }
         // So many the run counts itself.
-        ensures counts { (p : TheProgram) (s : TheStore) (t : Term) → Begins self.now.program p s t → (Run p s t result).taken ≡ result }
+        ensures counts { (p : TheProgram) (s : TheStore) (t : Term) → Begins self.now.origin p s t → (Run p s t result).taken ≡ result }
         // Where something stopped it, that is what the run came to after so many.
-        ensures stopped { (p : TheProgram) (s : TheStore) (t : Term) → Begins self.now.program p s t
+        ensures stopped { (p : TheProgram) (s : TheStore) (t : Term) → Begins self.now.origin p s t
             → (k : RunStop) → self.now.stop ≡ Some k → StopsWith k (Run p s t result).outcome }
     {
         self.taken
@@ -202,7 +221,7 @@ impl Machine {
 
     /// How many continuations were made.
     pub fn made(&self) -> u64
-        ensures value { (p : TheProgram) (s : TheStore) (t : Term) → Begins self.now.program p s t → made (Run p s t self.now.taken).store ≡ result }
+        ensures value { (p : TheProgram) (s : TheStore) (t : Term) → Begins self.now.origin p s t → made (Run p s t self.now.taken).store ≡ result }
     {
         if self.stop.is_some() {
             self.made
@@ -213,7 +232,7 @@ impl Machine {
 
     /// How many of them aren't consumed.
     pub fn live(&self) -> u64
-        ensures value { (p : TheProgram) (s : TheStore) (t : Term) → Begins self.now.program p s t → live (Run p s t self.now.taken).store ≡ result }
+        ensures value { (p : TheProgram) (s : TheStore) (t : Term) → Begins self.now.origin p s t → live (Run p s t self.now.taken).store ≡ result }
     {
         if self.stop.is_some() {
             self.live
@@ -224,7 +243,7 @@ impl Machine {
 
     /// How many of them are.
     pub fn consumed(&self) -> u64
-        ensures value { (p : TheProgram) (s : TheStore) (t : Term) → Begins self.now.program p s t → consumed (Run p s t self.now.taken).store ≡ result }
+        ensures value { (p : TheProgram) (s : TheStore) (t : Term) → Begins self.now.origin p s t → consumed (Run p s t self.now.taken).store ≡ result }
     {
         if self.stop.is_some() {
             self.made - self.live
@@ -350,7 +369,7 @@ impl Machine {
 
     /// The values that the run ended with, in order; none before.
     pub fn results(&self) -> &[Value]
-        ensures ended { self.now.stop ≡ Some RunStop.Ended → (p : TheProgram) (s : TheStore) (t : Term) → Begins self.now.program p s t
+        ensures ended { self.now.stop ≡ Some RunStop.Ended → (p : TheProgram) (s : TheStore) (t : Term) → Begins self.now.origin p s t
             → (n : ℕ) → self.now.taken ≤ n → HasResults (Run p s t n).outcome (vals result.now) }
         ensures none { self.now.stop ≢ Some RunStop.Ended → result.now ≡ [] }
     {

@@ -7,7 +7,7 @@ use Rattle.w_machine.specs.Position.{Position}
 use Rattle.replies.specs.Pieces.{joined}
 use Rattle.replies.specs.Origin.{trap_reply_of}
 use Rattle.drive.proofs.Refusals.{refuses_same, same_refusal}
-use Rattle.drive.proofs.Runs.{from_first, first_ended, first_after, first_program, lines_of_vals, run_refused, run_ended, run_unlisted, run_failed, run_out}
+use Rattle.drive.proofs.Runs.{from_first, first_ended, first_after, first_origin, lines_of_vals, run_refused, run_ended, run_unlisted, run_failed, run_out}
 use Rattle.drive.proofs.Statistics.{not_reply}
 use Rattle.drive.proofs.running.run_machine.Goals as goal
 
@@ -69,30 +69,30 @@ pub returns-in-Trapped-clause-after : goal.returns-in-Trapped-clause-after
 returns-in-Trapped-clause-after g c =
     λ _. first_after _ c.args.steps c.args.machine.now c.run.new.self (Some (RunStopTrapped c.in-Trapped.trap)) (g.O.Sink.held c.args.out.now) (g.O.Sink.held c.run.new.out) c.requires.first c.in-Trapped.ensures.runs refl
 
-pub returns-in_err-pieces-in-Ended-clause-program : goal.returns-in_err-pieces-in-Ended-clause-program
-returns-in_err-pieces-in-Ended-clause-program g c =
-    first_program _ c.args.steps c.args.machine.now c.run.new.self (Some Ended) (g.O.Sink.held c.args.out.now) (g.O.Sink.held c.run.new.out) c.requires.first c.in-Ended.ensures.runs
+pub returns-in_err-pieces-in-Ended-clause-origin : goal.returns-in_err-pieces-in-Ended-clause-origin
+returns-in_err-pieces-in-Ended-clause-origin g c =
+    first_origin _ c.args.steps c.args.machine.now c.run.new.self (Some Ended) (g.O.Sink.held c.args.out.now) (g.O.Sink.held c.run.new.out) c.requires.first c.in-Ended.ensures.runs
 
-pub returns-in_ok-pieces-in-Ended-clause-program : goal.returns-in_ok-pieces-in-Ended-clause-program
-returns-in_ok-pieces-in-Ended-clause-program g c =
-    first_program _ c.args.steps c.args.machine.now c.run.new.self (Some Ended) (g.O.Sink.held c.args.out.now) (g.O.Sink.held c.run.new.out) c.requires.first c.in-Ended.ensures.runs
+pub returns-in_ok-pieces-in-Ended-clause-origin : goal.returns-in_ok-pieces-in-Ended-clause-origin
+returns-in_ok-pieces-in-Ended-clause-origin g c =
+    first_origin _ c.args.steps c.args.machine.now c.run.new.self (Some Ended) (g.O.Sink.held c.args.out.now) (g.O.Sink.held c.run.new.out) c.requires.first c.in-Ended.ensures.runs
 
-pub returns-in-Running-clause-program : goal.returns-in-Running-clause-program
-returns-in-Running-clause-program g c =
-    first_program _ c.args.steps c.args.machine.now c.run.new.self (None) (g.O.Sink.held c.args.out.now) (g.O.Sink.held c.run.new.out) c.requires.first c.in-Running.ensures.runs
+pub returns-in-Running-clause-origin : goal.returns-in-Running-clause-origin
+returns-in-Running-clause-origin g c =
+    first_origin _ c.args.steps c.args.machine.now c.run.new.self (None) (g.O.Sink.held c.args.out.now) (g.O.Sink.held c.run.new.out) c.requires.first c.in-Running.ensures.runs
 
-pub returns-in-Limit-clause-program : goal.returns-in-Limit-clause-program
-returns-in-Limit-clause-program g c =
-    first_program _ c.args.steps c.args.machine.now c.run.new.self (Some (RunStopLimit c.in-Limit.name)) (g.O.Sink.held c.args.out.now) (g.O.Sink.held c.run.new.out) c.requires.first c.in-Limit.ensures.runs
+pub returns-in-Limit-clause-origin : goal.returns-in-Limit-clause-origin
+returns-in-Limit-clause-origin g c =
+    first_origin _ c.args.steps c.args.machine.now c.run.new.self (Some (RunStopLimit c.in-Limit.name)) (g.O.Sink.held c.args.out.now) (g.O.Sink.held c.run.new.out) c.requires.first c.in-Limit.ensures.runs
 
-pub returns-in-Trapped-clause-program : goal.returns-in-Trapped-clause-program
-returns-in-Trapped-clause-program g c =
-    first_program _ c.args.steps c.args.machine.now c.run.new.self (Some (RunStopTrapped c.in-Trapped.trap)) (g.O.Sink.held c.args.out.now) (g.O.Sink.held c.run.new.out) c.requires.first c.in-Trapped.ensures.runs
+pub returns-in-Trapped-clause-origin : goal.returns-in-Trapped-clause-origin
+returns-in-Trapped-clause-origin g c =
+    first_origin _ c.args.steps c.args.machine.now c.run.new.self (Some (RunStopTrapped c.in-Trapped.trap)) (g.O.Sink.held c.args.out.now) (g.O.Sink.held c.run.new.out) c.requires.first c.in-Trapped.ensures.runs
 
-pub returns-in-WriteFault-clause-program : goal.returns-in-WriteFault-clause-program
-returns-in-WriteFault-clause-program g c =
-    first_program _ c.args.steps c.args.machine.now c.run.new.self (Some RunStopWriteFault) (g.O.Sink.held c.args.out.now) (g.O.Sink.held c.run.new.out) c.requires.first c.in-WriteFault.ensures.runs
+pub returns-in-WriteFault-clause-origin : goal.returns-in-WriteFault-clause-origin
+returns-in-WriteFault-clause-origin g c =
+    first_origin _ c.args.steps c.args.machine.now c.run.new.self (Some RunStopWriteFault) (g.O.Sink.held c.args.out.now) (g.O.Sink.held c.run.new.out) c.requires.first c.in-WriteFault.ensures.runs
 
-pub returns-in-OutOfMemory-clause-program : goal.returns-in-OutOfMemory-clause-program
-returns-in-OutOfMemory-clause-program g c =
-    first_program _ c.args.steps c.args.machine.now c.run.new.self (Some RunStopOutOfMemory) (g.O.Sink.held c.args.out.now) (g.O.Sink.held c.run.new.out) c.requires.first c.in-OutOfMemory.ensures.runs
+pub returns-in-OutOfMemory-clause-origin : goal.returns-in-OutOfMemory-clause-origin
+returns-in-OutOfMemory-clause-origin g c =
+    first_origin _ c.args.steps c.args.machine.now c.run.new.self (Some RunStopOutOfMemory) (g.O.Sink.held c.args.out.now) (g.O.Sink.held c.run.new.out) c.requires.first c.in-OutOfMemory.ensures.runs

@@ -2,7 +2,7 @@ use Rattle.std.proofs.Common.{◌≡◌, refl}
 use Rattle.std.specs.Prelude.{true}
 use Rattle.w_reduce.specs.Program.{Program}
 use Rattle.w_stands.specs.Values.{store_of}
-use Rattle.w_inst.proofs.FirstStore.{all_made, made_stands, made_segments}
+use Rattle.w_inst.proofs.AllocatedStores.{all_made, made_stands, made_segments}
 use Rattle.w_inst.proofs.first_store.add_all.Goals as goal
 
 pub returns-clause-allocated : goal.returns-clause-allocated

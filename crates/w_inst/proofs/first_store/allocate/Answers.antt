@@ -2,7 +2,7 @@ use Rattle.std.proofs.Common.{◌≡◌, ◌+◌, List, length, refl, sym, subst
 use Rattle.w_types.specs.declared.value.Value.{Value}
 use Rattle.w_reduce.specs.Start.{bare, with_globals}
 use Rattle.w_inst.specs.Instances.{StandsFor}
-use Rattle.w_inst.proofs.FirstStore.{bare_count}
+use Rattle.w_inst.proofs.AllocatedStores.{bare_count}
 use Rattle.w_inst.proofs.FoundValues.{having}
 use Rattle.w_inst.proofs.first_store.allocate.Goals as goal
 

@@ -8,4 +8,4 @@ pub start_data-requires-clause-constant : goal.start_data-requires-clause-consta
 start_data-requires-clause-constant c =
     let P : Data → Type 0 = λ d. IsDataConstant d.mode in
     subst P c.index-datas-index.is
-    (offset_constant c.args.program.now c.as_slice-datas.result.now c.loop-index.index c.index-datas-index.result c.requires.sound c.as_slice-datas.ensures c.loop-index-test.true c.index-datas-index.is)
+    (offset_constant c.args.program.now c.args.datas.now c.args.first c.loop-index.index c.index-datas-index.result c.requires.sound c.requires.part c.loop-index-test.true c.index-datas-index.is)

@@ -5,7 +5,7 @@ use Rattle.w_reduce.specs.Constants.{value_of}
 use Rattle.w_stands.specs.Values.{store_of}
 use Rattle.w_inst.specs.Adding.{with_elements}
 use Rattle.w_inst.proofs.AddedItems.{added_more, added_all, elements_kind, elements_added}
-use Rattle.w_inst.proofs.RoomInModules.{element_constant}
+use Rattle.w_inst.proofs.RoomInModules.{element_constant_at}
 use Rattle.w_inst.proofs.values.add_elements.Goals as goal
 
 pub loop-segment-init : goal.loop-segment-init
@@ -13,7 +13,7 @@ loop-segment-init c = λ p s w. ap (λ (l : List Elem). with_elements (store_of 
 
 pub item_values-requires : goal.item_values-requires
 item_values-requires c = record {
-  constant = (element_constant c.args.program.now c.as_slice-segment-items.result.now c.loop-segment.segment-index c.segment-item.result c.requires.sound c.as_slice-segment-items.ensures c.loop-segment-test.true c.segment-item.is).items;
+  constant = (element_constant_at c.args.program.now c.as_slice-segment-items.result.now c.loop-segment.segment-index c.segment-item.result c.requires.sound c.as_slice-segment-items.ensures c.loop-segment-test.true c.segment-item.is).items;
 }
 
 pub loop-segment-preserved : goal.loop-segment-preserved

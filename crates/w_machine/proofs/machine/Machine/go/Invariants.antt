@@ -17,7 +17,7 @@ invariant-loop-self g l =
       most : l.self.taken ≤ l.end;
       end : l.end ≡ l.fn.self.taken + l.fn.steps;
       none_stopped : l.fn.self.stop ≡ None;
-      printed : (p : Program) (s : Store) (t : Term) → Begins l.fn.self.program p s t
+      printed : (p : Program) (s : Store) (t : Term) → Begins l.fn.self.origin p s t
           → PrintedBetween (Run p s t l.fn.self.taken) (Run p s t (l.fn.self.taken + i)) (g.O.Sink.held l.fn.out) (g.O.Sink.held l.out);
       later : g.O.Sink.faults l.fn.out ≤ g.O.Sink.faults l.out;
     }

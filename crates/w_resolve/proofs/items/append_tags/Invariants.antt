@@ -1,0 +1,6 @@
+use Rattle.std.proofs.Common.{◌≡◌, ◌++◌, map}
+use Rattle.w_link.specs.Items.{tag_shifted}
+use Rattle.w_resolve.proofs.items.append_tags.Given as goal
+
+abbrev pub invariant-loop-tag : goal.invariant-loop-tag
+invariant-loop-tag l = l.all.items ≡ l.fn.all.items ++ map (tag_shifted l.instance.types) l.yielded

@@ -1,0 +1,7 @@
+use Rattle.std.proofs.Common.{◌≡◌}
+use Rattle.w_link.specs.Shifted.{sub_shifted}
+use Rattle.w_resolve.proofs.InPlace.{changed}
+use Rattle.w_resolve.proofs.types.resolve_group.Given as goal
+
+abbrev pub invariant-loop-kind : goal.invariant-loop-kind
+invariant-loop-kind l = l.kind-items ≡ changed (sub_shifted l.n) l.kind-index l.initial.kind-items
