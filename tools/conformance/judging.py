@@ -1,11 +1,12 @@
-"""Judges rows by the second readers of modules, of their texts and of scripts, by the second compiler of scripts, and
-by the second reader of their meaning."""
+"""Judges rows by the second readers of modules, of their texts, of scripts and of linking, by the second compiler of
+scripts, and by the second reader of their meaning."""
 
 import re
 from collections import Counter
 
 from assembler.canonical import canonical
 from executing import USUAL_STEPS
+from executing.linking_calls import outcome_of_call
 from following import contradiction, outcome_of_script
 from generated_scripts import GENERATED_STEPS, GREATEST_NUMBER, generated
 from reader import answer
@@ -37,11 +38,17 @@ def faults(name, rows):
 
 def is_judged(row):
     """Whether the second readers judge a row: a call on a file that is there and not too large, or on a generated
-    script, where nothing fails, and no run of a script that is too long."""
+    script, where nothing fails, and no run of a script that is too long; or any call of `link` where nothing fails."""
+    if _is_link(row):
+        return not row.fails
     command, given = _call(row)
     if given is None or len(given) > GREATEST_FILE or row.fails:
         return False
     return not _is_script_run(command, given) or outcome_of_script(given, _steps(row)) is not None
+
+
+def _is_link(row):
+    return row.words[:2] == ['stackwasm', 'link']
 
 
 def _call(row):
@@ -71,6 +78,8 @@ def _contradiction(row):
     """What the second reader says against a row, if it judges it and says otherwise."""
     if not is_judged(row):
         return None
+    if _is_link(row):
+        return _contradicted_outcome(row, outcome_of_call(row.words[2:], row.files))
     command, given = _call(row)
     if _is_script_run(command, given):
         return _contradicted_run(row, given)
@@ -90,10 +99,15 @@ def _contradiction(row):
 
 def _contradicted_run(row, given):
     """The run of a script is to come to what its module comes to, and to follow the script."""
-    outcome = outcome_of_script(given, _steps(row))
+    contradicted = _contradicted_outcome(row, outcome_of_script(given, _steps(row)))
+    return contradicted or contradiction(given, _steps(row))
+
+
+def _contradicted_outcome(row, outcome):
+    """The out, err and status of a row are to be these."""
     if (row.out, row.err, row.status) != outcome:
         return f'the row says {row.out!r}, {row.err!r}, {row.status}, and the second reader {outcome}'
-    return contradiction(given, _steps(row))
+    return None
 
 
 def _contradicted_answer(row, said):

@@ -8,6 +8,7 @@ use Rattle.w_rules.specs.Limits.{Within}
 use Rattle.w_rules.specs.Valid.{Valid}
 use Rattle.w_text.specs.Text.{Text, text_of}
 use Rattle.w_spelled.proofs.ModulesGiven.{spelled_fits}
+use Rattle.words.specs.Request.{taken_by}
 use Rattle.words.specs.declared.request.Action.TheVariants.{Build, Dump, Assemble}
 use Rattle.replies.specs.declared.file_kind.FileKind.TheVariants as file
 use Rattle.replies.specs.Answer.{Reply, OnFile, OnBytes, BytesGive, ActionGives, gives, dumped, malformed, invalid, is_module, kind_of, module_or_script, input_limit, limit_input}
@@ -54,7 +55,7 @@ module _ (files sources : List ℕ → Known) (name source : List ℕ) (written 
   text : Text (text_of made.source) made.source
   text = spelled_fits h.bytes made.source h.small made.spelled
 
-  kind : kind_of Build h.bytes ≡ file.Module
+  kind : kind_of (taken_by Build) h.bytes ≡ file.Module
   kind = ap module_or_script (begins h.bytes made.source made.spelled)
 
   as_built : (reply : Reply) → OnFile (files name) (ActionGives Assemble) reply ↔ OnFile (sources source) (ActionGives Build) reply

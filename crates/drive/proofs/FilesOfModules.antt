@@ -1,6 +1,7 @@
 -- What a file of a valid module gives, by its bytes or by its text: just what the module gives.
 use Rattle.std.proofs.Common.{◌≡◌, ◌≤◌, ℕ, List, length, inl, inr, Result, Ok, Err, sym, subst, ◌∙◌, arith}
 use Rattle.std.specs.Prelude.{◌↔◌}
+use Rattle.words.specs.Request.{taken_by}
 use Rattle.w_outside.specs.Outside.{holds}
 use Rattle.w_syntax.specs.declared.module.Module.{Module}
 use Rattle.w_syntax.specs.Spells.{Spells}
@@ -35,7 +36,7 @@ module _ (m : Module) (within : Within m) (v : Valid m) (action : Action) (reply
     pub only_gives : BytesGive (gives action) bytes reply → gives action m reply
     only_gives h = only_accepted (Spells bytes) (NotSpelled bytes) (λ n s. one_module bytes n m s spelled) not_malformed h
 
-    module _ (kind : kind_of action bytes ≡ file.Module) where
+    module _ (kind : kind_of (taken_by action) bytes ≡ file.Module) where
       of_file : length bytes ≤ input_limit → OnFile (holds bytes) (ActionGives action) reply → gives action m reply
       of_file short (inl h) = only_gives (given_of action bytes file.Module kind reply h.1)
       of_file short (inr h) = absurd (omega (arith, short, h.0))
@@ -48,7 +49,7 @@ module _ (m : Module) (within : Within m) (v : Valid m) (action : Action) (reply
     only_given : TextGives (gives action) t reply → gives action m reply
     only_given h = only_accepted (Text t) (NoText t) (λ n s. one_text_module t n m s text) (λ r k. text_is_right t m k.0 text k.1) h
 
-    module _ (kind : kind_of action t ≡ file.Text) where
+    module _ (kind : kind_of (taken_by action) t ≡ file.Text) where
       of_text_file : length t ≤ input_limit → OnFile (holds t) (ActionGives action) reply → gives action m reply
       of_text_file short (inl h) = only_given (given_of action t file.Text kind reply h.1)
       of_text_file short (inr h) = absurd (omega (arith, short, h.0))

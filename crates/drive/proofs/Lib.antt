@@ -1,6 +1,6 @@
-pub mod LongFiles
 pub mod FileReplies
-pub mod Refusals
+pub mod FilesRead
+pub mod LinkedRuns
 pub mod Runs
 pub mod Statistics
 pub mod Replies
@@ -17,6 +17,3 @@ pub mod MeaningsOfRuns
 pub mod BuiltRuns
 pub mod AnswersMeant
 pub mod OutsMeant
-mod ModulesInPieces
-mod IntakesOfBytes
-mod FilesTakenIn

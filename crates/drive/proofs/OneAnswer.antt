@@ -1,6 +1,7 @@
 -- What is told of a file leaves one answer.
-use Rattle.std.proofs.Common.{◌≡◌, ℕ, List, Bool, false, inl, inr, Result, Ok, Err, refl, sym, ap, subst, ◌∙◌, arith}
+use Rattle.std.proofs.Common.{◌≡◌, ℕ, List, [], ◌∷◌, ◌++◌, length, Bool, false, inl, inr, Result, Ok, Err, refl, sym, ap, subst, ◌∙◌, arith}
 use Rattle.std.specs.Prelude.{◌≢◌}
+use Rattle.words.specs.Request.{taken_by}
 use Rattle.w_outside.specs.Outside.{Known, untold, missing, holds}
 use Rattle.w_syntax.specs.declared.module.Module.{Module}
 use Rattle.w_syntax.specs.Spells.{Spells}
@@ -16,15 +17,20 @@ use Rattle.words.specs.declared.request.Action.{Action}
 use Rattle.words.specs.declared.request.Action.TheVariants.{Check, Run as RunFor, Build, Dump, Assemble}
 use Rattle.s_code.specs.Lowered.{lowered}
 use Rattle.s_generate.specs.Generated.{generated as generated_script}
-use Rattle.words.specs.Line.{on_file as line_on_file, generated, bad}
+use Rattle.words.specs.Line.{on_file as line_on_file, on_files, generated, bad}
 use Rattle.w_text.specs.Text.{Text}
 use Rattle.w_text.proofs.Least.{one_module as one_text_module, text_is_right}
 use Rattle.w_text.proofs.Faults.{least_is_one}
 use Rattle.replies.specs.declared.file_kind.FileKind.{FileKind}
 use Rattle.replies.specs.declared.file_kind.FileKind.TheVariants as file
-use Rattle.replies.specs.Answer.{Reply, HasModuleFault, OnFile, OnBytes, GivenOf, BytesGive, TextGives, NotSpelled, NoText, ScriptGives, GivenAs, kind_of, wrong_text, ActionGives, TrapReply, gives, script_gives, RunGives, Compiled, trapped, faulted, built, run_gives, malformed, invalid, bad_script, generated_steps, ok_script}
+use Rattle.replies.specs.Answer.{Reply, HasModuleFault, OnFileOr, OnBytesOr, FileGives, FilesGive, NamesGive, LinkGives, linked_reply, in_file, limit_input, BytesRefusal, GivenOf, BytesGive, TextGives, NotSpelled, NoText, ScriptGives, GivenAs, kind_of, wrong_text, ActionGives, TrapReply, gives, script_gives, RunGives, Compiled, trapped, faulted, built, run_gives, malformed, invalid, bad_script, generated_steps, ok_script}
 use Rattle.drive.specs.Laws.{OneAnswer}
-use Rattle.drive.proofs.Programs.{one_program}
+use Rattle.w_linked.specs.Definitions.{definitions}
+use Rattle.w_linked.specs.Imports.{TypeTests}
+use Rattle.w_linked.specs.Starting.{StartL}
+use Rattle.w_rules.specs.Limits.{Within}
+use Rattle.w_rules.specs.Valid.{Valid}
+use Rattle.drive.proofs.Programs.{one_program, one_tests}
 
 -- ## A module has one fault
 
@@ -122,23 +128,63 @@ one_as file.Script action b = script_once (script_gives action) (script_given_on
 one_as file.Text action b = text_once action b
 
 one_done : (action : Action) (b : List ℕ) → IsOne (ActionGives action b)
-one_done action b = one_as (kind_of action b) action b
+one_done action b = one_as (kind_of (taken_by action) b) action b
 
 -- ## Files
 
-on_bytes : (Gives : List ℕ → Reply → Type 0) (b : List ℕ) → IsOne (Gives b) → IsOne (OnBytes Gives b)
-on_bytes Gives b one r s (inl h) (inl k) = one r s h.1 k.1
-on_bytes Gives b one r s (inl h) (inr k) = absurd (omega (arith, h.0, k.0))
-on_bytes Gives b one r s (inr h) (inl k) = absurd (omega (arith, h.0, k.0))
-on_bytes Gives b one r s (inr h) (inr k) = h.1 ∙ sym k.1
+-- where a file that is too long gives this
+module _ (too_long : Reply) (Gives : List ℕ → Reply → Type 0) where
+  on_bytes : (b : List ℕ) → IsOne (Gives b) → IsOne (OnBytesOr too_long Gives b)
+  on_bytes b one r s (inl h) (inl k) = one r s h.1 k.1
+  on_bytes b one r s (inl h) (inr k) = absurd (omega (arith, h.0, k.0))
+  on_bytes b one r s (inr h) (inl k) = absurd (omega (arith, h.0, k.0))
+  on_bytes b one r s (inr h) (inr k) = h.1 ∙ sym k.1
 
-on_file : (known : Known) (Gives : List ℕ → Reply → Type 0) → known ≢ untold → ((b : List ℕ) → IsOne (Gives b)) → IsOne (OnFile known Gives)
-on_file untold Gives told one r s h k = absurd (told refl)
-on_file missing Gives told one r s h k = h ∙ sym k
-on_file (holds b) Gives told one r s h k = on_bytes Gives b (one b) r s h k
+  on_file : (known : Known) → known ≢ untold → ((b : List ℕ) → IsOne (Gives b)) → IsOne (OnFileOr too_long known Gives)
+  on_file untold told one r s h k = absurd (told refl)
+  on_file missing told one r s h k = h ∙ sym k
+  on_file (holds b) told one r s h k = on_bytes b (one b) r s h k
+
+-- ## Several files
+
+linked_once : (steps : ℕ) (stats : Bool) (ms : List Module) → IsOne (LinkGives steps stats ms)
+linked_once steps stats ms r s h k =
+    h.2 ∙ ap (λ (t : TypeTests). linked_reply steps stats (StartL t ms)) (one_tests (definitions ms).types h.0 k.0 h.1 k.1) ∙ sym k.2
+
+module _ (b : List ℕ) where
+  not_refused : (m : Module) (r : Reply) → Spells b m → Within m → Valid m → BytesRefusal b r → ⊥
+  not_refused m r s w v (inl k) =
+      let f = subst (λ (n : Module). HasModuleFault n k.2.0) (one_module b k.0 m k.1 s) k.2.1 in
+      no_fault_of m k.2.0 w v f.0 f.1
+  not_refused m r s w v (inr k) = spelled_or_not b m r s k
+
+  refused_once : IsOne (BytesRefusal b)
+  refused_once r s h k = one_reply (Spells b) (NotSpelled b) (one_module b) (spelled_or_not b) (one_malformed b) (λ m reply. ⊥) (λ m r s h k. absurd h) r s (inr h) (inr k)
+
+  file_once : (f : ℕ) (Next : Module → Reply → Type 0) → ((m : Module) → IsOne (Next m)) → IsOne (FileGives f Next b)
+  file_once f Next one r s (inl h) (inl k) = accepted_once Next one h.0 k.0 r s (one_module b h.0 k.0 h.1 k.1) h.4 k.4
+  file_once f Next one r s (inl h) (inr k) = absurd (not_refused h.0 k.0 h.1 h.2 h.3 k.1)
+  file_once f Next one r s (inr h) (inl k) = absurd (not_refused k.0 h.0 k.1 k.2 k.3 h.1)
+  file_once f Next one r s (inr h) (inr k) = h.2 ∙ ap (in_file f) (refused_once h.0 k.0 h.1 k.1) ∙ sym k.2
+
+module _ (steps : ℕ) (stats : Bool) (files : List ℕ → Known) (told : (name : List ℕ) → files name ≢ untold) where
+  files_once : (names : List (List ℕ)) (ms : List Module) → IsOne (FilesGive steps stats ms names files)
+  files_once [] ms r s h k = linked_once steps stats ms r s h k
+  files_once (name ∷ names) ms r s h k =
+      on_file (in_file (length ms) limit_input) (FileGives (length ms) (λ m. FilesGive steps stats (ms ++ m ∷ []) names files)) (files name) (told name)
+      (λ b. file_once b (length ms) (λ m. FilesGive steps stats (ms ++ m ∷ []) names files) (λ m. files_once names (ms ++ m ∷ []))) r s h k
+
+  names_once : (names : List (List ℕ)) → IsOne (NamesGive steps stats names files)
+  names_once names r s (inl h) (inl k) = files_once names [] r s h.1 k.1
+  names_once names r s (inl h) (inr k) = absurd (omega (arith, h.0, k.0))
+  names_once names r s (inr h) (inl k) = absurd (omega (arith, h.0, k.0))
+  names_once names r s (inr h) (inr k) = h.1 ∙ sym k.1
+
+-- ## Lines
 
 pub one_answer : OneAnswer
 one_answer (line_on_file name action) files told r s h k =
-    on_file (files name) (ActionGives action) (told name) (one_done action) r s h k
+    on_file limit_input (ActionGives action) (files name) (told name) (one_done action) r s h k
+one_answer (on_files names steps stats) files told r s h k = names_once steps stats files told names r s h k
 one_answer (generated n) files told r s h k = one_done (RunFor generated_steps false) (generated_script n) r s h k
 one_answer bad files told r s h k = h ∙ sym k

@@ -1,5 +1,5 @@
 -- Each line has an answer, for whatever is told of the files: there can't be none.
-use Rattle.std.proofs.Common.{◌≡◌, ◌⊎◌, ◌≤◌, ◌<◌, ◌+◌, inl, inr, refl, sym, ◌∙◌, subst, List, [], ℕ, zero, suc, Bool, false, length, Result, Ok, Err, arith}
+use Rattle.std.proofs.Common.{◌≡◌, ◌⊎◌, ◌≤◌, ◌<◌, ◌+◌, inl, inr, refl, sym, ◌∙◌, subst, List, [], ◌∷◌, ◌++◌, ℕ, zero, suc, Bool, false, length, Result, Ok, Err, arith}
 use Rattle.w_outside.specs.Outside.{Known, untold, missing, holds}
 use Rattle.w_syntax.specs.declared.module.Module.{Module}
 use Rattle.w_decode.specs.declared.fault.DecodeFault.{DecodeFault}
@@ -27,13 +27,14 @@ use Rattle.words.specs.declared.request.Action.TheVariants.{Check, Run as RunFor
 use Rattle.words.specs.declared.request.Takes.TheVariants.{ModulesAndScripts}
 use Rattle.s_code.specs.Lowered.{lowered}
 use Rattle.s_generate.specs.Generated.{generated as generated_script}
-use Rattle.words.specs.Line.{on_file as line_on_file, generated, bad}
+use Rattle.words.specs.Line.{on_file as line_on_file, on_files, generated, bad}
 use Rattle.w_text.specs.Text.{Text}
 use Rattle.replies.specs.declared.file_kind.FileKind.{FileKind}
 use Rattle.replies.specs.declared.file_kind.FileKind.TheVariants as file
-use Rattle.replies.specs.Answer.{Reply, HasModuleFault, OnFile, OnBytes, GivenOf, BytesGive, TextGives, NotSpelled, NoText, ScriptGives, GivenAs, kind_of, ActionGives, TrapReply, gives, script_gives, RunGives, Compiled, trapped, faulted, built, generated_steps, input_limit, ok_script}
+use Rattle.replies.specs.Answer.{Reply, HasModuleFault, OnFileOr, OnBytesOr, FileGives, FilesGive, NamesGive, LinkGives, in_file, limit_input, most_files, GivenOf, BytesGive, TextGives, NotSpelled, NoText, ScriptGives, GivenAs, kind_of, ActionGives, TrapReply, gives, script_gives, RunGives, Compiled, trapped, faulted, built, generated_steps, input_limit, ok_script}
 use Rattle.drive.specs.Laws.{SomeAnswer}
-use Rattle.drive.proofs.Programs.{some_program}
+use Rattle.w_linked.specs.Definitions.{definitions}
+use Rattle.drive.proofs.Programs.{some_program, some_tests}
 use Rattle.drive.proofs.TextsDecided.{text_or_wrong}
 use Rattle.drive.proofs.WhatActionsGive.{takes_it}
 
@@ -41,16 +42,18 @@ use Rattle.drive.proofs.WhatActionsGive.{takes_it}
 abbrev IsTotal : (Reply → Type 0) → Type 0
 IsTotal Due = ((r : Reply) → Due r → ⊥) → ⊥
 
-on_bytes : (Gives : List ℕ → Reply → Type 0) (bytes : List ℕ) → IsTotal (Gives bytes) → IsTotal (OnBytes Gives bytes)
-on_bytes Gives bytes total none =
-    let not_long : input_limit < length bytes → ⊥ = λ h. none _ (inr (h, refl)) in
-    let short : length bytes ≤ input_limit = omega arith in
-    total (λ r gives. none r (inl (short, gives)))
+-- where a file that is too long gives this
+module _ (too_long : Reply) (Gives : List ℕ → Reply → Type 0) where
+  on_bytes : (bytes : List ℕ) → IsTotal (Gives bytes) → IsTotal (OnBytesOr too_long Gives bytes)
+  on_bytes bytes total none =
+      let not_long : input_limit < length bytes → ⊥ = λ h. none _ (inr (h, refl)) in
+      let short : length bytes ≤ input_limit = omega arith in
+      total (λ r gives. none r (inl (short, gives)))
 
-on_file : (known : Known) (Gives : List ℕ → Reply → Type 0) → ((bytes : List ℕ) → IsTotal (Gives bytes)) → IsTotal (OnFile known Gives)
-on_file untold Gives total none = on_bytes Gives [] (total []) (λ r h. none r ([], h))
-on_file missing Gives total none = none _ refl
-on_file (holds bytes) Gives total none = on_bytes Gives bytes (total bytes) none
+  on_file : (known : Known) → ((bytes : List ℕ) → IsTotal (Gives bytes)) → IsTotal (OnFileOr too_long known Gives)
+  on_file untold total none = on_bytes [] (total []) (λ r h. none r ([], h))
+  on_file missing total none = none _ refl
+  on_file (holds bytes) total none = on_bytes bytes (total bytes) none
 
 -- ## A module that has no least item without a derivation has none at all
 
@@ -263,15 +266,42 @@ script_total Accepted total bytes none = let j = some_judgement bytes in by j.0 
 
 -- ## What a file is
 
-some_as : (kind : FileKind) (action : Action) (bytes : List ℕ) → kind_of action bytes ≡ kind → IsTotal (GivenAs kind action bytes)
+some_as : (kind : FileKind) (action : Action) (bytes : List ℕ) → kind_of (taken_by action) bytes ≡ kind → IsTotal (GivenAs kind action bytes)
 some_as file.Module action bytes e = bytes_total (gives action) (some_given action) bytes
 some_as file.Script action bytes e = script_total (script_gives action) (some_script_given action (takes_it action bytes e)) bytes
 some_as file.Text action bytes e = text_total (gives action) (some_given action) bytes
 
 some_done : (action : Action) (bytes : List ℕ) → IsTotal (ActionGives action bytes)
-some_done action bytes = some_as (kind_of action bytes) action bytes refl
+some_done action bytes = some_as (kind_of (taken_by action) bytes) action bytes refl
+
+-- ## Several files
+
+linked_total : (steps : ℕ) (stats : Bool) (ms : List Module) → IsTotal (LinkGives steps stats ms)
+linked_total steps stats ms none = some_tests (definitions ms).types (λ t tells. none _ (t, tells, refl))
+
+file_total : (f : ℕ) (Next : Module → Reply → Type 0) → ((m : Module) → IsTotal (Next m)) → (bytes : List ℕ) → IsTotal (FileGives f Next bytes)
+file_total f Next total bytes none = bytes_total Next total bytes by
+  where
+    by : (r : Reply) → BytesGive Next bytes r → ⊥
+    by r (inl h) = none r (inl h)
+    by r (inr h) = none _ (inr (r, h, refl))
+
+files_total : (steps : ℕ) (stats : Bool) (files : List ℕ → Known) (names : List (List ℕ)) (ms : List Module) → IsTotal (FilesGive steps stats ms names files)
+files_total steps stats files [] ms none = linked_total steps stats ms none
+files_total steps stats files (name ∷ names) ms none =
+    on_file (in_file (length ms) limit_input) (FileGives (length ms) (λ m. FilesGive steps stats (ms ++ m ∷ []) names files)) (files name)
+    (file_total (length ms) (λ m. FilesGive steps stats (ms ++ m ∷ []) names files) (λ m. files_total steps stats files names (ms ++ m ∷ []))) none
+
+names_total : (steps : ℕ) (stats : Bool) (files : List ℕ → Known) (names : List (List ℕ)) → IsTotal (NamesGive steps stats names files)
+names_total steps stats files names none = elim (cases_lt most_files (length names)) [
+  | inl many ↦ none _ (inr (many, refl))
+  | inr few ↦ files_total steps stats files names [] (λ r h. none r (inl (few, h)))
+]
+
+-- ## Lines
 
 pub some_answer : SomeAnswer
-some_answer (line_on_file name action) files none = on_file (files name) (ActionGives action) (some_done action) none
+some_answer (line_on_file name action) files none = on_file limit_input (ActionGives action) (files name) (some_done action) none
+some_answer (on_files names steps stats) files none = names_total steps stats files names none
 some_answer (generated n) files none = some_done (RunFor generated_steps false) (generated_script n) none
 some_answer bad files none = none _ refl

@@ -1,10 +1,8 @@
-pub mod InputFault
 pub mod Built
 pub mod Dumped
 pub mod Laws
 pub mod Delivery
 pub mod Leaving
-pub mod Reading
 pub mod Running
+pub mod Linking
 pub mod Meaning
-pub mod Intake

@@ -1,18 +1,13 @@
-//! The program, over any files and sinks: words, files, modules, scripts and texts, their judgement and their runs.
+//! The program, over any files and sinks: what the words ask for, done with modules, scripts, texts and linked files, and their runs.
 #![tactic(auto)]
 
 mod delivery;
-mod files;
 mod finishing;
-mod input;
-mod intake;
-mod judging;
 mod laws;
-mod module_intake;
+mod linking;
 mod program;
 mod running;
 mod scripts;
-mod texts;
 
 pub use laws::{
     answers_to_scripts_mean, build_is_idempotent, built_files_are_accepted, built_runs_are_alike,

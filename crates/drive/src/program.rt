@@ -2,20 +2,19 @@
 ghost use Rattle.std.specs.Prelude.{◌≡◌, ◌≢◌, ◌⊎◌, ◌≤◌, ℕ, List, false, map, string_bytes};
 ghost use Rattle.w_outside.specs.Outside.{Grew, Rose};
 ghost use Rattle.words.specs.Line.{line_of};
-ghost use Rattle.words.specs.Request.{IsWithinSteps};
+ghost use Rattle.words.specs.Request.{IsWithinSteps, taken_by};
 ghost use Rattle.words.specs.declared.request.Action.TheVariants.{Run as RunFor};
 ghost use Rattle.s_generate.specs.Generated.{generated as generated_script};
 ghost use Rattle.replies.specs.Answer.{ActionGives, Answer, HasStatus, generated_steps};
 ghost use Rattle.drive.specs.Delivery.{Answers, Answered, Stopped, MayFail, Replies};
-ghost use Rattle.drive.specs.Intake.{IsInputOf, IsShort};
+ghost use Rattle.intake.specs.Intake.{IsInputOf, IsShort};
 ghost use Rattle.drive.specs.Leaving.{Leaves};
 
 use crate::delivery::deliver;
-use crate::files::open;
 use crate::finishing::finish;
-use crate::intake::Input;
+use crate::linking::run_files;
 use crate::scripts::act_on_script;
-use crate::texts::judge_text;
+use intake::{Input, judge_text, open};
 use replies::{Output, Status, Stop, refuse};
 use s_generate::generate;
 use std::alloc::Global;
@@ -26,14 +25,14 @@ use words::{Action, Request, WordsFault, request_of};
 const GENERATED_STEPS: u64 = 10_000_000_000;
 
 static USAGE: &[u8] =
-    b"usage: stackwasm check FILE | run FILE [--steps N] [--stats] | build FILE | gen N | dump FILE | asm FILE\n";
+    b"usage: stackwasm check FILE | run FILE [--steps N] [--stats] | build FILE | gen N | dump FILE | asm FILE | link FILE.. [--steps N] [--stats]\n";
 
 // Does with a script, a text or a module what is asked for. What a run prints goes to out; the answer is what is left to write.
 fn act<O: Sink>(alloc: Global, action: Action, input: Input, out: &mut O) -> Result<Output, Stop>
     requires steps { IsWithinSteps action }
-    requires bytes { (b : List ℕ) × IsInputOf action input b }
+    requires bytes { (b : List ℕ) × IsInputOf (taken_by action) input b }
     requires short { IsShort input }
-    ensures leaves { (b : List ℕ) → IsInputOf action input b → Leaves (ActionGives action b) result
+    ensures leaves { (b : List ℕ) → IsInputOf (taken_by action) input b → Leaves (ActionGives action b) result
         (Grew (O.held out.old) (O.held out.new)) (Rose (O.faults out.old) (O.faults out.new)) }
     ensures later { O.faults out.old ≤ O.faults out.new }
 {
@@ -62,7 +61,7 @@ fn run_generated<O: Sink>(alloc: Global, number: u32, out: &mut O) -> Result<Out
         steps: GENERATED_STEPS,
         stats: false,
     };
-    let input = Input::of_bytes(alloc, action, bytes)?;
+    let input = Input::of_bytes(alloc, action.takes(), bytes)?;
     act(alloc, action, input, out)
 }
 
@@ -81,9 +80,16 @@ fn answer<F: Inputs, O: Sink>(
 {
     match request_of(alloc, words) {
         Ok(Request::OnFile { file, action }) => {
-            let input = open(alloc, files, file, action)?;
+            let input = open(alloc, files, file, action.takes())?;
             act(alloc, action, input, out)
         }
+        Ok(
+            Request::OnFiles {
+                files: names,
+                steps,
+                stats,
+            },
+        ) => run_files(alloc, files, names.as_slice(), steps, stats, out),
         Ok(Request::Generated(number)) => run_generated(alloc, number, out),
         Err(WordsFault::Bad) => Err(refuse(alloc, USAGE, Status::Usage)),
         Err(WordsFault::OutOfMemory) => Err(Stop::OutOfMemory),

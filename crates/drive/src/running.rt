@@ -28,8 +28,8 @@ use w_reduce::Trap;
 use w_rules::Checked;
 use w_types::Value;
 
-// The refusal by a trap.
-fn trap_refusal(alloc: Global, origin: Origin, trap: Trap) -> Stop
+/// The refusal by a trap.
+pub(crate) fn trap_refusal(alloc: Global, origin: Origin, trap: Trap) -> Stop
     ensures { Refuses (λ reply. reply ≡ trap_reply_of origin.entry trap) result }
 {
     match origin.trap_line(alloc, trap) {
@@ -107,8 +107,30 @@ fn with_stats(
     with_err(answer, line)
 }
 
-// Runs a module from its first store. The machine is let go in one place, since each such place is proved anew.
-fn run_from<O: Sink>(
+/// Runs a machine that has taken no reduction, to its answer. It is let go in one place, since each such place is proved anew.
+pub(crate) fn run_from<O: Sink>(
+    alloc: Global,
+    origin: Origin,
+    mut machine: Machine,
+    steps: u64,
+    stats: bool,
+    out: &mut O,
+) -> Result<Output, Stop>
+    requires within { steps ≤ most_reductions }
+    requires first { IsFirst machine }
+    ensures leaves { (p : Program) (s : Store) (t : Term) → Begins machine.origin p s t
+        → Leaves (λ reply. reply ≡ run_reply (trap_reply_of origin.entry) stats (Run p s t steps)) result
+        (Grew (O.held out.old) (O.held out.new)) (Rose (O.faults out.old) (O.faults out.new)) }
+    ensures later { O.faults out.old ≤ O.faults out.new }
+{
+    let answer = run_machine(alloc, origin, &mut machine, steps, out);
+    let replied = with_stats(alloc, stats, &machine, answer);
+    drop(machine);
+    replied
+}
+
+// Runs a module from its first store.
+fn run_instance<O: Sink>(
     alloc: Global,
     origin: Origin,
     checked: Checked,
@@ -124,11 +146,8 @@ fn run_from<O: Sink>(
         (Grew (O.held out.old) (O.held out.new)) (Rose (O.faults out.old) (O.faults out.new)) }
     ensures later { O.faults out.old ≤ O.faults out.new }
 {
-    let mut machine = Machine::new(alloc, checked, instance)?;
-    let answer = run_machine(alloc, origin, &mut machine, steps, out);
-    let replied = with_stats(alloc, stats, &machine, answer);
-    drop(machine);
-    replied
+    let machine = Machine::new(alloc, checked, instance)?;
+    run_from(alloc, origin, machine, steps, stats, out)
 }
 
 // Why a module has no run.
@@ -164,7 +183,7 @@ pub(crate) fn run<O: Sink>(
     // Which types match which is known.
     let _classes = checked.classes();
     match instantiate(alloc, &checked) {
-        Ok(instance) => run_from(alloc, origin, checked, instance, steps, stats, out),
+        Ok(instance) => run_instance(alloc, origin, checked, instance, steps, stats, out),
         Err(fault) => {
             drop(checked);
             Err(no_run(alloc, origin, fault))

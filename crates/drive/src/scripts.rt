@@ -12,8 +12,8 @@ ghost use Rattle.replies.specs.Status.{code_of};
 ghost use Rattle.replies.specs.Stop.{Ends, Gives, Refuses};
 
 use crate::finishing::build;
-use crate::judging::accept;
 use crate::running::run;
+use intake::accept;
 use replies::{Origin, Output, Status, Stop, refuse, refuse_by, script_line};
 use s_check::CheckedScript;
 use s_judge::{ScriptFault, judge};

@@ -1,1 +1,2 @@
 pub mod TextInPieces
+pub mod Refusals

@@ -27,6 +27,11 @@ use Rattle.w_reduce.specs.Store.{made, consumed, live}
 use Rattle.w_reduce.specs.Program.{Program, IsProgram}
 use Rattle.w_reduce.specs.Start.{Started, Ready, NoPrinter, NoEntry, Exceeds, StartTraps, Start}
 use Rattle.w_reduce.specs.Run.{Outcome, Running, Values, Traps, Limit, NoRule, RunState, Run}
+use Rattle.w_linked.specs.Definitions.{definitions}
+use Rattle.w_linked.specs.Imports.{TypeTests}
+use Rattle.w_linked.specs.Laws.{AreTestsOf}
+use Rattle.w_linked.specs.Starting.{StartedL}
+use Rattle.w_linked.specs.Starting as linked
 use Rattle.w_encode.specs.Canon.{Canon}
 use Rattle.w_text.specs.Text.{Text, text_of, IsWrongAt}
 use Rattle.s_syntax.specs.declared.name.Name.{Name}
@@ -44,7 +49,7 @@ use Rattle.words.specs.declared.request.Takes.{Takes}
 use Rattle.words.specs.declared.request.Takes.TheVariants as takes
 use Rattle.words.specs.declared.request.Action.{Action}
 use Rattle.words.specs.declared.request.Action.TheVariants.{Check, Run as RunFor, Build, Dump, Assemble}
-use Rattle.words.specs.Line.{Line, on_file, generated, bad}
+use Rattle.words.specs.Line.{Line, on_file, on_files, generated, bad}
 use Rattle.replies.specs.declared.file_kind.FileKind.{FileKind}
 use Rattle.replies.specs.declared.file_kind.FileKind.TheVariants as file
 
@@ -65,7 +70,7 @@ refusal text status = record { out = []; err = line text; status = status }
 -- ## The refusals
 
 abbrev pub usage : Reply
-usage = refusal (codes "usage: stackwasm check FILE | run FILE [--steps N] [--stats] | build FILE | gen N | dump FILE | asm FILE") 2
+usage = refusal (codes "usage: stackwasm check FILE | run FILE [--steps N] [--stats] | build FILE | gen N | dump FILE | asm FILE | link FILE.. [--steps N] [--stats]") 2
 
 -- what bytes with this fault give; want of memory is none of theirs
 abbrev pub malformed_text : DecodeFault → List ℕ
@@ -361,15 +366,15 @@ abbrev pub module_or_script : Bool → FileKind
 module_or_script true = file.Module
 module_or_script false = file.Script
 
--- by which files the action takes, and whether this one begins as modules do
+-- by which files are taken, and whether this one begins as modules do
 abbrev pub kind_among : Takes → Bool → FileKind
 kind_among takes.ModulesAndScripts begins = module_or_script begins
 kind_among takes.Modules begins = file.Module
 kind_among takes.Texts begins = file.Text
 
--- what bytes are to an action
-abbrev pub kind_of : Action → List ℕ → FileKind
-kind_of action bytes = kind_among (taken_by action) (is_module bytes)
+-- what bytes are to what takes such files
+abbrev pub kind_of : Takes → List ℕ → FileKind
+kind_of t bytes = kind_among t (is_module bytes)
 
 -- what an action gives of bytes of a kind
 abbrev pub GivenAs : FileKind → Action → List ℕ → Reply → Type 0
@@ -378,20 +383,74 @@ GivenAs file.Script action bytes = ScriptGives (script_gives action) bytes
 GivenAs file.Text action bytes = TextGives (gives action) bytes
 
 abbrev pub ActionGives : Action → List ℕ → Reply → Type 0
-ActionGives action bytes = GivenAs (kind_of action bytes) action bytes
+ActionGives action bytes = GivenAs (kind_of (taken_by action) bytes) action bytes
 
 -- ## Files
 
--- what bytes give, where they are not too many
+-- what bytes give, where they are not too many, and else this
+abbrev pub OnBytesOr : Reply → (List ℕ → Reply → Type 0) → List ℕ → Reply → Type 0
+OnBytesOr too_many Gives bytes reply = ((length bytes ≤ input_limit) × Gives bytes reply)
+    ⊎ ((input_limit < length bytes) × (reply ≡ too_many))
+
 abbrev pub OnBytes : (List ℕ → Reply → Type 0) → List ℕ → Reply → Type 0
-OnBytes Gives bytes reply = ((length bytes ≤ input_limit) × Gives bytes reply)
-    ⊎ ((input_limit < length bytes) × (reply ≡ limit_input))
+OnBytes = OnBytesOr limit_input
 
 -- what a file gives, by what is told of its name; where nothing is told, it may hold any bytes
+abbrev pub OnFileOr : Reply → Known → (List ℕ → Reply → Type 0) → Reply → Type 0
+OnFileOr too_many untold Gives reply = (bytes : List ℕ) × OnBytesOr too_many Gives bytes reply
+OnFileOr too_many missing Gives reply = reply ≡ read_fault
+OnFileOr too_many (holds bytes) Gives reply = OnBytesOr too_many Gives bytes reply
+
 abbrev pub OnFile : Known → (List ℕ → Reply → Type 0) → Reply → Type 0
-OnFile untold Gives reply = (bytes : List ℕ) × OnBytes Gives bytes reply
-OnFile missing Gives reply = reply ≡ read_fault
-OnFile (holds bytes) Gives reply = OnBytes Gives bytes reply
+OnFile = OnFileOr limit_input
+
+-- ## Several files
+
+-- a refusal of file f
+abbrev pub file_text : ℕ → List ℕ
+file_text f = count_text (codes "file ") f ++ codes " "
+
+abbrev pub in_file : ℕ → Reply → Reply
+in_file f reply = record reply { err = file_text f ++ reply.err }
+
+-- nothing is there for import i
+abbrev pub no_import : ℕ → Reply
+no_import i = refusal (codes "no import " ++ decimal i) 4
+
+-- what the run of linked files gives of at most so many steps, by where it begins
+abbrev pub linked_reply : ℕ → Bool → StartedL → Reply
+linked_reply steps stats (linked.Ready p s t) = run_reply trapped stats (Run p s t steps)
+linked_reply steps stats linked.NoEntry = no_entry
+linked_reply steps stats (linked.NoImport f i) = in_file f (no_import i)
+linked_reply steps stats (linked.Exceeds f name) = in_file f (limit (start_limit_text name))
+linked_reply steps stats (linked.StartTraps f t) = in_file f (trapped t)
+
+-- so some modules give, by which of their types are equivalent and which match which
+abbrev pub LinkGives : ℕ → Bool → List Module → Reply → Type 0
+LinkGives steps stats ms reply = (tests : TypeTests) × AreTestsOf (definitions ms).types tests × (reply ≡ linked_reply steps stats (linked.StartL tests ms))
+
+-- what bytes of file f give, where a valid module gives this with the files behind it
+abbrev pub FileGives : ℕ → (Module → Reply → Type 0) → List ℕ → Reply → Type 0
+FileGives f Next bytes reply = ((m : Module) × Spells bytes m × Within m × Valid m × Next m reply)
+    ⊎ ((refused : Reply) × BytesRefusal bytes refused × (reply ≡ in_file f refused))
+
+-- what the files of these names give, behind modules that were accepted
+abbrev pub FilesGive : ℕ → Bool → List Module → List (List ℕ) → (List ℕ → Known) → Reply → Type 0
+FilesGive steps stats ms [] files reply = LinkGives steps stats ms reply
+FilesGive steps stats ms (name ∷ names) files reply =
+    OnFileOr (in_file (length ms) limit_input) (files name) (FileGives (length ms) (λ m. FilesGive steps stats (ms ++ m ∷ []) names files)) reply
+
+-- so many files are linked at most
+abbrev pub most_files : ℕ
+most_files = 16
+
+abbrev pub limit_files : Reply
+limit_files = limit (codes "limit files")
+
+-- what some names give
+abbrev pub NamesGive : ℕ → Bool → List (List ℕ) → (List ℕ → Known) → Reply → Type 0
+NamesGive steps stats names files reply = ((length names ≤ most_files) × FilesGive steps stats [] names files reply)
+    ⊎ ((most_files < length names) × (reply ≡ limit_files))
 
 -- ## The answer
 
@@ -401,6 +460,7 @@ generated_steps = 10000000000
 
 abbrev pub Answer : Line → (List ℕ → Known) → Reply → Type 0
 Answer (on_file name action) files = OnFile (files name) (ActionGives action)
+Answer (on_files names steps stats) files = NamesGive steps stats names files
 Answer (generated n) files = ActionGives (RunFor generated_steps false) (generated_script n)
 Answer bad files = λ reply. reply ≡ usage
 

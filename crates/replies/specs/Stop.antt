@@ -6,7 +6,7 @@ use Rattle.replies.specs.declared.status.Status.TheVariants as status
 use Rattle.replies.specs.declared.stop.Refusal.{Refusal}
 use Rattle.replies.specs.declared.stop.Stop.{Stop}
 use Rattle.replies.specs.declared.stop.Stop.TheVariants.{Refused, WriteFault, OutOfMemory}
-use Rattle.replies.specs.Answer.{Reply, with_err}
+use Rattle.replies.specs.Answer.{Reply, in_file, with_err}
 use Rattle.replies.specs.Pieces.{joined}
 use Rattle.replies.specs.Status.{code_of}
 
@@ -55,3 +55,11 @@ WritesMore text old (Err (Refused refusal)) =
     × (reply_of_refusal refusal ≡ with_err text (reply_of_refusal before))
 WritesMore text old (Err WriteFault) = old ≡ Err WriteFault
 WritesMore text old (Err OutOfMemory) = ⊤
+
+-- the refusal of a file of several, with the file's number before its lines; memory may run out
+abbrev pub IsOfFile : ℕ → Stop → Stop → Type 0
+IsOfFile f stop (Refused refusal) =
+    (before : Refusal) × (stop ≡ Refused before) × (refusal.status ≡ before.status)
+    × (reply_of_refusal refusal ≡ in_file f (reply_of_refusal before))
+IsOfFile f stop WriteFault = stop ≡ WriteFault
+IsOfFile f stop OutOfMemory = ⊤

@@ -2,9 +2,9 @@
 ghost use Rattle.std.specs.Prelude.{◌≡◌};
 ghost use Rattle.replies.specs.Answer.{kind_of as the_kind_of, is_module as begins_module};
 
-use words::{Action, Takes};
+use words::Takes;
 
-/// What a file is to an action.
+/// What a file is to what takes files.
 #[derive(Clone, Copy, Debug, PartialEq, Eq)]
 pub enum FileKind {
     /// The bytes of a module.
@@ -23,11 +23,11 @@ fn is_module(bytes: &[u8]) -> bool
 }
 
 impl FileKind {
-    /// What bytes are to an action.
-    pub fn of(action: Action, bytes: &[u8]) -> FileKind
-        ensures { result ≡ the_kind_of action bytes.now }
+    /// What bytes are to what takes such files.
+    pub fn of(takes: Takes, bytes: &[u8]) -> FileKind
+        ensures { result ≡ the_kind_of takes bytes.now }
     {
-        match action.takes() {
+        match takes {
             Takes::Texts => FileKind::Text,
             Takes::Modules => FileKind::Module,
             Takes::ModulesAndScripts => {

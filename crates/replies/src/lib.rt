@@ -11,10 +11,10 @@ mod stop;
 
 pub use file_kind::FileKind;
 pub use lines::{
-    invalid_line, malformed_line, printer_line, run_limit_line, script_line, start_limit_line,
-    stats_line, value_line, wrong_line,
+    file_text, import_line, invalid_line, malformed_line, printer_line, run_limit_line,
+    script_line, start_limit_line, stats_line, value_line, wrong_line,
 };
 pub use origin::Origin;
 pub use output::Output;
 pub use status::Status;
-pub use stop::{Refusal, Stop, refuse, refuse_by, with_err};
+pub use stop::{Refusal, Stop, in_file, refuse, refuse_by, with_err};

@@ -4,7 +4,7 @@ ghost use Rattle.std.specs.Borrow.{Bor};
 ghost use Rattle.s_syntax.specs.declared.name.Name.{Name as TheName};
 ghost use Rattle.w_reduce.specs.Values.{val};
 ghost use Rattle.s_agrees.specs.Agrees.{effect_names};
-ghost use Rattle.replies.specs.Answer.{line, count_text, result_line, malformed, wrong_text, limit, size_limit_text, run_limit_text, start_limit_text, trapped, invalid, no_printer, counts_line, bad_script, faulted};
+ghost use Rattle.replies.specs.Answer.{line, count_text, result_line, malformed, wrong_text, limit, size_limit_text, run_limit_text, start_limit_text, trapped, invalid, no_printer, counts_line, bad_script, faulted, file_text as the_file_text, no_import};
 
 use itoa::{Buffer, Integer};
 use s_judge::ScriptFault;
@@ -193,6 +193,23 @@ pub fn printer_line(alloc: Global, index: usize) -> Result<Vec<u8>, AllocError>
     ensures { IfOk result (λ v. v.items ≡ (no_printer index).err) }
 {
     number_line(alloc, b"no printer ", index)
+}
+
+/// The line of a file for whose import of this index nothing is there.
+pub fn import_line(alloc: Global, index: usize) -> Result<Vec<u8>, AllocError>
+    ensures { IfOk result (λ v. v.items ≡ (no_import index).err) }
+{
+    number_line(alloc, b"no import ", index)
+}
+
+/// What stands before a line that is told of a file of this number.
+pub fn file_text(alloc: Global, number: usize) -> Result<Vec<u8>, AllocError>
+    ensures { IfOk result (λ v. v.items ≡ the_file_text number) }
+{
+    let mut text = Vec::new(alloc);
+    push_number(&mut text, b"file ", number)?;
+    text.push(b' ')?;
+    Ok(text)
 }
 
 // The line of a declaration that breaks a rule.

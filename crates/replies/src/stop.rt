@@ -2,9 +2,11 @@
 ghost use Rattle.std.specs.Prelude.{◌≡◌, ◌∷◌, ◌++◌, [], IfOk, OnOk};
 ghost use Rattle.replies.specs.Pieces.{joined};
 ghost use Rattle.replies.specs.Status.{code_of};
-ghost use Rattle.replies.specs.Stop.{Ends, Refuses, WritesMore};
+ghost use Rattle.replies.specs.Answer.{file_text as the_file_text};
+ghost use Rattle.replies.specs.Stop.{Ends, IsOfFile, Refuses, WritesMore};
 ghost use Rattle.replies.specs.declared.stop.Stop.TheVariants.{OutOfMemory};
 
+use crate::lines::file_text;
 use crate::output::Output;
 use crate::status::Status;
 use std::alloc::{AllocError, Global};
@@ -53,6 +55,17 @@ impl Refusal {
         push_line(&mut lines, line)?;
         Ok(Refusal { lines, status })
     }
+
+    // The refusal, told of the file of this number.
+    fn of_file(self, alloc: Global, number: usize) -> Result<Refusal, AllocError>
+        ensures lines { IfOk result (λ refusal. joined refusal.lines.items ≡ the_file_text number ++ joined self.lines.items) }
+        ensures status { IfOk result (λ refusal. refusal.status ≡ self.status) }
+    {
+        let Refusal { mut lines, status } = self;
+        let text = file_text(alloc, number)?;
+        lines.insert(0, text)?;
+        Ok(Refusal { lines, status })
+    }
 }
 
 /// A refusal by a line that was made.
@@ -74,6 +87,20 @@ pub fn refuse(alloc: Global, line: &[u8], status: Status) -> Stop
     match Vec::from_slice(alloc, line) {
         Ok(line) => refuse_by(alloc, line, status),
         Err(_) => Stop::OutOfMemory,
+    }
+}
+
+/// A refusal, told of the file of this number among several.
+pub fn in_file(alloc: Global, number: usize, stop: Stop) -> Stop
+    ensures { IsOfFile number stop result }
+{
+    match stop {
+        Stop::Refused(refusal) => match refusal.of_file(alloc, number) {
+            Ok(refusal) => Stop::Refused(refusal),
+            Err(_) => Stop::OutOfMemory,
+        },
+        Stop::WriteFault => Stop::WriteFault,
+        Stop::OutOfMemory => Stop::OutOfMemory,
     }
 }
 

@@ -35,12 +35,12 @@ use Rattle.s_code.specs.Statements.{body}
 use Rattle.s_valid.specs.Offers.{arrow}
 use Rattle.s_valid.proofs.ModuleOffers.{offers_all}
 use Rattle.s_meaning.specs.Numbers.{Unhandled}
-use Rattle.s_meaning.specs.Terms.{Value, Reference, listed, Variable, Doing, Work, Activation}
+use Rattle.s_meaning.specs.Terms.{Value, Reference, listed, Variable, Doing, Work, Activation, captured}
 use Rattle.s_meaning.specs.Terms as script
-use Rattle.s_meaning.specs.Steps.{Step, or_wrong, or_fault, bind, number_parameters, Found, find, with_kept, next_address, enters, applies}
+use Rattle.s_meaning.specs.Steps.{Step, or_wrong, or_fault, bind, number_parameters, Cut, cut_at, Found, catches, with_kept, next_address, enters, enters_clause, applies}
 use Rattle.s_meaning.proofs.Lists.{get_last, length_set}
 use Rattle.s_agrees.proofs.ScriptRows.{Values, many}
-use Rattle.s_agrees.proofs.StandsFor.{config, reference, Sames, Locals, LocalIs, Held, Active, Works, clause_labels, in_loop, handler_high, handler_room, Base, clause, Waits, activation, runs, Stores}
+use Rattle.s_agrees.proofs.StandsFor.{config, reference, Sames, Locals, LocalIs, Held, Active, Works, clause_labels, in_loop, handler_high, handler_room, Base, clause, Waits, activation, runs, number_alone, Stores}
 use Rattle.s_agrees.proofs.MoreResumptions.{grows_more, sames_grow, held_grows, get_set_same, get_set_other}
 use Rattle.s_agrees.proofs.Contexts.{setting, clauses_beyond, clauses_locals, waits_grow}
 use Rattle.s_agrees.proofs.CountedContexts.{labels, labels_plug, clauses_labels, clauses_frames, clauses_handles, live_more, stored_more, weight}
@@ -199,7 +199,8 @@ get_middle : {A : Type 0} (xs ys : List A) (x : A) → slice_get (xs ++ x ∷ ys
 get_middle [] ys x = refl
 get_middle (y ∷ xs) ys x = get_middle xs ys x
 
-clause_at : {ds : List Declaration} {ρ : List ℕ} {op : Name} {k : ℕ} {f : Found} {ops : Row Val} {c : Code} {e : Context} → Facts ds → effect_of ds op ≡ Some k → CutAt ds ρ ops c e op f → ClauseAt ds op k f
+clause_at : {ds : List Declaration} {ρ : List ℕ} {op : Name} {k : ℕ} {κ1 κ2 : script.Context} {f : Found} {ops : Row Val} {c : Code} {e : Context} → Facts ds → effect_of ds op ≡ Some k → CutAt ds ρ ops c e op κ1 f κ2
+    → ClauseAt ds op k f
 clause_at {ds} {op = op} {k = k} {f = f} facts known r =
     let hf = facts.handlers f.h f.handler r.handler in
     let pk = pick ds op known 0 f.handler.clauses f.clause (clauses_declared hf) r.clause in
@@ -285,11 +286,11 @@ module _ {ds : List Declaration} {h : Name} {i : Handler} {z : Clause} {Γ : Lay
 -- ## A suspend that is caught
 
 -- what follows in the script
-abbrev clause_runs : script.Store → Found → Clause → List Variable → List Variable → Step
-clause_runs σ f z params arguments = enters (with_kept σ f.inner) z.body (params ++ (arguments ++ resumption_variable z f.h (next_address σ) ∷ [])) (Some f.h) f.outer
+abbrev clause_runs : script.Store → script.Context → Found → script.Context → Clause → List Variable → List Variable → Step
+clause_runs σ κ1 f κ2 z params arguments = enters (with_kept σ (captured κ1)) z.body (params ++ (arguments ++ resumption_variable z f.h (next_address σ) ∷ [])) (Some f.h) κ2
 
 module _ {p : Script} (matches : ℕ → ℕ → Bool) {ρ : List ℕ} {σ : script.Store} {s : Store} (stores : Stores p.declarations ρ σ s) {op : Name} {k : ℕ} (known : effect_of p.declarations op ≡ Some k)
-    {vs : Values} {ws : Row Val} (values : Sames ρ vs ws) (number : many vs ≡ k) {ops : Row Val} {c : Code} {e : Context} {f : Found} (r : CutAt p.declarations ρ ops c e op f)
+    {vs : Values} {ws : Row Val} (values : Sames ρ vs ws) (number : many vs ≡ k) {ops : Row Val} {c : Code} {e : Context} {κ1 κ2 : script.Context} {f : Found} (r : CutAt p.declarations ρ ops c e op κ1 f κ2)
     (a : ClauseAt p.declarations op k f) where
   abbrev kept : Continuation
   kept = continuation_at 1 r.inside ops c
@@ -385,7 +386,7 @@ module _ {p : Script} (matches : ℕ → ℕ → Bool) {ρ : List ℕ} {σ : scr
       omega (arith, few, x, y, z, n, m)
 
   do_caught : {params arguments : List Variable} → bind f.handler.parameters f.params ≡ Some params → bind (number_parameters a.placed.clause.arguments) (listed vs) ≡ Some arguments
-      → Matches p matches 52 s do_term (clause_runs σ f a.placed.clause params arguments)
+      → Matches p matches 52 s do_term (clause_runs σ κ1 f κ2 a.placed.clause params arguments)
   do_caught q1 q2 =
       let g = grows_more ρ (next_cont s) in
       let long = clause_long a.facts r.locals (next_cont s) (vals_listed ws) r.room as_many_listed in let room = r.room in
@@ -395,35 +396,33 @@ module _ {p : Script} (matches : ℕ → ℕ → Bool) {ρ : List ℕ} {σ : scr
         stands = runs
             (clause_active a.facts r.locals (next_cont s) (vals_listed ws) r.room as_many_listed (next_address σ) there r.as_many (held_grows g r.held) (listed_same (sames_grow g values)) q1 q2)
             (rest_body a.facts.well) (clause a.behind r.handler a.facts.owner a.few (omega (arith, long, room))) (waits_grow g r.outer);
-        stores = stores_more stores (record { takes = refl; ahead = refl; waits = r.inner });
+        stores = stores_more stores (number_alone (record { takes = refl; ahead = refl; waits = r.inner }));
       })
 
 -- ## do
 
--- what do does with the handle that is found
-abbrev do_with : script.Store → List Value → Found → Step
-do_with σ us f =
-    or_wrong (bind f.handler.parameters f.params) (λ (params : List Variable).
-    or_wrong (bind (number_parameters f.clause.arguments) us) (λ (arguments : List Variable). clause_runs σ f f.clause params arguments))
+-- what do does where the context is cut
+abbrev do_with : script.Store → List Value → Cut Found → Step
+do_with σ us x = enters_clause (with_kept σ (captured x.inner)) x.answer us (next_address σ) x.outer
 
 module _ {p : Script} (matches : ℕ → ℕ → Bool) (facts : Facts p.declarations) {ρ : List ℕ} {σ : script.Store} {s : Store} (stores : Stores p.declarations ρ σ s) (op : Name) {k : ℕ} (known : effect_of p.declarations op ≡ Some k)
     {vs : Values} {ws : Row Val} (values : Sames ρ vs ws) (number : many vs ≡ k) {ops : Row Val} {c : Code} {e : Context} where
   -- where a handle is found: all that the script binds is there
-  do_clause : (f : Found) (r : CutAt p.declarations ρ ops c e op f) → ClauseAt p.declarations op k f
-      → Matches p matches 52 s (config e (ops ⧺ ws) (Plain (suspend (tag_index p.declarations op)) c)) (do_with σ (listed vs) f)
-  do_clause f r a =
+  do_clause : {κ1 κ2 : script.Context} (f : Found) (r : CutAt p.declarations ρ ops c e op κ1 f κ2) → ClauseAt p.declarations op k f
+      → Matches p matches 52 s (config e (ops ⧺ ws) (Plain (suspend (tag_index p.declarations op)) c)) (enters_clause (with_kept σ (captured κ1)) f (listed vs) (next_address σ) κ2)
+  do_clause {κ1} {κ2} f r a =
       let x = a.as_many in let y = listed_long values in let z = number_parameters_length a.placed.clause.arguments in
       let q1 = bind_known f.handler.parameters f.params (sym r.as_many) in
       let q2 = bind_known (number_parameters a.placed.clause.arguments) (listed vs) (omega (arith, number, x, y, z)) in
       let t : Term = config e (ops ⧺ ws) (Plain (suspend (tag_index p.declarations op)) c) in
       subst (λ (o : Option (List Variable)). Matches p matches 52 s t (or_wrong o (λ (params : List Variable).
-      or_wrong (bind (number_parameters f.clause.arguments) (listed vs)) (λ (arguments : List Variable). clause_runs σ f f.clause params arguments)))) (sym q1.1)
-      (subst (λ (u : Clause). Matches p matches 52 s t (or_wrong (bind (number_parameters u.arguments) (listed vs)) (λ (arguments : List Variable). clause_runs σ f u q1.0 arguments))) a.is
-      (subst (λ (o : Option (List Variable)). Matches p matches 52 s t (or_wrong o (λ (arguments : List Variable). clause_runs σ f a.placed.clause q1.0 arguments))) (sym q2.1)
+      or_wrong (bind (number_parameters f.clause.arguments) (listed vs)) (λ (arguments : List Variable). clause_runs σ κ1 f κ2 f.clause params arguments)))) (sym q1.1)
+      (subst (λ (u : Clause). Matches p matches 52 s t (or_wrong (bind (number_parameters u.arguments) (listed vs)) (λ (arguments : List Variable). clause_runs σ κ1 f κ2 u q1.0 arguments))) a.is
+      (subst (λ (o : Option (List Variable)). Matches p matches 52 s t (or_wrong o (λ (arguments : List Variable). clause_runs σ κ1 f κ2 a.placed.clause q1.0 arguments))) (sym q2.1)
       (do_caught matches stores known values number r a q1.1 q2.1)))
 
   -- where none is found the module traps, and the script is at fault
-  do_found : {κ : script.Context} → Waits p.declarations ρ κ ops c e → (o : Option Found) → find p op κ ≡ o
+  do_found : {κ : script.Context} → Waits p.declarations ρ κ ops c e → (o : Option (Cut Found)) → cut_at (catches p op) κ ≡ o
       → Matches p matches 52 s (config e (ops ⧺ ws) (Plain (suspend (tag_index p.declarations op)) c)) (or_fault (Unhandled op) o (do_with σ (listed vs)))
   do_found w None q =
       let x = numbers_long k in let y = sames_size values in
@@ -431,7 +430,7 @@ module _ {p : Script} (matches : ℕ → ℕ → Bool) (facts : Facts p.declarat
       (uncaught_step (program_of p matches) s e ops ws c (tag_index p.declarations op) (arrow (numbers k) (I64 ∷ [])) ((offers_all p.declarations).effect op k known) (omega (arith, number, x, y))
       ((finding_none ℕ (label_clause (tag_index p.declarations op)) e).1 (uncut facts op known w q)))
       (ap (λ (o : Option Name). option_map Unhandled o) (effect_named p.declarations op k known)) (omega arith)
-  do_found w (Some f) q = let r = cut facts op known w f q in do_clause f r (clause_at facts known r)
+  do_found w (Some x) q = let r = cut facts op known w x q in do_clause x.answer r (clause_at facts known r)
 
 module _ {p : Script} (matches : ℕ → ℕ → Bool) (facts : Facts p.declarations) {ρ : List ℕ} {σ : script.Store} {s : Store} (stores : Stores p.declarations ρ σ s) {Γ : Layout} {n D0 : ℕ} {L : Locals} {vars : List Variable}
     {owner : Option Name} {κ : script.Context} {below : Row Val} {c' : Code} {e' f : Context}
@@ -440,4 +439,4 @@ module _ {p : Script} (matches : ℕ → ℕ → Bool) (facts : Facts p.declarat
       → Works p.declarations ρ Γ n D0 f t L w ops c e
       → Matches p matches 52 s (config e (ops ⧺ ws) (Plain (suspend (tag_index p.declarations op)) c)) (applies p (record { store = σ; variables = vars; owner = owner; work = w; outer = κ }) (Doing op) (listed vs))
   sim_do op {w = w} known number values works =
-      do_found matches facts stores op known values number (activation active works base waits) (find p op (Activation vars owner w ∷ κ)) refl
+      do_found matches facts stores op known values number (activation active works base waits) (cut_at (catches p op) (Activation vars owner w ∷ κ)) refl

@@ -121,7 +121,7 @@ stored_less (Some x ∷ s) zero k h =
 stored_less (None ∷ s) (suc a) k h = stored_less s a k h
 stored_less (Some x ∷ s) (suc a) k h = let q = stored_less s a k h in omega (arith, q)
 
--- the script's resumptions, counted in the same way
+-- what is kept of the script, counted in the same way
 pub full_more : {A : Type 0} (ks : List (Option A)) (k : A) → full (ks ++ Some k ∷ []) ≡ suc (full ks)
 full_more [] k = refl
 full_more (None ∷ ks) k = full_more ks k

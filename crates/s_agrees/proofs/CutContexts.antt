@@ -5,9 +5,8 @@ use Rattle.std.specs.Prelude.{slice_get}
 use Rattle.std.specs.Str.{bytes_eq}
 use Rattle.lists.specs.Rows.{Row, ε}
 use Rattle.w_syntax.specs.Code.{Code, Done}
-use Rattle.w_syntax.specs.declared.instructions.Clause.{Clause as Answer}
 use Rattle.w_reduce.specs.Values.{Val}
-use Rattle.w_reduce.specs.Terms.{Handle, Context}
+use Rattle.w_reduce.specs.Terms.{Context}
 use Rattle.w_reduce.specs.Handlers.{label_clause, Inner}
 use Rattle.s_syntax.specs.declared.name.Name.{Name}
 use Rattle.s_syntax.specs.declared.script.Clause.{Clause}
@@ -16,15 +15,14 @@ use Rattle.s_syntax.specs.declared.script.Declaration.{Declaration}
 use Rattle.s_syntax.specs.declared.script.Script.{Script}
 use Rattle.s_check.specs.Definitions.{handler_of, effect_of}
 use Rattle.s_index.specs.Numbers.{tag_index}
-use Rattle.s_code.specs.Layouts.{Layout}
-use Rattle.s_code.specs.Handlers.{Placed, labels, return_code}
-use Rattle.s_code.specs.Places.{clause_names, return_layout, placed_from, placed_clauses, clauses_place}
-use Rattle.s_meaning.specs.Terms.{Value, Place, Activation, Handle as Handled}
+use Rattle.s_code.specs.Handlers.{Placed, labels}
+use Rattle.s_code.specs.Places.{clause_names, placed_from, placed_clauses, clauses_place}
+use Rattle.s_meaning.specs.Terms.{Value, Place}
 use Rattle.s_meaning.specs.Terms as script
-use Rattle.s_meaning.specs.Steps.{Found, farther, clause_of, with_clause, with_handler, find}
+use Rattle.s_meaning.specs.Steps.{Cut, cut_at, Found, clause_of, with_clause, with_handler, catches}
 use Rattle.s_meaning.proofs.Scopes.{same_is, same_refl, bool_of}
-use Rattle.s_agrees.proofs.StandsFor.{Locals, Held, Deep, here, label, clause_labels, in_loop, handler_room, Base, function, clause, Waits, outside, activation, handle}
-use Rattle.s_agrees.proofs.Contexts.{plugging, works_deep, works_cut, clauses_beyond, base_cut}
+use Rattle.s_agrees.proofs.StandsFor.{Locals, Held, handler_room, handler_around, Waits, activation, handle}
+use Rattle.s_agrees.proofs.PartedContexts.{Asked, cut_there, uncut_there}
 use Rattle.s_agrees.proofs.Facts.{HandlerFacts, Facts}
 use Rattle.s_agrees.proofs.Tags.{tag_apart}
 use Rattle.s_agrees.proofs.BoundValues.{some_is}
@@ -135,27 +133,11 @@ clauses_declared {ds} {h} {i} facts = record {
       subst (λ (z : Clause). effect_of ds z.effect ≡ Some (length z.arguments)) q.2 (facts.clauses j q.0 q.1).effect;
 }
 
--- ## Where no handle has a clause: labels and frames have none
-
-module _ {A : Type 0} (answer : List Answer → Option A) where
-  pub deep_inner : {f : Context} {d : ℕ} {e : Context} → Deep f d e → Inner answer f → Inner answer e
-  deep_inner here x = x
-  deep_inner (label q) x = deep_inner q x
-
-  pub clauses_inner : (ds : List Declaration) (ps : List Placed) (e : Context) → Inner answer e → Inner answer (clause_labels ds ps e)
-  clauses_inner ds [] e x = x
-  clauses_inner ds (q ∷ ps) e x = clauses_inner ds ps e x
-
-  pub base_inner : {ds : List Declaration} {Γ : Layout} {L : Locals} {below : Row Val} {c : Code} {e : Context} {owner : Option Name} {D0 : ℕ} {f : Context}
-      → Base ds Γ L below c e owner D0 f → Inner answer e → Inner answer f
-  base_inner (function o) x = x
-  base_inner {ds} {L = L} {below = below} {c = c} {e = e} (clause {h = h} {i = i} ps is o few room) x = clauses_inner ds ps (in_loop ds h i L below c e) x
-
 -- ## The cut
 
-pub record CutAt (ds : List Declaration) (ρ : List ℕ) (ops : Row Val) (c : Code) (e : Context) (op : Name) (f : Found) : Type 0 where
+pub record CutAt (ds : List Declaration) (ρ : List ℕ) (ops : Row Val) (c : Code) (e : Context) (op : Name) (κ1 : script.Context) (f : Found) (κ2 : script.Context) : Type 0 where
   pub inside : Context
-  pub inner : Waits ds ρ f.inner ops c inside
+  pub inner : Waits ds ρ κ1 ops c inside
   pub uncaught : Inner (label_clause (tag_index ds op)) inside
   pub handler : handler_of ds f.h ≡ Some f.handler
   pub clause : clause_of op f.handler.clauses ≡ Some f.clause
@@ -166,116 +148,63 @@ pub record CutAt (ds : List Declaration) (ρ : List ℕ) (ops : Row Val) (c : Co
   pub below : Row Val
   pub code : Code
   pub outside' : Context
-  pub outer : Waits ds ρ f.outer below code outside'
-  pub is : e ≡ inside ++ Handle ε (labels ds 0 f.handler.clauses) (return_code ds (return_layout ds f.h f.handler) (length f.handler.clauses) f.handler)
-      ∷ clause_labels ds (placed_clauses ds f.h f.handler) (in_loop ds f.h f.handler locals below code outside')
+  pub outer : Waits ds ρ κ2 below code outside'
+  pub is : e ≡ inside ++ handler_around ds f.h f.handler locals below code outside'
 
 -- the handle, and what is around it
-abbrev pub tail_of : {ds : List Declaration} {ρ : List ℕ} {ops : Row Val} {c : Code} {e : Context} {op : Name} {f : Found} → CutAt ds ρ ops c e op f → Context
-tail_of {ds} {f = f} r = Handle ε (labels ds 0 f.handler.clauses) (return_code ds (return_layout ds f.h f.handler) (length f.handler.clauses) f.handler)
-    ∷ clause_labels ds (placed_clauses ds f.h f.handler) (in_loop ds f.h f.handler r.locals r.below r.code r.outside')
-
--- what is found, one place farther
-abbrev one_more : Place → Found → Found
-one_more place f = record f { inner = place ∷ f.inner }
-
-farther_some : (place : Place) (o : Option Found) (f : Found) → farther place o ≡ Some f → (g : Found) × (o ≡ Some g) × (one_more place g ≡ f)
-farther_some place None f e = absurd (cc)
-farther_some place (Some g) f e = (g, refl, some_is e)
-
-farther_none : (place : Place) (o : Option Found) → farther place o ≡ None → o ≡ None
-farther_none place None e = refl
-farther_none place (Some g) e = absurd (cc)
-
--- a cut seen from one place farther in
-inward : {ds : List Declaration} {ρ : List ℕ} {ops ops' : Row Val} {c c' : Code} {e e' : Context} {op : Name} {f : Found} (place : Place) (inside' : Context) (r : CutAt ds ρ ops c e op f)
-    → Waits ds ρ (place ∷ f.inner) ops' c' inside' → Inner (label_clause (tag_index ds op)) inside' → e' ≡ inside' ++ tail_of r → CutAt ds ρ ops' c' e' op (one_more place f)
-inward place inside' r w n is = record {
-  inside = inside';
-  inner = w;
-  uncaught = n;
-  handler = r.handler;
-  clause = r.clause;
-  locals = r.locals;
-  room = r.room;
-  as_many = r.as_many;
-  held = r.held;
-  below = r.below;
-  code = r.code;
-  outside' = r.outside';
-  outer = r.outer;
-  is = is;
-}
+abbrev pub tail_of : {ds : List Declaration} {ρ : List ℕ} {ops : Row Val} {c : Code} {e : Context} {op : Name} {κ1 : script.Context} {f : Found} {κ2 : script.Context} → CutAt ds ρ ops c e op κ1 f κ2 → Context
+tail_of {ds} {f = f} r = handler_around ds f.h f.handler r.locals r.below r.code r.outside'
 
 module _ {p : Script} (facts : Facts p.declarations) (op : Name) {k : ℕ} (known : effect_of p.declarations op ≡ Some k) where
-  no_answer : (h : Name) (i : Handler) → handler_of p.declarations h ≡ Some i → clause_of op i.clauses ≡ None → label_clause (tag_index p.declarations op) (labels p.declarations 0 i.clauses) ≡ None
-  no_answer h i is e = no_pick p.declarations op known 0 i.clauses (clauses_declared (facts.handlers h i is)) e
+  no_clause : (h : Name) (vs : List Value) (i : Handler) (o : Option Clause) → clause_of op i.clauses ≡ o → with_clause h vs i o ≡ None → clause_of op i.clauses ≡ None
+  no_clause h vs i None q e = q
+  no_clause h vs i (Some x) q e = absurd (cc e)
 
-  -- a handle: it is the one where its handler has a clause for the effect, and else the cut is farther out
-  cut_handle : {ρ : List ℕ} (h : Name) {i : Handler} {L : Locals} {vs : List Value} {κ : script.Context} {below : Row Val} {c : Code} {e : Context}
-      → handler_of p.declarations h ≡ Some i → handler_room p.declarations h i ≤ length L → length vs ≡ length i.parameters → Held ρ L vs → Waits p.declarations ρ κ below c e
-      → ((g : Found) → find p op κ ≡ Some g → CutAt p.declarations ρ below c e op g)
-      → (f : Found) (o : Option Clause) → clause_of op i.clauses ≡ o → with_clause h vs κ i o (find p op κ) ≡ Some f
-      → CutAt p.declarations ρ ε Done
-      (Handle ε (labels p.declarations 0 i.clauses) (return_code p.declarations (return_layout p.declarations h i) (length i.clauses) i)
-      ∷ clause_labels p.declarations (placed_clauses p.declarations h i) (in_loop p.declarations h i L below c e)) op f
-  cut_handle {ρ} h {i} {L} {vs} {κ} {below} {c} {e} is room n g w more_in f (Some x) q r =
-      subst (λ (z : Found). CutAt p.declarations ρ ε Done
-      (Handle ε (labels p.declarations 0 i.clauses) (return_code p.declarations (return_layout p.declarations h i) (length i.clauses) i)
-      ∷ clause_labels p.declarations (placed_clauses p.declarations h i) (in_loop p.declarations h i L below c e)) op z)
-      (some_is r) (record {
-        inside = [];
-        inner = outside;
-        uncaught = tt;
-        handler = is;
-        clause = q;
-        locals = L;
-        room = room;
-        as_many = n;
-        held = g;
-        below = below;
-        code = c;
-        outside' = e;
-        outer = w;
-        is = refl;
-      })
-  cut_handle {ρ} h {i} {L} {vs} {κ} {below} {c} {e} is room n g w more_in f None q r =
-      let m = farther_some (Handled h vs) (find p op κ) f r in let y = more_in m.0 m.1 in
-      let inside' : Context = Handle ε (labels p.declarations 0 i.clauses) (return_code p.declarations (return_layout p.declarations h i) (length i.clauses) i)
-      ∷ clause_labels p.declarations (placed_clauses p.declarations h i) (in_loop p.declarations h i L below c y.inside) in
-      subst (λ (z : Found). CutAt p.declarations ρ ε Done
-      (Handle ε (labels p.declarations 0 i.clauses) (return_code p.declarations (return_layout p.declarations h i) (length i.clauses) i)
-      ∷ clause_labels p.declarations (placed_clauses p.declarations h i) (in_loop p.declarations h i L below c e)) op z) m.2
-      (inward (Handled h vs) inside' y (handle is room n g y.inner)
-      (no_answer h i is q, clauses_inner (label_clause (tag_index p.declarations op)) p.declarations (placed_clauses p.declarations h i) (in_loop p.declarations h i L below c y.inside) y.uncaught)
-      (ap (λ (z : Context). Handle ε (labels p.declarations 0 i.clauses) (return_code p.declarations (return_layout p.declarations h i) (length i.clauses) i) ∷ z)
-      (ap (λ (z : Context). clause_labels p.declarations (placed_clauses p.declarations h i) (in_loop p.declarations h i L below c z)) y.is
-      ∙ sym (clauses_beyond (plugging (tail_of y)) p.declarations (placed_clauses p.declarations h i) (in_loop p.declarations h i L below c y.inside)))))
+  -- where a handle doesn't catch an effect its clauses don't answer to the effect's tag
+  asked : Asked p.declarations (catches p op) (label_clause (tag_index p.declarations op))
+  asked = record {
+    activations = λ vars owner work. refl;
+    handles = λ h vs i is e. no_pick p.declarations op known 0 i.clauses (clauses_declared (facts.handlers h i is))
+        (no_clause h vs i (clause_of op i.clauses) refl (ap (λ (o : Option Handler). with_handler op h vs o) (sym is) ∙ e));
+  }
+
+  module _ {ρ : List ℕ} {κ1 κ2 : script.Context} {ops : Row Val} {c : Code} {e : Context} (inside : Context) (inner : Waits p.declarations ρ κ1 ops c inside)
+      (uncaught : Inner (label_clause (tag_index p.declarations op)) inside) where
+    clause_caught : (h : Name) {i : Handler} {L : Locals} {vs : List Value} {below : Row Val} {c' : Code} {e' : Context} → handler_of p.declarations h ≡ Some i → handler_room p.declarations h i ≤ length L
+        → length vs ≡ length i.parameters → Held ρ L vs → Waits p.declarations ρ κ2 below c' e' → e ≡ inside ++ handler_around p.declarations h i L below c' e'
+        → (f : Found) (o : Option Clause) → clause_of op i.clauses ≡ o → with_clause h vs i o ≡ Some f → CutAt p.declarations ρ ops c e op κ1 f κ2
+    clause_caught h there room n g w is f None q r = absurd (cc r)
+    clause_caught h {L = L} {below = below} {c' = c'} {e' = e'} there room n g w is f (Some x) q r =
+        subst (λ (z : Found). CutAt p.declarations ρ ops c e op κ1 z κ2) (some_is r) (record {
+          inside = inside;
+          inner = inner;
+          uncaught = uncaught;
+          handler = there;
+          clause = q;
+          locals = L;
+          room = room;
+          as_many = n;
+          held = g;
+          below = below;
+          code = c';
+          outside' = e';
+          outer = w;
+          is = is;
+        })
+
+    -- a place that catches the effect is a handle with a clause for it
+    place_caught : {place : Place} {beyond : Context} (f : Found) → catches p op place ≡ Some f → Waits p.declarations ρ (place ∷ κ2) ε Done beyond → e ≡ inside ++ beyond → CutAt p.declarations ρ ops c e op κ1 f κ2
+    place_caught f q (activation a w b k) is = absurd (cc q)
+    place_caught f q (handle {h = h} {i = i} {vs = vs} there room n g k) is =
+        clause_caught h there room n g k is f (clause_of op i.clauses) refl (ap (λ (o : Option Handler). with_handler op h vs o) (sym there) ∙ q)
 
   -- at the innermost handle with a clause for the effect
-  pub cut : {ρ : List ℕ} {κ : script.Context} {ops : Row Val} {c : Code} {e : Context} → Waits p.declarations ρ κ ops c e → (f : Found) → find p op κ ≡ Some f → CutAt p.declarations ρ ops c e op f
-  cut outside f q = absurd (cc)
-  cut {ρ} {ops = ops} {c = c} {e = e} (activation {vars = vars} {owner = owner} {work = work} {κ = κ} a w b u) f q =
-      let m = farther_some (Activation vars owner work) (find p op κ) f q in let r = cut u m.0 m.1 in
-      let x = base_cut r.inside (tail_of r) r.is b in let y = works_cut x.0 (tail_of r) x.2 w in
-      subst (λ (z : Found). CutAt p.declarations ρ ops c e op z) m.2
-      (inward (Activation vars owner work) y.0 r (activation a y.1 x.1 r.inner)
-      (deep_inner (label_clause (tag_index p.declarations op)) (works_deep y.1).1 (base_inner (label_clause (tag_index p.declarations op)) x.1 r.uncaught)) y.2)
-  cut (handle {h = h} {i = i} {L = L} {vs = vs} {κ = κ} {below = below} {c = c} {e = e} is room n g u) f q =
-      cut_handle h is room n g u (cut u) f (clause_of op i.clauses) refl (ap (λ (o : Option Handler). with_handler op h vs κ o (find p op κ)) (sym is) ∙ q)
-
-  uncut_handle : (h : Name) {i : Handler} (vs : List Value) (κ : script.Context) (e : Context) → handler_of p.declarations h ≡ Some i
-      → (find p op κ ≡ None → Inner (label_clause (tag_index p.declarations op)) e) → (o : Option Clause) → clause_of op i.clauses ≡ o → with_clause h vs κ i o (find p op κ) ≡ None
-      → (label_clause (tag_index p.declarations op) (labels p.declarations 0 i.clauses) ≡ None) × Inner (label_clause (tag_index p.declarations op)) e
-  uncut_handle h vs κ e is k (Some x) q r = absurd (cc)
-  uncut_handle h {i} vs κ e is k None q r = (no_answer h i is q, k (farther_none (Handled h vs) (find p op κ) r))
+  pub cut : {ρ : List ℕ} {κ : script.Context} {ops : Row Val} {c : Code} {e : Context} → Waits p.declarations ρ κ ops c e → (x : Cut Found) → cut_at (catches p op) κ ≡ Some x
+      → CutAt p.declarations ρ ops c e op x.inner x.answer x.outer
+  cut w x q =
+      let r = cut_there asked w x q in
+      place_caught r.parts.inside r.parts.inner r.before x.answer r.answers r.parts.outer r.parts.is
 
   -- where none has a clause for the effect none has one for its tag
-  pub uncut : {ρ : List ℕ} {κ : script.Context} {ops : Row Val} {c : Code} {e : Context} → Waits p.declarations ρ κ ops c e → find p op κ ≡ None → Inner (label_clause (tag_index p.declarations op)) e
-  uncut outside q = tt
-  uncut (activation {vars = vars} {owner = owner} {work = work} {κ = κ} a w b u) q =
-      deep_inner (label_clause (tag_index p.declarations op)) (works_deep w).1
-      (base_inner (label_clause (tag_index p.declarations op)) b (uncut u (farther_none (Activation vars owner work) (find p op κ) q)))
-  uncut (handle {h = h} {i = i} {L = L} {vs = vs} {κ = κ} {below = below} {c = c} {e = e} is room n g u) q =
-      let r = uncut_handle h vs κ e is (uncut u) (clause_of op i.clauses) refl (ap (λ (o : Option Handler). with_handler op h vs κ o (find p op κ)) (sym is) ∙ q) in
-      (r.0, clauses_inner (label_clause (tag_index p.declarations op)) p.declarations (placed_clauses p.declarations h i) (in_loop p.declarations h i L below c e) r.1)
+  pub uncut : {ρ : List ℕ} {κ : script.Context} {ops : Row Val} {c : Code} {e : Context} → Waits p.declarations ρ κ ops c e → cut_at (catches p op) κ ≡ None → Inner (label_clause (tag_index p.declarations op)) e
+  uncut w q = uncut_there asked w q

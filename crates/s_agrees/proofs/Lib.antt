@@ -19,6 +19,7 @@ pub mod StepsInPlace
 pub mod BoundValues
 pub mod Tags
 pub mod Tables
+pub mod PartedContexts
 pub mod CutContexts
 pub mod Bodies
 pub mod StoresGrow

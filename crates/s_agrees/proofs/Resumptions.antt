@@ -10,7 +10,7 @@ use Rattle.w_rules.specs.Spaces.{context_of}
 use Rattle.w_reduce.specs.declared.trap.Trap.TheVariants as trap
 use Rattle.w_reduce.specs.Values.{Val, Cont}
 use Rattle.w_reduce.specs.Store.{Store, live, live_in, next_cont, with_cont, without_cont}
-use Rattle.w_reduce.specs.Terms.{Administrative, rest_of, Label, Frame, Handle, Context, Term, Continuation, filled, frames, handles, locals_of}
+use Rattle.w_reduce.specs.Terms.{Administrative, rest_of, Label, Frame, Context, Term, Continuation, filled, frames, handles, locals_of}
 use Rattle.w_reduce.specs.Reduced.{Went, Trapped}
 use Rattle.s_syntax.specs.declared.name.Name.{Name}
 use Rattle.s_syntax.specs.declared.script.VariableType.TheVariants.{Resumption}
@@ -23,19 +23,18 @@ use Rattle.s_index.specs.Types.{computation_type, resumption_type}
 use Rattle.s_code.specs.Instructions.{call, local_get, bind_continuation}
 use Rattle.s_code.specs.Layouts.{Local, Layout, number_in, local_number, handler_in, handler_in_type, handler_of_name}
 use Rattle.s_code.specs.Expressions.{handler_index_of}
-use Rattle.s_code.specs.Handlers.{labels as clause_answers, return_code}
 use Rattle.s_code.specs.Lowered.{lowered}
-use Rattle.s_code.specs.Places.{return_layout, placed_clauses}
+use Rattle.s_code.specs.Places.{placed_clauses}
 use Rattle.s_valid.specs.Offers.{arrow}
 use Rattle.s_valid.proofs.ModuleOffers.{offers_all}
 use Rattle.s_meaning.specs.Numbers.{Reused}
-use Rattle.s_meaning.specs.Terms.{Value, Reference, listed, Variable, Resuming, Work, Activation, Handle as Handled, Gives}
+use Rattle.s_meaning.specs.Terms.{Value, Reference, listed, Variable, Resuming, Work, Activation, Handle as Handled, Gives, captured}
 use Rattle.s_meaning.specs.Terms as script
 use Rattle.s_meaning.specs.Focus.{variable_of}
 use Rattle.s_meaning.specs.Steps.{Step, or_fault, emptied, kept_at, goes, resumes, applies}
 use Rattle.s_meaning.proofs.Lists.{get_last, length_set}
 use Rattle.s_agrees.proofs.ScriptRows.{Values, no_values, ◌▸◌, ◌⧻◌, many, listed_both, listed_many}
-use Rattle.s_agrees.proofs.StandsFor.{config, Same, reference, Sames, Locals, LocalIs, InLocal, Held, Active, resume_code, Works, clause_labels, handler_place, loop_code, in_loop, handler_room, Base, Waits, activation, handle, Stands, gives, KeptAs, Entry, consumed, keeps, Stores, At}
+use Rattle.s_agrees.proofs.StandsFor.{config, Same, reference, Sames, Locals, LocalIs, InLocal, Held, Active, resume_code, Works, handler_place, loop_code, in_loop, handler_room, handler_around, Base, Waits, activation, handle, Stands, gives, ResumptionAs, number_alone, Entry, consumed, keeps, Stores, At}
 use Rattle.s_agrees.proofs.Contexts.{deep_locals, works_deep, base_locals, waits_join}
 use Rattle.s_agrees.proofs.CountedContexts.{labels, stored, labels_plug, frames_plug, handles_plug, clauses_labels, clauses_frames, clauses_handles, live_more, live_none, live_less, stored_none, stored_less}
 use Rattle.s_agrees.proofs.Paths.{program_of, step, Caps, Under, Path, stay, go, path_wider, takes, get_path}
@@ -118,11 +117,6 @@ module _ (s : Store) (b : ℕ) (k : Continuation) (w : Val) (there : slice_get s
 
 -- ## The handler's function
 
--- the handle, and the function of the handler around it
-abbrev pub handler_around : List Declaration → Name → Handler → Locals → Row Val → Code → Context → Context
-handler_around ds h i L below c e =
-    Handle ε (clause_answers ds 0 i.clauses) (return_code ds (return_layout ds h i) (length i.clauses) i) ∷ clause_labels ds (placed_clauses ds h i) (in_loop ds h i L below c e)
-
 -- what a continuation keeps runs on under it, with this value
 abbrev pub resumed : List Declaration → Name → Handler → Locals → Row Val → Code → Context → Continuation → Val → Term
 resumed ds h i L below c e k w = record { around = k.term.around ++ handler_around ds h i L below c e; operands = k.term.operands ▹ w; rest = k.term.rest }
@@ -158,7 +152,7 @@ module _ (p : Script) (matches : ℕ → ℕ → Bool) (s : Store) (b : ℕ) (k 
 
 -- the kept context stands there, in the handle
 pub resumed_at : {p : Script} {ρ : List ℕ} {σ : script.Store} {s : Store} (stores : Stores p.declarations ρ σ s) (h : Name) {i : Handler} (is : handler_of p.declarations h ≡ Some i)
-    (a b : ℕ) {κ κ0 : script.Context} {k : Continuation} (there : slice_get ρ a ≡ Some b) (left_is : kept_at σ a ≡ Some (Some κ)) (right_is : slice_get s.conts b ≡ Some (Some k)) (kept : KeptAs p.declarations ρ κ k)
+    (a b : ℕ) {κ κ0 : script.Context} {k : Continuation} (there : slice_get ρ a ≡ Some b) (left_is : kept_at σ a ≡ Some (Some (captured κ))) (right_is : slice_get s.conts b ≡ Some (Some k)) (kept : ResumptionAs p.declarations ρ κ k)
     {u : Value} {w : Val} (value : Same ρ u w) {vs : List Value} {L : Locals} {below : Row Val} {c : Code} {e : Context}
     → handler_room p.declarations h i ≤ length L → length vs ≡ length i.parameters → Held ρ L vs → Waits p.declarations ρ κ0 below c e
     → At p.declarations ρ (record { store = emptied σ a; term = record { hole = Gives u; around = κ ++ Handled h vs ∷ κ0 } }) (spent s b k w) (resumed p.declarations h i L below c e k w)
@@ -168,34 +162,34 @@ resumed_at {p} {ρ} {σ} {s} stores h {i} is a b {κ} {κ0} {k} there left_is ri
           (λ (z : List Administrative). Stands p.declarations ρ (record { hole = Gives u; around = κ ++ Handled h vs ∷ κ0 })
           (record { around = k.term.around ++ tail; operands = k.term.operands ▹ w; rest = record { ahead = z; code = k.term.rest.code } })) (sym kept.ahead)
           (gives value (waits_join (Handled h vs ∷ κ0) tail (handle is room number held outer) kept.waits));
-      stores = stores_less stores a b κ k there left_is right_is (None ∷ []) (spent_conts s b k w right_is) refl refl (spent_live s b k w right_is);
+      stores = stores_less stores a b (captured κ) k there left_is right_is (None ∷ []) (spent_conts s b k w right_is) refl refl (spent_live s b k w right_is);
     }
 
 -- ## What the script does
 
-module _ (σ : script.Store) (vars : List Variable) {h : Name} (a : ℕ) {entry : Option script.Context} (x : Name) (v : Variable) (is : variable_of x vars ≡ Some v) (ty : v.ty ≡ Resumption h)
+module _ (σ : script.Store) (vars : List Variable) {h : Name} (a : ℕ) {entry : Option script.Kept} (x : Name) (v : Variable) (is : variable_of x vars ≡ Some v) (ty : v.ty ≡ Resumption h)
     (value : v.value ≡ Reference a) (kept : kept_at σ a ≡ Some entry) (u : Value) (vs : Values) where
   pub resumes_is : (owner : Option Name) (w : List Work) (κ0 κ : script.Context)
       → resumes (record { store = σ; variables = vars; owner = owner; work = w; outer = κ0 }) x (listed ((no_values ▸ u) ⧻ vs)) κ
-      ≡ or_fault Reused entry (λ (inner : script.Context). goes (emptied σ a) (Gives u) (inner ++ Handled h (listed vs) ∷ κ))
+      ≡ or_fault Reused entry (λ (r : script.Kept). goes (emptied σ a) (Gives u) (r.around ++ Handled h (listed vs) ∷ κ))
   resumes_is owner w κ0 κ = rw (listed_both (no_values ▸ u) vs, is, ty, value, kept) refl
 
 -- the continuation of a resumption, by what the script has of it
 module _ {p : Script} (matches : ℕ → ℕ → Bool) {ρ : List ℕ} (σ : script.Store) {s : Store} (a b : ℕ) {B : ℕ} {t : Term} (on : script.Context → Step) where
-  by_entry : {o : Option script.Context} {q : Option Continuation} → Entry p.declarations ρ (Some o) (Some q) → kept_at σ a ≡ Some o → slice_get s.conts b ≡ Some q
+  by_entry : {o : Option script.Kept} {q : Option Continuation} → Entry p.declarations ρ (Some o) (Some q) → kept_at σ a ≡ Some o → slice_get s.conts b ≡ Some q
       → (slice_get s.conts b ≡ Some None → Matches p matches B s t (or_fault Reused None on))
-      → ((κ : script.Context) (k : Continuation) → kept_at σ a ≡ Some (Some κ) → slice_get s.conts b ≡ Some (Some k) → KeptAs p.declarations ρ κ k → Matches p matches B s t (on κ))
-      → Matches p matches B s t (or_fault Reused o on)
+      → ((κ : script.Context) (k : Continuation) → kept_at σ a ≡ Some (Some (captured κ)) → slice_get s.conts b ≡ Some (Some k) → ResumptionAs p.declarations ρ κ k → Matches p matches B s t (on κ))
+      → Matches p matches B s t (or_fault Reused o (λ (x : script.Kept). on x.around))
   by_entry consumed l r faults goes_on = faults r
-  by_entry (keeps {κ = κ} {k = k} z) l r faults goes_on = goes_on κ k l r z
+  by_entry (keeps (number_alone {κ = κ} {k = k} z)) l r faults goes_on = goes_on κ k l r z
 
-  pub by_kept : Stores p.declarations ρ σ s → slice_get ρ a ≡ Some b → (entry : Option script.Context) → kept_at σ a ≡ Some entry
+  pub by_kept : Stores p.declarations ρ σ s → slice_get ρ a ≡ Some b → (entry : Option script.Kept) → kept_at σ a ≡ Some entry
       → (slice_get s.conts b ≡ Some None → Matches p matches B s t (or_fault Reused None on))
-      → ((κ : script.Context) (k : Continuation) → kept_at σ a ≡ Some (Some κ) → slice_get s.conts b ≡ Some (Some k) → KeptAs p.declarations ρ κ k → Matches p matches B s t (on κ))
-      → Matches p matches B s t (or_fault Reused entry on)
+      → ((κ : script.Context) (k : Continuation) → kept_at σ a ≡ Some (Some (captured κ)) → slice_get s.conts b ≡ Some (Some k) → ResumptionAs p.declarations ρ κ k → Matches p matches B s t (on κ))
+      → Matches p matches B s t (or_fault Reused entry (λ (x : script.Kept). on x.around))
   by_kept stores there entry is faults goes_on =
       let z = sides (stores.each a b there) in
-      subst (λ (o : Option script.Context). Matches p matches B s t (or_fault Reused o on)) (some_is (sym z.left_is ∙ is)) (by_entry z.entry z.left_is z.right_is faults goes_on)
+      subst (λ (o : Option script.Kept). Matches p matches B s t (or_fault Reused o (λ (x : script.Kept). on x.around))) (some_is (sym z.left_is ∙ is)) (by_entry z.entry z.left_is z.right_is faults goes_on)
 
 -- ## The step
 
@@ -203,7 +197,7 @@ module _ {p : Script} (matches : ℕ → ℕ → Bool) (facts : Facts p.declarat
     (active : Active ρ Γ n L vars) (base : Base p.declarations Γ L below c' e' owner D0 f) (waits : Waits p.declarations ρ κ below c' e') where
   -- a resumption that isn't consumed, whose handler is known
   resuming_kept : {t y : ℕ} (h : Name) {i : Handler} {u : Value} {vs : Values} {ws : Row Val} {w : List Work} {ops : Row Val} {c : Code} {e : Context} (x : Name) (a : ℕ) (κ' : script.Context) (k : Continuation)
-      → (r : ResumptionIn ρ Γ L x h a) → kept_at σ a ≡ Some (Some κ') → slice_get s.conts r.continuation ≡ Some (Some k) → KeptAs p.declarations ρ κ' k
+      → (r : ResumptionIn ρ Γ L x h a) → kept_at σ a ≡ Some (Some (captured κ')) → slice_get s.conts r.continuation ≡ Some (Some k) → ResumptionAs p.declarations ρ κ' k
       → handler_of p.declarations h ≡ Some i → many vs ≡ length i.parameters → LocalIs ρ L y u → Sames ρ vs ws → Works p.declarations ρ Γ n D0 f t L w ops c e
       → Matches p matches 52 s (config e (ops ⧺ ws) (Plain (local_get y) (Plain (local_get (local_number Γ x)) (Plain (bind_continuation resumption_type computation_type) (Plain (call (handler_index p.declarations h)) c)))))
       (goes (emptied σ a) (Gives u) (κ' ++ Handled h (listed vs) ∷ Activation vars owner w ∷ κ))
@@ -235,7 +229,7 @@ module _ {p : Script} (matches : ℕ → ℕ → Bool) (facts : Facts p.declarat
       (resumed_at stores h is a b r.there left_is right_is kept local.same (first_room ds hf values number (next_cont s)) (omega (arith, long, number)) (first_held ds hf values number (next_cont s))
       (activation active works base waits))
 
-  pub sim_resuming : {t y : ℕ} (h : Name) {i : Handler} {u : Value} {vs : Values} {ws : Row Val} {w : List Work} {ops : Row Val} {c : Code} {e : Context} (x : Name) (v : Variable) (a : ℕ) (entry : Option script.Context)
+  pub sim_resuming : {t y : ℕ} (h : Name) {i : Handler} {u : Value} {vs : Values} {ws : Row Val} {w : List Work} {ops : Row Val} {c : Code} {e : Context} (x : Name) (v : Variable) (a : ℕ) (entry : Option script.Kept)
       → variable_of x vars ≡ Some v → v.ty ≡ Resumption h → v.value ≡ Reference a → kept_at σ a ≡ Some entry → handler_of p.declarations h ≡ Some i → many vs ≡ length i.parameters
       → LocalIs ρ L y u → Sames ρ vs ws → Works p.declarations ρ Γ n D0 f t L w ops c e
       → Matches p matches 52 s (config e (ops ⧺ ws) (resume_code p.declarations Γ x y c))
@@ -249,7 +243,7 @@ module _ {p : Script} (matches : ℕ → ℕ → Bool) (facts : Facts p.declarat
       let there : Under (caps_of s (config e (ops ⧺ ws) (code (handler_index ds h))) (config e (ops ⧺ ws) (code (handler_index ds h)))) s e =
       under_first s (config e (ops ⧺ ws) (code (handler_index ds h))) (config e (ops ⧺ ws) (code (handler_index ds h))) in
       subst (λ (z : Step). Matches p matches 52 s (config e (ops ⧺ ws) (resume_code ds Γ x y c)) z) (sym (resumes_is σ vars a x v bound_is ty value kept u vs owner w κ (Activation vars owner w ∷ κ)))
-      (subst (λ (o : Option Name). Matches p matches 52 s (config e (ops ⧺ ws) (code (handler_index_of ds o))) (or_fault Reused entry on)) (sym r.handler)
+      (subst (λ (o : Option Name). Matches p matches 52 s (config e (ops ⧺ ws) (code (handler_index_of ds o))) (or_fault Reused entry (λ (z : script.Kept). on z.around))) (sym r.handler)
       (by_kept matches σ a r.continuation on stores r.there entry kept
       (λ (z : slice_get s.conts r.continuation ≡ Some None).
       faulted (get_path y local.value locals local.is there (get_path (local_number Γ x) (Cont r.continuation) locals r.is there stay))

@@ -150,7 +150,7 @@ few_declarations (d ∷ ds) =
     omega (arith, q, r, s)
 
 -- where declarations and types are few
-indices_small : (ds : List Declaration) → length ds ≤ size_limit → length (type_table ds) ≤ 2091 → SmallIndices ds
+indices_small : (ds : List Declaration) → length ds ≤ size_limit → length (type_table ds) ≤ 10000 → SmallIndices ds
 indices_small ds few table =
     let entry : (x : Name) → EntrySmall (length ds) (entry_of ds x) = λ x. entry_small no_counts ds x (length ds) (omega arith) in
     let functions = few_functions ds in
@@ -168,7 +168,7 @@ indices_small ds few table =
 pub small_indices : (p : Script) → Good p → Size p ≤ size_limit → SmallIndices p.declarations
 small_indices p good few =
     let q = few_declarations p.declarations in
-    let t = few_in_table p good in
+    let t = few_in_table p good few in
     indices_small p.declarations (omega (arith, q, few)) t
 
 -- ## Locals

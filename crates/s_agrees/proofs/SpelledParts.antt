@@ -155,21 +155,21 @@ declarations_spelled [] few = tt
 declarations_spelled (d ∷ ds) few = all_append (types_for d.definition) (types_for_all ds) (definition_spelled d.definition (few 0 d refl)) (declarations_spelled ds (λ k e at. few (suc k) e at))
 
 -- the index of a function type is its place among few
-continuations_spelled : (ds es : List Declaration) → length (function_types ds) ≤ 1045 → AllSpelled (continuations ds es)
+continuations_spelled : (ds es : List Declaration) → length (function_types ds) ≤ 10000 → AllSpelled (continuations ds es)
 continuations_spelled ds [] few = tt
 continuations_spelled ds (e ∷ es) few = let q = place_small (function_type (parameters_of ds e.name)) (function_types ds) in (omega (arith, q, few), continuations_spelled ds es few)
 
-table_spelled : (p : Script) → Good p → AllSpelled (type_table p.declarations)
-table_spelled p good =
+table_spelled : (p : Script) → Good p → Size p ≤ size_limit → AllSpelled (type_table p.declarations)
+table_spelled p good size =
     with_spelled (function_types p.declarations) (continuations p.declarations (handled p.declarations))
     (with_spelled first_types (types_for_all p.declarations) first_spelled (declarations_spelled p.declarations (small p good)))
-    (continuations_spelled p.declarations (handled p.declarations) (few_function_types p good))
+    (continuations_spelled p.declarations (handled p.declarations) (few_function_types p good size))
 
-pub types_spelled : (p : Script) → Good p → ListSpelled rectype rectype_written (lowered p).types
-types_spelled p good =
-    let few = few_in_table p good in
+pub types_spelled : (p : Script) → Good p → Size p ≤ size_limit → ListSpelled rectype rectype_written (lowered p).types
+types_spelled p good size =
+    let few = few_in_table p good size in
     let l = length-map (type_table p.declarations) group in
-    (omega (arith, few, l), groups_spelled (type_table p.declarations) (table_spelled p good))
+    (omega (arith, few, l), groups_spelled (type_table p.declarations) (table_spelled p good size))
 
 -- ## Functions, tables and tags
 

@@ -60,7 +60,7 @@ paired p =
 module _ (p : Script) (good : Good p) (size : Size p ≤ size_limit) where
   parts : PartsSpelled (lowered p)
   parts = record {
-    types = types_spelled p good;
+    types = types_spelled p good size;
     imports = imports_spelled p;
     functions = functions_spelled p good size;
     tables = tables_spelled p good size;

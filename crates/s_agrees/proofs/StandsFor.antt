@@ -40,7 +40,7 @@ use Rattle.s_code.specs.Handlers.{Placed, clause_code, labels, return_code, hand
 use Rattle.s_code.specs.Places.{return_layout, placed_clauses, handler_temporaries, high_clauses}
 use Rattle.s_meaning.specs.Numbers.{decided}
 use Rattle.s_meaning.specs.Terms as script
-use Rattle.s_meaning.specs.Terms.{Value, Number, Reference, Variable, Calling, Doing, Handling, Resuming, TailResuming, TailCalling, Use, ToStore, ToPrint, ToDrop, ToReturn, ToChoose, ToTurn, ToPut, ToTake, Work, UnderUnary, LeftOf, RightOf, Among, Within, Activation, Handle as Handled, Gives, Finds, Runs, Contents, Configuration}
+use Rattle.s_meaning.specs.Terms.{Value, Number, Reference, Variable, Calling, Doing, Handling, Resuming, TailResuming, TailCalling, Use, ToStore, ToPrint, ToDrop, ToReturn, ToChoose, ToTurn, ToPut, ToTake, Work, UnderUnary, LeftOf, RightOf, Among, Within, Activation, Handle as Handled, Gives, Finds, Runs, Number_alone, Contents, Configuration}
 use Rattle.s_meaning.specs.Focus.{followed_by, variable_of}
 use Rattle.s_meaning.specs.Steps.{contents_of}
 use Rattle.s_valid.specs.Beginning.{first_store}
@@ -305,6 +305,11 @@ handler_high i = max (high_block i.return_clause.body) (high_clauses i.clauses)
 abbrev pub handler_room : List Declaration → Name → Handler → ℕ
 handler_room ds h i = handler_temporaries ds h i + handler_high i
 
+-- the handle of a handler, and its function around that
+abbrev pub handler_around : List Declaration → Name → Handler → Locals → Row Val → Code → Context → Context
+handler_around ds h i L below c e =
+    Handle ε (labels ds 0 i.clauses) (return_code ds (return_layout ds h i) (length i.clauses) i) ∷ clause_labels ds (placed_clauses ds h i) (in_loop ds h i L below c e)
+
 -- the clauses' owner in the layouts of a handler
 abbrev pub own : Name → Handler → Owner
 own h i = record { name = h; parameters = length i.parameters }
@@ -324,8 +329,7 @@ pub data Waits (ds : List Declaration) (ρ : List ℕ) : script.Context → Row 
       → Waits ds ρ (Activation vars owner work ∷ κ) ops c e
   handle : {h : Name} {i : Handler} {L : Locals} {vs : List Value} {κ : script.Context} {below : Row Val} {c : Code} {e : Context}
       → handler_of ds h ≡ Some i → handler_room ds h i ≤ length L → length vs ≡ length i.parameters → Held ρ L vs → Waits ds ρ κ below c e
-      → Waits ds ρ (Handled h vs ∷ κ) ε Done
-      (Handle ε (labels ds 0 i.clauses) (return_code ds (return_layout ds h i) (length i.clauses) i) ∷ clause_labels ds (placed_clauses ds h i) (in_loop ds h i L below c e))
+      → Waits ds ρ (Handled h vs ∷ κ) ε Done (handler_around ds h i L below c e)
 
 -- ## Terms and stores
 
@@ -349,14 +353,18 @@ pub data Stands (ds : List Declaration) (ρ : List ℕ) : script.Term → Term �
       → Stands ds ρ (record { hole = Runs b; around = Activation vars owner [] ∷ κ }) (config e ε c)
 
 -- a resumption's context, and the continuation that keeps it
-pub record KeptAs (ds : List Declaration) (ρ : List ℕ) (κ : script.Context) (k : Continuation) : Type 0 where
+pub record ResumptionAs (ds : List Declaration) (ρ : List ℕ) (κ : script.Context) (k : Continuation) : Type 0 where
   pub takes : k.takes ≡ 1
   pub ahead : k.term.rest.ahead ≡ []
   pub waits : Waits ds ρ κ k.term.operands k.term.rest.code k.term.around
 
-pub data Entry (ds : List Declaration) (ρ : List ℕ) : Option (Option script.Context) → Option (Option Continuation) → Type 0 where
+-- what is kept of the script, and the continuation that keeps it
+pub data KeptAs (ds : List Declaration) (ρ : List ℕ) : script.Kept → Continuation → Type 0 where
+  number_alone : {κ : script.Context} {k : Continuation} → ResumptionAs ds ρ κ k → KeptAs ds ρ (record { takes = Number_alone; around = κ }) k
+
+pub data Entry (ds : List Declaration) (ρ : List ℕ) : Option (Option script.Kept) → Option (Option Continuation) → Type 0 where
   consumed : Entry ds ρ (Some None) (Some None)
-  keeps : {κ : script.Context} {k : Continuation} → KeptAs ds ρ κ k → Entry ds ρ (Some (Some κ)) (Some (Some k))
+  keeps : {r : script.Kept} {k : Continuation} → KeptAs ds ρ r k → Entry ds ρ (Some (Some r)) (Some (Some k))
 
 -- what stands at a place of slots, and in their table
 pub data Element (ρ : List ℕ) : Option ℕ → Val → Type 0 where
@@ -379,10 +387,10 @@ pub record SlotsKept (ρ : List ℕ) (d : Slots) (o : Option Contents) (q : Opti
 
 -- entry by entry; what is live besides isn't there: continuations that the module makes for itself are consumed at once
 pub record Stores (ds : List Declaration) (ρ : List ℕ) (σ : script.Store) (s : Store) : Type 0 where
-  pub as_many : length ρ ≡ length σ.resumptions
-  pub each : (a b : ℕ) → slice_get ρ a ≡ Some b → Entry ds ρ (slice_get σ.resumptions a) (slice_get s.conts b)
+  pub as_many : length ρ ≡ length σ.contexts
+  pub each : (a b : ℕ) → slice_get ρ a ≡ Some b → Entry ds ρ (slice_get σ.contexts a) (slice_get s.conts b)
   pub apart : (a a' b : ℕ) → slice_get ρ a ≡ Some b → slice_get ρ a' ≡ Some b → a ≡ a'
-  pub lives : live s ≡ script.full σ.resumptions
+  pub lives : live s ≡ script.full σ.contexts
   pub slots : (x : Name) (d : Slots) → slots_of ds x ≡ Some d → SlotsKept ρ d (contents_of x σ.slots) (slice_get s.tables (table_index ds x))
   -- nothing adds a function
   pub functions : s.functions ≡ (first_store ds).functions

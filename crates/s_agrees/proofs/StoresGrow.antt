@@ -1,4 +1,4 @@
--- One resumption more, and the continuation that keeps it: stores stand for one another as before.
+-- One context more that is kept, and the continuation that keeps it: stores stand for one another as before.
 use Rattle.std.proofs.Common.{◌≡◌, ℕ, zero, suc, ◌+◌, ◌<◌, List, [], ◌∷◌, ◌++◌, length, ◌⊎◌, inl, inr, Option, Some, None, refl, sym, ap, ◌∙◌, subst, arith, length-append}
 use Rattle.std.specs.Prelude.{slice_get}
 use Rattle.std.proofs.lemmas.Option.{slice_get_within}
@@ -11,35 +11,35 @@ use Rattle.s_meaning.specs.Terms as script
 use Rattle.s_meaning.specs.Terms.{Contents}
 use Rattle.s_meaning.specs.Steps.{with_kept}
 use Rattle.s_meaning.proofs.Lists.{get_before, get_last}
-use Rattle.s_agrees.proofs.StandsFor.{KeptAs, Entry, consumed, keeps, Element, is_empty, is_kept, Elements, no_elements, element, SlotsKept, Stores}
+use Rattle.s_agrees.proofs.StandsFor.{KeptAs, number_alone, Entry, consumed, keeps, Element, is_empty, is_kept, Elements, no_elements, element, SlotsKept, Stores}
 use Rattle.s_agrees.proofs.MoreResumptions.{Grows, grows_more}
 use Rattle.s_agrees.proofs.Contexts.{waits_grow}
 use Rattle.s_agrees.proofs.CountedContexts.{live_more, full_more}
 
 -- ## Entries
 
-pub kept_grows : {ds : List Declaration} {ρ ρ' : List ℕ} {κ : script.Context} {k : Continuation} → Grows ρ ρ' → KeptAs ds ρ κ k → KeptAs ds ρ' κ k
-kept_grows g h = record { takes = h.takes; ahead = h.ahead; waits = waits_grow g h.waits }
+pub kept_grows : {ds : List Declaration} {ρ ρ' : List ℕ} {r : script.Kept} {k : Continuation} → Grows ρ ρ' → KeptAs ds ρ r k → KeptAs ds ρ' r k
+kept_grows g (number_alone h) = number_alone (record { takes = h.takes; ahead = h.ahead; waits = waits_grow g h.waits })
 
-pub entry_grows : {ds : List Declaration} {ρ ρ' : List ℕ} {o : Option (Option script.Context)} {q : Option (Option Continuation)} → Grows ρ ρ' → Entry ds ρ o q → Entry ds ρ' o q
+pub entry_grows : {ds : List Declaration} {ρ ρ' : List ℕ} {o : Option (Option script.Kept)} {q : Option (Option Continuation)} → Grows ρ ρ' → Entry ds ρ o q → Entry ds ρ' o q
 entry_grows g consumed = consumed
 entry_grows g (keeps h) = keeps (kept_grows g h)
 
 -- both sides are there
-pub record Sides (ds : List Declaration) (ρ : List ℕ) (o : Option (Option script.Context)) (q : Option (Option Continuation)) : Type 0 where
-  pub left : Option script.Context
+pub record Sides (ds : List Declaration) (ρ : List ℕ) (o : Option (Option script.Kept)) (q : Option (Option Continuation)) : Type 0 where
+  pub left : Option script.Kept
   pub right : Option Continuation
   pub left_is : o ≡ Some left
   pub right_is : q ≡ Some right
   pub entry : Entry ds ρ (Some left) (Some right)
 
-pub sides : {ds : List Declaration} {ρ : List ℕ} {o : Option (Option script.Context)} {q : Option (Option Continuation)} → Entry ds ρ o q → Sides ds ρ o q
+pub sides : {ds : List Declaration} {ρ : List ℕ} {o : Option (Option script.Kept)} {q : Option (Option Continuation)} → Entry ds ρ o q → Sides ds ρ o q
 sides consumed = record { left = None; right = None; left_is = refl; right_is = refl; entry = consumed }
-sides (keeps {κ = κ} {k = k} h) = record { left = Some κ; right = Some k; left_is = refl; right_is = refl; entry = keeps h }
+sides (keeps {r = r} {k = k} h) = record { left = Some r; right = Some k; left_is = refl; right_is = refl; entry = keeps h }
 
 -- an entry whose sides are found at other places
-pub entry_at : {ds : List Declaration} {ρ : List ℕ} {o o' : Option (Option script.Context)} {q q' : Option (Option Continuation)} → o' ≡ o → q' ≡ q → Entry ds ρ o q → Entry ds ρ o' q'
-entry_at {ds} {ρ} {o} {o'} {q} {q'} x y h = subst (λ (z : Option (Option script.Context)). Entry ds ρ z q') (sym x) (subst (λ (z : Option (Option Continuation)). Entry ds ρ o z) (sym y) h)
+pub entry_at : {ds : List Declaration} {ρ : List ℕ} {o o' : Option (Option script.Kept)} {q q' : Option (Option Continuation)} → o' ≡ o → q' ≡ q → Entry ds ρ o q → Entry ds ρ o' q'
+entry_at {ds} {ρ} {o} {o'} {q} {q'} x y h = subst (λ (z : Option (Option script.Kept)). Entry ds ρ z q') (sym x) (subst (λ (z : Option (Option Continuation)). Entry ds ρ o z) (sym y) h)
 
 -- ## Slots
 
@@ -68,18 +68,18 @@ old_or_new (y ∷ xs) x (suc a) e q = further (old_or_new xs x a e q)
 
 -- ## Stores
 
-module _ {ds : List Declaration} {ρ : List ℕ} {σ : script.Store} {s : Store} (h : Stores ds ρ σ s) {κ : script.Context} {k : Continuation} (kept : KeptAs ds ρ κ k) where
+module _ {ds : List Declaration} {ρ : List ℕ} {σ : script.Store} {s : Store} (h : Stores ds ρ σ s) {r : script.Kept} {k : Continuation} (kept : KeptAs ds ρ r k) where
   -- an address of the store, so not the next one
   earlier : (a b : ℕ) → slice_get ρ a ≡ Some b → b < next_cont s
   earlier a b e = let z = sides (h.each a b e) in slice_get_within s.conts b z.right z.right_is
 
   each_more : (a b : ℕ) → (slice_get ρ a ≡ Some b) ⊎ ((a ≡ length ρ) × (b ≡ next_cont s))
-      → Entry ds (ρ ++ next_cont s ∷ []) (slice_get (with_kept σ κ).resumptions a) (slice_get (with_cont k s).conts b)
+      → Entry ds (ρ ++ next_cont s ∷ []) (slice_get (with_kept σ r).contexts a) (slice_get (with_cont k s).conts b)
   each_more a b (inl e) =
       let x = sides (h.each a b e) in
-      entry_at (get_before σ.resumptions (Some κ ∷ []) a x.left x.left_is) (get_before s.conts (Some k ∷ []) b x.right x.right_is) (entry_grows (grows_more ρ (next_cont s)) x.entry)
+      entry_at (get_before σ.contexts (Some r ∷ []) a x.left x.left_is) (get_before s.conts (Some k ∷ []) b x.right x.right_is) (entry_grows (grows_more ρ (next_cont s)) x.entry)
   each_more a b (inr e) =
-      entry_at (ap (λ (z : ℕ). slice_get (σ.resumptions ++ Some κ ∷ []) z) (e.0 ∙ h.as_many) ∙ get_last σ.resumptions (Some κ))
+      entry_at (ap (λ (z : ℕ). slice_get (σ.contexts ++ Some r ∷ []) z) (e.0 ∙ h.as_many) ∙ get_last σ.contexts (Some r))
       (ap (λ (z : ℕ). slice_get (s.conts ++ Some k ∷ []) z) e.1 ∙ get_last s.conts (Some k)) (keeps (kept_grows (grows_more ρ (next_cont s)) kept))
 
   apart_more : (a a' b : ℕ) → (slice_get ρ a ≡ Some b) ⊎ ((a ≡ length ρ) × (b ≡ next_cont s)) → (slice_get ρ a' ≡ Some b) ⊎ ((a' ≡ length ρ) × (b ≡ next_cont s)) → a ≡ a'
@@ -88,12 +88,12 @@ module _ {ds : List Declaration} {ρ : List ℕ} {σ : script.Store} {s : Store}
   apart_more a a' b (inr e) (inl q) = let lt = earlier a' b q in let same = e.1 in absurd (omega (arith, lt, same))
   apart_more a a' b (inr e) (inr q) = e.0 ∙ sym q.0
 
-  pub stores_more : Stores ds (ρ ++ next_cont s ∷ []) (with_kept σ κ) (with_cont k s)
+  pub stores_more : Stores ds (ρ ++ next_cont s ∷ []) (with_kept σ r) (with_cont k s)
   stores_more = record {
-    as_many = length-append ρ (next_cont s ∷ []) ∙ ap (λ (z : ℕ). z + 1) h.as_many ∙ sym (length-append σ.resumptions (Some κ ∷ []));
+    as_many = length-append ρ (next_cont s ∷ []) ∙ ap (λ (z : ℕ). z + 1) h.as_many ∙ sym (length-append σ.contexts (Some r ∷ []));
     each = λ a b e. each_more a b (old_or_new ρ (next_cont s) a b e);
     apart = λ a a' b e q. apart_more a a' b (old_or_new ρ (next_cont s) a b e) (old_or_new ρ (next_cont s) a' b q);
-    lives = live_more s.conts k ∙ ap suc h.lives ∙ sym (full_more σ.resumptions κ);
+    lives = live_more s.conts k ∙ ap suc h.lives ∙ sym (full_more σ.contexts r);
     slots = λ x d e. slots_grow (grows_more ρ (next_cont s)) (h.slots x d e);
     functions = h.functions;
   }

@@ -40,24 +40,24 @@ stores_spent {ds} {ρ} {σ} {s} {s'} h ks more same tables lives = record {
 }
 
 -- the resumption a, whose continuation is b, is consumed
-module _ {ds : List Declaration} {ρ : List ℕ} {σ : script.Store} {s : Store} (h : Stores ds ρ σ s) (a b : ℕ) (κ : script.Context) (k : Continuation) (there : slice_get ρ a ≡ Some b)
-    (left_is : slice_get σ.resumptions a ≡ Some (Some κ)) (right_is : slice_get s.conts b ≡ Some (Some k)) where
-  entry_less : (a' b' : ℕ) → slice_get ρ a' ≡ Some b' → Entry ds ρ (slice_get (emptied σ a).resumptions a') (slice_get (slice_set s.conts b None) b')
+module _ {ds : List Declaration} {ρ : List ℕ} {σ : script.Store} {s : Store} (h : Stores ds ρ σ s) (a b : ℕ) (r : script.Kept) (k : Continuation) (there : slice_get ρ a ≡ Some b)
+    (left_is : slice_get σ.contexts a ≡ Some (Some r)) (right_is : slice_get s.conts b ≡ Some (Some k)) where
+  entry_less : (a' b' : ℕ) → slice_get ρ a' ≡ Some b' → Entry ds ρ (slice_get (emptied σ a).contexts a') (slice_get (slice_set s.conts b None) b')
   entry_less a' b' q = elim (ℕ_discrete a' a) [
     | yes e ↦
         let same : b' ≡ b = some_is (sym q ∙ ap (λ (z : ℕ). slice_get ρ z) e ∙ there) in
-        entry_at (ap (λ (z : ℕ). slice_get (slice_set σ.resumptions a None) z) e ∙ get_set_same σ.resumptions a None (Some κ) left_is)
+        entry_at (ap (λ (z : ℕ). slice_get (slice_set σ.contexts a None) z) e ∙ get_set_same σ.contexts a None (Some r) left_is)
         (ap (λ (z : ℕ). slice_get (slice_set s.conts b None) z) same ∙ get_set_same s.conts b None (Some k) right_is) consumed
     | no n ↦
-        entry_at (get_set_other σ.resumptions a a' None (λ (e : a ≡ a'). n (sym e)))
+        entry_at (get_set_other σ.contexts a a' None (λ (e : a ≡ a'). n (sym e)))
         (get_set_other s.conts b b' None (λ (e : b ≡ b'). n (h.apart a' a b' q (there ∙ ap (λ (z : ℕ). Some z) e)))) (h.each a' b' q)
   ]
 
   pub stores_less : {s' : Store} (ks : List (Option Continuation)) → s'.conts ≡ slice_set s.conts b None ++ ks → s'.functions ≡ s.functions → s'.tables ≡ s.tables → live s' ≡ live_in (slice_set s.conts b None)
       → Stores ds ρ (emptied σ a) s'
   stores_less {s'} ks more same tables lives =
-      let x = live_less s.conts b k right_is in let y = full_less σ.resumptions a κ left_is in let z = h.lives in record {
-        as_many = h.as_many ∙ sym (length_set σ.resumptions a None);
+      let x = live_less s.conts b k right_is in let y = full_less σ.contexts a r left_is in let z = h.lives in record {
+        as_many = h.as_many ∙ sym (length_set σ.contexts a None);
         each = λ a' b' q. let x = sides (entry_less a' b' q) in
             entry_at x.left_is (ap (λ (z : List (Option Continuation)). slice_get z b') more ∙ get_before (slice_set s.conts b None) ks b' x.right x.right_is) x.entry;
         apart = h.apart;

@@ -22,14 +22,14 @@ use Rattle.s_code.specs.Layouts.{Owner, Layout, local_number, handler_of_name, i
 use Rattle.s_code.specs.Expressions.{set_parameters}
 use Rattle.s_code.specs.Handlers.{Placed}
 use Rattle.s_meaning.specs.Numbers.{Reused}
-use Rattle.s_meaning.specs.Terms.{Value, Reference, listed, Variable, TailResuming, Handle as Handled, Gives}
+use Rattle.s_meaning.specs.Terms.{Value, Reference, listed, Variable, TailResuming, Handle as Handled, Gives, captured}
 use Rattle.s_meaning.specs.Terms as script
 use Rattle.s_meaning.specs.Focus.{variable_of}
 use Rattle.s_meaning.specs.Steps.{Step, or_fault, emptied, kept_at, goes, applies}
 use Rattle.s_meaning.proofs.Lists.{length_set}
 use Rattle.s_meaning.proofs.Scopes.{same_is}
 use Rattle.s_agrees.proofs.ScriptRows.{Values, no_values, ◌▸◌, ◌⧻◌, many, listed_more, listed_many}
-use Rattle.s_agrees.proofs.StandsFor.{config, Sames, none, more, Locals, LocalIs, Held, Active, Deep, here, label, tail_code, clause_labels, handler_place, loop_code, in_loop, own, handler_room, Base, function, clause, Waits, KeptAs, Stores}
+use Rattle.s_agrees.proofs.StandsFor.{config, Sames, none, more, Locals, LocalIs, Held, Active, Deep, here, label, tail_code, clause_labels, handler_place, loop_code, in_loop, own, handler_room, Base, function, clause, Waits, ResumptionAs, Stores}
 use Rattle.s_agrees.proofs.MoreResumptions.{get_set_same, get_set_other}
 use Rattle.s_agrees.proofs.Contexts.{setting, deep_locals, clauses_beyond, clauses_locals, base_locals}
 use Rattle.s_agrees.proofs.CountedContexts.{clauses_labels, clauses_frames, clauses_handles, deep_frames, deep_handles, deep_labels}
@@ -183,7 +183,7 @@ module _ {p : Script} (matches : ℕ → ℕ → Bool) (facts : Facts p.declarat
   -- a resumption that isn't consumed
   tail_kept : {Γ : Layout} {L : Locals} {d D y : ℕ} {e : Context} (h : Name) {i : Handler} {u : Value} {vs : Values} {ws : Row Val} (x : Name) (a : ℕ) (κ' : script.Context) (k : Continuation) (ps : List Placed) (c : Code)
       → length ps ≤ 16 → handler_room p.declarations h i ≤ length L → Deep (clause_labels p.declarations ps (in_loop p.declarations h i L below c' e')) d e → D ≡ d + length ps
-      → (r : ResumptionIn ρ Γ L x h a) → kept_at σ a ≡ Some (Some κ') → slice_get s.conts r.continuation ≡ Some (Some k) → KeptAs p.declarations ρ κ' k
+      → (r : ResumptionIn ρ Γ L x h a) → kept_at σ a ≡ Some (Some (captured κ')) → slice_get s.conts r.continuation ≡ Some (Some k) → ResumptionAs p.declarations ρ κ' k
       → handler_of p.declarations h ≡ Some i → many vs ≡ length i.parameters → LocalIs ρ L y u → Sames ρ vs ws
       → Matches p matches 52 s (config e (ε ⧺ ws) (Plain (local_get y) (Plain (local_get (local_number Γ x)) (Plain (bind_continuation resumption_type computation_type)
       (Plain (local_set (many vs)) (set_parameters (many vs) (Plain (branch D) c)))))))
@@ -226,7 +226,7 @@ module _ {p : Script} (matches : ℕ → ℕ → Bool) (facts : Facts p.declarat
 
 module _ {p : Script} (matches : ℕ → ℕ → Bool) (facts : Facts p.declarations) {ρ : List ℕ} {σ : script.Store} {s : Store} (stores : Stores p.declarations ρ σ s) {Γ : Layout} {n D0 : ℕ} {L : Locals} {vars : List Variable} {owner : Option Name} {κ : script.Context} {below : Row Val} {c' : Code} {e' f : Context}
     (active : Active ρ Γ n L vars) (base : Base p.declarations Γ L below c' e' owner D0 f) (waits : Waits p.declarations ρ κ below c' e') where
-  pub sim_tail : {y : ℕ} (h : Name) {i : Handler} {u : Value} {vs : Values} {ws : Row Val} {D d : ℕ} {e : Context} (x : Name) (v : Variable) (a : ℕ) (entry : Option script.Context)
+  pub sim_tail : {y : ℕ} (h : Name) {i : Handler} {u : Value} {vs : Values} {ws : Row Val} {D d : ℕ} {e : Context} (x : Name) (v : Variable) (a : ℕ) (entry : Option script.Kept)
       → variable_of x vars ≡ Some v → v.ty ≡ Resumption h → v.value ≡ Reference a → kept_at σ a ≡ Some entry → handler_of p.declarations h ≡ Some i → many vs ≡ length i.parameters
       → LocalIs ρ L y u → Sames ρ vs ws → is_own Γ x ≡ true → Deep f d e → D ≡ d + D0 → (c : Code)
       → Matches p matches 52 s (config e (ε ⧺ ws) (tail_code Γ D x y c))
@@ -242,7 +242,7 @@ module _ {p : Script} (matches : ℕ → ℕ → Bool) (facts : Facts p.declarat
       let on : script.Context → Step = λ (inner : script.Context). goes (emptied σ a) (Gives u) (inner ++ Handled h (listed vs) ∷ κ) in
       let there : Under (caps_of s (config e (ε ⧺ ws) (code (many vs))) (config e (ε ⧺ ws) (code (many vs)))) s e = under_first s (config e (ε ⧺ ws) (code (many vs))) (config e (ε ⧺ ws) (code (many vs))) in
       subst (λ (z : Step). Matches p matches 52 s (config e (ε ⧺ ws) (tail_code Γ D x y c)) z) (sym (resumes_is σ vars a x v bound_is ty value kept u vs owner [] κ κ))
-      (subst (λ (m : ℕ). Matches p matches 52 s (config e (ε ⧺ ws) (code m)) (or_fault Reused entry on)) as_many
+      (subst (λ (m : ℕ). Matches p matches 52 s (config e (ε ⧺ ws) (code m)) (or_fault Reused entry (λ (z : script.Kept). on z.around))) as_many
       (by_kept matches σ a r.continuation on stores r.there entry kept
       (λ (z : slice_get s.conts r.continuation ≡ Some None).
       faulted (get_path y local.value locals local.is there (get_path (local_number Γ x) (Cont r.continuation) locals r.is there stay))

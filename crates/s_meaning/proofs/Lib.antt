@@ -5,6 +5,7 @@ pub mod Good
 pub mod Variables
 pub mod Lists
 pub mod Slots
+pub mod Cuts
 pub mod Worlds
 pub mod TypedFocus
 pub mod Sound

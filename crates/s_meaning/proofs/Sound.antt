@@ -15,16 +15,17 @@ use Rattle.s_check.specs.Scopes.{Scope, type_in, resumption as resumption_name}
 use Rattle.s_meaning.specs.Typing.{kinds, numbers, BlockTyped, ScriptTyped, ClauseTyped, whiles}
 use Rattle.s_meaning.proofs.Scopes.{same_is, bool_of, then_typed, block_rest}
 use Rattle.s_meaning.specs.Numbers.{Reused, Empty, Unhandled, Computed, Is, Faulty, operate, decided, holds, truth}
-use Rattle.s_meaning.specs.Terms.{Value, Number, Reference, Variable, Work, RightOf, Place, Activation, Handle, Context, Hole, Gives, Finds, Runs, Contents, Store, Configuration}
+use Rattle.s_meaning.specs.Terms.{Value, Number, Reference, Variable, Work, RightOf, Place, Activation, Handle, Context, Hole, Gives, Finds, Runs, Kept, captured, Contents, Store, Configuration}
 use Rattle.s_meaning.specs.Focus.{Redex, left_of}
-use Rattle.s_meaning.specs.Steps.{clause_of, bind, number_parameters, Found, find, farther, with_clause, with_handler, with_kept, emptied as without, next_address, contents_of, with_contents, place_at, with_place, put, with_variable, Around, whole, goes, goes_on, enters, leaves, resumes, applies, uses, rule, step_at, step, unless_faulty, or_fault, or_wrong}
+use Rattle.s_meaning.specs.Steps.{clause_of, Cut, cut_at, Found, with_clause, with_handler, catches, enters_clause, with_kept, emptied as without, next_address, contents_of, with_contents, place_at, with_place, put, with_variable, Around, whole, goes, goes_on, enters, leaves, resumes, applies, uses, rule, step_at, step, unless_faulty, or_fault}
 use Rattle.s_meaning.specs.Typed
-use Rattle.s_meaning.specs.Typed.{World, HasKind, int, reference, AllHave, more, Covers, RestTyped, begins, UseTyped, stores, chooses, turns, puts, takes, WorkTyped, HeadTyped, calling, tail_calling, doing, handling, resuming, tail_resuming, ContextTyped, nothing, activation, handle, HoleTyped, gives, finds, runs, TermTyped, in_activation, in_handle, EntryTyped, emptied, kept, PlacesTyped, ContentsTyped, SlotsThere, StoreTyped, Typed}
+use Rattle.s_meaning.specs.Typed.{World, HasKind, int, reference, AllHave, more, Covers, RestTyped, begins, UseTyped, stores, chooses, turns, puts, takes, WorkTyped, HeadTyped, calling, tail_calling, doing, handling, resuming, tail_resuming, ContextTyped, nothing, activation, handle, HoleTyped, gives, finds, runs, TermTyped, in_activation, in_handle, KeptTyped, takes_number, EntryTyped, emptied, kept, PlacesTyped, ContentsTyped, SlotsThere, StoreTyped, Typed}
 use Rattle.s_meaning.specs.Laws.{StepGood, on, over, faulty}
 use Rattle.s_meaning.proofs.Lists.{get_before, get_last, get_appended, get_set, length_set}
 use Rattle.s_meaning.proofs.Variables.{variable, covers_with, covers_stored}
+use Rattle.s_meaning.proofs.Cuts.{cut_is}
 use Rattle.s_meaning.proofs.Slots.{contents_with, contents_other, contents_named, length_with}
-use Rattle.s_meaning.proofs.Worlds.{Grows, all_grows, context_grows, entry_grows, context_append, listed_typed, taken_typed, dropped_typed, Match, no_names, name, match_append, match_covers, bound_typed, ints_typed}
+use Rattle.s_meaning.proofs.Worlds.{Grows, all_grows, context_grows, entry_grows, context_append, context_parts, listed_typed, taken_typed, dropped_typed, Match, no_names, name, match_append, match_covers, bound_typed, ints_typed}
 use Rattle.s_meaning.proofs.TypedFocus.{RedexTyped, constant, lookup, on_unary, on_binary, decides, applying, using, failing, ending, left_typed, next_typed}
 
 module _ (p : Script) (typed : ScriptTyped p) where
@@ -42,28 +43,30 @@ module _ (p : Script) (typed : ScriptTyped p) where
     handler : handler_of p.declarations f.h ≡ Some f.handler
     clause : clause_of op f.handler.clauses ≡ Some f.clause
     params : AllHave Ξ f.params (kinds f.handler.parameters)
-    inner : ContextTyped p Ξ f.inner
-    outer : ContextTyped p Ξ f.outer
 
-  data FindGood (Ξ : World) (op : Name) : Option Found → Type 0 where
-    nowhere : FindGood Ξ op None
-    there : {f : Found} → FoundTyped Ξ op f → FindGood Ξ op (Some f)
+  record CutTyped (Ξ : World) (op : Name) (c : Cut Found) : Type 0 where
+    found : FoundTyped Ξ op c.answer
+    inner : ContextTyped p Ξ c.inner
+    outer : ContextTyped p Ξ c.outer
 
-  farther_good : {Ξ : World} {op : Name} {o : Option Found} (place : Place) → ((κ : Context) → ContextTyped p Ξ κ → ContextTyped p Ξ (place ∷ κ)) → FindGood Ξ op o → FindGood Ξ op (farther place o)
-  farther_good place put nowhere = nowhere
-  farther_good place put (there {f = f} t) = there (record { handler = t.handler; clause = t.clause; params = t.params; inner = put f.inner t.inner; outer = t.outer })
+  clause_found : {Ξ : World} {op : Name} (h : Name) (ps : List Value) (g : Handler) (c : Option Clause) (f : Found) → handler_of p.declarations h ≡ Some g → clause_of op g.clauses ≡ c
+      → AllHave Ξ ps (kinds g.parameters) → with_clause h ps g c ≡ Some f → FoundTyped Ξ op f
+  clause_found h ps g None f i q hs e = absurd (cc e)
+  clause_found {Ξ} {op} h ps g (Some c) f i q hs e =
+      let same : record { h = h; handler = g; params = ps; clause = c } ≡ f = cc e in
+      subst (λ (z : Found). FoundTyped Ξ op z) same (record { handler = i; clause = q; params = hs })
 
-  clause_good : {Ξ : World} {op : Name} {κ : Context} {o : Option Found} (h : Name) (ps : List Value) (g : Handler) (c : Option Clause) → handler_of p.declarations h ≡ Some g → clause_of op g.clauses ≡ c
-      → AllHave Ξ ps (kinds g.parameters) → ContextTyped p Ξ κ → FindGood Ξ op o → FindGood Ξ op (with_clause h ps κ g c o)
-  clause_good h ps g None i q hs κ o = farther_good (Handle h ps) (λ κ' t. handle i hs t) o
-  clause_good h ps g (Some c) i q hs κ o = there (record { handler = i; clause = q; params = hs; inner = nothing; outer = κ })
+  -- a place that catches, and what is around it
+  caught : {Ξ : World} {place : Place} {κ : Context} (op : Name) (f : Found) → ContextTyped p Ξ (place ∷ κ) → catches p op place ≡ Some f → FoundTyped Ξ op f × ContextTyped p Ξ κ
+  caught op f (activation c w κ) e = absurd (cc e)
+  caught op f (handle {h = h} {i = g} {ps = ps} i hs κ) e =
+      (clause_found h ps g (clause_of op g.clauses) f i refl hs (ap (λ (o : Option Handler). with_handler op h ps o) (sym i) ∙ e), κ)
 
-  find_good : {Ξ : World} {κ : Context} (op : Name) → ContextTyped p Ξ κ → FindGood Ξ op (find p op κ)
-  find_good op nothing = nowhere
-  find_good op (activation {vars = vars} {owner = owner} {w = w} c t κ) = farther_good (Activation vars owner w) (λ κ' u. activation c t u) (find_good op κ)
-  find_good {Ξ} op (handle {h = h} {i = g} {ps = ps} {κ = κ'} i hs κ) =
-      subst (λ (o : Option Handler). FindGood Ξ op (with_handler op h ps κ' o (find p op κ'))) (sym i)
-      (clause_good h ps g (clause_of op g.clauses) i refl hs κ (find_good op κ))
+  cut_typed : {Ξ : World} {κ : Context} (op : Name) (c : Cut Found) → ContextTyped p Ξ κ → cut_at (catches p op) κ ≡ Some c → CutTyped Ξ op c
+  cut_typed {Ξ} {κ} op c t e =
+      let i = cut_is (catches p op) κ c e in
+      let r = context_parts c.inner (i.place ∷ c.outer) (subst (λ (z : Context). ContextTyped p Ξ z) i.split t) in
+      let u = caught op c.answer r.1 i.answers in record { found = u.0; inner = r.0; outer = u.1 }
 
   -- ## Stores
 
@@ -76,22 +79,22 @@ module _ (p : Script) (typed : ScriptTyped p) where
   slots_grow : {Ξ Ξ' : World} {d : Slots} {o : Option Contents} → Grows Ξ Ξ' → SlotsThere Ξ d o → SlotsThere Ξ' d o
   slots_grow g t = record { contents = t.contents; is = t.is; typed = record { handler = t.typed.handler; as_many = t.typed.as_many; holds = places_grow g t.typed.holds } }
 
-  kept_typed : {Ξ : World} {κ : Context} (h : Name) (σ : Store) → StoreTyped p Ξ σ → ContextTyped p Ξ κ → StoreTyped p (Ξ ++ h ∷ []) (with_kept σ κ)
-  kept_typed {Ξ} {κ} h σ s t = record {
-    as_many = length-append σ.resumptions (Some κ ∷ []) ∙ ap (λ (n : ℕ). n + 1) s.as_many ∙ sym (length-append Ξ (h ∷ []));
-    each = λ a e q. elim (get_appended σ.resumptions (Some κ) e a q) [
+  kept_typed : {Ξ : World} {k : Kept} (h : Name) (σ : Store) → StoreTyped p Ξ σ → KeptTyped p Ξ k → StoreTyped p (Ξ ++ h ∷ []) (with_kept σ k)
+  kept_typed {Ξ} {k} h σ s t = record {
+    as_many = length-append σ.contexts (Some k ∷ []) ∙ ap (λ (n : ℕ). n + 1) s.as_many ∙ sym (length-append Ξ (h ∷ []));
+    each = λ a e q. elim (get_appended σ.contexts (Some k) e a q) [
       | inl old ↦ entry_grows (grown Ξ h) (s.each a e old)
-      | inr new ↦ subst (λ (x : Option Context). EntryTyped p (Ξ ++ h ∷ []) x) (sym new) (entry_grows (grown Ξ h) (kept t))
+      | inr new ↦ subst (λ (x : Option Kept). EntryTyped p (Ξ ++ h ∷ []) x) (sym new) (entry_grows (grown Ξ h) (kept t))
     ];
     slots = λ x d q. slots_grow (grown Ξ h) (s.slots x d q);
   }
 
   emptied_typed : {Ξ : World} (a : ℕ) (σ : Store) → StoreTyped p Ξ σ → StoreTyped p Ξ (without σ a)
   emptied_typed {Ξ} a σ s = record {
-    as_many = length_set σ.resumptions a None ∙ s.as_many;
-    each = λ b e q. elim (get_set σ.resumptions a None e b q) [
+    as_many = length_set σ.contexts a None ∙ s.as_many;
+    each = λ b e q. elim (get_set σ.contexts a None e b q) [
       | inl old ↦ s.each b e old
-      | inr new ↦ subst (λ (x : Option Context). EntryTyped p Ξ x) (sym new) emptied
+      | inr new ↦ subst (λ (x : Option Kept). EntryTyped p Ξ x) (sym new) emptied
     ];
     slots = s.slots;
   }
@@ -182,37 +185,38 @@ module _ (p : Script) (typed : ScriptTyped p) where
   put_back h t i bs (activation c w inner) κ = in_activation (gives c t w) (context_append inner (handle i bs κ))
   put_back h t i bs (handle j ps inner) κ = in_handle t j ps (context_append inner (handle i bs κ))
 
-  entry_good : {Ξ : World} (h : Name) {i : Handler} {v : Value} {bs : List Value} {κ : Context} (σ : Store) (a : ℕ) (entry : Option Context) → StoreTyped p Ξ σ → EntryTyped p Ξ entry
+  entry_good : {Ξ : World} (h : Name) {i : Handler} {v : Value} {bs : List Value} {κ : Context} (σ : Store) (a : ℕ) (entry : Option Kept) → StoreTyped p Ξ σ → EntryTyped p Ξ entry
       → HasKind Ξ v Int → handler_of p.declarations h ≡ Some i → AllHave Ξ bs (kinds i.parameters) → ContextTyped p Ξ κ
-      → StepGood p (or_fault Reused entry (λ inner. goes (without σ a) (Gives v) (inner ++ Handle h bs ∷ κ)))
+      → StepGood p (or_fault Reused entry (λ k. goes (without σ a) (Gives v) (k.around ++ Handle h bs ∷ κ)))
   entry_good h σ a None s emptied t i bs κ = faulty
-  entry_good {Ξ} h σ a (Some inner) s (kept u) t i bs κ = on Ξ (record { store = emptied_typed a σ s; term = put_back h t i bs u κ })
+  entry_good {Ξ} h σ a (Some k) s (kept (takes_number u)) t i bs κ = on Ξ (record { store = emptied_typed a σ s; term = put_back h t i bs u κ })
 
   resumes_good : {Ξ : World} {Γ : Scope} {h : Name} {i : Handler} {κ : Context} {vs : List Value} (e : Around) (k : Name) → StoreTyped p Ξ e.store → Covers Ξ Γ e.variables
       → type_in Γ k ≡ Some (Resumption h) → handler_of p.declarations h ≡ Some i → AllHave Ξ vs (Int ∷ kinds i.parameters) → ContextTyped p Ξ κ → StepGood p (resumes e k vs κ)
   resumes_good {h = h} e k s c q i (more t bs) κ =
       let x = c.covers k (Resumption h) q in
       let r = referred x.has in
-      let entry = get_within e.store.resumptions _ r.address h s.as_many r.there in
+      let entry = get_within e.store.contexts _ r.address h s.as_many r.there in
       rw (x.there, x.of_kind, r.is, entry.1) (entry_good h e.store r.address entry.0 s (s.each r.address entry.0 entry.1) t i bs κ)
 
   -- E[do op(vs)]
-  caught_good : {Ξ : World} {op : Name} {n : ℕ} {vs : List Value} (e : Around) (o : Option Found) → StoreTyped p Ξ e.store → FindGood Ξ op o → effect_of p.declarations op ≡ Some n
-      → AllHave Ξ vs (numbers n) → StepGood p (or_fault (Unhandled op) o (λ f. or_wrong (bind f.handler.parameters f.params) (λ params. or_wrong (bind (number_parameters f.clause.arguments) vs) (λ args.
-      let k : Variable = record { name = f.clause.resumption; ty = Resumption f.h; value = Reference (next_address e.store) } in
-      enters (with_kept e.store f.inner) f.clause.body (params ++ (args ++ k ∷ [])) (Some f.h) f.outer))))
-  caught_good e None s nowhere q vs = faulty
-  caught_good {Ξ} {op} {n} {vs} e (Some f) s (there t) q us =
-      let ct : ClauseTyped p f.h op f.handler f.clause = typed.clauses f.h op f.handler f.clause t.handler t.clause in
+  caught_good : {Ξ : World} {op : Name} {n : ℕ} {vs : List Value} (e : Around) (o : Option (Cut Found)) → StoreTyped p Ξ e.store → ((c : Cut Found) → o ≡ Some c → CutTyped Ξ op c)
+      → effect_of p.declarations op ≡ Some n → AllHave Ξ vs (numbers n)
+      → StepGood p (or_fault (Unhandled op) o (λ c. enters_clause (with_kept e.store (captured c.inner)) c.answer vs (next_address e.store) c.outer))
+  caught_good e None s is_typed q vs = faulty
+  caught_good {Ξ} {op} {n} {vs} e (Some c) s is_typed q us =
+      let t = is_typed c refl in
+      let f = c.answer in
+      let ct : ClauseTyped p f.h op f.handler f.clause = typed.clauses f.h op f.handler f.clause t.found.handler t.found.clause in
       let Ξ' : World = Ξ ++ f.h ∷ [] in
       let grows : Grows Ξ Ξ' = grown Ξ f.h in
       let many : n ≡ length f.clause.arguments = cc (q, ct.is_effect) in
-      let params = bound_typed f.handler.parameters (all_grows grows t.params) in
+      let params = bound_typed f.handler.parameters (all_grows grows t.found.params) in
       let args = ints_typed f.clause.arguments (all_grows grows (subst (λ (m : ℕ). AllHave Ξ vs (numbers m)) many us)) in
       let k : HasKind Ξ' (Reference (next_address e.store)) (Resumption f.h) =
       reference (subst (λ (a : ℕ). slice_get Ξ' a ≡ Some f.h) (sym s.as_many) (get_last Ξ f.h)) in
       rw (params.is, args.is)
-      (enters_typed (with_kept e.store f.inner) (kept_typed f.h e.store s t.inner) (match_append params.match (match_append args.match (name k no_names))) ct.body (context_grows grows t.outer))
+      (enters_typed (with_kept e.store (captured c.inner)) (kept_typed f.h e.store s (takes_number t.inner)) (match_append params.match (match_append args.match (name k no_names))) ct.body (context_grows grows t.outer))
 
   applies_good : {Ξ : World} {Γ : Scope} {head : _} {all : List VariableType} {vs : List Value} (e : Around) → StoreTyped p Ξ e.store → Covers Ξ Γ e.variables
       → HeadTyped p Ξ Γ head all e.work → AllHave Ξ vs all → ContextTyped p Ξ e.outer → StepGood p (applies p e head vs)
@@ -222,7 +226,7 @@ module _ (p : Script) (typed : ScriptTyped p) where
   applies_good e s c (tail_calling {f = f} {g = g} q) vs κ =
       let b = bound_typed g.parameters vs in
       rw (q, b.is) (enters_typed e.store s b.match (typed.functions f g q) κ)
-  applies_good e s c (doing {op = op} q w) vs κ = caught_good e (find p op (whole e)) s (find_good op (whole_typed e c w κ)) q vs
+  applies_good e s c (doing {op = op} q w) vs κ = caught_good e (cut_at (catches p op) (whole e)) s (λ d r. cut_typed op d (whole_typed e c w κ) r) q vs
   applies_good {Ξ} {vs = us} e s c (handling {f = f} {g = g} {i = i} q j n w) vs κ =
       let b = bound_typed g.parameters (taken_typed (kinds i.parameters) g.parameters vs) in
       let outer = handle j (dropped_typed (kinds i.parameters) g.parameters vs) (whole_typed e c w κ) in

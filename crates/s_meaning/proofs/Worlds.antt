@@ -9,10 +9,10 @@ use Rattle.s_syntax.specs.declared.script.Script.{Script}
 use Rattle.s_check.specs.Scopes.{Scope, type_in, number as number_name, parameter}
 use Rattle.s_meaning.specs.Typing.{kinds, numbers}
 use Rattle.s_meaning.proofs.Scopes.{bool_of}
-use Rattle.s_meaning.specs.Terms.{Value, Row, listed, listed_before, Variable, Head, Work, Context}
+use Rattle.s_meaning.specs.Terms.{Value, Row, listed, listed_before, Variable, Head, Work, Activation, Handle, Kept, Context}
 use Rattle.s_meaning.specs.Focus.{variable_of}
 use Rattle.s_meaning.specs.Steps.{bind, number_parameters}
-use Rattle.s_meaning.specs.Typed.{World, HasKind, int, reference, AllHave, none, more, FirstHave, begun, further, Variable_typed, Covers, WorkTyped, HeadTyped, under, left, right, among, within, calling, tail_calling, doing, handling, resuming, tail_resuming, ContextTyped, nothing, activation, handle, EntryTyped, emptied, kept}
+use Rattle.s_meaning.specs.Typed.{World, HasKind, int, reference, AllHave, none, more, FirstHave, begun, further, Variable_typed, Covers, WorkTyped, HeadTyped, under, left, right, among, within, calling, tail_calling, doing, handling, resuming, tail_resuming, ContextTyped, nothing, activation, handle, KeptTyped, takes_number, EntryTyped, emptied, kept}
 
 -- ## More resumptions
 
@@ -55,14 +55,23 @@ context_grows g nothing = nothing
 context_grows g (activation c w κ) = activation (covers_grows g c) (work_grows g w) (context_grows g κ)
 context_grows g (handle i ps κ) = handle i (all_grows g ps) (context_grows g κ)
 
-pub entry_grows : {p : Script} {Ξ Ξ' : World} {e : Option Context} → Grows Ξ Ξ' → EntryTyped p Ξ e → EntryTyped p Ξ' e
+kept_grows : {p : Script} {Ξ Ξ' : World} {k : Kept} → Grows Ξ Ξ' → KeptTyped p Ξ k → KeptTyped p Ξ' k
+kept_grows g (takes_number κ) = takes_number (context_grows g κ)
+
+pub entry_grows : {p : Script} {Ξ Ξ' : World} {e : Option Kept} → Grows Ξ Ξ' → EntryTyped p Ξ e → EntryTyped p Ξ' e
 entry_grows g emptied = emptied
-entry_grows g (kept κ) = kept (context_grows g κ)
+entry_grows g (kept k) = kept (kept_grows g k)
 
 pub context_append : {p : Script} {Ξ : World} {κ κ' : Context} → ContextTyped p Ξ κ → ContextTyped p Ξ κ' → ContextTyped p Ξ (κ ++ κ')
 context_append nothing t = t
 context_append (activation c w κ) t = activation c w (context_append κ t)
 context_append (handle i ps κ) t = handle i ps (context_append κ t)
+
+-- a context in two parts
+pub context_parts : {p : Script} {Ξ : World} (κ κ' : Context) → ContextTyped p Ξ (κ ++ κ') → ContextTyped p Ξ κ × ContextTyped p Ξ κ'
+context_parts [] κ' t = (nothing, t)
+context_parts (Activation vars owner w ∷ κ) κ' (activation c u t) = let r = context_parts κ κ' t in (activation c u r.0, r.1)
+context_parts (Handle h ps ∷ κ) κ' (handle i hs t) = let r = context_parts κ κ' t in (handle i hs r.0, r.1)
 
 -- ## Arguments
 

@@ -29,10 +29,10 @@ abbrev pub first_contents : List Declaration → List Contents
 first_contents [] = []
 first_contents (d ∷ ds) = contents_for d.name d.definition ++ first_contents ds
 
--- the start: an activation of main, no resumption, and empty slots
+-- the start: an activation of main, no context that is kept, and empty slots
 abbrev pub start : Script → Configuration
 start p = record {
-  store = record { resumptions = []; slots = first_contents p.declarations };
+  store = record { contexts = []; slots = first_contents p.declarations };
   term = record { hole = Runs (body_or_none (function_of p.declarations (codes "main"))); around = Activation [] None [] ∷ [] };
 }
 

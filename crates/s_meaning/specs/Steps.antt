@@ -14,7 +14,7 @@ use Rattle.s_syntax.specs.declared.operators.BinaryOperator.TheVariants.{Connect
 use Rattle.s_syntax.specs.BlockTree.{BlockTree, While, Done, ◌⨟◌}
 use Rattle.s_check.specs.Definitions.{function_of, handler_of}
 use Rattle.s_meaning.specs.Numbers.{Fault, Failed, Reused, Empty, Unhandled, Computed, Is, Faulty, holds, truth, unary, operate, decided, line}
-use Rattle.s_meaning.specs.Terms.{Value, Number, Reference, listed, Variable, Head, Calling, Doing, Handling, Resuming, TailResuming, TailCalling, Use, ToStore, ToPrint, ToDrop, ToReturn, ToChoose, ToTurn, ToPut, ToTake, Work, RightOf, Place, Activation, Handle, Context, Hole, Gives, Finds, Runs, Contents, Store, Configuration}
+use Rattle.s_meaning.specs.Terms.{Value, Number, Reference, listed, Variable, Head, Calling, Doing, Handling, Resuming, TailResuming, TailCalling, Use, ToStore, ToPrint, ToDrop, ToReturn, ToChoose, ToTurn, ToPut, ToTake, Work, RightOf, Place, Activation, Handle, Context, Hole, Gives, Finds, Runs, Kept, captured, Contents, Store, Configuration}
 use Rattle.s_meaning.specs.Focus.{Redex, Constant, Lookup, OnUnary, OnBinary, Decides, Applies, Uses, Fails, Ends, left_of, variable_of, focus}
 
 abbrev pub Step : Type 0
@@ -86,52 +86,66 @@ abbrev pub ◌⨟⨟◌ : BlockTree → BlockTree → BlockTree
 Done ⨟⨟ d = d
 (s ⨟ b) ⨟⨟ d = s ⨟ (b ⨟⨟ d)
 
--- ## The innermost handle whose handler has a clause for an effect
+-- ## The context up to the innermost place that answers a question
 
--- E is inner[ handle h(params) { outer } ]
-pub record Found : Type 0 where
+-- E is outer[ place[ inner ] ], and the place answers this
+pub record Cut (A : Type 0) : Type 0 where
   pub inner : Context
+  pub answer : A
+  pub outer : Context
+
+module _ {A : Type 0} where
+  abbrev pub inward : Place → Cut A → Cut A
+  inward place c = record c { inner = place ∷ c.inner }
+
+  -- here, where this place answers, and else farther out
+  abbrev pub here_or : Place → Context → Option A → Option (Cut A) → Option (Cut A)
+  here_or place κ (Some a) farther = Some (record { inner = []; answer = a; outer = κ })
+  here_or place κ None farther = option_map (inward place) farther
+
+  abbrev pub cut_at : (Place → Option A) → Context → Option (Cut A)
+  cut_at test [] = None
+  cut_at test (place ∷ κ) = here_or place κ (test place) (cut_at test κ)
+
+-- ## A handle whose handler has a clause for an effect
+
+pub record Found : Type 0 where
   pub h : Name
   pub handler : Handler
   pub params : List Value
   pub clause : Clause
-  pub outer : Context
-
-abbrev pub farther : Place → Option Found → Option Found
-farther place None = None
-farther place (Some f) = Some (record f { inner = place ∷ f.inner })
 
 abbrev pub clause_of : Name → List Clause → Option Clause
 clause_of op [] = None
 clause_of op (c ∷ cs) = if bytes_eq c.effect op then Some c else clause_of op cs
 
-abbrev pub with_clause : Name → List Value → Context → Handler → Option Clause → Option Found → Option Found
-with_clause h ps κ g None others = farther (Handle h ps) others
-with_clause h ps κ g (Some c) others = Some (record { inner = []; h = h; handler = g; params = ps; clause = c; outer = κ })
+abbrev pub with_clause : Name → List Value → Handler → Option Clause → Option Found
+with_clause h ps g None = None
+with_clause h ps g (Some c) = Some (record { h = h; handler = g; params = ps; clause = c })
 
-abbrev pub with_handler : Name → Name → List Value → Context → Option Handler → Option Found → Option Found
-with_handler op h ps κ None others = farther (Handle h ps) others
-with_handler op h ps κ (Some g) others = with_clause h ps κ g (clause_of op g.clauses) others
+abbrev pub with_handler : Name → Name → List Value → Option Handler → Option Found
+with_handler op h ps None = None
+with_handler op h ps (Some g) = with_clause h ps g (clause_of op g.clauses)
 
-abbrev pub find : Script → Name → Context → Option Found
-find p op [] = None
-find p op (Activation vars owner work ∷ κ) = farther (Activation vars owner work) (find p op κ)
-find p op (Handle h ps ∷ κ) = with_handler op h ps κ (handler_of p.declarations h) (find p op κ)
+-- does a place catch op, and by what
+abbrev pub catches : Script → Name → Place → Option Found
+catches p op (Activation vars owner work) = None
+catches p op (Handle h ps) = with_handler op h ps (handler_of p.declarations h)
 
 -- ## The store
 
-abbrev pub with_kept : Store → Context → Store
-with_kept σ κ = record σ { resumptions = σ.resumptions ++ Some κ ∷ [] }
+abbrev pub with_kept : Store → Kept → Store
+with_kept σ k = record σ { contexts = σ.contexts ++ Some k ∷ [] }
 
 abbrev pub emptied : Store → ℕ → Store
-emptied σ a = record σ { resumptions = slice_set σ.resumptions a None }
+emptied σ a = record σ { contexts = slice_set σ.contexts a None }
 
 abbrev pub next_address : Store → ℕ
-next_address σ = length σ.resumptions
+next_address σ = length σ.contexts
 
--- the context that is kept at an address; None where it was consumed
-abbrev pub kept_at : Store → ℕ → Option (Option Context)
-kept_at σ a = slice_get σ.resumptions a
+-- what is kept at an address; None where it was consumed
+abbrev pub kept_at : Store → ℕ → Option (Option Kept)
+kept_at σ a = slice_get σ.contexts a
 
 -- ## Slots
 
@@ -199,8 +213,8 @@ resumes e k vs κ = do
   h ← as_resumption x.ty
   a ← as_reference x.value
   entry ← or_wrong (kept_at e.store a)
-  inner ← or_fault Reused entry
-  goes (emptied e.store a) (Gives v) (inner ++ Handle h bs ∷ κ)
+  kept ← or_fault Reused entry
+  goes (emptied e.store a) (Gives v) (kept.around ++ Handle h bs ∷ κ)
 
 -- E[f(vs)]  ⟶  E[body of f, its parameters being vs], E being κ
 abbrev pub calls : Script → Store → Name → List Value → Context → Step
@@ -209,6 +223,14 @@ calls p σ f vs κ = do
   vars ← or_wrong (bind g.parameters vs)
   enters σ g.body vars None κ
 
+-- κ[clause that was found, with vs, ps and k], k being the resumption at address a
+abbrev pub enters_clause : Store → Found → List Value → (a : ℕ) → Context → Step
+enters_clause σ f vs a κ = do
+  params ← or_wrong (bind f.handler.parameters f.params)
+  args ← or_wrong (bind (number_parameters f.clause.arguments) vs)
+  let k : Variable = record { name = f.clause.resumption; ty = Resumption f.h; value = Reference a } in
+      enters σ f.clause.body (params ++ (args ++ k ∷ [])) (Some f.h) κ
+
 abbrev pub applies : Script → Around → Head → List Value → Step
 applies p e (Calling f) vs = calls p e.store f vs (whole e)
 -- E's activation ends first
@@ -216,11 +238,8 @@ applies p e (TailCalling f) vs = calls p e.store f vs e.outer
 -- σ; F'[handle F[do op(vs)] with h(ps)]  ⟶  σ, k kept F; F'[clause of h for op, with vs, ps and k]
 -- where no handle in F has a clause for op
 applies p e (Doing op) vs = do
-  f ← or_fault (Unhandled op) (find p op (whole e))
-  params ← or_wrong (bind f.handler.parameters f.params)
-  args ← or_wrong (bind (number_parameters f.clause.arguments) vs)
-  let k : Variable = record { name = f.clause.resumption; ty = Resumption f.h; value = Reference (next_address e.store) } in
-      enters (with_kept e.store f.inner) f.clause.body (params ++ (args ++ k ∷ [])) (Some f.h) f.outer
+  c ← or_fault (Unhandled op) (cut_at (catches p op) (whole e))
+  enters_clause (with_kept e.store (captured c.inner)) c.answer vs (next_address e.store) c.outer
 -- E[handle f(us) with h(bs)]  ⟶  E[handle (body of f, its parameters being us) with h(bs)]
 applies p e (Handling f n h) vs = do
   g ← or_wrong (function_of p.declarations f)

@@ -88,15 +88,29 @@ pub record Term : Type 0 where
   pub hole : Hole
   pub around : Context
 
+-- what the hole of a kept context takes: a number
+pub data Takes : Type 0 where
+  Number_alone : Takes
+
+-- a context that is kept, and what its hole takes
+pub record Kept : Type 0 where
+  pub takes : Takes
+  pub around : Context
+
+-- a resumption: the context that do captures, up to its handle
+abbrev pub captured : Context → Kept
+captured κ = record { takes = Number_alone; around = κ }
+
 -- slots: the places, each of which holds a resumption of the handler, by its address, or is empty
 pub record Contents : Type 0 where
   pub name : Name
   pub handler : Name
   pub places : List (Option ℕ)
 
--- What stays beside the term: the resumptions by address, `None` where consumed, and what slots hold, in the order of their declarations.
+-- What stays beside the term: the contexts that are kept, by address, `None` where consumed, and what slots hold, in the order of their
+-- declarations.
 pub record Store : Type 0 where
-  pub resumptions : List (Option Context)
+  pub contexts : List (Option Kept)
   pub slots : List Contents
 
 pub record Configuration : Type 0 where
@@ -129,4 +143,4 @@ abbrev pub hands : Configuration → ℕ
 hands c = handles c.term.around
 
 abbrev pub kept : Configuration → ℕ
-kept c = full c.store.resumptions
+kept c = full c.store.contexts

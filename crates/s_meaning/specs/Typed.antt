@@ -14,7 +14,7 @@ use Rattle.s_syntax.specs.BlockTree.{StatementTree, BlockTree, Done, ◌⨟◌}
 use Rattle.s_check.specs.Definitions.{function_of, handler_of, effect_of, slots_of}
 use Rattle.s_check.specs.Scopes.{Scope, type_in, number as number_name, resumption as resumption_name}
 use Rattle.s_meaning.specs.Typing.{kinds, numbers, ExprTyped, OperandsTyped, ArgsTyped, StatementTyped, BlockTyped}
-use Rattle.s_meaning.specs.Terms.{Value, Number, Reference, Row, ε, ◌▹◌, Variable, Head, Calling, Doing, Handling, Resuming, TailResuming, TailCalling, Use, ToStore, ToPrint, ToDrop, ToReturn, ToChoose, ToTurn, ToPut, ToTake, Work, UnderUnary, LeftOf, RightOf, Among, Within, Activation, Handle, Context, Hole, Gives, Finds, Runs, Contents, Store, Configuration}
+use Rattle.s_meaning.specs.Terms.{Value, Number, Reference, Row, ε, ◌▹◌, Variable, Head, Calling, Doing, Handling, Resuming, TailResuming, TailCalling, Use, ToStore, ToPrint, ToDrop, ToReturn, ToChoose, ToTurn, ToPut, ToTake, Work, UnderUnary, LeftOf, RightOf, Among, Within, Activation, Handle, Context, Hole, Gives, Finds, Runs, Number_alone, Kept, Contents, Store, Configuration}
 use Rattle.s_meaning.specs.Focus.{variable_of}
 use Rattle.s_meaning.specs.Steps.{contents_of}
 
@@ -113,9 +113,12 @@ pub data TermTyped (p : Script) (Ξ : World) : Hole → Context → Type 0 where
   in_handle : {v : Value} {h : Name} {i : Handler} {ps : List Value} {κ : Context} → HasKind Ξ v Int → handler_of p.declarations h ≡ Some i
       → AllHave Ξ ps (kinds i.parameters) → ContextTyped p Ξ κ → TermTyped p Ξ (Gives v) (Handle h ps ∷ κ)
 
-pub data EntryTyped (p : Script) (Ξ : World) : Option Context → Type 0 where
+pub data KeptTyped (p : Script) (Ξ : World) : Kept → Type 0 where
+  takes_number : {κ : Context} → ContextTyped p Ξ κ → KeptTyped p Ξ (record { takes = Number_alone; around = κ })
+
+pub data EntryTyped (p : Script) (Ξ : World) : Option Kept → Type 0 where
   emptied : EntryTyped p Ξ None
-  kept : {κ : Context} → ContextTyped p Ξ κ → EntryTyped p Ξ (Some κ)
+  kept : {k : Kept} → KeptTyped p Ξ k → EntryTyped p Ξ (Some k)
 
 -- places that hold resumptions of the handler h, as far as they hold any
 pub record PlacesTyped (Ξ : World) (h : Name) (places : List (Option ℕ)) : Type 0 where
@@ -133,8 +136,8 @@ pub record SlotsThere (Ξ : World) (d : Slots) (o : Option Contents) : Type 0 wh
   pub typed : ContentsTyped Ξ d contents
 
 pub record StoreTyped (p : Script) (Ξ : World) (σ : Store) : Type 0 where
-  pub as_many : length σ.resumptions ≡ length Ξ
-  pub each : (a : ℕ) (e : Option Context) → slice_get σ.resumptions a ≡ Some e → EntryTyped p Ξ e
+  pub as_many : length σ.contexts ≡ length Ξ
+  pub each : (a : ℕ) (e : Option Kept) → slice_get σ.contexts a ≡ Some e → EntryTyped p Ξ e
   pub slots : (s : Name) (d : Slots) → slots_of p.declarations s ≡ Some d → SlotsThere Ξ d (contents_of s σ.slots)
 
 pub record Typed (p : Script) (Ξ : World) (c : Configuration) : Type 0 where

@@ -24,7 +24,7 @@ use Rattle.s_valid.proofs.NumbersInModules.{get_left}
 
 -- ## No rule
 
-parts : (xs ys : List Rule) → xs ++ ys ≡ [] → (xs ≡ []) × (ys ≡ [])
+pub parts : (xs ys : List Rule) → xs ++ ys ≡ [] → (xs ≡ []) × (ys ≡ [])
 parts [] ys e = (refl, e)
 parts (x ∷ xs) ys e = absurd (cc)
 

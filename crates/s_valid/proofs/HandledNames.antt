@@ -1,10 +1,11 @@
--- A function that some handle names is among those that are handled; so its continuations have a type, and it is declared.
-use Rattle.std.proofs.Common.{◌≡◌, ℕ, zero, suc, ◌<◌, Bool, true, false, cond, List, [], ◌∷◌, ◌++◌, map, filter, length, Option, Some, if◌then◌else◌, refl, sym, ap, ◌∙◌, subst, arith}
+-- A function that some handle names is among those that are handled; so its continuations have a type, and it is declared. No other function's have one.
+use Rattle.std.proofs.Common.{◌≡◌, inl, inr, ℕ, zero, suc, ◌<◌, Bool, true, false, cond, List, [], ◌∷◌, ◌++◌, map, filter, length, Option, Some, if◌then◌else◌, refl, sym, ap, ◌∙◌, subst, arith}
 use Rattle.std.specs.List.{flat_map}
 use Rattle.std.specs.Prelude.{Contains, slice_get, slice_index_or, option_map}
 use Rattle.std.specs.Str.{bytes_eq}
 use Rattle.std.proofs.lemmas.List.{append-nil}
 use Rattle.std.proofs.lemmas.Option.{slice_get-map}
+use Rattle.w_types.specs.declared.types.CompType.{CompType}
 use Rattle.w_syntax.specs.Items.{reference_to}
 use Rattle.w_syntax.specs.declared.module.Elem.{Elem}
 use Rattle.w_syntax.specs.declared.module.Table.{Table}
@@ -23,7 +24,7 @@ use Rattle.s_index.specs.Numbers.{function_index}
 use Rattle.s_code.specs.Lowered.{declared, lowered_all}
 use Rattle.s_meaning.proofs.Lists.{get_before}
 use Rattle.s_meaning.proofs.Scopes.{same_is}
-use Rattle.s_valid.proofs.MadeOnce.{IsThere, there_at}
+use Rattle.s_valid.proofs.MadeOnce.{IsThere, there_cases, there_at}
 use Rattle.s_valid.proofs.TypeTable.{is_function}
 
 -- the declaration of this name is in the list
@@ -72,6 +73,37 @@ pub continuation_there : (ds es : List Declaration) (f : Name) → Stands es f �
 continuation_there ds es f s =
     subst (λ (x : Name). IsThere (continuation_of ds (parameters_of ds x)) (continuations ds es)) (sym s.named)
     (there_at (continuation_of ds (parameters_of ds s.declaration.name)) (continuations ds es) s.place (continuation_at ds es s.place s.declaration s.is))
+
+-- what a type of continuations is of: a function that some handle names
+pub record OfHandled (ds : List Declaration) (t : CompType) : Type 0 where
+  pub name : Name
+  pub is_handled : is_among (handled_names ds) name ≡ true
+  pub is : continuation_of ds (parameters_of ds name) ≡ t
+
+-- a function that is kept is named
+among_functions : (names : List Name) (x : Declaration) (d : Definition) → is_function_among names x d ≡ true → is_among names x.name ≡ true
+among_functions names x (definition.Effect n) e = absurd (cc)
+among_functions names x (definition.Function f) e = e
+among_functions names x (definition.Handler h) e = absurd (cc)
+among_functions names x (definition.Slots s) e = absurd (cc)
+
+-- so each type of continuations is of one, of some declarations
+kept_handled : (ds es : List Declaration) (t : CompType) → IsThere t (continuations ds (filter (λ (d : Declaration). is_function_among (handled_names ds) d d.definition) es)) → OfHandled ds t
+kept_handled ds [] t h = absurd (omega (arith, h))
+kept_handled ds (e ∷ es) t h = by (is_function_among (handled_names ds) e e.definition) refl h (kept_handled ds es t)
+  where
+    by : (b : Bool) → is_function_among (handled_names ds) e e.definition ≡ b
+        → IsThere t (continuations ds (cond b (e ∷ filter (λ (d : Declaration). is_function_among (handled_names ds) d d.definition) es) (filter (λ (d : Declaration). is_function_among (handled_names ds) d d.definition) es)))
+        → (IsThere t (continuations ds (filter (λ (d : Declaration). is_function_among (handled_names ds) d d.definition) es)) → OfHandled ds t) → OfHandled ds t
+    by true q i rest = elim (there_cases t (continuation_of ds (parameters_of ds e.name)) (continuations ds (filter (λ (d : Declaration). is_function_among (handled_names ds) d d.definition) es)) i) [
+      | inl same ↦ record { name = e.name; is_handled = among_functions (handled_names ds) e e.definition q; is = same }
+      | inr r ↦ rest r
+    ]
+    by false q i rest = rest i
+
+-- and of all
+pub of_handled : (ds : List Declaration) (t : CompType) → IsThere t (continuations ds (handled ds)) → OfHandled ds t
+of_handled ds t h = kept_handled ds ds t h
 
 -- ## It is declared
 

@@ -5,9 +5,13 @@ pub mod HandledNames
 pub mod Declarations
 pub mod TypesValid
 pub mod ModuleItems
-pub mod ManyTypes
-pub mod ModuleLimits
 pub mod ModuleOffers
+pub mod DifferentTypes
+pub mod Signatures
+pub mod LongTypes
+pub mod ManyTypes
+pub mod NarrowTypes
+pub mod ModuleLimits
 pub mod Rests
 pub mod LayoutTypes
 pub mod TypedExpressions

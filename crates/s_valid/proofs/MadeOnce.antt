@@ -1,5 +1,5 @@
 -- Types that are made once stand at their places.
-use Rattle.std.proofs.Common.{◌≡◌, ◌⊎◌, inl, inr, ℕ, zero, suc, ◌<◌, Bool, true, false, not, cond, ◌&&◌, List, [], ◌∷◌, ◌++◌, length, Some, if◌then◌else◌, refl, sym, ap, ◌∙◌, subst, arith, length-append}
+use Rattle.std.proofs.Common.{◌≡◌, ◌⊎◌, inl, inr, ℕ, zero, suc, ◌<◌, ◌≤◌, Bool, true, false, not, cond, ◌&&◌, List, [], ◌∷◌, ◌++◌, length, Some, if◌then◌else◌, refl, sym, ap, ◌∙◌, subst, arith, length-append}
 use Rattle.std.specs.Prelude.{nat_lt, slice_get}
 use Rattle.std.proofs.lemmas.Bool.{eqb-true, eq-eqb, ltb-true}
 use Rattle.w_types.specs.declared.types.HeapType.{HeapType}
@@ -97,6 +97,10 @@ there_cases t u us h = by (same_type u t) refl h
     by true e l = inl (one_type u t e)
     by false e l = inr (omega (arith, l))
 
+-- so in a list of one it is that one
+pub there_only : (t u : CompType) → IsThere t (u ∷ []) → u ≡ t
+there_only t u h = elim (there_cases t u [] h) [ inl e ↦ e | inr none ↦ absurd (omega (arith, none)) ]
+
 -- what is there stays at its place where others follow
 pub place_stays : (t : CompType) (ts us : List CompType) → IsThere t ts → place t (ts ++ us) ≡ place t ts
 place_stays t [] us h = absurd (omega (arith, h))
@@ -160,7 +164,7 @@ one_made : (t u : CompType) (ts : List CompType) (b : Bool) → IsThere t (if b 
 one_made t u ts true h = inl h
 one_made t u ts false h = elim (there_either t ts (u ∷ []) h) [
   | inl l ↦ inl l
-  | inr r ↦ elim (there_cases t u [] r) [ inl e ↦ inr e | inr none ↦ absurd (omega (arith, none)) ]
+  | inr r ↦ inr (there_only t u r)
 ]
 
 -- and nothing else is
@@ -170,3 +174,15 @@ made_of t ts (u ∷ us) h = elim (made_of t (with_type ts u) us h) [
   | inl l ↦ elim (one_made t u ts (nat_lt (place u ts) (length ts)) l) [ inl a ↦ inl a | inr e ↦ inr (subst (λ (v : CompType). IsThere t (v ∷ us)) (sym e) (here t us)) ]
   | inr r ↦ inr (behind t u us r)
 ]
+
+-- there are no fewer then
+pub more_types : (ts us : List CompType) → length ts ≤ length (with_types ts us)
+more_types ts [] = omega arith
+more_types ts (u ∷ us) =
+    let q = more_types (with_type ts u) us in
+    let l = one_more (nat_lt (place u ts) (length ts)) in
+    omega (arith, q, l)
+  where
+    one_more : (b : Bool) → length ts ≤ length (if b then ts else (ts ++ u ∷ []))
+    one_more true = omega arith
+    one_more false = let l = length-append ts (u ∷ []) in omega (arith, l)

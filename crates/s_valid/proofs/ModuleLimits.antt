@@ -34,8 +34,9 @@ use Rattle.s_code.specs.Temporaries.{high, high_args, high_aside, high_operands,
 use Rattle.s_code.proofs.Binds.{as_many_in}
 use Rattle.s_code.proofs.Highs.{lets_by_few, room_few}
 use Rattle.s_valid.proofs.Declarations.{Declares, declares}
-use Rattle.s_valid.proofs.ManyTypes.{few_in_table, all_narrow}
+use Rattle.s_valid.proofs.ManyTypes.{few_in_table}
 use Rattle.s_valid.proofs.ModuleItems.{StandsAt, of_function, of_handler, functions_and_codes, stands_at}
+use Rattle.s_valid.proofs.NarrowTypes.{all_narrow}
 use Rattle.s_valid.proofs.TypeTable.{types_of_groups, is_function, is_handler}
 
 -- ## Temporaries
@@ -184,7 +185,7 @@ locals_by p i few (of_handler h j e t c) =
 
 pub within : (p : Script) → Good p → Size p ≤ size_limit → Within (lowered p)
 within p good few = record {
-  types = subst (λ (ts : List CompType). length ts ≤ 10000) (sym (types_of_groups (type_table p.declarations))) (let q = few_in_table p good in omega (arith, q));
+  types = subst (λ (ts : List CompType). length ts ≤ 10000) (sym (types_of_groups (type_table p.declarations))) (few_in_table p good few);
   params = subst (All IsNarrow) (sym (types_of_groups (type_table p.declarations))) (all_narrow p good);
   locals = λ i h. let same = functions_and_codes p.declarations in locals_by p i few (stands_at p good i (omega (arith, same, h)));
 }

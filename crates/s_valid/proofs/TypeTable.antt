@@ -1,5 +1,5 @@
 -- The types of the module of a script stand in it, each at its index.
-use Rattle.std.proofs.Common.{◌≡◌, ℕ, zero, suc, Bool, true, false, List, [], ◌∷◌, ◌++◌, map, length, Option, Some, None, if◌then◌else◌, refl, sym, ap, ◌∙◌, subst}
+use Rattle.std.proofs.Common.{◌≡◌, inl, inr, ℕ, zero, suc, Bool, true, false, List, [], ◌∷◌, ◌++◌, map, length, Option, Some, None, if◌then◌else◌, refl, sym, ap, ◌∙◌, subst, arith}
 use Rattle.std.specs.Prelude.{slice_get}
 use Rattle.std.specs.Str.{bytes_eq}
 use Rattle.w_types.specs.declared.types.CompType.{CompType}
@@ -24,7 +24,7 @@ use Rattle.s_index.specs.Types.{place, first_types, clause_type, clause_types, t
 use Rattle.s_index.specs.Indices.{function_types, type_table, continuations}
 use Rattle.s_index.specs.Handled.{handled}
 use Rattle.s_code.specs.Lowered.{group}
-use Rattle.s_valid.proofs.MadeOnce.{IsThere, stands, here, there_left, there_right, keeps, adds}
+use Rattle.s_valid.proofs.MadeOnce.{IsThere, stands, here, there_cases, there_left, there_right, keeps, adds}
 
 -- the types of groups of one each
 pub types_of_groups : (ts : List CompType) → types_of (map group ts) ≡ ts
@@ -106,3 +106,11 @@ pub clause_among : (cs : List Clause) (n : ℕ) (c : Clause) → slice_get cs n 
 clause_among [] n c e = absurd (cc)
 clause_among (d ∷ cs) zero c e = let same : d ≡ c = cc in subst (λ (k : Clause). IsThere (clause_type (length k.arguments)) (clause_types (d ∷ cs))) same (here (clause_type (length d.arguments)) (clause_types cs))
 clause_among (d ∷ cs) (suc n) c e = there_right (clause_type (length c.arguments)) (clause_type (length d.arguments) ∷ []) (clause_types cs) (clause_among cs n c e)
+
+-- and what holds of each clause's type holds of all of those
+pub clauses_have : (P : CompType → Type 0) (cs : List Clause) → ((n : ℕ) (c : Clause) → slice_get cs n ≡ Some c → P (clause_type (length c.arguments))) → (t : CompType) → IsThere t (clause_types cs) → P t
+clauses_have P [] each t h = absurd (omega (arith, h))
+clauses_have P (c ∷ cs) each t h = elim (there_cases t (clause_type (length c.arguments)) (clause_types cs) h) [
+  | inl e ↦ subst P e (each 0 c refl)
+  | inr r ↦ clauses_have P cs (λ n d e. each (suc n) d e) t r
+]

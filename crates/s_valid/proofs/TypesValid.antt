@@ -169,7 +169,7 @@ parameters_there ds x (Some e) is = by e.definition is
     by (definition.Slots s) q = none_there ds
 
 -- the function type of a name's continuations is there
-pub continued_there : (ds : List Declaration) (x : Name) → IsThere (function_type (parameters_of ds x)) (function_types ds)
+continued_there : (ds : List Declaration) (x : Name) → IsThere (function_type (parameters_of ds x)) (function_types ds)
 continued_there ds x = parameters_there ds x (entry_of ds x) (entry_defines no_counts ds x)
 
 continuations_valid : (ds es : List Declaration) (t : CompType) → IsThere t (continuations ds es) → IsValidCompType (function_types ds) (length (function_types ds)) t

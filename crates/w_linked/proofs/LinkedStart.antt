@@ -121,7 +121,7 @@ module _ (ms : List Module) (tests : TypeTests) (ps : List Placed) (h : Places t
         holds = nothing_taken ps keeps valid fits (subst (λ (l : List ValType). ResultMatches L.types (types_shifted p.instance.types l) u.value.params) params u.holds.params);
       }
 
-  main_there : (x : ℕ) → last_entry ms ≡ Some x → EntryAt L (in_last ps x)
+  pub main_there : (x : ℕ) → last_entry ms ≡ Some x → EntryAt L (in_last ps x)
   main_there x e =
       let l = last_in tests (definitions ms) h x e in
       let p = l.file in
@@ -141,7 +141,7 @@ module _ (ms : List Module) (tests : TypeTests) (ps : List Placed) (h : Places t
       let start : StartAt L (at p.instance.functions v.function) = record { type = u.value; has_type = u.is; no_params = u.holds.0; no_results = u.holds.1 } in
       All-cons (StartAt L) (at p.instance.functions x) (all_starts back) (subst (λ (y : ℕ). StartAt L (at p.instance.functions y)) one start) rest
 
-  starts_there : (front back : List Placed) → ps ≡ front ++ back → All (StartAt L) (all_starts back)
+  pub starts_there : (front back : List Placed) → ps ≡ front ++ back → All (StartAt L) (all_starts back)
   starts_there front [] e = All-nil (StartAt L)
   starts_there front (p ∷ back) e =
       and_one front p back e p.source.start refl (starts_there (front ++ p ∷ []) back (e ∙ sym (append_assoc front (p ∷ []) back)))

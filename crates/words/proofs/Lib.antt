@@ -1,4 +1,5 @@
 pub mod AddedCommands
 pub mod TakenWords
+pub mod SimpleCommands
 pub mod Numerals
 mod LineRows

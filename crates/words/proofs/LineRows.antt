@@ -4,7 +4,7 @@ use Rattle.std.specs.Fmt.{digits}
 use Rattle.clap.specs.Walk.{Text}
 use Rattle.clap.proofs.OnLiterals.{clap_on_literals}
 use Rattle.words.specs.declared.request.Action.TheVariants.{Check, Run, Build, Dump, Assemble}
-use Rattle.words.specs.Line.{Line, line_of, on_file, generated, bad}
+use Rattle.words.specs.Line.{Line, line_of, on_file, on_files, generated, bad}
 
 -- what the words after the program's name ask for
 abbrev asked : List Text → Line
@@ -300,6 +300,56 @@ steps_shortened = refl
 steps_before_the_command : asked (codes "--steps" ∷ codes "5" ∷ codes "run" ∷ codes "two" ∷ []) ≡ bad
 unfolding line_of clap_on_literals digits
 steps_before_the_command = refl
+
+-- ## `link`
+
+link_file : asked (codes "link" ∷ codes "two" ∷ []) ≡ on_files (codes "two" ∷ []) 100000000 false
+unfolding line_of clap_on_literals digits
+link_file = refl
+
+link_two_files : asked (codes "link" ∷ codes "two" ∷ codes "three" ∷ []) ≡ on_files (codes "two" ∷ codes "three" ∷ []) 100000000 false
+unfolding line_of clap_on_literals digits
+link_two_files = refl
+
+link_for_steps : asked (codes "link" ∷ codes "two" ∷ codes "three" ∷ codes "--steps" ∷ codes "5" ∷ []) ≡ on_files (codes "two" ∷ codes "three" ∷ []) 5 false
+unfolding line_of clap_on_literals digits
+link_for_steps = refl
+
+link_options_first : asked (codes "link" ∷ codes "--steps=5" ∷ codes "--stats" ∷ codes "two" ∷ codes "three" ∷ []) ≡ on_files (codes "two" ∷ codes "three" ∷ []) 5 true
+unfolding line_of clap_on_literals digits
+link_options_first = refl
+
+link_options_between : asked (codes "link" ∷ codes "two" ∷ codes "--stats" ∷ codes "three" ∷ codes "--steps" ∷ codes "5" ∷ codes "four" ∷ []) ≡ on_files (codes "two" ∷ codes "three" ∷ codes "four" ∷ []) 5 true
+unfolding line_of clap_on_literals digits
+link_options_between = refl
+
+link_behind_hyphens : asked (codes "link" ∷ codes "two" ∷ codes "--" ∷ codes "-x" ∷ codes "--stats" ∷ []) ≡ on_files (codes "two" ∷ codes "-x" ∷ codes "--stats" ∷ []) 100000000 false
+unfolding line_of clap_on_literals digits
+link_behind_hyphens = refl
+
+link_a_file_twice : asked (codes "link" ∷ codes "two" ∷ codes "two" ∷ []) ≡ on_files (codes "two" ∷ codes "two" ∷ []) 100000000 false
+unfolding line_of clap_on_literals digits
+link_a_file_twice = refl
+
+link_no_files : asked (codes "link" ∷ []) ≡ bad
+unfolding line_of clap_on_literals digits
+link_no_files = refl
+
+link_options_alone : asked (codes "link" ∷ codes "--stats" ∷ []) ≡ bad
+unfolding line_of clap_on_literals digits
+link_options_alone = refl
+
+link_option : asked (codes "link" ∷ codes "two" ∷ codes "-x" ∷ []) ≡ bad
+unfolding line_of clap_on_literals digits
+link_option = refl
+
+link_steps_twice : asked (codes "link" ∷ codes "two" ∷ codes "--steps" ∷ codes "5" ∷ codes "--steps" ∷ codes "6" ∷ []) ≡ bad
+unfolding line_of clap_on_literals digits
+link_steps_twice = refl
+
+link_number_out_of_form : asked (codes "link" ∷ codes "two" ∷ codes "--steps" ∷ codes "05" ∷ []) ≡ bad
+unfolding line_of clap_on_literals digits
+link_number_out_of_form = refl
 
 -- ## Other words
 

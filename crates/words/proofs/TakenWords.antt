@@ -1,5 +1,5 @@
 -- What words ask for that clap takes, and that words which it refuses are a bad line.
-use Rattle.std.proofs.Common.{◌≡◌, ◌≢◌, ℕ, Bool, false, List, [], ◌∷◌, refl, inl, inr, suc, ap, arith, length}
+use Rattle.std.proofs.Common.{◌≡◌, ◌≢◌, ℕ, Bool, false, List, [], ◌∷◌, Option, Some, None, refl, inl, inr, suc, ap, subst, arith, length}
 use Rattle.std.specs.Prelude.{if◌then◌else◌, nat_eq}
 use Rattle.std.proofs.lemmas.Bool.Decides.{nat_tests}
 use Rattle.clap.specs.Walk.{Text, is_empty}
@@ -10,6 +10,8 @@ use Rattle.clap.specs.Values.{kind_of}
 use Rattle.clap.specs.declared.error.Error.{Error}
 use Rattle.clap.specs.declared.error.kind.ErrorKind.{ErrorKind}
 use Rattle.clap.specs.declared.error.kind.ErrorKind.TheVariants as kind
+use Rattle.words.specs.declared.request.Request.{Request}
+use Rattle.words.specs.Request.{Asks, asked_by}
 use Rattle.words.specs.Line.{Line, bad, line_of, entered_line, the_app}
 
 empty_gives : (kinds : Kinds) (l : Line) → kinds ≡ [] → (if is_empty kinds then l else bad) ≡ l
@@ -29,3 +31,11 @@ line_of-taken words e = empty_gives _ _ e
 pub line_of-refused : (words : List Text) (e : Error) → HasKind (fault_of the_app words) e → kind_of e ≢ kind.OutOfMemory → line_of words ≡ bad
 unfolding line_of
 line_of-refused words e h ne = elim h [ inl m ↦ absurd (ne m) | inr a ↦ among_gives _ _ _ a ]
+
+-- what was found is what the line asks for
+pub asked_for : (found : Option Request) (r : Request) (l : Line) → Asks found l → found ≡ Some r → l ≡ asked_by r
+asked_for found r l asks is = subst (λ (o : Option Request). Asks o l) is asks
+
+-- where nothing was found the line is bad
+pub asked_none : (found : Option Request) (l : Line) → Asks found l → found ≡ None → l ≡ bad
+asked_none found l asks is = subst (λ (o : Option Request). Asks o l) is asks

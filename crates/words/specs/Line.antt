@@ -2,7 +2,8 @@
 use Rattle.std.specs.Prelude.{◌&&◌, ℕ, Bool, true, false, List, Option, Some, None, option_map, codes, nat_le, if◌then◌else◌, decimal}
 use Rattle.std.specs.Str.{bytes_eq}
 use Rattle.std.specs.Str.Parse.{digits_value}
-use Rattle.clap.specs.Walk.{Row, Rule, Text, first_of, is_empty}
+use Rattle.clap.specs.Lexer.{usize_max}
+use Rattle.clap.specs.Walk.{Row, Rule, Text, all_of, first_of, is_empty}
 use Rattle.clap.specs.Simple.{App, Shape, new_app, new_rule, on_top, subcommand_of, with_rule, with_subcommand}
 use Rattle.clap.specs.Faults.{fault_of}
 use Rattle.clap.specs.declared.builder.action.ArgAction.TheVariants.{SetTrue}
@@ -12,6 +13,8 @@ use Rattle.words.specs.declared.request.Action.TheVariants.{Check, Run, Build, D
 pub data Line : Type 0 where
   -- this action on the module of this file
   on_file : Text → Action → Line
+  -- the run of these files, linked, for so many steps; statistics are told of it or not
+  on_files : List Text → ℕ → Bool → Line
   -- the run of the script that is generated for this number
   generated : ℕ → Line
   -- nothing that is there
@@ -22,6 +25,10 @@ pub data Line : Type 0 where
 -- one file, which has to be named
 abbrev pub file_rule : Rule
 file_rule = record (new_rule (codes "file")) { required = true }
+
+-- one file or more, each named by a word of its own
+abbrev pub files_rule : Rule
+files_rule = record (new_rule (codes "file")) { range = Some (record { start_inclusive = 1; end_inclusive = usize_max }); required = true }
 
 -- `--steps N`, which may be left out
 abbrev pub steps_rule : Rule
@@ -63,6 +70,10 @@ dump_app = with_rule (new_app (codes "dump")) file_rule
 abbrev pub asm_app : App
 asm_app = with_rule (new_app (codes "asm")) file_rule
 
+-- `link FILE.. [--steps N] [--stats]`
+abbrev pub link_app : App
+link_app = with_rule (with_rule (with_rule (new_app (codes "link")) files_rule) steps_rule) stats_rule
+
 -- a command has to be named; `help` and `--help` are words like others
 abbrev pub settings : Shape → Shape
 settings s = record s {
@@ -79,9 +90,13 @@ base_app = with_subcommand (with_subcommand (on_top settings (new_app (codes "st
 abbrev pub making_app : App
 making_app = with_subcommand (with_subcommand base_app build_app.top) gen_app.top
 
+-- those on one file or none
+abbrev pub single_app : App
+single_app = with_subcommand (with_subcommand making_app dump_app.top) asm_app.top
+
 -- the program's commands
 abbrev pub the_app : App
-the_app = with_subcommand (with_subcommand making_app dump_app.top) asm_app.top
+the_app = with_subcommand single_app link_app.top
 
 -- ## What its matches say
 
@@ -140,10 +155,15 @@ action_of name rows = if bytes_eq name (codes "check") then Some Check
 abbrev pub file_line : Text → List Row → Line
 file_line name rows = when (first_of (codes "file") rows) (λ file. when (action_of name rows) (on_file file))
 
+-- the line of the matches of `link`
+abbrev pub files_line : List Row → Line
+files_line rows = when (all_of (codes "file") rows) (λ files. when (steps_in (first_of (codes "steps") rows)) (λ steps. on_files files steps (stats_in (first_of (codes "stats") rows))))
+
 -- the line of a command's matches
 abbrev pub named_line : Text → List Row → Line
 named_line name rows = if bytes_eq name (codes "gen") then when (generated_in (first_of (codes "number") rows)) generated
-    else file_line name rows
+    else (if bytes_eq name (codes "link") then files_line rows
+    else file_line name rows)
 
 abbrev pub entered_line : Option (Text × List Row) → Line
 entered_line (Some p) = named_line p.0 p.1

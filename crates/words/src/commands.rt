@@ -4,7 +4,7 @@ ghost use Rattle.clap.specs.Kinds.{HasKind};
 ghost use Rattle.clap.specs.Faults.{fault_of};
 ghost use Rattle.clap.specs.Simple.{app_of, new_app, on_top, with_rule, with_subcommand, subcommand_of, subcommand_rows_of};
 ghost use Rattle.clap.specs.declared.builder.command.Command.TheViews.{out-Command};
-ghost use Rattle.words.specs.Line.{the_app, settings, file_app, run_app, gen_app, steps_rule, stats_rule};
+ghost use Rattle.words.specs.Line.{the_app, settings, file_app, run_app, gen_app, link_app, steps_rule, stats_rule};
 
 use clap::{Arg, ArgAction, ArgMatches, Command, Error};
 use std::alloc::{AllocError, Global};
@@ -48,6 +48,17 @@ fn run_command<'a>(alloc: Global) -> Result<Command<'a>, AllocError>
     let run = file_command(alloc, "run")?;
     let run = with_steps(alloc, run)?;
     with_stats(alloc, run)
+}
+
+// `link FILE.. [--steps N] [--stats]`.
+fn link_command<'a>(alloc: Global) -> Result<Command<'a>, AllocError>
+    ensures app { IfOk result (λ c. app_of c ≡ link_app) }
+    ensures local { IfOk result (λ c. (out-Command c).has_globals ≡ false) }
+{
+    let files = Arg::new(alloc, "file").num_args(1..).required(true);
+    let link = Command::new(alloc, "link").arg(files)?;
+    let link = with_steps(alloc, link)?;
+    with_stats(alloc, link)
 }
 
 // `gen N`.
@@ -95,7 +106,8 @@ fn commands<'a>(alloc: Global) -> Result<Command<'a>, AllocError>
     let building = with_command(running, file_command(alloc, "build"))?;
     let making = with_command(building, gen_command(alloc))?;
     let dumping = with_command(making, file_command(alloc, "dump"))?;
-    let all = with_command(dumping, file_command(alloc, "asm"))?;
+    let assembling = with_command(dumping, file_command(alloc, "asm"))?;
+    let all = with_command(assembling, link_command(alloc))?;
     Ok(all)
 }
 

@@ -1,7 +1,7 @@
 //! The options of a run and the number of a generated script, as the words give them.
 ghost use Rattle.std.specs.Prelude.{◌≡◌, ◌≤◌, IfSome, option_map, codes};
 ghost use Rattle.clap.specs.Matches.{found_of};
-ghost use Rattle.clap.specs.Walk.{first_of, rows_of};
+ghost use Rattle.clap.specs.Walk.{all_of, first_of, rows_of, texts};
 ghost use Rattle.words.specs.Line.{number_in, steps_in, stats_in, generated_in, most_steps, most_generated};
 
 use clap::ArgMatches;
@@ -43,6 +43,13 @@ pub(crate) fn value_of<'a>(found: &ArgMatches<'a>, id: &str) -> Option<&'a str>
     ensures { option_map (λ s. s.now) result ≡ first_of id.now (rows_of (found_of found.now)) }
 {
     found.get_str(id)
+}
+
+/// The values of an argument that may have several.
+pub(crate) fn values_of<'m, 'a>(found: &'m ArgMatches<'a>, id: &str) -> Option<&'m [&'a str]>
+    ensures { option_map (λ s. texts s.now) result ≡ all_of id.now (rows_of (found_of found.now)) }
+{
+    found.get_strs(id)
 }
 
 /// The number of steps.

@@ -44,10 +44,19 @@ impl Action {
 }
 
 /// What the words ask for.
-#[derive(Clone, Copy)]
+#[derive(Drop)]
 pub enum Request<'a> {
     /// An action on a file.
-    OnFile { file: &'a str, action: Action },
+    OnFile {
+        file: &'a str,
+        action: Action,
+    },
+    /// The run of some files, linked, for so many steps; its statistics are told or not.
+    OnFiles {
+        files: Vec<&'a str>,
+        steps: u64,
+        stats: bool,
+    },
     /// The run of the script that is generated for this number, from 1 to 500.
     Generated(u32),
 }

@@ -5,7 +5,7 @@ read and judged by `reader`.
 """
 
 from executing.ends import Exceeded, Trap
-from executing.instantiating import Refused, instantiated
+from executing.instantiating import Refused, entry, function_types, instantiated
 from executing.numbers import WIDTHS, signed
 from executing.running import run
 from reader import answer
@@ -22,24 +22,22 @@ STATUSES = {'malformed': 3, 'invalid': 4, 'limit': 9}
 def outcome_of(module_bytes, steps=USUAL_STEPS, stats=False):
     """What running these bytes for so many reductions is to come to: out, err and the status. Where statistics are
     asked for, they are told of a run."""
-    said = _said_before_a_run(module_bytes)
+    said = said_before_a_run(module_bytes)
     if said != VALID:
-        return _refusal(said, STATUSES[said.split()[0]])
+        return refusal(said, STATUSES[said.split()[0]])
     module = decode(module_bytes)
     try:
         store, main = instantiated(module)
-    except Refused as refusal:
-        return _refusal(refusal, 4)
+    except Refused as refused:
+        return refusal(refused, 4)
     except Exceeded as limit:
-        return _refusal(f'limit {limit}', 9)
+        return refusal(f'limit {limit}', 9)
     except Trap as trap:
-        return _refusal(f'trap {trap}', 1)
-    outcome = run(module, store, main, steps)
-    out, err, status = _told(module, main, outcome)
-    return out, err + _statistics(outcome) if stats else err, status
+        return refusal(f'trap {trap}', 1)
+    return told(run(module, store, main, steps), results_of_main(module), stats)
 
 
-def _said_before_a_run(module_bytes):
+def said_before_a_run(module_bytes):
     """What is said of the bytes where they aren't a module that may be run."""
     if len(module_bytes) > GREATEST_FILE:
         return 'limit input'
@@ -58,7 +56,8 @@ def steps_of(module_bytes):
     return run(module, *instantiated(module), USUAL_STEPS).taken
 
 
-def _refusal(line, status):
+def refusal(line, status):
+    """What is written where this line alone is said, and the status."""
     return b'', f'{line}\n'.encode(), status
 
 
@@ -68,11 +67,17 @@ def _statistics(outcome):
     return f'stats steps {outcome.taken} made {outcome.made} consumed {outcome.consumed} live {live}\n'.encode()
 
 
-def _told(module, main, outcome):
-    """What is written of an outcome: what was printed, and then each value, signed, or the line."""
+def results_of_main(module):
+    """The types of the values that a run gives, which is that of the module's main."""
+    return module.types[function_types(module)[entry(module)]].results
+
+
+def told(outcome, results, stats):
+    """What is written of an outcome, and the status: what was printed, and then each value, signed, by its type, or the
+    line; and the statistics, where these are asked for."""
+    statistics = _statistics(outcome) if stats else b''
     if outcome.values is None:
-        return outcome.printed, f'{outcome.line}\n'.encode(), outcome.status
-    results = module.types[module.functions[main - len(module.imports)]].results
+        return outcome.printed, f'{outcome.line}\n'.encode() + statistics, outcome.status
     lines = ''.join(
         f'= {signed(WIDTHS[value_type], value)}\n' for value_type, value in zip(results, outcome.values, strict=True))
-    return outcome.printed + lines.encode(), b'', outcome.status
+    return outcome.printed + lines.encode(), statistics, outcome.status

@@ -4,25 +4,25 @@ from executing.numbers import BINARY, WIDTHS, wrapped
 from executing.stores import NULL
 
 
-def value_of(instructions, store):
-    """The value of a constant expression, by the globals and functions that the store has."""
+def value_of(instructions, store, instance):
+    """The value of a constant expression of an instance, by the globals and functions that it has."""
     values = []
     for name, immediates in instructions:
         if name in BINARY:
             right, left = values.pop(), values.pop()
             values.append(BINARY[name](left, right))
         else:
-            values.append(_value(name, immediates, store))
+            values.append(_value(name, immediates, store, instance))
     value, = values
     return value
 
 
-def _value(name, immediates, store):
+def _value(name, immediates, store, instance):
     """The value of a constant instruction that takes no operands."""
     if name == 'global.get':
-        return store.globals[immediates[0]]
+        return store.globals[instance.globals[immediates[0]]]
     if name == 'ref.func':
-        return immediates[0]
+        return instance.functions[immediates[0]]
     if name == 'ref.null':
         return NULL
     value_type, _ = name.split('.')

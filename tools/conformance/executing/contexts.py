@@ -5,23 +5,26 @@ Handles divide a term into segments. They stand in one list, the innermost last,
 
 from typing import NamedTuple
 
+from executing.instances import Instance
 from reader.instructions import Instruction
 
 
 class Segment(NamedTuple):
     """What stands between two handles, outside of all or inside of the innermost: operands, labels and frames, how many
-    of these are frames, the locals of the innermost, and the place that is reduced next."""
+    of these are frames, the locals of the innermost and the instance of its function, and the place that is reduced
+    next."""
 
     operands: list
     layers: list
     frames: int
     locals: list
+    instance: Instance | None
     code: list
     place: int
 
 
 class Handle(NamedTuple):
-    """A handle: its clauses, and the segment in which it stands."""
+    """A handle: its clauses, whose tags are indices of the instance around, and the segment in which it stands."""
 
     clauses: list
     around: Segment
@@ -51,4 +54,4 @@ def of_function(address):
 
 def sequence(instructions):
     """The segment of these instructions alone."""
-    return Segment([], [], 0, [], instructions, 0)
+    return Segment([], [], 0, [], None, instructions, 0)

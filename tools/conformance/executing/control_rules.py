@@ -65,24 +65,28 @@ def br_on_non_null(machine, label):
         machine.branch(label)
 
 
+def invoke(machine, address):
+    machine.enter_function(address)
+
+
 def call(machine, function):
-    machine.enter_function(function)
+    machine.enter_function(machine.instance.functions[function])
 
 
 def return_call(machine, function):
-    machine.replace_frame(function)
+    machine.replace_frame(machine.instance.functions[function])
 
 
 def _element(machine, function_type, table):
     """The function that an element of a table refers to, whose number is on top."""
-    elements = machine.store.tables[table].elements
+    elements = machine.table(table).elements
     number = machine.pop()
     if number >= len(elements):
         raise Trap('undefined element')
     if elements[number] is NULL:
         raise Trap('null element')
     callee = machine.store.functions[elements[number]]
-    if not machine.order.matches(callee.type, function_type):
+    if not machine.order.matches(callee.type, machine.instance.types[function_type]):
         raise Trap('call type mismatch')
     return elements[number]
 
@@ -111,10 +115,10 @@ def return_call_ref(machine, _function_type):
     machine.replace_frame(_referred(machine))
 
 
-# An invoke, which no module spells, stands for a function that is begun from outside.
+# An invoke, which no module spells, stands for a function that is begun from outside, and has its address.
 RULES = {
     'unreachable': unreachable, 'nop': nop, 'block': block, 'loop': loop, 'if': if_, 'br': br, 'br_if': br_if,
     'br_table': br_table, 'return': return_, 'br_on_null': br_on_null, 'br_on_non_null': br_on_non_null, 'call': call,
     'call_indirect': call_indirect, 'call_ref': call_ref, 'return_call': return_call,
-    'return_call_indirect': return_call_indirect, 'return_call_ref': return_call_ref, 'invoke': call,
+    'return_call_indirect': return_call_indirect, 'return_call_ref': return_call_ref, 'invoke': invoke,
 }

@@ -29,22 +29,25 @@ class Label:
 
 
 class Frame:
-    """A frame: what it gives, how many operands stand beneath, where its caller goes on, and the locals of that."""
+    """A frame: what it gives, how many operands stand beneath, where its caller goes on, and the locals and the
+    instance of that."""
 
-    __slots__ = ('arity', 'height', 'code', 'behind', 'locals')
+    __slots__ = ('arity', 'height', 'code', 'behind', 'locals', 'instance')
 
-    def __init__(self, arity, height, code, behind, caller_locals):
+    def __init__(self, arity, height, code, behind, caller_locals, caller_instance):
         self.arity = arity
         self.height = height
         self.code = code
         self.behind = behind
         self.locals = caller_locals
+        self.instance = caller_instance
 
 
 class Machine:
     """A run. Next comes an instruction at a place of a sequence, or the exit of what is innermost, at its end.
 
-    Operands, layers, frames, locals, code and place are those of the innermost segment.
+    Operands, layers, frames, locals, instance, code and place are those of the innermost segment. Types are those of
+    all modules. Each index of an instruction is read through the lists of the instance.
     """
 
     def __init__(self, types, order, store, invokes):
@@ -57,10 +60,11 @@ class Machine:
         self.out = bytearray()
 
     def _go_on_in(self, segment):
-        self.operands, self.layers, self.frames, self.locals, self.code, self.place = segment
+        self.operands, self.layers, self.frames, self.locals, self.instance, self.code, self.place = segment
 
     def _segment(self):
-        return Segment(self.operands, self.layers, self.frames, self.locals, self.code, self.place)
+        return Segment(
+            self.operands, self.layers, self.frames, self.locals, self.instance, self.code, self.place)
 
     def is_ended(self):
         """Whether the term is values."""
@@ -79,15 +83,25 @@ class Machine:
         del self.operands[height:]
         return taken
 
+    def table(self, index):
+        return self.store.tables[self.instance.tables[index]]
+
+    def memory(self, index):
+        return self.store.memories[self.instance.memories[index]]
+
     def parameters(self, continuation_type):
-        """How many operands a continuation of this type takes."""
-        return len(self.types[self.types[continuation_type].function].parameters)
+        """How many operands a continuation of the type with this index takes."""
+        return self.counts(self.types[self.instance.types[continuation_type]].function)[0]
 
     def arity(self, block_type):
         """How many operands a block takes and gives."""
         if isinstance(block_type, list):
             return 0, len(block_type)
-        function_type = self.types[block_type]
+        return self.counts(self.instance.types[block_type])
+
+    def counts(self, address):
+        """How many operands a function of the type with this address takes and gives."""
+        function_type = self.types[address]
         return len(function_type.parameters), len(function_type.results)
 
     def enter_label(self, body, parameters, arity, again):
@@ -97,15 +111,16 @@ class Machine:
         self.code, self.place = body, 0
 
     def enter_function(self, address):
-        """Go on in a function of the module, in a label in a frame; one of the host prints."""
+        """Go on in a function of a module, in a label in a frame; one of the host prints."""
         function = self.store.functions[address]
         if isinstance(function, Printer):
             self.out += function.printed(self.pop())
             return
         arguments = self.take(function.parameters)
         height = len(self.operands)
-        self.layers.append(Frame(function.results, height, self.code, self.place, self.locals))
+        self.layers.append(Frame(function.results, height, self.code, self.place, self.locals, self.instance))
         self.locals = arguments + function.defaults
+        self.instance = function.instance
         self.frames += 1
         self._check_limits()
         self.layers.append(Label(function.results, height, [], 0, 0))
@@ -114,7 +129,7 @@ class Machine:
     def replace_frame(self, address):
         """Put a function, whose arguments are on top, in place of the innermost frame and all that it holds."""
         frame = self._end_frame()
-        self._keep_top(frame.height, self.arity(self.store.functions[address].type)[0])
+        self._keep_top(frame.height, self.counts(self.store.functions[address].type)[0])
         self.enter_function(address)
 
     def _check_limits(self):
@@ -173,6 +188,7 @@ class Machine:
 
     def _leave_frame(self, frame):
         self.locals = frame.locals
+        self.instance = frame.instance
         self.frames -= 1
 
     def branch(self, label):

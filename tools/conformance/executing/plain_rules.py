@@ -33,11 +33,11 @@ def local_tee(machine, local):
 
 
 def global_get(machine, index):
-    machine.push(machine.store.globals[index])
+    machine.push(machine.store.globals[machine.instance.globals[index]])
 
 
 def global_set(machine, index):
-    machine.store.globals[index] = machine.pop()
+    machine.store.globals[machine.instance.globals[index]] = machine.pop()
 
 
 def _const(width, machine, number):
@@ -55,35 +55,34 @@ def _binary(operation, machine):
 
 def _load(width, size, is_signed, machine, _alignment, offset):
     """The address is the sum of operand and offset, which is not wrapped."""
-    number = machine.store.memories[0].load(machine.pop() + offset, size)
+    number = machine.memory(0).load(machine.pop() + offset, size)
     machine.push(extended(8 * size, width, number) if is_signed else number)
 
 
 def _store(size, machine, _alignment, offset):
     number, address = machine.pop(), machine.pop()
-    machine.store.memories[0].store(address + offset, size, number)
+    machine.memory(0).store(address + offset, size, number)
 
 
 def memory_size(machine, memory):
-    machine.push(machine.store.memories[memory].size())
+    machine.push(machine.memory(memory).size())
 
 
 def memory_grow(machine, memory):
-    machine.push(wrapped(32, machine.store.memories[memory].grow(machine.pop())))
+    machine.push(wrapped(32, machine.memory(memory).grow(machine.pop())))
 
 
 def memory_fill(machine, memory):
     count, number, address = machine.pop(), machine.pop(), machine.pop()
-    machine.store.memories[memory].fill(address, number, count)
+    machine.memory(memory).fill(address, number, count)
 
 
 def memory_copy(machine, destination, source):
-    memories = machine.store.memories
-    _init(machine, memories[destination], memories[source].bytes)
+    _init(machine, machine.memory(destination), machine.memory(source).bytes)
 
 
 def memory_init(machine, segment, memory):
-    _init(machine, machine.store.memories[memory], machine.store.datas[segment])
+    _init(machine, machine.memory(memory), machine.store.datas[machine.instance.datas[segment]])
 
 
 def _init(machine, destination, source):
@@ -93,43 +92,42 @@ def _init(machine, destination, source):
 
 
 def data_drop(machine, segment):
-    machine.store.drop_data(segment)
+    machine.store.drop_data(machine.instance.datas[segment])
 
 
 def table_get(machine, table):
-    machine.push(machine.store.tables[table].get(machine.pop()))
+    machine.push(machine.table(table).get(machine.pop()))
 
 
 def table_set(machine, table):
     value, place = machine.pop(), machine.pop()
-    machine.store.tables[table].set(place, value)
+    machine.table(table).set(place, value)
 
 
 def table_size(machine, table):
-    machine.push(machine.store.tables[table].size())
+    machine.push(machine.table(table).size())
 
 
 def table_grow(machine, table):
     count, value = machine.pop(), machine.pop()
-    machine.push(wrapped(32, machine.store.tables[table].grow(value, count)))
+    machine.push(wrapped(32, machine.table(table).grow(value, count)))
 
 
 def table_fill(machine, table):
     count, value, place = machine.pop(), machine.pop(), machine.pop()
-    machine.store.tables[table].fill(place, value, count)
+    machine.table(table).fill(place, value, count)
 
 
 def table_copy(machine, destination, source):
-    tables = machine.store.tables
-    _init(machine, tables[destination], tables[source].elements)
+    _init(machine, machine.table(destination), machine.table(source).elements)
 
 
 def table_init(machine, segment, table):
-    _init(machine, machine.store.tables[table], machine.store.elements[segment])
+    _init(machine, machine.table(table), machine.store.elements[machine.instance.elements[segment]])
 
 
 def elem_drop(machine, segment):
-    machine.store.drop_elements(segment)
+    machine.store.drop_elements(machine.instance.elements[segment])
 
 
 def ref_null(machine, _heap):
@@ -141,7 +139,7 @@ def ref_is_null(machine):
 
 
 def ref_func(machine, function):
-    machine.push(function)
+    machine.push(machine.instance.functions[function])
 
 
 def ref_as_non_null(machine):

@@ -31,22 +31,34 @@ class Outcome(NamedTuple):
 
 
 def begun(module, store, main):
-    """The machine of a run with no reduction taken: first the start function, where there is one, and then main."""
-    started = [main] if module.start is None else [module.start, main]
-    invokes = [Instruction('invoke', (address,)) for address in started]
-    return Machine(module.types, TypeOrder(module.groups), store, invokes)
+    """The machine of a run of one module with no reduction taken."""
+    return begun_in(store, module.types, TypeOrder(module.groups), [module], main)
+
+
+def begun_in(store, types, order, modules, main):
+    """The machine of a run of modules with no reduction taken: first the start functions of those that have one, and
+    then main, which is given by its address."""
+    started = [
+        instance.functions[module.start] for module, instance in zip(modules, store.instances, strict=True)
+        if module.start is not None]
+    invokes = [Instruction('invoke', (address,)) for address in [*started, main]]
+    return Machine(types, order, store, invokes)
 
 
 def run(module, store, main, steps):
-    """The outcome of at most so many reductions."""
-    machine = begun(module, store, main)
+    """The outcome of at most so many reductions of one module."""
+    return outcome_after(begun(module, store, main), steps)
+
+
+def outcome_after(machine, steps):
+    """The outcome of at most so many reductions of a machine that has taken none."""
     taken, ending = 0, {}
     while taken < steps and not ending and not machine.is_ended():
         taken += 1
         ending = reduced(machine)
     if not ending:
         ending = {'values': machine.operands} if machine.is_ended() else {'line': 'running', 'status': 10}
-    return Outcome(taken, store.made, store.consumed, bytes(machine.out), **ending)
+    return Outcome(taken, machine.store.made, machine.store.consumed, bytes(machine.out), **ending)
 
 
 def reduced(machine):

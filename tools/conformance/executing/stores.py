@@ -1,13 +1,15 @@
 """The store: functions, tables, memories, globals, tags, segments and continuations, and what instructions do to them
 (Core, execution).
 
-A reference is null, which is nothing, or the address of a function, which is its index, or a continuation.
+A reference is null, which is nothing, or the address of a function, or a continuation. An address is a place among all
+of one kind that are made in a store, whichever instance makes them.
 """
 
 from dataclasses import dataclass, field
 
 from executing.contexts import Continuation
 from executing.ends import Exceeded, Trap
+from executing.instances import Instance
 
 PAGE = 65536                    # bytes
 GREATEST_MEMORY = 256           # in pages
@@ -18,8 +20,10 @@ NULL = None
 
 @dataclass(frozen=True)
 class Function:
-    """A function of the module: its type, by index and by counts, its body, and what its further locals begin with."""
+    """A function of a module: its instance, its type, by address and by counts, its body, and what its further locals
+    begin with."""
 
+    instance: Instance
     type: int
     parameters: int
     results: int
@@ -29,7 +33,7 @@ class Function:
 
 @dataclass(frozen=True)
 class Printer:
-    """A function of the host: its type, and the bytes that it prints of a number."""
+    """A function of the host: its type, by address, and the bytes that it prints of a number."""
 
     type: int
     printed: object
@@ -124,15 +128,16 @@ def check_range(kind, sequence, place, count):
 
 @dataclass
 class Store:
-    """All that a module and its run share. A segment that was dropped is empty."""
+    """All that modules and their run share. A segment that was dropped is empty."""
 
     functions: list = field(default_factory=list)
     tables: list = field(default_factory=list)
     memories: list = field(default_factory=list)
     globals: list = field(default_factory=list)
-    tags: list = field(default_factory=list)        # their types, by index
+    tags: list = field(default_factory=list)        # their types, by address
     elements: list = field(default_factory=list)
     datas: list = field(default_factory=list)
+    instances: list = field(default_factory=list)
     made: int = 0                                   # continuations so far
     consumed: int = 0                               # those of them that are empty
 

@@ -41,18 +41,21 @@ def resume(machine, continuation_type, clauses):
 
 
 def _handle_of(machine, kind, tag):
-    """The place among the handles of the innermost one that has a clause of this kind for this tag, and that clause."""
+    """The place among the handles of the innermost one that has a clause of this kind for the tag of this address, and
+    that clause."""
     for place in range(len(machine.handles) - 1, -1, -1):
-        for clause in machine.handles[place].clauses:
-            if clause[0] == kind and clause[1] == tag:
+        handle = machine.handles[place]
+        for clause in handle.clauses:
+            if clause[0] == kind and handle.around.instance.tags[clause[1]] == tag:
                 return place, clause
     raise Trap(f'unhandled {tag}')
 
 
 def suspend(machine, tag):
     """The branch that is left for the clause is reduced next."""
-    place, (_, _, label) = _handle_of(machine, 'on', tag)
-    arguments = machine.take(machine.arity(machine.store.tags[tag])[0])
+    address = machine.instance.tags[tag]
+    place, (_, _, label) = _handle_of(machine, 'on', address)
+    arguments = machine.take(machine.counts(machine.store.tags[address])[0])
     captured = machine.capture(place)
     machine.leave_handle_to(label)
     machine.operands += [*arguments, machine.store.make_continuation(captured)]
@@ -62,7 +65,7 @@ def switch(machine, continuation_type, tag):
     """The one that is captured takes the place of the target among those that are live."""
     target = machine.pop()
     context = _context(target)
-    place, _ = _handle_of(machine, 'switch', tag)
+    place, _ = _handle_of(machine, 'switch', machine.instance.tags[tag])
     arguments = machine.take(machine.parameters(continuation_type) - 1)
     captured = machine.capture(place)
     machine.enter_context(context, arguments)

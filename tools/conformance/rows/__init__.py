@@ -13,10 +13,11 @@ from rows import (
     subtyping_spellings, subtyping, subtyping_of_operands, subtyping_by_chance, limits, arithmetic, sizes, long_runs,
     running_numbers, running_memory, running_tables, running_control, running_instances, running_suspends,
     running_clauses, running_switches, running_continuations, running_passing, running_subtyping,
-    running_switching_traps, running_coroutines, running_switching_limits, running_tail_calls, scripts, script_rules,
-    script_sizes, script_names, script_modules, script_runs, script_operators, script_effects, script_random,
-    script_edges, script_slots, script_slot_sizes, script_slot_runs, script_tail_calls, examples, example_modules,
-    texts, text_refusals, text_lines, text_instructions)
+    running_switching_traps, running_coroutines, running_switching_limits, running_tail_calls, linking_samples,
+    linking_files, linking_imports, linking_instances, linking_indices, linking_switching, linking_runs,
+    linking_by_chance, example_linked, scripts, script_rules, script_sizes, script_names, script_modules, script_runs,
+    script_operators, script_effects, script_random, script_edges, script_slots, script_slot_sizes, script_slot_runs,
+    script_tail_calls, examples, example_modules, texts, text_refusals, text_lines, text_instructions)
 from surroundings import pieces
 
 
@@ -124,6 +125,18 @@ _FILES = [
     _modules(
         'running_tail_calls', 'Runs of tail calls.', running_tail_calls.CALLS, running_tail_calls.PRINTING,
         running_tail_calls.TRAPS, running_tail_calls.SWITCHING, running_tail_calls.LIMITS, running_tail_calls.STEPS),
+    lambda: RowFile(
+        'link', 'Runs of several files together.', linking_samples.PIECES.pieces(), [
+            linking_files.WORDS, linking_files.COUNTS, linking_files.READING, linking_files.JUDGING,
+            linking_files.ORDER, linking_imports.FUNCTION_TYPES, linking_imports.TYPES_BY_CHANCE,
+            linking_imports.TABLES_AND_MEMORIES, linking_imports.GLOBALS, linking_imports.TAGS, linking_imports.KINDS,
+            linking_imports.NAMES, linking_imports.PRINTERS, linking_instances.HANDED_ON, linking_instances.ENTRIES,
+            linking_instances.MEMORIES, linking_instances.TABLES, linking_instances.VARIABLES, linking_instances.TWICE,
+            linking_instances.SEGMENTS, linking_indices.MEMORIES, linking_indices.TABLES, linking_indices.VARIABLES,
+            linking_indices.FUNCTIONS, linking_switching.SUSPENDS, linking_switching.HANDLES,
+            linking_switching.SWITCHES, linking_switching.CONTINUATIONS, linking_runs.STARTS, linking_runs.INSTANCES,
+            linking_runs.TYPES, linking_runs.SUBTYPES, linking_runs.LIMITS, linking_runs.STEPS,
+            linking_by_chance.SECTION, example_linked.SECTION]),
     _modules('script_tokens', 'Bytes that are cut into tokens, and bytes that are not.', scripts.LEXING),
     _modules('script_grammar', 'Tokens that are a script, and tokens that are none.', scripts.GRAMMAR, scripts.NESTING),
     _modules(

@@ -69,7 +69,7 @@ def _type_bytes(comptype):
     return functype(parameters, results)
 
 
-def _group_bytes(group):
+def group_bytes(group):
     members = [_type_bytes(each) for each in group]
     return members[0] if len(members) == 1 else rec_group(members)
 
@@ -124,7 +124,7 @@ def _equivalent(places, left, right):
 def given_for(groups, pairs):
     """A module of these groups, with a function for each pair, which gives what it takes."""
     count = sum(map(len, groups))
-    types = [_group_bytes(group) for group in groups]
+    types = [group_bytes(group) for group in groups]
     types += [functype([nullable(left)], [nullable(right)]) for left, right in pairs]
     functions = [count + place for place in range(len(pairs))]
     return module(types=types, functions=functions, codes=[code(local_get(0))] * len(pairs))

@@ -1,12 +1,17 @@
-use Rattle.std.proofs.Common.{◌∙◌, refl, ap, map}
+use Rattle.std.proofs.Common.{◌∙◌, refl, ap, map, subst, ℕ, List}
+use Rattle.std.specs.Borrow.{Bor}
 use Rattle.std.specs.Prelude.{string_bytes}
 use Rattle.w_outside.specs.Outside.{Grew, Rose}
+use Rattle.words.specs.declared.request.Takes.{Takes}
 use Rattle.words.specs.Line.{line_of}
 use Rattle.words.specs.Request.{asked_by}
-use Rattle.replies.specs.Answer.{Answer}
+use Rattle.replies.specs.Answer.{Answer, NamesGive}
+use Rattle.intake.specs.Intake.{IsInputOf}
+use Rattle.drive.specs.Leaving.{Leaves}
+use Rattle.drive.specs.Linking.{names_of}
 use Rattle.drive.specs.Delivery.{MayFail}
-use Rattle.drive.proofs.FileReplies.{unread, acted, generated_run}
-use Rattle.drive.proofs.Refusals.{refuses_as}
+use Rattle.drive.proofs.FileReplies.{unread, acted, named, generated_run}
+use Rattle.replies.proofs.Refusals.{refuses_as}
 use Rattle.drive.proofs.Replies.{stop_left, leaves_as}
 use Rattle.drive.proofs.program.answer.Goals as goal
 
@@ -26,7 +31,18 @@ returns-in_ok-input-in-Ok-OnFile-clause-leaves g c =
     let read = c.in_ok-input-in-Ok-OnFile.ensures.bytes in
     leaves_as
     (acted (line_of (map string_bytes c.args.words.now)) request.file.now request.action (g.F.Inputs.file c.args.files.now) failed (request.ensures.asks ∙ ap asked_by request.field-0-is) read.0 read.0 refl read.1 read.2)
-    (Grew (g.O.Sink.held c.args.out.now) (g.O.Sink.held c.act.new.out)) (Rose (g.O.Sink.faults c.args.out.now) (g.O.Sink.faults c.act.new.out)) c.act.result (c.act.ensures.leaves read.0 read.3)
+    (Grew (g.O.Sink.held c.args.out.now) (g.O.Sink.held c.act.new.out)) (Rose (g.O.Sink.faults c.args.out.now) (g.O.Sink.faults c.act.new.out)) c.act.result (c.act.ensures.leaves read.0 (subst (λ (t : Takes). IsInputOf t c.in_ok-input-in-Ok-OnFile.input read.0) c.takes.ensures read.3))
+
+pub returns-in-Ok-OnFiles-clause-leaves : goal.returns-in-Ok-OnFiles-clause-leaves
+returns-in-Ok-OnFiles-clause-leaves g c =
+    let request = c.in-Ok-OnFiles in
+    let files = g.F.Inputs.file c.args.files.now in
+    let failed = Rose (g.F.Inputs.faults c.args.files.now) (g.F.Inputs.faults c.run_files.new.files) in
+    let grew = Grew (g.O.Sink.held c.args.out.now) (g.O.Sink.held c.run_files.new.out) in
+    let rose = Rose (g.O.Sink.faults c.args.out.now) (g.O.Sink.faults c.run_files.new.out) in
+    leaves_as (named (line_of (map string_bytes c.args.words.now)) (names_of request.names.items) request.steps request.stats files failed (request.ensures.asks ∙ ap asked_by request.field-0-is))
+    grew rose c.run_files.result
+    (subst (λ (names : List (Bor (List ℕ))). Leaves (MayFail failed (NamesGive request.steps request.stats (names_of names) files)) c.run_files.result grew rose) c.as_slice.ensures.value c.run_files.ensures.leaves)
 
 pub returns-in-Ok-Generated-clause-leaves : goal.returns-in-Ok-Generated-clause-leaves
 returns-in-Ok-Generated-clause-leaves g c =

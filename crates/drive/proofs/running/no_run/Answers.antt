@@ -3,7 +3,7 @@ use Rattle.w_inst.specs.declared.instantiation.InstFault.{InstFault}
 use Rattle.w_inst.specs.Instances.{BeginsAs}
 use Rattle.replies.specs.Answer.{start_reply}
 use Rattle.replies.specs.Origin.{trap_reply_of}
-use Rattle.drive.proofs.Refusals.{refuses_same, same_refusal}
+use Rattle.replies.proofs.Refusals.{refuses_same, same_refusal}
 use Rattle.drive.proofs.running.no_run.Goals as goal
 
 pub returns-in-NoEntry : goal.returns-in-NoEntry

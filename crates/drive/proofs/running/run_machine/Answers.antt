@@ -6,7 +6,7 @@ use Rattle.w_machine.specs.declared.outcome.RunStop.TheVariants.{Ended, Limit as
 use Rattle.w_machine.specs.Position.{Position}
 use Rattle.replies.specs.Pieces.{joined}
 use Rattle.replies.specs.Origin.{trap_reply_of}
-use Rattle.drive.proofs.Refusals.{refuses_same, same_refusal}
+use Rattle.replies.proofs.Refusals.{refuses_same, same_refusal}
 use Rattle.drive.proofs.Runs.{from_first, first_ended, first_after, first_origin, lines_of_vals, run_refused, run_ended, run_unlisted, run_failed, run_out}
 use Rattle.drive.proofs.Statistics.{not_reply}
 use Rattle.drive.proofs.running.run_machine.Goals as goal

@@ -2,7 +2,7 @@ use Rattle.std.proofs.Common.{rules, ◌≢◌, false, inr}
 use Rattle.w_outside.specs.Outside.{Rose}
 use Rattle.s_judge.specs.declared.fault.ScriptFault.TheVariants.{OutOfMemory}
 use Rattle.replies.specs.Answer.{Compiled, RunGives, ScriptGives, faulted}
-use Rattle.drive.proofs.Refusals.{refuses_as}
+use Rattle.replies.proofs.Refusals.{refuses_as}
 use Rattle.drive.proofs.Replies.{refusal_left}
 use Rattle.drive.proofs.scripts.run_script.Goals as goal
 

@@ -1,0 +1,4 @@
+pub mod LongFiles
+pub mod ModulesInPieces
+pub mod IntakesOfBytes
+pub mod FilesTakenIn

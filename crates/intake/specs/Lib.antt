@@ -1,0 +1,3 @@
+pub mod InputFault
+pub mod Intake
+pub mod Reading
