@@ -30,7 +30,7 @@ class Taken(NamedTuple):
 
 class ScriptRun(NamedTuple):
     """A program: the name of its files, the bytes of its script by a number, the small numbers that it is tried with,
-    the effects or tail calls that each repeat performs, and what it is. A generated script has no number of repeats."""
+    the effects, tail calls or switches that each repeat performs, and what it is. A generated script has no number of repeats."""
 
     stem: str
     script: object
@@ -115,6 +115,8 @@ SCRIPT_RUNS = {
     'a state handler': ScriptRun('state', _repeating('state'), ON_A_LINE, 2, 'Counts up by get and put.'),
     'a loop of tail calls': ScriptRun(
         'countdown', _repeating('countdown'), ON_A_LINE, 1, 'Counts down by tail calls, and adds up.'),
+    'two coroutines': ScriptRun(
+        'coroutines', _repeating('coroutines'), ON_A_LINE, 2, 'Switches between two coroutines, which give each other numbers.'),
     'a generator': ScriptRun('generator', _repeating('generator'), ON_A_LINE, 1, 'Yields numbers, which are added up.'),
     'generated tasks': ScriptRun(
         'tasks', generated, (FEWEST_TASKS,), None, 'The script of `gen 500`, of calls that tick.')}

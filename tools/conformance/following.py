@@ -110,13 +110,14 @@ def _run_of(data, steps):
 
 
 def _fault(data, trap):
-    """The fault of a script that a trap of its module is; tags stand in the order of the effects."""
+    """The fault of a script that a trap of its module is; tags stand in the order of the effects, and that of groups is
+    the last."""
     kind, _, tag = trap.partition(' ')
     if kind != 'unhandled':
         return FAULTS[trap]
     _, declarations = read(data)
-    effects = [each.name for each in declarations if each.kind == 'effect']
-    return f'unhandled {effects[int(tag)]}'
+    operations = [each.name for each in declarations if each.kind == 'effect'] + ['group']
+    return f'unhandled {operations[int(tag)]}'
 
 
 def reductions_of(data):

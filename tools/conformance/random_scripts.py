@@ -1,12 +1,13 @@
 """Scripts at random that break no rule, and whose loops end.
 
 A function calls and handles functions behind it alone, and a handler the last one alone. Slots keep resumptions, each
-of which goes on once at most, so that runs end with slots too.
+of which goes on once at most, so that runs end with slots too; and a coroutine is made of functions behind alone.
 """
 
 from typing import NamedTuple
 
 NUMBER = None       # the type of a number; that of a resumption is the name of its handler
+COROUTINE = 'coro'
 LITERALS = ['0', '1', '2', '3', '5', '7', '10', '64', '128', '1000', '2147483648', '9223372036854775807']
 
 
@@ -26,17 +27,20 @@ class Slots(NamedTuple):
 
 
 class RandomScript:
-    """One script; `text` is its text. Without slots, the same script comes of the same random numbers as before slots
-    were in the language. `tailing` is how likely a return is made a tail call, beside those that are so by chance."""
+    """One script; `text` is its text. Without slots and coroutines, the same script comes of the same random numbers as
+    before these were in the language. `tailing` is how likely a return is made a tail call, beside those that are so by
+    chance."""
 
-    def __init__(self, random, has_slots=False, tailing=0):
-        self.random, self.tailing = random, tailing
+    def __init__(self, random, has_slots=False, tailing=0, has_coroutines=False):
+        self.random, self.tailing, self.has_coroutines = random, tailing, has_coroutines
         self.effects = [(f'e{number}', random.choice([0, 0, 1, 1, 2, 3])) for number in range(random.randint(1, 2))]
         self.handlers = [
             Function(f'h{number}', self._types(number, 0.2)) for number in range(random.randint(1, 2))]
         self.functions = [Function('main', [])] + [
             Function(f'f{number}', self._types(number and len(self.handlers), 0.25))
             for number in range(random.randint(2, 3))]
+        if has_coroutines:
+            self._add_coroutines()
         self.slots = self._all_slots() if has_slots else []
         self.lets = 0
         parts = [f'effect {name}/{count};' for name, count in self.effects]
@@ -45,6 +49,15 @@ class RandomScript:
         parts += [f'slots {each.name}: res {each.handler} [{each.count}];' for each in self.slots]
         random.shuffle(parts)
         self.text = '\n'.join(parts) + '\n'
+
+    def _add_coroutines(self):
+        """A function for groups and some for coroutines, before the last function; the last of several handlers has a
+        coroutine as its last parameter."""
+        made = [Function('g', [NUMBER])] + [
+            Function(f'c{number}', [NUMBER, COROUTINE]) for number in range(self.random.randint(1, 2))]
+        self.functions[-1:-1] = made
+        if len(self.handlers) > 1:
+            self.handlers[-1].types.append(COROUTINE)
 
     def _all_slots(self):
         """Slots of the first handler, and maybe of any others."""
@@ -63,7 +76,8 @@ class RandomScript:
 
     def _parameters(self, declared):
         scope = {f'p{number}': type for number, type in enumerate(declared.types)}
-        return scope, ', '.join(name if type is NUMBER else f'{name}: res {type}' for name, type in scope.items())
+        words = {NUMBER: '', COROUTINE: ': coro'}
+        return scope, ', '.join(name + words.get(type, f': res {type}') for name, type in scope.items())
 
     def _function(self, number, function):
         scope, parameters = self._parameters(function)
@@ -71,17 +85,27 @@ class RandomScript:
         self.taking = 0.2 if number == 0 else 0.02      # how likely a part takes; main does where something is stored
         self.doing = 0.5 if 0 < number < len(self.functions) - 1 else 0     # how likely a part performs an effect
         self.is_handling = True
+        if function.name[0] in 'gc':
+            return self._function_that_switches(function, scope, parameters)
         return f'fn {function.name}({parameters}) {{ {self._beginning(number, scope)}{self._body(scope, 2)} }}'
+
+    def _function_that_switches(self, function, scope, parameters):
+        """One for groups, which begins with a spawn, or one for coroutines; both switch then."""
+        self.doing = 0.05
+        front = f'{self._spawn(scope)} ' if function.name == 'g' else f'print {list(scope)[0]}; '
+        front += f'{self._switch(scope)} '
+        return f'fn {function.name}({parameters}) {{ {front}{self._body(scope, 2)} }}'
 
     def _beginning(self, number, scope):
         """Main begins with the first function in a handle, and that with an effect. Behind the handle main takes, where
         there are slots."""
         handler, function, (effect, count) = self.handlers[0], self.functions[1], self.effects[0]
+        group = f'print {self._group(scope, 0)}; ' if number < 2 and self.has_coroutines else ''
         if number == 0:
             values, parameters = (self._list(scope, 0, each.types) for each in (function, handler))
             take = f'{self._take(scope)} ' if self.slots else ''
-            return f'print handle {function.name}({values}) with {handler.name}({parameters}); {take}'
-        return f'print do {effect}({self._list(scope, 0, [NUMBER] * count)}); ' if number == 1 else ''
+            return f'print handle {function.name}({values}) with {handler.name}({parameters}); {take}{group}'
+        return f'print do {effect}({self._list(scope, 0, [NUMBER] * count)}); {group}' if number == 1 else ''
 
     def _handler(self, handler):
         """Clauses call the last function alone, which performs no effect, and return clauses handle none."""
@@ -112,7 +136,7 @@ class RandomScript:
         functions = self._callees(scope)
         if self.tailing and functions and self.random.random() < self.tailing:
             return f'return {self._call(scope, 1, functions)};'
-        resumptions = [name for name, type in scope.items() if type is not NUMBER]
+        resumptions = self._resumptions(scope)
         if resumptions and self.random.random() < (0.2 if self.slots else 0.8):
             return f'return {self._resume(scope, 1, self.random.choice(resumptions))};'
         return f'return {self._expression(scope, 2)};'
@@ -124,6 +148,10 @@ class RandomScript:
     def _statement(self, scope, depth):
         if self.slots and self.random.random() < self.taking:
             return self._take(scope)
+        if self.has_coroutines and self.random.random() < (0.4 if depth == 2 else 0.03):
+            statement = self._switch(scope) if self.random.random() < 0.75 else self._spawn(scope)
+            if statement:
+                return statement
         kind = self.random.random()
         if kind < 0.3:
             return f'print {self._expression(scope, 2)};'
@@ -148,6 +176,34 @@ class RandomScript:
             times = self.random.randint(1, 3)
             return f'let {counter} = 0; while {counter} < {times} {{ {counter} = {counter} + 1; {body} }}'
         return f'if {self._expression(scope, 1)} {{ fail; }}'
+
+    def _spawn(self, scope):
+        """A spawn of a function behind, where there is one for coroutines."""
+        functions = [each for each in self.functions[self.first:] if each.name[0] == 'c']
+        if not functions:
+            return None
+        name = self._bound(scope, 't', COROUTINE)
+        return f'spawn {name} = {self.random.choice(functions).name};'
+
+    def _switch(self, scope):
+        """A switch to the coroutine that was bound last, mostly, where there is one."""
+        coroutines = [name for name, type in scope.items() if type == COROUTINE]
+        if not coroutines:
+            return None
+        target = coroutines[-1] if self.random.random() < 0.95 else self.random.choice(coroutines)
+        value = self._expression(scope, 1)
+        number, coroutine = self._bound(scope, 'x'), self._bound(scope, 'u', COROUTINE)
+        more = f' print {number};' if self.random.random() < 0.5 else ''
+        return f'switch {number}, {coroutine} = {target}({value});{more}'
+
+    def _group(self, scope, depth):
+        """A group of a function behind of one number, where there is one."""
+        functions = [each for each in self.functions[self.first:] if each.types == [NUMBER]]
+        if not functions:
+            return None
+        named = [each for each in functions if each.name == 'g']
+        function = named[0] if named else self.random.choice(functions)
+        return f'group {function.name}({self._expression(scope, depth)})'
 
     def _storing_first(self, scope):
         """The stores with which a clause begins whose resumption some slots keep: into most of the places."""
@@ -216,7 +272,9 @@ class RandomScript:
         return self.random.choice(LITERALS[:8] if self.random.random() < 0.9 else LITERALS)
 
     def _compound(self, scope, depth):
-        resumptions = [name for name, type in scope.items() if type is not NUMBER]
+        if self.has_coroutines and self.random.random() < 0.1:
+            return self._group(scope, depth)
+        resumptions = self._resumptions(scope)
         if resumptions and self.random.random() < (0.1 if self.slots else 0.35):
             return self._resume(scope, depth, self.random.choice(resumptions))
         if self.random.random() < self.doing:
@@ -232,9 +290,15 @@ class RandomScript:
             return self._call(scope, depth, functions)
         return f'({self._expression(scope, depth)})'
 
+    def _resumptions(self, scope):
+        """The names of resumptions."""
+        return [name for name, type in scope.items() if type not in (NUMBER, COROUTINE)]
+
     def _callees(self, scope):
-        """The functions that may be called here."""
-        return [each for each in self.functions[self.first:] if self._fits(scope, each)]
+        """The functions that may be called here; those for coroutines seldom."""
+        return [
+            each for each in self.functions[self.first:] if self._fits(scope, each)
+            and (COROUTINE not in each.types or self.random.random() < 0.1)]
 
     def _call(self, scope, depth, functions):
         function = self.random.choice(functions)

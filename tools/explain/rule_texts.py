@@ -6,7 +6,7 @@ from pathlib import Path
 
 SPECIFICATION = Path(__file__).resolve().parents[2] / 'docs' / 'SPECIFICATION.md'
 HEADING = '## Scripts: rules'
-RULES = range(1, 22)
+RULES = range(1, 24)
 
 
 @lru_cache(maxsize=None)

@@ -7,8 +7,9 @@ from script_reader.sizes import GREATEST_SIZE, declaration_size, size_of
 from script_reader.tokens import KEYWORDS
 
 READABLE = {'NAME': 'a name', 'INT': 'a number'}
-EXPRESSION = {'NAME', 'INT', "'('", "'-'", "'!'", "'do'", "'handle'", "'resume'"}
-STATEMENT = EXPRESSION | {"'let'", "'if'", "'while'", "'print'", "'return'", "'fail'", "'store'", "'take'"}
+EXPRESSION = {'NAME', 'INT', "'('", "'-'", "'!'", "'do'", "'handle'", "'resume'", "'group'"}
+STATEMENT = EXPRESSION | {
+    "'let'", "'if'", "'while'", "'print'", "'return'", "'fail'", "'store'", "'take'", "'spawn'", "'switch'"}
 COMPARISON = {"'=='", "'!='", "'<'", "'<='", "'>'", "'>='"}
 ARITHMETIC = {"'+'", "'-'", "'*'", "'/'", "'%'"}
 # Names of sets of tokens, of which the first that is wholly there is taken.

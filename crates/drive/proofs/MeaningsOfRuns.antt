@@ -17,7 +17,7 @@ use Rattle.s_meaning.specs.Numbers.{Fault, Unhandled}
 use Rattle.s_meaning.specs.Eval.{Ended}
 use Rattle.s_valid.specs.Beginning.{first_store, first_term}
 use Rattle.s_valid.proofs.Starts.{starts}
-use Rattle.s_agrees.specs.Agrees.{effect_names, fault_of, limit_of, end_of_fault, end_of_values, end_of}
+use Rattle.s_agrees.specs.Agrees.{tag_names, fault_of, limit_of, end_of_fault, end_of_values, end_of}
 use Rattle.s_agrees.proofs.Follow.{runs_follow}
 use Rattle.replies.specs.Answer.{Reply, TrapReply, line, result_line, refusal, behind, start_reply, end_reply, faulted, name_or_none}
 use Rattle.drive.specs.Meaning.{meaning_reply, fault_name, RunsMean}
@@ -26,8 +26,8 @@ use Rattle.drive.specs.Meaning.{meaning_reply, fault_name, RunsMean}
 same_fault : {g f : Fault} → Some g ≡ Some f → refusal (codes "fault " ++ fault_name g) 1 ≡ refusal (codes "fault " ++ fault_name f) 1
 same_fault {g} {f} e = let same : g ≡ f = cc in ap (λ (h : Fault). refusal (codes "fault " ++ fault_name h) 1) same
 
--- an effect that no handler in place has a clause for
-unhandled_meant : (p : Script) (x : ℕ) (f : Fault) (o : Option Name) → slice_get (effect_names p.declarations) x ≡ o → option_map Unhandled o ≡ Some f
+-- an effect that no handler in place has a clause for, or a switch that no group is around
+unhandled_meant : (p : Script) (x : ℕ) (f : Fault) (o : Option Name) → slice_get (tag_names p.declarations) x ≡ o → option_map Unhandled o ≡ Some f
     → refusal (codes "fault unhandled " ++ name_or_none o) 1 ≡ refusal (codes "fault " ++ fault_name f) 1
 unhandled_meant p x f None q e = absurd (cc)
 unhandled_meant p x f (Some op) q e = same_fault e
@@ -38,7 +38,7 @@ fault_meant p trap.Unreachable f e = same_fault e
 fault_meant p trap.DivideByZero f e = same_fault e
 fault_meant p trap.IntegerOverflow f e = same_fault e
 fault_meant p trap.ConsumedContinuation f e = same_fault e
-fault_meant p (trap.Unhandled x) f e = unhandled_meant p x f (slice_get (effect_names p.declarations) x) refl e
+fault_meant p (trap.Unhandled x) f e = unhandled_meant p x f (slice_get (tag_names p.declarations) x) refl e
 fault_meant p trap.MemoryOutOfBounds f e = absurd (cc)
 fault_meant p trap.TableOutOfBounds f e = same_fault e
 fault_meant p trap.UndefinedElement f e = absurd (cc)

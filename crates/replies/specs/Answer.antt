@@ -39,7 +39,7 @@ use Rattle.s_syntax.specs.declared.script.Script.{Script}
 use Rattle.s_check.specs.Refusal.{number_of}
 use Rattle.s_check.specs.Size.{Size, size_limit}
 use Rattle.s_code.specs.Lowered.{lowered}
-use Rattle.s_agrees.specs.Agrees.{effect_names}
+use Rattle.s_agrees.specs.Agrees.{tag_names}
 use Rattle.s_generate.specs.Generated.{generated as generated_script}
 use Rattle.s_judge.specs.Judgements as script
 use Rattle.s_judge.specs.declared.fault.ScriptFault.{ScriptFault}
@@ -332,7 +332,7 @@ fault_text p trap.IntegerOverflow = codes "fault overflow"
 fault_text p trap.ConsumedContinuation = codes "fault reused"
 fault_text p trap.TableOutOfBounds = codes "fault empty"
 fault_text p trap.NullReference = codes "fault empty"
-fault_text p (trap.Unhandled e) = codes "fault unhandled " ++ name_or_none (slice_get (effect_names p.declarations) e)
+fault_text p (trap.Unhandled e) = codes "fault unhandled " ++ name_or_none (slice_get (tag_names p.declarations) e)
 fault_text p t = trap_text t
 
 abbrev pub faulted : Script → Trap → Reply

@@ -1,14 +1,13 @@
 //! The lines that the program writes.
-ghost use Rattle.std.specs.Prelude.{◌≡◌, ◌++◌, IfOk, OnOk, codes, option_map, slice_get};
+ghost use Rattle.std.specs.Prelude.{◌≡◌, ◌++◌, ℕ, List, IfOk, OnOk, codes, option_map, slice_get};
 ghost use Rattle.std.specs.Borrow.{Bor};
-ghost use Rattle.s_syntax.specs.declared.name.Name.{Name as TheName};
 ghost use Rattle.w_reduce.specs.Values.{val};
-ghost use Rattle.s_agrees.specs.Agrees.{effect_names};
+ghost use Rattle.s_agrees.specs.Agrees.{tag_names};
 ghost use Rattle.replies.specs.Answer.{line, count_text, result_line, malformed, wrong_text, limit, size_limit_text, run_limit_text, start_limit_text, trapped, invalid, no_printer, counts_line, bad_script, faulted, file_text as the_file_text, no_import};
 
 use itoa::{Buffer, Integer};
 use s_judge::ScriptFault;
-use s_syntax::{Definition, Name, Script};
+use s_syntax::{Definition, Script};
 use std::alloc::{AllocError, Global};
 use w_decode::DecodeFault;
 use w_items::ValidFault;
@@ -101,29 +100,32 @@ pub fn start_limit_line(name: StartLimit) -> &'static [u8]
     }
 }
 
-// The name of the effect of this number.
-fn effect_name(script: &Script, number: u32) -> Option<&Name>
-    ensures { option_map (λ (name : Bor TheName). name.now) result ≡ slice_get (effect_names script.now.declarations) number }
+// What is told of the tag of this number: the name of its effect, or that it is the tag of groups.
+fn tag_name(script: &Script, number: u32) -> Option<&[u8]>
+    ensures { option_map (λ (name : Bor (List ℕ)). name.now) result ≡ slice_get (tag_names script.now.declarations) number }
 {
     let mut left = number;
     for declaration in script.declarations.as_slice() {
         if let Definition::Effect(_) = declaration.definition {
             if left == 0 {
-                return Some(&declaration.name);
+                return Some(declaration.name.as_bytes());
             }
             left -= 1;
         }
     }
+    if left == 0 {
+        return Some(b"group");
+    }
     None
 }
 
-// The line of an effect that no handler in place has a clause for, by its tag.
+// The line of an effect that no handler in place has a clause for, or of a switch that no group is around, by the tag.
 fn unhandled_line(alloc: Global, script: &Script, tag: u32) -> Result<Vec<u8>, AllocError>
     ensures { IfOk result (λ v. v.items ≡ (faulted script.now (Trap.Unhandled tag)).err) }
 {
     let mut line = Vec::from_slice(alloc, b"fault unhandled ")?;
-    if let Some(name) = effect_name(script, tag) {
-        line.extend_from_slice(name.as_bytes())?;
+    if let Some(name) = tag_name(script, tag) {
+        line.extend_from_slice(name)?;
     }
     line.push(b'\n')?;
     Ok(line)

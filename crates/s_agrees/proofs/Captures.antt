@@ -47,7 +47,7 @@ use Rattle.s_agrees.proofs.CountedContexts.{labels, labels_plug, clauses_labels,
 use Rattle.s_agrees.proofs.Paths.{program_of, step, Caps, Under, Path, stay, go, takes, set_step}
 use Rattle.s_agrees.proofs.Matches.{caps_of, Matches, went, faulted}
 use Rattle.s_agrees.proofs.Facts.{Names, ClauseFacts, Facts}
-use Rattle.s_agrees.proofs.Tags.{effect_named}
+use Rattle.s_agrees.proofs.Tags.{effect_told}
 use Rattle.s_agrees.proofs.BoundValues.{some_is, bind_known, HeldFrom, holds_bound, number_parameters_length, holds_names, holds_append, holds_one, AllSame, listed_same, all_long, all_get, listed_long, sames_size, onto_listed}
 use Rattle.s_agrees.proofs.CutContexts.{pick, clauses_of, clauses_placed, placed_at, clauses_declared, CutAt, tail_of, cut, uncut}
 use Rattle.s_agrees.proofs.Bodies.{rest_body}
@@ -429,7 +429,7 @@ module _ {p : Script} (matches : ℕ → ℕ → Bool) (facts : Facts p.declarat
       faulted stay
       (uncaught_step (program_of p matches) s e ops ws c (tag_index p.declarations op) (arrow (numbers k) (I64 ∷ [])) ((offers_all p.declarations).effect op k known) (omega (arith, number, x, y))
       ((finding_none ℕ (label_clause (tag_index p.declarations op)) e).1 (uncut facts op known w q)))
-      (ap (λ (o : Option Name). option_map Unhandled o) (effect_named p.declarations op k known)) (omega arith)
+      (ap (λ (o : Option Name). option_map Unhandled o) (effect_told p.declarations op k known)) (omega arith)
   do_found w (Some x) q = let r = cut facts op known w x q in do_clause x.answer r (clause_at facts known r)
 
 module _ {p : Script} (matches : ℕ → ℕ → Bool) (facts : Facts p.declarations) {ρ : List ℕ} {σ : script.Store} {s : Store} (stores : Stores p.declarations ρ σ s) {Γ : Layout} {n D0 : ℕ} {L : Locals} {vars : List Variable}

@@ -15,7 +15,7 @@ use Rattle.s_code.specs.Places.{return_layout, placed_clauses}
 use Rattle.s_meaning.specs.Terms.{Use, Work, Handle as Handled}
 use Rattle.s_meaning.specs.Terms as script
 use Rattle.s_meaning.proofs.Lists.{length_set}
-use Rattle.s_agrees.proofs.StandsFor.{Locals, Deep, here, label, Rest, ends, does, leaves, while_loop, Uses, sets, prints, drops, returns, puts, chooses, Works, under, left, compared, computed, connected, calling, doing, handling_first, handling_second, resuming_first, resuming_second, tail_first, tail_second, tail_calling, within, clause_labels, in_loop, Base, function, clause, Waits, outside, activation, handle}
+use Rattle.s_agrees.proofs.StandsFor.{Locals, Deep, here, label, Rest, ends, does, leaves, while_loop, Uses, sets, prints, drops, returns, puts, chooses, Works, under, left, compared, computed, connected, calling, doing, handling_first, handling_second, resuming_first, resuming_second, grouping, tail_first, tail_second, tail_calling, within, clause_labels, in_loop, Base, function, clause, Waits, outside, activation, handle, group}
 use Rattle.s_agrees.proofs.StandsFor as standing
 use Rattle.s_agrees.proofs.MoreResumptions.{Grows, same_grows, sames_grow, local_grows, held_grows, held_at_grows, active_grows, asides_grow, local_kept, held_at_kept, asides_kept}
 
@@ -54,6 +54,7 @@ module _ {F : Context → Context} (beyond : Beyond F) where
   uses_beyond (drops r) = drops (rest_beyond r)
   uses_beyond (puts q h free r) = puts q h free (rest_beyond r)
   uses_beyond (standing.Uses.takes q h free r) = standing.Uses.takes q h free (rest_beyond r)
+  uses_beyond (standing.Uses.switches hx hu hk r) = standing.Uses.switches hx hu hk (rest_beyond r)
   uses_beyond (returns p) = returns (deep_beyond p)
   uses_beyond (chooses v w r) = chooses v w (rest_beyond r)
   uses_beyond {ds} {Γ} {n} {D0} {f} {u = u} {b = b} {c = c} (standing.Uses.turns {D = D} {x = x} {b = b'} {c = c'} {e = e} w v r) =
@@ -75,6 +76,7 @@ module _ {F : Context → Context} (beyond : Beyond F) where
   works_beyond (handling_second ns le m i a h s w) = handling_second ns le m i a h s (works_beyond w)
   works_beyond (resuming_first lt a w) = resuming_first lt a (works_beyond w)
   works_beyond (resuming_second le lt a l s w) = resuming_second le lt a l s (works_beyond w)
+  works_beyond (grouping i w) = grouping i (works_beyond w)
   works_beyond (tail_first c lt o a p q) = tail_first c lt o a (deep_beyond p) q
   works_beyond (tail_second c lt o a l s p q) = tail_second c lt o a l s (deep_beyond p) q
   works_beyond (tail_calling c a s p) = tail_calling c a s (deep_beyond p)
@@ -95,6 +97,7 @@ works_grow g (handling_first ns le a w) = handling_first ns le (asides_grow g a)
 works_grow g (handling_second ns le m i a h s w) = handling_second ns le m i a (held_at_grows g h) (sames_grow g s) (works_grow g w)
 works_grow g (resuming_first lt a w) = resuming_first lt a (works_grow g w)
 works_grow g (resuming_second le lt a l s w) = resuming_second le lt a (local_grows g l) (sames_grow g s) (works_grow g w)
+works_grow g (grouping i w) = grouping i (works_grow g w)
 works_grow g (tail_first c lt o a p q) = tail_first c lt o a p q
 works_grow g (tail_second c lt o a l s p q) = tail_second c lt o a (local_grows g l) (sames_grow g s) p q
 works_grow g (tail_calling c a s p) = tail_calling c a (sames_grow g s) p
@@ -114,6 +117,7 @@ works_kept y v r (handling_first ns le a w) = handling_first ns le (asides_kept 
 works_kept y v r (handling_second ns le m i a h s w) = handling_second ns le m i a (held_at_kept y v r h) s (works_kept y v (omega (arith, le, r)) w)
 works_kept y v r (resuming_first lt a w) = resuming_first lt a (works_kept y v r w)
 works_kept y v r (resuming_second le lt a l s w) = resuming_second le lt a (local_kept y v (omega (arith, lt, r)) l) s (works_kept y v (omega (arith, le, r)) w)
+works_kept y v r (grouping i w) = grouping i (works_kept y v r w)
 works_kept y v r (tail_first c lt o a p q) = tail_first c lt o a p q
 works_kept y v r (tail_second c lt o a l s p q) = tail_second c lt o a (local_kept y v (omega (arith, lt, r)) l) s p q
 works_kept y v r (tail_calling c a s p) = tail_calling c a s p
@@ -144,6 +148,7 @@ uses_deep (prints r) = let q = rest_deep r in (q.labels, q.deep)
 uses_deep (drops r) = let q = rest_deep r in (q.labels, q.deep)
 uses_deep (puts s h free r) = let q = rest_deep r in (q.labels, q.deep)
 uses_deep (standing.Uses.takes s h free r) = let q = rest_deep r in (q.labels, q.deep)
+uses_deep (standing.Uses.switches hx hu hk r) = let q = rest_deep r in (q.labels, q.deep)
 uses_deep (returns {d = d} p) = (d, p)
 uses_deep (chooses v w r) = let q = rest_deep r in (q.labels, q.deep)
 uses_deep (standing.Uses.turns w v r) = let q = rest_deep r in (suc (suc q.labels), label (label q.deep))
@@ -161,6 +166,7 @@ works_deep (handling_first ns le a w) = works_deep w
 works_deep (handling_second ns le m i a h s w) = works_deep w
 works_deep (resuming_first lt a w) = works_deep w
 works_deep (resuming_second le lt a l s w) = works_deep w
+works_deep (grouping i w) = works_deep w
 works_deep (tail_first {d = d} c lt o a p q) = (d, p)
 works_deep (tail_second {d = d} c lt o a l s p q) = (d, p)
 works_deep (tail_calling {d = d} c a s p) = (d, p)
@@ -190,6 +196,7 @@ module _ {f : Context} (f1 tail : Context) (split : f ≡ f1 ++ tail) where
   uses_cut (drops r) = let x = rest_cut r in (x.0, drops x.1, x.2)
   uses_cut (puts q h free r) = let x = rest_cut r in (x.0, puts q h free x.1, x.2)
   uses_cut (standing.Uses.takes q h free r) = let x = rest_cut r in (x.0, standing.Uses.takes q h free x.1, x.2)
+  uses_cut (standing.Uses.switches hx hu hk r) = let x = rest_cut r in (x.0, standing.Uses.switches hx hu hk x.1, x.2)
   uses_cut (returns p) = let x = deep_cut p in (x.0, returns x.1, x.2)
   uses_cut (chooses v w r) = let x = rest_cut r in (x.0, chooses v w x.1, x.2)
   uses_cut {ds} {Γ} (standing.Uses.turns {D = D} {x = y} {b = b} {c = c} w v r) =
@@ -210,6 +217,7 @@ module _ {f : Context} (f1 tail : Context) (split : f ≡ f1 ++ tail) where
   works_cut (handling_second ns le m i a h s w) = let x = works_cut w in (x.0, handling_second ns le m i a h s x.1, x.2)
   works_cut (resuming_first lt a w) = let x = works_cut w in (x.0, resuming_first lt a x.1, x.2)
   works_cut (resuming_second le lt a l s w) = let x = works_cut w in (x.0, resuming_second le lt a l s x.1, x.2)
+  works_cut (grouping i w) = let x = works_cut w in (x.0, grouping i x.1, x.2)
   works_cut (tail_first c lt o a p q) = let x = deep_cut p in (x.0, tail_first c lt o a x.1 q, x.2)
   works_cut (tail_second c lt o a l s p q) = let x = deep_cut p in (x.0, tail_second c lt o a l s x.1 q, x.2)
   works_cut (tail_calling c a s p) = let x = deep_cut p in (x.0, tail_calling c a s x.1, x.2)
@@ -264,6 +272,7 @@ pub waits_grow : {ds : List Declaration} {ρ ρ' : List ℕ} {κ : script.Contex
 waits_grow g outside = outside
 waits_grow g (activation a w b k) = activation (active_grows g a) (works_grow g w) b (waits_grow g k)
 waits_grow g (handle is room n h k) = handle is room n (held_grows g h) (waits_grow g k)
+waits_grow g (group k) = group (waits_grow g k)
 
 -- one context in another
 pub waits_join : {ds : List Declaration} {ρ : List ℕ} {κ : script.Context} {ops : Row Val} {c : Code} {e : Context} (κ2 : script.Context) (tail : Context)
@@ -273,3 +282,4 @@ waits_join κ2 tail j (activation a w b k) = activation a (works_beyond (pluggin
 waits_join {ds} {ρ} κ2 tail j (handle {h = h} {i = i} {L = L} {vs = vs} {κ = κ} {below = below} {c = c} {e = e} is room n g k) =
     subst (λ (z : Context). Waits ds ρ (Handled h vs ∷ (κ ++ κ2)) ε Done (Handle ε (labels ds 0 i.clauses) (return_code ds (return_layout ds h i) (length i.clauses) i) ∷ z))
     (sym (clauses_beyond (plugging tail) ds (placed_clauses ds h i) (in_loop ds h i L below c e))) (handle is room n g (waits_join κ2 tail j k))
+waits_join κ2 tail j (group k) = group (waits_join κ2 tail j k)

@@ -13,7 +13,7 @@ use Rattle.s_code.specs.Handlers.{Placed}
 use Rattle.s_code.specs.Places.{placed_clauses}
 use Rattle.s_meaning.specs.Terms.{activations, full}
 use Rattle.s_meaning.specs.Terms as script
-use Rattle.s_agrees.proofs.StandsFor.{Locals, Deep, here, label, clause_labels, in_loop, Base, function, clause, Waits, outside, activation, handle}
+use Rattle.s_agrees.proofs.StandsFor.{Locals, Deep, here, label, clause_labels, in_loop, Base, function, clause, Waits, outside, activation, handle, group}
 use Rattle.s_agrees.proofs.Contexts.{works_deep}
 
 -- how many labels stand around the hole
@@ -164,10 +164,10 @@ module _ {ds : List Declaration} {Γ : Layout} {L : Locals} {below : Row Val} {c
       let q = clauses_labels ds ps (in_loop ds h i L below c e) in omega (arith, q)
 
 pub record Counted (κ : script.Context) (e : Context) : Type 0 where
-  pub frames : frames e ≡ activations κ + script.handles κ
+  pub frames : frames e ≤ activations κ + script.handles κ
   pub handles : handles e ≡ script.handles κ
 
--- each activation and each active handle is a frame, and each active handle a handle
+-- each activation and each active handle is a frame, and each active handle and group a handle
 pub waits_counted : {ds : List Declaration} {ρ : List ℕ} {κ : script.Context} {ops : Row Val} {c : Code} {e : Context} → Waits ds ρ κ ops c e → Counted κ e
 waits_counted outside = record { frames = omega arith; handles = refl }
 waits_counted (activation a w b k) =
@@ -181,3 +181,4 @@ waits_counted {ds} (handle {h = h} {i = i} {L = L} {below = below} {c = c} {e = 
       frames = omega (arith, qf, x);
       handles = ap suc (clauses_handles ds (placed_clauses ds h i) (in_loop ds h i L below c e) ∙ q.handles);
     }
+waits_counted (group k) = let q = waits_counted k in let qf = q.frames in record { frames = omega (arith, qf); handles = ap suc q.handles }

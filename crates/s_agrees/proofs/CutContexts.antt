@@ -1,4 +1,5 @@
--- A context is cut at the innermost handle with a clause for an effect, where the module's is cut at the innermost handle with a clause for its tag.
+-- A context is cut at the innermost handle with a clause for an effect, where the module's is cut at the innermost handle with a clause for its tag;
+-- and at the innermost group, where the module's is cut at the innermost handle that lets coroutines switch.
 use Rattle.std.proofs.Common.{◌≡◌, ℕ, zero, suc, ◌+◌, ◌≤◌, Bool, true, false, nat_eq, if◌then◌else◌, List, [], ◌∷◌, ◌++◌, map, length, Option, Some, None, refl, sym, ap, ◌∙◌, subst, arith, eqb-true}
 use Rattle.std.proofs.lemmas.Bool.{eq-eqb}
 use Rattle.std.specs.Prelude.{slice_get}
@@ -6,22 +7,22 @@ use Rattle.std.specs.Str.{bytes_eq}
 use Rattle.lists.specs.Rows.{Row, ε}
 use Rattle.w_syntax.specs.Code.{Code, Done}
 use Rattle.w_reduce.specs.Values.{Val}
-use Rattle.w_reduce.specs.Terms.{Context}
-use Rattle.w_reduce.specs.Handlers.{label_clause, Inner}
+use Rattle.w_reduce.specs.Terms.{Handle, Context}
+use Rattle.w_reduce.specs.Handlers.{label_clause, has_switch, switch_clause, Inner}
 use Rattle.s_syntax.specs.declared.name.Name.{Name}
 use Rattle.s_syntax.specs.declared.script.Clause.{Clause}
 use Rattle.s_syntax.specs.declared.script.Handler.{Handler}
 use Rattle.s_syntax.specs.declared.script.Declaration.{Declaration}
 use Rattle.s_syntax.specs.declared.script.Script.{Script}
 use Rattle.s_check.specs.Definitions.{handler_of, effect_of}
-use Rattle.s_index.specs.Numbers.{tag_index}
+use Rattle.s_index.specs.Numbers.{tag_index, group_tag_index}
 use Rattle.s_code.specs.Handlers.{Placed, labels}
 use Rattle.s_code.specs.Places.{clause_names, placed_from, placed_clauses, clauses_place}
 use Rattle.s_meaning.specs.Terms.{Value, Place}
 use Rattle.s_meaning.specs.Terms as script
-use Rattle.s_meaning.specs.Steps.{Cut, cut_at, Found, clause_of, with_clause, with_handler, catches}
+use Rattle.s_meaning.specs.Steps.{Cut, cut_at, Found, clause_of, with_clause, with_handler, catches, is_group}
 use Rattle.s_meaning.proofs.Scopes.{same_is, same_refl, bool_of}
-use Rattle.s_agrees.proofs.StandsFor.{Locals, Held, handler_room, handler_around, Waits, activation, handle}
+use Rattle.s_agrees.proofs.StandsFor.{Locals, Held, handler_room, handler_around, group_clauses, Waits, activation, handle, group}
 use Rattle.s_agrees.proofs.PartedContexts.{Asked, cut_there, uncut_there}
 use Rattle.s_agrees.proofs.Facts.{HandlerFacts, Facts}
 use Rattle.s_agrees.proofs.Tags.{tag_apart}
@@ -133,7 +134,7 @@ clauses_declared {ds} {h} {i} facts = record {
       subst (λ (z : Clause). effect_of ds z.effect ≡ Some (length z.arguments)) q.2 (facts.clauses j q.0 q.1).effect;
 }
 
--- ## The cut
+-- ## The cut at a handle
 
 pub record CutAt (ds : List Declaration) (ρ : List ℕ) (ops : Row Val) (c : Code) (e : Context) (op : Name) (κ1 : script.Context) (f : Found) (κ2 : script.Context) : Type 0 where
   pub inside : Context
@@ -166,6 +167,7 @@ module _ {p : Script} (facts : Facts p.declarations) (op : Name) {k : ℕ} (know
     activations = λ vars owner work. refl;
     handles = λ h vs i is e. no_pick p.declarations op known 0 i.clauses (clauses_declared (facts.handlers h i is))
         (no_clause h vs i (clause_of op i.clauses) refl (ap (λ (o : Option Handler). with_handler op h vs o) (sym is) ∙ e));
+    groups = λ e. refl;
   }
 
   module _ {ρ : List ℕ} {κ1 κ2 : script.Context} {ops : Row Val} {c : Code} {e : Context} (inside : Context) (inner : Waits p.declarations ρ κ1 ops c inside)
@@ -195,6 +197,7 @@ module _ {p : Script} (facts : Facts p.declarations) (op : Name) {k : ℕ} (know
     -- a place that catches the effect is a handle with a clause for it
     place_caught : {place : Place} {beyond : Context} (f : Found) → catches p op place ≡ Some f → Waits p.declarations ρ (place ∷ κ2) ε Done beyond → e ≡ inside ++ beyond → CutAt p.declarations ρ ops c e op κ1 f κ2
     place_caught f q (activation a w b k) is = absurd (cc q)
+    place_caught f q (group k) is = absurd (cc q)
     place_caught f q (handle {h = h} {i = i} {vs = vs} there room n g k) is =
         clause_caught h there room n g k is f (clause_of op i.clauses) refl (ap (λ (o : Option Handler). with_handler op h vs o) (sym there) ∙ q)
 
@@ -208,3 +211,51 @@ module _ {p : Script} (facts : Facts p.declarations) (op : Name) {k : ℕ} (know
   -- where none has a clause for the effect none has one for its tag
   pub uncut : {ρ : List ℕ} {κ : script.Context} {ops : Row Val} {c : Code} {e : Context} → Waits p.declarations ρ κ ops c e → cut_at (catches p op) κ ≡ None → Inner (label_clause (tag_index p.declarations op)) e
   uncut w q = uncut_there asked w q
+
+-- ## The cut at a group
+
+pub record GroupAt (ds : List Declaration) (ρ : List ℕ) (ops : Row Val) (c : Code) (e : Context) (κ1 κ2 : script.Context) : Type 0 where
+  pub inside : Context
+  pub inner : Waits ds ρ κ1 ops c inside
+  pub uncaught : Inner (switch_clause (group_tag_index ds)) inside
+  pub below : Row Val
+  pub code : Code
+  pub outside' : Context
+  pub outer : Waits ds ρ κ2 below code outside'
+  pub is : e ≡ inside ++ Handle below (group_clauses ds) code ∷ outside'
+
+-- the clauses of a handler don't let coroutines switch
+no_switch : (ds : List Declaration) (g l : ℕ) (cs : List Clause) → has_switch g (labels ds l cs) ≡ false
+no_switch ds g l [] = refl
+no_switch ds g l (c ∷ cs) = no_switch ds g (l + 1) cs
+
+-- those of a group do
+pub group_switches : (ds : List Declaration) → switch_clause (group_tag_index ds) (group_clauses ds) ≡ Some tt
+group_switches ds = ap (λ (b : Bool). if (if b then true else false) then Some tt else None) (eq-eqb (group_tag_index ds) (group_tag_index ds) refl)
+
+module _ (ds : List Declaration) where
+  -- only groups answer a switch
+  group_asked : Asked ds is_group (switch_clause (group_tag_index ds))
+  group_asked = record {
+    activations = λ vars owner work. refl;
+    handles = λ h vs i is e. ap (λ (b : Bool). if b then Some tt else None) (no_switch ds (group_tag_index ds) 0 i.clauses);
+    groups = λ e. absurd (cc e);
+  }
+
+  place_grouped : {ρ : List ℕ} {κ1 κ2 : script.Context} {ops : Row Val} {c : Code} {e inside beyond : Context} {place : Place} → is_group place ≡ Some tt → Waits ds ρ κ1 ops c inside
+      → Inner (switch_clause (group_tag_index ds)) inside → Waits ds ρ (place ∷ κ2) ε Done beyond → e ≡ inside ++ beyond → GroupAt ds ρ ops c e κ1 κ2
+  place_grouped q inner uncaught (activation a w b k) is = absurd (cc q)
+  place_grouped q inner uncaught (handle there room n g k) is = absurd (cc q)
+  place_grouped {inside = inside} q inner uncaught (group {ops = below} {c = code} {e = e'} k) is =
+      record { inside = inside; inner = inner; uncaught = uncaught; below = below; code = code; outside' = e'; outer = k; is = is }
+
+  -- at the innermost group
+  pub group_cut : {ρ : List ℕ} {κ : script.Context} {ops : Row Val} {c : Code} {e : Context} → Waits ds ρ κ ops c e → (x : Cut (Unit {0})) → cut_at is_group κ ≡ Some x
+      → GroupAt ds ρ ops c e x.inner x.outer
+  group_cut w x q =
+      let r = cut_there group_asked w x q in
+      place_grouped r.answers r.parts.inner r.before r.parts.outer r.parts.is
+
+  -- where there is none no handle lets coroutines switch
+  pub group_uncut : {ρ : List ℕ} {κ : script.Context} {ops : Row Val} {c : Code} {e : Context} → Waits ds ρ κ ops c e → cut_at is_group κ ≡ None → Inner (switch_clause (group_tag_index ds)) e
+  group_uncut w q = uncut_there group_asked w q

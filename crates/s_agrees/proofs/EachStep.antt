@@ -12,14 +12,14 @@ use Rattle.w_reduce.specs.Program.{Program}
 use Rattle.w_reduce.specs.Reduced.{Went}
 use Rattle.s_syntax.specs.declared.name.Name.{Name}
 use Rattle.s_syntax.specs.declared.script.VariableType.{VariableType}
-use Rattle.s_syntax.specs.declared.script.VariableType.TheVariants.{Int, Resumption}
+use Rattle.s_syntax.specs.declared.script.VariableType.TheVariants.{Int, Resumption, Coroutine}
 use Rattle.s_syntax.specs.declared.script.Handler.{Handler}
 use Rattle.s_syntax.specs.declared.script.Declaration.{Declaration}
 use Rattle.s_syntax.specs.declared.script.Script.{Script}
 use Rattle.s_syntax.specs.declared.operators.BinaryOperator.TheVariants.{Connects, Compares, Computes}
 use Rattle.s_syntax.specs.ExprTree.{ExprTree, Read, Call, Resume, Exprs}
 use Rattle.s_syntax.specs.declared.statement.Use.TheVariants as use_for
-use Rattle.s_syntax.specs.BlockTree.{StatementTree, BlockTree, Evaluate, If, While, Fail, ◌⨟◌}
+use Rattle.s_syntax.specs.BlockTree.{StatementTree, BlockTree, Evaluate, If, While, Fail, Spawn, ◌⨟◌}
 use Rattle.s_check.specs.Rules.{count}
 use Rattle.s_check.specs.Scopes.{Scope, is_among}
 use Rattle.s_index.specs.Handled.{handled_names}
@@ -36,7 +36,7 @@ use Rattle.s_meaning.specs.Steps.{Step, or_wrong, rule, step_at}
 use Rattle.s_meaning.specs.Steps as meaning
 use Rattle.s_meaning.specs.Typing.{ExprTyped, StatementTyped}
 use Rattle.s_meaning.specs.Typing as typing
-use Rattle.s_meaning.specs.Typed.{World, Covers, RestTyped, TermTyped, in_activation, in_handle, StoreTyped, Typed}
+use Rattle.s_meaning.specs.Typed.{World, Covers, RestTyped, TermTyped, in_activation, in_handle, in_group, StoreTyped, Typed}
 use Rattle.s_meaning.specs.Typed as typed
 use Rattle.s_meaning.proofs.TypedFocus.{RedexTyped, NextTyped, rest_begun, next_typed}
 use Rattle.s_meaning.proofs.Scopes.{bool_of}
@@ -48,12 +48,12 @@ use Rattle.s_agrees.proofs.Contexts.{setting, deep_beyond, works_beyond, works_k
 use Rattle.s_agrees.proofs.CountedContexts.{labels_set, frames_set, handles_set}
 use Rattle.s_agrees.proofs.Paths.{program_of, step, set_step}
 use Rattle.s_agrees.proofs.Matches.{Matches, more_room, before}
-use Rattle.s_agrees.proofs.Ready.{Ready, aside_ready, unary_ready, comparison_ready, arithmetic_ready, truth_ready, decides_ready, call_ready, do_ready, handle_ready, resume_ready, tail_ready, tail_call_ready, use_ready, fail_ready, end_ready, constant_ready, lookup_ready}
+use Rattle.s_agrees.proofs.Ready.{Ready, aside_ready, unary_ready, comparison_ready, arithmetic_ready, truth_ready, decides_ready, call_ready, do_ready, handle_ready, resume_ready, group_ready, tail_ready, tail_call_ready, use_ready, fail_ready, spawn_ready, end_ready, constant_ready, lookup_ready}
 use Rattle.s_agrees.proofs.Facts.{Facts}
 use Rattle.s_agrees.proofs.StepsInPlace.{works_left}
 use Rattle.s_agrees.proofs.BoundValues.{some_is}
 use Rattle.s_agrees.proofs.Captures.{in_range}
-use Rattle.s_agrees.proofs.ValuesAtHandles.{sim_return}
+use Rattle.s_agrees.proofs.ValuesAtHandles.{sim_return, sim_group_left}
 
 -- each rule is matched, where its redex is ready and typed
 pub record RulesMatched (p : Script) (matches : ℕ → ℕ → Bool) : Type 0 where
@@ -182,6 +182,7 @@ module _ {ds : List Declaration} {ρ : List ℕ} {Γ : Layout} {n D0 : ℕ} {f :
           held = standing.HeldAt.held_none;
         } in ready_aside h x ε (omega arith) a k (ready_expr v (standing.Works.handling_first ε (omega arith) a k))
     ready_expr (standing.WellExpr.resumes lt v vs) k = ready_expr v (standing.Works.resuming_first lt vs k)
+    ready_expr (standing.WellExpr.groups i v) k = ready_expr v (standing.Works.grouping i k)
 
     -- arguments behind those that are values
     ready_args : {t : ℕ} {es : Exprs} {head : Head} {row : Values → Values} {w : List Work} {ops : Row Val} {c : Code} {e : Context} {vs : Values} {ws : Row Val} → WellArgs ds n t es
@@ -214,6 +215,7 @@ module _ {ds : List Declaration} {ρ : List ℕ} {Γ : Layout} {n D0 : ℕ} {f :
 same_owner : (h : Name) (i : Handler) (t : VariableType) → is_resumption_of h t ≡ is_same_handler (Some (own h i)) (handler_in_type t)
 same_owner h i Int = refl
 same_owner h i (Resumption g) = refl
+same_owner h i Coroutine = refl
 
 -- the owner of an activation is its layout's
 base_owner : {ds : List Declaration} {Γ : Layout} {L : Locals} {below : Row Val} {c : Code} {e : Context} {owner : Option Name} {D0 : ℕ} {f : Context} (v : Variable) → Base ds Γ L below c e owner D0 f
@@ -350,6 +352,7 @@ module _ {p : Script} (matches : ℕ → ℕ → Bool) (rules : RulesMatched p m
   sim_work v (standing.Works.handling_second {g = g} {h = h} ns le m i us held vs k) q = now q (ready_args us (handling_arguments g h ns le m i held k) (standing.Sames.more vs v))
   sim_work v (standing.Works.resuming_first {x = x} lt us k) q = sim_put_number matches rules stores store_typed active base waits x v lt us k q
   sim_work v (standing.Works.resuming_second {x = x} le lt us l vs k) q = now q (ready_args us (resuming_arguments x le lt l k) (standing.Sames.more vs v))
+  sim_work v (standing.Works.grouping i k) q = now q (record { used = _; ready = group_ready i v k })
   sim_work v (standing.Works.tail_first {x = x} c lt o us d inside) q = sim_put_tail matches rules stores store_typed active base waits x c v lt o us d inside q
   sim_work v (standing.Works.tail_second c lt o us l vs d inside) q = now q (ready_args us (tail_arguments c lt o l d inside) (standing.Sames.more vs v))
   sim_work v (standing.Works.tail_calling {g = g} c us vs d) q = now q (ready_args us (tail_calling_arguments g c d) (standing.Sames.more vs v))
@@ -374,6 +377,8 @@ module _ {p : Script} (matches : ℕ → ℕ → Bool) (rules : RulesMatched p m
   sim_statement (Evaluate use_for.Return y) covers (typing.StatementTyped.evaluates t u) (standing.WellStatement.return w) r q = now q (ready_return active base y covers t w r)
   sim_statement (Evaluate (use_for.Store x k) y) covers t (standing.WellStatement.stores is h free w) r q = now q (ready_expr w (standing.Works.within (standing.Uses.puts is h free r)))
   sim_statement (Evaluate (use_for.Take k x) y) covers t (standing.WellStatement.takes is h free w) r q = now q (ready_expr w (standing.Works.within (standing.Uses.takes is h free r)))
+  sim_statement (Evaluate (use_for.Switch x u k) y) covers t (standing.WellStatement.switches hx hu hk w) r q = now q (ready_expr w (standing.Works.within (standing.Uses.switches hx hu hk r)))
+  sim_statement (Spawn k g) covers t (standing.WellStatement.spawns h i) r q = now q (record { used = 0; ready = spawn_ready h i r })
   sim_statement Fail {c = c} covers t standing.WellStatement.fail r q = now q (record { used = 0; ready = fail_ready c (rest_deep r).deep })
   sim_statement (Evaluate use_for.Drop y) covers t (standing.WellStatement.drop w) r q = now q (ready_expr w (standing.Works.within (standing.Uses.drops r)))
 
@@ -397,6 +402,7 @@ module _ {p : Script} (matches : ℕ → ℕ → Bool) (facts : Facts p.declarat
   sim_gives v standing.Waits.outside t = elim t [ ]
   sim_gives v (standing.Waits.activation {owner = owner} active w base waits) (in_activation t κ) = more_room (omega arith) (sim_work matches rules stores store_typed active base waits v w (next_typed owner t))
   sim_gives v (standing.Waits.handle {h = h} is room long held waits) (in_handle typed.HasKind.int i ps κ) = more_room (omega arith) (sim_return matches facts stores h is room long held waits v)
+  sim_gives v (standing.Waits.group waits) (in_group typed.HasKind.int κ) = more_room (omega arith) (sim_group_left matches stores waits v)
 
   -- a term
   sim_stands : {T : script.Term} {t : Term} → Stands p.declarations ρ T t → TermTyped p Ξ T.hole T.around → Matches p matches 60 s t (step_at p σ T.hole T.around)

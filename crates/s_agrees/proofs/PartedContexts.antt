@@ -14,11 +14,11 @@ use Rattle.s_check.specs.Definitions.{handler_of}
 use Rattle.s_code.specs.Layouts.{Layout}
 use Rattle.s_code.specs.Handlers.{Placed, labels, return_code}
 use Rattle.s_code.specs.Places.{return_layout, placed_clauses}
-use Rattle.s_meaning.specs.Terms.{Value, Variable, Work, Place, Activation, Handle as Handled}
+use Rattle.s_meaning.specs.Terms.{Value, Variable, Work, Place, Activation, Handle as Handled, Group}
 use Rattle.s_meaning.specs.Terms as script
 use Rattle.s_meaning.specs.Steps.{Cut, cut_at}
 use Rattle.s_meaning.proofs.Cuts.{Silent, no_places, silent, cut_is, uncut_is}
-use Rattle.s_agrees.proofs.StandsFor.{Locals, Deep, here, label, clause_labels, in_loop, Base, function, clause, Waits, outside, activation, handle}
+use Rattle.s_agrees.proofs.StandsFor.{Locals, Deep, here, label, clause_labels, in_loop, Base, function, clause, group_clauses, Waits, outside, activation, handle, group}
 use Rattle.s_agrees.proofs.Contexts.{plugging, works_deep, works_cut, clauses_beyond, base_cut}
 
 -- ## Labels and frames have no clauses
@@ -39,11 +39,12 @@ module _ {A : Type 0} (answer : List Answer → Option A) where
 
 -- ## Questions
 
--- what is asked of the script's places, and of the clauses of the machine's handles: no activation answers, and where an active handle
--- doesn't answer its clauses don't
+-- what is asked of the script's places, and of the clauses of the machine's handles: no activation answers, and where an active handle or
+-- a group doesn't answer its clauses don't
 pub record Asked {A B : Type 0} (ds : List Declaration) (test : Place → Option A) (answer : List Answer → Option B) : Type 0 where
   pub activations : (vars : List Variable) (owner : Option Name) (work : List Work) → test (Activation vars owner work) ≡ None
   pub handles : (h : Name) (vs : List Value) (i : Handler) → handler_of ds h ≡ Some i → test (Handled h vs) ≡ None → answer (labels ds 0 i.clauses) ≡ None
+  pub groups : test Group ≡ None → answer (group_clauses ds) ≡ None
 
 -- a context in two parts
 pub record Parts (ds : List Declaration) (ρ : List ℕ) (κ1 : script.Context) (place : Place) (κ2 : script.Context) (ops : Row Val) (c : Code) (e : Context) : Type 0 where
@@ -68,11 +69,13 @@ module _ {A B : Type 0} {ds : List Declaration} {test : Place → Option A} {ans
   inner_of (silent q s) (activation a w b k) = deep_inner answer (works_deep w).1 (base_inner answer b (inner_of s k))
   inner_of (silent q s) (handle {h = h} {i = i} {L = L} {vs = vs} {below = below} {c = c} {e = e} is room n g k) =
       (asked.handles h vs i is q, clauses_inner answer ds (placed_clauses ds h i) (in_loop ds h i L below c e) (inner_of s k))
+  inner_of (silent q s) (group k) = (asked.groups q, inner_of s k)
 
   parts_of : {ρ : List ℕ} {place : Place} {a : A} {κ2 : script.Context} (κ1 : script.Context) {ops : Row Val} {c : Code} {e : Context} → test place ≡ Some a → Waits ds ρ (κ1 ++ place ∷ κ2) ops c e
       → Parts ds ρ κ1 place κ2 ops c e
   parts_of [] q (activation {vars = vars} {owner = owner} {work = work} a w b k) = absurd (let none = asked.activations vars owner work in cc (none, q))
   parts_of [] q (handle is room n g k) = record { inside = []; beyond = _; inner = outside; outer = handle is room n g k; is = refl }
+  parts_of [] q (group k) = record { inside = []; beyond = _; inner = outside; outer = group k; is = refl }
   parts_of (Activation vars owner work ∷ κ1) q (activation a w b k) =
       let r = parts_of κ1 q k in
       let x = base_cut r.inside r.beyond r.is b in
@@ -89,6 +92,15 @@ module _ {A B : Type 0} {ds : List Declaration} {test : Place → Option A} {ans
         is = ap front
             (ap (λ (z : Context). clause_labels ds (placed_clauses ds h i) (in_loop ds h i L below c z)) r.is
             ∙ sym (clauses_beyond (plugging r.beyond) ds (placed_clauses ds h i) (in_loop ds h i L below c r.inside)));
+      }
+  parts_of (Group ∷ κ1) q (group {ops = ops} {c = c} k) =
+      let r = parts_of κ1 q k in
+      record {
+        inside = Handle ops (group_clauses ds) c ∷ r.inside;
+        beyond = r.beyond;
+        inner = group r.inner;
+        outer = r.outer;
+        is = ap (λ (z : Context). Handle ops (group_clauses ds) c ∷ z) r.is;
       }
 
   -- the machine's context is cut where the script's is

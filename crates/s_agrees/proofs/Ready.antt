@@ -6,6 +6,7 @@ use Rattle.w_reduce.specs.Values.{Val}
 use Rattle.w_reduce.specs.Terms.{Label, Context}
 use Rattle.s_syntax.specs.declared.name.Name.{Name}
 use Rattle.s_syntax.specs.declared.number.Number.{Number as WrittenNumber}
+use Rattle.s_syntax.specs.declared.script.VariableType.TheVariants.{Coroutine}
 use Rattle.s_syntax.specs.declared.script.Declaration.{Declaration}
 use Rattle.s_syntax.specs.declared.operators.UnaryOperator.{UnaryOperator}
 use Rattle.s_syntax.specs.declared.operators.BinaryOperator.TheVariants.{Connects, Compares, Computes}
@@ -20,13 +21,15 @@ use Rattle.s_index.specs.Numbers.{function_index, tag_index}
 use Rattle.s_code.specs.Instructions.{constant, call, return_call, local_get, nop, suspend, unreachable, truth, unary_operator, connective, comparison, arithmetic}
 use Rattle.s_code.specs.Layouts.{Layout, local_number, stays, is_own}
 use Rattle.s_code.specs.Expressions.{expr, operands}
+use Rattle.s_code.specs.Coroutines.{group_code, spawn_code}
 use Rattle.s_code.specs.Statements.{ending}
 use Rattle.s_meaning.specs.Numbers.{decided}
-use Rattle.s_meaning.specs.Terms.{Value, Number, Calling, Doing, Handling, Resuming, TailResuming, TailCalling, Use, Work, Among}
-use Rattle.s_meaning.specs.Focus.{Redex, Constant, Lookup, OnUnary, OnBinary, Decides, Applies, Uses, Fails, Ends, followed_by}
+use Rattle.s_meaning.specs.Terms.{Value, Number, Calling, Doing, Handling, Resuming, TailResuming, TailCalling, Grouping, Use, Work, Among}
+use Rattle.s_meaning.specs.Focus.{Redex, Constant, Lookup, OnUnary, OnBinary, Decides, Applies, Uses, Fails, Spawns, Ends, followed_by}
+use Rattle.s_valid.proofs.LayoutTypes.{Placed as HasLocal}
 use Rattle.s_agrees.proofs.ScriptRows.{Values, no_values, ◌▸◌, ◌⧻◌, many}
 use Rattle.s_agrees.proofs.StandsFor as standing
-use Rattle.s_agrees.proofs.StandsFor.{Same, Sames, Locals, LocalIs, HeldAt, WellExpr, WellOperands, Deep, Asides, asides_code, handle_code, resume_code, tail_code, Works}
+use Rattle.s_agrees.proofs.StandsFor.{Same, Sames, Locals, LocalIs, HeldAt, WellExpr, WellOperands, Deep, Rest, Asides, asides_code, handle_code, resume_code, tail_code, Works}
 
 -- the redex, with the pending work around it; the code in e is what does it, and then that work
 pub data Ready (ds : List Declaration) (ρ : List ℕ) (Γ : Layout) (n D0 : ℕ) (f : Context) : Redex → ℕ → Locals → List Work → Row Val → Code → Context → Type 0 where
@@ -60,6 +63,9 @@ pub data Ready (ds : List Declaration) (ρ : List ℕ) (Γ : Layout) (n D0 : ℕ
   resume_ready : {t y : ℕ} {x : Name} {u : Value} {vs : Values} {ws : Row Val} {L : Locals} {w : List Work} {ops : Row Val} {c : Code} {e : Context}
       → LocalIs ρ L y u → Sames ρ vs ws → Works ds ρ Γ n D0 f t L w ops c e
       → Ready ds ρ Γ n D0 f (Applies (Resuming x) ((no_values ▸ u) ⧻ vs)) t L w (ops ⧺ ws) (resume_code ds Γ x y c) e
+  group_ready : {t : ℕ} {g : Name} {v : Value} {a : Val} {L : Locals} {w : List Work} {ops : Row Val} {c : Code} {e : Context}
+      → is_among (handled_names ds) g ≡ true → Same ρ v a → Works ds ρ Γ n D0 f t L w ops c e
+      → Ready ds ρ Γ n D0 f (Applies (Grouping g) (no_values ▸ v)) t L w (ops ▹ a) (group_code ds g c) e
   tail_ready : {t y D d : ℕ} {x : Name} {u : Value} {vs : Values} {ws : Row Val} {L : Locals} {e : Context} (c : Code)
       → is_own Γ x ≡ true → LocalIs ρ L y u → Sames ρ vs ws → Deep f d e → D ≡ d + D0
       → Ready ds ρ Γ n D0 f (Applies (TailResuming x) ((no_values ▸ u) ⧻ vs)) t L [] (ε ⧺ ws) (tail_code Γ D x y c) e
@@ -68,4 +74,6 @@ pub data Ready (ds : List Declaration) (ρ : List ℕ) (Γ : Layout) (n D0 : ℕ
   use_ready : {t : ℕ} {u : Use} {v : Value} {a : Val} {b : BlockTree} {L : Locals} {c : Code} {e : Context} → Same ρ v a → standing.Uses ds Γ n D0 f u b c e
       → Ready ds ρ Γ n D0 f (Uses u v b) t L [] (ε ▹ a) c e
   fail_ready : {t d : ℕ} {L : Locals} {e : Context} (c : Code) → Deep f d e → Ready ds ρ Γ n D0 f Fails t L [] ε (Plain unreachable c) e
+  spawn_ready : {t D : ℕ} {k g : Name} {b : BlockTree} {L : Locals} {c : Code} {e : Context} → HasLocal Γ k Coroutine → is_among (handled_names ds) g ≡ true → Rest ds Γ n D0 f D b c e
+      → Ready ds ρ Γ n D0 f (Spawns k g b) t L [] ε (spawn_code ds Γ k g c) e
   end_ready : {t : ℕ} {L : Locals} → Ready ds ρ Γ n D0 f Ends t L [] ε ending f

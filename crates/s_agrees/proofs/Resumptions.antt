@@ -28,13 +28,15 @@ use Rattle.s_code.specs.Places.{placed_clauses}
 use Rattle.s_valid.specs.Offers.{arrow}
 use Rattle.s_valid.proofs.ModuleOffers.{offers_all}
 use Rattle.s_meaning.specs.Numbers.{Reused}
-use Rattle.s_meaning.specs.Terms.{Value, Reference, listed, Variable, Resuming, Work, Activation, Handle as Handled, Gives, captured}
+use Rattle.s_meaning.specs.Terms.{Value, Reference, listed, Variable, Resuming, Work, Activation, Handle as Handled, Gives, Number_alone, captured}
 use Rattle.s_meaning.specs.Terms as script
 use Rattle.s_meaning.specs.Focus.{variable_of}
+use Rattle.s_meaning.specs.Typed.{World, KeptTyped, takes_number, EntryTyped}
+use Rattle.s_meaning.specs.Typed as typed
 use Rattle.s_meaning.specs.Steps.{Step, or_fault, emptied, kept_at, goes, resumes, applies}
 use Rattle.s_meaning.proofs.Lists.{get_last, length_set}
 use Rattle.s_agrees.proofs.ScriptRows.{Values, no_values, ◌▸◌, ◌⧻◌, many, listed_both, listed_many}
-use Rattle.s_agrees.proofs.StandsFor.{config, Same, reference, Sames, Locals, LocalIs, InLocal, Held, Active, resume_code, Works, handler_place, loop_code, in_loop, handler_room, handler_around, Base, Waits, activation, handle, Stands, gives, ResumptionAs, number_alone, Entry, consumed, keeps, Stores, At}
+use Rattle.s_agrees.proofs.StandsFor.{config, Same, reference, Sames, Locals, LocalIs, InLocal, Held, Active, resume_code, Works, handler_place, loop_code, in_loop, handler_room, handler_around, Base, Waits, activation, handle, Stands, gives, ResumptionAs, number_alone, number_and_coroutine, not_begun, Entry, consumed, keeps, Stores, At}
 use Rattle.s_agrees.proofs.Contexts.{deep_locals, works_deep, base_locals, waits_join}
 use Rattle.s_agrees.proofs.CountedContexts.{labels, stored, labels_plug, frames_plug, handles_plug, clauses_labels, clauses_frames, clauses_handles, live_more, live_none, live_less, stored_none, stored_less}
 use Rattle.s_agrees.proofs.Paths.{program_of, step, Caps, Under, Path, stay, go, path_wider, takes, get_path}
@@ -174,22 +176,30 @@ module _ (σ : script.Store) (vars : List Variable) {h : Name} (a : ℕ) {entry 
       ≡ or_fault Reused entry (λ (r : script.Kept). goes (emptied σ a) (Gives u) (r.around ++ Handled h (listed vs) ∷ κ))
   resumes_is owner w κ0 κ = rw (listed_both (no_values ▸ u) vs, is, ty, value, kept) refl
 
+-- what is kept for a resumption takes a number alone
+resumption_takes : {p : Script} {Ξ : World} {h : Name} {k : script.Kept} → KeptTyped p Ξ (Resumption h) k → k.takes ≡ Number_alone
+resumption_takes (takes_number c) = refl
+
 -- the continuation of a resumption, by what the script has of it
 module _ {p : Script} (matches : ℕ → ℕ → Bool) {ρ : List ℕ} (σ : script.Store) {s : Store} (a b : ℕ) {B : ℕ} {t : Term} (on : script.Context → Step) where
-  by_entry : {o : Option script.Kept} {q : Option Continuation} → Entry p.declarations ρ (Some o) (Some q) → kept_at σ a ≡ Some o → slice_get s.conts b ≡ Some q
+  by_entry : {Ξ : World} {h : Name} {o : Option script.Kept} {q : Option Continuation} → Entry p.declarations ρ (Some o) (Some q) → EntryTyped p Ξ (Resumption h) o → kept_at σ a ≡ Some o → slice_get s.conts b ≡ Some q
       → (slice_get s.conts b ≡ Some None → Matches p matches B s t (or_fault Reused None on))
       → ((κ : script.Context) (k : Continuation) → kept_at σ a ≡ Some (Some (captured κ)) → slice_get s.conts b ≡ Some (Some k) → ResumptionAs p.declarations ρ κ k → Matches p matches B s t (on κ))
       → Matches p matches B s t (or_fault Reused o (λ (x : script.Kept). on x.around))
-  by_entry consumed l r faults goes_on = faults r
-  by_entry (keeps (number_alone {κ = κ} {k = k} z)) l r faults goes_on = goes_on κ k l r z
+  by_entry consumed t l r faults goes_on = faults r
+  by_entry (keeps (number_alone {κ = κ} {k = k} z)) t l r faults goes_on = goes_on κ k l r z
+  by_entry (keeps (number_and_coroutine z)) (typed.EntryTyped.kept t) l r faults goes_on = absurd (let q = resumption_takes t in cc q)
+  by_entry (keeps (not_begun i)) (typed.EntryTyped.kept t) l r faults goes_on = absurd (let q = resumption_takes t in cc q)
 
-  pub by_kept : Stores p.declarations ρ σ s → slice_get ρ a ≡ Some b → (entry : Option script.Kept) → kept_at σ a ≡ Some entry
+  pub by_kept : {Ξ : World} {h : Name} → Stores p.declarations ρ σ s → slice_get ρ a ≡ Some b → (entry : Option script.Kept) → EntryTyped p Ξ (Resumption h) entry → kept_at σ a ≡ Some entry
       → (slice_get s.conts b ≡ Some None → Matches p matches B s t (or_fault Reused None on))
       → ((κ : script.Context) (k : Continuation) → kept_at σ a ≡ Some (Some (captured κ)) → slice_get s.conts b ≡ Some (Some k) → ResumptionAs p.declarations ρ κ k → Matches p matches B s t (on κ))
       → Matches p matches B s t (or_fault Reused entry (λ (x : script.Kept). on x.around))
-  by_kept stores there entry is faults goes_on =
+  by_kept {Ξ} {h} stores there entry typed is faults goes_on =
       let z = sides (stores.each a b there) in
-      subst (λ (o : Option script.Kept). Matches p matches B s t (or_fault Reused o (λ (x : script.Kept). on x.around))) (some_is (sym z.left_is ∙ is)) (by_entry z.entry z.left_is z.right_is faults goes_on)
+      let same : z.left ≡ entry = some_is (sym z.left_is ∙ is) in
+      subst (λ (o : Option script.Kept). Matches p matches B s t (or_fault Reused o (λ (x : script.Kept). on x.around))) same
+      (by_entry z.entry (subst (λ (o : Option script.Kept). EntryTyped p Ξ (Resumption h) o) (sym same) typed) z.left_is z.right_is faults goes_on)
 
 -- ## The step
 
@@ -229,12 +239,12 @@ module _ {p : Script} (matches : ℕ → ℕ → Bool) (facts : Facts p.declarat
       (resumed_at stores h is a b r.there left_is right_is kept local.same (first_room ds hf values number (next_cont s)) (omega (arith, long, number)) (first_held ds hf values number (next_cont s))
       (activation active works base waits))
 
-  pub sim_resuming : {t y : ℕ} (h : Name) {i : Handler} {u : Value} {vs : Values} {ws : Row Val} {w : List Work} {ops : Row Val} {c : Code} {e : Context} (x : Name) (v : Variable) (a : ℕ) (entry : Option script.Kept)
-      → variable_of x vars ≡ Some v → v.ty ≡ Resumption h → v.value ≡ Reference a → kept_at σ a ≡ Some entry → handler_of p.declarations h ≡ Some i → many vs ≡ length i.parameters
+  pub sim_resuming : {Ξ : World} {t y : ℕ} (h : Name) {i : Handler} {u : Value} {vs : Values} {ws : Row Val} {w : List Work} {ops : Row Val} {c : Code} {e : Context} (x : Name) (v : Variable) (a : ℕ) (entry : Option script.Kept)
+      → variable_of x vars ≡ Some v → v.ty ≡ Resumption h → v.value ≡ Reference a → kept_at σ a ≡ Some entry → EntryTyped p Ξ (Resumption h) entry → handler_of p.declarations h ≡ Some i → many vs ≡ length i.parameters
       → LocalIs ρ L y u → Sames ρ vs ws → Works p.declarations ρ Γ n D0 f t L w ops c e
       → Matches p matches 52 s (config e (ops ⧺ ws) (resume_code p.declarations Γ x y c))
       (applies p (record { store = σ; variables = vars; owner = owner; work = w; outer = κ }) (Resuming x) (listed ((no_values ▸ u) ⧻ vs)))
-  sim_resuming {y = y} h {i} {u} {vs} {ws} {w} {ops} {c} {e} x v a entry bound_is ty value kept is number local values works =
+  sim_resuming {y = y} h {i} {u} {vs} {ws} {w} {ops} {c} {e} x v a entry bound_is ty value kept typed is number local values works =
       let ds = p.declarations in
       let r : ResumptionIn ρ Γ L x h a = resumption_in v ty value (active.holds.each x v bound_is) in
       let locals : locals_of e ≡ L = deep_locals (works_deep works).1 ∙ base_locals base in
@@ -244,7 +254,7 @@ module _ {p : Script} (matches : ℕ → ℕ → Bool) (facts : Facts p.declarat
       under_first s (config e (ops ⧺ ws) (code (handler_index ds h))) (config e (ops ⧺ ws) (code (handler_index ds h))) in
       subst (λ (z : Step). Matches p matches 52 s (config e (ops ⧺ ws) (resume_code ds Γ x y c)) z) (sym (resumes_is σ vars a x v bound_is ty value kept u vs owner w κ (Activation vars owner w ∷ κ)))
       (subst (λ (o : Option Name). Matches p matches 52 s (config e (ops ⧺ ws) (code (handler_index_of ds o))) (or_fault Reused entry (λ (z : script.Kept). on z.around))) (sym r.handler)
-      (by_kept matches σ a r.continuation on stores r.there entry kept
+      (by_kept matches σ a r.continuation on stores r.there entry typed kept
       (λ (z : slice_get s.conts r.continuation ≡ Some None).
       faulted (get_path y local.value locals local.is there (get_path (local_number Γ x) (Cont r.continuation) locals r.is there stay))
       (consumed_step p matches s e ((ops ⧺ ws) ▹ local.value) (Plain (call (handler_index ds h)) c) r.continuation z) refl (omega arith))

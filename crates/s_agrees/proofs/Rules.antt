@@ -16,22 +16,24 @@ use Rattle.s_code.specs.Layouts.{Layout}
 use Rattle.s_meaning.specs.Terms.{Variable, Work}
 use Rattle.s_meaning.specs.Terms as script
 use Rattle.s_meaning.specs.Typing.{kinds, numbers}
-use Rattle.s_meaning.specs.Typed.{World, int, FirstHave, begun, further, calling, doing, handling, resuming, tail_resuming, tail_calling, StoreTyped, Covers}
+use Rattle.s_meaning.specs.Typed.{World, int, FirstHave, begun, further, calling, doing, handling, resuming, tail_resuming, tail_calling, grouping, StoreTyped, Covers}
 use Rattle.s_meaning.specs.Focus.{Redex}
 use Rattle.s_meaning.specs.Steps.{rule}
-use Rattle.s_meaning.proofs.TypedFocus.{RedexTyped, constant, lookup, on_unary, on_binary, decides, applying, using, failing, ending}
+use Rattle.s_meaning.proofs.TypedFocus.{RedexTyped, constant, lookup, on_unary, on_binary, decides, applying, using, failing, spawning, ending}
 use Rattle.s_agrees.proofs.ScriptRows.{Values, no_values, ◌▸◌, many, both_many}
 use Rattle.s_agrees.proofs.StandsFor.{config, Active, Base, Waits, Stores}
 use Rattle.s_agrees.proofs.StandsFor as standing
 use Rattle.s_agrees.proofs.Facts.{Facts}
 use Rattle.s_agrees.proofs.Matches.{Matches}
-use Rattle.s_agrees.proofs.Ready.{Ready, constant_ready, lookup_ready, aside_ready, unary_ready, comparison_ready, arithmetic_ready, truth_ready, decides_ready, call_ready, do_ready, handle_ready, resume_ready, tail_ready, tail_call_ready, use_ready, fail_ready, end_ready}
+use Rattle.s_agrees.proofs.Ready.{Ready, constant_ready, lookup_ready, aside_ready, unary_ready, comparison_ready, arithmetic_ready, truth_ready, decides_ready, call_ready, do_ready, handle_ready, resume_ready, group_ready, tail_ready, tail_call_ready, use_ready, fail_ready, spawn_ready, end_ready}
 use Rattle.s_agrees.proofs.StepsInPlace.{sim_constant, sim_lookup, sim_aside, sim_unary, sim_comparison, sim_arithmetic, sim_truth, sim_decides}
 use Rattle.s_agrees.proofs.Calls.{sim_call, sim_tail_call}
 use Rattle.s_agrees.proofs.Captures.{sim_do}
 use Rattle.s_agrees.proofs.Handles.{sim_handling}
 use Rattle.s_agrees.proofs.Resumptions.{sim_resuming}
 use Rattle.s_agrees.proofs.TailResumptions.{sim_tail}
+use Rattle.s_agrees.proofs.GroupCalls.{group_applies}
+use Rattle.s_agrees.proofs.Spawns.{spawns_step}
 use Rattle.s_agrees.proofs.UsesOfSlots.{referred}
 use Rattle.s_agrees.proofs.UsesOfValues.{sim_use, sim_fail, sim_end}
 use Rattle.s_agrees.proofs.EachStep.{RulesMatched}
@@ -88,17 +90,19 @@ module _ (p : Script) (matches : ℕ → ℕ → Bool) (facts : Facts p.declarat
       let a = all_many firsts in let b = both_many us vs in let d = kinds_many fn.parameters in let e = kinds_many i.parameters in let l = length-append (kinds fn.parameters) (kinds i.parameters) in
       sim_handling matches facts stores active base waits g h fn i ns is_g is_h among m (omega (arith, m, enough)) (omega (arith, m, enough, a, b, d, e, l)) held values w
   matched r stores active base waits typed covers (resume_ready {x = x} {u = u} {vs = vs} number values w) (applying (resuming {h = h} {i = i} q is t) firsts) =
-      let v = covers.covers x (Resumption h) q in let to = referred v.has in let entry = entry_there _ _ to.address h typed.as_many to.there in
+      let v = covers.covers x (Resumption h) q in let to = referred v.has in let entry = entry_there _ _ to.address (Resumption h) typed.as_many to.there in
       let a = all_many firsts in let b = both_many (no_values ▸ u) vs in let d = kinds_many i.parameters in
-      sim_resuming matches facts stores active base waits h x v.variable to.address entry.0 v.there v.of_kind to.is entry.1 is (omega (arith, a, b, d)) number values w
+      sim_resuming matches facts stores active base waits h x v.variable to.address entry.0 v.there v.of_kind to.is entry.1 (typed.each to.address (Resumption h) entry.0 to.there entry.1) is (omega (arith, a, b, d)) number values w
+  matched r stores active base waits typed covers (group_ready {g = g} among v w) (applying (grouping {g = fn} is one t) firsts) = group_applies matches facts stores active base waits g fn is one among v w
   matched r stores active base waits typed covers (tail_ready {x = x} {u = u} {vs = vs} c own number values deep D) (applying (tail_resuming {h = h} {i = i} q is) firsts) =
-      let v = covers.covers x (Resumption h) q in let to = referred v.has in let entry = entry_there _ _ to.address h typed.as_many to.there in
+      let v = covers.covers x (Resumption h) q in let to = referred v.has in let entry = entry_there _ _ to.address (Resumption h) typed.as_many to.there in
       let a = all_many firsts in let b = both_many (no_values ▸ u) vs in let d = kinds_many i.parameters in
-      sim_tail matches facts stores active base waits h x v.variable to.address entry.0 v.there v.of_kind to.is entry.1 is (omega (arith, a, b, d)) number values own deep D c
+      sim_tail matches facts stores active base waits h x v.variable to.address entry.0 v.there v.of_kind to.is entry.1 (typed.each to.address (Resumption h) entry.0 to.there entry.1) is (omega (arith, a, b, d)) number values own deep D c
   matched r stores active base waits typed covers (tail_call_ready {g = g} c values deep) (applying (tail_calling {g = fn} is) firsts) =
       sim_tail_call matches facts stores active base waits g fn is (all_many firsts ∙ kinds_many fn.parameters) values deep c
-  matched r stores active base waits typed covers (use_ready v u) (using t b int) = sim_use matches facts stores active base waits v u covers t
+  matched r stores active base waits typed covers (use_ready v u) (using t b int) = sim_use matches facts stores active base waits v u typed covers t
   matched r stores active base waits typed covers (fail_ready c deep) failing = sim_fail matches facts stores active base waits deep
+  matched r stores active base waits typed covers (spawn_ready {k = k} {g = g} h among rest) (spawning {g = fn} is two b) = spawns_step matches facts stores active base waits k g fn is two among h rest
   matched r stores active base waits typed covers end_ready ending = sim_end matches facts stores active base waits
 
   pub rules : RulesMatched p matches

@@ -1,10 +1,10 @@
 -- The code of bodies of scripts can be spelled: each of its tokens is, as the numbers in it are small.
-use Rattle.std.proofs.Common.{ℕ, zero, suc, ◌+◌, ◌^◌, ◌<◌, ◌≤◌, Bool, true, false, if◌then◌else◌, List, Option, Some, None, refl, arith}
-use Rattle.std.specs.Prelude.{is_some}
+use Rattle.std.proofs.Common.{ℕ, zero, suc, ◌+◌, ◌^◌, ◌<◌, ◌≤◌, Bool, true, false, if◌then◌else◌, List, [], ◌∷◌, Option, Some, None, refl, arith}
 use Rattle.w_types.specs.declared.types.CompType.TheVariants.{Cont}
 use Rattle.w_syntax.specs.Code.{Code, Done, Plain}
 use Rattle.w_syntax.specs.declared.instructions.BlockKind.TheVariants as kind
 use Rattle.w_syntax.specs.declared.instructions.BlockType.TheVariants as block_type
+use Rattle.w_syntax.specs.declared.instructions.Clause.TheVariants.{Switch}
 use Rattle.s_syntax.specs.declared.name.Name.{Name}
 use Rattle.s_syntax.specs.declared.operators.UnaryOperator.{UnaryOperator}
 use Rattle.s_syntax.specs.declared.operators.UnaryOperator.TheVariants.{Minus, Not}
@@ -13,25 +13,26 @@ use Rattle.s_syntax.specs.declared.operators.BinaryOperator.{BinaryOperator}
 use Rattle.s_syntax.specs.declared.operators.BinaryOperator.TheVariants.{Connects, Compares, Computes}
 use Rattle.s_syntax.specs.declared.script.Slots.{Slots}
 use Rattle.s_syntax.specs.declared.script.Declaration.{Declaration}
-use Rattle.s_syntax.specs.ExprTree.{ExprTree, Literal, Read, Unary, Run, Call, Do, Handle, Resume, Exprs, NoExprs, MoreExprs, Operands, NoOperands, MoreOperands}
+use Rattle.s_syntax.specs.ExprTree.{ExprTree, Literal, Read, Unary, Run, Call, Do, Handle, Resume, Group, Exprs, NoExprs, MoreExprs, Operands, NoOperands, MoreOperands}
 use Rattle.s_syntax.specs.declared.statement.Use.TheVariants as use_for
-use Rattle.s_syntax.specs.BlockTree.{StatementTree, BlockTree, Evaluate, If as IfStatement, While, Fail, Done as NoStatements, ◌⨟◌}
+use Rattle.s_syntax.specs.BlockTree.{StatementTree, BlockTree, Evaluate, If as IfStatement, While, Fail, Spawn, Done as NoStatements, ◌⨟◌}
 use Rattle.s_check.specs.Definitions.{slots_of}
 use Rattle.s_check.specs.Rules.{count}
 use Rattle.s_check.specs.Size.{expr_size, exprs_size, operands_size, statement_size, block_size}
-use Rattle.s_index.specs.Numbers.{function_index, handler_index, tag_index, table_index}
-use Rattle.s_index.specs.Types.{resumption_type, computation_type}
+use Rattle.s_index.specs.Numbers.{function_index, handler_index, tag_index, group_tag_index, table_index}
+use Rattle.s_index.specs.Types.{resumption_type, computation_type, coroutine_type}
 use Rattle.s_index.specs.Indices.{continuation_index, function_type_index, parameters_of}
 use Rattle.s_index.specs.Limits.{number_limit as limit}
 use Rattle.s_code.specs.Instructions.{call, return_call, local_get, local_set, table_get, table_set, wrap, null, non_null, nop, suspend, branch, branch_if, is_zero, leave, dropped, truth, unary_operator, comparison, arithmetic, if_zero}
-use Rattle.s_code.specs.Layouts.{Layout, local_number, handler_of_name, stays, slot, is_own, owner_parameters}
+use Rattle.s_code.specs.Layouts.{Layout, local_number, handler_of_name, refers, stays, slot, is_own, owner_parameters}
 use Rattle.s_code.specs.Expressions.{reload, begin, wake, handler_index_of, operator, expr, args, set_aside, operands, set_parameters, tail_resume}
 use Rattle.s_code.specs.Slots.{places_in, places_of, to_place, store_code, take_code}
+use Rattle.s_code.specs.Coroutines.{group_code, spawn_code, switch_code}
 use Rattle.s_code.specs.Statements.{printer, return, statement, block, ending, body}
 use Rattle.s_code.proofs.Sizes.{some_size, count_within}
 use Rattle.w_encode.specs.Spelled.{CodeSpelled}
 use Rattle.s_agrees.proofs.SpelledIndices.{fits, SmallIndices, SmallLayout}
-use Rattle.s_agrees.proofs.SpelledTokens.{constant_spelled, minus_one_spelled, minus_one_32_spelled, wrap_spelled, below_spelled, select_spelled, table_get_spelled, table_set_spelled, null_spelled, non_null_spelled, is_zero_spelled, is_zero_32_spelled, extend_spelled, unreachable_spelled, nop_spelled, leave_spelled, dropped_spelled, binary_spelled, times_spelled, compare_spelled, branch_spelled, branch_if_spelled, call_spelled, return_call_spelled, local_get_spelled, local_set_spelled, reference_spelled, new_continuation_spelled, suspend_spelled, bind_continuation_spelled, block_spelled, if_spelled}
+use Rattle.s_agrees.proofs.SpelledTokens.{constant_spelled, minus_one_spelled, minus_one_32_spelled, wrap_spelled, below_spelled, select_spelled, table_get_spelled, table_set_spelled, null_spelled, non_null_spelled, is_zero_spelled, is_zero_32_spelled, extend_spelled, unreachable_spelled, nop_spelled, leave_spelled, dropped_spelled, binary_spelled, times_spelled, compare_spelled, branch_spelled, branch_if_spelled, call_spelled, return_call_spelled, local_get_spelled, local_set_spelled, reference_spelled, new_continuation_spelled, suspend_spelled, bind_continuation_spelled, resume_spelled, switch_spelled, block_spelled, if_spelled}
 
 -- ## Operators
 
@@ -79,7 +80,7 @@ module _ (ds : List Declaration) (Γ : Layout) (S : SmallIndices ds) (L : SmallL
 
   -- where an argument lies
   slot_fits : (e : ExprTree) (t : ℕ) → t ≤ room → slot Γ t e < 2 ^ 32
-  slot_fits (Read x) t h = either_fits (is_some (handler_of_name Γ x)) (local_number Γ x) (Γ.temporaries + t) (name_fits x) (temporary_fits t h)
+  slot_fits (Read x) t h = either_fits (refers Γ x) (local_number Γ x) (Γ.temporaries + t) (name_fits x) (temporary_fits t h)
   slot_fits (Literal n) t h = temporary_fits t h
   slot_fits (Unary o e) t h = temporary_fits t h
   slot_fits (Run e ps) t h = temporary_fits t h
@@ -87,6 +88,7 @@ module _ (ds : List Declaration) (Γ : Layout) (S : SmallIndices ds) (L : SmallL
   slot_fits (Do o es) t h = temporary_fits t h
   slot_fits (Handle f es i ps) t h = temporary_fits t h
   slot_fits (Resume k e ps) t h = temporary_fits t h
+  slot_fits (Group f e) t h = temporary_fits t h
 
   -- arguments that are put on the stack once more
   reload_spelled : (es : Exprs) (t : ℕ) (c : Code) → t + count es ≤ room → CodeSpelled c → CodeSpelled (reload Γ t es c)
@@ -104,6 +106,20 @@ module _ (ds : List Declaration) (Γ : Layout) (S : SmallIndices ds) (L : SmallL
   -- a computation of a resumption
   wake_spelled : (k : Name) (c : Code) → CodeSpelled c → CodeSpelled (wake Γ k c)
   wake_spelled k c h = (local_get_spelled (local_number Γ k) (name_fits k), (bind_continuation_spelled resumption_type computation_type (omega arith) (omega arith), h))
+
+  -- the tag of groups
+  group_fits : group_tag_index ds < 2 ^ 32
+  group_fits = fits (group_tag_index ds) S.group
+
+  -- a group, behind the number that it begins with
+  group_spelled : (f : Name) (c : Code) → CodeSpelled c → CodeSpelled (group_code ds f c)
+  group_spelled f c h = (
+    reference_spelled (function_index ds f) (fits (function_index ds f) (S.function f)),
+    (
+      new_continuation_spelled resumption_type (omega arith),
+      (resume_spelled resumption_type (Switch (group_tag_index ds) ∷ []) (omega arith) (omega arith) (group_fits, tt), h),
+    ),
+  )
 
   -- the handler of a resumption
   handler_fits : (o : Option Name) → handler_index_of ds o < 2 ^ 32
@@ -137,6 +153,7 @@ module _ (ds : List Declaration) (Γ : Layout) (S : SmallIndices ds) (L : SmallL
         let p = args_spelled ps (t + 1) (Plain (local_get (Γ.temporaries + t)) (wake Γ k last)) (omega (arith, few, n)) (local_get_spelled (Γ.temporaries + t) there, w) in
         expr_spelled e t (Plain (local_set (Γ.temporaries + t)) (args ds Γ (t + 1) ps (Plain (local_get (Γ.temporaries + t)) (wake Γ k last)))) (omega (arith, few))
         (local_set_spelled (Γ.temporaries + t) there, p)
+    expr_spelled (Group f e) t c few h = expr_spelled e t (group_code ds f c) (omega (arith, few)) (group_spelled f c h)
 
     args_spelled : (es : Exprs) (t : ℕ) (c : Code) → t + exprs_size es ≤ room → CodeSpelled c → CodeSpelled (args ds Γ t es c)
     args_spelled NoExprs t c few h = h
@@ -196,6 +213,7 @@ module _ (ds : List Declaration) (Γ : Layout) (S : SmallIndices ds) (L : SmallL
   return_spelled (Do o es) D c few labels h = plain_spelled (Do o es) c few h
   return_spelled (Handle f es g ps) D c few labels h = plain_spelled (Handle f es g ps) c few h
   return_spelled (Resume k e ps) D c few labels h = resumed_spelled (is_own Γ k) k e ps D c few labels h
+  return_spelled (Group f e) D c few labels h = plain_spelled (Group f e) c few h
 
   -- the number of places of slots is one that a script writes
   few_places : (o : Option Slots) → places_in o ≤ 9223372036854775807
@@ -236,6 +254,21 @@ module _ (ds : List Declaration) (Γ : Layout) (S : SmallIndices ds) (L : SmallL
         ),
       )
 
+  spawn_spelled : (t f : Name) (c : Code) → CodeSpelled c → CodeSpelled (spawn_code ds Γ t f c)
+  spawn_spelled t f c h = (
+    reference_spelled (function_index ds f) (fits (function_index ds f) (S.function f)),
+    (new_continuation_spelled coroutine_type (omega arith), (local_set_spelled (local_number Γ t) (name_fits t), h)),
+  )
+
+  switched_spelled : (x u t : Name) (c : Code) → CodeSpelled c → CodeSpelled (switch_code ds Γ x u t c)
+  switched_spelled x u t c h = (
+    local_get_spelled (local_number Γ t) (name_fits t),
+    (
+      switch_spelled coroutine_type (group_tag_index ds) (omega arith) group_fits,
+      (local_set_spelled (local_number Γ u) (name_fits u), (local_set_spelled (local_number Γ x) (name_fits x), h)),
+    ),
+  )
+
   -- a statement before what can be spelled
   mutual
     statement_spelled : (x : StatementTree) (D : ℕ) (c : Code) → D + statement_size x ≤ room → CodeSpelled c → CodeSpelled (statement ds Γ D x c)
@@ -258,7 +291,9 @@ module _ (ds : List Declaration) (Γ : Layout) (S : SmallIndices ds) (L : SmallL
     statement_spelled (Evaluate use_for.Return e) D c few h = return_spelled e D c (omega (arith, few)) (omega (arith, few)) h
     statement_spelled (Evaluate (use_for.Store s k) e) D c few h = expr_spelled e 0 (store_code ds Γ s k c) (omega (arith, few)) (store_spelled s k c h)
     statement_spelled (Evaluate (use_for.Take k s) e) D c few h = expr_spelled e 0 (take_code ds Γ k s c) (omega (arith, few)) (take_spelled k s c h)
+    statement_spelled (Evaluate (use_for.Switch x u t) e) D c few h = expr_spelled e 0 (switch_code ds Γ x u t c) (omega (arith, few)) (switched_spelled x u t c h)
     statement_spelled Fail D c few h = (unreachable_spelled, h)
+    statement_spelled (Spawn t f) D c few h = spawn_spelled t f c h
     statement_spelled (Evaluate use_for.Drop e) D c few h = expr_spelled e 0 (Plain dropped c) (omega (arith, few)) (dropped_spelled, h)
 
     -- a block before what can be spelled

@@ -24,7 +24,7 @@ use Rattle.s_check.specs.Refusal.{Good}
 use Rattle.s_check.specs.Scopes.{Bound}
 use Rattle.s_check.specs.Size.{definition_size, Size, size_limit}
 use Rattle.s_index.specs.declared.counts.Counts.{Counts}
-use Rattle.s_index.specs.Numbers.{no_counts, counted, counted_all, counts_of, number_behind, Entry, entry_behind, entry_of, index_of_function, index_of_handler, index_of_tag, index_of_table, with_entry, function_index, first_handler, handler_index, tag_index, table_index}
+use Rattle.s_index.specs.Numbers.{no_counts, counted, counted_all, counts_of, number_behind, Entry, entry_behind, entry_of, index_of_function, index_of_handler, index_of_tag, index_of_table, with_entry, function_index, first_handler, handler_index, tag_index, group_tag_index, table_index}
 use Rattle.s_index.specs.Types.{val_type, same_type, place}
 use Rattle.s_index.specs.Indices.{type_table, type_index}
 use Rattle.s_index.specs.Limits.{number_limit as limit}
@@ -40,11 +40,12 @@ fits n h = omega (arith, h)
 
 -- ## Indices
 
--- of functions, handlers, tags, tables and types
+-- of functions, handlers, tags, among them that of groups, tables and types
 pub record SmallIndices (ds : List Declaration) : Type 0 where
   pub function : (f : Name) → function_index ds f ≤ limit
   pub handler : (h : Name) → handler_index ds h ≤ limit
   pub tag : (o : Name) → tag_index ds o ≤ limit
+  pub group : group_tag_index ds ≤ limit
   pub table : (s : Name) → table_index ds s ≤ limit
   pub type : (t : CompType) → type_index ds t ≤ limit
 
@@ -63,9 +64,14 @@ counted_more : (n : Counts) (ds : List Declaration) → all_counts (counted_all 
 counted_more n [] = omega arith
 counted_more n (d ∷ ds) = let q = counted_more (counted n d.definition) ds in let r = counted_one n d.definition in omega (arith, q, r)
 
--- the functions are no more than all declarations
+-- the functions are no more than all declarations, and neither are the effects
 few_functions : (ds : List Declaration) → (counts_of ds).functions ≤ length ds
 few_functions ds =
+    let q : all_counts (counts_of ds) ≡ all_counts no_counts + length ds = counted_more no_counts ds in
+    omega (arith, q)
+
+few_effects : (ds : List Declaration) → (counts_of ds).effects ≤ length ds
+few_effects ds =
     let q : all_counts (counts_of ds) ≡ all_counts no_counts + length ds = counted_more no_counts ds in
     omega (arith, q)
 
@@ -160,6 +166,7 @@ indices_small ds few table =
           let q = index_small (index_of_handler (first_handler ds)) (length ds) (first_handler ds + length ds) (handler_of_entry (length ds) (first_handler ds)) (entry_of ds h) (entry h) in
           omega (arith, q, few, functions);
       tag = λ o. let q = index_small index_of_tag (length ds) (length ds) (tag_of_entry (length ds)) (entry_of ds o) (entry o) in omega (arith, q, few);
+      group = let q = few_effects ds in omega (arith, q, few);
       table = λ s. let q = index_small index_of_table (length ds) (length ds) (table_of_entry (length ds)) (entry_of ds s) (entry s) in omega (arith, q, few);
       type = λ t. let q = place_small t (type_table ds) in omega (arith, q, table);
     }

@@ -1,6 +1,6 @@
 -- What the module of a script has beside the bodies of its functions is spelled by what is written of it.
 use Rattle.std.proofs.Common.{◌≡◌, ℕ, suc, ◌^◌, ◌<◌, ◌≤◌, Bool, true, false, cond, if◌then◌else◌, List, [], ◌∷◌, ◌++◌, map, filter, length, codes, refl, ap, arith, length-append}
-use Rattle.std.specs.Prelude.{zero, Some, IsTrue, nat_lt, slice_get}
+use Rattle.std.specs.Prelude.{zero, take, drop, Some, IsTrue, nat_lt, slice_get}
 use Rattle.std.specs.Str.{is_utf8, chars}
 use lib.Utf8.{encode}
 use Rattle.std.proofs.lemmas.List.{length-map}
@@ -14,6 +14,7 @@ use Rattle.w_types.specs.declared.types.HeapType.TheVariants as heap
 use Rattle.w_types.specs.declared.types.ValType.TheVariants.{I64}
 use Rattle.w_types.specs.declared.types.CompType.{CompType}
 use Rattle.w_types.specs.declared.types.CompType.TheVariants.{Func, Cont}
+use Rattle.w_types.specs.declared.types.SubType.{SubType}
 use Rattle.w_syntax.specs.Code.{Code}
 use Rattle.w_syntax.specs.Items.{reference_to}
 use Rattle.w_syntax.specs.Types.{nullable_to, non_null_to, reftype, valtype, functype, comptype, alone_of, subtype, rectype, limits, tabletype}
@@ -21,7 +22,8 @@ use Rattle.w_syntax.specs.Fields.{name, table_of as table_format, tag, externtyp
 use Rattle.w_syntax.specs.declared.module.ExternType.TheVariants as extern
 use Rattle.w_syntax.specs.declared.module.ExternIndex.TheVariants as index
 use Rattle.w_syntax.specs.declared.module.ElemMode.TheVariants as mode
-use Rattle.w_encode.specs.TypesWritten.{index_written, ref_written, limits_with, valtype_written, comptype_written, rectype_written}
+use Rattle.w_syntax.specs.declared.module.Tag.{Tag}
+use Rattle.w_encode.specs.TypesWritten.{index_written, ref_written, limits_with, valtype_written, comptype_written, subtype_written, rectype_written}
 use Rattle.w_encode.specs.FieldsWritten.{bytes_written, table_written, tag_written, externtype_written, import_written, externidx_written, export_written, are_functions, function_written, elem_written}
 use Rattle.s_syntax.specs.declared.name.Name.{Name}
 use Rattle.s_syntax.specs.declared.script.Parameter.{Parameter}
@@ -36,8 +38,8 @@ use Rattle.s_check.specs.Size.{Size, size_limit}
 use Rattle.s_index.specs.Handled.{is_function_among, handled_names, handled}
 use Rattle.s_index.specs.Indices.{function_types, type_table, continuations, parameters_of, function_type_index, handler_type_index, effect_type_index, type_index}
 use Rattle.s_index.specs.Numbers.{function_index}
-use Rattle.s_index.specs.Types.{place, with_type, with_types, first_types, function_type, handler_type, effect_type, clause_type, clause_types, types_for, types_for_all, val_type, val_types, numbers, to_continuation, computation_type, resumption_type}
-use Rattle.s_code.specs.Lowered.{slots_table, function_type_of, handler_type_of, table_of, tag_of, function_code_of, handler_code_of, for_each, group, declared, lowered}
+use Rattle.s_index.specs.Types.{place, with_type, with_types, first_types, function_type, handler_type, effect_type, clause_type, clause_types, types_for, types_for_all, val_type, val_types, numbers, to_continuation, computation_type, resumption_type, coroutine_type, group_tag_type}
+use Rattle.s_code.specs.Lowered.{slots_table, function_type_of, handler_type_of, table_of, tag_of, function_code_of, handler_code_of, for_each, group, pair_first, group_tag, declared, lowered}
 use Rattle.s_valid.proofs.Declarations.{IsSmall, small}
 use Rattle.s_valid.proofs.ManyTypes.{few_function_types, few_in_table}
 use Rattle.w_encode.proofs.SpelledCode.{list_spells, both_spelled}
@@ -70,19 +72,51 @@ type_spelled (Func f) h =
     (f, ((f.params, f.results), (vec_written valtype_written f.params, vec_written valtype_written f.results, refl, list_spells valtype valtype_written f.params h.0, list_spells valtype valtype_written f.results h.1), refl), refl)
 type_spelled (Cont x) h = (x, index_is_u32 (index_written x) x (signed_index_spelled x h), refl)
 
+-- as a final type without supertypes
+final_spelled : (t : CompType) → TypeSpelled t → subtype.Spells (subtype_written (alone_of t)) (alone_of t)
+unfolding subtype
+final_spelled (Func f) h = (Func f, type_spelled (Func f) h, refl)
+final_spelled (Cont x) h = (Cont x, type_spelled (Cont x) h, refl)
+
 group_spelled : (t : CompType) → TypeSpelled t → rectype.Spells (rectype_written (group t)) (group t)
-unfolding rectype subtype
-group_spelled (Func f) h = (alone_of (Func f), (Func f, type_spelled (Func f) h, refl), refl)
-group_spelled (Cont x) h = (alone_of (Cont x), (Cont x, type_spelled (Cont x) h, refl), refl)
+unfolding rectype
+group_spelled (Func f) h = (alone_of (Func f), final_spelled (Func f) h, refl)
+group_spelled (Cont x) h = (alone_of (Cont x), final_spelled (Cont x) h, refl)
 
 abbrev AllSpelled : List CompType → Type 0
 AllSpelled [] = Unit {0}
 AllSpelled (t ∷ ts) = TypeSpelled t × AllSpelled ts
 
--- each type is a group of its own
+-- each type in a group of its own
 groups_spelled : (ts : List CompType) → AllSpelled ts → EachSpelled rectype rectype_written (map group ts)
 groups_spelled [] h = tt
 groups_spelled (t ∷ ts) h = (group_spelled t h.0, groups_spelled ts h.1)
+
+-- those behind a group of two
+pair_spelled : (ts : List CompType) → AllSpelled ts → EachSpelled rectype rectype_written (pair_first ts)
+unfolding rectype
+pair_spelled [] h = (([], list_spells subtype subtype_written [] (omega arith, tt), refl), tt)
+pair_spelled (t ∷ []) h = (group_spelled t h.0, tt)
+pair_spelled (t ∷ u ∷ ts) h =
+    let both : List SubType = alone_of t ∷ alone_of u ∷ [] in
+    ((both, list_spells subtype subtype_written both (omega arith, (final_spelled t h.0, (final_spelled u h.1.0, tt))), refl), groups_spelled ts h.1.1)
+
+-- n types each alone in front of those
+behind_alone : (n : ℕ) (ts : List CompType) → AllSpelled ts → EachSpelled rectype rectype_written (map group (take n ts) ++ pair_first (drop n ts))
+behind_alone zero ts h = pair_spelled ts h
+behind_alone (suc n) [] h = pair_spelled [] h
+behind_alone (suc n) (t ∷ ts) h = (group_spelled t h.0, behind_alone n ts h.1)
+
+-- there is hardly more than one group for each type
+few_pairs : (ts : List CompType) → length (pair_first ts) ≤ suc (length ts)
+few_pairs [] = omega arith
+few_pairs (t ∷ []) = omega arith
+few_pairs (t ∷ u ∷ ts) = let l = length-map ts group in omega (arith, l)
+
+few_groups : (n : ℕ) (ts : List CompType) → length (map group (take n ts) ++ pair_first (drop n ts)) ≤ suc (length ts)
+few_groups zero ts = few_pairs ts
+few_groups (suc n) [] = few_pairs []
+few_groups (suc n) (t ∷ ts) = let q = few_groups n ts in omega (arith, q)
 
 all_append : (ts us : List CompType) → AllSpelled ts → AllSpelled us → AllSpelled (ts ++ us)
 all_append [] us h k = k
@@ -118,9 +152,14 @@ one_number = (omega arith, (number_type_spelled, tt))
 no_values : ListSpelled valtype valtype_written []
 no_values = (omega arith, tt)
 
--- resumptions, computations, and the type of the printer
+-- what a coroutine takes
+number_and_coroutine : ListSpelled valtype valtype_written (I64 ∷ to_continuation true coroutine_type ∷ [])
+number_and_coroutine = (omega arith, (number_type_spelled, (continuation_type_spelled true coroutine_type (omega arith), tt)))
+
+-- resumptions, computations, the type of the printer, and coroutines
 first_spelled : AllSpelled first_types
-first_spelled = ((one_number, one_number), (omega arith, ((no_values, one_number), (omega arith, ((one_number, no_values), tt)))))
+first_spelled =
+    ((one_number, one_number), (omega arith, ((no_values, one_number), (omega arith, ((one_number, no_values), ((number_and_coroutine, one_number), (omega arith, tt)))))))
 
 function_type_spelled : (ps : List Parameter) → length ps ≤ 8 → TypeSpelled (function_type ps)
 function_type_spelled ps few = let l = length-map ps (λ (p : Parameter). val_type p.ty) in ((omega (arith, l, few), parameters_spelled ps), one_number)
@@ -168,8 +207,8 @@ table_spelled p good size =
 pub types_spelled : (p : Script) → Good p → Size p ≤ size_limit → ListSpelled rectype rectype_written (lowered p).types
 types_spelled p good size =
     let few = few_in_table p good size in
-    let l = length-map (type_table p.declarations) group in
-    (omega (arith, few, l), groups_spelled (type_table p.declarations) (table_spelled p good size))
+    let l = few_groups 5 (type_table p.declarations) in
+    (omega (arith, few, l), behind_alone 5 (type_table p.declarations) (table_spelled p good size))
 
 -- ## Functions, tables and tags
 
@@ -199,6 +238,11 @@ module _ (p : Script) (good : Good p) (size : Size p ≤ size_limit) where
   tag_spelled (definition.Function f) = tt
   tag_spelled (definition.Handler i) = tt
   tag_spelled (definition.Slots s) = tt
+
+-- the tag of groups
+group_tag_spelled : tag.Spells (tag_written group_tag) group_tag
+unfolding tag
+group_tag_spelled = (group_tag_type, u32_spelled group_tag_type (omega arith), refl)
 
 one_function : (ds : List Declaration) (d : Definition) → length (function_type_of ds d) ≤ 1
 one_function ds (definition.Effect n) = omega arith
@@ -292,9 +336,13 @@ tables_spelled p good size =
 pub tags_spelled : (p : Script) → Good p → Size p ≤ size_limit → ListSpelled tag tag_written (lowered p).tags
 tags_spelled p good size =
     let ds = p.declarations in
+    let effects : List Tag = for_each (λ (d : Declaration). tag_of ds d.definition) ds in
+    let l = length-append effects (group_tag ∷ []) in
     let a = few_of_all (λ (d : Declaration). tag_of ds d.definition) (λ d. one_tag ds d.definition) ds in
-    let few = few_declarations ds in
-    (omega (arith, a, few, size), each_of_all tag tag_written (λ (d : Declaration). tag_of ds d.definition) (λ d. tag_spelled p good size d.definition) ds)
+    let few = few_declarations ds in (
+      omega (arith, l, a, few, size),
+      both_spelled tag tag_written effects (group_tag ∷ []) (each_of_all tag tag_written (λ (d : Declaration). tag_of ds d.definition) (λ d. tag_spelled p good size d.definition) ds) (group_tag_spelled, tt),
+    )
 
 pub few_codes : (p : Script) → Size p ≤ size_limit → length (lowered p).codes < 2 ^ 32
 few_codes p size =

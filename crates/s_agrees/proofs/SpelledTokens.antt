@@ -37,9 +37,9 @@ use Rattle.s_syntax.specs.declared.operators.Arithmetic.{Arithmetic}
 use Rattle.s_syntax.specs.declared.operators.Comparison.TheVariants.{Equal, NotEqual, Less, AtMost, Greater, AtLeast}
 use Rattle.s_syntax.specs.declared.operators.Arithmetic.TheVariants.{Add, Subtract, Multiply, Divide, Remainder}
 use Rattle.s_syntax.specs.declared.script.VariableType.{VariableType}
-use Rattle.s_syntax.specs.declared.script.VariableType.TheVariants.{Int, Resumption}
-use Rattle.s_index.specs.Types.{to_continuation, val_type}
-use Rattle.s_code.specs.Instructions.{constant, constant_32, is_zero, is_zero_32, extend, wrap, binary, compare, unreachable, nop, branch, branch_if, leave, call, return_call, dropped, select, local_get, local_set, table_get, table_set, null, non_null, function_reference, new_continuation, bind_continuation, suspend, resume, binop_of, relop_of}
+use Rattle.s_syntax.specs.declared.script.VariableType.TheVariants.{Int, Resumption, Coroutine}
+use Rattle.s_index.specs.Types.{resumption_type, coroutine_type, to_continuation, val_type}
+use Rattle.s_code.specs.Instructions.{constant, constant_32, is_zero, is_zero_32, extend, wrap, binary, compare, unreachable, nop, branch, branch_if, leave, call, return_call, dropped, select, local_get, local_set, table_get, table_set, null, non_null, function_reference, new_continuation, bind_continuation, suspend, resume, switch, binop_of, relop_of}
 use Rattle.w_encode.proofs.SpelledCode.{list_spells}
 use Rattle.w_encode.specs.Spelled.{EachSpelled, TokenSpelled}
 
@@ -182,6 +182,10 @@ pub bind_continuation_spelled : (x y : ℕ) → x < 2 ^ 32 → y < 2 ^ 32 → To
 unfolding token instruction other
 bind_continuation_spelled x y h k = (bind_continuation x y, ((x, y), (shortest x, shortest y, refl, u32_spelled x h, u32_spelled y k), refl), refl)
 
+pub switch_spelled : (x y : ℕ) → x < 2 ^ 32 → y < 2 ^ 32 → TokenSpelled (tok.Plain (switch x y))
+unfolding token instruction other
+switch_spelled x y h k = (switch x y, ((x, y), (shortest x, shortest y, refl, u32_spelled x h, u32_spelled y k), refl), refl)
+
 -- the indices of a handler's clause
 abbrev pub ClauseSmall : Clause → Type 0
 ClauseSmall (clause.Label t l) = (t < 2 ^ 32) × (l < 2 ^ 32)
@@ -266,7 +270,8 @@ number_type_spelled = (refl, refl)
 -- the type of a variable
 pub val_type_spelled : (t : VariableType) → valtype.Spells (valtype_written (val_type t)) (val_type t)
 val_type_spelled Int = number_type_spelled
-val_type_spelled (Resumption h) = continuation_type_spelled true 1 (omega arith)
+val_type_spelled (Resumption h) = continuation_type_spelled true resumption_type (omega arith)
+val_type_spelled Coroutine = continuation_type_spelled true coroutine_type (omega arith)
 
 pub run_spelled : (n : ℕ) (t : VariableType) → n < 2 ^ 32 → run.Spells (run_written (record { count = n; kind = val_type t })) (record { count = n; kind = val_type t })
 unfolding run

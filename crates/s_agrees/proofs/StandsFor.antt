@@ -1,5 +1,6 @@
 -- How a configuration of the module's run stands for one of the script: each activation is a frame, each active handle a frame of the
--- handler's function, inside its loop and the blocks of its clauses, that waits at its resume.
+-- handler's function, inside its loop and the blocks of its clauses, that waits at its resume, and each group a handle in the frame that waits
+-- for it.
 use Rattle.std.proofs.Common.{◌≡◌, ℕ, zero, suc, ◌+◌, ◌<◌, ◌-◌, ◌≤◌, ◌^◌, true, false, max, ℤ, List, [], ◌∷◌, length, Option, Some, None}
 use Rattle.std.specs.Prelude.{slice_get}
 use Rattle.w_num.specs.Signed.{signed}
@@ -7,12 +8,14 @@ use Rattle.lists.specs.Rows.{Row, ε, ◌▹◌, ◌⧺◌}
 use Rattle.w_syntax.specs.Code.{Code, Done, Plain, Block}
 use Rattle.w_syntax.specs.declared.instructions.BlockKind.TheVariants as kind
 use Rattle.w_syntax.specs.declared.instructions.BlockType.TheVariants as block_type
+use Rattle.w_syntax.specs.declared.instructions.Clause.{Clause}
+use Rattle.w_syntax.specs.declared.instructions.Clause.TheVariants.{Switch}
 use Rattle.w_reduce.specs.Values.{Val, I64, Null, Cont}
 use Rattle.w_reduce.specs.Store.{Store, Table, live}
-use Rattle.w_reduce.specs.Terms.{rest_of, Label, Frame, Handle, Context, Term, Continuation}
+use Rattle.w_reduce.specs.Terms.{rest_of, Label, Frame, Handle, Context, Term, Continuation, fresh_continuation}
 use Rattle.s_syntax.specs.declared.name.Name.{Name}
 use Rattle.s_syntax.specs.declared.number.Number.{Number as WrittenNumber}
-use Rattle.s_syntax.specs.declared.script.VariableType.TheVariants.{Int, Resumption}
+use Rattle.s_syntax.specs.declared.script.VariableType.TheVariants.{Int, Resumption, Coroutine}
 use Rattle.s_syntax.specs.declared.script.Handler.{Handler}
 use Rattle.s_syntax.specs.declared.script.Slots.{Slots}
 use Rattle.s_syntax.specs.declared.script.Declaration.{Declaration}
@@ -22,25 +25,26 @@ use Rattle.s_syntax.specs.declared.operators.BinaryOperator.TheVariants.{Connect
 use Rattle.s_syntax.specs.declared.operators.Connective.{Connective}
 use Rattle.s_syntax.specs.declared.operators.Comparison.{Comparison}
 use Rattle.s_syntax.specs.declared.operators.Arithmetic.{Arithmetic}
-use Rattle.s_syntax.specs.ExprTree.{ExprTree, Literal, Read, Unary, Run, Call, Do, Handle as HandleExpr, Resume, Exprs, NoExprs, MoreExprs, Operands, NoOperands, MoreOperands}
+use Rattle.s_syntax.specs.ExprTree.{ExprTree, Literal, Read, Unary, Run, Call, Do, Handle as HandleExpr, Resume, Group as GroupExpr, Exprs, NoExprs, MoreExprs, Operands, NoOperands, MoreOperands}
 use Rattle.s_syntax.specs.declared.statement.Use.TheVariants as use_for
-use Rattle.s_syntax.specs.BlockTree.{StatementTree, BlockTree, Evaluate, If, While, Fail, Done as NoStatements, ◌⨟◌}
+use Rattle.s_syntax.specs.BlockTree.{StatementTree, BlockTree, Evaluate, If, While, Fail, Spawn, Done as NoStatements, ◌⨟◌}
 use Rattle.s_check.specs.Definitions.{handler_of, slots_of}
 use Rattle.s_check.specs.Rules.{count}
 use Rattle.s_check.specs.Scopes.{is_among}
 use Rattle.s_index.specs.Handled.{handled_names}
-use Rattle.s_index.specs.Numbers.{function_index, handler_index, tag_index, table_index}
+use Rattle.s_index.specs.Numbers.{function_index, handler_index, tag_index, group_tag_index, table_index}
 use Rattle.s_code.specs.Instructions.{call, return_call, local_get, local_set, suspend, branch, branch_if, is_zero, leave, dropped, if_zero, truth, unary_operator, comparison, arithmetic}
 use Rattle.s_code.specs.Layouts.{Local, Owner, Layout, local_of, local_number, handler_of_name, is_own, owner_parameters}
 use Rattle.s_code.specs.Temporaries.{high_block}
 use Rattle.s_code.specs.Expressions.{reload, begin, wake, handler_index_of, expr, args, set_aside, operands, set_parameters}
 use Rattle.s_code.specs.Slots.{store_code, take_code}
+use Rattle.s_code.specs.Coroutines.{group_code, switch_code}
 use Rattle.s_code.specs.Statements.{printer, statement, block, ending}
 use Rattle.s_code.specs.Handlers.{Placed, clause_code, labels, return_code, handler_body}
 use Rattle.s_code.specs.Places.{return_layout, placed_clauses, handler_temporaries, high_clauses}
 use Rattle.s_meaning.specs.Numbers.{decided}
 use Rattle.s_meaning.specs.Terms as script
-use Rattle.s_meaning.specs.Terms.{Value, Number, Reference, Variable, Calling, Doing, Handling, Resuming, TailResuming, TailCalling, Use, ToStore, ToPrint, ToDrop, ToReturn, ToChoose, ToTurn, ToPut, ToTake, Work, UnderUnary, LeftOf, RightOf, Among, Within, Activation, Handle as Handled, Gives, Finds, Runs, Number_alone, Contents, Configuration}
+use Rattle.s_meaning.specs.Terms.{Value, Number, Reference, Variable, Calling, Doing, Handling, Resuming, TailResuming, TailCalling, Grouping, Use, ToStore, ToPrint, ToDrop, ToReturn, ToChoose, ToTurn, ToPut, ToTake, ToSwitch, Work, UnderUnary, LeftOf, RightOf, Among, Within, Activation, Handle as Handled, Group, Gives, Finds, Runs, captured, switched, spawned, Contents, Configuration}
 use Rattle.s_meaning.specs.Focus.{followed_by, variable_of}
 use Rattle.s_meaning.specs.Steps.{contents_of}
 use Rattle.s_valid.specs.Beginning.{first_store}
@@ -51,7 +55,7 @@ use Rattle.s_agrees.proofs.ScriptRows.{Values, no_values, ◌▸◌, ◌⧻◌, 
 abbrev pub config : Context → Row Val → Code → Term
 config e ops c = record { around = e; operands = ops; rest = rest_of c }
 
--- ## Values. ρ has the address of the continuation of each resumption, by the resumption's own address.
+-- ## Values. ρ has the address of the continuation of each resumption and coroutine, by its own address.
 
 pub data Same (ρ : List ℕ) : Value → Val → Type 0 where
   number : {z : ℤ} {n : ℕ} → n < 2 ^ 64 → signed 64 n ≡ z → Same ρ (Number z) (I64 n)
@@ -102,7 +106,8 @@ pub record Active (ρ : List ℕ) (Γ : Layout) (n : ℕ) (L : Locals) (vars : L
   pub room : Γ.temporaries + n ≤ length L
   pub holds : Holds ρ Γ vars L
 
--- ## Code that has its locals: n temporaries, of which t are in use. What a handle names is among the functions that are handled.
+-- ## Code that has its locals: n temporaries, of which t are in use. What a handle, a group or a spawn names is among the functions that are
+-- handled.
 
 mutual
   pub data WellExpr (ds : List Declaration) (n : ℕ) : ℕ → ExprTree → Type 0 where
@@ -115,6 +120,7 @@ mutual
     handles : {t : ℕ} {f h : Name} {es bs : Exprs} → is_among (handled_names ds) f ≡ true → WellAsides ds n t es → WellArgs ds n (t + count es) bs
         → WellExpr ds n t (HandleExpr f es h bs)
     resumes : {t : ℕ} {k : Name} {e : ExprTree} {bs : Exprs} → t < n → WellExpr ds n t e → WellArgs ds n (t + 1) bs → WellExpr ds n t (Resume k e bs)
+    groups : {t : ℕ} {f : Name} {e : ExprTree} → is_among (handled_names ds) f ≡ true → WellExpr ds n t e → WellExpr ds n t (GroupExpr f e)
 
   pub data WellArgs (ds : List Declaration) (n : ℕ) : ℕ → Exprs → Type 0 where
     no_args : {t : ℕ} → WellArgs ds n t NoExprs
@@ -141,6 +147,9 @@ mutual
         → WellStatement ds Γ n (Evaluate (use_for.Store s k) e)
     takes : {s k : Name} {e : ExprTree} {d : Slots} → slots_of ds s ≡ Some d → HasLocal Γ k (Resumption d.handler) → 0 < n → WellExpr ds n 0 e
         → WellStatement ds Γ n (Evaluate (use_for.Take k s) e)
+    switches : {x u k : Name} {e : ExprTree} → HasLocal Γ x Int → HasLocal Γ u Coroutine → HasLocal Γ k Coroutine → WellExpr ds n 0 e
+        → WellStatement ds Γ n (Evaluate (use_for.Switch x u k) e)
+    spawns : {k f : Name} → HasLocal Γ k Coroutine → is_among (handled_names ds) f ≡ true → WellStatement ds Γ n (Spawn k f)
     fail : WellStatement ds Γ n Fail
     drop : {e : ExprTree} → WellExpr ds n 0 e → WellStatement ds Γ n (Evaluate use_for.Drop e)
 
@@ -184,6 +193,8 @@ pub data Uses (ds : List Declaration) (Γ : Layout) (n D0 : ℕ) (f : Context) :
       → Uses ds Γ n D0 f (ToPut s k) b (store_code ds Γ s k c) e
   takes : {D : ℕ} {s k : Name} {d : Slots} {b : BlockTree} {c : Code} {e : Context} → slots_of ds s ≡ Some d → HasLocal Γ k (Resumption d.handler) → 0 < n → Rest ds Γ n D0 f D b c e
       → Uses ds Γ n D0 f (ToTake k s) b (take_code ds Γ k s c) e
+  switches : {D : ℕ} {x u k : Name} {b : BlockTree} {c : Code} {e : Context} → HasLocal Γ x Int → HasLocal Γ u Coroutine → HasLocal Γ k Coroutine → Rest ds Γ n D0 f D b c e
+      → Uses ds Γ n D0 f (ToSwitch x u k) b (switch_code ds Γ x u k c) e
   chooses : {D : ℕ} {x y b : BlockTree} {c : Code} {e : Context} → WellBlock ds Γ n x → WellBlock ds Γ n y → Rest ds Γ n D0 f D b c e
       → Uses ds Γ n D0 f (ToChoose x y) b (if_zero (block ds Γ (D + 1) y Done) (block ds Γ (D + 1) x Done) c) e
   turns : {D : ℕ} {x : ExprTree} {b rest : BlockTree} {c : Code} {e : Context} → WellExpr ds n 0 x → WellBlock ds Γ n b → Rest ds Γ n D0 f D rest c e
@@ -268,6 +279,9 @@ pub data Works (ds : List Declaration) (ρ : List ℕ) (Γ : Layout) (n D0 : ℕ
   resuming_second : {t t0 y : ℕ} {L : Locals} {x : Name} {u : Value} {vs : Values} {ws : Row Val} {es : Exprs} {k : List Work} {ops : Row Val} {c : Code} {e : Context}
       → t0 ≤ t → y < Γ.temporaries + t → WellArgs ds n t es → LocalIs ρ L y u → Sames ρ vs ws → Works ds ρ Γ n D0 f t0 L k ops c e
       → Works ds ρ Γ n D0 f t L (Among (Resuming x) ((no_values ▸ u) ⧻ vs) es ∷ k) (ops ⧺ ws) (args ds Γ t es (resume_code ds Γ x y c)) e
+  -- the number that the function of a group gets
+  grouping : {t : ℕ} {L : Locals} {g : Name} {k : List Work} {ops : Row Val} {c : Code} {e : Context} → is_among (handled_names ds) g ≡ true → Works ds ρ Γ n D0 f t L k ops c e
+      → Works ds ρ Γ n D0 f t L (Among (Grouping g) no_values NoExprs ∷ k) ops (group_code ds g c) e
   tail_first : {D d : ℕ} {L : Locals} {x : Name} {bs : Exprs} {e : Context} (c : Code)
       → 0 < n → is_own Γ x ≡ true → WellArgs ds n 1 bs → Deep f d e → D ≡ d + D0
       → Works ds ρ Γ n D0 f 0 L (Among (TailResuming x) no_values bs ∷ []) ε
@@ -321,6 +335,10 @@ pub data Base (ds : List Declaration) (Γ : Layout) (L : Locals) (below : Row Va
   clause : {h : Name} {i : Handler} (ps : List Placed) → handler_of ds h ≡ Some i → Γ.owner ≡ Some (own h i) → length ps ≤ 16 → handler_room ds h i ≤ length L
       → Base ds Γ L below c e (Some h) (length ps) (clause_labels ds ps (in_loop ds h i L below c e))
 
+-- the clauses of a group's resume
+abbrev pub group_clauses : List Declaration → List Clause
+group_clauses ds = Switch (group_tag_index ds) ∷ []
+
 -- With a value at the hole, the code c in e does what the context κ does.
 pub data Waits (ds : List Declaration) (ρ : List ℕ) : script.Context → Row Val → Code → Context → Type 0 where
   outside : Waits ds ρ [] ε Done []
@@ -330,6 +348,8 @@ pub data Waits (ds : List Declaration) (ρ : List ℕ) : script.Context → Row 
   handle : {h : Name} {i : Handler} {L : Locals} {vs : List Value} {κ : script.Context} {below : Row Val} {c : Code} {e : Context}
       → handler_of ds h ≡ Some i → handler_room ds h i ≤ length L → length vs ≡ length i.parameters → Held ρ L vs → Waits ds ρ κ below c e
       → Waits ds ρ (Handled h vs ∷ κ) ε Done (handler_around ds h i L below c e)
+  -- a group stands in the frame that waits for it: it is the handle of its resume
+  group : {κ : script.Context} {ops : Row Val} {c : Code} {e : Context} → Waits ds ρ κ ops c e → Waits ds ρ (Group ∷ κ) ε Done (Handle ops (group_clauses ds) c ∷ e)
 
 -- ## Terms and stores
 
@@ -358,9 +378,24 @@ pub record ResumptionAs (ds : List Declaration) (ρ : List ℕ) (κ : script.Con
   pub ahead : k.term.rest.ahead ≡ []
   pub waits : Waits ds ρ κ k.term.operands k.term.rest.code k.term.around
 
+-- the code that a coroutine goes on with: its names of the number and of the coroutine are set, the latter from the top
+abbrev pub switched_code : Layout → (x u : Name) → Code → Code
+switched_code Γ x u c = Plain (local_set (local_number Γ u)) (Plain (local_set (local_number Γ x)) c)
+
+-- a coroutine that was switched from in an activation with these variables, in the context κ, and the continuation that keeps it
+pub data SwitchedAs (ds : List Declaration) (ρ : List ℕ) (x u : Name) (b : BlockTree) (vars : List Variable) (owner : Option Name) (κ : script.Context) : Continuation → Type 0 where
+  switched_as : {Γ : Layout} {n D0 D : ℕ} {L : Locals} {below : Row Val} {c c' : Code} {e e' f : Context} {k : Continuation}
+      → HasLocal Γ x Int → HasLocal Γ u Coroutine → Active ρ Γ n L vars → Rest ds Γ n D0 f D b c e → Base ds Γ L below c' e' owner D0 f → Waits ds ρ κ below c' e'
+      → k.takes ≡ 2 → k.term ≡ config e ε (switched_code Γ x u c)
+      → SwitchedAs ds ρ x u b vars owner κ k
+
 -- what is kept of the script, and the continuation that keeps it
 pub data KeptAs (ds : List Declaration) (ρ : List ℕ) : script.Kept → Continuation → Type 0 where
-  number_alone : {κ : script.Context} {k : Continuation} → ResumptionAs ds ρ κ k → KeptAs ds ρ (record { takes = Number_alone; around = κ }) k
+  number_alone : {κ : script.Context} {k : Continuation} → ResumptionAs ds ρ κ k → KeptAs ds ρ (captured κ) k
+  number_and_coroutine : {x u : Name} {b : BlockTree} {vars : List Variable} {owner : Option Name} {κ : script.Context} {k : Continuation} → SwitchedAs ds ρ x u b vars owner κ k
+      → KeptAs ds ρ (switched x u b (Activation vars owner [] ∷ κ)) k
+  -- one that waits for its first switch
+  not_begun : {f : Name} → is_among (handled_names ds) f ≡ true → KeptAs ds ρ (spawned f) (fresh_continuation (function_index ds f) 2)
 
 pub data Entry (ds : List Declaration) (ρ : List ℕ) : Option (Option script.Kept) → Option (Option Continuation) → Type 0 where
   consumed : Entry ds ρ (Some None) (Some None)

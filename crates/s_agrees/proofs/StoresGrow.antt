@@ -11,8 +11,8 @@ use Rattle.s_meaning.specs.Terms as script
 use Rattle.s_meaning.specs.Terms.{Contents}
 use Rattle.s_meaning.specs.Steps.{with_kept}
 use Rattle.s_meaning.proofs.Lists.{get_before, get_last}
-use Rattle.s_agrees.proofs.StandsFor.{KeptAs, number_alone, Entry, consumed, keeps, Element, is_empty, is_kept, Elements, no_elements, element, SlotsKept, Stores}
-use Rattle.s_agrees.proofs.MoreResumptions.{Grows, grows_more}
+use Rattle.s_agrees.proofs.StandsFor.{switched_as, KeptAs, number_alone, number_and_coroutine, not_begun, Entry, consumed, keeps, Element, is_empty, is_kept, Elements, no_elements, element, SlotsKept, Stores}
+use Rattle.s_agrees.proofs.MoreResumptions.{Grows, grows_more, active_grows}
 use Rattle.s_agrees.proofs.Contexts.{waits_grow}
 use Rattle.s_agrees.proofs.CountedContexts.{live_more, full_more}
 
@@ -20,6 +20,8 @@ use Rattle.s_agrees.proofs.CountedContexts.{live_more, full_more}
 
 pub kept_grows : {ds : List Declaration} {ρ ρ' : List ℕ} {r : script.Kept} {k : Continuation} → Grows ρ ρ' → KeptAs ds ρ r k → KeptAs ds ρ' r k
 kept_grows g (number_alone h) = number_alone (record { takes = h.takes; ahead = h.ahead; waits = waits_grow g h.waits })
+kept_grows g (number_and_coroutine (switched_as hx hu a r b w takes is)) = number_and_coroutine (switched_as hx hu (active_grows g a) r b (waits_grow g w) takes is)
+kept_grows g (not_begun i) = not_begun i
 
 pub entry_grows : {ds : List Declaration} {ρ ρ' : List ℕ} {o : Option (Option script.Kept)} {q : Option (Option Continuation)} → Grows ρ ρ' → Entry ds ρ o q → Entry ds ρ' o q
 entry_grows g consumed = consumed

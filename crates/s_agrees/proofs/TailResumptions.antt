@@ -25,6 +25,7 @@ use Rattle.s_meaning.specs.Numbers.{Reused}
 use Rattle.s_meaning.specs.Terms.{Value, Reference, listed, Variable, TailResuming, Handle as Handled, Gives, captured}
 use Rattle.s_meaning.specs.Terms as script
 use Rattle.s_meaning.specs.Focus.{variable_of}
+use Rattle.s_meaning.specs.Typed.{World, EntryTyped}
 use Rattle.s_meaning.specs.Steps.{Step, or_fault, emptied, kept_at, goes, applies}
 use Rattle.s_meaning.proofs.Lists.{length_set}
 use Rattle.s_meaning.proofs.Scopes.{same_is}
@@ -226,12 +227,12 @@ module _ {p : Script} (matches : ℕ → ℕ → Bool) (facts : Facts p.declarat
 
 module _ {p : Script} (matches : ℕ → ℕ → Bool) (facts : Facts p.declarations) {ρ : List ℕ} {σ : script.Store} {s : Store} (stores : Stores p.declarations ρ σ s) {Γ : Layout} {n D0 : ℕ} {L : Locals} {vars : List Variable} {owner : Option Name} {κ : script.Context} {below : Row Val} {c' : Code} {e' f : Context}
     (active : Active ρ Γ n L vars) (base : Base p.declarations Γ L below c' e' owner D0 f) (waits : Waits p.declarations ρ κ below c' e') where
-  pub sim_tail : {y : ℕ} (h : Name) {i : Handler} {u : Value} {vs : Values} {ws : Row Val} {D d : ℕ} {e : Context} (x : Name) (v : Variable) (a : ℕ) (entry : Option script.Kept)
-      → variable_of x vars ≡ Some v → v.ty ≡ Resumption h → v.value ≡ Reference a → kept_at σ a ≡ Some entry → handler_of p.declarations h ≡ Some i → many vs ≡ length i.parameters
+  pub sim_tail : {Ξ : World} {y : ℕ} (h : Name) {i : Handler} {u : Value} {vs : Values} {ws : Row Val} {D d : ℕ} {e : Context} (x : Name) (v : Variable) (a : ℕ) (entry : Option script.Kept)
+      → variable_of x vars ≡ Some v → v.ty ≡ Resumption h → v.value ≡ Reference a → kept_at σ a ≡ Some entry → EntryTyped p Ξ (Resumption h) entry → handler_of p.declarations h ≡ Some i → many vs ≡ length i.parameters
       → LocalIs ρ L y u → Sames ρ vs ws → is_own Γ x ≡ true → Deep f d e → D ≡ d + D0 → (c : Code)
       → Matches p matches 52 s (config e (ε ⧺ ws) (tail_code Γ D x y c))
       (applies p (record { store = σ; variables = vars; owner = owner; work = []; outer = κ }) (TailResuming x) (listed ((no_values ▸ u) ⧻ vs)))
-  sim_tail {y} h {i} {u} {vs} {ws} {D} {d} {e} x v a entry bound_is ty value kept is number local values mine deep inside c =
+  sim_tail {y = y} h {i} {u} {vs} {ws} {D} {d} {e} x v a entry bound_is ty value kept typed is number local values mine deep inside c =
       let r : ResumptionIn ρ Γ L x h a = resumption_in v ty value (active.holds.each x v bound_is) in
       let q : InHandler p.declarations Γ L below c' e' h i D0 f = in_handler base mine r is in
       let locals : locals_of e ≡ L = deep_locals deep ∙ base_locals base in
@@ -243,7 +244,7 @@ module _ {p : Script} (matches : ℕ → ℕ → Bool) (facts : Facts p.declarat
       let there : Under (caps_of s (config e (ε ⧺ ws) (code (many vs))) (config e (ε ⧺ ws) (code (many vs)))) s e = under_first s (config e (ε ⧺ ws) (code (many vs))) (config e (ε ⧺ ws) (code (many vs))) in
       subst (λ (z : Step). Matches p matches 52 s (config e (ε ⧺ ws) (tail_code Γ D x y c)) z) (sym (resumes_is σ vars a x v bound_is ty value kept u vs owner [] κ κ))
       (subst (λ (m : ℕ). Matches p matches 52 s (config e (ε ⧺ ws) (code m)) (or_fault Reused entry (λ (z : script.Kept). on z.around))) as_many
-      (by_kept matches σ a r.continuation on stores r.there entry kept
+      (by_kept matches σ a r.continuation on stores r.there entry typed kept
       (λ (z : slice_get s.conts r.continuation ≡ Some None).
       faulted (get_path y local.value locals local.is there (get_path (local_number Γ x) (Cont r.continuation) locals r.is there stay))
       (consumed_step p matches s e ((ε ⧺ ws) ▹ local.value) (rest (many vs)) r.continuation z) refl (omega arith))

@@ -113,7 +113,7 @@ module _ {ds : List Declaration} {ρ : List ℕ} {σ : script.Store} {s : Store}
 pub record Referred (Ξ : World) (h : Name) (v : Value) : Type 0 where
   pub address : ℕ
   pub is : v ≡ Reference address
-  pub there : slice_get Ξ address ≡ Some h
+  pub there : slice_get Ξ address ≡ Some (Resumption h)
 
 pub referred : {Ξ : World} {h : Name} {v : Value} → HasKind Ξ v (Resumption h) → Referred Ξ h v
 referred (typed.HasKind.reference {a = a} e) = record { address = a; is = refl; there = e }
@@ -192,7 +192,7 @@ module _ {p : Script} (matches : ℕ → ℕ → Bool) (facts : Facts p.declarat
 
   -- k is the resumption a, whose continuation is i
   module _ (v : Variable) (a i : ℕ) (named : variable_of k vars ≡ Some v) (refers : v.value ≡ Reference a) (at : slice_get ρ a ≡ Some i) (held : slice_get L y ≡ Some (Some (Cont i))) where
-    put_by : (z : ℤ) → PlaceOf many m z → Matches p matches 52 s (config e (ε ▹ I64 m) (put_code T many (table_index p.declarations x) y c)) (uses place (ToPut x k) (Number z) b)
+    put_by : (z : ℤ) → PlaceOf many m z → Matches p matches 52 s (config e (ε ▹ I64 m) (put_code T many (table_index p.declarations x) y c)) (uses p place (ToPut x k) (Number z) b)
     put_by z (inside lt) =
         let here = in_range slots.contents.places m (let l = places_long in omega (arith, l, lt)) in
         let t = config e (ε ▹ I64 m) (put_code T many (table_index p.declarations x) y c) in
@@ -212,16 +212,16 @@ module _ {p : Script} (matches : ℕ → ℕ → Bool) (facts : Facts p.declarat
         rw (named, refers, slots.found, none slots.contents.places places_long)
         (faulted q.1 q.2 refl (omega arith))
 
-    pub put_matched : Matches p matches 52 s (config e (ε ▹ I64 m) (store_code p.declarations Γ x k c)) (uses place (ToPut x k) (Number z) b)
+    pub put_matched : Matches p matches 52 s (config e (ε ▹ I64 m) (store_code p.declarations Γ x k c)) (uses p place (ToPut x k) (Number z) b)
     put_matched =
-        subst (λ (j : ℕ). Matches p matches 52 s (config e (ε ▹ I64 m) (put_code T many (table_index p.declarations x) j c)) (uses place (ToPut x k) (Number z) b)) (sym name_number)
+        subst (λ (j : ℕ). Matches p matches 52 s (config e (ε ▹ I64 m) (put_code T many (table_index p.declarations x) j c)) (uses p place (ToPut x k) (Number z) b)) (sym name_number)
         (put_by z (place_of many m z few bits reads))
 
   -- ### Taking
 
   -- what stands at the place
   take_there : (q : Option ℕ) → m < many → slice_get slots.contents.places m ≡ Some q
-      → Matches p matches 52 s (config e (ε ▹ I64 m) (take_code T many (table_index p.declarations x) y c)) (uses place (ToTake k x) (Number (pos m)) b)
+      → Matches p matches 52 s (config e (ε ▹ I64 m) (take_code T many (table_index p.declarations x) y c)) (uses p place (ToTake k x) (Number (pos m)) b)
   take_there None lt held =
       let t = config e (ε ▹ I64 m) (take_code T many (table_index p.declarations x) y c) in
       let w = elements_at slots.elements m None held in
@@ -250,7 +250,7 @@ module _ {p : Script} (matches : ℕ → ℕ → Bool) (facts : Facts p.declarat
         stores = stores_changed stores x d is m is_empty;
       })))
 
-  take_by : (z : ℤ) → PlaceOf many m z → Matches p matches 52 s (config e (ε ▹ I64 m) (take_code T many (table_index p.declarations x) y c)) (uses place (ToTake k x) (Number z) b)
+  take_by : (z : ℤ) → PlaceOf many m z → Matches p matches 52 s (config e (ε ▹ I64 m) (take_code T many (table_index p.declarations x) y c)) (uses p place (ToTake k x) (Number z) b)
   take_by z (inside lt) = let here = in_range slots.contents.places m (let l = places_long in omega (arith, l, lt)) in take_there here.0 lt here.1
   take_by z (outside le none) =
       let t = config e (ε ▹ I64 m) (take_code T many (table_index p.declarations x) y c) in
@@ -258,7 +258,7 @@ module _ {p : Script} (matches : ℕ → ℕ → Bool) (facts : Facts p.declarat
       rw (slots.found, none slots.contents.places places_long)
       (faulted q.1 q.2 refl (omega arith))
 
-  pub take_matched : Matches p matches 52 s (config e (ε ▹ I64 m) (lowered.take_code p.declarations Γ k x c)) (uses place (ToTake k x) (Number z) b)
+  pub take_matched : Matches p matches 52 s (config e (ε ▹ I64 m) (lowered.take_code p.declarations Γ k x c)) (uses p place (ToTake k x) (Number z) b)
   take_matched =
-      subst (λ (j : ℕ). Matches p matches 52 s (config e (ε ▹ I64 m) (take_code T many (table_index p.declarations x) j c)) (uses place (ToTake k x) (Number z) b)) (sym name_number)
+      subst (λ (j : ℕ). Matches p matches 52 s (config e (ε ▹ I64 m) (take_code T many (table_index p.declarations x) j c)) (uses p place (ToTake k x) (Number z) b)) (sym name_number)
       (take_by z (place_of many m z few bits reads))

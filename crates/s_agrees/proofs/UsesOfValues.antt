@@ -30,11 +30,11 @@ use Rattle.s_meaning.specs.Terms as script
 use Rattle.s_meaning.specs.Terms.{Value, Number, Variable, Use, ToStore, ToPrint, Runs}
 use Rattle.s_meaning.specs.Steps.{Around, ◌⨟⨟◌, goes_on, leaves, uses}
 use Rattle.s_meaning.specs.Typed as typed
-use Rattle.s_meaning.specs.Typed.{World, Covers, UseTyped}
+use Rattle.s_meaning.specs.Typed.{World, Covers, UseTyped, StoreTyped}
 use Rattle.s_valid.proofs.LayoutTypes.{Placed as HasLocal}
 use Rattle.s_valid.proofs.Starts.{printer_first}
 use Rattle.s_agrees.proofs.StandsFor as standing
-use Rattle.s_agrees.proofs.StandsFor.{config, Same, number, Locals, Active, WellExpr, WellBlock, Deep, here, label, while_loop, Rest, clause_labels, in_loop, Base, function, clause, Waits, outside, activation, handle, gives, runs, Stores}
+use Rattle.s_agrees.proofs.StandsFor.{config, Same, number, Locals, Active, WellExpr, WellBlock, Deep, here, label, while_loop, Rest, clause_labels, in_loop, Base, function, clause, Waits, outside, activation, handle, group, gives, runs, Stores}
 use Rattle.s_agrees.proofs.Contexts.{setting, rest_beyond, deep_locals, rest_deep, base_locals, base_set}
 use Rattle.s_agrees.proofs.CountedContexts.{weight, labels_set, deep_labels, base_labels}
 use Rattle.s_agrees.proofs.Paths.{program_of, step, Caps, Under, Path, stay, go, path_wider, set_step}
@@ -46,6 +46,7 @@ use Rattle.s_agrees.proofs.StepsInPlace.{zero_test, one_step}
 use Rattle.s_agrees.proofs.Bodies.{rest_block}
 use Rattle.s_agrees.proofs.NamesSet.{local_below, active_with}
 use Rattle.s_agrees.proofs.UsesOfSlots.{referred, continued, put_matched, take_matched}
+use Rattle.s_agrees.proofs.SwitchSteps.{switch_uses}
 use Rattle.s_agrees.proofs.Captures.{in_range}
 
 -- ## Returns
@@ -71,13 +72,14 @@ return_step : {ds : List Declaration} {Γ : Layout} {L : Locals} {below : Row Va
 return_step P s ops w c d b = returns_deep s (ops ▹ w) d ∙ returns_base s ops w b
 
 -- the value of an activation that ended, in what is around it
-left_with : {p : Script} {matches : ℕ → ℕ → Bool} {ρ : List ℕ} {σ : script.Store} {s : Store} {κ : script.Context} {below : Row Val} {c' : Code} {e' : Context} {z : ℤ} {a : Val} {n : ℕ} {t : Term}
+pub left_with : {p : Script} {matches : ℕ → ℕ → Bool} {ρ : List ℕ} {σ : script.Store} {s : Store} {κ : script.Context} {below : Row Val} {c' : Code} {e' : Context} {z : ℤ} {a : Val} {n : ℕ} {t : Term}
     → Stores p.declarations ρ σ s → Waits p.declarations ρ κ below c' e' → Same ρ (Number z) a
     → Path (program_of p matches) (caps_of s t (config e' (below ▹ a) c')) n s t s (config e' (below ▹ a) c') → 1 ≤ n → n + weight s (config e' (below ▹ a) c') ≤ 52 + weight s t
     → Matches p matches 52 s t (leaves σ κ (Number z))
 left_with stores outside (number {n = n} h e) path m b = matching.Matches.returns (path_wider (omega arith) (omega arith) (omega arith) path) m refl (sym (signed_cast n h) ∙ e) (omega (arith, b))
 left_with stores (activation a w k u) v path m b = went path m b (record { stands = gives v (activation a w k u); stores = stores })
 left_with stores (handle is room n g u) v path m b = went path m b (record { stands = gives v (handle is room n g u); stores = stores })
+left_with stores (group u) v path m b = went path m b (record { stands = gives v (group u); stores = stores })
 
 -- ## The test for 0
 
@@ -108,20 +110,20 @@ module _ {p : Script} (matches : ℕ → ℕ → Bool) (facts : Facts p.declarat
 
   -- let x = z; and x = z;
   sim_store : {D : ℕ} {x : Name} {z : ℤ} {a : Val} {b : BlockTree} {c : Code} {e : Context} → Same ρ (Number z) a → HasLocal Γ x Int → Rest p.declarations Γ n D0 f D b c e
-      → Matches p matches 52 s (config e (ε ▹ a) (Plain (local_set (local_number Γ x)) c)) (uses place (ToStore x) (Number z) b)
+      → Matches p matches 52 s (config e (ε ▹ a) (Plain (local_set (local_number Γ x)) c)) (uses p place (ToStore x) (Number z) b)
   sim_store {x = x} {z = z} {a = a} {b = b} {c = c} {e = e} v h r =
       let y = h.local.number in
       let old = in_range L y (local_below x Int (Number z) h v active) in
       let locals = deep_locals (rest_deep r).deep ∙ base_locals base in
       let l = labels_set y a e in
-      subst (λ (j : ℕ). Matches p matches 52 s (config e (ε ▹ a) (Plain (local_set j) c)) (uses place (ToStore x) (Number z) b)) (sym (ap number_in h.is))
+      subst (λ (j : ℕ). Matches p matches 52 s (config e (ε ▹ a) (Plain (local_set j) c)) (uses p place (ToStore x) (Number z) b)) (sym (ap number_in h.is))
       (went (go (set_step (program_of p matches) s e ε a c y old.0 (ap (λ (w : Locals). slice_get w y) locals ∙ old.1))
       (under_last s s (config e (ε ▹ a) (Plain (local_set y) c)) (config (with_local y a e) ε c) (omega arith)) stay) (omega arith) (omega (arith, l))
       (record { stands = runs (active_with x Int (Number z) h v active) (rest_beyond (setting y a) r) (base_set y a base) waits; stores = stores }))
 
   -- print z;
   sim_print : {D : ℕ} {z : ℤ} {a : Val} {b : BlockTree} {c : Code} {e : Context} → Same ρ (Number z) a → Rest p.declarations Γ n D0 f D b c e
-      → Matches p matches 52 s (config e (ε ▹ a) (Plain (call printer) c)) (uses place ToPrint (Number z) b)
+      → Matches p matches 52 s (config e (ε ▹ a) (Plain (call printer) c)) (uses p place ToPrint (Number z) b)
   sim_print {b = b} {c = c} {e = e} (number {n = m} h q) r =
       let t : Term = config e (ε ▹ I64 m) (Plain (call printer) c) in
       matching.Matches.prints stay
@@ -174,15 +176,15 @@ module _ {p : Script} (matches : ℕ → ℕ → Bool) (facts : Facts p.declarat
       (go (return_step (program_of p matches) s ε a c d base) (under_last s s (config e (ε ▹ a) (Plain leave c)) (config e' (below ▹ a) c') (omega arith)) stay) (omega arith) (omega (arith, x, y))
 
   -- a statement has its value
-  pub sim_use : {Ξ : World} {scope scope' : Scope} {u : Use} {z : ℤ} {a : Val} {b : BlockTree} {c : Code} {e : Context} → Same ρ (Number z) a → standing.Uses p.declarations Γ n D0 f u b c e → Covers Ξ scope vars → UseTyped p scope u scope'
-      → Matches p matches 52 s (config e (ε ▹ a) c) (uses (record { store = σ; variables = vars; owner = owner; work = []; outer = κ }) u (Number z) b)
-  sim_use v (standing.Uses.sets h r) covers t = sim_store v h r
-  sim_use v (standing.Uses.prints r) covers t = sim_print v r
-  sim_use v (standing.Uses.drops r) covers t = one_step refl (record { stands = runs active r base waits; stores = stores })
-  sim_use v (standing.Uses.returns d) covers t = sim_leave v d
-  sim_use {z = z} (number {n = m} h q) (standing.Uses.chooses {x = x} {y = y} v w r) covers t = sim_choose x y (holds z) (zero_test m h q) v w r
-  sim_use {z = z} (number {n = m} h q) (standing.Uses.turns {x = x} {b = y} v w r) covers t = sim_turn x y (holds z) (zero_test m h q) v w r
-  sim_use {z = z} (number {n = m} h q) (standing.Uses.puts {s = x} {k = k} {d = d} is local free r) covers (typed.UseTyped.puts {d = d'} there named) =
+  pub sim_use : {Ξ : World} {scope scope' : Scope} {u : Use} {z : ℤ} {a : Val} {b : BlockTree} {c : Code} {e : Context} → Same ρ (Number z) a → standing.Uses p.declarations Γ n D0 f u b c e → StoreTyped p Ξ σ → Covers Ξ scope vars → UseTyped p scope u scope'
+      → Matches p matches 52 s (config e (ε ▹ a) c) (uses p (record { store = σ; variables = vars; owner = owner; work = []; outer = κ }) u (Number z) b)
+  sim_use v (standing.Uses.sets h r) store covers t = sim_store v h r
+  sim_use v (standing.Uses.prints r) store covers t = sim_print v r
+  sim_use v (standing.Uses.drops r) store covers t = one_step refl (record { stands = runs active r base waits; stores = stores })
+  sim_use v (standing.Uses.returns d) store covers t = sim_leave v d
+  sim_use {z = z} (number {n = m} h q) (standing.Uses.chooses {x = x} {y = y} v w r) store covers t = sim_choose x y (holds z) (zero_test m h q) v w r
+  sim_use {z = z} (number {n = m} h q) (standing.Uses.turns {x = x} {b = y} v w r) store covers t = sim_turn x y (holds z) (zero_test m h q) v w r
+  sim_use {z = z} (number {n = m} h q) (standing.Uses.puts {s = x} {k = k} {d = d} is local free r) store covers (typed.UseTyped.puts {d = d'} there named) =
       let v = covers.covers k (Resumption d'.handler) named in
       let to = referred v.has in
       let held = active.holds.each k v.variable v.there in
@@ -190,7 +192,8 @@ module _ {p : Script} (matches : ℕ → ℕ → Bool) (facts : Facts p.declarat
       let one : local.local.number ≡ held.local.number = ap number_in (sym local.is ∙ held.is) in
       put_matched matches facts stores active base waits x k d is local free z m h q r v.variable to.address at.continuation v.there to.is at.there
       (ap (λ (j : ℕ). slice_get L j) one ∙ held.held.is ∙ ap (λ (w : Val). Some (Some w)) at.is)
-  sim_use {z = z} (number {n = m} h q) (standing.Uses.takes {s = x} {k = k} {d = d} is local free r) covers t = take_matched matches facts stores active base waits x k d is local free z m h q r
+  sim_use {z = z} (number {n = m} h q) (standing.Uses.takes {s = x} {k = k} {d = d} is local free r) store covers t = take_matched matches facts stores active base waits x k d is local free z m h q r
+  sim_use v (standing.Uses.switches {x = x} {u = u} {k = k} hx hu hk r) store covers (typed.UseTyped.switching named) = switch_uses matches facts stores active base waits x u k store covers named v hx hu hk r
 
   -- fail
   pub sim_fail : {d : ℕ} {c : Code} {e : Context} → Deep f d e → Matches p matches 52 s (config e ε (Plain unreachable c)) (Faults Failed)

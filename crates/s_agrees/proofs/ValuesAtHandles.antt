@@ -1,4 +1,4 @@
--- A value at a handle: the handle is left, and the return clause runs in the handler's function.
+-- A value at a handle: the handle is left, and the return clause runs in the handler's function. A value at a group leaves its handle.
 use Rattle.std.proofs.Common.{◌≡◌, ℕ, ◌+◌, ◌<◌, ◌≤◌, Bool, ℤ, List, [], ◌∷◌, ◌++◌, length, Option, Some, refl, sym, ap, subst, arith}
 use Rattle.std.specs.Prelude.{slice_set}
 use Rattle.std.proofs.lemmas.Option.{slice_get_within}
@@ -18,19 +18,20 @@ use Rattle.s_code.specs.Layouts.{number_in}
 use Rattle.s_code.specs.Places.{return_layout, placed_clauses}
 use Rattle.s_code.specs.Statements.{body}
 use Rattle.s_meaning.specs.Terms as script
-use Rattle.s_meaning.specs.Terms.{Value, Number, Variable, Gives, Handle as Handled}
+use Rattle.s_meaning.specs.Terms.{Value, Number, Variable, Gives, Handle as Handled, Group}
 use Rattle.s_meaning.specs.Steps.{or_wrong, bind, enters, step_at}
 use Rattle.s_meaning.proofs.Lists.{length_set}
-use Rattle.s_agrees.proofs.StandsFor.{config, Same, Locals, LocalIs, Held, Active, Rest, clause_labels, in_loop, handler_high, handler_room, clause, Waits, runs, Stores}
+use Rattle.s_agrees.proofs.StandsFor.{config, Same, Locals, LocalIs, Held, Active, Rest, clause_labels, in_loop, handler_high, handler_room, clause, group_clauses, Waits, runs, Stores}
 use Rattle.s_agrees.proofs.MoreResumptions.{get_set_same, local_kept}
 use Rattle.s_agrees.proofs.CountedContexts.{weight, clauses_labels, clauses_frames, clauses_handles}
 use Rattle.s_agrees.proofs.Paths.{program_of, Path, stay, go}
-use Rattle.s_agrees.proofs.Matches.{caps_of, Matches, went}
+use Rattle.s_agrees.proofs.Matches.{caps_of, Matches, went, under_last}
 use Rattle.s_agrees.proofs.EnteredBodies.{many_placed}
 use Rattle.s_agrees.proofs.Facts.{ReturnFacts, Facts}
 use Rattle.s_agrees.proofs.BoundValues.{bind_known, holds_bound, holds_append, holds_one}
 use Rattle.s_agrees.proofs.Bodies.{rest_body}
 use Rattle.s_agrees.proofs.Captures.{in_range, Around, in_blocks, set_path}
+use Rattle.s_agrees.proofs.UsesOfValues.{left_with}
 
 module _ {p : Script} (matches : ℕ → ℕ → Bool) (facts : Facts p.declarations) {ρ : List ℕ} {σ : script.Store} {s : Store} (stores : Stores p.declarations ρ σ s)
     (h : Name) {i : Handler} {L : Locals} {ps : List Value} {κ : script.Context} {below : Row Val} {c : Code} {e : Context} (is : handler_of p.declarations h ≡ Some i) (room : handler_room p.declarations h i ≤ length L)
@@ -124,3 +125,11 @@ module _ {p : Script} (matches : ℕ → ℕ → Bool) (facts : Facts p.declarat
       subst (λ (o : Option Handler). Matches p matches 52 s handle_term (or_wrong o (λ (g : Handler). or_wrong (bind g.parameters ps) (λ (params : List Variable).
       enters σ g.return_clause.body (params ++ record { name = g.return_clause.value; ty = Int; value = Number z } ∷ []) (Some h) κ)))) (sym is)
       (subst (λ (o : Option (List Variable)). Matches p matches 52 s handle_term (or_wrong o (λ (params : List Variable). enters σ i.return_clause.body (params ++ result ∷ []) (Some h) κ))) (sym b.1) (return_bound b.1))
+
+-- a value at a group: its handle is left
+pub sim_group_left : {p : Script} (matches : ℕ → ℕ → Bool) {ρ : List ℕ} {σ : script.Store} {s : Store} → Stores p.declarations ρ σ s → {κ : script.Context} {ops : Row Val} {c : Code} {e : Context}
+    → Waits p.declarations ρ κ ops c e → {z : ℤ} {a : Val} → Same ρ (Number z) a
+    → Matches p matches 52 s (config (Handle ops (group_clauses p.declarations) c ∷ e) (ε ▹ a) Done) (step_at p σ (Gives (Number z)) (Group ∷ κ))
+sim_group_left {p} matches {s = s} stores {ops = ops} {c = c} {e = e} waits {a = a} value =
+    let t : Term = config (Handle ops (group_clauses p.declarations) c ∷ e) (ε ▹ a) Done in
+    left_with stores waits value (go refl (under_last s s t (config e (ops ▹ a) c) (omega arith)) stay) (omega arith) (omega arith)

@@ -1,19 +1,19 @@
 -- The bodies of a script have their temporaries and their locals: where no more temporaries are taken than there are,
--- each name that is bound has a local of its type, and what a handle names is handled.
+-- each name that is bound has a local of its type, and what a handle, a group or a spawn names is handled.
 use Rattle.std.proofs.Common.{◌≡◌, ℕ, ◌+◌, ◌≤◌, List, [], ◌∷◌, ◌++◌, Option, Some, if◌then◌else◌, sym, subst, arith}
 use Rattle.std.specs.Str.{bytes_eq}
 use Rattle.s_syntax.specs.declared.name.Name.{Name}
-use Rattle.s_syntax.specs.declared.script.VariableType.TheVariants.{Int, Resumption}
+use Rattle.s_syntax.specs.declared.script.VariableType.TheVariants.{Int, Resumption, Coroutine}
 use Rattle.s_syntax.specs.declared.script.VariableType.{VariableType}
 use Rattle.s_syntax.specs.declared.script.Slots.{Slots}
 use Rattle.s_syntax.specs.declared.script.Declaration.{Declaration}
 use Rattle.s_syntax.specs.declared.script.Script.{Script}
-use Rattle.s_syntax.specs.ExprTree.{ExprTree, Literal, Read, Unary, Run, Call, Do, Handle, Resume, Exprs, NoExprs, MoreExprs, Operands, NoOperands, MoreOperands}
+use Rattle.s_syntax.specs.ExprTree.{ExprTree, Literal, Read, Unary, Run, Call, Do, Handle, Resume, Group, Exprs, NoExprs, MoreExprs, Operands, NoOperands, MoreOperands}
 use Rattle.s_syntax.specs.declared.statement.Use.TheVariants as use_for
-use Rattle.s_syntax.specs.BlockTree.{BlockTree, Evaluate, If, While, Fail, Done as NoStatements, ◌⨟◌}
+use Rattle.s_syntax.specs.BlockTree.{BlockTree, Evaluate, If, While, Fail, Spawn, Done as NoStatements, ◌⨟◌}
 use Rattle.s_check.specs.Rules.{count}
 use Rattle.s_check.specs.Rules.{handler_of_slots}
-use Rattle.s_check.specs.Scopes.{Bound, Scope, type_in, number as number_name, resumption as resumption_name}
+use Rattle.s_check.specs.Scopes.{Bound, Scope, type_in, number as number_name, resumption as resumption_name, coroutine as coroutine_name}
 use Rattle.s_index.specs.Handled.{handled_in_expr, handled_in_exprs, handled_in_operands, handled_in_block}
 use Rattle.s_code.specs.Layouts.{Layout}
 use Rattle.s_code.specs.Places.{binds_in}
@@ -23,7 +23,7 @@ use Rattle.s_meaning.specs.Typing as script
 use Rattle.s_meaning.proofs.Scopes.{same_is, bool_of}
 use Rattle.s_valid.proofs.LayoutTypes.{Placed as HasLocal, AllHandled, handled_left, handled_right, handled_first, handled_later, LetsPlaced, lets_left, lets_right, lets_first}
 use Rattle.s_valid.proofs.TypedExpressions.{least_args}
-use Rattle.s_agrees.proofs.StandsFor.{WellExpr, WellArgs, WellAsides, WellOperands, WellBlock, literal, read, unary, run, calls, does, handles, resumes, no_args, arg, no_asides, aside_arg, no_operands, operand, lets, assigns, ifs, whiles, print, return, stores, takes, fail, drop, done, next}
+use Rattle.s_agrees.proofs.StandsFor.{WellExpr, WellArgs, WellAsides, WellOperands, WellBlock, literal, read, unary, run, calls, does, handles, resumes, groups, no_args, arg, no_asides, aside_arg, no_operands, operand, lets, assigns, ifs, whiles, print, return, stores, takes, switches, spawns, fail, drop, done, next}
 
 -- ## Expressions
 
@@ -53,6 +53,7 @@ module _ {ds : List Declaration} {n : ℕ} where
         let least = least_args bs (t + 1) in
         resumes (omega (arith, h, least)) (well_expr e t (omega (arith, h)) (handled_left (handled_in_expr e) (handled_in_exprs bs) a))
         (well_args bs (t + 1) (omega (arith, h)) (handled_right (handled_in_expr e) (handled_in_exprs bs) a))
+    well_expr (Group f e) t h a = groups (handled_first f (handled_in_expr e) a) (well_expr e t h (handled_later f (handled_in_expr e) a))
 
     pub well_args : (es : Exprs) (t : ℕ) → high_args t es ≤ n → AllHandled ds (handled_in_exprs es) → WellArgs ds n t es
     well_args NoExprs t h a = no_args
@@ -132,6 +133,19 @@ module _ {p : Script} {Γ : Layout} {n : ℕ} where
       let first = lets_first t (binds_in p.declarations b) l' in
       next (takes is first (omega (arith, h)) (well_expr e 0 (omega (arith, h)) (handled_left (handled_in_expr e) (handled_in_block b) a)))
       (well_block b rest (scope_more t first s) (lets_right (t ∷ []) (binds_in p.declarations b) l') (omega (arith, h)) (handled_right (handled_in_expr e) (handled_in_block b) a))
+  well_block (Evaluate (use_for.Switch x u k) e ⨟ b) (script.statement (script.evaluates q (script.switches_to named fit_x fit_u)) rest) s l h a =
+      let t = number_name x in
+      let r = coroutine_name u in
+      let first = lets_first t (r ∷ binds_in p.declarations b) l in
+      let behind = lets_right (t ∷ []) (r ∷ binds_in p.declarations b) l in
+      let second = lets_first r (binds_in p.declarations b) behind in
+      next (switches first second (s.each k Coroutine named) (well_expr e 0 (omega (arith, h)) (handled_left (handled_in_expr e) (handled_in_block b) a)))
+      (well_block b rest (scope_more r second (scope_more t first s)) (lets_right (r ∷ []) (binds_in p.declarations b) behind) (omega (arith, h)) (handled_right (handled_in_expr e) (handled_in_block b) a))
+  well_block (Spawn k f ⨟ b) (script.statement (script.spawns is two fit) rest) s l h a =
+      let t = coroutine_name k in
+      let first = lets_first t (binds_in p.declarations b) l in
+      next (spawns first (handled_first f (handled_in_block b) a))
+      (well_block b rest (scope_more t first s) (lets_right (t ∷ []) (binds_in p.declarations b) l) (omega (arith, h)) (handled_later f (handled_in_block b) a))
   well_block (Fail ⨟ b) (script.statement script.fails rest) s l h a = next fail (well_block b rest s l (omega (arith, h)) a)
   well_block (Evaluate use_for.Drop e ⨟ b) (script.statement (script.evaluates q script.drops) rest) s l h a =
       next (drop (well_expr e 0 (omega (arith, h)) (handled_left (handled_in_expr e) (handled_in_block b) a)))

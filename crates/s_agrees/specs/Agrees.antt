@@ -28,6 +28,7 @@ use Rattle.s_meaning.specs.Eval.{Ended, Frames, Handles, Conts, Follows}
 use Rattle.s_code.specs.Lowered.{lowered}
 use Rattle.s_valid.specs.Beginning.{first_store, first_term}
 use Rattle.s_meaning.specs.Eval as script
+use Rattle.s_meaning.specs.Steps.{group_name}
 
 -- the names of the effects, in their order: so tags are numbered
 abbrev pub effect_of : Name → Definition → List Name
@@ -40,6 +41,10 @@ abbrev pub effect_names : List Declaration → List Name
 effect_names [] = []
 effect_names (d ∷ ds) = effect_of d.name d.definition ++ effect_names ds
 
+-- the names that are told of what isn't handled, by tag: behind the effects comes the tag of groups
+abbrev pub tag_names : List Declaration → List Name
+tag_names ds = effect_names ds ++ group_name ∷ []
+
 -- the fault that a trap stands for; other traps stand for none
 abbrev pub fault_of : List Declaration → Trap → Option Fault
 fault_of ds trap.Unreachable = Some Failed
@@ -48,7 +53,7 @@ fault_of ds trap.IntegerOverflow = Some Overflow
 fault_of ds trap.ConsumedContinuation = Some Reused
 fault_of ds trap.TableOutOfBounds = Some Empty
 fault_of ds trap.NullReference = Some Empty
-fault_of ds (trap.Unhandled e) = option_map Unhandled (slice_get (effect_names ds) e)
+fault_of ds (trap.Unhandled e) = option_map Unhandled (slice_get (tag_names ds) e)
 fault_of ds t = None
 
 abbrev pub limit_of : RunLimit → script.RunLimit

@@ -170,7 +170,9 @@ numbered (suc (suc (suc (suc (suc (suc (suc (suc (suc (suc (suc (suc (suc (suc (
 numbered (suc (suc (suc (suc (suc (suc (suc (suc (suc (suc (suc (suc (suc (suc (suc (suc (suc (suc zero)))))))))))))))))) = rule.NoMain
 numbered (suc (suc (suc (suc (suc (suc (suc (suc (suc (suc (suc (suc (suc (suc (suc (suc (suc (suc (suc zero))))))))))))))))))) = rule.NoSlots
 numbered (suc (suc (suc (suc (suc (suc (suc (suc (suc (suc (suc (suc (suc (suc (suc (suc (suc (suc (suc (suc zero)))))))))))))))))))) = rule.SlotsOfOtherNumber
-numbered (suc (suc (suc (suc (suc (suc (suc (suc (suc (suc (suc (suc (suc (suc (suc (suc (suc (suc (suc (suc (suc n))))))))))))))))))))) = rule.StoredOfOtherType
+numbered (suc (suc (suc (suc (suc (suc (suc (suc (suc (suc (suc (suc (suc (suc (suc (suc (suc (suc (suc (suc (suc zero))))))))))))))))))))) = rule.StoredOfOtherType
+numbered (suc (suc (suc (suc (suc (suc (suc (suc (suc (suc (suc (suc (suc (suc (suc (suc (suc (suc (suc (suc (suc (suc zero)))))))))))))))))))))) = rule.OtherParameters
+numbered (suc (suc (suc (suc (suc (suc (suc (suc (suc (suc (suc (suc (suc (suc (suc (suc (suc (suc (suc (suc (suc (suc (suc n))))))))))))))))))))))) = rule.NoCoroutine
 
 -- numbers tell rules apart
 numbered-number : (r : Rule) → numbered (number_of r) ≡ r
@@ -195,6 +197,8 @@ numbered-number rule.NoMain = refl
 numbered-number rule.NoSlots = refl
 numbered-number rule.SlotsOfOtherNumber = refl
 numbered-number rule.StoredOfOtherType = refl
+numbered-number rule.OtherParameters = refl
+numbered-number rule.NoCoroutine = refl
 
 one_rule : (r s : Rule) → number_of r ≡ number_of s → r ≡ s
 one_rule r s e = sym (numbered-number r) ∙ ap numbered e ∙ numbered-number s

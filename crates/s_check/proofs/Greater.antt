@@ -4,23 +4,23 @@ use Rattle.std.proofs.lemmas.Bool.Decides.{nat_tests}
 use Rattle.std.specs.Prelude.{nat_lt, nat_eq, if◌then◌else◌}
 use Rattle.s_syntax.specs.declared.name.Name.{Name}
 use Rattle.s_syntax.specs.declared.script.VariableType.{VariableType}
-use Rattle.s_syntax.specs.declared.script.VariableType.TheVariants.{Int, Resumption}
+use Rattle.s_syntax.specs.declared.script.VariableType.TheVariants.{Int, Resumption, Coroutine}
 use Rattle.s_syntax.specs.declared.script.Parameter.{Parameter}
 use Rattle.s_syntax.specs.declared.script.Function.{Function}
 use Rattle.s_syntax.specs.declared.script.Clause.{Clause}
 use Rattle.s_syntax.specs.declared.script.Handler.{Handler}
 use Rattle.s_syntax.specs.declared.script.Declaration.{Declaration}
-use Rattle.s_syntax.specs.ExprTree.{ExprTree, Literal, Read, Unary, Run, Call, Do, Handle, Resume, Exprs, NoExprs, MoreExprs, Operands, NoOperands, MoreOperands}
+use Rattle.s_syntax.specs.ExprTree.{ExprTree, Literal, Read, Unary, Run, Call, Do, Handle, Resume, Group, Exprs, NoExprs, MoreExprs, Operands, NoOperands, MoreOperands}
 use Rattle.s_syntax.specs.declared.statement.Use.{Use}
 use Rattle.s_syntax.specs.declared.statement.Use.TheVariants as use_for
-use Rattle.s_syntax.specs.BlockTree.{StatementTree, BlockTree, Evaluate, If, While, Fail, Done, ◌⨟◌}
+use Rattle.s_syntax.specs.BlockTree.{StatementTree, BlockTree, Evaluate, If, While, Fail, Spawn, Done, ◌⨟◌}
 use Rattle.s_syntax.specs.declared.script.Slots.{Slots}
 use Rattle.s_check.specs.declared.rule.Rule.{Rule}
 use Rattle.s_check.specs.declared.rule.Rule.TheVariants as rule
 use Rattle.s_check.specs.Definitions.{function_of, handler_of, effect_of, slots_of}
 use Rattle.s_check.specs.Least.{lesser, least_of}
 use Rattle.s_check.specs.Refusal.{number_of}
-use Rattle.s_check.specs.Rules.{when, count, against, all_suit, for_function, for_effect, for_handler, for_handler_of_type, for_resumed, for_slots, in_stored, is_resumption_of, in_name, in_expr, in_exprs, in_operands, in_target, in_use, bound_after, in_statement, in_block, in_body, in_types, in_parameters, in_head, in_clauses, in_header, in_bodies}
+use Rattle.s_check.specs.Rules.{when, count, against, all_suit, for_function, for_effect, for_handler, for_handler_of_type, for_resumed, takes_number, takes_both, for_grouped, for_spawned, for_switched, for_slots, in_stored, is_coroutine, is_resumption_of, in_name, in_expr, in_exprs, in_operands, in_target, in_use, bound_after, in_statement, in_block, in_body, in_types, in_parameters, in_head, in_clauses, in_header, in_bodies}
 use Rattle.s_check.proofs.Least.{least_append}
 use Rattle.s_check.specs.Scopes.{Scope, Bound, type_in, of_clause, of_return}
 
@@ -66,11 +66,27 @@ resumed_greater : (ds : List Declaration) (bs : Scope) (o : Option VariableType)
 resumed_greater ds bs None es = (omega arith, tt)
 resumed_greater ds bs (Some Int) es = (omega arith, tt)
 resumed_greater ds bs (Some (Resumption h)) es = type_greater ds bs (handler_of ds h) es
+resumed_greater ds bs (Some Coroutine) es = (omega arith, tt)
+
+grouped_greater : (o : Option Function) → AreGreater (for_grouped o)
+grouped_greater None = (omega arith, tt)
+grouped_greater (Some f) = one_where (not (takes_number f.parameters)) rule.OtherParameters (omega arith)
+
+spawned_greater : (o : Option Function) → AreGreater (for_spawned o)
+spawned_greater None = (omega arith, tt)
+spawned_greater (Some f) = one_where (not (takes_both f.parameters)) rule.OtherParameters (omega arith)
+
+switched_greater : (o : Option VariableType) → AreGreater (for_switched o)
+switched_greater None = (omega arith, tt)
+switched_greater (Some Int) = (omega arith, tt)
+switched_greater (Some (Resumption h)) = (omega arith, tt)
+switched_greater (Some Coroutine) = tt
 
 name_greater : (whole : Bool) (o : Option VariableType) → AreGreater (in_name whole o)
 name_greater whole None = (omega arith, tt)
 name_greater whole (Some Int) = tt
 name_greater whole (Some (Resumption h)) = one_where (not whole) rule.ResumptionElsewhere (omega arith)
+name_greater whole (Some Coroutine) = one_where (not whole) rule.ResumptionElsewhere (omega arith)
 
 mutual
   expr_greater : (ds : List Declaration) (bs : Scope) (whole : Bool) (e : ExprTree) → AreGreater (in_expr ds bs whole e)
@@ -87,6 +103,7 @@ mutual
   expr_greater ds bs whole (Resume k e ps) =
       both (in_expr ds bs false e) (for_resumed ds bs (type_in bs k) ps ++ in_exprs ds bs true ps) (expr_greater ds bs false e)
       (both (for_resumed ds bs (type_in bs k) ps) (in_exprs ds bs true ps) (resumed_greater ds bs (type_in bs k) ps) (exprs_greater ds bs true ps))
+  expr_greater ds bs whole (Group f e) = both (for_grouped (function_of ds f)) (in_expr ds bs false e) (grouped_greater (function_of ds f)) (expr_greater ds bs false e)
 
   exprs_greater : (ds : List Declaration) (bs : Scope) (whole : Bool) (es : Exprs) → AreGreater (in_exprs ds bs whole es)
   exprs_greater ds bs whole NoExprs = tt
@@ -102,6 +119,7 @@ target_greater : (o : Option VariableType) → AreGreater (in_target o)
 target_greater None = (omega arith, tt)
 target_greater (Some Int) = tt
 target_greater (Some (Resumption h)) = (omega arith, tt)
+target_greater (Some Coroutine) = (omega arith, tt)
 
 slots_greater : (o : Option Slots) → AreGreater (for_slots o)
 slots_greater None = (omega arith, tt)
@@ -109,8 +127,10 @@ slots_greater (Some s) = tt
 
 stored_greater : (ds : List Declaration) (o : Option Slots) (k : Option VariableType) → AreGreater (in_stored ds o k)
 stored_greater ds o None = (omega arith, tt)
-stored_greater ds None (Some t) = tt
-stored_greater ds (Some s) (Some t) = one_where (not (is_resumption_of ds s.handler (Some t))) rule.StoredOfOtherType (omega arith)
+stored_greater ds None (Some t) = one_where (is_coroutine (Some t)) rule.ResumptionElsewhere (omega arith)
+stored_greater ds (Some s) (Some t) =
+    both (when (is_coroutine (Some t)) rule.ResumptionElsewhere) (when (not (is_resumption_of ds s.handler (Some t))) rule.StoredOfOtherType)
+    (one_where (is_coroutine (Some t)) rule.ResumptionElsewhere (omega arith)) (one_where (not (is_resumption_of ds s.handler (Some t))) rule.StoredOfOtherType (omega arith))
 
 use_greater : (ds : List Declaration) (bs : Scope) (u : Use) → AreGreater (in_use ds bs u)
 use_greater ds bs (use_for.Let x) = tt
@@ -120,6 +140,7 @@ use_greater ds bs use_for.Return = tt
 use_greater ds bs use_for.Drop = tt
 use_greater ds bs (use_for.Store s k) = both (for_slots (slots_of ds s)) (in_stored ds (slots_of ds s) (type_in bs k)) (slots_greater (slots_of ds s)) (stored_greater ds (slots_of ds s) (type_in bs k))
 use_greater ds bs (use_for.Take k s) = slots_greater (slots_of ds s)
+use_greater ds bs (use_for.Switch x u t) = switched_greater (type_in bs t)
 
 mutual
   statement_greater : (ds : List Declaration) (bs : Scope) (s : StatementTree) → AreGreater (in_statement ds bs s)
@@ -127,6 +148,7 @@ mutual
   statement_greater ds bs (If c a b) = both (in_expr ds bs false c) (in_block ds bs a ++ in_block ds bs b) (expr_greater ds bs false c) (both (in_block ds bs a) (in_block ds bs b) (block_greater ds bs a) (block_greater ds bs b))
   statement_greater ds bs (While c b) = both (in_expr ds bs false c) (in_block ds bs b) (expr_greater ds bs false c) (block_greater ds bs b)
   statement_greater ds bs Fail = tt
+  statement_greater ds bs (Spawn t f) = spawned_greater (function_of ds f)
 
   block_greater : (ds : List Declaration) (bs : Scope) (b : BlockTree) → AreGreater (in_block ds bs b)
   block_greater ds bs Done = tt

@@ -6,3 +6,4 @@ mod Clauses
 pub mod Firsts
 mod Scopes
 mod Statements
+mod Expressions

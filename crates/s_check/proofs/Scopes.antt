@@ -3,12 +3,12 @@ use Rattle.std.proofs.Common.{◌≡◌, ℕ, Bool, true, false, List, [], ◌�
 use Rattle.std.specs.Prelude.{is_some, if◌then◌else◌}
 use Rattle.s_syntax.specs.declared.statement.Use.{Use}
 use Rattle.s_syntax.specs.declared.statement.Use.TheVariants as use_for
-use Rattle.s_syntax.specs.BlockTree.{StatementTree, Evaluate, If, While, Fail}
+use Rattle.s_syntax.specs.BlockTree.{StatementTree, Evaluate, If, While, Fail, Spawn}
 use Rattle.s_syntax.specs.declared.script.Declaration.{Declaration}
 use Rattle.s_check.specs.Definitions.{slots_of}
 use Rattle.s_check.specs.Rules.{handler_of_slots, bound_by, bound_after}
 use Rattle.s_check.specs.declared.bound.Binding.{Binding}
-use Rattle.s_check.specs.Scopes.{Bound, Scope, type_in, number, resumption}
+use Rattle.s_check.specs.Scopes.{Bound, Scope, type_in, bind, number, resumption, coroutine}
 use Rattle.s_check.specs.Views.{bound_of, scope_of}
 use Rattle.lists.proofs.Lists.{cell}
 use Rattle.s_check.proofs.Names.{scope_more}
@@ -31,12 +31,15 @@ front_by ds use_for.Return first scope h = h
 front_by ds use_for.Drop first scope h = h
 front_by ds (use_for.Store s k) first scope h = h
 front_by ds (use_for.Take k s) first scope h = front_bound first scope (resumption (handler_of_slots s (slots_of ds s)) k) (is_some (type_in scope k)) h
+front_by ds (use_for.Switch x u t) first scope h =
+    front_bound first (bind (number x) scope) (coroutine u) (is_some (type_in (bind (number x) scope) u)) (front_bound first scope (number x) (is_some (type_in scope x)) h)
 
 front_after : (ds : List Declaration) (s : StatementTree) (first scope : Scope) → take (length first) scope ≡ first → take (length first) (bound_after ds s scope) ≡ first
 front_after ds (Evaluate u e) first scope h = front_by ds u first scope h
 front_after ds (If c a b) first scope h = h
 front_after ds (While c b) first scope h = h
 front_after ds Fail first scope h = h
+front_after ds (Spawn t f) first scope h = front_bound first scope (coroutine t) (is_some (type_in scope t)) h
 
 -- behind a statement
 pub kept_after : (ds : List Declaration) (s : StatementTree) (first scope after : Scope) → take (length first) scope ≡ first → after ≡ bound_after ds s scope → take (length first) after ≡ first

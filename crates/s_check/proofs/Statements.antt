@@ -5,7 +5,7 @@ use Rattle.s_syntax.specs.declared.script.Declaration.{Declaration}
 use Rattle.s_syntax.specs.declared.statement.Statement.{Statement}
 use Rattle.s_syntax.specs.BlockOf.{statement_of, block_of}
 use Rattle.s_check.specs.declared.rule.Rule.{Rule}
-use Rattle.s_syntax.specs.BlockTree.{StatementTree, Evaluate, If, While, Fail}
+use Rattle.s_syntax.specs.BlockTree.{StatementTree, Evaluate, If, While, Fail, Spawn}
 use Rattle.s_check.specs.Least.{least_of}
 use Rattle.s_check.specs.Parts.{in_front, in_blocks}
 use Rattle.s_check.specs.Rules.{in_expr, in_statement, in_block, bound_after}
@@ -41,3 +41,4 @@ in_parts ds bs (Evaluate u e) least = refl
 in_parts ds bs (If c a b) least = least_append least (in_expr ds bs false c) (in_block ds bs a ++ in_block ds bs b)
 in_parts ds bs (While c b) least = least_append least (in_expr ds bs false c) (in_block ds bs b)
 in_parts ds bs Fail least = refl
+in_parts ds bs (Spawn t f) least = refl

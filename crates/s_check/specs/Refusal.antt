@@ -30,6 +30,8 @@ number_of rule.NoMain = 18
 number_of rule.NoSlots = 19
 number_of rule.SlotsOfOtherNumber = 20
 number_of rule.StoredOfOtherType = 21
+number_of rule.OtherParameters = 22
+number_of rule.NoCoroutine = 23
 
 -- the rule is one of these
 pub data IsOf (r : Rule) : List Rule → Type 0 where

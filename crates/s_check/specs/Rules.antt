@@ -3,7 +3,7 @@ use Rattle.std.specs.Prelude.{ℕ, suc, nat_lt, nat_eq, Bool, true, false, not, 
 use Rattle.std.specs.Str.{bytes_eq}
 use Rattle.s_syntax.specs.declared.name.Name.{Name}
 use Rattle.s_syntax.specs.declared.script.VariableType.{VariableType}
-use Rattle.s_syntax.specs.declared.script.VariableType.TheVariants.{Int, Resumption}
+use Rattle.s_syntax.specs.declared.script.VariableType.TheVariants.{Int, Resumption, Coroutine}
 use Rattle.s_syntax.specs.declared.script.Parameter.{Parameter}
 use Rattle.s_syntax.specs.declared.script.Function.{Function}
 use Rattle.s_syntax.specs.declared.script.Clause.{Clause}
@@ -12,14 +12,14 @@ use Rattle.s_syntax.specs.declared.script.Slots.{Slots}
 use Rattle.s_syntax.specs.declared.script.Definition.{Definition}
 use Rattle.s_syntax.specs.declared.script.Definition.TheVariants as definition
 use Rattle.s_syntax.specs.declared.script.Declaration.{Declaration}
-use Rattle.s_syntax.specs.ExprTree.{ExprTree, Literal, Read, Unary, Run, Call, Do, Handle, Resume, Exprs, NoExprs, MoreExprs, Operands, NoOperands, MoreOperands}
+use Rattle.s_syntax.specs.ExprTree.{ExprTree, Literal, Read, Unary, Run, Call, Do, Handle, Resume, Group, Exprs, NoExprs, MoreExprs, Operands, NoOperands, MoreOperands}
 use Rattle.s_syntax.specs.declared.statement.Use.{Use}
 use Rattle.s_syntax.specs.declared.statement.Use.TheVariants as use_for
-use Rattle.s_syntax.specs.BlockTree.{StatementTree, BlockTree, Evaluate, If, While, Fail, Done, ◌⨟◌}
+use Rattle.s_syntax.specs.BlockTree.{StatementTree, BlockTree, Evaluate, If, While, Fail, Spawn, Done, ◌⨟◌}
 use Rattle.s_check.specs.declared.rule.Rule.{Rule}
 use Rattle.s_check.specs.declared.rule.Rule.TheVariants as rule
 use Rattle.s_check.specs.Definitions.{function_of, handler_of, effect_of, slots_of}
-use Rattle.s_check.specs.Scopes.{Scope, Bound, type_in, bind, bind_all, number, parameter, resumption, of_clause, of_return, lets_in, is_among, some_twice}
+use Rattle.s_check.specs.Scopes.{Scope, Bound, type_in, bind, bind_all, number, parameter, resumption, coroutine, of_clause, of_return, lets_in, is_among, some_twice}
 
 -- a rule is broken where the test holds
 abbrev pub when : Bool → Rule → List Rule
@@ -27,23 +27,34 @@ when b r = if b then r ∷ [] else []
 
 -- ## Arguments
 
-abbrev pub is_resumption : Option VariableType → Bool
-is_resumption None = false
-is_resumption (Some Int) = false
-is_resumption (Some (Resumption h)) = true
+-- of a type `res h`, or of type `coro`
+abbrev pub is_reference : Option VariableType → Bool
+is_reference None = false
+is_reference (Some Int) = false
+is_reference (Some (Resumption h)) = true
+is_reference (Some Coroutine) = true
+
+abbrev pub is_coroutine : Option VariableType → Bool
+is_coroutine None = false
+is_coroutine (Some Int) = false
+is_coroutine (Some (Resumption h)) = false
+is_coroutine (Some Coroutine) = true
 
 -- whether a name of this type may stand for a resumption of the handler h: the type is `res h`, or it is of no handler, whose lack breaks a rule elsewhere
 abbrev pub is_resumption_of : List Declaration → Name → Option VariableType → Bool
 is_resumption_of ds h None = false
 is_resumption_of ds h (Some Int) = false
 is_resumption_of ds h (Some (Resumption g)) = bytes_eq g h || not (is_some (handler_of ds g))
+is_resumption_of ds h (Some Coroutine) = false
 
--- An argument for a parameter of type `res h` is a bare name of that type, and one for a number is no bare name of a type `res g`.
+-- An argument for a parameter of type `res h` or `coro` is a bare name of that type, and one for a number is no bare name of such a type.
 abbrev pub suits : List Declaration → Scope → VariableType → ExprTree → Bool
-suits ds bs Int (Read x) = not (is_resumption (type_in bs x))
+suits ds bs Int (Read x) = not (is_reference (type_in bs x))
 suits ds bs Int e = true
 suits ds bs (Resumption h) (Read x) = is_resumption_of ds h (type_in bs x)
 suits ds bs (Resumption h) e = false
+suits ds bs Coroutine (Read x) = is_coroutine (type_in bs x)
+suits ds bs Coroutine e = false
 
 abbrev pub all_suit : List Declaration → Scope → List Parameter → Exprs → Bool
 all_suit ds bs [] es = true
@@ -83,6 +94,44 @@ abbrev pub for_resumed : List Declaration → Scope → Option VariableType → 
 for_resumed ds bs None es = rule.NameNotBound ∷ []
 for_resumed ds bs (Some Int) es = rule.NoResumption ∷ []
 for_resumed ds bs (Some (Resumption h)) es = for_handler_of_type ds bs (handler_of ds h) es
+for_resumed ds bs (Some Coroutine) es = rule.NoResumption ∷ []
+
+-- ## Coroutines
+
+abbrev pub is_number : VariableType → Bool
+is_number Int = true
+is_number (Resumption h) = false
+is_number Coroutine = false
+
+-- a number alone
+abbrev pub takes_number : List Parameter → Bool
+takes_number [] = false
+takes_number (a ∷ []) = is_number a.ty
+takes_number (a ∷ b ∷ ps) = false
+
+-- a number and then a coroutine
+abbrev pub takes_both : List Parameter → Bool
+takes_both [] = false
+takes_both (a ∷ []) = false
+takes_both (a ∷ b ∷ []) = is_number a.ty && is_coroutine (Some b.ty)
+takes_both (a ∷ b ∷ c ∷ ps) = false
+
+-- for the function of a group
+abbrev pub for_grouped : Option Function → List Rule
+for_grouped None = rule.NoFunction ∷ []
+for_grouped (Some f) = when (not (takes_number f.parameters)) rule.OtherParameters
+
+-- for the function that is spawned
+abbrev pub for_spawned : Option Function → List Rule
+for_spawned None = rule.NoFunction ∷ []
+for_spawned (Some f) = when (not (takes_both f.parameters)) rule.OtherParameters
+
+-- for the target of a switch
+abbrev pub for_switched : Option VariableType → List Rule
+for_switched None = rule.NameNotBound ∷ []
+for_switched (Some Int) = rule.NoCoroutine ∷ []
+for_switched (Some (Resumption h)) = rule.NoCoroutine ∷ []
+for_switched (Some Coroutine) = []
 
 -- ## Expressions
 
@@ -91,6 +140,7 @@ abbrev pub in_name : Bool → Option VariableType → List Rule
 in_name whole None = rule.NameNotBound ∷ []
 in_name whole (Some Int) = []
 in_name whole (Some (Resumption h)) = when (not whole) rule.ResumptionElsewhere
+in_name whole (Some Coroutine) = when (not whole) rule.ResumptionElsewhere
 
 abbrev mutual
   -- an expression, which is a whole argument of a call, of a list of a `handle` or of the `with` of a `resume`, or isn't
@@ -103,6 +153,7 @@ abbrev mutual
   in_expr ds bs whole (Do op es) = for_effect (effect_of ds op) es ++ in_exprs ds bs false es
   in_expr ds bs whole (Handle f es h ps) = (for_function ds bs (function_of ds f) es ++ in_exprs ds bs true es) ++ (for_handler ds bs (handler_of ds h) ps ++ in_exprs ds bs true ps)
   in_expr ds bs whole (Resume k e ps) = in_expr ds bs false e ++ (for_resumed ds bs (type_in bs k) ps ++ in_exprs ds bs true ps)
+  in_expr ds bs whole (Group f e) = for_grouped (function_of ds f) ++ in_expr ds bs false e
 
   pub in_exprs : List Declaration → Scope → Bool → Exprs → List Rule
   in_exprs ds bs whole NoExprs = []
@@ -119,6 +170,7 @@ abbrev pub in_target : Option VariableType → List Rule
 in_target None = rule.NameNotBound ∷ []
 in_target (Some Int) = []
 in_target (Some (Resumption h)) = rule.ResumptionElsewhere ∷ []
+in_target (Some Coroutine) = rule.ResumptionElsewhere ∷ []
 
 -- slots that `store` or `take` names
 abbrev pub for_slots : Option Slots → List Rule
@@ -130,11 +182,11 @@ abbrev pub handler_of_slots : Name → Option Slots → Name
 handler_of_slots x None = x
 handler_of_slots x (Some s) = s.handler
 
--- a name that is stored into slots
+-- a name that is stored into slots, which may be of a type `res h` alone, and of that of the slots' handler
 abbrev pub in_stored : List Declaration → Option Slots → Option VariableType → List Rule
 in_stored ds o None = rule.NameNotBound ∷ []
-in_stored ds None (Some t) = []
-in_stored ds (Some s) (Some t) = when (not (is_resumption_of ds s.handler (Some t))) rule.StoredOfOtherType
+in_stored ds None (Some t) = when (is_coroutine (Some t)) rule.ResumptionElsewhere
+in_stored ds (Some s) (Some t) = when (is_coroutine (Some t)) rule.ResumptionElsewhere ++ when (not (is_resumption_of ds s.handler (Some t))) rule.StoredOfOtherType
 
 -- what a value is used for
 abbrev pub in_use : List Declaration → Scope → Use → List Rule
@@ -145,6 +197,7 @@ in_use ds bs use_for.Return = []
 in_use ds bs use_for.Drop = []
 in_use ds bs (use_for.Store s k) = for_slots (slots_of ds s) ++ in_stored ds (slots_of ds s) (type_in bs k)
 in_use ds bs (use_for.Take k s) = for_slots (slots_of ds s)
+in_use ds bs (use_for.Switch x u t) = for_switched (type_in bs t)
 
 -- what is bound behind such a use
 abbrev pub bound_by : List Declaration → Use → Scope → Scope
@@ -155,6 +208,7 @@ bound_by ds use_for.Return bs = bs
 bound_by ds use_for.Drop bs = bs
 bound_by ds (use_for.Store s k) bs = bs
 bound_by ds (use_for.Take k s) bs = bind (resumption (handler_of_slots s (slots_of ds s)) k) bs
+bound_by ds (use_for.Switch x u t) bs = bind (coroutine u) (bind (number x) bs)
 
 -- and behind a statement, up to the end of its block
 abbrev pub bound_after : List Declaration → StatementTree → Scope → Scope
@@ -162,6 +216,7 @@ bound_after ds (Evaluate u e) bs = bound_by ds u bs
 bound_after ds (If c a b) bs = bs
 bound_after ds (While c b) bs = bs
 bound_after ds Fail bs = bs
+bound_after ds (Spawn t f) bs = bind (coroutine t) bs
 
 abbrev mutual
   pub in_statement : List Declaration → Scope → StatementTree → List Rule
@@ -169,6 +224,7 @@ abbrev mutual
   in_statement ds bs (If c a b) = in_expr ds bs false c ++ (in_block ds bs a ++ in_block ds bs b)
   in_statement ds bs (While c b) = in_expr ds bs false c ++ in_block ds bs b
   in_statement ds bs Fail = []
+  in_statement ds bs (Spawn t f) = for_spawned (function_of ds f)
 
   pub in_block : List Declaration → Scope → BlockTree → List Rule
   in_block ds bs Done = []
@@ -183,6 +239,7 @@ in_body ds bs b = when (some_twice [] (map (λ (c : Bound). c.name) bs ++ lets_i
 abbrev pub in_type : List Declaration → VariableType → List Rule
 in_type ds Int = []
 in_type ds (Resumption h) = when (not (is_some (handler_of ds h))) rule.NoHandlerOfType
+in_type ds Coroutine = []
 
 abbrev pub in_types : List Declaration → List Parameter → List Rule
 in_types ds [] = []

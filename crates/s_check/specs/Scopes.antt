@@ -3,13 +3,13 @@ use Rattle.std.specs.Prelude.{Bool, false, ◌||◌, List, [], ◌∷◌, ◌++�
 use Rattle.std.specs.Str.{bytes_eq}
 use Rattle.s_syntax.specs.declared.name.Name.{Name}
 use Rattle.s_syntax.specs.declared.script.VariableType.{VariableType}
-use Rattle.s_syntax.specs.declared.script.VariableType.TheVariants.{Int, Resumption}
+use Rattle.s_syntax.specs.declared.script.VariableType.TheVariants.{Int, Resumption, Coroutine}
 use Rattle.s_syntax.specs.declared.script.Parameter.{Parameter}
 use Rattle.s_syntax.specs.declared.script.Clause.{Clause}
 use Rattle.s_syntax.specs.declared.script.Handler.{Handler}
 use Rattle.s_syntax.specs.declared.statement.Use.{Use}
 use Rattle.s_syntax.specs.declared.statement.Use.TheVariants as use_for
-use Rattle.s_syntax.specs.BlockTree.{StatementTree, BlockTree, Evaluate, If, While, Fail, Done, ◌⨟◌}
+use Rattle.s_syntax.specs.BlockTree.{StatementTree, BlockTree, Evaluate, If, While, Fail, Spawn, Done, ◌⨟◌}
 
 -- a value name and its type
 pub record Bound : Type 0 where
@@ -44,6 +44,9 @@ parameter p = record { name = p.name; ty = p.ty }
 abbrev pub resumption : Name → Name → Bound
 resumption h k = record { name = k; ty = Resumption h }
 
+abbrev pub coroutine : Name → Bound
+coroutine t = record { name = t; ty = Coroutine }
+
 -- in the clause of a handler for an effect
 abbrev pub of_clause : Name → Handler → Clause → List Bound
 of_clause h i c = map parameter i.parameters ++ (map number c.arguments ++ resumption h c.resumption ∷ [])
@@ -52,7 +55,7 @@ of_clause h i c = map parameter i.parameters ++ (map number c.arguments ++ resum
 abbrev pub of_return : Handler → List Bound
 of_return i = map parameter i.parameters ++ number i.return_clause.value ∷ []
 
--- ## Names that lets and takes bind
+-- ## Names that statements bind
 
 abbrev pub lets_by : Use → List Name
 lets_by (use_for.Let x) = x ∷ []
@@ -62,6 +65,7 @@ lets_by use_for.Return = []
 lets_by use_for.Drop = []
 lets_by (use_for.Store s k) = []
 lets_by (use_for.Take k s) = k ∷ []
+lets_by (use_for.Switch x u t) = x ∷ u ∷ []
 
 -- in order, those of all blocks within
 abbrev mutual
@@ -70,6 +74,7 @@ abbrev mutual
   lets_of (If c a b) = lets_in a ++ lets_in b
   lets_of (While c b) = lets_in b
   lets_of Fail = []
+  lets_of (Spawn t f) = t ∷ []
 
   pub lets_in : BlockTree → List Name
   lets_in Done = []

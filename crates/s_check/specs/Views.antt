@@ -12,7 +12,7 @@ use Rattle.s_syntax.specs.declared.name.Name.{Name}
 use Rattle.s_syntax.specs.declared.script.Definition.{Definition}
 use Rattle.s_syntax.specs.declared.script.Declaration.{Declaration}
 use Rattle.s_syntax.specs.declared.script.VariableType.{VariableType}
-use Rattle.s_syntax.specs.declared.script.VariableType.TheVariants.{Int, Resumption}
+use Rattle.s_syntax.specs.declared.script.VariableType.TheVariants.{Int, Resumption, Coroutine}
 use Rattle.s_check.specs.declared.bound.ValueType.{ValueType}
 use Rattle.s_check.specs.declared.bound.ValueType.TheVariants as value
 use Rattle.s_check.specs.declared.bound.Binding.{Binding}
@@ -24,6 +24,7 @@ use Rattle.s_check.specs.Scopes.{Bound, Scope, is_among}
 abbrev pub type_of : ValueType → VariableType
 type_of value.Int = Int
 type_of (value.Resumption h) = Resumption h.now
+type_of value.Coroutine = Coroutine
 
 abbrev pub bound_of : Binding → Bound
 bound_of b = record { name = b.name.now; ty = type_of b.ty }

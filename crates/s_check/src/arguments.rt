@@ -3,7 +3,7 @@ ghost use Rattle.std.specs.Prelude.{◌≡◌, length};
 ghost use Rattle.std.specs.Option.{option_copied, option_map};
 ghost use Rattle.s_syntax.specs.ExprTree.{exprs};
 ghost use Rattle.s_check.specs.Least.{least_of};
-ghost use Rattle.s_check.specs.Rules.{is_resumption_of, suits, all_suit, against, for_function, for_effect, for_handler, for_handler_of_type, for_resumed};
+ghost use Rattle.s_check.specs.Rules.{is_reference, is_coroutine, is_resumption_of, suits, all_suit, against, for_function, for_effect, for_handler, for_handler_of_type, for_resumed};
 ghost use Rattle.s_check.specs.Scopes.{type_in};
 ghost use Rattle.s_check.specs.Views.{type_of};
 
@@ -12,6 +12,30 @@ use crate::declarations::Declarations;
 use crate::rule::{Rule, broken, broken_where};
 use crate::scope::Scope;
 use s_syntax::{Expr, Function, Handler, Name, Node, Parameter, VariableType};
+
+// Whether a name has a type of references, where it is bound.
+fn is_reference(ty: Option<ValueType<'_>>) -> bool
+    ensures value { result ≡ is_reference (option_map type_of ty.entry) }
+{
+    match ty {
+        Some(ValueType::Resumption(_)) => true,
+        Some(ValueType::Coroutine) => true,
+        Some(ValueType::Int) => false,
+        None => false,
+    }
+}
+
+/// Whether a name of this type stands for a coroutine.
+pub(crate) fn is_coroutine(ty: Option<ValueType<'_>>) -> bool
+    ensures value { result ≡ is_coroutine (option_map type_of ty.entry) }
+{
+    match ty {
+        Some(ValueType::Coroutine) => true,
+        Some(ValueType::Resumption(_)) => false,
+        Some(ValueType::Int) => false,
+        None => false,
+    }
+}
 
 /// Whether a name of this type may stand for a resumption of the handler.
 pub(crate) fn is_resumption_of<'a>(
@@ -26,6 +50,7 @@ pub(crate) fn is_resumption_of<'a>(
             other == handler || declarations.handler(other).is_none()
         }
         Some(ValueType::Int) => false,
+        Some(ValueType::Coroutine) => false,
         None => false,
     }
 }
@@ -40,14 +65,14 @@ fn suits<'a>(
     ensures value { result ≡ suits declarations.now scope.now ty.now argument.now }
 {
     match (ty, argument.node()) {
-        (VariableType::Int, Node::Read(name)) => {
-            !matches!(scope.find(name), Some(ValueType::Resumption(_)))
-        }
+        (VariableType::Int, Node::Read(name)) => !is_reference(scope.find(name)),
         (VariableType::Int, _) => true,
         (VariableType::Resumption(handler), Node::Read(name)) => {
             is_resumption_of(declarations, handler, scope.find(name))
         }
         (VariableType::Resumption(_), _) => false,
+        (VariableType::Coroutine, Node::Read(name)) => is_coroutine(scope.find(name)),
+        (VariableType::Coroutine, _) => false,
     }
 }
 
@@ -200,6 +225,7 @@ pub(crate) fn for_resumed<'a>(
             )
         }
         Some(ValueType::Int) => broken(Rule::NoResumption, least),
+        Some(ValueType::Coroutine) => broken(Rule::NoResumption, least),
         None => broken(Rule::NameNotBound, least),
     }
 }

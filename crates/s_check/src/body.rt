@@ -16,13 +16,22 @@ use s_syntax::{Block, Name, Statement, Use};
 use std::alloc::{AllocError, Global};
 use std::collections::BTreeSet;
 
-// Puts the name that a use binds behind those that are there.
+// Puts the names that a use binds behind those that are there.
 fn push_lets_by<'a>(what: &'a Use, names: &mut Vec<&'a Name>) -> Result<(), AllocError>
     ensures value { OnOk result (names_of names.new.items ≡ names_of names.old.items ++ lets_by what.now) }
 {
     match what {
         Use::Let(name) | Use::Take { name, slots: _ } => {
             names.push(name)?;
+            Ok(())
+        }
+        Use::Switch {
+            number,
+            coroutine,
+            target: _,
+        } => {
+            names.push(number)?;
+            names.push(coroutine)?;
             Ok(())
         }
         Use::Assign(_) | Use::Print | Use::Return | Use::Drop | Use::Store { slots: _, name: _ } =>
@@ -47,6 +56,10 @@ fn push_lets_of<'a>(statement: &'a Statement, names: &mut Vec<&'a Name>) -> Resu
         }
         Statement::While { condition: _, body } => push_lets(body, names),
         Statement::Fail => Ok(()),
+        Statement::Spawn { name, function: _ } => {
+            names.push(name)?;
+            Ok(())
+        }
     }
 }
 

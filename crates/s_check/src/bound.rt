@@ -9,6 +9,8 @@ pub(crate) enum ValueType<'a> {
     Int,
     /// A resumption of the handler of this name.
     Resumption(&'a Name),
+    /// A coroutine.
+    Coroutine,
 }
 
 /// A value name and its type.

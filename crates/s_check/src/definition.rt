@@ -30,6 +30,7 @@ fn in_type<'a>(
             let is_missing = declarations.handler(handler).is_none();
             broken_where(is_missing, Rule::NoHandlerOfType, least)
         }
+        VariableType::Coroutine => least,
     }
 }
 
@@ -56,6 +57,7 @@ fn type_of(ty: &VariableType) -> ValueType<'_>
     match ty {
         VariableType::Int => ValueType::Int,
         VariableType::Resumption(handler) => ValueType::Resumption(handler),
+        VariableType::Coroutine => ValueType::Coroutine,
     }
 }
 

@@ -5,6 +5,7 @@ mod arguments;
 mod body;
 mod bound;
 mod checked;
+mod coroutines;
 mod declarations;
 mod definition;
 mod expression;

@@ -25,12 +25,12 @@ pub enum Rule {
     ClauseForNoEffect,
     /// A clause binds another number of arguments than its effect has.
     OtherNumberInClause,
-    /// A value name is read, assigned or resumed that is not bound before it in its block or one around it.
+    /// A value name is read, assigned, resumed, stored into slots or switched to that is not bound before it in its block or one around it.
     NameNotBound,
-    /// A name of a type `res h` is assigned, or read elsewhere than as a whole argument of a call, of a list of a `handle`, or of the `with`
-    /// of a `resume`.
+    /// A name of a type `res h` or of type `coro` is assigned, or read elsewhere than as a whole argument of a call, of a list of a `handle`,
+    /// or of the `with` of a `resume`; or a name of type `coro` is stored into slots.
     ResumptionElsewhere,
-    /// A name that is called or handled is no function.
+    /// A name that is called, handled, spawned or run in a group is no function.
     NoFunction,
     /// A `do` names no effect.
     NoEffect,
@@ -39,7 +39,7 @@ pub enum Rule {
     /// There is another number of arguments than of parameters of the function, effect or handler named, or of the handler of the resumed
     /// name's type.
     OtherNumberOfArguments,
-    /// An argument for a parameter of type `res h` is no bare name of that type, or one for a number is a bare name of a type `res g`.
+    /// An argument for a parameter of type `res h` or `coro` is no bare name of that type, or one for a number is a bare name of such a type.
     ArgumentOfOtherType,
     /// The resumed name is bound and is no resumption.
     NoResumption,
@@ -51,10 +51,14 @@ pub enum Rule {
     SlotsOfOtherNumber,
     /// A name that is stored is bound and is no resumption of the slots' handler.
     StoredOfOtherType,
+    /// What is spawned has other parameters than a number and a coroutine, or what is run in a group others than a number.
+    OtherParameters,
+    /// The target of a `switch` is bound and is no coroutine.
+    NoCoroutine,
 }
 
 impl Rule {
-    /// Its number, from 1 to 21.
+    /// Its number, from 1 to 23.
     pub fn number(self) -> u8
         ensures value { result ≡ number_of self }
     {
@@ -80,6 +84,8 @@ impl Rule {
             Rule::NoSlots => 19,
             Rule::SlotsOfOtherNumber => 20,
             Rule::StoredOfOtherType => 21,
+            Rule::OtherParameters => 22,
+            Rule::NoCoroutine => 23,
         }
     }
 }

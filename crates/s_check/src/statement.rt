@@ -10,8 +10,9 @@ ghost use Rattle.s_check.specs.Scopes.{type_in};
 ghost use Rattle.s_syntax.specs.declared.script.VariableType.TheVariants.{Resumption as OfHandler};
 ghost use Rattle.s_check.specs.Views.{type_of};
 
-use crate::arguments::is_resumption_of;
+use crate::arguments::{is_coroutine, is_resumption_of};
 use crate::bound::{Binding, ValueType};
+use crate::coroutines::{for_spawned, for_switched};
 use crate::declarations::Declarations;
 use crate::expression::in_expr;
 use crate::rule::{Rule, broken, broken_where};
@@ -26,6 +27,7 @@ fn in_target<'a>(scope: &Scope<'a>, name: &'a Name, least: Option<Rule>) -> Opti
     match scope.find(name) {
         Some(ValueType::Int) => least,
         Some(ValueType::Resumption(_)) => broken(Rule::ResumptionElsewhere, least),
+        Some(ValueType::Coroutine) => broken(Rule::ResumptionElsewhere, least),
         None => broken(Rule::NameNotBound, least),
     }
 }
@@ -38,6 +40,7 @@ fn for_slots(slots: Option<&Slots>, least: Option<Rule>) -> Option<Rule>
 }
 
 // The least rule, with those that a name breaks which is stored into slots.
+#[tactic(auto, using(crate::proofs::Least::least_append))]
 fn in_stored<'a>(
     declarations: &Declarations<'a>,
     scope: &Scope<'a>,
@@ -49,12 +52,15 @@ fn in_stored<'a>(
 {
     match (scope.find(name), slots) {
         (None, _) => broken(Rule::NameNotBound, least),
-        (Some(_), None) => least,
-        (Some(ty), Some(slots)) => broken_where(
-            !is_resumption_of(declarations, &slots.handler, Some(ty)),
-            Rule::StoredOfOtherType,
-            least,
-        ),
+        (Some(ty), None) => broken_where(is_coroutine(Some(ty)), Rule::ResumptionElsewhere, least),
+        (Some(ty), Some(slots)) => {
+            let least = broken_where(is_coroutine(Some(ty)), Rule::ResumptionElsewhere, least);
+            broken_where(
+                !is_resumption_of(declarations, &slots.handler, Some(ty)),
+                Rule::StoredOfOtherType,
+                least,
+            )
+        }
     }
 }
 
@@ -86,11 +92,16 @@ fn in_use<'a>(
             in_stored(declarations, scope, slots, name, least)
         }
         Use::Take { name: _, slots } => for_slots(declarations.slots(slots), least),
+        Use::Switch {
+            number: _,
+            coroutine: _,
+            target,
+        } => for_switched(scope, target, least),
         Use::Let(_) | Use::Print | Use::Return | Use::Drop => least,
     }
 }
 
-// Binds the name of a let or of a take.
+// Binds the names of a let, of a take or of a switch.
 fn bind_by<'a>(
     declarations: &Declarations<'a>,
     scope: &mut Scope<'a>,
@@ -107,11 +118,25 @@ fn bind_by<'a>(
             name,
             ty: taken_type(slots, declarations.slots(slots)),
         }),
+        Use::Switch {
+            number,
+            coroutine,
+            target: _,
+        } => {
+            scope.bind(Binding {
+                name: number,
+                ty: ValueType::Int,
+            })?;
+            scope.bind(Binding {
+                name: coroutine,
+                ty: ValueType::Coroutine,
+            })
+        }
         _ => Ok(()),
     }
 }
 
-// Binds the name that a statement binds.
+// Binds the names that a statement binds.
 fn bind_name<'a>(
     declarations: &Declarations<'a>,
     scope: &mut Scope<'a>,
@@ -121,6 +146,10 @@ fn bind_name<'a>(
 {
     match statement {
         Statement::Evaluate { what, value: _ } => bind_by(declarations, scope, what),
+        Statement::Spawn { name, function: _ } => scope.bind(Binding {
+            name,
+            ty: ValueType::Coroutine,
+        }),
         _ => Ok(()),
     }
 }
@@ -150,6 +179,9 @@ fn in_front<'a>(
             body: _,
         } => in_expr(declarations, scope, false, value, least),
         Statement::Fail => least,
+        Statement::Spawn { name: _, function } => {
+            for_spawned(declarations.function(function), least)
+        }
     }
 }
 
@@ -175,7 +207,12 @@ fn in_blocks<'a>(
             in_block(declarations, scope, else_block, least)
         }
         Statement::While { condition: _, body } => in_block(declarations, scope, body, least),
-        Statement::Evaluate { what: _, value: _ } | Statement::Fail => Ok(least),
+        Statement::Evaluate { what: _, value: _ }
+        | Statement::Fail
+        | Statement::Spawn {
+            name: _,
+            function: _,
+        } => Ok(least),
     }
 }
 

@@ -1,13 +1,13 @@
--- The names that lets and takes bind.
-use Rattle.std.proofs.Common.{◌≡◌, ◌≤◌, List, ◌++◌, length, map, refl, sym, ap, ◌∙◌, arith, length-append}
+-- The names that statements bind.
+use Rattle.std.proofs.Common.{◌≡◌, ◌≤◌, List, ◌++◌, ◌+◌, length, map, refl, sym, ap, ◌∙◌, arith, length-append}
 use Rattle.std.proofs.lemmas.List.{length-map, map-append}
 use Rattle.s_syntax.specs.declared.name.Name.{Name}
 use Rattle.s_syntax.specs.declared.statement.Use.{Use}
 use Rattle.s_syntax.specs.declared.statement.Use.TheVariants as use_for
 use Rattle.s_syntax.specs.declared.script.Declaration.{Declaration}
-use Rattle.s_syntax.specs.BlockTree.{StatementTree, BlockTree, Evaluate, If, While, Fail, Done, ◌⨟◌}
+use Rattle.s_syntax.specs.BlockTree.{StatementTree, BlockTree, Evaluate, If, While, Fail, Spawn, Done, ◌⨟◌}
 use Rattle.s_check.specs.Scopes.{Bound, lets_by, lets_of, lets_in}
-use Rattle.s_check.specs.Size.{statement_size, block_size}
+use Rattle.s_check.specs.Size.{use_size, statement_size, block_size}
 use Rattle.s_code.specs.Places.{binds_by, binds_of, binds_in}
 
 abbrev pub names : List Bound → List Name
@@ -23,6 +23,7 @@ names_by ds use_for.Return = refl
 names_by ds use_for.Drop = refl
 names_by ds (use_for.Store s k) = refl
 names_by ds (use_for.Take k s) = refl
+names_by ds (use_for.Switch x u t) = refl
 
 -- names of two lists
 both : (bs cs : List Bound) (xs ys : List Name) → names bs ≡ xs → names cs ≡ ys → names (bs ++ cs) ≡ xs ++ ys
@@ -34,6 +35,7 @@ mutual
   names_of ds (If c a b) = both (binds_in ds a) (binds_in ds b) (lets_in a) (lets_in b) (names_in ds a) (names_in ds b)
   names_of ds (While c b) = names_in ds b
   names_of ds Fail = refl
+  names_of ds (Spawn t f) = refl
 
   pub names_in : (ds : List Declaration) (b : BlockTree) → names (binds_in ds b) ≡ lets_in b
   names_in ds Done = refl
@@ -45,8 +47,8 @@ as_many_in ds b = sym (length-map (binds_in ds b) (λ (a : Bound). a.name)) ∙ 
 
 -- ## They are no more than a body is large
 
--- a use binds one name at most
-pub binds_by_few : (ds : List Declaration) (u : Use) → length (binds_by ds u) ≤ 1
+-- a use binds one name at most, and a switch two
+pub binds_by_few : (ds : List Declaration) (u : Use) → length (binds_by ds u) ≤ 1 + use_size u
 binds_by_few ds (use_for.Let x) = omega arith
 binds_by_few ds (use_for.Assign x) = omega arith
 binds_by_few ds use_for.Print = omega arith
@@ -54,6 +56,7 @@ binds_by_few ds use_for.Return = omega arith
 binds_by_few ds use_for.Drop = omega arith
 binds_by_few ds (use_for.Store s k) = omega arith
 binds_by_few ds (use_for.Take k s) = omega arith
+binds_by_few ds (use_for.Switch x u t) = omega arith
 
 mutual
   binds_few : (ds : List Declaration) (s : StatementTree) → length (binds_of ds s) ≤ statement_size s
@@ -61,6 +64,7 @@ mutual
   binds_few ds (If c a b) = let q = binds_within ds a in let r = binds_within ds b in let l = length-append (binds_in ds a) (binds_in ds b) in omega (arith, q, r, l)
   binds_few ds (While c b) = let q = binds_within ds b in omega (arith, q)
   binds_few ds Fail = omega arith
+  binds_few ds (Spawn t f) = omega arith
 
   pub binds_within : (ds : List Declaration) (b : BlockTree) → length (binds_in ds b) ≤ block_size b
   binds_within ds Done = omega arith

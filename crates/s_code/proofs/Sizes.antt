@@ -2,7 +2,7 @@
 use Rattle.std.proofs.Common.{◌≡◌, ℕ, suc, ◌+◌, ◌<◌, ◌≤◌, List, [], ◌∷◌, length, drop, get_or, refl, ap, arith}
 use Rattle.s_syntax.specs.declared.operators.BinaryOperator.{BinaryOperator}
 use Rattle.s_syntax.specs.declared.statement.Statement.{Statement}
-use Rattle.s_syntax.specs.ExprTree.{ExprTree, Literal, Read, Unary, Run, Call, Do, Handle, Resume, Exprs, NoExprs, MoreExprs, exprs, operands}
+use Rattle.s_syntax.specs.ExprTree.{ExprTree, Literal, Read, Unary, Run, Call, Do, Handle, Resume, Group, Exprs, NoExprs, MoreExprs, exprs, operands}
 use Rattle.s_syntax.specs.BlockOf.{statement_of, block_of}
 use Rattle.s_check.specs.Rules.{count}
 use Rattle.s_check.specs.Size.{expr_size, exprs_size, operands_size, statement_size, block_size}
@@ -18,6 +18,7 @@ some_size (Call f es) = omega arith
 some_size (Do op es) = omega arith
 some_size (Handle f es h ps) = omega arith
 some_size (Resume k e ps) = omega arith
+some_size (Group f e) = omega arith
 
 -- and arguments are no more than theirs
 pub count_within : (es : Exprs) → count es ≤ exprs_size es

@@ -5,12 +5,13 @@ use Rattle.s_syntax.specs.declared.name.Name.{Name}
 use Rattle.s_syntax.specs.declared.operators.BinaryOperator.{BinaryOperator}
 use Rattle.s_syntax.specs.declared.operators.BinaryOperator.TheVariants.{Connects, Compares, Computes}
 use Rattle.s_syntax.specs.declared.script.Declaration.{Declaration}
-use Rattle.s_syntax.specs.ExprTree.{ExprTree, Literal, Read, Unary, Run, Call, Do, Handle, Resume, Exprs, NoExprs, MoreExprs, Operands, NoOperands, MoreOperands}
+use Rattle.s_syntax.specs.ExprTree.{ExprTree, Literal, Read, Unary, Run, Call, Do, Handle, Resume, Group, Exprs, NoExprs, MoreExprs, Operands, NoOperands, MoreOperands}
 use Rattle.s_check.specs.Rules.{count}
 use Rattle.s_index.specs.Numbers.{function_index, handler_index, tag_index}
 use Rattle.s_index.specs.Indices.{continuation_index}
 use Rattle.s_index.specs.Types.{resumption_type, computation_type}
 use Rattle.s_code.specs.Instructions.{constant, call, local_get, local_set, nop, function_reference, new_continuation, bind_continuation, suspend, branch, truth, unary_operator, connective, comparison, arithmetic}
+use Rattle.s_code.specs.Coroutines.{group_code}
 use Rattle.s_code.specs.Layouts.{Layout, local_number, handler_of_name, stays, slot, owner_parameters}
 
 -- arguments that lie in their places, put on the stack
@@ -58,6 +59,7 @@ abbrev mutual
       expr ds Γ t e
       (Plain (local_set (Γ.temporaries + t))
       (args ds Γ (t + 1) ps (Plain (local_get (Γ.temporaries + t)) (wake Γ k (Plain (call (handler_index_of ds (handler_of_name Γ k))) c)))))
+  expr ds Γ t (Group f e) c = expr ds Γ t e (group_code ds f c)
 
   pub args : List Declaration → Layout → ℕ → Exprs → Code → Code
   args ds Γ t NoExprs c = c

@@ -117,6 +117,9 @@ suspend x = op.Switching (switching.Suspend x)
 abbrev pub resume : ℕ → List Clause → Op
 resume x hs = op.Switching (switching.Resume x hs)
 
+abbrev pub switch : ℕ → ℕ → Op
+switch x e = op.Switching (switching.Switch x e)
+
 -- if the number on the stack is 0 then x else y, each of which leaves a number
 abbrev pub number_if_zero : Code → Code → Code → Code
 number_if_zero x y c = Plain is_zero (IfElse (block.Value ValI64) x y c)

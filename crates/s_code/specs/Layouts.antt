@@ -1,11 +1,12 @@
 -- Where the names of a body are among the locals of its function. Each name has a local of its own. Behind those of all names stand
 -- the temporaries, which hold numbers.
-use Rattle.std.specs.Prelude.{ℕ, ◌+◌, Bool, false, List, [], ◌∷◌, Option, Some, None, is_some, if◌then◌else◌}
+use Rattle.std.specs.Prelude.{ℕ, ◌+◌, Bool, false, List, [], ◌∷◌, Option, Some, None, if◌then◌else◌}
 use Rattle.std.specs.Str.{bytes_eq}
 use Rattle.s_syntax.specs.declared.name.Name.{Name}
 use Rattle.s_syntax.specs.declared.script.VariableType.{VariableType}
-use Rattle.s_syntax.specs.declared.script.VariableType.TheVariants.{Int, Resumption}
+use Rattle.s_syntax.specs.declared.script.VariableType.TheVariants.{Int, Resumption, Coroutine}
 use Rattle.s_syntax.specs.ExprTree.{ExprTree, Read}
+use Rattle.s_check.specs.Rules.{is_reference}
 use Rattle.s_check.specs.Scopes.{Bound}
 
 -- a name, with its type and the number of its local
@@ -45,6 +46,7 @@ local_number Γ x = number_in (local_of Γ.names x)
 abbrev pub handler_in_type : VariableType → Option Name
 handler_in_type Int = None
 handler_in_type (Resumption h) = Some h
+handler_in_type Coroutine = None
 
 abbrev pub handler_in : Option Local → Option Name
 handler_in None = None
@@ -56,14 +58,22 @@ handler_of_name Γ x = handler_in (local_of Γ.names x)
 
 -- ## Temporaries
 
--- A bare name of a res type: no expression sets it, so it is read where it lies.
+abbrev pub refers_in : Option Local → Bool
+refers_in None = false
+refers_in (Some l) = is_reference (Some l.ty)
+
+-- whether a name is of a res type or coro
+abbrev pub refers : Layout → Name → Bool
+refers Γ x = refers_in (local_of Γ.names x)
+
+-- A bare name of such a type: no expression sets it, so it is read where it lies.
 abbrev pub stays : Layout → ExprTree → Bool
-stays Γ (Read x) = is_some (handler_of_name Γ x)
+stays Γ (Read x) = refers Γ x
 stays Γ _ = false
 
 -- where the value of an argument lies until all arguments are there, t temporaries being in use
 abbrev pub slot : Layout → ℕ → ExprTree → ℕ
-slot Γ t (Read x) = if is_some (handler_of_name Γ x) then local_number Γ x else (Γ.temporaries + t)
+slot Γ t (Read x) = if refers Γ x then local_number Γ x else (Γ.temporaries + t)
 slot Γ t _ = Γ.temporaries + t
 
 -- ## Clauses

@@ -2,6 +2,7 @@ pub mod Instructions
 pub mod Layouts
 pub mod Expressions
 pub mod Slots
+pub mod Coroutines
 pub mod Statements
 pub mod Handlers
 pub mod Temporaries

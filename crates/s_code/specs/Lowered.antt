@@ -1,6 +1,6 @@
 -- The module of a script. Each effect is a tag; each function is a function; each handler is one function, which runs what it handles and
--- its clauses; slots are a table. Numbers are i64, and resumptions are references to continuations.
-use Rattle.std.specs.Prelude.{ℕ, true, false, List, [], ◌∷◌, ◌++◌, map, codes, Some, None}
+-- its clauses; slots are a table. Numbers are i64, and resumptions and coroutines are references to continuations.
+use Rattle.std.specs.Prelude.{ℕ, true, false, List, [], ◌∷◌, ◌++◌, map, take, drop, codes, Some, None}
 use Rattle.w_types.specs.declared.types.CompType.{CompType}
 use Rattle.w_types.specs.declared.types.RecGroup.{RecGroup}
 use Rattle.w_types.specs.declared.types.HeapType.TheVariants as heap
@@ -27,7 +27,7 @@ use Rattle.s_syntax.specs.declared.script.Script.{Script}
 use Rattle.s_index.specs.Handled.{handled}
 use Rattle.s_index.specs.Indices.{type_table, function_type_index, handler_type_index, effect_type_index}
 use Rattle.s_index.specs.Numbers.{function_index}
-use Rattle.s_index.specs.Types.{printer_type, resumption_type}
+use Rattle.s_index.specs.Types.{group_tag_type, printer_type, resumption_type}
 use Rattle.s_code.specs.Handlers.{handler_body}
 use Rattle.s_code.specs.Statements.{body}
 use Rattle.s_code.specs.Places.{function_layout, function_locals, return_layout, placed_clauses, handler_locals}
@@ -94,7 +94,7 @@ for_each make (d ∷ ds) = make d ++ for_each make ds
 
 -- ## The module
 
--- each type is final, without supertypes, in a group of its own
+-- a type that is final, without supertypes, in a group of its own
 abbrev pub group : CompType → RecGroup
 group t = record { types = alone_of t ∷ [] }
 
@@ -103,6 +103,18 @@ printer_import = record { module_name = codes "host"; item_name = codes "print_i
 
 abbrev pub main_export : List Declaration → Export
 main_export ds = record { name = codes "main"; index = index.Func (function_index ds (codes "main")) }
+
+-- the first two of these types in one group, and the others each in a group of its own
+abbrev pub pair_first : List CompType → List RecGroup
+pair_first ts = record { types = map alone_of (take 2 ts) } ∷ map group (drop 2 ts)
+
+-- The types in groups: behind the first five stand that of the functions of coroutines and that of coroutines, which name each other.
+abbrev pub grouped : List CompType → List RecGroup
+grouped ts = map group (take 5 ts) ++ pair_first (drop 5 ts)
+
+-- the tag that coroutines switch on
+abbrev pub group_tag : Tag
+group_tag = record { type_index = group_tag_type }
 
 -- the functions that are handled are declared, so that code may refer to them
 abbrev pub declared : List Declaration → List Declaration → List Elem
@@ -115,12 +127,12 @@ declared ds (e ∷ es) = record {
 
 abbrev pub lowered_all : List Declaration → Module
 lowered_all ds = record {
-  types = map group (type_table ds);
+  types = grouped (type_table ds);
   imports = printer_import ∷ [];
   functions = for_each (λ d. function_type_of ds d.definition) ds ++ for_each (λ d. handler_type_of ds d.definition) ds;
   tables = for_each (λ d. table_of d.definition) ds;
   memories = [];
-  tags = for_each (λ d. tag_of ds d.definition) ds;
+  tags = for_each (λ d. tag_of ds d.definition) ds ++ group_tag ∷ [];
   globals = [];
   exports = main_export ds ∷ [];
   start = None;

@@ -12,16 +12,16 @@ use Rattle.s_syntax.specs.declared.script.Handler.{Handler}
 use Rattle.s_syntax.specs.declared.script.Declaration.{Declaration}
 use Rattle.s_syntax.specs.declared.statement.Use.{Use}
 use Rattle.s_syntax.specs.declared.statement.Use.TheVariants as use_for
-use Rattle.s_syntax.specs.BlockTree.{StatementTree, BlockTree, Evaluate, If, While, Fail, Done, ◌⨟◌}
+use Rattle.s_syntax.specs.BlockTree.{StatementTree, BlockTree, Evaluate, If, While, Fail, Spawn, Done, ◌⨟◌}
 use Rattle.s_check.specs.Definitions.{slots_of}
 use Rattle.s_check.specs.Rules.{handler_of_slots}
-use Rattle.s_check.specs.Scopes.{Bound, number, parameter, resumption}
+use Rattle.s_check.specs.Scopes.{Bound, number, parameter, resumption, coroutine}
 use Rattle.s_index.specs.Types.{val_type}
 use Rattle.s_code.specs.Handlers.{Placed}
 use Rattle.s_code.specs.Layouts.{Layout, numbered}
 use Rattle.s_code.specs.Temporaries.{high_block}
 
--- ## Names that lets and takes bind, each with its type
+-- ## Names that statements bind, each with its type
 
 abbrev pub binds_by : List Declaration → Use → List Bound
 binds_by ds (use_for.Let x) = number x ∷ []
@@ -31,6 +31,7 @@ binds_by ds use_for.Return = []
 binds_by ds use_for.Drop = []
 binds_by ds (use_for.Store s k) = []
 binds_by ds (use_for.Take k s) = resumption (handler_of_slots s (slots_of ds s)) k ∷ []
+binds_by ds (use_for.Switch x u t) = number x ∷ coroutine u ∷ []
 
 -- in order, those of all blocks within
 abbrev mutual
@@ -39,6 +40,7 @@ abbrev mutual
   binds_of ds (If c a b) = binds_in ds a ++ binds_in ds b
   binds_of ds (While c b) = binds_in ds b
   binds_of ds Fail = []
+  binds_of ds (Spawn t f) = coroutine t ∷ []
 
   pub binds_in : List Declaration → BlockTree → List Bound
   binds_in ds Done = []

@@ -7,12 +7,13 @@ use Rattle.s_syntax.specs.declared.script.Declaration.{Declaration}
 use Rattle.s_syntax.specs.ExprTree.{ExprTree, Call, Resume}
 use Rattle.s_syntax.specs.declared.statement.Use.{Use}
 use Rattle.s_syntax.specs.declared.statement.Use.TheVariants as use_for
-use Rattle.s_syntax.specs.BlockTree.{StatementTree, BlockTree, Evaluate, If, While, Fail, Done as NoStatements, ◌⨟◌}
+use Rattle.s_syntax.specs.BlockTree.{StatementTree, BlockTree, Evaluate, If, While, Fail, Spawn, Done as NoStatements, ◌⨟◌}
 use Rattle.s_index.specs.Numbers.{function_index}
 use Rattle.s_code.specs.Instructions.{constant, is_zero, call, return_call, local_set, unreachable, branch, branch_if, leave, dropped, if_zero}
 use Rattle.s_code.specs.Layouts.{Layout, local_number, is_own}
 use Rattle.s_code.specs.Expressions.{expr, args, tail_resume}
 use Rattle.s_code.specs.Slots.{store_code, take_code}
+use Rattle.s_code.specs.Coroutines.{spawn_code, switch_code}
 
 -- the function that prints
 abbrev pub printer : ℕ
@@ -33,6 +34,7 @@ evaluate ds Γ D use_for.Return e c = return ds Γ D e c
 evaluate ds Γ D use_for.Drop e c = expr ds Γ 0 e (Plain dropped c)
 evaluate ds Γ D (use_for.Store s k) e c = expr ds Γ 0 e (store_code ds Γ s k c)
 evaluate ds Γ D (use_for.Take k s) e c = expr ds Γ 0 e (take_code ds Γ k s c)
+evaluate ds Γ D (use_for.Switch x u t) e c = expr ds Γ 0 e (switch_code ds Γ x u t c)
 
 abbrev mutual
   pub statement : List Declaration → Layout → ℕ → StatementTree → Code → Code
@@ -43,6 +45,7 @@ abbrev mutual
       (Block kind.Loop block_type.Empty
       (expr ds Γ 0 e (Plain is_zero (Plain (branch_if 1) (block ds Γ (D + 2) b (Plain (branch 0) Done))))) Done) c
   statement ds Γ D Fail c = Plain unreachable c
+  statement ds Γ D (Spawn t f) c = spawn_code ds Γ t f c
 
   pub block : List Declaration → Layout → ℕ → BlockTree → Code → Code
   block ds Γ D NoStatements c = c

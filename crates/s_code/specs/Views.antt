@@ -8,7 +8,7 @@ use Rattle.std.specs.Cmp.Lexicographic.{slice_cmp}
 use Rattle.std.specs.Ordering.{nat_cmp}
 use Rattle.s_syntax.specs.declared.name.Name.{Name}
 use Rattle.s_syntax.specs.declared.script.VariableType.{VariableType}
-use Rattle.s_syntax.specs.declared.script.VariableType.TheVariants.{Int, Resumption}
+use Rattle.s_syntax.specs.declared.script.VariableType.TheVariants.{Int, Resumption, Coroutine}
 use Rattle.s_code.specs.declared.layout.LocalType.{LocalType}
 use Rattle.s_code.specs.declared.layout.LocalType.TheVariants as value
 use Rattle.s_code.specs.declared.layout.LocalName.{LocalName}
@@ -18,6 +18,7 @@ use Rattle.s_code.specs.Layouts.{Local, Owner, Layout, local_of}
 abbrev pub type_of : LocalType → VariableType
 type_of value.Int = Int
 type_of (value.Resumption h) = Resumption h.now
+type_of value.Coroutine = Coroutine
 
 abbrev pub local_in : LocalName → Local
 local_in l = record { name = l.name.now; ty = type_of l.ty; number = l.number }

@@ -11,6 +11,7 @@ ghost use Rattle.s_code.specs.Layouts.{handler_of_name};
 ghost use Rattle.s_code.specs.Writes.{Writes};
 ghost use Rattle.s_index.specs.Limits.{number_limit};
 
+use crate::coroutines::write_group;
 use crate::layout::Layout;
 use crate::operators::{
     write_arithmetic, write_comparison, write_control, write_get, write_numeric, write_op,
@@ -154,6 +155,10 @@ fn write_node<'a>(
                 ControlOp::Call(handler_index(program, layout, resumption)),
                 out,
             )
+        }
+        Node::Group { function, argument } => {
+            write_expr(program, layout, used, argument, out)?;
+            write_group(program, function, out)
         }
     }
 }

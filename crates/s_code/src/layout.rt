@@ -14,6 +14,8 @@ pub enum LocalType<'a> {
     Int,
     /// A resumption of the handler of this name.
     Resumption(&'a Name),
+    /// A coroutine.
+    Coroutine,
 }
 
 /// A value name, with its type and the number of its local.
@@ -71,7 +73,7 @@ fn first_locals<'a>(
 impl<'a> Layout<'a> {
     ghost use Rattle.std.specs.Prelude.{◌≡◌, ◌+◌, ◌<◌, ◌^◌, IfOk};
     ghost use Rattle.std.specs.Option.{option_map};
-    ghost use Rattle.s_code.specs.Layouts.{local_of, local_number, handler_of_name, stays, slot, is_own, owner_parameters};
+    ghost use Rattle.s_code.specs.Layouts.{local_of, local_number, handler_of_name, refers, stays, slot, is_own, owner_parameters};
     ghost use Rattle.s_code.specs.Views.{layout_in, local_in, name_in};
 
     /// These names, with the first temporary, and the handler in whose function a clause stands. It fails only for want of memory.
@@ -132,12 +134,22 @@ impl<'a> Layout<'a> {
         }
     }
 
-    /// Whether an expression is a bare name of a resumption.
+    // Whether a name is of a resumption or a coroutine.
+    fn refers(&self, name: &'a Name) -> bool
+        ensures value { result ≡ refers self.now name.now }
+    {
+        match self.find(name) {
+            Some(local) => !matches!(local.ty, LocalType::Int),
+            None => false,
+        }
+    }
+
+    /// Whether an expression is a bare name of a resumption or a coroutine.
     pub(crate) fn stays(&self, expr: &'a Expr) -> bool
         ensures value { result ≡ stays self.now expr.now }
     {
         match expr.node() {
-            Node::Read(name) => self.handler_of_name(name).is_some(),
+            Node::Read(name) => self.refers(name),
             _ => false,
         }
     }
@@ -150,7 +162,7 @@ impl<'a> Layout<'a> {
         let temporary = self.temporaries + used;
         match expr.node() {
             Node::Read(name) => {
-                if self.handler_of_name(name).is_some() {
+                if self.refers(name) {
                     self.local_number(name)
                 } else {
                     temporary

@@ -2,6 +2,7 @@
 #![tactic(auto)]
 
 mod body;
+mod coroutines;
 mod expression;
 mod handler;
 mod layout;

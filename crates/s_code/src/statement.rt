@@ -8,6 +8,7 @@ ghost use Rattle.s_code.specs.Statements.{return as return_code, evaluate as eva
 ghost use Rattle.s_code.specs.Writes.{Writes};
 ghost use Rattle.s_index.specs.Limits.{number_limit};
 
+use crate::coroutines::{write_spawn, write_switch};
 use crate::expression::{write_args, write_expr, write_tail_resume};
 use crate::layout::Layout;
 use crate::operators::{write_control, write_numeric, write_op, write_set, write_token};
@@ -90,6 +91,14 @@ fn write_evaluate<'a>(
             write_expr(program, layout, 0, value, out)?;
             write_take(program, layout, name, slots, out)
         }
+        Use::Switch {
+            number,
+            coroutine,
+            target,
+        } => {
+            write_expr(program, layout, 0, value, out)?;
+            write_switch(program, layout, number, coroutine, target, out)
+        }
     }
 }
 
@@ -169,6 +178,7 @@ fn write_statement<'a>(
             write_while(program, layout, labels, condition, body, out)
         }
         Statement::Fail => write_control(ControlOp::Unreachable, out),
+        Statement::Spawn { name, function } => write_spawn(program, layout, name, function, out),
     }
 }
 

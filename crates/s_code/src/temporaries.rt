@@ -49,6 +49,10 @@ fn high_node(used: u32, node: &Node) -> u32
             argument,
             parameters,
         } => high(used, argument).max(high_args(used + 1, parameters.as_slice())),
+        Node::Group {
+            function: _,
+            argument,
+        } => high(used, argument),
     }
 }
 
@@ -99,6 +103,11 @@ fn room(what: &Use) -> u32
 {
     match what {
         Use::Let(_) | Use::Assign(_) | Use::Print | Use::Return | Use::Drop => 0,
+        Use::Switch {
+            number: _,
+            coroutine: _,
+            target: _,
+        } => 0,
         Use::Store { slots: _, name: _ } | Use::Take { name: _, slots: _ } => 1,
     }
 }
@@ -118,6 +127,10 @@ fn high_statement(statement: &Statement) -> u32
         } => high(0, condition).max(high_in_block(then_block).max(high_in_block(else_block))),
         Statement::While { condition, body } => high(0, condition).max(high_in_block(body)),
         Statement::Fail => 0,
+        Statement::Spawn {
+            name: _,
+            function: _,
+        } => 0,
     }
 }
 

@@ -8,16 +8,16 @@ use Rattle.s_grammar.specs.Grammar.{Grammar, Choice}
 use Rattle.s_grammar.specs.Kinds.{is, Kinds}
 use Rattle.s_grammar.specs.Operators.{product_operators, sum_operators, comparisons, and_operators, operator_of, or_operators}
 use Rattle.s_grammar.specs.Reading.{inside, Reading, in_turn, one, Got}
-use Rattle.s_grammar.specs.Reads.{led, expr, listed, products, sums, compares, ands}
-use Rattle.s_grammar.specs.Syntax.{Led, Expr, Listed, UnaryBy, RunOf, OnceOf}
+use Rattle.s_grammar.specs.Reads.{led, expr, parenthesized_expr, listed, products, sums, compares, ands}
+use Rattle.s_grammar.specs.Syntax.{Led, Expr, ParenthesizedExpr, Listed, UnaryBy, RunOf, OnceOf}
 use Rattle.s_grammar.proofs.Enclosures.{between_laws}
 use Rattle.s_grammar.proofs.Ends.{ends_expr, begins_expr, ends_primary, ends_product, ends_sum, ends_compare, ends_and}
-use Rattle.s_grammar.proofs.ExprLaws.{expr_laws, ParenthesizedExpr, Arguments, list_of_expr, unary_laws}
+use Rattle.s_grammar.proofs.ExprLaws.{expr_laws, parenthesized_laws, Arguments, list_of_expr, unary_laws}
 use Rattle.s_grammar.proofs.ForParts.{led_laws, parentheses, inside_of, run_laws, once_laws, operand_laws}
 use Rattle.s_grammar.proofs.KindSets.{any_kind}
 use Rattle.s_grammar.proofs.ReadingLaws.{Laws}
 use Rattle.s_grammar.proofs.Repetitions.{Shrinks, shrinks}
-use Rattle.s_expr.specs.Levels.{parenthesized_expr, arguments, graded, operators, operand}
+use Rattle.s_expr.specs.Levels.{arguments, graded, operators, operand}
 use Rattle.s_expr.specs.declared.level.Level.{Level}
 use Rattle.s_expr.specs.declared.level.Level.TheVariants as level
 
@@ -25,11 +25,6 @@ module _ (bytes : List ℕ) where
   -- a comma and an expression
   pub comma_shrinks : (n : ℕ) → Shrinks (led kind.Comma (expr bytes n))
   comma_shrinks n = shrinks n 0 _ ends_expr (λ m. Led kind.Comma (Expr bytes m)) (led kind.Comma (expr bytes n)) (led_laws kind.Comma (omega arith) refl refl refl (expr_laws bytes n))
-
-  -- an expression in parentheses
-  parenthesized_laws : (n : ℕ) → Laws n 1 false (is kind.OpenParenthesis) any_kind (ParenthesizedExpr bytes) (parenthesized_expr bytes n)
-  unfolding ParenthesizedExpr parenthesized_expr
-  parenthesized_laws n = between_laws n 0 false begins_expr ends_expr kind.OpenParenthesis kind.CloseParenthesis parentheses (omega arith) (Expr bytes) (inside (expr bytes) n) (inside_of (expr bytes) (expr_laws bytes) n) refl
 
   -- arguments in parentheses
   arguments_laws : (n : ℕ) → Laws n 1 false (is kind.OpenParenthesis) any_kind (Arguments bytes) (arguments bytes n)
@@ -43,12 +38,12 @@ module _ (bytes : List ℕ) where
   -- the level of operands
   unary_level : (n : ℕ) → Laws n 0 false begins_expr ends_primary Unaries (graded bytes n level.Unary)
   unfolding graded
-  unary_level n = unary_laws bytes n (ParenthesizedExpr bytes) (Arguments bytes) (parenthesized_expr bytes n) (arguments bytes n) (parenthesized_laws n) (arguments_laws n)
+  unary_level n = unary_laws bytes n (ParenthesizedExpr bytes) (Arguments bytes) (parenthesized_expr bytes n) (arguments bytes n) (parenthesized_laws bytes n) (arguments_laws n)
 
   -- products
   product_level : (n : ℕ) → Laws n 0 false begins_expr ends_product (λ m. RunOf product_operators (Unaries m)) (graded bytes n level.Product)
   unfolding graded products
-  product_level n = run_laws product_operators ends_product kind.Star refl refl refl refl refl (unary_laws bytes n (ParenthesizedExpr bytes) (Arguments bytes) (parenthesized_expr bytes n) (arguments bytes n) (parenthesized_laws n) (arguments_laws n))
+  product_level n = run_laws product_operators ends_product kind.Star refl refl refl refl refl (unary_laws bytes n (ParenthesizedExpr bytes) (Arguments bytes) (parenthesized_expr bytes n) (arguments bytes n) (parenthesized_laws bytes n) (arguments_laws n))
 
   -- sums
   sum_level : (n : ℕ) → Laws n 0 false begins_expr ends_sum (λ m. RunOf sum_operators (RunOf product_operators (Unaries m))) (graded bytes n level.Sum)

@@ -1,7 +1,7 @@
 -- The loosest level is an expression.
 use Rattle.std.proofs.Common.{◌≡◌, ℕ, zero, suc, List, refl}
-use Rattle.s_grammar.specs.Reads.{expr}
-use Rattle.s_expr.specs.Levels.{graded, parenthesized_expr, arguments}
+use Rattle.s_grammar.specs.Reads.{expr, parenthesized_expr}
+use Rattle.s_expr.specs.Levels.{graded, arguments}
 use Rattle.s_expr.specs.declared.level.Level.TheVariants as level
 
 module _ (bytes : List ℕ) where

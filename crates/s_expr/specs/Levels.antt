@@ -5,7 +5,7 @@ use Rattle.s_syntax.specs.ExprTree.{ExprTree}
 use Rattle.s_grammar.specs.Kinds.{Kinds, no_kind}
 use Rattle.s_grammar.specs.Reading.{Reading, choice, inside, many, in_turn, one}
 use Rattle.s_grammar.specs.Operators.{or_operators, and_operators, comparisons, sum_operators, product_operators, operator_of}
-use Rattle.s_grammar.specs.Reads.{in_parentheses, listed, unary_by, products, sums, compares, ands, expr_by, expr}
+use Rattle.s_grammar.specs.Reads.{in_parentheses, listed, unary_by, products, sums, compares, ands, expr_by, expr, parenthesized_expr}
 use Rattle.s_expr.specs.declared.level.Level.{Level}
 use Rattle.s_expr.specs.declared.level.Level.TheVariants as level
 
@@ -35,21 +35,18 @@ rank level.Product = 1
 rank level.Unary = 0
 
 module _ (bytes : List ℕ) where
-  -- what stands in parentheses within an expression, with them
-  unfoldable pub parenthesized_expr : ℕ → Reading ExprTree
-  parenthesized_expr n = in_parentheses (inside (expr bytes) n)
-
+  -- arguments in parentheses
   unfoldable pub arguments : ℕ → Reading (List ExprTree)
   arguments n = in_parentheses (inside (λ j. listed (expr bytes j)) n)
 
   -- an expression of a level
   unfoldable pub graded : ℕ → Level → Reading ExprTree
-  graded n level.Unary = choice (unary_by bytes (parenthesized_expr n) (arguments n))
-  graded n level.Product = products bytes (parenthesized_expr n) (arguments n)
-  graded n level.Sum = sums bytes (parenthesized_expr n) (arguments n)
-  graded n level.Comparison = compares bytes (parenthesized_expr n) (arguments n)
-  graded n level.And = ands bytes (parenthesized_expr n) (arguments n)
-  graded n level.Or = expr_by bytes (parenthesized_expr n) (arguments n)
+  graded n level.Unary = choice (unary_by bytes (parenthesized_expr bytes n) (arguments n))
+  graded n level.Product = products bytes (parenthesized_expr bytes n) (arguments n)
+  graded n level.Sum = sums bytes (parenthesized_expr bytes n) (arguments n)
+  graded n level.Comparison = compares bytes (parenthesized_expr bytes n) (arguments n)
+  graded n level.And = ands bytes (parenthesized_expr bytes n) (arguments n)
+  graded n level.Or = expr_by bytes (parenthesized_expr bytes n) (arguments n)
 
   -- an operator of a level with the operand behind it, and any number of them
   unfoldable pub operand : ℕ → Level → Reading (BinaryOperator × ExprTree)

@@ -3,10 +3,10 @@ ghost use Rattle.std.specs.Prelude.{◌≡◌, ◌<◌, ◌≤◌, length, IfOk}
 ghost use Rattle.s_syntax.specs.declared.token.Kind.TheVariants as kind;
 ghost use Rattle.s_grammar.specs.Parts.{run_of};
 ghost use Rattle.s_grammar.specs.Reading.{choice};
-ghost use Rattle.s_grammar.specs.Reads.{expr, run, primary_by, led, listed};
+ghost use Rattle.s_grammar.specs.Reads.{expr, parenthesized_expr, run, primary_by, led, listed};
 ghost use Rattle.s_expr.specs.declared.level.Level.TheVariants as level;
 ghost use Rattle.s_expr.specs.Places.{ReadsAt, ReadsAs};
-ghost use Rattle.s_expr.specs.Levels.{graded, operand, operands, parenthesized_expr, arguments, below, operators, rank};
+ghost use Rattle.s_expr.specs.Levels.{graded, operand, operands, arguments, below, operators, rank};
 
 use crate::level::{Level, below, is_operator, operator_at};
 use crate::source::Source;
@@ -159,6 +159,7 @@ fn primary_at(source: &Source, at: usize, nest: usize) -> Result<(Expr, usize), 
         Kind::Do => do_at(source, at, nest),
         Kind::Handle => handle_at(source, at, nest),
         Kind::Resume => resume_at(source, at, nest),
+        Kind::Group => group_at(source, at, nest),
         _ => {
             let (number, at) = int_at(source, at)?;
             Ok((Expr::new(Node::Literal(number)), at))
@@ -253,9 +254,23 @@ fn resume_at(source: &Source, at: usize, nest: usize) -> Result<(Expr, usize), S
     ))
 }
 
-// An expression in parentheses.
+// A call in a group.
 #[cycle(expr)]
-fn parenthesized_at(source: &Source, at: usize, nest: usize) -> Result<(Expr, usize), Stop>
+#[tactic(auto, unfolding(s_grammar::specs::Reads::primary_by, s_grammar::specs::Reads::led))]
+fn group_at(source: &Source, at: usize, nest: usize) -> Result<(Expr, usize), Stop>
+    requires within { at ≤ length source.now.tokens.now }
+    ensures reads { ReadsAt (primary_by source.now.bytes.now (parenthesized_expr source.now.bytes.now nest) (arguments source.now.bytes.now nest) kind.Group) source.now.tokens.now at result }
+{
+    let (_, at) = expect(source, at, Kind::Group)?;
+    let (function, at) = name_at(source, at)?;
+    let (value, at) = parenthesized_at(source, at, nest)?;
+    let argument = Box::new(source.alloc, value)?;
+    Ok((Expr::new(Node::Group { function, argument }), at))
+}
+
+/// An expression in parentheses, which count among those that may be opened.
+#[cycle(expr)]
+pub fn parenthesized_at(source: &Source, at: usize, nest: usize) -> Result<(Expr, usize), Stop>
     requires within { at ≤ length source.now.tokens.now }
     ensures reads { ReadsAt (parenthesized_expr source.now.bytes.now nest) source.now.tokens.now at result }
 {

@@ -7,7 +7,7 @@ mod source;
 mod stop;
 mod token;
 
-pub use expression::expr_at;
+pub use expression::{expr_at, parenthesized_at};
 pub use source::Source;
 pub use stop::Stop;
 pub use token::{expect, int_at, is_kind, kind_at, name_at};

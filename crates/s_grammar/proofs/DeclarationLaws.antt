@@ -1,20 +1,21 @@
 -- The laws of declarations and scripts.
 use Rattle.std.proofs.Common.{ℕ, true, false, List, [], ◌∷◌, refl, arith}
+use Rattle.s_syntax.specs.declared.script.VariableType.TheVariants as variable
 use Rattle.s_syntax.specs.declared.token.Kind.{Kind}
 use Rattle.s_syntax.specs.declared.token.Kind.TheVariants as kind
 use Rattle.s_syntax.specs.declared.token.Token.{Token}
 use Rattle.s_grammar.specs.Grammar.{Choice, Each}
 use Rattle.s_grammar.specs.Kinds.{is, other_than}
 use Rattle.s_grammar.specs.Parts.{parameter_of, clause_of, return_clause_of, function_of, handler_of, effect_of, slots_of, script_of}
-use Rattle.s_grammar.specs.Reading.{inside}
-use Rattle.s_grammar.specs.Reads.{parameter, parameters, listed, names, name, value_name, clause, return_clause, clauses, declaration_by, declarations, script}
-use Rattle.s_grammar.specs.Syntax.{ParameterOf, Parameters, Listed, Names, NAME, ValueName, ClauseOf, ReturnClauseOf, Clauses, DeclarationBy, ScriptOf}
+use Rattle.s_grammar.specs.Reading.{choice, inside}
+use Rattle.s_grammar.specs.Reads.{type_by, parameter, parameters, listed, names, name, value_name, clause, return_clause, clauses, declaration_by, declarations, script}
+use Rattle.s_grammar.specs.Syntax.{TypeBy, ParameterOf, Parameters, Listed, Names, NAME, ValueName, ClauseOf, ReturnClauseOf, Clauses, DeclarationBy, ScriptOf}
 use Rattle.s_grammar.specs.Texts.{name_of, number_of}
 use Rattle.s_grammar.proofs.Choices.{choice_laws}
 use Rattle.s_grammar.proofs.Enclosures.{between_laws}
-use Rattle.s_grammar.proofs.Ends.{begins_declaration}
+use Rattle.s_grammar.proofs.Ends.{begins_type, begins_declaration}
 use Rattle.s_grammar.proofs.ExprLaws.{name_laws, int_laws}
-use Rattle.s_grammar.proofs.ForParts.{image_of, in_turn_of, maybe_of, led_laws, parentheses, inside_of, listed_laws, many_of, wider_of, braces, ended_laws}
+use Rattle.s_grammar.proofs.ForParts.{key_laws, image_of, in_turn_of, maybe_of, led_laws, parentheses, inside_of, listed_laws, many_of, wider_of, braces, ended_laws}
 use Rattle.s_grammar.proofs.Images.{fewer_laws, deeper_laws}
 use Rattle.s_grammar.proofs.KindSets.{any_kind}
 use Rattle.s_grammar.proofs.ReadingLaws.{Laws, Begins}
@@ -23,10 +24,25 @@ use Rattle.s_grammar.proofs.OneToken.{token_of}
 use Rattle.s_grammar.proofs.StatementLaws.{block_laws}
 
 module _ (bytes : List ℕ) where
+  -- types, by their first token
+  type_laws_by : (n : ℕ) (k : Kind) → Laws n 0 false begins_type any_kind (λ m. TypeBy bytes k) (type_by bytes k)
+  unfolding TypeBy type_by
+  type_laws_by n kind.Coro = wider_of begins_type any_kind refl refl (image_of (λ _. variable.Coroutine) (key_laws n kind.Coro refl refl))
+  type_laws_by n k = wider_of begins_type any_kind refl refl (image_of (λ h. variable.Resumption h) (led_laws kind.Res (omega arith) refl refl refl (name_laws bytes n)))
+
+  -- a type is spelled
+  coro_begins : Begins (Choice (TypeBy bytes)) []
+  unfolding TypeBy
+  coro_begins = let t : Token = token_of kind.Coro in (t ∷ [], variable.Coroutine, (t, (t, refl, refl, refl), refl))
+
+  -- types
+  type_laws : (n : ℕ) → Laws n 0 false begins_type any_kind (λ m. Choice (TypeBy bytes)) (choice (type_by bytes))
+  type_laws n = choice_laws n 0 0 begins_type any_kind (λ k m. TypeBy bytes k) (type_by bytes) (omega arith) (type_laws_by n) (λ m l. coro_begins)
+
   -- parameters
   pub parameter_laws : (n : ℕ) → Laws n 0 false (is kind.Name) (other_than (is kind.Colon)) (λ m. ParameterOf bytes) (parameter bytes)
   unfolding parameter
-  parameter_laws n = fewer_laws (other_than (is kind.Colon)) refl (image_of parameter_of (in_turn_of (omega arith) (name_laws bytes n) (maybe_of (is kind.Colon) refl (led_laws kind.Colon (omega arith) refl refl refl (led_laws kind.Res (omega arith) refl refl refl (name_laws bytes n)))) refl))
+  parameter_laws n = fewer_laws (other_than (is kind.Colon)) refl (image_of parameter_of (in_turn_of (omega arith) (name_laws bytes n) (maybe_of (is kind.Colon) refl (led_laws kind.Colon (omega arith) refl refl refl (type_laws n))) refl))
 
   -- parameters in parentheses
   pub parameters_laws : (n : ℕ) → Laws n 1 false (is kind.OpenParenthesis) any_kind (Parameters bytes) (parameters bytes n)

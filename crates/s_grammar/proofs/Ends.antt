@@ -6,11 +6,15 @@ use Rattle.s_grammar.proofs.KindSets.{both}
 
 -- what may begin an expression, a statement
 abbrev pub begins_expr : Kinds
-begins_expr = either (is kind.Name) (either (is kind.Int) (either (is kind.Minus) (either (is kind.Not) (either (is kind.OpenParenthesis) (either (is kind.Do) (either (is kind.Handle) (is kind.Resume)))))))
+begins_expr = either (is kind.Name) (either (is kind.Int) (either (is kind.Minus) (either (is kind.Not) (either (is kind.OpenParenthesis) (either (is kind.Do) (either (is kind.Handle) (either (is kind.Resume) (is kind.Group))))))))
 
 -- what may begin a statement
 abbrev pub begins_statement : Kinds
-begins_statement = either begins_expr (either (is kind.Let) (either (is kind.If) (either (is kind.While) (either (is kind.Print) (either (is kind.Return) (either (is kind.Fail) (either (is kind.Store) (is kind.Take))))))))
+begins_statement = either begins_expr (either (is kind.Let) (either (is kind.If) (either (is kind.While) (either (is kind.Print) (either (is kind.Return) (either (is kind.Fail) (either (is kind.Store) (either (is kind.Take) (either (is kind.Spawn) (is kind.Switch))))))))))
+
+-- what may begin a type
+abbrev pub begins_type : Kinds
+begins_type = either (is kind.Res) (is kind.Coro)
 
 -- what may begin a declaration
 abbrev pub begins_declaration : Kinds

@@ -8,15 +8,15 @@ use Rattle.s_syntax.specs.declared.token.Token.{Token}
 use Rattle.s_grammar.specs.Grammar.{Image, Grammar, Choice, Between, Inside}
 use Rattle.s_grammar.specs.Kinds.{is}
 use Rattle.s_grammar.specs.Operators.{or_operators, and_operators, comparisons, sum_operators, product_operators}
-use Rattle.s_grammar.specs.Parts.{read_or_call, do_of, handle_of, resume_of}
-use Rattle.s_grammar.specs.Reading.{Reading, choice}
-use Rattle.s_grammar.specs.Reads.{name, int, primary_by, unary_by, expr_by, ands, compares, sums, products, in_parentheses, listed, expr}
-use Rattle.s_grammar.specs.Syntax.{NAME, INT, UnaryBy, PrimaryBy, ExprOf, RunOf, OnceOf, Expr, Listed}
+use Rattle.s_grammar.specs.Parts.{read_or_call, do_of, handle_of, resume_of, group_of}
+use Rattle.s_grammar.specs.Reading.{Reading, choice, inside}
+use Rattle.s_grammar.specs.Reads.{name, int, primary_by, unary_by, expr_by, ands, compares, sums, products, in_parentheses, listed, expr, parenthesized_expr}
+use Rattle.s_grammar.specs.Syntax.{NAME, INT, UnaryBy, PrimaryBy, ExprOf, RunOf, OnceOf, Expr, ParenthesizedExpr, Listed}
 use Rattle.s_grammar.specs.Texts.{name_of, number_of}
 use Rattle.s_grammar.proofs.Choices.{choice_laws}
 use Rattle.s_grammar.proofs.Enclosures.{InsideLaws, between_laws}
 use Rattle.s_grammar.proofs.Ends.{begins_expr, ends_primary, ends_expr, ends_and, ends_compare, ends_sum, ends_product}
-use Rattle.s_grammar.proofs.ForParts.{wider_of, image_of, in_turn_of, maybe_of, led_laws, run_laws, once_laws, run_begins, once_begins, parentheses, listed_laws, listed_begins}
+use Rattle.s_grammar.proofs.ForParts.{wider_of, image_of, in_turn_of, maybe_of, led_laws, run_laws, once_laws, run_begins, once_begins, parentheses, inside_of, listed_laws, listed_begins}
 use Rattle.s_grammar.proofs.Images.{deeper_laws, laws_as}
 use Rattle.s_grammar.proofs.KindSets.{any_kind}
 use Rattle.s_grammar.proofs.ReadingLaws.{Laws, Begins}
@@ -63,6 +63,7 @@ module _ (bytes : List ℕ) where
         (image_of resume_of
         (led_laws kind.Resume (omega arith) refl refl refl
         (in_turn_of (omega arith) (deeper_laws 1 (omega arith) (name_laws n)) (in_turn_of (omega arith) p (led_laws kind.With (omega arith) refl refl refl q) refl) refl)))
+    primary_laws_by kind.Group = wider_of begins_expr ends_primary refl refl (image_of group_of (led_laws kind.Group (omega arith) refl refl refl (in_turn_of (omega arith) (deeper_laws 1 (omega arith) (name_laws n)) p refl)))
     primary_laws_by k = wider_of begins_expr ends_primary refl refl (image_of Literal (deeper_laws 1 (omega arith) (int_laws n)))
 
     -- all of these
@@ -101,37 +102,33 @@ module _ (bytes : List ℕ) where
       (run_begins sum_operators (RunOf product_operators (Choice (UnaryBy bytes (E m) (A m))))
       (run_begins product_operators (Choice (UnaryBy bytes (E m) (A m))) (expr_sample E A m)))))
 
-  -- what stands in parentheses, with them
-  unfoldable pub ParenthesizedExpr : ℕ → Grammar ExprTree
-  ParenthesizedExpr m = Between kind.OpenParenthesis kind.CloseParenthesis (Inside (Expr bytes) m)
-
   -- arguments in parentheses
   unfoldable pub Arguments : ℕ → Grammar (List ExprTree)
   Arguments m = Between kind.OpenParenthesis kind.CloseParenthesis (Inside (λ j. Listed (Expr bytes j)) m)
 
   -- an expression by what stands in its parentheses, read from there
-  expr_to : (m : ℕ) (b : List Token) (x : ExprTree) → ExprOf bytes (ParenthesizedExpr m) (Arguments m) b x → Expr bytes m b x
+  expr_to : (m : ℕ) (b : List Token) (x : ExprTree) → ExprOf bytes (ParenthesizedExpr bytes m) (Arguments m) b x → Expr bytes m b x
   unfolding Expr ParenthesizedExpr Arguments
   expr_to zero b x h = h
   expr_to (suc m) b x h = h
 
   -- and to there
-  expr_from : (m : ℕ) (b : List Token) (x : ExprTree) → Expr bytes m b x → ExprOf bytes (ParenthesizedExpr m) (Arguments m) b x
+  expr_from : (m : ℕ) (b : List Token) (x : ExprTree) → Expr bytes m b x → ExprOf bytes (ParenthesizedExpr bytes m) (Arguments m) b x
   unfolding Expr ParenthesizedExpr Arguments
   expr_from zero b x h = h
   expr_from (suc m) b x h = h
 
   -- an expression is spelled, whatever bracket may be open
   pub expr_begins : (m : ℕ) → Begins (Expr bytes m) []
-  expr_begins m = let q = expr_by_begins ParenthesizedExpr Arguments m in (q.0, q.1, expr_to m ([] ++ q.0) q.1 q.2)
+  expr_begins m = let q = expr_by_begins (ParenthesizedExpr bytes) Arguments m in (q.0, q.1, expr_to m ([] ++ q.0) q.1 q.2)
 
   -- expressions by what reads in their parentheses
   expr_laws_by : (n : ℕ) (e : Option (Reading ExprTree)) (a : Option (Reading (List ExprTree))) → InsideLaws n 0 false begins_expr ends_expr (Expr bytes) e → InsideLaws n 0 true begins_expr (is kind.CloseParenthesis) (λ j. Listed (Expr bytes j)) a
       → Laws n 0 false begins_expr ends_expr (Expr bytes) (expr_by bytes (in_parentheses e) (in_parentheses a))
   unfolding ParenthesizedExpr Arguments
   expr_laws_by n e a p q =
-      laws_as n 0 false begins_expr ends_expr (λ m. ExprOf bytes (ParenthesizedExpr m) (Arguments m)) (Expr bytes) (expr_by bytes (in_parentheses e) (in_parentheses a)) expr_to expr_from
-      (expr_by_laws n ParenthesizedExpr Arguments (in_parentheses e) (in_parentheses a)
+      laws_as n 0 false begins_expr ends_expr (λ m. ExprOf bytes (ParenthesizedExpr bytes m) (Arguments m)) (Expr bytes) (expr_by bytes (in_parentheses e) (in_parentheses a)) expr_to expr_from
+      (expr_by_laws n (ParenthesizedExpr bytes) Arguments (in_parentheses e) (in_parentheses a)
       (between_laws n 0 false begins_expr ends_expr kind.OpenParenthesis kind.CloseParenthesis parentheses (omega arith) (Expr bytes) e p refl)
       (between_laws n 0 true begins_expr (is kind.CloseParenthesis) kind.OpenParenthesis kind.CloseParenthesis parentheses (omega arith) (λ j. Listed (Expr bytes j)) a q refl))
 
@@ -144,3 +141,8 @@ module _ (bytes : List ℕ) where
   unfolding expr
   expr_laws zero = expr_laws_by 0 None None (λ m l. expr_begins m) (λ m l. listed_begins (Expr bytes m))
   expr_laws (suc n) = expr_laws_by (suc n) (Some (expr bytes n)) (Some (listed (expr bytes n))) (expr_laws n) (list_of_expr (expr_laws n))
+
+  -- an expression in parentheses
+  pub parenthesized_laws : (n : ℕ) → Laws n 1 false (is kind.OpenParenthesis) any_kind (ParenthesizedExpr bytes) (parenthesized_expr bytes n)
+  unfolding ParenthesizedExpr parenthesized_expr
+  parenthesized_laws n = between_laws n 0 false begins_expr ends_expr kind.OpenParenthesis kind.CloseParenthesis parentheses (omega arith) (Expr bytes) (inside (expr bytes) n) (inside_of (expr bytes) expr_laws n) refl

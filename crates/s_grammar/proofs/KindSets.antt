@@ -27,7 +27,8 @@ holds_of t (k ∷ ks) = t k && holds_of t ks
 abbrev pub kinds : List Kind
 kinds =
     kind.Name ∷ kind.Int ∷ kind.Effect ∷ kind.Fn ∷ kind.Handler ∷ kind.Return ∷ kind.On ∷ kind.Let ∷ kind.If ∷ kind.Else ∷ kind.While ∷ kind.Print ∷ kind.Fail
-    ∷ kind.Do ∷ kind.Handle ∷ kind.With ∷ kind.Resume ∷ kind.Res ∷ kind.Slots ∷ kind.Store ∷ kind.Take ∷ kind.Equal ∷ kind.NotEqual ∷ kind.AtMost ∷ kind.AtLeast ∷ kind.And ∷ kind.Or
+    ∷ kind.Do ∷ kind.Handle ∷ kind.With ∷ kind.Resume ∷ kind.Res ∷ kind.Slots ∷ kind.Store ∷ kind.Take ∷ kind.Spawn ∷ kind.Switch ∷ kind.Group
+    ∷ kind.Coro ∷ kind.Equal ∷ kind.NotEqual ∷ kind.AtMost ∷ kind.AtLeast ∷ kind.And ∷ kind.Or
     ∷ kind.OpenParenthesis ∷ kind.CloseParenthesis ∷ kind.OpenBrace ∷ kind.CloseBrace ∷ kind.OpenBracket ∷ kind.CloseBracket ∷ kind.Comma ∷ kind.Semicolon ∷ kind.Colon ∷ kind.Slash ∷ kind.Assign
     ∷ kind.Plus ∷ kind.Minus ∷ kind.Star ∷ kind.Percent ∷ kind.Less ∷ kind.Greater ∷ kind.Not ∷ []
 
@@ -110,6 +111,10 @@ nth_code kind.Res = refl
 nth_code kind.Slots = refl
 nth_code kind.Store = refl
 nth_code kind.Take = refl
+nth_code kind.Spawn = refl
+nth_code kind.Switch = refl
+nth_code kind.Group = refl
+nth_code kind.Coro = refl
 nth_code kind.Equal = refl
 nth_code kind.NotEqual = refl
 nth_code kind.AtMost = refl

@@ -8,9 +8,9 @@ use Rattle.s_syntax.specs.declared.token.Kind.{Kind}
 use Rattle.s_syntax.specs.declared.token.Kind.TheVariants as kind
 use Rattle.s_grammar.specs.Kinds.{Kinds, other_than, is, kind_of}
 use Rattle.s_grammar.specs.Operators.{operator_of, or_operators, and_operators, comparisons, sum_operators, product_operators}
-use Rattle.s_grammar.specs.Parts.{latter, former, or_nothing, run_of, once_of, read_or_call, do_of, handle_of, resume_of, let_of, if_of, while_of, assign_of, store_of, take_of, block_tree, clause_of, return_clause_of, function_of, handler_of, effect_of, slots_of, script_of}
+use Rattle.s_grammar.specs.Parts.{latter, former, or_nothing, run_of, once_of, read_or_call, do_of, handle_of, resume_of, group_of, let_of, if_of, while_of, assign_of, store_of, take_of, spawn_of, switch_of, block_tree, clause_of, return_clause_of, function_of, handler_of, effect_of, slots_of, script_of}
 use Rattle.s_grammar.specs.Reading.{Reading, image, in_turn, maybe, many, cons, one, Refused, Wrong, inside}
-use Rattle.s_grammar.specs.Reads.{led, key, ended, listed, run, once, ahead, primary_by, name, int, unary_by, expr_by, ands, compares, sums, products, in_parentheses, expr, statement_by, assigned, evaluated, statements_by, block, parameters, parameter, names, clause, value_name, return_clause, clauses, declaration_by, script, declarations}
+use Rattle.s_grammar.specs.Reads.{led, key, ended, listed, run, once, ahead, primary_by, name, int, unary_by, expr_by, ands, compares, sums, products, in_parentheses, expr, parenthesized_expr, statement_by, assigned, evaluated, statements_by, block, parameters, parameter, names, clause, value_name, return_clause, clauses, declaration_by, script, declarations}
 use Rattle.s_grammar.proofs.Agreement.{agree_image, agree_in_turn, agree_maybe, agree_many, agree_same, agree_cond, AgreeInside, agree_choice, agree_between}
 use Rattle.s_grammar.proofs.ReadingLaws.{Agree}
 
@@ -76,6 +76,7 @@ module _ (bytes : List ℕ) where
   primary_agree e e' a a' h i kind.Do = image_agrees do_of (led_agrees kind.Do (in_turn_agrees (agree_same (name bytes)) i))
   primary_agree e e' a a' h i kind.Handle = image_agrees handle_of (led_agrees kind.Handle (in_turn_agrees (agree_same (name bytes)) (in_turn_agrees i (led_agrees kind.With (in_turn_agrees (agree_same (name bytes)) i)))))
   primary_agree e e' a a' h i kind.Resume = image_agrees resume_of (led_agrees kind.Resume (in_turn_agrees (agree_same (name bytes)) (in_turn_agrees h (led_agrees kind.With i))))
+  primary_agree e e' a a' h i kind.Group = image_agrees group_of (led_agrees kind.Group (in_turn_agrees (agree_same (name bytes)) h))
   primary_agree e e' a a' h i k = agree_same (image Literal (int bytes))
 
   -- operands
@@ -102,38 +103,48 @@ module _ (bytes : List ℕ) where
   expr_agree (suc n) zero l = absurd (omega arith)
   expr_agree (suc n) (suc m) l = expr_inside (Some (expr bytes n)) (Some (expr bytes m)) (Some (listed (expr bytes n))) (Some (listed (expr bytes m))) (expr_agree n m (omega arith)) (listed_agrees (expr_agree n m (omega arith)))
 
+  -- expressions in parentheses
+  parenthesized_agree : (n m : ℕ) → n ≤ m → Agree (parenthesized_expr bytes n) (parenthesized_expr bytes m)
+  unfolding parenthesized_expr
+  parenthesized_agree n m l = agree_between kind.OpenParenthesis kind.CloseParenthesis (inside (expr bytes) n) (inside (expr bytes) m) (inside_agree (expr bytes) expr_agree n m l)
+
   -- statements by their first token
-  statement_agree : (e e' : Reading ExprTree) (b b' : Reading BlockTree) → Agree e e' → Agree b b' → (k : Kind) → Agree (statement_by bytes e b k) (statement_by bytes e' b' k)
+  statement_agree : (e e' p p' : Reading ExprTree) (b b' : Reading BlockTree) → Agree e e' → Agree p p' → Agree b b' → (k : Kind) → Agree (statement_by bytes e p b k) (statement_by bytes e' p' b' k)
   unfolding statement_by assigned evaluated
-  statement_agree e e' b b' h i kind.Let = image_agrees let_of (led_agrees kind.Let (in_turn_agrees (agree_same (name bytes)) (led_agrees kind.Assign (ended_agrees kind.Semicolon h))))
-  statement_agree e e' b b' h i kind.If = image_agrees if_of (led_agrees kind.If (in_turn_agrees h (in_turn_agrees i (maybe_agrees (is kind.Else) (led_agrees kind.Else i)))))
-  statement_agree e e' b b' h i kind.While = image_agrees while_of (led_agrees kind.While (in_turn_agrees h i))
-  statement_agree e e' b b' h i kind.Print = image_agrees (λ t. Evaluate use_for.Print t) (led_agrees kind.Print (ended_agrees kind.Semicolon h))
-  statement_agree e e' b b' h i kind.Return = image_agrees (λ t. Evaluate use_for.Return t) (led_agrees kind.Return (ended_agrees kind.Semicolon h))
-  statement_agree e e' b b' h i kind.Fail = agree_same (image (λ _. Fail) (led kind.Fail (key kind.Semicolon)))
-  statement_agree e e' b b' h i kind.Store =
+  statement_agree e e' p p' b b' h j i kind.Let = image_agrees let_of (led_agrees kind.Let (in_turn_agrees (agree_same (name bytes)) (led_agrees kind.Assign (ended_agrees kind.Semicolon h))))
+  statement_agree e e' p p' b b' h j i kind.If = image_agrees if_of (led_agrees kind.If (in_turn_agrees h (in_turn_agrees i (maybe_agrees (is kind.Else) (led_agrees kind.Else i)))))
+  statement_agree e e' p p' b b' h j i kind.While = image_agrees while_of (led_agrees kind.While (in_turn_agrees h i))
+  statement_agree e e' p p' b b' h j i kind.Print = image_agrees (λ t. Evaluate use_for.Print t) (led_agrees kind.Print (ended_agrees kind.Semicolon h))
+  statement_agree e e' p p' b b' h j i kind.Return = image_agrees (λ t. Evaluate use_for.Return t) (led_agrees kind.Return (ended_agrees kind.Semicolon h))
+  statement_agree e e' p p' b b' h j i kind.Fail = agree_same (image (λ _. Fail) (led kind.Fail (key kind.Semicolon)))
+  statement_agree e e' p p' b b' h j i kind.Store =
       image_agrees store_of
       (led_agrees kind.Store
       (in_turn_agrees (agree_same (name bytes)) (led_agrees kind.OpenBracket (in_turn_agrees (ended_agrees kind.CloseBracket h) (agree_same (led kind.Assign (ended (name bytes) kind.Semicolon)))))))
-  statement_agree e e' b b' h i kind.Take =
+  statement_agree e e' p p' b b' h j i kind.Take =
       image_agrees take_of
       (led_agrees kind.Take
       (in_turn_agrees (agree_same (name bytes)) (led_agrees kind.Assign (in_turn_agrees (agree_same (name bytes)) (led_agrees kind.OpenBracket (ended_agrees kind.Semicolon (ended_agrees kind.CloseBracket h)))))))
-  statement_agree e e' b b' h i kind.Name = ahead_agree kind.Name kind.Assign (image_agrees assign_of (in_turn_agrees (agree_same (name bytes)) (led_agrees kind.Assign (ended_agrees kind.Semicolon h)))) (image_agrees (λ t. Evaluate use_for.Drop t) (ended_agrees kind.Semicolon h))
-  statement_agree e e' b b' h i k = image_agrees (λ t. Evaluate use_for.Drop t) (ended_agrees kind.Semicolon h)
+  statement_agree e e' p p' b b' h j i kind.Spawn = agree_same (image spawn_of (led kind.Spawn (in_turn (name bytes) (led kind.Assign (ended (name bytes) kind.Semicolon)))))
+  statement_agree e e' p p' b b' h j i kind.Switch =
+      image_agrees switch_of
+      (led_agrees kind.Switch
+      (in_turn_agrees (agree_same (name bytes)) (led_agrees kind.Comma (in_turn_agrees (agree_same (name bytes)) (led_agrees kind.Assign (in_turn_agrees (agree_same (name bytes)) (ended_agrees kind.Semicolon j)))))))
+  statement_agree e e' p p' b b' h j i kind.Name = ahead_agree kind.Name kind.Assign (image_agrees assign_of (in_turn_agrees (agree_same (name bytes)) (led_agrees kind.Assign (ended_agrees kind.Semicolon h)))) (image_agrees (λ t. Evaluate use_for.Drop t) (ended_agrees kind.Semicolon h))
+  statement_agree e e' p p' b b' h j i k = image_agrees (λ t. Evaluate use_for.Drop t) (ended_agrees kind.Semicolon h)
 
   -- any number of statements
-  statements_agree : (e e' : Reading ExprTree) (b b' : Reading BlockTree) → Agree e e' → Agree b b' → Agree (statements_by bytes e b) (statements_by bytes e' b')
+  statements_agree : (e e' p p' : Reading ExprTree) (b b' : Reading BlockTree) → Agree e e' → Agree p p' → Agree b b' → Agree (statements_by bytes e p b) (statements_by bytes e' p' b')
   unfolding statements_by
-  statements_agree e e' b b' h i = image_agrees block_tree (many_agrees (other_than (is kind.CloseBrace)) (agree_choice (statement_by bytes e b) (statement_by bytes e' b') (statement_agree e e' b b' h i)))
+  statements_agree e e' p p' b b' h j i = image_agrees block_tree (many_agrees (other_than (is kind.CloseBrace)) (agree_choice (statement_by bytes e p b) (statement_by bytes e' p' b') (statement_agree e e' p p' b b' h j i)))
 
   -- blocks
   pub block_agree : (n m : ℕ) → n ≤ m → Agree (block bytes n) (block bytes m)
   unfolding block
   block_agree zero zero l = agree_same (block bytes zero)
-  block_agree zero (suc m) l = agree_between kind.OpenBrace kind.CloseBrace None (Some (statements_by bytes (expr bytes m) (block bytes m))) tt
+  block_agree zero (suc m) l = agree_between kind.OpenBrace kind.CloseBrace None (Some (statements_by bytes (expr bytes m) (parenthesized_expr bytes m) (block bytes m))) tt
   block_agree (suc n) zero l = absurd (omega arith)
-  block_agree (suc n) (suc m) l = agree_between kind.OpenBrace kind.CloseBrace (Some (statements_by bytes (expr bytes n) (block bytes n))) (Some (statements_by bytes (expr bytes m) (block bytes m))) (statements_agree (expr bytes n) (expr bytes m) (block bytes n) (block bytes m) (expr_agree n m (omega arith)) (block_agree n m (omega arith)))
+  block_agree (suc n) (suc m) l = agree_between kind.OpenBrace kind.CloseBrace (Some (statements_by bytes (expr bytes n) (parenthesized_expr bytes n) (block bytes n))) (Some (statements_by bytes (expr bytes m) (parenthesized_expr bytes m) (block bytes m))) (statements_agree (expr bytes n) (expr bytes m) (parenthesized_expr bytes n) (parenthesized_expr bytes m) (block bytes n) (block bytes m) (expr_agree n m (omega arith)) (parenthesized_agree n m (omega arith)) (block_agree n m (omega arith)))
 
   -- parameters in parentheses
   parameters_agree : (n m : ℕ) → n ≤ m → Agree (parameters bytes n) (parameters bytes m)

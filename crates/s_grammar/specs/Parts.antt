@@ -12,9 +12,9 @@ use Rattle.s_syntax.specs.declared.script.ReturnClause.{ReturnClause}
 use Rattle.s_syntax.specs.declared.script.Definition.TheVariants as definition
 use Rattle.s_syntax.specs.declared.script.Declaration.{Declaration}
 use Rattle.s_syntax.specs.declared.script.Script.{Script}
-use Rattle.s_syntax.specs.ExprTree.{ExprTree, Read, Run, Call, Do, Handle, Resume, exprs, operands}
+use Rattle.s_syntax.specs.ExprTree.{ExprTree, Read, Run, Call, Do, Handle, Resume, Group, exprs, operands}
 use Rattle.s_syntax.specs.declared.statement.Use.TheVariants as use_for
-use Rattle.s_syntax.specs.BlockTree.{StatementTree, BlockTree, Evaluate, If, While, Done, ◌⨟◌}
+use Rattle.s_syntax.specs.BlockTree.{StatementTree, BlockTree, Evaluate, If, While, Spawn, Done, ◌⨟◌}
 
 -- ## Pairs and lists
 
@@ -63,6 +63,9 @@ handle_of p = Handle p.0 (exprs p.1.0) p.1.1.0 (exprs p.1.1.1)
 abbrev pub resume_of : Name × (ExprTree × List ExprTree) → ExprTree
 resume_of p = Resume p.0 p.1.0 (exprs p.1.1)
 
+abbrev pub group_of : Name × ExprTree → ExprTree
+group_of p = Group p.0 p.1
+
 -- ## Statements
 
 abbrev pub let_of : Name × ExprTree → StatementTree
@@ -77,6 +80,13 @@ store_of p = Evaluate (use_for.Store p.0 p.1.1) p.1.0
 
 abbrev pub take_of : Name × (Name × ExprTree) → StatementTree
 take_of p = Evaluate (use_for.Take p.0 p.1.0) p.1.1
+
+-- a coroutine is made, or switched to
+abbrev pub spawn_of : Name × Name → StatementTree
+spawn_of p = Spawn p.0 p.1
+
+abbrev pub switch_of : Name × (Name × (Name × ExprTree)) → StatementTree
+switch_of p = Evaluate (use_for.Switch p.0 p.1.0 p.1.1.0) p.1.1.1
 
 -- without `else` no statements stand there
 abbrev pub if_of : ExprTree × (BlockTree × Option BlockTree) → StatementTree
@@ -93,11 +103,11 @@ block_tree (s ∷ ss) = s ⨟ block_tree ss
 -- ## Declarations
 
 -- without a type a parameter is a number
-abbrev pub type_of : Option Name → VariableType
+abbrev pub type_of : Option VariableType → VariableType
 type_of None = variable.Int
-type_of (Some h) = variable.Resumption h
+type_of (Some t) = t
 
-abbrev pub parameter_of : Name × Option Name → Parameter
+abbrev pub parameter_of : Name × Option VariableType → Parameter
 parameter_of p = record { name = p.0; ty = type_of p.1 }
 
 abbrev pub clause_of : Name × (List Name × (Name × BlockTree)) → Clause

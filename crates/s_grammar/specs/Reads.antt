@@ -6,6 +6,8 @@ use Rattle.s_syntax.specs.declared.token.Token.{Token}
 use Rattle.s_syntax.specs.declared.name.Name.{Name}
 use Rattle.s_syntax.specs.declared.number.Number.{Number}
 use Rattle.s_syntax.specs.declared.operators.UnaryOperator.TheVariants as unary
+use Rattle.s_syntax.specs.declared.script.VariableType.{VariableType}
+use Rattle.s_syntax.specs.declared.script.VariableType.TheVariants as variable
 use Rattle.s_syntax.specs.declared.script.Parameter.{Parameter}
 use Rattle.s_syntax.specs.declared.script.Clause.{Clause}
 use Rattle.s_syntax.specs.declared.script.ReturnClause.{ReturnClause}
@@ -18,7 +20,7 @@ use Rattle.s_grammar.specs.Kinds.{Kinds, kind_of, is, other_than}
 use Rattle.s_grammar.specs.Reading.{Reading, Refused, Wrong, one, in_turn, image, maybe, cons, many, choice, between, inside}
 use Rattle.s_grammar.specs.Texts.{name_of, number_of}
 use Rattle.s_grammar.specs.Operators.{or_operators, and_operators, comparisons, sum_operators, product_operators, operator_of}
-use Rattle.s_grammar.specs.Parts.{itself, former, latter, or_nothing, run_of, once_of, read_or_call, do_of, handle_of, resume_of, let_of, assign_of, store_of, take_of, if_of, while_of, block_tree, parameter_of, clause_of, return_clause_of, effect_of, function_of, handler_of, slots_of, script_of}
+use Rattle.s_grammar.specs.Parts.{itself, former, latter, or_nothing, run_of, once_of, read_or_call, do_of, handle_of, resume_of, group_of, let_of, assign_of, store_of, take_of, spawn_of, switch_of, if_of, while_of, block_tree, parameter_of, clause_of, return_clause_of, effect_of, function_of, handler_of, slots_of, script_of}
 
 -- ## Parts of productions
 
@@ -70,6 +72,7 @@ module _ (bytes : List ℕ) where
   primary_by e a kind.Do = image do_of (led kind.Do (in_turn name a))
   primary_by e a kind.Handle = image handle_of (led kind.Handle (in_turn name (in_turn a (led kind.With (in_turn name a)))))
   primary_by e a kind.Resume = image resume_of (led kind.Resume (in_turn name (in_turn e (led kind.With a))))
+  primary_by e a kind.Group = image group_of (led kind.Group (in_turn name e))
   primary_by e a k = image Literal int
 
   unfoldable pub unary_by : Reading ExprTree → Reading (List ExprTree) → Kind → Reading ExprTree
@@ -96,34 +99,43 @@ module _ (bytes : List ℕ) where
   expr zero = expr_by (in_parentheses None) (in_parentheses None)
   expr (suc n) = expr_by (in_parentheses (Some (expr n))) (in_parentheses (Some (listed (expr n))))
 
-  -- Statements: e reads an expression, and b a block.
+  unfoldable pub parenthesized_expr : ℕ → Reading ExprTree
+  parenthesized_expr n = in_parentheses (inside expr n)
+
+  -- Statements: e reads an expression, p one in parentheses, and b a block.
 
   unfoldable pub assigned : Reading ExprTree → Reading StatementTree
   assigned e = image assign_of (in_turn name (led kind.Assign (ended e kind.Semicolon)))
 
-  unfoldable pub statement_by : Reading ExprTree → Reading BlockTree → Kind → Reading StatementTree
-  statement_by e b kind.Let = image let_of (led kind.Let (in_turn name (led kind.Assign (ended e kind.Semicolon))))
-  statement_by e b kind.If = image if_of (led kind.If (in_turn e (in_turn b (maybe (is kind.Else) (led kind.Else b)))))
-  statement_by e b kind.While = image while_of (led kind.While (in_turn e b))
-  statement_by e b kind.Print = image (λ t. Evaluate use_for.Print t) (led kind.Print (ended e kind.Semicolon))
-  statement_by e b kind.Return = image (λ t. Evaluate use_for.Return t) (led kind.Return (ended e kind.Semicolon))
-  statement_by e b kind.Fail = image (λ _. Fail) (led kind.Fail (key kind.Semicolon))
-  statement_by e b kind.Store = image store_of (led kind.Store (in_turn name (led kind.OpenBracket (in_turn (ended e kind.CloseBracket) (led kind.Assign (ended name kind.Semicolon))))))
-  statement_by e b kind.Take = image take_of (led kind.Take (in_turn name (led kind.Assign (in_turn name (led kind.OpenBracket (ended (ended e kind.CloseBracket) kind.Semicolon))))))
-  statement_by e b kind.Name = ahead kind.Name kind.Assign (assigned e) (evaluated e)
-  statement_by e b k = evaluated e
+  unfoldable pub statement_by : Reading ExprTree → Reading ExprTree → Reading BlockTree → Kind → Reading StatementTree
+  statement_by e p b kind.Let = image let_of (led kind.Let (in_turn name (led kind.Assign (ended e kind.Semicolon))))
+  statement_by e p b kind.If = image if_of (led kind.If (in_turn e (in_turn b (maybe (is kind.Else) (led kind.Else b)))))
+  statement_by e p b kind.While = image while_of (led kind.While (in_turn e b))
+  statement_by e p b kind.Print = image (λ t. Evaluate use_for.Print t) (led kind.Print (ended e kind.Semicolon))
+  statement_by e p b kind.Return = image (λ t. Evaluate use_for.Return t) (led kind.Return (ended e kind.Semicolon))
+  statement_by e p b kind.Fail = image (λ _. Fail) (led kind.Fail (key kind.Semicolon))
+  statement_by e p b kind.Store = image store_of (led kind.Store (in_turn name (led kind.OpenBracket (in_turn (ended e kind.CloseBracket) (led kind.Assign (ended name kind.Semicolon))))))
+  statement_by e p b kind.Take = image take_of (led kind.Take (in_turn name (led kind.Assign (in_turn name (led kind.OpenBracket (ended (ended e kind.CloseBracket) kind.Semicolon))))))
+  statement_by e p b kind.Spawn = image spawn_of (led kind.Spawn (in_turn name (led kind.Assign (ended name kind.Semicolon))))
+  statement_by e p b kind.Switch = image switch_of (led kind.Switch (in_turn name (led kind.Comma (in_turn name (led kind.Assign (in_turn name (ended p kind.Semicolon)))))))
+  statement_by e p b kind.Name = ahead kind.Name kind.Assign (assigned e) (evaluated e)
+  statement_by e p b k = evaluated e
 
-  unfoldable pub statements_by : Reading ExprTree → Reading BlockTree → Reading BlockTree
-  statements_by e b = image block_tree (many (other_than (is kind.CloseBrace)) (choice (statement_by e b)))
+  unfoldable pub statements_by : Reading ExprTree → Reading ExprTree → Reading BlockTree → Reading BlockTree
+  statements_by e p b = image block_tree (many (other_than (is kind.CloseBrace)) (choice (statement_by e p b)))
 
   unfoldable pub block : ℕ → Reading BlockTree
   block zero = in_braces None
-  block (suc n) = in_braces (Some (statements_by (expr n) (block n)))
+  block (suc n) = in_braces (Some (statements_by (expr n) (parenthesized_expr n) (block n)))
 
   -- Declarations.
 
+  unfoldable pub type_by : Kind → Reading VariableType
+  type_by kind.Coro = image (λ _. variable.Coroutine) (key kind.Coro)
+  type_by k = image (λ h. variable.Resumption h) (led kind.Res name)
+
   unfoldable pub parameter : Reading Parameter
-  parameter = image parameter_of (in_turn name (maybe (is kind.Colon) (led kind.Colon (led kind.Res name))))
+  parameter = image parameter_of (in_turn name (maybe (is kind.Colon) (led kind.Colon (choice type_by))))
 
   unfoldable pub parameters : ℕ → Reading (List Parameter)
   parameters n = in_parentheses (inside (λ _. listed parameter) n)

@@ -6,6 +6,8 @@ use Rattle.s_syntax.specs.declared.token.Token.{Token}
 use Rattle.s_syntax.specs.declared.name.Name.{Name}
 use Rattle.s_syntax.specs.declared.number.Number.{Number}
 use Rattle.s_syntax.specs.declared.operators.UnaryOperator.TheVariants as unary
+use Rattle.s_syntax.specs.declared.script.VariableType.{VariableType}
+use Rattle.s_syntax.specs.declared.script.VariableType.TheVariants as variable
 use Rattle.s_syntax.specs.declared.script.Parameter.{Parameter}
 use Rattle.s_syntax.specs.declared.script.Clause.{Clause}
 use Rattle.s_syntax.specs.declared.script.ReturnClause.{ReturnClause}
@@ -18,7 +20,7 @@ use Rattle.s_grammar.specs.Kinds.{Kinds, is}
 use Rattle.s_grammar.specs.Grammar.{Grammar, One, InTurn, Image, Each, Maybe, Choice, Between, Never, Inside}
 use Rattle.s_grammar.specs.Texts.{name_of, number_of}
 use Rattle.s_grammar.specs.Operators.{or_operators, and_operators, comparisons, sum_operators, product_operators, operator_of}
-use Rattle.s_grammar.specs.Parts.{itself, former, latter, or_nothing, run_of, once_of, read_or_call, do_of, handle_of, resume_of, let_of, assign_of, store_of, take_of, if_of, while_of, block_tree, parameter_of, clause_of, return_clause_of, effect_of, function_of, handler_of, slots_of, script_of}
+use Rattle.s_grammar.specs.Parts.{itself, former, latter, or_nothing, run_of, once_of, read_or_call, do_of, handle_of, resume_of, group_of, let_of, assign_of, store_of, take_of, spawn_of, switch_of, if_of, while_of, block_tree, parameter_of, clause_of, return_clause_of, effect_of, function_of, handler_of, slots_of, script_of}
 use Rattle.s_grammar.specs.Reading.{cons}
 
 -- ## Parts of productions
@@ -69,13 +71,14 @@ module _ (bytes : List ℕ) where
 
   -- Expressions: e is what stands in parentheses, with them, and a the arguments there.
 
-  -- INT | NAME | NAME a | e | 'do' NAME a | 'handle' NAME a 'with' NAME a | 'resume' NAME e 'with' a
+  -- INT | NAME | NAME a | e | 'do' NAME a | 'handle' NAME a 'with' NAME a | 'resume' NAME e 'with' a | 'group' NAME e
   unfoldable pub PrimaryBy : Grammar ExprTree → Grammar (List ExprTree) → Kind → Grammar ExprTree
   PrimaryBy e a kind.Name = Image read_or_call (InTurn NAME (Maybe a))
   PrimaryBy e a kind.OpenParenthesis = e
   PrimaryBy e a kind.Do = Image do_of (Led kind.Do (InTurn NAME a))
   PrimaryBy e a kind.Handle = Image handle_of (Led kind.Handle (InTurn NAME (InTurn a (Led kind.With (InTurn NAME a)))))
   PrimaryBy e a kind.Resume = Image resume_of (Led kind.Resume (InTurn NAME (InTurn e (Led kind.With a))))
+  PrimaryBy e a kind.Group = Image group_of (Led kind.Group (InTurn NAME e))
   PrimaryBy e a k = Image Literal INT
 
   -- ('-' | '!')? primary
@@ -93,39 +96,51 @@ module _ (bytes : List ℕ) where
   Expr zero = ExprOf (InParentheses Never) (InParentheses Never)
   Expr (suc m) = ExprOf (InParentheses (Expr m)) (InParentheses (Listed (Expr m)))
 
-  -- Statements: e is an expression, and b a block.
+  -- an expression in parentheses, with them
+  unfoldable pub ParenthesizedExpr : ℕ → Grammar ExprTree
+  ParenthesizedExpr m = InParentheses (Inside Expr m)
+
+  -- Statements: e is an expression, p one in parentheses, and b a block.
 
   -- NAME '=' e ';'
   abbrev pub AssignOf : Grammar ExprTree → Grammar StatementTree
   AssignOf e = Image assign_of (InTurn NAME (Led kind.Assign (ClosedBy e kind.Semicolon)))
 
   -- 'let' NAME '=' e ';' | 'if' e b ('else' b)? | 'while' e b | 'print' e ';' | 'return' e ';' | 'fail' ';'
-  -- | 'store' NAME '[' e ']' '=' NAME ';' | 'take' NAME '=' NAME '[' e ']' ';' | NAME '=' e ';' | e ';'
-  unfoldable pub StatementBy : Grammar ExprTree → Grammar BlockTree → Kind → Grammar StatementTree
-  StatementBy e b kind.Let = Image let_of (Led kind.Let (InTurn NAME (Led kind.Assign (ClosedBy e kind.Semicolon))))
-  StatementBy e b kind.If = Image if_of (Led kind.If (InTurn e (InTurn b (Maybe (Led kind.Else b)))))
-  StatementBy e b kind.While = Image while_of (Led kind.While (InTurn e b))
-  StatementBy e b kind.Print = Image (λ t. Evaluate use_for.Print t) (Led kind.Print (ClosedBy e kind.Semicolon))
-  StatementBy e b kind.Return = Image (λ t. Evaluate use_for.Return t) (Led kind.Return (ClosedBy e kind.Semicolon))
-  StatementBy e b kind.Fail = Image (λ _. Fail) (Led kind.Fail (Key kind.Semicolon))
-  StatementBy e b kind.Store = Image store_of (Led kind.Store (InTurn NAME (Led kind.OpenBracket (InTurn (ClosedBy e kind.CloseBracket) (Led kind.Assign (ClosedBy NAME kind.Semicolon))))))
-  StatementBy e b kind.Take = Image take_of (Led kind.Take (InTurn NAME (Led kind.Assign (InTurn NAME (Led kind.OpenBracket (ClosedBy (ClosedBy e kind.CloseBracket) kind.Semicolon))))))
-  StatementBy e b kind.Name = λ ts s. AssignOf e ts s ⊎ EvaluateOf e ts s
-  StatementBy e b k = EvaluateOf e
+  -- | 'store' NAME '[' e ']' '=' NAME ';' | 'take' NAME '=' NAME '[' e ']' ';' | 'spawn' NAME '=' NAME ';'
+  -- | 'switch' NAME ',' NAME '=' NAME p ';' | NAME '=' e ';' | e ';'
+  unfoldable pub StatementBy : Grammar ExprTree → Grammar ExprTree → Grammar BlockTree → Kind → Grammar StatementTree
+  StatementBy e p b kind.Let = Image let_of (Led kind.Let (InTurn NAME (Led kind.Assign (ClosedBy e kind.Semicolon))))
+  StatementBy e p b kind.If = Image if_of (Led kind.If (InTurn e (InTurn b (Maybe (Led kind.Else b)))))
+  StatementBy e p b kind.While = Image while_of (Led kind.While (InTurn e b))
+  StatementBy e p b kind.Print = Image (λ t. Evaluate use_for.Print t) (Led kind.Print (ClosedBy e kind.Semicolon))
+  StatementBy e p b kind.Return = Image (λ t. Evaluate use_for.Return t) (Led kind.Return (ClosedBy e kind.Semicolon))
+  StatementBy e p b kind.Fail = Image (λ _. Fail) (Led kind.Fail (Key kind.Semicolon))
+  StatementBy e p b kind.Store = Image store_of (Led kind.Store (InTurn NAME (Led kind.OpenBracket (InTurn (ClosedBy e kind.CloseBracket) (Led kind.Assign (ClosedBy NAME kind.Semicolon))))))
+  StatementBy e p b kind.Take = Image take_of (Led kind.Take (InTurn NAME (Led kind.Assign (InTurn NAME (Led kind.OpenBracket (ClosedBy (ClosedBy e kind.CloseBracket) kind.Semicolon))))))
+  StatementBy e p b kind.Spawn = Image spawn_of (Led kind.Spawn (InTurn NAME (Led kind.Assign (ClosedBy NAME kind.Semicolon))))
+  StatementBy e p b kind.Switch = Image switch_of (Led kind.Switch (InTurn NAME (Led kind.Comma (InTurn NAME (Led kind.Assign (InTurn NAME (ClosedBy p kind.Semicolon)))))))
+  StatementBy e p b kind.Name = λ ts s. AssignOf e ts s ⊎ EvaluateOf e ts s
+  StatementBy e p b k = EvaluateOf e
 
-  abbrev pub StatementsOf : Grammar ExprTree → Grammar BlockTree → Grammar BlockTree
-  StatementsOf e b = Image block_tree (Each (Choice (StatementBy e b)))
+  abbrev pub StatementsOf : Grammar ExprTree → Grammar ExprTree → Grammar BlockTree → Grammar BlockTree
+  StatementsOf e p b = Image block_tree (Each (Choice (StatementBy e p b)))
 
   -- '{' statement* '}'
   unfoldable pub Block : ℕ → Grammar BlockTree
   Block zero = InBraces Never
-  Block (suc m) = InBraces (StatementsOf (Expr m) (Block m))
+  Block (suc m) = InBraces (StatementsOf (Expr m) (ParenthesizedExpr m) (Block m))
 
   -- Declarations.
 
-  -- NAME (':' 'res' NAME)?
+  -- 'res' NAME | 'coro'
+  unfoldable pub TypeBy : Kind → Grammar VariableType
+  TypeBy kind.Coro = Image (λ _. variable.Coroutine) (Key kind.Coro)
+  TypeBy k = Image (λ h. variable.Resumption h) (Led kind.Res NAME)
+
+  -- NAME (':' type)?
   abbrev pub ParameterOf : Grammar Parameter
-  ParameterOf = Image parameter_of (InTurn NAME (Maybe (Led kind.Colon (Led kind.Res NAME))))
+  ParameterOf = Image parameter_of (InTurn NAME (Maybe (Led kind.Colon (Choice TypeBy))))
 
   -- '(' (parameter (',' parameter)*)? ')'
   abbrev pub Parameters : ℕ → Grammar (List Parameter)

@@ -41,6 +41,25 @@ with_length ts (u ∷ us) =
     let o = with_one ts u (nat_lt (place u ts) (length ts)) in
     omega (arith, q, o)
 
+with_more : (ts : List CompType) (t : CompType) (b : Bool) → length ts ≤ length (cond b ts (ts ++ t ∷ []))
+with_more ts t true = omega arith
+with_more ts t false = let q = length-append ts (t ∷ []) in omega (arith, q)
+
+-- and no fewer than the first one has
+with_grows : (ts us : List CompType) → length ts ≤ length (with_types ts us)
+with_grows ts [] = omega arith
+with_grows ts (u ∷ us) =
+    let q = with_grows (with_type ts u) us in
+    let m = with_more ts u (nat_lt (place u ts) (length ts)) in
+    omega (arith, q, m)
+
+-- the first types of each module are there
+pub first_there : (ds : List Declaration) → 7 ≤ length (type_table ds)
+first_there ds =
+    let f = with_grows first_types (types_for_all ds) in
+    let t = with_grows (function_types ds) (continuations ds (handled ds)) in
+    omega (arith, f, t)
+
 -- ## As many as a script is large
 
 sized : (d : Definition) → 1 ≤ definition_size d
@@ -82,11 +101,11 @@ continuations_length ds [] = refl
 continuations_length ds (e ∷ es) = ap suc (continuations_length ds es)
 
 -- the function types of a script of this size
-pub few_function_types : (ds : List Declaration) → sum_by (λ (d : Declaration). definition_size d.definition) ds ≤ size_limit → length (function_types ds) ≤ 50005
+pub few_function_types : (ds : List Declaration) → sum_by (λ (d : Declaration). definition_size d.definition) ds ≤ size_limit → length (function_types ds) ≤ 50007
 few_function_types ds h = let q = with_length first_types (types_for_all ds) in let f = few_types ds in omega (arith, q, f, h)
 
 -- and all its types
-pub few_in_table : (ds : List Declaration) → sum_by (λ (d : Declaration). definition_size d.definition) ds ≤ size_limit → length (type_table ds) ≤ 100005
+pub few_in_table : (ds : List Declaration) → sum_by (λ (d : Declaration). definition_size d.definition) ds ≤ size_limit → length (type_table ds) ≤ 100007
 few_in_table ds h =
     let q = with_length (function_types ds) (continuations ds (handled ds)) in
     let f = few_function_types ds h in

@@ -1,15 +1,15 @@
--- The functions that some handle of a script names: what they compute may be suspended, so they need a continuation type.
+-- The functions that some handle, group or spawn of a script names: what they compute may be suspended, so they need a continuation type.
 use Rattle.std.specs.Prelude.{Bool, false, List, [], ◌∷◌, ◌++◌, filter}
 use Rattle.s_syntax.specs.declared.name.Name.{Name}
 use Rattle.s_syntax.specs.declared.script.Clause.{Clause}
 use Rattle.s_syntax.specs.declared.script.Definition.{Definition}
 use Rattle.s_syntax.specs.declared.script.Definition.TheVariants as definition
 use Rattle.s_syntax.specs.declared.script.Declaration.{Declaration}
-use Rattle.s_syntax.specs.ExprTree.{ExprTree, Literal, Read, Unary, Run, Call, Do, Handle, Resume, Exprs, NoExprs, MoreExprs, Operands, NoOperands, MoreOperands}
-use Rattle.s_syntax.specs.BlockTree.{StatementTree, BlockTree, Evaluate, If, While, Fail, Done, ◌⨟◌}
+use Rattle.s_syntax.specs.ExprTree.{ExprTree, Literal, Read, Unary, Run, Call, Do, Handle, Resume, Group, Exprs, NoExprs, MoreExprs, Operands, NoOperands, MoreOperands}
+use Rattle.s_syntax.specs.BlockTree.{StatementTree, BlockTree, Evaluate, If, While, Fail, Spawn, Done, ◌⨟◌}
 use Rattle.s_check.specs.Scopes.{is_among}
 
--- the names of the functions under a handle, in order
+-- the names of the functions that a handle, a group or a spawn begins, in order
 abbrev mutual
   pub handled_in_expr : ExprTree → List Name
   handled_in_expr (Literal n) = []
@@ -20,6 +20,7 @@ abbrev mutual
   handled_in_expr (Do op es) = handled_in_exprs es
   handled_in_expr (Handle f es h ps) = f ∷ (handled_in_exprs es ++ handled_in_exprs ps)
   handled_in_expr (Resume k e ps) = handled_in_expr e ++ handled_in_exprs ps
+  handled_in_expr (Group f e) = f ∷ handled_in_expr e
 
   pub handled_in_exprs : Exprs → List Name
   handled_in_exprs NoExprs = []
@@ -35,6 +36,7 @@ abbrev mutual
   handled_in_statement (If c a b) = handled_in_expr c ++ (handled_in_block a ++ handled_in_block b)
   handled_in_statement (While c b) = handled_in_expr c ++ handled_in_block b
   handled_in_statement Fail = []
+  handled_in_statement (Spawn t f) = f ∷ []
 
   pub handled_in_block : BlockTree → List Name
   handled_in_block Done = []
@@ -60,6 +62,6 @@ is_function_among names d (definition.Function f) = is_among names d.name
 is_function_among names d (definition.Handler h) = false
 is_function_among names d (definition.Slots s) = false
 
--- the functions that some handle names, in order of declaration
+-- the functions that some handle, group or spawn names, in order of declaration
 abbrev pub handled : List Declaration → List Declaration
 handled ds = filter (λ (d : Declaration). is_function_among (handled_names ds) d d.definition) ds

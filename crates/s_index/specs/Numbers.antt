@@ -50,7 +50,7 @@ abbrev pub entry_of : List Declaration → Name → Option Entry
 entry_of ds x = entry_behind no_counts ds x
 
 -- ## Indices in the module: function 0 is the printer; behind it stand the functions, and then the handlers, each a function; effects are tags,
--- and slots are tables
+-- behind which stands the tag of groups, and slots are tables
 
 abbrev pub index_of_function : Definition → ℕ → ℕ
 index_of_function (definition.Effect k) n = 0
@@ -91,6 +91,10 @@ handler_index ds h = with_entry (index_of_handler (first_handler ds)) (entry_of 
 
 abbrev pub tag_index : List Declaration → Name → ℕ
 tag_index ds op = with_entry index_of_tag (entry_of ds op)
+
+-- coroutines switch on it
+abbrev pub group_tag_index : List Declaration → ℕ
+group_tag_index ds = (counts_of ds).effects
 
 abbrev pub table_index : List Declaration → Name → ℕ
 table_index ds s = with_entry index_of_table (entry_of ds s)

@@ -7,7 +7,7 @@ use Rattle.w_types.specs.declared.types.CompType.{CompType}
 use Rattle.w_types.specs.declared.types.CompType.TheVariants.{Func, Cont}
 use Rattle.w_syntax.specs.Locals.{same_kind}
 use Rattle.s_syntax.specs.declared.script.VariableType.{VariableType}
-use Rattle.s_syntax.specs.declared.script.VariableType.TheVariants.{Int, Resumption}
+use Rattle.s_syntax.specs.declared.script.VariableType.TheVariants.{Int, Resumption, Coroutine}
 use Rattle.s_syntax.specs.declared.script.Parameter.{Parameter}
 use Rattle.s_syntax.specs.declared.script.Clause.{Clause}
 use Rattle.s_syntax.specs.declared.script.Definition.{Definition}
@@ -24,12 +24,17 @@ resumption_type = 1
 abbrev pub computation_type : ℕ
 computation_type = 3
 
+-- the index of the type of coroutines, which take a number and the coroutine that they were switched from, and give a number
+abbrev pub coroutine_type : ℕ
+coroutine_type = 6
+
 abbrev pub to_continuation : Bool → ℕ → ValType
 to_continuation or_null x = Ref (record { nullable = or_null; heap = heap.Index x })
 
 abbrev pub val_type : VariableType → ValType
 val_type Int = I64
 val_type (Resumption h) = to_continuation true resumption_type
+val_type Coroutine = to_continuation true coroutine_type
 
 abbrev pub val_types : List Parameter → List ValType
 val_types ps = map (λ (p : Parameter). val_type p.ty) ps
@@ -84,13 +89,18 @@ abbrev pub with_types : List CompType → List CompType → List CompType
 with_types ts [] = ts
 with_types ts (u ∷ us) = with_types (with_type ts u) us
 
--- what each module begins with: resumptions, computations, and the type of the printer
+-- what each module begins with: resumptions, computations, the type of the printer, and coroutines
 abbrev pub first_types : List CompType
-first_types = from_to (I64 ∷ []) (I64 ∷ []) ∷ Cont 0 ∷ from_to [] (I64 ∷ []) ∷ Cont 2 ∷ from_to (I64 ∷ []) [] ∷ []
+first_types = from_to (I64 ∷ []) (I64 ∷ []) ∷ Cont 0 ∷ from_to [] (I64 ∷ []) ∷ Cont 2 ∷ from_to (I64 ∷ []) []
+    ∷ from_to (I64 ∷ to_continuation true coroutine_type ∷ []) (I64 ∷ []) ∷ Cont 5 ∷ []
 
 -- the index of the type of the printer
 abbrev pub printer_type : ℕ
 printer_type = 4
+
+-- the index of the type of the tag of groups: what runs in a group gives a number
+abbrev pub group_tag_type : ℕ
+group_tag_type = 2
 
 abbrev pub clause_types : List Clause → List CompType
 clause_types cs = map (λ (c : Clause). clause_type (length c.arguments)) cs

@@ -85,7 +85,7 @@ fn number_all<'a>(alloc: Global, all: &'a [Declaration]) -> Result<Numbering<'a>
 
 impl<'a> NumberedDeclarations<'a> {
     ghost use Rattle.std.specs.Prelude.{◌≡◌, ◌≤◌, IfOk, IfSome, length};
-    ghost use Rattle.s_index.specs.Numbers.{counts_of, entry_of, slots_in, function_index, handler_index, tag_index, table_index, first_handler};
+    ghost use Rattle.s_index.specs.Numbers.{counts_of, entry_of, slots_in, function_index, handler_index, tag_index, group_tag_index, table_index, first_handler};
     ghost use Rattle.s_index.specs.Indices.{parameters_of};
     ghost use Rattle.s_index.specs.Views.{entry_at, slots_at};
     ghost use Rattle.s_check.specs.Size.{size_limit};
@@ -168,6 +168,13 @@ impl<'a> NumberedDeclarations<'a> {
             ) => number,
             _ => 0,
         }
+    }
+
+    /// The index of the tag of groups in the module: it stands behind those of effects.
+    pub fn group_tag_index(&self) -> u32
+        ensures value { result ≡ group_tag_index self.now }
+    {
+        self.counts.effects
     }
 
     /// The index of the table of slots in the module.

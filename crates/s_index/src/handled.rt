@@ -1,4 +1,4 @@
-//! The functions that some handle of a script names.
+//! The functions that some handle, group or spawn of a script names.
 ghost use Rattle.std.specs.Prelude.{◌≡◌, ◌++◌, List, OnOk, IfOk};
 ghost use Rattle.s_syntax.specs.declared.name.Name.{Name as TheName};
 ghost use Rattle.s_syntax.specs.ExprOf.{expr_of};
@@ -12,7 +12,7 @@ use s_syntax::{
 };
 use std::alloc::{AllocError, Global};
 
-// Puts the names of the functions that an expression handles behind those that are there.
+// Puts the names of the functions that an expression handles or groups behind those that are there.
 #[cycle(expressions)]
 fn push_in_expr<'a>(expr: &'a Expr, names: &mut Vec<&'a Name>) -> Result<(), AllocError>
     ensures value { OnOk result (names_of names.new.items ≡ names_of names.old.items ++ handled_in_expr expr.now) }
@@ -56,6 +56,10 @@ fn push_in_node<'a>(node: &'a Node, names: &mut Vec<&'a Name>) -> Result<(), All
         } => {
             push_in_expr(argument, names)?;
             push_in_exprs(parameters.as_slice(), names)
+        }
+        Node::Group { function, argument } => {
+            names.push(function)?;
+            push_in_expr(argument, names)
         }
     }
 }
@@ -109,6 +113,10 @@ fn push_in_statement<'a>(
             push_in_block(body, names)
         }
         Statement::Fail => Ok(()),
+        Statement::Spawn { name: _, function } => {
+            names.push(function)?;
+            Ok(())
+        }
     }
 }
 
@@ -150,7 +158,7 @@ fn push_in_definition<'a>(
     }
 }
 
-/// The names of the functions that some handle names, in order. It fails only for want of memory.
+/// The names of the functions that some handle, group or spawn names, in order. It fails only for want of memory.
 pub(crate) fn handled_names(alloc: Global, all: &[Declaration]) -> Result<Vec<&Name>, AllocError>
     ensures value { IfOk result (λ names. names_of names.items ≡ handled_names all.now) }
 {

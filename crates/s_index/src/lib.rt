@@ -11,6 +11,6 @@ mod types;
 pub use counts::Counts;
 pub use program::Program;
 pub use types::{
-    COMPUTATION, PRINTER, RESUMPTION, clause_type, effect_type, function_type, handler_type,
-    resumption_local, val_type,
+    COMPUTATION, COROUTINE, GROUP_TAG, PRINTER, RESUMPTION, clause_type, coroutine_local,
+    effect_type, function_type, handler_type, resumption_local, val_type,
 };

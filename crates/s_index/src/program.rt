@@ -44,7 +44,7 @@ impl<'a> Model for Program<'a> {
 
     ghost view = { λ a. a.declarations };
 
-    ghost invariant = { λ a. HasNames a.handled (handled_names a.declarations) × (a.types.items ≡ type_table a.declarations) × (length a.types.items ≤ 100005) };
+    ghost invariant = { λ a. HasNames a.handled (handled_names a.declarations) × (a.types.items ≡ type_table a.declarations) × (length a.types.items ≤ 100007) };
 }
 
 // The set of these names.
@@ -120,7 +120,7 @@ fn continuation_type(
     types: &[CompType],
     parameters: &[Parameter],
 ) -> Result<CompType, AllocError>
-    requires { length types.now ≤ 100005 }
+    requires { length types.now ≤ 100007 }
     ensures value { IfOk result (λ ty. ty ≡ Cont (place (function_type parameters.now) types.now)) }
 {
     let function = function_type(alloc, parameters)?;
@@ -136,7 +136,7 @@ fn continuation_types<'a>(
 ) -> Result<Vec<CompType>, AllocError>
     requires has { HasNames names.now (handled_names declarations.now) }
     requires functions { functions.now ≡ function_types declarations.now }
-    requires few { length functions.now ≤ 100005 }
+    requires few { length functions.now ≤ 100007 }
     ensures value { IfOk result (λ types. types.items ≡ continuations declarations.now (handled declarations.now)) }
 {
     let mut types = Vec::new(alloc);
@@ -160,11 +160,11 @@ fn add_types(types: &mut Vec<CompType>, more: Vec<CompType>) -> Result<(), Alloc
 }
 
 impl<'a> Program<'a> {
-    ghost use Rattle.std.specs.Prelude.{◌≡◌, ◌≤◌, IfOk, sum_by};
+    ghost use Rattle.std.specs.Prelude.{◌≡◌, ◌≤◌, IfOk, length, sum_by};
     ghost use Rattle.s_syntax.specs.declared.script.Declaration.{Declaration as TheDeclaration};
     ghost use Rattle.s_check.specs.Size.{definition_size, size_limit};
     ghost use Rattle.s_check.specs.Definitions.{slots_of};
-    ghost use Rattle.s_index.specs.Numbers.{function_index, handler_index, tag_index, table_index};
+    ghost use Rattle.s_index.specs.Numbers.{function_index, handler_index, tag_index, group_tag_index, table_index};
     ghost use Rattle.s_index.specs.Handled.{handled_names, is_function_among};
     ghost use Rattle.s_index.specs.Indices.{type_table, type_index, clause_type_index, continuation_index};
     ghost use Rattle.s_index.specs.Views.{slots_at};
@@ -202,9 +202,11 @@ impl<'a> Program<'a> {
         self.types.as_slice()
     }
 
-    /// The types of the module, in order.
+    /// The types of the module, in order, at least the first ones of each module.
+    #[tactic(auto, using(crate::proofs::Lengths::first_there))]
     pub fn into_types(self) -> Vec<CompType>
         ensures value { result.items ≡ type_table self.entry }
+        ensures many { 7 ≤ length result.items }
     {
         let Program {
             alloc: _,
@@ -215,7 +217,7 @@ impl<'a> Program<'a> {
         types
     }
 
-    /// Whether a declaration is of a function that some handle names.
+    /// Whether a declaration is of a function that some handle, group or spawn names.
     pub fn is_handled(&self, declaration: &'a Declaration) -> bool
         ensures value { result ≡ is_function_among (handled_names self.now) declaration.now declaration.now.definition }
     {
@@ -264,6 +266,13 @@ impl<'a> Program<'a> {
         ensures value { result ≡ tag_index self.now name.now }
     {
         self.declarations.tag_index(name)
+    }
+
+    /// The index of the tag of groups in the module, which coroutines switch on.
+    pub fn group_tag_index(&self) -> u32
+        ensures value { result ≡ group_tag_index self.now }
+    {
+        self.declarations.group_tag_index()
     }
 
     /// The index of the table of slots in the module.

@@ -1,8 +1,9 @@
 //! Lists of types in which none stands twice.
-ghost use Rattle.std.specs.Prelude.{◌≡◌, [], ◌∷◌, ◌≤◌, ◌<◌, OnOk, IfOk, length};
+ghost use Rattle.std.specs.Prelude.{◌≡◌, [], ◌∷◌, ◌≤◌, ◌<◌, true, OnOk, IfOk, length};
 ghost use Rattle.w_types.specs.declared.types.ValType.TheVariants.{I64};
-ghost use Rattle.s_index.specs.Types.{same_kinds, same_type, place, with_type, first_types, from_to};
+ghost use Rattle.s_index.specs.Types.{same_kinds, same_type, place, with_type, first_types, from_to, to_continuation, coroutine_type};
 
+use crate::types::coroutine_local;
 use lists::ListOf;
 use std::alloc::{AllocError, Global};
 use w_syntax::are_one_type;
@@ -79,7 +80,16 @@ fn number(alloc: Global) -> Result<Vec<PackedType>, AllocError>
     Ok(types)
 }
 
-/// The types that each module begins with: resumptions, computations, and the type of the printer.
+// What coroutines take: a number, and the coroutine that they were switched from.
+fn number_and_coroutine(alloc: Global) -> Result<Vec<PackedType>, AllocError>
+    ensures value { IfOk result (λ types. types.items ≡ I64 ∷ to_continuation true coroutine_type ∷ []) }
+{
+    let mut types = number(alloc)?;
+    types.push(coroutine_local())?;
+    Ok(types)
+}
+
+/// The types that each module begins with: resumptions, computations, the type of the printer, and coroutines.
 pub(crate) fn first_types(alloc: Global) -> Result<Vec<CompType>, AllocError>
     ensures value { IfOk result (λ types. types.items ≡ first_types) }
 {
@@ -89,5 +99,7 @@ pub(crate) fn first_types(alloc: Global) -> Result<Vec<CompType>, AllocError>
     types.push(from_to(Vec::new(alloc), number(alloc)?))?;
     types.push(CompType::Cont(2))?;
     types.push(from_to(number(alloc)?, Vec::new(alloc)))?;
+    types.push(from_to(number_and_coroutine(alloc)?, number(alloc)?))?;
+    types.push(CompType::Cont(5))?;
     Ok(types)
 }

@@ -1,7 +1,7 @@
 //! The types of functions, handlers, effects and clauses.
 ghost use Rattle.std.specs.Prelude.{◌≡◌, [], ◌∷◌, true, IfOk};
 ghost use Rattle.w_types.specs.declared.types.ValType.TheVariants.{I64};
-ghost use Rattle.s_index.specs.Types.{val_type, val_types, numbers, to_continuation, resumption_type, from_to, function_type, handler_type, effect_type, clause_type};
+ghost use Rattle.s_index.specs.Types.{val_type, val_types, numbers, to_continuation, resumption_type, coroutine_type, from_to, function_type, handler_type, effect_type, clause_type};
 
 use lists::ListOf;
 use s_syntax::{Parameter, VariableType};
@@ -14,8 +14,14 @@ pub const RESUMPTION: u32 = 1;
 /// The index of the type of the printer of numbers.
 pub const PRINTER: u32 = 4;
 
+/// The index of the type of the tag of groups.
+pub const GROUP_TAG: u32 = 2;
+
 /// The index of the type of computations that are ready to run.
 pub const COMPUTATION: u32 = 3;
+
+/// The index of the type of coroutines.
+pub const COROUTINE: u32 = 6;
 
 // A reference to a continuation of the type of this index.
 fn to_continuation(nullable: bool, index: u32) -> PackedType
@@ -34,6 +40,13 @@ pub fn resumption_local() -> PackedType
     to_continuation(true, RESUMPTION)
 }
 
+/// The type of the local of a coroutine.
+pub fn coroutine_local() -> PackedType
+    ensures value { result ≡ to_continuation true coroutine_type }
+{
+    to_continuation(true, COROUTINE)
+}
+
 /// The type of the local of a variable.
 pub fn val_type(ty: &VariableType) -> PackedType
     ensures value { result ≡ val_type ty.now }
@@ -41,6 +54,7 @@ pub fn val_type(ty: &VariableType) -> PackedType
     match ty {
         VariableType::Int => PackedType::I64,
         VariableType::Resumption(_) => resumption_local(),
+        VariableType::Coroutine => coroutine_local(),
     }
 }
 

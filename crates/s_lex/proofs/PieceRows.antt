@@ -14,6 +14,10 @@ keyword_of_slots : piece_of (codes "slots s") ≡ Token kind.Slots 5
 unfolding piece_of run word_kind
 keyword_of_slots = refl
 
+keyword_of_coroutines : piece_of (codes "coro)") ≡ Token kind.Coro 4
+unfolding piece_of run word_kind
+keyword_of_coroutines = refl
+
 longer_word_is_a_name : piece_of (codes "iffy") ≡ Token kind.Name 4
 unfolding piece_of run word_kind
 longer_word_is_a_name = refl

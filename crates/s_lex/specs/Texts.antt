@@ -25,22 +25,32 @@ is_comment = consists_of is_hash is_in_line
 
 -- ## Words
 
+-- the keywords of types and expressions
+abbrev pub inner_keywords : List (List ℕ × Kind)
+inner_keywords =
+    (codes "do", kind.Do) ∷ (codes "handle", kind.Handle) ∷ (codes "with", kind.With) ∷ (codes "resume", kind.Resume)
+    ∷ (codes "group", kind.Group) ∷ (codes "res", kind.Res) ∷ (codes "coro", kind.Coro) ∷ []
+
+-- those of declarations and statements, and then these
 abbrev pub keywords : List (List ℕ × Kind)
 keywords =
-    (codes "effect", kind.Effect) ∷ (codes "fn", kind.Fn) ∷ (codes "handler", kind.Handler) ∷ (codes "return", kind.Return)
-    ∷ (codes "on", kind.On) ∷ (codes "let", kind.Let) ∷ (codes "if", kind.If) ∷ (codes "else", kind.Else)
-    ∷ (codes "while", kind.While) ∷ (codes "print", kind.Print) ∷ (codes "fail", kind.Fail) ∷ (codes "do", kind.Do)
-    ∷ (codes "handle", kind.Handle) ∷ (codes "with", kind.With) ∷ (codes "resume", kind.Resume) ∷ (codes "res", kind.Res)
-    ∷ (codes "slots", kind.Slots) ∷ (codes "store", kind.Store) ∷ (codes "take", kind.Take) ∷ []
+    (codes "effect", kind.Effect) ∷ (codes "fn", kind.Fn) ∷ (codes "handler", kind.Handler) ∷ (codes "slots", kind.Slots)
+    ∷ (codes "return", kind.Return) ∷ (codes "on", kind.On) ∷ (codes "let", kind.Let) ∷ (codes "if", kind.If)
+    ∷ (codes "else", kind.Else) ∷ (codes "while", kind.While) ∷ (codes "print", kind.Print) ∷ (codes "fail", kind.Fail)
+    ∷ (codes "store", kind.Store) ∷ (codes "take", kind.Take) ∷ (codes "spawn", kind.Spawn) ∷ (codes "switch", kind.Switch)
+    ∷ inner_keywords
 
 -- the kind beside a text in a table
 abbrev pub kind_in : List (List ℕ × Kind) → List ℕ → Option Kind
 kind_in [] t = None
 kind_in (r ∷ rs) t = if bytes_eq t r.0 then Some r.1 else kind_in rs t
 
--- a word is a keyword, or else a name
+-- a word is a keyword of the table, or else a name
+abbrev pub kind_by : List (List ℕ × Kind) → List ℕ → Kind
+kind_by rs t = unwrap_or (kind_in rs t) kind.Name
+
 unfoldable pub word_kind : List ℕ → Kind
-word_kind t = unwrap_or (kind_in keywords t) kind.Name
+word_kind t = kind_by keywords t
 
 -- ## Numbers
 

@@ -1,8 +1,31 @@
 //! Texts of words, numbers and symbols.
 ghost use Rattle.std.specs.Prelude.{◌≡◌, ◌-◌, ◌<◌, [], ◌∷◌, IfSome, IfNone};
-ghost use Rattle.s_lex.specs.Texts.{kind_in, word_kind, value, greatest, long_symbols, short_symbols};
+ghost use Rattle.s_lex.specs.Texts.{kind_in, kind_by, inner_keywords, word_kind, value, greatest, long_symbols, short_symbols};
 
 use s_syntax::{Kind, Number};
+
+// The kind of a word that is a keyword of types or expressions, or else a name.
+fn inner_word_kind(text: &[u8]) -> Kind
+    ensures value { result ≡ kind_by inner_keywords text.now }
+{
+    if text == "do".as_bytes() {
+        Kind::Do
+    } else if text == "handle".as_bytes() {
+        Kind::Handle
+    } else if text == "with".as_bytes() {
+        Kind::With
+    } else if text == "resume".as_bytes() {
+        Kind::Resume
+    } else if text == "group".as_bytes() {
+        Kind::Group
+    } else if text == "res".as_bytes() {
+        Kind::Res
+    } else if text == "coro".as_bytes() {
+        Kind::Coro
+    } else {
+        Kind::Name
+    }
+}
 
 /// The kind of a word: that of a keyword, or else a name.
 #[tactic(auto, unfolding(crate::specs::Texts::word_kind))]
@@ -15,6 +38,8 @@ pub(crate) fn word_kind(text: &[u8]) -> Kind
         Kind::Fn
     } else if text == "handler".as_bytes() {
         Kind::Handler
+    } else if text == "slots".as_bytes() {
+        Kind::Slots
     } else if text == "return".as_bytes() {
         Kind::Return
     } else if text == "on".as_bytes() {
@@ -31,24 +56,16 @@ pub(crate) fn word_kind(text: &[u8]) -> Kind
         Kind::Print
     } else if text == "fail".as_bytes() {
         Kind::Fail
-    } else if text == "do".as_bytes() {
-        Kind::Do
-    } else if text == "handle".as_bytes() {
-        Kind::Handle
-    } else if text == "with".as_bytes() {
-        Kind::With
-    } else if text == "resume".as_bytes() {
-        Kind::Resume
-    } else if text == "res".as_bytes() {
-        Kind::Res
-    } else if text == "slots".as_bytes() {
-        Kind::Slots
     } else if text == "store".as_bytes() {
         Kind::Store
     } else if text == "take".as_bytes() {
         Kind::Take
+    } else if text == "spawn".as_bytes() {
+        Kind::Spawn
+    } else if text == "switch".as_bytes() {
+        Kind::Switch
     } else {
-        Kind::Name
+        inner_word_kind(text)
     }
 }
 

@@ -17,7 +17,7 @@ use Rattle.w_syntax.specs.Module.{empty_module}
 use Rattle.s_syntax.specs.declared.script.Declaration.{Declaration}
 use Rattle.s_index.specs.Handled.{handled}
 use Rattle.s_index.specs.Indices.{type_table}
-use Rattle.s_code.specs.Lowered.{function_type_of, handler_type_of, table_of, tag_of, function_code_of, handler_code_of, for_each, group, printer_import, main_export, declared, lowered_all}
+use Rattle.s_code.specs.Lowered.{function_type_of, handler_type_of, table_of, tag_of, group_tag, function_code_of, handler_code_of, for_each, grouped, printer_import, main_export, declared, lowered_all}
 use Rattle.s_lower.specs.Views.{untyped}
 
 of_parts : List RecGroup → List Import → List ℕ → List Table → List Limits → List Tag → List GlobalVariable → List Export → Option ℕ → List Elem → List Func → List Data → Module
@@ -58,7 +58,7 @@ pub assembled : (ds : List Declaration) (m : Module) (is : List Import) (fs gs :
     → m ≡ empty_module → is ≡ m.imports ++ printer_import ∷ []
     → fs ≡ m.functions ++ for_each (λ (d : Declaration). function_type_of ds d.definition) ds → gs ≡ fs ++ for_each (λ (d : Declaration). handler_type_of ds d.definition) ds
     → tables ≡ m.tables ++ for_each (λ (d : Declaration). table_of d.definition) ds
-    → tags ≡ m.tags ++ for_each (λ (d : Declaration). tag_of ds d.definition) ds → exports ≡ m.exports ++ main_export ds ∷ [] → elements ≡ m.elements ++ declared ds (handled ds)
+    → tags ≡ m.tags ++ (for_each (λ (d : Declaration). tag_of ds d.definition) ds ++ group_tag ∷ []) → exports ≡ m.exports ++ main_export ds ∷ [] → elements ≡ m.elements ++ declared ds (handled ds)
     → codes ≡ m.codes ++ for_each (λ (d : Declaration). function_code_of ds d.definition) ds → all ≡ codes ++ for_each (λ (d : Declaration). handler_code_of ds d.name d.definition) ds
     → record m { imports = is; functions = gs; tables = tables; tags = tags; exports = exports; elements = elements; codes = all } ≡ untyped ds
 unfolding of_parts
@@ -66,10 +66,10 @@ assembled ds m is fs gs tables tags exports elements codes all e e1 e2 e3 e0 e4 
     alike m.types _ is _ gs _ tables _ m.memories _ tags _ m.globals _ exports _ m.start _ elements _ all _ m.datas _
     (ap (λ (x : Module). x.types) e) (e1 ∙ ap (λ (x : Module). x.imports ++ printer_import ∷ []) e)
     (e3 ∙ ap (λ (xs : List ℕ). xs ++ for_each (λ (d : Declaration). handler_type_of ds d.definition) ds) (e2 ∙ ap (λ (x : Module). x.functions ++ for_each (λ (d : Declaration). function_type_of ds d.definition) ds) e))
-    (e0 ∙ ap (λ (x : Module). x.tables ++ for_each (λ (d : Declaration). table_of d.definition) ds) e) (ap (λ (x : Module). x.memories) e) (e4 ∙ ap (λ (x : Module). x.tags ++ for_each (λ (d : Declaration). tag_of ds d.definition) ds) e) (ap (λ (x : Module). x.globals) e)
+    (e0 ∙ ap (λ (x : Module). x.tables ++ for_each (λ (d : Declaration). table_of d.definition) ds) e) (ap (λ (x : Module). x.memories) e) (e4 ∙ ap (λ (x : Module). x.tags ++ (for_each (λ (d : Declaration). tag_of ds d.definition) ds ++ group_tag ∷ [])) e) (ap (λ (x : Module). x.globals) e)
     (e5 ∙ ap (λ (x : Module). x.exports ++ main_export ds ∷ []) e) (ap (λ (x : Module). x.start) e) (e6 ∙ ap (λ (x : Module). x.elements ++ declared ds (handled ds)) e)
     (e8 ∙ ap (λ (xs : List Func). xs ++ for_each (λ (d : Declaration). handler_code_of ds d.name d.definition) ds) (e7 ∙ ap (λ (x : Module). x.codes ++ for_each (λ (d : Declaration). function_code_of ds d.definition) ds) e)) (ap (λ (x : Module). x.datas) e)
 
 -- the types put into it too
-pub completed : (ds : List Declaration) (m : Module) (ts : List CompType) (gs : List RecGroup) → m ≡ untyped ds → gs ≡ map group ts → ts ≡ type_table ds → record m { types = gs } ≡ lowered_all ds
-completed ds m ts gs e g t = ap (λ (x : Module). record x { types = gs }) e ∙ ap (λ (xs : List RecGroup). record (lowered_all ds) { types = xs }) (g ∙ ap (λ (us : List CompType). map group us) t)
+pub completed : (ds : List Declaration) (m : Module) (ts : List CompType) (gs : List RecGroup) → m ≡ untyped ds → gs ≡ grouped ts → ts ≡ type_table ds → record m { types = gs } ≡ lowered_all ds
+completed ds m ts gs e g t = ap (λ (x : Module). record x { types = gs }) e ∙ ap (λ (xs : List RecGroup). record (lowered_all ds) { types = xs }) (g ∙ ap (λ (us : List CompType). grouped us) t)

@@ -3,7 +3,7 @@ ghost use Rattle.std.specs.Prelude.{◌≡◌, ◌≤◌, ◌+◌, ◌++◌, ◌
 ghost use Rattle.s_syntax.specs.BlockOf.{statement_of};
 ghost use Rattle.s_check.specs.Definitions.{slots_of};
 ghost use Rattle.s_check.specs.Rules.{handler_of_slots};
-ghost use Rattle.s_check.specs.Scopes.{number, parameter, resumption};
+ghost use Rattle.s_check.specs.Scopes.{number, parameter, resumption, coroutine};
 ghost use Rattle.s_check.specs.Size.{block_size, clause_size};
 ghost use Rattle.s_code.specs.Layouts.{numbered};
 ghost use Rattle.s_code.specs.Places.{binds_by, binds_of, binds_in, name_runs, locals_for, clause_names, clauses_names, return_names};
@@ -13,7 +13,7 @@ ghost use Rattle.s_index.specs.Limits.{number_limit};
 ghost use Rattle.s_lower.specs.Views.{bound_of, bounds_of};
 
 use s_code::{LocalName, LocalType};
-use s_index::{Program, resumption_local};
+use s_index::{Program, coroutine_local, resumption_local};
 use s_syntax::{Block, Clause, Handler, Name, Parameter, Statement, Use, VariableType};
 use std::alloc::{AllocError, Global};
 use w_syntax::{LocalRun, Locals};
@@ -36,6 +36,16 @@ fn number<'a>(name: &'a Name) -> TypedName<'a>
     }
 }
 
+// A name of a coroutine.
+fn coroutine<'a>(name: &'a Name) -> TypedName<'a>
+    ensures value { bound_of result ≡ coroutine name.now }
+{
+    TypedName {
+        name,
+        ty: LocalType::Coroutine,
+    }
+}
+
 // The type of a parameter.
 fn type_of(ty: &VariableType) -> LocalType<'_>
     ensures value { type_of result ≡ ty.now }
@@ -43,6 +53,7 @@ fn type_of(ty: &VariableType) -> LocalType<'_>
     match ty {
         VariableType::Int => LocalType::Int,
         VariableType::Resumption(handler) => LocalType::Resumption(handler),
+        VariableType::Coroutine => LocalType::Coroutine,
     }
 }
 
@@ -94,7 +105,7 @@ fn taken<'a>(program: &Program<'a>, name: &'a Name, slots: &'a Name) -> TypedNam
     }
 }
 
-// Puts the name that a use binds behind the others.
+// Puts the names that a use binds behind the others.
 fn push_lets_by<'a>(
     program: &Program<'a>,
     what: &'a Use,
@@ -109,6 +120,15 @@ fn push_lets_by<'a>(
         }
         Use::Take { name, slots } => {
             names.push(taken(program, name, slots))?;
+            Ok(())
+        }
+        Use::Switch {
+            number: name,
+            coroutine: other,
+            target: _,
+        } => {
+            names.push(number(name))?;
+            names.push(coroutine(other))?;
             Ok(())
         }
         Use::Assign(_) | Use::Print | Use::Return | Use::Drop | Use::Store { slots: _, name: _ } =>
@@ -137,6 +157,10 @@ fn push_lets_of<'a>(
         }
         Statement::While { condition: _, body } => push_lets(program, body, names),
         Statement::Fail => Ok(()),
+        Statement::Spawn { name, function: _ } => {
+            names.push(coroutine(name))?;
+            Ok(())
+        }
     }
 }
 
@@ -279,6 +303,7 @@ fn local_type(ty: LocalType) -> PackedType
     match ty {
         LocalType::Int => PackedType::I64,
         LocalType::Resumption(_) => resumption_local(),
+        LocalType::Coroutine => coroutine_local(),
     }
 }
 

@@ -1,15 +1,16 @@
 //! The parts of the module.
-ghost use Rattle.std.specs.Prelude.{◌≡◌, ◌≤◌, ◌∷◌, ◌++◌, [], codes, map, sum_by, IfOk, OnOk};
+ghost use Rattle.std.specs.Prelude.{◌≡◌, ◌≤◌, ◌∷◌, ◌++◌, [], codes, length, map, sum_by, IfOk, OnOk};
 ghost use Rattle.s_index.specs.Indices.{function_type_index, handler_type_index, effect_type_index};
 ghost use Rattle.s_index.specs.Numbers.{function_index};
 ghost use Rattle.s_syntax.specs.declared.script.Declaration.{Declaration as TheDeclaration};
 ghost use Rattle.s_check.specs.Size.{definition_size, size_limit};
 ghost use Rattle.s_index.specs.Handled.{handled};
-ghost use Rattle.s_code.specs.Lowered.{function_type_of, handler_type_of, slots_table, table_of, tag_of, function_code_of, handler_code_of, for_each, group, printer_import, main_export, declared};
+ghost use Rattle.w_syntax.specs.Types.{alone_of};
+ghost use Rattle.s_code.specs.Lowered.{function_type_of, handler_type_of, slots_table, table_of, tag_of, group_tag, function_code_of, handler_code_of, for_each, group, pair_first, grouped, printer_import, main_export, declared};
 
 use crate::code::{function_code, handler_code};
 use lists::ListOf;
-use s_index::{PRINTER, Program, RESUMPTION, effect_type, function_type, handler_type};
+use s_index::{GROUP_TAG, PRINTER, Program, RESUMPTION, effect_type, function_type, handler_type};
 use s_syntax::{Declaration, Definition, Name as DeclaredName, Number, Parameter, Slots};
 use std::alloc::{AllocError, Global};
 use w_syntax::{
@@ -42,12 +43,40 @@ fn push_groups(
     Ok(())
 }
 
-/// Each of these types in a group of its own. It fails only for want of memory.
-pub(crate) fn groups(alloc: Global, types: Vec<CompType>) -> Result<RecGroups, AllocError>
-    ensures value { IfOk result (λ groups. groups ≡ map group types.items) }
+// A group of these types, each final and without supertypes.
+fn one_group(alloc: Global, types: Vec<CompType>) -> Result<RecGroup, AllocError>
+    ensures value { IfOk result (λ made. made.types ≡ map alone_of types.items) }
 {
+    let mut all = ListOf::new(alloc);
+    for ty in types {
+        all.push(SubType::alone(alloc, ty))?;
+    }
+    Ok(RecGroup { types: all })
+}
+
+// Puts the first two of these types in one group behind the others, and each other in a group of its own.
+fn push_pair_first(
+    alloc: Global,
+    mut types: Vec<CompType>,
+    groups: &mut Vec<RecGroup>,
+) -> Result<(), AllocError>
+    requires { 2 ≤ length types.items }
+    ensures value { OnOk result (groups.new.items ≡ groups.old.items ++ pair_first types.items) }
+{
+    let others = types.split_off(2)?;
+    groups.push(one_group(alloc, types)?)?;
+    push_groups(alloc, others, groups)
+}
+
+/// The types of the module in groups: behind the first five stand two that name each other. It fails only for want of memory.
+pub(crate) fn groups(alloc: Global, mut types: Vec<CompType>) -> Result<RecGroups, AllocError>
+    requires { 7 ≤ length types.items }
+    ensures value { IfOk result (λ groups. groups ≡ grouped types.items) }
+{
+    let others = types.split_off(5)?;
     let mut groups = Vec::new(alloc);
     push_groups(alloc, types, &mut groups)?;
+    push_pair_first(alloc, others, &mut groups)?;
     RecGroups::from_vec(alloc, groups)
 }
 
@@ -167,12 +196,8 @@ fn effect_type_index(alloc: Global, program: &Program, number: &Number) -> Resul
     Ok(program.type_index(&ty))
 }
 
-/// Puts the tags of effects behind the others. It fails only for want of memory.
-pub(crate) fn push_tags(
-    alloc: Global,
-    program: &Program,
-    all: &mut ListOf<Tag>,
-) -> Result<(), AllocError>
+// Puts the tags of effects behind the others.
+fn push_effects(alloc: Global, program: &Program, all: &mut ListOf<Tag>) -> Result<(), AllocError>
     ensures value { OnOk result (all.new ≡ all.old ++ for_each (λ (d : TheDeclaration). tag_of program.now d.definition) program.now) }
 {
     for declaration in program.declarations() {
@@ -181,6 +206,21 @@ pub(crate) fn push_tags(
             all.push(Tag { type_index })?;
         }
     }
+    Ok(())
+}
+
+/// Puts the tags of effects, and behind them that of groups, behind the others. It fails only for want of memory.
+pub(crate) fn push_tags(
+    alloc: Global,
+    program: &Program,
+    all: &mut ListOf<Tag>,
+) -> Result<(), AllocError>
+    ensures value { OnOk result (all.new ≡ all.old ++ (for_each (λ (d : TheDeclaration). tag_of program.now d.definition) program.now ++ group_tag ∷ [])) }
+{
+    push_effects(alloc, program, all)?;
+    all.push(Tag {
+        type_index: GROUP_TAG,
+    })?;
     Ok(())
 }
 

@@ -1,20 +1,21 @@
--- The worked scripts: what they print, how they end and after how many steps, and how many activations, active handles and resumptions there are midway.
+-- The worked scripts: what they print, how they end and after how many steps, and how many activations, active handles and groups, and kept contexts there are midway.
 use Rattle.std.specs.Int.{int_wrap}
 use Rattle.std.proofs.Common.{◌≡◌, ◌∙◌, ℕ, zero, suc, pos, negsuc, List, [], ◌∷◌, ◌++◌, codes, refl, append-nil, arith, min}
 use Rattle.std.proofs.Math.Nat.{min-le_right}
 use Rattle.following.specs.Follows.{Going, Value, Fault}
+use Rattle.s_syntax.specs.declared.name.Name.{Name}
 use Rattle.s_syntax.specs.declared.script.Definition.{Definition}
 use Rattle.s_syntax.specs.declared.script.Definition.TheVariants as definition
 use Rattle.s_syntax.specs.declared.script.Script.{Script}
-use Rattle.s_syntax.specs.declared.script.VariableType.TheVariants.{Int, Resumption}
+use Rattle.s_syntax.specs.declared.script.VariableType.TheVariants.{Int, Resumption, Coroutine}
 use Rattle.s_syntax.specs.declared.operators.UnaryOperator.TheVariants.{Minus, Not}
 use Rattle.s_syntax.specs.declared.operators.Connective.TheVariants.{Or, And}
 use Rattle.s_syntax.specs.declared.operators.Comparison.TheVariants.{Less}
 use Rattle.s_syntax.specs.declared.operators.Arithmetic.TheVariants.{Add, Subtract, Multiply, Divide}
 use Rattle.s_syntax.specs.declared.operators.BinaryOperator.TheVariants.{Connects, Compares, Computes}
-use Rattle.s_syntax.specs.ExprTree.{ExprTree, Literal, Read, Unary, Run, Call, Do, Handle, Resume, Exprs, NoExprs, MoreExprs, NoOperands, MoreOperands}
+use Rattle.s_syntax.specs.ExprTree.{ExprTree, Literal, Read, Unary, Run, Call, Do, Handle, Resume, Group, Exprs, NoExprs, MoreExprs, NoOperands, MoreOperands}
 use Rattle.s_syntax.specs.declared.statement.Use.TheVariants as use_for
-use Rattle.s_syntax.specs.BlockTree.{BlockTree, Evaluate, If, While, Done, ◌⨟◌}
+use Rattle.s_syntax.specs.BlockTree.{BlockTree, Evaluate, If, While, Spawn, Done, ◌⨟◌}
 use Rattle.s_meaning.specs.Numbers.{line, Overflow, Reused, Empty, Unhandled}
 use Rattle.s_meaning.specs.Terms.{acts, hands, kept}
 use Rattle.s_meaning.specs.Eval.{Eval}
@@ -590,3 +591,135 @@ takes_twice-ends = refl
 takes_below-ends : (Eval takes_below 56).outcome ≡ Fault Empty
 unfolding takes_below keeps_jobs int_wrap
 takes_below-ends = refl
+
+-- two coroutines that switch to one another in a group; ping switches to a coroutine of this name at last
+
+abbrev plus_one : ExprTree → ExprTree
+plus_one e = Run e (MoreOperands (Computes Add) (int 1) NoOperands)
+
+abbrev pong : Definition
+pong = definition.Function (record { parameters = (record { name = (codes "y"); ty = Int } ∷ record { name = (codes "p"); ty = Coroutine } ∷ []); body = (Evaluate use_for.Print (Read (codes "y")) ⨟ Evaluate (use_for.Switch (codes "c") (codes "q") (codes "p")) (plus_one (Read (codes "y"))) ⨟ Evaluate use_for.Print (Read (codes "c")) ⨟ Evaluate (use_for.Switch (codes "d") (codes "r") (codes "q")) (plus_one (Read (codes "c"))) ⨟ Evaluate use_for.Return (int 0) ⨟ Done) })
+
+unfoldable ping_and_pong : Name → Script
+ping_and_pong last = record {
+  declarations =
+      record { name = (codes "ping"); definition = definition.Function (record { parameters = (record { name = (codes "x"); ty = Int } ∷ []); body = (Spawn (codes "t") (codes "pong") ⨟ Evaluate (use_for.Switch (codes "a") (codes "u") (codes "t")) (plus_one (Read (codes "x"))) ⨟ Evaluate use_for.Print (Read (codes "a")) ⨟ Evaluate (use_for.Switch (codes "b") (codes "w") last) (plus_one (Read (codes "a"))) ⨟ Evaluate use_for.Print (Read (codes "b")) ⨟ Evaluate use_for.Return (Read (codes "b")) ⨟ Done) }) }
+      ∷ record { name = (codes "pong"); definition = pong }
+      ∷ record { name = (codes "main"); definition = definition.Function (record { parameters = ([]); body = (Evaluate use_for.Return (Group (codes "ping") (int 1)) ⨟ Done) }) }
+      ∷ [];
+}
+
+unfoldable takes_turns : Script
+takes_turns = ping_and_pong (codes "u")
+
+-- a coroutine that was switched to before
+unfoldable switches_twice : Script
+switches_twice = ping_and_pong (codes "t")
+
+-- no group is around
+unfoldable switches_outside : Script
+switches_outside = record {
+  declarations =
+      record { name = (codes "pong"); definition = pong }
+      ∷ record { name = (codes "main"); definition = definition.Function (record { parameters = ([]); body = (Spawn (codes "t") (codes "pong") ⨟ Evaluate (use_for.Switch (codes "a") (codes "u") (codes "t")) (int 1) ⨟ Evaluate use_for.Return (int 0) ⨟ Done) }) }
+      ∷ [];
+}
+
+takes_turns-ends : (Eval takes_turns 31).outcome ≡ Value (pos 5)
+unfolding takes_turns ping_and_pong int_wrap
+takes_turns-ends = refl
+
+takes_turns-goes-on : (Eval takes_turns 30).outcome ≡ Going
+unfolding takes_turns ping_and_pong int_wrap
+takes_turns-goes-on = refl
+
+takes_turns-prints : (Eval takes_turns 31).printed ≡ still 3 (still 5 (still 5 (still 5 (still 8 [] ++ line (pos 2)) ++ line (pos 3)) ++ line (pos 4)) ++ line (pos 5))
+unfolding takes_turns ping_and_pong int_wrap
+takes_turns-prints = refl
+
+takes_turns-acts : acts (Eval takes_turns 7).term ≡ 2
+unfolding takes_turns ping_and_pong int_wrap
+takes_turns-acts = refl
+
+takes_turns-hands : hands (Eval takes_turns 7).term ≡ 1
+unfolding takes_turns ping_and_pong int_wrap
+takes_turns-hands = refl
+
+takes_turns-kept : kept (Eval takes_turns 7).term ≡ 1
+unfolding takes_turns ping_and_pong int_wrap
+takes_turns-kept = refl
+
+switches_twice-ends : (Eval switches_twice 19).outcome ≡ Fault Reused
+unfolding switches_twice ping_and_pong int_wrap
+switches_twice-ends = refl
+
+switches_twice-prints : (Eval switches_twice 19).printed ≡ still 3 (still 5 (still 8 [] ++ line (pos 2)) ++ line (pos 3))
+unfolding switches_twice ping_and_pong int_wrap
+switches_twice-prints = refl
+
+switches_outside-ends : (Eval switches_outside 3).outcome ≡ Fault (Unhandled (codes "group"))
+unfolding switches_outside int_wrap
+switches_outside-ends = refl
+
+switches_outside-kept : kept (Eval switches_outside 3).term ≡ 1
+unfolding switches_outside int_wrap
+switches_outside-kept = refl
+
+-- a handler around a coroutine's call goes with the coroutine
+
+unfoldable handlers_travel : Script
+handlers_travel = record {
+  declarations =
+      record { name = (codes "ask"); definition = effect_of_0 }
+      ∷ record { name = (codes "h"); definition = definition.Handler (record { parameters = (record { name = (codes "s"); ty = Int } ∷ []); return_clause = record { value = (codes "x"); body = (Evaluate use_for.Return (Run (Read (codes "x")) (MoreOperands (Computes Add) (Read (codes "s")) NoOperands)) ⨟ Done) }; clauses = (record { effect = (codes "ask"); arguments = ([]); resumption = (codes "k"); body = (Evaluate use_for.Return (Resume (codes "k") (Read (codes "s")) ((plus_one (Read (codes "s"))) ⊕ NoExprs)) ⨟ Done) } ∷ []) }) }
+      ∷ record { name = (codes "work"); definition = definition.Function (record { parameters = (record { name = (codes "y"); ty = Int } ∷ record { name = (codes "p"); ty = Coroutine } ∷ []); body = (Evaluate (use_for.Switch (codes "c") (codes "q") (codes "p")) (plus_one (Read (codes "y"))) ⨟ Evaluate use_for.Return (Run (Do (codes "ask") NoExprs) (MoreOperands (Computes Add) (Read (codes "c")) NoOperands)) ⨟ Done) }) }
+      ∷ record { name = (codes "co"); definition = definition.Function (record { parameters = (record { name = (codes "y"); ty = Int } ∷ record { name = (codes "p"); ty = Coroutine } ∷ []); body = (Evaluate use_for.Return (Handle (codes "work") ((Read (codes "y")) ⊕ (Read (codes "p")) ⊕ NoExprs) (codes "h") ((int 10) ⊕ NoExprs)) ⨟ Done) }) }
+      ∷ record { name = (codes "begin"); definition = definition.Function (record { parameters = (record { name = (codes "x"); ty = Int } ∷ []); body = (Spawn (codes "t") (codes "co") ⨟ Evaluate (use_for.Switch (codes "a") (codes "u") (codes "t")) (Read (codes "x")) ⨟ Evaluate (use_for.Switch (codes "b") (codes "w") (codes "u")) (plus_one (Read (codes "a"))) ⨟ Evaluate use_for.Return (Read (codes "b")) ⨟ Done) }) }
+      ∷ record { name = (codes "main"); definition = definition.Function (record { parameters = ([]); body = (Evaluate use_for.Return (Group (codes "begin") (int 1)) ⨟ Done) }) }
+      ∷ [];
+}
+
+handlers_travel-ends : (Eval handlers_travel 34).outcome ≡ Value (pos 24)
+unfolding handlers_travel int_wrap
+handlers_travel-ends = refl
+
+handlers_travel-goes-on : (Eval handlers_travel 33).outcome ≡ Going
+unfolding handlers_travel int_wrap
+handlers_travel-goes-on = refl
+
+handlers_travel-hands : hands (Eval handlers_travel 14).term ≡ 1
+unfolding handlers_travel int_wrap
+handlers_travel-hands = refl
+
+handlers_travel-kept : kept (Eval handlers_travel 14).term ≡ 1
+unfolding handlers_travel int_wrap
+handlers_travel-kept = refl
+
+-- an effect is performed through a group, which its resumption holds
+
+unfoldable through_a_group : Script
+through_a_group = record {
+  declarations =
+      record { name = (codes "ask"); definition = effect_of_0 }
+      ∷ record { name = (codes "h"); definition = definition.Handler (record { parameters = (record { name = (codes "s"); ty = Int } ∷ []); return_clause = record { value = (codes "x"); body = (Evaluate use_for.Return (Run (Read (codes "x")) (MoreOperands (Computes Add) (Read (codes "s")) NoOperands)) ⨟ Done) }; clauses = (record { effect = (codes "ask"); arguments = ([]); resumption = (codes "k"); body = (Evaluate use_for.Return (Resume (codes "k") (Read (codes "s")) ((plus_one (Read (codes "s"))) ⊕ NoExprs)) ⨟ Done) } ∷ []) }) }
+      ∷ record { name = (codes "inner"); definition = definition.Function (record { parameters = (record { name = (codes "x"); ty = Int } ∷ []); body = (Evaluate use_for.Return (Run (Do (codes "ask") NoExprs) (MoreOperands (Computes Add) (Read (codes "x")) NoOperands)) ⨟ Done) }) }
+      ∷ record { name = (codes "mid"); definition = definition.Function (record { parameters = ([]); body = (Evaluate use_for.Return (Run (Group (codes "inner") (int 1)) (MoreOperands (Computes Multiply) (int 2) NoOperands)) ⨟ Done) }) }
+      ∷ record { name = (codes "main"); definition = definition.Function (record { parameters = ([]); body = (Evaluate use_for.Return (Handle (codes "mid") NoExprs (codes "h") ((int 5) ⊕ NoExprs)) ⨟ Done) }) }
+      ∷ [];
+}
+
+through_a_group-ends : (Eval through_a_group 23).outcome ≡ Value (pos 18)
+unfolding through_a_group int_wrap
+through_a_group-ends = refl
+
+through_a_group-goes-on : (Eval through_a_group 22).outcome ≡ Going
+unfolding through_a_group int_wrap
+through_a_group-goes-on = refl
+
+through_a_group-hands : hands (Eval through_a_group 5).term ≡ 0
+unfolding through_a_group int_wrap
+through_a_group-hands = refl
+
+through_a_group-kept : kept (Eval through_a_group 5).term ≡ 1
+unfolding through_a_group int_wrap
+through_a_group-kept = refl

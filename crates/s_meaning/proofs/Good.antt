@@ -4,7 +4,7 @@ use Rattle.std.proofs.lemmas.Bool.Decides.{Decides-eqb}
 use Rattle.std.specs.Str.{bytes_eq}
 use Rattle.s_syntax.specs.declared.name.Name.{Name}
 use Rattle.s_syntax.specs.declared.script.VariableType.{VariableType}
-use Rattle.s_syntax.specs.declared.script.VariableType.TheVariants.{Int, Resumption}
+use Rattle.s_syntax.specs.declared.script.VariableType.TheVariants.{Int, Resumption, Coroutine}
 use Rattle.s_syntax.specs.declared.script.Parameter.{Parameter}
 use Rattle.s_syntax.specs.declared.script.Function.{Function}
 use Rattle.s_syntax.specs.declared.script.Clause.{Clause}
@@ -14,18 +14,18 @@ use Rattle.s_syntax.specs.declared.script.Definition.{Definition}
 use Rattle.s_syntax.specs.declared.script.Definition.TheVariants as definition
 use Rattle.s_syntax.specs.declared.script.Declaration.{Declaration}
 use Rattle.s_syntax.specs.declared.script.Script.{Script}
-use Rattle.s_syntax.specs.ExprTree.{ExprTree, Literal, Read, Unary, Run, Call, Do, Handle, Resume, Exprs, NoExprs, MoreExprs, Operands, NoOperands, MoreOperands}
+use Rattle.s_syntax.specs.ExprTree.{ExprTree, Literal, Read, Unary, Run, Call, Do, Handle, Resume, Group, Exprs, NoExprs, MoreExprs, Operands, NoOperands, MoreOperands}
 use Rattle.s_syntax.specs.declared.statement.Use.TheVariants as use_for
-use Rattle.s_syntax.specs.BlockTree.{Evaluate, If, While, Fail, BlockTree, Done, ◌⨟◌}
+use Rattle.s_syntax.specs.BlockTree.{Evaluate, If, While, Fail, Spawn, BlockTree, Done, ◌⨟◌}
 use Rattle.s_check.specs.declared.rule.Rule.{Rule}
 use Rattle.s_check.specs.declared.rule.Rule.TheVariants as rule
 use Rattle.s_check.specs.Definitions.{definition_of, as_function, as_handler, as_slots, function_of, handler_of, effect_of, slots_of}
-use Rattle.s_check.specs.Scopes.{Bound, Scope, type_in, bind, bind_all, number as number_name, resumption as resumption_name, parameter, of_clause, of_return, lets_in, is_among, some_twice}
-use Rattle.s_check.specs.Rules.{when, is_resumption, is_resumption_of, suits, all_suit, count, against, for_function, for_effect, for_handler, for_resumed, for_handler_of_type, for_slots, handler_of_slots, in_stored, in_name, in_expr, in_exprs, in_operands, in_target, in_block, in_body, in_type, in_types, in_parameters, in_head, in_clauses, in_header, in_bodies, in_definition, in_declarations, is_main, in_main, broken_rules}
+use Rattle.s_check.specs.Scopes.{Bound, Scope, type_in, bind, bind_all, number as number_name, resumption as resumption_name, coroutine as coroutine_name, parameter, of_clause, of_return, lets_in, is_among, some_twice}
+use Rattle.s_check.specs.Rules.{when, is_reference, is_coroutine, is_resumption_of, is_number, takes_number, takes_both, for_grouped, for_spawned, for_switched, suits, all_suit, count, against, for_function, for_effect, for_handler, for_resumed, for_handler_of_type, for_slots, handler_of_slots, in_stored, in_name, in_expr, in_exprs, in_operands, in_target, in_block, in_body, in_type, in_types, in_parameters, in_head, in_clauses, in_header, in_bodies, in_definition, in_declarations, is_main, in_main, broken_rules}
 use Rattle.s_check.specs.Refusal.{first, Has, Good}
 use Rattle.s_meaning.specs.Steps.{clause_of}
-use Rattle.s_meaning.specs.Typing.{kinds, numbers, ExprTyped, OperandsTyped, ArgsTyped, literal, read, unary, run, call, does, handle, resume, no_more, next, no_args, number, resumption, Fits, lets, assigns, prints, returns, drops, stores_in, takes_from, evaluates, ifs, whiles, fails, BlockTyped, done, statement, ClauseTyped, ScriptTyped}
-use Rattle.s_meaning.proofs.Scopes.{same_is, same_refl, bool_of, same_block}
+use Rattle.s_meaning.specs.Typing.{kinds, numbers, ExprTyped, OperandsTyped, ArgsTyped, literal, read, unary, run, call, does, handle, resume, group, no_more, next, no_args, number, resumption, coroutine, Fits, lets, assigns, prints, returns, drops, stores_in, takes_from, switches_to, evaluates, ifs, whiles, fails, spawns, BlockTyped, done, statement, ClauseTyped, ScriptTyped}
+use Rattle.s_meaning.proofs.Scopes.{same_is, same_refl, bool_of, agree_more, same_block}
 use Rattle.s_meaning.proofs.BoundInTurn.{starts_agree, bound_agrees, none_behind, type_behind, or_left, or_right, among_left, among_right, twice_of, type_among, Apart, name, no_true, apart_behind, apart_left, apart_right}
 
 -- ## No rule
@@ -51,15 +51,23 @@ same_number a b e = (Decides-eqb a b).0 e
 
 -- ## Names
 
-read_number : (whole : Bool) (k : Option VariableType) → in_name whole k ≡ [] → not (is_resumption k) ≡ true → k ≡ Some Int
+read_number : (whole : Bool) (k : Option VariableType) → in_name whole k ≡ [] → not (is_reference k) ≡ true → k ≡ Some Int
 read_number whole None e s = absurd (cc)
 read_number whole (Some Int) e s = refl
 read_number whole (Some (Resumption h)) e s = absurd (cc)
+read_number whole (Some Coroutine) e s = absurd (cc)
 
 read_alone : (k : Option VariableType) → in_name false k ≡ [] → k ≡ Some Int
 read_alone None e = absurd (cc)
 read_alone (Some Int) e = refl
 read_alone (Some (Resumption h)) e = absurd (cc)
+read_alone (Some Coroutine) e = absurd (cc)
+
+read_coroutine : (k : Option VariableType) → is_coroutine k ≡ true → k ≡ Some Coroutine
+read_coroutine None e = absurd (cc)
+read_coroutine (Some Int) e = absurd (cc)
+read_coroutine (Some (Resumption h)) e = absurd (cc)
+read_coroutine (Some Coroutine) e = refl
 
 -- the first of two sides holds, since the handler is there
 or_declared : (b : Bool) {o : Option Handler} {i : Handler} → o ≡ Some i → (b || not (is_some o)) ≡ true → b ≡ true
@@ -70,6 +78,49 @@ assigned : (k : Option VariableType) → in_target k ≡ [] → k ≡ Some Int
 assigned None e = absurd (cc)
 assigned (Some Int) e = refl
 assigned (Some (Resumption h)) e = absurd (cc)
+assigned (Some Coroutine) e = absurd (cc)
+
+-- the target of a switch
+target_type : (k : Option VariableType) → for_switched k ≡ [] → k ≡ Some Coroutine
+target_type None e = absurd (cc)
+target_type (Some Int) e = absurd (cc)
+target_type (Some (Resumption h)) e = absurd (cc)
+target_type (Some Coroutine) e = refl
+
+-- ## Functions of groups and of spawns
+
+number_type : (t : VariableType) → is_number t ≡ true → t ≡ Int
+number_type Int e = refl
+number_type (Resumption h) e = absurd (cc)
+number_type Coroutine e = absurd (cc)
+
+coroutine_type : (t : VariableType) → is_coroutine (Some t) ≡ true → t ≡ Coroutine
+coroutine_type Int e = absurd (cc)
+coroutine_type (Resumption h) e = absurd (cc)
+coroutine_type Coroutine e = refl
+
+number_kinds : (ps : List Parameter) → takes_number ps ≡ true → kinds ps ≡ Int ∷ []
+number_kinds [] e = absurd (cc)
+number_kinds (a ∷ []) e = ap (λ (t : VariableType). t ∷ []) (number_type a.ty e)
+number_kinds (a ∷ b ∷ ps) e = absurd (cc)
+
+both_kinds : (ps : List Parameter) → takes_both ps ≡ true → kinds ps ≡ Int ∷ Coroutine ∷ []
+both_kinds [] e = absurd (cc)
+both_kinds (a ∷ []) e = absurd (cc)
+both_kinds (a ∷ b ∷ []) e =
+    let r = both (is_number a.ty) (is_coroutine (Some b.ty)) e in
+    ap (λ (t : VariableType). t ∷ b.ty ∷ []) (number_type a.ty r.0) ∙ ap (λ (t : VariableType). Int ∷ t ∷ []) (coroutine_type b.ty r.1)
+both_kinds (a ∷ b ∷ c ∷ ps) e = absurd (cc)
+
+grouped_function : (o : Option Function) → for_grouped o ≡ [] → (g : Function) × (o ≡ Some g) × (kinds g.parameters ≡ Int ∷ [])
+grouped_function None e = absurd (cc)
+grouped_function (Some g) e = (g, refl, number_kinds g.parameters (not_false (takes_number g.parameters) (when_not (not (takes_number g.parameters)) rule.OtherParameters e)))
+
+spawned_function : (o : Option Function) → for_spawned o ≡ [] → (g : Function) × (o ≡ Some g) × (kinds g.parameters ≡ Int ∷ Coroutine ∷ [])
+spawned_function None e = absurd (cc)
+spawned_function (Some g) e = (g, refl, both_kinds g.parameters (not_false (takes_both g.parameters) (when_not (not (takes_both g.parameters)) rule.OtherParameters e)))
+
+-- ## Expressions
 
 if_equal : (b : Bool) (xs : List Rule) (r : Rule) → (if b then xs else (r ∷ [])) ≡ [] → (b ≡ true) × (xs ≡ [])
 if_equal true xs r e = (refl, e)
@@ -92,13 +143,14 @@ module _ (p : Script) (Γ : Scope) (handlers : (x h : Name) → type_in Γ x ≡
   -- what is read elsewhere than as a whole argument suits a number
   plain_suits : (e : ExprTree) → in_expr p.declarations Γ false e ≡ [] → suits p.declarations Γ Int e ≡ true
   plain_suits (Literal n) q = refl
-  plain_suits (Read x) q = ap (λ (k : Option VariableType). not (is_resumption k)) (read_alone (type_in Γ x) q)
+  plain_suits (Read x) q = ap (λ (k : Option VariableType). not (is_reference k)) (read_alone (type_in Γ x) q)
   plain_suits (Unary o e) q = refl
   plain_suits (Run e es) q = refl
   plain_suits (Call f es) q = refl
   plain_suits (Do op es) q = refl
   plain_suits (Handle f es h bs) q = refl
   plain_suits (Resume k e bs) q = refl
+  plain_suits (Group f e) q = refl
 
   against_suits : (ps : List Parameter) (es : Exprs) → against p.declarations Γ ps es ≡ [] → (count es ≡ length ps) × (all_suit p.declarations Γ ps es ≡ true)
   against_suits ps es e =
@@ -121,17 +173,20 @@ module _ (p : Script) (Γ : Scope) (handlers : (x h : Name) → type_in Γ x ≡
   resumed None es e = absurd (cc)
   resumed (Some Int) es e = absurd (cc)
   resumed (Some (Resumption h)) es e = (h, refl, e)
+  resumed (Some Coroutine) es e = absurd (cc)
 
   read_resumption : (x h : Name) (k : Option VariableType) → type_in Γ x ≡ k → is_resumption_of p.declarations h k ≡ true → k ≡ Some (Resumption h)
   read_resumption x h None q e = absurd (cc)
   read_resumption x h (Some Int) q e = absurd (cc)
   read_resumption x h (Some (Resumption g)) q e = ap (λ (n : Name). Some (Resumption n)) (sym (same_is h g (or_declared (bytes_eq g h) (handlers x g q).1 e)))
+  read_resumption x h (Some Coroutine) q e = absurd (cc)
 
   -- a name that is stored into slots
   stored_type : (d : Slots) (x : Name) (k : Option VariableType) → type_in Γ x ≡ k → in_stored p.declarations (Some d) k ≡ [] → k ≡ Some (Resumption d.handler)
   stored_type d x None q e = absurd (cc)
   stored_type d x (Some t) q e =
-      let suits = not_false (is_resumption_of p.declarations d.handler (Some t)) (when_not (not (is_resumption_of p.declarations d.handler (Some t))) rule.StoredOfOtherType e) in
+      let u = parts (when (is_coroutine (Some t)) rule.ResumptionElsewhere) (when (not (is_resumption_of p.declarations d.handler (Some t))) rule.StoredOfOtherType) e in
+      let suits = not_false (is_resumption_of p.declarations d.handler (Some t)) (when_not (not (is_resumption_of p.declarations d.handler (Some t))) rule.StoredOfOtherType u.1) in
       read_resumption x d.handler (Some t) q suits
 
   arg_of : (k : VariableType) (e : ExprTree) (ks : List VariableType) (es : Exprs) → (suits p.declarations Γ Int e ≡ true → ExprTyped p Γ e) → suits p.declarations Γ k e ≡ true → ArgsTyped p Γ ks es
@@ -139,6 +194,8 @@ module _ (p : Script) (Γ : Scope) (handlers : (x h : Name) → type_in Γ x ≡
   arg_of Int e ks es t s ts = number (t s) ts
   arg_of (Resumption h) (Read x) ks es t s ts = resumption (read_resumption x h (type_in Γ x) refl s) ts
   arg_of (Resumption h) e ks es t s ts = absurd (cc)
+  arg_of Coroutine (Read x) ks es t s ts = coroutine (read_coroutine (type_in Γ x) s) ts
+  arg_of Coroutine e ks es t s ts = absurd (cc)
 
   mutual
     expr_of : (e : ExprTree) (whole : Bool) → in_expr p.declarations Γ whole e ≡ [] → suits p.declarations Γ Int e ≡ true → ExprTyped p Γ e
@@ -173,6 +230,10 @@ module _ (p : Script) (Γ : Scope) (handlers : (x h : Name) → type_in Γ x ≡
         let i = handlers k h.0 h.1 in
         let b = against_suits i.0.parameters bs (rw i.1 at h.2) in
         resume h.1 i.1 (expr_of e false q1.0 (plain_suits e q1.0)) (args_of i.0.parameters bs q2.1 b.0 b.1)
+    expr_of (Group f e) whole q s =
+        let t = parts (for_grouped (function_of p.declarations f)) (in_expr p.declarations Γ false e) q in
+        let g = grouped_function (function_of p.declarations f) t.0 in
+        group g.1 g.2 (expr_of e false t.1 (plain_suits e t.1))
 
     operands_of : (es : Operands) → in_operands p.declarations Γ es ≡ [] → OperandsTyped p Γ es
     operands_of NoOperands q = no_more
@@ -211,6 +272,13 @@ unfolding Handlers
 bound_resumption ds Γ g x i there hs y h e = elim (type_behind (resumption_name g x) y Γ (Resumption h) e) [
   | inl old ↦ hs y h old
   | inr new ↦ (i, ap (handler_of ds) (let same : h ≡ g = cc new in same) ∙ there)
+]
+
+bound_coroutine : (ds : List Declaration) (Γ : Scope) (t : Name) → Handlers ds Γ → Handlers ds (bind (coroutine_name t) Γ)
+unfolding Handlers
+bound_coroutine ds Γ t hs y h e = elim (type_behind (coroutine_name t) y Γ (Resumption h) e) [
+  | inl old ↦ hs y h old
+  | inr new ↦ absurd (cc new)
 ]
 
 -- none of the names that are bound later is bound
@@ -284,6 +352,24 @@ module _ (p : Script) (slots : (s : Name) (d : Slots) → slots_of p.declaration
       (same_block (bound_agrees (resumption_name h k) Γ (fits_none k (Resumption h) Γ none))
       (block_typed (bind (resumption_name h k) Γ) b (bound_resumption p.declarations Γ h k i.0 i.1 hs) a (later_behind (resumption_name h k) (lets_in b) Γ once l)
       (subst (λ (o : Option Slots). in_block p.declarations (bind (resumption_name (handler_of_slots s o) k) Γ) b ≡ []) d.1 t.1)))
+  block_typed Γ (Evaluate (use_for.Switch x u t) e ⨟ b) hs (name once (name other a)) l q =
+      let Δ = bind (number_name x) Γ in
+      let r = parts (for_switched (type_in Γ t) ++ in_expr p.declarations Γ false e) (in_block p.declarations (bind (coroutine_name u) Δ) b) q in
+      let v = parts (for_switched (type_in Γ t)) (in_expr p.declarations Γ false e) r.0 in
+      let fits = fits_none x Int Γ (l x (or_left (bytes_eq x x) (is_among (u ∷ lets_in b) x) (same_refl x))) in
+      let agree = bound_agrees (number_name x) Γ fits in
+      let later = later_behind (number_name x) (u ∷ lets_in b) Γ once l in
+      let none = later u (or_left (bytes_eq u u) (is_among (lets_in b) u) (same_refl u)) in
+      statement (evaluates (expr_typed p Γ hs e v.1) (switches_to (target_type (type_in Γ t) v.0) fits (fits_none u Coroutine (number_name x ∷ Γ) (sym (agree.type_of u) ∙ none))))
+      (same_block (agree_more (coroutine_name u) agree) (same_block (bound_agrees (coroutine_name u) Δ (fits_none u Coroutine Δ none))
+      (block_typed (bind (coroutine_name u) Δ) b (bound_coroutine p.declarations Δ u (bound p.declarations Γ x hs)) a (later_behind (coroutine_name u) (lets_in b) Δ other later) r.1)))
+  block_typed Γ (Spawn t f ⨟ b) hs (name once a) l q =
+      let r = parts (for_spawned (function_of p.declarations f)) (in_block p.declarations (bind (coroutine_name t) Γ) b) q in
+      let g = spawned_function (function_of p.declarations f) r.0 in
+      let fits = fits_none t Coroutine Γ (l t (or_left (bytes_eq t t) (is_among (lets_in b) t) (same_refl t))) in
+      statement (spawns g.1 g.2 fits)
+      (same_block (bound_agrees (coroutine_name t) Γ fits)
+      (block_typed (bind (coroutine_name t) Γ) b (bound_coroutine p.declarations Γ t hs) a (later_behind (coroutine_name t) (lets_in b) Γ once l) r.1))
 
 -- ## Bodies
 
@@ -306,11 +392,16 @@ body_typed p slots bs b hs q =
 data Handled (ds : List Declaration) : Scope → Type 0 where
   no_names : Handled ds []
   int : {x : Name} {Γ : Scope} → Handled ds Γ → Handled ds (record { name = x; ty = Int } ∷ Γ)
+  coro : {x : Name} {Γ : Scope} → Handled ds Γ → Handled ds (record { name = x; ty = Coroutine } ∷ Γ)
   res : {x h : Name} {Γ : Scope} {i : Handler} → handler_of ds h ≡ Some i → Handled ds Γ → Handled ds (record { name = x; ty = Resumption h } ∷ Γ)
 
 handled_number : (ds : List Declaration) (Γ : Scope) (x y h : Name) → ((z g : Name) → type_in Γ z ≡ Some (Resumption g) → (i : Handler) × (handler_of ds g ≡ Some i))
     → type_in (record { name = x; ty = Int } ∷ Γ) y ≡ Some (Resumption h) → (i : Handler) × (handler_of ds h ≡ Some i)
 handled_number ds Γ x y h hs = bool_of (bytes_eq x y) (λ b. (if b then Some Int else type_in Γ y) ≡ Some (Resumption h) → (i : Handler) × (handler_of ds h ≡ Some i)) (λ q e. absurd (cc)) (λ q e. hs y h e)
+
+handled_coroutine : (ds : List Declaration) (Γ : Scope) (x y h : Name) → ((z g : Name) → type_in Γ z ≡ Some (Resumption g) → (i : Handler) × (handler_of ds g ≡ Some i))
+    → type_in (record { name = x; ty = Coroutine } ∷ Γ) y ≡ Some (Resumption h) → (i : Handler) × (handler_of ds h ≡ Some i)
+handled_coroutine ds Γ x y h hs = bool_of (bytes_eq x y) (λ b. (if b then Some Coroutine else type_in Γ y) ≡ Some (Resumption h) → (i : Handler) × (handler_of ds h ≡ Some i)) (λ q e. absurd (cc)) (λ q e. hs y h e)
 
 handled_res : (ds : List Declaration) (Γ : Scope) (x y h g : Name) (i : Handler) → handler_of ds g ≡ Some i → ((z f : Name) → type_in Γ z ≡ Some (Resumption f) → (i : Handler) × (handler_of ds f ≡ Some i))
     → type_in (record { name = x; ty = Resumption g } ∷ Γ) y ≡ Some (Resumption h) → (i : Handler) × (handler_of ds h ≡ Some i)
@@ -321,6 +412,7 @@ handlers_of : {ds : List Declaration} {Γ : Scope} → Handled ds Γ → Handler
 unfolding Handlers
 handlers_of no_names y h e = absurd (cc)
 handlers_of {ds} (int {x = x} {Γ = Γ} t) y h e = handled_number ds Γ x y h (handlers_of t) e
+handlers_of {ds} (coro {x = x} {Γ = Γ} t) y h e = handled_coroutine ds Γ x y h (handlers_of t) e
 handlers_of {ds} (res {x = x} {h = g} {Γ = Γ} {i = i} k t) y h e = handled_res ds Γ x y h g i k (handlers_of t) e
 
 a_type : (ds : List Declaration) (h : Name) (o : Option Handler) → when (not (is_some o)) rule.NoHandlerOfType ≡ [] → (i : Handler) × (o ≡ Some i)
@@ -329,6 +421,7 @@ a_type ds h (Some i) e = (i, refl)
 
 handled_type : (ds : List Declaration) (x : Name) (k : VariableType) {Γ : Scope} → in_type ds k ≡ [] → Handled ds Γ → Handled ds (record { name = x; ty = k } ∷ Γ)
 handled_type ds x Int q t = int t
+handled_type ds x Coroutine q t = coro t
 handled_type ds x (Resumption h) q t = res (a_type ds h (handler_of ds h) q).1 t
 
 handled_parameters : (ds : List Declaration) (ps : List Parameter) {Γ : Scope} → in_types ds ps ≡ [] → Handled ds Γ → Handled ds (map parameter ps ++ Γ)

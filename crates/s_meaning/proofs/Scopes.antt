@@ -7,8 +7,8 @@ use Rattle.s_syntax.specs.declared.script.VariableType.{VariableType}
 use Rattle.s_syntax.specs.declared.statement.Use.{Use as ValueUse}
 use Rattle.s_syntax.specs.BlockTree.{StatementTree, BlockTree}
 use Rattle.s_syntax.specs.declared.script.Script.{Script}
-use Rattle.s_check.specs.Scopes.{Bound, Scope, type_in, number as number_name, resumption as resumption_name}
-use Rattle.s_meaning.specs.Typing.{ExprTyped, OperandsTyped, ArgsTyped, literal, read, unary, run, call, does, handle, resume, no_more, next, no_args, number, resumption, Fits, ValueUseTyped, lets, assigns, prints, returns, drops, stores_in, takes_from, StatementTyped, evaluates, ifs, whiles, fails, BlockTyped, done, statement}
+use Rattle.s_check.specs.Scopes.{Bound, Scope, type_in, number as number_name, resumption as resumption_name, coroutine as coroutine_name}
+use Rattle.s_meaning.specs.Typing.{ExprTyped, OperandsTyped, ArgsTyped, literal, read, unary, run, call, does, handle, resume, group, no_more, next, no_args, number, resumption, coroutine, Fits, ValueUseTyped, lets, assigns, prints, returns, drops, stores_in, takes_from, switches_to, StatementTyped, evaluates, ifs, whiles, fails, spawns, BlockTyped, done, statement}
 use Rattle.s_meaning.specs.Typed.{Keeps, RestTyped, ends, begins, behind}
 use Rattle.s_meaning.specs.Steps.{◌⨟⨟◌}
 
@@ -28,7 +28,7 @@ bool_of false P yes' no' = no' refl
 pub record Agree (Γ Γ' : Scope) : Type 0 where
   pub type_of : (y : Name) → type_in Γ y ≡ type_in Γ' y
 
-agree_more : {Γ Γ' : Scope} (b : Bound) → Agree Γ Γ' → Agree (b ∷ Γ) (b ∷ Γ')
+pub agree_more : {Γ Γ' : Scope} (b : Bound) → Agree Γ Γ' → Agree (b ∷ Γ) (b ∷ Γ')
 agree_more b m = record { type_of = λ y. ap (λ (o : Option VariableType). if bytes_eq b.name y then Some b.ty else o) (m.type_of y) }
 
 mutual
@@ -41,6 +41,7 @@ mutual
   same_expr m (does op ts) = does op (same_args m ts)
   same_expr m (handle f h ts us) = handle f h (same_args m ts) (same_args m us)
   same_expr m (resume {k = k} q i t us) = resume (sym (m.type_of k) ∙ q) i (same_expr m t) (same_args m us)
+  same_expr m (group f k t) = group f k (same_expr m t)
 
   same_operands : {p : Script} {Γ Γ' : Scope} {es : _} → Agree Γ Γ' → OperandsTyped p Γ es → OperandsTyped p Γ' es
   same_operands m no_more = no_more
@@ -50,6 +51,7 @@ mutual
   same_args m no_args = no_args
   same_args m (number t ts) = number (same_expr m t) (same_args m ts)
   same_args m (resumption {x = x} q ts) = resumption (sym (m.type_of x) ∙ q) (same_args m ts)
+  same_args m (coroutine {x = x} q ts) = coroutine (sym (m.type_of x) ∙ q) (same_args m ts)
 
 -- a use in a scope that agrees, and what is bound behind it
 record UsedAlike (p : Script) (Γ' : Scope) (u : ValueUse) (Δ : Scope) : Type 0 where
@@ -68,6 +70,9 @@ same_use m returns = record { after = _; agree = m; typed = returns }
 same_use m drops = record { after = _; agree = m; typed = drops }
 same_use m (stores_in {k = k} q i) = record { after = _; agree = m; typed = stores_in q (sym (m.type_of k) ∙ i) }
 same_use m (takes_from {k = k} {d = d} q f) = record { after = _; agree = agree_more (resumption_name d.handler k) m; typed = takes_from q (same_fits m f) }
+same_use m (switches_to {x = x} {u = u} {t = t} q f g) =
+    let n = agree_more (number_name x) m in
+    record { after = _; agree = agree_more (coroutine_name u) n; typed = switches_to (sym (m.type_of t) ∙ q) (same_fits m f) (same_fits n g) }
 
 pub same_block : {p : Script} {Γ Γ' : Scope} {b : BlockTree} → Agree Γ Γ' → BlockTyped p Γ b → BlockTyped p Γ' b
 same_block m done = done
@@ -75,6 +80,7 @@ same_block m (statement (evaluates t u) b) = let r = same_use m u in statement (
 same_block m (statement (ifs t b c) d) = statement (ifs (same_expr m t) (same_block m b) (same_block m c)) (same_block m d)
 same_block m (statement (whiles t b) d) = statement (whiles (same_expr m t) (same_block m b)) (same_block m d)
 same_block m (statement fails b) = statement fails (same_block m b)
+same_block m (statement (spawns {t = t} f k q) b) = statement (spawns f k (same_fits m q)) (same_block (agree_more (coroutine_name t) m) b)
 
 -- ## More names bound
 
@@ -89,6 +95,9 @@ keeps_bound {x} {t} {Γ} f = record { keeps = keeps }
 keeps_all : {Γ : Scope} → Keeps Γ Γ
 keeps_all = record { keeps = λ y k e. e }
 
+keeps_then : {Γ Δ Δ' : Scope} → Keeps Γ Δ → Keeps Δ Δ' → Keeps Γ Δ'
+keeps_then a b = record { keeps = λ y k e. b.keeps y k (a.keeps y k e) }
+
 -- behind a statement
 statement_keeps : {p : Script} {Γ Γ' : Scope} {s : StatementTree} → StatementTyped p Γ s Γ' → Keeps Γ Γ'
 statement_keeps (evaluates t (lets f)) = keeps_bound f
@@ -98,9 +107,11 @@ statement_keeps (evaluates t returns) = keeps_all
 statement_keeps (evaluates t drops) = keeps_all
 statement_keeps (evaluates t (stores_in q i)) = keeps_all
 statement_keeps (evaluates t (takes_from q f)) = keeps_bound f
+statement_keeps (evaluates t (switches_to q f g)) = keeps_then (keeps_bound f) (keeps_bound g)
 statement_keeps (ifs t b c) = keeps_all
 statement_keeps (whiles t b) = keeps_all
 statement_keeps fails = keeps_all
+statement_keeps (spawns f k q) = keeps_bound q
 
 -- ## What is left to run
 

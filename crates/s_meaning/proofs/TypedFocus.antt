@@ -3,25 +3,27 @@ use Rattle.std.proofs.Common.{◌≡◌, suc, List, [], ◌∷◌, ◌++◌, len
 use Rattle.s_syntax.specs.declared.name.Name.{Name}
 use Rattle.s_syntax.specs.declared.number.Number.{Number}
 use Rattle.s_syntax.specs.declared.script.VariableType.{VariableType}
-use Rattle.s_syntax.specs.declared.script.VariableType.TheVariants.{Int}
+use Rattle.s_syntax.specs.declared.script.VariableType.TheVariants.{Int, Coroutine}
 use Rattle.s_syntax.specs.declared.operators.UnaryOperator.{UnaryOperator}
 use Rattle.s_syntax.specs.declared.operators.Connective.{Connective}
 use Rattle.s_syntax.specs.declared.operators.BinaryOperator.{BinaryOperator}
 use Rattle.s_syntax.specs.declared.operators.BinaryOperator.TheVariants.{Connects, Compares, Computes}
 use Rattle.s_syntax.specs.declared.script.Parameter.{Parameter}
+use Rattle.s_syntax.specs.declared.script.Function.{Function}
 use Rattle.s_syntax.specs.declared.script.Script.{Script}
 use Rattle.s_syntax.specs.ExprTree.{ExprTree, Exprs, Operands}
 use Rattle.s_syntax.specs.BlockTree.{StatementTree, BlockTree, Done, ◌⨟◌}
-use Rattle.s_check.specs.Scopes.{Scope, type_in}
+use Rattle.s_check.specs.Definitions.{function_of}
+use Rattle.s_check.specs.Scopes.{Scope, type_in, coroutine as coroutine_name}
 use Rattle.s_check.specs.Rules.{count}
 use Rattle.s_meaning.specs.Typing
-use Rattle.s_meaning.specs.Typing.{kinds, ExprTyped, OperandsTyped, ArgsTyped, literal, read, unary, run, call, does, handle, resume, no_more, next, no_args, number, resumption, Fits, lets, assigns, stores_in, takes_from, StatementTyped, evaluates, ifs, whiles, fails}
+use Rattle.s_meaning.specs.Typing.{kinds, ExprTyped, OperandsTyped, ArgsTyped, literal, read, unary, run, call, does, handle, resume, group, no_more, next, no_args, number, resumption, coroutine, Fits, lets, assigns, stores_in, takes_from, switches_to, StatementTyped, evaluates, ifs, whiles, fails, spawns}
 use Rattle.s_meaning.proofs.Scopes.{bool_of, keeps_bound}
 use Rattle.s_meaning.proofs.Variables.{covers_less}
 use Rattle.s_meaning.specs.Terms.{Value, Row, ε, Variable, Head, Handling, Resuming, TailResuming, Use, Work, Among, Within, ToReturn, Hole}
-use Rattle.s_meaning.specs.Focus.{followed_by, Redex, Constant, Lookup, OnUnary, OnBinary, Decides, Applies, Uses, Fails, Ends, Focused, left_of, in_expr, in_args, in_both, variable_of, is_own, in_return, in_block, in_work, focus}
+use Rattle.s_meaning.specs.Focus.{followed_by, Redex, Constant, Lookup, OnUnary, OnBinary, Decides, Applies, Uses, Fails, Spawns, Ends, Focused, left_of, in_expr, in_args, in_both, variable_of, is_own, in_return, in_block, in_work, focus}
 use Rattle.s_meaning.specs.Typed
-use Rattle.s_meaning.specs.Typed.{World, HasKind, FirstHave, begun, further, RestTyped, begins, behind, UseTyped, stores, chooses, turns, puts, takes, WorkTyped, HeadTyped, under, left, right, among, within, calling, tail_calling, doing, handling, resuming, tail_resuming, HoleTyped, gives, finds, runs, Covers}
+use Rattle.s_meaning.specs.Typed.{World, HasKind, FirstHave, begun, further, RestTyped, begins, behind, UseTyped, stores, chooses, turns, puts, takes, switching, WorkTyped, HeadTyped, under, left, right, among, within, calling, tail_calling, doing, handling, resuming, tail_resuming, grouping, HoleTyped, gives, finds, runs, Covers}
 
 -- a redex and the pending work around it
 pub data RedexTyped (p : Script) (Ξ : World) (Γ : Scope) : Redex → List Work → Type 0 where
@@ -34,6 +36,8 @@ pub data RedexTyped (p : Script) (Ξ : World) (Γ : Scope) : Redex → List Work
   applying : {head : Head} {all : List VariableType} {vs : Row} {w : List Work} → HeadTyped p Ξ Γ head all w → FirstHave Ξ all vs [] → RedexTyped p Ξ Γ (Applies head vs) w
   using : {u : Use} {v : Value} {Γ' : Scope} {rest : BlockTree} → UseTyped p Γ u Γ' → RestTyped p Γ' rest → HasKind Ξ v Int → RedexTyped p Ξ Γ (Uses u v rest) []
   failing : RedexTyped p Ξ Γ Fails []
+  spawning : {t f : Name} {g : Function} {rest : BlockTree} → function_of p.declarations f ≡ Some g → kinds g.parameters ≡ Int ∷ Coroutine ∷ []
+      → RestTyped p (coroutine_name t ∷ Γ) rest → RedexTyped p Ξ Γ (Spawns t f rest) []
   ending : RedexTyped p Ξ Γ Ends []
 
 pub left_typed : {p : Script} {Ξ : World} {Γ : Scope} {es : Operands} {w : List Work} → OperandsTyped p Γ es → WorkTyped p Ξ Γ w Int → WorkTyped p Ξ Γ (left_of es w) Int
@@ -44,6 +48,7 @@ args_count : {p : Script} {Γ : Scope} {ks : List VariableType} {es : Exprs} →
 args_count no_args = refl
 args_count (number t ts) = ap suc (args_count ts)
 args_count (resumption q ts) = ap suc (args_count ts)
+args_count (coroutine q ts) = ap suc (args_count ts)
 
 kinds_count : (ps : List Parameter) → length (kinds ps) ≡ length ps
 kinds_count [] = refl
@@ -53,6 +58,7 @@ args_append : {p : Script} {Γ : Scope} {ks js : List VariableType} {es bs : Exp
 args_append no_args us = us
 args_append (number t ts) us = number t (args_append ts us)
 args_append (resumption q ts) us = resumption q (args_append ts us)
+args_append (coroutine q ts) us = coroutine q (args_append ts us)
 
 module _ (p : Script) (Ξ : World) (Γ : Scope) where
   -- what is found in an expression
@@ -73,12 +79,14 @@ module _ (p : Script) (Ξ : World) (Γ : Scope) where
         let head = handling f h (args_count ts ∙ kinds_count g.parameters) w in
         both_focus (in_args (Handling f' (count es) h') ε bs w') head ts us (λ e. args_focus head (subst (λ (ks : List VariableType). FirstHave Ξ (kinds g.parameters ++ kinds i.parameters) ε ks) (ap (λ (ks : List VariableType). ks ++ kinds i.parameters) e) begun) us)
     expr_focus (resume k i t us) w = expr_focus t (among (resuming k i w) begun us)
+    expr_focus (group f k t) w = expr_focus t (among (grouping f k w) begun no_args)
 
     args_focus : {head : Head} {all todo : List VariableType} {vs : Row} {es : Exprs} {w : List Work} → HeadTyped p Ξ Γ head all w → FirstHave Ξ all vs todo
         → ArgsTyped p Γ todo es → In (in_args head vs es w)
     args_focus head vs no_args = applying head vs
     args_focus head vs (number t ts) = expr_focus t (among head vs ts)
     args_focus head vs (resumption q ts) = lookup q (among head vs ts)
+    args_focus head vs (coroutine q ts) = lookup q (among head vs ts)
 
     -- in two lists of arguments; `second` is for where the first has none
     both_focus : {head : Head} {ks js : List VariableType} {es bs : Exprs} {w : List Work} (second : Focused) → HeadTyped p Ξ Γ head (ks ++ js) w
@@ -86,6 +94,7 @@ module _ (p : Script) (Ξ : World) (Γ : Scope) where
     both_focus second head no_args us given = given refl
     both_focus second head (number t ts) us given = expr_focus t (among head begun (args_append ts us))
     both_focus second head (resumption q ts) us given = lookup q (among head begun (args_append ts us))
+    both_focus second head (coroutine q ts) us given = lookup q (among head begun (args_append ts us))
 
   -- in a body
   return_focus : (vars : List Variable) (owner : Option Name) {e : ExprTree} {rest : BlockTree} → ExprTyped p Γ e → RestTyped p Γ rest → In (in_return vars owner e rest)
@@ -100,6 +109,7 @@ module _ (p : Script) (Ξ : World) (Γ : Scope) where
   return_focus vars owner {rest = rest} (resume {k = k} {e = e} {bs = bs} q i t us) b =
       bool_of (is_own owner (variable_of k vars)) (λ o. In (if o then in_expr e (Among (TailResuming k) ε bs ∷ []) else in_expr e (Among (Resuming k) ε bs ∷ Within ToReturn rest ∷ [])))
       (λ o. expr_focus t (among (tail_resuming q i) begun us)) (λ o. expr_focus t (among (resuming q i (within Typed.returns b)) begun us))
+  return_focus vars owner (group f k t) b = expr_focus (group f k t) (within Typed.returns b)
 
   statement_focus : (vars : List Variable) (owner : Option Name) {s : StatementTree} {Γ' : Scope} {b : BlockTree} → StatementTyped p Γ s Γ' → RestTyped p Γ' b → In (in_block vars owner (s ⨟ b))
   unfolding In
@@ -112,9 +122,11 @@ module _ (p : Script) (Ξ : World) (Γ : Scope) where
   statement_focus vars owner (evaluates t Typing.drops) b = expr_focus t (within Typed.drops b)
   statement_focus vars owner (evaluates t (stores_in q i)) b = expr_focus t (within (puts q i) b)
   statement_focus vars owner (evaluates t (takes_from q f)) b = expr_focus t (within (takes q) b)
+  statement_focus vars owner (evaluates t (switches_to q f g)) b = expr_focus t (within (switching q) b)
   statement_focus vars owner (ifs t b c) d = expr_focus t (within (chooses b c) d)
   statement_focus vars owner (whiles t b) d = expr_focus t (within (turns t b) d)
   statement_focus vars owner fails b = failing
+  statement_focus vars owner (spawns f k q) b = spawning f k b
 
   record Found_in (o : Option Focused) : Type 0 where
     focused : Focused

@@ -84,7 +84,7 @@ start_typed p typed =
     record {
       world = [];
       typed = record {
-        store = record { as_many = refl; each = λ a e q. absurd (cc); slots = slots_start p.declarations };
+        store = record { as_many = refl; each = λ a t e q r. absurd (cc); slots = slots_start p.declarations };
         term = in_activation (runs (match_covers no_names) (block_rest (rw e.1 b'))) nothing;
       };
     }

@@ -1,27 +1,28 @@
--- More resumptions, and what is bound where a body begins.
+-- More addresses, and what is bound where a body begins.
 use Rattle.std.proofs.Common.{◌≡◌, ℕ, List, [], ◌∷◌, ◌++◌, map, length, take, drop, Option, Some, option_map, slice_get, if◌then◌else◌, Bool, refl, ap, ◌∙◌, subst}
 use Rattle.std.specs.Str.{bytes_eq}
 use Rattle.s_syntax.specs.declared.name.Name.{Name}
 use Rattle.s_syntax.specs.declared.script.VariableType.{VariableType}
-use Rattle.s_syntax.specs.declared.script.VariableType.TheVariants.{Int}
+use Rattle.s_syntax.specs.declared.script.VariableType.TheVariants.{Int, Resumption, Coroutine}
 use Rattle.s_syntax.specs.declared.script.Parameter.{Parameter}
 use Rattle.s_syntax.specs.declared.script.Script.{Script}
 use Rattle.s_check.specs.Scopes.{Scope, type_in, number as number_name, parameter}
 use Rattle.s_meaning.specs.Typing.{kinds, numbers}
 use Rattle.s_meaning.proofs.Scopes.{bool_of}
-use Rattle.s_meaning.specs.Terms.{Value, Row, listed, listed_before, Variable, Head, Work, Activation, Handle, Kept, Context}
+use Rattle.s_meaning.specs.Terms.{Value, Row, listed, listed_before, Variable, Head, Work, Activation, Handle, Group, Kept, Context}
 use Rattle.s_meaning.specs.Focus.{variable_of}
 use Rattle.s_meaning.specs.Steps.{bind, number_parameters}
-use Rattle.s_meaning.specs.Typed.{World, HasKind, int, reference, AllHave, none, more, FirstHave, begun, further, Variable_typed, Covers, WorkTyped, HeadTyped, under, left, right, among, within, calling, tail_calling, doing, handling, resuming, tail_resuming, ContextTyped, nothing, activation, handle, KeptTyped, takes_number, EntryTyped, emptied, kept}
+use Rattle.s_meaning.specs.Typed.{World, HasKind, int, reference, coroutine, AllHave, none, more, FirstHave, begun, further, Variable_typed, Covers, WorkTyped, HeadTyped, under, left, right, among, within, calling, tail_calling, doing, handling, resuming, tail_resuming, grouping, ContextTyped, nothing, activation, handle, group, KeptTyped, takes_number, takes_both, takes_call, EntryTyped, emptied, kept}
 
--- ## More resumptions
+-- ## More addresses
 
 pub record Grows (Ξ Ξ' : World) : Type 0 where
-  pub keeps : (a : ℕ) (h : Name) → slice_get Ξ a ≡ Some h → slice_get Ξ' a ≡ Some h
+  pub keeps : (a : ℕ) (t : VariableType) → slice_get Ξ a ≡ Some t → slice_get Ξ' a ≡ Some t
 
 pub has_grows : {Ξ Ξ' : World} {v : Value} {k : VariableType} → Grows Ξ Ξ' → HasKind Ξ v k → HasKind Ξ' v k
 has_grows g int = int
-has_grows g (reference {a = a} {h = h} e) = reference (g.keeps a h e)
+has_grows g (reference {a = a} {h = h} e) = reference (g.keeps a (Resumption h) e)
+has_grows g (coroutine {a = a} e) = coroutine (g.keeps a Coroutine e)
 
 pub all_grows : {Ξ Ξ' : World} {vs : List Value} {ks : List VariableType} → Grows Ξ Ξ' → AllHave Ξ vs ks → AllHave Ξ' vs ks
 all_grows g none = none
@@ -49,16 +50,20 @@ mutual
   head_grows g (handling f h n w) = handling f h n (work_grows g w)
   head_grows g (resuming k i w) = resuming k i (work_grows g w)
   head_grows g (tail_resuming k i) = tail_resuming k i
+  head_grows g (grouping f k w) = grouping f k (work_grows g w)
 
 pub context_grows : {p : Script} {Ξ Ξ' : World} {κ : Context} → Grows Ξ Ξ' → ContextTyped p Ξ κ → ContextTyped p Ξ' κ
 context_grows g nothing = nothing
 context_grows g (activation c w κ) = activation (covers_grows g c) (work_grows g w) (context_grows g κ)
 context_grows g (handle i ps κ) = handle i (all_grows g ps) (context_grows g κ)
+context_grows g (group κ) = group (context_grows g κ)
 
-kept_grows : {p : Script} {Ξ Ξ' : World} {k : Kept} → Grows Ξ Ξ' → KeptTyped p Ξ k → KeptTyped p Ξ' k
+kept_grows : {p : Script} {Ξ Ξ' : World} {t : VariableType} {k : Kept} → Grows Ξ Ξ' → KeptTyped p Ξ t k → KeptTyped p Ξ' t k
 kept_grows g (takes_number κ) = takes_number (context_grows g κ)
+kept_grows g (takes_both c b κ) = takes_both (covers_grows g c) b (context_grows g κ)
+kept_grows g (takes_call f k) = takes_call f k
 
-pub entry_grows : {p : Script} {Ξ Ξ' : World} {e : Option Kept} → Grows Ξ Ξ' → EntryTyped p Ξ e → EntryTyped p Ξ' e
+pub entry_grows : {p : Script} {Ξ Ξ' : World} {t : VariableType} {e : Option Kept} → Grows Ξ Ξ' → EntryTyped p Ξ t e → EntryTyped p Ξ' t e
 entry_grows g emptied = emptied
 entry_grows g (kept k) = kept (kept_grows g k)
 
@@ -66,12 +71,14 @@ pub context_append : {p : Script} {Ξ : World} {κ κ' : Context} → ContextTyp
 context_append nothing t = t
 context_append (activation c w κ) t = activation c w (context_append κ t)
 context_append (handle i ps κ) t = handle i ps (context_append κ t)
+context_append (group κ) t = group (context_append κ t)
 
 -- a context in two parts
 pub context_parts : {p : Script} {Ξ : World} (κ κ' : Context) → ContextTyped p Ξ (κ ++ κ') → ContextTyped p Ξ κ × ContextTyped p Ξ κ'
 context_parts [] κ' t = (nothing, t)
 context_parts (Activation vars owner w ∷ κ) κ' (activation c u t) = let r = context_parts κ κ' t in (activation c u r.0, r.1)
 context_parts (Handle h ps ∷ κ) κ' (handle i hs t) = let r = context_parts κ κ' t in (handle i hs r.0, r.1)
+context_parts (Group ∷ κ) κ' (group t) = let r = context_parts κ κ' t in (group r.0, r.1)
 
 -- ## Arguments
 

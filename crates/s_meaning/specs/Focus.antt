@@ -4,17 +4,17 @@ use Rattle.std.specs.Str.{bytes_eq}
 use Rattle.s_syntax.specs.declared.name.Name.{Name}
 use Rattle.s_syntax.specs.declared.number.Number.{Number}
 use Rattle.s_syntax.specs.declared.script.VariableType.{VariableType}
-use Rattle.s_syntax.specs.declared.script.VariableType.TheVariants.{Int, Resumption}
+use Rattle.s_syntax.specs.declared.script.VariableType.TheVariants.{Int, Resumption, Coroutine}
 use Rattle.s_syntax.specs.declared.operators.UnaryOperator.{UnaryOperator}
 use Rattle.s_syntax.specs.declared.operators.Connective.{Connective}
 use Rattle.s_syntax.specs.declared.operators.BinaryOperator.{BinaryOperator}
 use Rattle.s_syntax.specs.declared.operators.BinaryOperator.TheVariants.{Connects}
-use Rattle.s_syntax.specs.ExprTree.{ExprTree, Literal, Read, Unary, Run, Call, Do, Handle, Resume, Exprs, NoExprs, MoreExprs, Operands, NoOperands, MoreOperands}
+use Rattle.s_syntax.specs.ExprTree.{ExprTree, Literal, Read, Unary, Run, Call, Do, Handle, Resume, Group, Exprs, NoExprs, MoreExprs, Operands, NoOperands, MoreOperands}
 use Rattle.s_syntax.specs.declared.statement.Use.{Use as ValueUse}
 use Rattle.s_syntax.specs.declared.statement.Use.TheVariants as use_for
-use Rattle.s_syntax.specs.BlockTree.{Evaluate, If, While, Fail, BlockTree, Done, ◌⨟◌}
+use Rattle.s_syntax.specs.BlockTree.{Evaluate, If, While, Fail, Spawn, BlockTree, Done, ◌⨟◌}
 use Rattle.s_check.specs.Rules.{count}
-use Rattle.s_meaning.specs.Terms.{Value, Row, ε, ◌▹◌, Variable, Head, Calling, Doing, Handling, Resuming, TailResuming, TailCalling, Use, ToStore, ToPrint, ToDrop, ToReturn, ToChoose, ToTurn, ToPut, ToTake, Work, UnderUnary, LeftOf, RightOf, Among, Within, Hole, Gives, Finds, Runs}
+use Rattle.s_meaning.specs.Terms.{Value, Row, ε, ◌▹◌, Variable, Head, Calling, Doing, Handling, Resuming, TailResuming, TailCalling, Grouping, Use, ToStore, ToPrint, ToDrop, ToReturn, ToChoose, ToTurn, ToPut, ToTake, ToSwitch, Work, UnderUnary, LeftOf, RightOf, Among, Within, Hole, Gives, Finds, Runs}
 
 -- r: what one step does, where all that it needs are values
 pub data Redex : Type 0 where
@@ -31,6 +31,8 @@ pub data Redex : Type 0 where
   -- a statement whose expression has the value v, and the rest of its body
   Uses : Use → (v : Value) → (rest : BlockTree) → Redex
   Fails : Redex
+  -- spawn t = f, and the rest of its body
+  Spawns : (t f : Name) → (rest : BlockTree) → Redex
   -- the end of a body
   Ends : Redex
 
@@ -63,6 +65,7 @@ abbrev mutual
   in_expr (Do op es) w = in_args (Doing op) ε es w
   in_expr (Handle f es h bs) w = in_both (Handling f (count es) h) es bs w (in_args (Handling f (count es) h) ε bs w)
   in_expr (Resume k e bs) w = in_expr e (Among (Resuming k) ε bs ∷ w)
+  in_expr (Group f e) w = in_expr e (Among (Grouping f) ε NoExprs ∷ w)
 
   -- in a list of arguments, those before it being values
   pub in_args : Head → Row → Exprs → List Work → Focused
@@ -84,6 +87,7 @@ variable_of x (v ∷ vs) = if bytes_eq v.name x then Some v else variable_of x v
 abbrev pub is_resumption_of : Name → VariableType → Bool
 is_resumption_of h Int = false
 is_resumption_of h (Resumption g) = bytes_eq g h
+is_resumption_of h Coroutine = false
 
 abbrev pub is_own : Option Name → Option Variable → Bool
 is_own None v = false
@@ -107,6 +111,7 @@ in_evaluate vars owner use_for.Return e rest = in_return vars owner e rest
 in_evaluate vars owner use_for.Drop e rest = in_expr e (Within ToDrop rest ∷ [])
 in_evaluate vars owner (use_for.Store s k) e rest = in_expr e (Within (ToPut s k) rest ∷ [])
 in_evaluate vars owner (use_for.Take k s) e rest = in_expr e (Within (ToTake k s) rest ∷ [])
+in_evaluate vars owner (use_for.Switch x u t) e rest = in_expr e (Within (ToSwitch x u t) rest ∷ [])
 
 -- in the rest of a body
 abbrev pub in_block : List Variable → Option Name → BlockTree → Focused
@@ -115,6 +120,7 @@ in_block vars owner (Evaluate u e ⨟ rest) = in_evaluate vars owner u e rest
 in_block vars owner (If e b d ⨟ rest) = in_expr e (Within (ToChoose b d) rest ∷ [])
 in_block vars owner (While e b ⨟ rest) = in_expr e (Within (ToTurn e b) rest ∷ [])
 in_block vars owner (Fail ⨟ rest) = at Fails []
+in_block vars owner (Spawn t f ⨟ rest) = at (Spawns t f rest) []
 
 -- a value in the pending work around it
 abbrev pub in_work : Value → List Work → Option Focused

@@ -1,11 +1,11 @@
 -- The steps of scripts. Each rule's comment is the rule in the field's notation: σ is the store, E the context of the activation
--- that takes the step, with its variables, and F, F' further contexts; E[..] stands for the step's result in that activation.
-use Rattle.std.specs.Prelude.{ℕ, ℤ, pos, negsuc, List, [], ◌∷◌, ◌++◌, Option, Some, None, length, take, drop, slice_get, slice_set, option_map, if◌then◌else◌}
+-- that takes the step, with its variables, and F, F', G further contexts; E[..] stands for the step's result in that activation.
+use Rattle.std.specs.Prelude.{ℕ, ℤ, pos, negsuc, List, [], ◌∷◌, ◌++◌, Option, Some, None, length, take, drop, slice_get, slice_set, option_map, codes, if◌then◌else◌}
 use Rattle.std.specs.Str.{bytes_eq}
 use Rattle.following.specs.Steps.{Stepped, Goes, Returns, Faults, Wrong}
 use Rattle.s_syntax.specs.declared.name.Name.{Name}
 use Rattle.s_syntax.specs.declared.script.VariableType.{VariableType}
-use Rattle.s_syntax.specs.declared.script.VariableType.TheVariants.{Int, Resumption}
+use Rattle.s_syntax.specs.declared.script.VariableType.TheVariants.{Int, Resumption, Coroutine}
 use Rattle.s_syntax.specs.declared.script.Parameter.{Parameter}
 use Rattle.s_syntax.specs.declared.script.Clause.{Clause}
 use Rattle.s_syntax.specs.declared.script.Handler.{Handler}
@@ -14,8 +14,8 @@ use Rattle.s_syntax.specs.declared.operators.BinaryOperator.TheVariants.{Connect
 use Rattle.s_syntax.specs.BlockTree.{BlockTree, While, Done, ◌⨟◌}
 use Rattle.s_check.specs.Definitions.{function_of, handler_of}
 use Rattle.s_meaning.specs.Numbers.{Fault, Failed, Reused, Empty, Unhandled, Computed, Is, Faulty, holds, truth, unary, operate, decided, line}
-use Rattle.s_meaning.specs.Terms.{Value, Number, Reference, listed, Variable, Head, Calling, Doing, Handling, Resuming, TailResuming, TailCalling, Use, ToStore, ToPrint, ToDrop, ToReturn, ToChoose, ToTurn, ToPut, ToTake, Work, RightOf, Place, Activation, Handle, Context, Hole, Gives, Finds, Runs, Kept, captured, Contents, Store, Configuration}
-use Rattle.s_meaning.specs.Focus.{Redex, Constant, Lookup, OnUnary, OnBinary, Decides, Applies, Uses, Fails, Ends, left_of, variable_of, focus}
+use Rattle.s_meaning.specs.Terms.{Value, Number, Reference, listed, Variable, Head, Calling, Doing, Handling, Resuming, TailResuming, TailCalling, Grouping, Use, ToStore, ToPrint, ToDrop, ToReturn, ToChoose, ToTurn, ToPut, ToTake, ToSwitch, Work, RightOf, Place, Activation, Handle, Group, Context, Hole, Gives, Finds, Runs, Takes, Both, Begins, Kept, captured, switched, spawned, Contents, Store, Configuration}
+use Rattle.s_meaning.specs.Focus.{Redex, Constant, Lookup, OnUnary, OnBinary, Decides, Applies, Uses, Fails, Spawns, Ends, left_of, variable_of, focus}
 
 abbrev pub Step : Type 0
 Step = Stepped ℤ Fault Configuration
@@ -49,6 +49,7 @@ as_reference (Reference a) go = go a
 abbrev pub as_resumption : VariableType → (Name → Step) → Step
 as_resumption Int go = Wrong
 as_resumption (Resumption h) go = go h
+as_resumption Coroutine go = Wrong
 
 abbrev pub first_and_rest : List Value → (Value × List Value → Step) → Step
 first_and_rest [] go = Wrong
@@ -77,6 +78,10 @@ with_variable x (v ∷ vs) = if bytes_eq v.name x.name then x ∷ vs else (v ∷
 -- the variable x is n from now on
 abbrev pub stored : Name → ℤ → List Variable → List Variable
 stored x n vs = with_variable (record { name = x; ty = Int; value = Number n }) vs
+
+-- and the variable t the coroutine at address a
+abbrev pub with_coroutine : Name → ℕ → List Variable → List Variable
+with_coroutine t a vs = with_variable (record { name = t; ty = Coroutine; value = Reference a }) vs
 
 -- ## Blocks
 
@@ -131,6 +136,18 @@ with_handler op h ps (Some g) = with_clause h ps g (clause_of op g.clauses)
 abbrev pub catches : Script → Name → Place → Option Found
 catches p op (Activation vars owner work) = None
 catches p op (Handle h ps) = with_handler op h ps (handler_of p.declarations h)
+catches p op Group = None
+
+-- ## A group
+
+abbrev pub is_group : Place → Option (Unit {0})
+is_group (Activation vars owner work) = None
+is_group (Handle h ps) = None
+is_group Group = Some tt
+
+-- What a switch is told to lack where no group is around it. No effect has this name, since it is a keyword.
+abbrev pub group_name : Name
+group_name = codes "group"
 
 -- ## The store
 
@@ -231,6 +248,12 @@ enters_clause σ f vs a κ = do
   let k : Variable = record { name = f.clause.resumption; ty = Resumption f.h; value = Reference a } in
       enters σ f.clause.body (params ++ (args ++ k ∷ [])) (Some f.h) κ
 
+-- κ[G[n, c]]: the rest of a body goes on in G, n and c being x and u; or f is called with them
+abbrev pub goes_into : Script → Store → Takes → Context → (n : ℤ) → (c : ℕ) → Context → Step
+goes_into p σ (Both x u rest) (Activation vars owner work ∷ G) n c κ = enters σ rest (with_coroutine u c (stored x n vars)) owner (G ++ κ)
+goes_into p σ (Begins f) G n c κ = calls p σ f (Number n ∷ Reference c ∷ []) (G ++ κ)
+goes_into p σ takes G n c κ = Wrong
+
 abbrev pub applies : Script → Around → Head → List Value → Step
 applies p e (Calling f) vs = calls p e.store f vs (whole e)
 -- E's activation ends first
@@ -248,30 +271,44 @@ applies p e (Handling f n h) vs = do
 applies p e (Resuming k) vs = resumes e k vs (whole e)
 -- E's activation ends first
 applies p e (TailResuming k) vs = resumes e k vs e.outer
+-- E[group f(v)]  ⟶  E[group (body of f, its parameter being v)]
+applies p e (Grouping f) vs = calls p e.store f vs (Group ∷ whole e)
 
-abbrev pub uses : Around → Use → Value → BlockTree → Step
+-- σ; F'[group F[switch x, u = t(v);]]  ⟶  σ with t emptied, c kept F[x, u = [ ], [ ];]; F'[group G[v, c]]
+-- where t kept G, and no group is in F
+abbrev pub switches : Script → Around → (x u t : Name) → Value → BlockTree → Step
+switches p e x u t v rest = do
+  n ← as_number v
+  y ← or_wrong (variable_of t e.variables)
+  a ← as_reference y.value
+  entry ← or_wrong (kept_at e.store a)
+  kept ← or_fault Reused entry
+  c ← or_fault (Unhandled group_name) (cut_at is_group (whole e))
+  goes_into p (with_kept (emptied e.store a) (switched x u rest c.inner)) kept.takes kept.around n (next_address e.store) (Group ∷ c.outer)
+
+abbrev pub uses : Script → Around → Use → Value → BlockTree → Step
 -- let x = v; and x = v;
-uses e (ToStore x) v rest = do
+uses p e (ToStore x) v rest = do
   n ← as_number v
   goes_on (record e { variables = stored x n e.variables }) (Runs rest)
 -- print v;
-uses e ToPrint v rest = do
+uses p e ToPrint v rest = do
   n ← as_number v
   Goes (line n) (record { store = e.store; term = record { hole = Runs rest; around = whole e } })
 -- v;
-uses e ToDrop v rest = goes_on e (Runs rest)
+uses p e ToDrop v rest = goes_on e (Runs rest)
 -- return v;
-uses e ToReturn v rest = leaves e.store e.outer v
+uses p e ToReturn v rest = leaves e.store e.outer v
 -- if v { b } else { d }
-uses e (ToChoose b d) v rest = do
+uses p e (ToChoose b d) v rest = do
   n ← as_number v
   goes_on e (Runs ((if holds n then b else d) ⨟⨟ rest))
 -- while v { body }, whose condition is c
-uses e (ToTurn c body) v rest = do
+uses p e (ToTurn c body) v rest = do
   n ← as_number v
   goes_on e (Runs (if holds n then body ⨟⨟ While c body ⨟ rest else rest))
 -- σ; E[store s[v] = k;]  ⟶  σ with k at place v of s; E[]   where s has this place
-uses e (ToPut s k) v rest = do
+uses p e (ToPut s k) v rest = do
   n ← as_number v
   x ← or_wrong (variable_of k e.variables)
   a ← as_reference x.value
@@ -279,13 +316,14 @@ uses e (ToPut s k) v rest = do
   place ← or_fault Empty (place_at c.places n)
   goes_on (record e { store = put e.store c n (Some a) }) (Runs rest)
 -- σ; E[take k = s[v];]  ⟶  σ with place v of s empty; E[] with what stood there as k   where s has this place, and it isn't empty
-uses e (ToTake k s) v rest = do
+uses p e (ToTake k s) v rest = do
   n ← as_number v
   c ← or_wrong (contents_of s e.store.slots)
   place ← or_fault Empty (place_at c.places n)
   a ← or_fault Empty place
   let x : Variable = record { name = k; ty = Resumption c.handler; value = Reference a } in
       goes_on (record e { store = put e.store c n None; variables = with_variable x e.variables }) (Runs rest)
+uses p e (ToSwitch x u t) v rest = switches p e x u t v rest
 
 abbrev pub rule : Script → Around → Redex → Step
 -- E[n]  ⟶  E[n]
@@ -308,9 +346,12 @@ rule p e (Decides c v right more) = do
   if decided c a then goes_on (record e { work = left_of more e.work }) (Gives (Number (truth (holds a))))
       else goes_on (record e { work = RightOf v (Connects c) more ∷ e.work }) (Finds right)
 rule p e (Applies head vs) = applies p e head (listed vs)
-rule p e (Uses u v rest) = uses e u v rest
+rule p e (Uses u v rest) = uses p e u v rest
 -- fail;
 rule p e Fails = Faults Failed
+-- σ; E[spawn t = f;]  ⟶  σ, c kept f([ ], [ ]); E[] with c as t
+rule p e (Spawns t f rest) =
+    goes_on (record e { store = with_kept e.store (spawned f); variables = with_coroutine t (next_address e.store) e.variables }) (Runs rest)
 -- a body that runs to its end returns 0
 rule p e Ends = leaves e.store e.outer (Number (pos 0))
 
@@ -328,6 +369,9 @@ step_at p σ (Gives v) (Handle h ps ∷ κ) = do
   n ← as_number v
   enters σ g.return_clause.body (params ++ record { name = g.return_clause.value; ty = Int; value = Number n } ∷ []) (Some h) κ
 step_at p σ hole (Handle h ps ∷ κ) = Wrong
+-- E[group v]  ⟶  E[v]
+step_at p σ (Gives v) (Group ∷ κ) = leaves σ κ v
+step_at p σ hole (Group ∷ κ) = Wrong
 
 abbrev pub step : Script → Configuration → Step
 step p c = step_at p c.store c.term.hole c.term.around

@@ -1,5 +1,5 @@
 -- Script terms (Plotkin and Pretnar, deep handlers): E[r], an evaluation context around what is done next. The context is a list
--- of places, from the hole outwards: activations with their variables and their pending work, and handles.
+-- of places, from the hole outwards: activations with their variables and their pending work, handles, and groups.
 use Rattle.std.specs.Prelude.{ℕ, suc, ℤ, List, [], ◌∷◌, Option, Some, None}
 use Rattle.s_syntax.specs.declared.name.Name.{Name}
 use Rattle.s_syntax.specs.declared.script.VariableType.{VariableType}
@@ -8,7 +8,7 @@ use Rattle.s_syntax.specs.declared.operators.BinaryOperator.{BinaryOperator}
 use Rattle.s_syntax.specs.ExprTree.{ExprTree, Exprs, Operands}
 use Rattle.s_syntax.specs.BlockTree.{BlockTree}
 
--- a number, or a resumption by its address
+-- a number, or a resumption or a coroutine by its address
 pub data Value : Type 0 where
   Number : ℤ → Value
   Reference : (a : ℕ) → Value
@@ -44,6 +44,8 @@ pub data Head : Type 0 where
   TailResuming : (k : Name) → Head
   -- a call that takes the place of the activation
   TailCalling : (f : Name) → Head
+  -- a call in a group
+  Grouping : (f : Name) → Head
 
 -- what a statement does with the value of its expression
 pub data Use : Type 0 where
@@ -56,6 +58,8 @@ pub data Use : Type 0 where
   -- store s[ ] = k, and take k = s[ ]
   ToPut : (s k : Name) → Use
   ToTake : (k s : Name) → Use
+  -- switch x, u = t( )
+  ToSwitch : (x u t : Name) → Use
 
 -- Pending work of an activation: what stands directly around an expression.
 pub data Work : Type 0 where
@@ -74,6 +78,8 @@ pub data Place : Type 0 where
   Activation : (variables : List Variable) (owner : Option Name) (work : List Work) → Place
   -- an active handle: its handler and the values of the handler's parameters
   Handle : (h : Name) (params : List Value) → Place
+  -- an active group
+  Group : Place
 
 abbrev pub Context : Type 0
 Context = List Place
@@ -88,9 +94,12 @@ pub record Term : Type 0 where
   pub hole : Hole
   pub around : Context
 
--- what the hole of a kept context takes: a number
+-- What the hole of a kept context takes: a number; or a number and a coroutine, which become x and u before the rest of a body runs, or
+-- with which f is called.
 pub data Takes : Type 0 where
   Number_alone : Takes
+  Both : (x u : Name) (rest : BlockTree) → Takes
+  Begins : (f : Name) → Takes
 
 -- a context that is kept, and what its hole takes
 pub record Kept : Type 0 where
@@ -100,6 +109,14 @@ pub record Kept : Type 0 where
 -- a resumption: the context that do captures, up to its handle
 abbrev pub captured : Context → Kept
 captured κ = record { takes = Number_alone; around = κ }
+
+-- a coroutine that is switched from: the context up to its group, and the rest of its body
+abbrev pub switched : (x u : Name) → BlockTree → Context → Kept
+switched x u rest κ = record { takes = Both x u rest; around = κ }
+
+-- a coroutine that calls f, where it is switched to
+abbrev pub spawned : Name → Kept
+spawned f = record { takes = Begins f; around = [] }
 
 -- slots: the places, each of which holds a resumption of the handler, by its address, or is empty
 pub record Contents : Type 0 where
@@ -119,16 +136,18 @@ pub record Configuration : Type 0 where
 
 -- ## Counts
 
--- activations, and active handles
+-- activations, and active handles and groups
 abbrev pub activations : Context → ℕ
 activations [] = 0
 activations (Activation vars owner work ∷ κ) = suc (activations κ)
 activations (Handle h ps ∷ κ) = activations κ
+activations (Group ∷ κ) = activations κ
 
 abbrev pub handles : Context → ℕ
 handles [] = 0
 handles (Activation vars owner work ∷ κ) = handles κ
 handles (Handle h ps ∷ κ) = suc (handles κ)
+handles (Group ∷ κ) = suc (handles κ)
 
 -- entries that aren't empty
 abbrev pub full : {A : Type 0} → List (Option A) → ℕ

@@ -1,8 +1,8 @@
--- Typed configurations. A resumption's address has the type res h of the handler that it was captured under.
+-- Typed configurations. A resumption's address has the type res h of the handler that it was captured under, and a coroutine's the type coro.
 use Rattle.std.specs.Prelude.{◌≡◌, ℕ, ℤ, List, [], ◌∷◌, ◌++◌, length, slice_get, Option, Some, None}
 use Rattle.s_syntax.specs.declared.name.Name.{Name}
 use Rattle.s_syntax.specs.declared.script.VariableType.{VariableType}
-use Rattle.s_syntax.specs.declared.script.VariableType.TheVariants.{Int, Resumption}
+use Rattle.s_syntax.specs.declared.script.VariableType.TheVariants.{Int, Resumption, Coroutine}
 use Rattle.s_syntax.specs.declared.operators.UnaryOperator.{UnaryOperator}
 use Rattle.s_syntax.specs.declared.operators.BinaryOperator.{BinaryOperator}
 use Rattle.s_syntax.specs.declared.script.Function.{Function}
@@ -12,19 +12,20 @@ use Rattle.s_syntax.specs.declared.script.Script.{Script}
 use Rattle.s_syntax.specs.ExprTree.{ExprTree, Exprs, Operands}
 use Rattle.s_syntax.specs.BlockTree.{StatementTree, BlockTree, Done, ◌⨟◌}
 use Rattle.s_check.specs.Definitions.{function_of, handler_of, effect_of, slots_of}
-use Rattle.s_check.specs.Scopes.{Scope, type_in, number as number_name, resumption as resumption_name}
+use Rattle.s_check.specs.Scopes.{Scope, type_in, number as number_name, resumption as resumption_name, coroutine as coroutine_name}
 use Rattle.s_meaning.specs.Typing.{kinds, numbers, ExprTyped, OperandsTyped, ArgsTyped, StatementTyped, BlockTyped}
-use Rattle.s_meaning.specs.Terms.{Value, Number, Reference, Row, ε, ◌▹◌, Variable, Head, Calling, Doing, Handling, Resuming, TailResuming, TailCalling, Use, ToStore, ToPrint, ToDrop, ToReturn, ToChoose, ToTurn, ToPut, ToTake, Work, UnderUnary, LeftOf, RightOf, Among, Within, Activation, Handle, Context, Hole, Gives, Finds, Runs, Number_alone, Kept, Contents, Store, Configuration}
+use Rattle.s_meaning.specs.Terms.{Value, Number, Reference, Row, ε, ◌▹◌, Variable, Head, Calling, Doing, Handling, Resuming, TailResuming, TailCalling, Grouping, Use, ToStore, ToPrint, ToDrop, ToReturn, ToChoose, ToTurn, ToPut, ToTake, ToSwitch, Work, UnderUnary, LeftOf, RightOf, Among, Within, Activation, Handle, Group, Context, Hole, Gives, Finds, Runs, Kept, captured, switched, spawned, Contents, Store, Configuration}
 use Rattle.s_meaning.specs.Focus.{variable_of}
 use Rattle.s_meaning.specs.Steps.{contents_of}
 
--- the handler of each address
+-- the type of each address
 abbrev pub World : Type 0
-World = List Name
+World = List VariableType
 
 pub data HasKind (Ξ : World) : Value → VariableType → Type 0 where
   int : {n : ℤ} → HasKind Ξ (Number n) Int
-  reference : {a : ℕ} {h : Name} → slice_get Ξ a ≡ Some h → HasKind Ξ (Reference a) (Resumption h)
+  reference : {a : ℕ} {h : Name} → slice_get Ξ a ≡ Some (Resumption h) → HasKind Ξ (Reference a) (Resumption h)
+  coroutine : {a : ℕ} → slice_get Ξ a ≡ Some Coroutine → HasKind Ξ (Reference a) Coroutine
 
 pub data AllHave (Ξ : World) : List Value → List VariableType → Type 0 where
   none : AllHave Ξ [] []
@@ -66,6 +67,7 @@ pub data UseTyped (p : Script) (Γ : Scope) : Use → Scope → Type 0 where
   turns : {e : ExprTree} {b : BlockTree} → ExprTyped p Γ e → BlockTyped p Γ b → UseTyped p Γ (ToTurn e b) Γ
   puts : {s k : Name} {d : Slots} → slots_of p.declarations s ≡ Some d → type_in Γ k ≡ Some (Resumption d.handler) → UseTyped p Γ (ToPut s k) Γ
   takes : {s k : Name} {d : Slots} → slots_of p.declarations s ≡ Some d → UseTyped p Γ (ToTake k s) (resumption_name d.handler k ∷ Γ)
+  switching : {x u t : Name} → type_in Γ t ≡ Some Coroutine → UseTyped p Γ (ToSwitch x u t) (coroutine_name u ∷ number_name x ∷ Γ)
 
 mutual
   -- pending work that takes a value of this type
@@ -90,6 +92,8 @@ mutual
         → HeadTyped p Ξ Γ (Resuming k) (Int ∷ kinds i.parameters) w
     tail_resuming : {k h : Name} {i : Handler} → type_in Γ k ≡ Some (Resumption h) → handler_of p.declarations h ≡ Some i
         → HeadTyped p Ξ Γ (TailResuming k) (Int ∷ kinds i.parameters) []
+    grouping : {f : Name} {g : Function} {w : List Work} → function_of p.declarations f ≡ Some g → kinds g.parameters ≡ Int ∷ [] → WorkTyped p Ξ Γ w Int
+        → HeadTyped p Ξ Γ (Grouping f) (Int ∷ []) w
 
 -- a context that takes a number
 pub data ContextTyped (p : Script) (Ξ : World) : Context → Type 0 where
@@ -98,6 +102,7 @@ pub data ContextTyped (p : Script) (Ξ : World) : Context → Type 0 where
       → ContextTyped p Ξ κ → ContextTyped p Ξ (Activation vars owner w ∷ κ)
   handle : {h : Name} {i : Handler} {ps : List Value} {κ : Context} → handler_of p.declarations h ≡ Some i → AllHave Ξ ps (kinds i.parameters) → ContextTyped p Ξ κ
       → ContextTyped p Ξ (Handle h ps ∷ κ)
+  group : {κ : Context} → ContextTyped p Ξ κ → ContextTyped p Ξ (Group ∷ κ)
 
 -- a hole in its activation
 pub data HoleTyped (p : Script) (Ξ : World) : Hole → List Variable → List Work → Type 0 where
@@ -112,17 +117,22 @@ pub data TermTyped (p : Script) (Ξ : World) : Hole → Context → Type 0 where
       → TermTyped p Ξ hole (Activation vars owner w ∷ κ)
   in_handle : {v : Value} {h : Name} {i : Handler} {ps : List Value} {κ : Context} → HasKind Ξ v Int → handler_of p.declarations h ≡ Some i
       → AllHave Ξ ps (kinds i.parameters) → ContextTyped p Ξ κ → TermTyped p Ξ (Gives v) (Handle h ps ∷ κ)
+  in_group : {v : Value} {κ : Context} → HasKind Ξ v Int → ContextTyped p Ξ κ → TermTyped p Ξ (Gives v) (Group ∷ κ)
 
-pub data KeptTyped (p : Script) (Ξ : World) : Kept → Type 0 where
-  takes_number : {κ : Context} → ContextTyped p Ξ κ → KeptTyped p Ξ (record { takes = Number_alone; around = κ })
+-- what is kept for an address of this type: a resumption; a coroutine in the midst of a body; or one that begins with a function
+pub data KeptTyped (p : Script) (Ξ : World) : VariableType → Kept → Type 0 where
+  takes_number : {h : Name} {κ : Context} → ContextTyped p Ξ κ → KeptTyped p Ξ (Resumption h) (captured κ)
+  takes_both : {Γ : Scope} {x u : Name} {rest : BlockTree} {vars : List Variable} {owner : Option Name} {w : List Work} {κ : Context} → Covers Ξ Γ vars
+      → RestTyped p (coroutine_name u ∷ number_name x ∷ Γ) rest → ContextTyped p Ξ κ → KeptTyped p Ξ Coroutine (switched x u rest (Activation vars owner w ∷ κ))
+  takes_call : {f : Name} {g : Function} → function_of p.declarations f ≡ Some g → kinds g.parameters ≡ Int ∷ Coroutine ∷ [] → KeptTyped p Ξ Coroutine (spawned f)
 
-pub data EntryTyped (p : Script) (Ξ : World) : Option Kept → Type 0 where
-  emptied : EntryTyped p Ξ None
-  kept : {k : Kept} → KeptTyped p Ξ k → EntryTyped p Ξ (Some k)
+pub data EntryTyped (p : Script) (Ξ : World) (t : VariableType) : Option Kept → Type 0 where
+  emptied : EntryTyped p Ξ t None
+  kept : {k : Kept} → KeptTyped p Ξ t k → EntryTyped p Ξ t (Some k)
 
 -- places that hold resumptions of the handler h, as far as they hold any
 pub record PlacesTyped (Ξ : World) (h : Name) (places : List (Option ℕ)) : Type 0 where
-  pub each : (n a : ℕ) → slice_get places n ≡ Some (Some a) → slice_get Ξ a ≡ Some h
+  pub each : (n a : ℕ) → slice_get places n ≡ Some (Some a) → slice_get Ξ a ≡ Some (Resumption h)
 
 -- what the slots of this declaration hold
 pub record ContentsTyped (Ξ : World) (d : Slots) (c : Contents) : Type 0 where
@@ -137,7 +147,7 @@ pub record SlotsThere (Ξ : World) (d : Slots) (o : Option Contents) : Type 0 wh
 
 pub record StoreTyped (p : Script) (Ξ : World) (σ : Store) : Type 0 where
   pub as_many : length σ.contexts ≡ length Ξ
-  pub each : (a : ℕ) (e : Option Kept) → slice_get σ.contexts a ≡ Some e → EntryTyped p Ξ e
+  pub each : (a : ℕ) (t : VariableType) (e : Option Kept) → slice_get Ξ a ≡ Some t → slice_get σ.contexts a ≡ Some e → EntryTyped p Ξ t e
   pub slots : (s : Name) (d : Slots) → slots_of p.declarations s ≡ Some d → SlotsThere Ξ d (contents_of s σ.slots)
 
 pub record Typed (p : Script) (Ξ : World) (c : Configuration) : Type 0 where

@@ -1,4 +1,5 @@
-//! The meaning of scripts (`specs/`): handlers are deep, and a resumption is used once at most (Plotkin and Pretnar, Handling Algebraic Effects).
+//! The meaning of scripts (`specs/`): handlers are deep (Plotkin and Pretnar, Handling Algebraic Effects), and a reference to a resumption or to a
+//! coroutine is used once at most.
 #![tactic(auto)]
 
 mod laws;

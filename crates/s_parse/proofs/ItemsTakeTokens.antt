@@ -4,8 +4,8 @@ use Rattle.s_syntax.specs.declared.token.Kind.TheVariants as kind
 use Rattle.s_grammar.specs.Grammar.{Choice}
 use Rattle.s_grammar.specs.Kinds.{is, kind_of}
 use Rattle.s_grammar.specs.Reading.{Reading, choice}
-use Rattle.s_grammar.specs.Reads.{statement_by, expr, block, clause, declaration_by}
-use Rattle.s_grammar.specs.Syntax.{StatementBy, Expr, Block, ClauseOf, DeclarationBy}
+use Rattle.s_grammar.specs.Reads.{statement_by, expr, parenthesized_expr, block, clause, declaration_by}
+use Rattle.s_grammar.specs.Syntax.{StatementBy, Expr, ParenthesizedExpr, Block, ClauseOf, DeclarationBy}
 use Rattle.s_grammar.proofs.DeclarationLaws.{clause_laws, declaration_laws_by}
 use Rattle.s_grammar.proofs.Ends.{begins_statement, ends_statement, begins_declaration}
 use Rattle.s_grammar.proofs.KindSets.{any_kind}
@@ -23,7 +23,7 @@ module _ (bytes : List ℕ) where
   -- statements
   pub statement_shrinks : (n : ℕ) → Shrinks (statement bytes n)
   unfolding statement
-  statement_shrinks n = shrinks n 0 begins_statement ends_statement (λ m. Choice (StatementBy bytes (Expr bytes m) (Block bytes m))) (choice (statement_by bytes (expr bytes n) (block bytes n))) (statement_laws bytes n (Block bytes) (block bytes n) (block_laws bytes n))
+  statement_shrinks n = shrinks n 0 begins_statement ends_statement (λ m. Choice (StatementBy bytes (Expr bytes m) (ParenthesizedExpr bytes m) (Block bytes m))) (choice (statement_by bytes (expr bytes n) (parenthesized_expr bytes n) (block bytes n))) (statement_laws bytes n (Block bytes) (block bytes n) (block_laws bytes n))
 
   -- clauses for effects
   pub clause_shrinks : (n : ℕ) → Shrinks (clause bytes n)

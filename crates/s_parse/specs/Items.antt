@@ -9,7 +9,7 @@ use Rattle.s_syntax.specs.ExprTree.{ExprTree}
 use Rattle.s_syntax.specs.BlockTree.{StatementTree, BlockTree, Done}
 use Rattle.s_grammar.specs.Kinds.{is}
 use Rattle.s_grammar.specs.Reading.{Reading, choice, in_turn, inside, many, maybe}
-use Rattle.s_grammar.specs.Reads.{in_braces, led, ended, name, expr, block, statement_by, statements_by, clause, clauses, declaration_by}
+use Rattle.s_grammar.specs.Reads.{in_braces, led, ended, name, expr, parenthesized_expr, block, statement_by, statements_by, clause, clauses, declaration_by}
 
 -- a block that may be missing
 abbrev pub or_done : Option BlockTree → BlockTree
@@ -19,10 +19,10 @@ or_done (Some b) = b
 module _ (bytes : List ℕ) where
   -- a statement, and those of a block
   unfoldable pub statement : ℕ → Reading StatementTree
-  statement n = choice (statement_by bytes (expr bytes n) (block bytes n))
+  statement n = choice (statement_by bytes (expr bytes n) (parenthesized_expr bytes n) (block bytes n))
 
   unfoldable pub statements : ℕ → Reading BlockTree
-  statements n = statements_by bytes (expr bytes n) (block bytes n)
+  statements n = statements_by bytes (expr bytes n) (parenthesized_expr bytes n) (block bytes n)
 
   -- a name and its value, as a let and an assignment end
   abbrev pub named_value : ℕ → Reading (Name × ExprTree)

@@ -1,12 +1,32 @@
 //! Parameters and names in parentheses.
 ghost use Rattle.std.specs.Prelude.{◌≡◌, ◌≤◌, length, drop};
-ghost use Rattle.s_grammar.specs.Reads.{parameter, parameters, names, value_name};
+ghost use Rattle.s_grammar.specs.Reads.{type_by, parameter, parameters, names, value_name};
+ghost use Rattle.s_grammar.specs.Reading.{choice};
 ghost use Rattle.s_expr.specs.Places.{ReadsAt};
 
 use crate::listed::{Item, list_at};
 use lists::ListOf;
 use s_expr::{Source, Stop, expect, is_kind, kind_at, name_at};
 use s_syntax::{Kind, Name, Parameter, VariableType};
+
+// A type, which stands behind a colon.
+#[tactic(auto, unfolding(s_grammar::specs::Reads::type_by, s_grammar::specs::Reads::led))]
+fn type_at(source: &Source, at: usize) -> Result<(VariableType, usize), Stop>
+    requires within { at ≤ length source.now.tokens.now }
+    ensures reads { ReadsAt (choice (type_by source.now.bytes.now)) source.now.tokens.now at result }
+{
+    match kind_at(source, at) {
+        Kind::Coro => {
+            let (_, at) = expect(source, at, Kind::Coro)?;
+            Ok((VariableType::Coroutine, at))
+        }
+        _ => {
+            let (_, at) = expect(source, at, Kind::Res)?;
+            let (handler, at) = name_at(source, at)?;
+            Ok((VariableType::Resumption(handler), at))
+        }
+    }
+}
 
 // A parameter, which is a number where no type stands behind it.
 #[tactic(auto, unfolding(s_grammar::specs::Reads::parameter, s_grammar::specs::Reads::led))]
@@ -20,9 +40,7 @@ fn parameter_at(source: &Source, at: usize) -> Result<(Parameter, usize), Stop>
         return Ok((Parameter { name, ty }, at));
     }
     let (_, at) = expect(source, at, Kind::Colon)?;
-    let (_, at) = expect(source, at, Kind::Res)?;
-    let (handler, at) = name_at(source, at)?;
-    let ty = VariableType::Resumption(handler);
+    let (ty, at) = type_at(source, at)?;
     Ok((Parameter { name, ty }, at))
 }
 

@@ -4,12 +4,13 @@ ghost use Rattle.s_syntax.specs.BlockTree.{Fail};
 ghost use Rattle.s_syntax.specs.BlockOf.{statement_of};
 ghost use Rattle.s_syntax.specs.declared.token.Kind.TheVariants as kind;
 ghost use Rattle.s_grammar.specs.Kinds.{kind_of};
-ghost use Rattle.s_grammar.specs.Reading.{image};
-ghost use Rattle.s_grammar.specs.Reads.{expr, block, statement_by, ended, led, key, name, assigned, evaluated};
+ghost use Rattle.s_grammar.specs.Parts.{spawn_of};
+ghost use Rattle.s_grammar.specs.Reading.{image, in_turn};
+ghost use Rattle.s_grammar.specs.Reads.{expr, parenthesized_expr, block, statement_by, ended, led, key, name, assigned, evaluated};
 ghost use Rattle.s_expr.specs.Places.{ReadsAt, ReadsAs};
 ghost use Rattle.s_parse.specs.Items.{statement, statements, named_value, branches, or_done};
 
-use s_expr::{Source, Stop, expect, expr_at, is_kind, kind_at, name_at};
+use s_expr::{Source, Stop, expect, expr_at, is_kind, kind_at, name_at, parenthesized_at};
 use s_syntax::{Block, Expr, Kind, Name, Statement, Use};
 use std::alloc::Global;
 
@@ -46,7 +47,7 @@ fn named_value_at(source: &Source, at: usize, nest: usize) -> Result<((Name, Exp
 #[tactic(auto, unfolding(s_grammar::specs::Reads::statement_by, s_grammar::specs::Reads::led))]
 fn let_at(source: &Source, at: usize, nest: usize) -> Result<(Statement, usize), Stop>
     requires within { at ≤ length source.now.tokens.now }
-    ensures reads { ReadsAs statement_of (statement_by source.now.bytes.now (expr source.now.bytes.now nest) (block source.now.bytes.now nest) kind.Let) source.now.tokens.now at result }
+    ensures reads { ReadsAs statement_of (statement_by source.now.bytes.now (expr source.now.bytes.now nest) (parenthesized_expr source.now.bytes.now nest) (block source.now.bytes.now nest) kind.Let) source.now.tokens.now at result }
 {
     let (_, at) = expect(source, at, Kind::Let)?;
     let ((name, value), at) = named_value_at(source, at, nest)?;
@@ -80,7 +81,7 @@ fn evaluate_at(source: &Source, at: usize, nest: usize) -> Result<(Statement, us
 #[tactic(auto, unfolding(s_grammar::specs::Reads::statement_by, s_grammar::specs::Reads::led))]
 fn print_at(source: &Source, at: usize, nest: usize) -> Result<(Statement, usize), Stop>
     requires within { at ≤ length source.now.tokens.now }
-    ensures reads { ReadsAs statement_of (statement_by source.now.bytes.now (expr source.now.bytes.now nest) (block source.now.bytes.now nest) kind.Print) source.now.tokens.now at result }
+    ensures reads { ReadsAs statement_of (statement_by source.now.bytes.now (expr source.now.bytes.now nest) (parenthesized_expr source.now.bytes.now nest) (block source.now.bytes.now nest) kind.Print) source.now.tokens.now at result }
 {
     let (_, at) = expect(source, at, Kind::Print)?;
     let (value, at) = ended_at(source, at, nest, Kind::Semicolon)?;
@@ -92,7 +93,7 @@ fn print_at(source: &Source, at: usize, nest: usize) -> Result<(Statement, usize
 #[tactic(auto, unfolding(s_grammar::specs::Reads::statement_by, s_grammar::specs::Reads::led))]
 fn return_at(source: &Source, at: usize, nest: usize) -> Result<(Statement, usize), Stop>
     requires within { at ≤ length source.now.tokens.now }
-    ensures reads { ReadsAs statement_of (statement_by source.now.bytes.now (expr source.now.bytes.now nest) (block source.now.bytes.now nest) kind.Return) source.now.tokens.now at result }
+    ensures reads { ReadsAs statement_of (statement_by source.now.bytes.now (expr source.now.bytes.now nest) (parenthesized_expr source.now.bytes.now nest) (block source.now.bytes.now nest) kind.Return) source.now.tokens.now at result }
 {
     let (_, at) = expect(source, at, Kind::Return)?;
     let (value, at) = ended_at(source, at, nest, Kind::Semicolon)?;
@@ -100,9 +101,9 @@ fn return_at(source: &Source, at: usize, nest: usize) -> Result<(Statement, usiz
     Ok((Statement::Evaluate { what, value }, at))
 }
 
-// The name of what is stored.
+// A name behind `=`, and a semicolon: that of what is stored, or of the function of a coroutine.
 #[tactic(auto, unfolding(s_grammar::specs::Reads::led, s_grammar::specs::Reads::ended))]
-fn stored_at(source: &Source, at: usize) -> Result<(Name, usize), Stop>
+fn assigned_name_at(source: &Source, at: usize) -> Result<(Name, usize), Stop>
     requires within { at ≤ length source.now.tokens.now }
     ensures reads { ReadsAt (led kind.Assign (ended (name source.now.bytes.now) kind.Semicolon)) source.now.tokens.now at result }
 {
@@ -116,13 +117,13 @@ fn stored_at(source: &Source, at: usize) -> Result<(Name, usize), Stop>
 #[tactic(auto, unfolding(s_grammar::specs::Reads::statement_by, s_grammar::specs::Reads::led))]
 fn store_at(source: &Source, at: usize, nest: usize) -> Result<(Statement, usize), Stop>
     requires within { at ≤ length source.now.tokens.now }
-    ensures reads { ReadsAs statement_of (statement_by source.now.bytes.now (expr source.now.bytes.now nest) (block source.now.bytes.now nest) kind.Store) source.now.tokens.now at result }
+    ensures reads { ReadsAs statement_of (statement_by source.now.bytes.now (expr source.now.bytes.now nest) (parenthesized_expr source.now.bytes.now nest) (block source.now.bytes.now nest) kind.Store) source.now.tokens.now at result }
 {
     let (_, at) = expect(source, at, Kind::Store)?;
     let (slots, at) = name_at(source, at)?;
     let (_, at) = expect(source, at, Kind::OpenBracket)?;
     let (value, at) = ended_at(source, at, nest, Kind::CloseBracket)?;
-    match stored_at(source, at) {
+    match assigned_name_at(source, at) {
         Ok((name, at)) => {
             let what = Use::Store { slots, name };
             Ok((Statement::Evaluate { what, value }, at))
@@ -154,7 +155,7 @@ fn taken_at(source: &Source, at: usize, nest: usize) -> Result<(Expr, usize), St
 #[tactic(auto, unfolding(s_grammar::specs::Reads::statement_by, s_grammar::specs::Reads::led))]
 fn take_at(source: &Source, at: usize, nest: usize) -> Result<(Statement, usize), Stop>
     requires within { at ≤ length source.now.tokens.now }
-    ensures reads { ReadsAs statement_of (statement_by source.now.bytes.now (expr source.now.bytes.now nest) (block source.now.bytes.now nest) kind.Take) source.now.tokens.now at result }
+    ensures reads { ReadsAs statement_of (statement_by source.now.bytes.now (expr source.now.bytes.now nest) (parenthesized_expr source.now.bytes.now nest) (block source.now.bytes.now nest) kind.Take) source.now.tokens.now at result }
 {
     let (_, at) = expect(source, at, Kind::Take)?;
     let (name, at) = name_at(source, at)?;
@@ -163,6 +164,55 @@ fn take_at(source: &Source, at: usize, nest: usize) -> Result<(Statement, usize)
     let (_, at) = expect(source, at, Kind::OpenBracket)?;
     let (value, at) = taken_at(source, at, nest)?;
     let what = Use::Take { name, slots };
+    Ok((Statement::Evaluate { what, value }, at))
+}
+
+// A coroutine that is made.
+#[tactic(auto, unfolding(s_grammar::specs::Reads::led))]
+fn spawn_at(source: &Source, at: usize) -> Result<(Statement, usize), Stop>
+    requires within { at ≤ length source.now.tokens.now }
+    ensures reads { ReadsAs statement_of (image spawn_of (led kind.Spawn (in_turn (name source.now.bytes.now) (led kind.Assign (ended (name source.now.bytes.now) kind.Semicolon))))) source.now.tokens.now at result }
+{
+    let (_, at) = expect(source, at, Kind::Spawn)?;
+    let (name, at) = name_at(source, at)?;
+    let (function, at) = assigned_name_at(source, at)?;
+    Ok((Statement::Spawn { name, function }, at))
+}
+
+// The number that a switch hands on.
+#[tactic(auto, unfolding(s_grammar::specs::Reads::ended))]
+fn handed_at(source: &Source, at: usize, nest: usize) -> Result<(Expr, usize), Stop>
+    requires within { at ≤ length source.now.tokens.now }
+    ensures reads { ReadsAt (ended (parenthesized_expr source.now.bytes.now nest) kind.Semicolon) source.now.tokens.now at result }
+{
+    let (value, at) = parenthesized_at(source, at, nest)?;
+    match expect(source, at, Kind::Semicolon) {
+        Ok((_, at)) => Ok((value, at)),
+        Err(stop) => {
+            drop(value);
+            Err(stop)
+        }
+    }
+}
+
+// A coroutine that is switched to.
+#[tactic(auto, unfolding(s_grammar::specs::Reads::statement_by, s_grammar::specs::Reads::led))]
+fn switch_at(source: &Source, at: usize, nest: usize) -> Result<(Statement, usize), Stop>
+    requires within { at ≤ length source.now.tokens.now }
+    ensures reads { ReadsAs statement_of (statement_by source.now.bytes.now (expr source.now.bytes.now nest) (parenthesized_expr source.now.bytes.now nest) (block source.now.bytes.now nest) kind.Switch) source.now.tokens.now at result }
+{
+    let (_, at) = expect(source, at, Kind::Switch)?;
+    let (number, at) = name_at(source, at)?;
+    let (_, at) = expect(source, at, Kind::Comma)?;
+    let (coroutine, at) = name_at(source, at)?;
+    let (_, at) = expect(source, at, Kind::Assign)?;
+    let (target, at) = name_at(source, at)?;
+    let (value, at) = handed_at(source, at, nest)?;
+    let what = Use::Switch {
+        number,
+        coroutine,
+        target,
+    };
     Ok((Statement::Evaluate { what, value }, at))
 }
 
@@ -212,7 +262,7 @@ fn or_empty(alloc: Global, block: Option<Block>) -> Block
 #[tactic(auto, unfolding(s_grammar::specs::Reads::statement_by, s_grammar::specs::Reads::led), using(crate::proofs::Blocks::if_seen))]
 fn if_at(source: &Source, at: usize, nest: usize) -> Result<(Statement, usize), Stop>
     requires within { at ≤ length source.now.tokens.now }
-    ensures reads { ReadsAs statement_of (statement_by source.now.bytes.now (expr source.now.bytes.now nest) (block source.now.bytes.now nest) kind.If) source.now.tokens.now at result }
+    ensures reads { ReadsAs statement_of (statement_by source.now.bytes.now (expr source.now.bytes.now nest) (parenthesized_expr source.now.bytes.now nest) (block source.now.bytes.now nest) kind.If) source.now.tokens.now at result }
 {
     let (_, at) = expect(source, at, Kind::If)?;
     let (condition, at) = expr_at(source, at, nest)?;
@@ -238,7 +288,7 @@ fn if_at(source: &Source, at: usize, nest: usize) -> Result<(Statement, usize), 
 #[tactic(auto, unfolding(s_grammar::specs::Reads::statement_by, s_grammar::specs::Reads::led))]
 fn while_at(source: &Source, at: usize, nest: usize) -> Result<(Statement, usize), Stop>
     requires within { at ≤ length source.now.tokens.now }
-    ensures reads { ReadsAs statement_of (statement_by source.now.bytes.now (expr source.now.bytes.now nest) (block source.now.bytes.now nest) kind.While) source.now.tokens.now at result }
+    ensures reads { ReadsAs statement_of (statement_by source.now.bytes.now (expr source.now.bytes.now nest) (parenthesized_expr source.now.bytes.now nest) (block source.now.bytes.now nest) kind.While) source.now.tokens.now at result }
 {
     let (_, at) = expect(source, at, Kind::While)?;
     let (condition, at) = expr_at(source, at, nest)?;
@@ -256,7 +306,7 @@ fn while_at(source: &Source, at: usize, nest: usize) -> Result<(Statement, usize
 fn named_at(source: &Source, at: usize, nest: usize) -> Result<(Statement, usize), Stop>
     requires within { at < length source.now.tokens.now }
     requires named { kind_of (drop at source.now.tokens.now) ≡ kind.Name }
-    ensures reads { ReadsAs statement_of (statement_by source.now.bytes.now (expr source.now.bytes.now nest) (block source.now.bytes.now nest) kind.Name) source.now.tokens.now at result }
+    ensures reads { ReadsAs statement_of (statement_by source.now.bytes.now (expr source.now.bytes.now nest) (parenthesized_expr source.now.bytes.now nest) (block source.now.bytes.now nest) kind.Name) source.now.tokens.now at result }
 {
     if is_kind(Kind::Assign, kind_at(source, at + 1)) {
         return assign_at(source, at, nest);
@@ -283,6 +333,8 @@ fn statement_at(source: &Source, at: usize, nest: usize) -> Result<(Statement, u
         Kind::Fail => fail_at(source, at),
         Kind::Store => store_at(source, at, nest),
         Kind::Take => take_at(source, at, nest),
+        Kind::Spawn => spawn_at(source, at),
+        Kind::Switch => switch_at(source, at, nest),
         Kind::Name => named_at(source, at, nest),
         _ => evaluate_at(source, at, nest),
     }

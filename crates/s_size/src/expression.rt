@@ -33,16 +33,17 @@ fn after_node(budget: u32, node: &Node) -> Option<u32>
 {
     match node {
         Node::Literal(_) | Node::Read(_) => after(budget, 1),
-        Node::Unary(_, operand) => after_expr(after(budget, 1)?, operand),
-        Node::Run(first, rest) => {
-            let left = after_operands(budget, rest.as_slice())?;
-            after_expr(left, first)
-        }
+        Node::Unary(_, operand)
+        | Node::Group {
+            function: _,
+            argument: operand,
+        } => after_expr(after(budget, 1)?, operand),
+        Node::Run(first, rest) => after_expr(after_operands(budget, rest.as_slice())?, first),
         Node::Call {
             function: _,
             arguments,
-        } => after_exprs(after(budget, 1)?, arguments.as_slice()),
-        Node::Do {
+        }
+        | Node::Do {
             effect: _,
             arguments,
         } => after_exprs(after(budget, 1)?, arguments.as_slice()),

@@ -1,11 +1,25 @@
 //! What is left of a budget after statements.
 ghost use Rattle.std.specs.Prelude.{◌≡◌};
 ghost use Rattle.s_syntax.specs.BlockOf.{statement_of};
-ghost use Rattle.s_check.specs.Size.{statement_size, block_size};
+ghost use Rattle.s_check.specs.Size.{use_size, statement_size, block_size};
 ghost use Rattle.s_size.specs.Left.{left_after};
 
 use crate::expression::{after, after_expr};
-use s_syntax::{Block, Statement};
+use s_syntax::{Block, Statement, Use};
+
+// What is left of a budget after what a use counts beyond its statement.
+fn after_use(budget: u32, what: &Use) -> Option<u32>
+    ensures value { result ≡ left_after (use_size what.now) budget }
+{
+    match what {
+        Use::Switch {
+            number: _,
+            coroutine: _,
+            target: _,
+        } => after(budget, 1),
+        _ => Some(budget),
+    }
+}
 
 // What is left of it after a statement.
 #[cycle(statements)]
@@ -14,7 +28,7 @@ fn after_statement(budget: u32, statement: &Statement) -> Option<u32>
 {
     let left = after(budget, 1)?;
     match statement {
-        Statement::Evaluate { what: _, value } => after_expr(left, value),
+        Statement::Evaluate { what, value } => after_expr(after_use(left, what)?, value),
         Statement::If {
             condition,
             then_block,
@@ -25,6 +39,10 @@ fn after_statement(budget: u32, statement: &Statement) -> Option<u32>
         }
         Statement::While { condition, body } => after_block(after_expr(left, condition)?, body),
         Statement::Fail => Some(left),
+        Statement::Spawn {
+            name: _,
+            function: _,
+        } => after(left, 1),
     }
 }
 

@@ -13,6 +13,7 @@ statement_falls (statement.Evaluate u e) = omega arith
 statement_falls (statement.If c a b) = omega arith
 statement_falls (statement.While c b) = omega arith
 statement_falls statement.Fail = omega arith
+statement_falls (statement.Spawn t f) = omega arith
 
 pub block_falls : (ss : List Statement) → max (most deep-Statement ss) 0 ≤ depth (block_of ss)
 block_falls [] = omega arith

@@ -1,5 +1,6 @@
 -- Blocks as trees. An `if` without `else` has no statements there.
 use Rattle.std.specs.Prelude.{ℕ, ◌+◌, max}
+use Rattle.s_syntax.specs.declared.name.Name.{Name}
 use Rattle.s_syntax.specs.declared.statement.Use.{Use}
 use Rattle.s_syntax.specs.ExprTree.{ExprTree}
 
@@ -11,6 +12,8 @@ mutual
     If : (c : ExprTree) → (a b : BlockTree) → StatementTree
     While : (c : ExprTree) → (b : BlockTree) → StatementTree
     Fail : StatementTree
+    -- spawn t = f
+    Spawn : (t : Name) → (f : Name) → StatementTree
 
   pub data BlockTree : Type 0 where
     Done : BlockTree
@@ -24,6 +27,7 @@ abbrev mutual
   depth_within (If c a b) = max (depth a + 1) (depth b + 1)
   depth_within (While c b) = depth b + 1
   depth_within Fail = 0
+  depth_within (Spawn t f) = 0
 
   pub depth : BlockTree → ℕ
   depth Done = 0

@@ -12,7 +12,7 @@ use Rattle.s_syntax.specs.declared.operators.BinaryOperator.TheVariants as binar
 use Rattle.s_syntax.specs.contracts.number.Number as written
 use Rattle.s_syntax.specs.contracts.operators.UnaryOperator as unary_operator
 use Rattle.s_syntax.specs.contracts.operators.BinaryOperator as binary_operator
-use Rattle.s_syntax.specs.ExprTree.{ExprTree, Exprs, Operands, Literal, Read, Unary, Run, Call, Do, Handle, Resume, NoExprs, MoreExprs, NoOperands, MoreOperands}
+use Rattle.s_syntax.specs.ExprTree.{ExprTree, Exprs, Operands, Literal, Read, Unary, Run, Call, Do, Handle, Resume, Group, NoExprs, MoreExprs, NoOperands, MoreOperands}
 
 -- ## Parts
 
@@ -30,6 +30,7 @@ pub data Tag : Type 0 where
   more_exprs_tag : Tag
   no_operands_tag : Tag
   more_operands_tag : Tag
+  group_tag : Tag
 
 abbrev pub number : Tag → ℕ
 number literal_tag = 0
@@ -44,6 +45,7 @@ number no_exprs_tag = 8
 number more_exprs_tag = 9
 number no_operands_tag = 10
 number more_operands_tag = 11
+number group_tag = 12
 
 abbrev pub tag : ℕ → Tag
 tag zero = literal_tag
@@ -57,7 +59,8 @@ tag (suc (suc (suc (suc (suc (suc (suc zero))))))) = resume_tag
 tag (suc (suc (suc (suc (suc (suc (suc (suc zero)))))))) = no_exprs_tag
 tag (suc (suc (suc (suc (suc (suc (suc (suc (suc zero))))))))) = more_exprs_tag
 tag (suc (suc (suc (suc (suc (suc (suc (suc (suc (suc zero)))))))))) = no_operands_tag
-tag (suc (suc (suc (suc (suc (suc (suc (suc (suc (suc (suc n))))))))))) = more_operands_tag
+tag (suc (suc (suc (suc (suc (suc (suc (suc (suc (suc (suc zero))))))))))) = more_operands_tag
+tag (suc (suc (suc (suc (suc (suc (suc (suc (suc (suc (suc (suc n)))))))))))) = group_tag
 
 pub tag-number : (t : Tag) → tag (number t) ≡ t
 tag-number literal_tag = refl
@@ -72,6 +75,7 @@ tag-number no_exprs_tag = refl
 tag-number more_exprs_tag = refl
 tag-number no_operands_tag = refl
 tag-number more_operands_tag = refl
+tag-number group_tag = refl
 
 abbrev pub tag_code : Coded Tag
 tag_code = code_by ℕ coded_ℕ number tag tag-number
@@ -119,6 +123,7 @@ abbrev mutual
   laid (Do op es) = (do_tag, named op []) ∷ laid_exprs es
   laid (Handle f es h ps) = (handle_tag, named f h) ∷ (laid_exprs es ++ laid_exprs ps)
   laid (Resume k e ps) = (resume_tag, named k []) ∷ (laid e ++ laid_exprs ps)
+  laid (Group f e) = (group_tag, named f []) ∷ laid e
 
   pub laid_exprs : Exprs → List Cell
   laid_exprs NoExprs = (no_exprs_tag, nothing) ∷ []
@@ -167,6 +172,7 @@ put_as no_exprs_tag n x y o p s = exprs_part NoExprs ∷ s
 put_as more_exprs_tag n x y o p s = with_expr (λ e. with_exprs (λ es s. exprs_part (MoreExprs e es) ∷ s)) s
 put_as no_operands_tag n x y o p s = operands_part NoOperands ∷ s
 put_as more_operands_tag n x y o p s = with_expr (λ e. with_operands (λ ps s. operands_part (MoreOperands p e ps) ∷ s)) s
+put_as group_tag n x y o p s = with_expr (λ e s. expr_part (Group x e) ∷ s) s
 
 abbrev pub put : Tag → Says → List Part → List Part
 put t c s = put_as t c.0 c.1.0.0 c.1.0.1 c.1.1.0 c.1.1.1 s
@@ -199,6 +205,7 @@ mutual
   expr_begun (Do op es) c = ap (put do_tag (named op [])) (exprs_begun es c)
   expr_begun (Handle f es h ps) c = ap (put handle_tag (named f h)) (two (laid_exprs es) (laid_exprs ps) c (exprs_part es) (exprs_part ps) (exprs_begun es (laid_exprs ps ++ c)) (exprs_begun ps c))
   expr_begun (Resume k e ps) c = ap (put resume_tag (named k [])) (two (laid e) (laid_exprs ps) c (expr_part e) (exprs_part ps) (expr_begun e (laid_exprs ps ++ c)) (exprs_begun ps c))
+  expr_begun (Group f e) c = ap (put group_tag (named f [])) (expr_begun e c)
 
   exprs_begun : (es : Exprs) (c : List Cell) → begun (laid_exprs es ++ c) ≡ exprs_part es ∷ begun c
   exprs_begun NoExprs c = refl

@@ -28,3 +28,4 @@ node_falls (node.Call f es) = omega (arith, exprs_fall es.items)
 node_falls (node.Do op es) = omega (arith, exprs_fall es.items)
 node_falls (node.Handle f es h ps) = omega (arith, exprs_fall es.items, exprs_fall ps.items)
 node_falls (node.Resume k e ps) = omega (arith, exprs_fall ps.items)
+node_falls (node.Group f e) = omega arith

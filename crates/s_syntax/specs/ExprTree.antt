@@ -20,6 +20,8 @@ mutual
     Handle : (f : Name) → (es : Exprs) → (h : Name) → (ps : Exprs) → ExprTree
     -- resume k(e) with (ps)
     Resume : (k : Name) → (e : ExprTree) → (ps : Exprs) → ExprTree
+    -- group f(e)
+    Group : (f : Name) → (e : ExprTree) → ExprTree
 
   pub data Exprs : Type 0 where
     NoExprs : Exprs
@@ -50,6 +52,7 @@ abbrev mutual
   height (Do op es) = height_exprs es
   height (Handle f es h ps) = max (height_exprs es) (height_exprs ps)
   height (Resume k e ps) = max (height e + 1) (height_exprs ps)
+  height (Group f e) = height e + 1
 
   pub height_exprs : Exprs → ℕ
   height_exprs NoExprs = 0

@@ -48,6 +48,11 @@ pub enum Node {
         argument: Box<Expr>,
         parameters: Vec<Expr>,
     },
+    /// `group function(argument)`.
+    Group {
+        function: Name,
+        argument: Box<Expr>,
+    },
 }
 
 impl Model for Expr {

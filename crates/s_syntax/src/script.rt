@@ -12,6 +12,8 @@ pub enum VariableType {
     Int,
     /// `res handler`: a resumption of the handler of this name.
     Resumption(Name),
+    /// `coro`: a coroutine.
+    Coroutine,
 }
 
 /// A parameter of a function or of a handler, with its type.

@@ -25,9 +25,21 @@ pub enum Use {
     /// `value;`, which is dropped.
     Drop,
     /// `store slots[value] = name;`.
-    Store { slots: Name, name: Name },
+    Store {
+        slots: Name,
+        name: Name,
+    },
     /// `take name = slots[value];`.
-    Take { name: Name, slots: Name },
+    Take {
+        name: Name,
+        slots: Name,
+    },
+    /// `switch number, coroutine = target(value);`.
+    Switch {
+        number: Name,
+        coroutine: Name,
+        target: Name,
+    },
 }
 
 /// A statement.
@@ -52,6 +64,11 @@ pub enum Statement {
     },
     /// `fail;`.
     Fail,
+    /// `spawn name = function;`.
+    Spawn {
+        name: Name,
+        function: Name,
+    },
 }
 
 impl Model for Block {

@@ -45,6 +45,14 @@ pub enum Kind {
     Store,
     /// `take`.
     Take,
+    /// `spawn`.
+    Spawn,
+    /// `switch`.
+    Switch,
+    /// `group`.
+    Group,
+    /// `coro`.
+    Coro,
     /// `==`.
     Equal,
     /// `!=`.

@@ -28,11 +28,11 @@ pub parts : (xs ys : List Rule) → xs ++ ys ≡ [] → (xs ≡ []) × (ys ≡ [
 parts [] ys e = (refl, e)
 parts (x ∷ xs) ys e = absurd (cc)
 
-when_not : (b : Bool) (r : Rule) → when b r ≡ [] → b ≡ false
+pub when_not : (b : Bool) (r : Rule) → when b r ≡ [] → b ≡ false
 when_not true r e = absurd (cc)
 when_not false r e = refl
 
-not_false : (b : Bool) → not b ≡ false → b ≡ true
+pub not_false : (b : Bool) → not b ≡ false → b ≡ true
 not_false true e = refl
 not_false false e = absurd (cc)
 

@@ -42,7 +42,7 @@ different_more ts (u ∷ us) d = different_more (with_type ts u) us (different_o
 
 -- the first types are different
 first_different : AreDifferent first_types
-first_different = (λ h. absurd (omega (arith, h)), (λ h. absurd (omega (arith, h)), (λ h. absurd (omega (arith, h)), (λ h. absurd (omega (arith, h)), (λ h. absurd (omega (arith, h)), tt)))))
+first_different = (λ h. absurd (omega (arith, h)), (λ h. absurd (omega (arith, h)), (λ h. absurd (omega (arith, h)), (λ h. absurd (omega (arith, h)), (λ h. absurd (omega (arith, h)), (λ h. absurd (omega (arith, h)), (λ h. absurd (omega (arith, h)), tt)))))))
 
 -- and so is the table
 pub table_different : (ds : List Declaration) → AreDifferent (type_table ds)

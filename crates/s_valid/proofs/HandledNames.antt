@@ -1,4 +1,5 @@
--- A function that some handle names is among those that are handled; so its continuations have a type, and it is declared. No other function's have one.
+-- A function that some handle, group or spawn names is among those that are handled; so its continuations have a type, and it is declared.
+-- No other function's have one.
 use Rattle.std.proofs.Common.{◌≡◌, inl, inr, ℕ, zero, suc, ◌<◌, Bool, true, false, cond, List, [], ◌∷◌, ◌++◌, map, filter, length, Option, Some, if◌then◌else◌, refl, sym, ap, ◌∙◌, subst, arith}
 use Rattle.std.specs.List.{flat_map}
 use Rattle.std.specs.Prelude.{Contains, slice_get, slice_index_or, option_map}
@@ -74,7 +75,7 @@ continuation_there ds es f s =
     subst (λ (x : Name). IsThere (continuation_of ds (parameters_of ds x)) (continuations ds es)) (sym s.named)
     (there_at (continuation_of ds (parameters_of ds s.declaration.name)) (continuations ds es) s.place (continuation_at ds es s.place s.declaration s.is))
 
--- what a type of continuations is of: a function that some handle names
+-- what a type of continuations is of: a function that some handle, group or spawn names
 pub record OfHandled (ds : List Declaration) (t : CompType) : Type 0 where
   pub name : Name
   pub is_handled : is_among (handled_names ds) name ≡ true

@@ -15,10 +15,11 @@ use Rattle.s_syntax.specs.declared.script.Parameter.{Parameter}
 use Rattle.s_syntax.specs.declared.script.Handler.{Handler}
 use Rattle.s_syntax.specs.declared.script.Declaration.{Declaration}
 use Rattle.s_check.specs.Definitions.{handler_of}
+use Rattle.s_check.specs.Rules.{is_reference}
 use Rattle.s_check.specs.Scopes.{Bound, Scope, type_in, is_among}
 use Rattle.s_index.specs.Handled.{handled_names}
 use Rattle.s_index.specs.Types.{val_type, val_types, numbers, to_continuation, computation_type}
-use Rattle.s_code.specs.Layouts.{Local, Owner, Layout, local_of, local_number, number_in, handler_in, handler_in_type, handler_of_name}
+use Rattle.s_code.specs.Layouts.{Local, Owner, Layout, local_of, local_number, number_in, handler_in, handler_in_type, handler_of_name, refers_in, refers}
 use Rattle.s_meaning.specs.Typing.{kinds}
 use Rattle.s_meaning.specs.Typing as script
 use Rattle.s_meaning.proofs.BoundInTurn.{among_left, among_right}
@@ -60,6 +61,9 @@ offers_inside ds C ts o = record {
   resumed = o.resumed;
   computation = o.computation;
   computed = o.computed;
+  coroutine = o.coroutine;
+  switched = o.switched;
+  group = o.group;
   printer = o.printer;
   function = o.function;
   handler = o.handler;
@@ -67,6 +71,8 @@ offers_inside ds C ts o = record {
   slots = o.slots;
   handled = λ f g is among. let q = o.handled f g is among in
       record { index = q.index; continuation = q.continuation; type = q.type; function = q.function; declared = q.declared };
+  grouped = o.grouped;
+  spawned = o.spawned;
   clause = o.clause;
 }
 
@@ -78,6 +84,9 @@ offers_in_body ds C ls us o = record {
   resumed = o.resumed;
   computation = o.computation;
   computed = o.computed;
+  coroutine = o.coroutine;
+  switched = o.switched;
+  group = o.group;
   printer = o.printer;
   function = o.function;
   handler = o.handler;
@@ -85,6 +94,8 @@ offers_in_body ds C ls us o = record {
   slots = o.slots;
   handled = λ f g is among. let q = o.handled f g is among in
       record { index = q.index; continuation = q.continuation; type = q.type; function = q.function; declared = q.declared };
+  grouped = o.grouped;
+  spawned = o.spawned;
   clause = o.clause;
 }
 
@@ -125,6 +136,10 @@ module _ {ds : List Declaration} {L : Layout} {Γ : Scope} {n D : ℕ} {C : Cont
   pub handler_at : (x : Name) (t : VariableType) → type_in Γ x ≡ Some t → handler_of_name L x ≡ handler_in_type t
   handler_at x t e = let q = s.names x t e in ap handler_in q.is ∙ ap handler_in_type q.ty
 
+  -- and whether it stays where it is
+  pub refers_at : (x : Name) (t : VariableType) → type_in Γ x ≡ Some t → refers L x ≡ is_reference (Some t)
+  refers_at x t e = let q = s.names x t e in ap refers_in q.is ∙ ap (λ (k : VariableType). is_reference (Some k)) q.ty
+
   -- a name more, which has a local of its type
   pub bound : (b : Bound) → Placed L b.name b.ty → Scoped ds L (b ∷ Γ) n D C
   bound b there = record {
@@ -163,7 +178,7 @@ pushed_onto vs ws (t ∷ ts) = pushed_onto vs (ws ▹ t) ts
 pub pushed_row : (vs : Row Operand) (ts : List ValType) → pushed vs ts ≡ vs ⧺ known (row_of ts)
 pushed_row vs ts = pushed_onto vs ε ts
 
--- ## Functions that a handle names
+-- ## Functions that a handle, a group or a spawn names
 
 -- each of these is one that the script handles
 pub record AllHandled (ds : List Declaration) (fs : List Name) : Type 0 where

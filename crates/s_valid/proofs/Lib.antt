@@ -1,4 +1,5 @@
 pub mod MadeOnce
+pub mod TypeGroups
 pub mod TypeTable
 pub mod NumbersInModules
 pub mod HandledNames

@@ -14,7 +14,7 @@ use Rattle.w_rules.specs.Typing.{Derives}
 use Rattle.w_rules.proofs.JoinedTypes.{types_of-joined}
 use Rattle.s_syntax.specs.declared.name.Name.{Name}
 use Rattle.s_syntax.specs.declared.script.VariableType.{VariableType}
-use Rattle.s_syntax.specs.declared.script.VariableType.TheVariants.{Int, Resumption}
+use Rattle.s_syntax.specs.declared.script.VariableType.TheVariants.{Int, Resumption, Coroutine}
 use Rattle.s_syntax.specs.declared.script.Parameter.{Parameter}
 use Rattle.s_check.specs.Scopes.{Bound, Scope, type_in, parameter}
 use Rattle.s_index.specs.Types.{val_type, val_types}
@@ -60,6 +60,7 @@ as_many_types (b ∷ bs) = ap suc (as_many_types bs)
 a_default : (t : VariableType) → has_default (val_type t) ≡ true
 a_default Int = refl
 a_default (Resumption h) = refl
+a_default Coroutine = refl
 
 all_numbers : (n : ℕ) → map has_default (replicate n I64) ≡ map (λ (t : ValType). true) (replicate n I64)
 all_numbers zero = refl

@@ -1,5 +1,6 @@
 -- Types of more than five parameters. Each costs a script six at least: that of a function or a handler the parameters of its declaration, that of
--- a function's continuations the arguments of a handle that names it. So they are few, whether different or not.
+-- a function's continuations the arguments of a handle that names it. So they are few, whether different or not. The functions that groups and
+-- spawns name have two parameters at most.
 use Rattle.std.proofs.Common.{◌≡◌, inl, inr, ℕ, zero, suc, ◌+◌, ◌*◌, ◌<◌, ◌≤◌, Bool, true, false, not, ◌||◌, List, [], ◌∷◌, ◌++◌, map, length, Option, Some, None, if◌then◌else◌, refl, sym, ap, ◌∙◌, subst, arith, length-append}
 use Rattle.std.specs.Prelude.{nat_lt, nat_eq, sum_by}
 use Rattle.std.specs.Str.{bytes_eq}
@@ -15,19 +16,19 @@ use Rattle.s_syntax.specs.declared.script.Definition.{Definition}
 use Rattle.s_syntax.specs.declared.script.Definition.TheVariants as definition
 use Rattle.s_syntax.specs.declared.script.Declaration.{Declaration}
 use Rattle.s_syntax.specs.declared.script.Script.{Script}
-use Rattle.s_syntax.specs.ExprTree.{ExprTree, Literal, Read, Unary, Run, Call, Do, Handle, Resume, Exprs, NoExprs, MoreExprs, Operands, NoOperands, MoreOperands}
-use Rattle.s_syntax.specs.BlockTree.{StatementTree, BlockTree, Evaluate, If, While, Fail, Done, ◌⨟◌}
+use Rattle.s_syntax.specs.ExprTree.{ExprTree, Literal, Read, Unary, Run, Call, Do, Handle, Resume, Group, Exprs, NoExprs, MoreExprs, Operands, NoOperands, MoreOperands}
+use Rattle.s_syntax.specs.BlockTree.{StatementTree, BlockTree, Evaluate, If, While, Fail, Spawn, Done, ◌⨟◌}
 use Rattle.s_check.specs.declared.rule.Rule.TheVariants as rule
 use Rattle.s_check.specs.Definitions.{function_of, handler_of, effect_of}
 use Rattle.s_check.specs.Refusal.{Good}
-use Rattle.s_check.specs.Rules.{when, all_suit, count, against, for_function, for_effect, for_handler, for_resumed, in_expr, in_exprs, in_operands, in_use, bound_after, in_statement, in_block, in_body, in_parameters, in_head, in_clauses, in_header, in_bodies, in_definition, in_declaration, in_declarations}
+use Rattle.s_check.specs.Rules.{when, all_suit, count, against, for_function, for_effect, for_handler, for_resumed, takes_number, takes_both, for_grouped, for_spawned, in_expr, in_exprs, in_operands, in_use, bound_after, in_statement, in_block, in_body, in_parameters, in_head, in_clauses, in_header, in_bodies, in_definition, in_declaration, in_declarations}
 use Rattle.s_check.specs.Scopes.{Scope, Bound, type_in, bind_all, parameter, of_clause, of_return, lets_in, is_among, some_twice}
 use Rattle.s_check.specs.Size.{expr_size, exprs_size, operands_size, statement_size, block_size, clause_size, definition_size, Size}
 use Rattle.s_index.specs.Types.{function_type, handler_type}
 use Rattle.s_index.specs.Handled.{handled_in_expr, handled_in_exprs, handled_in_operands, handled_in_statement, handled_in_block, handled_in_clauses, handled_in_definition, handled_names}
 use Rattle.s_index.specs.Indices.{continuation_of, parameters_of}
 use Rattle.s_meaning.proofs.Scopes.{same_is}
-use Rattle.s_valid.proofs.Declarations.{AreEmpty, parts, good_empty}
+use Rattle.s_valid.proofs.Declarations.{AreEmpty, parts, when_not, not_false, good_empty}
 use Rattle.s_valid.proofs.ModuleOffers.{parameters_are}
 use Rattle.s_valid.proofs.MadeOnce.{IsThere, here, there_left, there_right}
 
@@ -44,6 +45,10 @@ long_cost n t = elim (cases_lt 5 n) [
   | inr le ↦ rw (le-ltb 5 n le) (omega arith)
 ]
 
+-- where there are no more there is none
+short_none : (n : ℕ) (t : CompType) → n ≤ 5 → length (where_long n t) ≡ 0
+short_none n t le = rw (le-ltb 5 n le) refl
+
 -- and where there are, it stands there
 pub long_there : (n : ℕ) (t : CompType) → 5 < n → IsThere t (where_long n t)
 long_there n t lt = subst (λ (b : Bool). IsThere t (if b then t ∷ [] else [])) (sym (lt-ltb 5 n lt)) (here t [])
@@ -59,6 +64,18 @@ long_type (definition.Slots s) = []
 abbrev pub long_types : List Declaration → List CompType
 long_types [] = []
 long_types (d ∷ ds) = long_type d.definition ++ long_types ds
+
+-- the functions of groups and coroutines have no more than five
+number_few : (ps : List Parameter) → takes_number ps ≡ true → length ps ≤ 5
+number_few [] e = absurd (cc)
+number_few (a ∷ []) e = omega arith
+number_few (a ∷ b ∷ ps) e = absurd (cc)
+
+both_few : (ps : List Parameter) → takes_both ps ≡ true → length ps ≤ 5
+both_few [] e = absurd (cc)
+both_few (a ∷ []) e = absurd (cc)
+both_few (a ∷ b ∷ []) e = omega arith
+both_few (a ∷ b ∷ c ∷ ps) e = absurd (cc)
 
 module _ (ds : List Declaration) where
   -- that of the continuations of a function
@@ -120,6 +137,28 @@ module _ (ds : List Declaration) where
           let c = long_cost (length (parameters_of ds f)) (continuation_of ds (parameters_of ds f)) in
           omega (arith, n, ps, c)
 
+  -- a function of five at most costs nothing
+  short_continuation : (f : Name) (g : Function) → function_of ds f ≡ Some g → length g.parameters ≤ 5 → length (long_continuation f) ≡ 0
+  short_continuation f g e few =
+      let ps = ap length (parameters_are ds f g e) in
+      short_none (length (parameters_of ds f)) (continuation_of ds (parameters_of ds f)) (omega (arith, ps, few))
+
+  -- as those of groups
+  group_cost : (f : Name) → for_grouped (function_of ds f) ≡ [] → length (long_continuation f) ≡ 0
+  group_cost f q = by (function_of ds f) refl q
+    where
+      by : (o : Option Function) → function_of ds f ≡ o → for_grouped o ≡ [] → length (long_continuation f) ≡ 0
+      by None e r = absurd (cc)
+      by (Some g) e r = short_continuation f g e (number_few g.parameters (not_false (takes_number g.parameters) (when_not (not (takes_number g.parameters)) rule.OtherParameters r)))
+
+  -- and those that are spawned
+  spawn_cost : (f : Name) → for_spawned (function_of ds f) ≡ [] → length (long_continuation f) ≡ 0
+  spawn_cost f q = by (function_of ds f) refl q
+    where
+      by : (o : Option Function) → function_of ds f ≡ o → for_spawned o ≡ [] → length (long_continuation f) ≡ 0
+      by None e r = absurd (cc)
+      by (Some g) e r = short_continuation f g e (both_few g.parameters (not_false (takes_both g.parameters) (when_not (not (takes_both g.parameters)) rule.OtherParameters r)))
+
   -- an expression costs six for each of those that it handles, and one for its root;
   -- of arguments that one is left for the handle around them
   mutual
@@ -157,6 +196,11 @@ module _ (ds : List Declaration) where
         let b = exprs_cost bs true ps u.1 in
         let l = longs_append (handled_in_expr e) (handled_in_exprs ps) in
         omega (arith, a, b, l)
+    expr_cost bs whole (Group f e) q =
+        let t = parts (for_grouped (function_of ds f)) (in_expr ds bs false e) q in
+        let a = expr_cost bs false e t.1 in
+        let c = group_cost f t.0 in
+        omega (arith, a, c)
 
     exprs_cost : (bs : Scope) (whole : Bool) (es : Exprs) → in_exprs ds bs whole es ≡ [] → count es + 6 * longs (handled_in_exprs es) ≤ exprs_size es
     exprs_cost bs whole NoExprs q = omega arith
@@ -196,6 +240,7 @@ module _ (ds : List Declaration) where
         let l = longs_append (handled_in_expr c) (handled_in_block b) in
         omega (arith, x, y, l)
     statement_cost bs Fail q = omega arith
+    statement_cost bs (Spawn t f) q = let c = spawn_cost f q in omega (arith, c)
 
     block_cost : (bs : Scope) (b : BlockTree) → in_block ds bs b ≡ [] → 6 * longs (handled_in_block b) ≤ block_size b
     block_cost bs Done q = omega arith

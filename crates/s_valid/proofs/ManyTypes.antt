@@ -9,7 +9,7 @@ use Rattle.w_types.specs.declared.types.CompType.{CompType}
 use Rattle.w_types.specs.declared.types.CompType.TheVariants.{Cont}
 use Rattle.s_syntax.specs.declared.name.Name.{Name}
 use Rattle.s_syntax.specs.declared.script.VariableType.{VariableType}
-use Rattle.s_syntax.specs.declared.script.VariableType.TheVariants.{Int, Resumption}
+use Rattle.s_syntax.specs.declared.script.VariableType.TheVariants.{Int, Resumption, Coroutine}
 use Rattle.s_syntax.specs.declared.script.Parameter.{Parameter}
 use Rattle.s_syntax.specs.declared.script.Definition.{Definition}
 use Rattle.s_syntax.specs.declared.script.Definition.TheVariants as definition
@@ -18,7 +18,7 @@ use Rattle.s_syntax.specs.declared.script.Script.{Script}
 use Rattle.s_check.specs.Refusal.{Good}
 use Rattle.s_check.specs.Scopes.{is_among}
 use Rattle.s_check.specs.Size.{Size, size_limit}
-use Rattle.s_index.specs.Types.{place, first_types, from_to, function_type, handler_type, effect_type, clause_type, clause_types, types_for, types_for_all, val_type, val_types, to_continuation, resumption_type, computation_type}
+use Rattle.s_index.specs.Types.{place, first_types, from_to, function_type, handler_type, effect_type, clause_type, clause_types, types_for, types_for_all, val_type, val_types, to_continuation, resumption_type, computation_type, coroutine_type}
 use Rattle.s_index.specs.Indices.{function_types, type_table, parameters_of, continuation_of, continuations}
 use Rattle.s_index.specs.Handled.{handled_names, handled}
 use Rattle.s_valid.proofs.Declarations.{IsSmall, small}
@@ -152,7 +152,7 @@ module _ (kinds : List ValType) (kind_at : (t : VariableType) → (i : ℕ) × (
   listed = first_types ++ (declared ++ (short continued ++ long))
 
   -- how many these are
-  listed_length : length listed ≡ 23 + 3 * how_many (length kinds) 5 + length (long_types ds) + length (long_continuations ds (handled_names ds))
+  listed_length : length listed ≡ 25 + 3 * how_many (length kinds) 5 + length (long_types ds) + length (long_continuations ds (handled_names ds))
   listed_length =
       let n = numbered_length in
       let f = short_length to_function in
@@ -196,29 +196,30 @@ module _ (kinds : List ValType) (kind_at : (t : VariableType) → (i : ℕ) × (
 
 -- ## How many
 
--- five first types, eighteen of effects and clauses, three for each list of at most five kinds, and one for each six of the script's size
+-- seven first types, eighteen of effects and clauses, three for each list of at most five kinds, and one for each six of the script's size
 pub few_by_kinds : (kinds : List ValType) → ((t : VariableType) → (i : ℕ) × (slice_get kinds i ≡ Some (val_type t))) → (p : Script) → Good p
-    → 6 * length (type_table p.declarations) ≤ 6 * (23 + 3 * how_many (length kinds) 5) + Size p
+    → 6 * length (type_table p.declarations) ≤ 6 * (25 + 3 * how_many (length kinds) 5) + Size p
 few_by_kinds kinds kind_at p good =
     let few = few_listed kinds kind_at p.declarations (small p good) in
     let all = listed_length kinds kind_at p.declarations in
     let cost = long_types_cost p good in
     omega (arith, few, all, cost)
 
--- the kinds of parameters that there are: a number and a resumption
+-- the kinds of parameters that there are: a number, a resumption and a coroutine
 abbrev kinds : List ValType
-kinds = I64 ∷ to_continuation true resumption_type ∷ []
+kinds = I64 ∷ to_continuation true resumption_type ∷ to_continuation true coroutine_type ∷ []
 
 -- each type of a parameter is one
 kind_at : (t : VariableType) → (i : ℕ) × (slice_get kinds i ≡ Some (val_type t))
 kind_at Int = (0, refl)
 kind_at (Resumption h) = (1, refl)
+kind_at Coroutine = (2, refl)
 
--- so a script within the size has at most 10,000 types, the limit of a module: by this count 8,545
+-- so a script within the size has at most 10,000 types, the limit of a module: by this count 9,450
 pub few_in_table : (p : Script) → Good p → Size p ≤ size_limit → length (type_table p.declarations) ≤ 10000
 few_in_table p good size =
     let q = few_by_kinds kinds kind_at p good in
-    let n : how_many (length kinds) 5 ≡ 63 = refl in
+    let n : how_many (length kinds) 5 ≡ 364 = refl in
     omega (arith, q, n, size)
 
 -- and the function types are some of them

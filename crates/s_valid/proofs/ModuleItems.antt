@@ -44,17 +44,18 @@ use Rattle.s_check.specs.Scopes.{Bound}
 use Rattle.s_index.specs.Handled.{is_function_among, handled_names, handled}
 use Rattle.s_index.specs.Indices.{type_table, function_type_index, effect_type_index}
 use Rattle.s_index.specs.Numbers.{function_index}
-use Rattle.s_index.specs.Types.{place, from_to, function_type, handler_type, effect_type, clause_types, types_for, types_for_all, val_type, val_types, numbers, to_continuation, resumption_type, computation_type}
-use Rattle.s_code.specs.Lowered.{slots_table, function_type_of, handler_type_of, table_of, tag_of, function_code_of, handler_code_of, function_code, handler_code, for_each, main_export, declared, lowered_all, lowered}
+use Rattle.s_index.specs.Types.{from_to, function_type, handler_type, effect_type, clause_types, types_for, types_for_all, val_type, val_types, numbers, to_continuation, resumption_type, computation_type}
+use Rattle.s_code.specs.Lowered.{slots_table, function_type_of, handler_type_of, table_of, tag_of, group_tag, function_code_of, handler_code_of, function_code, handler_code, for_each, main_export, declared, lowered_all, lowered}
 use Rattle.s_code.specs.Places.{run, name_runs, locals_for, binds_in, return_names, clauses_names}
 use Rattle.s_meaning.proofs.Good.{good_typed}
 use Rattle.s_valid.specs.Offers.{arrow}
 use Rattle.s_valid.proofs.Declarations.{good_empty, first_of_name, IsSmall, small}
 use Rattle.s_valid.proofs.HandledNames.{handled_declared}
 use Rattle.s_valid.proofs.MadeOnce.{IsThere, here, there_left, there_right}
-use Rattle.s_valid.proofs.ModuleOffers.{function_at, function_type_there}
+use Rattle.s_valid.proofs.ModuleOffers.{tags_for, function_at, function_type_there}
 use Rattle.s_valid.proofs.TypesValid.{type_valid, val_type_valid}
-use Rattle.s_valid.proofs.TypeTable.{types_of_groups, first_in_table, func_there, first_type}
+use Rattle.s_valid.proofs.TypeGroups.{types_of_groups}
+use Rattle.s_valid.proofs.TypeTable.{seven_types, func_there, first_type}
 
 -- ## Items that stand where their declarations do
 
@@ -126,16 +127,9 @@ types_in_all t (c ∷ ds) (suc k) d e h = there_right t (types_for c.definition)
 
 -- ## Imports, tables, memories and tags
 
--- there are five types or more
-pub five_types : (ds : List Declaration) → 5 ≤ length (type_table ds)
-five_types ds =
-    let q = first_in_table (from_to (I64 ∷ []) []) ds (omega arith) in
-    let at : place (from_to (I64 ∷ []) []) (type_table ds) ≡ 4 = q.0 in
-    let within = q.1 in
-    omega (arith, at, within)
-
-pub module_types : (ds : List Declaration) → 5 ≤ length (types_of (lowered_all ds).types)
-module_types ds = subst (λ (ts : List CompType). 5 ≤ length ts) (sym (types_of_groups (type_table ds))) (five_types ds)
+-- there are seven types or more
+pub module_types : (ds : List Declaration) → 7 ≤ length (types_of (lowered_all ds).types)
+module_types ds = subst (λ (ts : List CompType). 7 ≤ length ts) (sym (types_of_groups (type_table ds))) (seven_types ds)
 
 pub import_valid : (ds : List Declaration) (i : ℕ) → i < length (lowered_all ds).imports → ImportValid (lowered_all ds) i
 import_valid ds zero h = record {
@@ -183,10 +177,27 @@ tag_by ds i (definition.Function f) n h types e = absurd (omega (arith, h))
 tag_by ds i (definition.Handler f) n h types e = absurd (omega (arith, h))
 tag_by ds i (definition.Slots s) n h types e = absurd (omega (arith, h))
 
+-- the tag of groups
+group_tag_by : (ds : List Declaration) (i j : ℕ) → j < 1 → slice_get (lowered_all ds).tags i ≡ slice_get (group_tag ∷ []) j → TagValid (lowered_all ds) i
+group_tag_by ds i zero h e = record {
+  tag = group_tag;
+  type = arrow [] (I64 ∷ []);
+  is = e;
+  has_type = ap function_type_in (first_type (from_to [] (I64 ∷ [])) ds (context_of (lowered_all ds)) refl (omega arith));
+}
+group_tag_by ds i (suc j) h e = absurd (omega (arith, h))
+
 pub tag_valid : (ds : List Declaration) (i : ℕ) → i < length (lowered_all ds).tags → TagValid (lowered_all ds) i
-tag_valid ds i h =
-    let q = added_by (λ (d : Declaration). tag_of ds d.definition) (λ (d : Declaration). tag_of ds d.definition) (λ d. refl) ds i h in
-    tag_by ds i q.declaration.definition q.offset q.within (λ t there. types_in_all t ds q.place q.declaration q.is there) q.one
+tag_valid ds i h = elim (which (length (for_each (tags_for ds) ds)) i) [
+  | inl l ↦
+      let q = added_by (tags_for ds) (tags_for ds) (λ d. refl) ds i l in
+      let e = get_in_left (for_each (tags_for ds) ds) (group_tag ∷ []) i l in
+      tag_by ds i q.declaration.definition q.offset q.within (λ t there. types_in_all t ds q.place q.declaration q.is there) (e ∙ q.one)
+  | inr r ↦
+      let at = r.1 in
+      let n = length-append (for_each (tags_for ds) ds) (group_tag ∷ []) in
+      group_tag_by ds i r.0 (omega (arith, at, n, h)) (get_in_right (for_each (tags_for ds) ds) (group_tag ∷ []) r.0 i at)
+]
 
 -- ## The export
 
@@ -422,12 +433,12 @@ unfolding join_all
 joined_valid n [] hs = All-nil (λ (x : LocalRun). IsValidType n x.kind)
 joined_valid n (l ∷ ls) hs = join_valid n l (joined ls) (All-head (λ (x : LocalRun). IsValidType n x.kind) l ls hs) (joined_valid n ls (All-tail (λ (x : LocalRun). IsValidType n x.kind) l ls hs))
 
-names_valid : (n : ℕ) (bs : List Bound) → 5 ≤ n → AreLocals n (name_runs bs)
+names_valid : (n : ℕ) (bs : List Bound) → 7 ≤ n → AreLocals n (name_runs bs)
 names_valid n [] h = All-nil (λ (x : LocalRun). IsValidType n x.kind)
 names_valid n (b ∷ bs) h = All-cons (λ (x : LocalRun). IsValidType n x.kind) (run (val_type b.ty) 1) (name_runs bs) (val_type_valid n b.ty h) (names_valid n bs h)
 
--- those of names and temporaries are, among five types or more
-pub locals_valid : (n : ℕ) (bs : List Bound) (k : ℕ) → 5 ≤ n → AreLocals n (locals_for bs k)
+-- those of names and temporaries are, among seven types or more
+pub locals_valid : (n : ℕ) (bs : List Bound) (k : ℕ) → 7 ≤ n → AreLocals n (locals_for bs k)
 locals_valid n bs k h =
     joined_valid n (name_runs bs ++ run I64 k ∷ [])
     (All-append (λ (x : LocalRun). IsValidType n x.kind) (name_runs bs) (run I64 k ∷ []) (names_valid n bs h)

@@ -19,8 +19,8 @@ use Rattle.s_syntax.specs.declared.script.Definition.{Definition}
 use Rattle.s_syntax.specs.declared.script.Definition.TheVariants as definition
 use Rattle.s_syntax.specs.declared.script.Declaration.{Declaration}
 use Rattle.s_syntax.specs.declared.script.Script.{Script}
-use Rattle.s_syntax.specs.ExprTree.{ExprTree, Literal, Read, Unary, Run, Call, Do, Handle, Resume, Exprs, NoExprs, MoreExprs, Operands, NoOperands, MoreOperands}
-use Rattle.s_syntax.specs.BlockTree.{StatementTree, BlockTree, Evaluate, If, While, Fail, Done, ◌⨟◌}
+use Rattle.s_syntax.specs.ExprTree.{ExprTree, Literal, Read, Unary, Run, Call, Do, Handle, Resume, Group, Exprs, NoExprs, MoreExprs, Operands, NoOperands, MoreOperands}
+use Rattle.s_syntax.specs.BlockTree.{StatementTree, BlockTree, Evaluate, If, While, Fail, Spawn, Done, ◌⨟◌}
 use Rattle.s_check.specs.Definitions.{definition_of}
 use Rattle.s_check.specs.Refusal.{Good}
 use Rattle.s_check.specs.Rules.{count}
@@ -37,7 +37,8 @@ use Rattle.s_valid.proofs.Declarations.{Declares, declares}
 use Rattle.s_valid.proofs.ManyTypes.{few_in_table}
 use Rattle.s_valid.proofs.ModuleItems.{StandsAt, of_function, of_handler, functions_and_codes, stands_at}
 use Rattle.s_valid.proofs.NarrowTypes.{all_narrow}
-use Rattle.s_valid.proofs.TypeTable.{types_of_groups, is_function, is_handler}
+use Rattle.s_valid.proofs.TypeGroups.{types_of_groups}
+use Rattle.s_valid.proofs.TypeTable.{is_function, is_handler}
 
 -- ## Temporaries
 
@@ -51,6 +52,7 @@ some_size (Call f es) = omega arith
 some_size (Do op es) = omega arith
 some_size (Handle f es h ps) = omega arith
 some_size (Resume k e ps) = omega arith
+some_size (Group f e) = omega arith
 
 few_arguments : (es : Exprs) → count es ≤ exprs_size es
 few_arguments NoExprs = omega arith
@@ -67,6 +69,7 @@ mutual
   high_expr t (Do op es) = let q = high_of_args t es in omega (arith, q)
   high_expr t (Handle f es h ps) = let q = high_of_aside t es in let c = few_arguments es in let r = high_of_args (t + count es) ps in omega (arith, q, c, r)
   high_expr t (Resume k e ps) = let q = high_expr t e in let r = high_of_args (t + 1) ps in omega (arith, q, r)
+  high_expr t (Group f e) = let q = high_expr t e in omega (arith, q)
 
   high_of_args : (t : ℕ) (es : Exprs) → high_args t es ≤ t + exprs_size es
   high_of_args t NoExprs = omega arith
@@ -88,6 +91,7 @@ mutual
       let q = high_expr 0 c in let r = room_block a in let s = room_block b in let l = length-append (lets_in a) (lets_in b) in omega (arith, q, r, s, l)
   room_statement (While c b) = let q = high_expr 0 c in let r = room_block b in omega (arith, q, r)
   room_statement Fail = omega arith
+  room_statement (Spawn t f) = omega arith
 
   room_block : (b : BlockTree) → length (lets_in b) + high_block b ≤ block_size b
   room_block Done = omega arith

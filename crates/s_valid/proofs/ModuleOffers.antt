@@ -4,13 +4,16 @@ use Rattle.std.specs.Prelude.{slice_get}
 use Rattle.std.proofs.lemmas.Option.{slice_get_within}
 use Rattle.w_types.specs.declared.types.CompType.{CompType}
 use Rattle.w_types.specs.declared.types.CompType.TheVariants.{Cont}
+use Rattle.w_types.specs.declared.types.ValType.{ValType}
 use Rattle.w_types.specs.declared.types.ValType.TheVariants.{I64}
 use Rattle.w_syntax.specs.Functions.{function_type as function_type_in}
 use Rattle.w_syntax.specs.declared.module.Table.{Table}
 use Rattle.w_syntax.specs.declared.module.Tag.{Tag}
-use Rattle.w_rules.specs.Context.{type_of, func_of, func_at, type_of_func, tag_in, type_of_tag}
+use Rattle.w_rules.specs.Context.{type_of, func_of, func_at, index_in_cont, cont_of, type_of_func, tag_in, type_of_tag}
 use Rattle.w_rules.specs.Spaces.{context_of, functions_of}
 use Rattle.s_syntax.specs.declared.name.Name.{Name}
+use Rattle.s_syntax.specs.declared.script.VariableType.{VariableType}
+use Rattle.s_syntax.specs.declared.script.VariableType.TheVariants.{Int, Coroutine}
 use Rattle.s_syntax.specs.declared.script.Parameter.{Parameter}
 use Rattle.s_syntax.specs.declared.script.Function.{Function}
 use Rattle.s_syntax.specs.declared.script.Clause.{Clause}
@@ -27,15 +30,18 @@ use Rattle.s_check.specs.Scopes.{is_among}
 use Rattle.s_index.specs.declared.counts.Counts.{Counts}
 use Rattle.s_index.specs.Handled.{handled_names, handled}
 use Rattle.s_index.specs.Indices.{function_types, type_table, function_type_index, handler_type_index, effect_type_index, clause_type_index, parameters_of, continuation_of, continuations}
-use Rattle.s_index.specs.Numbers.{Entry, no_counts, counted, counts_of, with_entry, index_of_function, index_of_handler, index_of_tag, index_of_table, function_index, first_handler, handler_index, tag_index, table_index, parameters_in}
-use Rattle.s_index.specs.Types.{place, from_to, function_type, handler_type, effect_type, clause_type, clause_types, types_for, types_for_all, val_types, numbers, to_continuation, resumption_type, computation_type}
-use Rattle.s_code.specs.Lowered.{slots_table, function_type_of, handler_type_of, table_of, tag_of, for_each, lowered_all, lowered}
+use Rattle.s_index.specs.Numbers.{Entry, no_counts, counted, counts_of, with_entry, index_of_function, index_of_handler, index_of_tag, index_of_table, function_index, first_handler, handler_index, tag_index, group_tag_index, table_index, parameters_in}
+use Rattle.s_index.specs.Types.{place, first_types, from_to, function_type, handler_type, effect_type, clause_type, clause_types, types_for, types_for_all, val_types, numbers, to_continuation, resumption_type, computation_type, coroutine_type}
+use Rattle.s_code.specs.Lowered.{slots_table, function_type_of, handler_type_of, table_of, tag_of, group_tag, for_each, lowered_all, lowered}
+use Rattle.s_meaning.specs.Typing.{kinds}
 use Rattle.s_meaning.proofs.Good.{is_slots}
 use Rattle.s_valid.specs.Offers.{arrow, OffersHandled, Offers}
 use Rattle.s_valid.proofs.HandledNames.{handled_stands, continuation_there, handled_declared}
+use Rattle.s_valid.proofs.LayoutTypes.{types, types_of_kinds}
 use Rattle.s_valid.proofs.MadeOnce.{IsThere, here, behind, adds}
 use Rattle.s_valid.proofs.NumbersInModules.{get_left, get_right, Found, found, all_made}
-use Rattle.s_valid.proofs.TypeTable.{kinds_kept, is_function, is_handler, types_among, in_function_types, in_table, type_there, func_there, first_type, clause_among}
+use Rattle.s_valid.proofs.TypeGroups.{kinds_kept}
+use Rattle.s_valid.proofs.TypeTable.{is_function, is_handler, types_among, in_function_types, in_table, first_in_table, type_there, func_there, first_type, clause_among}
 
 -- ## What declarations add, and what is counted
 
@@ -155,11 +161,36 @@ effect_by ds op n k =
     let index : tag_index ds op ≡ q.place = ap (λ (o : Option Entry). with_entry index_of_tag o) q.entry ∙ omega arith in
     let there : IsThere (effect_type k.number.value) (types_for_all ds) = types_among (effect_type k.number.value) ds op (definition.Effect k.number) k.is (here (effect_type k.number.value) []) in
     ap (λ (x : ℕ). type_of_tag C x) index
-    ∙ ap (λ (t : Option Tag). tag_in C t) q.item
+    ∙ ap (λ (t : Option Tag). tag_in C t) (get_left (for_each (tags_for ds) ds) (group_tag ∷ []) q.place tag q.item)
     ∙ func_there (arrow (numbers n) (I64 ∷ [])) ds C refl (subst (λ (x : ℕ). IsThere (effect_type x) (types_for_all ds)) k.value there)
 
 effect_at : (ds : List Declaration) (op : Name) (n : ℕ) → effect_of ds op ≡ Some n → type_of_tag (context_of (lowered_all ds)) (tag_index ds op) ≡ Some (arrow (numbers n) (I64 ∷ []))
 effect_at ds op n e = effect_by ds op n (is_effect (definition_of ds op) n e)
+
+-- the tag of groups stands behind those of effects
+pub group_tag_at : (ds : List Declaration) → slice_get (lowered_all ds).tags (group_tag_index ds) ≡ Some group_tag
+group_tag_at ds =
+    let q : group_tag_index ds ≡ 0 + length (for_each (tags_for ds) ds) = all_made (tags_for ds) (λ (m : Counts). m.effects) (λ m d. tag_steps ds m d.definition) no_counts ds in
+    get_right (for_each (tags_for ds) ds) (group_tag ∷ []) 0 (group_tag_index ds) group_tag (omega (arith, q)) refl
+
+group_offered : (ds : List Declaration) → type_of_tag (context_of (lowered_all ds)) (group_tag_index ds) ≡ Some (arrow [] (I64 ∷ []))
+group_offered ds =
+    let C = context_of (lowered_all ds) in
+    ap (λ (t : Option Tag). tag_in C t) (group_tag_at ds) ∙ ap function_type_in (first_type (from_to [] (I64 ∷ [])) ds C refl (omega arith))
+
+-- ## Groups and coroutines
+
+-- a function whose parameters are of these kinds is of one of the first types, where their type is
+kinds_at : (ds : List Declaration) (ps : List Parameter) (ks : List VariableType) → kinds ps ≡ ks → IsThere (from_to (types ks) (I64 ∷ [])) first_types
+    → function_type_index ds ps ≡ place (from_to (types ks) (I64 ∷ [])) first_types
+kinds_at ds ps ks e there =
+    ap (λ (ts : List ValType). place (from_to ts (I64 ∷ [])) (type_table ds)) (sym (types_of_kinds ps) ∙ ap types e) ∙ (first_in_table (from_to (types ks) (I64 ∷ [])) ds there).0
+
+grouped_offered : (ds : List Declaration) (f : Name) (g : Function) → function_of ds f ≡ Some g → kinds g.parameters ≡ Int ∷ [] → slice_get (functions_of (lowered_all ds)) (function_index ds f) ≡ Some 0
+grouped_offered ds f g e t = function_at ds f g e ∙ ap Some (kinds_at ds g.parameters (Int ∷ []) t (omega arith))
+
+spawned_offered : (ds : List Declaration) (f : Name) (g : Function) → function_of ds f ≡ Some g → kinds g.parameters ≡ Int ∷ Coroutine ∷ [] → slice_get (functions_of (lowered_all ds)) (function_index ds f) ≡ Some 5
+spawned_offered ds f g e t = function_at ds f g e ∙ ap Some (kinds_at ds g.parameters (Int ∷ Coroutine ∷ []) t (omega arith))
 
 -- ## Slots
 
@@ -238,14 +269,31 @@ offers_all ds =
       resumed = ap function_type_in (first_type (from_to (I64 ∷ []) (I64 ∷ [])) ds C refl (omega arith));
       computation = first_type (Cont 2) ds C refl (omega arith);
       computed = ap function_type_in (first_type (from_to [] (I64 ∷ [])) ds C refl (omega arith));
+      coroutine = first_type (Cont 5) ds C refl (omega arith);
+      switched = ap function_type_in (first_type (from_to (I64 ∷ to_continuation true coroutine_type ∷ []) (I64 ∷ [])) ds C refl (omega arith));
+      group = group_offered ds;
       printer = ap function_type_in (first_type (from_to (I64 ∷ []) []) ds C refl (omega arith));
       function = function_offered ds;
       handler = handler_offered ds;
       effect = effect_at ds;
       slots = slots_offered ds;
       handled = handled_offers ds;
+      grouped = grouped_offered ds;
+      spawned = spawned_offered ds;
       clause = clause_offered ds;
     }
+
+-- what is resumed takes a number
+pub resumption_takes : (ds : List Declaration) → cont_of (context_of (lowered_all ds)) resumption_type ≡ Some (arrow (I64 ∷ []) (I64 ∷ []))
+resumption_takes ds =
+    let C = context_of (lowered_all ds) in let o = offers_all ds in
+    ap (λ (t : Option CompType). func_at C (index_in_cont t)) o.resumption ∙ o.resumed
+
+-- and what is switched to a number and a coroutine
+pub coroutine_takes : (ds : List Declaration) → cont_of (context_of (lowered_all ds)) coroutine_type ≡ Some (arrow (I64 ∷ to_continuation true coroutine_type ∷ []) (I64 ∷ []))
+coroutine_takes ds =
+    let C = context_of (lowered_all ds) in let o = offers_all ds in
+    ap (λ (t : Option CompType). func_at C (index_in_cont t)) o.coroutine ∙ o.switched
 
 -- what the module of a script offers
 pub module_offers : (p : Script) → Good p → Offers p.declarations (context_of (lowered p))

@@ -13,7 +13,7 @@ use Rattle.s_syntax.specs.declared.script.Definition.TheVariants as definition
 use Rattle.s_syntax.specs.declared.script.Declaration.{Declaration}
 use Rattle.s_syntax.specs.declared.script.Script.{Script}
 use Rattle.s_check.specs.Refusal.{Good}
-use Rattle.s_index.specs.Types.{place, first_types, from_to, function_type, handler_type, effect_type, clause_type, clause_types, types_for, types_for_all, val_type, val_types, numbers, to_continuation, resumption_type, computation_type}
+use Rattle.s_index.specs.Types.{place, first_types, from_to, function_type, handler_type, effect_type, clause_type, clause_types, types_for, types_for_all, val_type, val_types, numbers, to_continuation, resumption_type, computation_type, coroutine_type}
 use Rattle.s_index.specs.Indices.{function_types, type_table, continuations}
 use Rattle.s_index.specs.Handled.{handled}
 use Rattle.s_valid.proofs.Declarations.{IsSmall, small}
@@ -74,7 +74,9 @@ first_narrow (suc zero) t e = subst IsNarrow (let same : Cont 0 ≡ t = cc in sa
 first_narrow (suc (suc zero)) t e = subst IsNarrow (let same : from_to [] (I64 ∷ []) ≡ t = cc in same) (omega arith, omega arith)
 first_narrow (suc (suc (suc zero))) t e = subst IsNarrow (let same : Cont 2 ≡ t = cc in same) tt
 first_narrow (suc (suc (suc (suc zero)))) t e = subst IsNarrow (let same : from_to (I64 ∷ []) [] ≡ t = cc in same) (omega arith, omega arith)
-first_narrow (suc (suc (suc (suc (suc i))))) t e = absurd (cc)
+first_narrow (suc (suc (suc (suc (suc zero))))) t e = subst IsNarrow (let same : from_to (I64 ∷ to_continuation true coroutine_type ∷ []) (I64 ∷ []) ≡ t = cc in same) (omega arith, omega arith)
+first_narrow (suc (suc (suc (suc (suc (suc zero)))))) t e = subst IsNarrow (let same : Cont 5 ≡ t = cc in same) tt
+first_narrow (suc (suc (suc (suc (suc (suc (suc i))))))) t e = absurd (cc)
 
 -- each in the table is a first one, of a declaration, or of continuations
 table_narrow : (p : Script) → Good p → (t : CompType) → IsThere t (type_table p.declarations) → IsNarrow t

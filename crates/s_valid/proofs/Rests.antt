@@ -1,6 +1,7 @@
 -- Code that is typed whatever is known of its locals, since all of them are set: where the rest is typed behind an instruction, the whole is
 -- typed before it.
-use Rattle.std.proofs.Common.{◌≡◌, inl, ℕ, zero, suc, ◌-◌, nat_le, Bool, true, ℤ, List, [], ◌∷◌, length, take, drop, Option, Some, slice_get, slice_set, refl, sym, ap, ap₂, ◌∙◌, subst, arith}
+use Rattle.std.proofs.Common.{◌≡◌, inl, ℕ, zero, suc, ◌-◌, nat_le, Bool, true, ℤ, All, List, [], ◌∷◌, length, take, drop, Option, Some, slice_get, slice_set, refl, sym, ap, ap₂, ◌∙◌, subst, arith}
+use Rattle.std.proofs.lemmas.List.Elements.{All-nil, All-cons}
 use Rattle.w_types.specs.declared.types.ValType.{ValType}
 use Rattle.w_types.specs.declared.types.HeapType.TheVariants.{Index}
 use Rattle.w_types.specs.declared.types.ValType.TheVariants.{I32, I64, Ref}
@@ -11,6 +12,7 @@ use Rattle.w_types.specs.declared.types.RecGroup.{RecGroup}
 use Rattle.lists.specs.Rows.{Row, ε, ◌▹◌, ◌⧺◌, row_of, listed}
 use Rattle.w_syntax.specs.Code.{Code, Done, Plain, Block}
 use Rattle.w_syntax.specs.declared.instructions.Op.{Op}
+use Rattle.w_syntax.specs.declared.instructions.Clause.TheVariants.{Switch}
 use Rattle.w_syntax.specs.declared.module.TableType.{TableType}
 use Rattle.w_syntax.specs.declared.instructions.BlockKind.TheVariants as kind
 use Rattle.w_syntax.specs.declared.instructions.BlockType.TheVariants as block
@@ -19,19 +21,20 @@ use Rattle.w_syntax.specs.declared.numeric.Relop.{Relop}
 use Rattle.w_canon.specs.Relations as pairs
 use Rattle.w_canon.specs.Matching.{ResultMatches, ref}
 use Rattle.w_canon.specs.Supertypes.{KeepsKinds}
+use Rattle.w_canon.proofs.EqualTypes.{result_equal_refl}
 use Rattle.w_canon.proofs.Preorder.{heap_refl, result_refl}
 use Rattle.w_rules.specs.Operands.{Operand}
 use Rattle.w_rules.specs.Operands.{Known}
 use Rattle.w_rules.specs.Matching.{RowMatches, none, more, value, known}
 use Rattle.w_rules.specs.Context.{Context, labelled, type_of, type_count, index_in_cont, cont_of, type_of_func, type_of_tag}
-use Rattle.w_rules.specs.Conditions.{Condition, ReturnsTyped}
-use Rattle.w_rules.specs.InstructionTypes.{InstrType, fixed, polymorphic, instr_type, sets, get_type, set_type, br_type, br_if_type, call_type, tail_call_type, ref_func_type, table_get_type, table_set_type, cont_new_type, cont_bind_type, if_valid, nullable, non_null}
+use Rattle.w_rules.specs.Conditions.{Condition, Holds, ReturnsTyped, SwitchClauseTyped, ClauseTyped}
+use Rattle.w_rules.specs.InstructionTypes.{InstrType, fixed, polymorphic, instr_type, sets, get_type, set_type, br_type, br_if_type, call_type, tail_call_type, ref_func_type, table_get_type, table_set_type, cont_new_type, cont_bind_type, resume_type, switched_type, switch_type, params_of, if_valid, nullable, non_null}
 use Rattle.w_rules.specs.Typing.{HasInstrType, Derives}
 use Rattle.w_rules.specs.Types.{has_heap}
 use Rattle.w_rules.proofs.Preorder.{operand_refl, row_refl}
 use Rattle.w_rules.proofs.Derive.{derives_left}
 use Rattle.s_index.specs.Types.{computation_type}
-use Rattle.s_code.specs.Instructions.{constant, constant_32, is_zero, is_zero_32, extend, wrap, binary, compare, select, unreachable, nop, branch, branch_if, leave, call, return_call, dropped, local_get, local_set, table_get, table_set, null as null_reference, non_null as checked, function_reference, new_continuation, bind_continuation, suspend, number_if_zero, if_zero, truth}
+use Rattle.s_code.specs.Instructions.{constant, constant_32, is_zero, is_zero_32, extend, wrap, binary, compare, select, unreachable, nop, branch, branch_if, leave, call, return_call, dropped, local_get, local_set, table_get, table_set, null as null_reference, non_null as checked, function_reference, new_continuation, bind_continuation, suspend, resume, switch, number_if_zero, if_zero, truth}
 use Rattle.s_valid.specs.Offers.{arrow}
 
 -- all of these locals are set
@@ -201,6 +204,39 @@ module _ {C : Context} {us : Row Operand} where
       instr_typed (bind_continuation x computation_type) (row_of ts ▹ nullable x) (ε ▹ non_null computation_type) vs c
       (record { one = arrow ts (I64 ∷ []); other = arrow [] (I64 ∷ []); has_one = e; has_other = d; takes = none_taken C.types ts; gives = result_refl C.types (I64 ∷ []) })
       (λ s all. ap₂ (cont_bind_type x computation_type) e d ∙ bind_type x computation_type ts) (λ s all. all) r
+
+  -- what takes a number runs in a group, whose one clause lets coroutines switch on this tag
+  pub resume_group_typed : {vs : Row Operand} {c : Code} (x e : ℕ) → cont_of C x ≡ Some (arrow (I64 ∷ []) (I64 ∷ [])) → type_of_tag C e ≡ Some (arrow [] (I64 ∷ []))
+      → Rest C c (vs ▹ Known I64) us → Rest C (Plain (resume x (Switch e ∷ [])) c) (vs ▹ Known I64 ▹ Known (nullable x)) us
+  resume_group_typed {vs} {c} x e is tag r =
+      let Q : Option FuncType → Type 0 = λ z. Holds z (λ (t : FuncType). All (ClauseTyped C t.results) (Switch e ∷ [])) in
+      let one : SwitchClauseTyped C (I64 ∷ []) e = record { tag = arrow [] (I64 ∷ []); has_tag = tag; no_params = refl; equal = result_equal_refl C.types (I64 ∷ []) } in
+      instr_typed (resume x (Switch e ∷ [])) (ε ▹ I64 ▹ nullable x) (ε ▹ I64) vs c
+      (subst Q (sym is) (All-cons (ClauseTyped C (I64 ∷ [])) (Switch e) [] one (All-nil (ClauseTyped C (I64 ∷ [])))))
+      (λ s all. ap (resume_type x) is) (λ s all. all) r
+
+  -- a switch to a coroutine gives back what a coroutine takes
+  pub switch_typed : {vs : Row Operand} {c : Code} (x e : ℕ) → cont_of C x ≡ Some (arrow (I64 ∷ nullable x ∷ []) (I64 ∷ [])) → type_of_tag C e ≡ Some (arrow [] (I64 ∷ []))
+      → Rest C c (vs ▹ Known I64 ▹ Known (nullable x)) us → Rest C (Plain (switch x e) c) (vs ▹ Known I64 ▹ Known (nullable x)) us
+  switch_typed {vs} {c} x e is tag r =
+      let t = arrow (I64 ∷ nullable x ∷ []) (I64 ∷ []) in
+      instr_typed (switch x e) (ε ▹ I64 ▹ nullable x) (ε ▹ I64 ▹ nullable x) vs c
+      (record {
+        one = t;
+        beneath = ε ▹ I64;
+        is_null = true;
+        index = x;
+        other = t;
+        tag = arrow [] (I64 ∷ []);
+        has_one = is;
+        params = refl;
+        has_other = is;
+        has_tag = tag;
+        no_params = refl;
+        results = result_refl C.types (I64 ∷ []);
+        comes_back = result_refl C.types (I64 ∷ []);
+      })
+      (λ s all. ap (λ (o : Option FuncType). switch_type C x (params_of o)) is ∙ ap (switched_type x (ε ▹ I64)) is) (λ s all. all) r
 
 -- a reference that isn't null is one that may be
 pub weaker : (C : Context) (vs : Row Operand) (x : ℕ) → RowMatches C.types (vs ▹ Known (non_null x)) (vs ▹ Known (nullable x))

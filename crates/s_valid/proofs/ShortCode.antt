@@ -9,7 +9,7 @@ use Rattle.w_syntax.specs.Code.{Code, Done, Plain, Block, If, IfElse}
 use Rattle.w_syntax.specs.Expr.{tokens}
 use Rattle.w_syntax.specs.declared.instructions.BlockKind.TheVariants as kind
 use Rattle.w_syntax.specs.declared.instructions.BlockType.TheVariants as block_type
-use Rattle.w_syntax.specs.declared.instructions.Clause.TheVariants.{Label}
+use Rattle.w_syntax.specs.declared.instructions.Clause.TheVariants.{Label, Switch}
 use Rattle.w_syntax.specs.declared.instructions.Token.{Token}
 use Rattle.w_syntax.specs.declared.instructions.Token.TheVariants as tok
 use Rattle.w_encode.specs.InstructionsWritten.{op_written, blocktype_written, clause_written, token_written, expr_written}
@@ -22,18 +22,19 @@ use Rattle.s_syntax.specs.declared.operators.BinaryOperator.TheVariants.{Connect
 use Rattle.s_syntax.specs.declared.script.Clause.{Clause}
 use Rattle.s_syntax.specs.declared.script.Handler.{Handler}
 use Rattle.s_syntax.specs.declared.script.Declaration.{Declaration}
-use Rattle.s_syntax.specs.ExprTree.{ExprTree, Literal, Read, Unary, Run, Call, Do, Handle, Resume, Exprs, NoExprs, MoreExprs, Operands, NoOperands, MoreOperands}
+use Rattle.s_syntax.specs.ExprTree.{ExprTree, Literal, Read, Unary, Run, Call, Do, Handle, Resume, Group, Exprs, NoExprs, MoreExprs, Operands, NoOperands, MoreOperands}
 use Rattle.s_syntax.specs.declared.statement.Use.TheVariants as use_for
-use Rattle.s_syntax.specs.BlockTree.{StatementTree, BlockTree, Evaluate, If as IfStatement, While, Fail, Done as NoStatements, ◌⨟◌}
+use Rattle.s_syntax.specs.BlockTree.{StatementTree, BlockTree, Evaluate, If as IfStatement, While, Fail, Spawn, Done as NoStatements, ◌⨟◌}
 use Rattle.s_check.specs.Rules.{count}
 use Rattle.s_check.specs.Size.{expr_size, exprs_size, operands_size, statement_size, block_size, clause_size}
-use Rattle.s_index.specs.Numbers.{function_index, handler_index, tag_index, table_index}
+use Rattle.s_index.specs.Numbers.{function_index, handler_index, tag_index, group_tag_index, table_index}
 use Rattle.s_index.specs.Indices.{continuation_index, clause_type_index}
-use Rattle.s_index.specs.Types.{resumption_type, computation_type}
+use Rattle.s_index.specs.Types.{resumption_type, computation_type, coroutine_type}
 use Rattle.s_code.specs.Instructions.{call, return_call, local_get, local_set, table_get, table_set, wrap, null, non_null, nop, bind_continuation, suspend, branch, branch_if, is_zero, leave, dropped, truth, unary_operator, comparison, arithmetic, if_zero, resume}
 use Rattle.s_code.specs.Layouts.{Layout, local_number, handler_of_name, stays, slot, is_own, owner_parameters}
 use Rattle.s_code.specs.Expressions.{reload, begin, wake, handler_index_of, operator, expr, args, set_aside, operands, set_parameters, tail_resume}
 use Rattle.s_code.specs.Slots.{places_of, to_place, store_code, take_code}
+use Rattle.s_code.specs.Coroutines.{group_code, spawn_code, switch_code}
 use Rattle.s_code.specs.Statements.{printer, return, statement, block, ending, body}
 use Rattle.s_code.specs.Handlers.{set_names, clause_code, blocks, labels, return_code, handling, handler_body}
 use Rattle.s_code.specs.Places.{layout_at, clause_names, placed_from, placed_clauses, return_layout, clauses_place}
@@ -163,6 +164,31 @@ module _ (ds : List Declaration) (Γ : Layout) where
   wake_short k c = let a = number_short resumption_type in let d = number_short computation_type in let l = length-append (shortest resumption_type) (shortest computation_type) in
       let q = get_short (local_number Γ k) (Plain (bind_continuation resumption_type computation_type) c) in omega (arith, a, d, l, q)
 
+  -- the one clause of a group
+  group_clause_short : length (flat_map clause_written (Switch (group_tag_index ds) ∷ [])) ≤ 11
+  group_clause_short = let n = number_short (group_tag_index ds) in let l = length-append (clause_written (Switch (group_tag_index ds))) [] in omega (arith, n, l)
+
+  group_short : (f : Name) (c : Code) → code_bytes (group_code ds f c) ≤ 54 + code_bytes c
+  group_short f c =
+      let hs = Switch (group_tag_index ds) ∷ [] in
+      let a = number_short (function_index ds f) in let b = number_short resumption_type in let d = number_short (length hs) in let e = group_clause_short in
+      let l = length-append (shortest resumption_type) (vec_written clause_written hs) in
+      let m = length-append (shortest (length hs)) (flat_map clause_written hs) in
+      omega (arith, a, b, d, e, l, m)
+
+  spawn_short : (t f : Name) (c : Code) → code_bytes (spawn_code ds Γ t f c) ≤ 33 + code_bytes c
+  spawn_short t f c =
+      let a = number_short (function_index ds f) in let b = number_short coroutine_type in let q = set_short (local_number Γ t) c in omega (arith, a, b, q)
+
+  switch_short : (x u t : Name) (c : Code) → code_bytes (switch_code ds Γ x u t c) ≤ 54 + code_bytes c
+  switch_short x u t c =
+      let a = number_short coroutine_type in let b = number_short (group_tag_index ds) in
+      let l = length-append (shortest coroutine_type) (shortest (group_tag_index ds)) in
+      let p = number_short (local_number Γ t) in
+      let q = set_short (local_number Γ u) (Plain (local_set (local_number Γ x)) c) in
+      let r = set_short (local_number Γ x) c in
+      omega (arith, a, b, l, p, q, r)
+
   mutual
     expr_short : (x : ExprTree) (t : ℕ) (c : Code) → code_bytes (expr ds Γ t x c) + 22 ≤ 80 * expr_size x + code_bytes c
     expr_short (Literal n) t c = let q = signed_short (pos n.value) in omega (arith, q)
@@ -187,6 +213,7 @@ module _ (ds : List Declaration) (Γ : Layout) where
         let s = set_short (Γ.temporaries + t) (args ds Γ (t + 1) ps (Plain (local_get (Γ.temporaries + t)) (wake Γ k last))) in
         let q = expr_short e t (Plain (local_set (Γ.temporaries + t)) (args ds Γ (t + 1) ps (Plain (local_get (Γ.temporaries + t)) (wake Γ k last)))) in
         omega (arith, a, w, g, p, s, q)
+    expr_short (Group f e) t c = let p = expr_short e t (group_code ds f c) in let q = group_short f c in omega (arith, p, q)
 
     args_short : (es : Exprs) (t : ℕ) (c : Code) → code_bytes (args ds Γ t es c) ≤ 80 * exprs_size es + code_bytes c
     args_short NoExprs t c = omega arith
@@ -262,6 +289,7 @@ module _ (ds : List Declaration) (Γ : Layout) (few : owner_parameters Γ.owner 
   return_short (Call f es) D c = let p = args_short ds Γ es 0 (Plain (return_call (function_index ds f)) c) in let q = return_call_short (function_index ds f) c in omega (arith, p, q)
   return_short (Do o es) D c = plain_short (Do o es) c
   return_short (Handle f es h ps) D c = plain_short (Handle f es h ps) c
+  return_short (Group f e) D c = plain_short (Group f e) c
   return_short (Resume k e ps) D c = resumed_short k e ps D c (is_own Γ k)
 
   mutual
@@ -281,6 +309,8 @@ module _ (ds : List Declaration) (Γ : Layout) (few : owner_parameters Γ.owner 
     statement_short (Evaluate use_for.Return e) D c = return_short e D c
     statement_short (Evaluate (use_for.Store s k) e) D c = let p = expr_short ds Γ e 0 (store_code ds Γ s k c) in let q = store_short s k c in omega (arith, p, q)
     statement_short (Evaluate (use_for.Take k s) e) D c = let p = expr_short ds Γ e 0 (take_code ds Γ k s c) in let q = take_short k s c in omega (arith, p, q)
+    statement_short (Evaluate (use_for.Switch x u t) e) D c = let p = expr_short ds Γ e 0 (switch_code ds Γ x u t c) in let q = switch_short ds Γ x u t c in omega (arith, p, q)
+    statement_short (Spawn t f) D c = let q = spawn_short ds Γ t f c in omega (arith, q)
     statement_short Fail D c = omega arith
     statement_short (Evaluate use_for.Drop e) D c = let p = expr_short ds Γ e 0 (Plain dropped c) in omega (arith, p)
 

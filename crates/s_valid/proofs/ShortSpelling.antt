@@ -1,7 +1,7 @@
--- The spelling of the module of a script is at most 297 times as long as the script is large, and 421 bytes more.
-use Rattle.std.proofs.Common.{◌≡◌, ℕ, zero, suc, pos, ◌+◌, ◌*◌, ◌≤◌, Bool, true, false, cond, if◌then◌else◌, max, List, [], ◌∷◌, ◌++◌, map, filter, length, codes, Some, None, refl, ap, ◌∙◌, arith, length-append}
+-- The spelling of the module of a script is at most 297 times as long as the script is large, and 508 bytes more.
+use Rattle.std.proofs.Common.{◌≡◌, ℕ, zero, suc, pos, ◌+◌, ◌*◌, ◌≤◌, Bool, true, false, cond, if◌then◌else◌, max, List, [], ◌∷◌, ◌++◌, map, take, drop, filter, length, codes, Some, None, refl, ap, ◌∙◌, arith, length-append}
 use Rattle.std.specs.Prelude.{sum_by, nat_lt, nat_eq, slice_get, flat_map}
-use Rattle.std.proofs.lemmas.List.{length-map}
+use Rattle.std.proofs.lemmas.List.{length-map, take-append-drop}
 use Rattle.std.proofs.lemmas.List.Sums.{sum_by-cons}
 use Rattle.w_types.specs.declared.types.HeapType.{HeapType}
 use Rattle.w_types.specs.declared.types.HeapType.TheVariants as heap
@@ -9,16 +9,18 @@ use Rattle.w_types.specs.declared.types.ValType.{ValType}
 use Rattle.w_types.specs.declared.types.ValType.TheVariants as val
 use Rattle.w_types.specs.declared.types.CompType.{CompType}
 use Rattle.w_types.specs.declared.types.CompType.TheVariants.{Cont}
+use Rattle.w_types.specs.declared.types.RecGroup.{RecGroup}
 use Rattle.w_leb.specs.Number.{shortest}
 use Rattle.w_leb.specs.CanonicalLaws.{vec_written, sized_written}
 use Rattle.w_syntax.specs.Code.{Code}
 use Rattle.w_syntax.specs.Items.{reference_to}
 use Rattle.w_syntax.specs.Locals.{same_kind, join, join_all, joined}
 use Rattle.w_syntax.specs.Module.{header, any_uses_data}
+use Rattle.w_syntax.specs.Types.{alone_of}
 use Rattle.w_syntax.specs.declared.locals.LocalRun.{LocalRun}
 use Rattle.w_syntax.specs.declared.module.ElemMode.TheVariants as mode
 use Rattle.w_syntax.specs.declared.module.Func.{Func as Body}
-use Rattle.w_encode.specs.TypesWritten.{heaptype_written, ref_written, limits_written, valtype_written, comptype_written, rectype_written}
+use Rattle.w_encode.specs.TypesWritten.{heaptype_written, ref_written, limits_written, valtype_written, comptype_written, subtype_written, rectype_written}
 use Rattle.w_encode.specs.InstructionsWritten.{expr_written}
 use Rattle.w_encode.specs.FieldsWritten.{bytes_written, externtype_written, externidx_written, import_written, table_written, tag_written, export_written, are_functions, function_written, elem_written}
 use Rattle.w_encode.specs.Canon.{run_written, func_written, code_written, list_section, number_section, data_count, Canon}
@@ -38,8 +40,8 @@ use Rattle.s_check.specs.Size.{block_size, clause_size, definition_size, Size, s
 use Rattle.s_index.specs.Handled.{handled_names, is_function_among, handled}
 use Rattle.s_index.specs.Indices.{function_types, continuations, parameters_of, type_table, function_type_index, handler_type_index, effect_type_index}
 use Rattle.s_index.specs.Numbers.{function_index}
-use Rattle.s_index.specs.Types.{place, from_to, first_types, function_type, handler_type, effect_type, clause_type, clause_types, types_for, types_for_all, with_type, with_types, val_type, val_types, numbers, to_continuation, computation_type, resumption_type}
-use Rattle.s_code.specs.Lowered.{function_code, handler_code, slots_table, function_type_of, handler_type_of, table_of, tag_of, function_code_of, handler_code_of, for_each, group, printer_import, main_export, declared, lowered_all, lowered}
+use Rattle.s_index.specs.Types.{place, from_to, first_types, function_type, handler_type, effect_type, clause_type, clause_types, types_for, types_for_all, with_type, with_types, val_type, val_types, numbers, to_continuation, computation_type, resumption_type, coroutine_type, group_tag_type}
+use Rattle.s_code.specs.Lowered.{function_code, handler_code, slots_table, function_type_of, handler_type_of, table_of, tag_of, function_code_of, handler_code_of, for_each, group, grouped, group_tag, printer_import, main_export, declared, lowered_all, lowered}
 use Rattle.s_code.specs.Places.{run, name_runs, locals_for, binds_in, function_layout, return_names, clause_names, clauses_names, high_clauses}
 use Rattle.s_code.specs.Temporaries.{high_block}
 use Rattle.s_code.proofs.Binds.{binds_within}
@@ -321,31 +323,70 @@ continuations_short ds (e ∷ es) =
     let f = first_item comptype_written (Cont x) (continuations ds es) in
     omega (arith, q, c, f)
 
-first_types_short : bytes_by comptype_written first_types ≤ 129
+first_types_short : bytes_by comptype_written first_types ≤ 194
 first_types_short =
     let w = comptype_written in
+    let both = val.I64 ∷ to_continuation true coroutine_type ∷ [] in
     let a = from_to (val.I64 ∷ []) (val.I64 ∷ []) in
     let b = from_to [] (val.I64 ∷ []) in
     let c = from_to (val.I64 ∷ []) [] in
-    let p = first_item w a (Cont 0 ∷ b ∷ Cont 2 ∷ c ∷ []) in
-    let q = first_item w (Cont 0) (b ∷ Cont 2 ∷ c ∷ []) in
-    let r = first_item w b (Cont 2 ∷ c ∷ []) in
-    let s = first_item w (Cont 2) (c ∷ []) in
-    let t = first_item w c [] in
+    let d = from_to both (val.I64 ∷ []) in
+    let p = first_item w a (Cont 0 ∷ b ∷ Cont 2 ∷ c ∷ d ∷ Cont 5 ∷ []) in
+    let q = first_item w (Cont 0) (b ∷ Cont 2 ∷ c ∷ d ∷ Cont 5 ∷ []) in
+    let r = first_item w b (Cont 2 ∷ c ∷ d ∷ Cont 5 ∷ []) in
+    let s = first_item w (Cont 2) (c ∷ d ∷ Cont 5 ∷ []) in
+    let t = first_item w c (d ∷ Cont 5 ∷ []) in
+    let u = first_item w d (Cont 5 ∷ []) in
+    let v = first_item w (Cont 5) [] in
     let k = arrow_short (val.I64 ∷ []) (val.I64 ∷ []) in
     let l = arrow_short [] (val.I64 ∷ []) in
     let m = arrow_short (val.I64 ∷ []) [] in
+    let n = arrow_short both (val.I64 ∷ []) in
     let x = continuation_short 0 in
     let y = continuation_short 2 in
-    omega (arith, p, q, r, s, t, k, l, m, x, y)
+    let z = continuation_short 5 in
+    omega (arith, p, q, r, s, t, u, v, k, l, m, n, x, y, z)
 
-groups_alike : (ts : List CompType) → flat_map rectype_written (map group ts) ≡ flat_map comptype_written ts
-groups_alike [] = refl
-groups_alike (t ∷ ts) = ap (λ (bs : List ℕ). comptype_written t ++ bs) (groups_alike ts)
+-- ## Types in groups
 
-table_short : (ds : List Declaration) → AreSmall ds → bytes_by rectype_written (map group (type_table ds)) ≤ 129 + 131 * sizes ds
+groups_alike : (ts : List CompType) → bytes_by rectype_written (map group ts) ≡ bytes_by comptype_written ts
+groups_alike ts = ap (λ (bs : List ℕ). length bs) (same ts)
+  where
+    same : (ts : List CompType) → flat_map rectype_written (map group ts) ≡ flat_map comptype_written ts
+    same [] = refl
+    same (t ∷ ts) = ap (λ (bs : List ℕ). comptype_written t ++ bs) (same ts)
+
+-- types that stand in one group
+one_group_short : (ts : List CompType) → length (rectype_written (record { types = map alone_of ts })) ≤ 11 + bytes_by comptype_written ts
+one_group_short [] = let v = vec_short subtype_written [] in omega (arith, v)
+one_group_short (t ∷ []) = let f = first_item comptype_written t [] in omega (arith, f)
+one_group_short (t ∷ u ∷ ts) =
+    let v = vec_short subtype_written (map alone_of (t ∷ u ∷ ts)) in let e = same (t ∷ u ∷ ts) in omega (arith, v, e)
+  where
+    same : (ts : List CompType) → bytes_by subtype_written (map alone_of ts) ≡ bytes_by comptype_written ts
+    same [] = refl
+    same (t ∷ ts) =
+        let q = same ts in let l = first_item subtype_written (alone_of t) (map alone_of ts) in let r = first_item comptype_written t ts in omega (arith, q, l, r)
+
+-- the groups have no more bytes than the types, and those of the one group of two
+grouped_short : (ts : List CompType) → bytes_by rectype_written (grouped ts) ≤ 11 + bytes_by comptype_written ts
+grouped_short ts =
+    let us = drop 5 ts in
+    let two : RecGroup = record { types = map alone_of (take 2 us) } in
+    let a = both_parts rectype_written (map group (take 5 ts)) (two ∷ map group (drop 2 us)) in
+    let b = first_item rectype_written two (map group (drop 2 us)) in
+    let c = one_group_short (take 2 us) in
+    let d = groups_alike (take 5 ts) in
+    let e = groups_alike (drop 2 us) in
+    let f = both_parts comptype_written (take 5 ts) us in
+    let g = both_parts comptype_written (take 2 us) (drop 2 us) in
+    let h = ap (λ (vs : List CompType). bytes_by comptype_written vs) (take-append-drop 5 ts) in
+    let i = ap (λ (vs : List CompType). bytes_by comptype_written vs) (take-append-drop 2 us) in
+    omega (arith, a, b, c, d, e, f, g, h, i)
+
+table_short : (ds : List Declaration) → AreSmall ds → bytes_by rectype_written (grouped (type_table ds)) ≤ 205 + 131 * sizes ds
 table_short ds few =
-    let g = ap (λ (bs : List ℕ). length bs) (groups_alike (type_table ds)) in
+    let g = grouped_short (type_table ds) in
     let a = with_types_short (function_types ds) (continuations ds (handled ds)) in
     let b = with_types_short first_types (types_for_all ds) in
     let c = first_types_short in
@@ -374,11 +415,15 @@ tag_short ds (definition.Function f) = omega arith
 tag_short ds (definition.Handler h) = omega arith
 tag_short ds (definition.Slots s) = omega arith
 
-tags_short : (ds : List Declaration) → bytes_by tag_written (lowered_all ds).tags ≤ 11 * sizes ds
+tags_short : (ds : List Declaration) → bytes_by tag_written (lowered_all ds).tags ≤ 11 + 11 * sizes ds
 tags_short ds =
+    let ts = for_each (λ (d : Declaration). tag_of ds d.definition) ds in
     let q = all_short tag_written (λ (d : Declaration). tag_of ds d.definition) (λ (d : Declaration). []) 11 ds (λ n e at. let t = tag_short ds e.definition in omega (arith, t)) in
-    let b = both_parts tag_written (lowered_all ds).tags (for_each (λ (d : Declaration). []) ds) in
-    omega (arith, q, b)
+    let b = both_parts tag_written ts (for_each (λ (d : Declaration). []) ds) in
+    let c = both_parts tag_written ts (group_tag ∷ []) in
+    let x = number_short group_tag_type in
+    let l = first_item tag_written group_tag [] in
+    omega (arith, q, b, c, x, l)
 
 slots_table_short : (s : Slots) → length (table_written (slots_table s)) ≤ 32
 slots_table_short s =
@@ -486,7 +531,7 @@ ten_parts a b c d e f g h i j =
     let i10 = length-append a (b ++ (c ++ (d ++ (e ++ (f ++ (g ++ (h ++ (i ++ (j ++ []))))))))) in
     omega (arith, i1, i2, i3, i4, i5, i6, i7, i8, i9, i10)
 
-spelling_short : (ds : List Declaration) → AreSmall ds → length (Canon (lowered_all ds)) ≤ 297 * sizes ds + 421
+spelling_short : (ds : List Declaration) → AreSmall ds → length (Canon (lowered_all ds)) ≤ 297 * sizes ds + 508
 spelling_short ds few =
     let m = lowered_all ds in
     let t = section_short 0x01 rectype_written m.types in
@@ -511,8 +556,8 @@ spelling_short ds few =
     (list_section 0x07 export_written m.exports) (list_section 0x09 elem_written m.elements) (number_section 0x0C (data_count m)) (list_section 0x0A code_written m.codes) in
     omega (arith, t, i, f, b, g, e, l, n, c, t1, i1, f1, b1, g1, e1, l1, h, c1, all)
 
--- the spelling of the module is at most 297 times as long as the script is large, and 421 bytes more
-pub spelled_short : (p : Script) → Good p → length (Canon (lowered p)) ≤ 297 * Size p + 421
+-- the spelling of the module is at most 297 times as long as the script is large, and 508 bytes more
+pub spelled_short : (p : Script) → Good p → length (Canon (lowered p)) ≤ 297 * Size p + 508
 spelled_short p good = spelling_short p.declarations (small p good)
 
 -- that of a script of size 50000 has at most 2^24 bytes

@@ -1,16 +1,13 @@
 -- The types of the module of a script stand in it, each at its index.
-use Rattle.std.proofs.Common.{◌≡◌, inl, inr, ℕ, zero, suc, Bool, true, false, List, [], ◌∷◌, ◌++◌, map, length, Option, Some, None, if◌then◌else◌, refl, sym, ap, ◌∙◌, subst, arith}
+use Rattle.std.proofs.Common.{◌≡◌, inl, inr, ℕ, zero, suc, ◌≤◌, Bool, true, false, List, [], ◌∷◌, ◌++◌, length, Option, Some, None, if◌then◌else◌, refl, sym, ap, ◌∙◌, subst, arith}
 use Rattle.std.specs.Prelude.{slice_get}
 use Rattle.std.specs.Str.{bytes_eq}
 use Rattle.w_types.specs.declared.types.CompType.{CompType}
 use Rattle.w_types.specs.declared.types.CompType.TheVariants.{Func}
 use Rattle.w_types.specs.declared.types.FuncType.{FuncType}
 use Rattle.w_types.specs.declared.types.RecGroup.{RecGroup}
-use Rattle.w_types.specs.declared.types.SubType.{SubType}
-use Rattle.w_types.specs.Groups.{subtypes_of, types_of}
+use Rattle.w_types.specs.Groups.{types_of}
 use Rattle.w_syntax.specs.Functions.{function_type as function_type_in}
-use Rattle.w_syntax.specs.Types.{alone_of}
-use Rattle.w_canon.specs.Supertypes.{KeepsKinds}
 use Rattle.w_rules.specs.Context.{Context, type_of, func_of}
 use Rattle.s_syntax.specs.declared.name.Name.{Name}
 use Rattle.s_syntax.specs.declared.script.Function.{Function}
@@ -23,25 +20,9 @@ use Rattle.s_check.specs.Definitions.{definition_of, as_function, as_handler}
 use Rattle.s_index.specs.Types.{place, first_types, clause_type, clause_types, types_for, types_for_all}
 use Rattle.s_index.specs.Indices.{function_types, type_table, continuations}
 use Rattle.s_index.specs.Handled.{handled}
-use Rattle.s_code.specs.Lowered.{group}
-use Rattle.s_valid.proofs.MadeOnce.{IsThere, stands, here, there_cases, there_left, there_right, keeps, adds}
-
--- the types of groups of one each
-pub types_of_groups : (ts : List CompType) → types_of (map group ts) ≡ ts
-unfolding subtypes_of
-types_of_groups [] = refl
-types_of_groups (t ∷ ts) = ap (λ (us : List CompType). t ∷ us) (types_of_groups ts)
-
--- none of them has supertypes
-no_supertypes : (ts : List CompType) (i : ℕ) (t : SubType) → slice_get (subtypes_of (map group ts)) i ≡ Some t → t.supertypes ≡ []
-unfolding subtypes_of
-no_supertypes [] i t e = absurd (cc)
-no_supertypes (u ∷ ts) zero t e = let same : alone_of u ≡ t = cc in ap (λ (s : SubType). s.supertypes) (sym same)
-no_supertypes (u ∷ ts) (suc i) t e = no_supertypes ts i t e
-
--- so each supertype is of its subtypes' kind
-pub kinds_kept : (ts : List CompType) → KeepsKinds (map group ts)
-kinds_kept ts x z h = let none : h.type.supertypes ≡ [] = no_supertypes ts x h.type h.is in let one = h.alone in absurd (cc)
+use Rattle.s_code.specs.Lowered.{grouped}
+use Rattle.s_valid.proofs.MadeOnce.{IsThere, stands, here, there_cases, there_left, there_right, keeps, adds, more_types}
+use Rattle.s_valid.proofs.TypeGroups.{types_of_groups}
 
 -- ## Declarations
 
@@ -82,21 +63,25 @@ first_in_table t ds h =
     let q = in_table t ds f.1 in
     (q.0 ∙ f.0, q.1)
 
+-- so there are seven types or more
+pub seven_types : (ds : List Declaration) → 7 ≤ length (type_table ds)
+seven_types ds = let f = more_types first_types (types_for_all ds) in let q = more_types (function_types ds) (continuations ds (handled ds)) in omega (arith, f, q)
+
 -- ## In the context of the module
 
 -- a type of the table, by its index
-pub type_there : (t : CompType) (ds : List Declaration) (C : Context) → C.types ≡ map group (type_table ds) → IsThere t (type_table ds) → type_of C (place t (type_table ds)) ≡ Some t
+pub type_there : (t : CompType) (ds : List Declaration) (C : Context) → C.types ≡ grouped (type_table ds) → IsThere t (type_table ds) → type_of C (place t (type_table ds)) ≡ Some t
 type_there t ds C is h =
     ap (λ (gs : List RecGroup). slice_get (types_of gs) (place t (type_table ds))) is
     ∙ ap (λ (ts : List CompType). slice_get ts (place t (type_table ds))) (types_of_groups (type_table ds))
     ∙ stands t (type_table ds) h
 
 -- one that a declaration wants
-pub func_there : (t : FuncType) (ds : List Declaration) (C : Context) → C.types ≡ map group (type_table ds) → IsThere (Func t) (types_for_all ds) → func_of C (place (Func t) (type_table ds)) ≡ Some t
+pub func_there : (t : FuncType) (ds : List Declaration) (C : Context) → C.types ≡ grouped (type_table ds) → IsThere (Func t) (types_for_all ds) → func_of C (place (Func t) (type_table ds)) ≡ Some t
 func_there t ds C is h = ap function_type_in (type_there (Func t) ds C is (in_table (Func t) ds (in_function_types (Func t) ds h)).1)
 
 -- one of the first
-pub first_type : (t : CompType) (ds : List Declaration) (C : Context) → C.types ≡ map group (type_table ds) → IsThere t first_types → type_of C (place t first_types) ≡ Some t
+pub first_type : (t : CompType) (ds : List Declaration) (C : Context) → C.types ≡ grouped (type_table ds) → IsThere t first_types → type_of C (place t first_types) ≡ Some t
 first_type t ds C is h =
     let q = first_in_table t ds h in
     ap (λ (x : ℕ). type_of C x) (sym q.0) ∙ type_there t ds C is q.1

@@ -1,5 +1,5 @@
 -- The code of expressions is typed: where the rest is typed behind the value of an expression, the whole is typed before it.
-use Rattle.std.proofs.Common.{◌≡◌, ℕ, ◌+◌, ◌<◌, ◌≤◌, Bool, true, false, pos, negsuc, ◌++◌, List, [], ◌∷◌, Option, Some, is_some, if◌then◌else◌, refl, sym, ap, ◌∙◌, subst, arith}
+use Rattle.std.proofs.Common.{◌≡◌, ℕ, ◌+◌, ◌<◌, ◌≤◌, Bool, true, false, pos, negsuc, ◌++◌, List, [], ◌∷◌, Option, Some, if◌then◌else◌, refl, sym, ap, ◌∙◌, subst, arith}
 use Rattle.w_types.specs.declared.types.CompType.{CompType}
 use Rattle.w_types.specs.declared.types.ValType.{ValType}
 use Rattle.w_types.specs.declared.types.ValType.TheVariants.{I64}
@@ -19,26 +19,27 @@ use Rattle.s_syntax.specs.declared.operators.Connective.TheVariants.{Or, And}
 use Rattle.s_syntax.specs.declared.operators.BinaryOperator.{BinaryOperator}
 use Rattle.s_syntax.specs.declared.operators.BinaryOperator.TheVariants.{Connects, Compares, Computes}
 use Rattle.s_syntax.specs.declared.script.VariableType.{VariableType}
-use Rattle.s_syntax.specs.declared.script.VariableType.TheVariants.{Int, Resumption}
+use Rattle.s_syntax.specs.declared.script.VariableType.TheVariants.{Int, Resumption, Coroutine}
 use Rattle.s_syntax.specs.declared.script.Function.{Function}
 use Rattle.s_syntax.specs.declared.script.Handler.{Handler}
 use Rattle.s_syntax.specs.declared.script.Script.{Script}
-use Rattle.s_syntax.specs.ExprTree.{ExprTree, Literal, Read, Unary, Run, Call, Do, Handle, Resume, Exprs, NoExprs, MoreExprs, Operands, NoOperands, MoreOperands}
+use Rattle.s_syntax.specs.ExprTree.{ExprTree, Literal, Read, Unary, Run, Call, Do, Handle, Resume, Group, Exprs, NoExprs, MoreExprs, Operands, NoOperands, MoreOperands}
 use Rattle.s_check.specs.Definitions.{function_of, handler_of}
-use Rattle.s_check.specs.Rules.{count}
+use Rattle.s_check.specs.Rules.{is_reference, count}
 use Rattle.s_check.specs.Scopes.{Scope, type_in, is_among}
 use Rattle.s_index.specs.Handled.{handled_names, handled_in_expr, handled_in_exprs, handled_in_operands}
 use Rattle.s_index.specs.Indices.{continuation_index}
-use Rattle.s_index.specs.Numbers.{function_index, handler_index, tag_index}
+use Rattle.s_index.specs.Numbers.{function_index, handler_index, tag_index, group_tag_index}
 use Rattle.s_index.specs.Types.{resumption_type, computation_type, to_continuation, val_type, val_types, numbers}
 use Rattle.s_code.specs.Instructions.{call, nop, local_get, local_set, truth, unary_operator, binop_of, relop_of}
+use Rattle.s_code.specs.Coroutines.{group_code}
 use Rattle.s_code.specs.Layouts.{Layout, local_number, stays, slot}
 use Rattle.s_code.specs.Temporaries.{high, high_args, high_aside, high_operands}
 use Rattle.s_code.specs.Expressions.{expr, args, set_aside, operands, operator, reload, begin, wake, handler_index_of}
-use Rattle.s_meaning.specs.Typing.{kinds, ExprTyped, OperandsTyped, ArgsTyped, literal, read, unary, run, call as calls, does, handle, resume, no_more, next, no_args, number, resumption}
+use Rattle.s_meaning.specs.Typing.{kinds, ExprTyped, OperandsTyped, ArgsTyped, literal, read, unary, run, call as calls, does, handle, resume, group, no_more, next, no_args, number, resumption, coroutine}
 use Rattle.s_meaning.specs.Typing as script
-use Rattle.s_valid.proofs.Rests.{Rest, pushed, less_typed, weaker, constant_typed, is_zero_typed, extend_typed, binary_typed, compare_typed, nop_typed, get_typed, set_typed, call_typed, suspend_typed, reference_typed, new_typed, bind_typed, number_if_typed, truth_typed, value_typed}
-use Rattle.s_valid.proofs.LayoutTypes.{Scoped, inside, local_typed, handler_at, types, types_of_kinds, types_of_numbers, pushed_row, AllHandled, handled_left, handled_right, handled_first, handled_later}
+use Rattle.s_valid.proofs.Rests.{Rest, pushed, less_typed, weaker, constant_typed, is_zero_typed, extend_typed, binary_typed, compare_typed, nop_typed, get_typed, set_typed, call_typed, suspend_typed, reference_typed, new_typed, bind_typed, resume_group_typed, number_if_typed, truth_typed, value_typed}
+use Rattle.s_valid.proofs.LayoutTypes.{Scoped, inside, local_typed, handler_at, refers_at, types, types_of_kinds, types_of_numbers, pushed_row, AllHandled, handled_left, handled_right, handled_first, handled_later}
 
 -- ## Temporaries
 
@@ -72,29 +73,32 @@ module _ {p : Script} {L : Layout} {Γ : Scope} {n D : ℕ} {C : Context} (s : S
   -- a number doesn't stay where it is
   number_moves : (e : ExprTree) → ExprTyped p Γ e → stays L e ≡ false
   number_moves (Literal m) t = refl
-  number_moves (Read x) (read h) = ap is_some (handler_at s x Int h)
+  number_moves (Read x) (read h) = refers_at s x Int h
   number_moves (Unary o e) t = refl
   number_moves (Run e ps) t = refl
   number_moves (Call f es) t = refl
   number_moves (Do op es) t = refl
   number_moves (Handle f es h ps) t = refl
   number_moves (Resume k e ps) t = refl
+  number_moves (Group f e) t = refl
 
   number_slot : (e : ExprTree) (t : ℕ) → ExprTyped p Γ e → slot L t e ≡ L.temporaries + t
   number_slot (Literal m) t h = refl
-  number_slot (Read x) t (read h) = ap (λ (b : Bool). if b then local_number L x else (L.temporaries + t)) (ap is_some (handler_at s x Int h))
+  number_slot (Read x) t (read h) = ap (λ (b : Bool). if b then local_number L x else (L.temporaries + t)) (refers_at s x Int h)
   number_slot (Unary o e) t h = refl
   number_slot (Run e ps) t h = refl
   number_slot (Call f es) t h = refl
   number_slot (Do op es) t h = refl
   number_slot (Handle f es h ps) t q = refl
   number_slot (Resume k e ps) t h = refl
+  number_slot (Group f e) t h = refl
 
-  resumption_stays : (x h : Name) → type_in Γ x ≡ Some (Resumption h) → stays L (Read x) ≡ true
-  resumption_stays x h e = ap is_some (handler_at s x (Resumption h) e)
+  -- a resumption and a coroutine do
+  reference_stays : (x : Name) (k : VariableType) → type_in Γ x ≡ Some k → is_reference (Some k) ≡ true → stays L (Read x) ≡ true
+  reference_stays x k e q = refers_at s x k e ∙ q
 
-  resumption_slot : (x h : Name) (t : ℕ) → type_in Γ x ≡ Some (Resumption h) → slot L t (Read x) ≡ local_number L x
-  resumption_slot x h t e = ap (λ (b : Bool). if b then local_number L x else (L.temporaries + t)) (resumption_stays x h e)
+  reference_slot : (x : Name) (k : VariableType) (t : ℕ) → type_in Γ x ≡ Some k → is_reference (Some k) ≡ true → slot L t (Read x) ≡ local_number L x
+  reference_slot x k t e q = ap (λ (b : Bool). if b then local_number L x else (L.temporaries + t)) (reference_stays x k e q)
 
   name_typed : {vs us : Row Operand} {c : Code} (x : Name) (t : VariableType) → type_in Γ x ≡ Some t → Rest C c (vs ▹ Known (val_type t)) us
       → Rest C (Plain (local_get (local_number L x)) c) vs us
@@ -111,7 +115,10 @@ module _ {p : Script} {L : Layout} {Γ : Scope} {n D : ℕ} {C : Context} (s : S
       subst P (sym (number_slot e t q)) (get_typed (L.temporaries + t) (s.temporaries t there) (reload_typed es (t + 1) a (omega (arith, h)) r))
   reload_typed (MoreExprs (Read x) es) {vs = vs} {us} {c} t (resumption {h = g} e a) h r =
       let P : ℕ → Type 0 = λ y. Rest C (Plain (local_get y) (reload L (t + 1) es c)) vs us in
-      subst P (sym (resumption_slot x g t e)) (name_typed x (Resumption g) e (reload_typed es (t + 1) a (omega (arith, h)) r))
+      subst P (sym (reference_slot x (Resumption g) t e refl)) (name_typed x (Resumption g) e (reload_typed es (t + 1) a (omega (arith, h)) r))
+  reload_typed (MoreExprs (Read x) es) {vs = vs} {us} {c} t (coroutine e a) h r =
+      let P : ℕ → Type 0 = λ y. Rest C (Plain (local_get y) (reload L (t + 1) es c)) vs us in
+      subst P (sym (reference_slot x Coroutine t e refl)) (name_typed x Coroutine e (reload_typed es (t + 1) a (omega (arith, h)) r))
 
   -- ## Computations that are ready to run
 
@@ -138,6 +145,17 @@ module _ {p : Script} {L : Layout} {Γ : Scope} {n D : ℕ} {C : Context} (s : S
       (bind_typed vs y ts (ap (λ (t : Option CompType). func_at C (index_in_cont t)) q.continuation ∙ q.type)
       (ap (λ (t : Option CompType). func_at C (index_in_cont t)) o.computation ∙ o.computed)
       (less_typed o.keeps (weaker C vs computation_type) r)))))
+
+  -- a function of a number, which runs in a group
+  group_typed : {vs us : Row Operand} {c : Code} (f : Name) (g : Function) → function_of p.declarations f ≡ Some g → kinds g.parameters ≡ Int ∷ []
+      → is_among (handled_names p.declarations) f ≡ true → Rest C c (vs ▹ Known I64) us → Rest C (group_code p.declarations f c) (vs ▹ Known I64) us
+  group_typed {vs} {us} {c} f g is one among r =
+      let o = s.offers in let q = o.handled f g is among in
+      reference_typed (function_index p.declarations f) 0 (o.grouped f g is one) q.declared
+      (less_typed o.keeps (weaker C (vs ▹ Known I64) 0)
+      (new_typed resumption_type 0 o.resumption
+      (less_typed o.keeps (weaker C (vs ▹ Known I64) resumption_type)
+      (resume_group_typed resumption_type (group_tag_index p.declarations) (ap (λ (t : Option CompType). func_at C (index_in_cont t)) o.resumption ∙ o.resumed) o.group r))))
 
   -- the function of a handler, which takes its parameters and a computation
   under_handler : (vs : Row Operand) {us : Row Operand} {c : Code} (h : Name) (i : Handler) → handler_of p.declarations h ≡ Some i → Rest C c (vs ▹ Known I64) us
@@ -193,6 +211,8 @@ module _ {p : Script} {L : Layout} {Γ : Scope} {n : ℕ} where
         (get_typed (L.temporaries + t) (s.temporaries t free)
         (wake_typed {p = p} s k g is
         (subst P (sym (handler_at s k (Resumption g) is)) (under_handler {p = p} s vs g i there r)))))))
+    expr_typed (Group f e) t s (group {g = g} is one q) h a r =
+        expr_typed e t s q h (handled_later f (handled_in_expr e) a) (group_typed {p = p} s f g is one (handled_first f (handled_in_expr e) a) r)
 
     pub args_typed : (es : Exprs) {ks : List VariableType} {D : ℕ} {C : Context} {vs us : Row Operand} {c : Code} (t : ℕ) → Scoped p.declarations L Γ n D C → ArgsTyped p Γ ks es
         → high_args t es ≤ n → AllHandled p.declarations (handled_in_exprs es) → Rest C c (pushed vs (types ks)) us → Rest C (args p.declarations L t es c) vs us
@@ -202,6 +222,7 @@ module _ {p : Script} {L : Layout} {Γ : Scope} {n : ℕ} where
         (args_typed es t s qs (omega (arith, h)) (handled_right (handled_in_expr e) (handled_in_exprs es) a) r)
     args_typed (MoreExprs (Read x) es) t s (resumption {h = g} e qs) h a r =
         name_typed {p = p} s x (Resumption g) e (args_typed es t s qs (omega (arith, h)) a r)
+    args_typed (MoreExprs (Read x) es) t s (coroutine e qs) h a r = name_typed {p = p} s x Coroutine e (args_typed es t s qs (omega (arith, h)) a r)
 
     -- arguments that are put where they lie until all are there
     aside_typed : (es : Exprs) {ks : List VariableType} {D : ℕ} {C : Context} {vs us : Row Operand} {c : Code} (t : ℕ) → Scoped p.declarations L Γ n D C → ArgsTyped p Γ ks es
@@ -219,7 +240,11 @@ module _ {p : Script} {L : Layout} {Γ : Scope} {n : ℕ} where
     aside_typed (MoreExprs (Read x) es) {C = C} {vs = vs} {us} {c} t s (resumption {h = g} e qs) h a r =
         let k = set_aside p.declarations L (t + 1) es c in
         let P : Bool → Type 0 = λ b. Rest C (if b then Plain nop k else expr p.declarations L t (Read x) (Plain (local_set (L.temporaries + t)) k)) vs us in
-        subst P (sym (resumption_stays {p = p} s x g e)) (nop_typed (aside_typed es (t + 1) s qs (omega (arith, h)) a r))
+        subst P (sym (reference_stays {p = p} s x (Resumption g) e refl)) (nop_typed (aside_typed es (t + 1) s qs (omega (arith, h)) a r))
+    aside_typed (MoreExprs (Read x) es) {C = C} {vs = vs} {us} {c} t s (coroutine e qs) h a r =
+        let k = set_aside p.declarations L (t + 1) es c in
+        let P : Bool → Type 0 = λ b. Rest C (if b then Plain nop k else expr p.declarations L t (Read x) (Plain (local_set (L.temporaries + t)) k)) vs us in
+        subst P (sym (reference_stays {p = p} s x Coroutine e refl)) (nop_typed (aside_typed es (t + 1) s qs (omega (arith, h)) a r))
 
     operands_typed : (ps : Operands) {D : ℕ} {C : Context} {vs us : Row Operand} {c : Code} (t : ℕ) → Scoped p.declarations L Γ n D C → OperandsTyped p Γ ps → high_operands t ps ≤ n
         → AllHandled p.declarations (handled_in_operands ps) → Rest C c (vs ▹ Known I64) us → Rest C (operands p.declarations L t ps c) (vs ▹ Known I64) us

@@ -2,6 +2,7 @@
 use Rattle.std.proofs.Common.{◌≡◌, ℕ, suc, ◌+◌, ◌<◌, ◌≤◌, Bool, true, pos, negsuc, ◌++◌, List, [], ◌∷◌, length, Option, Some, None, slice_get, if◌then◌else◌, refl, sym, ap, ◌∙◌, subst, arith}
 use Rattle.std.proofs.lemmas.Bool.{lt-ltb}
 use Rattle.std.proofs.lemmas.Option.{slice_get_within}
+use Rattle.w_types.specs.declared.types.CompType.{CompType}
 use Rattle.w_types.specs.declared.types.CompType.TheVariants.{Cont}
 use Rattle.w_types.specs.declared.types.ValType.{ValType}
 use Rattle.w_types.specs.declared.types.ValType.TheVariants.{I32, I64}
@@ -13,34 +14,36 @@ use Rattle.w_syntax.specs.Code.{Code, Plain}
 use Rattle.w_rules.specs.Operands.{Operand}
 use Rattle.w_rules.specs.Operands.{Known}
 use Rattle.w_rules.specs.Matching.{known}
-use Rattle.w_rules.specs.Context.{Context, labelled}
+use Rattle.w_rules.specs.Context.{Context, labelled, func_at, index_in_cont}
 use Rattle.w_rules.specs.InstructionTypes.{nullable}
 use Rattle.s_syntax.specs.declared.name.Name.{Name}
-use Rattle.s_syntax.specs.declared.script.VariableType.TheVariants.{Int, Resumption}
+use Rattle.s_syntax.specs.declared.script.VariableType.TheVariants.{Int, Resumption, Coroutine}
 use Rattle.s_syntax.specs.declared.script.Parameter.{Parameter}
+use Rattle.s_syntax.specs.declared.script.Function.{Function}
 use Rattle.s_syntax.specs.declared.script.Handler.{Handler}
 use Rattle.s_syntax.specs.declared.script.Slots.{Slots}
 use Rattle.s_syntax.specs.declared.script.Script.{Script}
-use Rattle.s_syntax.specs.ExprTree.{ExprTree, Literal, Read, Unary, Run, Call, Do, Handle, Resume, Exprs}
+use Rattle.s_syntax.specs.ExprTree.{ExprTree, Literal, Read, Unary, Run, Call, Do, Handle, Resume, Group, Exprs}
 use Rattle.s_syntax.specs.declared.statement.Use.TheVariants as use_for
-use Rattle.s_syntax.specs.BlockTree.{BlockTree, Evaluate, If, While, Fail, Done as NoStatements, ◌⨟◌}
-use Rattle.s_check.specs.Definitions.{handler_of, slots_of}
+use Rattle.s_syntax.specs.BlockTree.{BlockTree, Evaluate, If, While, Fail, Spawn, Done as NoStatements, ◌⨟◌}
+use Rattle.s_check.specs.Definitions.{function_of, handler_of, slots_of}
 use Rattle.s_check.specs.Rules.{handler_of_slots}
-use Rattle.s_check.specs.Scopes.{Scope, type_in, number as number_name, resumption as resumption_name}
-use Rattle.s_index.specs.Handled.{handled_in_expr, handled_in_exprs, handled_in_block}
-use Rattle.s_index.specs.Numbers.{function_index, table_index}
-use Rattle.s_index.specs.Types.{resumption_type, computation_type, val_types}
+use Rattle.s_check.specs.Scopes.{Scope, type_in, is_among, number as number_name, resumption as resumption_name, coroutine as coroutine_name}
+use Rattle.s_index.specs.Handled.{handled_names, handled_in_expr, handled_in_exprs, handled_in_block}
+use Rattle.s_index.specs.Numbers.{function_index, group_tag_index, table_index}
+use Rattle.s_index.specs.Types.{resumption_type, computation_type, coroutine_type, val_types}
 use Rattle.s_code.specs.Instructions.{branch, leave, local_set}
 use Rattle.s_code.specs.Layouts.{Layout, Owner, local_number, handler_of_name, is_own, is_same_handler, owner_parameters}
 use Rattle.s_code.specs.Temporaries.{high, high_block}
 use Rattle.s_code.specs.Expressions.{expr, set_parameters, tail_resume}
 use Rattle.s_code.specs.Places.{binds_in}
 use Rattle.s_code.specs.Slots.{places_of, to_place, store_code, take_code}
+use Rattle.s_code.specs.Coroutines.{spawn_code, switch_code}
 use Rattle.s_code.specs.Statements.{return, block, body, ending, printer}
-use Rattle.s_meaning.specs.Typing.{kinds, ExprTyped, call as calls, resume, lets, assigns, prints, returns, drops, stores_in, takes_from, evaluates, ifs, whiles, fails, BlockTyped, done, statement}
+use Rattle.s_meaning.specs.Typing.{kinds, ExprTyped, call as calls, resume, lets, assigns, prints, returns, drops, stores_in, takes_from, switches_to, evaluates, ifs, whiles, fails, spawns, BlockTyped, done, statement}
 use Rattle.s_meaning.proofs.Scopes.{same_is, same_refl, bool_of}
-use Rattle.s_valid.proofs.Rests.{Rest, is_zero_typed, constant_typed, constant_32_typed, wrap_typed, compare_typed, select_typed, get_typed, set_typed, table_get_typed, table_set_typed, null_typed, checked_typed, less_typed, weaker, call_typed, end_typed, if_typed, loop_typed, branch_if_typed, dropped_typed, branch_typed, returned_typed, return_call_typed, unreachable_typed}
-use Rattle.s_valid.proofs.LayoutTypes.{Scoped, inside, local_typed, handler_at, bound, types_of_kinds, AllHandled, handled_left, handled_right, LetsPlaced, lets_left, lets_right, lets_first}
+use Rattle.s_valid.proofs.Rests.{Rest, is_zero_typed, constant_typed, constant_32_typed, wrap_typed, compare_typed, select_typed, get_typed, set_typed, table_get_typed, table_set_typed, null_typed, checked_typed, less_typed, weaker, reference_typed, new_typed, switch_typed, call_typed, end_typed, if_typed, loop_typed, branch_if_typed, dropped_typed, branch_typed, returned_typed, return_call_typed, unreachable_typed}
+use Rattle.s_valid.proofs.LayoutTypes.{Scoped, inside, local_typed, handler_at, bound, types_of_kinds, AllHandled, handled_left, handled_right, handled_first, handled_later, LetsPlaced, lets_left, lets_right, lets_first}
 use Rattle.s_valid.proofs.TypedExpressions.{expr_typed, args_typed, least_args, on_top, wake_typed}
 
 -- ## Parameters set from the stack
@@ -119,6 +122,7 @@ module _ {p : Script} {L : Layout} {n : ℕ} where
       (return_call_typed ε ε (function_index p.declarations f) (val_types g.parameters) (s.offers.function f g is) s.results r))
   return_typed (Do op es) s q h a r = expr_typed (Do op es) 0 s q h a (returned_typed ε s.results r)
   return_typed (Handle f es g ps) s q h a r = expr_typed (Handle f es g ps) 0 s q h a (returned_typed ε s.results r)
+  return_typed (Group f e) s q h a r = expr_typed (Group f e) 0 s q h a (returned_typed ε s.results r)
 
   -- ## Slots
 
@@ -161,6 +165,29 @@ module _ {p : Script} {L : Layout} {n : ℕ} where
       (wrap_typed {vs = ε}
       (null_typed resumption_type (lt-ltb resumption_type (length (types_of C.types)) there)
       (table_set_typed {vs = ε} (table_index p.declarations x) (s.offers.slots x d is) r))))))))
+
+  -- ## Coroutines
+
+  -- a coroutine of a function gets the local of its name
+  spawn_typed : {Γ : Scope} {D : ℕ} {C : Context} {us : Row Operand} {c : Code} (x f : Name) (g : Function) → Scoped p.declarations L Γ n D C → function_of p.declarations f ≡ Some g
+      → kinds g.parameters ≡ Int ∷ Coroutine ∷ [] → is_among (handled_names p.declarations) f ≡ true → type_in Γ x ≡ Some Coroutine → Rest C c ε us → Rest C (spawn_code p.declarations L x f c) ε us
+  spawn_typed {C = C} x f g s is two among named r =
+      let o = s.offers in let q = o.handled f g is among in
+      reference_typed {vs = ε} (function_index p.declarations f) 5 (o.spawned f g is two) q.declared
+      (less_typed o.keeps (weaker C ε 5)
+      (new_typed {vs = ε} coroutine_type 5 o.coroutine
+      (less_typed o.keeps (weaker C ε coroutine_type)
+      (set_typed {vs = ε} (local_number L x) (local_typed s x Coroutine named) r))))
+
+  -- what a switch gives gets the locals of two names, each bound in a scope of its own
+  switch_code_typed : {Γ Δ Θ : Scope} {D : ℕ} {C : Context} {us : Row Operand} {c : Code} (x u t : Name) → Scoped p.declarations L Γ n D C → Scoped p.declarations L Δ n D C → Scoped p.declarations L Θ n D C
+      → type_in Γ t ≡ Some Coroutine → type_in Δ x ≡ Some Int → type_in Θ u ≡ Some Coroutine → Rest C c ε us → Rest C (switch_code p.declarations L x u t c) (ε ▹ Known I64) us
+  switch_code_typed {C = C} x u t s s1 s2 target first second r =
+      let o = s.offers in
+      get_typed (local_number L t) (local_typed s t Coroutine target)
+      (switch_typed {vs = ε} coroutine_type (group_tag_index p.declarations) (ap (λ (k : Option CompType). func_at C (index_in_cont k)) o.coroutine ∙ o.switched) o.group
+      (set_typed (local_number L u) (local_typed s2 u Coroutine second)
+      (set_typed {vs = ε} (local_number L x) (local_typed s1 x Int first) r)))
 
   -- ## Blocks
 
@@ -217,6 +244,20 @@ module _ {p : Script} {L : Layout} {n : ℕ} where
       expr_typed e 0 s q (omega (arith, h)) (handled_left (handled_in_expr e) (handled_in_block b) a)
       (take_typed x k d s' (omega (arith, h)) is named
       (block_typed b s' rest (lets_right (t ∷ []) (binds_in p.declarations b) l') (omega (arith, h)) (handled_right (handled_in_expr e) (handled_in_block b) a) r))
+  block_typed (Evaluate (use_for.Switch x u t) e ⨟ b) {Γ = Γ} s (statement (evaluates q (switches_to is first second)) rest) l h a r =
+      let bs = binds_in p.declarations b in
+      let s1 = bound s (number_name x) (lets_first (number_name x) (coroutine_name u ∷ bs) l) in
+      let s2 = bound s1 (coroutine_name u) (lets_first (coroutine_name u) bs (lets_right (number_name x ∷ []) (coroutine_name u ∷ bs) l)) in
+      let is_int : type_in (number_name x ∷ Γ) x ≡ Some Int = ap (λ (b : Bool). if b then Some Int else type_in Γ x) (same_refl x) in
+      let named : type_in (coroutine_name u ∷ number_name x ∷ Γ) u ≡ Some Coroutine = ap (λ (b : Bool). if b then Some Coroutine else type_in (number_name x ∷ Γ) u) (same_refl u) in
+      expr_typed e 0 s q (omega (arith, h)) (handled_left (handled_in_expr e) (handled_in_block b) a)
+      (switch_code_typed x u t s s1 s2 is is_int named
+      (block_typed b s2 rest (lets_right (number_name x ∷ coroutine_name u ∷ []) bs l) (omega (arith, h)) (handled_right (handled_in_expr e) (handled_in_block b) a) r))
+  block_typed (Spawn t f ⨟ b) {Γ = Γ} s (statement (spawns {g = g} is two fit) rest) l h a r =
+      let s' = bound s (coroutine_name t) (lets_first (coroutine_name t) (binds_in p.declarations b) l) in
+      let named : type_in (coroutine_name t ∷ Γ) t ≡ Some Coroutine = ap (λ (b : Bool). if b then Some Coroutine else type_in Γ t) (same_refl t) in
+      spawn_typed t f g s' is two (handled_first f (handled_in_block b) a) named
+      (block_typed b s' rest (lets_right (coroutine_name t ∷ []) (binds_in p.declarations b) l) (omega (arith, h)) (handled_later f (handled_in_block b) a) r)
   block_typed (Fail ⨟ b) s (statement fails rest) l h a r = unreachable_typed ε (block_typed b s rest l (omega (arith, h)) a r)
   block_typed (Evaluate use_for.Drop e ⨟ b) s (statement (evaluates q drops) rest) l h a r =
       expr_typed e 0 s q (omega (arith, h)) (handled_left (handled_in_expr e) (handled_in_block b) a)

@@ -1,5 +1,5 @@
 -- Each type of the module of a script is valid.
-use Rattle.std.proofs.Common.{◌≡◌, ◌⊎◌, inl, inr, ℕ, zero, suc, ◌+◌, ◌<◌, ◌≤◌, Bool, true, false, List, [], ◌∷◌, ◌++◌, map, length, Option, Some, None, if◌then◌else◌, refl, sym, ap, ◌∙◌, subst, arith, get_or, length-append}
+use Rattle.std.proofs.Common.{◌≡◌, ◌⊎◌, inl, inr, ℕ, zero, suc, ◌<◌, ◌≤◌, Bool, true, false, List, [], ◌∷◌, ◌++◌, length, Option, Some, None, if◌then◌else◌, refl, sym, ap, subst, arith, get_or, length-append}
 use Rattle.std.specs.Prelude.{nat_lt, slice_get, option_map, All}
 use Rattle.std.proofs.lemmas.Bool.{ltb-true, lt-ltb}
 use Rattle.std.proofs.lemmas.List.Elements.{All-nil, All-cons, All-append}
@@ -11,26 +11,27 @@ use Rattle.w_types.specs.declared.types.CompType.{CompType}
 use Rattle.w_types.specs.declared.types.CompType.TheVariants.{Func, Cont}
 use Rattle.w_types.specs.Groups.{types_of}
 use Rattle.w_syntax.specs.Types.{alone_of}
-use Rattle.w_rules.specs.Types.{IsValidHeap, IsValidType, IsValidCompType, with_ends}
+use Rattle.w_rules.specs.Types.{IsValidHeap, IsValidType, IsValidCompType}
 use Rattle.w_rules.specs.Valid.{TypeValid}
 use Rattle.s_syntax.specs.declared.name.Name.{Name}
 use Rattle.s_syntax.specs.declared.script.VariableType.{VariableType}
-use Rattle.s_syntax.specs.declared.script.VariableType.TheVariants.{Int, Resumption}
+use Rattle.s_syntax.specs.declared.script.VariableType.TheVariants.{Int, Resumption, Coroutine}
 use Rattle.s_syntax.specs.declared.script.Parameter.{Parameter}
 use Rattle.s_syntax.specs.declared.script.Clause.{Clause}
 use Rattle.s_syntax.specs.declared.script.Definition.{Definition}
 use Rattle.s_syntax.specs.declared.script.Definition.TheVariants as definition
 use Rattle.s_syntax.specs.declared.script.Declaration.{Declaration}
 use Rattle.s_check.specs.Definitions.{definition_of}
-use Rattle.s_index.specs.Types.{place, with_type, with_types, first_types, from_to, function_type, handler_type, effect_type, clause_type, clause_types, types_for, types_for_all, val_type, val_types, numbers, to_continuation, resumption_type, computation_type}
+use Rattle.s_index.specs.Types.{place, with_type, with_types, first_types, from_to, function_type, handler_type, effect_type, clause_type, clause_types, types_for, types_for_all, val_type, val_types, numbers, to_continuation, resumption_type, computation_type, coroutine_type}
 use Rattle.s_index.specs.Indices.{function_types, type_table, parameters_of, continuation_of, continuations}
 use Rattle.s_index.specs.Handled.{handled}
 use Rattle.s_index.specs.Numbers.{Entry, no_counts, entry_of, parameters_in}
 use Rattle.s_index.proofs.Entries.{entry_defines}
-use Rattle.s_code.specs.Lowered.{group, lowered_all}
+use Rattle.s_code.specs.Lowered.{lowered_all}
 use Rattle.s_valid.proofs.MadeOnce.{IsThere, stands, here, behind, there_cases, there_either, keeps}
 use Rattle.s_valid.proofs.NumbersInModules.{get_left}
-use Rattle.s_valid.proofs.TypeTable.{types_of_groups, types_among, in_function_types}
+use Rattle.s_valid.proofs.TypeGroups.{types_of_groups, end_of, past, end_at}
+use Rattle.s_valid.proofs.TypeTable.{types_among, in_function_types, seven_types}
 
 -- an item of a list
 pub item : {A : Type 0} (xs : List A) (i : ℕ) → i < length xs → (x : A) × (slice_get xs i ≡ Some x)
@@ -57,10 +58,10 @@ pub valid_more : (ts us : List CompType) (a b : ℕ) (t : CompType) → a ≤ b 
 valid_more ts us a b (Func t) le v = (λ k d lt. type_more a b (get_or t.params k d) le (v.0 k d lt), λ k d lt. type_more a b (get_or t.results k d) le (v.1 k d lt))
 valid_more ts us a b (Cont x) le v = (omega (arith, le, v.0), v.1, get_left ts us x (Func v.1) v.2)
 
--- ## A list of types, each by those up to it
+-- ## A list of types, each by those up to the end of its group
 
 abbrev pub AreSound : List CompType → Type 0
-AreSound ts = (i : ℕ) (t : CompType) → slice_get ts i ≡ Some t → IsValidCompType ts (suc i) t
+AreSound ts = (i : ℕ) (t : CompType) → slice_get ts i ≡ Some t → IsValidCompType ts (end_of i) t
 
 last_cases : {A : Type 0} (xs : List A) (y : A) (i : ℕ) (x : A) → slice_get (xs ++ y ∷ []) i ≡ Some x → (slice_get xs i ≡ Some x) ⊎ ((i ≡ length xs) × (y ≡ x))
 last_cases [] y zero x e = inr (refl, cc)
@@ -70,8 +71,8 @@ last_cases (z ∷ xs) y (suc i) x e = elim (last_cases xs y i x e) [ inl l ↦ i
 
 sound_one : (ts : List CompType) (u : CompType) → AreSound ts → IsValidCompType ts (length ts) u → AreSound (ts ++ u ∷ [])
 sound_one ts u s v i t e = elim (last_cases ts u i t e) [
-  | inl l ↦ valid_more ts (u ∷ []) (suc i) (suc i) t (omega arith) (s i t l)
-  | inr r ↦ subst (λ (w : CompType). IsValidCompType (ts ++ u ∷ []) (suc i) w) r.1 (let n = r.0 in valid_more ts (u ∷ []) (length ts) (suc i) u (omega (arith, n)) v)
+  | inl l ↦ valid_more ts (u ∷ []) (end_of i) (end_of i) t (omega arith) (s i t l)
+  | inr r ↦ subst (λ (w : CompType). IsValidCompType (ts ++ u ∷ []) (end_of i) w) r.1 (let n = r.0 in let q = past i in valid_more ts (u ∷ []) (length ts) (end_of i) u (omega (arith, n, q)) v)
 ]
 
 sound_step : (ts us : List CompType) (u : CompType) (b : Bool) → AreSound ts → IsValidCompType ts (length ts) u → ((t : CompType) → IsThere t us → IsValidCompType ts (length ts) t)
@@ -101,50 +102,59 @@ first_sound (suc zero) t e = subst (λ (u : CompType). IsValidCompType first_typ
 first_sound (suc (suc zero)) t e = subst (λ (u : CompType). IsValidCompType first_types 3 u) (let same : from_to [] (val.I64 ∷ []) ≡ t = cc in same) (no_types 3, one_number 3)
 first_sound (suc (suc (suc zero))) t e = subst (λ (u : CompType). IsValidCompType first_types 4 u) (let same : Cont 2 ≡ t = cc in same) (omega arith, record { params = []; results = val.I64 ∷ [] }, refl)
 first_sound (suc (suc (suc (suc zero)))) t e = subst (λ (u : CompType). IsValidCompType first_types 5 u) (let same : from_to (val.I64 ∷ []) [] ≡ t = cc in same) (one_number 5, no_types 5)
-first_sound (suc (suc (suc (suc (suc i))))) t e = absurd (cc)
+first_sound (suc (suc (suc (suc (suc zero))))) t e =
+    subst (λ (u : CompType). IsValidCompType first_types 7 u) (let same : from_to (val.I64 ∷ to_continuation true coroutine_type ∷ []) (val.I64 ∷ []) ≡ t = cc in same) (
+      All-cons (IsValidType 7) val.I64 (to_continuation true coroutine_type ∷ []) refl (All-cons (IsValidType 7) (to_continuation true coroutine_type) [] refl (no_types 7)),
+      one_number 7,
+    )
+first_sound (suc (suc (suc (suc (suc (suc zero)))))) t e =
+    subst (λ (u : CompType). IsValidCompType first_types 7 u) (let same : Cont 5 ≡ t = cc in same)
+    (omega arith, record { params = val.I64 ∷ to_continuation true coroutine_type ∷ []; results = val.I64 ∷ [] }, refl)
+first_sound (suc (suc (suc (suc (suc (suc (suc i))))))) t e = absurd (cc)
 
 -- ## Types of declarations
 
--- among five types or more
-pub val_type_valid : (end : ℕ) (k : VariableType) → 5 ≤ end → IsValidType end (val_type k)
+-- among seven types or more
+pub val_type_valid : (end : ℕ) (k : VariableType) → 7 ≤ end → IsValidType end (val_type k)
 val_type_valid end Int le = refl
 val_type_valid end (Resumption h) le = lt-ltb 1 end (omega (arith, le))
+val_type_valid end Coroutine le = lt-ltb 6 end (omega (arith, le))
 
-val_types_valid : (ps : List Parameter) → All (IsValidType 5) (val_types ps)
-val_types_valid [] = no_types 5
-val_types_valid (p ∷ ps) = All-cons (IsValidType 5) (val_type p.ty) (val_types ps) (val_type_valid 5 p.ty (omega arith)) (val_types_valid ps)
+val_types_valid : (ps : List Parameter) → All (IsValidType 7) (val_types ps)
+val_types_valid [] = no_types 7
+val_types_valid (p ∷ ps) = All-cons (IsValidType 7) (val_type p.ty) (val_types ps) (val_type_valid 7 p.ty (omega arith)) (val_types_valid ps)
 
-numbers_valid : (n : ℕ) → All (IsValidType 5) (numbers n)
-numbers_valid zero = no_types 5
-numbers_valid (suc n) = All-cons (IsValidType 5) val.I64 (numbers n) refl (numbers_valid n)
+numbers_valid : (n : ℕ) → All (IsValidType 7) (numbers n)
+numbers_valid zero = no_types 7
+numbers_valid (suc n) = All-cons (IsValidType 7) val.I64 (numbers n) refl (numbers_valid n)
 
-one_continuation : (b : Bool) (x : ℕ) → x < 5 → All (IsValidType 5) (to_continuation b x ∷ [])
-one_continuation b x l = All-cons (IsValidType 5) (to_continuation b x) [] (lt-ltb x 5 l) (no_types 5)
+one_continuation : (b : Bool) (x : ℕ) → x < 7 → All (IsValidType 7) (to_continuation b x ∷ [])
+one_continuation b x l = All-cons (IsValidType 7) (to_continuation b x) [] (lt-ltb x 7 l) (no_types 7)
 
-clause_valid : (ts : List CompType) (n : ℕ) → IsValidCompType ts 5 (clause_type n)
-clause_valid ts n = (no_types 5, All-append (IsValidType 5) (numbers n) (to_continuation false resumption_type ∷ []) (numbers_valid n) (one_continuation false 1 (omega arith)))
+clause_valid : (ts : List CompType) (n : ℕ) → IsValidCompType ts 7 (clause_type n)
+clause_valid ts n = (no_types 7, All-append (IsValidType 7) (numbers n) (to_continuation false resumption_type ∷ []) (numbers_valid n) (one_continuation false 1 (omega arith)))
 
-clauses_valid : (ts : List CompType) (cs : List Clause) (t : CompType) → IsThere t (clause_types cs) → IsValidCompType ts 5 t
+clauses_valid : (ts : List CompType) (cs : List Clause) (t : CompType) → IsThere t (clause_types cs) → IsValidCompType ts 7 t
 clauses_valid ts [] t h = absurd (omega (arith, h))
 clauses_valid ts (c ∷ cs) t h = elim (there_cases t (clause_type (length c.arguments)) (clause_types cs) h) [
-  | inl e ↦ subst (λ (u : CompType). IsValidCompType ts 5 u) e (clause_valid ts (length c.arguments))
+  | inl e ↦ subst (λ (u : CompType). IsValidCompType ts 7 u) e (clause_valid ts (length c.arguments))
   | inr r ↦ clauses_valid ts cs t r
 ]
 
 only : (t u : CompType) → IsThere t (u ∷ []) → u ≡ t
 only t u h = elim (there_cases t u [] h) [ inl e ↦ e | inr none ↦ absurd (omega (arith, none)) ]
 
-pub definition_valid : (ts : List CompType) (d : Definition) (t : CompType) → IsThere t (types_for d) → IsValidCompType ts 5 t
-definition_valid ts (definition.Effect n) t h = subst (λ (u : CompType). IsValidCompType ts 5 u) (only t (effect_type n.value) h) (numbers_valid n.value, one_number 5)
-definition_valid ts (definition.Function f) t h = subst (λ (u : CompType). IsValidCompType ts 5 u) (only t (function_type f.parameters) h) (val_types_valid f.parameters, one_number 5)
+pub definition_valid : (ts : List CompType) (d : Definition) (t : CompType) → IsThere t (types_for d) → IsValidCompType ts 7 t
+definition_valid ts (definition.Effect n) t h = subst (λ (u : CompType). IsValidCompType ts 7 u) (only t (effect_type n.value) h) (numbers_valid n.value, one_number 7)
+definition_valid ts (definition.Function f) t h = subst (λ (u : CompType). IsValidCompType ts 7 u) (only t (function_type f.parameters) h) (val_types_valid f.parameters, one_number 7)
 definition_valid ts (definition.Handler i) t h = elim (there_cases t (handler_type i.parameters) (clause_types i.clauses) h) [
-  | inl e ↦ subst (λ (u : CompType). IsValidCompType ts 5 u) e
-      (All-append (IsValidType 5) (val_types i.parameters) (to_continuation true computation_type ∷ []) (val_types_valid i.parameters) (one_continuation true 3 (omega arith)), one_number 5)
+  | inl e ↦ subst (λ (u : CompType). IsValidCompType ts 7 u) e
+      (All-append (IsValidType 7) (val_types i.parameters) (to_continuation true computation_type ∷ []) (val_types_valid i.parameters) (one_continuation true 3 (omega arith)), one_number 7)
   | inr r ↦ clauses_valid ts i.clauses t r
 ]
 definition_valid ts (definition.Slots s) t h = absurd (omega (arith, h))
 
-all_valid : (ts : List CompType) (ds : List Declaration) (t : CompType) → IsThere t (types_for_all ds) → IsValidCompType ts 5 t
+all_valid : (ts : List CompType) (ds : List Declaration) (t : CompType) → IsThere t (types_for_all ds) → IsValidCompType ts 7 t
 all_valid ts [] t h = absurd (omega (arith, h))
 all_valid ts (d ∷ ds) t h = elim (there_either t (types_for d.definition) (types_for_all ds) h) [ inl l ↦ definition_valid ts d.definition t l | inr r ↦ all_valid ts ds t r ]
 
@@ -185,12 +195,6 @@ table_sound ds = sound_more (function_types ds) (continuations ds (handled ds)) 
 
 -- ## In the module
 
-end_at : (ts : List CompType) (k i n : ℕ) (t : CompType) → n ≡ k + i + 1 → slice_get ts i ≡ Some t → slice_get (with_ends k (map group ts)) i ≡ Some (n, alone_of t)
-unfolding with_ends
-end_at [] k i n t is e = absurd (cc)
-end_at (u ∷ ts) k zero n t is e = let same : u ≡ t = cc in let end : k + 1 ≡ n = omega (arith, is) in ap (λ (v : CompType). Some (k + 1, alone_of v)) same ∙ ap (λ (m : ℕ). Some (m, alone_of t)) end
-end_at (u ∷ ts) k (suc i) n t is e = end_at ts (k + 1) i n t (omega (arith, is)) e
-
 -- each type is valid
 pub type_valid : (ds : List Declaration) (i : ℕ) → i < length (types_of (lowered_all ds).types) → TypeValid (lowered_all ds) i
 type_valid ds i h =
@@ -199,8 +203,8 @@ type_valid ds i h =
     let t = item (type_table ds) i within in
     record {
       type = alone_of t.0;
-      end = suc i;
-      is = end_at (type_table ds) 0 i (suc i) t.0 (omega arith) t.1;
-      valid = subst (λ (us : List CompType). IsValidCompType us (suc i) t.0) (sym is) (table_sound ds i t.0 t.1);
+      end = end_of i;
+      is = end_at (type_table ds) i t.0 (seven_types ds) t.1;
+      valid = subst (λ (us : List CompType). IsValidCompType us (end_of i) t.0) (sym is) (table_sound ds i t.0 t.1);
       supertypes = tt;
     }

@@ -17,7 +17,8 @@ from rows import (
     linking_files, linking_imports, linking_instances, linking_indices, linking_switching, linking_runs,
     linking_by_chance, example_linked, scripts, script_rules, script_sizes, script_names, script_modules, script_runs,
     script_operators, script_effects, script_random, script_edges, script_slots, script_slot_sizes, script_slot_runs,
-    script_tail_calls, examples, example_modules, texts, text_refusals, text_lines, text_instructions)
+    script_tail_calls, script_coroutines, script_coroutine_sizes, script_coroutine_runs, script_coroutine_modules,
+    examples, example_modules, texts, text_refusals, text_lines, text_instructions)
 from surroundings import pieces
 
 
@@ -163,6 +164,14 @@ _FILES = [
         'script_tail_calls', 'Runs of scripts with tail calls, and how these are compiled.', script_tail_calls.CALLS,
         script_tail_calls.ORDER, script_tail_calls.EFFECTS, script_tail_calls.NO_TAIL_CALLS, script_tail_calls.STEPS,
         script_tail_calls.LIMITS, script_tail_calls.MODULES, script_random.WITH_TAIL_CALLS),
+    _modules(
+        'script_coroutines', 'Scripts with coroutines that are checked.', script_coroutines.GRAMMAR,
+        script_coroutines.NESTING, script_coroutines.RULES, script_coroutines.ORDER, script_coroutine_sizes.SECTION),
+    _modules(
+        'script_coroutine_runs', 'Runs of scripts with coroutines, and how these are compiled.',
+        script_coroutine_runs.RUNS, script_coroutine_runs.GROUPS, script_coroutine_runs.HANDLERS,
+        script_coroutine_runs.FAULTS, script_coroutine_runs.STEPS, script_coroutine_modules.LIMITS,
+        script_coroutine_modules.MODULES, script_random.WITH_COROUTINES),
     _modules('examples', 'The scripts and modules of examples/.', examples.SECTION, example_modules.SECTION),
     _modules('texts', 'Modules and their texts, each from the other.', texts.ITEMS, texts.BODIES, texts.WRITTEN),
     _modules(

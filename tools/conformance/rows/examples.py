@@ -45,6 +45,8 @@ gives('scheduler', 9, 11, 21, 31, 12, 22, 32, 13, 33, 14)
 gives('async', 17, 5, 10, 7)
 gives('pipeline', 100, 2, 12, 5, 5, 19, 2, 12, 30, 56, 8)
 gives('search', 19, 2413)
+gives('coroutines', 55, 1, 4, 9, 16, 25)
+gives('round_robin', 9, 11, 21, 31, 12, 22, 32, 13, 33, 14)
 
 LACKING = {path.stem for path in FOLDER.glob('*.script')} - {row.name.split('/')[0] for row in SECTION.rows}
 if LACKING:

@@ -123,21 +123,24 @@ fn nested(k: res keeps, n) { return handle second() with keeps2(k, n); }
 handler keeps(n) { return(x) { print n; return x; } on go() k { return nested(k, 3); } }
 handler keeps2(k: res keeps, n) { return(x) { return resume k(x * n) with (n); } }
 fn main() { return handle first() with keeps(1); }''', '= 1021', 2, 3)
-RESUMPTIONS.whole('round-robin', '''effect yield/0;
-effect spawn/0;
+ROUND_ROBIN = '''effect yield/0;
+effect fork/0;
 fn task(id, n) { while n { print id * 10 + n; do yield(); n = n - 1; } return id; }
-fn start() { do spawn(); return task(1, 3); }
+fn start() { do fork(); return task(1, 3); }
 fn other(k: res sched) { return handle task(2, 2) with runs(k); }
 handler sched() {
 return(x) { return x; }
-on spawn() k { return other(k); }
+on fork() k { return other(k); }
 on yield() k { return 100 + resume k(0) with (); }
 }
 handler runs(k: res sched) {
 return(x) { return x + resume k(0) with (); }
 on yield() j { return 1000 + resume j(0) with (k); }
 }
-fn main() { return handle start() with sched(); }''')
+fn main() { return handle start() with sched(); }'''
+RESUMPTIONS.whole('round-robin', ROUND_ROBIN)
+# The word `spawn` is no name any more.
+RESUMPTIONS.is_known('round-robin/of-the-name-spawn', ROUND_ROBIN.replace('fork', 'spawn'), 'parse 6')
 RESUMPTIONS.whole('alternating', '''effect give/1;
 fn left() { do give(1); do give(2); do give(3); return 4; }
 fn right() { do give(10); do give(20); return 30; }

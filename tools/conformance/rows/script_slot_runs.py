@@ -424,7 +424,7 @@ compiled('a-store', HANDLER + 'fn f(k: res h) { store s[2] = k; } fn main() { }'
 compiled('a-take', HANDLER + 'fn main() { take k = s[2]; }',
          f'02 01 63 01 01 7E 42 02 {PLACE} 25 00 D4 21 00 20 01 A7 D0 01 26 00 42 00 0F 0B')
 compiled('a-table-before-the-tags', 'effect e/0; ' + HANDLER + 'fn main() { do e(); }',
-         '03 03 02 02 05 04 06 01 63 01 01 03 03 0D 03 01 00 02')
+         '03 03 02 02 07 04 06 01 63 01 01 03 03 0D 05 02 00 02 00 02')
 compiled('slots-that-are-not-used', HANDLER + 'fn main() { return 4; }', '04 06 01 63 01 01 03 03')
 compiled('limits-of-two-bytes', HANDLER.replace('3', '128') + 'fn main() { }', '04 08 01 63 01 01 80 01 80 01')
 compiled('limits-of-three-bytes', HANDLER.replace('3', '65536') + 'fn main() { take k = s[65535]; }',

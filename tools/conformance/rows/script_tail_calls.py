@@ -324,9 +324,9 @@ compiled('code/if', F + 'fn main() { let a = 1; if a { return f(a); } else { ret
          '01 01 7E 42 01 21 00 20 00 50 04 40 42 02 12 01 05 20 00 12 01 0B 42 00 0F 0B')
 compiled('code/while', F + 'fn main() { let a = 1; while a { return f(a); } }',
          '01 01 7E 42 01 21 00 02 40 03 40 20 00 50 0D 01 20 00 12 01 0C 00 0B 0B 42 00 0F 0B')
-# In a handler the locals are what is handled, x and k; the types 5 and 6 are those of the handler and of its block.
+# In a handler the locals are what is handled, x and k; the types 7 and 8 are those of the handler and of its block.
 compiled('code/clauses', 'effect e/0; ' + F + '''handler h() { return(x) { return f(x); } on e() k { return f(5); } }
-fn main() { }''', '03 7E 02 06 20 00 E3 03 01 00 00 00 21 01 20 01 12 01 42 00 0F 0B 21 02 42 05 12 01 42 00 0F 0B 0B')
+fn main() { }''', '03 7E 02 08 20 00 E3 03 01 00 00 00 21 01 20 01 12 01 42 00 0F 0B 21 02 42 05 12 01 42 00 0F 0B 0B')
 compiled('code/a-resumption', '''effect e/0;
 fn go(k: res h, n) { return go(k, n); }
 handler h() { return(x) { return x; } on e() k { return go((k), 2); } }

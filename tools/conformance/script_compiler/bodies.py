@@ -2,14 +2,15 @@
 
 from assembler.instructions import (
     DROP, I32_WRAP_I64, NOP, REF_AS_NON_NULL, RETURN, UNREACHABLE, block, br, br_if, call, cont_bind, cont_new,
-    i64_const, local_get, local_set, loop, ref_func, ref_null, return_call, suspend, table_get, table_set)
+    i64_const, local_get, local_set, loop, on_switch, ref_func, ref_null, resume, return_call, suspend, switch,
+    table_get, table_set)
 from assembler.types import EMPTY
-from script_compiler.indices import COMPUTATION_TYPE, PRINTER, RESUMPTION_TYPE
+from script_compiler.indices import COMPUTATION_TYPE, COROUTINE_TYPE, PRINTER, RESUMPTION_TYPE
 from script_compiler.instructions import (
     ARITHMETIC, COMPARISONS, EXTEND, IS_ZERO, NEGATE, NUMBER, TRUTH, if_zero, place_of)
 from script_reader.trees import (
-    Assign, Call, Do, Evaluate, Fail, Handle, If, Let, Literal, Print, Read, Resume, Return, Run, Store, Take, Unary,
-    While)
+    Assign, Call, Do, Evaluate, Fail, Group, Handle, If, Let, Literal, Print, Read, Resume, Return, Run, Spawn, Store,
+    Switch, Take, Unary, While)
 
 
 class Body:
@@ -28,7 +29,7 @@ class Body:
     def expression(self, used, tree):
         makers = {
             Literal: self._literal, Read: self._read, Unary: self._unary, Run: self._run, Call: self._call,
-            Do: self._do, Handle: self._handle, Resume: self._resume}
+            Do: self._do, Handle: self._handle, Resume: self._resume, Group: self._group}
         return makers[type(tree)](used, tree)
 
     def expressions(self, used, trees):
@@ -83,6 +84,13 @@ class Body:
             self.expressions(used + 1, tree.parameters), local_get(self.layout.temporaries + used),
             local_get(self.layout.numbers[tree.resumption]), cont_bind(RESUMPTION_TYPE, COMPUTATION_TYPE)])
 
+    def _group(self, used, tree):
+        made = self._coroutine_of(tree.function, RESUMPTION_TYPE)
+        return self.expression(used, tree.value) + made + resume(RESUMPTION_TYPE, on_switch(self.indices.group_tag))
+
+    def _coroutine_of(self, function, continuation):
+        return ref_func(self.indices.numbers[function]) + cont_new(continuation)
+
     # Statements.
 
     def statements(self, labels, trees):
@@ -101,6 +109,10 @@ class Body:
             return self._store(tree)
         if isinstance(tree, Take):
             return self._take(tree)
+        if isinstance(tree, Spawn):
+            return self._coroutine_of(tree.function, COROUTINE_TYPE) + local_set(self.layout.numbers[tree.name])
+        if isinstance(tree, Switch):
+            return self._switch(tree)
         return self.expression(0, tree.value) + self._ending(tree)
 
     def _ending(self, tree):
@@ -119,6 +131,13 @@ class Body:
         taken = table_get(table) + REF_AS_NON_NULL + local_set(self.layout.numbers[tree.name])
         emptied = local_get(self.layout.temporaries) + I32_WRAP_I64 + ref_null(RESUMPTION_TYPE) + table_set(table)
         return self._place(tree) + taken + emptied
+
+    def _switch(self, tree):
+        """The coroutine that is given is on top of the number."""
+        numbers = self.layout.numbers
+        switched = local_get(numbers[tree.target]) + switch(COROUTINE_TYPE, self.indices.group_tag)
+        sets = local_set(numbers[tree.coroutine]) + local_set(numbers[tree.name])
+        return self.expression(0, tree.value) + switched + sets
 
     def _place(self, tree):
         """The place of slots that a store or a take is of, by the first temporary."""

@@ -7,8 +7,9 @@ from typing import NamedTuple
 
 from script_compiler.indices import value_type
 from script_compiler.instructions import NUMBER
-from script_reader.trees import Call, Do, Handle, If, Let, Read, Resume, Run, Store, Take, Unary, While
-from script_reader.rules import INT, Parameter
+from script_reader.trees import (
+    Call, Do, Group, Handle, If, Let, Read, Resume, Run, Spawn, Store, Switch, Take, Unary, While)
+from script_reader.rules import COROUTINE, INT, Parameter
 
 
 class Layout(NamedTuple):
@@ -21,11 +22,11 @@ class Layout(NamedTuple):
 
     def handler_of(self, name):
         """The handler of a resumption, or nothing."""
-        return None if self.types[name] == INT else self.types[name][1]
+        return None if self.types[name] in (INT, COROUTINE) else self.types[name][1]
 
     def stays(self, expression):
-        """Whether this is a bare name of a resumption, which is read where it lies."""
-        return isinstance(expression, Read) and self.handler_of(expression.name) is not None
+        """Whether this is a bare name of a resumption or of a coroutine, which is read where it lies."""
+        return isinstance(expression, Read) and self.types[expression.name] != INT
 
     def slot(self, temporary, expression):
         """Where an argument lies until all arguments are there."""
@@ -95,6 +96,10 @@ def bound_in(kept, statements):
             names.append(Parameter(statement.name, INT))
         if isinstance(statement, Take):
             names.append(Parameter(statement.name, ('res', kept[statement.slots])))
+        if isinstance(statement, Spawn):
+            names.append(Parameter(statement.name, COROUTINE))
+        if isinstance(statement, Switch):
+            names += [Parameter(statement.name, INT), Parameter(statement.coroutine, COROUTINE)]
         for inner in _blocks(statement):
             names += bound_in(kept, inner)
     return names
@@ -124,6 +129,8 @@ def _most(used, expression):
     """The number of temporaries in use at any time, so many being in use before."""
     if isinstance(expression, Unary):
         return _most(used, expression.operand)
+    if isinstance(expression, Group):
+        return _most(used, expression.value)
     if isinstance(expression, Run):
         return max(_most(used, expression.first), _most_of(used, [operand for _, operand in expression.others]))
     if isinstance(expression, (Call, Do)):

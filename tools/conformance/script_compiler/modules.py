@@ -7,7 +7,8 @@ from assembler.segments import declared_functions
 from assembler.types import limits
 from script_compiler.bodies import Body
 from script_compiler.indices import (
-    COMPUTATION_TYPE, PRINTER_TYPE, RESUMPTION, Indices, clause_type, effect_type, function_type, handler_type)
+    COMPUTATION_TYPE, GROUP_TAG_TYPE, PRINTER_TYPE, RESUMPTION, Indices, clause_type, effect_type, function_type,
+    handler_type)
 from script_compiler.instructions import NUMBER
 from script_compiler.layouts import function_layout, function_locals, handler_layouts, handler_locals
 
@@ -17,16 +18,16 @@ def module_of(declarations):
     indices = Indices(declarations)
     function_types = [function_type(each.parameters) for each in indices.functions]
     handler_types = [handler_type(each.parameters) for each in indices.handlers]
-    handled = [indices.numbers[each.name] for each in indices.handled]
+    referred = [indices.numbers[each.name] for each in indices.referred]
     codes = [_function_code(indices, each) for each in indices.functions]
     codes += [_handler_code(indices, each) for each in indices.handlers]
     sections = {
-        'types': indices.types, 'imports': [imported(as_func(PRINTER_TYPE), 'print_i64', 'host')],
+        'types': indices.type_entries(), 'imports': [imported(as_func(PRINTER_TYPE), 'print_i64', 'host')],
         'functions': [indices.type(each) for each in function_types + handler_types],
         'tables': [table(RESUMPTION, limits(each.count, each.count)) for each in indices.slots],
-        'tags': [indices.type(effect_type(each.count)) for each in indices.effects],
+        'tags': [*(indices.type(effect_type(each.count)) for each in indices.effects), GROUP_TAG_TYPE],
         'exports': [export('main', 'func', indices.numbers['main'])],
-        'elements': [declared_functions(handled)] if handled else [], 'codes': codes}
+        'elements': [declared_functions(referred)] if referred else [], 'codes': codes}
     return module(**{kind: items for kind, items in sections.items() if items})
 
 

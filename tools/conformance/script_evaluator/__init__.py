@@ -2,7 +2,7 @@
 
 It rests on what `docs/SPECIFICATION.md` tells of the meaning of scripts, and knows nothing of modules and machines.
 Scripts are read by `script_reader`. Handlers are deep, and a resumption is used once at most; so an activation is a
-generator of Python, which waits where the script does, and a resumption a list of these.
+generator of Python, which waits where the script does, and a resumption or a coroutine a list of these.
 """
 
 from functools import lru_cache

@@ -2,10 +2,11 @@
 
 from script_evaluator.ends import Fault
 from script_evaluator.numbers import BINARY, CONNECTIVES, UNARY, decides, truth
-from script_evaluator.steps import Calls, Gives, Handles, Performs, Prints, Resumes, Returns, Stores, Takes
+from script_evaluator.steps import (
+    Calls, Gives, Groups, Handles, Performs, Prints, Resumes, Returns, Spawns, Stores, Switches, Takes)
 from script_reader.trees import (
-    Assign, Call, Do, Evaluate, Fail, Handle, If, Let, Literal, Print, Read, Resume, Return, Run, Store, Take, Unary,
-    While)
+    Assign, Call, Do, Evaluate, Fail, Group, Handle, If, Let, Literal, Print, Read, Resume, Return, Run, Spawn, Store,
+    Switch, Take, Unary, While)
 
 DONE = Gives(None)
 
@@ -71,6 +72,15 @@ class Body:
         place = yield from self.expression(statement.place)
         self.variables[statement.name] = yield Takes(statement.slots, place)
 
+    def spawn(self, statement):
+        self.variables[statement.name] = yield Spawns(statement.function)
+
+    def switch(self, statement):
+        """What goes on here again is given a number and a coroutine."""
+        value = yield from self.expression(statement.value)
+        number, coroutine = yield Switches(self.variables[statement.target], value)
+        self.variables |= {statement.name: number, statement.coroutine: coroutine}
+
     def drop(self, statement):
         yield from self.expression(statement.value)
         yield DONE
@@ -133,10 +143,14 @@ class Body:
         parameters = yield from self.expressions(tree.parameters)
         return (yield Resumes(self.variables[tree.resumption], value, parameters, ends))
 
+    def group(self, tree):
+        value = yield from self.expression(tree.value)
+        return (yield Groups(tree.function, value))
+
 
 STATEMENTS = {
     Let: Body.set, Assign: Body.set, If: Body.choose, While: Body.repeat, Print: Body.print, Return: Body.return_,
-    Fail: Body.fail, Store: Body.store, Take: Body.take, Evaluate: Body.drop}
+    Fail: Body.fail, Store: Body.store, Take: Body.take, Spawn: Body.spawn, Switch: Body.switch, Evaluate: Body.drop}
 EXPRESSIONS = {
     Literal: Body.literal, Read: Body.read, Unary: Body.unary, Run: Body.run, Call: Body.call, Do: Body.do,
-    Handle: Body.handle, Resume: Body.resume}
+    Handle: Body.handle, Resume: Body.resume, Group: Body.group}

@@ -1,10 +1,11 @@
-"""The context of what is done next: activations and active handles, and what a step does to them."""
+"""The context of what is done next: activations, active handles and groups, and what a step does to them."""
 
 from typing import NamedTuple
 
 from script_evaluator.bodies import Body
 from script_evaluator.ends import Fault
-from script_evaluator.steps import Calls, Gives, Handles, Performs, Prints, Resumes, Returns, Stores, Takes
+from script_evaluator.steps import (
+    Calls, Gives, Groups, Handles, Performs, Prints, Resumes, Returns, Spawns, Stores, Switches, Takes)
 
 
 class ActiveHandle(NamedTuple):
@@ -12,6 +13,24 @@ class ActiveHandle(NamedTuple):
 
     handler: str
     parameters: list
+
+
+class ActiveGroup:
+    """A group."""
+
+
+class Coroutine:
+    """A coroutine: the function that it will call, or the places that were captured, the innermost last, or neither
+    where it was consumed."""
+
+    __slots__ = ('function', 'places')
+
+    def __init__(self, function=None, places=None):
+        self.function, self.places = function, places
+
+    @property
+    def is_empty(self):
+        return self.function is None and self.places is None
 
 
 class Resumption:
@@ -25,18 +44,18 @@ class Resumption:
 
 
 class Context:
-    """Places, the innermost last: activations, which are generators, and active handles. `given` is the value that the
-    innermost place goes on with; an activation begins with nothing. `slots` has for each slots declaration its places,
-    each with a resumption or nothing.
+    """Places, the innermost last: activations, which are generators, active handles and groups. `given` is the value
+    that the innermost place goes on with; an activation begins with nothing. `slots` has for each slots declaration its
+    places, each with a resumption or nothing.
 
-    `acts` counts the activations, `hands` the active handles, and `kept` the resumptions that aren't consumed; `takes`
-    those that were taken from slots."""
+    `acts` counts the activations, `hands` the active handles and groups, and `kept` the resumptions and coroutines that
+    aren't consumed; `takes` the resumptions that were taken from slots, and `switches` the switches."""
 
     def __init__(self, declarations):
         self.declarations = {each.name: each for each in declarations}
         self.places = []
         self.slots = {each.name: [None] * each.count for each in declarations if each.kind == 'slots'}
-        self.acts = self.hands = self.kept = self.takes = 0
+        self.acts = self.hands = self.kept = self.takes = self.switches = 0
         self.given = None
         self.value = None       # that of main, at the end
         self._start('main', [])
@@ -46,6 +65,9 @@ class Context:
         place = self.places[-1]
         if isinstance(place, ActiveHandle):
             self._leave_handle(place)
+            return None
+        if isinstance(place, ActiveGroup):
+            self._leave_group()
             return None
         said = place.send(self.given)
         if isinstance(said, Gives):
@@ -74,6 +96,11 @@ class Context:
         variables = _bound(handler, handle.parameters) | {handler.result: self.given}
         self._enter(handler.body, variables, handle.handler)
 
+    def _leave_group(self):
+        """A group to which a value is given is left with it."""
+        self.places.pop()
+        self.hands -= 1
+
     def _start(self, name, values):
         """An activation of a function begins."""
         function = self.declarations[name]
@@ -91,16 +118,31 @@ class Context:
     def _perform(self, said):
         """The clause takes the place of the handle, and what is inside of this is captured."""
         number, clause = self._clause_for(said.effect)
-        handle, captured = self.places[number], self.places[number + 1:]
-        del self.places[number:]
-        inner_handles = sum(isinstance(place, ActiveHandle) for place in captured)
-        self.hands -= 1 + inner_handles
-        self.acts -= len(captured) - inner_handles
+        handle, captured = self.places[number], self._captured(number + 1)
+        self.places.pop()
+        self.hands -= 1
         self.kept += 1
         variables = _bound(self.declarations[handle.handler], handle.parameters)
         variables |= dict(zip(clause.arguments, said.values, strict=True))
         variables[clause.resumption] = Resumption(handle.handler, captured)
         self._enter(clause.body, variables, handle.handler)
+
+    def _captured(self, number):
+        """The places from this one on, which don't go on now."""
+        captured = self.places[number:]
+        del self.places[number:]
+        self._count(captured, -1)
+        return captured
+
+    def _restored(self, captured):
+        """These places go on within those that are there."""
+        self.places += captured
+        self._count(captured, 1)
+
+    def _count(self, places, sign):
+        hands = sum(isinstance(place, (ActiveHandle, ActiveGroup)) for place in places)
+        self.hands += sign * hands
+        self.acts += sign * (len(places) - hands)
 
     def _clause_for(self, effect):
         """The place of the innermost handle whose handler has a clause for an effect, and the clause."""
@@ -121,11 +163,40 @@ class Context:
         said.resumption.places = None
         self.kept -= 1
         self._enter_handle(said.resumption.handler, said.parameters)
-        inner_handles = sum(isinstance(place, ActiveHandle) for place in captured)
-        self.hands += inner_handles
-        self.acts += len(captured) - inner_handles
-        self.places += captured
+        self._restored(captured)
         self.given = said.value
+
+    def _group(self, said):
+        self.places.append(ActiveGroup())
+        self.hands += 1
+        self._start(said.function, [said.value])
+
+    def _spawn(self, said):
+        self.given = Coroutine(said.function)
+        self.kept += 1
+
+    def _switch(self, said):
+        """What stands inside the innermost group is the new coroutine, as many being kept as before. A target that was
+        captured is given the number and the new one; a fresh one calls its function with them."""
+        target = said.target
+        if target.is_empty:
+            raise Fault('reused')
+        captured = Coroutine(places=self._captured(self._group_place() + 1))
+        function, places = target.function, target.places
+        target.function = target.places = None
+        self.switches += 1
+        if places is None:
+            self._start(function, [said.value, captured])
+        else:
+            self._restored(places)
+            self.given = said.value, captured
+
+    def _group_place(self):
+        """The place of the innermost group."""
+        for number in range(len(self.places) - 1, -1, -1):
+            if isinstance(self.places[number], ActiveGroup):
+                return number
+        raise Fault('unhandled group')
 
     def _store(self, said):
         """What stood in the place is forgotten, and the resumption isn't consumed."""
@@ -167,4 +238,5 @@ def _bound(declaration, values):
 
 RULES = {
     Calls: Context._call, Handles: Context._handle, Performs: Context._perform, Resumes: Context._resume,
-    Stores: Context._store, Takes: Context._take, Returns: Context._return}
+    Groups: Context._group, Spawns: Context._spawn, Switches: Context._switch, Stores: Context._store,
+    Takes: Context._take, Returns: Context._return}

@@ -2,4 +2,4 @@
 
 
 class Fault(Exception):
-    """A fault: divzero, overflow, failed, reused, empty, or unhandled and the name of an effect."""
+    """A fault: divzero, overflow, failed, reused, empty, or unhandled and the name of an effect or `group`."""

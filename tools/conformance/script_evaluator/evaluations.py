@@ -9,7 +9,8 @@ from script_evaluator.ends import Fault
 @dataclass
 class Stretch:
     """Steps between which nothing is printed: the first configuration, by its number of steps, how many bytes are
-    printed there, and the most activations and handles, handles, and kept resumptions of any configuration of it."""
+    printed there, and the most activations and handles, handles, and kept resumptions and coroutines of any
+    configuration of it; groups count as handles."""
 
     first: int
     printed: int

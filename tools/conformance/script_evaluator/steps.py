@@ -63,6 +63,26 @@ class Takes(NamedTuple):
     place: int
 
 
+class Groups(NamedTuple):
+    """A function is called with this value in a group."""
+
+    function: str
+    value: int
+
+
+class Spawns(NamedTuple):
+    """A coroutine is made, which will call this function."""
+
+    function: str
+
+
+class Switches(NamedTuple):
+    """The target goes on with this value in the innermost group, and what goes on there now is made a coroutine."""
+
+    target: object
+    value: int
+
+
 class Returns(NamedTuple):
     """The activation ends with this value."""
 

@@ -14,6 +14,7 @@ decl := 'handler' NAME '(' params? ')' '{' 'return' '(' NAME ')' block clause* '
 decl := 'slots' NAME ':' 'res' NAME '[' INT ']' ';'
 params := param (',' param)*
 param := NAME (':' 'res' NAME)?
+param := NAME ':' 'coro'
 clause := 'on' NAME '(' (NAME (',' NAME)*)? ')' NAME block
 block := '{' stmt* '}'
 stmt := 'let' NAME '=' expr ';'
@@ -25,6 +26,8 @@ stmt := 'return' expr ';'
 stmt := 'fail' ';'
 stmt := 'store' NAME '[' expr ']' '=' NAME ';'
 stmt := 'take' NAME '=' NAME '[' expr ']' ';'
+stmt := 'spawn' NAME '=' NAME ';'
+stmt := 'switch' NAME ',' NAME '=' NAME '(' expr ')' ';'
 stmt := expr ';'
 expr := and ('||' and)*
 and := cmp ('&&' cmp)*
@@ -52,6 +55,7 @@ prim := '(' expr ')'
 prim := 'do' NAME '(' args? ')'
 prim := 'handle' NAME '(' args? ')' 'with' NAME '(' args? ')'
 prim := 'resume' NAME '(' expr ')' 'with' '(' args? ')'
+prim := 'group' NAME '(' expr ')'
 args := expr (',' expr)*
 """
 

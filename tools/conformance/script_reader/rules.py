@@ -6,12 +6,13 @@ from script_reader.derivations import Node
 from script_reader.tokens import Token
 
 INT = 'int'     # the type of a number; that of a resumption is its handler's name in a pair
+COROUTINE = 'coro'
 RUNS = ('expr', 'and', 'cmp', 'sum', 'prod')
 GREATEST_PLACES = 65536     # of slots
 
 
 class Parameter(NamedTuple):
-    """A parameter of a function or a handler, and the tokens of its name and of the one behind `res`."""
+    """A parameter of a function or a handler, and the tokens of its names: its own, and the one behind `res`."""
 
     name: str
     type: object
@@ -122,7 +123,8 @@ def _number_in(node):
 
 def _parameter(node):
     name, *handler = _names(node)
-    return Parameter(name, ('res', handler[0]) if handler else INT, _name_tokens(node))
+    other = COROUTINE if 'coro' in _kinds(node) else INT
+    return Parameter(name, ('res', handler[0]) if handler else other, _name_tokens(node))
 
 
 def _clause(node):
@@ -167,7 +169,7 @@ class _Rules:
             return
         self.test_count(3, declaration.parameters, 8)
         for parameter in declaration.parameters:
-            absent = parameter.type != INT and not self.found('handler', parameter.type[1])
+            absent = _is_resumption(parameter.type) and not self.found('handler', parameter.type[1])
             self.test(5, parameter.tokens[-1], absent)
         bound = [*declaration.parameters]
         if declaration.kind == 'handler':
@@ -207,8 +209,9 @@ class _Rules:
 
     def statement(self, scope, statement):
         kinds = _kinds(statement)
-        if kinds[0] in ('store', 'take'):
-            {'store': self.store, 'take': self.take}[kinds[0]](scope, statement)
+        bindings = {'store': self.store, 'take': self.take, 'spawn': self.spawn, 'switch': self.switch}
+        if kinds[0] in bindings:
+            bindings[kinds[0]](scope, statement)
             return
         for expression in _nodes(statement, 'expr'):
             self.expression(scope, expression)
@@ -222,7 +225,7 @@ class _Rules:
     def store(self, scope, statement):
         token, stored = _name_tokens(statement)
         slots = self.place(scope, token, statement)
-        self.name(scope, stored, whole=True)
+        self.name(scope, stored, whole=scope.get(stored.text) != COROUTINE)
         if slots is not None and stored.text in scope:
             self.test(21, stored, not self.is_resumption_of(slots.kept, scope[stored.text]))
 
@@ -232,6 +235,28 @@ class _Rules:
         name, token = _name_tokens(statement)
         slots = self.place(scope, token, statement)
         scope[name.text] = ('res', token.text if slots is None else slots.kept)
+
+    def spawn(self, scope, statement):
+        """The name is bound also where there is no such function."""
+        name, function = _name_tokens(statement)
+        self.function(function, [INT, COROUTINE])
+        scope[name.text] = COROUTINE
+
+    def switch(self, scope, statement):
+        """The target isn't read; the names are bound behind the expression."""
+        number, coroutine, target = _name_tokens(statement)
+        self.test(10, target, target.text not in scope)
+        self.test(23, target, scope.get(target.text, COROUTINE) != COROUTINE)
+        self.expression(scope, _nodes(statement, 'expr')[0])
+        scope[number.text] = INT
+        scope[coroutine.text] = COROUTINE
+
+    def function(self, token, types):
+        """The function of a spawn or of a group, whose parameters are to be of these types."""
+        function = self.found('fn', token.text)
+        self.test(12, token, function is None)
+        unsuited = function is not None and [each.type for each in function.parameters] != types
+        self.test(22, token, unsuited)
 
     def place(self, scope, token, statement):
         """The slots of a place, where they are declared."""
@@ -243,7 +268,7 @@ class _Rules:
     def is_resumption_of(self, handler, given):
         """Whether a value of this type suits where a resumption of a handler is wanted; one of a handler that isn't
         declared suits everywhere."""
-        return given != INT and (given[1] == handler or not self.found('handler', given[1]))
+        return _is_resumption(given) and (given[1] == handler or not self.found('handler', given[1]))
 
     def name(self, scope, token, whole=False):
         """A name that is assigned, or read, as a whole argument or not; a stored one counts as such."""
@@ -273,6 +298,9 @@ class _Rules:
             self.call(scope, 14, 'handler', names[1], self.lists(node)[1])
         elif kinds[0] == 'resume':
             self.resume(scope, node, names[0])
+        elif kinds[0] == 'group':
+            self.function(names[0], [INT])
+            self.expression(scope, _nodes(node, 'expr')[0])
 
     def lists(self, node):
         """The lists of arguments between the parentheses of a node, in order."""
@@ -285,9 +313,9 @@ class _Rules:
     def resume(self, scope, node, token):
         self.expression(scope, _nodes(node, 'expr')[0])
         self.test(10, token, token.text not in scope)
-        self.test(17, token, scope.get(token.text) == INT)
         bound = scope.get(token.text, INT)
-        handler = None if bound == INT else self.found('handler', bound[1])
+        self.test(17, token, token.text in scope and not _is_resumption(bound))
+        handler = self.found('handler', bound[1]) if _is_resumption(bound) else None
         self.arguments(scope, token, handler, self.lists(node)[-1])
 
     def call(self, scope, rule, kind, token, arguments):
@@ -319,7 +347,14 @@ class _Rules:
         given = None if name is None else scope.get(name)
         if wanted == INT:
             return given in (None, INT)
+        if wanted == COROUTINE:
+            return given == COROUTINE
         return given is not None and self.is_resumption_of(wanted[1], given)
+
+
+def _is_resumption(type):
+    """Whether this type is of resumptions."""
+    return type not in (INT, COROUTINE)
 
 
 def _bare_name(node):
@@ -335,7 +370,8 @@ def _bare_name(node):
 
 
 def _bound_in(node):
-    """The tokens of the names that lets and takes bind within."""
-    if node.name == 'stmt' and _kinds(node)[0] in ('let', 'take'):
-        return list(_name_tokens(node))[:1]
+    """The tokens of the names that are bound within, by lets, takes, spawns and switches."""
+    counts = {'let': 1, 'take': 1, 'spawn': 1, 'switch': 2}
+    if node.name == 'stmt' and _kinds(node)[0] in counts:
+        return list(_name_tokens(node))[:counts[_kinds(node)[0]]]
     return [token for part in node.parts if isinstance(part, Node) for token in _bound_in(part)]

@@ -1,6 +1,6 @@
 """The size of scripts."""
 
-from script_reader.trees import Run, parts_of, with_trees
+from script_reader.trees import Run, Spawn, Switch, parts_of, with_trees
 
 GREATEST_SIZE = 50000
 
@@ -26,4 +26,11 @@ def _clause_size(clause):
 
 
 def _body_size(statements):
-    return sum(len(part.others) if isinstance(part, Run) else 1 for part in parts_of(statements))
+    return sum(map(_own_size, parts_of(statements)))
+
+
+def _own_size(part):
+    """The size of a statement or an expression without those in it."""
+    if isinstance(part, Run):
+        return len(part.others)
+    return 2 if isinstance(part, (Spawn, Switch)) else 1

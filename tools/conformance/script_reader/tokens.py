@@ -4,7 +4,8 @@ import re
 from typing import NamedTuple
 
 KEYWORDS = (
-    'effect fn handler return on let if else while print fail do handle with resume res slots store take').split()
+    'effect fn handler return on let if else while print fail do handle with resume res slots store take group switch '
+    'spawn coro').split()
 SYMBOLS = '== != <= >= && || ( ) { } [ ] , ; : / = + - * % < > !'.split()
 GREATEST_NUMBER = 9223372036854775807
 

@@ -66,6 +66,13 @@ class Resume(NamedTuple):
     parameters: list
 
 
+class Group(NamedTuple):
+    """group f(e)."""
+
+    function: str
+    value: object
+
+
 class Let(NamedTuple):
     """A name that is bound."""
 
@@ -127,6 +134,22 @@ class Take(NamedTuple):
     place: object
 
 
+class Spawn(NamedTuple):
+    """spawn t = f, which binds t."""
+
+    name: str
+    function: str
+
+
+class Switch(NamedTuple):
+    """switch x, u = t(e), which binds x and u."""
+
+    name: str
+    coroutine: str
+    target: str
+    value: object
+
+
 class Evaluate(NamedTuple):
     """An expression whose value is dropped."""
 
@@ -178,6 +201,10 @@ def _statement(node):
         return Store(node.parts[1].text, *values, node.parts[6].text)
     if kind == 'take':
         return Take(node.parts[1].text, node.parts[3].text, *values)
+    if kind == 'spawn':
+        return Spawn(node.parts[1].text, node.parts[3].text)
+    if kind == 'switch':
+        return Switch(node.parts[1].text, node.parts[3].text, node.parts[5].text, *values)
     return {'print': Print, 'return': Return, 'fail': Fail, 'expr': Evaluate}[kind](*values)
 
 
@@ -213,7 +240,8 @@ def _primary(node):
         return Do(names[0], lists[0])
     if kind == 'handle':
         return Handle(names[0], lists[0], names[1], lists[1])
-    return Resume(names[0], _expression(_nodes(node, 'expr')[0]), lists[0])
+    value = _expression(_nodes(node, 'expr')[0])
+    return Group(names[0], value) if kind == 'group' else Resume(names[0], value, lists[0])
 
 
 def _lists(node):

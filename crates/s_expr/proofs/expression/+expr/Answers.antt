@@ -5,8 +5,8 @@ use Rattle.s_syntax.specs.declared.operators.BinaryOperator.{BinaryOperator}
 use Rattle.s_syntax.specs.declared.token.Kind.TheVariants as kind
 use Rattle.s_grammar.specs.Kinds.{kind_of, is}
 use Rattle.s_grammar.specs.Reading.{Got}
-use Rattle.s_grammar.specs.Reads.{key, expr, listed, led}
-use Rattle.s_expr.specs.Levels.{operands, operators, operand, parenthesized_expr, arguments}
+use Rattle.s_grammar.specs.Reads.{key, expr, parenthesized_expr, listed, led}
+use Rattle.s_expr.specs.Levels.{operands, operators, operand, arguments}
 use Rattle.s_expr.proofs.BetweenBrackets.{passed_on, stop_as, enclosed_shut, enclosed_deep, enclosed_inner, enclosed_open, enclosed_got}
 use Rattle.s_expr.proofs.ListsWithCommas.{listed_empty, listed_first, listed_starts, listed_stops, listed_goes_on, listed_got}
 use Rattle.s_expr.proofs.Loops.{loop_stops, further, Ahead, loop_goes_on, loop_ends}

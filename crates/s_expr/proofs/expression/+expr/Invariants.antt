@@ -23,6 +23,9 @@ decreases-comma_item_at l = l.nest * 64 + 42
 abbrev pub decreases-graded_at : goal.decreases-graded_at
 decreases-graded_at l = l.nest * 64 + 20 + 4 * rank l.level
 
+abbrev pub decreases-group_at : goal.decreases-group_at
+decreases-group_at l = l.nest * 64 + 17
+
 abbrev pub decreases-handle_at : goal.decreases-handle_at
 decreases-handle_at l = l.nest * 64 + 17
 

@@ -1,7 +1,7 @@
 use Rattle.std.proofs.Common.{◌≡◌, ◌++◌, drop}
 use Rattle.s_syntax.specs.declared.script.Declaration.{Declaration}
 use Rattle.s_code.specs.Lowered.{for_each, tag_of}
-use Rattle.s_lower.proofs.parts.push_tags.Given as goal
+use Rattle.s_lower.proofs.parts.push_effects.Given as goal
 
 abbrev pub invariant-loop-declaration : goal.invariant-loop-declaration
 invariant-loop-declaration l =
