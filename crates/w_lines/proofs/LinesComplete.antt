@@ -19,7 +19,9 @@ use Rattle.w_words.specs.Numbers.{Index32, number_of, count_word}
 use Rattle.w_words.specs.Hexadecimal.{bytes_word, NameFits}
 use Rattle.w_words.specs.Types.{ref_word, RefFits, val_word, ValFits}
 use Rattle.w_words.proofs.Readings.{twos, each_complete, each_clean, until_complete}
+use Rattle.w_words.specs.Pieces.{InLine}
 use Rattle.w_words.proofs.Lines.{words_spaced, words_apart}
+use Rattle.w_words.proofs.Pieces.{words_in_line}
 use Rattle.w_words.proofs.Numerals.{numbers, indices as index_numbers}
 use Rattle.w_words.proofs.Counts.{counts}
 use Rattle.w_words.proofs.HexadecimalWords.{byte_lists, names}
@@ -29,7 +31,7 @@ use Rattle.w_lines.specs.declared.line.Mode.TheVariants as mode
 use Rattle.w_lines.specs.declared.line.Line.{Line}
 use Rattle.w_lines.specs.declared.line.Line.TheVariants as line
 use Rattle.w_lines.specs.Instructions.{token_name, immediates, TokenFits}
-use Rattle.w_lines.specs.Spelling.{mode_words, func_words, composite_words, below_words, subtype_words, table_words, extern_words, index_words, init_words, line_words, line_text, InLine, TableFits, ExternFits, ExternIndexFits, MemoryFits, FuncFits, CompositeFits, ModeFits, LineFits, table_in, table_of, func_of, composite_of, below_of, open_with, alone, extern_of, index_of, import_line, init_of, table_line, export_line, items_line, elements_line, local_line, line_in, line_of}
+use Rattle.w_lines.specs.Spelling.{mode_words, func_words, composite_words, below_words, subtype_words, table_words, extern_words, index_words, init_words, line_words, line_text, TableFits, ExternFits, ExternIndexFits, MemoryFits, FuncFits, CompositeFits, ModeFits, LineFits, table_in, table_of, func_of, composite_of, below_of, open_with, alone, extern_of, index_of, import_line, init_of, table_line, export_line, items_line, elements_line, local_line, line_in, line_of}
 use Rattle.w_lines.proofs.InstructionRows.{token_complete, token_clean, no_kind}
 use Rattle.w_lines.proofs.LineWords.{words_sound, maxima, limits, global_types}
 
@@ -270,18 +272,6 @@ pub line_complete : (l : Line) → LineFits l → line_of (line_text l) ≡ Some
 line_complete l f =
     let e = words_complete l f in
     ap line_in (some_words (line_words l) l e (line_clean l f)) ∙ e
-
-not_feed : (b : ℕ) → 10 < b → nat_eq b 10 ≡ false
-not_feed b lt = elim (eqb_tells b 10) [ inl p ↦ absurd (omega (arith, p.1)) | inr p ↦ p.0 ]
-
-spaced_in_line : (w : Word) (ws : List Word) → Each IsClean (w ∷ ws) → InLine (spaced (w ∷ ws))
-spaced_in_line [] [] h = tt
-spaced_in_line [] (v ∷ ws) h = (refl, spaced_in_line v ws h.1)
-spaced_in_line (b ∷ w) ws h = (not_feed b (omega (arith, h.0.0)), spaced_in_line w ws (h.0.1, h.1))
-
-words_in_line : (ws : List Word) → Each IsClean ws → InLine (spaced ws)
-words_in_line [] h = tt
-words_in_line (w ∷ ws) h = spaced_in_line w ws h
 
 pub text_in_line : (l : Line) → LineFits l → InLine (line_text l)
 text_in_line l f = words_in_line (line_words l) (line_clean l f)

@@ -113,10 +113,6 @@ line_text l = spaced (line_words l)
 abbrev pub line_bytes : Line → List ℕ
 line_bytes l = line_text l ++ 10 ∷ []
 
--- no line feed is in these bytes
-abbrev pub InLine : List ℕ → Type 0
-InLine bs = Each (λ b. nat_eq b 10 ≡ false) bs
-
 -- ## What has a text
 
 abbrev pub MaxFits : Option ℕ → Type 0

@@ -11,9 +11,11 @@ mod memory;
 mod offer;
 mod sure;
 mod traits;
+mod void;
 
 pub use host::{HostInputs, HostSink};
 pub use memory::{MemInputs, MemSink};
 pub use offer::put;
 pub use sure::{SureInputs, SureSink};
 pub use traits::{Fault, Inputs, Sink};
+pub use void::Void;

@@ -81,6 +81,13 @@ impl SureSink {
     {
         self.bytes.as_slice()
     }
+
+    /// Lets the bytes go. Their room is kept.
+    pub fn clear(&mut self)
+        ensures { ⟦<SureSink as Sink>⟧.held self.new ≡ Some [] }
+    {
+        self.bytes.clear();
+    }
 }
 
 impl Sink for SureSink {

@@ -1,6 +1,6 @@
 -- What a reduction by no rule of switching prints, and that it goes on apart from the store's continuations: one that prints leaves its
--- context as it was, or leaves its frame, and every other prints nothing; it neither looks at continuations nor changes them; and but for a
--- call it adds no frame.
+-- context as it was, or leaves its frame, and every other prints nothing; it neither looks at continuations nor changes them; but for a
+-- call it adds no frame; and its trap is none of a tag that nothing handles.
 use Rattle.std.proofs.Common.{◌≡◌, ◌≤◌, ℕ, ℤ, zero, suc, ◌+◌, ◌%◌, Bool, true, false, List, [], ◌∷◌, length, Option, Some, None, refl, sym, subst, arith}
 use Rattle.std.specs.Prelude.{nat_eq, slice_get}
 use Rattle.lists.specs.Rows.{Row, ◌▹◌, ◌⧺◌, size}
@@ -37,6 +37,7 @@ use Rattle.w_num.specs.Signed.{inverse}
 use Rattle.w_rules.specs.Spaces.{functions_of}
 use Rattle.w_reduce.specs.declared.limit.RunLimit.{RunLimit}
 use Rattle.w_reduce.specs.declared.trap.Trap.{Trap}
+use Rattle.w_reduce.specs.declared.trap.Trap.TheVariants as trap
 use Rattle.w_reduce.specs.Values.{Val, I32}
 use Rattle.w_reduce.specs.Store.{Store, Table, with_conts}
 use Rattle.w_reduce.specs.Terms.{Administrative, Invoke, Branch, Rest, rest_of, Label, Frame, Handle, Context, Term, Continuation, locals_of, with_local, frames, handles}
@@ -56,6 +57,7 @@ use Rattle.w_reduce.specs.Exits.{leave}
 use Rattle.w_reduce.specs.Reduce.{instruction, next}
 use Rattle.w_reduce.specs.Apart.{is_switching, switches, apart, PlainReductionsGoApart}
 use Rattle.w_reduce.specs.Entering.{is_call, calls, OnlyCallsAddFrames}
+use Rattle.w_reduce.specs.Unhandled.{is_unhandled, OnlySwitchesAreUnhandled}
 use Rattle.w_reduce.proofs.GoesOn.{Relates, both_or_stuck, both_or_trap, both_unless_fault, both_take_value, both_take_values, both_take_number, both_take_three, both_as_function, both_if, both_unless_zero, both_by_null}
 
 -- what stands outside of a frame
@@ -70,7 +72,7 @@ pub data Plainly (ks : List (Option Continuation)) (e : Context) (last : Bool) (
   stays : {out : List ℕ} {s : Store} {t : Term} → t.around ≡ e → Plainly ks e last most (Went out s t) (Went out (with_conts ks s) t)
   -- it leaves the innermost frame
   leaves_frame : {out : List ℕ} {s : Store} {t : Term} → IsOutside t.around e → Plainly ks e last most (Went out s t) (Went out (with_conts ks s) t)
-  silent_trap : {t : Trap} → Plainly ks e last most (Trapped t) (Trapped t)
+  silent_trap : {t : Trap} → is_unhandled t ≡ false → Plainly ks e last most (Trapped t) (Trapped t)
   silent_limit : {l : RunLimit} → Plainly ks e last most (Limited l) (Limited l)
   silent_end : {vs : Row Val} → last ≡ true → Plainly ks e last most (Ended vs) (Ended vs)
   silent_stuck : Plainly ks e last most Stuck Stuck
@@ -106,7 +108,7 @@ farther less (leaves_frame h) = leaves_frame (record {
   fewer = let a = h.fewer in let b = less.fewer in omega (arith, a, b);
   no_more = let a = h.no_more in let b = less.no_more in omega (arith, a, b);
 })
-farther less silent_trap = silent_trap
+farther less (silent_trap is) = silent_trap is
 farther less silent_limit = silent_limit
 farther less (silent_end is) = silent_end is
 farther less silent_stuck = silent_stuck
@@ -114,7 +116,7 @@ farther less silent_stuck = silent_stuck
 module _ (ks : List (Option Continuation)) (e : Context) (last : Bool) (most : ℕ) (few : frames e ≤ most) where
   -- where there is no rule, and where both trap, both do the same
   closed : Relates (Plainly ks e last most)
-  closed = record { stuck = silent_stuck; traps = λ t. silent_trap }
+  closed = record { stuck = silent_stuck; traps = λ t is. silent_trap is }
 
   -- ## Instructions that hold no others
 
@@ -153,21 +155,21 @@ module _ (ks : List (Option Continuation)) (e : Context) (last : Bool) (most : �
   pub plainly_memory : (s : Store) (vs : Row Val) (o : MemoryOp) (k : Code) → Plainly ks e last most (memory_op s e vs o k) (memory_op (with_conts ks s) e vs o k)
   plainly_memory s vs (memory.Load o arg) k =
       both_take_number closed int.I32 vs _ _ (λ p. both_or_stuck closed (slice_get s.memories arg.memory) _ _ (λ m.
-      both_or_trap closed _ (load m (p.1 + arg.offset) (loaded_size o)) _ _ (λ n. stays refl)))
+      both_or_trap closed trap.MemoryOutOfBounds refl (load m (p.1 + arg.offset) (loaded_size o)) _ _ (λ n. stays refl)))
   plainly_memory s vs (memory.Store o arg) k =
       both_take_number closed (stored_type o) vs _ _ (λ p. both_take_number closed int.I32 p.0 _ _ (λ q. both_or_stuck closed (slice_get s.memories arg.memory) _ _ (λ m.
-      both_or_trap closed _ (store m (q.1 + arg.offset) (stored_size o) p.1) _ _ (λ n. stays refl))))
+      both_or_trap closed trap.MemoryOutOfBounds refl (store m (q.1 + arg.offset) (stored_size o) p.1) _ _ (λ n. stays refl))))
   plainly_memory s vs (memory.Size x) k = both_or_stuck closed (slice_get s.memories x) _ _ (λ m. stays refl)
   plainly_memory s vs (memory.Grow x) k = both_take_number closed int.I32 vs _ _ (λ p. both_or_stuck closed (slice_get s.memories x) _ _ (λ m. stays refl))
   plainly_memory s vs (memory.Init y x) k =
       both_take_three closed vs _ _ (λ n j d. both_or_stuck closed (slice_get s.memories x) _ _ (λ m. both_or_stuck closed (slice_get s.datas y) _ _ (λ bytes.
-      both_or_trap closed _ (init m bytes d.1 j.1 n.1) _ _ (λ new. stays refl))))
+      both_or_trap closed trap.MemoryOutOfBounds refl (init m bytes d.1 j.1 n.1) _ _ (λ new. stays refl))))
   plainly_memory s vs (memory.DataDrop y) k = both_or_stuck closed (slice_get s.datas y) _ _ (λ bytes. stays refl)
   plainly_memory s vs (memory.Copy x y) k =
       both_take_three closed vs _ _ (λ n j d. both_or_stuck closed (slice_get s.memories x) _ _ (λ m. both_or_stuck closed (slice_get s.memories y) _ _ (λ source.
-      both_or_trap closed _ (init m source.bytes d.1 j.1 n.1) _ _ (λ new. stays refl))))
+      both_or_trap closed trap.MemoryOutOfBounds refl (init m source.bytes d.1 j.1 n.1) _ _ (λ new. stays refl))))
   plainly_memory s vs (memory.Fill x) k =
-      both_take_three closed vs _ _ (λ n b d. both_or_stuck closed (slice_get s.memories x) _ _ (λ m. both_or_trap closed _ (fill m d.1 (b.1 % 256) n.1) _ _ (λ new. stays refl)))
+      both_take_three closed vs _ _ (λ n b d. both_or_stuck closed (slice_get s.memories x) _ _ (λ m. both_or_trap closed trap.MemoryOutOfBounds refl (fill m d.1 (b.1 % 256) n.1) _ _ (λ new. stays refl)))
 
   -- a table that grew, or did not
   plainly_grown : (s : Store) (x : ℕ) (t : Table) (vs : Row Val) (k : Code) (o : Option (List Val)) → Plainly ks e last most (with_growth e vs k (growth (length t.elements) s (with_elements s x t) o))
@@ -180,31 +182,31 @@ module _ (ks : List (Option Continuation)) (e : Context) (last : Bool) (most : �
   pub plainly_table : (s : Store) (vs : Row Val) (o : TableOp) (k : Code) → Plainly ks e last most (table_op s e vs o k) (table_op (with_conts ks s) e vs o k)
   unfolding with_growth
   plainly_table s vs (table.Get x) k =
-      both_take_number closed int.I32 vs _ _ (λ i. both_or_stuck closed (slice_get s.tables x) _ _ (λ t. both_or_trap closed _ (get t.elements i.1) _ _ (λ v. stays refl)))
+      both_take_number closed int.I32 vs _ _ (λ i. both_or_stuck closed (slice_get s.tables x) _ _ (λ t. both_or_trap closed trap.TableOutOfBounds refl (get t.elements i.1) _ _ (λ v. stays refl)))
   plainly_table s vs (table.Set x) k =
       both_take_value closed vs _ _ (λ v. both_take_number closed int.I32 v.0 _ _ (λ i. both_or_stuck closed (slice_get s.tables x) _ _ (λ t.
-      both_or_trap closed _ (replaced t.elements i.1 v.1) _ _ (λ new. stays refl))))
+      both_or_trap closed trap.TableOutOfBounds refl (replaced t.elements i.1 v.1) _ _ (λ new. stays refl))))
   plainly_table s vs (table.Init y x) k =
       both_take_three closed vs _ _ (λ n j d. both_or_stuck closed (slice_get s.tables x) _ _ (λ t. both_or_stuck closed (slice_get s.elements y) _ _ (λ segment.
-      both_or_trap closed _ (copied t.elements segment d.1 j.1 n.1) _ _ (λ new. stays refl))))
+      both_or_trap closed trap.TableOutOfBounds refl (copied t.elements segment d.1 j.1 n.1) _ _ (λ new. stays refl))))
   plainly_table s vs (table.ElemDrop y) k = both_or_stuck closed (slice_get s.elements y) _ _ (λ segment. stays refl)
   plainly_table s vs (table.Copy x y) k =
       both_take_three closed vs _ _ (λ n j d. both_or_stuck closed (slice_get s.tables x) _ _ (λ t. both_or_stuck closed (slice_get s.tables y) _ _ (λ source.
-      both_or_trap closed _ (copied t.elements source.elements d.1 j.1 n.1) _ _ (λ new. stays refl))))
+      both_or_trap closed trap.TableOutOfBounds refl (copied t.elements source.elements d.1 j.1 n.1) _ _ (λ new. stays refl))))
   plainly_table s vs (table.Grow x) k =
       both_take_number closed int.I32 vs _ _ (λ n. both_take_value closed n.0 _ _ (λ v. both_or_stuck closed (slice_get s.tables x) _ _ (λ t.
       plainly_grown s x t v.0 k (grown t.elements t.max v.1 n.1))))
   plainly_table s vs (table.Size x) k = both_or_stuck closed (slice_get s.tables x) _ _ (λ t. stays refl)
   plainly_table s vs (table.Fill x) k =
       both_take_number closed int.I32 vs _ _ (λ n. both_take_value closed n.0 _ _ (λ v. both_take_number closed int.I32 v.0 _ _ (λ i.
-      both_or_stuck closed (slice_get s.tables x) _ _ (λ t. both_or_trap closed _ (filled t.elements i.1 v.1 n.1) _ _ (λ new. stays refl)))))
+      both_or_stuck closed (slice_get s.tables x) _ _ (λ t. both_or_trap closed trap.TableOutOfBounds refl (filled t.elements i.1 v.1 n.1) _ _ (λ new. stays refl)))))
 
   -- reference instructions
   pub plainly_reference : (s : Store) (vs : Row Val) (o : ReferenceOp) (k : Code) → Plainly ks e last most (reference_op s e vs o k) (reference_op (with_conts ks s) e vs o k)
   plainly_reference s vs (reference.Null x) k = stays refl
   plainly_reference s vs reference.IsNull k = both_take_value closed vs _ _ (λ p. both_by_null closed p.1 _ _ _ _ (stays refl) (stays refl))
   plainly_reference s vs (reference.Func x) k = both_or_stuck closed (slice_get s.functions x) _ _ (λ f. stays refl)
-  plainly_reference s vs reference.AsNonNull k = both_take_value closed vs _ _ (λ p. both_by_null closed p.1 _ _ _ _ silent_trap (stays refl))
+  plainly_reference s vs reference.AsNonNull k = both_take_value closed vs _ _ (λ p. both_by_null closed p.1 _ _ _ _ (silent_trap refl) (stays refl))
 
   -- ## Blocks, branches and exits
 
@@ -258,13 +260,13 @@ module _ (ks : List (Option Continuation)) (e : Context) (last : Bool) (most : �
   plainly_in_table : (p : Program) (s : Store) (vs : Row Val) (y x : ℕ) (go go' : Row Val × ℕ → Reduced) → ((q : Row Val × ℕ) → Plainly ks e last most (go q) (go' q))
       → Plainly ks e last most (callee_in_table p s vs y x go) (callee_in_table p (with_conts ks s) vs y x go')
   plainly_in_table p s vs y x go go' h =
-      both_take_number closed int.I32 vs _ _ (λ q. both_or_stuck closed (slice_get s.tables x) _ _ (λ t. both_or_trap closed _ (slice_get t.elements q.1) _ _ (λ r.
-      both_as_function closed _ r _ _ (λ a. both_or_stuck closed (slice_get (functions_of p.source) a) _ _ (λ z.
-      both_if closed (p.matches z y) _ _ _ _ (h (q.0, a)) silent_trap)))))
+      both_take_number closed int.I32 vs _ _ (λ q. both_or_stuck closed (slice_get s.tables x) _ _ (λ t. both_or_trap closed trap.UndefinedElement refl (slice_get t.elements q.1) _ _ (λ r.
+      both_as_function closed trap.NullElement refl r _ _ (λ a. both_or_stuck closed (slice_get (functions_of p.source) a) _ _ (λ z.
+      both_if closed (p.matches z y) _ _ _ _ (h (q.0, a)) (silent_trap refl))))))
 
   plainly_in_reference : (vs : Row Val) (go go' : Row Val × ℕ → Reduced) → ((q : Row Val × ℕ) → Plainly ks e last most (go q) (go' q))
       → Plainly ks e last most (callee_in_reference vs go) (callee_in_reference vs go')
-  plainly_in_reference vs go go' h = both_take_value closed vs _ _ (λ q. both_as_function closed _ q.1 _ _ (λ a. h (q.0, a)))
+  plainly_in_reference vs go go' h = both_take_value closed vs _ _ (λ q. both_as_function closed trap.NullReference refl q.1 _ _ (λ a. h (q.0, a)))
 
   -- a tail call goes on outside of the innermost frame
   plainly_around : (f : Context) (go go' : Row Val × Rest × Context → Reduced) → ((q : Row Val × Rest × Context) → IsOutside q.2 f → Plainly ks e last most (go q) (go' q))
@@ -285,7 +287,7 @@ module _ (ks : List (Option Continuation)) (e : Context) (last : Bool) (most : �
   pub plainly_control : (p : Program) (s : Store) (vs : Row Val) (o : ControlOp) (k : Code) → (is_call (op.Control o) ≡ true → suc (frames e) ≤ most)
       → ((f : Context) (ws : Row Val) (x : FuncEntry) (r : Rest) → IsOutside f e → Plainly ks f last most (invoked p s f ws x r) (invoked p (with_conts ks s) f ws x r))
       → Plainly ks e last most (control_op p s e vs o k) (control_op p (with_conts ks s) e vs o k)
-  plainly_control p s vs control.Unreachable k more outer = silent_trap
+  plainly_control p s vs control.Unreachable k more outer = silent_trap refl
   plainly_control p s vs control.Nop k more outer = stays refl
   plainly_control p s vs (control.Br l) k more outer = plainly_branch s l e vs few
   plainly_control p s vs (control.BrIf l) k more outer = both_take_number closed int.I32 vs _ _ (λ q. both_unless_zero closed q.1 _ _ _ _ (plainly_branch s l e q.0 few) (stays refl))
@@ -361,7 +363,7 @@ goes_apart : {ks : List (Option Continuation)} {e : Context} {last : Bool} {most
 goes_apart (silent few) = refl
 goes_apart (stays is) = refl
 goes_apart (leaves_frame less) = refl
-goes_apart silent_trap = refl
+goes_apart (silent_trap is) = refl
 goes_apart silent_limit = refl
 goes_apart (silent_end is) = refl
 goes_apart silent_stuck = refl
@@ -377,7 +379,7 @@ few_after {most = most} few (stays {t = old} h) out v t is =
     let same : old ≡ t = cc in subst (λ (y : Term). frames y.around ≤ most) same (subst (λ (f : Context). frames f ≤ most) (sym h) few)
 few_after {most = most} few (leaves_frame {t = old} h) out v t is =
     let same : old ≡ t = cc in let less = h.fewer in subst (λ (y : Term). frames y.around ≤ most) same (omega (arith, few, less))
-few_after few silent_trap out v t is = absurd (cc)
+few_after few (silent_trap h) out v t is = absurd (cc)
 few_after few silent_limit out v t is = absurd (cc)
 few_after few (silent_end h) out v t is = absurd (cc)
 few_after few silent_stuck out v t is = absurd (cc)
@@ -386,3 +388,16 @@ pub no_more_frames : OnlyCallsAddFrames
 no_more_frames p s e vs ahead k plain none out v t is =
     subst (λ (b : Bool). frames t.around ≤ frames_after b e) none
     (few_after (at_least (calls ahead k) e) (plainly_next [] p s e vs ahead k plain) out v t is)
+
+-- its trap names no tag
+trap_after : {ks : List (Option Continuation)} {e : Context} {last : Bool} {most : ℕ} {r r' : Reduced} → Plainly ks e last most r r' → (t : Trap) → r ≡ Trapped t → is_unhandled t ≡ false
+trap_after (silent few) t is = absurd (cc)
+trap_after (stays h) t is = absurd (cc)
+trap_after (leaves_frame less) t is = absurd (cc)
+trap_after (silent_trap {t = old} h) t is = let same : old ≡ t = cc in subst (λ (u : Trap). is_unhandled u ≡ false) same h
+trap_after silent_limit t is = absurd (cc)
+trap_after (silent_end h) t is = absurd (cc)
+trap_after silent_stuck t is = absurd (cc)
+
+pub only_switches : OnlySwitchesAreUnhandled
+only_switches p s e vs ahead k plain t is = trap_after (plainly_next [] p s e vs ahead k plain) t is

@@ -20,6 +20,7 @@ pub mod Limits
 pub mod Reduce
 pub mod Apart
 pub mod Entering
+pub mod Unhandled
 pub mod Room
 pub mod Run
 pub mod Imports

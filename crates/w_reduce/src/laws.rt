@@ -4,6 +4,7 @@ ghost use Rattle.w_reduce.specs.Tree.{Decomposes, Deterministic};
 ghost use Rattle.w_reduce.specs.Handlers.{Finds, FindsNone};
 ghost use Rattle.w_reduce.specs.Apart.{PlainReductionsGoApart};
 ghost use Rattle.w_reduce.specs.Entering.{OnlyCallsAddFrames};
+ghost use Rattle.w_reduce.specs.Unhandled.{OnlySwitchesAreUnhandled};
 
 /// A term is a redex in a context in one way only.
 pub fn decomposes()
@@ -31,4 +32,9 @@ pub fn plain_reductions_go_apart()
 /// Of the reductions that switch no stacks, calls alone add a frame.
 pub fn only_calls_add_frames()
     ensures { OnlyCallsAddFrames }
+{}
+
+/// That nothing handles a tag is the trap of no reduction but those by rules of switching.
+pub fn only_switches_are_unhandled()
+    ensures { OnlySwitchesAreUnhandled }
 {}

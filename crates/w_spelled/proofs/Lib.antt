@@ -5,3 +5,4 @@ mod FieldsFit
 mod LocalsGiven
 mod FieldsGiven
 pub mod ModulesGiven
+mod FewTags

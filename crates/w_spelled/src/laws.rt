@@ -4,6 +4,7 @@ ghost use Rattle.hex.specs.Hex.{IsBytes};
 ghost use Rattle.w_syntax.specs.Spells.{Spells};
 ghost use Rattle.w_syntax.specs.declared.module.Module.{Module as TheModule};
 ghost use Rattle.w_text.specs.Text.{Text, text_of};
+ghost use Rattle.w_spelled.specs.Tags.{TagsAreFew};
 
 /// A module that bytes spell has a text.
 pub fn spelled_fits()
@@ -18,4 +19,9 @@ pub fn text_keeps_module()
 /// A module has one text at most.
 pub fn one_text()
     ensures { (t : List ℕ) (m : TheModule) → Text t m → text_of m ≡ t }
+{}
+
+/// A module that bytes spell has fewer than 2^32 tags.
+pub fn tags_are_few()
+    ensures { TagsAreFew }
 {}

@@ -3,4 +3,4 @@
 
 mod laws;
 
-pub use laws::{one_text, spelled_fits, text_keeps_module};
+pub use laws::{one_text, spelled_fits, tags_are_few, text_keeps_module};

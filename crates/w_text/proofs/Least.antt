@@ -10,8 +10,10 @@ use Rattle.w_text.specs.Items.{item_lines, items, module_lines}
 use Rattle.w_text.specs.Machine.{Between, InGroup, InLocals, InExprs, State, Fresh, Reading, finished, step, run, run_on}
 use Rattle.w_text.specs.Standing.{on_line}
 use Rattle.w_words.specs.Words.{Each}
-use Rattle.w_lines.specs.Spelling.{line_text, line_bytes, InLine, LineFits, line_of}
-use Rattle.w_text.specs.Text.{Text, in_piece, pieces, BeginsText, IsWrongAt}
+use Rattle.w_words.specs.Pieces.{InLine, pieces, BeginsText}
+use Rattle.w_words.proofs.Pieces.{piece_of_line, last_piece, joined_pieces, feed_there}
+use Rattle.w_lines.specs.Spelling.{line_text, line_bytes, LineFits, line_of}
+use Rattle.w_text.specs.Text.{Text, IsText, IsWrongAt}
 use Rattle.w_text.proofs.Told.{open_lines}
 use Rattle.w_text.proofs.Sound.{so_far, StateFits, run_told}
 use Rattle.w_text.proofs.Whole.{module_run, each_fits}
@@ -20,29 +22,9 @@ use Rattle.w_lines.proofs.LinesComplete.{line_sound, line_complete, text_in_line
 
 -- ## Pieces
 
-pub piece_of_line : (bs : List ℕ) (more : List ℕ) → InLine bs → pieces ((bs ++ 10 ∷ []) ++ more) ≡ (bs ++ 10 ∷ []) ∷ pieces more
-unfolding pieces
-piece_of_line [] more h = refl
-piece_of_line (b ∷ bs) more h = rw (h.0) (ap (in_piece b) (piece_of_line bs more h.1))
-
-pub last_piece : (bs : List ℕ) → InLine bs → pieces bs ≡ bs ∷ []
-unfolding pieces
-last_piece [] h = refl
-last_piece (b ∷ bs) h = rw (h.0) (ap (in_piece b) (last_piece bs h.1))
-
 pieces_of_lines : (ls : List Line) → Each LineFits ls → pieces (flat_map line_bytes ls) ≡ map line_bytes ls ++ [] ∷ []
 pieces_of_lines [] f = last_piece [] tt
 pieces_of_lines (l ∷ ls) f = piece_of_line (line_text l) (flat_map line_bytes ls) (text_in_line l f.0) ∙ ap (λ (ps : List (List ℕ)). line_bytes l ∷ ps) (pieces_of_lines ls f.1)
-
-pub joined_pieces : (bs : List ℕ) → flat_map (λ (p : List ℕ). p) (pieces bs) ≡ bs
-unfolding pieces
-joined_pieces [] = refl
-joined_pieces (b ∷ bs) = with_test (nat_eq b 10) (pieces bs) (joined_pieces bs)
-  where
-    with_test : (v : Bool) (ps : List (List ℕ)) → flat_map (λ (p : List ℕ). p) ps ≡ bs → flat_map (λ (p : List ℕ). p) (cond v ((b ∷ []) ∷ ps) (in_piece b ps)) ≡ b ∷ bs
-    with_test true ps e = ap (λ (l : List ℕ). b ∷ l) e
-    with_test false [] e = ap (λ (l : List ℕ). b ∷ l) e
-    with_test false (p ∷ ps) e = ap (λ (l : List ℕ). b ∷ l) e
 
 -- ## Lines that begin others
 
@@ -165,7 +147,7 @@ whole_text ls j m f e =
     )
 
 -- lines that lead to a state begin a text
-begins_text : (ls : List Line) (s : State) → Each LineFits ls → run Fresh ls ≡ Some s → BeginsText (map line_bytes ls)
+begins_text : (ls : List Line) (s : State) → Each LineFits ls → run Fresh ls ≡ Some s → BeginsText IsText (map line_bytes ls)
 begins_text ls s f e =
     let r = run_told ls Fresh s tt e in
     let c = to_closable s r.1 in
@@ -173,9 +155,8 @@ begins_text ls s f e =
     let led : run Fresh (ls ++ c.lines) ≡ Some (Reading c.place c.whole Between) = run_append ls c.lines Fresh ∙ ap (λ (o : Option State). run_on (λ t. run t c.lines) o) e ∙ c.leads in
     let w = whole_text (ls ++ c.lines) c.place c.whole fit led in (
       flat_map line_bytes (ls ++ c.lines),
-      c.whole,
       map line_bytes c.lines ++ [] ∷ [],
-      w.1,
+      (c.whole, w.1),
       pieces_of_lines (ls ++ c.lines) fit ∙ ap (λ (ps : List (List ℕ)). ps ++ [] ∷ []) (map-append line_bytes ls c.lines) ∙ append_assoc (map line_bytes ls) (map line_bytes c.lines) ([] ∷ []),
     )
 
@@ -202,14 +183,14 @@ ran_front f None t e = absurd cc
 ran_front f (Some s) t e = (s, refl)
 
 -- a text begins with each number of lines that were read
-pub earlier : (t : List ℕ) (n : ℕ) (s : State) (rest : List ℕ) → Reached t n s rest → (k : ℕ) → k < n → BeginsText (take (suc k) (pieces t))
+pub earlier : (t : List ℕ) (n : ℕ) (s : State) (rest : List ℕ) → Reached t n s rest → (k : ℕ) → k < n → BeginsText IsText (take (suc k) (pieces t))
 earlier t n s rest r k lt =
     let f = front_of (suc k) r.lines (pieces rest) (omega (arith, r.count)) in
     let fit = each_front f.front f.back (subst (Each LineFits) f.same r.fit) in
     let ran : run_on (λ v. run v f.back) (run Fresh f.front) ≡ Some s = sym (run_append f.front f.back Fresh) ∙ ap (run Fresh) (sym f.same) ∙ r.ran in
     let u = ran_front (λ v. run v f.back) (run Fresh f.front) s ran in
     let same : take (suc k) (pieces t) ≡ map line_bytes f.front = ap (take (suc k)) r.parts ∙ f.taken in
-    subst BeginsText (sym same) (begins_text f.front u.0 fit u.1)
+    subst (BeginsText IsText) (sym same) (begins_text f.front u.0 fit u.1)
 
 taken_one : (ls : List Line) (p : List ℕ) (ps : List (List ℕ)) → take (suc (length ls)) (map line_bytes ls ++ p ∷ ps) ≡ map line_bytes ls ++ p ∷ []
 taken_one [] p ps = refl
@@ -225,14 +206,14 @@ record Further (t : List ℕ) (s : State) (p : List ℕ) : Type 0 where
   rest : List (List ℕ)
   left : map line_bytes more ++ [] ∷ [] ≡ p ∷ rest
 
-further : (t : List ℕ) (n : ℕ) (s : State) (rest p : List ℕ) (ps : List (List ℕ)) → Reached t n s rest → pieces rest ≡ p ∷ ps → BeginsText (take (suc n) (pieces t)) → Further t s p
+further : (t : List ℕ) (n : ℕ) (s : State) (rest p : List ℕ) (ps : List (List ℕ)) → Reached t n s rest → pieces rest ≡ p ∷ ps → BeginsText IsText (take (suc n) (pieces t)) → Further t s p
 further t n s rest p ps r e b =
     let front : take (suc n) (pieces t) ≡ map line_bytes r.lines ++ p ∷ [] = ap (λ (k : ℕ). take (suc k) (pieces t)) (sym r.count) ∙ ap (take (suc (length r.lines))) (r.parts ∙ ap (λ (x : List (List ℕ)). map line_bytes r.lines ++ x) e) ∙ taken_one r.lines p ps in
-    let m = b.1 in
-    let text = b.3 in
-    let whole : map line_bytes (module_lines m) ++ [] ∷ [] ≡ map line_bytes r.lines ++ p ∷ b.2 =
-    sym (pieces_of_lines (module_lines m) text.lines) ∙ ap pieces (sym text.same) ∙ b.4 ∙ ap (λ (x : List (List ℕ)). x ++ b.2) front ∙ append_assoc (map line_bytes r.lines) (p ∷ []) b.2 in
-    let f = begins r.lines (module_lines m) (p ∷ b.2) r.fit text.lines whole in
+    let m = b.2.0 in
+    let text = b.2.1 in
+    let whole : map line_bytes (module_lines m) ++ [] ∷ [] ≡ map line_bytes r.lines ++ p ∷ b.1 =
+    sym (pieces_of_lines (module_lines m) text.lines) ∙ ap pieces (sym text.same) ∙ b.3 ∙ ap (λ (x : List (List ℕ)). x ++ b.1) front ∙ append_assoc (map line_bytes r.lines) (p ∷ []) b.1 in
+    let f = begins r.lines (module_lines m) (p ∷ b.1) r.fit text.lines whole in
     let led = module_run m text.parts in
     record {
       more = f.more;
@@ -240,7 +221,7 @@ further t n s rest p ps r e b =
       place = led.0;
       whole = m;
       leads = ap (λ (o : Option State). run_on (λ v. run v f.more) o) (sym r.ran) ∙ sym (run_append r.lines f.more Fresh) ∙ ap (run Fresh) (sym f.same) ∙ led.1;
-      rest = b.2;
+      rest = b.1;
       left = f.left;
     }
 
@@ -267,11 +248,6 @@ wrong_line t n s bs more r h e = (
       not_further t s bs e f.more f.fit (Reading f.place f.whole Between) f.leads f.rest f.left,
   earlier t n s ((bs ++ 10 ∷ []) ++ more) r,
 )
-
--- a line feed is in no last piece
-feed_there : (bs cs : List ℕ) → InLine (bs ++ 10 ∷ cs) → ⊥
-feed_there [] cs h = absurd cc
-feed_there (b ∷ bs) cs h = feed_there bs cs h.1
 
 finished_some : (j : ℕ) (m : Module) (s : State) → s ≡ Reading j m Between → finished s ≡ Some m
 finished_some j m s e = rw e refl
@@ -317,10 +293,6 @@ right_end t n s m r e =
     let w = whole_text r.lines f.0 m r.fit (r.ran ∙ ap (λ (x : State). Some x) f.1) in
     let same : t ≡ flat_map line_bytes r.lines = sym (joined_pieces t) ∙ ap (λ (ps : List (List ℕ)). flat_map (λ (p : List ℕ). p) ps) (r.parts ∙ ap (λ (ps : List (List ℕ)). map line_bytes r.lines ++ ps) (last_piece [] tt)) ∙ joined_lines r.lines in
     subst (λ (x : List ℕ). Text x m) (sym same) w.1
-
--- a text is wrong at no line
-pub text_is_right : (t : List ℕ) (m : Module) (l : ℕ) → Text t m → IsWrongAt t l → ⊥
-text_is_right t m l h w = w.0 (t, m, drop (suc l) (pieces t), h, sym (take-append-drop (suc l) (pieces t)))
 
 -- ## One text, one module
 

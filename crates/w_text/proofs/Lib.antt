@@ -12,6 +12,5 @@ pub mod Openings
 pub mod Assemblies
 pub mod OpenExpressions
 pub mod KeptCounts
-pub mod Feeds
 pub mod Faults
 pub mod LoopOverLines

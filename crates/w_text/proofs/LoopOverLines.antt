@@ -3,7 +3,8 @@ use Rattle.std.proofs.Common.{◌≡◌, ℕ, suc, ◌+◌, ◌^◌, ◌<◌, �
 use Rattle.std.specs.Prelude.{option_map}
 use Rattle.w_lines.specs.declared.line.Line.{Line}
 use Rattle.w_lines.specs.Kept.{kept}
-use Rattle.w_lines.specs.Spelling.{InLine, line_of}
+use Rattle.w_words.specs.Pieces.{InLine}
+use Rattle.w_lines.specs.Spelling.{line_of}
 use Rattle.w_text.specs.declared.assembly.Assembly.{Assembly}
 use Rattle.w_text.specs.declared.fault.TextFault.TheVariants as fault
 use Rattle.w_text.specs.Machine.{State, step}

@@ -1,8 +1,9 @@
 -- The text of a module, and which line of a text is wrong.
-use Rattle.std.specs.Prelude.{◌≡◌, ℕ, suc, ◌<◌, cond, nat_eq, List, [], ◌∷◌, ◌++◌, take}
+use Rattle.std.specs.Prelude.{◌≡◌, ℕ, List}
 use Rattle.std.specs.List.{flat_map}
 use Rattle.w_syntax.specs.declared.module.Module.{Module}
 use Rattle.w_words.specs.Words.{Each}
+use Rattle.w_words.specs.Pieces.{IsWrongLine}
 use Rattle.w_lines.specs.Spelling.{line_bytes, LineFits}
 use Rattle.w_text.specs.Items.{module_lines}
 use Rattle.w_text.specs.Parts.{PartsFit}
@@ -18,20 +19,10 @@ pub record Text (t : List ℕ) (m : Module) : Type 0 where
 
 -- ## Refusals
 
-abbrev pub in_piece : ℕ → List (List ℕ) → List (List ℕ)
-in_piece b [] = (b ∷ []) ∷ []
-in_piece b (p ∷ ps) = (b ∷ p) ∷ ps
-
--- The lines of bytes, each with its line feed. What stands behind the last line feed is the last of them, also where nothing does:
--- it is the line of the end.
-unfoldable pub pieces : List ℕ → List (List ℕ)
-pieces [] = [] ∷ []
-pieces (b ∷ bs) = cond (nat_eq b 10) ((b ∷ []) ∷ pieces bs) (in_piece b (pieces bs))
-
--- a text begins with these lines
-abbrev pub BeginsText : List (List ℕ) → Type 0
-BeginsText q = (t : List ℕ) × (m : Module) × (rest : List (List ℕ)) × Text t m × (pieces t ≡ q ++ rest)
+-- it is the text of some module
+abbrev pub IsText : List ℕ → Type 0
+IsText t = (m : Module) × Text t m
 
 -- l is the least number such that no text begins with lines 0 to l
 abbrev pub IsWrongAt : List ℕ → ℕ → Type 0
-IsWrongAt t l = (BeginsText (take (suc l) (pieces t)) → ⊥) × ((k : ℕ) → k < l → BeginsText (take (suc k) (pieces t)))
+IsWrongAt = IsWrongLine IsText

@@ -1,8 +1,8 @@
 //! Reading the text of a module, line by line.
-ghost use Rattle.std.specs.Prelude.{◌≡◌, ◌≤◌, ◌<◌, ◌+◌, ◌++◌, ◌∷◌, [], ℕ, length, drop, slice_range, IfOk, IfErr, IfSome, IfNone, Ok, Err, option_map};
+ghost use Rattle.std.specs.Prelude.{◌≡◌, ◌≤◌, ℕ, List, length, IfOk, IfErr, Ok, Err, option_map};
 ghost use Rattle.w_syntax.specs.declared.module.Module.{Module as TheModule};
 ghost use Rattle.w_lines.specs.Kept.{kept};
-ghost use Rattle.w_lines.specs.Spelling.{InLine, line_of};
+ghost use Rattle.w_lines.specs.Spelling.{line_of};
 ghost use Rattle.w_text.specs.declared.fault.TextFault.TheVariants as fault;
 ghost use Rattle.w_text.specs.Machine.{State, Fresh};
 ghost use Rattle.w_text.specs.Standing.{on_line};
@@ -15,22 +15,7 @@ use crate::fault::TextFault;
 use std::alloc::{AllocError, Global};
 use w_lines::line_of;
 use w_syntax::Module;
-
-// Where the line that begins at a place ends: at its line feed. `None` where no line feed follows.
-fn line_end(text: &[u8], at: usize) -> Option<usize>
-    requires { at ≤ length text.now }
-    ensures place { IfSome result (λ end. (at ≤ end) × (end < length text.now)) }
-    ensures some { IfSome result (λ end. InLine (slice_range text.now at end)) }
-    ensures parts { IfSome result (λ end. drop at text.now ≡ (slice_range text.now at end ++ 10 ∷ []) ++ drop (end + 1) text.now) }
-    ensures none { IfNone result (InLine (drop at text.now)) }
-{
-    for place in at..text.len() {
-        if text[place] == 10 {
-            return Some(place);
-        }
-    }
-    None
-}
+use w_words::line_end;
 
 // Takes a line: `false` exactly where no module goes on with it.
 fn take_line(alloc: Global, assembly: &mut Assembly, line: &[u8]) -> Result<bool, AllocError>

@@ -1,5 +1,7 @@
 pub mod Readings
 pub mod Lines
+pub mod Pieces
+pub mod Feeds
 pub mod Numerals
 pub mod Counts
 pub mod DigitByDigit

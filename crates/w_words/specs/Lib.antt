@@ -1,4 +1,5 @@
 pub mod Words
+pub mod Pieces
 pub mod Numbers
 pub mod Hexadecimal
 pub mod Types

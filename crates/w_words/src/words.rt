@@ -62,6 +62,14 @@ impl<'a> Words<'a> {
         }
     }
 
+    /// The rest of the line, whose words are those still to come; `None` where none is.
+    pub fn rest(&self) -> Option<&'a [u8]>
+        ensures some { IfSome result (λ rest. self.now ≡ words_of rest.now) }
+        ensures none { IfNone result (self.now ≡ []) }
+    {
+        self.rest
+    }
+
     /// The word to come, where there is just one. What is left behind it is not said.
     pub fn only(&mut self) -> Option<&'a [u8]>
         ensures some { IfSome result (λ word. self.old ≡ word.now ∷ []) }

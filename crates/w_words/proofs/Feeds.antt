@@ -4,7 +4,7 @@ use Rattle.std.specs.Prelude.{nat_eq, slice_range}
 use Rattle.std.proofs.lemmas.List.{take_more, take-append-drop, drop-drop}
 use Rattle.std.proofs.lemmas.Bool.Decides.{eqb_tells}
 use Rattle.std.proofs.Math.Seq.{take-length}
-use Rattle.w_lines.specs.Spelling.{InLine}
+use Rattle.w_words.specs.Pieces.{InLine}
 
 in_line_end : (xs : List ℕ) (b : ℕ) → InLine xs → nat_eq b 10 ≡ false → InLine (xs ++ b ∷ [])
 in_line_end [] b h e = (e, tt)
