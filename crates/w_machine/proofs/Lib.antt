@@ -3,6 +3,7 @@ pub mod ConfigurationCounts
 pub mod NextCode
 pub mod Rooms
 pub mod PartsOfRuns
+pub mod SeenEvents
 pub mod PlainReductions
 pub mod MadeConts
 pub mod TakingEnough
@@ -14,6 +15,7 @@ pub mod FirstStores
 pub mod RunsGoOn
 pub mod StoppedMachines
 pub mod Machines
+pub mod StepEvents
 pub mod Attempts
 pub mod FirstStep
 pub mod ShortBodies

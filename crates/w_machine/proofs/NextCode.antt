@@ -14,14 +14,14 @@ use Rattle.w_stands.specs.Room.{operands_of, labels_of}
 use Rattle.w_plain.specs.Plainness.{switches_at, takes_at, calls_at}
 
 -- what g says of code, f says of the instruction that it begins with; a mark is to f as if none were there
-record IsSeenBy {A : Type 0} (g : Code → A) (f : Option Instr → A) : Type 0 where
-  done : g Done ≡ f None
-  at_end : f (Some flat.End) ≡ f None
-  at_else : f (Some flat.Else) ≡ f None
-  at_plain : (o : Op) (k : Code) → g (Plain o k) ≡ f (Some (flat.Plain o))
-  at_block : (kind : BlockKind) (b : BlockType) (z : ℕ) (x k : Code) → g (Block kind b x k) ≡ f (Some (flat.Block kind b z))
-  at_if : (b : BlockType) (z : ℕ) (x k : Code) → g (If b x k) ≡ f (Some (flat.If b None z))
-  at_if_else : (b : BlockType) (y z : ℕ) (x w k : Code) → g (IfElse b x w k) ≡ f (Some (flat.If b (Some y) z))
+pub record IsSeenBy {A : Type 0} (g : Code → A) (f : Option Instr → A) : Type 0 where
+  pub done : g Done ≡ f None
+  pub at_end : f (Some flat.End) ≡ f None
+  pub at_else : f (Some flat.Else) ≡ f None
+  pub at_plain : (o : Op) (k : Code) → g (Plain o k) ≡ f (Some (flat.Plain o))
+  pub at_block : (kind : BlockKind) (b : BlockType) (z : ℕ) (x k : Code) → g (Block kind b x k) ≡ f (Some (flat.Block kind b z))
+  pub at_if : (b : BlockType) (z : ℕ) (x k : Code) → g (If b x k) ≡ f (Some (flat.If b None z))
+  pub at_if_else : (b : BlockType) (y z : ℕ) (x w k : Code) → g (IfElse b x w k) ≡ f (Some (flat.If b (Some y) z))
 
 -- at a mark f says what it says where there is no instruction
 mark_seen : {A : Type 0} {g : Code → A} {f : Option Instr → A} → IsSeenBy g f → (i : Option Instr) → IsMark i → f i ≡ f None
@@ -33,7 +33,7 @@ mark_seen seen (Some (flat.Block k b z)) h = absurd h
 mark_seen seen (Some (flat.If b y z)) h = absurd h
 
 -- of code that is read from a place on, f at the place says what g says
-read_seen : {A : Type 0} {g : Code → A} {f : Option Instr → A} {is : List Instr} {p q : ℕ} {c : Code} → IsSeenBy g f → Reads is p c q → g c ≡ f (slice_get is p)
+pub read_seen : {A : Type 0} {g : Code → A} {f : Option Instr → A} {is : List Instr} {p q : ℕ} {c : Code} → IsSeenBy g f → Reads is p c q → g c ≡ f (slice_get is p)
 read_seen {is = is} {p = p} seen (stop h) = seen.done ∙ sym (mark_seen seen (slice_get is p) h)
 read_seen {f = f} seen (plain {o = o} {c = c} at k) = seen.at_plain o c ∙ ap f (sym at)
 read_seen {f = f} seen (block {z = z} {k = kind} {b = b} {x = x} {c = c} at h j k) = seen.at_block kind b z x c ∙ ap f (sym at)

@@ -88,7 +88,7 @@ plain_end : {ks : List (Option Continuation)} {e : Context} {last : Bool} {most 
 plain_end vs (silent few) is = absurd (cc)
 plain_end vs (stays h) is = absurd (cc)
 plain_end vs (leaves_frame h) is = absurd (cc)
-plain_end vs silent_trap is = absurd (cc)
+plain_end vs (silent_trap handled) is = absurd (cc)
 plain_end vs silent_limit is = absurd (cc)
 plain_end vs (silent_end h) is = h
 plain_end vs silent_stuck is = absurd (cc)

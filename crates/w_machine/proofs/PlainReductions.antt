@@ -69,7 +69,7 @@ quiet_text {e = e} text v t (leaves_frame {t = old} h) is =
     let f = h.fewer in
     let n = h.no_more in
     inr (omega (arith, a, f), omega (arith, b, n))
-quiet_text text v t silent_trap is = absurd (cc)
+quiet_text text v t (silent_trap handled) is = absurd (cc)
 quiet_text text v t silent_limit is = absurd (cc)
 quiet_text text v t (silent_end ends) is = absurd (cc)
 quiet_text text v t silent_stuck is = absurd (cc)

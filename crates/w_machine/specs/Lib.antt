@@ -1,6 +1,7 @@
 pub mod Parts
 pub mod Standing
 pub mod Reducing
+pub mod NextEvents
 pub mod RunStop
 pub mod Beginning
 pub mod Position

@@ -3,6 +3,7 @@
 
 mod attempt;
 mod configuration;
+mod events;
 mod machine;
 mod outcome;
 mod reduction;

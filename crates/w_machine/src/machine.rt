@@ -8,15 +8,17 @@ ghost use Rattle.w_reduce.specs.Run.{Run};
 ghost use Rattle.w_stands.specs.Code.{AllShort};
 ghost use Rattle.w_stands.specs.Values.{vals};
 ghost use Rattle.w_reduce.specs.Start.{starts_of};
+ghost use Rattle.w_trace.specs.Events.{event_after};
 ghost use Rattle.w_machine.specs.Beginning.{origin_of, Begins, BeginsWith, BeginsAt};
 ghost use Rattle.w_machine.specs.RunStop.{stopped_at, stopped_in};
 ghost use Rattle.w_machine.specs.AttemptedStepOn.{AttemptsStepOn};
-ghost use Rattle.w_machine.specs.Position.{Steps, StopsWith, StopsIfEnded, Runs, counted, most_reductions};
+ghost use Rattle.w_machine.specs.Position.{Steps, StopsWith, StopsIfEnded, IsNoFault, Runs, counted, most_reductions};
 ghost use Rattle.w_machine.specs.Results.{HasResults};
 ghost use Rattle.w_machine.specs.Reached.{AreFirst, IsTurned, IsFresh, is_last};
 
 use crate::attempt::attempt_step;
 use crate::configuration::Configuration;
+use crate::events::{next_event, numbered};
 use crate::outcome::{Outcome, RunStop, Stepped, as_outcome, as_stepped, has_ended};
 use crate::reduction::{end_of, reduce};
 use std::alloc::{AllocError, Global};
@@ -31,6 +33,7 @@ use w_rules::{Checked, Runnable, Spaces};
 use w_segment::{Segment, Stage};
 use w_syntax::Module;
 use w_tables::Store;
+use w_trace::Event;
 use w_types::Value;
 
 /// A run of a module. After so many steps it stands for the run of so many reductions.
@@ -401,5 +404,30 @@ impl Machine {
             self.advance(out);
         }
         as_stepped(self.stop)
+    }
+
+    /// Takes one reduction, as `step` does, and says what it did with continuations. There is no event where it did nothing with them, and
+    /// none where it traps, passes a limit or isn't taken.
+    pub fn step_event<O: Sink>(&mut self, out: &mut O) -> (Stepped, Option<Event>)
+        requires { self.old.taken < most_reductions }
+        ensures steps { Steps self.old (stopped_at result.0) self.new (O.held out.old) (O.held out.new) }
+        ensures cause { self.old.stop ≡ None → result.0 ≡ Stepped.WriteFault → Rose (O.faults out.old) (O.faults out.new) }
+        ensures later { O.faults out.old ≤ O.faults out.new }
+        // Of a machine that isn't stopped, the event is that of the run's next reduction, where no fault stops it; a stopped one has none.
+        ensures event { self.old.stop ≡ None → IsNoFault (stopped_at result.0) → (p : TheProgram) (s : TheStore) (t : Term) → Begins self.old.origin p s t
+            → result.1 ≡ event_after p (Run p s t self.old.taken) }
+        ensures none { self.old.stop ≢ None → result.1 ≡ None }
+    {
+        if self.stop.is_some() {
+            return (as_stepped(self.stop), None);
+        }
+        // the event is read off what comes next, before that is gone
+        let _classes = self.runnable.classes();
+        let kind = next_event(self.runnable.module(), &self.configuration);
+        let step = self.taken + 1;
+        if self.advance(out) {
+            return (as_stepped(self.stop), None);
+        }
+        (as_stepped(self.stop), numbered(step, kind))
     }
 }
