@@ -5,6 +5,7 @@ use w_inst::InstFault;
 use w_outside::Fault;
 use w_reduce::{StartLimit, Trap};
 use w_rules::SizeLimit;
+use w_trace::{OnceFault, TraceFault};
 use w_valid::ValidFault;
 
 #[test]
@@ -79,6 +80,28 @@ fn faults_of_runs_and_of_the_outside_are_said(rt: HostRuntime) -> Result<(), Fai
     assert_eq!(rt; Fault::Failed.to_string(alloc)?.as_str(), "the call failed");
     assert_eq!(rt;
         Fault::OutOfMemory.to_string(alloc)?.as_str(),
+        "out of memory"
+    );
+    Ok(())
+}
+
+#[test]
+fn faults_of_traces_name_their_line(rt: HostRuntime) -> Result<(), Fail> {
+    let alloc = rt.alloc();
+    assert_eq!(rt;
+        TraceFault::Line(2).to_string(alloc)?.as_str(),
+        "no text of a trace goes on with line 2"
+    );
+    assert_eq!(rt;
+        TraceFault::OutOfMemory.to_string(alloc)?.as_str(),
+        "out of memory"
+    );
+    assert_eq!(rt;
+        OnceFault::Unsound(3).to_string(alloc)?.as_str(),
+        "event 3 consumes what is not live, or makes what is not the next"
+    );
+    assert_eq!(rt;
+        OnceFault::OutOfMemory.to_string(alloc)?.as_str(),
         "out of memory"
     );
     Ok(())

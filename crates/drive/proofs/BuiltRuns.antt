@@ -1,6 +1,8 @@
 -- A run of what `build` writes of a script is alike the run of the script.
-use Rattle.std.proofs.Common.{◌≡◌, ℕ, Bool, true, false, List, ◌++◌, inl, inr, refl, ap, ◌∙◌, arith}
+use Rattle.std.proofs.Common.{◌≡◌, ℕ, Bool, true, false, List, ◌++◌, inl, inr, refl, ap, subst, arith}
 use Rattle.w_encode.specs.Canon.{Canon}
+use Rattle.w_reduce.specs.Program.{Program}
+use Rattle.w_reduce.specs.Start.{Start}
 use Rattle.w_reduce.specs.Run.{Outcome, Running, Values, Traps, Limit, NoRule, RunState, Run}
 use Rattle.words.specs.declared.request.Action.TheVariants.{Run as RunFor}
 use Rattle.s_syntax.specs.declared.script.Script.{Script}
@@ -9,10 +11,11 @@ use Rattle.s_code.specs.Lowered.{lowered}
 use Rattle.s_valid.specs.Beginning.{first_store, first_term}
 use Rattle.s_valid.proofs.Starts.{starts}
 use Rattle.s_agrees.proofs.SpelledScripts.{scripts_agree}
-use Rattle.replies.specs.Answer.{Reply, RunGives, start_reply, run_gives, run_reply, with_stats, behind, end_reply, faulted, trapped}
+use Rattle.replies.specs.Answer.{Reply, RunGives, StartGives, run_reply, with_stats, behind, end_reply, faulted, trapped, gives}
 use Rattle.drive.specs.Meaning.{BuiltRunsAreAlike}
 use Rattle.drive.proofs.FilesOfModules.{only_gives}
 use Rattle.drive.proofs.Programs.{one_program}
+use Rattle.drive.proofs.Runs.{given_ready}
 
 -- the second writes the same to out as the first and ends with the same status
 abbrev Alike : Reply → Reply → Type 0
@@ -48,8 +51,8 @@ runs_alike p good steps stats reply other h g =
     let same : g.0 ≡ q = one_program (lowered p) g.0 q g.1 h.1 g.2 h.2 in
     let begun = starts p good q h.1 in
     let r = Run q (first_store p.declarations) (first_term p.declarations) steps in
-    let first : reply ≡ run_reply (faulted p) false r = h.3 ∙ ap (start_reply (faulted p) steps false q) begun in
-    let second : other ≡ run_reply trapped stats r = g.3 ∙ ap (run_gives trapped steps stats) same ∙ ap (start_reply trapped steps stats q) begun in
+    let first : reply ≡ run_reply (faulted p) false r = given_ready (faulted p) _ q _ _ reply begun h.3 in
+    let second : other ≡ run_reply trapped stats r = given_ready trapped _ q _ _ other begun (subst (λ (x : Program). StartGives trapped (λ s t o. o ≡ run_reply trapped stats (Run x s t steps)) (Start x) other) same g.3) in
     rw (first, second) (run_alike p stats r)
 
 -- and so is a run of its file, whose bytes give what the module gives
@@ -57,4 +60,4 @@ pub built_runs : BuiltRunsAreAlike
 built_runs p good small steps stats more reply other (inr h) a = absurd (omega (arith, h.0, small))
 built_runs p good small steps stats more reply other (inl h) a =
     let agrees = scripts_agree p good small in
-    runs_alike p good steps more reply other h.1 (only_gives (lowered p) agrees.within agrees.valid (RunFor steps more) other (Canon (lowered p)) agrees.spelled a)
+    runs_alike p good steps more reply other h.1 (only_gives (lowered p) agrees.within agrees.valid (gives (RunFor steps more)) other (Canon (lowered p)) agrees.spelled a)

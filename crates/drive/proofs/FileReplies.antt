@@ -3,9 +3,9 @@ use Rattle.std.proofs.Common.{◌≡◌, ◌≤◌, ◌<◌, Bool, false, inl, i
 use Rattle.w_outside.specs.Outside.{Known, untold, missing, holds}
 use Rattle.words.specs.declared.request.Action.{Action}
 use Rattle.words.specs.declared.request.Action.TheVariants.{Run as RunFor}
-use Rattle.words.specs.Line.{Line, on_file as line_on_file, on_files, generated}
+use Rattle.words.specs.Line.{Line, on_file as line_on_file, on_files, audited, generated}
 use Rattle.s_generate.specs.Generated.{generated as generated_script}
-use Rattle.replies.specs.Answer.{Answer, OnFile, OnFileOr, OnBytesOr, ActionGives, NamesGive, Reply, generated_steps, input_limit, limit_input, read_fault}
+use Rattle.replies.specs.Answer.{Answer, OnFile, OnFileOr, OnBytesOr, ActionGives, AuditedGives, BytesGive, NamesGive, Reply, generated_steps, input_limit, limit_input, read_fault}
 use Rattle.drive.specs.Delivery.{MayFail}
 use Rattle.intake.specs.Reading.{FileRefusal, FileRefusalOr, IsTooLong, MayHold}
 
@@ -57,3 +57,9 @@ pub named : (line : Line) (names : List (List ℕ)) (steps : ℕ) (stats : Bool)
     → (r : Reply) → MayFail failed (NamesGive steps stats names files) r → MayFail failed (Answer line files) r
 named line names steps stats files failed asks r (inl h) = inl (subst (λ (l : Line). Answer l files r) (sym asks) h)
 named line names steps stats files failed asks r (inr h) = inr h
+
+-- what a file gives with a second one that is to be its trace is the answer to the line that audits it
+pub audited_file : (line : Line) (name trace : List ℕ) (steps : ℕ) (files : List ℕ → Known) (failed : Type 0) → line ≡ audited name trace steps
+    → (r : Reply) → MayFail failed (OnFile (files name) (BytesGive (AuditedGives steps (files trace)))) r → MayFail failed (Answer line files) r
+audited_file line name trace steps files failed asks r (inl h) = inl (subst (λ (l : Line). Answer l files r) (sym asks) h)
+audited_file line name trace steps files failed asks r (inr h) = inr h

@@ -1,5 +1,5 @@
 -- What the run of a script gives is told by the script's meaning.
-use Rattle.std.proofs.Common.{◌≡◌, ℕ, false, List, [], ◌++◌, Option, Some, None, inl, inr, codes, refl, ap, ◌∙◌, arith, append-nil}
+use Rattle.std.proofs.Common.{◌≡◌, ℕ, List, [], ◌++◌, Option, Some, None, inl, inr, codes, refl, ap, ◌∙◌, arith, append-nil}
 use Rattle.std.specs.Prelude.{slice_get, option_map}
 use Rattle.std.specs.Fmt.{signed_decimal}
 use Rattle.following.specs.Follows.{Going, Value, Fault as Faulty, Is, Limit}
@@ -19,8 +19,9 @@ use Rattle.s_valid.specs.Beginning.{first_store, first_term}
 use Rattle.s_valid.proofs.Starts.{starts}
 use Rattle.s_agrees.specs.Agrees.{tag_names, fault_of, limit_of, end_of_fault, end_of_values, end_of}
 use Rattle.s_agrees.proofs.Follow.{runs_follow}
-use Rattle.replies.specs.Answer.{Reply, TrapReply, line, result_line, refusal, behind, start_reply, end_reply, faulted, name_or_none}
+use Rattle.replies.specs.Answer.{Reply, TrapReply, line, result_line, refusal, behind, end_reply, faulted, name_or_none}
 use Rattle.drive.specs.Meaning.{meaning_reply, fault_name, RunsMean}
+use Rattle.drive.proofs.Runs.{given_ready}
 
 -- a fault, as it is told
 same_fault : {g f : Fault} → Some g ≡ Some f → refusal (codes "fault " ++ fault_name g) 1 ≡ refusal (codes "fault " ++ fault_name f) 1
@@ -87,4 +88,4 @@ runs_mean p good small steps stats reply (inl h) =
     let begun = starts p good program h.1.1 in
     let r = Run program (first_store p.declarations) (first_term p.declarations) steps in
     let a = runs_follow p good program h.1.1 steps in
-    (r.output, a.0, a.2, h.1.3 ∙ ap (start_reply (faulted p) steps false program) begun ∙ ap (behind r.output) (end_meant p r.outcome a.0 a.1))
+    (r.output, a.0, a.2, given_ready (faulted p) _ program _ _ reply begun h.1.3 ∙ ap (behind r.output) (end_meant p r.outcome a.0 a.1))

@@ -14,23 +14,28 @@ use Rattle.s_judge.proofs.OneJudgement.{one_judgement}
 use Rattle.s_judge.specs.declared.fault.ScriptFault.{ScriptFault}
 use Rattle.s_syntax.specs.declared.script.Script.{Script}
 use Rattle.words.specs.declared.request.Action.{Action}
-use Rattle.words.specs.declared.request.Action.TheVariants.{Check, Run as RunFor, Build, Dump, Assemble}
+use Rattle.words.specs.declared.request.Action.TheVariants.{Check, Run as RunFor, Build, Dump, Assemble, Trace}
 use Rattle.s_code.specs.Lowered.{lowered}
 use Rattle.s_generate.specs.Generated.{generated as generated_script}
-use Rattle.words.specs.Line.{on_file as line_on_file, on_files, generated, bad}
-use Rattle.w_text.specs.Text.{Text}
-use Rattle.w_text.proofs.Least.{one_module as one_text_module, text_is_right}
-use Rattle.w_text.proofs.Faults.{least_is_one}
+use Rattle.words.specs.Line.{on_file as line_on_file, on_files, audited, generated, bad}
+use Rattle.w_words.proofs.Pieces.{text_is_right, least_is_one}
+use Rattle.w_text.specs.Text.{Text, IsText}
+use Rattle.w_text.proofs.Least.{one_module as one_text_module}
 use Rattle.replies.specs.declared.file_kind.FileKind.{FileKind}
 use Rattle.replies.specs.declared.file_kind.FileKind.TheVariants as file
-use Rattle.replies.specs.Answer.{Reply, HasModuleFault, OnFileOr, OnBytesOr, FileGives, FilesGive, NamesGive, LinkGives, linked_reply, in_file, limit_input, BytesRefusal, GivenOf, BytesGive, TextGives, NotSpelled, NoText, ScriptGives, GivenAs, kind_of, wrong_text, ActionGives, TrapReply, gives, script_gives, RunGives, Compiled, trapped, faulted, built, run_gives, malformed, invalid, bad_script, generated_steps, ok_script}
+use Rattle.replies.specs.Answer.{Reply, HasModuleFault, OnFileOr, OnBytesOr, FileGives, FilesGive, NamesGive, LinkGives, linked_reply, in_file, limit_input, BytesRefusal, GivenOf, BytesGive, TextGives, NotSpelled, NoText, ScriptGives, GivenAs, kind_of, wrong_text, ActionGives, TrapReply, gives, script_gives, StartGives, ProgramGives, AuditGives, AuditedGives, RunGives, Compiled, trapped, faulted, built, malformed, invalid, bad_script, generated_steps, ok_script}
 use Rattle.drive.specs.Laws.{OneAnswer}
+use Rattle.w_reduce.specs.Program.{Program}
+use Rattle.w_reduce.specs.Start.{Started, Ready, NoPrinter, NoEntry, Exceeds, StartTraps, Start}
+use Rattle.w_reduce.specs.Store.{Store}
+use Rattle.w_reduce.specs.Terms.{Term}
 use Rattle.w_linked.specs.Definitions.{definitions}
 use Rattle.w_linked.specs.Imports.{TypeTests}
 use Rattle.w_linked.specs.Starting.{StartL}
 use Rattle.w_rules.specs.Limits.{Within}
 use Rattle.w_rules.specs.Valid.{Valid}
 use Rattle.drive.proofs.Programs.{one_program, one_tests}
+use Rattle.drive.proofs.AuditAnswers.{audited_once}
 
 -- ## A module has one fault
 
@@ -61,8 +66,21 @@ module _ (Reads : Module → Type 0) (NoModule : Reply → Type 0) (one_read : (
   one_reply Accepted one r s (inr (inr h)) (inr (inl k)) = absurd (not_both k.0 r k.1 h)
   one_reply Accepted one r s (inr (inr h)) (inr (inr k)) = one_none r s h k
 
+module _ (say : TrapReply) (OfRun : Store → Term → Reply → Type 0) (one : (s : Store) (t : Term) → IsOne (OfRun s t)) where
+  start_once : (o : Started) → IsOne (StartGives say OfRun o)
+  start_once (Ready s t) q r h k = one s t q r h k
+  start_once (NoPrinter i) q r h k = h ∙ sym k
+  start_once NoEntry q r h k = h ∙ sym k
+  start_once (Exceeds name) q r h k = h ∙ sym k
+  start_once (StartTraps t) q r h k = h ∙ sym k
+
+one_program_gives : (say : TrapReply) (OfRun : Program → Store → Term → Reply → Type 0) → ((p : Program) (s : Store) (t : Term) → IsOne (OfRun p s t)) → (m : Module) → IsOne (ProgramGives say OfRun m)
+one_program_gives say OfRun one m q r h k =
+    let same = one_program m k.0 h.0 k.1 h.1 k.2 h.2 in
+    start_once say (OfRun h.0) (one h.0) (Start h.0) q r h.3 (subst (λ (p : Program). StartGives say (OfRun p) (Start p) r) same k.3)
+
 one_run : (say : TrapReply) (steps : ℕ) (stats : Bool) (m : Module) → IsOne (RunGives say steps stats m)
-one_run say steps stats m r s h k = h.3 ∙ ap (run_gives say steps stats) (one_program m h.0 k.0 h.1 k.1 h.2 k.2) ∙ sym k.3
+one_run say steps stats m = one_program_gives say _ (λ p s t q r h k. h ∙ sym k) m
 
 one_given : (action : Action) (m : Module) → IsOne (gives action m)
 one_given Check m r s h k = h ∙ sym k
@@ -70,6 +88,7 @@ one_given (RunFor steps stats) m r s h k = one_run trapped steps stats m r s h k
 one_given Build m r s h k = h ∙ sym k
 one_given Dump m r s h k = h ∙ sym k
 one_given Assemble m r s h k = h ∙ sym k
+one_given (Trace steps) m r s h k = one_program_gives trapped _ (λ p s t q r h k. h ∙ sym k) m r s h k
 
 -- ## Bytes
 
@@ -82,16 +101,16 @@ spelled_or_not b m r s h = let e : ◌≡◌ {A = Result Module DecodeFault} (Ok
 one_malformed : (b : List ℕ) → IsOne (NotSpelled b)
 one_malformed b r s h k = h.2 ∙ ap malformed (one_fault b h.0 k.0 h.1 k.1) ∙ sym k.2
 
-bytes_once : (action : Action) (b : List ℕ) → IsOne (BytesGive (gives action) b)
-bytes_once action b = one_reply (Spells b) (NotSpelled b) (one_module b) (spelled_or_not b) (one_malformed b) (gives action) (one_given action)
+bytes_once : (Accepted : Module → Reply → Type 0) → ((m : Module) → IsOne (Accepted m)) → (b : List ℕ) → IsOne (BytesGive Accepted b)
+bytes_once Accepted one b = one_reply (Spells b) (NotSpelled b) (one_module b) (spelled_or_not b) (one_malformed b) Accepted one
 
 -- ## Texts
 
 one_wrong : (t : List ℕ) → IsOne (NoText t)
-one_wrong t r s h k = h.2 ∙ ap wrong_text (least_is_one t h.0 k.0 h.1 k.1) ∙ sym k.2
+one_wrong t r s h k = h.2 ∙ ap wrong_text (least_is_one IsText t h.0 k.0 h.1 k.1) ∙ sym k.2
 
 text_once : (action : Action) (t : List ℕ) → IsOne (TextGives (gives action) t)
-text_once action t = one_reply (Text t) (NoText t) (one_text_module t) (λ m r h k. text_is_right t m k.0 h k.1) (one_wrong t) (gives action) (one_given action)
+text_once action t = one_reply (Text t) (NoText t) (one_text_module t) (λ m r h k. text_is_right IsText t k.0 (m, h) k.1) (one_wrong t) (gives action) (one_given action)
 
 -- ## Scripts
 
@@ -107,6 +126,7 @@ script_given_once (RunFor steps stats) p r s h k = compiled_once (RunGives (faul
 script_given_once Build p r s h k = compiled_once (λ m reply. reply ≡ built m) (λ m r s h k. h ∙ sym k) p r s h k
 script_given_once Dump p r s h k = absurd h
 script_given_once Assemble p r s h k = absurd h
+script_given_once (Trace steps) p r s h k = absurd h
 
 script_once : (Accepted : Script → Reply → Type 0) → ((p : Script) → IsOne (Accepted p)) → (b : List ℕ) → IsOne (ScriptGives Accepted b)
 script_once Accepted one b r s (inl h) (inl k) =
@@ -123,7 +143,7 @@ script_once Accepted one b r s (inr h) (inr k) =
 -- ## What a file is
 
 one_as : (kind : FileKind) (action : Action) (b : List ℕ) → IsOne (GivenAs kind action b)
-one_as file.Module action b = bytes_once action b
+one_as file.Module action b = bytes_once (gives action) (one_given action) b
 one_as file.Script action b = script_once (script_gives action) (script_given_once action) b
 one_as file.Text action b = text_once action b
 
@@ -180,11 +200,18 @@ module _ (steps : ℕ) (stats : Bool) (files : List ℕ → Known) (told : (name
   names_once names r s (inr h) (inl k) = absurd (omega (arith, h.0, k.0))
   names_once names r s (inr h) (inr k) = h.1 ∙ sym k.1
 
+-- ## Audits
+
+audit_once : (steps : ℕ) (trace : Known) → trace ≢ untold → (m : Module) → IsOne (AuditedGives steps trace m)
+audit_once steps trace told = one_program_gives trapped _ (λ p s t. on_file limit_input (AuditGives steps p s t) trace told (audited_once steps p s t))
+
 -- ## Lines
 
 pub one_answer : OneAnswer
 one_answer (line_on_file name action) files told r s h k =
     on_file limit_input (ActionGives action) (files name) (told name) (one_done action) r s h k
 one_answer (on_files names steps stats) files told r s h k = names_once steps stats files told names r s h k
+one_answer (audited name trace steps) files told r s h k =
+    on_file limit_input (BytesGive (AuditedGives steps (files trace))) (files name) (told name) (bytes_once (AuditedGives steps (files trace)) (audit_once steps (files trace) (told trace))) r s h k
 one_answer (generated n) files told r s h k = one_done (RunFor generated_steps false) (generated_script n) r s h k
 one_answer bad files told r s h k = h ∙ sym k

@@ -7,9 +7,9 @@ use Rattle.w_types.specs.declared.value.Value.{Value}
 use Rattle.w_reduce.specs.Values.{Val, val}
 use Rattle.w_reduce.specs.Store.{Store, made, consumed, live}
 use Rattle.w_reduce.specs.Terms.{Term}
-use Rattle.w_reduce.specs.Program.{Program, IsProgram}
+use Rattle.w_reduce.specs.Program.{Program}
 use Rattle.w_reduce.specs.Run.{Outcome, Running, RunState, Run}
-use Rattle.w_reduce.specs.Start.{Start, Ready}
+use Rattle.w_reduce.specs.Start.{Started, Ready, NoPrinter, NoEntry, Exceeds, StartTraps, Start}
 use Rattle.w_stands.specs.Values.{vals}
 use Rattle.w_machine.specs.declared.outcome.RunStop.{RunStop}
 use Rattle.w_machine.specs.declared.outcome.RunStop.TheVariants as run_stop
@@ -20,10 +20,10 @@ use Rattle.w_machine.specs.Results.{HasResults}
 use Rattle.replies.specs.declared.output.Output.{Output}
 use Rattle.replies.specs.declared.stop.Stop.{Stop}
 use Rattle.replies.specs.declared.stop.Stop.TheVariants.{Refused, WriteFault, OutOfMemory}
-use Rattle.replies.specs.Answer.{Reply, TrapReply, counts_line, stats_line, result_line, behind, end_reply, run_reply, start_reply, run_gives, RunGives}
+use Rattle.replies.specs.Answer.{Reply, TrapReply, counts_line, stats_line, result_line, behind, end_reply, run_reply, StartGives, ProgramGives}
 use Rattle.drive.specs.Leaving.{IsBegun, Leaves}
 use Rattle.replies.specs.Pieces.{joined}
-use Rattle.drive.specs.Running.{IsAfter, IsAfterBy}
+use Rattle.drive.specs.Running.{IsAfter, IsAfterBy, BeginsRunOf, HasNoRun}
 use Rattle.replies.specs.Stop.{Refuses, reply_with, reply_of_refusal}
 use Rattle.drive.proofs.Replies.{front_first}
 
@@ -95,7 +95,7 @@ first_after m steps q new k before now first runs none =
         let le : n ≤ steps = subst (λ (f : Bool). HasTakenBy f n steps) none taken in
         (let e = zero-add n in omega (arith, e, le), none)
 
-not_running : (k : RunStop) (o : Outcome) → is_fault k ≡ false → StopsWith k o → o ≡ Running → ⊥
+pub not_running : (k : RunStop) (o : Outcome) → is_fault k ≡ false → StopsWith k o → o ≡ Running → ⊥
 not_running run_stop.Ended o sound stops runs = let e = stops.1 in absurd (cc)
 not_running (run_stop.Limit name) o sound stops runs = absurd (cc)
 not_running (run_stop.Trapped t) o sound stops runs = absurd (cc)
@@ -195,11 +195,22 @@ lines_of_vals (v ∷ vs) = ap (λ (l : List ℕ). result_line (val v) ++ l) (lin
 
 -- ## What a module gives
 
--- where its run begins, what the run gives
-pub ready_gives : (say : TrapReply) (m : Module) (steps : ℕ) (stats : Bool) (p : Program) (s : Store) (t : Term) → p.source ≡ m → IsProgram p → Start p ≡ Ready s t → (reply : Reply)
-    → reply ≡ run_reply say stats (Run p s t steps) → RunGives say steps stats m reply
-ready_gives say m steps stats p s t source known start reply is = (p, source, known, is ∙ sym (ap (start_reply say steps stats p) start))
+module _ (on_trap : TrapReply) (OfRun : Program → Store → Term → Reply → Type 0) (m : Module) where
+  -- where its run begins, what the run gives
+  pub run_gives : (q : Position) → (b : BeginsRunOf m q) → (reply : Reply) → OfRun b.program b.store b.term reply → ProgramGives on_trap OfRun m reply
+  run_gives q b reply h = (b.program, b.source, b.known, subst (λ (o : Started). StartGives on_trap (OfRun b.program) o reply) (sym b.start) h)
 
--- and else its refusal
-pub refused_gives : (say : TrapReply) (m : Module) (steps : ℕ) (stats : Bool) (p : Program) → p.source ≡ m → IsProgram p → (reply : Reply) → reply ≡ run_gives say steps stats p → RunGives say steps stats m reply
-refused_gives say m steps stats p source known reply is = (p, source, known, is)
+  -- where it has no run, what it gives without one
+  pub no_run_gives : (reply : Reply) → HasNoRun on_trap m reply → ProgramGives on_trap OfRun m reply
+  no_run_gives reply h = (h.0, h.1, h.2, by (Start h.0) h.3)
+    where
+      by : (o : Started) → StartGives on_trap (λ s t r. ⊥) o reply → StartGives on_trap (OfRun h.0) o reply
+      by (Ready s t) k = absurd k
+      by (NoPrinter i) k = k
+      by NoEntry k = k
+      by (Exceeds name) k = k
+      by (StartTraps t) k = k
+
+-- what a program gives that begins a run
+pub given_ready : (on_trap : TrapReply) (OfRun : Store → Term → Reply → Type 0) (p : Program) (s : Store) (t : Term) (reply : Reply) → Start p ≡ Ready s t → StartGives on_trap OfRun (Start p) reply → OfRun s t reply
+given_ready on_trap OfRun p s t reply e h = subst (λ (o : Started). StartGives on_trap OfRun o reply) e h

@@ -23,18 +23,23 @@ use Rattle.s_syntax.specs.declared.script.Script.{Script}
 use Rattle.s_check.specs.Size.{Size, size_limit}
 use Rattle.words.specs.declared.request.Action.{Action}
 use Rattle.words.specs.Request.{taken_by}
-use Rattle.words.specs.declared.request.Action.TheVariants.{Check, Run as RunFor, Build, Dump, Assemble}
+use Rattle.words.specs.declared.request.Action.TheVariants.{Check, Run as RunFor, Build, Dump, Assemble, Trace}
 use Rattle.words.specs.declared.request.Takes.TheVariants.{ModulesAndScripts}
 use Rattle.s_code.specs.Lowered.{lowered}
 use Rattle.s_generate.specs.Generated.{generated as generated_script}
-use Rattle.words.specs.Line.{on_file as line_on_file, on_files, generated, bad}
+use Rattle.words.specs.Line.{on_file as line_on_file, on_files, audited, generated, bad}
 use Rattle.w_text.specs.Text.{Text}
 use Rattle.replies.specs.declared.file_kind.FileKind.{FileKind}
 use Rattle.replies.specs.declared.file_kind.FileKind.TheVariants as file
-use Rattle.replies.specs.Answer.{Reply, HasModuleFault, OnFileOr, OnBytesOr, FileGives, FilesGive, NamesGive, LinkGives, in_file, limit_input, most_files, GivenOf, BytesGive, TextGives, NotSpelled, NoText, ScriptGives, GivenAs, kind_of, ActionGives, TrapReply, gives, script_gives, RunGives, Compiled, trapped, faulted, built, generated_steps, input_limit, ok_script}
+use Rattle.replies.specs.Answer.{Reply, HasModuleFault, OnFileOr, OnBytesOr, FileGives, FilesGive, NamesGive, LinkGives, in_file, limit_input, most_files, GivenOf, BytesGive, TextGives, NotSpelled, NoText, ScriptGives, GivenAs, kind_of, ActionGives, TrapReply, gives, script_gives, StartGives, ProgramGives, AuditGives, AuditedGives, RunGives, Compiled, trapped, faulted, built, generated_steps, input_limit, ok_script}
 use Rattle.drive.specs.Laws.{SomeAnswer}
 use Rattle.w_linked.specs.Definitions.{definitions}
+use Rattle.w_reduce.specs.Program.{Program}
+use Rattle.w_reduce.specs.Start.{Started, Ready, NoPrinter, NoEntry, Exceeds, StartTraps, Start}
+use Rattle.w_reduce.specs.Store.{Store}
+use Rattle.w_reduce.specs.Terms.{Term}
 use Rattle.drive.proofs.Programs.{some_program, some_tests}
+use Rattle.drive.proofs.AuditAnswers.{audited_total}
 use Rattle.drive.proofs.TextsDecided.{text_or_wrong}
 use Rattle.drive.proofs.WhatActionsGive.{takes_it}
 
@@ -231,8 +236,18 @@ text_total Accepted total bytes = given_total (Text bytes) (NoText bytes) has Ac
     has : HasOne (Text bytes) (NoText bytes)
     has never none = elim (text_or_wrong bytes) [ inl h ↦ never h.0 h.1 | inr h ↦ none _ (h.0, h.1, refl) ]
 
+start_total : (say : TrapReply) (OfRun : Store → Term → Reply → Type 0) → ((s : Store) (t : Term) → IsTotal (OfRun s t)) → (o : Started) → IsTotal (StartGives say OfRun o)
+start_total say OfRun total (Ready s t) none = total s t none
+start_total say OfRun total (NoPrinter i) none = none _ refl
+start_total say OfRun total NoEntry none = none _ refl
+start_total say OfRun total (Exceeds name) none = none _ refl
+start_total say OfRun total (StartTraps t) none = none _ refl
+
+program_total : (say : TrapReply) (OfRun : Program → Store → Term → Reply → Type 0) → ((p : Program) (s : Store) (t : Term) → IsTotal (OfRun p s t)) → (m : Module) → IsTotal (ProgramGives say OfRun m)
+program_total say OfRun total m none = some_program m (λ p source is. start_total say (OfRun p) (total p) (Start p) (λ r h. none r (p, source, is, h)))
+
 some_run : (say : TrapReply) (steps : ℕ) (stats : Bool) (m : Module) → IsTotal (RunGives say steps stats m)
-some_run say steps stats m none = some_program m (λ p source is. none _ (p, source, is, refl))
+some_run say steps stats m = program_total say _ (λ p s t none. none _ refl) m
 
 some_given : (action : Action) (m : Module) → IsTotal (gives action m)
 some_given Check m none = none _ refl
@@ -240,6 +255,7 @@ some_given (RunFor steps stats) m none = some_run trapped steps stats m none
 some_given Build m none = none _ refl
 some_given Dump m none = none _ refl
 some_given Assemble m none = none _ refl
+some_given (Trace steps) m none = program_total trapped _ (λ p s t none. none _ refl) m none
 
 -- ## Scripts
 
@@ -256,6 +272,7 @@ some_script_given (RunFor steps stats) takes p none = compiled_total (RunGives (
 some_script_given Build takes p none = compiled_total (λ m reply. reply ≡ built m) (λ m none. none _ refl) p none
 some_script_given Dump takes p none = absurd cc
 some_script_given Assemble takes p none = absurd cc
+some_script_given (Trace steps) takes p none = absurd cc
 
 script_total : (Accepted : Script → Reply → Type 0) → ((p : Script) → IsTotal (Accepted p)) → (bytes : List ℕ) → IsTotal (ScriptGives Accepted bytes)
 script_total Accepted total bytes none = let j = some_judgement bytes in by j.0 j.1
@@ -298,10 +315,17 @@ names_total steps stats files names none = elim (cases_lt most_files (length nam
   | inr few ↦ files_total steps stats files names [] (λ r h. none r (inl (few, h)))
 ]
 
+-- ## Audits
+
+audit_total : (steps : ℕ) (trace : Known) (m : Module) → IsTotal (AuditedGives steps trace m)
+audit_total steps trace = program_total trapped _ (λ p s t. on_file limit_input (AuditGives steps p s t) trace (audited_total steps p s t))
+
 -- ## Lines
 
 pub some_answer : SomeAnswer
 some_answer (line_on_file name action) files none = on_file limit_input (ActionGives action) (files name) (some_done action) none
 some_answer (on_files names steps stats) files none = names_total steps stats files names none
+some_answer (audited name trace steps) files none =
+    on_file limit_input (BytesGive (AuditedGives steps (files trace))) (files name) (bytes_total (AuditedGives steps (files trace)) (audit_total steps (files trace))) none
 some_answer (generated n) files none = some_done (RunFor generated_steps false) (generated_script n) none
 some_answer bad files none = none _ refl

@@ -1,31 +1,15 @@
 -- Bytes are a text, or one of their lines is wrong: line by line, by the state that the lines before lead to.
-use Rattle.std.proofs.Common.{◌≡◌, ◌≤◌, ◌⊎◌, ℕ, zero, suc, Bool, true, false, inl, inr, List, [], ◌∷◌, ◌++◌, length, Option, Some, None, refl, ap, subst, ◌∙◌, arith}
-use Rattle.std.specs.Prelude.{nat_eq}
-use Rattle.std.proofs.lemmas.Bool.{eqb-true}
+use Rattle.std.proofs.Common.{◌≡◌, ◌≤◌, ◌⊎◌, ℕ, zero, suc, inl, inr, List, [], ◌∷◌, ◌++◌, length, Option, Some, None, refl, ap, subst, ◌∙◌, arith}
 use Rattle.std.proofs.lemmas.List.{length-append}
 use Rattle.w_syntax.specs.declared.module.Module.{Module}
 use Rattle.w_lines.specs.declared.line.Line.{Line}
-use Rattle.w_lines.specs.Spelling.{InLine, line_of}
+use Rattle.w_words.specs.Pieces.{InLine}
+use Rattle.w_words.proofs.Pieces.{first_line}
+use Rattle.w_lines.specs.Spelling.{line_of}
 use Rattle.w_text.specs.Machine.{State, Fresh, finished, step}
 use Rattle.w_text.specs.Standing.{on_line}
 use Rattle.w_text.specs.Text.{Text, IsWrongAt}
 use Rattle.w_text.proofs.Least.{Reached, reached_start, reached_line, wrong_line, wrong_end, right_end}
-
--- bytes with a line feed begin with a line
-record FirstLine (bs : List ℕ) : Type 0 where
-  line : List ℕ
-  more : List ℕ
-  same : bs ≡ (line ++ 10 ∷ []) ++ more
-  alone : InLine line
-
-longer : (b : ℕ) (bs : List ℕ) (x : Bool) → nat_eq b 10 ≡ x → FirstLine bs ⊎ InLine bs → FirstLine (b ∷ bs) ⊎ InLine (b ∷ bs)
-longer b bs true e rest = inl (record { line = []; more = bs; same = ap (λ (n : ℕ). n ∷ bs) (eqb-true b 10 e); alone = tt })
-longer b bs false e (inl f) = inl (record { line = b ∷ f.line; more = f.more; same = ap (λ (l : List ℕ). b ∷ l) f.same; alone = (e, f.alone) })
-longer b bs false e (inr alone) = inr (e, alone)
-
-first_line : (bs : List ℕ) → FirstLine bs ⊎ InLine bs
-first_line [] = inr tt
-first_line (b ∷ bs) = longer b bs (nat_eq b 10) refl (first_line bs)
 
 -- the bytes are a text, or wrong at some line
 abbrev IsDecided : List ℕ → Type 0

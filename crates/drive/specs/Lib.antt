@@ -5,4 +5,8 @@ pub mod Delivery
 pub mod Leaving
 pub mod Running
 pub mod Linking
+pub mod Stepping
+pub mod Tracing
+pub mod Auditing
+pub mod Audited
 pub mod Meaning

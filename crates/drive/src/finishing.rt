@@ -7,6 +7,7 @@ ghost use Rattle.drive.specs.Leaving.{Leaves};
 ghost use Rattle.replies.specs.Stop.{Gives};
 
 use crate::running::run;
+use crate::tracing::trace;
 use replies::{Origin, Output, Stop};
 use std::alloc::Global;
 use std::mem::forget;
@@ -81,5 +82,6 @@ pub(crate) fn finish<O: Sink>(
         Action::Build => build_checked(alloc, checked),
         Action::Dump => dump_checked(alloc, checked),
         Action::Assemble => build_checked(alloc, checked),
+        Action::Trace { steps } => trace(alloc, checked, steps, out),
     }
 }

@@ -1,8 +1,12 @@
 //! Laws of the definitions, each the contract of a function that does nothing.
+ghost use Rattle.drive.specs.Audited.{AuditsAreExact};
 ghost use Rattle.drive.specs.Built.{BuildIsIdempotent, BuiltFilesAreAccepted, BuiltScriptsAreShort};
 ghost use Rattle.drive.specs.Dumped.{DumpedFilesAreBuilt};
 ghost use Rattle.drive.specs.Laws.{OneAnswer, SomeAnswer};
 ghost use Rattle.drive.specs.Meaning.{AnswersMean, BuiltRunsAreAlike, RunsMean, StoppedRunsMean};
+
+use w_spelled::tags_are_few;
+use w_trace::{runs_are_one_shot, traces_fit};
 
 /// Where something is told of each name, a line has one answer.
 pub fn one_answer()
@@ -33,6 +37,15 @@ pub fn built_scripts_are_short()
 pub fn dumped_files_are_built()
     ensures { DumpedFilesAreBuilt }
 {}
+
+/// `audit` says that a file is the trace of a run just where it holds what `trace` writes.
+pub fn audits_are_exact()
+    ensures { AuditsAreExact }
+{
+    traces_fit();
+    runs_are_one_shot();
+    tags_are_few();
+}
 
 /// The run of a script prints, faults and ends as its meaning says, for each number of reductions.
 pub fn runs_of_scripts_mean()

@@ -1,6 +1,9 @@
-//! The program, over any files and sinks: what the words ask for, done with modules, scripts, texts and linked files, and their runs.
+//! The program, over any files and sinks: what the words ask for, done with modules, scripts, texts and linked files, their runs, and
+//! traces of runs.
 #![tactic(auto)]
 
+mod auditing;
+mod comparing;
 mod delivery;
 mod finishing;
 mod laws;
@@ -8,11 +11,13 @@ mod linking;
 mod program;
 mod running;
 mod scripts;
+mod stepping;
+mod tracing;
 
 pub use laws::{
-    answers_to_scripts_mean, build_is_idempotent, built_files_are_accepted, built_runs_are_alike,
-    built_scripts_are_short, dumped_files_are_built, one_answer, runs_of_scripts_mean, some_answer,
-    stopped_runs_of_scripts_mean,
+    answers_to_scripts_mean, audits_are_exact, build_is_idempotent, built_files_are_accepted,
+    built_runs_are_alike, built_scripts_are_short, dumped_files_are_built, one_answer,
+    runs_of_scripts_mean, some_answer, stopped_runs_of_scripts_mean,
 };
 pub use program::command;
 pub use replies::Status;

@@ -10,6 +10,7 @@ ghost use Rattle.drive.specs.Delivery.{Answers, Answered, Stopped, MayFail, Repl
 ghost use Rattle.intake.specs.Intake.{IsInputOf, IsShort};
 ghost use Rattle.drive.specs.Leaving.{Leaves};
 
+use crate::auditing::audit;
 use crate::delivery::deliver;
 use crate::finishing::finish;
 use crate::linking::run_files;
@@ -25,7 +26,7 @@ use words::{Action, Request, WordsFault, request_of};
 const GENERATED_STEPS: u64 = 10_000_000_000;
 
 static USAGE: &[u8] =
-    b"usage: stackwasm check FILE | run FILE [--steps N] [--stats] | build FILE | gen N | dump FILE | asm FILE | link FILE.. [--steps N] [--stats]\n";
+    b"usage: stackwasm check FILE | run FILE [--steps N] [--stats] | build FILE | gen N | dump FILE | asm FILE | link FILE.. [--steps N] [--stats] | trace FILE [--steps N] | audit FILE TRACE [--steps N]\n";
 
 // Does with a script, a text or a module what is asked for. What a run prints goes to out; the answer is what is left to write.
 fn act<O: Sink>(alloc: Global, action: Action, input: Input, out: &mut O) -> Result<Output, Stop>
@@ -90,6 +91,7 @@ fn answer<F: Inputs, O: Sink>(
                 stats,
             },
         ) => run_files(alloc, files, names.as_slice(), steps, stats, out),
+        Ok(Request::Audited { file, trace, steps }) => audit(alloc, files, file, trace, steps),
         Ok(Request::Generated(number)) => run_generated(alloc, number, out),
         Err(WordsFault::Bad) => Err(refuse(alloc, USAGE, Status::Usage)),
         Err(WordsFault::OutOfMemory) => Err(Stop::OutOfMemory),

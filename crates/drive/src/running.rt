@@ -1,5 +1,5 @@
 //! Runs.
-ghost use Rattle.std.specs.Prelude.{◌≡◌, ◌≤◌, ℕ, Bool, true, false, flat_map, Err, IfOk};
+ghost use Rattle.std.specs.Prelude.{◌≡◌, ◌≤◌, ℕ, Bool, true, false, flat_map, Err, IfErr, IfOk};
 ghost use Rattle.w_outside.specs.Outside.{Grew, Rose};
 ghost use Rattle.w_reduce.specs.Program.{Program};
 ghost use Rattle.w_reduce.specs.Run.{Run};
@@ -7,12 +7,13 @@ ghost use Rattle.w_reduce.specs.Store.{Store};
 ghost use Rattle.w_reduce.specs.Terms.{Term};
 ghost use Rattle.w_reduce.specs.Values.{val};
 ghost use Rattle.w_inst.specs.Instances.{BeginsAs};
-ghost use Rattle.w_machine.specs.Beginning.{Begins, BeginsWith, origin_of};
+ghost use Rattle.w_machine.specs.Beginning.{Begins};
 ghost use Rattle.w_machine.specs.Position.{most_reductions};
-ghost use Rattle.replies.specs.Answer.{result_line, stats_line as the_stats_line, run_reply, run_gives, RunGives};
+ghost use Rattle.w_trace.specs.Endings.{run_limit_text};
+ghost use Rattle.replies.specs.Answer.{limit, result_line, stats_line as the_stats_line, run_reply, RunGives};
 ghost use Rattle.drive.specs.Leaving.{Leaves};
 ghost use Rattle.replies.specs.Pieces.{joined};
-ghost use Rattle.drive.specs.Running.{IsAfter, IsFirst};
+ghost use Rattle.drive.specs.Running.{BeginsRunOf, HasNoRun, HasNoStart, IsAfter, IsFirst};
 ghost use Rattle.replies.specs.Origin.{trap_reply_of};
 ghost use Rattle.replies.specs.Stop.{IsReply, Refuses, WritesMore};
 
@@ -21,10 +22,10 @@ use replies::{
     start_limit_line, stats_line, value_line, with_err,
 };
 use std::alloc::{AllocError, Global};
-use w_inst::{InstFault, Instance, instantiate};
+use w_inst::{InstFault, instantiate};
 use w_machine::{Machine, Outcome};
 use w_outside::Sink;
-use w_reduce::Trap;
+use w_reduce::{RunLimit, Trap};
 use w_rules::Checked;
 use w_types::Value;
 
@@ -34,6 +35,16 @@ pub(crate) fn trap_refusal(alloc: Global, origin: Origin, trap: Trap) -> Stop
 {
     match origin.trap_line(alloc, trap) {
         Ok(line) => refuse_by(alloc, line, Status::Trap),
+        Err(_) => Stop::OutOfMemory,
+    }
+}
+
+// The refusal by a limit of a run.
+fn limit_refusal(alloc: Global, name: RunLimit) -> Stop
+    ensures { Refuses (λ reply. reply ≡ limit (run_limit_text name)) result }
+{
+    match run_limit_line(alloc, name) {
+        Ok(line) => refuse_by(alloc, line, Status::Limit),
         Err(_) => Stop::OutOfMemory,
     }
 }
@@ -76,7 +87,7 @@ fn run_machine<O: Sink>(
             })
         }
         Outcome::Running => Err(refuse(alloc, b"running\n", Status::Running)),
-        Outcome::Limit(name) => Err(refuse(alloc, run_limit_line(name), Status::Limit)),
+        Outcome::Limit(name) => Err(limit_refusal(alloc, name)),
         Outcome::Trapped(trap) => Err(trap_refusal(alloc, origin, trap)),
         Outcome::WriteFault => Err(Stop::WriteFault),
         Outcome::OutOfMemory => Err(Stop::OutOfMemory),
@@ -129,30 +140,9 @@ pub(crate) fn run_from<O: Sink>(
     replied
 }
 
-// Runs a module from its first store.
-fn run_instance<O: Sink>(
-    alloc: Global,
-    origin: Origin,
-    checked: Checked,
-    instance: Instance,
-    steps: u64,
-    stats: bool,
-    out: &mut O,
-) -> Result<Output, Stop>
-    requires within { steps ≤ most_reductions }
-    requires first { BeginsWith checked instance.store instance.main }
-    ensures leaves { (p : Program) (s : Store) (t : Term) → Begins (origin_of checked instance.main) p s t
-        → Leaves (λ reply. reply ≡ run_reply (trap_reply_of origin.entry) stats (Run p s t steps)) result
-        (Grew (O.held out.old) (O.held out.new)) (Rose (O.faults out.old) (O.faults out.new)) }
-    ensures later { O.faults out.old ≤ O.faults out.new }
-{
-    let machine = Machine::new(alloc, checked, instance)?;
-    run_from(alloc, origin, machine, steps, stats, out)
-}
-
 // Why a module has no run.
 fn no_run(alloc: Global, origin: Origin, fault: InstFault) -> Stop
-    ensures { (p : Program) (steps : ℕ) (stats : Bool) → BeginsAs p (Err fault) → Refuses (λ reply. reply ≡ run_gives (trap_reply_of origin.entry) steps stats p) result }
+    ensures { (p : Program) → BeginsAs p (Err fault) → Refuses (HasNoStart (trap_reply_of origin.entry) p) result }
 {
     match fault {
         InstFault::Import(index) => match printer_line(alloc, index) {
@@ -163,6 +153,22 @@ fn no_run(alloc: Global, origin: Origin, fault: InstFault) -> Stop
         InstFault::Limit(name) => refuse(alloc, start_limit_line(name), Status::Limit),
         InstFault::Trap(trap) => trap_refusal(alloc, origin, trap),
         InstFault::OutOfMemory => Stop::OutOfMemory,
+    }
+}
+
+/// The machine at the begin of a module's run, or why the module has no run.
+pub(crate) fn begin_run(alloc: Global, origin: Origin, checked: Checked) -> Result<Machine, Stop>
+    ensures ready { IfOk result (BeginsRunOf checked) }
+    ensures none { IfErr result (Refuses (HasNoRun (trap_reply_of origin.entry) checked)) }
+{
+    // Which types match which is known.
+    let _classes = checked.classes();
+    match instantiate(alloc, &checked) {
+        Ok(instance) => Ok(Machine::new(alloc, checked, instance)?),
+        Err(fault) => {
+            drop(checked);
+            Err(no_run(alloc, origin, fault))
+        }
     }
 }
 
@@ -180,13 +186,6 @@ pub(crate) fn run<O: Sink>(
         (Grew (O.held out.old) (O.held out.new)) (Rose (O.faults out.old) (O.faults out.new)) }
     ensures later { O.faults out.old ≤ O.faults out.new }
 {
-    // Which types match which is known.
-    let _classes = checked.classes();
-    match instantiate(alloc, &checked) {
-        Ok(instance) => run_instance(alloc, origin, checked, instance, steps, stats, out),
-        Err(fault) => {
-            drop(checked);
-            Err(no_run(alloc, origin, fault))
-        }
-    }
+    let machine = begin_run(alloc, origin, checked)?;
+    run_from(alloc, origin, machine, steps, stats, out)
 }

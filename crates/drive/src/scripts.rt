@@ -156,5 +156,6 @@ pub(crate) fn act_on_script<O: Sink>(
         Action::Build => build_script(alloc, bytes),
         Action::Dump => unreachable!(),
         Action::Assemble => unreachable!(),
+        Action::Trace { .. } => unreachable!(),
     }
 }

@@ -16,17 +16,21 @@ use Rattle.w_rules.specs.declared.limits.SizeLimit.TheVariants.{Types, Params, L
 use Rattle.w_items.specs.Faults.{IsFaultOf}
 use Rattle.w_items.specs.declared.fault.ValidFault.{ValidFault}
 use Rattle.w_items.specs.declared.fault.ValidFault.TheVariants as valid
-use Rattle.w_reduce.specs.declared.limit.RunLimit.{RunLimit}
-use Rattle.w_reduce.specs.declared.limit.RunLimit.TheVariants.{Frames, Handles, Conts}
 use Rattle.w_reduce.specs.declared.limit.StartLimit.{StartLimit}
 use Rattle.w_reduce.specs.declared.limit.StartLimit.TheVariants.{Memory, Table}
 use Rattle.w_reduce.specs.declared.trap.Trap.{Trap}
 use Rattle.w_reduce.specs.declared.trap.Trap.TheVariants as trap
 use Rattle.w_reduce.specs.Values.{Val, I32, I64, Null, Func, Cont}
-use Rattle.w_reduce.specs.Store.{made, consumed, live}
+use Rattle.w_reduce.specs.Store.{Store, made, consumed, live}
+use Rattle.w_reduce.specs.Terms.{Term}
 use Rattle.w_reduce.specs.Program.{Program, IsProgram}
 use Rattle.w_reduce.specs.Start.{Started, Ready, NoPrinter, NoEntry, Exceeds, StartTraps, Start}
 use Rattle.w_reduce.specs.Run.{Outcome, Running, Values, Traps, Limit, NoRule, RunState, Run}
+use Rattle.w_trace.specs.declared.trace.Trace.{Trace}
+use Rattle.w_trace.specs.Once.{IsOneShot, IsUnsoundAt, uses_of}
+use Rattle.w_trace.specs.Endings.{trap_text, run_limit_text}
+use Rattle.w_trace.specs.Lines.{text_of as trace_text, IsTextOf, IsWrongAt as IsWrongTraceAt, DifferAt}
+use Rattle.w_trace.specs.Traces.{trace_of}
 use Rattle.w_linked.specs.Definitions.{definitions}
 use Rattle.w_linked.specs.Imports.{TypeTests}
 use Rattle.w_linked.specs.Laws.{AreTestsOf}
@@ -48,8 +52,8 @@ use Rattle.words.specs.Request.{taken_by}
 use Rattle.words.specs.declared.request.Takes.{Takes}
 use Rattle.words.specs.declared.request.Takes.TheVariants as takes
 use Rattle.words.specs.declared.request.Action.{Action}
-use Rattle.words.specs.declared.request.Action.TheVariants.{Check, Run as RunFor, Build, Dump, Assemble}
-use Rattle.words.specs.Line.{Line, on_file, on_files, generated, bad}
+use Rattle.words.specs.declared.request.Action.TheVariants.{Check, Run as RunFor, Build, Dump, Assemble, Trace as TraceFor}
+use Rattle.words.specs.Line.{Line, on_file, on_files, audited, generated, bad}
 use Rattle.replies.specs.declared.file_kind.FileKind.{FileKind}
 use Rattle.replies.specs.declared.file_kind.FileKind.TheVariants as file
 
@@ -70,7 +74,7 @@ refusal text status = record { out = []; err = line text; status = status }
 -- ## The refusals
 
 abbrev pub usage : Reply
-usage = refusal (codes "usage: stackwasm check FILE | run FILE [--steps N] [--stats] | build FILE | gen N | dump FILE | asm FILE | link FILE.. [--steps N] [--stats]") 2
+usage = refusal (codes "usage: stackwasm check FILE | run FILE [--steps N] [--stats] | build FILE | gen N | dump FILE | asm FILE | link FILE.. [--steps N] [--stats] | trace FILE [--steps N] | audit FILE TRACE [--steps N]") 2
 
 -- what bytes with this fault give; want of memory is none of theirs
 abbrev pub malformed_text : DecodeFault → List ℕ
@@ -87,16 +91,11 @@ malformed fault = refusal (malformed_text fault) 3
 abbrev pub wrong_text : ℕ → Reply
 wrong_text l = refusal (codes "text " ++ decimal l) 12
 
--- the names of limits, on a module and of a run
+-- the names of limits on a module
 abbrev pub size_limit_text : SizeLimit → List ℕ
 size_limit_text Types = codes "limit types"
 size_limit_text Params = codes "limit params"
 size_limit_text Locals = codes "limit locals"
-
-abbrev pub run_limit_text : RunLimit → List ℕ
-run_limit_text Frames = codes "limit frames"
-run_limit_text Handles = codes "limit handles"
-run_limit_text Conts = codes "limit conts"
 
 -- and of where a run begins
 abbrev pub start_limit_text : StartLimit → List ℕ
@@ -135,19 +134,6 @@ read_fault = refusal (codes "read fault") 6
 
 abbrev pub limit_input : Reply
 limit_input = refusal (codes "limit input") 9
-
-abbrev pub trap_text : Trap → List ℕ
-trap_text trap.Unreachable = codes "trap unreachable"
-trap_text trap.DivideByZero = codes "trap divide by zero"
-trap_text trap.IntegerOverflow = codes "trap integer overflow"
-trap_text trap.MemoryOutOfBounds = codes "trap memory out of bounds"
-trap_text trap.TableOutOfBounds = codes "trap table out of bounds"
-trap_text trap.UndefinedElement = codes "trap undefined element"
-trap_text trap.NullElement = codes "trap null element"
-trap_text trap.CallTypeMismatch = codes "trap call type mismatch"
-trap_text trap.NullReference = codes "trap null reference"
-trap_text trap.ConsumedContinuation = codes "trap consumed continuation"
-trap_text (trap.Unhandled e) = codes "trap unhandled " ++ decimal e
 
 abbrev pub trapped : Trap → Reply
 trapped t = refusal (trap_text t) 1
@@ -216,20 +202,29 @@ with_stats false r reply = reply
 abbrev pub run_reply : TrapReply → Bool → RunState → Reply
 run_reply on_trap stats r = with_stats stats r (behind r.output (end_reply on_trap r.outcome))
 
--- what a run gives of at most so many steps, by where it begins
-abbrev pub start_reply : TrapReply → ℕ → Bool → Program → Started → Reply
-start_reply on_trap steps stats p (Ready s t) = run_reply on_trap stats (Run p s t steps)
-start_reply on_trap steps stats p (NoPrinter i) = no_printer i
-start_reply on_trap steps stats p NoEntry = no_entry
-start_reply on_trap steps stats p (Exceeds name) = limit (start_limit_text name)
-start_reply on_trap steps stats p (StartTraps t) = on_trap t
-
-abbrev pub run_gives : TrapReply → ℕ → Bool → Program → Reply
-run_gives on_trap steps stats p = start_reply on_trap steps stats p (Start p)
+-- what a program gives by where it begins, where a run from there gives this
+abbrev pub StartGives : TrapReply → (Store → Term → Reply → Type 0) → Started → Reply → Type 0
+StartGives on_trap OfRun (Ready s t) reply = OfRun s t reply
+StartGives on_trap OfRun (NoPrinter i) reply = reply ≡ no_printer i
+StartGives on_trap OfRun NoEntry reply = reply ≡ no_entry
+StartGives on_trap OfRun (Exceeds name) reply = reply ≡ limit (start_limit_text name)
+StartGives on_trap OfRun (StartTraps t) reply = reply ≡ on_trap t
 
 -- so a module gives, by which of its types match which
+abbrev pub ProgramGives : TrapReply → (Program → Store → Term → Reply → Type 0) → Module → Reply → Type 0
+ProgramGives on_trap OfRun m reply = (p : Program) × (p.source ≡ m) × IsProgram p × StartGives on_trap (OfRun p) (Start p) reply
+
+-- what its run gives of at most so many steps
 abbrev pub RunGives : TrapReply → ℕ → Bool → Module → Reply → Type 0
-RunGives on_trap steps stats m reply = (p : Program) × (p.source ≡ m) × IsProgram p × (reply ≡ run_gives on_trap steps stats p)
+RunGives on_trap steps stats = ProgramGives on_trap (λ p s t reply. reply ≡ run_reply on_trap stats (Run p s t steps))
+
+-- a trace, written
+abbrev pub traced : Trace → Reply
+traced x = record { out = trace_text x; err = []; status = 0 }
+
+-- the trace of the run of at most so many steps
+abbrev pub TraceGives : ℕ → Module → Reply → Type 0
+TraceGives steps = ProgramGives trapped (λ p s t reply. reply ≡ traced (trace_of p s t steps))
 
 -- a module that is valid, written again
 abbrev pub built : Module → Reply
@@ -246,6 +241,7 @@ gives (RunFor steps stats) m reply = RunGives trapped steps stats m reply
 gives Build m reply = reply ≡ built m
 gives Dump m reply = reply ≡ dumped m
 gives Assemble m reply = reply ≡ built m
+gives (TraceFor steps) m reply = TraceGives steps m reply
 
 -- the module has this fault
 abbrev pub HasModuleFault : Module → ValidFault → Type 0
@@ -338,13 +334,14 @@ fault_text p t = trap_text t
 abbrev pub faulted : Script → Trap → Reply
 faulted p t = refusal (fault_text p t) 1
 
--- what an action gives of a script that breaks no rule; no statistics are told of its run, and two take no scripts
+-- what an action gives of a script that breaks no rule; no statistics are told of its run, and three take no scripts
 abbrev pub script_gives : Action → Script → Reply → Type 0
 script_gives Check p reply = Sized (λ r. r ≡ ok_script) p reply
 script_gives (RunFor steps stats) p reply = Compiled (RunGives (faulted p) steps false) p reply
 script_gives Build p reply = Compiled (λ m reply. reply ≡ built m) p reply
 script_gives Dump p reply = ⊥
 script_gives Assemble p reply = ⊥
+script_gives (TraceFor steps) p reply = ⊥
 
 -- what bytes of a script give, where one that breaks no rule gives this
 abbrev pub ScriptGives : (Script → Reply → Type 0) → List ℕ → Reply → Type 0
@@ -452,6 +449,44 @@ abbrev pub NamesGive : ℕ → Bool → List (List ℕ) → (List ℕ → Known)
 NamesGive steps stats names files reply = ((length names ≤ most_files) × FilesGive steps stats [] names files reply)
     ⊎ ((most_files < length names) × (reply ≡ limit_files))
 
+-- ## Audits of traces
+
+-- a file that is no trace, by the line with which it goes wrong; one of whose events is unsound; and one that says something else than
+-- the run
+abbrev pub no_trace : ℕ → Reply
+no_trace l = refusal (codes "trace " ++ decimal l) 13
+
+abbrev pub unsound : ℕ → Reply
+unsound l = refusal (codes "unsound " ++ decimal l) 13
+
+abbrev pub differs : ℕ → Reply
+differs l = refusal (codes "differs " ++ decimal l) 13
+
+-- how many continuations were made, are consumed and live
+abbrev pub audit_line : ℕ → ℕ → ℕ → List ℕ
+audit_line made consumed live = line ((count_text (codes "ok trace made ") made ++ count_text (codes " consumed ") consumed) ++ count_text (codes " live ") live)
+
+-- those of a store
+abbrev pub ok_trace : Store → Reply
+ok_trace s = record { out = audit_line (made s) (consumed s) (live s); err = []; status = 0 }
+
+-- what x gives whose events are one-shot, where the run has the trace y and leads to this store
+abbrev pub ComparedGives : Trace → Store → Trace → Reply → Type 0
+ComparedGives y s x reply = ((l : ℕ) × DifferAt x y l × (reply ≡ differs l)) ⊎ ((x ≡ y) × (reply ≡ ok_trace s))
+
+-- what x gives
+abbrev pub JudgedGives : Trace → Store → Trace → Reply → Type 0
+JudgedGives y s x reply = ((l : ℕ) × IsUnsoundAt x.events l × (reply ≡ unsound l)) ⊎ (IsOneShot (uses_of x.events) × ComparedGives y s x reply)
+
+-- what bytes give that are to be the trace of the run of at most so many steps
+abbrev pub AuditGives : ℕ → Program → Store → Term → List ℕ → Reply → Type 0
+AuditGives steps p s t bytes reply = ((l : ℕ) × IsWrongTraceAt bytes l × (reply ≡ no_trace l))
+    ⊎ ((x : Trace) × IsTextOf x bytes × JudgedGives (trace_of p s t steps) (Run p s t steps).store x reply)
+
+-- what a module gives with a file that is to be its trace
+abbrev pub AuditedGives : ℕ → Known → Module → Reply → Type 0
+AuditedGives steps trace = ProgramGives trapped (λ p s t. OnFile trace (AuditGives steps p s t))
+
 -- ## The answer
 
 -- how many steps a generated script is run for
@@ -461,6 +496,7 @@ generated_steps = 10000000000
 abbrev pub Answer : Line → (List ℕ → Known) → Reply → Type 0
 Answer (on_file name action) files = OnFile (files name) (ActionGives action)
 Answer (on_files names steps stats) files = NamesGive steps stats names files
+Answer (audited name trace steps) files = OnFile (files name) (BytesGive (AuditedGives steps (files trace)))
 Answer (generated n) files = ActionGives (RunFor generated_steps false) (generated_script n)
 Answer bad files = λ reply. reply ≡ usage
 

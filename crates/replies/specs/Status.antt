@@ -1,7 +1,7 @@
 -- The exit codes.
 use Rattle.std.specs.Prelude.{ℕ}
 use Rattle.replies.specs.declared.status.Status.{Status}
-use Rattle.replies.specs.declared.status.Status.TheVariants.{Done, Trap, Usage, Malformed, Invalid, BadScript, ReadFault, WriteFault, OutOfMemory, Limit, Running, BadText}
+use Rattle.replies.specs.declared.status.Status.TheVariants.{Done, Trap, Usage, Malformed, Invalid, BadScript, ReadFault, WriteFault, OutOfMemory, Limit, Running, BadText, BadTrace}
 
 abbrev pub code_of : Status → ℕ
 code_of Done = 0
@@ -16,3 +16,4 @@ code_of OutOfMemory = 8
 code_of Limit = 9
 code_of Running = 10
 code_of BadText = 12
+code_of BadTrace = 13

@@ -11,8 +11,9 @@ mod stop;
 
 pub use file_kind::FileKind;
 pub use lines::{
-    file_text, import_line, invalid_line, malformed_line, printer_line, run_limit_line,
-    script_line, start_limit_line, stats_line, value_line, wrong_line,
+    audit_line, differs_line, file_text, import_line, invalid_line, malformed_line, no_trace_line,
+    printer_line, run_limit_line, script_line, start_limit_line, stats_line, unsound_line,
+    value_line, wrong_line,
 };
 pub use origin::Origin;
 pub use output::Output;

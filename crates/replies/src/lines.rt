@@ -2,8 +2,9 @@
 ghost use Rattle.std.specs.Prelude.{◌≡◌, ◌++◌, ℕ, List, IfOk, OnOk, codes, option_map, slice_get};
 ghost use Rattle.std.specs.Borrow.{Bor};
 ghost use Rattle.w_reduce.specs.Values.{val};
+ghost use Rattle.w_trace.specs.Endings.{run_limit_text as the_run_limit_text};
 ghost use Rattle.s_agrees.specs.Agrees.{tag_names};
-ghost use Rattle.replies.specs.Answer.{line, count_text, result_line, malformed, wrong_text, limit, size_limit_text, run_limit_text, start_limit_text, trapped, invalid, no_printer, counts_line, bad_script, faulted, file_text as the_file_text, no_import};
+ghost use Rattle.replies.specs.Answer.{line, count_text, result_line, malformed, wrong_text, limit, size_limit_text, start_limit_text, trapped, invalid, no_printer, counts_line, no_trace, unsound, differs, audit_line as the_audit_line, bad_script, faulted, file_text as the_file_text, no_import};
 
 use itoa::{Buffer, Integer};
 use s_judge::ScriptFault;
@@ -13,6 +14,7 @@ use w_decode::DecodeFault;
 use w_items::ValidFault;
 use w_reduce::{RunLimit, StartLimit, Trap};
 use w_rules::SizeLimit;
+use w_trace::{run_limit_text, trap_name};
 use w_types::Value;
 
 // Appends a text and a number.
@@ -31,6 +33,15 @@ fn number_line<I: Integer>(alloc: Global, text: &[u8], number: I) -> Result<Vec<
 {
     let mut line = Vec::new(alloc);
     push_number(&mut line, text, number)?;
+    line.push(b'\n')?;
+    Ok(line)
+}
+
+// A text, as a line.
+fn text_line(alloc: Global, text: &str) -> Result<Vec<u8>, AllocError>
+    ensures { IfOk result (λ v. v.items ≡ line text.now) }
+{
+    let mut line = Vec::from_slice(alloc, text.as_bytes())?;
     line.push(b'\n')?;
     Ok(line)
 }
@@ -80,14 +91,10 @@ pub fn size_limit_line(name: SizeLimit) -> &'static [u8]
 }
 
 /// The line of a limit of a run that is passed.
-pub fn run_limit_line(name: RunLimit) -> &'static [u8]
-    ensures { result.now ≡ (limit (run_limit_text name)).err }
+pub fn run_limit_line(alloc: Global, name: RunLimit) -> Result<Vec<u8>, AllocError>
+    ensures { IfOk result (λ v. v.items ≡ (limit (the_run_limit_text name)).err) }
 {
-    match name {
-        RunLimit::Frames => b"limit frames\n",
-        RunLimit::Handles => b"limit handles\n",
-        RunLimit::Conts => b"limit conts\n",
-    }
+    text_line(alloc, run_limit_text(name))
 }
 
 /// The line of a limit that is passed where a run begins.
@@ -136,17 +143,8 @@ pub fn trap_line(alloc: Global, trap: Trap) -> Result<Vec<u8>, AllocError>
     ensures { IfOk result (λ v. v.items ≡ (trapped trap).err) }
 {
     match trap {
-        Trap::Unreachable => Ok(Vec::from_slice(alloc, b"trap unreachable\n")?),
-        Trap::DivideByZero => Ok(Vec::from_slice(alloc, b"trap divide by zero\n")?),
-        Trap::IntegerOverflow => Ok(Vec::from_slice(alloc, b"trap integer overflow\n")?),
-        Trap::MemoryOutOfBounds => Ok(Vec::from_slice(alloc, b"trap memory out of bounds\n")?),
-        Trap::TableOutOfBounds => Ok(Vec::from_slice(alloc, b"trap table out of bounds\n")?),
-        Trap::UndefinedElement => Ok(Vec::from_slice(alloc, b"trap undefined element\n")?),
-        Trap::NullElement => Ok(Vec::from_slice(alloc, b"trap null element\n")?),
-        Trap::CallTypeMismatch => Ok(Vec::from_slice(alloc, b"trap call type mismatch\n")?),
-        Trap::NullReference => Ok(Vec::from_slice(alloc, b"trap null reference\n")?),
-        Trap::ConsumedContinuation => Ok(Vec::from_slice(alloc, b"trap consumed continuation\n")?),
         Trap::Unhandled(tag) => number_line(alloc, b"trap unhandled ", tag),
+        _ => text_line(alloc, trap_name(trap)),
     }
 }
 
@@ -252,6 +250,39 @@ pub fn stats_line(
     let mut line = Vec::new(alloc);
     push_number(&mut line, b"stats steps ", steps)?;
     push_number(&mut line, b" made ", made)?;
+    push_number(&mut line, b" consumed ", consumed)?;
+    push_number(&mut line, b" live ", live)?;
+    line.push(b'\n')?;
+    Ok(line)
+}
+
+/// The line of a file that is no trace, by the number of the line with which it goes wrong.
+pub fn no_trace_line(alloc: Global, number: usize) -> Result<Vec<u8>, AllocError>
+    ensures { IfOk result (λ v. v.items ≡ (no_trace number).err) }
+{
+    number_line(alloc, b"trace ", number)
+}
+
+/// The line of a trace whose event of this number is unsound.
+pub fn unsound_line(alloc: Global, number: usize) -> Result<Vec<u8>, AllocError>
+    ensures { IfOk result (λ v. v.items ≡ (unsound number).err) }
+{
+    number_line(alloc, b"unsound ", number)
+}
+
+/// The line of a trace whose line of this number isn't the run's.
+pub fn differs_line(alloc: Global, number: usize) -> Result<Vec<u8>, AllocError>
+    ensures { IfOk result (λ v. v.items ≡ (differs number).err) }
+{
+    number_line(alloc, b"differs ", number)
+}
+
+/// The line of an audit that found nothing: how many continuations were made, are consumed and live.
+pub fn audit_line(alloc: Global, made: u64, consumed: u64, live: u64) -> Result<Vec<u8>, AllocError>
+    ensures { IfOk result (λ v. v.items ≡ the_audit_line made consumed live) }
+{
+    let mut line = Vec::new(alloc);
+    push_number(&mut line, b"ok trace made ", made)?;
     push_number(&mut line, b" consumed ", consumed)?;
     push_number(&mut line, b" live ", live)?;
     line.push(b'\n')?;

@@ -12,6 +12,17 @@ pub struct Output {
 }
 
 impl Output {
+    /// Nothing.
+    pub fn empty(alloc: Global) -> Output
+        ensures piece { joined result.pieces.items ≡ [] }
+        ensures err { joined result.err.items ≡ [] }
+    {
+        Output {
+            pieces: Vec::new(alloc),
+            err: Vec::new(alloc),
+        }
+    }
+
     /// One piece, and nothing to err.
     pub fn of_piece(alloc: Global, piece: Vec<u8>) -> Result<Output, AllocError>
         ensures piece { IfOk result (λ output. joined output.pieces.items ≡ piece.items) }

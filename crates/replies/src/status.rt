@@ -29,6 +29,8 @@ pub enum Status {
     Running,
     /// The file is no text of a module.
     BadText,
+    /// The file is no trace of the run.
+    BadTrace,
 }
 
 impl Status {
@@ -49,6 +51,7 @@ impl Status {
             Status::Limit => 9,
             Status::Running => 10,
             Status::BadText => 12,
+            Status::BadTrace => 13,
         }
     }
 }

@@ -3,8 +3,8 @@ use Rattle.std.proofs.Common.{◌≡◌, ℕ, nat_eq, List, [], ◌∷◌, refl,
 use Rattle.std.specs.Fmt.{digits}
 use Rattle.clap.specs.Walk.{Text}
 use Rattle.clap.proofs.OnLiterals.{clap_on_literals}
-use Rattle.words.specs.declared.request.Action.TheVariants.{Check, Run, Build, Dump, Assemble}
-use Rattle.words.specs.Line.{Line, line_of, on_file, on_files, generated, bad}
+use Rattle.words.specs.declared.request.Action.TheVariants.{Check, Run, Build, Dump, Assemble, Trace}
+use Rattle.words.specs.Line.{Line, line_of, on_file, on_files, audited, generated, bad}
 
 -- what the words after the program's name ask for
 abbrev asked : List Text → Line
@@ -350,6 +350,50 @@ link_steps_twice = refl
 link_number_out_of_form : asked (codes "link" ∷ codes "two" ∷ codes "--steps" ∷ codes "05" ∷ []) ≡ bad
 unfolding line_of clap_on_literals digits
 link_number_out_of_form = refl
+
+-- ## `trace`
+
+trace_file : asked (codes "trace" ∷ codes "two" ∷ []) ≡ on_file (codes "two") (Trace 100000000)
+unfolding line_of clap_on_literals digits
+trace_file = refl
+
+trace_for_steps : asked (codes "trace" ∷ codes "two" ∷ codes "--steps" ∷ codes "5" ∷ []) ≡ on_file (codes "two") (Trace 5)
+unfolding line_of clap_on_literals digits
+trace_for_steps = refl
+
+trace_alone : asked (codes "trace" ∷ []) ≡ bad
+unfolding line_of clap_on_literals digits
+trace_alone = refl
+
+trace_two_files : asked (codes "trace" ∷ codes "two" ∷ codes "three" ∷ []) ≡ bad
+unfolding line_of clap_on_literals digits
+trace_two_files = refl
+
+trace_stats : asked (codes "trace" ∷ codes "two" ∷ codes "--stats" ∷ []) ≡ bad
+unfolding line_of clap_on_literals digits
+trace_stats = refl
+
+-- ## `audit`
+
+audit_files : asked (codes "audit" ∷ codes "two" ∷ codes "three" ∷ []) ≡ audited (codes "two") (codes "three") 100000000
+unfolding line_of clap_on_literals digits
+audit_files = refl
+
+audit_for_steps : asked (codes "audit" ∷ codes "two" ∷ codes "--steps" ∷ codes "5" ∷ codes "three" ∷ []) ≡ audited (codes "two") (codes "three") 5
+unfolding line_of clap_on_literals digits
+audit_for_steps = refl
+
+audit_one_file : asked (codes "audit" ∷ codes "two" ∷ []) ≡ bad
+unfolding line_of clap_on_literals digits
+audit_one_file = refl
+
+audit_three_files : asked (codes "audit" ∷ codes "two" ∷ codes "three" ∷ codes "four" ∷ []) ≡ bad
+unfolding line_of clap_on_literals digits
+audit_three_files = refl
+
+audit_stats : asked (codes "audit" ∷ codes "two" ∷ codes "three" ∷ codes "--stats" ∷ []) ≡ bad
+unfolding line_of clap_on_literals digits
+audit_stats = refl
 
 -- ## Other words
 

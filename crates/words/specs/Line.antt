@@ -8,13 +8,15 @@ use Rattle.clap.specs.Simple.{App, Shape, new_app, new_rule, on_top, subcommand_
 use Rattle.clap.specs.Faults.{fault_of}
 use Rattle.clap.specs.declared.builder.action.ArgAction.TheVariants.{SetTrue}
 use Rattle.words.specs.declared.request.Action.{Action}
-use Rattle.words.specs.declared.request.Action.TheVariants.{Check, Run, Build, Dump, Assemble}
+use Rattle.words.specs.declared.request.Action.TheVariants.{Check, Run, Build, Dump, Assemble, Trace}
 
 pub data Line : Type 0 where
   -- this action on the module of this file
   on_file : Text → Action → Line
   -- the run of these files, linked, for so many steps; statistics are told of it or not
   on_files : List Text → ℕ → Bool → Line
+  -- the audit of what this second file says of the run of the module of the first, for so many steps
+  audited : Text → Text → ℕ → Line
   -- the run of the script that is generated for this number
   generated : ℕ → Line
   -- nothing that is there
@@ -74,6 +76,18 @@ asm_app = with_rule (new_app (codes "asm")) file_rule
 abbrev pub link_app : App
 link_app = with_rule (with_rule (with_rule (new_app (codes "link")) files_rule) steps_rule) stats_rule
 
+-- `trace FILE [--steps N]`
+abbrev pub trace_app : App
+trace_app = with_rule (with_rule (new_app (codes "trace")) file_rule) steps_rule
+
+-- the file of a trace, which has to be named
+abbrev pub trace_rule : Rule
+trace_rule = record (new_rule (codes "trace")) { required = true }
+
+-- `audit FILE TRACE [--steps N]`
+abbrev pub audit_app : App
+audit_app = with_rule (with_rule (with_rule (new_app (codes "audit")) file_rule) trace_rule) steps_rule
+
 -- a command has to be named; `help` and `--help` are words like others
 abbrev pub settings : Shape → Shape
 settings s = record s {
@@ -94,9 +108,13 @@ making_app = with_subcommand (with_subcommand base_app build_app.top) gen_app.to
 abbrev pub single_app : App
 single_app = with_subcommand (with_subcommand making_app dump_app.top) asm_app.top
 
+-- those on several files too
+abbrev pub linking_app : App
+linking_app = with_subcommand single_app link_app.top
+
 -- the program's commands
 abbrev pub the_app : App
-the_app = with_subcommand single_app link_app.top
+the_app = with_subcommand (with_subcommand linking_app trace_app.top) audit_app.top
 
 -- ## What its matches say
 
@@ -149,7 +167,8 @@ action_of name rows = if bytes_eq name (codes "check") then Some Check
     else (if bytes_eq name (codes "build") then Some Build
     else (if bytes_eq name (codes "dump") then Some Dump
     else (if bytes_eq name (codes "asm") then Some Assemble
-    else None))))
+    else (if bytes_eq name (codes "trace") then option_map Trace (steps_in (first_of (codes "steps") rows))
+    else None)))))
 
 -- the line of the matches of a command on a file
 abbrev pub file_line : Text → List Row → Line
@@ -159,11 +178,16 @@ file_line name rows = when (first_of (codes "file") rows) (λ file. when (action
 abbrev pub files_line : List Row → Line
 files_line rows = when (all_of (codes "file") rows) (λ files. when (steps_in (first_of (codes "steps") rows)) (λ steps. on_files files steps (stats_in (first_of (codes "stats") rows))))
 
+-- the line of the matches of `audit`
+abbrev pub audit_line : List Row → Line
+audit_line rows = when (first_of (codes "file") rows) (λ file. when (first_of (codes "trace") rows) (λ trace. when (steps_in (first_of (codes "steps") rows)) (λ steps. audited file trace steps)))
+
 -- the line of a command's matches
 abbrev pub named_line : Text → List Row → Line
 named_line name rows = if bytes_eq name (codes "gen") then when (generated_in (first_of (codes "number") rows)) generated
     else (if bytes_eq name (codes "link") then files_line rows
-    else file_line name rows)
+    else (if bytes_eq name (codes "audit") then audit_line rows
+    else file_line name rows))
 
 abbrev pub entered_line : Option (Text × List Row) → Line
 entered_line (Some p) = named_line p.0 p.1

@@ -4,7 +4,7 @@ ghost use Rattle.clap.specs.Kinds.{HasKind};
 ghost use Rattle.clap.specs.Faults.{fault_of};
 ghost use Rattle.clap.specs.Simple.{app_of, new_app, on_top, with_rule, with_subcommand, subcommand_of, subcommand_rows_of};
 ghost use Rattle.clap.specs.declared.builder.command.Command.TheViews.{out-Command};
-ghost use Rattle.words.specs.Line.{the_app, settings, file_app, run_app, gen_app, link_app, steps_rule, stats_rule};
+ghost use Rattle.words.specs.Line.{the_app, settings, file_app, run_app, gen_app, link_app, trace_app, audit_app, steps_rule, stats_rule};
 
 use clap::{Arg, ArgAction, ArgMatches, Command, Error};
 use std::alloc::{AllocError, Global};
@@ -61,6 +61,25 @@ fn link_command<'a>(alloc: Global) -> Result<Command<'a>, AllocError>
     with_stats(alloc, link)
 }
 
+// `trace FILE [--steps N]`.
+fn trace_command<'a>(alloc: Global) -> Result<Command<'a>, AllocError>
+    ensures app { IfOk result (λ c. app_of c ≡ trace_app) }
+    ensures local { IfOk result (λ c. (out-Command c).has_globals ≡ false) }
+{
+    let trace = file_command(alloc, "trace")?;
+    with_steps(alloc, trace)
+}
+
+// `audit FILE TRACE [--steps N]`.
+fn audit_command<'a>(alloc: Global) -> Result<Command<'a>, AllocError>
+    ensures app { IfOk result (λ c. app_of c ≡ audit_app) }
+    ensures local { IfOk result (λ c. (out-Command c).has_globals ≡ false) }
+{
+    let trace = Arg::new(alloc, "trace").required(true);
+    let audit = file_command(alloc, "audit")?.arg(trace)?;
+    with_steps(alloc, audit)
+}
+
 // `gen N`.
 fn gen_command<'a>(alloc: Global) -> Result<Command<'a>, AllocError>
     ensures app { IfOk result (λ c. app_of c ≡ gen_app) }
@@ -107,7 +126,9 @@ fn commands<'a>(alloc: Global) -> Result<Command<'a>, AllocError>
     let making = with_command(building, gen_command(alloc))?;
     let dumping = with_command(making, file_command(alloc, "dump"))?;
     let assembling = with_command(dumping, file_command(alloc, "asm"))?;
-    let all = with_command(assembling, link_command(alloc))?;
+    let linking = with_command(assembling, link_command(alloc))?;
+    let tracing = with_command(linking, trace_command(alloc))?;
+    let all = with_command(tracing, audit_command(alloc))?;
     Ok(all)
 }
 

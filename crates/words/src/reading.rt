@@ -4,7 +4,7 @@ ghost use Rattle.clap.specs.Matches.{found_of};
 ghost use Rattle.clap.specs.Values.{kind_of};
 ghost use Rattle.clap.specs.Walk.{first_of, rows_of};
 ghost use Rattle.clap.specs.Simple.{subcommand_rows_of};
-ghost use Rattle.words.specs.Line.{action_of, file_line, files_line, named_line, entered_line, line_of, bad, when, generated, generated_in};
+ghost use Rattle.words.specs.Line.{action_of, file_line, files_line, audit_line, named_line, entered_line, line_of, bad, when, generated, generated_in};
 ghost use Rattle.words.specs.Request.{Asks, asked_by, IsWithinSteps, IsAllowed};
 
 use crate::commands::parse;
@@ -46,6 +46,10 @@ fn action_named(name: &str, found: &ArgMatches) -> Option<Action>
     if name == "asm" {
         return Some(Action::Assemble);
     }
+    if name == "trace" {
+        let steps = steps_of(found)?;
+        return Some(Action::Trace { steps });
+    }
     None
 }
 
@@ -82,6 +86,17 @@ fn request_on_files<'a>(
     }))
 }
 
+// What the matches of `audit` ask for.
+fn request_audited<'a>(found: &ArgMatches<'a>) -> Option<Request<'a>>
+    ensures asks { Asks result (audit_line (rows_of (found_of found.now))) }
+    ensures within { IfSome result IsAllowed }
+{
+    let file = value_of(found, "file")?;
+    let trace = value_of(found, "trace")?;
+    let steps = steps_of(found)?;
+    Some(Request::Audited { file, trace, steps })
+}
+
 // What the matches of `gen` ask for.
 fn request_generated<'a>(found: &ArgMatches<'a>) -> Option<Request<'a>>
     ensures asks { Asks result (when (generated_in (first_of (codes "number") (rows_of (found_of found.now)))) generated) }
@@ -105,6 +120,9 @@ fn request_named<'a>(
     }
     if name == "link" {
         return request_on_files(alloc, found);
+    }
+    if name == "audit" {
+        return Ok(request_audited(found));
     }
     Ok(request_on_file(name, found))
 }

@@ -15,6 +15,8 @@ pub enum Action {
     Dump,
     /// It is read from its text, and written in its canonical spelling.
     Assemble,
+    /// It is run, for so many steps, and what the run does with continuations is written.
+    Trace { steps: u64 },
 }
 
 /// Which files an action takes.
@@ -24,7 +26,7 @@ pub enum Takes {
     ModulesAndScripts,
     /// Modules alone: a file that is none is malformed.
     Modules,
-    /// Texts of modules, whatever they begin with.
+    /// Texts, whatever they begin with.
     Texts,
 }
 
@@ -39,6 +41,7 @@ impl Action {
             Action::Build => Takes::ModulesAndScripts,
             Action::Dump => Takes::Modules,
             Action::Assemble => Takes::Texts,
+            Action::Trace { steps: _ } => Takes::Modules,
         }
     }
 }
@@ -56,6 +59,12 @@ pub enum Request<'a> {
         files: Vec<&'a str>,
         steps: u64,
         stats: bool,
+    },
+    /// The audit of what the file `trace` says of the run of the module of the file `file`, for so many steps.
+    Audited {
+        file: &'a str,
+        trace: &'a str,
+        steps: u64,
     },
     /// The run of the script that is generated for this number, from 1 to 500.
     Generated(u32),

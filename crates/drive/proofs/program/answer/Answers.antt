@@ -5,14 +5,14 @@ use Rattle.w_outside.specs.Outside.{Grew, Rose}
 use Rattle.words.specs.declared.request.Takes.{Takes}
 use Rattle.words.specs.Line.{line_of}
 use Rattle.words.specs.Request.{asked_by}
-use Rattle.replies.specs.Answer.{Answer, NamesGive}
+use Rattle.replies.specs.Answer.{Answer, AuditedGives, BytesGive, NamesGive, OnFile}
 use Rattle.intake.specs.Intake.{IsInputOf}
 use Rattle.drive.specs.Leaving.{Leaves}
 use Rattle.drive.specs.Linking.{names_of}
 use Rattle.drive.specs.Delivery.{MayFail}
-use Rattle.drive.proofs.FileReplies.{unread, acted, named, generated_run}
+use Rattle.drive.proofs.FileReplies.{unread, acted, audited_file, named, generated_run}
 use Rattle.replies.proofs.Refusals.{refuses_as}
-use Rattle.drive.proofs.Replies.{stop_left, leaves_as}
+use Rattle.drive.proofs.Replies.{all_left, stop_left, leaves_as}
 use Rattle.drive.proofs.program.answer.Goals as goal
 
 pub returns-in_err-input-in-Ok-OnFile-clause-leaves : goal.returns-in_err-input-in-Ok-OnFile-clause-leaves
@@ -43,6 +43,17 @@ returns-in-Ok-OnFiles-clause-leaves g c =
     leaves_as (named (line_of (map string_bytes c.args.words.now)) (names_of request.names.items) request.steps request.stats files failed (request.ensures.asks ∙ ap asked_by request.field-0-is))
     grew rose c.run_files.result
     (subst (λ (names : List (Bor (List ℕ))). Leaves (MayFail failed (NamesGive request.steps request.stats (names_of names) files)) c.run_files.result grew rose) c.as_slice.ensures.value c.run_files.ensures.leaves)
+
+pub returns-in-Ok-Audited-clause-leaves : goal.returns-in-Ok-Audited-clause-leaves
+returns-in-Ok-Audited-clause-leaves g c =
+    let request = c.in-Ok-Audited in
+    let files = g.F.Inputs.file c.args.files.now in
+    let failed = Rose (g.F.Inputs.faults c.args.files.now) (g.F.Inputs.faults c.audit.new.files) in
+    let held = g.O.Sink.held c.args.out.now in
+    let rose = Rose (g.O.Sink.faults c.args.out.now) (g.O.Sink.faults c.args.out.now) in
+    leaves_as (audited_file (line_of (map string_bytes c.args.words.now)) request.file.now request.trace.now request.steps files failed (request.ensures.asks ∙ ap asked_by request.field-0-is))
+    (Grew held held) rose c.audit.result
+    (all_left (MayFail failed (OnFile (files request.file.now) (BytesGive (AuditedGives request.steps (files request.trace.now))))) held rose c.audit.result c.audit.ensures.gives)
 
 pub returns-in-Ok-Generated-clause-leaves : goal.returns-in-Ok-Generated-clause-leaves
 returns-in-Ok-Generated-clause-leaves g c =

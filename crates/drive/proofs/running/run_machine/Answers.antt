@@ -6,7 +6,6 @@ use Rattle.w_machine.specs.declared.outcome.RunStop.TheVariants.{Ended, Limit as
 use Rattle.w_machine.specs.Position.{Position}
 use Rattle.replies.specs.Pieces.{joined}
 use Rattle.replies.specs.Origin.{trap_reply_of}
-use Rattle.replies.proofs.Refusals.{refuses_same, same_refusal}
 use Rattle.drive.proofs.Runs.{from_first, first_ended, first_after, first_origin, lines_of_vals, run_refused, run_ended, run_unlisted, run_failed, run_out}
 use Rattle.drive.proofs.Statistics.{not_reply}
 use Rattle.drive.proofs.running.run_machine.Goals as goal
@@ -31,8 +30,7 @@ returns-in-Running-clause-leaves g c = λ p s t begins.
 pub returns-in-Limit-clause-leaves : goal.returns-in-Limit-clause-leaves
 returns-in-Limit-clause-leaves g c = λ p s t begins.
     let h = from_first _ p s t c.args.steps c.args.machine.now c.run.new.self _ (g.O.Sink.held c.args.out.now) (g.O.Sink.held c.run.new.out) c.requires.first begins c.in-Limit.ensures.runs in
-    run_refused (trap_reply_of c.args.origin) p s t c.args.steps (g.O.Sink.held c.args.out.now) (g.O.Sink.held c.run.new.out) (Rose (g.O.Sink.faults c.args.out.now) (g.O.Sink.faults c.run.new.out)) (Limit c.in-Limit.name) c.refuse-in-Limit.result h.1 h.0
-    (refuses_same c.refuse-in-Limit.result (same_refusal _ _ 9 9 c.run_limit_line.ensures refl) c.refuse-in-Limit.ensures)
+    run_refused (trap_reply_of c.args.origin) p s t c.args.steps (g.O.Sink.held c.args.out.now) (g.O.Sink.held c.run.new.out) (Rose (g.O.Sink.faults c.args.out.now) (g.O.Sink.faults c.run.new.out)) (Limit c.in-Limit.name) c.limit_refusal.result h.1 h.0 c.limit_refusal.ensures
 
 pub returns-in-Trapped-clause-leaves : goal.returns-in-Trapped-clause-leaves
 returns-in-Trapped-clause-leaves g c = λ p s t begins.

@@ -1,6 +1,6 @@
 use Rattle.std.proofs.Common.{◌≡◌, ap, ◌∙◌, codes}
 use Rattle.clap.specs.Simple.{App, app_of, new_app, on_top, with_subcommand}
-use Rattle.words.specs.Line.{settings, file_app, run_app, gen_app, check_app, build_app, base_app, making_app, dump_app, asm_app, single_app, link_app}
+use Rattle.words.specs.Line.{settings, file_app, run_app, gen_app, check_app, build_app, base_app, making_app, dump_app, asm_app, single_app, link_app, linking_app, trace_app, audit_app}
 use Rattle.words.proofs.AddedCommands.{added}
 use Rattle.words.proofs.commands.commands.Goals as goal
 
@@ -24,5 +24,11 @@ returns c =
     let assembling : app_of c.in_ok-assembling.assembling ≡ single_app =
     added c.in_ok-dumping.dumping c.file_command-4.result (file_app (codes "asm")) c.file_command-4.ensures.app c.file_command-4.ensures.local c.in_ok-assembling.assembling c.in_ok-assembling.ensures
     ∙ ap (λ (a : App). with_subcommand a asm_app.top) dumping in
-    added c.in_ok-assembling.assembling c.link_command.result link_app c.link_command.ensures.app c.link_command.ensures.local c.in_ok-all.all c.in_ok-all.ensures
-    ∙ ap (λ (a : App). with_subcommand a link_app.top) assembling
+    let linking : app_of c.in_ok-linking.linking ≡ linking_app =
+    added c.in_ok-assembling.assembling c.link_command.result link_app c.link_command.ensures.app c.link_command.ensures.local c.in_ok-linking.linking c.in_ok-linking.ensures
+    ∙ ap (λ (a : App). with_subcommand a link_app.top) assembling in
+    let tracing : app_of c.in_ok-tracing.tracing ≡ with_subcommand linking_app trace_app.top =
+    added c.in_ok-linking.linking c.trace_command.result trace_app c.trace_command.ensures.app c.trace_command.ensures.local c.in_ok-tracing.tracing c.in_ok-tracing.ensures
+    ∙ ap (λ (a : App). with_subcommand a trace_app.top) linking in
+    added c.in_ok-tracing.tracing c.audit_command.result audit_app c.audit_command.ensures.app c.audit_command.ensures.local c.in_ok-all.all c.in_ok-all.ensures
+    ∙ ap (λ (a : App). with_subcommand a audit_app.top) tracing
