@@ -1,5 +1,5 @@
 """Judges rows by the second readers of modules, of their texts, of scripts and of linking, by the second compiler of
-scripts, and by the second reader of their meaning."""
+scripts, by the second reader of their meaning, and by the second writer and the second auditor of traces."""
 
 import re
 from collections import Counter
@@ -18,6 +18,8 @@ from text_reader import reading_of as reading_of_text
 from text_reader.expressions import flat
 from text_reader.reading import WrongLine, module_of
 from text_reader.writing import text_of
+from tracing.calls import FILES as TRACING
+from tracing.calls import outcome_of_call as outcome_of_tracing
 
 OPTIONS = ('--steps', '--stats')
 GENERATED = re.compile('[1-9][0-9]{0,2}')
@@ -38,8 +40,9 @@ def faults(name, rows):
 
 def is_judged(row):
     """Whether the second readers judge a row: a call on a file that is there and not too large, or on a generated
-    script, where nothing fails, and no run of a script that is too long; or any call of `link` where nothing fails."""
-    if _is_link(row):
+    script, where nothing fails, and no run of a script that is too long; or any call of `link`, `trace` or `audit`
+    where nothing fails."""
+    if _is_link(row) or _is_tracing(row):
         return not row.fails
     command, given = _call(row)
     if given is None or len(given) > GREATEST_FILE or row.fails:
@@ -49,6 +52,10 @@ def is_judged(row):
 
 def _is_link(row):
     return row.words[:2] == ['stackwasm', 'link']
+
+
+def _is_tracing(row):
+    return any(row.words[:2] == ['stackwasm', command] for command in TRACING)
 
 
 def _call(row):
@@ -80,6 +87,8 @@ def _contradiction(row):
         return None
     if _is_link(row):
         return _contradicted_outcome(row, outcome_of_call(row.words[2:], row.files))
+    if _is_tracing(row):
+        return _contradicted_outcome(row, outcome_of_tracing(row.words[1:], row.files))
     command, given = _call(row)
     if _is_script_run(command, given):
         return _contradicted_run(row, given)

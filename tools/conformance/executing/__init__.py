@@ -4,13 +4,16 @@ It rests on the standard and on the explainer of stack switching, and shares not
 read and judged by `reader`.
 """
 
+from typing import NamedTuple
+
 from executing.ends import Exceeded, Trap
 from executing.instantiating import Refused, entry, function_types, instantiated
 from executing.numbers import WIDTHS, signed
 from executing.running import run
+from executing.stores import Store
 from reader import answer
 from reader.byte_source import Malformed
-from reader.module_decoding import decode
+from reader.module_decoding import Module, decode
 
 USUAL_STEPS = 100000000
 GREATEST_FILE = 16777216        # bytes
@@ -19,22 +22,47 @@ VALID = 'ok module'
 STATUSES = {'malformed': 3, 'invalid': 4, 'limit': 9}
 
 
+class Unstarted(Exception):
+    """A file that isn't run: the line that is said of it, and the status."""
+
+    def __init__(self, line, status):
+        super().__init__(line)
+        self.line = line
+        self.status = status
+
+
+class Start(NamedTuple):
+    """Where the run of a module begins: its store, and the address of its main."""
+
+    module: Module
+    store: Store
+    main: int
+
+
 def outcome_of(module_bytes, steps=USUAL_STEPS, stats=False):
     """What running these bytes for so many reductions is to come to: out, err and the status. Where statistics are
     asked for, they are told of a run."""
+    try:
+        start = start_of(module_bytes)
+    except Unstarted as unstarted:
+        return refusal(unstarted.line, unstarted.status)
+    return told(run(*start, steps), results_of_main(start.module), stats)
+
+
+def start_of(module_bytes):
+    """Where the run of these bytes begins. What is in the way is raised."""
     said = said_before_a_run(module_bytes)
     if said != VALID:
-        return refusal(said, STATUSES[said.split()[0]])
+        raise Unstarted(said, STATUSES[said.split()[0]])
     module = decode(module_bytes)
     try:
-        store, main = instantiated(module)
+        return Start(module, *instantiated(module))
     except Refused as refused:
-        return refusal(refused, 4)
+        raise Unstarted(f'{refused}', 4) from None
     except Exceeded as limit:
-        return refusal(f'limit {limit}', 9)
+        raise Unstarted(f'limit {limit}', 9) from None
     except Trap as trap:
-        return refusal(f'trap {trap}', 1)
-    return told(run(module, store, main, steps), results_of_main(module), stats)
+        raise Unstarted(f'trap {trap}', 1) from None
 
 
 def said_before_a_run(module_bytes):

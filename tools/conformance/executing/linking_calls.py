@@ -13,7 +13,7 @@ GREATEST_STEPS = 2 ** 40
 NUMBER = re.compile('0|[1-9][0-9]*')
 USAGE = (
     'usage: stackwasm check FILE | run FILE [--steps N] [--stats] | build FILE | gen N | dump FILE | asm FILE'
-    ' | link FILE.. [--steps N] [--stats]')
+    ' | link FILE.. [--steps N] [--stats] | trace FILE [--steps N] | audit FILE TRACE [--steps N]')
 
 
 class Call(NamedTuple):

@@ -50,12 +50,13 @@ def run(module, store, main, steps):
     return outcome_after(begun(module, store, main), steps)
 
 
-def outcome_after(machine, steps):
-    """The outcome of at most so many reductions of a machine that has taken none."""
-    taken, ending = 0, {}
+def outcome_after(machine, steps, noting=None):
+    """The outcome of at most so many reductions of a machine that has taken none. Where something notes events, it
+    takes each of these in place of `reduced`, and gives the same."""
+    taken, ending, reduce = 0, {}, noting or reduced
     while taken < steps and not ending and not machine.is_ended():
         taken += 1
-        ending = reduced(machine)
+        ending = reduce(machine)
     if not ending:
         ending = {'values': machine.operands} if machine.is_ended() else {'line': 'running', 'status': 10}
     return Outcome(taken, machine.store.made, machine.store.consumed, bytes(machine.out), **ending)

@@ -18,7 +18,8 @@ from rows import (
     linking_by_chance, example_linked, scripts, script_rules, script_sizes, script_names, script_modules, script_runs,
     script_operators, script_effects, script_random, script_edges, script_slots, script_slot_sizes, script_slot_runs,
     script_tail_calls, script_coroutines, script_coroutine_sizes, script_coroutine_runs, script_coroutine_modules,
-    examples, example_modules, texts, text_refusals, text_lines, text_instructions)
+    examples, example_modules, texts, text_refusals, text_lines, text_instructions, trace_samples, trace_calls,
+    trace_lines, trace_changes, trace_runs)
 from surroundings import pieces
 
 
@@ -138,6 +139,12 @@ _FILES = [
             linking_switching.SWITCHES, linking_switching.CONTINUATIONS, linking_runs.STARTS, linking_runs.INSTANCES,
             linking_runs.TYPES, linking_runs.SUBTYPES, linking_runs.LIMITS, linking_runs.STEPS,
             linking_by_chance.SECTION, example_linked.SECTION]),
+    lambda: RowFile(
+        'trace', 'Traces of runs, and audits of them.', trace_samples.PIECES.pieces(), [
+            trace_calls.WORDS, trace_calls.FILES, trace_calls.TRACES, trace_calls.OUTSIDE, trace_lines.FORMS,
+            trace_lines.WRONG, trace_lines.RANGES, trace_lines.LAST, trace_lines.SPLITTING, trace_changes.RIGHT,
+            trace_changes.SOUNDNESS, trace_changes.ORDER, trace_changes.CHANGES, trace_changes.CHANCE,
+            trace_runs.STEPS, trace_runs.TRAPS, trace_runs.LIMITS, trace_runs.LONG, trace_runs.OTHERS]),
     _modules('script_tokens', 'Bytes that are cut into tokens, and bytes that are not.', scripts.LEXING),
     _modules('script_grammar', 'Tokens that are a script, and tokens that are none.', scripts.GRAMMAR, scripts.NESTING),
     _modules(
