@@ -27,7 +27,7 @@ SWITCHING = [
 # Runs of which each refusal is answered by want of memory: the files of their rows, and the rows' names.
 EACH = [
     ('calls', 'a continuation is resumed twice'), ('calls', 'two coroutines switch to one another'),
-    ('script_runs', 'asking'), ('script_slot_runs', 'jobs')]
+    ('script_runs', 'asking'), ('script_slot_runs', 'jobs'), ('trace', 'a-ring/trace'), ('trace', 'a-ring/audit')]
 MAY_ASK = {
     'call', 'call_indirect', 'call_ref', 'return_call', 'return_call_indirect', 'return_call_ref', 'invoke', 'cont.new',
     'memory.grow', 'table.grow'}
