@@ -202,6 +202,10 @@ impl Chain {
         ensures segment { result.value ≡ take (layer + 1) self.old }
         ensures after { self.new ≡ drop (layer + 1) self.old }
     {
+        // mostly it is one
+        if layer == 0 {
+            return self.pop();
+        }
         // a chain has few segments
         let _ = &self.segments;
         let mut outward = Chain::new();
@@ -231,6 +235,11 @@ impl Chain {
         requires few { length self.old + length segment.value ≤ 2 ^ 31 }
         ensures after { self.new ≡ segment.value ++ self.old }
     {
+        // mostly it is one
+        if segment.parent().is_none() {
+            self.push(segment);
+            return;
+        }
         let mut outward = Chain::new();
         let mut left = Some(segment);
         while let Some(mut inner) = left {
