@@ -20,7 +20,7 @@ use Rattle.w_trace.proofs.Runs.{events_go_on, no_more_events}
 use Rattle.w_machine.specs.declared.outcome.RunStop.{RunStop}
 use Rattle.w_machine.specs.Position.{Position}
 use Rattle.drive.specs.Running.{IsAfter, IsAfterBy}
-use Rattle.drive.specs.Stepping.{GoesOn, IsSettled, TakesStep}
+use Rattle.drive.specs.Stepping.{GoesOn, IsSettled, GoesToEvent}
 use Rattle.drive.specs.Auditing.{FollowedTo}
 use Rattle.drive.specs.declared.comparing.Followed.{Followed}
 use Rattle.drive.specs.declared.comparing.Followed.TheVariants.{All, Apart}
@@ -28,10 +28,10 @@ use Rattle.drive.proofs.Runs.{not_running, run_after}
 
 -- ## A machine on its way
 
--- a step takes one reduction at most
-pub one_at_most : (goes : Bool) (old new : Position) → GoesOn goes old new → new.taken ≤ old.taken + 1
-one_at_most true old new h = let e = h.1 in omega (arith, e)
-one_at_most false old new h = h.1
+-- it takes no more reductions than it may
+pub goes_within : (goes : Bool) (steps : ℕ) (old new : Position) → GoesOn goes steps old new → new.taken ≤ steps
+goes_within true steps old new h = h.1
+goes_within false steps old new h = h.1
 
 -- ## The events of a step
 
@@ -42,15 +42,15 @@ take_here (y ∷ xs) (suc n) x at = let h = take_here xs n x at in let less = h.
 
 module _ (p : Program) (s : Store) (t : Term) (es : List Event) (n : ℕ) (old new : Position) (so_far : take n es ≡ Events p s t old.taken) where
   -- the event of the step is the list's next
-  one_more : (event : Event) → slice_get es n ≡ Some event → TakesStep p s t (Some event) old new → take (n + 1) es ≡ Events p s t new.taken
+  one_more : (event : Event) → slice_get es n ≡ Some event → GoesToEvent p s t (Some event) old new → take (n + 1) es ≡ Events p s t new.taken
   one_more event at h = ap (λ (k : ℕ). take k es) (let e : n + 1 ≡ suc n = omega arith in e) ∙ (take_here es n event at).1 ∙ ap (λ (l : List Event). l ++ event ∷ []) so_far ∙ sym h.events
 
   -- it has none
-  none_more : TakesStep p s t None old new → take n es ≡ Events p s t new.taken
+  none_more : GoesToEvent p s t None old new → take n es ≡ Events p s t new.taken
   none_more h = so_far ∙ sym (append-nil (Events p s t old.taken)) ∙ sym h.events
 
   -- it is another
-  pub another : (steps : ℕ) (event : Event) → new.taken ≤ steps → n ≤ length es → (slice_get es n ≡ Some event → ⊥) → TakesStep p s t (Some event) old new → FollowedTo es p s t steps new (Apart n)
+  pub another : (steps : ℕ) (event : Event) → new.taken ≤ steps → n ≤ length es → (slice_get es n ≡ Some event → ⊥) → GoesToEvent p s t (Some event) old new → FollowedTo es p s t steps new (Apart n)
   another steps event within place apart h =
       let more = events_go_on p s t new.taken (steps - new.taken) in
       let sum : new.taken + (steps - new.taken) ≡ steps = omega (arith, within) in (
@@ -76,7 +76,7 @@ next_within es n m None le h = omega (arith, le, h)
 
 -- so the list and the run go together a step more
 pub next_came : (p : Program) (s : Store) (t : Term) (es : List Event) (n m : ℕ) (o : Option Event) (old new : Position) → take n es ≡ Events p s t old.taken → IsNext es n m o
-    → TakesStep p s t o old new → take m es ≡ Events p s t new.taken
+    → GoesToEvent p s t o old new → take m es ≡ Events p s t new.taken
 next_came p s t es n m (Some event) old new so_far h step = ap (λ (k : ℕ). take k es) h.1 ∙ one_more p s t es n old new so_far event h.0 step
 next_came p s t es n m None old new so_far h step = ap (λ (k : ℕ). take k es) h ∙ none_more p s t es n old new so_far step
 

@@ -20,7 +20,7 @@ use Rattle.w_machine.specs.Position.{Position}
 use Rattle.replies.specs.declared.stop.Stop.{Stop}
 use Rattle.replies.specs.declared.stop.Stop.TheVariants.{Refused, WriteFault, OutOfMemory}
 use Rattle.drive.specs.Running.{IsFirst}
-use Rattle.drive.specs.Stepping.{TakesStep}
+use Rattle.drive.specs.Stepping.{GoesToEvent}
 use Rattle.drive.specs.Tracing.{event_lines, IsWritten, IsTraced, IsBegunTrace, StopsTrace}
 use Rattle.drive.proofs.SettledRuns.{first_settled}
 
@@ -146,9 +146,9 @@ module _ (p : Program) (s : Store) (t : Term) where
       subst (λ (l : List ℕ). GrewByFront before now l) (sym (text_is n))
       (front_longer (event_lines (Events p s t n)) before now (line_bytes (line.End (trace_of p s t n).taken (trace_of p s t n).ending)) (lines_go_on before now m n le h))
 
-  -- ## A step
+  -- ## Up to an event
 
-  module _ (q new : Position) (event : Option Event) (step : TakesStep p s t event q new) (before now : Option (List ℕ)) where
+  module _ (q new : Position) (event : Option Event) (step : GoesToEvent p s t event q new) (before now : Option (List ℕ)) where
     step_lines : event_lines (Events p s t q.taken) ++ event_lines (option_to_list event) ≡ event_lines (Events p s t new.taken)
     step_lines = sym (lines_append (Events p s t q.taken) (option_to_list event)) ∙ ap event_lines (sym step.events)
 
@@ -157,12 +157,12 @@ module _ (p : Program) (s : Store) (t : Term) where
     traced_more kept h = record { settled = step.settled; written = subst (λ (l : List ℕ). IsWritten l before now kept) step_lines h }
 
     -- or a first part of it
-    pub begun_more : new.taken ≤ q.taken + 1 → GrewByFront before now (event_lines (Events p s t q.taken) ++ event_lines (option_to_list event)) → GrewByFront before now (event_lines (Events p s t (q.taken + 1)))
-    begun_more le h = lines_go_on before now new.taken (q.taken + 1) le (subst (λ (l : List ℕ). GrewByFront before now l) step_lines h)
+    pub begun_more : (steps : ℕ) → new.taken ≤ steps → GrewByFront before now (event_lines (Events p s t q.taken) ++ event_lines (option_to_list event)) → GrewByFront before now (event_lines (Events p s t steps))
+    begun_more steps le h = lines_go_on before now new.taken steps le (subst (λ (l : List ℕ). GrewByFront before now l) step_lines h)
 
-  -- where the step fails, what was written stays
-  pub begun_yet : (q : Position) (before now kept : Option (List ℕ)) → IsTraced p s t q before now kept → GrewByFront before now (event_lines (Events p s t (q.taken + 1)))
-  begun_yet q before now kept h = lines_go_on before now q.taken (q.taken + 1) (omega arith) (part_written (event_lines (Events p s t q.taken)) before now kept h.written)
+  -- where none comes for want of memory, what was written stays
+  pub begun_yet : (q : Position) (steps : ℕ) (before now kept : Option (List ℕ)) → q.taken ≤ steps → IsTraced p s t q before now kept → GrewByFront before now (event_lines (Events p s t steps))
+  begun_yet q steps before now kept le h = lines_go_on before now q.taken steps le (part_written (event_lines (Events p s t q.taken)) before now kept h.written)
 
   -- nothing is written of a run from its first reduction on
   pub traced_first : (q : Position) (now kept : Option (List ℕ)) → IsFirst q → kept ≡ Some [] → IsTraced p s t q now now kept

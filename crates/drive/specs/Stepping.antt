@@ -1,5 +1,5 @@
--- A machine whose run is told step by step.
-use Rattle.std.specs.Prelude.{◌≡◌, ◌≢◌, ◌≤◌, ◌+◌, ◌++◌, Bool, true, false, Option, Some, None, option_to_list}
+-- A machine whose run is told event by event.
+use Rattle.std.specs.Prelude.{◌≡◌, ◌≢◌, ◌<◌, ◌≤◌, ◌++◌, ℕ, Bool, true, false, Option, Some, None, option_to_list}
 use Rattle.w_reduce.specs.Program.{Program}
 use Rattle.w_reduce.specs.Run.{Run}
 use Rattle.w_reduce.specs.Store.{Store}
@@ -14,12 +14,12 @@ pub record IsSettled (p : Program) (s : Store) (t : Term) (machine : Position) :
   pub no_fault : IsNoFault machine.stop
   pub stopped : (k : RunStop) → machine.stop ≡ Some k → StopsWith k (Run p s t machine.taken).outcome
 
--- a step was taken, with this event of the run if any
-pub record TakesStep (p : Program) (s : Store) (t : Term) (event : Option Event) (old new : Position) : Type 0 where
+-- reductions were taken, with this event of the run if any
+pub record GoesToEvent (p : Program) (s : Store) (t : Term) (event : Option Event) (old new : Position) : Type 0 where
   pub settled : IsSettled p s t new
   pub events : Events p s t new.taken ≡ Events p s t old.taken ++ option_to_list event
 
--- whether the machine goes on behind a step; where it doesn't, no fault stopped it
-abbrev pub GoesOn : Bool → Position → Position → Type 0
-GoesOn true old new = (new.stop ≡ None) × (new.taken ≡ old.taken + 1)
-GoesOn false old new = (new.stop ≢ None) × (new.taken ≤ old.taken + 1) × IsNoFault new.stop
+-- whether the machine goes on then, with so many reductions in all at most; where it doesn't, no fault stopped it
+abbrev pub GoesOn : Bool → ℕ → Position → Position → Type 0
+GoesOn true steps old new = (new.stop ≡ None) × (new.taken ≤ steps) × (old.taken < new.taken)
+GoesOn false steps old new = (new.stop ≢ None) × (new.taken ≤ steps) × IsNoFault new.stop

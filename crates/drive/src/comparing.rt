@@ -10,7 +10,7 @@ ghost use Rattle.w_machine.specs.Position.{most_reductions};
 ghost use Rattle.drive.specs.Auditing.{FollowedTo, IsAfterAll, IsDifference};
 ghost use Rattle.drive.specs.Running.{IsFirst};
 
-use crate::stepping::{ending_of, take_step};
+use crate::stepping::{ending_of, go_to_event};
 use std::alloc::AllocError;
 use w_machine::Machine;
 use w_trace::{Event, Trace};
@@ -44,7 +44,7 @@ fn follow(machine: &mut Machine, steps: u64, events: &[Event]) -> Result<Followe
 {
     let mut place = 0;
     while machine.taken() < steps {
-        let (goes, event) = take_step(machine)?;
+        let (goes, event) = go_to_event(machine, steps)?;
         if let Some(event) = event {
             if !is_at(events, place, event) {
                 return Ok(Followed::Apart(place));

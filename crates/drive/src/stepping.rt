@@ -1,4 +1,4 @@
-//! Runs that are told step by step.
+//! Runs that are told event by event.
 ghost use Rattle.std.specs.Prelude.{◌≡◌, ◌≤◌, ◌<◌, ℕ, None, IfOk};
 ghost use Rattle.w_reduce.specs.Program.{Program};
 ghost use Rattle.w_reduce.specs.Run.{Run};
@@ -8,28 +8,35 @@ ghost use Rattle.w_trace.specs.Traces.{ending_of as the_ending};
 ghost use Rattle.w_machine.specs.Beginning.{Begins};
 ghost use Rattle.w_machine.specs.Position.{IsNoFault, most_reductions};
 ghost use Rattle.drive.specs.Running.{IsAfter};
-ghost use Rattle.drive.specs.Stepping.{GoesOn, IsSettled, TakesStep};
+ghost use Rattle.drive.specs.Stepping.{GoesOn, GoesToEvent, IsSettled};
 
 use std::alloc::AllocError;
-use w_machine::{Machine, Outcome, Stepped};
+use w_machine::{Machine, Outcome};
 use w_outside::Void;
 use w_trace::{Ending, Event};
 
-/// Takes one reduction of a machine that isn't stopped, and drops what it prints: whether the machine goes on, and the event of the
-/// reduction, where it has one. It fails where memory runs out.
-pub(crate) fn take_step(machine: &mut Machine) -> Result<(bool, Option<Event>), AllocError>
-    requires few { machine.old.taken < most_reductions }
+/// Runs a machine that isn't stopped, and has taken fewer than `steps` reductions, up to its next event, or until it has taken so many,
+/// and drops what it prints: whether the machine goes on, and the event, where one came. It fails where memory runs out.
+pub(crate) fn go_to_event(
+    machine: &mut Machine,
+    steps: u64,
+) -> Result<(bool, Option<Event>), AllocError>
+    requires within { steps ≤ most_reductions }
+    requires fewer { machine.old.taken < steps }
     requires none { machine.old.stop ≡ None }
-    ensures step { IfOk result (λ r. (p : Program) (s : Store) (t : Term) → Begins machine.old.origin p s t → TakesStep p s t r.1 machine.old machine.new) }
-    ensures goes { IfOk result (λ r. GoesOn r.0 machine.old machine.new) }
+    ensures event { IfOk result (λ r. (p : Program) (s : Store) (t : Term) → Begins machine.old.origin p s t → GoesToEvent p s t r.1 machine.old machine.new) }
+    ensures goes { IfOk result (λ r. GoesOn r.0 steps machine.old machine.new) }
     ensures origin { machine.new.origin ≡ machine.old.origin }
 {
-    let (stepped, event) = machine.step_event(&mut Void);
-    match stepped {
-        Stepped::Went => Ok((true, event)),
-        Stepped::Ended | Stepped::Limit(_) | Stepped::Trapped(_) => Ok((false, event)),
-        Stepped::OutOfMemory => Err(AllocError),
-        Stepped::WriteFault => unreachable!(),
+    let left = steps - machine.taken();
+    let (outcome, event) = machine.run_to_event(left, &mut Void);
+    // what stopped it is what its run came to
+    let _taken = machine.taken();
+    match outcome {
+        Outcome::Running => Ok((true, event)),
+        Outcome::Ended | Outcome::Limit(_) | Outcome::Trapped(_) => Ok((false, event)),
+        Outcome::OutOfMemory => Err(AllocError),
+        Outcome::WriteFault => unreachable!(),
     }
 }
 

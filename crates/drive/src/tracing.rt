@@ -1,5 +1,5 @@
 //! Traces of runs.
-ghost use Rattle.std.specs.Prelude.{◌≡◌, ◌≤◌, ◌<◌, ◌+◌, ◌++◌, ℕ, List, Option, [], Some, None, IfErr, IfOk, OnErr, OnOk, option_to_list};
+ghost use Rattle.std.specs.Prelude.{◌≡◌, ◌≤◌, ◌<◌, ◌++◌, ℕ, List, Option, [], Some, None, IfErr, IfOk, OnErr, OnOk, option_to_list};
 ghost use Rattle.w_outside.specs.Outside.{Grew, GrewByFront, HasCause, Rose};
 ghost use Rattle.w_reduce.specs.Program.{Program};
 ghost use Rattle.w_reduce.specs.Store.{Store};
@@ -17,7 +17,7 @@ ghost use Rattle.drive.specs.Stepping.{GoesOn};
 ghost use Rattle.drive.specs.Tracing.{IsBegunTrace, IsTraced, IsWritten, StopsTrace, event_lines};
 
 use crate::running::begin_run;
-use crate::stepping::{ending_of, take_step};
+use crate::stepping::{ending_of, go_to_event};
 use replies::{Origin, Output, Stop};
 use std::alloc::Global;
 use w_machine::Machine;
@@ -78,7 +78,7 @@ fn keep_event<O: Sink>(event: &Event, kept: &mut SureSink, out: &mut O) -> Resul
     write_enough(kept, out)
 }
 
-// The same of the event of a step, where it has one.
+// The same of an event that may have come.
 fn keep_if_some<O: Sink>(
     event: Option<Event>,
     kept: &mut SureSink,
@@ -96,23 +96,26 @@ fn keep_if_some<O: Sink>(
     }
 }
 
-// Takes one reduction of a machine that isn't stopped, and keeps its event. `false`: it is stopped now.
-fn trace_step<O: Sink>(
+// Runs a machine that isn't stopped up to its next event, or until it has taken so many reductions, and keeps the event. `false`: it is
+// stopped now.
+fn trace_event<O: Sink>(
     machine: &mut Machine,
+    steps: u64,
     kept: &mut SureSink,
     out: &mut O,
 ) -> Result<bool, Stop>
-    requires few { machine.old.taken < most_reductions }
+    requires within { steps ≤ most_reductions }
+    requires fewer { machine.old.taken < steps }
     requires none { machine.old.stop ≡ None }
     ensures ok { IfOk result (λ goes. (p : Program) (s : Store) (t : Term) → Begins machine.old.origin p s t → (before : Option (List ℕ))
         → IsTraced p s t machine.old before (O.held out.old) (⟦<SureSink as Sink>⟧.held kept.old) → IsTraced p s t machine.new before (O.held out.new) (⟦<SureSink as Sink>⟧.held kept.new)) }
-    ensures goes { IfOk result (λ goes. GoesOn goes machine.old machine.new) }
+    ensures goes { IfOk result (λ goes. GoesOn goes steps machine.old machine.new) }
     ensures err { IfErr result (λ stop. StopsTrace stop (Rose (O.faults out.old) (O.faults out.new)) ((p : Program) (s : Store) (t : Term) → Begins machine.old.origin p s t → (before : Option (List ℕ))
-        → IsTraced p s t machine.old before (O.held out.old) (⟦<SureSink as Sink>⟧.held kept.old) → GrewByFront before (O.held out.new) (event_lines (Events p s t (machine.old.taken + 1))))) }
+        → IsTraced p s t machine.old before (O.held out.old) (⟦<SureSink as Sink>⟧.held kept.old) → GrewByFront before (O.held out.new) (event_lines (Events p s t steps)))) }
     ensures origin { machine.new.origin ≡ machine.old.origin }
     ensures later { O.faults out.old ≤ O.faults out.new }
 {
-    let (goes, event) = take_step(machine)?;
+    let (goes, event) = go_to_event(machine, steps)?;
     match keep_if_some(event, kept, out) {
         Ok(()) => Ok(goes),
         Err(fault) => Err(stop_of(fault)),
@@ -137,7 +140,7 @@ fn trace_steps<O: Sink>(
     ensures later { O.faults out.old ≤ O.faults out.new }
 {
     while machine.taken() < steps {
-        if !trace_step(machine, kept, out)? {
+        if !trace_event(machine, steps, kept, out)? {
             return Ok(());
         }
     }

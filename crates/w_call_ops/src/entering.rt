@@ -17,6 +17,7 @@ use w_syntax::{Func, LocalRun, Module};
 use w_types::{FuncType, Value};
 
 /// The type and the code of a function of the module, which are there.
+#[inline(always)]
 pub fn find_callee(program: &Module, function: u32) -> (&FuncType, &Func)
     requires there { (t : FuncKind) × (f : FuncCode) × IsFunction program.now function t f }
     ensures { IsFunction program.now function result.0.now result.1.now }
@@ -30,6 +31,7 @@ pub fn find_callee(program: &Module, function: u32) -> (&FuncType, &Func)
 }
 
 // How many locals these runs are.
+#[inline(always)]
 fn count_locals(runs: &[LocalRun]) -> usize
     requires few { total runs.now < 2 ^ 32 }
     ensures count { result ≡ total runs.now }
@@ -42,6 +44,7 @@ fn count_locals(runs: &[LocalRun]) -> usize
 }
 
 // Adds the locals of these runs, as they begin, to the innermost frame.
+#[inline(always)]
 fn add_runs(stack: &mut Stack, runs: &[LocalRun])
     requires frame { 0 < frames_of stack.old.levels }
     requires room { locals_all stack.old.levels + total runs.now ≤ stack.old.capacity.locals }
@@ -136,7 +139,7 @@ pub fn enter_callee(
 /// Enters a function of the module, by its index among the module's own, once so many operands are gone; its arguments stand beneath
 /// them. The function that ran before goes on at `back`. The frame gets room for all that its function needs. It fails only when out of
 /// memory, or where there is no room and none may be asked for, and then the stack is as it was but for room.
-#[inline(never)]
+#[inline(always)]
 pub(crate) fn enter(
     program: &Runnable,
     stack: &mut Stack,

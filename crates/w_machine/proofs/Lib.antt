@@ -16,9 +16,12 @@ pub mod RunsGoOn
 pub mod StoppedMachines
 pub mod Machines
 pub mod StepEvents
-pub mod Attempts
 pub mod FirstStep
 pub mod ShortBodies
 pub mod NoReductionTaken
 pub mod RunsOfMany
+pub mod GoingOn
+pub mod CommonReductions
+pub mod ManyReductions
+pub mod RunsToEvents
 pub mod Results

@@ -16,7 +16,7 @@ use Rattle.w_segment.specs.Shape.{Capacity, fresh_shape}
 use Rattle.w_conts.specs.Conts.{Conts}
 use Rattle.w_reduce.specs.Values.{Val}
 use Rattle.w_reduce.specs.Store.{Store}
-use Rattle.w_reduce.specs.Terms.{Rest, Context, Term}
+use Rattle.w_reduce.specs.Terms.{Rest, Context, Term, Continuation}
 use Rattle.w_reduce.specs.Program.{Program}
 use Rattle.w_reduce.specs.Reduce.{next, reduce}
 use Rattle.w_reduce.specs.Run.{Running, RunState, state_at, Run}
@@ -25,7 +25,7 @@ use Rattle.w_switching.specs.Standing.{Chained, only, around}
 use Rattle.w_switching.specs.Sound.{Sound}
 use Rattle.w_machine.specs.Parts.{Parts, parts, whole}
 use Rattle.w_machine.specs.Beginning.{Origin}
-use Rattle.w_machine.specs.Standing.{behind_of, MayWait, IsLast}
+use Rattle.w_machine.specs.Standing.{behind_of, MayWait, IsLast, Stands}
 use Rattle.w_machine.specs.Reducing.{TakesReduction, PartsReduce}
 use Rattle.w_machine.specs.Position.{Position, PrintedBetween, StepsFrom, most_reductions}
 use Rattle.w_machine.specs.Reached.{function_of, waiting_of, IsFresh, IsTurned, none_waits, next_runs, is_last, IsReachedAt, IsReached}
@@ -83,29 +83,30 @@ module _ {m : Module} {waiting : List ℕ} {x : Parts} {n : ℕ} {p : Program} {
       let output : (Run p s₀ t₀ n).output ++ went.text ≡ (Run p s₀ t₀ (n + 1)).output = sym (ap (λ (q : RunState). q.output) went_to) in
       went_to ∙ ap (λ (o : List ℕ). state_at p (n + 1) o (whole x'.store went.ks) went.t) output
 
+-- what was taken leaves what stands for a configuration, where the turn of no other segment has come
+pub stands_after : {m : Module} {waiting : List ℕ} {x : Parts} {p : Program} {ks : List (Option Continuation)} {t : Term} {x' : Parts} {k : ℕ} {before now : Option (List ℕ)}
+    → SoundModule m → (h : Stands m waiting x p ks t) → (went : TakesReduction m waiting p (reduce p (whole x.store ks) t) k x' before now) → (IsLast x'.chain → waiting ≡ [])
+    → Stands m waiting x' p went.ks went.t
+stands_after {x = x} {p = p} {ks = ks} {t = t} {x' = x'} valid h went done =
+    let typed = went_typed valid h went.is in
+    record {
+      stand = went.stand;
+      results = h.results;
+      arrows = typed.arrows;
+      typed = typed.typed;
+      ends = h.ends;
+      within = limited_within (next p (whole x.store ks) t.around t.operands t.rest.ahead t.rest.code) went.text (whole x'.store went.ks) went.t went.is;
+      sound = went.sound;
+      room = went.room;
+      held = went.held;
+      done = done;
+    }
+
 -- the segments that run next stand for the next state of the run
 pub next_at : {m : Module} {waiting waiting' : List ℕ} {x : Parts} {n : ℕ} {p : Program} {x' : Parts} {chain : List Link} {k : ℕ} {before now : Option (List ℕ)}
     (s₀ : Store) (t₀ : Term) → SoundModule m → (at : IsReachedAt m waiting x n p (Run p s₀ t₀ n)) → TakesReduction m waiting p (reduce p (whole x.store at.ks) at.t) k x' before now
     → Turn waiting x'.chain waiting' chain → IsReachedAt m waiting' (with_chain chain x') (n + 1) p (Run p s₀ t₀ (n + 1))
-next_at {x = x} {p = p} {x' = x'} s₀ t₀ valid at went (stays_on done) =
-    let typed = went_typed valid at.stands went.is in
-    record {
-      ks = went.ks;
-      t = went.t;
-      stands = record {
-        stand = went.stand;
-        results = at.stands.results;
-        arrows = typed.arrows;
-        typed = typed.typed;
-        ends = at.stands.ends;
-        within = limited_within (next p (whole x.store at.ks) at.t.around at.t.operands at.t.rest.ahead at.t.rest.code) went.text (whole x'.store went.ks) went.t went.is;
-        sound = went.sound;
-        room = went.room;
-        held = went.held;
-        done = done;
-      };
-      is = went_at s₀ t₀ valid at went;
-    }
+next_at s₀ t₀ valid at went (stays_on done) = record { ks = went.ks; t = went.t; stands = stands_after valid at.stands went done; is = went_at s₀ t₀ valid at went }
 next_at {m = m} {x = x} {p = p} {x' = x'} s₀ t₀ valid at went (takes_over {f = f} {fs = fs} {c = c} last) =
     let there = last_there went.stand.term last in
     let typed = went_typed valid at.stands went.is in

@@ -44,7 +44,7 @@ module _ (p : Program) (s : Store) (t : Term) where
       )
 
 -- one print after another
-printed_more : {q r u : RunState} {a b c : Option (List ℕ)} → PrintedBetween q r a b → PrintedBetween r u b c → PrintedBetween q u a c
+pub printed_more : {q r u : RunState} {a b c : Option (List ℕ)} → PrintedBetween q r a b → PrintedBetween r u b c → PrintedBetween q u a c
 printed_more {q = q} {a = a} {b = b} {c = c} h k = record {
   text = h.text ++ k.text;
   is = k.is ∙ ap (λ (l : List ℕ). l ++ k.text) h.is ∙ append_assoc q.output h.text k.text;

@@ -1,5 +1,5 @@
 -- The event of the next reduction is seen from the innermost segment.
-use Rattle.std.proofs.Common.{◌≡◌, ◌≢◌, ◌⊎◌, inl, inr, ℕ, ◌-◌, List, [], ◌∷◌, length, Option, Some, None, refl, sym, ap, subst, ◌∙◌, arith}
+use Rattle.std.proofs.Common.{◌≡◌, ◌≢◌, ◌⊎◌, inl, inr, ℕ, false, ◌-◌, List, [], ◌∷◌, length, Option, Some, None, refl, sym, ap, subst, ◌∙◌, arith}
 use Rattle.lists.specs.Rows.{Row}
 use Rattle.w_syntax.specs.Code.{Code, Done, Plain}
 use Rattle.w_syntax.specs.declared.instructions.Clause.{Clause}
@@ -18,6 +18,7 @@ use Rattle.w_reduce.specs.Terms.{Rest, rest_of, Handle, Context}
 use Rattle.w_stands.specs.Code.{instr_of}
 use Rattle.w_stands.specs.Stands.{LevelsAre, label, frame, outermost, StackIs, body, left, fresh, values}
 use Rattle.w_stands.specs.Values.{stack}
+use Rattle.w_plain.specs.Plainness.{switches_at}
 use Rattle.w_switching.specs.Standing.{Chained, only, around}
 use Rattle.w_switching.proofs.SegmentsInOthers.{kept_long}
 use Rattle.w_trace.specs.declared.event.EventKind.{EventKind}
@@ -64,6 +65,22 @@ body_event {e = e} s vs (body h k w) b =
 body_event s vs (left h k w) b = absurd (cc)
 body_event s vs (fresh h k) b = absurd (cc)
 body_event s vs (values h k) b = absurd (cc)
+
+-- one that switches no stacks has none
+plain_is_silent : (s : Store) (vs : Row Val) (i : Option Instr) → switches_at i ≡ false → None ≡ event_at s vs i
+plain_is_silent s vs None plain = refl
+plain_is_silent s vs (Some (flat.Plain (op.Control o))) plain = refl
+plain_is_silent s vs (Some (flat.Plain (op.Parametric o))) plain = refl
+plain_is_silent s vs (Some (flat.Plain (op.Variable o))) plain = refl
+plain_is_silent s vs (Some (flat.Plain (op.Memory o))) plain = refl
+plain_is_silent s vs (Some (flat.Plain (op.Table o))) plain = refl
+plain_is_silent s vs (Some (flat.Plain (op.Numeric o))) plain = refl
+plain_is_silent s vs (Some (flat.Plain (op.Reference o))) plain = refl
+plain_is_silent s vs (Some (flat.Plain (op.Switching o))) plain = absurd (cc)
+plain_is_silent s vs (Some (flat.Block kind t z)) plain = refl
+plain_is_silent s vs (Some (flat.If t y z)) plain = refl
+plain_is_silent s vs (Some flat.Else) plain = refl
+plain_is_silent s vs (Some flat.End) plain = refl
 
 -- ## Before code
 
@@ -126,6 +143,10 @@ module _ {m : Module} {x : Parts} (inner : Shape) (is : inner ≡ (top x.chain).
       tells s (kept_long h.stand.store)
       ∙ ap (event_at s vs) found
       ∙ sym (ap (λ (us : Row Val). next_event s t.around us t.rest.ahead t.rest.code) operands ∙ body_event s vs stands b)
+
+  -- where that switches no stacks there is none
+  pub tells_plain : inner.stage ≡ Body → switches_at (instr_of m inner.func inner.place) ≡ false → TellsEvent None m x
+  tells_plain b plain = tells_instr None (instr_of m inner.func inner.place) b refl (λ s next. plain_is_silent s (stack inner.operands) (instr_of m inner.func inner.place) plain)
 
   -- before code there is none
   pub tells_nothing : (g : Stage) → g ≡ inner.stage → (g ≡ Fresh) ⊎ ((l : ℕ) × (g ≡ Branch l)) → TellsEvent None m x

@@ -1,5 +1,5 @@
 -- The event of a step is that of the run's next reduction.
-use Rattle.std.proofs.Common.{◌≡◌, ◌≢◌, ℕ, suc, ◌+◌, true, is_some, List, Option, Some, None, refl, sym, ap, subst, ◌∙◌, arith}
+use Rattle.std.proofs.Common.{◌≡◌, ◌≢◌, ℕ, suc, ◌+◌, List, Option, Some, None, refl, sym, ap, subst, ◌∙◌, arith}
 use Rattle.std.specs.Prelude.{Box}
 use Rattle.std.specs.declared.alloc.Global.{Global}
 use Rattle.lists.specs.Rows.{Row}
@@ -22,9 +22,8 @@ use Rattle.w_machine.specs.Parts.{Parts, whole}
 use Rattle.w_machine.specs.NextEvents.{TellsEvent}
 use Rattle.w_machine.specs.Beginning.{Origin, Begins}
 use Rattle.w_machine.specs.Standing.{Stands}
-use Rattle.w_machine.specs.Position.{Position, StopsWith, counted, after_step, IsNoFault, StepsOn, StepsFrom, Steps}
+use Rattle.w_machine.specs.Position.{Position, StopsWith, counted, after_step, IsNoFault, StepsFrom, Steps}
 use Rattle.w_machine.specs.Reached.{waiting_of, IsReachedAt, IsReachedBy, IsReached}
-use Rattle.w_machine.specs.RunStop.{stepped_of, stopped_at}
 use Rattle.w_machine.proofs.OneMoreReduction.{next_run}
 use Rattle.w_machine.proofs.StoppedMachines.{outcome_here, taken_is}
 
@@ -105,7 +104,7 @@ module _ (p : Program) (s₀ : Store) (t₀ : Term) (n : ℕ) where
       ap (λ (o : Outcome). while_running o (with_step (suc r.taken) (where_went (reduce p r.store r.term) (event_of r.store r.term)))) (sym (ap (λ (k : ℕ). (Run p s₀ t₀ k).outcome) here) ∙ is)
 
   -- by what stopped it
-  stopped_none : (k : RunStop) → IsNoFault (Some k) → StopsWith k (Run p s₀ t₀ (n + counted k)).outcome → event_after p (Run p s₀ t₀ n) ≡ None
+  pub stopped_none : (k : RunStop) → IsNoFault (Some k) → StopsWith k (Run p s₀ t₀ (n + counted k)).outcome → event_after p (Run p s₀ t₀ n) ≡ None
   stopped_none run_stop.Ended fine (vs, is) = run_ended vs is
   stopped_none (run_stop.Limit l) fine is = run_stopped (Limit l) (λ d. told_no_limit d l) is
   stopped_none (run_stop.Trapped t) fine is = run_stopped (Traps t) (λ d. told_no_trap d t) is
@@ -114,22 +113,9 @@ module _ (p : Program) (s₀ : Store) (t₀ : Term) (n : ℕ) where
 
 -- ## A machine's step
 
--- that of one that wasn't stopped
-module _ (q q' : Position) (before now : Option (List ℕ)) (r : Option RunStop) (none : q.stop ≡ None) (steps : Steps q r q' before now) where
-  from_none : StepsFrom None q r q' before now
-  from_none = subst (λ (o : Option RunStop). StepsFrom o q r q' before now) none steps
-
-  -- either stops, with no event
-  pub stopped_event : true ≡ is_some r → IsNoFault r → (p : Program) (s₀ : Store) (t₀ : Term) → Begins q.origin p s₀ t₀ → None ≡ event_after p (Run p s₀ t₀ q.taken)
-  stopped_event some fine p s₀ t₀ begins = by r some fine (from_none.1 p s₀ t₀ begins)
-    where
-      by : (o : Option RunStop) → true ≡ is_some o → IsNoFault o → StepsOn (Run p s₀ t₀) q.taken o before now → None ≡ event_after p (Run p s₀ t₀ q.taken)
-      by None e fine h = absurd (cc)
-      by (Some k) e fine h = sym (stopped_none p s₀ t₀ q.taken k fine h.0)
-
-  -- or counts one reduction more
-  went_to : r ≡ None → q' ≡ after_step q None
-  went_to e = from_none.0 ∙ ap (after_step q) e
+-- one that nothing stopped counts one reduction more
+went_to : (q q' : Position) (before now : Option (List ℕ)) (r : Option RunStop) → q.stop ≡ None → Steps q r q' before now → r ≡ None → q' ≡ after_step q None
+went_to q q' before now r none steps e = (subst (λ (o : Option RunStop). StepsFrom o q r q' before now) none steps).0 ∙ ap (after_step q) e
 
 module _ {from from' : Origin} {functions functions' : List ℕ} {x x' : Parts} {waiting waiting' : List (Box Segment Global)} {n n' a b a' b' : ℕ} {m' : Module} {q q' : Position}
     (before now : Option (List ℕ)) (k k' : Option RunStop) where
@@ -161,12 +147,3 @@ module _ {from from' : Origin} {functions functions' : List ℕ} {x x' : Parts} 
       ∙ ap (with_step (suc (Run p s₀ t₀ n).taken)) (told ∙ sym event)
       ∙ sym (run_went p s₀ t₀ n (reduce p (whole x'.store at'.ks) at'.t) (omega (arith, taken', more, taken)) outcome)
       ∙ ap (λ (i : ℕ). event_after p (Run p s₀ t₀ i)) count
-
--- what a step that answers so was stopped by
-pub answered : (o : Option RunStop) → stopped_at (stepped_of o) ≡ o
-answered None = refl
-answered (Some run_stop.Ended) = refl
-answered (Some (run_stop.Limit name)) = refl
-answered (Some (run_stop.Trapped t)) = refl
-answered (Some run_stop.WriteFault) = refl
-answered (Some run_stop.OutOfMemory) = refl

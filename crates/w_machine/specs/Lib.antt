@@ -7,5 +7,6 @@ pub mod Beginning
 pub mod Position
 pub mod Reached
 pub mod Results
-pub mod AttemptedStep
-pub mod AttemptedStepOn
+pub mod CommonReductions
+pub mod GoingOn
+pub mod RunsToEvents

@@ -1,7 +1,7 @@
 //! The machine: a store, and a run of a module that does what the reduction rules say.
 #![tactic(auto)]
 
-mod attempt;
+mod common;
 mod configuration;
 mod events;
 mod machine;

@@ -8,15 +8,15 @@ ghost use Rattle.w_reduce.specs.Run.{Run};
 ghost use Rattle.w_stands.specs.Code.{AllShort};
 ghost use Rattle.w_stands.specs.Values.{vals};
 ghost use Rattle.w_reduce.specs.Start.{starts_of};
-ghost use Rattle.w_trace.specs.Events.{event_after};
 ghost use Rattle.w_machine.specs.Beginning.{origin_of, Begins, BeginsWith, BeginsAt};
 ghost use Rattle.w_machine.specs.RunStop.{stopped_at, stopped_in};
-ghost use Rattle.w_machine.specs.AttemptedStepOn.{AttemptsStepOn};
-ghost use Rattle.w_machine.specs.Position.{Steps, StopsWith, StopsIfEnded, IsNoFault, Runs, counted, most_reductions};
+ghost use Rattle.w_machine.specs.GoingOn.{Hastens};
+ghost use Rattle.w_machine.specs.Position.{Steps, StopsWith, StopsIfEnded, Runs, counted, most_reductions};
+ghost use Rattle.w_machine.specs.RunsToEvents.{Tells, RunsToEvent};
 ghost use Rattle.w_machine.specs.Results.{HasResults};
 ghost use Rattle.w_machine.specs.Reached.{AreFirst, IsTurned, IsFresh, is_last};
 
-use crate::attempt::attempt_step;
+use crate::common::hasten;
 use crate::configuration::Configuration;
 use crate::events::{next_event, numbered};
 use crate::outcome::{Outcome, RunStop, Stepped, as_outcome, as_stepped, has_ended};
@@ -298,41 +298,65 @@ impl Machine {
         }
     }
 
-    // Attempts one of the commonest reductions, and says whether it stopped the machine. `None`: none was taken, and the machine is as it was.
-    #[inline(always)]
-    fn attempt_step(&mut self) -> Option<bool>
-        requires few { self.old.taken < most_reductions }
+    // Takes common reductions in a body, up to `end` in all, until another comes next or one of them stops the machine, and says whether one
+    // did. All attempts are made here, so that what they run stands in a program once, whatever its sinks.
+    #[inline(never)]
+    fn hasten_in_body(&mut self, end: u64) -> bool
+        requires few { end ≤ most_reductions }
+        requires before { self.old.taken < end }
         requires none { self.old.stop ≡ None }
-        ensures attempts { AttemptsStepOn result self.old self.new }
+        ensures hastens { Hastens result end self.old self.new }
     {
         let _module = self.runnable.module();
         let _classes = self.runnable.classes();
-        let within = attempt_step(&self.runnable, &mut self.configuration)?;
-        self.taken += 1;
+        let most = end - self.taken;
+        let (taken, within) = hasten(&self.runnable, &mut self.configuration, most);
+        self.taken += taken;
         if within {
-            turn(&mut self.configuration.chain, &mut self.waiting);
-            return Some(false);
+            if taken > 0 {
+                turn(&mut self.configuration.chain, &mut self.waiting);
+            }
+            return false;
         }
+        self.taken += 1;
         self.stop = Some(RunStop::Limit(RunLimit::Frames));
         self.made = self.configuration.conts.made();
         self.live = self.configuration.conts.live();
-        Some(true)
+        true
     }
 
-    // Takes one reduction of a machine that isn't stopped, or keeps what stops it, and says whether it is stopped.
+    // The same where the innermost segment may stand elsewhere.
     #[inline(always)]
-    fn advance<O: Sink>(&mut self, out: &mut O) -> bool
+    fn hasten(&mut self, end: u64) -> bool
+        requires few { end ≤ most_reductions }
+        requires before { self.old.taken < end }
+        requires none { self.old.stop ≡ None }
+        ensures hastens { Hastens result end self.old self.new }
+    {
+        match self.configuration.chain.stack().stage() {
+            Stage::Body => self.hasten_in_body(end),
+            _ => false,
+        }
+    }
+
+    // Takes one reduction of a machine that isn't stopped, or keeps what stops it, and says what the reduction does with continuations.
+    fn advance_with_event<O: Sink>(&mut self, out: &mut O) -> Option<Event>
         requires few { self.old.taken < most_reductions }
         requires none { self.old.stop ≡ None }
         ensures steps { Steps self.old self.new.stop self.new (O.held out.old) (O.held out.new) }
-        ensures stops { result ≡ is_some self.new.stop }
-        ensures cause { self.old.stop ≡ None → self.new.stop ≡ Some RunStop.WriteFault → Rose (O.faults out.old) (O.faults out.new) }
+        ensures event { Tells result self.old self.new }
+        ensures cause { self.new.stop ≡ Some RunStop.WriteFault → Rose (O.faults out.old) (O.faults out.new) }
         ensures later { O.faults out.old ≤ O.faults out.new }
     {
-        match self.attempt_step() {
-            Some(stopped) => stopped,
-            None => self.advance_slowly(out),
+        // the event is read off what comes next, before that is gone
+        let _classes = self.runnable.classes();
+        let kind = next_event(self.runnable.module(), &self.configuration);
+        let step = self.taken + 1;
+        self.advance_slowly(out);
+        if self.stop.is_some() {
+            return None;
         }
+        numbered(step, kind)
     }
 
     // Says what stops the run, with no reduction taken.
@@ -363,11 +387,44 @@ impl Machine {
         }
         let end = self.taken + steps;
         while self.taken < end {
-            if self.advance(out) {
+            if self.hasten(end) {
                 return self.stop;
+            }
+            if self.taken < end {
+                if self.advance_slowly(out) {
+                    return self.stop;
+                }
             }
         }
         self.stop_if_ended()
+    }
+
+    // Takes so many reductions at most, up to the first that has an event, and tells it, or says what stops it.
+    fn go_to_event<O: Sink>(&mut self, steps: u64, out: &mut O) -> (Option<RunStop>, Option<Event>)
+        requires { self.old.taken + steps ≤ most_reductions }
+        ensures runs { RunsToEvent steps result.0 result.1 self.old self.new (O.held out.old) (O.held out.new) }
+        ensures cause { self.old.stop ≡ None → result.0 ≡ Some RunStop.WriteFault → Rose (O.faults out.old) (O.faults out.new) }
+        ensures later { O.faults out.old ≤ O.faults out.new }
+    {
+        if self.stop.is_some() {
+            return (self.stop, None);
+        }
+        let end = self.taken + steps;
+        while self.taken < end {
+            if self.hasten(end) {
+                return (self.stop, None);
+            }
+            if self.taken < end {
+                let event = self.advance_with_event(out);
+                if self.stop.is_some() {
+                    return (self.stop, event);
+                }
+                if event.is_some() {
+                    return (self.stop_if_ended(), event);
+                }
+            }
+        }
+        (self.stop_if_ended(), None)
     }
 
     /// The values that the run ended with, in order; none before.
@@ -400,34 +457,21 @@ impl Machine {
         ensures cause { self.old.stop ≡ None → result ≡ Stepped.WriteFault → Rose (O.faults out.old) (O.faults out.new) }
         ensures later { O.faults out.old ≤ O.faults out.new }
     {
-        if self.stop.is_none() {
-            self.advance(out);
-        }
+        self.advance_slowly(out);
         as_stepped(self.stop)
     }
 
-    /// Takes one reduction, as `step` does, and says what it did with continuations. There is no event where it did nothing with them, and
-    /// none where it traps, passes a limit or isn't taken.
-    pub fn step_event<O: Sink>(&mut self, out: &mut O) -> (Stepped, Option<Event>)
-        requires { self.old.taken < most_reductions }
-        ensures steps { Steps self.old (stopped_at result.0) self.new (O.held out.old) (O.held out.new) }
-        ensures cause { self.old.stop ≡ None → result.0 ≡ Stepped.WriteFault → Rose (O.faults out.old) (O.faults out.new) }
+    /// Takes reductions, so many at most, up to the first that does something with continuations, and says what that does. There is no
+    /// event where none of them does anything with them, nor where one traps, passes a limit or isn't taken. What they print goes into
+    /// the sink. `Outcome::Running` with no event: so many were taken.
+    pub fn run_to_event<O: Sink>(&mut self, steps: u64, out: &mut O) -> (Outcome, Option<Event>)
+        requires { self.old.taken + steps ≤ most_reductions }
+        // It is a run of at most so many, in which no reduction but the last has an event.
+        ensures runs { RunsToEvent steps (stopped_in result.0) result.1 self.old self.new (O.held out.old) (O.held out.new) }
+        ensures cause { self.old.stop ≡ None → result.0 ≡ Outcome.WriteFault → Rose (O.faults out.old) (O.faults out.new) }
         ensures later { O.faults out.old ≤ O.faults out.new }
-        // Of a machine that isn't stopped, the event is that of the run's next reduction, where no fault stops it; a stopped one has none.
-        ensures event { self.old.stop ≡ None → IsNoFault (stopped_at result.0) → (p : TheProgram) (s : TheStore) (t : Term) → Begins self.old.origin p s t
-            → result.1 ≡ event_after p (Run p s t self.old.taken) }
-        ensures none { self.old.stop ≢ None → result.1 ≡ None }
     {
-        if self.stop.is_some() {
-            return (as_stepped(self.stop), None);
-        }
-        // the event is read off what comes next, before that is gone
-        let _classes = self.runnable.classes();
-        let kind = next_event(self.runnable.module(), &self.configuration);
-        let step = self.taken + 1;
-        if self.advance(out) {
-            return (as_stepped(self.stop), None);
-        }
-        (as_stepped(self.stop), numbered(step, kind))
+        let (stop, event) = self.go_to_event(steps, out);
+        (as_outcome(stop), event)
     }
 }

@@ -26,7 +26,7 @@ impl Stack {
     }
 
     // Enters a function's frame, whose first locals are the topmost `params` operands; its other locals are not set.
-    #[inline]
+    #[inline(always)]
     fn enter_frame(&mut self, func: u32, params: u32, locals: u32, arity: u32)
         requires params { params ≤ length self.old.operands }
         requires levels { length self.old.levels < self.old.capacity.levels }

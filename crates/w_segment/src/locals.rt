@@ -29,6 +29,7 @@ impl Stack {
 
     /// Adds locals behind those of the innermost frame, so many, each with this value, or not set, where there is a frame, and room: no
     /// memory is taken (Core, execution, function calls: the locals of the declared types).
+    #[inline(always)]
     pub fn add_locals(&mut self, count: u32, local: Option<Value>)
         requires frame { 0 < frames_of self.old.levels }
         requires room { locals_all self.old.levels + count ≤ self.old.capacity.locals }

@@ -90,8 +90,9 @@ impl Stack {
     ghost use Rattle.w_segment.specs.Changes.{moved, staged};
     ghost use Rattle.w_segment.specs.declared.entry.Stage.TheVariants.{Fresh};
 
-    /// The stack of a segment that invokes a function next.
-    pub(crate) fn fresh(alloc: Global, func: u32) -> Stack
+    /// The stack of a segment that invokes a function next, by its address. It has room for nothing.
+    #[inline]
+    pub fn fresh(alloc: Global, func: u32) -> Stack
         ensures is { result ≡ fresh_shape func no_capacity }
     {
         Stack {

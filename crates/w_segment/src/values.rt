@@ -30,6 +30,7 @@ pub(crate) fn push_values(operands: &mut Vec<Value>, values: &[Value])
 }
 
 /// Adds locals that are set to these values.
+#[inline(always)]
 pub(crate) fn push_arguments(locals: &mut Vec<Option<Value>>, arguments: &[Value])
     requires room { vec_len locals.old + length arguments.now ≤ vec_capacity locals.old }
     ensures items { locals.new.items ≡ locals.old.items ++ map (λ (v : Value). Some v) arguments.now }
@@ -41,6 +42,7 @@ pub(crate) fn push_arguments(locals: &mut Vec<Option<Value>>, arguments: &[Value
 }
 
 /// Adds so many locals with one value, or not set.
+#[inline(always)]
 pub(crate) fn push_copies(locals: &mut Vec<Option<Value>>, count: usize, local: Option<Value>)
     requires room { vec_len locals.old + count ≤ vec_capacity locals.old }
     ensures items { locals.new.items ≡ locals.old.items ++ replicate count local }

@@ -22,7 +22,7 @@ use w_tables::{Printer, Store};
 /// Invokes the function of the module that a tail call names, by its address and its index among the module's own, in the place of the
 /// innermost frame, once so many operands are gone. It fails only when out of memory, or where there is no room and none may be asked
 /// for, and then the stack is as it was but for room.
-#[inline(never)]
+#[inline(always)]
 pub fn tail_own(
     program: &Runnable,
     store: &Store,
