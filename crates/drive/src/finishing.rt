@@ -60,11 +60,23 @@ fn dump_checked(alloc: Global, checked: Checked) -> Result<Output, Stop>
     output
 }
 
-/// Does with a module what is asked for. What a run prints goes to out; the answer is what is left to write.
+// Lets a module go where the process goes on. Where the command is all that it does, to let it go would look through each of its bodies once
+// more.
+fn let_go(checked: Checked, goes_on: bool) {
+    if goes_on {
+        drop(checked);
+    } else {
+        forget(checked);
+    }
+}
+
+/// Does with a module what is asked for. What a run prints goes to out; the answer is what is left to write. A module that was only checked
+/// is let go where the process goes on.
 pub(crate) fn finish<O: Sink>(
     alloc: Global,
     action: Action,
     checked: Checked,
+    goes_on: bool,
     out: &mut O,
 ) -> Result<Output, Stop>
     requires { IsWithinSteps action }
@@ -74,8 +86,7 @@ pub(crate) fn finish<O: Sink>(
 {
     match action {
         Action::Check => {
-            // the command ends here, and to let the module go would look through each of its bodies once more
-            forget(checked);
+            let_go(checked, goes_on);
             confirm(alloc)
         }
         Action::Run { steps, stats } => run(alloc, Origin::Module, checked, steps, stats, out),

@@ -6,6 +6,7 @@ mod auditing;
 mod comparing;
 mod delivery;
 mod finishing;
+mod in_memory;
 mod laws;
 mod linking;
 mod program;
@@ -14,6 +15,7 @@ mod scripts;
 mod stepping;
 mod tracing;
 
+pub use in_memory::command_on_bytes;
 pub use laws::{
     answers_to_scripts_mean, audits_are_exact, build_is_idempotent, built_files_are_accepted,
     built_runs_are_alike, built_scripts_are_short, dumped_files_are_built, one_answer,

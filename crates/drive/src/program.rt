@@ -28,8 +28,15 @@ const GENERATED_STEPS: u64 = 10_000_000_000;
 static USAGE: &[u8] =
     b"usage: stackwasm check FILE | run FILE [--steps N] [--stats] | build FILE | gen N | dump FILE | asm FILE | link FILE.. [--steps N] [--stats] | trace FILE [--steps N] | audit FILE TRACE [--steps N]\n";
 
-// Does with a script, a text or a module what is asked for. What a run prints goes to out; the answer is what is left to write.
-fn act<O: Sink>(alloc: Global, action: Action, input: Input, out: &mut O) -> Result<Output, Stop>
+/// Does with a script, a text or a module what is asked for. What a run prints goes to out; the answer is what is left to write. What is not
+/// used any more is let go where the process goes on.
+pub(crate) fn act<O: Sink>(
+    alloc: Global,
+    action: Action,
+    input: Input,
+    goes_on: bool,
+    out: &mut O,
+) -> Result<Output, Stop>
     requires steps { IsWithinSteps action }
     requires bytes { (b : List ℕ) × IsInputOf (taken_by action) input b }
     requires short { IsShort input }
@@ -42,11 +49,11 @@ fn act<O: Sink>(alloc: Global, action: Action, input: Input, out: &mut O) -> Res
         Input::Text(bytes) => {
             let checked = judge_text(alloc, bytes.as_slice())?;
             drop(bytes);
-            finish(alloc, action, checked, out)
+            finish(alloc, action, checked, goes_on, out)
         }
         Input::Module(module) => {
             let checked = module.judge(alloc)?;
-            finish(alloc, action, checked, out)
+            finish(alloc, action, checked, goes_on, out)
         }
     }
 }
@@ -63,7 +70,7 @@ fn run_generated<O: Sink>(alloc: Global, number: u32, out: &mut O) -> Result<Out
         stats: false,
     };
     let input = Input::of_bytes(alloc, action.takes(), bytes)?;
-    act(alloc, action, input, out)
+    act(alloc, action, input, false, out)
 }
 
 // The answer to the words. What a run prints goes to out; the answer is what is left to write.
@@ -82,7 +89,7 @@ fn answer<F: Inputs, O: Sink>(
     match request_of(alloc, words) {
         Ok(Request::OnFile { file, action }) => {
             let input = open(alloc, files, file, action.takes())?;
-            act(alloc, action, input, out)
+            act(alloc, action, input, false, out)
         }
         Ok(
             Request::OnFiles {

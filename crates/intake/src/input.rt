@@ -15,7 +15,7 @@ use w_outside::{Fault, Inputs};
 use words::Takes;
 
 /// The most bytes of a file that is read.
-const INPUT_LIMIT: usize = 16_777_216;
+pub const INPUT_LIMIT: usize = 16_777_216;
 
 /// Why a file was not read.
 #[derive(Clone, Copy, Debug, PartialEq, Eq, Error)]

@@ -11,6 +11,7 @@ mod several;
 mod texts;
 
 pub use files::open;
+pub use input::INPUT_LIMIT;
 pub use intake::Input;
 pub use judging::accept;
 pub use module_intake::ModuleIntake;
