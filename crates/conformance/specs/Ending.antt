@@ -5,7 +5,7 @@ use Rattle.words.specs.Line.{Line}
 use Rattle.replies.specs.Status.{code_of}
 use Rattle.replies.specs.declared.status.Status.{Status}
 use Rattle.replies.specs.Answer.{Answer}
-use Rattle.drive.specs.Delivery.{MayFail, Answered}
+use Rattle.runs.specs.Delivery.{MayFail, Answered}
 
 -- over files of which so much is told, a call with this line wrote these bytes to out and to err, and ended with this code:
 -- all of the answer, or where some call on the files failed the line `read fault`; nothing is said of a write fault and of

@@ -15,7 +15,7 @@ use Rattle.replies.specs.Answer.{Reply, RunGives, StartGives, run_reply, with_st
 use Rattle.drive.specs.Meaning.{BuiltRunsAreAlike}
 use Rattle.drive.proofs.FilesOfModules.{only_gives}
 use Rattle.drive.proofs.Programs.{one_program}
-use Rattle.drive.proofs.Runs.{given_ready}
+use Rattle.runs.proofs.Runs.{given_ready}
 
 -- the second writes the same to out as the first and ends with the same status
 abbrev Alike : Reply → Reply → Type 0

@@ -33,7 +33,7 @@ use Rattle.drive.proofs.AuditAnswers.{audited_once}
 use Rattle.drive.proofs.BuiltFiles.{refused, malformed_status, invalid_status}
 use Rattle.drive.proofs.FilesOfModules.{only_gives}
 use Rattle.drive.proofs.Programs.{one_program}
-use Rattle.drive.proofs.Runs.{given_ready}
+use Rattle.runs.proofs.Runs.{given_ready}
 
 -- ## What `trace` writes with status 0
 

@@ -11,9 +11,9 @@ use Rattle.replies.specs.Answer.{Reply, FileGives, FilesGive, NamesGive, in_file
 use Rattle.replies.specs.declared.stop.Stop.{Stop}
 use Rattle.replies.specs.Stop.{Refuses}
 use Rattle.intake.specs.Reading.{MayBe, ModuleFileRefusal}
-use Rattle.drive.specs.Delivery.{MayFail}
+use Rattle.runs.specs.Delivery.{MayFail}
 use Rattle.drive.specs.Linking.{AreRead, AreRefused, ReadTo, names_of}
-use Rattle.drive.proofs.FileReplies.{on_file, refusal_on_file}
+use Rattle.traces.proofs.ReadFiles.{on_file, refusal_on_file}
 
 -- the next name, and those behind it
 pub next_name : (names : List (Bor (List ℕ))) (i : ℕ) (d : Bor (List ℕ)) → i < length names → drop i (names_of names) ≡ (get_or names i d).now ∷ drop (i + 1) (names_of names)

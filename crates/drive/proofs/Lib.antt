@@ -1,9 +1,6 @@
 pub mod FileReplies
 pub mod FilesRead
 pub mod LinkedRuns
-pub mod Runs
-pub mod Statistics
-pub mod Replies
 pub mod Programs
 pub mod AuditAnswers
 pub mod OneAnswer
@@ -19,8 +16,3 @@ pub mod MeaningsOfRuns
 pub mod BuiltRuns
 pub mod AnswersMeant
 pub mod OutsMeant
-pub mod SettledRuns
-pub mod TracesWritten
-pub mod TraceAnswers
-pub mod EventsFollowed
-pub mod AuditReplies

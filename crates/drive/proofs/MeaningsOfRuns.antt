@@ -21,7 +21,7 @@ use Rattle.s_agrees.specs.Agrees.{tag_names, fault_of, limit_of, end_of_fault, e
 use Rattle.s_agrees.proofs.Follow.{runs_follow}
 use Rattle.replies.specs.Answer.{Reply, TrapReply, line, result_line, refusal, behind, end_reply, faulted, name_or_none}
 use Rattle.drive.specs.Meaning.{meaning_reply, fault_name, RunsMean}
-use Rattle.drive.proofs.Runs.{given_ready}
+use Rattle.runs.proofs.Runs.{given_ready}
 
 -- a fault, as it is told
 same_fault : {g f : Fault} → Some g ≡ Some f → refusal (codes "fault " ++ fault_name g) 1 ≡ refusal (codes "fault " ++ fault_name f) 1

@@ -10,7 +10,7 @@ use Rattle.s_meaning.specs.Eval.{Ended, Eval, Follows}
 use Rattle.replies.specs.declared.status.Status.{Status}
 use Rattle.replies.specs.declared.status.Status.TheVariants as status
 use Rattle.replies.specs.Answer.{Reply, Answer, line}
-use Rattle.drive.specs.Delivery.{MayFail, WroteFront, WrotePart, Begins, BeginsAtMost, Stopped}
+use Rattle.runs.specs.Delivery.{MayFail, WroteFront, WrotePart, Begins, BeginsAtMost, Stopped}
 use Rattle.replies.specs.Stop.{Ends}
 use Rattle.drive.specs.Meaning.{meaning_reply, result_of, MeansRun, HoldsScript, BeginsMeaning, StoppedRunsMean}
 use Rattle.drive.proofs.AnswersMeant.{answers_mean}

@@ -1,12 +1,6 @@
 pub mod Built
 pub mod Dumped
 pub mod Laws
-pub mod Delivery
-pub mod Leaving
-pub mod Running
 pub mod Linking
-pub mod Stepping
-pub mod Tracing
-pub mod Auditing
 pub mod Audited
 pub mod Meaning

@@ -4,7 +4,7 @@ use Rattle.std.specs.Prelude.{ℕ, Bool, List, [], drop, map}
 use Rattle.w_outside.specs.Outside.{Known}
 use Rattle.w_syntax.specs.declared.module.Module.{Module}
 use Rattle.replies.specs.Answer.{Reply, FilesGive, LinkGives}
-use Rattle.drive.specs.Delivery.{MayFail}
+use Rattle.runs.specs.Delivery.{MayFail}
 
 -- the names behind references
 abbrev pub names_of : List (Bor (List ℕ)) → List (List ℕ)

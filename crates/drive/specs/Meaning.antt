@@ -15,7 +15,7 @@ use Rattle.s_meaning.specs.Eval.{Ended, RunLimit, Frames, Handles, Conts, Eval, 
 use Rattle.s_code.specs.Lowered.{lowered}
 use Rattle.replies.specs.Answer.{Reply, line, refusal, limit, running, behind, script_gives, is_module, ActionGives, Answer}
 use Rattle.replies.specs.declared.status.Status.{Status}
-use Rattle.drive.specs.Delivery.{MayFail, Stopped}
+use Rattle.runs.specs.Delivery.{MayFail, Stopped}
 use Rattle.replies.specs.Stop.{Ends}
 
 abbrev pub fault_name : Fault → List ℕ

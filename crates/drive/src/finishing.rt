@@ -3,14 +3,14 @@ ghost use Rattle.std.specs.Prelude.{◌≡◌, ◌≤◌};
 ghost use Rattle.w_outside.specs.Outside.{Grew, Rose};
 ghost use Rattle.words.specs.Request.{IsWithinSteps};
 ghost use Rattle.replies.specs.Answer.{gives, ok_module, built, dumped};
-ghost use Rattle.drive.specs.Leaving.{Leaves};
+ghost use Rattle.runs.specs.Leaving.{Leaves};
 ghost use Rattle.replies.specs.Stop.{Gives};
 
-use crate::running::run;
-use crate::tracing::trace;
 use replies::{Origin, Output, Stop};
+use runs::run;
 use std::alloc::Global;
 use std::mem::forget;
+use traces::trace;
 use w_encode::encode;
 use w_outside::Sink;
 use w_rules::Checked;
@@ -60,13 +60,20 @@ fn dump_checked(alloc: Global, checked: Checked) -> Result<Output, Stop>
     output
 }
 
-// Lets a module go where the process goes on. Where the command is all that it does, to let it go would look through each of its bodies once
-// more.
-fn let_go(checked: Checked, goes_on: bool) {
-    if goes_on {
-        drop(checked);
-    } else {
-        forget(checked);
+/// What the process does once the answer is written.
+#[derive(Clone, Copy)]
+pub(crate) enum Process {
+    /// It ends: the command was all that it does.
+    Ends,
+    /// It goes on.
+    GoesOn,
+}
+
+// Lets a module go where the process goes on. Where it ends, to let it go would look through each of its bodies once more.
+fn let_go(checked: Checked, process: Process) {
+    match process {
+        Process::Ends => forget(checked),
+        Process::GoesOn => drop(checked),
     }
 }
 
@@ -76,7 +83,7 @@ pub(crate) fn finish<O: Sink>(
     alloc: Global,
     action: Action,
     checked: Checked,
-    goes_on: bool,
+    process: Process,
     out: &mut O,
 ) -> Result<Output, Stop>
     requires { IsWithinSteps action }
@@ -86,7 +93,7 @@ pub(crate) fn finish<O: Sink>(
 {
     match action {
         Action::Check => {
-            let_go(checked, goes_on);
+            let_go(checked, process);
             confirm(alloc)
         }
         Action::Run { steps, stats } => run(alloc, Origin::Module, checked, steps, stats, out),

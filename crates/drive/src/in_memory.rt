@@ -3,13 +3,14 @@ ghost use Rattle.std.specs.Prelude.{◌≡◌, ◌⊎◌, ◌≤◌};
 ghost use Rattle.w_outside.specs.Outside.{Grew, Rose};
 ghost use Rattle.words.specs.Request.{IsWithinSteps};
 ghost use Rattle.replies.specs.Answer.{ActionGives, OnBytes};
-ghost use Rattle.drive.specs.Delivery.{Answered, Stopped, Replies};
-ghost use Rattle.drive.specs.Leaving.{Leaves};
+ghost use Rattle.runs.specs.Delivery.{Answered, Stopped, Replies};
+ghost use Rattle.runs.specs.Leaving.{Leaves};
 
-use crate::delivery::deliver;
+use crate::finishing::Process;
 use crate::program::act;
 use intake::{INPUT_LIMIT, Input};
 use replies::{Output, Status, Stop, refuse};
+use runs::deliver;
 use std::alloc::Global;
 use w_outside::{Fault, Sink};
 use words::Action;
@@ -31,7 +32,7 @@ fn answer_to_bytes<O: Sink>(
     }
     let copy = Vec::from_slice(alloc, bytes)?;
     let input = Input::of_bytes(alloc, action.takes(), copy)?;
-    act(alloc, action, input, true, out)
+    act(alloc, action, input, Process::GoesOn, out)
 }
 
 // Answers to bytes.
@@ -52,7 +53,7 @@ fn respond_to_bytes<O: Sink, E: Sink>(
     deliver(left, out, err)
 }
 
-/// Does with bytes in memory what `command` does with a file that holds them, and says how it ended. All memory that it took is given back.
+/// Does with bytes in memory what `command` does with a file that holds them, and says how it ended.
 pub fn command_on_bytes<O: Sink, E: Sink>(
     alloc: Global,
     action: Action,

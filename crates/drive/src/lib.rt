@@ -2,18 +2,12 @@
 //! traces of runs.
 #![tactic(auto)]
 
-mod auditing;
-mod comparing;
-mod delivery;
 mod finishing;
 mod in_memory;
 mod laws;
 mod linking;
 mod program;
-mod running;
 mod scripts;
-mod stepping;
-mod tracing;
 
 pub use in_memory::command_on_bytes;
 pub use laws::{

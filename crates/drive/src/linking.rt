@@ -7,15 +7,15 @@ ghost use Rattle.w_machine.specs.Beginning.{BeginsAt};
 ghost use Rattle.w_machine.specs.Position.{most_reductions};
 ghost use Rattle.replies.specs.Answer.{no_import, LinkGives, NamesGive};
 ghost use Rattle.replies.specs.Stop.{Refuses};
-ghost use Rattle.drive.specs.Delivery.{MayFail};
-ghost use Rattle.drive.specs.Leaving.{Leaves};
+ghost use Rattle.runs.specs.Delivery.{MayFail};
+ghost use Rattle.runs.specs.Leaving.{Leaves};
 ghost use Rattle.drive.specs.Linking.{AreRead, AreRefused, names_of};
 
-use crate::running::{run_from, trap_refusal};
 use intake::read_module;
 use replies::{
     Origin, Output, Status, Stop, import_line, in_file, refuse, refuse_by, start_limit_line,
 };
+use runs::{run_from, trap_refusal};
 use std::alloc::{AllocError, Global};
 use w_linker::{LinkFault, Linked, link};
 use w_machine::Machine;

@@ -6,19 +6,19 @@ ghost use Rattle.words.specs.Request.{IsWithinSteps, taken_by};
 ghost use Rattle.words.specs.declared.request.Action.TheVariants.{Run as RunFor};
 ghost use Rattle.s_generate.specs.Generated.{generated as generated_script};
 ghost use Rattle.replies.specs.Answer.{ActionGives, Answer, HasStatus, generated_steps};
-ghost use Rattle.drive.specs.Delivery.{Answers, Answered, Stopped, MayFail, Replies};
+ghost use Rattle.runs.specs.Delivery.{Answers, Answered, Stopped, MayFail, Replies};
 ghost use Rattle.intake.specs.Intake.{IsInputOf, IsShort};
-ghost use Rattle.drive.specs.Leaving.{Leaves};
+ghost use Rattle.runs.specs.Leaving.{Leaves};
 
-use crate::auditing::audit;
-use crate::delivery::deliver;
-use crate::finishing::finish;
+use crate::finishing::{Process, finish};
 use crate::linking::run_files;
 use crate::scripts::act_on_script;
 use intake::{Input, judge_text, open};
 use replies::{Output, Status, Stop, refuse};
+use runs::deliver;
 use s_generate::generate;
 use std::alloc::Global;
+use traces::audit;
 use w_outside::{Fault, Inputs, Sink};
 use words::{Action, Request, WordsFault, request_of};
 
@@ -34,7 +34,7 @@ pub(crate) fn act<O: Sink>(
     alloc: Global,
     action: Action,
     input: Input,
-    goes_on: bool,
+    process: Process,
     out: &mut O,
 ) -> Result<Output, Stop>
     requires steps { IsWithinSteps action }
@@ -49,11 +49,11 @@ pub(crate) fn act<O: Sink>(
         Input::Text(bytes) => {
             let checked = judge_text(alloc, bytes.as_slice())?;
             drop(bytes);
-            finish(alloc, action, checked, goes_on, out)
+            finish(alloc, action, checked, process, out)
         }
         Input::Module(module) => {
             let checked = module.judge(alloc)?;
-            finish(alloc, action, checked, goes_on, out)
+            finish(alloc, action, checked, process, out)
         }
     }
 }
@@ -70,7 +70,7 @@ fn run_generated<O: Sink>(alloc: Global, number: u32, out: &mut O) -> Result<Out
         stats: false,
     };
     let input = Input::of_bytes(alloc, action.takes(), bytes)?;
-    act(alloc, action, input, false, out)
+    act(alloc, action, input, Process::Ends, out)
 }
 
 // The answer to the words. What a run prints goes to out; the answer is what is left to write.
@@ -89,7 +89,7 @@ fn answer<F: Inputs, O: Sink>(
     match request_of(alloc, words) {
         Ok(Request::OnFile { file, action }) => {
             let input = open(alloc, files, file, action.takes())?;
-            act(alloc, action, input, false, out)
+            act(alloc, action, input, Process::Ends, out)
         }
         Ok(
             Request::OnFiles {

@@ -7,14 +7,14 @@ ghost use Rattle.s_code.specs.Lowered.{lowered};
 ghost use Rattle.words.specs.Request.{IsWithinSteps, taken_by};
 ghost use Rattle.words.specs.declared.request.Takes.TheVariants.{ModulesAndScripts};
 ghost use Rattle.replies.specs.Answer.{Compiled, RunGives, ScriptGives, Sized, bad_script, built, faulted, limit_size, ok_script, script_gives};
-ghost use Rattle.drive.specs.Leaving.{Leaves};
+ghost use Rattle.runs.specs.Leaving.{Leaves};
 ghost use Rattle.replies.specs.Status.{code_of};
 ghost use Rattle.replies.specs.Stop.{Ends, Gives, Refuses};
 
 use crate::finishing::build;
-use crate::running::run;
 use intake::accept;
 use replies::{Origin, Output, Status, Stop, refuse, refuse_by, script_line};
+use runs::run;
 use s_check::CheckedScript;
 use s_judge::{ScriptFault, judge};
 use s_lower::{LowerFault, SIZE_LIMIT, lower};

@@ -32,9 +32,10 @@ use Rattle.w_switching.specs.Standing.{only, nil}
 use Rattle.w_typed.specs.Configurations.{Typed}
 use Rattle.w_typed.specs.Stores.{StoreTyped}
 use Rattle.w_typed.proofs.FirstConfigurations.{EntryAt, StartAt, entry_in_typed, first_term_typed, starts_typed}
-use Rattle.w_machine.specs.Parts.{Parts, parts}
-use Rattle.w_machine.specs.Standing.{EndsWith, MayWait}
-use Rattle.w_machine.specs.Beginning.{Origin, IsFirstStore, Begins, BeginsWith, RunsBefore, BeginsAt}
+use Rattle.w_configuration.specs.declared.configuration.Configuration.{Configuration as Parts}
+use Rattle.w_configuration.specs.Parts.{parts}
+use Rattle.w_configuration.specs.Standing.{RunsBefore, EndsWith, MayWait}
+use Rattle.w_machine.specs.Beginning.{Origin, IsFirstStore, Begins, BeginsWith, BeginsAt}
 use Rattle.w_machine.specs.Reached.{function_of, waiting_of, IsFresh, IsReachedAt, AreFirst, IsReached}
 use Rattle.w_machine.proofs.FirstStores.{starts_at, first_store_once}
 use Rattle.w_machine.proofs.NoReferences.{store_plain}

@@ -14,11 +14,12 @@ use Rattle.w_reduce.specs.Run.{Outcome, Running, Values, Traps, Limit, NoRule, R
 use Rattle.w_trace.specs.declared.event.Event.{Event}
 use Rattle.w_trace.specs.declared.event.EventKind.{EventKind}
 use Rattle.w_trace.specs.Events.{event_of, where_went, with_step, while_running, event_after, Events}
-use Rattle.w_machine.specs.declared.outcome.RunStop.{RunStop}
-use Rattle.w_machine.specs.Parts.{Parts, whole}
-use Rattle.w_machine.specs.NextEvents.{TellsEvent}
+use Rattle.w_configuration.specs.declared.stop.RunStop.{RunStop}
+use Rattle.w_configuration.specs.declared.configuration.Configuration.{Configuration as Parts}
+use Rattle.w_configuration.specs.Parts.{whole}
+use Rattle.w_configuration.specs.NextEvents.{TellsEvent}
 use Rattle.w_machine.specs.Beginning.{Origin, Begins}
-use Rattle.w_machine.specs.Standing.{Stands}
+use Rattle.w_configuration.specs.Standing.{Stands}
 use Rattle.w_machine.specs.Position.{Position, PrintedBetween, StepsFrom, Steps, StopsIfEnded, Runs}
 use Rattle.w_machine.specs.Reached.{waiting_of, IsReachedAt, IsReachedBy, IsReached}
 use Rattle.w_machine.specs.GoingOn.{GoesOn, SameEvents, GoesSilently, TakesSilently, Hastens}

@@ -1,14 +1,3 @@
-pub mod Tops
-pub mod ConfigurationCounts
-pub mod NextCode
-pub mod Rooms
-pub mod PartsOfRuns
-pub mod SeenEvents
-pub mod PlainReductions
-pub mod MadeConts
-pub mod TakingEnough
-pub mod SwitchedStacks
-pub mod LeftHandles
 pub mod OneMoreReduction
 pub mod NoReferences
 pub mod FirstStores
@@ -21,7 +10,6 @@ pub mod ShortBodies
 pub mod NoReductionTaken
 pub mod RunsOfMany
 pub mod GoingOn
-pub mod CommonReductions
 pub mod ManyReductions
 pub mod RunsToEvents
 pub mod Results

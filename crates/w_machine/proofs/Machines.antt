@@ -9,15 +9,17 @@ use Rattle.w_rules.specs.Sound.{Sound}
 use Rattle.w_segment.specs.declared.segment.Segment.{Segment}
 use Rattle.w_segment.specs.Link.{Link}
 use Rattle.w_conts.specs.Conts.{live_of}
-use Rattle.w_machine.specs.declared.outcome.RunStop.{RunStop}
-use Rattle.w_machine.specs.Parts.{Parts}
-use Rattle.w_machine.specs.Standing.{StandsSomewhere}
-use Rattle.w_machine.specs.Reducing.{PartsReduce}
+use Rattle.w_configuration.specs.declared.stop.RunStop.{RunStop}
+use Rattle.w_configuration.specs.declared.configuration.Configuration.{Configuration as Parts}
+use Rattle.w_configuration.specs.Standing.{StandsSomewhere}
+use Rattle.w_configuration.specs.Reducing.{PartsReduce}
 use Rattle.w_machine.specs.Position.{Position, counted, Steps, most_reductions}
 use Rattle.w_machine.specs.Beginning.{Origin}
 use Rattle.w_machine.specs.Reached.{IsReached}
 use Rattle.w_machine.proofs.OneMoreReduction.{stands_somewhere}
-use Rattle.w_machine.proofs.RunsGoOn.{chained_long, with_chain, HasTurned, advanced, stepped}
+use Rattle.w_configuration.proofs.PartsOfRuns.{stopped_as}
+use Rattle.w_configuration.proofs.ReductionsTaken.{chained_long}
+use Rattle.w_machine.proofs.RunsGoOn.{with_chain, HasTurned, advanced, stepped}
 use Rattle.w_machine.proofs.StoppedMachines.{stopped, step_stopped}
 
 none_stopped : (k : Option RunStop) → false ≡ is_some k → k ≡ None
@@ -81,9 +83,6 @@ module _ {from : Origin} {m' : Module} {functions : List ℕ} {x : Parts} {waiti
 pub nothing_stopped : (k : Option RunStop) → is_some k ≡ false → k ≡ None
 nothing_stopped None e = refl
 nothing_stopped (Some k) e = absurd (cc)
-
-pub stopped_as : (m : Module) (x x' : Parts) (before now : Option (List ℕ)) (r k : Option RunStop) → r ≡ k → PartsReduce r m x x' before now → PartsReduce k m x x' before now
-stopped_as m x x' before now r k e h = subst (λ (o : Option RunStop). PartsReduce o m x x' before now) e h
 
 module _ {from : Origin} {m' : Module} {functions : List ℕ} {x : Parts} {waiting : List (Box Segment Global)} {n a b : ℕ}
     (k : Option RunStop) (program : m' ≡ from.source) (none : false ≡ is_some k) (h : IsReached from functions x waiting k n a b) (r : Option RunStop) where

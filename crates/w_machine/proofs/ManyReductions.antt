@@ -11,20 +11,23 @@ use Rattle.w_segment.specs.declared.segment.Segment.{Segment}
 use Rattle.w_segment.specs.Link.{Link, top, with_top}
 use Rattle.w_segment.specs.Shape.{Shape, SameParts}
 use Rattle.w_reduce.specs.declared.limit.RunLimit.TheVariants.{Frames}
+use Rattle.w_stands.specs.Room.{Roomier}
 use Rattle.w_switching.specs.declared.stored.Stored.{Stored}
 use Rattle.w_switching.proofs.References.{long_top}
-use Rattle.w_machine.specs.declared.outcome.RunStop.{RunStop}
-use Rattle.w_machine.specs.declared.outcome.RunStop.TheVariants as run_stop
-use Rattle.w_machine.specs.Parts.{Parts}
+use Rattle.w_configuration.specs.declared.stop.RunStop.{RunStop}
+use Rattle.w_configuration.specs.declared.stop.RunStop.TheVariants as run_stop
+use Rattle.w_configuration.specs.declared.configuration.Configuration.{Configuration as Parts}
+use Rattle.w_configuration.specs.Parts.{parts}
 use Rattle.w_machine.specs.Beginning.{Origin}
 use Rattle.w_machine.specs.Position.{Position, most_reductions}
 use Rattle.w_machine.specs.Reached.{IsFresh, IsTurned, is_values, is_last, IsReached}
-use Rattle.w_machine.specs.CommonReductions.{LeavesAlone, TakesOne, TakesMany, nothing, one_more, HastensParts}
+use Rattle.w_configuration.specs.CommonReductions.{LeavesAlone, TakesOne, TakesMany, nothing, one_more, HastensParts}
 use Rattle.w_machine.specs.GoingOn.{GoesSilently, Hastens}
 use Rattle.w_machine.proofs.OneMoreReduction.{stands_somewhere, is_last_true}
-use Rattle.w_machine.proofs.RunsGoOn.{chained_long, stays_on, with_chain, HasTurned, turned, advanced, stepped}
+use Rattle.w_machine.proofs.RunsGoOn.{stays_on, with_chain, HasTurned, turned, advanced, stepped}
 use Rattle.w_machine.proofs.StoppedMachines.{stopped, step_stopped}
-use Rattle.w_machine.proofs.CommonReductions.{reached_same}
+use Rattle.w_configuration.proofs.CommonReductions.{stands_same}
+use Rattle.w_configuration.proofs.ReductionsTaken.{chained_long}
 use Rattle.w_machine.proofs.GoingOn.{one_without, goes_one, goes_further, same_further, silently_nowhere}
 
 -- ## Whose turn it is
@@ -44,6 +47,21 @@ last_with s (x ∷ y ∷ ys) h = refl
 -- so it runs on
 runs_on : {waiting : List (Box Segment Global)} (xs : List Link) → 0 < length xs → All IsFresh waiting → is_last xs ≡ false → HasTurned waiting xs xs waiting
 runs_on xs some fresh not = record { some = some; fresh = fresh; turn = stays_on (λ e. absurd (let is = is_last_true xs e in cc)) }
+
+-- ## With other room
+
+-- the parts stand for the run that they stood for
+pub reached_same : {from : Origin} {functions : List ℕ} {x : Parts} {waiting : List (Box Segment Global)} {n a b : ℕ} (s : Shape) → Roomier (top x.chain).shape s
+    → IsReached from functions x waiting None n a b → IsReached from functions (parts x.store (with_top s x.chain) x.conts) waiting None n a b
+reached_same {x = x} s same h = record {
+  functions_are = h.functions_are;
+  fresh = h.fresh;
+  bound = h.bound;
+  usable = ((let long = long_top s x.chain in let some = h.usable.0 in omega (arith, long, some)), h.usable.1);
+  started = h.started;
+  fewer = h.fewer;
+  reached = λ p s₀ t₀ begins. let at = h.reached p s₀ t₀ begins in record { ks = at.ks; t = at.t; stands = stands_same s same at.stands; is = at.is };
+}
 
 -- ## From where a machine stands
 

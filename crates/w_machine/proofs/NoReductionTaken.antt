@@ -30,18 +30,20 @@ use Rattle.w_switching.specs.Standing.{Chained, only, around}
 use Rattle.w_typed.specs.Values.{Arrows}
 use Rattle.w_typed.specs.Configurations.{IsSafe, goes, traps, is_limited, ends}
 use Rattle.w_reduce.proofs.Plainly.{Plainly, silent, stays, leaves_frame, silent_trap, silent_limit, silent_end, silent_stuck, is_last as is_end, plainly_next}
-use Rattle.w_machine.specs.declared.outcome.RunStop.{RunStop}
-use Rattle.w_machine.specs.declared.outcome.RunStop.TheVariants as run_stop
-use Rattle.w_machine.specs.Parts.{Parts, whole}
-use Rattle.w_machine.specs.Standing.{behind_of, IsLast, Stands}
-use Rattle.w_machine.specs.Reducing.{end_by, end_at}
+use Rattle.w_configuration.specs.declared.stop.RunStop.{RunStop}
+use Rattle.w_configuration.specs.declared.stop.RunStop.TheVariants as run_stop
+use Rattle.w_configuration.specs.declared.configuration.Configuration.{Configuration as Parts}
+use Rattle.w_configuration.specs.Parts.{whole}
+use Rattle.w_configuration.specs.Standing.{behind_of, IsLast, Stands}
+use Rattle.w_configuration.specs.Reducing.{end_by, end_at}
 use Rattle.w_machine.specs.Beginning.{Origin, Begins}
 use Rattle.w_machine.specs.Position.{Position, is_fault, with_stop, IsStoppedBy, IsNoFault, StopsIfEnded}
 use Rattle.w_machine.specs.Reached.{waiting_of, EndsAt, Counts, IsReached}
-use Rattle.w_machine.proofs.OneMoreReduction.{reduces_safely, last_there, is_last_true}
-use Rattle.w_machine.proofs.ConfigurationCounts.{live_made}
+use Rattle.w_machine.proofs.OneMoreReduction.{last_there, is_last_true}
+use Rattle.w_configuration.proofs.ConfigurationCounts.{live_made}
 use Rattle.w_machine.proofs.StoppedMachines.{outcome_here, taken_is, counts_here, stops_so}
-use Rattle.w_machine.proofs.MadeConts.{MakesOne, one_goes, one_traps, one_stuck, makes_one}
+use Rattle.w_configuration.proofs.PartsOfRuns.{reduces_safely}
+use Rattle.w_configuration.proofs.MadeConts.{MakesOne, one_goes, one_traps, one_stuck, makes_one}
 
 -- ## Where the run has ended
 

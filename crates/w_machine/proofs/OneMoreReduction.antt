@@ -1,5 +1,5 @@
 -- A machine that takes a reduction, or is stopped.
-use Rattle.std.proofs.Common.{◌≡◌, ℕ, suc, ◌+◌, Bool, true, List, [], ◌∷◌, ◌++◌, Option, Some, None, refl, sym, ap, subst, subst₂, ◌∙◌, arith}
+use Rattle.std.proofs.Common.{◌≡◌, ℕ, suc, ◌+◌, Bool, true, List, [], ◌∷◌, ◌++◌, None, refl, sym, ap, subst, subst₂, ◌∙◌, arith}
 use Rattle.std.specs.Prelude.{Box}
 use Rattle.std.specs.declared.alloc.Global.{Global}
 use Rattle.lists.specs.Rows.{Row, ε, ◌▹◌, ◌⧺◌, size, row_of}
@@ -11,7 +11,6 @@ use Rattle.w_canon.specs.Tests.{index_test}
 use Rattle.w_canon.proofs.MatchingTests.{index_decided}
 use Rattle.w_rules.specs.Matching.{RowMatches, known}
 use Rattle.w_rules.specs.Operands.{Operand}
-use Rattle.w_rules.specs.Sound.{Sound}
 use Rattle.w_rules.proofs.Preorder.{row_size}
 use Rattle.w_segment.specs.declared.segment.Segment.{Segment}
 use Rattle.w_segment.specs.declared.entry.Stage.{Stage}
@@ -20,10 +19,10 @@ use Rattle.w_segment.specs.Link.{Link}
 use Rattle.w_segment.specs.Shape.{Shape, Capacity, fresh_shape}
 use Rattle.w_reduce.specs.Values.{Val}
 use Rattle.w_reduce.specs.Store.{Store}
-use Rattle.w_reduce.specs.Terms.{Rest, Context, Term, Continuation}
+use Rattle.w_reduce.specs.Terms.{Rest, Context, Term}
 use Rattle.w_reduce.specs.Program.{Program, IsProgram}
-use Rattle.w_reduce.specs.Reduced.{Reduced, Went, Trapped, Limited, Ended, Stuck}
-use Rattle.w_reduce.specs.Reduce.{limited, reduce, unless_passed}
+use Rattle.w_reduce.specs.Reduced.{Went}
+use Rattle.w_reduce.specs.Reduce.{reduce}
 use Rattle.w_reduce.specs.Start.{invokes, first_term}
 use Rattle.w_reduce.specs.Run.{Running, RunState, outcome_by, state_at, after_reduction, continued, Run}
 use Rattle.w_stands.specs.Stands.{StackIs, body, left, fresh, values}
@@ -32,15 +31,12 @@ use Rattle.w_types.specs.declared.types.FuncType.{FuncType}
 use Rattle.w_types.specs.declared.types.ValType.{ValType}
 use Rattle.w_typed.specs.Contexts.{Scope, RestTyped, code_alone, invoke_first, Within, outside}
 use Rattle.w_typed.specs.Values.{Arrows}
-use Rattle.w_typed.specs.Configurations.{Typed, IsSafe, goes, traps, is_limited, ends}
-use Rattle.w_typed.proofs.Reductions.{reductions_are_safe}
-use Rattle.w_machine.specs.Parts.{Parts, whole}
+use Rattle.w_typed.specs.Configurations.{Typed, goes}
+use Rattle.w_configuration.specs.declared.configuration.Configuration.{Configuration as Parts}
+use Rattle.w_configuration.specs.Parts.{whole}
 use Rattle.w_machine.specs.Beginning.{Origin}
-use Rattle.w_machine.specs.Standing.{behind_of, MayWait, IsLast, Stands, StandsSomewhere}
+use Rattle.w_configuration.specs.Standing.{behind_of, MayWait, IsLast, StandsSomewhere}
 use Rattle.w_machine.specs.Reached.{waiting_of, is_values, is_last, IsReached}
-use Rattle.w_reduce.specs.Limits.{passed, IsWithin}
-use Rattle.w_reduce.specs.declared.limit.RunLimit.{RunLimit}
-use Rattle.w_reduce.proofs.PassedLimits.{none_within}
 use Rattle.w_switching.specs.Standing.{Chained, only, around}
 
 -- ## Where a machine stands
@@ -61,47 +57,6 @@ stands_somewhere {from = from} {waiting = waiting} es classes h =
     let start = h.started p refl program in
     let at = h.reached p start.0 (first_term from.starts from.main) (record { source = refl; program = program; store = start.1; term = refl }) in
     record { waiting = waiting_of waiting; p = p; ks = at.ks; t = at.t; stands = at.stands }
-
--- ## What a reduction that was taken leaves
-
--- it is typed, with some function types of its continuations
-pub record SomehowTyped (m : Module) (us : Row Operand) (v : Store) (t : Term) : Type 0 where
-  pub arrows : Arrows
-  pub typed : Typed m arrows us v t
-
-safe_went : {m : Module} {K : Arrows} {us : Row Operand} {d : Reduced} {text : List ℕ} {v : Store} {t : Term} → IsSafe m K us d → d ≡ Went text v t → SomehowTyped m us v t
-safe_went {m = m} {us = us} {v = v} {t = t} (goes {L = L} {s = old_store} {t = old} g h) is =
-    let one : old ≡ t = cc in
-    let store : old_store ≡ v = cc in
-    record { arrows = L; typed = subst (λ (x : Term). Typed m L us v x) one (subst (λ (w : Store). Typed m L us w old) store h) }
-safe_went traps is = absurd (cc)
-safe_went is_limited is = absurd (cc)
-safe_went (ends h) is = absurd (cc)
-
-pub limited_within : (d : Reduced) (text : List ℕ) (v : Store) (t : Term) → limited d ≡ Went text v t → IsWithin v t.around
-limited_within (Went out s u) text v t is = within (passed s u.around) refl is
-  where
-    within : (o : Option RunLimit) → passed s u.around ≡ o → unless_passed o (Went out s u) ≡ Went text v t → IsWithin v t.around
-    within None e is =
-        let same : u ≡ t = cc in
-        let store : s ≡ v = cc in
-        subst₂ (λ (z : Store) (x : Term). IsWithin z x.around) store same (none_within s u.around e)
-    within (Some name) e is = absurd (cc)
-limited_within (Trapped x) text v t is = absurd (cc)
-limited_within (Limited l) text v t is = absurd (cc)
-limited_within (Ended vs) text v t is = absurd (cc)
-limited_within Stuck text v t is = absurd (cc)
-
-module _ {m : Module} {waiting : List ℕ} {x : Parts} {p : Program} {ks : List (Option Continuation)} {t : Term} (sound : Sound m) (h : Stands m waiting x p ks t) where
-  -- the reduction is safe
-  pub reduces_safely : IsSafe p.source h.arrows h.results (reduce p (whole x.store ks) t)
-  reduces_safely =
-      reductions_are_safe p h.arrows h.results (whole x.store ks) t h.stand.program (subst Sound (sym h.stand.source) sound)
-      (subst (λ (n : Module). Typed n h.arrows h.results (whole x.store ks) t) (sym h.stand.source) h.typed)
-
-  -- it is typed again
-  pub went_typed : {text : List ℕ} {v : Store} {u : Term} → reduce p (whole x.store ks) t ≡ Went text v u → SomehowTyped m h.results v u
-  went_typed {v = v} {u = u} went = subst (λ (n : Module). SomehowTyped n h.results v u) h.stand.source (safe_went reduces_safely went)
 
 -- ## The turn of the next one
 

@@ -15,15 +15,15 @@ use Rattle.w_reduce.specs.Terms.{Term, Continuation}
 use Rattle.w_reduce.specs.Program.{Program}
 use Rattle.w_reduce.specs.Run.{RunState, Run}
 use Rattle.w_stands.specs.Values.{stack, vals}
-use Rattle.w_machine.specs.declared.outcome.RunStop.{RunStop}
-use Rattle.w_machine.specs.declared.outcome.RunStop.TheVariants as run_stop
+use Rattle.w_configuration.specs.declared.stop.RunStop.{RunStop}
+use Rattle.w_configuration.specs.declared.stop.RunStop.TheVariants as run_stop
 use Rattle.w_machine.specs.Beginning.{Origin, Begins}
 use Rattle.w_machine.specs.Position.{Position, StopsWith}
 use Rattle.w_machine.specs.Reached.{waiting_of, Counts, IsReached, IsReachedBy}
 use Rattle.w_machine.specs.Results.{HasResults}
 use Rattle.w_machine.proofs.RunsOfMany.{settled_at}
 use Rattle.w_machine.specs.RunStop.{is_ended}
-use Rattle.w_machine.specs.Parts.{Parts}
+use Rattle.w_configuration.specs.declared.configuration.Configuration.{Configuration as Parts}
 use Rattle.w_conts.specs.Conts.{live_of}
 use Rattle.w_machine.proofs.StoppedMachines.{counts_here, stops_so}
 

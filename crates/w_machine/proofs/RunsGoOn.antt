@@ -16,30 +16,27 @@ use Rattle.w_segment.specs.Shape.{Capacity, fresh_shape}
 use Rattle.w_conts.specs.Conts.{Conts}
 use Rattle.w_reduce.specs.Values.{Val}
 use Rattle.w_reduce.specs.Store.{Store}
-use Rattle.w_reduce.specs.Terms.{Rest, Context, Term, Continuation}
+use Rattle.w_reduce.specs.Terms.{Rest, Context, Term}
 use Rattle.w_reduce.specs.Program.{Program}
 use Rattle.w_reduce.specs.Reduce.{next, reduce}
 use Rattle.w_reduce.specs.Run.{Running, RunState, state_at, Run}
 use Rattle.w_switching.specs.declared.stored.Stored.{Stored}
 use Rattle.w_switching.specs.Standing.{Chained, only, around}
 use Rattle.w_switching.specs.Sound.{Sound}
-use Rattle.w_machine.specs.Parts.{Parts, parts, whole}
+use Rattle.w_configuration.specs.declared.configuration.Configuration.{Configuration as Parts}
+use Rattle.w_configuration.specs.Parts.{parts, whole}
 use Rattle.w_machine.specs.Beginning.{Origin}
-use Rattle.w_machine.specs.Standing.{behind_of, MayWait, IsLast, Stands}
-use Rattle.w_machine.specs.Reducing.{TakesReduction, PartsReduce}
+use Rattle.w_configuration.specs.Standing.{behind_of, MayWait, IsLast}
+use Rattle.w_configuration.specs.Reducing.{TakesReduction, PartsReduce}
 use Rattle.w_machine.specs.Position.{Position, PrintedBetween, StepsFrom, most_reductions}
 use Rattle.w_machine.specs.Reached.{function_of, waiting_of, IsFresh, IsTurned, none_waits, next_runs, is_last, IsReachedAt, IsReached}
-use Rattle.w_machine.proofs.OneMoreReduction.{stands_somewhere, limited_within, went_typed, state_went, next_run, fresh_in, last_there, is_last_true, is_last_one, turn_empty}
+use Rattle.w_configuration.proofs.ReductionsTaken.{limited_within, went_typed, stands_after}
+use Rattle.w_machine.proofs.OneMoreReduction.{stands_somewhere, state_went, next_run, fresh_in, last_there, is_last_true, is_last_one, turn_empty}
 
 -- which segments run next, and which functions wait: where the last one is left, the turn of the next one comes
 pub data Turn : List ℕ → List Link → List ℕ → List Link → Type 0 where
   stays_on : {waiting : List ℕ} {xs : List Link} → (IsLast xs → waiting ≡ []) → Turn waiting xs waiting xs
   takes_over : {f : ℕ} {fs : List ℕ} {c : Capacity} {xs : List Link} → is_last xs ≡ true → Turn (f ∷ fs) xs fs (one (fresh_shape f c) 0)
-
--- segments that stand for a context are some
-pub chained_long : {m : Module} {outer : Context} {behind : Rest} {xs : List Link} {e : Context} {vs : Row Val} {r : Rest} → Chained m outer behind xs e vs r → 0 < length xs
-chained_long (only i v) = omega arith
-chained_long (around i v c g k) = omega arith
 
 -- the parts with other segments
 abbrev pub with_chain : List Link → Parts → Parts
@@ -82,25 +79,6 @@ module _ {m : Module} {waiting : List ℕ} {x : Parts} {n : ℕ} {p : Program} {
   went_at =
       let output : (Run p s₀ t₀ n).output ++ went.text ≡ (Run p s₀ t₀ (n + 1)).output = sym (ap (λ (q : RunState). q.output) went_to) in
       went_to ∙ ap (λ (o : List ℕ). state_at p (n + 1) o (whole x'.store went.ks) went.t) output
-
--- what was taken leaves what stands for a configuration, where the turn of no other segment has come
-pub stands_after : {m : Module} {waiting : List ℕ} {x : Parts} {p : Program} {ks : List (Option Continuation)} {t : Term} {x' : Parts} {k : ℕ} {before now : Option (List ℕ)}
-    → SoundModule m → (h : Stands m waiting x p ks t) → (went : TakesReduction m waiting p (reduce p (whole x.store ks) t) k x' before now) → (IsLast x'.chain → waiting ≡ [])
-    → Stands m waiting x' p went.ks went.t
-stands_after {x = x} {p = p} {ks = ks} {t = t} {x' = x'} valid h went done =
-    let typed = went_typed valid h went.is in
-    record {
-      stand = went.stand;
-      results = h.results;
-      arrows = typed.arrows;
-      typed = typed.typed;
-      ends = h.ends;
-      within = limited_within (next p (whole x.store ks) t.around t.operands t.rest.ahead t.rest.code) went.text (whole x'.store went.ks) went.t went.is;
-      sound = went.sound;
-      room = went.room;
-      held = went.held;
-      done = done;
-    }
 
 -- the segments that run next stand for the next state of the run
 pub next_at : {m : Module} {waiting waiting' : List ℕ} {x : Parts} {n : ℕ} {p : Program} {x' : Parts} {chain : List Link} {k : ℕ} {before now : Option (List ℕ)}

@@ -5,8 +5,8 @@ use Rattle.w_reduce.specs.Store.{Store}
 use Rattle.w_reduce.specs.Terms.{Term}
 use Rattle.w_reduce.specs.Program.{Program}
 use Rattle.w_reduce.specs.Run.{Outcome, Running, Values, Traps, Limit, NoRule, RunState, continued, Run}
-use Rattle.w_machine.specs.declared.outcome.RunStop.{RunStop}
-use Rattle.w_machine.specs.declared.outcome.RunStop.TheVariants as run_stop
+use Rattle.w_configuration.specs.declared.stop.RunStop.{RunStop}
+use Rattle.w_configuration.specs.declared.stop.RunStop.TheVariants as run_stop
 use Rattle.w_machine.specs.Beginning.{Begins}
 use Rattle.w_machine.specs.Position.{Position, StopsWith, counted, is_fault, PrintedBetween, PrintedAtMost, PrintedIf, PrintedUpTo, RunPrints, HasTakenBy, MayStopAt, StepsFrom, Steps, StopsIfEnded, RunsFrom, Runs}
 use Rattle.w_machine.proofs.StoppedMachines.{counts_one, output_grows}

@@ -8,8 +8,8 @@ use Rattle.w_reduce.specs.Run.{Run}
 use Rattle.w_trace.specs.declared.event.Event.{Event}
 use Rattle.w_trace.specs.declared.event.EventKind.{EventKind}
 use Rattle.w_trace.specs.Events.{with_step, event_after, Events}
-use Rattle.w_machine.specs.declared.outcome.RunStop.{RunStop}
-use Rattle.w_machine.specs.declared.outcome.RunStop.TheVariants as run_stop
+use Rattle.w_configuration.specs.declared.stop.RunStop.{RunStop}
+use Rattle.w_configuration.specs.declared.stop.RunStop.TheVariants as run_stop
 use Rattle.w_machine.specs.Beginning.{Begins}
 use Rattle.w_machine.specs.Position.{Position, StopsWith, counted, with_stop, StepsFrom, Steps, StopsIfEnded}
 use Rattle.w_machine.specs.GoingOn.{GoesOn, SameEvents, Hastens}

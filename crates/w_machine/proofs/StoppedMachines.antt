@@ -18,17 +18,18 @@ use Rattle.w_reduce.specs.Reduce.{reduce}
 use Rattle.w_reduce.specs.Room.{may_take_memory}
 use Rattle.w_reduce.specs.Run.{Outcome, Running, Values, Traps, Limit, NoRule, RunState, outcome_by, state_at, after_reduction, continued, Run}
 use Rattle.w_stands.specs.Values.{stack}
-use Rattle.w_machine.specs.declared.outcome.RunStop.{RunStop}
-use Rattle.w_machine.specs.declared.outcome.RunStop.TheVariants as run_stop
-use Rattle.w_machine.specs.Reducing.{Fails, ComesTo, PartsReduce}
+use Rattle.w_configuration.specs.declared.stop.RunStop.{RunStop}
+use Rattle.w_configuration.specs.declared.stop.RunStop.TheVariants as run_stop
+use Rattle.w_configuration.specs.Reducing.{Fails, ComesTo, PartsReduce}
 use Rattle.w_machine.specs.Position.{Position, StopsWith, counted, PrintedBetween, PrintedAtMost, PrintedBy, MayStopAt, StepsFrom, most_reductions}
-use Rattle.w_machine.specs.Standing.{StandsSomewhere}
+use Rattle.w_configuration.specs.Standing.{StandsSomewhere}
 use Rattle.w_machine.specs.Beginning.{Origin}
 use Rattle.w_machine.specs.Reached.{waiting_of, IsReachedAt, EndsAt, Counts, IsUsable, IsReached}
 use Rattle.w_machine.proofs.OneMoreReduction.{state_went, next_run}
-use Rattle.w_machine.specs.Parts.{Parts, whole}
+use Rattle.w_configuration.specs.declared.configuration.Configuration.{Configuration as Parts}
+use Rattle.w_configuration.specs.Parts.{whole}
 use Rattle.w_conts.specs.Conts.{live_of}
-use Rattle.w_machine.proofs.ConfigurationCounts.{made_kept, live_kept, live_made}
+use Rattle.w_configuration.proofs.ConfigurationCounts.{made_kept, live_kept, live_made}
 
 -- ## The state of the run
 

@@ -17,6 +17,7 @@ use Rattle.w_reduce.specs.Program.{Program, IsProgram}
 use Rattle.w_reduce.specs.Start.{Start, Ready, allocated, element_started, data_started, in_order, first_term, starts_of, start_term}
 use Rattle.w_stands.specs.Values.{store_of}
 use Rattle.w_typed.specs.Configurations.{Typed}
+use Rattle.w_configuration.specs.Standing.{RunsBefore}
 
 -- where a run begins: its module, the functions that run before main, and main
 pub record Origin : Type 0 where
@@ -51,13 +52,6 @@ pub record Begins (o : Origin) (p : Program) (s : Store) (t : Term) : Type 0 whe
 -- it begins with this store and the invoke of main, behind that of the start function
 abbrev pub BeginsWith : Module → instances.Store → ℕ → Type 0
 BeginsWith m u main = (p : Program) → p.source ≡ m → Start p ≡ Ready (store_of u) (start_term m main)
-
--- a function that takes nothing and gives nothing: it may run before main
-pub record RunsBefore (m : Module) (a : ℕ) : Type 0 where
-  pub type : FuncType
-  pub has_type : type_of_func (context_of m) a ≡ Some type
-  pub no_params : type.params ≡ []
-  pub no_results : type.results ≡ []
 
 -- it begins with this store, and the invokes of the functions that run before main and then of main, which takes nothing; both are typed
 pub record BeginsAt (m : Module) (u : instances.Store) (starts : List ℕ) (main : ℕ) : Type 0 where

@@ -1,12 +1,7 @@
-pub mod Parts
-pub mod Standing
-pub mod Reducing
-pub mod NextEvents
 pub mod RunStop
 pub mod Beginning
 pub mod Position
 pub mod Reached
 pub mod Results
-pub mod CommonReductions
 pub mod GoingOn
 pub mod RunsToEvents

@@ -12,9 +12,9 @@ use Rattle.w_reduce.specs.Terms.{Term}
 use Rattle.w_reduce.specs.Program.{Program}
 use Rattle.w_reduce.specs.Room.{may_take_memory}
 use Rattle.w_reduce.specs.Run.{Outcome, Running, Values, Traps, Limit, RunState, Run}
-use Rattle.w_machine.specs.declared.outcome.RunStop.{RunStop}
-use Rattle.w_machine.specs.declared.outcome.RunStop.TheVariants as run_stop
-use Rattle.w_machine.specs.contracts.outcome.RunStop as run_stop_contract
+use Rattle.w_configuration.specs.declared.stop.RunStop.{RunStop}
+use Rattle.w_configuration.specs.declared.stop.RunStop.TheVariants as run_stop
+use Rattle.w_configuration.specs.contracts.stop.RunStop as run_stop_contract
 use Rattle.w_machine.specs.Beginning.{Origin, Begins}
 
 pub record Position : Type 0 where

@@ -13,10 +13,11 @@ use Rattle.w_reduce.specs.Terms.{Term, Continuation}
 use Rattle.w_reduce.specs.Program.{Program, IsProgram}
 use Rattle.w_reduce.specs.Run.{Outcome, Values, RunState, state_at, Run}
 use Rattle.w_stands.specs.Values.{stack}
-use Rattle.w_machine.specs.declared.outcome.RunStop.{RunStop}
-use Rattle.w_machine.specs.declared.outcome.RunStop.TheVariants as run_stop
-use Rattle.w_machine.specs.Parts.{Parts, whole}
-use Rattle.w_machine.specs.Standing.{Stands}
+use Rattle.w_configuration.specs.declared.stop.RunStop.{RunStop}
+use Rattle.w_configuration.specs.declared.stop.RunStop.TheVariants as run_stop
+use Rattle.w_configuration.specs.declared.configuration.Configuration.{Configuration as Parts}
+use Rattle.w_configuration.specs.Parts.{whole}
+use Rattle.w_configuration.specs.Standing.{Stands}
 use Rattle.w_machine.specs.Beginning.{Origin, IsFirstStore, Begins}
 use Rattle.w_machine.specs.Position.{StopsWith, most_reductions}
 
@@ -57,6 +58,12 @@ pub record AreFirst (starts : List ℕ) (main : ℕ) (segment : Box Segment Glob
   pub new : IsNew function 0 segment.value
   pub fresh : All IsFresh waiting
   pub order : function ∷ waiting_of waiting ≡ starts ++ main ∷ []
+
+-- the same where the segment that runs first is there alone
+pub record RunsFirst (starts : List ℕ) (main : ℕ) (chain : List Link) (waiting : List (Box Segment Global)) : Type 0 where
+  pub segment : Box Segment Global
+  pub first : AreFirst starts main segment waiting
+  pub alone : chain ≡ top segment.value ∷ []
 
 -- ## The run
 

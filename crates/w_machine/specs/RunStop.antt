@@ -1,7 +1,7 @@
 -- What a step and a run answer by what stopped them, if anything did.
 use Rattle.std.specs.Prelude.{Bool, true, false, Option, Some, None}
-use Rattle.w_machine.specs.declared.outcome.RunStop.{RunStop}
-use Rattle.w_machine.specs.declared.outcome.RunStop.TheVariants as run_stop
+use Rattle.w_configuration.specs.declared.stop.RunStop.{RunStop}
+use Rattle.w_configuration.specs.declared.stop.RunStop.TheVariants as run_stop
 use Rattle.w_machine.specs.declared.outcome.Stepped.{Stepped}
 use Rattle.w_machine.specs.declared.outcome.Stepped.TheVariants as stepped
 use Rattle.w_machine.specs.declared.outcome.Outcome.{Outcome}

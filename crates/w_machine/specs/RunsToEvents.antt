@@ -5,7 +5,7 @@ use Rattle.w_reduce.specs.Terms.{Term}
 use Rattle.w_reduce.specs.Program.{Program}
 use Rattle.w_trace.specs.declared.event.Event.{Event}
 use Rattle.w_trace.specs.Events.{Events}
-use Rattle.w_machine.specs.declared.outcome.RunStop.{RunStop}
+use Rattle.w_configuration.specs.declared.stop.RunStop.{RunStop}
 use Rattle.w_machine.specs.Beginning.{Begins}
 use Rattle.w_machine.specs.Position.{Position, Runs}
 

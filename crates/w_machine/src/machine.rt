@@ -1,29 +1,28 @@
 //! The machine.
-ghost use Rattle.std.specs.Prelude.{◌≡◌, ◌≢◌, ◌+◌, ◌<◌, ◌≤◌, ℕ, true, false, [], length, All, Some, None, is_some, IfOk};
+ghost use Rattle.std.specs.Prelude.{◌≡◌, ◌≢◌, ◌+◌, ◌<◌, ◌≤◌, ℕ, true, false, [], length, All, Some, None, is_some, IfOk, OnOk};
 ghost use Rattle.w_outside.specs.Outside.{Rose};
 ghost use Rattle.w_reduce.specs.Store.{Store as TheStore, made, live, consumed};
 ghost use Rattle.w_reduce.specs.Terms.{Term};
 ghost use Rattle.w_reduce.specs.Program.{Program as TheProgram};
 ghost use Rattle.w_reduce.specs.Run.{Run};
+ghost use Rattle.w_rules.specs.Spaces.{functions_of};
 ghost use Rattle.w_stands.specs.Code.{AllShort};
 ghost use Rattle.w_stands.specs.Values.{vals};
 ghost use Rattle.w_reduce.specs.Start.{starts_of};
+ghost use Rattle.w_trace.specs.Events.{with_step};
 ghost use Rattle.w_machine.specs.Beginning.{origin_of, Begins, BeginsWith, BeginsAt};
 ghost use Rattle.w_machine.specs.RunStop.{stopped_at, stopped_in};
 ghost use Rattle.w_machine.specs.GoingOn.{Hastens};
 ghost use Rattle.w_machine.specs.Position.{Steps, StopsWith, StopsIfEnded, Runs, counted, most_reductions};
 ghost use Rattle.w_machine.specs.RunsToEvents.{Tells, RunsToEvent};
 ghost use Rattle.w_machine.specs.Results.{HasResults};
-ghost use Rattle.w_machine.specs.Reached.{AreFirst, IsTurned, IsFresh, is_last};
+ghost use Rattle.w_machine.specs.Reached.{AreFirst, RunsFirst, IsTurned, IsFresh, is_last};
 
-use crate::common::hasten;
-use crate::configuration::Configuration;
-use crate::events::{next_event, numbered};
-use crate::outcome::{Outcome, RunStop, Stepped, as_outcome, as_stepped, has_ended};
-use crate::reduction::{end_of, reduce};
+use crate::outcome::{Outcome, Stepped, as_outcome, as_stepped, has_ended};
 use std::alloc::{AllocError, Global};
 use std::marker::Model;
 use w_chain::Chain;
+use w_configuration::{Configuration, RunStop, end_of, hasten, next_event, reduce};
 use w_conts::ContStore;
 use w_inst::Instance;
 use w_outside::Sink;
@@ -33,7 +32,7 @@ use w_rules::{Checked, Runnable, Spaces};
 use w_segment::{Segment, Stage};
 use w_syntax::Module;
 use w_tables::Store;
-use w_trace::Event;
+use w_trace::{Event, EventKind};
 use w_types::Value;
 
 /// A run of a module. After so many steps it stands for the run of so many reductions.
@@ -111,6 +110,28 @@ fn first_segments(
     Ok((next, waiting))
 }
 
+// What runs first: the index of each function's type, the segment that runs first alone, and those that wait. It fails where a body is too
+// long, too.
+fn first_parts(
+    alloc: Global,
+    program: &Module,
+    starts: &[u32],
+    main: u32,
+) -> Result<(Vec<u32>, Chain, Vec<Box<Segment>>), AllocError>
+    ensures short { OnOk result (AllShort program.now) }
+    ensures functions { IfOk result (λ r. r.0.items ≡ functions_of program.now) }
+    ensures first { IfOk result (λ r. RunsFirst starts.now main r.1 r.2.items) }
+{
+    if !are_short(program) {
+        return Err(AllocError);
+    }
+    let functions = Spaces::of_module(alloc, program)?.functions;
+    let (segment, waiting) = first_segments(alloc, starts, main)?;
+    let mut chain = Chain::new();
+    chain.push(segment);
+    Ok((functions, chain, waiting))
+}
+
 // Where the last segment is left, the next one of those that wait runs.
 #[inline(always)]
 fn turn(chain: &mut Chain, waiting: &mut Vec<Box<Segment>>)
@@ -143,8 +164,16 @@ fn count(stop: RunStop) -> u64
     }
 }
 
+// The event of the reduction with this number, where it has one.
+fn numbered(step: u64, kind: Option<EventKind>) -> Option<Event>
+    ensures { result ≡ with_step step kind }
+{
+    kind.map(|kind| Event { step, kind })
+}
+
 impl Machine {
-    // The run of a module from its first store, with no reduction taken: the functions of `starts` run in order, and then main.
+    // The run of a module from its first store, with no reduction taken: the functions of `starts` run in order, and then main. What it is
+    // given is let go in one place, since each such place is proved anew.
     fn begun(
         alloc: Global,
         runnable: Runnable,
@@ -155,31 +184,31 @@ impl Machine {
         requires { BeginsAt runnable store starts.items main }
         ensures { IfOk result (λ machine. machine ≡ record { origin = record { source = runnable; starts = starts.items; main = main }; taken = 0; stop = None }) }
     {
-        let module = runnable.module();
-        if !are_short(module) {
-            return Err(AllocError);
+        match first_parts(alloc, runnable.module(), starts.as_slice(), main) {
+            Ok((functions, chain, waiting)) => Ok(Machine {
+                alloc,
+                runnable,
+                starts,
+                main,
+                functions,
+                configuration: Configuration {
+                    store,
+                    chain,
+                    conts: ContStore::new(alloc),
+                },
+                waiting,
+                taken: 0,
+                stop: None,
+                made: 0,
+                live: 0,
+            }),
+            Err(fault) => {
+                drop(runnable);
+                drop(store);
+                drop(starts);
+                Err(fault)
+            }
         }
-        let functions = Spaces::of_module(alloc, module)?.functions;
-        let (segment, waiting) = first_segments(alloc, starts.as_slice(), main)?;
-        let mut chain = Chain::new();
-        chain.push(segment);
-        Ok(Machine {
-            alloc,
-            runnable,
-            starts,
-            main,
-            functions,
-            configuration: Configuration {
-                store,
-                chain,
-                conts: ContStore::new(alloc),
-            },
-            waiting,
-            taken: 0,
-            stop: None,
-            made: 0,
-            live: 0,
-        })
     }
 
     /// The run of a module from its first store, with no reduction taken. It fails only for want of memory, as where a body has 2^32

@@ -2,22 +2,8 @@
 ghost use Rattle.std.specs.Prelude.{◌≡◌};
 ghost use Rattle.w_machine.specs.RunStop.{stepped_of, outcome_of, is_ended};
 
+use w_configuration::RunStop;
 use w_reduce::{RunLimit, Trap};
-
-/// What stopped a machine: it answers the same ever after, and changes nothing.
-#[derive(Clone, Copy)]
-pub enum RunStop {
-    /// The term is values.
-    Ended,
-    /// The result of the last reduction passed this limit.
-    Limit(RunLimit),
-    /// The last reduction trapped.
-    Trapped(Trap),
-    /// The sink failed.
-    WriteFault,
-    /// Memory ran out, where a step answers so.
-    OutOfMemory,
-}
 
 /// What a step comes to.
 #[derive(Clone, Copy)]

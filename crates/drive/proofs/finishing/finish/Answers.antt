@@ -2,8 +2,8 @@ use Rattle.std.proofs.Common.{◌≡◌, sym, subst}
 use Rattle.w_outside.specs.Outside.{Grew, Rose}
 use Rattle.words.specs.declared.request.Action.{Action}
 use Rattle.replies.specs.Answer.{gives, ok_module, built, dumped}
-use Rattle.drive.specs.Leaving.{Leaves}
-use Rattle.drive.proofs.Replies.{all_left}
+use Rattle.runs.specs.Leaving.{Leaves}
+use Rattle.runs.proofs.Replies.{all_left}
 use Rattle.drive.proofs.finishing.finish.Goals as goal
 
 pub returns-in-Check-clause-leaves : goal.returns-in-Check-clause-leaves

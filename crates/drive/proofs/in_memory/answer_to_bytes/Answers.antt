@@ -3,7 +3,7 @@ use Rattle.w_outside.specs.Outside.{Grew, Rose}
 use Rattle.words.specs.declared.request.Takes.{Takes}
 use Rattle.replies.specs.Answer.{ActionGives, OnBytes, input_limit}
 use Rattle.intake.specs.Intake.{IsInputOf}
-use Rattle.drive.proofs.Replies.{leaves_as}
+use Rattle.runs.proofs.Replies.{leaves_as}
 use Rattle.drive.proofs.in_memory.answer_to_bytes.Goals as goal
 
 pub returns-clause-leaves : goal.returns-clause-leaves

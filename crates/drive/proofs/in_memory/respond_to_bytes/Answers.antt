@@ -1,7 +1,7 @@
 use Rattle.std.proofs.Common.{inl}
 use Rattle.w_outside.specs.Outside.{Grew, Rose}
 use Rattle.replies.specs.Answer.{ActionGives, OnBytes}
-use Rattle.drive.proofs.Replies.{leaves_ends, delivered, rose_first, rose_either}
+use Rattle.runs.proofs.Replies.{leaves_ends, delivered, rose_first, rose_either}
 use Rattle.drive.proofs.in_memory.respond_to_bytes.Goals as goal
 
 pub deliver-requires : goal.deliver-requires

@@ -2,10 +2,10 @@ use Rattle.std.proofs.Common.{inl, arith}
 use Rattle.w_outside.specs.Outside.{Grew, Rose}
 use Rattle.replies.proofs.Refusals.{refuses_as}
 use Rattle.replies.specs.Answer.{NamesGive}
-use Rattle.drive.specs.Delivery.{MayFail}
+use Rattle.runs.specs.Delivery.{MayFail}
 use Rattle.drive.specs.Linking.{AreRefused, names_of}
 use Rattle.drive.proofs.FilesRead.{few_names, many_names}
-use Rattle.drive.proofs.Replies.{leaves_as, refusal_left, stop_left}
+use Rattle.runs.proofs.Replies.{leaves_as, refusal_left, stop_left}
 use Rattle.drive.proofs.linking.run_files.Goals as goal
 
 pub returns-then-names-gt-MOST_FILES-clause-leaves : goal.returns-then-names-gt-MOST_FILES-clause-leaves

@@ -6,7 +6,7 @@ use Rattle.w_machine.specs.Beginning.{Origin, Begins}
 use Rattle.w_machine.specs.Position.{Position}
 use Rattle.replies.specs.Answer.{LinkGives}
 use Rattle.drive.proofs.LinkedRuns.{told_ok, begins, program, run_linked}
-use Rattle.drive.proofs.Replies.{leaves_as, refusal_left}
+use Rattle.runs.proofs.Replies.{leaves_as, refusal_left}
 use Rattle.drive.proofs.linking.run_linked.Goals as goal
 
 pub returns-in_ok-machine-in-Ok-clause-leaves : goal.returns-in_ok-machine-in-Ok-clause-leaves

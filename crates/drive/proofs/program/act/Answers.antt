@@ -5,11 +5,11 @@ use Rattle.w_text.specs.Text.{Text}
 use Rattle.replies.specs.declared.file_kind.FileKind.TheVariants as file
 use Rattle.replies.specs.Answer.{ActionGives, ScriptGives, TextRefusal, script_gives}
 use Rattle.intake.specs.Intake.{IsInputOf}
-use Rattle.drive.specs.Leaving.{Leaves}
+use Rattle.runs.specs.Leaving.{Leaves}
 use Rattle.intake.specs.declared.intake.Input.{Input}
 use Rattle.drive.proofs.WhatActionsGive.{given_as, takes_it}
 use Rattle.replies.proofs.Refusals.{refuses_as}
-use Rattle.drive.proofs.Replies.{stop_left, leaves_as}
+use Rattle.runs.proofs.Replies.{stop_left, leaves_as}
 use Rattle.drive.proofs.program.act.Goals as goal
 
 pub act_on_script-requires : goal.act_on_script-requires

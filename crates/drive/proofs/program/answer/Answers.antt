@@ -7,12 +7,12 @@ use Rattle.words.specs.Line.{line_of}
 use Rattle.words.specs.Request.{asked_by}
 use Rattle.replies.specs.Answer.{Answer, AuditedGives, BytesGive, NamesGive, OnFile}
 use Rattle.intake.specs.Intake.{IsInputOf}
-use Rattle.drive.specs.Leaving.{Leaves}
+use Rattle.runs.specs.Leaving.{Leaves}
 use Rattle.drive.specs.Linking.{names_of}
-use Rattle.drive.specs.Delivery.{MayFail}
+use Rattle.runs.specs.Delivery.{MayFail}
 use Rattle.drive.proofs.FileReplies.{unread, acted, audited_file, named, generated_run}
 use Rattle.replies.proofs.Refusals.{refuses_as}
-use Rattle.drive.proofs.Replies.{all_left, stop_left, leaves_as}
+use Rattle.runs.proofs.Replies.{all_left, stop_left, leaves_as}
 use Rattle.drive.proofs.program.answer.Goals as goal
 
 pub returns-in_err-input-in-Ok-OnFile-clause-leaves : goal.returns-in_err-input-in-Ok-OnFile-clause-leaves

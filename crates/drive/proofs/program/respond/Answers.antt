@@ -3,8 +3,8 @@ use Rattle.std.specs.Prelude.{string_bytes}
 use Rattle.w_outside.specs.Outside.{Grew, Rose}
 use Rattle.words.specs.Line.{line_of}
 use Rattle.replies.specs.Answer.{Answer}
-use Rattle.drive.specs.Delivery.{MayFail}
-use Rattle.drive.proofs.Replies.{leaves_ends, delivered, rose_first, rose_either}
+use Rattle.runs.specs.Delivery.{MayFail}
+use Rattle.runs.proofs.Replies.{leaves_ends, delivered, rose_first, rose_either}
 use Rattle.drive.proofs.program.respond.Goals as goal
 
 pub deliver-requires : goal.deliver-requires

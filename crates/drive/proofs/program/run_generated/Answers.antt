@@ -4,7 +4,7 @@ use Rattle.words.specs.declared.request.Takes.{Takes}
 use Rattle.words.specs.declared.request.Action.TheVariants.{Run as RunFor}
 use Rattle.replies.specs.Answer.{ActionGives, generated_steps}
 use Rattle.intake.specs.Intake.{IsInputOf}
-use Rattle.drive.specs.Leaving.{Leaves}
+use Rattle.runs.specs.Leaving.{Leaves}
 use Rattle.drive.proofs.program.run_generated.Goals as goal
 
 pub returns-clause-leaves : goal.returns-clause-leaves

@@ -2,7 +2,7 @@ use Rattle.std.proofs.Common.{sym, subst}
 use Rattle.w_outside.specs.Outside.{Grew, Rose}
 use Rattle.words.specs.declared.request.Action.{Action}
 use Rattle.replies.specs.Answer.{ScriptGives, script_gives}
-use Rattle.drive.specs.Leaving.{Leaves}
+use Rattle.runs.specs.Leaving.{Leaves}
 use Rattle.drive.proofs.scripts.act_on_script.Goals as goal
 
 pub returns-in-Run-clause-leaves : goal.returns-in-Run-clause-leaves

@@ -2,7 +2,7 @@ use Rattle.std.proofs.Common.{◌∙◌, false}
 use Rattle.w_outside.specs.Outside.{Grew, Rose}
 use Rattle.replies.specs.Answer.{Compiled, RunGives, faulted}
 use Rattle.replies.proofs.Refusals.{refuses_as}
-use Rattle.drive.proofs.Replies.{leaves_as, stop_left}
+use Rattle.runs.proofs.Replies.{leaves_as, stop_left}
 use Rattle.drive.proofs.ScriptRuns.{never_refused, run_given}
 use Rattle.drive.proofs.scripts.run_checked.Goals as goal
 

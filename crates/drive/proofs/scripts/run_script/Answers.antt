@@ -3,7 +3,7 @@ use Rattle.w_outside.specs.Outside.{Rose}
 use Rattle.s_judge.specs.declared.fault.ScriptFault.TheVariants.{OutOfMemory}
 use Rattle.replies.specs.Answer.{Compiled, RunGives, ScriptGives, faulted}
 use Rattle.replies.proofs.Refusals.{refuses_as}
-use Rattle.drive.proofs.Replies.{refusal_left}
+use Rattle.runs.proofs.Replies.{refusal_left}
 use Rattle.drive.proofs.scripts.run_script.Goals as goal
 
 pub returns-in-Err-clause-leaves : goal.returns-in-Err-clause-leaves

@@ -1,5 +1,5 @@
 use Rattle.std.proofs.Common.{Option, sym, ap, subst, ◌∙◌, arith}
-use Rattle.w_machine.specs.declared.outcome.RunStop.{RunStop}
+use Rattle.w_configuration.specs.declared.stop.RunStop.{RunStop}
 use Rattle.w_machine.specs.Position.{Position, Runs}
 use Rattle.w_machine.proofs.RunsOfMany.{stopped_runs_stay, no_write_fault}
 use Rattle.w_machine.proofs.GoingOn.{ends_run, goes_further, goes_one, hastened, hastened_to_stop, still_none, stops_run}

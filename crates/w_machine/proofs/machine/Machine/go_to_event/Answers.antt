@@ -1,5 +1,5 @@
 use Rattle.std.proofs.Common.{None, Option, sym, ap, subst, ◌∙◌, arith, is_some}
-use Rattle.w_machine.specs.declared.outcome.RunStop.{RunStop}
+use Rattle.w_configuration.specs.declared.stop.RunStop.{RunStop}
 use Rattle.w_machine.specs.Position.{Position}
 use Rattle.w_machine.specs.RunsToEvents.{RunsToEvent}
 use Rattle.w_machine.proofs.GoingOn.{goes_further, goes_one, hastened, same_further, still_none}

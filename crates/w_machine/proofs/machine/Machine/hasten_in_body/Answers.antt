@@ -1,5 +1,5 @@
 use Rattle.std.proofs.Common.{Bool, is_some, refl, sym, ap, subst, ◌∙◌, arith}
-use Rattle.w_machine.specs.CommonReductions.{HastensParts}
+use Rattle.w_configuration.specs.CommonReductions.{HastensParts}
 use Rattle.w_machine.specs.Position.{Position}
 use Rattle.w_machine.proofs.Machines.{machine_stands}
 use Rattle.w_machine.proofs.ManyReductions.{hastened_long, hastened_past, hastened_within, reached_limit, reached_still, reached_turned}

@@ -1,0 +1,3 @@
+pub mod Stepping
+pub mod Tracing
+pub mod Auditing

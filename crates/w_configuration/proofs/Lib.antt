@@ -1,0 +1,13 @@
+pub mod Tops
+pub mod ConfigurationCounts
+pub mod NextCode
+pub mod Rooms
+pub mod PartsOfRuns
+pub mod ReductionsTaken
+pub mod SeenEvents
+pub mod PlainReductions
+pub mod MadeConts
+pub mod TakingEnough
+pub mod SwitchedStacks
+pub mod LeftHandles
+pub mod CommonReductions

@@ -1,0 +1,5 @@
+pub mod Parts
+pub mod Standing
+pub mod Reducing
+pub mod NextEvents
+pub mod CommonReductions
