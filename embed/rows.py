@@ -2,11 +2,13 @@
 
     python3 embed/rows.py PROGRAM [WORD ..]
 
-PROGRAM is called with these words, once for each processor, and given a part of the rows. A row is passed over, and counted, where the command
-has no such function: `link`, `gen`, calls that fail, words that ask for nothing, and a file that isn't there.
+PROGRAM is called with these words, once for each processor, and given a part of the rows. A run of a module is put to it a second time, by a
+handle in steps. A row is passed over, and counted, where the library has no such function: `gen`, calls that fail, words that ask for nothing,
+and a file that isn't there.
 """
 
 import os
+import struct
 import subprocess
 import sys
 from collections import Counter
@@ -17,12 +19,13 @@ HERE = Path(__file__).resolve().parent
 sys.path.insert(0, str(HERE.parent / 'tools' / 'conformance'))
 from row_files import rows_of  # noqa: E402
 
-ACTIONS = ('check', 'build', 'dump', 'asm', 'run', 'trace', 'audit')
+ACTIONS = ('check', 'build', 'dump', 'asm', 'run', 'link', 'trace', 'audit')
+MODULE = b'\0asm'
 USAGE_STATUS = 2
 
 
 def asked(row):
-    """The action, steps, statistics and bytes of a row, and the second bytes if it has some, or why it is passed over."""
+    """The action, steps, statistics and bytes of a row, and the second bytes, or why it is passed over."""
     if row.fails:
         return None, 'calls that fail'
     if row.status == USAGE_STATUS:
@@ -45,8 +48,21 @@ def asked(row):
             names.append(word)
     if any(name not in row.files for name in names):
         return None, 'files that are not there'
-    data, second = ([row.files[name] for name in names] + [b''])[:2]
+    files = [row.files[name] for name in names]
+    if words[0] == 'link':
+        return ('link', steps, stats, b''.join(files), struct.pack(f'<{len(files)}Q', *map(len, files))), None
+    data, second = (files + [b''])[:2]
     return (words[0], steps, stats, data, second), None
+
+
+def calls_of(row):
+    """The calls by which a row is put to the library, or why it is passed over."""
+    call, why = asked(row)
+    if call is None:
+        return [], why
+    if call[0] == 'run' and call[3].startswith(MODULE):
+        return [call, ('held', *call[1:])], None
+    return [call], None
 
 
 def answers_of(command, calls):
@@ -79,18 +95,18 @@ def main(command):
     calls, rows, passed_over = [], [], Counter()
     for path in sorted((HERE.parent / 'crates' / 'conformance' / 'data').glob('*.rows')):
         for row in rows_of(path.read_text(encoding='utf-8')):
-            call, why = asked(row)
-            if call is None:
+            some, why = calls_of(row)
+            if why:
                 passed_over[why] += 1
-            else:
-                calls.append(call)
-                rows.append((path.name, row))
+            calls += some
+            rows += [(path.name, row, call[0]) for call in some]
     well, answers = answers_of_all(command, calls)
-    wrong = [f'{name}: {row.name}' for (name, row), answer in zip(rows, answers) if answer != (row.status, row.out, row.err)]
+    wrong = [f'{name}: {row.name}: {action}' for (name, row, action), answer in zip(rows, answers) if answer != (row.status, row.out, row.err)]
     for line in wrong[:20]:
         print(line)
-    answered = sum(answer is not None for answer in answers)
-    print(f'{answered} of {len(rows)} rows answered, {len(wrong)} otherwise than the command; '
+    answered = Counter('a handle' if action == 'held' else 'a call' for (_, _, action), answer in zip(rows, answers) if answer is not None)
+    print(f'{answered["a call"]} rows answered by a call, {answered["a handle"]} of them by a handle too, '
+          f'{len(rows) - answered.total()} not, {len(wrong)} otherwise than the command; '
           + ', '.join(f'{count} passed over for {why}' for why, count in sorted(passed_over.items())))
     return 0 if well and not wrong else 1
 

@@ -1,20 +1,17 @@
-"""Builds the module of a script, and asks how many reductions its run needs, by halving: example.py FILE."""
+"""Builds the module of a script, and asks how many reductions its run needs, by halving and in steps: example.py FILE."""
 
 import sys
 
 import stackwasm
 
-RUNNING = 10
-
-
 def needed(data):
     """The least number of steps with which the run ends."""
     low, high = 0, 1
-    while stackwasm.run(data, high).status == RUNNING:
+    while stackwasm.run(data, high).status == stackwasm.RUNNING:
         low, high = high + 1, 2 * high
     while low < high:
         middle = (low + high) // 2
-        if stackwasm.run(data, middle).status == RUNNING:
+        if stackwasm.run(data, middle).status == stackwasm.RUNNING:
             low = middle + 1
         else:
             high = middle
@@ -30,8 +27,13 @@ def main(words):
     answer = stackwasm.run(module.out, stats=True)
     steps = needed(module.out)
     print(f'{steps} reductions are needed; the statistics say: {answer.err.decode().strip()}')
-    if f'steps {steps} ' not in answer.err.decode():
-        sys.exit('the two disagree')
+    with stackwasm.Run(module.out) as run:
+        while run.step(1).status == stackwasm.RUNNING:
+            print(run.read().decode(), end='')
+        taken = run.counts().taken
+        print(run.results().decode(), end='')
+    if f'steps {steps} ' not in answer.err.decode() or taken != steps:
+        sys.exit('they disagree')
 
 
 if __name__ == '__main__':

@@ -30,8 +30,7 @@ fn answer_to_bytes<O: Sink>(
     if bytes.len() > INPUT_LIMIT {
         return Err(refuse(alloc, b"limit input\n", Status::Limit));
     }
-    let copy = Vec::from_slice(alloc, bytes)?;
-    let input = Input::of_bytes(alloc, action.takes(), copy)?;
+    let input = Input::of_slice(alloc, action.takes(), bytes)?;
     act(alloc, action, input, Process::GoesOn, out)
 }
 

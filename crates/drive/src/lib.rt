@@ -15,5 +15,6 @@ pub use laws::{
     built_runs_are_alike, built_scripts_are_short, dumped_files_are_built, one_answer,
     runs_of_scripts_mean, some_answer, stopped_runs_of_scripts_mean,
 };
+pub use linking::{MOST_FILES, run_linked};
 pub use program::command;
 pub use replies::Status;

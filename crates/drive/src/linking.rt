@@ -23,7 +23,7 @@ use w_outside::{Inputs, Sink};
 use w_rules::Checked;
 
 /// So many files are linked at most.
-const MOST_FILES: usize = 16;
+pub const MOST_FILES: usize = 16;
 
 // A module more.
 fn push_module(modules: &mut Vec<Checked>, checked: Checked) -> Result<(), AllocError>
@@ -99,8 +99,8 @@ fn linked_machine(alloc: Global, linked: Linked) -> Result<Machine, AllocError>
     Machine::linked(alloc, program, store, starts, main)
 }
 
-// Runs files, linked, where they have a run. What is printed goes to out; the answer is what is left to write.
-fn run_linked<O: Sink>(
+/// Runs modules, linked, where they have a run. What is printed goes to out; the answer is what is left to write.
+pub fn run_linked<O: Sink>(
     alloc: Global,
     modules: Vec<Checked>,
     steps: u64,

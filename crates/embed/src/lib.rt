@@ -1,18 +1,25 @@
 //! The program as functions that C calls, on bytes in memory. `include/stackwasm.h` says what a caller owes.
 #![tactic(auto)]
 
-ghost use Rattle.std.specs.Prelude.{◌≡◌, ◌<◌, ◌≤◌, ◌^◌};
+ghost use Rattle.std.specs.Prelude.{◌≡◌, ◌≢◌, ◌<◌, ◌≤◌, ◌^◌, length};
+ghost use Rattle.std.specs.List.{sum};
 ghost use Rattle.words.specs.declared.request.Action.TheVariants as action;
 ghost use Rattle.w_outside.specs.Outside.{holds};
-ghost use Rattle.replies.specs.Answer.{ActionGives, AuditedGives, BytesGive, OnBytes};
+ghost use Rattle.replies.specs.Answer.{ActionGives, AuditedGives, BytesGive, NamesGive, OnBytes};
+ghost use Rattle.handing.specs.Files.{files_of};
 ghost use Rattle.handing.specs.Handed.{HandsByCode, HandsNothing};
 
-use handing::{hand_answer, hand_audit};
+use handing::{hand_answer, hand_audit, hand_link};
 use std::alloc::Global;
 use words::{Action, MOST_STEPS};
 
+mod stepped;
+
 /// The status of a call that asks for more than 2^40 steps.
 const TOO_MANY_STEPS: u32 = 14;
+
+/// The status of a call whose lengths of files don't add up to that of their bytes.
+const WRONG_LENGTHS: u32 = 17;
 
 /// Judges a module or a script.
 #[unsafe(no_mangle)]
@@ -193,4 +200,41 @@ pub extern "C" fn stackwasm_audit(
     }
     let status = hand_audit(alloc, bytes, trace, steps, out, out_length, err, err_length);
     u32::from(status.code())
+}
+
+/// Links modules whose spellings stand one behind the other, each of its length, and runs them.
+#[unsafe(no_mangle)]
+pub extern "C" fn stackwasm_link(
+    alloc: Global,
+    bytes: &[u8],
+    lengths: &[u64],
+    steps: u64,
+    stats: bool,
+    out: &mut [u8],
+    out_length: &mut u64,
+    err: &mut [u8],
+    err_length: &mut u64,
+) -> u32
+    ensures answered { steps ≤ 2 ^ 40 → sum lengths.now ≡ length bytes.now
+        → HandsByCode (NamesGive steps stats (files_of lengths.now bytes.now) holds) result
+        (record { out = out.old; out_length = out_length.old; err = err.old; err_length = err_length.old })
+        (record { out = out.new; out_length = out_length.new; err = err.new; err_length = err_length.new }) }
+    ensures wrong_lengths { steps ≤ 2 ^ 40 → sum lengths.now ≢ length bytes.now → (result ≡ 17) × HandsNothing
+        (record { out = out.old; out_length = out_length.old; err = err.old; err_length = err_length.old })
+        (record { out = out.new; out_length = out_length.new; err = err.new; err_length = err_length.new }) }
+    ensures refused { 2 ^ 40 < steps → (result ≡ 14) × HandsNothing
+        (record { out = out.old; out_length = out_length.old; err = err.old; err_length = err_length.old })
+        (record { out = out.new; out_length = out_length.new; err = err.new; err_length = err_length.new }) }
+{
+    if steps > MOST_STEPS {
+        *out_length = 0;
+        *err_length = 0;
+        return TOO_MANY_STEPS;
+    }
+    match hand_link(
+        alloc, bytes, lengths, steps, stats, out, out_length, err, err_length,
+    ) {
+        Some(status) => u32::from(status.code()),
+        None => WRONG_LENGTHS,
+    }
 }

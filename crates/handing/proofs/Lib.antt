@@ -1,1 +1,2 @@
+pub mod FilesInBytes
 pub mod HandedReplies

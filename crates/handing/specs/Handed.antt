@@ -1,9 +1,12 @@
 -- What is handed over of an answer.
-use Rattle.std.specs.Prelude.{◌≡◌, ℕ, List, ◌++◌, length, take, drop, min}
+use Rattle.std.specs.Prelude.{◌≡◌, ◌⊎◌, ℕ, List, ◌++◌, length, take, drop, min}
 use Rattle.fronts.specs.Fronts.{most_counted}
 use Rattle.replies.specs.declared.status.Status.{Status}
 use Rattle.replies.specs.declared.status.Status.TheVariants as status
+use Rattle.replies.specs.declared.stop.Stop.{Stop}
+use Rattle.replies.specs.declared.stop.Stop.TheVariants.{Refused, WriteFault, OutOfMemory}
 use Rattle.replies.specs.Answer.{Reply}
+use Rattle.replies.specs.Pieces.{joined}
 use Rattle.replies.specs.Status.{code_of}
 
 -- a buffer took as much of a text as it holds, behind which it is what it was, and the text's length was told
@@ -48,3 +51,23 @@ Hands Due ended before now = HandsOver Due ended before now
 -- the same by the status's number
 abbrev pub HandsByCode : (Reply → Type 0) → ℕ → Buffers → Buffers → Type 0
 HandsByCode Due code before now = (ended : Status) × (code ≡ code_of ended) × Hands Due ended before now
+
+-- ## Refusals, in one buffer
+
+-- nothing was handed over
+abbrev pub Untouched : (before now : List ℕ) (told : ℕ) → Type 0
+Untouched before now told = (now ≡ before) × (told ≡ 0)
+
+-- a refusal that is due was, with its status
+pub record HandsRefusal (Due : Reply → Type 0) (ended : Status) (before now : List ℕ) (told : ℕ) : Type 0 where
+  pub reply : Reply
+  pub due : Due reply
+  pub err : Handed reply.err before now told
+  pub status_is : reply.status ≡ code_of ended
+
+-- why there is no answer was handed over, where memory sufficed
+abbrev pub HandsStop : Stop → Status → (before now : List ℕ) (told : ℕ) → Type 0
+HandsStop (Refused refusal) ended before now told =
+    ((ended ≡ refusal.status) × Handed (joined refusal.lines.items) before now told) ⊎ ((ended ≡ status.OutOfMemory) × Untouched before now told)
+HandsStop WriteFault ended before now told = (ended ≡ status.WriteFault) × Untouched before now told
+HandsStop OutOfMemory ended before now told = (ended ≡ status.OutOfMemory) × Untouched before now told

@@ -10,8 +10,8 @@ use replies::Status;
 use std::alloc::Global;
 use words::Action;
 
-// Hands over what a sink took that keeps no more than a buffer holds, and says how much it took.
-fn hand(sink: &FrontSink, buffer: &mut [u8]) -> u64
+/// Hands over what a sink took that keeps no more than a buffer holds, and says how much it took.
+pub(crate) fn hand(sink: &FrontSink, buffer: &mut [u8]) -> u64
     requires { sink.now.most ≡ length buffer.old }
     ensures { Handed sink.now.text buffer.old buffer.new result }
 {

@@ -3,6 +3,10 @@
 
 mod audits;
 mod handing;
+mod links;
+mod texts;
 
 pub use audits::hand_audit;
 pub use handing::hand_answer;
+pub use links::hand_link;
+pub use texts::{hand_pieces, hand_stop};

@@ -1,9 +1,9 @@
 //! The bytes of a file, taken in as they are read.
 ghost use Rattle.std.specs.Prelude.{◌≡◌, ◌++◌, ℕ, List, [], IfOk, OnOk};
 ghost use Rattle.words.specs.declared.request.Takes.{Takes as TheTakes};
-ghost use Rattle.intake.specs.Intake.{IsInputOf, IsModuleOf, TakesIn};
+ghost use Rattle.intake.specs.Intake.{IsInputOf, TakesIn};
 
-use crate::module_intake::ModuleIntake;
+use crate::module_intake::{ModuleIntake, begin_module};
 use replies::FileKind;
 use std::alloc::{AllocError, Global};
 use std::mem;
@@ -31,20 +31,6 @@ pub enum Intake {
     Known(Input),
 }
 
-// The first bytes of a module.
-fn begin_module(alloc: Global, bytes: &[u8]) -> Result<ModuleIntake, AllocError>
-    ensures { IfOk result (λ m. IsModuleOf m bytes.now) }
-{
-    let mut module = ModuleIntake::new(alloc)?;
-    match module.take(bytes) {
-        Ok(()) => Ok(module),
-        Err(error) => {
-            drop(module);
-            Err(error)
-        }
-    }
-}
-
 impl Input {
     /// What the bytes are to what takes such files.
     pub fn of_bytes(alloc: Global, takes: Takes, bytes: Vec<u8>) -> Result<Input, AllocError>
@@ -54,6 +40,17 @@ impl Input {
             FileKind::Script => Ok(Input::Script(bytes)),
             FileKind::Text => Ok(Input::Text(bytes)),
             FileKind::Module => Ok(Input::Module(begin_module(alloc, bytes.as_slice())?)),
+        }
+    }
+
+    /// The same of bytes that are lent. Those of a module are not copied.
+    pub fn of_slice(alloc: Global, takes: Takes, bytes: &[u8]) -> Result<Input, AllocError>
+        ensures { IfOk result (λ input. IsInputOf takes input bytes.now) }
+    {
+        match FileKind::of(takes, bytes) {
+            FileKind::Script => Ok(Input::Script(Vec::from_slice(alloc, bytes)?)),
+            FileKind::Text => Ok(Input::Text(Vec::from_slice(alloc, bytes)?)),
+            FileKind::Module => Ok(Input::Module(begin_module(alloc, bytes)?)),
         }
     }
 }

@@ -14,6 +14,6 @@ pub use files::open;
 pub use input::INPUT_LIMIT;
 pub use intake::Input;
 pub use judging::accept;
-pub use module_intake::ModuleIntake;
-pub use several::read_module;
+pub use module_intake::{ModuleIntake, judge_bytes};
+pub use several::{judge_file, read_module};
 pub use texts::judge_text;

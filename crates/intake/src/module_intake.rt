@@ -85,3 +85,27 @@ impl ModuleIntake {
         }
     }
 }
+
+/// The first bytes of a module.
+pub(crate) fn begin_module(alloc: Global, bytes: &[u8]) -> Result<ModuleIntake, AllocError>
+    ensures { IfOk result (λ m. IsModuleOf m bytes.now) }
+{
+    let mut module = ModuleIntake::new(alloc)?;
+    match module.take(bytes) {
+        Ok(()) => Ok(module),
+        Err(error) => {
+            drop(module);
+            Err(error)
+        }
+    }
+}
+
+/// The module that bytes are a spelling of, where it is valid and within its limits.
+pub fn judge_bytes(alloc: Global, bytes: &[u8]) -> Result<Checked, Stop>
+    ensures spelled { IfOk result (λ checked. Spells bytes.now checked) }
+    ensures within { IfOk result Within }
+    ensures valid { IfOk result Valid }
+    ensures refused { IfErr result (Refuses (BytesRefusal bytes.now)) }
+{
+    begin_module(alloc, bytes)?.judge(alloc)
+}

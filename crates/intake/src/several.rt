@@ -1,6 +1,6 @@
 //! Files of several, each a module.
 ghost use Rattle.std.specs.Prelude.{◌≡◌, ◌≤◌, ℕ, List, IfOk, IfErr, length};
-ghost use Rattle.w_outside.specs.Outside.{Rose};
+ghost use Rattle.w_outside.specs.Outside.{Rose, holds};
 ghost use Rattle.w_rules.specs.Limits.{Within};
 ghost use Rattle.w_rules.specs.Valid.{Valid};
 ghost use Rattle.intake.specs.Intake.{IsModuleOf};
@@ -8,9 +8,9 @@ ghost use Rattle.intake.specs.Reading.{FileRefusalOr, MayBe, MayHold, ModuleFile
 ghost use Rattle.replies.specs.Answer.{in_file as told_of, input_limit, limit_input};
 ghost use Rattle.replies.specs.Stop.{Refuses};
 
-use crate::input::{InputFault, read_input};
+use crate::input::{INPUT_LIMIT, InputFault, read_input};
 use crate::intake::Input;
-use crate::module_intake::ModuleIntake;
+use crate::module_intake::{ModuleIntake, judge_bytes};
 use replies::{Status, Stop, in_file, refuse};
 use std::alloc::Global;
 use w_outside::Inputs;
@@ -70,6 +70,22 @@ pub fn read_module<F: Inputs>(
 {
     let intake = open_module(alloc, files, name, number)?;
     match intake.judge(alloc) {
+        Ok(checked) => Ok(checked),
+        Err(stop) => Err(in_file(alloc, number, stop)),
+    }
+}
+
+/// The same of bytes in memory.
+pub fn judge_file(alloc: Global, bytes: &[u8], number: usize) -> Result<Checked, Stop>
+    ensures read { IfOk result (λ checked. MayBe (holds bytes.now) checked) }
+    ensures within { IfOk result Within }
+    ensures valid { IfOk result Valid }
+    ensures refused { IfErr result (Refuses (ModuleFileRefusal number (holds bytes.now) ⊥)) }
+{
+    if bytes.len() > INPUT_LIMIT {
+        return Err(too_long(alloc, number));
+    }
+    match judge_bytes(alloc, bytes) {
         Ok(checked) => Ok(checked),
         Err(stop) => Err(in_file(alloc, number, stop)),
     }

@@ -8,8 +8,8 @@ ghost use Rattle.replies.specs.Stop.{EndsByItself};
 use replies::{Output, Status, Stop};
 use w_outside::{Fault, Sink, put};
 
-// Writes pieces in their order.
-fn write_pieces<O: Sink>(pieces: &[Vec<u8>], out: &mut O) -> Result<(), Fault>
+/// Writes pieces in their order.
+pub fn write_pieces<O: Sink>(pieces: &[Vec<u8>], out: &mut O) -> Result<(), Fault>
     ensures ok { OnOk result (Grew (O.held out.old) (O.held out.new) (joined pieces.now)) }
     ensures err { OnErr result (GrewByFront (O.held out.old) (O.held out.new) (joined pieces.now)) }
     ensures cause { HasCause (O.faults out.old) (O.faults out.new) result }

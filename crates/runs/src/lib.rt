@@ -4,5 +4,5 @@
 mod delivery;
 mod running;
 
-pub use delivery::deliver;
-pub use running::{begin_run, run, run_from, trap_refusal};
+pub use delivery::{deliver, write_pieces};
+pub use running::{begin_run, limit_refusal, result_lines, run, run_from, trap_refusal};

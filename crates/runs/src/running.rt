@@ -39,8 +39,8 @@ pub fn trap_refusal(alloc: Global, origin: Origin, trap: Trap) -> Stop
     }
 }
 
-// The refusal by a limit of a run.
-fn limit_refusal(alloc: Global, name: RunLimit) -> Stop
+/// The refusal by a limit of a run.
+pub fn limit_refusal(alloc: Global, name: RunLimit) -> Stop
     ensures { Refuses (λ reply. reply ≡ limit (run_limit_text name)) result }
 {
     match run_limit_line(alloc, name) {
@@ -49,8 +49,8 @@ fn limit_refusal(alloc: Global, name: RunLimit) -> Stop
     }
 }
 
-// A line for each result.
-fn result_lines(alloc: Global, values: &[Value]) -> Result<Vec<Vec<u8>>, AllocError>
+/// A line for each result.
+pub fn result_lines(alloc: Global, values: &[Value]) -> Result<Vec<Vec<u8>>, AllocError>
     ensures { IfOk result (λ lines. joined lines.items ≡ flat_map (λ v. result_line (val v)) values.now) }
 {
     let mut lines = Vec::new(alloc);

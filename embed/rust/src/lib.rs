@@ -4,6 +4,9 @@
 //! but for the stack, of which there has to be enough.
 
 mod calls;
+mod run;
+
+pub use run::{Counts, Run, Stepped};
 
 /// What is done with bytes.
 #[derive(Clone, Copy, Debug, PartialEq, Eq)]
@@ -21,6 +24,8 @@ pub enum Action<'a> {
     Run { steps: u64, stats: bool },
     /// Runs a module for so many reductions at most, and writes what the run does with continuations.
     Trace { steps: u64 },
+    /// Links modules whose bytes stand one behind the other, each of its length, and runs them, as `Run` does.
+    Link { lengths: &'a [u64], steps: u64, stats: bool },
     /// Says whether `trace` is what `Trace` writes for so many reductions, each continuation used once.
     Audit { trace: &'a [u8], steps: u64 },
 }
@@ -50,6 +55,8 @@ pub enum Status {
     BadTrace,
     /// More than 2^40 steps are asked for. Nothing is written.
     TooManySteps,
+    /// The lengths of files don't add up to that of their bytes. Nothing is written.
+    WrongLengths,
 }
 
 impl Status {
@@ -66,6 +73,7 @@ impl Status {
             12 => Status::BadText,
             13 => Status::BadTrace,
             14 => Status::TooManySteps,
+            17 => Status::WrongLengths,
             _ => unreachable!("the library has no status {code}"),
         }
     }

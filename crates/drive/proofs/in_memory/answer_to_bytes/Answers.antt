@@ -10,6 +10,5 @@ pub returns-clause-leaves : goal.returns-clause-leaves
 returns-clause-leaves g c =
     let bytes = c.args.bytes.now in
     let short : length bytes ≤ input_limit = omega (arith, c.if-bytes-gt-INPUT_LIMIT.false) in
-    let input = subst (λ (b : List ℕ). IsInputOf c.takes.result c.in_ok-input.input b) c.in_ok-copy.ensures.items c.in_ok-input.ensures in
     leaves_as {Due' = OnBytes (ActionGives c.args.action) bytes} (λ r h. inl (short, h)) (Grew (g.O.Sink.held c.args.out.now) (g.O.Sink.held c.act.new.out))
-    (Rose (g.O.Sink.faults c.args.out.now) (g.O.Sink.faults c.act.new.out)) c.act.result (c.act.ensures.leaves bytes (subst (λ (t : Takes). IsInputOf t c.in_ok-input.input bytes) c.takes.ensures input))
+    (Rose (g.O.Sink.faults c.args.out.now) (g.O.Sink.faults c.act.new.out)) c.act.result (c.act.ensures.leaves bytes (subst (λ (t : Takes). IsInputOf t c.in_ok-input.input bytes) c.takes.ensures c.in_ok-input.ensures))

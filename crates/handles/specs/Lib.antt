@@ -1,0 +1,3 @@
+pub mod ByCode
+pub mod HeldRuns
+pub mod Owned
