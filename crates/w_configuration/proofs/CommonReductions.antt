@@ -1,5 +1,7 @@
 -- Common reductions of what stands for a configuration.
-use Rattle.std.proofs.Common.{◌≡◌, ◌<◌, ℕ, Bool, true, false, nat_le, if◌then◌else◌, List, [], ◌∷◌, length, Option, Some, None, Ok, refl, sym, ap, ◌∙◌, arith}
+use Rattle.std.proofs.Common.{◌≡◌, ◌⊎◌, inl, inr, ◌<◌, ◌≤◌, ◌+◌, subst, ℕ, Bool, true, false, nat_le, if◌then◌else◌, List, [], ◌∷◌, length, Option, Some, None, Ok, refl, sym, ap, ◌∙◌, arith}
+use Rattle.std.proofs.lemmas.Bool.{le-leb}
+use Rattle.std.proofs.lemmas.Bool.Decides.{leb_tells}
 use Rattle.w_outside.proofs.Growth.{grew_nothing}
 use Rattle.w_syntax.specs.declared.module.Module.{Module}
 use Rattle.w_rules.specs.Sound.{Sound}
@@ -17,6 +19,11 @@ use Rattle.w_stands.specs.Code.{instr_of}
 use Rattle.w_stands.specs.Room.{Roomier}
 use Rattle.w_stands.specs.Values.{stack}
 use Rattle.w_stands.proofs.RoomOfFrames.{roomier_fit}
+use Rattle.w_conts.specs.Conts.{Conts}
+use Rattle.w_switching.specs.declared.stored.Stored.{Stored}
+use Rattle.w_plain.specs.Attempted.{Attempted, goes_on, was_made}
+use Rattle.w_plain.specs.declared.progress.Progress.{Progress}
+use Rattle.w_plain.specs.declared.progress.Progress.TheVariants as progress
 use Rattle.w_plain.specs.Meets.{Applies}
 use Rattle.w_plain.specs.Plainness.{switches_at, calls_at}
 use Rattle.w_plain.specs.Stepped.{Takes}
@@ -27,7 +34,7 @@ use Rattle.w_configuration.specs.declared.stop.RunStop.TheVariants as run_stop
 use Rattle.w_configuration.specs.Parts.{Parts, parts}
 use Rattle.w_configuration.specs.Standing.{IsLast, Stands, StandsSomewhere}
 use Rattle.w_configuration.specs.Reducing.{IsPlainAt}
-use Rattle.w_configuration.specs.CommonReductions.{LeavesAlone, TakesOne}
+use Rattle.w_configuration.specs.CommonReductions.{HastensParts, LeavesAlone, LastIn, RunsInBody, TakesOne, TakesMany, nothing, one_more}
 use Rattle.w_configuration.proofs.PartsOfRuns.{head, plain_applies}
 use Rattle.w_configuration.proofs.PlainReductions.{few_there, stop_reduces}
 use Rattle.w_configuration.proofs.ReductionsTaken.{chained_long, stands_after}
@@ -103,6 +110,117 @@ stands_on {x' = x'} sound h one body =
       t = went.t;
       stands = stands_after sound h.stands went (λ l. absurd (let values = l.1 in let e = sym body ∙ values in cc));
     }
+
+-- so many were taken, and it stands for a configuration
+pub record Reached (m : Module) (n : ℕ) (x x' : Parts) : Type 0 where
+  pub many : TakesMany m x n x'
+  pub stands : StandsSomewhere m x'
+
+-- first so many and then so many more
+pub takes_more : {m : Module} {x y z : Parts} (n k i : ℕ) → i ≡ n + k → TakesMany m x n y → TakesMany m y k z → TakesMany m x i z
+takes_more {m} {x} {y} n k i e first nothing = subst (λ (j : ℕ). TakesMany m x j y) (let f : n ≡ i = omega (arith, e) in f) first
+takes_more {m} {x} {y} {z} n k i e first (one_more {n = l} more one) =
+    subst (λ (j : ℕ). TakesMany m x j z) (let f : n + l + 1 ≡ i = omega (arith, e) in f) (one_more (takes_more n l (n + l) refl first more) one)
+
+-- ## In one body
+
+-- the innermost stack, where it was put in the place of another
+top_of : (s : Shape) (chain : List Link) → 0 < length chain → (top (with_top s chain)).shape ≡ s
+top_of s [] some = absurd (omega (arith, some))
+top_of s (x ∷ xs) some = refl
+
+twice : (s s' : Shape) (chain : List Link) → with_top s' (with_top s chain) ≡ with_top s' chain
+twice s s' [] = refl
+twice s s' (x ∷ xs) = refl
+
+pub body_of : (s : Shape) (chain : List Link) → 0 < length chain → s.stage ≡ Body → (top (with_top s chain)).shape.stage ≡ Body
+body_of s chain some body = ap (λ (x : Shape). x.stage) (top_of s chain some) ∙ body
+
+module _ {m : Module} (sound : Sound m) (u : instances.Store) (s : Shape) (chain : List Link) (conts : Conts Stored) (some : 0 < length chain) (body : s.stage ≡ Body)
+    (h : StandsSomewhere m (parts u (with_top s chain) conts)) where
+  abbrev X : Parts
+  X = parts u (with_top s chain) conts
+
+  abbrev at : (top (with_top s chain)).shape ≡ s
+  at = top_of s chain some
+
+  pub applies_in : switches_at (instr_of m s.func s.place) ≡ false → Applies m u s
+  applies_in = subst (λ (x : Shape). switches_at (instr_of m x.func x.place) ≡ false → Applies m u x) at (applies_there sound h (body_of s chain some body))
+
+  -- none was taken
+  alone_in : (s' : Shape) → Roomier s s' → LeavesAlone X (parts u (with_top s' chain) conts)
+  alone_in s' room = subst (λ (c : List Link). LeavesAlone X (parts u c conts)) (twice s s' chain)
+      (left_with_room X s' (body_of s chain some body) (subst (λ (x : Shape). Roomier x s') (sym at) room))
+
+  module _ (plain : switches_at (instr_of m s.func s.place) ≡ false) (u' : instances.Store) (s' : Shape) (takes : Takes did.Went m [] u s u' s') where
+    plain_there : switches_at (instr_of m (top (with_top s chain)).shape.func (top (with_top s chain)).shape.place) ≡ false
+    plain_there = subst (λ (x : Shape). switches_at (instr_of m x.func x.place) ≡ false) (sym at) plain
+
+    takes_there : Takes did.Went m [] u (top (with_top s chain)).shape u' s'
+    takes_there = subst (λ (x : Shape). Takes did.Went m [] u x u' s') (sym at) takes
+
+    -- one that called a function was
+    pub one_called : (within : Bool) → within ≡ nat_le (frames_in_all (with_top s' chain)) most_frames → TakesOne within m X (parts u' (with_top s' chain) conts)
+    one_called within test = subst (λ (c : List Link). TakesOne within m X (parts u' c conts)) (twice s s' chain)
+        (taken_called {x = X} sound (body_of s chain some body) plain_there u' s' (frames_in_all (with_top s' (with_top s chain))) within
+        (test ∙ ap (λ (c : List Link). nat_le (frames_in_all c) most_frames) (sym (twice s s' chain))) refl takes_there)
+
+    -- one that called none was
+    pub one_within : calls_at (instr_of m s.func s.place) ≡ false → TakesOne true m X (parts u' (with_top s' chain) conts)
+    one_within none = subst (λ (c : List Link). TakesOne true m X (parts u' c conts)) (twice s s' chain)
+        (taken_within {x = X} sound (body_of s chain some body) plain_there h (subst (λ (x : Shape). calls_at (instr_of m x.func x.place) ≡ false) (sym at) none) u' s' takes_there)
+
+  -- what the last attempt came to
+  pub last_in : (u' : instances.Store) (s' : Shape) (a : Progress) → (a ≡ progress.Went → ⊥) → Attempted a m u s u' s' → (was_made a ≡ true → switches_at (instr_of m s.func s.place) ≡ false)
+      → (goes_on a ≡ true → calls_at (instr_of m s.func s.place) ≡ false) → LastIn a m X (parts u' (with_top s' chain) conts)
+  last_in u' s' progress.Went not step plain none = absurd (not refl)
+  last_in u' s' progress.Moved not step plain none = one_within (plain refl) u' s' step (none refl)
+  last_in u' s' progress.Entered not step plain none = one_called (plain refl) u' s' step
+  last_in u' s' progress.Trapped not step plain none = subst (λ (v : instances.Store). LeavesAlone X (parts v (with_top s' chain) conts)) (sym step.0) (alone_in s' step.1)
+  last_in u' s' progress.NotAttempted not step plain none = subst (λ (v : instances.Store). LeavesAlone X (parts v (with_top s' chain) conts)) (sym step.0) (alone_in s' step.1)
+  last_in u' s' progress.NoRoom not step plain none = subst (λ (v : instances.Store). LeavesAlone X (parts v (with_top s' chain) conts)) (sym step.0) (alone_in s' step.1)
+
+-- ## From one body to the next
+
+module _ {m : Module} (x : Parts) (s : Shape) (e : s ≡ (top x.chain).shape) (some : 0 < length x.chain) (stands : StandsSomewhere m x) (last : Progress) (n : ℕ) (u' : instances.Store) (s' : Shape) where
+  own : with_top s x.chain ≡ x.chain
+  own = ap (λ (y : Shape). with_top y x.chain) e ∙ with_own x.chain
+
+  -- what was done whatever stands around was done where the parts stand
+  pub in_own_body : ((chain : List Link) (conts : Conts Stored) → 0 < length chain → StandsSomewhere m (parts x.store (with_top s chain) conts)
+      → RunsInBody last n m (parts x.store (with_top s chain) conts) (parts u' (with_top s' chain) conts)) → RunsInBody last n m x (parts u' (with_top s' x.chain) x.conts)
+  in_own_body runs = subst (λ (c : List Link). RunsInBody last n m (parts x.store c x.conts) (parts u' (with_top s' x.chain) x.conts)) own
+      (runs x.chain x.conts some (subst (λ (c : List Link). StandsSomewhere m (parts x.store c x.conts)) (sym own) stands))
+
+-- whether frames are within the limit
+pub few_frames : (n k : ℕ) → n ≡ k → n ≤ most_frames → true ≡ nat_le k most_frames
+few_frames n k e few = sym (le-leb k most_frames (omega (arith, e, few)))
+
+pub many_frames : (n k : ℕ) → n ≡ k → most_frames < n → nat_le k most_frames ≡ false
+many_frames n k e many = by (leb_tells k most_frames)
+  where
+    by : ((nat_le k most_frames ≡ true) × (k ≤ most_frames)) ⊎ ((nat_le k most_frames ≡ false) × (most_frames < k)) → nat_le k most_frames ≡ false
+    by (inl h) = let few = h.1 in absurd (omega (arith, e, many, few))
+    by (inr h) = h.0
+
+-- so many were taken before, and then those in a body
+module _ {m : Module} {x y z : Parts} (k n : ℕ) (first : TakesMany m x k y) where
+  pub after_went : RunsInBody progress.Went n m y z → Reached m (k + n) x z
+  after_went run = subst (Reached m (k + n) x) (sym run.ends) (record { many = takes_more k n (k + n) refl first run.many; stands = run.stands })
+
+  pub after_last : (last : Progress) (run : RunsInBody last n m y z) → TakesOne true m run.between z → TakesMany m x (k + n + 1) z
+  after_last last run one = one_more (takes_more k n (k + n) refl first run.many) one
+
+  pub ends_beyond : RunsInBody progress.Entered n m y z → nat_le (frames_in_all z.chain) most_frames ≡ false → HastensParts false (k + n) m x z
+  ends_beyond run beyond = record { between = run.between; many = takes_more k n (k + n) refl first run.many; last = run.ends false (sym beyond) }
+
+  ends_alone : (last : Progress) (run : RunsInBody last n m y z) → LeavesAlone run.between z → HastensParts true (k + n) m x z
+  ends_alone last run left = record { between = run.between; many = takes_more k n (k + n) refl first run.many; last = left }
+
+  pub ends_untaken : (last : Progress) → (last ≡ progress.Trapped) ⊎ ((last ≡ progress.NotAttempted) ⊎ (last ≡ progress.NoRoom)) → RunsInBody last n m y z → HastensParts true (k + n) m x z
+  ends_untaken last (inl e) run = let r = subst (λ (a : Progress). RunsInBody a n m y z) e run in ends_alone progress.Trapped r r.ends
+  ends_untaken last (inr (inl e)) run = let r = subst (λ (a : Progress). RunsInBody a n m y z) e run in ends_alone progress.NotAttempted r r.ends
+  ends_untaken last (inr (inr e)) run = let r = subst (λ (a : Progress). RunsInBody a n m y z) e run in ends_alone progress.NoRoom r r.ends
 
 -- ## With other room
 

@@ -4,7 +4,7 @@ use Rattle.lists.specs.Rows.{Row}
 use Rattle.w_syntax.specs.declared.module.Module.{Module}
 use Rattle.w_rules.specs.Operands.{Operand}
 use Rattle.w_rules.specs.Sound.{Sound}
-use Rattle.w_segment.specs.Link.{Link, rest, one}
+use Rattle.w_segment.specs.Link.{Link}
 use Rattle.w_reduce.specs.Values.{Val}
 use Rattle.w_reduce.specs.Store.{Store}
 use Rattle.w_reduce.specs.Terms.{Rest, Context, Term, Continuation}

@@ -4,7 +4,7 @@ ghost use Rattle.w_syntax.specs.declared.instructions.Instr.TheVariants as flat;
 ghost use Rattle.w_reduce.specs.Program.{arity_of, function_arity};
 ghost use Rattle.w_stands.specs.Code.{AreNarrow};
 ghost use Rattle.w_stands.specs.Keeps.{Keeps};
-ghost use Rattle.w_stands.specs.Steps.{MovesAlone, FollowsAlone};
+ghost use Rattle.w_stands.specs.Steps.{MovesAlone, FollowsAlone, Stays};
 ghost use Rattle.w_stands.specs.declared.did.Did.TheVariants as did;
 ghost use Rattle.w_control_ops.specs.Entering.{kept_by, target_of, start_of as start, IsLabelled};
 
@@ -108,6 +108,7 @@ pub fn block(program: &Module, stack: &mut Stack, kind: BlockKind, block_type: B
     requires moves { MovesAlone (flat.Block kind block_type end) program.now stack.old }
     ensures goes { FollowsAlone did.Went program.now stack.old stack.new }
     ensures keeps { Keeps stack.old stack.new }
+    ensures stays { Stays stack.old stack.new }
 {
     let arity = block_arity(program, block_type);
     let place = stack.place();
@@ -142,6 +143,7 @@ pub fn choice(
     requires moves { MovesAlone (flat.If block_type otherwise end) program.now stack.old }
     ensures goes { FollowsAlone did.Went program.now stack.old stack.new }
     ensures keeps { Keeps stack.old stack.new }
+    ensures stays { Stays stack.old stack.new }
 {
     let arity = block_arity(program, block_type);
     let place = stack.place();

@@ -4,7 +4,7 @@ ghost use Rattle.w_syntax.specs.declared.instructions.Instr.TheVariants as flat;
 ghost use Rattle.w_syntax.specs.declared.instructions.Op.TheVariants as op;
 ghost use Rattle.w_syntax.specs.declared.memory_instructions.MemoryOp.TheVariants as memory;
 ghost use Rattle.w_stands.specs.Keeps.{KeepsAll};
-ghost use Rattle.w_stands.specs.Steps.{MovesAt, Follows};
+ghost use Rattle.w_stands.specs.Steps.{MovesAt, Follows, Stays};
 
 use crate::finishing::finish;
 use crate::numbers::{address, extended, loaded_size, stored_bits, stored_size};
@@ -16,7 +16,7 @@ use w_tables::Store;
 
 /// A load, or its trap.
 #[inline(always)]
-pub(crate) fn load(
+pub fn load(
     program: &Module,
     store: &Store,
     stack: &mut Stack,
@@ -26,6 +26,7 @@ pub(crate) fn load(
     requires moves { MovesAt (flat.Plain (op.Memory (memory.Load operation arg))) program.now store.now stack.old }
     ensures goes { Follows result program.now [] store.now stack.old store.now stack.new }
     ensures keeps { KeepsAll store.now stack.old store.now stack.new }
+    ensures stays { Stays stack.old stack.new }
 {
     let _program = program;
     let memory = store.memory(arg.memory);
@@ -41,7 +42,7 @@ pub(crate) fn load(
 
 /// A store, or its trap.
 #[inline(always)]
-pub(crate) fn store_number(
+pub fn store_number(
     program: &Module,
     store: &mut Store,
     stack: &mut Stack,
@@ -51,6 +52,7 @@ pub(crate) fn store_number(
     requires moves { MovesAt (flat.Plain (op.Memory (memory.Store operation arg))) program.now store.old stack.old }
     ensures goes { Follows result program.now [] store.old stack.old store.new stack.new }
     ensures keeps { KeepsAll store.old stack.old store.new stack.new }
+    ensures stays { Stays stack.old stack.new }
 {
     let _program = program;
     let (base, value) = top_two(stack);

@@ -8,4 +8,5 @@ mod memory_steps;
 mod numbers;
 mod sizes;
 
+pub use accesses::{load, store_number};
 pub use memory_steps::memory;

@@ -1,5 +1,5 @@
 -- Attempts at reductions, by what the calls that take them came to.
-use Rattle.std.proofs.Common.{◌≡◌, true, false, List, Some, None, Result, Ok, Err, refl, sym, ap, ◌∙◌, subst}
+use Rattle.std.proofs.Common.{◌≡◌, inl, inr, true, false, List, Some, None, Result, Ok, Err, refl, sym, ap, ◌∙◌, subst}
 use Rattle.std.specs.declared.alloc.AllocError.{AllocError}
 use Rattle.w_syntax.specs.declared.instructions.Op.TheVariants as op
 use Rattle.w_syntax.specs.declared.instructions.Instr.{Instr}
@@ -14,11 +14,11 @@ use Rattle.w_tables.specs.Store as instances
 use Rattle.w_stands.specs.declared.did.Did.{Did}
 use Rattle.w_stands.specs.declared.did.Did.TheVariants as did
 use Rattle.w_stands.specs.Keeps.{Keeps}
-use Rattle.w_stands.specs.Steps.{FollowsAlone}
+use Rattle.w_stands.specs.Steps.{FollowsAlone, Stays}
 use Rattle.w_plain.specs.Stepped.{HasStepped}
 use Rattle.w_plain.specs.declared.progress.Progress.{Progress}
 use Rattle.w_plain.specs.declared.progress.Progress.TheVariants as progress
-use Rattle.w_plain.specs.Attempted.{attempt_of, Attempted, IsAttempt, was_made, is_branch_table, is_attempted}
+use Rattle.w_plain.specs.Attempted.{attempt_of, Attempted, AttemptsMove, IsAttempt, was_made, is_branch_table, is_attempted}
 use Rattle.w_stands.specs.Room.{Roomier}
 use Rattle.w_stands.proofs.RoomOfFrames.{same_grown}
 use Rattle.w_plain.proofs.Prints.{same_parts}
@@ -105,18 +105,42 @@ common_attempted fs (packed.Reference o) h = absurd (cc)
 common_attempted fs (packed.Switching o) h = absurd (cc)
 common_attempted fs p h = refl
 
--- what came of a call that takes its reduction
+-- what came of a call that takes its reduction, and stays where it is
 pub common_attempt : {m : Module} {u u' : instances.Store} {s s' : Shape} (p : PackedInstr) (r : Result Did AllocError) (a : Progress) → a ≡ attempt_of r → is_common p ≡ true
-    → HasStepped r m u s u' s' → IsAttempt a p m u s u' s'
-common_attempt {m} {u} {u'} {s} {s'} p r a e h k = rw e (record {
+    → HasStepped r m u s u' s' → Stays s s' → IsAttempt a p m u s u' s'
+common_attempt {m} {u} {u'} {s} {s'} p r a e h k stays = rw e (record {
   step = attempted_step r m u u' s s' k;
   made = made r ∙ sym (common_attempted u.functions p h);
   went = λ e. common_calls_none p h;
+  stays = λ e. stays;
 })
+
+-- and of one that may not
+pub moved_step : {m : Module} {u u' : instances.Store} {s s' : Shape} (d : Did) (a : Progress) → AttemptsMove d a s s' → HasStepped (Ok d) m u s u' s' → Attempted a m u s u' s'
+moved_step {m} {u} {u'} {s} {s'} d a (inl (e, stays)) k = subst (λ (x : Progress). Attempted x m u s u' s') (sym e) (attempted_step (Ok d) m u u' s s' k)
+moved_step {m} {u} {u'} {s} {s'} d a (inr (e, went)) k =
+    subst (λ (x : Progress). Attempted x m u s u' s') (sym e) (subst (λ (y : Did). HasStepped (Ok y) m u s u' s') went k)
+
+pub moved_made : (s s' : Shape) (d : Did) (a : Progress) → AttemptsMove d a s s' → was_made a ≡ true
+moved_made s s' d a (inl (e, stays)) = ap was_made e ∙ made (Ok d)
+moved_made s s' d a (inr (e, went)) = ap was_made e
+
+pub moved_stays : (s s' : Shape) (d : Did) (a : Progress) → AttemptsMove d a s s' → a ≡ progress.Went → Stays s s'
+moved_stays s s' d a (inl (e, stays)) h = stays h
+moved_stays s s' d a (inr (e, went)) h = absurd (let x = sym e ∙ h in cc)
+
+pub moved_attempt : {m : Module} {u u' : instances.Store} {s s' : Shape} (p : PackedInstr) (d : Did) (a : Progress) → AttemptsMove d a s s' → is_common p ≡ true
+    → HasStepped (Ok d) m u s u' s' → IsAttempt a p m u s u' s'
+moved_attempt {u = u} {s = s} {s' = s'} p d a move h k = record {
+  step = moved_step d a move k;
+  made = moved_made s s' d a move ∙ sym (common_attempted u.functions p h);
+  went = λ e. common_calls_none p h;
+  stays = moved_stays s s' d a move;
+}
 
 -- none of a rarer one is made
 pub rare_attempt : (p : PackedInstr) (m : Module) (u : instances.Store) (s : Shape) → is_attempted u.functions p ≡ false → IsAttempt progress.NotAttempted p m u s u s
-rare_attempt p m u s h = record { step = nothing_attempted m u s; made = sym h; went = λ e. absurd (cc) }
+rare_attempt p m u s h = record { step = nothing_attempted m u s; made = sym h; went = λ e. absurd (cc); stays = λ e. absurd (cc) }
 
 -- so nothing is called at the place where it stands
 pub calls_there : (m : Module) (s : Shape) (i : Instr) → Some i ≡ instr_of m s.func s.place → calls_at (Some i) ≡ false → calls_at (instr_of m s.func s.place) ≡ false

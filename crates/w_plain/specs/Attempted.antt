@@ -1,5 +1,5 @@
 -- What an attempt at a reduction that prints nothing comes to.
-use Rattle.std.specs.Prelude.{◌≡◌, Bool, true, false, List, [], Option, Some, None, slice_get, Result, Ok, Err}
+use Rattle.std.specs.Prelude.{◌≡◌, ◌⊎◌, Bool, true, false, List, [], Option, Some, None, slice_get, Result, Ok, Err}
 use Rattle.std.specs.declared.alloc.AllocError.{AllocError}
 use Rattle.w_syntax.specs.declared.instructions.ControlOp.TheVariants as control
 use Rattle.w_syntax.specs.declared.instructions.Op.TheVariants as op
@@ -17,7 +17,7 @@ use Rattle.w_reduce.specs.declared.trap.Trap.{Trap}
 use Rattle.w_stands.specs.declared.did.Did.{Did}
 use Rattle.w_stands.specs.declared.did.Did.TheVariants as did
 use Rattle.w_stands.specs.Room.{Roomier}
-use Rattle.w_stands.specs.Steps.{Follows}
+use Rattle.w_stands.specs.Steps.{Follows, Stays}
 use Rattle.w_plain.specs.declared.progress.Progress.{Progress}
 use Rattle.w_plain.specs.declared.progress.Progress.TheVariants as progress
 use Rattle.w_syntax.specs.Packed.{unpacked}
@@ -33,10 +33,21 @@ attempt_of (Err e) = progress.NoRoom
 -- its reduction was taken, or all is as it was but for room: it traps, or none was attempted, or there was no room for it
 abbrev pub Attempted : Progress → Module → instances.Store → Shape → instances.Store → Shape → Type 0
 Attempted progress.Went m u s u' s' = Takes did.Went m [] u s u' s'
+Attempted progress.Moved m u s u' s' = Takes did.Went m [] u s u' s'
 Attempted progress.Entered m u s u' s' = Takes did.Went m [] u s u' s'
 Attempted progress.Trapped m u s u' s' = (u' ≡ u) × Roomier s s' × ((t : Trap) × Follows (did.Trapped t) m [] u s u s)
 Attempted progress.NotAttempted m u s u' s' = (u' ≡ u) × Roomier s s'
 Attempted progress.NoRoom m u s u' s' = (u' ≡ u) × Roomier s s'
+
+-- its reduction was taken, and no function was called
+abbrev pub goes_on : Progress → Bool
+goes_on progress.Went = true
+goes_on progress.Moved = true
+goes_on a = false
+
+-- the attempt at a reduction that came to this, behind which the stack may stand elsewhere
+abbrev pub AttemptsMove : Did → Progress → Shape → Shape → Type 0
+AttemptsMove d a s s' = ((a ≡ attempt_of (Ok d)) × (a ≡ progress.Went → Stays s s')) ⊎ ((a ≡ progress.Moved) × (d ≡ did.Went))
 
 -- ## When one is made
 
@@ -74,8 +85,9 @@ is_attempted_at fs (Some p) = is_attempted fs p
 
 -- ## At an instruction
 
--- It came to this, was made exactly where it is attempted, and where it only went on nothing is called.
+-- It came to this, was made exactly where it is attempted, where it only went on nothing is called, and the stack stays where it didn't move.
 pub record IsAttempt (result : Progress) (p : PackedInstr) (m : Module) (u : instances.Store) (s : Shape) (u' : instances.Store) (s' : Shape) : Type 0 where
   pub step : Attempted result m u s u' s'
   pub made : was_made result ≡ is_attempted u.functions p
-  pub went : result ≡ progress.Went → calls_at (Some (unpacked p)) ≡ false
+  pub went : goes_on result ≡ true → calls_at (Some (unpacked p)) ≡ false
+  pub stays : result ≡ progress.Went → Stays s s'

@@ -6,21 +6,21 @@ ghost use Rattle.w_syntax.specs.declared.instructions.Op.TheVariants as op;
 ghost use Rattle.w_syntax.specs.declared.memory_instructions.MemoryOp.TheVariants as memory;
 ghost use Rattle.w_segment.specs.declared.entry.Stage.TheVariants.{Body};
 ghost use Rattle.w_stands.specs.Code.{instr_of};
-ghost use Rattle.w_stands.specs.Steps.{MovesAt};
+ghost use Rattle.w_stands.specs.Steps.{MovesAt, Stays};
 ghost use Rattle.w_plain.specs.Meets.{Applies};
 ghost use Rattle.w_plain.specs.Plainness.{switches_at, calls_at};
 ghost use Rattle.w_plain.specs.declared.progress.Progress.TheVariants as progress;
-ghost use Rattle.w_plain.specs.Attempted.{Attempted, IsAttempt, was_made, is_attempted_at};
+ghost use Rattle.w_plain.specs.Attempted.{Attempted, IsAttempt, goes_on, was_made, is_attempted_at};
 
 use crate::blocks::{enter_block, enter_choice};
-use crate::control_attempts::{attempt_boxed, control, progress_of};
+use crate::control_attempts::{attempt_boxed, control, move_of, progress_of};
 use crate::exits::{leave_else, leave_end};
-use crate::families::{in_memory, number, parametric};
+use crate::families::{loading, number, parametric, storing};
 use crate::progress::Progress;
 use crate::values::variable;
 use w_rules::Runnable;
 use w_segment::Stack;
-use w_syntax::{MemArg, MemoryOp, Module, NumericOp, PackedInstr, ParametricOp};
+use w_syntax::{MemArg, Module, NumericOp, PackedInstr, ParametricOp};
 use w_tables::Store;
 
 // What a load or a store takes.
@@ -47,6 +47,7 @@ fn at_instruction(
 ) -> Progress
     requires same { runnable.now ≡ program.now }
     requires moves { switches_at (Some (unpacked packed.now)) ≡ false → MovesAt (unpacked packed.now) program.now store.old stack.old }
+    requires body { stack.old.stage ≡ Body }
     ensures attempt { IsAttempt result packed.now program.now store.old stack.old store.new stack.new }
 {
     match packed {
@@ -67,13 +68,11 @@ fn at_instruction(
         ))),
         PackedInstr::Load(operation, align, memory, offset) => {
             let argument = argument_of(*align, *memory, *offset);
-            let operation = MemoryOp::Load(*operation, argument);
-            progress_of(in_memory(program, store, stack, operation))
+            progress_of(Ok(loading(program, store, stack, *operation, argument)))
         }
         PackedInstr::Store(operation, align, memory, offset) => {
             let argument = argument_of(*align, *memory, *offset);
-            let operation = MemoryOp::Store(*operation, argument);
-            progress_of(in_memory(program, store, stack, operation))
+            progress_of(Ok(storing(program, store, stack, *operation, argument)))
         }
         PackedInstr::I32Const(value) => progress_of(Ok(number(
             program,
@@ -122,8 +121,16 @@ fn at_instruction(
                 *end,
             )))
         }
-        PackedInstr::Else => progress_of(Ok(leave_else(program, store, stack))),
-        PackedInstr::End => progress_of(Ok(leave_end(program, store, stack))),
+        PackedInstr::Else => {
+            let function = stack.func();
+            let outcome = leave_else(program, store, stack);
+            move_of(stack, function, outcome)
+        }
+        PackedInstr::End => {
+            let function = stack.func();
+            let outcome = leave_end(program, store, stack);
+            move_of(stack, function, outcome)
+        }
         PackedInstr::Control(operation) => control(program, runnable, store, stack, *operation),
         PackedInstr::Boxed(instr) => attempt_boxed(program, store, stack, instr),
         _ => Progress::NotAttempted,
@@ -149,12 +156,17 @@ pub fn attempt(
     // It is attempted exactly at what is common, and that switches no stacks.
     ensures made { was_made result ≡ is_attempted_at store.old.functions (option_map (λ p. p.now) found.entry) }
     ensures plain { was_made result ≡ true → switches_at (instr_of program.now stack.old.func stack.old.place) ≡ false }
-    // Where it only went on, nothing is called there.
-    ensures went { result ≡ progress.Went → calls_at (instr_of program.now stack.old.func stack.old.place) ≡ false }
+    // Where it only went on, nothing is called there, and where it didn't move the stack stands in the body where it stood.
+    ensures went { goes_on result ≡ true → calls_at (instr_of program.now stack.old.func stack.old.place) ≡ false }
+    ensures stays { result ≡ progress.Went → Stays stack.old stack.new }
 {
     let source = program.module();
     match found {
         Some(packed) => at_instruction(source, program, store, stack, packed),
-        None => progress_of(Ok(leave_end(source, store, stack))),
+        None => {
+            let function = stack.func();
+            let outcome = leave_end(source, store, stack);
+            move_of(stack, function, outcome)
+        }
     }
 }

@@ -1,7 +1,7 @@
 //! Blocks, and where sequences end.
 ghost use Rattle.std.specs.Prelude.{[]};
 ghost use Rattle.w_syntax.specs.declared.instructions.Instr.TheVariants as flat;
-ghost use Rattle.w_stands.specs.Steps.{MovesAt};
+ghost use Rattle.w_stands.specs.Steps.{MovesAt, Stays};
 ghost use Rattle.w_plain.specs.Stepped.{Takes};
 
 use w_control_ops::{block, choice};
@@ -23,6 +23,7 @@ pub(crate) fn enter_block(
 ) -> Did
     requires moves { MovesAt (flat.Block kind block_type end) program.now store.old stack.old }
     ensures step { Takes result program.now [] store.old stack.old store.new stack.new }
+    ensures stays { Stays stack.old stack.new }
 {
     let _store = store;
     block(program, stack, kind, block_type, end);
@@ -42,6 +43,7 @@ pub(crate) fn enter_choice(
 ) -> Did
     requires moves { MovesAt (flat.If block_type otherwise end) program.now store.old stack.old }
     ensures step { Takes result program.now [] store.old stack.old store.new stack.new }
+    ensures stays { Stays stack.old stack.new }
 {
     let _store = store;
     choice(program, stack, block_type, otherwise, end);

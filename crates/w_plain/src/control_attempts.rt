@@ -1,15 +1,17 @@
 //! Attempts at control instructions.
-ghost use Rattle.std.specs.Prelude.{◌≡◌, ◌≢◌, false, Some, slice_get};
+ghost use Rattle.std.specs.Prelude.{◌≡◌, false, true, Some, slice_get};
 ghost use Rattle.w_syntax.specs.Packed.{control_of};
 ghost use Rattle.w_syntax.specs.declared.instructions.Instr.TheVariants as flat;
 ghost use Rattle.w_syntax.specs.declared.instructions.Op.TheVariants as op;
 ghost use Rattle.w_syntax.specs.declared.packed.PackedInstr.TheVariants as packed;
 ghost use Rattle.w_syntax.specs.declared.packed.ShortControlOp.TheVariants as short;
-ghost use Rattle.w_stands.specs.Steps.{MovesAt};
+ghost use Rattle.w_segment.specs.Shape.{Shape};
+ghost use Rattle.w_segment.specs.declared.entry.Stage.TheVariants.{Body};
+ghost use Rattle.w_stands.specs.Steps.{MovesAt, Stays};
 ghost use Rattle.w_plain.specs.Commonness.{is_call};
 ghost use Rattle.w_plain.specs.Plainness.{switches_at, calls_at};
 ghost use Rattle.w_plain.specs.declared.progress.Progress.TheVariants as progress;
-ghost use Rattle.w_plain.specs.Attempted.{attempt_of, Attempted, was_made, is_own, is_branch_table, is_attempted};
+ghost use Rattle.w_plain.specs.Attempted.{attempt_of, Attempted, AttemptsMove, goes_on, was_made, is_own, is_branch_table, is_attempted};
 
 use crate::controls::branching;
 use crate::progress::Progress;
@@ -17,7 +19,7 @@ use std::alloc::AllocError;
 use w_call_ops::call_own;
 use w_control_ops::br_table;
 use w_rules::Runnable;
-use w_segment::Stack;
+use w_segment::{Stack, Stage};
 use w_stands::Did;
 use w_syntax::{ControlOp, Instr, Module, Op, ShortControlOp};
 use w_tables::{FuncEntry, Store};
@@ -35,6 +37,21 @@ pub(crate) fn progress_of(outcome: Result<Did, AllocError>) -> Progress
     }
 }
 
+/// The attempt at a reduction that came to this, where the stack stood in the body of this function and may stand elsewhere.
+#[inline(always)]
+pub(crate) fn move_of(stack: &Stack, function: u32, outcome: Did) -> Progress
+    ensures moves { (s : Shape) → s.func ≡ function → s.stage ≡ Body → AttemptsMove outcome result s stack.now }
+    ensures made { was_made result ≡ true }
+{
+    match outcome {
+        Did::Went => match stack.stage() {
+            Stage::Body if stack.func() == function => Progress::Went,
+            _ => Progress::Moved,
+        },
+        Did::Trapped(_) => Progress::Trapped,
+    }
+}
+
 // A call of a function of the module.
 #[inline(always)]
 #[tactic(auto, using(crate::proofs::Prints::call_calls))]
@@ -49,7 +66,7 @@ fn call(
     requires moves { MovesAt (flat.Plain (op.Control (control_of (short.Call address)))) program.now store.old stack.old }
     ensures step { Attempted result program.now store.old stack.old store.new stack.new }
     ensures made { was_made result ≡ is_own (slice_get store.old.functions address) }
-    ensures went { result ≢ progress.Went }
+    ensures went { goes_on result ≡ false }
 {
     match store.function(address) {
         FuncEntry::Own(function) => {
@@ -77,7 +94,7 @@ fn tail_call(
     requires moves { MovesAt (flat.Plain (op.Control (control_of (short.ReturnCall address)))) program.now store.old stack.old }
     ensures step { Attempted result program.now store.old stack.old store.new stack.new }
     ensures made { was_made result ≡ is_own (slice_get store.old.functions address) }
-    ensures went { result ≢ progress.Went }
+    ensures went { goes_on result ≡ false }
 {
     match store.function(address) {
         FuncEntry::Own(function) => {
@@ -104,7 +121,8 @@ pub(crate) fn control(
     requires moves { MovesAt (flat.Plain (op.Control (control_of operation))) program.now store.old stack.old }
     ensures step { Attempted result program.now store.old stack.old store.new stack.new }
     ensures made { was_made result ≡ is_attempted store.old.functions (packed.Control operation) }
-    ensures went { result ≡ progress.Went → is_call operation ≡ false }
+    ensures went { goes_on result ≡ true → is_call operation ≡ false }
+    ensures stays { result ≡ progress.Went → Stays stack.old stack.new }
 {
     match operation {
         ShortControlOp::Call(function) => call(program, runnable, store, stack, function),
@@ -115,7 +133,11 @@ pub(crate) fn control(
         ),
         ShortControlOp::ReturnCallIndirect(_, _) => Progress::NotAttempted,
         ShortControlOp::ReturnCallRef(_) => Progress::NotAttempted,
-        _ => progress_of(Ok(branching(program, stack, operation))),
+        _ => {
+            let function = stack.func();
+            let outcome = branching(program, stack, operation);
+            move_of(stack, function, outcome)
+        }
     }
 }
 
@@ -129,14 +151,17 @@ pub(crate) fn attempt_boxed(
     instr: &Instr,
 ) -> Progress
     requires moves { switches_at (Some instr.now) ≡ false → MovesAt instr.now program.now store.old stack.old }
+    requires body { stack.old.stage ≡ Body }
     ensures step { Attempted result program.now store.old stack.old store.new stack.new }
     ensures made { was_made result ≡ is_branch_table instr.now }
-    ensures went { result ≡ progress.Went → calls_at (Some instr.now) ≡ false }
+    ensures went { goes_on result ≡ true → calls_at (Some instr.now) ≡ false }
+    ensures stays { result ≡ progress.Went → Stays stack.old stack.new }
 {
     let _store = store;
+    let function = stack.func();
     if let Instr::Plain(Op::Control(ControlOp::BrTable(labels, last))) = instr {
         br_table(program, stack, labels, *last);
-        return Progress::Went;
+        return move_of(stack, function, Did::Went);
     }
     Progress::NotAttempted
 }

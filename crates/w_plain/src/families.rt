@@ -2,14 +2,15 @@
 ghost use Rattle.std.specs.Prelude.{[]};
 ghost use Rattle.w_syntax.specs.declared.instructions.Instr.TheVariants as flat;
 ghost use Rattle.w_syntax.specs.declared.instructions.Op.TheVariants as op;
-ghost use Rattle.w_stands.specs.Steps.{MovesAt};
+ghost use Rattle.w_syntax.specs.declared.memory_instructions.MemoryOp.TheVariants as memory;
+ghost use Rattle.w_stands.specs.Steps.{MovesAt, Stays};
 ghost use Rattle.w_plain.specs.Stepped.{HasStepped, Takes};
 
 use std::alloc::AllocError;
-use w_memory_ops::memory;
+use w_memory_ops::{load, memory, store_number};
 use w_segment::Stack;
 use w_stands::Did;
-use w_syntax::{MemoryOp, Module, NumericOp, ParametricOp, TableOp};
+use w_syntax::{LoadOp, MemArg, MemoryOp, Module, NumericOp, ParametricOp, StoreOp, TableOp};
 use w_table_ops::table;
 use w_tables::Store;
 use w_value_ops::{drop_operand, numeric, select};
@@ -25,9 +26,42 @@ pub(crate) fn number(
 ) -> Did
     requires moves { MovesAt (flat.Plain (op.Numeric operation)) program.now store.old stack.old }
     ensures step { Takes result program.now [] store.old stack.old store.new stack.new }
+    ensures stays { Stays stack.old stack.new }
 {
     let _store = store;
     numeric(program, stack, operation)
+}
+
+/// A load.
+#[inline(always)]
+pub(crate) fn loading(
+    program: &Module,
+    store: &mut Store,
+    stack: &mut Stack,
+    operation: LoadOp,
+    argument: MemArg,
+) -> Did
+    requires moves { MovesAt (flat.Plain (op.Memory (memory.Load operation argument))) program.now store.old stack.old }
+    ensures step { Takes result program.now [] store.old stack.old store.new stack.new }
+    ensures stays { Stays stack.old stack.new }
+{
+    load(program, store, stack, operation, argument)
+}
+
+/// A store.
+#[inline(always)]
+pub(crate) fn storing(
+    program: &Module,
+    store: &mut Store,
+    stack: &mut Stack,
+    operation: StoreOp,
+    argument: MemArg,
+) -> Did
+    requires moves { MovesAt (flat.Plain (op.Memory (memory.Store operation argument))) program.now store.old stack.old }
+    ensures step { Takes result program.now [] store.old stack.old store.new stack.new }
+    ensures stays { Stays stack.old stack.new }
+{
+    store_number(program, store, stack, operation, argument)
 }
 
 /// A memory instruction.
@@ -71,6 +105,7 @@ pub(crate) fn parametric(
 ) -> Did
     requires moves { MovesAt (flat.Plain (op.Parametric operation.now)) program.now store.old stack.old }
     ensures step { Takes result program.now [] store.old stack.old store.new stack.new }
+    ensures stays { Stays stack.old stack.new }
 {
     let _store = store;
     match operation {

@@ -3,8 +3,10 @@
 /// What an attempt at a reduction comes to.
 #[derive(Clone, Copy)]
 pub enum Progress {
-    /// It was taken, and no function was called.
+    /// It was taken, no function was called, and the stack stands in the body where it stood.
     Went,
+    /// It was taken, no function was called, and the stack may stand elsewhere.
+    Moved,
     /// It was taken, and entered a function: one frame more stands.
     Entered,
     /// It traps, and was not taken.

@@ -2,7 +2,7 @@
 ghost use Rattle.std.specs.Prelude.{[]};
 ghost use Rattle.w_syntax.specs.declared.instructions.Instr.TheVariants as flat;
 ghost use Rattle.w_syntax.specs.declared.instructions.Op.TheVariants as op;
-ghost use Rattle.w_stands.specs.Steps.{MovesAt};
+ghost use Rattle.w_stands.specs.Steps.{MovesAt, Stays};
 ghost use Rattle.w_plain.specs.Stepped.{Takes};
 
 use w_segment::Stack;
@@ -25,6 +25,7 @@ pub(crate) fn variable(
 ) -> Did
     requires moves { MovesAt (flat.Plain (op.Variable operation)) program.now store.old stack.old }
     ensures step { Takes result program.now [] store.old stack.old store.new stack.new }
+    ensures stays { Stays stack.old stack.new }
 {
     match operation {
         VariableOp::LocalGet(index) => {

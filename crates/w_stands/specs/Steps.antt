@@ -60,6 +60,10 @@ Follows did.Went m out u s u' s' = (p : Program) (o : Outside) (e : Context) (r 
 Follows (did.Trapped t) m out u s u' s' = ((p : Program) (o : Outside) (e : Context) (r : Rest) → Configured m u s p o e r → next_of p u s e r ≡ Trapped t)
     × (out ≡ []) × (u' ≡ u) × (s' ≡ s)
 
+-- the stack stands in the same function, and in its body if it did
+abbrev pub Stays : Shape → Shape → Type 0
+Stays s s' = (s'.func ≡ s.func) × (s'.stage ≡ s.stage)
+
 -- ## Calls that touch the stack alone: the same with every store
 
 -- some configuration in which the stack stands at the instruction, and to which a rule applies

@@ -3,7 +3,7 @@ ghost use Rattle.w_syntax.specs.declared.instructions.Instr.TheVariants as flat;
 ghost use Rattle.w_syntax.specs.declared.instructions.Op.TheVariants as op;
 ghost use Rattle.w_syntax.specs.declared.instructions.VariableOp.TheVariants as variable;
 ghost use Rattle.w_stands.specs.Keeps.{Keeps};
-ghost use Rattle.w_stands.specs.Steps.{MovesAlone, FollowsAlone};
+ghost use Rattle.w_stands.specs.Steps.{MovesAlone, FollowsAlone, Stays};
 ghost use Rattle.w_stands.specs.declared.did.Did.TheVariants as did;
 
 use w_segment::Stack;
@@ -16,6 +16,7 @@ pub fn local_get(program: &Module, stack: &mut Stack, index: u32)
     requires moves { MovesAlone (flat.Plain (op.Variable (variable.LocalGet index))) program.now stack.old }
     ensures goes { FollowsAlone did.Went program.now stack.old stack.new }
     ensures keeps { Keeps stack.old stack.new }
+    ensures stays { Stays stack.old stack.new }
 {
     let _program = program;
     match stack.local_get(index) {
@@ -30,6 +31,7 @@ pub fn local_set(program: &Module, stack: &mut Stack, index: u32)
     requires moves { MovesAlone (flat.Plain (op.Variable (variable.LocalSet index))) program.now stack.old }
     ensures goes { FollowsAlone did.Went program.now stack.old stack.new }
     ensures keeps { Keeps stack.old stack.new }
+    ensures stays { Stays stack.old stack.new }
 {
     let _program = program;
     let value = stack.pop();
@@ -43,6 +45,7 @@ pub fn local_tee(program: &Module, stack: &mut Stack, index: u32)
     requires moves { MovesAlone (flat.Plain (op.Variable (variable.LocalTee index))) program.now stack.old }
     ensures goes { FollowsAlone did.Went program.now stack.old stack.new }
     ensures keeps { Keeps stack.old stack.new }
+    ensures stays { Stays stack.old stack.new }
 {
     let _program = program;
     let value = stack.peek();

@@ -8,7 +8,7 @@ ghost use Rattle.w_reduce.specs.Room.{gives_one};
 ghost use Rattle.w_stands.specs.Keeps.{Keeps, OnPlain};
 ghost use Rattle.w_types.specs.declared.value.Value.{Value as TheValue};
 ghost use Rattle.w_value_ops.specs.Rules.{IsGiving};
-ghost use Rattle.w_stands.specs.Steps.{MovesAlone, FollowsAlone};
+ghost use Rattle.w_stands.specs.Steps.{MovesAlone, FollowsAlone, Stays};
 ghost use Rattle.w_stands.specs.declared.did.Did.TheVariants as did;
 
 use crate::numbers::{compared, converted, eqz_of, joined, unary_of};
@@ -25,6 +25,7 @@ fn unary(program: &Module, stack: &mut Stack, kind: IntType, operation: Unop)
     requires moves { MovesAlone (flat.Plain (op.Numeric (numeric.Unary kind operation))) program.now stack.old }
     ensures goes { FollowsAlone did.Went program.now stack.old stack.new }
     ensures keeps { Keeps stack.old stack.new }
+    ensures stays { Stays stack.old stack.new }
 {
     let _program = program;
     let value = unary_of(kind, operation, stack.peek());
@@ -37,6 +38,7 @@ fn eqz(program: &Module, stack: &mut Stack, kind: IntType)
     requires moves { MovesAlone (flat.Plain (op.Numeric (numeric.Eqz kind))) program.now stack.old }
     ensures goes { FollowsAlone did.Went program.now stack.old stack.new }
     ensures keeps { Keeps stack.old stack.new }
+    ensures stays { Stays stack.old stack.new }
 {
     let _program = program;
     let value = eqz_of(kind, stack.peek());
@@ -49,6 +51,7 @@ fn convert(program: &Module, stack: &mut Stack, operation: Cvtop)
     requires moves { MovesAlone (flat.Plain (op.Numeric (numeric.Convert operation))) program.now stack.old }
     ensures goes { FollowsAlone did.Went program.now stack.old stack.new }
     ensures keeps { Keeps stack.old stack.new }
+    ensures stays { Stays stack.old stack.new }
 {
     let _program = program;
     let value = converted(operation, stack.peek());
@@ -61,6 +64,7 @@ fn compare(program: &Module, stack: &mut Stack, kind: IntType, operation: Relop)
     requires moves { MovesAlone (flat.Plain (op.Numeric (numeric.Compare kind operation))) program.now stack.old }
     ensures goes { FollowsAlone did.Went program.now stack.old stack.new }
     ensures keeps { Keeps stack.old stack.new }
+    ensures stays { Stays stack.old stack.new }
 {
     let _program = program;
     let (below, top) = top_two(stack);
@@ -74,6 +78,7 @@ fn binary(program: &Module, stack: &mut Stack, kind: IntType, operation: Binop) 
     requires moves { MovesAlone (flat.Plain (op.Numeric (numeric.Binary kind operation))) program.now stack.old }
     ensures goes { FollowsAlone result program.now stack.old stack.new }
     ensures keeps { Keeps stack.old stack.new }
+    ensures stays { Stays stack.old stack.new }
 {
     let _program = program;
     let (below, top) = top_two(stack);
@@ -95,6 +100,7 @@ fn constant(program: &Module, stack: &mut Stack, operation: NumericOp, value: Va
     requires plain { (test : TheValue → Bool) → OnPlain test → test value ≡ true }
     ensures goes { FollowsAlone did.Went program.now stack.old stack.new }
     ensures keeps { Keeps stack.old stack.new }
+    ensures stays { Stays stack.old stack.new }
 {
     let _program = program;
     let _operation = operation;
@@ -118,6 +124,7 @@ pub fn numeric(program: &Module, stack: &mut Stack, operation: NumericOp) -> Did
     requires moves { MovesAlone (flat.Plain (op.Numeric operation)) program.now stack.old }
     ensures goes { FollowsAlone result program.now stack.old stack.new }
     ensures keeps { Keeps stack.old stack.new }
+    ensures stays { Stays stack.old stack.new }
 {
     match operation {
         NumericOp::I32Const(number) => {

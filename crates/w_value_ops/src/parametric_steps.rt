@@ -6,7 +6,7 @@ ghost use Rattle.w_syntax.specs.declared.instructions.ParametricOp.TheVariants a
 ghost use Rattle.w_reduce.specs.Parametric.{selected};
 ghost use Rattle.w_stands.specs.Keeps.{Keeps};
 ghost use Rattle.w_value_ops.specs.Selects.{IsSelect};
-ghost use Rattle.w_stands.specs.Steps.{MovesAlone, FollowsAlone};
+ghost use Rattle.w_stands.specs.Steps.{MovesAlone, FollowsAlone, Stays};
 ghost use Rattle.w_stands.specs.declared.did.Did.TheVariants as did;
 
 use w_segment::Stack;
@@ -20,6 +20,7 @@ pub fn drop_operand(program: &Module, stack: &mut Stack)
     requires moves { MovesAlone (flat.Plain (op.Parametric parametric.Drop)) program.now stack.old }
     ensures goes { FollowsAlone did.Went program.now stack.old stack.new }
     ensures keeps { Keeps stack.old stack.new }
+    ensures stays { Stays stack.old stack.new }
 {
     let _program = program;
     drop_next(stack, 1);
@@ -40,6 +41,7 @@ pub fn select(program: &Module, stack: &mut Stack, operation: &ParametricOp)
     requires select { IsSelect operation.now }
     ensures goes { FollowsAlone did.Went program.now stack.old stack.new }
     ensures keeps { Keeps stack.old stack.new }
+    ensures stays { Stays stack.old stack.new }
 {
     let _program = program;
     let _operation = operation;
