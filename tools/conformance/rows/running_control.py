@@ -210,6 +210,7 @@ def _recursion_rows():
     sections = {'types': [functype([I32], [I32])], 'functions': [(FIRST_TYPE, code(down))]}
     for times in (0, 1, 5):
         CALLS.counted(f'recursion-{times}-times', [I32], i32_const(times) + call(1), **sections)
+    CALLS.each_step('recursion-twice', main_module([I32], i32_const(2) + call(1), **sections))
     for times in (19998, 19999):
         CALLS.main(f'recursion-{times}-times', [I32], i32_const(times) + call(1), **sections)
     forever = {'functions': [(MAIN_TYPE, code(NOP + call(2)))], **PRINTS}
@@ -226,6 +227,15 @@ def _recursion_rows():
     CALLS.main(
         'frames-by-table', [], i32_const(0) + call_indirect(0, 0), tables=[table(FUNCREF, limits(1))],
         elements=[active_functions([0])])
+
+
+def _cut_rows():
+    """A loop that calls a function with a block, cut at each reduction."""
+    double = block(EMPTY, local_get(0) + I32_EQZ + br_if(0)) + local_get(0) + i32_const(2) + I32_MUL
+    turn = local_get(0) + call(1) + local_get(1) + I32_ADD + local_set(1) + local_get(0) + i32_const(1) + I32_ADD
+    body = loop(EMPTY, turn + local_tee(0) + i32_const(3) + numeric('i32.lt_u') + br_if(0)) + local_get(1)
+    CALLS.each_step('in-a-loop', main_module(
+        [I32], body, [(2, I32)], types=[functype([I32], [I32])], functions=[(FIRST_TYPE, code(double))]))
 
 
 def _printing_rows():
@@ -309,6 +319,7 @@ _loop_rows()
 _null_branch_rows()
 _call_rows()
 _recursion_rows()
+_cut_rows()
 _printing_rows()
 _trap_rows()
 _last_frame_rows()

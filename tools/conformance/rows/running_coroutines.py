@@ -126,6 +126,8 @@ def _step_rows():
     function = module.suspending(printed(1), printed(2))
     STEPS.each_step('suspend-and-resume', module.main([], module.resumed(
         module.fresh(function), printed(3) + resume(module.nothing))))
+    module = Generating()
+    STEPS.each_step('loop-over-a-generator', module.summed(module.counting(3)))
     module = SwitchingModule()
     tag = module.tag([I32], [I32])
     number = module.cont([I32], [I32])
