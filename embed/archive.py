@@ -1,10 +1,10 @@
 """Builds the archive `embed/out/libstackwasm.a`: archive.py [FOLDER].
 
-The libraries below are those that `rt ci` left in this clone, or those of FOLDER; where some are missing, `rt lib` proves and builds all of
-them, which takes an hour and more. The archive's own functions are proved each time.
+The libraries below are those that `rt ci` left in this clone, or those of FOLDER; where some are missing in this clone, `rt ci` is run
+first, which takes an hour where nothing is kept on the machine, and minutes where this text passed before. The archive's own functions are
+proved each time.
 """
 
-import shutil
 import subprocess
 import sys
 from pathlib import Path
@@ -53,18 +53,22 @@ def build_over(folders, direct, rattle_home):
     return subprocess.run(command, cwd=CRATE, check=False).returncode
 
 
+def are_there(libraries, folders):
+    """Whether each library is in one of the folders."""
+    return all(any((folder / f'{library}.rlib').exists() for folder in folders) for library in libraries)
+
+
 def build(folder):
     """Builds the archive, and adds the kit's heap, which stands on the C library's."""
     OUT.mkdir(exist_ok=True)
     rattle_home = kit()
     direct, below = libraries_below()
     folders = [folder] if folder else [ROOT / 'crates' / library / 'out' / 'rlib' for library in below]
-    if all(any((place / f'{library}.rlib').exists() for place in folders) for library in below):
-        status = build_over(folders, direct, rattle_home)
-    else:
-        status = subprocess.run(['rt', 'lib'], cwd=CRATE, check=False).returncode
-        if status == 0:
-            shutil.copy(CRATE / 'out' / f'lib{NAME}.a', OUT / 'libstackwasm.a')
+    if not folder and not are_there(below, folders):
+        status = subprocess.run(['rt', 'ci'], cwd=ROOT, check=False).returncode
+        if status:
+            return status
+    status = build_over(folders, direct, rattle_home)
     if status:
         return status
     subprocess.run(['ar', 'x', rattle_home / 'c' / 'liblibc_c.a', 'heap.pic.o'], cwd=OUT, check=True)

@@ -15,7 +15,7 @@ use Rattle.w_reduce.proofs.Deep.{one_deep}
 use Rattle.w_reduce.specs.Room.{most_operands, most_labels}
 use Rattle.w_stands.specs.Room.{FramesFit, HasRoom, Roomier}
 use Rattle.w_stands.proofs.RoomOfFrames.{grown_fit}
-use Rattle.w_call_ops.specs.Entering.{CanEnter, HasFrameRoom, IsEntered, IsFunction, first_values}
+use Rattle.w_call_ops.specs.Entering.{HasFrameRoom, IsEntered, IsFunction, first_values}
 
 -- what holds of both where it succeeded
 pub both_ok : {T E : Type 0} (P Q : Type 0) (r : Result T E) → OnOk r P → OnOk r Q → OnOk r (P × Q)
@@ -115,13 +115,6 @@ module _ (popped back : ℕ) (s r mid : Shape) (room : Roomier s r) (is : mid �
         operands = h.operands;
         levels = omega (arith, long, l);
       }
-
--- the arguments that are there are those of the function's type
-pub given_here : (m : Module) (i : ℕ) (t : FuncType) (f : Func) (given : List Value) → IsFunction m i t f → CanEnter m i given → length t.params ≤ length given
-given_here m i t f given is there =
-    let same : Some there.kind ≡ Some t = sym there.there.type_is ∙ is.type_is in
-    let e : there.kind ≡ t = cc in
-    subst (λ (x : FuncType). length x.params ≤ length given) e there.some
 
 -- ## Where the stack stands then
 

@@ -1,4 +1,5 @@
 mod Runs
+mod KnownSoFar
 mod FirstValues
 pub mod FrameRoom
 mod Arguments

@@ -44,9 +44,6 @@ module _ (m : Module) (u : instances.Store) (s : Shape) (a popped i : ℕ) (k : 
   pub call_place : s.place + 1 < 2 ^ 32
   call_place = place_fits m s.func s.place (flat.Plain k.i) (k.moves.at.short s.func) k.moves.here
 
-  pub call_short : length (instrs m i) < 2 ^ 32
-  call_short = k.moves.at.short i
-
   -- the arguments of the function that was entered are there
   fits : (s' : Shape) (h : IsEntered m i (s.place + 1) (drop popped s.operands) s s') → length h.kind.params ≤ length (drop popped s.operands)
   fits s' h =

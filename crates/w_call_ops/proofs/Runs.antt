@@ -51,3 +51,11 @@ total_none = refl
 -- with the run at a place there are no more than all
 pub total_within : (rs : List LocalRun) (k : ℕ) (r : LocalRun) → k < length rs → r ≡ get_or rs k r → total (take k rs) + r.count ≤ total rs
 total_within rs k r h e = let a = total_more rs k r h e in let b = total_parts rs (k + 1) in omega (arith, a, b)
+
+-- where there are none
+no_items : {A : Type 0} (xs : List A) → length xs ≤ 0 → xs ≡ []
+no_items [] h = refl
+no_items (x ∷ xs) h = absurd (omega arith)
+
+pub first_values_none : (rs : List LocalRun) → total rs ≤ 0 → first_values rs ≡ []
+first_values_none rs h = no_items (first_values rs) (let l = first_values_long rs in omega (arith, l, h))

@@ -5,14 +5,11 @@ use Rattle.w_types.specs.declared.types.FuncType.{FuncType}
 use Rattle.w_types.specs.declared.value.Value.{Value}
 use Rattle.w_syntax.specs.Flat.{whole}
 use Rattle.w_syntax.specs.Functions.{type_of_function, code_of_function}
-use Rattle.w_syntax.specs.Locals.{total}
 use Rattle.w_syntax.specs.declared.locals.LocalRun.{LocalRun}
 use Rattle.w_syntax.specs.declared.module.Func.{Func}
 use Rattle.w_syntax.specs.declared.module.Module.{Module}
 use Rattle.w_segment.specs.declared.entry.Stage.TheVariants.{Body}
-use Rattle.w_segment.specs.Shape.{Shape, Label, Frame, Fits, Grown, below_all}
-use Rattle.w_rules.specs.Facts.{height_of}
-use Rattle.w_rules.specs.Peak.{depth}
+use Rattle.w_segment.specs.Shape.{Shape, Label, Frame, Grown, below_all}
 use Rattle.w_reduce.specs.Room.{most_operands, most_labels}
 
 -- a function of the module, by its index among its own: its type and its code
@@ -26,10 +23,6 @@ pub record CanEnter (m : Module) (i : ℕ) (given : List Value) : Type 0 where
   pub code : Func
   pub there : IsFunction m i kind code
   pub some : length kind.params ≤ length given
-
--- there is room for its frame, with all that it needs
-abbrev pub CalleeFits : Module → FuncType → Func → Shape → Type 0
-CalleeFits m t f s = Fits (height_of m t f) (depth f.body + 1) (length t.params + total f.locals) s
 
 -- what the locals of these runs begin with
 abbrev pub first_values : List LocalRun → List (Option Value)

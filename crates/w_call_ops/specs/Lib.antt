@@ -1,3 +1,4 @@
 pub mod Entering
+pub mod KnownFunctions
 pub mod Calling
 pub mod Printing

@@ -8,8 +8,8 @@ ghost use Rattle.w_stands.specs.declared.did.Did.TheVariants as did;
 ghost use Rattle.w_call_ops.specs.Calling.{Calls, Invokes};
 
 use crate::entering::enter;
+use crate::known_functions::Callees;
 use std::alloc::AllocError;
-use w_rules::Runnable;
 use w_segment::Stack;
 use w_tables::Store;
 
@@ -18,7 +18,7 @@ use w_tables::Store;
 /// but for room.
 #[inline(always)]
 pub fn call_own(
-    program: &Runnable,
+    program: &Callees,
     store: &Store,
     stack: &mut Stack,
     address: u32,
@@ -41,7 +41,7 @@ pub fn call_own(
 /// memory, and then the stack is as it was but for room.
 #[inline(always)]
 pub fn invoke_own(
-    program: &Runnable,
+    program: &Callees,
     store: &Store,
     stack: &mut Stack,
     function: u32,

@@ -160,6 +160,7 @@ fn plain_reduction<O: Sink>(
 }
 
 // One of the five instructions that switch stacks.
+#[inline(always)]
 fn switch_by(
     program: &Module,
     alloc: Global,
@@ -193,7 +194,7 @@ fn switch_by(
 }
 
 // One reduction at an instruction that switches stacks.
-#[inline(never)]
+#[inline(always)]
 fn switching(
     program: KnownProgram,
     alloc: Global,
@@ -222,7 +223,7 @@ fn switching(
 
 // The exit of a handle.
 #[inline(never)]
-fn leave_handle(program: KnownProgram, configuration: &mut Configuration)
+pub(crate) fn leave_handle(program: KnownProgram, configuration: &mut Configuration)
     requires stands { StandsSomewhere program.source.now configuration.old }
     requires values { (top configuration.old.chain).shape.stage ≡ Values }
     requires two { 1 < length configuration.old.chain }
@@ -236,7 +237,7 @@ fn leave_handle(program: KnownProgram, configuration: &mut Configuration)
 
 // Whether the instruction that was found switches stacks.
 #[inline(always)]
-fn switches(found: Option<&PackedInstr>) -> bool
+pub(crate) fn switches(found: Option<&PackedInstr>) -> bool
     ensures { result ≡ switches_at (option_map (λ p. unpacked p.now) found.entry) }
 {
     match found {
@@ -251,7 +252,7 @@ fn switches(found: Option<&PackedInstr>) -> bool
 
 // One reduction at an instruction that was found to switch stacks.
 #[inline(never)]
-fn switching_at(
+pub(crate) fn switching_at(
     program: KnownProgram,
     alloc: Global,
     configuration: &mut Configuration,

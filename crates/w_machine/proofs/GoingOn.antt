@@ -22,7 +22,7 @@ use Rattle.w_machine.specs.Beginning.{Origin, Begins}
 use Rattle.w_configuration.specs.Standing.{Stands}
 use Rattle.w_machine.specs.Position.{Position, PrintedBetween, StepsFrom, Steps, StopsIfEnded, Runs}
 use Rattle.w_machine.specs.Reached.{waiting_of, IsReachedAt, IsReachedBy, IsReached}
-use Rattle.w_machine.specs.GoingOn.{GoesOn, SameEvents, GoesSilently, TakesSilently, Hastens}
+use Rattle.w_machine.specs.GoingOn.{GoesOn, SameEvents, GoesSilently, Hastens}
 use Rattle.w_machine.proofs.RunsOfMany.{printed_more, run_stopped, run_stops}
 
 -- ## What does nothing with continuations
@@ -104,14 +104,8 @@ same_further old l new is h k p s t begins = k p s t (begins_there old l is p s 
 
 -- ## Silent ones
 
-pub silently_nowhere : (q : Position) → GoesSilently q q
-silently_nowhere q = record { goes = goes_nowhere q; events = λ p s t begins. refl }
-
-pub silently_further : {old l new : Position} → GoesSilently old l → old.stop ≡ None → TakesSilently false l new → GoesSilently old new
-silently_further {old = old} {l = l} {new = new} h none k = record {
-  goes = λ held. goes_further (h.goes held) (goes_one new.stop k.stops (still_none (h.goes held) none) (k.steps held));
-  events = same_further old l new (h.goes None).is h.events k.events;
-}
+pub silently_nowhere : (quiet : Bool) (q : Position) → GoesSilently quiet q q
+silently_nowhere quiet q = record { goes = goes_nowhere q; events = λ e p s t begins. refl }
 
 -- ## Runs of them
 
@@ -143,19 +137,20 @@ module _ {old l : Position} {first b : Option (List ℕ)} (h : GoesOn old l firs
 
 module _ {old l new : Position} {first b : Option (List ℕ)} (h : GoesOn old l first b) (none : old.stop ≡ None) (end : ℕ) where
   -- it went on
-  pub hastened : (stopped : Bool) → stopped ≡ false → Hastens stopped end l new → GoesOn old new first b × (new.taken ≤ end) × SameEvents l new × (l.taken ≤ new.taken)
-  hastened true e k = absurd (cc)
-  hastened false e k =
+  pub hastened : (quiet stopped : Bool) → stopped ≡ false → Hastens quiet stopped end l new
+      → GoesOn old new first b × (new.taken ≤ end) × (quiet ≡ true → SameEvents l new) × (l.taken ≤ new.taken)
+  hastened quiet true e k = absurd (cc)
+  hastened quiet false e k =
       let is = k.last.1 in (
         goes_further h (subst (λ (y : Position). GoesOn l y b b) (sym is) (k.silently.goes b)),
         subst (λ (y : Position). y.taken ≤ end) (sym is) k.last.0,
-        subst (λ (y : Position). SameEvents l y) (sym is) k.silently.events,
+        λ silent. subst (λ (y : Position). SameEvents l y) (sym is) (k.silently.events silent),
         subst (λ (y : Position). l.taken ≤ y.taken) (sym is) (k.silently.goes b).more,
       )
 
   -- or was stopped
-  pub hastened_to_stop : (stopped : Bool) → stopped ≡ true → (steps : ℕ) → end ≤ old.taken + steps → Hastens stopped end l new → Runs old steps new.stop new first b
-  hastened_to_stop false e steps le k = absurd (cc)
-  hastened_to_stop true e steps le k =
+  pub hastened_to_stop : (quiet stopped : Bool) → stopped ≡ true → (steps : ℕ) → end ≤ old.taken + steps → Hastens quiet stopped end l new → Runs old steps new.stop new first b
+  hastened_to_stop quiet false e steps le k = absurd (cc)
+  hastened_to_stop quiet true e steps le k =
       let less = k.last.0 in
       stops_run (goes_further h (k.silently.goes b)) none new b steps new.stop k.last.1.stops (omega (arith, le, less)) (k.last.1.steps b)

@@ -6,7 +6,6 @@ pub mod StoppedMachines
 pub mod Machines
 pub mod StepEvents
 pub mod FirstStep
-pub mod ShortBodies
 pub mod NoReductionTaken
 pub mod RunsOfMany
 pub mod GoingOn

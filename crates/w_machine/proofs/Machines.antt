@@ -1,5 +1,5 @@
 -- The same of a machine's own fields.
-use Rattle.std.proofs.Common.{◌≡◌, ℕ, ◌+◌, ◌<◌, false, is_some, List, length, Option, Some, None, refl, sym, subst, subst₂, ◌∙◌, arith}
+use Rattle.std.proofs.Common.{◌≡◌, ℕ, ◌+◌, ◌-◌, ◌<◌, ◌≤◌, false, is_some, List, length, Option, Some, None, refl, sym, subst, subst₂, ◌∙◌, arith}
 use Rattle.std.specs.Prelude.{Box}
 use Rattle.std.specs.declared.alloc.Global.{Global}
 use Rattle.w_syntax.specs.declared.module.Module.{Module}
@@ -41,6 +41,10 @@ module _ {from : Origin} {m' : Module} {functions : List ℕ} {x : Parts} {waiti
   -- it has made few continuations
   pub machine_few : n < most_reductions → length x.conts.entries < most_reductions
   machine_few lt = let few = reached.usable.1 in omega (arith, few, lt)
+
+  -- and will have made few once it has taken as many reductions as it may
+  pub machine_few_more : (end : ℕ) → n < end → end ≤ most_reductions → length x.conts.entries + (end - n) ≤ most_reductions
+  machine_few_more end lt le = let few = reached.usable.1 in omega (arith, few, lt, le)
 
   -- where it took a reduction there are segments
   pub machine_went_long : (x' : Parts) (before now : Option (List ℕ)) (es : List Entry) → IsClassesOf from.source.types es → PartsReduce None m' x x' before now → 0 < length x'.chain

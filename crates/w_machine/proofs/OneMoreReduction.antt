@@ -31,9 +31,8 @@ use Rattle.w_types.specs.declared.types.FuncType.{FuncType}
 use Rattle.w_types.specs.declared.types.ValType.{ValType}
 use Rattle.w_typed.specs.Contexts.{Scope, RestTyped, code_alone, invoke_first, Within, outside}
 use Rattle.w_typed.specs.Values.{Arrows}
-use Rattle.w_typed.specs.Configurations.{Typed, goes}
+use Rattle.w_typed.specs.Configurations.{Typed}
 use Rattle.w_configuration.specs.declared.configuration.Configuration.{Configuration as Parts}
-use Rattle.w_configuration.specs.Parts.{whole}
 use Rattle.w_machine.specs.Beginning.{Origin}
 use Rattle.w_configuration.specs.Standing.{behind_of, MayWait, IsLast, StandsSomewhere}
 use Rattle.w_machine.specs.Reached.{waiting_of, is_values, is_last, IsReached}

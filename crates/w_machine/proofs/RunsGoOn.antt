@@ -21,7 +21,7 @@ use Rattle.w_reduce.specs.Program.{Program}
 use Rattle.w_reduce.specs.Reduce.{next, reduce}
 use Rattle.w_reduce.specs.Run.{Running, RunState, state_at, Run}
 use Rattle.w_switching.specs.declared.stored.Stored.{Stored}
-use Rattle.w_switching.specs.Standing.{Chained, only, around}
+use Rattle.w_switching.specs.Standing.{Chained, only}
 use Rattle.w_switching.specs.Sound.{Sound}
 use Rattle.w_configuration.specs.declared.configuration.Configuration.{Configuration as Parts}
 use Rattle.w_configuration.specs.Parts.{parts, whole}

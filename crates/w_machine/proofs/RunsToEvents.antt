@@ -17,7 +17,7 @@ use Rattle.w_machine.specs.RunsToEvents.{Tells, RunsToEvent}
 use Rattle.w_machine.proofs.RunsOfMany.{stopped_runs_stay}
 use Rattle.w_machine.proofs.StepEvents.{stopped_none}
 use Rattle.w_machine.proofs.Machines.{nothing_stopped}
-use Rattle.w_machine.proofs.GoingOn.{begins_there, goes_further, goes_one, same_further, stops_run, ends_run}
+use Rattle.w_machine.proofs.GoingOn.{begins_there, goes_further, goes_one, same_further, still_none, stops_run, ends_run}
 
 -- ## What a reduction tells
 
@@ -107,7 +107,7 @@ module _ {old l : Position} {first b : Option (List ℕ)} (h : GoesOn old l firs
       }
 
   -- so does one of those that a machine hastens through
-  pub hastened_at_stop : (new : Position) (end : ℕ) (stopped : Bool) → stopped ≡ true → end ≤ old.taken + steps → Hastens stopped end l new → RunsToEvent steps new.stop None old new first b
+  pub hastened_at_stop : (new : Position) (end : ℕ) (stopped : Bool) → stopped ≡ true → end ≤ old.taken + steps → Hastens true stopped end l new → RunsToEvent steps new.stop None old new first b
   hastened_at_stop new end false e le k = absurd (cc)
   hastened_at_stop new end true e le k =
       let less = k.last.0 in
@@ -119,7 +119,7 @@ module _ {old l : Position} {first b : Option (List ℕ)} (h : GoesOn old l firs
         some = λ e. omega arith;
         all = λ e f. absurd (let g : true ≡ is_some {T = RunStop} None = k.last.1.stops ∙ ap (is_some {T = RunStop}) e in cc);
         runs = stops_run further none new b (k.between.taken - old.taken + 1) new.stop k.last.1.stops (omega (arith, far)) (k.last.1.steps b);
-        tells = tells_further further.is (same_further old l k.between h.is same k.silently.events) (tells_none k.last.1.events);
+        tells = tells_further further.is (same_further old l k.between h.is same (k.silently.events refl)) (stopped_tells k.between new new.stop b b (still_none further none) k.last.1.stops (k.last.1.steps b));
       }
 
   -- a step that has an event ends it, and what is told then is what the run came to

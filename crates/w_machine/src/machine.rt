@@ -6,6 +6,7 @@ ghost use Rattle.w_reduce.specs.Terms.{Term};
 ghost use Rattle.w_reduce.specs.Program.{Program as TheProgram};
 ghost use Rattle.w_reduce.specs.Run.{Run};
 ghost use Rattle.w_rules.specs.Spaces.{functions_of};
+ghost use Rattle.w_call_ops.specs.KnownFunctions.{AreFactsOf};
 ghost use Rattle.w_stands.specs.Code.{AllShort};
 ghost use Rattle.w_stands.specs.Values.{vals};
 ghost use Rattle.w_reduce.specs.Start.{starts_of};
@@ -21,16 +22,15 @@ ghost use Rattle.w_machine.specs.Reached.{AreFirst, RunsFirst, IsTurned, IsFresh
 use crate::outcome::{Outcome, Stepped, as_outcome, as_stepped, has_ended};
 use std::alloc::{AllocError, Global};
 use std::marker::Model;
+use w_call_ops::{Callees, FunctionFacts, all_facts};
 use w_chain::Chain;
-use w_configuration::{Configuration, RunStop, end_of, hasten, next_event, reduce};
+use w_configuration::{Configuration, RunStop, Then, end_of, hasten, next_event, reduce};
 use w_conts::ContStore;
 use w_inst::Instance;
 use w_outside::Sink;
 use w_plain::KnownProgram;
-use w_reduce::RunLimit;
 use w_rules::{Checked, Runnable, Spaces};
 use w_segment::{Segment, Stage};
-use w_syntax::Module;
 use w_tables::Store;
 use w_trace::{Event, EventKind};
 use w_types::Value;
@@ -39,7 +39,7 @@ use w_types::Value;
 #[derive(Drop)]
 pub struct Machine {
     alloc: Global,
-    runnable: Runnable,
+    runnable: Callees,
     /// The functions that run before main, in order, and main.
     starts: Vec<u32>,
     main: u32,
@@ -68,16 +68,12 @@ impl Model for Machine {
     ghost invariant = { λ a. IsReached (record { source = a.runnable; starts = a.starts.items; main = a.main }) a.functions.items a.configuration a.waiting.items a.stop a.taken a.made a.live };
 }
 
-// Whether each body has fewer than 2^32 instructions, so that their places are numbers of 32 bits.
-fn are_short(program: &Module) -> bool
-    ensures { result ≡ true → AllShort program.now }
-{
-    for code in program.codes.as_slice() {
-        if code.body.instrs().len() > u32::MAX as usize {
-            return false;
-        }
-    }
-    true
+// What a machine keeps beside its module and what that was made of, before any reduction.
+struct FirstParts {
+    facts: Vec<FunctionFacts>,
+    functions: Vec<u32>,
+    chain: Chain,
+    waiting: Vec<Box<Segment>>,
 }
 
 // The start function, where there is one.
@@ -110,26 +106,30 @@ fn first_segments(
     Ok((next, waiting))
 }
 
-// What runs first: the index of each function's type, the segment that runs first alone, and those that wait. It fails where a body is too
-// long, too.
+// What runs first: what is known of each function, the index of each function's type, the segment that runs first alone, and those that
+// wait. It fails where a body is too long, too.
 fn first_parts(
     alloc: Global,
-    program: &Module,
+    program: &Runnable,
     starts: &[u32],
     main: u32,
-) -> Result<(Vec<u32>, Chain, Vec<Box<Segment>>), AllocError>
+) -> Result<FirstParts, AllocError>
     ensures short { OnOk result (AllShort program.now) }
-    ensures functions { IfOk result (λ r. r.0.items ≡ functions_of program.now) }
-    ensures first { IfOk result (λ r. RunsFirst starts.now main r.1 r.2.items) }
+    ensures facts { IfOk result (λ r. AreFactsOf program.now r.facts.items) }
+    ensures functions { IfOk result (λ r. r.functions.items ≡ functions_of program.now) }
+    ensures first { IfOk result (λ r. RunsFirst starts.now main r.chain r.waiting.items) }
 {
-    if !are_short(program) {
-        return Err(AllocError);
-    }
-    let functions = Spaces::of_module(alloc, program)?.functions;
+    let facts = all_facts(alloc, program)?;
+    let functions = Spaces::of_module(alloc, program.module())?.functions;
     let (segment, waiting) = first_segments(alloc, starts, main)?;
     let mut chain = Chain::new();
     chain.push(segment);
-    Ok((functions, chain, waiting))
+    Ok(FirstParts {
+        facts,
+        functions,
+        chain,
+        waiting,
+    })
 }
 
 // Where the last segment is left, the next one of those that wait runs.
@@ -184,10 +184,19 @@ impl Machine {
         requires { BeginsAt runnable store starts.items main }
         ensures { IfOk result (λ machine. machine ≡ record { origin = record { source = runnable; starts = starts.items; main = main }; taken = 0; stop = None }) }
     {
-        match first_parts(alloc, runnable.module(), starts.as_slice(), main) {
-            Ok((functions, chain, waiting)) => Ok(Machine {
+        // a module that runs is narrow
+        let _module = runnable.module();
+        match first_parts(alloc, &runnable, starts.as_slice(), main) {
+            Ok(
+                FirstParts {
+                    facts,
+                    functions,
+                    chain,
+                    waiting,
+                },
+            ) => Ok(Machine {
                 alloc,
-                runnable,
+                runnable: Callees::make(runnable, facts),
                 starts,
                 main,
                 functions,
@@ -327,44 +336,52 @@ impl Machine {
         }
     }
 
-    // Takes common reductions in a body, up to `end` in all, until another comes next or one of them stops the machine, and says whether one
-    // did. All attempts are made here, so that what they run stands in a program once, whatever its sinks.
+    // Takes reductions that print nothing, up to `end` in all, until another comes next or one of them stops the machine, and says whether
+    // one did; quiet ones do nothing with continuations. What they run stands in a program once here, whatever its sinks.
     #[inline(never)]
-    fn hasten_in_body(&mut self, end: u64) -> bool
+    fn hasten_on(&mut self, end: u64, quiet: bool) -> bool
         requires few { end ≤ most_reductions }
         requires before { self.old.taken < end }
         requires none { self.old.stop ≡ None }
-        ensures hastens { Hastens result end self.old self.new }
+        ensures hastens { Hastens quiet result end self.old self.new }
     {
-        let _module = self.runnable.module();
+        let program = KnownProgram {
+            source: self.runnable.module(),
+            runnable: &self.runnable,
+            functions: self.functions.as_slice(),
+        };
         let _classes = self.runnable.classes();
         let most = end - self.taken;
-        let (taken, within) = hasten(&self.runnable, &mut self.configuration, most);
-        self.taken += taken;
-        if within {
-            if taken > 0 {
-                turn(&mut self.configuration.chain, &mut self.waiting);
+        let done = hasten(program, self.alloc, &mut self.configuration, most, quiet);
+        self.taken += done.taken;
+        match done.then {
+            Then::Stopped { stop, made, live } => {
+                self.taken += count(stop);
+                self.stop = Some(stop);
+                self.made = made;
+                self.live = live;
+                true
             }
-            return false;
+            Then::On | Then::Left => {
+                if done.taken > 0 {
+                    turn(&mut self.configuration.chain, &mut self.waiting);
+                }
+                false
+            }
         }
-        self.taken += 1;
-        self.stop = Some(RunStop::Limit(RunLimit::Frames));
-        self.made = self.configuration.conts.made();
-        self.live = self.configuration.conts.live();
-        true
     }
 
-    // The same where the innermost segment may stand elsewhere.
+    // The same where the innermost segment may be fresh, so that a function is invoked, which isn't hastened through.
     #[inline(always)]
-    fn hasten(&mut self, end: u64) -> bool
+    fn hasten(&mut self, end: u64, quiet: bool) -> bool
         requires few { end ≤ most_reductions }
         requires before { self.old.taken < end }
         requires none { self.old.stop ≡ None }
-        ensures hastens { Hastens result end self.old self.new }
+        ensures hastens { Hastens quiet result end self.old self.new }
     {
         match self.configuration.chain.stack().stage() {
-            Stage::Body => self.hasten_in_body(end),
-            _ => false,
+            Stage::Fresh => false,
+            _ => self.hasten_on(end, quiet),
         }
     }
 
@@ -416,7 +433,7 @@ impl Machine {
         }
         let end = self.taken + steps;
         while self.taken < end {
-            if self.hasten(end) {
+            if self.hasten(end, false) {
                 return self.stop;
             }
             if self.taken < end {
@@ -440,7 +457,7 @@ impl Machine {
         }
         let end = self.taken + steps;
         while self.taken < end {
-            if self.hasten(end) {
+            if self.hasten(end, true) {
                 return (self.stop, None);
             }
             if self.taken < end {

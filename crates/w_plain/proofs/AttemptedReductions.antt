@@ -50,7 +50,7 @@ attempted_alone m u s s' g k = takes_alone did.Went m u s s' g k
 
 -- none was taken
 pub nothing_attempted : (m : Module) (u : instances.Store) (s : Shape) → Attempted progress.NotAttempted m u s u s
-nothing_attempted m u s = (refl, same_room s s refl)
+nothing_attempted m u s = (refl, refl)
 
 -- what came of a call was attempted
 pub made : (r : Result Did AllocError) → was_made (attempt_of r) ≡ true

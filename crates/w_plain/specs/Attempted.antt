@@ -30,13 +30,13 @@ attempt_of (Ok did.Went) = progress.Went
 attempt_of (Ok (did.Trapped t)) = progress.Trapped
 attempt_of (Err e) = progress.NoRoom
 
--- its reduction was taken, or all is as it was but for room: it traps, or none was attempted, or there was no room for it
+-- its reduction was taken, or all is as it was but for room: it traps, or there was no room for it; where none was attempted nothing changed
 abbrev pub Attempted : Progress → Module → instances.Store → Shape → instances.Store → Shape → Type 0
 Attempted progress.Went m u s u' s' = Takes did.Went m [] u s u' s'
 Attempted progress.Moved m u s u' s' = Takes did.Went m [] u s u' s'
 Attempted progress.Entered m u s u' s' = Takes did.Went m [] u s u' s'
 Attempted progress.Trapped m u s u' s' = (u' ≡ u) × Roomier s s' × ((t : Trap) × Follows (did.Trapped t) m [] u s u s)
-Attempted progress.NotAttempted m u s u' s' = (u' ≡ u) × Roomier s s'
+Attempted progress.NotAttempted m u s u' s' = (u' ≡ u) × (s' ≡ s)
 Attempted progress.NoRoom m u s u' s' = (u' ≡ u) × Roomier s s'
 
 -- its reduction was taken, and no function was called

@@ -18,7 +18,7 @@ use crate::exits::{leave_else, leave_end};
 use crate::families::{loading, number, parametric, storing};
 use crate::progress::Progress;
 use crate::values::variable;
-use w_rules::Runnable;
+use w_call_ops::Callees;
 use w_segment::Stack;
 use w_syntax::{MemArg, Module, NumericOp, PackedInstr, ParametricOp};
 use w_tables::Store;
@@ -40,7 +40,7 @@ fn argument_of(align: u8, memory: u32, offset: u64) -> MemArg
 #[tactic(auto, using(crate::proofs::AttemptedReductions::common_attempt, crate::proofs::Ends::end_meets, crate::proofs::AttemptedReductions::rare_attempt, crate::proofs::AttemptedReductions::short_calls_none))]
 fn at_instruction(
     program: &Module,
-    runnable: &Runnable,
+    runnable: &Callees,
     store: &mut Store,
     stack: &mut Stack,
     packed: &PackedInstr,
@@ -144,7 +144,7 @@ fn at_instruction(
 #[inline(always)]
 #[tactic(auto, using(crate::proofs::AttemptedReductions::moves_at, crate::proofs::AttemptedReductions::ends_at, crate::proofs::AttemptedReductions::attempted_step, crate::proofs::AttemptedReductions::made, crate::proofs::AttemptedReductions::attempted_plain, crate::proofs::AttemptedReductions::calls_there))]
 pub fn attempt(
-    program: &Runnable,
+    program: &Callees,
     store: &mut Store,
     stack: &mut Stack,
     found: Option<&PackedInstr>,

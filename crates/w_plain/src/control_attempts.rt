@@ -16,9 +16,8 @@ ghost use Rattle.w_plain.specs.Attempted.{attempt_of, Attempted, AttemptsMove, g
 use crate::controls::branching;
 use crate::progress::Progress;
 use std::alloc::AllocError;
-use w_call_ops::call_own;
+use w_call_ops::{Callees, call_own};
 use w_control_ops::br_table;
-use w_rules::Runnable;
 use w_segment::{Stack, Stage};
 use w_stands::Did;
 use w_syntax::{ControlOp, Instr, Module, Op, ShortControlOp};
@@ -57,7 +56,7 @@ pub(crate) fn move_of(stack: &Stack, function: u32, outcome: Did) -> Progress
 #[tactic(auto, using(crate::proofs::Prints::call_calls))]
 fn call(
     program: &Module,
-    runnable: &Runnable,
+    runnable: &Callees,
     store: &mut Store,
     stack: &mut Stack,
     address: u32,
@@ -85,7 +84,7 @@ fn call(
 #[tactic(auto, using(crate::proofs::Prints::call_tails))]
 fn tail_call(
     program: &Module,
-    runnable: &Runnable,
+    runnable: &Callees,
     store: &mut Store,
     stack: &mut Stack,
     address: u32,
@@ -112,7 +111,7 @@ fn tail_call(
 #[tactic(auto, using(crate::proofs::Steps::alone, crate::proofs::AttemptedReductions::nothing_attempted))]
 pub(crate) fn control(
     program: &Module,
-    runnable: &Runnable,
+    runnable: &Callees,
     store: &mut Store,
     stack: &mut Stack,
     operation: ShortControlOp,

@@ -22,5 +22,5 @@ pub use attempts::attempt;
 pub use instructions::instr_at;
 pub use program::KnownProgram;
 pub use progress::Progress;
-pub use reduction::plain;
+pub use reduction::{branch_of_suspend, plain};
 pub use stop::Stop;

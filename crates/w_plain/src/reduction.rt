@@ -1,12 +1,14 @@
 //! One plain reduction of a segment's stack.
-ghost use Rattle.std.specs.Prelude.{◌≡◌, ◌≢◌, ◌≤◌, false, Err, option_map};
+ghost use Rattle.std.specs.Prelude.{◌≡◌, ◌≢◌, ◌≤◌, false, [], Err, option_map};
 ghost use Rattle.w_syntax.specs.Packed.{unpacked};
 ghost use Rattle.w_stands.specs.Code.{instr_of};
-ghost use Rattle.w_segment.specs.declared.entry.Stage.TheVariants.{Body, Values};
+ghost use Rattle.w_segment.specs.declared.entry.Stage.TheVariants.{Body, Branch, Values};
 ghost use Rattle.w_outside.specs.Outside.{Rose};
 ghost use Rattle.w_plain.specs.Meets.{Applies};
 ghost use Rattle.w_plain.specs.Plainness.{switches_at};
 ghost use Rattle.w_plain.specs.Printing.{Printed};
+ghost use Rattle.w_plain.specs.Stepped.{Takes};
+ghost use Rattle.w_stands.specs.declared.did.Did.TheVariants as did;
 
 use crate::calls::invoke;
 use crate::exits::leave_end;
@@ -17,7 +19,7 @@ use w_control_ops::branch_left;
 use w_outside::Sink;
 use w_segment::{Stack, Stage};
 use w_stands::Did;
-use w_syntax::PackedInstr;
+use w_syntax::{Module, PackedInstr};
 use w_tables::Store;
 
 /// One reduction in the body where the stack stands.
@@ -42,6 +44,18 @@ fn in_body<O: Sink>(
         Some(packed) => instruction(program, store, stack, out, packed),
         None => Ok(leave_end(program.source, store, stack)),
     }
+}
+
+/// The branch that a caught suspend left (stack-switching explainer, suspend), as `plain` takes it: it prints nothing, and takes no memory.
+#[inline(always)]
+#[tactic(auto, using(crate::proofs::StacksAtRules::branches, crate::proofs::Steps::takes_alone))]
+pub fn branch_of_suspend(program: &Module, store: &mut Store, stack: &mut Stack, label: u32)
+    requires applies { Applies program.now store.old stack.old }
+    requires left { stack.old.stage ≡ Branch label }
+    ensures step { Takes did.Went program.now [] store.old stack.old store.new stack.new }
+{
+    let _store = store;
+    branch_left(program, stack, label);
 }
 
 /// One plain reduction (Core, execution): of the configuration in which the stack stands, whatever stands around it, with the store, and

@@ -20,6 +20,16 @@ take_take (suc n) (suc m) (x ∷ xs) h = ap (λ l. x ∷ l) (take_take n m xs (o
 pub take_of : {A : Type 0} (xs ys : List A) (n : ℕ) → n ≡ length xs → take n (xs ++ ys) ≡ xs
 take_of xs ys n e = ap (λ k. take k (xs ++ ys)) e ∙ take-append_seam xs ys
 
+-- a first part without its last item
+pub one_less : {A : Type 0} (xs ys zs : List A) (x : A) (k : ℕ) → k < length xs → ys ≡ take (length xs - k) xs → ys ≡ zs ++ x ∷ [] → zs ≡ take (length xs - (k + 1)) xs
+one_less xs ys zs x k h is last =
+    let long = length-take-le (length xs - k) xs (omega arith) in
+    let a = ap (λ l. length l) is in
+    let b = ap (λ l. length l) last in
+    let c = length-append zs (x ∷ []) in
+    let e : length zs ≡ length xs - (k + 1) = omega (arith, long, a, b, c, h) in
+    sym (take_of zs (x ∷ []) (length zs) refl) ∙ ap (take (length zs)) (sym last ∙ is) ∙ take_take (length zs) (length xs - k) xs (omega (arith, e)) ∙ ap (λ n. take n xs) e
+
 -- the second part, from the length of the first
 pub drop_of : {A : Type 0} (xs ys : List A) (n : ℕ) → n ≡ length xs → drop n (xs ++ ys) ≡ ys
 drop_of xs ys n e = ap (λ k. drop k (xs ++ ys)) e ∙ drop-append_seam xs ys

@@ -1,7 +1,7 @@
 //! The operands inside the innermost label or frame.
 
 use crate::stack::{Stack, below};
-use crate::values::push_values;
+use crate::values::{push_values, take_off};
 use w_types::Value;
 
 impl Stack {
@@ -70,7 +70,7 @@ impl Stack {
         ensures after { self.new ≡ discarded count self.old }
         ensures room { height self.new + count ≤ self.new.capacity.operands }
     {
-        self.operands.truncate(self.operands.len() - count);
+        take_off(&mut self.operands, count);
     }
 
     /// Puts operands on top, the first one first, where there is room: no memory is taken.

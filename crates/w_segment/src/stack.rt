@@ -114,7 +114,7 @@ impl Stack {
         ensures answer { IsTrue result ↔ Fits 0 levels locals self.now }
     {
         self.marks.len().saturating_add(levels) <= self.marks.capacity().min(MOST_LEVELS)
-            && self.locals.len().saturating_add(locals) <= self.locals.capacity()
+            && self.locals.capacity() - self.locals.len() >= locals
     }
 
     /// Whether there is room for so many operands, labels or frames, and locals, more.
@@ -122,7 +122,7 @@ impl Stack {
     pub fn fits(&self, operands: usize, levels: usize, locals: usize) -> bool
         ensures answer { IsTrue result ↔ Fits operands levels locals self.now }
     {
-        self.operands.len().saturating_add(operands) <= self.operands.capacity()
+        self.operands.capacity() - self.operands.len() >= operands
             && self.has_levels(levels, locals)
     }
 

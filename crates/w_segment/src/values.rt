@@ -18,6 +18,19 @@ pub(crate) fn keep_top(items: &mut Vec<Value>, base: usize, n: usize)
     items.truncate(base + n);
 }
 
+/// Takes so many items off the end, where there are so many. Each is taken by itself, since most calls take one or two, which costs less
+/// than to cut the list.
+#[inline(always)]
+pub(crate) fn take_off(items: &mut Vec<Value>, count: usize)
+    requires some { count ≤ vec_len items.old }
+    ensures items { items.new.items ≡ take (vec_len items.old - count) items.old.items }
+    ensures capacity { vec_capacity items.new ≡ vec_capacity items.old }
+{
+    for _ in 0..count {
+        let _taken = items.take_last();
+    }
+}
+
 /// Adds operands.
 pub(crate) fn push_values(operands: &mut Vec<Value>, values: &[Value])
     requires room { vec_len operands.old + length values.now ≤ vec_capacity operands.old }

@@ -1,6 +1,6 @@
 -- What a tail call of a function of the module needs, and where it goes.
 use Rattle.std.proofs.Common.{◌≡◌, ℕ, suc, ◌≤◌, List, [], ◌∷◌, ◌++◌, length, take, drop, Option, Some, None, slice_get, refl, sym, ap, ◌∙◌, subst, arith, length-append}
-use Rattle.std.specs.Prelude.{◌≢◌, ◌<◌, ◌^◌}
+use Rattle.std.specs.Prelude.{◌≢◌}
 use Rattle.std.proofs.lemmas.List.{length-take-le}
 use Rattle.std.specs.Option.{option_map}
 use Rattle.lists.specs.Rows.{Row, ε, ◌⧺◌}
@@ -22,7 +22,6 @@ use Rattle.w_reduce.specs.Calls.{enter, invoked, params_of, around_frame, return
 use Rattle.w_stands.specs.Values.{stack, local_vals, store_of}
 use Rattle.w_stands.specs.Stands.{LevelsAre}
 use Rattle.w_stands.specs.Steps.{Follows}
-use Rattle.w_stands.specs.Code.{instrs}
 use Rattle.w_stands.specs.Room.{HasRoom}
 use Rattle.w_stands.specs.declared.did.Did.TheVariants as did
 use Rattle.w_stands.proofs.PlainSteps.{there, following, next_is, applies}
@@ -85,9 +84,6 @@ module _ (m : Module) (u : instances.Store) (s : Shape) (a popped i : ℕ) (k : 
       (can_replace m u mv.p mv.e mv.o.outer mv.o.behind given i s.levels frame_here (type_of_function mv.p.source i) refl
       (λ q. applies m u s mv.p mv.o mv.e mv.r k.i mv.at mv.stage mv.here
       (k.rule mv.p mv.e c mv.at.source mv.at.program ∙ own_returned mv.p u mv.e given a i own ∙ q)))
-
-  pub tail_short : length (instrs m i) < 2 ^ 32
-  tail_short = k.moves.at.short i
 
   -- where the frame's caller goes on
   pub tail_caller : ReturnTarget

@@ -11,10 +11,9 @@ ghost use Rattle.w_call_ops.specs.Calling.{TailCalls};
 ghost use Rattle.w_call_ops.specs.Printing.{text_of};
 
 use std::alloc::AllocError;
-use w_call_ops::{argument, enter_callee, find_callee, room_for_callee, spelled};
+use w_call_ops::{Callees, argument, enter_callee, room_for_callee, spelled};
 use w_control_ops::end_outside;
 use w_outside::{Fault, Sink, put};
-use w_rules::Runnable;
 use w_segment::Stack;
 use w_syntax::Module;
 use w_tables::{Printer, Store};
@@ -24,7 +23,7 @@ use w_tables::{Printer, Store};
 /// for, and then the stack is as it was but for room.
 #[inline(always)]
 pub fn tail_own(
-    program: &Runnable,
+    program: &Callees,
     store: &Store,
     stack: &mut Stack,
     address: u32,
@@ -39,11 +38,11 @@ pub fn tail_own(
     ensures err { OnErr result (Roomier stack.old stack.new) }
 {
     let (_store, _address) = (store, address);
-    let (kind, code) = find_callee(program.module(), function);
-    room_for_callee(program, stack, function, kind, code, may_grow)?;
+    let facts = program.facts(function);
+    room_for_callee(stack, facts, may_grow)?;
     stack.discard(popped);
-    stack.leave_frame(kind.params.len() as u32);
-    enter_callee(program, stack, function, kind, code);
+    stack.leave_frame(facts.params);
+    enter_callee(program, stack, function, facts);
     Ok(())
 }
 

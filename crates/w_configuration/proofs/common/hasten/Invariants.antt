@@ -1,20 +1,15 @@
-use Rattle.std.proofs.Common.{◌≡◌, ◌-◌, ◌<◌, ◌≤◌, length}
-use Rattle.w_segment.specs.declared.entry.Stage.TheVariants.{Body}
-use Rattle.w_segment.specs.Link.{top}
+use Rattle.std.proofs.Common.{◌≡◌, ◌-◌, ◌≤◌}
 use Rattle.w_stands.specs.Code.{instrs}
 use Rattle.w_syntax.specs.Packed.{unpacked_all}
-use Rattle.w_configuration.specs.Standing.{StandsSomewhere}
 use Rattle.w_configuration.specs.CommonReductions.{TakesMany}
 use Rattle.w_configuration.proofs.common.hasten.Given as goal
 
--- each one so far was taken
+-- so many were taken
 abbrev pub invariant-loop-taken : goal.invariant-loop-taken
 invariant-loop-taken l = record {
-  many : TakesMany l.program l.fn.configuration l.taken l.configuration;
-  stands : (top l.configuration.chain).shape.stage ≡ Body → StandsSomewhere l.program l.configuration;
-  some : 0 < length l.configuration.chain;
+  many : TakesMany l.quiet l.program.source.now l.fn.configuration l.taken l.configuration;
   most : l.taken ≤ l.most;
-  code : unpacked_all l.code ≡ instrs l.program l.function;
+  code : unpacked_all l.code ≡ instrs l.program.source.now l.function;
 }
 
 abbrev pub decreases-loop-taken : goal.decreases-loop-taken

@@ -1,6 +1,8 @@
-use Rattle.std.proofs.Common.{◌∙◌, refl, arith}
+use Rattle.std.proofs.Common.{◌∙◌, ap, sym, refl, arith}
+use Rattle.w_segment.specs.Shape.{Shape}
+use Rattle.w_segment.specs.Link.{with_top}
 use Rattle.w_configuration.specs.CommonReductions.{nothing, one_more}
-use Rattle.w_configuration.proofs.CommonReductions.{applies_in, body_of, last_in, one_within, stands_on}
+use Rattle.w_configuration.proofs.CommonReductions.{applies_in, body_of, in_run_in_body, last_in, one_within, stands_on, untouched}
 use Rattle.w_configuration.proofs.common.run_in_body.Goals as goal
 
 pub loop-taken-init : goal.loop-taken-init
@@ -29,7 +31,7 @@ loop-taken-preserved c =
       reached = λ chain conts some h.
           let there = before.reached chain conts some h in
           let one = one_within c.module-module.ensures.sound c.loop-taken.store c.loop-taken.stack chain conts some before.body there.stands (done.plain refl) c.attempt.new.store c.attempt.new.stack done.step (done.went refl) in
-          record { many = one_more there.many one; stands = stands_on c.module-module.ensures.sound there.stands one (body_of c.attempt.new.stack chain some body) };
+          record { many = one_more there.many one; stands = stands_on c.module-module.ensures.sound there.stands one (in_run_in_body (with_top c.attempt.new.stack chain) (body_of c.attempt.new.stack chain some body)) };
       most = omega (arith, c.loop-taken-test.true);
     }
 
@@ -49,4 +51,5 @@ returns-in_default c =
       most = omega (arith, c.loop-taken-test.true);
       fewer = λ other. c.loop-taken-test.true;
       all = λ went. absurd (c.in_default.not-Went went);
+      stays = λ none. let same = untouched c.args.program.now c.loop-taken.store c.attempt.new.store c.loop-taken.stack c.attempt.new.stack c.attempt.result none c.attempt.ensures.step in (ap (λ (s : Shape). s.func) same ∙ before.function, ap (λ (s : Shape). s.stage) same ∙ before.body ∙ sym c.requires.body);
     }

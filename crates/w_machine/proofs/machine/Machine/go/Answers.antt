@@ -1,4 +1,4 @@
-use Rattle.std.proofs.Common.{Option, sym, ap, subst, ◌∙◌, arith}
+use Rattle.std.proofs.Common.{Option, false, sym, ap, subst, ◌∙◌, arith}
 use Rattle.w_configuration.specs.declared.stop.RunStop.{RunStop}
 use Rattle.w_machine.specs.Position.{Position, Runs}
 use Rattle.w_machine.proofs.RunsOfMany.{stopped_runs_stay, no_write_fault}
@@ -16,12 +16,12 @@ returns-then-hasten-clause-runs g c =
     let here = c.loop-self.invariant in
     subst (λ (k : Option RunStop). Runs c.args.self.now c.args.steps k c.hasten.new.self (g.O.Sink.held c.args.out.now) (g.O.Sink.held c.loop-self.out))
     (sym (ap (λ (q : Position). q.stop) c.self-in-loop-self-2.view_is))
-    (hastened_to_stop here.goes here.none _ c.hasten.result c.if-hasten.true c.args.steps (omega (arith, here.end)) c.hasten.ensures.hastens)
+    (hastened_to_stop here.goes here.none _ false c.hasten.result c.if-hasten.true c.args.steps (omega (arith, here.end)) c.hasten.ensures.hastens)
 
 pub returns-then-advance_slowly-clause-runs : goal.returns-then-advance_slowly-clause-runs
 returns-then-advance_slowly-clause-runs g c =
     let here = c.loop-self.invariant in
-    let on = hastened here.goes here.none _ c.hasten.result c.if-hasten.false c.hasten.ensures.hastens in
+    let on = hastened here.goes here.none _ false c.hasten.result c.if-hasten.false c.hasten.ensures.hastens in
     let now = ap (λ (q : Position). q.taken) c.self-in-loop-self-2.view_is in
     subst (λ (k : Option RunStop). Runs c.args.self.now c.args.steps k c.advance_slowly.new.self (g.O.Sink.held c.args.out.now) (g.O.Sink.held c.advance_slowly.new.out))
     (sym (ap (λ (q : Position). q.stop) c.self-then-self-end.view_is))
@@ -31,14 +31,14 @@ returns-then-advance_slowly-clause-runs g c =
 pub returns-then-advance_slowly-clause-cause : goal.returns-then-advance_slowly-clause-cause
 returns-then-advance_slowly-clause-cause g c = λ none fault.
     let here = c.loop-self.invariant in
-    let on = hastened here.goes here.none _ c.hasten.result c.if-hasten.false c.hasten.ensures.hastens in
+    let on = hastened here.goes here.none _ false c.hasten.result c.if-hasten.false c.hasten.ensures.hastens in
     let rose = c.advance_slowly.ensures.cause (still_none on.0 here.none) (sym (ap (λ (q : Position). q.stop) c.self-then-self-end.view_is) ∙ fault) in
     omega (arith, here.later, rose)
 
 pub loop-self-smaller-else-advance_slowly : goal.loop-self-smaller-else-advance_slowly
 loop-self-smaller-else-advance_slowly g c =
     let here = c.loop-self.invariant in
-    let on = hastened here.goes here.none _ c.hasten.result c.if-hasten.false c.hasten.ensures.hastens in
+    let on = hastened here.goes here.none _ false c.hasten.result c.if-hasten.false c.hasten.ensures.hastens in
     let now = ap (λ (q : Position). q.taken) c.self-in-loop-self-2.view_is in
     let one = step_taken c.hasten.new.self c.advance_slowly.new.self (g.O.Sink.held c.loop-self.out) (g.O.Sink.held c.advance_slowly.new.out) c.advance_slowly.new.self.stop
     (nothing_stopped c.advance_slowly.new.self.stop (sym c.advance_slowly.ensures.stops ∙ c.if-advance_slowly.false)) (still_none on.0 here.none) c.advance_slowly.ensures.steps in
@@ -47,7 +47,7 @@ loop-self-smaller-else-advance_slowly g c =
 pub loop-self-preserved-else-advance_slowly : goal.loop-self-preserved-else-advance_slowly
 loop-self-preserved-else-advance_slowly g c =
     let here = c.loop-self.invariant in
-    let on = hastened here.goes here.none _ c.hasten.result c.if-hasten.false c.hasten.ensures.hastens in
+    let on = hastened here.goes here.none _ false c.hasten.result c.if-hasten.false c.hasten.ensures.hastens in
     let now = ap (λ (q : Position). q.taken) c.self-in-loop-self-2.view_is in
     let goes = sym c.if-advance_slowly.false ∙ c.advance_slowly.ensures.stops in
     let still = still_none on.0 here.none in
@@ -64,7 +64,7 @@ loop-self-preserved-else-advance_slowly g c =
 pub loop-self-preserved : goal.loop-self-preserved
 loop-self-preserved g c =
     let here = c.loop-self.invariant in
-    let on = hastened here.goes here.none _ c.hasten.result c.if-hasten.false c.hasten.ensures.hastens in
+    let on = hastened here.goes here.none _ false c.hasten.result c.if-hasten.false c.hasten.ensures.hastens in
     record { goes = on.0; none = here.none; most = on.1; end = here.end; later = here.later }
 
 pub returns-clause-runs : goal.returns-clause-runs

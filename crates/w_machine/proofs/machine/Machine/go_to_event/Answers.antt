@@ -1,4 +1,4 @@
-use Rattle.std.proofs.Common.{None, Option, sym, ap, subst, ◌∙◌, arith, is_some}
+use Rattle.std.proofs.Common.{None, Option, true, refl, sym, ap, subst, ◌∙◌, arith, is_some}
 use Rattle.w_configuration.specs.declared.stop.RunStop.{RunStop}
 use Rattle.w_machine.specs.Position.{Position}
 use Rattle.w_machine.specs.RunsToEvents.{RunsToEvent}
@@ -22,36 +22,36 @@ returns-then-hasten-clause-runs g c =
 pub advance_with_event-event-requires-clause-none : goal.advance_with_event-event-requires-clause-none
 advance_with_event-event-requires-clause-none g c =
     let here = c.loop-self.invariant in
-    let on = hastened here.goes here.none _ c.hasten.result c.if-hasten.false c.hasten.ensures.hastens in
+    let on = hastened here.goes here.none _ true c.hasten.result c.if-hasten.false c.hasten.ensures.hastens in
     still_none on.0 here.none
 
 pub returns-then-is_some-2-clause-runs : goal.returns-then-is_some-2-clause-runs
 returns-then-is_some-2-clause-runs g c =
     let here = c.loop-self.invariant in
-    let on = hastened here.goes here.none _ c.hasten.result c.if-hasten.false c.hasten.ensures.hastens in
+    let on = hastened here.goes here.none _ true c.hasten.result c.if-hasten.false c.hasten.ensures.hastens in
     let now = ap (λ (q : Position). q.taken) c.self-in-loop-self-2.view_is in
     let new = c.advance_with_event-event.new.self in
     let stop = ap (λ (q : Position). q.stop) c.self-then-self-end.view_is in
     subst (λ (k : Option RunStop). RunsToEvent c.args.steps k c.advance_with_event-event.result c.args.self.now new (g.O.Sink.held c.args.out.now) (g.O.Sink.held c.advance_with_event-event.new.out))
     (sym stop)
-    (event_at_stop on.0 here.none (same_further c.args.self.now c.loop-self.self c.hasten.new.self here.goes.is here.same on.2) c.args.steps new _ new.stop c.advance_with_event-event.result
+    (event_at_stop on.0 here.none (same_further c.args.self.now c.loop-self.self c.hasten.new.self here.goes.is here.same (on.2 refl)) c.args.steps new _ new.stop c.advance_with_event-event.result
     (sym c.if-is_some-2.true ∙ c.is_some-then-self-end.ensures ∙ ap is_some stop) (omega (arith, here.end, c.if-self-end.true, now)) c.advance_with_event-event.ensures.steps c.advance_with_event-event.ensures.event)
 
 pub returns-then-is_some-3-clause-runs : goal.returns-then-is_some-3-clause-runs
 returns-then-is_some-3-clause-runs g c =
     let here = c.loop-self.invariant in
-    let on = hastened here.goes here.none _ c.hasten.result c.if-hasten.false c.hasten.ensures.hastens in
+    let on = hastened here.goes here.none _ true c.hasten.result c.if-hasten.false c.hasten.ensures.hastens in
     let now = ap (λ (q : Position). q.taken) c.self-in-loop-self-2.view_is in
     let new = c.advance_with_event-event.new.self in
     let stop = ap (λ (q : Position). q.stop) c.self-then-self-end.view_is in
-    event_at_step on.0 here.none (same_further c.args.self.now c.loop-self.self c.hasten.new.self here.goes.is here.same on.2) c.args.steps new c.stop_if_ended.new.self _ new.stop c.stop_if_ended.result
+    event_at_step on.0 here.none (same_further c.args.self.now c.loop-self.self c.hasten.new.self here.goes.is here.same (on.2 refl)) c.args.steps new c.stop_if_ended.new.self _ new.stop c.stop_if_ended.result
     c.advance_with_event-event.result (sym c.if-is_some-2.false ∙ c.is_some-then-self-end.ensures ∙ ap is_some stop) (sym c.if-is_some-3.true ∙ c.is_some-then-self-end-2.ensures)
     (omega (arith, here.end, c.if-self-end.true, now)) c.advance_with_event-event.ensures.steps c.advance_with_event-event.ensures.event c.stop_if_ended.ensures
 
 pub loop-self-smaller-else-is_some-3 : goal.loop-self-smaller-else-is_some-3
 loop-self-smaller-else-is_some-3 g c =
     let here = c.loop-self.invariant in
-    let on = hastened here.goes here.none _ c.hasten.result c.if-hasten.false c.hasten.ensures.hastens in
+    let on = hastened here.goes here.none _ true c.hasten.result c.if-hasten.false c.hasten.ensures.hastens in
     let now = ap (λ (q : Position). q.taken) c.self-in-loop-self-2.view_is in
     let new = c.advance_with_event-event.new.self in
     let stop = ap (λ (q : Position). q.stop) c.self-then-self-end.view_is in
@@ -62,13 +62,13 @@ loop-self-smaller-else-is_some-3 g c =
 pub loop-self-preserved-else-is_some-3 : goal.loop-self-preserved-else-is_some-3
 loop-self-preserved-else-is_some-3 g c =
     let here = c.loop-self.invariant in
-    let on = hastened here.goes here.none _ c.hasten.result c.if-hasten.false c.hasten.ensures.hastens in
+    let on = hastened here.goes here.none _ true c.hasten.result c.if-hasten.false c.hasten.ensures.hastens in
     let now = ap (λ (q : Position). q.taken) c.self-in-loop-self-2.view_is in
     let new = c.advance_with_event-event.new.self in
     let stop = ap (λ (q : Position). q.stop) c.self-then-self-end.view_is in
     let goes = sym c.if-is_some-2.false ∙ c.is_some-then-self-end.ensures ∙ ap is_some stop in
     let still = still_none on.0 here.none in
-    let further = same_further c.args.self.now c.loop-self.self c.hasten.new.self here.goes.is here.same on.2 in
+    let further = same_further c.args.self.now c.loop-self.self c.hasten.new.self here.goes.is here.same (on.2 refl) in
     let one = step_taken c.hasten.new.self new (g.O.Sink.held c.loop-self.out) (g.O.Sink.held c.advance_with_event-event.new.out) new.stop (nothing_stopped new.stop (sym goes)) still
     c.advance_with_event-event.ensures.steps in
     record {
@@ -84,10 +84,10 @@ loop-self-preserved-else-is_some-3 g c =
 pub loop-self-preserved : goal.loop-self-preserved
 loop-self-preserved g c =
     let here = c.loop-self.invariant in
-    let on = hastened here.goes here.none _ c.hasten.result c.if-hasten.false c.hasten.ensures.hastens in
+    let on = hastened here.goes here.none _ true c.hasten.result c.if-hasten.false c.hasten.ensures.hastens in
     record {
       goes = on.0;
-      same = same_further c.args.self.now c.loop-self.self c.hasten.new.self here.goes.is here.same on.2;
+      same = same_further c.args.self.now c.loop-self.self c.hasten.new.self here.goes.is here.same (on.2 refl);
       none = here.none;
       most = on.1;
       end = here.end;

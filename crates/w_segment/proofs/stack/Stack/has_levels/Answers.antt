@@ -22,10 +22,10 @@ returns-then-saturating_add-min c = record {
         λ t. let le = leb-true _ _ t in record {
           operands = omega (arith, h, hs, ho);
           levels = omega (arith, g, r, vs, vo, c.if-saturating_add-min.true, c.len.ensures, c.saturating_add.ensures, c.capacity.ensures, c.min.ensures);
-          locals = omega (arith, w, ls, lo, le, c.len-then-saturating_add-min.ensures, c.saturating_add-then-saturating_add-min.ensures, c.capacity-then-saturating_add-min.ensures);
+          locals = omega (arith, w, ls, lo, le, c.len-then-saturating_add-min.ensures, c.capacity-then-saturating_add-min.ensures);
         },
         λ f. let k = f.locals in le-leb _ _
-            (omega (arith, w, ls, lo, k, c.len-then-saturating_add-min.ensures, c.saturating_add-then-saturating_add-min.ensures, c.capacity-then-saturating_add-min.ensures)),
+            (omega (arith, w, ls, lo, k, c.len-then-saturating_add-min.ensures, c.capacity-then-saturating_add-min.ensures)),
       ));
 }
 

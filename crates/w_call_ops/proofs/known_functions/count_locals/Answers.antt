@@ -1,6 +1,6 @@
 use Rattle.std.proofs.Common.{arith}
 use Rattle.w_call_ops.proofs.Runs.{total_none, total_more, total_within}
-use Rattle.w_call_ops.proofs.entering.count_locals.Goals as goal
+use Rattle.w_call_ops.proofs.known_functions.count_locals.Goals as goal
 
 pub loop-run-init : goal.loop-run-init
 loop-run-init c = total_none
